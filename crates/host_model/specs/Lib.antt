@@ -1,0 +1,9 @@
+pub mod Frames
+pub mod Marks
+pub mod Journal
+pub mod Desk
+pub mod Conversation
+pub mod Order
+pub mod Headline
+pub mod World
+pub mod Report

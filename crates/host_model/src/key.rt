@@ -1,0 +1,6 @@
+/// Which call: a connection by its number, and a frame of it, both counted from 0.
+#[derive(Clone, Copy, Debug, PartialEq, Eq, PartialOrd, Ord, Hash)]
+pub struct Key {
+    pub c: u32,
+    pub i: u64,
+}

@@ -1,0 +1,4 @@
+pub mod Decimal
+pub mod Hex
+pub mod Line
+pub mod Quoted
