@@ -7,3 +7,4 @@ pub mod Order
 pub mod Headline
 pub mod World
 pub mod Report
+pub mod TinyDesk

@@ -163,9 +163,10 @@ Does d r memories old (enters e) new =
     × Enters (old.lines e.connection).stage stage × (d.decide p ≡ Invoke e.call) × (e.number ≡ length before)
     × IsAnswered r (after r memories old.journal) e
     × (new ≡ record {
-        tape = old.tape; journal = old.journal ++ e ∷ [];
-        lines = with_line old.lines e.connection (record (old.lines e.connection) { stage = stage });
-      })
+      tape = old.tape;
+      journal = old.journal ++ e ∷ [];
+      lines = with_line old.lines e.connection (record (old.lines e.connection) { stage = stage });
+    })
 
 -- These acts, the last one first, lead from the first world to this one.
 abbrev pub ReachedBy : {C A M : Type 0} → Desk C A → Rules C A M → List M → List (Act C A) → World C A → Type 0

@@ -1,12 +1,14 @@
-//! The definitions that the host's headline is said in.
+//! The definitions that the host's headline is said in, and their laws.
 //!
 //! The files of `specs/`, in reading order: the split of a stream into frames; marks on the tape; the journal and its
-//! legal histories; desks; the conversation of a connection; the order between connections; the headline; and the
-//! world, whose every run meets it. The crate runs no logic.
+//! legal histories; desks; the conversation of a connection; the order between connections; the headline; the
+//! world, whose every run meets it; and a tiny desk for examples. The crate runs no logic.
 #![tactic(auto)]
 
 mod cause;
+pub mod examples;
 mod key;
+pub mod laws;
 
 pub use cause::EndCause;
 pub use key::Key;

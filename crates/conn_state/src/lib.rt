@@ -1,0 +1,17 @@
+//! One connection's machine: the bytes of framed messages go in piece by piece, whole payloads come out, and a reply
+//! goes back in pieces too. It reads and writes nothing itself, decides nothing about a payload, and takes memory only
+//! to admit a frame.
+//!
+//! Read at most `want` bytes and hand them to `took`; at `asks` call `admit`; `give` hands out a payload, `answered`
+//! takes its outcome, and `pending` and `wrote` write the reply (Thrift framed transport).
+
+#![tactic(auto)]
+
+pub mod laws;
+mod machine;
+mod size_bytes;
+#[cfg(test)]
+mod tests;
+
+pub use host_model::EndCause;
+pub use machine::Conn;

@@ -1,0 +1,12 @@
+pub mod Lists
+pub mod Framing
+pub mod Replies
+pub mod Turning
+pub mod Talking
+pub mod Moving
+pub mod Lines
+pub mod Filters
+pub mod Ordering
+pub mod Runs
+pub mod WrongRuns
+pub mod RightRuns

@@ -1,0 +1,99 @@
+-- A run's world, one act further.
+use Rattle.std.proofs.Common.{◌≡◌, ◌≢◌, ℕ, ◌≤◌, List, [], ◌∷◌, ◌++◌, length, take, map, refl, ap, ◌∙◌, subst, cond, ne_eqb}
+use Rattle.std.specs.List.{flat_map}
+use Rattle.std.proofs.lemmas.List.Elements.{filter-append}
+use Rattle.std.proofs.lemmas.Grind.{flat_map-append}
+use Rattle.outside.specs.declared.marks.Mark.{Mark}
+use Rattle.conn_state.specs.Phase.{Phase, View, fresh}
+use Rattle.conn_state.specs.Run.{Event, Runs, Does as Calls}
+use Rattle.host_model.specs.Marks.{connection_of, marks_of, input, output, read_by, written_by}
+use Rattle.host_model.specs.Journal.{entries_of}
+use Rattle.host_model.specs.World.{World, Act, moves, Line, Move, Moves, opens, reads, reads_frame, reads_bad_size, ends, fails_read, settles, replies, closes, writes, fails_write, gives_up, marks_by, with_line, ReachedBy, unopened_line}
+use Rattle.thrift_host.specs.declared.run.Run.{Run}
+use Rattle.thrift_host.specs.declared.message.Call.{Call}
+use Rattle.thrift_host.specs.declared.message.Answer.{Answer}
+use Rattle.thrift_host.specs.Office.{desk, rules, memories, longest_frame}
+use Rattle.thrift_host.specs.Rehearsal.{entry_of}
+use Rattle.thrift_host.specs.Run.{IsUnderWay, Stands, EndsWell}
+
+-- a run of calls, with one call more
+pub one_more : (max : ℕ) (first old new : View) (events : List Event) (event : Event) → Runs max first events old → Calls max old event new
+    → Runs max first (events ++ event ∷ []) new
+one_more max first old new [] event run call = (new, subst (λ v. Calls max v event new) run call, refl)
+one_more max first old new (e ∷ events) event run call = (run.0, run.1, one_more max run.0 old new events event run.2 call)
+
+-- the marks of connection 0's moves are its own
+own_marks : (move : Move) → marks_of 0 (marks_by 0 move) ≡ marks_by 0 move
+own_marks opens = refl
+own_marks (reads bytes) = refl
+own_marks (reads_frame bytes payload) = refl
+own_marks (reads_bad_size bytes size) = refl
+own_marks ends = refl
+own_marks fails_read = refl
+own_marks settles = refl
+own_marks replies = refl
+own_marks (closes fault) = refl
+own_marks (writes bytes) = refl
+own_marks fails_write = refl
+own_marks (gives_up cause) = refl
+
+marks_after : (tape : List Mark) (move : Move) → marks_of 0 (tape ++ marks_by 0 move) ≡ marks_of 0 tape ++ marks_by 0 move
+marks_after tape move = filter-append _ tape (marks_by 0 move) ∙ ap (λ own. marks_of 0 tape ++ own) (own_marks move)
+
+input_after : (tape : List Mark) (move : Move) → input (marks_of 0 (tape ++ marks_by 0 move)) ≡ input (marks_of 0 tape) ++ input (marks_by 0 move)
+input_after tape move = ap input (marks_after tape move) ∙ flat_map-append read_by (marks_of 0 tape) (marks_by 0 move)
+
+output_after : (tape : List Mark) (move : Move) → output (marks_of 0 (tape ++ marks_by 0 move)) ≡ output (marks_of 0 tape) ++ output (marks_by 0 move)
+output_after tape move = ap output (marks_after tape move) ∙ flat_map-append written_by (marks_of 0 tape) (marks_by 0 move)
+
+-- a world that acts have reached in which no connection but 0 was opened, with the tape of a run before a move and the journal of the run after it
+pub record Before (old new : Run) : Type 0 where
+  pub acts : List (Act Call Answer)
+  pub world : World Call Answer
+  pub reached : ReachedBy desk rules memories acts world
+  pub same_tape : old.tape.items ≡ world.tape
+  pub same_journal : map entry_of new.journal.items ≡ world.journal
+  pub others : (c : ℕ) → c ≢ 0 → world.lines c ≡ unopened_line
+
+-- what a move makes of the run's other parts
+pub record Behind (all : List ℕ) (old new : Run) (move : Move) (line : Line) : Type 0 where
+  pub tape : new.tape.items ≡ old.tape.items ++ marks_by 0 move
+  pub events : List Event
+  pub calls : Runs longest_frame fresh events new.conn
+  pub stands : Stands new.conn.phase line
+  pub counted : new.conn.frames ≡ length line.payloads
+  pub read : take old.at all ++ input (marks_by 0 move) ≡ take new.at all
+  pub sent : old.written.items ++ output (marks_by 0 move) ≡ new.written.items
+  pub within : new.at ≤ length all
+  pub few : new.conn.frames ≤ new.at
+  pub ends_well : EndsWell new.conn.phase (take new.at all) all
+
+-- a run is under way after a move of its connection
+pub moved : (all : List ℕ) (old new : Run) (under_way : IsUnderWay all old) (b : Before old new) (move : Move) (line : Line)
+    → Moves desk (entries_of 0 b.world.journal) (b.world.lines 0) move line → Behind all old new move line → IsUnderWay all new
+moved all old new u b move line goes after =
+    record {
+      acts = moves 0 move ∷ b.acts;
+      world = record { tape = b.world.tape ++ marks_by 0 move; journal = b.world.journal; lines = with_line b.world.lines 0 line };
+      reached = (b.world, b.reached, (line, goes, refl));
+      same_tape = after.tape ∙ ap (λ t. t ++ marks_by 0 move) b.same_tape;
+      same_journal = b.same_journal;
+      events = after.events;
+      calls = after.calls;
+      stands = after.stands;
+      counted = after.counted;
+      others = λ c other. ap (λ t. cond t line (b.world.lines c)) (ne_eqb c 0 other) ∙ b.others c other;
+      read = ap (λ t. input (marks_of 0 t)) after.tape ∙ input_after old.tape.items move ∙ ap (λ r. r ++ input (marks_by 0 move)) u.read ∙ after.read;
+      sent = ap (λ t. output (marks_of 0 t)) after.tape ∙ output_after old.tape.items move ∙ ap (λ r. r ++ output (marks_by 0 move)) u.sent ∙ after.sent;
+      within = after.within;
+      few = after.few;
+      ends_well = after.ends_well;
+    }
+
+-- a run before a move, whose journal stays
+abbrev pub before : (all : List ℕ) (old new : Run) → IsUnderWay all old → new.journal.items ≡ old.journal.items → Before old new
+before all old new u same =
+    record {
+      acts = u.acts; world = u.world; reached = u.reached; same_tape = u.same_tape;
+      same_journal = ap (map entry_of) same ∙ u.same_journal; others = u.others;
+    }

@@ -1,0 +1,12 @@
+pub mod Acts
+pub mod Calls
+pub mod Cuts
+pub mod Digits
+pub mod Ends
+pub mod Fronts
+pub mod Moves
+pub mod Pieces
+pub mod Results
+pub mod Saying
+pub mod Taking
+pub mod Walking

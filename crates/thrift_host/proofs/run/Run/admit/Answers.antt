@@ -1,0 +1,19 @@
+use Rattle.std.proofs.Common.{refl, sym, ap, ◌∙◌}
+use Rattle.conn_state.specs.Phase.{View, ended}
+use Rattle.host_model.specs.declared.cause.EndCause.TheVariants.{NoMemory}
+use Rattle.thrift_host.proofs.Results.{on_ok, on_err}
+use Rattle.thrift_host.proofs.Moves.{admits, refuses}
+use Rattle.thrift_host.proofs.run.Run.admit.Goals as goal
+
+pub returns-in_ok-push : goal.returns-in_ok-push
+returns-in_ok-push c = λ all u.
+    let same = on_err c.admit.result (sym c.if-is_err.ensures.value) c.admit.ensures.err in
+    refuses all c.args.self.now _ c.requires
+    (record {
+      conn_is = c.end.ensures ∙ ap (λ (v : View). record v { phase = ended NoMemory }) same;
+      tape_is = c.in_ok-push.ensures.items; same_journal = refl; same_written = refl; same_at = refl;
+    }) u
+
+pub returns-else-is_err : goal.returns-else-is_err
+returns-else-is_err c = λ all u.
+    admits all c.args.self.now c.admit.new.self c.requires (on_ok c.admit.result (sym c.if-is_err.ensures.value) c.admit.ensures.ok) u

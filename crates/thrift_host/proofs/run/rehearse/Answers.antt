@@ -1,0 +1,10 @@
+use Rattle.std.proofs.Common.{[], ◌∷◌, sym, arith}
+use Rattle.thrift_host.specs.Office.{desk, rules, memories}
+use Rattle.thrift_host.proofs.Ends.{rehearsed}
+use Rattle.thrift_host.proofs.run.rehearse.Goals as goal
+
+pub returns-in-Some : goal.returns-in-Some
+returns-in-Some c =
+    let u = c.run.invariant in
+    rehearsed c.args.script.now.bytes.items c.run.run c.in-Some.cause (sym c.in-Some.ensures.cause) u
+    (λ ends. c.every_run_meets.ensures desk rules memories u.acts u.world (c.in-Some.cause ∷ []) (omega arith) u.reached ends)

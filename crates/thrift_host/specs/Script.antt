@@ -1,0 +1,88 @@
+-- A script of one recorded connection: `open`, pieces of its bytes, and `end 0`.
+use Rattle.std.specs.Prelude.{◌≡◌, ℕ, ◌+◌, ◌-◌, ◌<◌, ◌≤◌, ◌==◌, Bool, true, not, nat_eq, nat_lt, List, [], ◌∷◌, ◌++◌, length, drop, codes, filter, slice_index, Option, Some, None, if◌then◌else◌, option_and_then}
+use Rattle.std.specs.List.{starts_with, flat_map}
+use Rattle.std.specs.Option.{option_map}
+use Rattle.std.specs.Str.{bytes_eq}
+use Rattle.text_out.specs.Hex.{unhex_of}
+
+-- the longest script, in bytes
+abbrev pub longest_script : ℕ
+longest_script = 67108864
+
+-- the lines with this byte in front of the first one
+abbrev pub with_byte : ℕ → List (List ℕ) → List (List ℕ)
+with_byte b [] = (b ∷ []) ∷ []
+with_byte b (line ∷ lines) = (b ∷ line) ∷ lines
+
+-- the byte that ends a line
+abbrev pub is_newline : ℕ → Bool
+is_newline b = b == 10
+
+-- the lines of a text, each ended by a newline, which behind the last one may be missing
+abbrev pub lines_of : List ℕ → List (List ℕ)
+lines_of [] = []
+lines_of (b ∷ text) = if is_newline b then [] ∷ lines_of text else with_byte b (lines_of text)
+
+-- empty lines and those that begin with `#` say nothing
+abbrev pub is_ignored : List ℕ → Bool
+is_ignored [] = true
+is_ignored (b ∷ line) = b == 35
+
+-- the lines of a text that say something
+abbrev pub said_lines : List ℕ → List (List ℕ)
+said_lines text = filter (λ line. not (is_ignored line)) (lines_of text)
+
+-- a piece has at least one byte
+abbrev pub not_empty : List ℕ → Option (List ℕ)
+not_empty [] = None
+not_empty (b ∷ bytes) = Some (b ∷ bytes)
+
+-- the bytes of a line `data 0 HEX`
+abbrev pub piece_of : List ℕ → Option (List ℕ)
+piece_of line =
+    if starts_with nat_eq line (codes "data 0 ") then option_and_then not_empty (unhex_of (drop 7 line)) else None
+
+-- the pieces of the lines behind `open`, the last of which is `end 0`
+abbrev pub pieces_of : List (List ℕ) → Option (List (List ℕ))
+pieces_of [] = None
+pieces_of (line ∷ []) = if bytes_eq line (codes "end 0") then Some [] else None
+pieces_of (line ∷ next ∷ lines) = option_and_then (λ piece. option_map (λ pieces. piece ∷ pieces) (pieces_of (next ∷ lines))) (piece_of line)
+
+-- the pieces of a script's lines, those that say nothing left out
+abbrev pub script_of_lines : List (List ℕ) → Option (List (List ℕ))
+script_of_lines [] = None
+script_of_lines (line ∷ lines) = if bytes_eq line (codes "open") then pieces_of lines else None
+
+-- the pieces of a script, or nothing where the text is none
+abbrev pub script_of : List ℕ → Option (List (List ℕ))
+script_of text =
+    if nat_lt longest_script (length text) then None
+    else script_of_lines (said_lines text)
+
+-- the pieces, one behind the other
+abbrev pub joined : List (List ℕ) → List ℕ
+joined pieces = flat_map (λ piece. piece) pieces
+
+-- where each piece ends among all bytes, the first of which is number `at`
+abbrev pub ends_from : ℕ → List (List ℕ) → List ℕ
+ends_from at [] = []
+ends_from at (piece ∷ pieces) = (at + length piece) ∷ ends_from (at + length piece) pieces
+
+-- the bytes and ends once these pieces were added to those
+abbrev pub written : List ℕ → List ℕ → Option (List (List ℕ)) → Option (List ℕ × List ℕ)
+written bytes ends pieces = option_map (λ more. (bytes ++ joined more, ends ++ ends_from (length bytes) more)) pieces
+
+-- these bytes and ends are those of the script that this text is
+pub record IsScript (text bytes ends : List ℕ) : Type 0 where
+  pub pieces : List (List ℕ)
+  pub spelled : script_of text ≡ Some pieces
+  pub whole : bytes ≡ joined pieces
+  pub cut : ends ≡ ends_from 0 pieces
+
+-- ends that cut so many bytes into pieces, none of them empty: they rise from above 0, and the last one is where the bytes end
+pub record AreEnds (ends : List ℕ) (size : ℕ) : Type 0 where
+  pub some : (k : ℕ) → k < length ends → 0 < slice_index ends k
+  pub within : (k : ℕ) → k < length ends → slice_index ends k ≤ size
+  pub rising : (j k : ℕ) → j < k → k < length ends → slice_index ends j < slice_index ends k
+  pub last : 0 < length ends → slice_index ends (length ends - 1) ≡ size
+  pub none : length ends ≡ 0 → size ≡ 0

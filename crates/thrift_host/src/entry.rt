@@ -1,0 +1,13 @@
+//! The journal's entries.
+
+use crate::message::{Answer, Call};
+use host_model::Key;
+
+/// A call that took effect, with its answer.
+#[derive(Clone, Copy, Debug, PartialEq, Eq)]
+pub struct Entry {
+    /// The call's connection and frame.
+    pub key: Key,
+    pub call: Call,
+    pub answer: Answer,
+}
