@@ -1,12 +1,11 @@
 -- A run's world, one act further.
 use Rattle.std.proofs.Common.{◌≡◌, ◌≢◌, ℕ, ◌≤◌, List, [], ◌∷◌, ◌++◌, length, take, map, refl, ap, ◌∙◌, subst, cond, ne_eqb}
-use Rattle.std.specs.List.{flat_map}
 use Rattle.std.proofs.lemmas.List.Elements.{filter-append}
 use Rattle.std.proofs.lemmas.Grind.{flat_map-append}
 use Rattle.outside.specs.declared.marks.Mark.{Mark}
-use Rattle.conn_state.specs.Phase.{Phase, View, fresh}
+use Rattle.conn_state.specs.Phase.{View, fresh}
 use Rattle.conn_state.specs.Run.{Event, Runs, Does as Calls}
-use Rattle.host_model.specs.Marks.{connection_of, marks_of, input, output, read_by, written_by}
+use Rattle.host_model.specs.Marks.{marks_of, input, output, read_by, written_by}
 use Rattle.host_model.specs.Journal.{entries_of}
 use Rattle.host_model.specs.World.{World, Act, moves, Line, Move, Moves, opens, reads, reads_frame, reads_bad_size, ends, fails_read, settles, replies, closes, writes, fails_write, gives_up, marks_by, with_line, ReachedBy, unopened_line}
 use Rattle.thrift_host.specs.declared.run.Run.{Run}
@@ -94,6 +93,10 @@ moved all old new u b move line goes after =
 abbrev pub before : (all : List ℕ) (old new : Run) → IsUnderWay all old → new.journal.items ≡ old.journal.items → Before old new
 before all old new u same =
     record {
-      acts = u.acts; world = u.world; reached = u.reached; same_tape = u.same_tape;
-      same_journal = ap (map entry_of) same ∙ u.same_journal; others = u.others;
+      acts = u.acts;
+      world = u.world;
+      reached = u.reached;
+      same_tape = u.same_tape;
+      same_journal = ap (map entry_of) same ∙ u.same_journal;
+      others = u.others;
     }

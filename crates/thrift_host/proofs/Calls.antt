@@ -1,23 +1,19 @@
 -- A call of a run: it is entered under its frame's number, which no entry has, and its reply is what the desk says.
-use Rattle.std.proofs.Common.{◌≡◌, ◌≢◌, ℕ, suc, ◌+◌, ◌<◌, ◌≤◌, ◌⊎◌, ◌==◌, cond, true, false, Option, None, Some, MatchOption, List, [], ◌∷◌, ◌++◌, length, take, map, refl, sym, ap, ◌∙◌, subst, arith, append-nil, append_assoc, length-append, ne_eqb, eq-eqb, inl, inr}
+use Rattle.std.proofs.Common.{◌≡◌, ◌≢◌, ℕ, suc, ◌+◌, ◌<◌, ◌≤◌, ◌⊎◌, ◌==◌, cond, Option, None, Some, MatchOption, List, [], ◌∷◌, ◌++◌, length, take, map, refl, sym, ap, ◌∙◌, subst, arith, append-nil, ne_eqb, eq-eqb, inl, inr}
 use Rattle.std.proofs.lemmas.List.{map-append}
 use Rattle.std.proofs.lemmas.List.Elements.{filter-append}
 use Rattle.outside.specs.declared.outcomes.Settled.{Settled}
 use Rattle.outside.specs.declared.outcomes.Settled.TheVariants.{Reply as Replied, Nothing, NoMemory as NoRoom}
-use Rattle.outside.specs.declared.marks.Mark.{Mark}
-use Rattle.outside.specs.declared.marks.Mark.TheVariants.{Closed}
-use Rattle.conn_state.specs.Phase.{Phase, View, fresh, ready, waiting, writing, sizing, ended}
+use Rattle.conn_state.specs.Phase.{View, fresh, ready, waiting, writing, sizing, ended}
 use Rattle.conn_state.specs.Step.{after_answer}
-use Rattle.conn_state.specs.Run.{Event, Runs, Does as Calls, gave, answered as settled_event}
-use Rattle.host_model.specs.declared.cause.EndCause.{EndCause}
+use Rattle.conn_state.specs.Run.{Event, Runs, gave, answered as settled_event}
 use Rattle.host_model.specs.declared.cause.EndCause.TheVariants.{NoMemory}
 use Rattle.host_model.specs.Journal.{Entry, entries_of, after, IsAnswered}
 use Rattle.host_model.specs.Desk.{Desk, Decision, Close, Silent, Reply, Invoke}
-use Rattle.host_model.specs.Conversation.{called, called_by, answer_at, but_last, Done, IsLast, reply_for}
+use Rattle.host_model.specs.Conversation.{called, called_by, answer_at, but_last, Done, reply_for}
 use Rattle.host_model.specs.Marks.{marks_of, input, output}
-use Rattle.host_model.specs.World.{Move, marks_by, World, Act, enters, moves, Line, settles, replies, gives_up, GivesUp, Enters, open_, pending, answered as entered, over, with_line, ReachedBy, NeedsNoCall, Moment, StandsAt}
+use Rattle.host_model.specs.World.{Move, marks_by, World, enters, Line, settles, replies, gives_up, Enters, open_, pending, answered as entered, over, with_line, ReachedBy, NeedsNoCall, Moment, StandsAt}
 use Rattle.thrift_host.specs.declared.run.Run.{Run}
-use Rattle.thrift_host.specs.declared.entry.Entry.{Entry as Kept}
 use Rattle.thrift_host.specs.declared.message.Call.{Call}
 use Rattle.thrift_host.specs.declared.message.Answer.{Answer}
 use Rattle.thrift_host.specs.declared.message.Message.{Message}
@@ -89,7 +85,11 @@ quiet_behind : (all : List ℕ) (run new : Run) (move : Move) (line : Line) (u :
     → new.written.items ≡ run.written.items → new.at ≡ run.at → EndsWell new.conn.phase (take new.at all) all → Behind all run new move line
 quiet_behind all run new move line u tape events calls stands same_frames same_count no_input no_output same_written same_at ends_well =
     record {
-      tape = tape; events = events; calls = calls; stands = stands; counted = same_frames ∙ u.counted ∙ sym same_count;
+      tape = tape;
+      events = events;
+      calls = calls;
+      stands = stands;
+      counted = same_frames ∙ u.counted ∙ sym same_count;
       read = ap (λ m. take run.at all ++ m) no_input ∙ append-nil (take run.at all) ∙ ap (λ n. take n all) (sym same_at);
       sent = ap (λ m. run.written.items ++ m) no_output ∙ append-nil run.written.items ∙ sym same_written;
       within = subst (λ n. n ≤ length all) (sym same_at) u.within;
@@ -110,7 +110,7 @@ settled_calls : (all : List ℕ) (run new : Run) (number : ℕ) (payload : List 
     → (u : IsUnderWay all run) → Runs longest_frame fresh ((u.events ++ gave number payload ∷ []) ++ settled_event settled ∷ []) new.conn
 settled_calls all run new number payload settled s u =
     one_more longest_frame fresh (record run.conn { phase = waiting number }) new.conn (u.events ++ gave number payload ∷ []) (settled_event settled)
-      (one_more longest_frame fresh run.conn (record run.conn { phase = waiting number }) u.events (gave number payload) u.calls (s.was_ready, refl)) (tt, s.conn_is)
+    (one_more longest_frame fresh run.conn (record run.conn { phase = waiting number }) u.events (gave number payload) u.calls (s.was_ready, refl)) (tt, s.conn_is)
 
 -- where the connection stands before its payload is settled
 ready_line : (all : List ℕ) (run : Run) (number : ℕ) (payload : List ℕ) → run.conn.phase ≡ ready number payload → (u : IsUnderWay all run)
@@ -127,9 +127,9 @@ settles_nothing all run new number payload s same_journal unknown u =
     let line : Line = record (u.world.lines 0) { stage = open_ (reply_for desk payload (desk.decide payload) None) } in
     record {
       under_way =
-        moved all run new u (before all run new u same_journal) settles line
-        (at.0, payload, at.1, at.4, subst NeedsNoCall (sym silent) tt, refl)
-        (quiet_behind all run new settles line u
+          moved all run new u (before all run new u same_journal) settles line
+          (at.0, payload, at.1, at.4, subst NeedsNoCall (sym silent) tt, refl)
+          (quiet_behind all run new settles line u
           (s.tape_is ∙ ap (λ (v : View). closed_tape v.phase run.tape.items) now ∙ sym (append-nil run.tape.items)) _ (settled_calls all run new number payload Nothing s u)
           (subst (λ (v : View). Stands v.phase line) (sym now) (at.3, ap (λ decision. open_ (reply_for desk payload decision None)) silent))
           (ap (λ (v : View). v.frames) now) refl refl refl s.same_written s.same_at
@@ -167,10 +167,21 @@ enters_call : (all : List ℕ) (run : Run) (number : ℕ) (payload : List ℕ) (
     → message_of payload ≡ Some message → (u : IsUnderWay all run)
     → ReachedBy desk rules memories (enters (entry_for number message) ∷ u.acts) (entered_world u.world (entry_for number message))
 enters_call all run number payload message was_ready known u =
-    let at = ready_line all run number payload was_ready u in
-    (u.world, u.reached,
-      (at.0, payload, entered, at.1, subst (λ s. Enters s entered) (sym at.4) refl, ap decided known, at.2,
-        subst (λ ms. IsAnswered rules ms (entry_for number message)) (sym (memories_stay u.world.journal)) refl, refl))
+    let at = ready_line all run number payload was_ready u in (
+      u.world,
+      u.reached,
+      (
+        at.0,
+        payload,
+        entered,
+        at.1,
+        subst (λ s. Enters s entered) (sym at.4) refl,
+        ap decided known,
+        at.2,
+        subst (λ ms. IsAnswered rules ms (entry_for number message)) (sym (memories_stay u.world.journal)) refl,
+        refl,
+      ),
+    )
 
 -- the answer that the journal has once the call is entered
 answer_is : (all : List ℕ) (run : Run) (number : ℕ) (payload : List ℕ) (message : Message) → (u : IsUnderWay all run) → Moment desk rules memories u.world
@@ -180,7 +191,7 @@ answer_is all run number payload message u moment at =
     let line = u.world.lines 0 in
     let es = entries_of 0 u.world.journal in
     let stands : StandsAt desk line.payloads line.held es (output (marks_of 0 u.world.tape)) pending =
-      subst (λ s. StandsAt desk line.payloads line.held es (output (marks_of 0 u.world.tape)) s) at.4 (moment.stands 0) in
+    subst (λ s. StandsAt desk line.payloads line.held es (output (marks_of 0 u.world.tape)) s) at.4 (moment.stands 0) in
     let done : Done desk es at.0 = subst (λ ps. Done desk es ps) (ap but_last at.1 ∙ but_last-push at.0 payload) stands.2 in
     ap (λ es'. answer_at es' (length at.0)) (filter-append (λ e. e.connection == 0) u.world.journal (entry_for number message ∷ []))
     ∙ answer_added es (entry_for number message) (length at.0) at.2 (numbers_below desk 0 (length at.0) at.0 es (omega arith) done)
@@ -199,14 +210,14 @@ settles_reply all run new number payload message s journal_is known u moment =
     let es = entries_of 0 (u.world.journal ++ e ∷ []) in
     let line : Line = record (u.world.lines 0) { stage = open_ (reply_for desk payload (desk.decide payload) (answer_at es (length at.0))) } in
     let left : reply_for desk payload (desk.decide payload) (answer_at es (length at.0)) ≡ reply =
-      ap (λ a. reply_for desk payload (desk.decide payload) a) (answer_is all run number payload message u moment at)
-      ∙ ap (λ m. reply_for desk payload (decided m) (Some (answered message.call))) known
-      ∙ ap (λ m. reply_to m (answered message.call)) known in
+    ap (λ a. reply_for desk payload (desk.decide payload) a) (answer_is all run number payload message u moment at)
+    ∙ ap (λ m. reply_for desk payload (decided m) (Some (answered message.call))) known
+    ∙ ap (λ m. reply_to m (answered message.call)) known in
     record {
       under_way =
-        moved all run new u (entered_before all run new number payload message s.was_ready journal_is known u (enters_call all run number payload message s.was_ready known u))
-        replies line (at.0, payload, at.1, refl, refl)
-        (quiet_behind all run new replies line u
+          moved all run new u (entered_before all run new number payload message s.was_ready journal_is known u (enters_call all run number payload message s.was_ready known u))
+          replies line (at.0, payload, at.1, refl, refl)
+          (quiet_behind all run new replies line u
           (s.tape_is ∙ ap (λ (v : View). closed_tape v.phase run.tape.items) now ∙ sym (append-nil run.tape.items)) _ (settled_calls all run new number payload _ s u)
           (subst (λ (v : View). Stands v.phase line) (sym now) (reply_some message (answered message.call), at.3, ap open_ left))
           (ap (λ (v : View). v.frames) now) refl refl refl s.same_written s.same_at
@@ -225,9 +236,9 @@ settles_no_room all run new number payload message s journal_is known u =
     let line : Line = record (u.world.lines 0) { stage = over NoMemory } in
     record {
       under_way =
-        moved all run new u (entered_before all run new number payload message s.was_ready journal_is known u (enters_call all run number payload message s.was_ready known u))
-        (gives_up NoMemory) line (over NoMemory, tt, refl, refl)
-        (quiet_behind all run new (gives_up NoMemory) line u
+          moved all run new u (entered_before all run new number payload message s.was_ready journal_is known u (enters_call all run number payload message s.was_ready known u))
+          (gives_up NoMemory) line (over NoMemory, tt, refl, refl)
+          (quiet_behind all run new (gives_up NoMemory) line u
           (s.tape_is ∙ ap (λ (v : View). closed_tape v.phase run.tape.items) now) _ (settled_calls all run new number payload _ s u)
           (subst (λ (v : View). Stands v.phase line) (sym now) refl)
           (ap (λ (v : View). v.frames) now) refl refl refl s.same_written s.same_at
@@ -238,15 +249,15 @@ settles_no_room all run new number payload message s journal_is known u =
 settles_as : (all : List ℕ) (run new : Run) (number : ℕ) (payload : List ℕ) (settled : Settled) (known : Option Message) → message_of payload ≡ known
     → Settles all run new number payload settled
     → MatchOption known ((new.journal.items ≡ run.journal.items) × (settled ≡ Nothing)) (λ message.
-      (new.journal.items ≡ run.journal.items ++ record { key = record { c = 0; i = number }; call = message.call; answer = answered message.call } ∷ [])
-      × ((settled ≡ Replied (reply_to (Some message) (answered message.call))) ⊎ (settled ≡ NoRoom)))
+    (new.journal.items ≡ run.journal.items ++ record { key = record { c = 0; i = number }; call = message.call; answer = answered message.call } ∷ [])
+    × ((settled ≡ Replied (reply_to (Some message) (answered message.call))) ⊎ (settled ≡ NoRoom)))
     → (u : IsUnderWay all run) → Moment desk rules memories u.world → MovesOn all run new
 settles_as all run new number payload settled None e s is u moment =
     settles_nothing all run new number payload (subst (λ t. Settles all run new number payload t) is.1 s) is.0 e u
 settles_as all run new number payload settled (Some message) e s is u moment =
     elim is.1 [
-      inl r ↦ settles_reply all run new number payload message (subst (λ t. Settles all run new number payload t) r s) is.0 e u moment
-    | inr r ↦ settles_no_room all run new number payload message (subst (λ t. Settles all run new number payload t) r s) is.0 e u
+      | inl r ↦ settles_reply all run new number payload message (subst (λ t. Settles all run new number payload t) r s) is.0 e u moment
+      | inr r ↦ settles_no_room all run new number payload message (subst (λ t. Settles all run new number payload t) r s) is.0 e u
     ]
 
 -- a payload is handed out and settled

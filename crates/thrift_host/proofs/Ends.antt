@@ -1,20 +1,15 @@
 -- A run whose connection has ended is a whole one.
-use Rattle.std.proofs.Common.{◌≡◌, ◌≢◌, ℕ, zero, suc, Some, List, [], ◌∷◌, ◌++◌, take, drop, map, slice_get, refl, sym, ap, ◌∙◌, subst, suc-ne-zero}
+use Rattle.std.proofs.Common.{◌≡◌, ◌≢◌, ℕ, zero, suc, Some, List, [], ◌∷◌, ◌++◌, take, drop, slice_get, refl, sym, ap, ◌∙◌, subst, suc-ne-zero}
 use Rattle.std.proofs.lemmas.Option.{same_Some}
 use Rattle.std.proofs.lemmas.List.{take-append-drop}
-use Rattle.std.specs.Prelude.{Option, None}
-use Rattle.outside.specs.declared.marks.Mark.{Mark}
+use Rattle.std.specs.Prelude.{None}
 use Rattle.conn_state.specs.Phase.{Phase, ended, cause_of, sizing, held, framing, ready, waiting, writing}
 use Rattle.host_model.specs.declared.cause.EndCause.{EndCause}
-use Rattle.host_model.specs.Marks.{marks_of, input}
 use Rattle.host_model.specs.Headline.{Headline}
-use Rattle.host_model.specs.World.{World, Line, Stage, HasEnded, unopened_line, over}
+use Rattle.host_model.specs.World.{Line, HasEnded, unopened_line, over}
 use Rattle.thrift_host.specs.declared.run.Run.{Run}
-use Rattle.thrift_host.specs.declared.run.Rehearsed.{Rehearsed}
-use Rattle.thrift_host.specs.declared.message.Call.{Call}
-use Rattle.thrift_host.specs.declared.message.Answer.{Answer}
 use Rattle.thrift_host.specs.Office.{desk, rules, memories}
-use Rattle.thrift_host.specs.Rehearsal.{entry_of, IsScripted, IsRead}
+use Rattle.thrift_host.specs.Rehearsal.{IsRead}
 use Rattle.thrift_host.specs.Run.{IsUnderWay, Stands, EndsWell, IsRehearsed}
 
 -- an ended phase says its cause
@@ -42,8 +37,8 @@ rehearsed all run cause e u law =
     let well : EndsWell (ended cause) (take run.at all) all = subst (λ ph. EndsWell ph (take run.at all) all) phase u.ends_well in
     record {
       headline =
-        subst (λ j. Headline desk rules memories run.tape.items j (cause ∷ [])) (sym u.same_journal)
-        (subst (λ t. Headline desk rules memories t u.world.journal (cause ∷ [])) (sym u.same_tape) (law (all_ended u.world.lines cause is_over u.others)));
+          subst (λ j. Headline desk rules memories run.tape.items j (cause ∷ [])) (sym u.same_journal)
+          (subst (λ t. Headline desk rules memories t u.world.journal (cause ∷ [])) (sym u.same_tape) (law (all_ended u.world.lines cause is_over u.others)));
       scripted = well.0;
       fed = (drop run.at all, sym (take-append-drop run.at all) ∙ ap (λ front. front ++ drop run.at all) (sym u.read));
       ended_there = subst (λ read. IsRead cause read all) (sym u.read) well.1;

@@ -1,27 +1,27 @@
 -- Each move of a run keeps it under way and leaves less to do.
-use Rattle.std.proofs.Common.{◌≡◌, ◌≢◌, ℕ, suc, ◌+◌, ◌*◌, ◌-◌, ◌<◌, ◌≤◌, ◌^◌, List, [], ◌∷◌, ◌++◌, length, take, drop, append_assoc, length-append, length-drop, refl, sym, ap, ◌∙◌, subst, arith, append-nil}
+use Rattle.std.proofs.Common.{◌≡◌, ◌≢◌, ℕ, ◌+◌, ◌<◌, ◌≤◌, List, [], ◌∷◌, ◌++◌, length, take, drop, append_assoc, length-append, length-drop, refl, sym, ap, ◌∙◌, subst, arith, append-nil}
 use Rattle.std.specs.Int.{w32, to_be_bytes}
 use Rattle.std.proofs.Math.Seq.{drop-length, take-length, take-add}
 use Rattle.std.proofs.lemmas.List.{length-take-le}
 use Rattle.outside.specs.declared.marks.Mark.{Mark}
-use Rattle.outside.specs.declared.marks.Mark.TheVariants.{Opened, Read, Ended, Wrote, ReadFailed, WriteFailed, Closed}
-use Rattle.conn_state.specs.Phase.{Phase, View, fresh, sizing, held, framing, ready, waiting, writing, ended, bytes_held, wanted, left_to_write, IsHeld, IsReading, IsReady, IsOpen}
+use Rattle.outside.specs.declared.marks.Mark.TheVariants.{Read, Ended, Wrote, Closed}
+use Rattle.conn_state.specs.Phase.{Phase, View, fresh, sizing, held, framing, ready, waiting, writing, ended, bytes_held, wanted, left_to_write, IsHeld, IsReading, IsOpen}
 use Rattle.conn_state.specs.Step.{after_admission, after_end_of_input, after_write, after_took}
-use Rattle.conn_state.specs.Run.{Event, Runs, Does, AreBytes, took, admitted, refused, gave, answered, wrote, input_ended, ended_by}
+use Rattle.conn_state.specs.Run.{Event, Runs, Does, AreBytes, took, admitted, refused, wrote, input_ended, ended_by}
 use Rattle.conn_state.specs.Split.{IsPiece, IsLess}
 use Rattle.host_model.specs.declared.cause.EndCause.{EndCause}
 use Rattle.host_model.specs.declared.cause.EndCause.TheVariants.{End, Cut, SizeFault, Envelope, ReadFault, WriteFault, NoMemory, Stopped}
-use Rattle.host_model.specs.Marks.{marks_of, input, output}
+use Rattle.host_model.specs.Marks.{input, output}
 use Rattle.host_model.specs.Frames.{IsPartial}
-use Rattle.host_model.specs.Journal.{Entry, entries_of}
+use Rattle.host_model.specs.Journal.{Entry}
 use Rattle.thrift_host.specs.declared.message.Call.{Call}
 use Rattle.thrift_host.specs.declared.message.Answer.{Answer}
-use Rattle.host_model.specs.World.{Line, Stage, Move, Moves, opens, reads, reads_frame, reads_bad_size, ends, settles, replies, writes, gives_up, GivesUp, open_, pending, over, end_behind, marks_by}
+use Rattle.host_model.specs.World.{Line, Move, Moves, reads, reads_frame, reads_bad_size, ends, writes, gives_up, GivesUp, open_, pending, over, end_behind, marks_by}
 use Rattle.thrift_host.specs.declared.run.Run.{Run}
 use Rattle.thrift_host.specs.Office.{desk, longest_frame}
 use Rattle.thrift_host.specs.Rehearsal.{IsScripted, IsRead}
-use Rattle.thrift_host.specs.Run.{IsUnderWay, Stands, EndsWell, MovesOn, work_of, work_left, closed_tape}
-use Rattle.thrift_host.proofs.Acts.{one_more, moved, before, Behind}
+use Rattle.thrift_host.specs.Run.{IsUnderWay, Stands, EndsWell, MovesOn, work_of, closed_tape}
+use Rattle.thrift_host.proofs.Acts.{one_more, moved, before}
 
 -- the run with another connection
 abbrev with_conn : Run → View → Run
@@ -62,9 +62,21 @@ quiet : (all : List ℕ) (run : Run) (conn : View) (u : IsUnderWay all run) (eve
     → IsUnderWay all (with_conn run conn)
 quiet all run conn u events calls stands same ends_well =
     record {
-      acts = u.acts; world = u.world; reached = u.reached; same_tape = u.same_tape; same_journal = u.same_journal;
-      events = events; calls = calls; stands = stands; counted = same ∙ u.counted; others = u.others;
-      read = u.read; sent = u.sent; within = u.within; few = subst (λ n. n ≤ run.at) (sym same) u.few; ends_well = ends_well;
+      acts = u.acts;
+      world = u.world;
+      reached = u.reached;
+      same_tape = u.same_tape;
+      same_journal = u.same_journal;
+      events = events;
+      calls = calls;
+      stands = stands;
+      counted = same ∙ u.counted;
+      others = u.others;
+      read = u.read;
+      sent = u.sent;
+      within = u.within;
+      few = subst (λ n. n ≤ run.at) (sym same) u.few;
+      ends_well = ends_well;
     }
 
 -- a frame is admitted
@@ -74,10 +86,10 @@ admits all run conn h same u =
     let w = held_work run.conn.phase h in
     record {
       under_way =
-        quiet all run conn u (u.events ++ admitted ∷ []) (one_more longest_frame fresh run.conn conn u.events admitted u.calls (h, same))
-        (subst (λ (v : View). Stands v.phase (u.world.lines 0)) (sym same) (admitted_stands run.conn.phase (u.world.lines 0) h u.stands))
-        (ap (λ (v : View). v.frames) same)
-        (subst (λ (v : View). EndsWell v.phase (take run.at all) all) (sym same) (admitted_ends run.conn.phase (take run.at all) all h));
+          quiet all run conn u (u.events ++ admitted ∷ []) (one_more longest_frame fresh run.conn conn u.events admitted u.calls (h, same))
+          (subst (λ (v : View). Stands v.phase (u.world.lines 0)) (sym same) (admitted_stands run.conn.phase (u.world.lines 0) h u.stands))
+          (ap (λ (v : View). v.frames) same)
+          (subst (λ (v : View). EndsWell v.phase (take run.at all) all) (sym same) (admitted_ends run.conn.phase (take run.at all) all h));
       less = omega (arith, w.0, w.1, ap (λ (v : View). work_of v.phase) same);
     }
 
@@ -119,22 +131,22 @@ refuses all run new h same u =
     let line : Line = record (u.world.lines 0) { stage = over NoMemory } in
     record {
       under_way =
-        moved all run new u (before all run new u same.same_journal) (gives_up NoMemory) line
-        (over NoMemory, tt, subst (λ s. GivesUp s NoMemory (over NoMemory)) (sym e) refl, refl)
-        (record {
-          tape = same.tape_is;
-          events = (u.events ++ refused ∷ []) ++ ended_by NoMemory ∷ [];
-          calls = subst (λ v. Runs longest_frame fresh ((u.events ++ refused ∷ []) ++ ended_by NoMemory ∷ []) v) (sym same.conn_is)
-            (one_more longest_frame fresh run.conn _ (u.events ++ refused ∷ []) (ended_by NoMemory)
-              (one_more longest_frame fresh run.conn run.conn u.events refused u.calls (h, refl)) (held_open run.conn.phase h, tt, refl));
-          stands = subst (λ (v : View). Stands v.phase line) (sym same.conn_is) refl;
-          counted = ap (λ (v : View). v.frames) same.conn_is ∙ u.counted;
-          read = append-nil (take run.at all) ∙ ap (λ n. take n all) (sym same.same_at);
-          sent = append-nil run.written.items ∙ sym same.same_written;
-          within = subst (λ n. n ≤ length all) (sym same.same_at) u.within;
-          few = omega (arith, u.few, ap (λ (v : View). v.frames) same.conn_is, same.same_at);
-          ends_well = subst (λ (v : View). EndsWell v.phase (take new.at all) all) (sym same.conn_is) (tt, tt);
-        });
+          moved all run new u (before all run new u same.same_journal) (gives_up NoMemory) line
+          (over NoMemory, tt, subst (λ s. GivesUp s NoMemory (over NoMemory)) (sym e) refl, refl)
+          (record {
+            tape = same.tape_is;
+            events = (u.events ++ refused ∷ []) ++ ended_by NoMemory ∷ [];
+            calls = subst (λ v. Runs longest_frame fresh ((u.events ++ refused ∷ []) ++ ended_by NoMemory ∷ []) v) (sym same.conn_is)
+                (one_more longest_frame fresh run.conn _ (u.events ++ refused ∷ []) (ended_by NoMemory)
+                (one_more longest_frame fresh run.conn run.conn u.events refused u.calls (h, refl)) (held_open run.conn.phase h, tt, refl));
+            stands = subst (λ (v : View). Stands v.phase line) (sym same.conn_is) refl;
+            counted = ap (λ (v : View). v.frames) same.conn_is ∙ u.counted;
+            read = append-nil (take run.at all) ∙ ap (λ n. take n all) (sym same.same_at);
+            sent = append-nil run.written.items ∙ sym same.same_written;
+            within = subst (λ n. n ≤ length all) (sym same.same_at) u.within;
+            few = omega (arith, u.few, ap (λ (v : View). v.frames) same.conn_is, same.same_at);
+            ends_well = subst (λ (v : View). EndsWell v.phase (take new.at all) all) (sym same.conn_is) (tt, tt);
+          });
       less = omega (arith, w.0, ap (λ (v : View). work_of v.phase) same.conn_is, same.same_at);
     }
 
@@ -177,20 +189,20 @@ finds_end all run new h at_end same u =
     let whole : take run.at all ≡ all = ap (λ n. take n all) at_end ∙ take-length all in
     record {
       under_way =
-        moved all run new u (before all run new u same.same_journal) ends line (p.0, refl)
-        (record {
-          tape = same.tape_is;
-          events = u.events ++ input_ended ∷ [];
-          calls = one_more longest_frame fresh run.conn new.conn u.events input_ended u.calls (h, same.conn_is);
-          stands = subst (λ (v : View). Stands v.phase line) (sym now) (ap over p.1.2);
-          counted = ap (λ (v : View). v.frames) now ∙ u.counted;
-          read = append-nil (take run.at all) ∙ ap (λ n. take n all) (sym same.same_at);
-          sent = append-nil run.written.items ∙ sym same.same_written;
-          within = subst (λ n. n ≤ length all) (sym same.same_at) u.within;
-          few = omega (arith, u.few, ap (λ (v : View). v.frames) now, same.same_at);
-          ends_well = subst (λ (v : View). EndsWell v.phase (take new.at all) all) (sym now)
-            (p.1.3, p.1.4 (take new.at all) all (ap (λ n. take n all) same.same_at ∙ whole));
-        });
+          moved all run new u (before all run new u same.same_journal) ends line (p.0, refl)
+          (record {
+            tape = same.tape_is;
+            events = u.events ++ input_ended ∷ [];
+            calls = one_more longest_frame fresh run.conn new.conn u.events input_ended u.calls (h, same.conn_is);
+            stands = subst (λ (v : View). Stands v.phase line) (sym now) (ap over p.1.2);
+            counted = ap (λ (v : View). v.frames) now ∙ u.counted;
+            read = append-nil (take run.at all) ∙ ap (λ n. take n all) (sym same.same_at);
+            sent = append-nil run.written.items ∙ sym same.same_written;
+            within = subst (λ n. n ≤ length all) (sym same.same_at) u.within;
+            few = omega (arith, u.few, ap (λ (v : View). v.frames) now, same.same_at);
+            ends_well = subst (λ (v : View). EndsWell v.phase (take new.at all) all) (sym now)
+                (p.1.3, p.1.4 (take new.at all) all (ap (λ n. take n all) same.same_at ∙ whole));
+          });
       less = omega (arith, reading_work run.conn.phase h, ap (λ (v : View). work_of v.phase) now, same.same_at);
     }
 
@@ -218,26 +230,26 @@ pub writes_all : (all : List ℕ) (run new : Run) (reply : List ℕ) → 0 < len
 writes_all all run new reply some is_left conn_is tape_is written_is same_journal same_at u =
     let p = writes_out run.conn.phase (u.world.lines 0) some u.stands in
     let none : drop (length reply) (left_to_write run.conn.phase) ≡ [] =
-      ap (λ r. drop (length r) (left_to_write run.conn.phase)) is_left ∙ drop-length (left_to_write run.conn.phase) in
+    ap (λ r. drop (length r) (left_to_write run.conn.phase)) is_left ∙ drop-length (left_to_write run.conn.phase) in
     let now : new.conn ≡ record run.conn { phase = sizing [] } = conn_is ∙ ap (λ l. record run.conn { phase = after_write l }) none in
     let line : Line = record (u.world.lines 0) { stage = open_ [] } in
     record {
       under_way =
-        moved all run new u (before all run new u same_journal) (writes reply) line
-        ([], p.3 ∙ ap open_ (sym is_left ∙ sym (append-nil reply)), (λ e. p.1 (sym is_left ∙ e)), refl)
-        (record {
-          tape = tape_is;
-          events = u.events ++ wrote (length reply) ∷ [];
-          calls = one_more longest_frame fresh run.conn new.conn u.events (wrote (length reply)) u.calls
-            (omega (arith, ap length is_left), omega (arith, ap length is_left), conn_is);
-          stands = subst (λ (v : View). Stands v.phase line) (sym now) (p.2, refl);
-          counted = ap (λ (v : View). v.frames) now ∙ u.counted;
-          read = append-nil (take run.at all) ∙ ap (λ n. take n all) (sym same_at);
-          sent = ap (λ r. run.written.items ++ r) (append-nil reply) ∙ sym written_is;
-          within = subst (λ n. n ≤ length all) (sym same_at) u.within;
-          few = omega (arith, u.few, ap (λ (v : View). v.frames) now, same_at);
-          ends_well = subst (λ (v : View). EndsWell v.phase (take new.at all) all) (sym now) tt;
-        });
+          moved all run new u (before all run new u same_journal) (writes reply) line
+          ([], p.3 ∙ ap open_ (sym is_left ∙ sym (append-nil reply)), (λ e. p.1 (sym is_left ∙ e)), refl)
+          (record {
+            tape = tape_is;
+            events = u.events ++ wrote (length reply) ∷ [];
+            calls = one_more longest_frame fresh run.conn new.conn u.events (wrote (length reply)) u.calls
+                (omega (arith, ap length is_left), omega (arith, ap length is_left), conn_is);
+            stands = subst (λ (v : View). Stands v.phase line) (sym now) (p.2, refl);
+            counted = ap (λ (v : View). v.frames) now ∙ u.counted;
+            read = append-nil (take run.at all) ∙ ap (λ n. take n all) (sym same_at);
+            sent = ap (λ r. run.written.items ++ r) (append-nil reply) ∙ sym written_is;
+            within = subst (λ n. n ≤ length all) (sym same_at) u.within;
+            few = omega (arith, u.few, ap (λ (v : View). v.frames) now, same_at);
+            ends_well = subst (λ (v : View). EndsWell v.phase (take new.at all) all) (sym now) tt;
+          });
       less = omega (arith, ap work_of p.0, ap (λ (v : View). work_of v.phase) now, same_at);
     }
 
@@ -274,10 +286,17 @@ part : (line : Line) (frames now : ℕ) (held_bytes bytes : List ℕ) (phase : P
     → ((xs all : List ℕ) → EndsWell phase xs all) → work_of phase ≤ 3 → ReadsOn line bytes now phase
 part line frames now hb bytes phase same stage counted some less marks stands ends_well light =
     record {
-      move = reads bytes; after = record line { held = line.held ++ bytes };
+      move = reads bytes;
+      after = record line { held = line.held ++ bytes };
       goes = λ es. (stage, some, subst (λ h. IsPartial longest_frame (h ++ bytes)) (sym same) less.partial, refl);
-      marks = marks; stands = stands (ap (λ h. h ++ bytes) same ∙ less.same); counted = less.counted ∙ counted;
-      few = λ at few. omega (arith, less.counted, counted); takes = append-nil bytes; silent = refl; ends_well = ends_well; light = light;
+      marks = marks;
+      stands = stands (ap (λ h. h ++ bytes) same ∙ less.same);
+      counted = less.counted ∙ counted;
+      few = λ at few. omega (arith, less.counted, counted);
+      takes = append-nil bytes;
+      silent = refl;
+      ends_well = ends_well;
+      light = light;
     }
 
 reads_on : (line : Line) (frames now : ℕ) (held_bytes bytes : List ℕ) (phase : Phase) → line.held ≡ held_bytes → line.stage ≡ open_ [] → frames ≡ length line.payloads
@@ -290,18 +309,31 @@ reads_on line frames now hb bytes (framing size xs) same stage counted some p =
     part line frames now hb bytes (framing size xs) same stage counted some p (λ tape. refl) (λ e. (e, stage)) (λ xs all. tt) (omega arith)
 reads_on line frames now hb bytes (ready number payload) same stage counted some p =
     record {
-      move = reads_frame bytes payload; after = record { payloads = line.payloads ++ payload ∷ []; held = []; stage = pending };
+      move = reads_frame bytes payload;
+      after = record { payloads = line.payloads ++ payload ∷ []; held = []; stage = pending };
       goes = λ es. (stage, p.allowed, ap (λ h. h ++ bytes) same ∙ p.same, refl);
-      marks = λ tape. refl; stands = (line.payloads, refl, p.numbered ∙ counted, refl, refl);
-      counted = omega (arith, p.counted, counted, length-append line.payloads (payload ∷ [])); few = λ at few. omega (arith, p.counted, counted);
-      takes = append-nil bytes; silent = refl; ends_well = λ xs all. tt; light = omega arith;
+      marks = λ tape. refl;
+      stands = (line.payloads, refl, p.numbered ∙ counted, refl, refl);
+      counted = omega (arith, p.counted, counted, length-append line.payloads (payload ∷ []));
+      few = λ at few. omega (arith, p.counted, counted);
+      takes = append-nil bytes;
+      silent = refl;
+      ends_well = λ xs all. tt;
+      light = omega arith;
     }
 reads_on line frames now hb bytes (ended (SizeFault size)) same stage counted some p =
     record {
-      move = reads_bad_size bytes size; after = record { payloads = line.payloads; held = line.held ++ bytes; stage = over (SizeFault size) };
+      move = reads_bad_size bytes size;
+      after = record { payloads = line.payloads; held = line.held ++ bytes; stage = over (SizeFault size) };
       goes = λ es. (stage, p.outside, ap (λ h. h ++ bytes) same ∙ p.same, refl);
-      marks = λ tape. append_assoc tape (Read 0 bytes ∷ []) (Closed 0 ∷ []); stands = refl; counted = p.counted ∙ counted;
-      few = λ at few. omega (arith, p.counted, counted); takes = append-nil bytes; silent = refl; ends_well = λ xs all. (tt, tt); light = omega arith;
+      marks = λ tape. append_assoc tape (Read 0 bytes ∷ []) (Closed 0 ∷ []);
+      stands = refl;
+      counted = p.counted ∙ counted;
+      few = λ at few. omega (arith, p.counted, counted);
+      takes = append-nil bytes;
+      silent = refl;
+      ends_well = λ xs all. (tt, tt);
+      light = omega arith;
     }
 reads_on line frames now hb bytes (waiting number) same stage counted some p = absurd p
 reads_on line frames now hb bytes (writing left) same stage counted some p = absurd p
@@ -320,7 +352,7 @@ pub reads_bytes : (all : List ℕ) (run new : Run) (bytes : List ℕ) (count : �
     → new.tape.items ≡ closed_tape new.conn.phase (run.tape.items ++ Read 0 bytes ∷ [])
     → new.written.items ≡ run.written.items → new.journal.items ≡ run.journal.items → new.at ≡ run.at + count
     → ((events : List Event) (old view : View) → Runs longest_frame fresh events old → Does longest_frame old (took bytes) view
-        → IsPiece longest_frame old.frames (bytes_held old.phase ++ bytes) view.frames view.phase)
+    → IsPiece longest_frame old.frames (bytes_held old.phase ++ bytes) view.frames view.phase)
     → IsUnderWay all run → MovesOn all run new
 reads_bytes all run new bytes count h some fits is_part asked are conn_is tape_is same_written same_journal at_is law u =
     let room : count ≤ length (drop run.at all) = omega (arith, length-drop run.at all) in
@@ -328,21 +360,21 @@ reads_bytes all run new bytes count h some fits is_part asked are conn_is tape_i
     let does : Does longest_frame run.conn (took bytes) new.conn = (are, omega (arith, long), omega (arith, long, asked), conn_is) in
     let at_line = reads_at run.conn.phase (u.world.lines 0) h u.stands in
     let r = reads_on (u.world.lines 0) run.conn.frames new.conn.frames (bytes_held run.conn.phase) bytes new.conn.phase at_line.0 at_line.1 u.counted
-      (λ e. absurd (omega (arith, long, ap length e))) (law u.events run.conn new.conn u.calls does) in
+    (λ e. absurd (omega (arith, long, ap length e))) (law u.events run.conn new.conn u.calls does) in
     record {
       under_way =
-        moved all run new u (before all run new u same_journal) r.move r.after (r.goes _)
-        (record {
-          tape = tape_is ∙ r.marks run.tape.items;
-          events = u.events ++ took bytes ∷ [];
-          calls = one_more longest_frame fresh run.conn new.conn u.events (took bytes) u.calls does;
-          stands = r.stands;
-          counted = r.counted;
-          read = ap (λ m. take run.at all ++ m) (r.takes ∙ is_part) ∙ sym (take-add run.at count all) ∙ ap (λ n. take n all) (sym at_is);
-          sent = ap (λ m. run.written.items ++ m) r.silent ∙ append-nil run.written.items ∙ sym same_written;
-          within = omega (arith, fits, at_is);
-          few = let few : new.conn.frames ≤ run.at + 1 = r.few run.at (subst (λ n. n ≤ run.at) u.counted u.few) in omega (arith, at_is, some, few);
-          ends_well = r.ends_well (take new.at all) all;
-        });
+          moved all run new u (before all run new u same_journal) r.move r.after (r.goes _)
+          (record {
+            tape = tape_is ∙ r.marks run.tape.items;
+            events = u.events ++ took bytes ∷ [];
+            calls = one_more longest_frame fresh run.conn new.conn u.events (took bytes) u.calls does;
+            stands = r.stands;
+            counted = r.counted;
+            read = ap (λ m. take run.at all ++ m) (r.takes ∙ is_part) ∙ sym (take-add run.at count all) ∙ ap (λ n. take n all) (sym at_is);
+            sent = ap (λ m. run.written.items ++ m) r.silent ∙ append-nil run.written.items ∙ sym same_written;
+            within = omega (arith, fits, at_is);
+            few = let few : new.conn.frames ≤ run.at + 1 = r.few run.at (subst (λ n. n ≤ run.at) u.counted u.few) in omega (arith, at_is, some, few);
+            ends_well = r.ends_well (take new.at all) all;
+          });
       less = omega (arith, r.light, reading_work run.conn.phase h, at_is, some, fits);
     }

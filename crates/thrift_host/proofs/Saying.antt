@@ -1,5 +1,5 @@
 -- A line that is handed to the errors.
-use Rattle.std.proofs.Common.{◌≡◌, ℕ, ◌≤◌, List, ◌++◌, length, take, Option, Result, Ok, Err, MatchResult, refl, sym, ap, ◌∙◌, inl, inr}
+use Rattle.std.proofs.Common.{◌≡◌, ℕ, List, length, take, Option, Result, Ok, Err, MatchResult, refl, sym, ap, ◌∙◌, inl, inr}
 use Rattle.std.proofs.Math.Seq.{take-length, take-append_seam}
 use Rattle.outside.specs.Cause.{HasCause}
 use Rattle.outside.specs.Content.{told_more}

@@ -4,7 +4,7 @@ use Rattle.outside.specs.declared.outcomes.Settled.{Settled}
 use Rattle.outside.specs.declared.outcomes.Settled.TheVariants.{Reply, Nothing, NoMemory}
 use Rattle.outside.specs.declared.marks.Mark.{Mark}
 use Rattle.outside.specs.declared.marks.Mark.TheVariants.{Closed}
-use Rattle.conn_state.specs.Phase.{Phase, View, fresh, sizing, held, framing, ready, waiting, writing, ended, bytes_held}
+use Rattle.conn_state.specs.Phase.{Phase, fresh, sizing, held, framing, ready, waiting, writing, ended, bytes_held}
 use Rattle.conn_state.specs.Run.{Event, Runs}
 use Rattle.host_model.specs.Marks.{marks_of, input, output}
 use Rattle.host_model.specs.Conversation.{IsLast, IsPrefix}
@@ -82,8 +82,8 @@ closed_tape _ tape = tape
 abbrev pub IsSettled : List Kept → ℕ → List ℕ → List Kept → Settled → Type 0
 IsSettled old number payload new settled =
     MatchOption (message_of payload) ((new ≡ old) × (settled ≡ Nothing)) (λ message.
-      (new ≡ old ++ record { key = record { c = 0; i = number }; call = message.call; answer = answered message.call } ∷ [])
-      × ((settled ≡ Reply (reply_to (Some message) (answered message.call))) ⊎ (settled ≡ NoMemory)))
+    (new ≡ old ++ record { key = record { c = 0; i = number }; call = message.call; answer = answered message.call } ∷ [])
+    × ((settled ≡ Reply (reply_to (Some message) (answered message.call))) ⊎ (settled ≡ NoMemory)))
 
 -- what a whole run on these bytes has come to
 pub record IsRehearsed (all : List ℕ) (run : Rehearsed) : Type 0 where

@@ -78,7 +78,14 @@ fn run<K: Sink>(alloc: Global, script: &Script, output: &mut K) -> Status
     let Ok(run) = rehearse(alloc, script) else {
         return Status::NoMemory;
     };
-    match write_report(alloc, output, &run.tape, &run.journal, run.cause, &run.written) {
+    match write_report(
+        alloc,
+        output,
+        &run.tape,
+        &run.journal,
+        run.cause,
+        &run.written,
+    ) {
         Ok(()) => Status::Done,
         Err(ReportError::Failed) => Status::WriteFault,
         Err(ReportError::NoMemory) => Status::NoMemory,

@@ -14,6 +14,8 @@ mod report;
 mod run;
 mod script;
 mod status;
+#[cfg(test)]
+mod tests;
 mod words;
 
 pub use command::host;

@@ -5,12 +5,12 @@ ghost use Rattle.conn_state.specs.Phase.{left_to_write, cause_of, IsReading, IsH
 ghost use Rattle.thrift_host.specs.Run.{IsSettled, IsUnderWay, MovesOn, closed_tape, IsRehearsed};
 
 use crate::entry::Entry;
-use conn_state::laws::every_piece_stays_within;
-use host_model::laws::{every_moment_stands, every_run_meets};
 use crate::message::{Answer, Call, Message};
 use crate::office::{answer, reply};
 use crate::script::Script;
 use conn_state::Conn;
+use conn_state::laws::every_piece_stays_within;
+use host_model::laws::{every_moment_stands, every_run_meets};
 use host_model::{EndCause, Key};
 use outside::{Bytes, Mark, Settled};
 use std::alloc::{AllocError, Global};
@@ -160,7 +160,12 @@ impl Run {
 }
 
 /// Makes the call that a payload asks for, if it is a message, and enters it. What comes of it is the reply, or want of memory for it.
-fn settle(alloc: Global, journal: &mut Vec<Entry>, number: u64, payload: &[u8]) -> Result<Settled, AllocError>
+fn settle(
+    alloc: Global,
+    journal: &mut Vec<Entry>,
+    number: u64,
+    payload: &[u8],
+) -> Result<Settled, AllocError>
     ensures { IfOk result (λ settled. IsSettled journal.old.items number payload.now journal.new.items settled) }
 {
     let Some(message) = Message::read(payload) else {
@@ -180,7 +185,11 @@ fn settle(alloc: Global, journal: &mut Vec<Entry>, number: u64, payload: &[u8]) 
 
 /// The number of the piece under way, once this one is read to its end or isn't.
 fn piece_behind(piece: usize, is_read: bool) -> usize {
-    if is_read { piece.saturating_add(1) } else { piece }
+    if is_read {
+        piece.saturating_add(1)
+    } else {
+        piece
+    }
 }
 
 /// Marks the end of a connection that has ended.

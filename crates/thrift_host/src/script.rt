@@ -152,7 +152,7 @@ fn read_hex_digits(room: &mut [u8], digits: &[u8]) -> bool
 fn next_line(text: &[u8]) -> Option<(&[u8], &[u8])>
     ensures { MatchOption result (said_lines text.now ≡ [])
         (λ cut. (said_lines text.now ≡ cut.0.now ∷ said_lines cut.1.now) × (length cut.1.now < length text.now)
-          × (length cut.0.now + length cut.1.now ≤ length text.now)) }
+        × (length cut.0.now + length cut.1.now ≤ length text.now)) }
 {
     let mut left = text;
     'lines: while !left.is_empty() {

@@ -20,7 +20,14 @@ fn main(rt: HostRuntime) -> ExitCode {
     let mut input = RealIn::new(&rt);
     let mut output = RealOut::output(&rt);
     let mut errors = RealOut::errors(&rt);
-    let status = host(&rt, rt.alloc(), &words, &mut input, &mut output, &mut errors);
+    let status = host(
+        &rt,
+        rt.alloc(),
+        &words,
+        &mut input,
+        &mut output,
+        &mut errors,
+    );
     ExitCode::from(status as u8)
 }
 

@@ -10,7 +10,7 @@ lines-preserved c =
     let other : bytes_eq c.in-Some.line.now (codes "end 0") ≡ false = search rules in
     record {
       same = c.lines.invariant.same
-        ∙ ap (λ lines. written c.lines.script.bytes.items c.lines.script.ends.items (pieces_of lines)) cut
-        ∙ piece_line _ _ c.put_piece.new.script.bytes.items c.put_piece.new.script.ends.items c.in-Some.line.now _ other c.in_ok-put_piece.ensures.put c.in_ok-put_piece.ensures.end;
+          ∙ ap (λ lines. written c.lines.script.bytes.items c.lines.script.ends.items (pieces_of lines)) cut
+          ∙ piece_line _ _ c.put_piece.new.script.bytes.items c.put_piece.new.script.ends.items c.in-Some.line.now _ other c.in_ok-put_piece.ensures.put c.in_ok-put_piece.ensures.end;
       within = omega (arith, c.lines.invariant.within, c.in-Some.ensures.2, c.in_ok-put_piece.ensures.within);
     }

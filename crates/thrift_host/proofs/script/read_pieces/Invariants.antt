@@ -6,8 +6,8 @@ use Rattle.thrift_host.proofs.script.read_pieces.Given as goal
 abbrev pub invariant-lines : goal.invariant-lines
 invariant-lines l = record {
   same :
-    written [] [] (pieces_of (said_lines l.fn.text))
-    ≡ written l.script.bytes.items l.script.ends.items (pieces_of (said_lines l.left));
+      written [] [] (pieces_of (said_lines l.fn.text))
+      ≡ written l.script.bytes.items l.script.ends.items (pieces_of (said_lines l.left));
   within : length l.script.bytes.items + length l.left ≤ length l.fn.text;
 }
 

@@ -11,7 +11,10 @@ returns-in_ok-push c = λ all u.
     refuses all c.args.self.now _ c.requires
     (record {
       conn_is = c.end.ensures ∙ ap (λ (v : View). record v { phase = ended NoMemory }) same;
-      tape_is = c.in_ok-push.ensures.items; same_journal = refl; same_written = refl; same_at = refl;
+      tape_is = c.in_ok-push.ensures.items;
+      same_journal = refl;
+      same_written = refl;
+      same_at = refl;
     }) u
 
 pub returns-else-is_err : goal.returns-else-is_err

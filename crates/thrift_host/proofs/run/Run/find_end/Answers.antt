@@ -9,5 +9,7 @@ returns c = λ all at_end u.
     (record {
       conn_is = c.end_of_input.ensures;
       tape_is = c.in_ok-push-2.ensures.items ∙ ap (λ t. t ++ Closed 0 ∷ []) c.in_ok-push.ensures.items ∙ append_assoc c.args.self.now.tape.items (Ended 0 ∷ []) (Closed 0 ∷ []);
-      same_journal = refl; same_written = refl; same_at = refl;
+      same_journal = refl;
+      same_written = refl;
+      same_at = refl;
     }) u

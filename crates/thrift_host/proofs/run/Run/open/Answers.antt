@@ -1,7 +1,6 @@
-use Rattle.std.proofs.Common.{◌≡◌, ◌≢◌, [], ◌∷◌, ◌++◌, length, map, refl, sym, ap, ◌∙◌, subst, ne_eqb, cond, arith}
-use Rattle.outside.specs.declared.marks.Mark.{Mark}
+use Rattle.std.proofs.Common.{[], ◌∷◌, ◌++◌, map, refl, sym, ap, ◌∙◌, subst, ne_eqb, cond, arith}
 use Rattle.outside.specs.declared.marks.Mark.TheVariants.{Opened}
-use Rattle.conn_state.specs.Phase.{View, fresh}
+use Rattle.conn_state.specs.Phase.{View}
 use Rattle.host_model.specs.Marks.{marks_of, input, output}
 use Rattle.host_model.specs.World.{at_first, moves, opens, open_, unopened_line, with_line}
 use Rattle.thrift_host.specs.Rehearsal.{entry_of}

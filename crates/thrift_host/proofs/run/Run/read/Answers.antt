@@ -1,4 +1,4 @@
-use Rattle.std.proofs.Common.{◌≡◌, ◌+◌, ◌<◌, ◌≤◌, [], ◌∷◌, ◌++◌, length, take, drop, refl, ap, ◌∙◌, arith}
+use Rattle.std.proofs.Common.{◌+◌, ◌<◌, ◌≤◌, [], ◌∷◌, ◌++◌, length, take, drop, refl, ap, ◌∙◌, arith}
 use Rattle.outside.specs.declared.marks.Mark.TheVariants.{Read}
 use Rattle.conn_state.specs.Phase.{wanted}
 use Rattle.thrift_host.specs.Office.{longest_frame}
@@ -18,6 +18,6 @@ returns c = λ u.
     (c.part_of-bytes.ensures ∙ ap (λ xs. take c.min-count.result (drop run.at xs)) c.deref.ensures.value)
     asked c.took.ensures.bytes c.took.ensures.after
     (c.in_ok-close_if_ended.ensures
-      ∙ ap (closed_tape c.took.new.self.phase) (c.in_ok-push.ensures.items ∙ ap (λ b. run.tape.items ++ Read 0 b ∷ []) (c.new.ensures ∙ c.in_ok-from_slice.ensures.items)))
+    ∙ ap (closed_tape c.took.new.self.phase) (c.in_ok-push.ensures.items ∙ ap (λ b. run.tape.items ++ Read 0 b ∷ []) (c.new.ensures ∙ c.in_ok-from_slice.ensures.items)))
     refl refl refl
     (λ events old view runs does. c.every_piece_stays_within.ensures longest_frame events old view bytes (omega arith) runs does) u

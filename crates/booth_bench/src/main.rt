@@ -1,0 +1,87 @@
+//! How long a call of a booth takes beside a lock of std, alone and with more threads than processors.
+//! The program prints the sums that the threads made, and on standard error the nanoseconds a call.
+#![tactic(auto)]
+
+ghost use Rattle.std.specs.Prelude.{◌≡◌, ◌≤◌, All, length};
+ghost use Rattle.seat_booth.specs.Place.{IsSeatOf};
+
+use seat_booth::running_sum::RunningSum;
+use seat_booth::{Booth, Seat, new_booth};
+use std::alloc::Global;
+use std::io;
+use std::sync::{Mutex, Wait};
+use std::thread::{Threads, map_indices, map_vec};
+use std::time::Instant;
+
+/// The calls of all threads together.
+const CALLS: u32 = 400_000;
+
+/// One seat makes so many calls.
+fn call_booth<R: Wait>(
+    rt: &R,
+    booth: &Booth<RunningSum>,
+    mut seat: Seat<RunningSum>,
+    calls: u32,
+) -> Seat<RunningSum>
+    requires { IsSeatOf booth.now seat }
+    ensures { IsSeatOf booth.now result }
+{
+    for _ in 0..calls {
+        booth.call(rt, &mut seat, 1);
+    }
+    seat
+}
+
+/// One thread takes the lock so many times.
+fn take_lock<R: Wait>(rt: &R, sum: &Mutex<u64>, calls: u32) {
+    for _ in 0..calls {
+        let mut held = sum.lock(rt);
+        *held = held.wrapping_add(1);
+    }
+}
+
+/// The sum that so many threads make at a booth.
+fn booth_sum<R: Threads + Wait + Sync>(rt: &R, alloc: Global, threads: u32) -> Option<u64>
+    requires { (1 ≤ threads) × (threads ≤ 64) }
+{
+    let Ok((booth, seats)) = new_booth(alloc, RunningSum { sum: 0 }, threads) else {
+        return None;
+    };
+    let calls = CALLS / threads;
+    let shared = &booth;
+    let one = |seat: Seat<RunningSum>| -> Seat<RunningSum>
+        requires { IsSeatOf shared.now seat }
+        ensures { IsSeatOf shared.entry.now result }
+    { call_booth(rt, shared, seat, calls) };
+    let Ok(seats) = map_vec(rt, seats, &one) else {
+        return None;
+    };
+    Some(booth.close(seats).sum)
+}
+
+/// The sum that so many threads make under a lock.
+fn mutex_sum<R: Threads + Wait + Sync>(rt: &R, alloc: Global, threads: u32) -> Option<u64>
+    requires { (1 ≤ threads) × (threads ≤ 64) }
+{
+    let sum = Mutex::new(0);
+    let calls = CALLS / threads;
+    let Ok(_done) = map_indices(rt, alloc, threads as usize, &|_| take_lock(rt, &sum, calls)) else {
+        return None;
+    };
+    Some(sum.into_inner())
+}
+
+fn main(rt: HostRuntime) -> io::Result<()> {
+    for threads in [1, 2, 4, 8] {
+        let start = Instant::now(&rt)?;
+        let booth = booth_sum(&rt, rt.alloc(), threads).unwrap_or(0);
+        let between = Instant::now(&rt)?;
+        let mutex = mutex_sum(&rt, rt.alloc(), threads).unwrap_or(0);
+        let end = Instant::now(&rt)?;
+        let booth_time = between.duration_since(start).as_nanos() / u128::from(CALLS);
+        let mutex_time = end.duration_since(between).as_nanos() / u128::from(CALLS);
+        println!(rt; "threads {threads}: booth {booth}, mutex {mutex}")?;
+        eprintln!(rt; "threads {threads}: booth {booth_time} ns, mutex {mutex_time} ns a call")?;
+    }
+    Ok(())
+}

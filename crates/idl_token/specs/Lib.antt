@@ -1,0 +1,10 @@
+pub mod Classes
+pub mod Words
+pub mod Numbers
+pub mod Literals
+pub mod Blanks
+pub mod Wholes
+pub mod Pieces
+pub mod Places
+pub mod Tokens
+pub mod Lengths

@@ -1,0 +1,156 @@
+//! The lexer of the interface language: a text is cut into tokens by longest match, or its first fault
+//! is found.
+//!
+//! It knows no grammar: what follows what is the parser's matter. `tokens` is the one call; a token's
+//! text is the slice of the text from `from` to `to`.
+#![tactic(auto)]
+
+ghost use Rattle.std.specs.Prelude.{◌≡◌, ◌≢◌, ◌≤◌, ◌↔◌, ℕ, false, FitsSigned, List, length, IfOk, IfErr};
+ghost use Rattle.std.specs.Int.{w64};
+ghost use Rattle.idl_token.specs.Numbers.{is_big_int, int_of};
+ghost use Rattle.idl_token.specs.Tokens.{AreTokensOf, IsFirstFault, StandBetween};
+
+use crate::pieces::{Piece, next_piece};
+use crate::places::place_at;
+use std::alloc::Global;
+
+mod blanks;
+mod classes;
+mod literals;
+mod numbers;
+mod pieces;
+mod places;
+mod words;
+
+/// What a token is.
+#[derive(Clone, Copy, Debug, PartialEq, Eq)]
+pub enum TokenKind {
+    /// A word with a meaning of its own.
+    Keyword,
+    /// Any other word that isn't refused.
+    Identifier,
+    /// An integer, or one of the words `true` and `false`, which stand for 1 and 0.
+    Int,
+    /// A number with a fraction or an exponent.
+    Double,
+    /// Bytes between quotation marks.
+    Literal,
+    /// A sign of the grammar.
+    Sign,
+    /// A word or sign that is left out by name.
+    Refused,
+}
+
+/// A token of a text.
+#[derive(Clone, Copy, Debug, PartialEq, Eq)]
+pub struct Token {
+    /// What it is.
+    pub kind: TokenKind,
+    /// The place of its first byte, from 0.
+    pub from: u32,
+    /// The place behind its last byte.
+    pub to: u32,
+}
+
+/// A place in a text.
+#[derive(Clone, Copy, Debug, PartialEq, Eq)]
+pub struct Place {
+    /// The line, from 1; only a newline ends one.
+    pub line: u32,
+    /// The column in bytes, from 1.
+    pub column: u32,
+}
+
+/// What is wrong in a text.
+#[derive(Clone, Copy, Debug, PartialEq, Eq)]
+pub enum LexKind {
+    /// A byte with which no token begins.
+    BadByte,
+    /// A literal without its closing quotation mark.
+    OpenLiteral,
+    /// A comment without its `*/`.
+    OpenComment,
+    /// A backslash in a literal with a byte behind it that makes no escape.
+    BadEscape,
+    /// An integer outside 64 bits, or a double with too many digits or too large an exponent.
+    BigNumber,
+    /// The tokens found no room in memory.
+    NoMemory,
+}
+
+/// The first fault of a text.
+#[derive(Clone, Copy, Debug, PartialEq, Eq)]
+pub struct LexFault {
+    /// Where it stands: a literal, a comment or a number by its first byte.
+    pub at: Place,
+    /// What is wrong there.
+    pub kind: LexKind,
+}
+
+/// The longest text that is taken, in bytes.
+pub const MAX_TEXT: usize = 4_194_304;
+
+/// The tokens of a text in order, or its first fault.
+pub fn tokens(alloc: Global, text: &[u8]) -> Result<Vec<Token>, LexFault>
+    requires { length text.now ≤ MAX_TEXT }
+    ensures ok { IfOk result (λ tokens. AreTokensOf tokens.items text.now) }
+    ensures fault { IfErr result (λ fault. fault.kind ≢ LexKind.NoMemory → IsFirstFault fault text.now) }
+{
+    let mut tokens = Vec::new(alloc);
+    let mut at = 0;
+    'pieces: while at < text.len() {
+        let (_, rest) = text.split_at(at);
+        match next_piece(rest) {
+            Piece::Blank(size) => at += size,
+            Piece::Token(kind, size) => {
+                let token = Token {
+                    kind,
+                    from: at as u32,
+                    to: (at + size) as u32,
+                };
+                if tokens.push(token).is_err() {
+                    return Err(LexFault {
+                        at: place_at(text, at),
+                        kind: LexKind::NoMemory,
+                    });
+                }
+                at += size;
+            }
+            Piece::Fault(kind, inside) => {
+                return Err(LexFault {
+                    at: place_at(text, at + inside),
+                    kind,
+                });
+            }
+        }
+    }
+    Ok(tokens)
+}
+
+/// A text has one list of tokens.
+pub fn tokens_are_determined()
+    ensures { (text : List ℕ) (ts us : List Token) → AreTokensOf ts text → AreTokensOf us text → ts ≡ us }
+{}
+
+/// A text with a list of tokens has no first fault.
+pub fn tokens_exclude_a_fault()
+    ensures { (text : List ℕ) (ts : List Token) (fault : LexFault) → AreTokensOf ts text → IsFirstFault fault text → ⊥ }
+{}
+
+/// A text has one first fault at most.
+pub fn the_fault_is_determined()
+    ensures { (text : List ℕ) (f g : LexFault) → IsFirstFault f text → IsFirstFault g text → f ≡ g }
+{}
+
+/// Tokens stand in order within the text, and each has a byte or more.
+pub fn tokens_stand_in_order()
+    ensures { (text : List ℕ) (ts : List Token) → AreTokensOf ts text → StandBetween 0 (length text) ts }
+{}
+
+/// An integer is too big exactly where its number has no place in 64 bits.
+pub fn big_integers_are_outside_64_bits()
+    ensures { (int : List ℕ) → (is_big_int int ≡ false) ↔ FitsSigned w64 (int_of int) }
+{}
+
+#[cfg(test)]
+mod tests;

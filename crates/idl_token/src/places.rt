@@ -1,0 +1,33 @@
+//! Places in a text.
+ghost use Rattle.std.specs.Prelude.{◌≡◌, ◌≤◌, ◌==◌, not, length, count_by};
+ghost use Rattle.std.specs.List.{suffix_len};
+ghost use Rattle.idl_token.specs.Places.{place_of};
+
+use crate::Place;
+
+/// Line and column of a byte, or of the end.
+pub(crate) fn place_at(text: &[u8], at: usize) -> Place
+    requires within { at ≤ length text.now }
+    requires short { length text.now ≤ 4194304 }
+    ensures { result ≡ place_of text.now at }
+{
+    let (before, _) = text.split_at(at);
+    Place {
+        line: 1 + newlines_in(before) as u32,
+        column: 1 + bytes_behind_newline(before) as u32,
+    }
+}
+
+fn newlines_in(text: &[u8]) -> usize
+    ensures value { result ≡ count_by (λ b. b == 10) text.now }
+    ensures within { result ≤ length text.now }
+{
+    text.iter().filter(|byte| **byte == b'\n').count()
+}
+
+fn bytes_behind_newline(text: &[u8]) -> usize
+    ensures value { result ≡ suffix_len (λ b. not (b == 10)) text.now }
+    ensures within { result ≤ length text.now }
+{
+    text.iter().rev().take_while(|byte| **byte != b'\n').count()
+}

@@ -1,0 +1,11 @@
+pub mod History
+pub mod Calls
+pub mod Place
+pub mod Weight
+pub mod Past
+pub mod Turns
+pub mod Steps
+pub mod Sums
+pub mod Laws
+pub mod Induction
+pub mod Baton

@@ -1,0 +1,25 @@
+//! A ticket lock round one object, whose every call is a point of one history.
+//!
+//! `new_booth` gives a booth and its seats, a thread calls the object by `booth.call(rt, &mut seat, op)`, and
+//! `booth.close(seats)` gives the object back, as it is after the one history of all calls.
+//! Nothing is claimed of waiting: not that a call returns, nor of fairness, waking, deadlock or time.
+#![tactic(auto)]
+
+pub mod baton;
+mod booth;
+mod crossing;
+mod entry;
+mod object;
+mod opening;
+mod plays;
+pub mod running_sum;
+mod table;
+#[cfg(test)]
+mod tests;
+mod view;
+mod waiting;
+
+pub use booth::{Booth, NoBooth, Seat, new_booth};
+pub use crossing::crosses;
+pub use entry::Entry;
+pub use object::Object;

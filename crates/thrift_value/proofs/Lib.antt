@@ -1,0 +1,6 @@
+pub mod PlainKeeps
+pub mod PlainLaws
+pub mod TidyLaws
+pub mod TotalOrder
+pub mod Trees
+pub mod Walks

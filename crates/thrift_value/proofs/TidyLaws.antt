@@ -1,0 +1,96 @@
+-- Steps of the loops that test whether a value is tidy.
+use Rattle.std.specs.Prelude.{◌↔◌}
+use Rattle.std.proofs.Common.{◌≡◌, ℕ, ℤ, ◌+◌, ◌-◌, ◌≤◌, ◌<◌, ◌<ℤ◌, List, [], ◌∷◌, length, drop, get_or, map, Less, sym, ap, ◌∙◌, subst, arith, length-drop}
+use Rattle.std.proofs.lemmas.Int.{ints}
+use Rattle.std.proofs.lemmas.List.{drop_more}
+use Rattle.thrift_value.specs.declared.tag.Tag.{Tag}
+use Rattle.thrift_value.specs.Tree.{Tree, of_map, FieldTrees, no_fields, field, ItemTrees, no_items, item, PairTrees, no_pairs, pair}
+use Rattle.thrift_value.specs.Tags.{tag_of}
+use Rattle.thrift_value.specs.Order.{tree_cmp}
+use Rattle.thrift_value.specs.Tidy.{IsTidy, AreTidyPairs, IsBelowIds, IsBelowItems, IsBelowKeys, AreRisingFields, AreRisingItems, AreRisingPairs}
+use Rattle.thrift_value.specs.TreeOf.{tree_of, field_tree, pair_tree, field_trees, item_trees, pair_trees}
+use Rattle.thrift_value.proofs.TotalOrder.{tree_cmp_total}
+
+-- what is below an id, a value or a key is below all that it is below
+IsBelowIds-lower : (i j : ℤ) (more : FieldTrees) → i <ℤ j → IsBelowIds j more → IsBelowIds i more
+IsBelowIds-lower i j no_fields low below = tt
+IsBelowIds-lower i j (field k _ more) low below = (omega (arith, ints, below.0), IsBelowIds-lower i j more low below.1)
+
+IsBelowItems-lower : (x y : Tree) (more : ItemTrees) → tree_cmp x y ≡ Less → IsBelowItems y more → IsBelowItems x more
+IsBelowItems-lower x y no_items low below = tt
+IsBelowItems-lower x y (item z more) low below = (tree_cmp_total.trans x y z low below.0, IsBelowItems-lower x y more low below.1)
+
+IsBelowKeys-lower : (x y : Tree) (more : PairTrees) → tree_cmp x y ≡ Less → IsBelowKeys y more → IsBelowKeys x more
+IsBelowKeys-lower x y no_pairs low below = tt
+IsBelowKeys-lower x y (pair z _ more) low below = (tree_cmp_total.trans x y z low below.0, IsBelowKeys-lower x y more low below.1)
+
+-- a fact of a list that follows from one of each two neighbours
+pub record IsChain {A : Type 0} (R : A → A → Type 0) (P : List A → Type 0) : Type 0 where
+  pub none : P []
+  pub one : (x : A) → P (x ∷ [])
+  pub more : (x y : A) (xs : List A) → R x y → P (y ∷ xs) → P (x ∷ (y ∷ xs))
+  pub tail : (x : A) (xs : List A) → P (x ∷ xs) → P xs
+
+pub rising_fields : IsChain (λ f g. f.0 <ℤ g.0) (λ fs. AreRisingFields (field_trees (map field_tree fs)))
+rising_fields = record {
+  none = tt;
+  one = λ _. (tt, tt);
+  more = λ f g fs low rest. ((low, IsBelowIds-lower f.0 g.0 (field_trees (map field_tree fs)) low rest.0), rest);
+  tail = λ _ _ all. all.1;
+}
+
+pub rising_items : IsChain (λ x y. tree_cmp (tree_of x) (tree_of y) ≡ Less) (λ xs. AreRisingItems (item_trees (map tree_of xs)))
+rising_items = record {
+  none = tt;
+  one = λ _. (tt, tt);
+  more = λ x y xs low rest. ((low, IsBelowItems-lower (tree_of x) (tree_of y) (item_trees (map tree_of xs)) low rest.0), rest);
+  tail = λ _ _ all. all.1;
+}
+
+pub rising_pairs : IsChain (λ p q. tree_cmp (tree_of p.0) (tree_of q.0) ≡ Less) (λ ps. AreRisingPairs (pair_trees (map pair_tree ps)))
+rising_pairs = record {
+  none = tt;
+  one = λ _. (tt, tt);
+  more = λ p q ps low rest. ((low, IsBelowKeys-lower (tree_of p.0) (tree_of q.0) (pair_trees (map pair_tree ps)) low rest.0), rest);
+  tail = λ _ _ all. all.1;
+}
+
+module _ {A : Type 0} {R : A → A → Type 0} {P : List A → Type 0} (is : IsChain R P) (W : Type 0) where
+  -- one neighbour further
+  pub chained : (xs : List A) (i : ℕ) (x y : A) → 1 ≤ i → i < length xs → x ≡ get_or xs (i - 1) x → y ≡ get_or xs i y → R x y
+      → P (drop (i - 1) xs) ↔ W → P (drop ((i + 1) - 1) xs) ↔ W
+  chained xs i x y low high here there next kept =
+      let back : i - 1 + 1 ≡ i = omega arith in
+      let on : (i + 1) - 1 ≡ i = omega arith in
+      let two : drop i xs ≡ y ∷ drop (i + 1) xs = drop_more xs i y high ∙ ap (λ z. z ∷ drop (i + 1) xs) (sym there) in
+      let one : drop (i - 1) xs ≡ x ∷ drop i xs =
+      drop_more xs (i - 1) x (omega arith) ∙ ap (λ z. z ∷ drop (i - 1 + 1) xs) (sym here) ∙ ap (λ k. x ∷ drop k xs) back in
+      let all : drop (i - 1) xs ≡ x ∷ (y ∷ drop (i + 1) xs) = one ∙ ap (λ zs. x ∷ zs) two in
+      let rest : drop ((i + 1) - 1) xs ≡ y ∷ drop (i + 1) xs = ap (λ k. drop k xs) on ∙ two in (
+        λ p. kept.0 (subst P (sym all) (is.more x y (drop (i + 1) xs) next (subst P rest p))),
+        λ w. subst P (sym rest) (is.tail x (y ∷ drop (i + 1) xs) (subst P all (kept.1 w))),
+      )
+
+  short : (zs : List A) → length zs ≤ 1 → P zs
+  short [] h = is.none
+  short (x ∷ []) h = is.one x
+  short (x ∷ (y ∷ zs)) h = absurd (omega arith)
+
+  -- no neighbour is left
+  pub chained_all : (xs : List A) (i : ℕ) → 1 ≤ i → length xs ≤ i → P (drop (i - 1) xs) ↔ W → W
+  chained_all xs i low high kept = kept.0 (short (drop (i - 1) xs) (omega (arith, length-drop (i - 1) xs)))
+
+-- one pair further
+pub tidied_pair : (key value : Tag) (k v : Tree) (more : PairTrees) (W : Type 0) → tag_of k ≡ key → tag_of v ≡ value → IsTidy k → IsTidy v
+    → AreTidyPairs key value (pair k v more) ↔ W → AreTidyPairs key value more ↔ W
+tidied_pair key value k v more W tk tv a b kept = (
+  λ rest. kept.0 ((tk, tv, a.tagged, b.tagged, rest.0), (a.in_order, b.in_order, rest.1)),
+  λ w. let all = kept.1 w in (all.0.4, all.1.2),
+)
+
+-- a tidy map
+pub tidy_map : (x : Tree) (key value : Tag) (pairs : PairTrees) → x ≡ of_map key value pairs → IsTidy x ↔ (AreTidyPairs key value pairs × AreRisingPairs pairs)
+tidy_map x key value pairs is = (
+  λ tidy. let at = subst IsTidy is tidy in ((at.tagged, at.in_order.1), at.in_order.0),
+  λ h. subst IsTidy (sym is) (record { tagged = h.0.0; in_order = (h.1, h.0.1) }),
+)

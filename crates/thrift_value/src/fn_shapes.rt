@@ -1,0 +1,39 @@
+ghost use Rattle.std.specs.Prelude.{◌≡◌};
+
+use crate::byte_text::ByteText;
+use std::marker::Model;
+
+/// The shapes of a service's functions, a line each.
+#[derive(Debug, Drop)]
+pub struct FnShapes {
+    // One a function, without its newline.
+    lines: Vec<ByteText>,
+}
+
+impl Model for FnShapes {
+    ghost use Rattle.std.specs.Prelude.{List, ℕ};
+
+    ghost Value = { List (List ℕ) };
+
+    ghost view = { λ shapes. shapes.lines.items };
+}
+
+impl FnShapes {
+    pub fn new(lines: Vec<ByteText>) -> Self
+        ensures { result ≡ lines.items }
+    {
+        FnShapes { lines }
+    }
+
+    pub fn as_slice(&self) -> &[ByteText]
+        ensures { result.now ≡ self.now }
+    {
+        self.lines.as_slice()
+    }
+
+    pub fn into_vec(self) -> Vec<ByteText>
+        ensures { result.items ≡ self }
+    {
+        self.lines
+    }
+}

@@ -1,0 +1,136 @@
+ghost use Rattle.std.specs.Prelude.{◌≡◌};
+ghost use Rattle.thrift_value.specs.Tags.{tag_of};
+ghost use Rattle.thrift_value.specs.TreeOf.{tree_of, fields_of, items_of, pairs_of};
+
+use crate::byte_text::ByteText;
+use crate::tag::Tag;
+
+/// A value of a Thrift type. Strings and binaries are both bytes, an enum is an `I32`, and a double
+/// is its 64 bits.
+#[cycle(value)]
+#[derive(Drop)]
+pub enum Value {
+    Bool(bool),
+    I8(i8),
+    I16(i16),
+    I32(i32),
+    I64(i64),
+    /// The 64 bits of the number.
+    Double(u64),
+    Bytes(ByteText),
+    Struct(Fields),
+    /// The tag of the keys, the tag of their values, and the pairs.
+    Map(Tag, Tag, Pairs),
+    /// The tag of the members, and the members.
+    Set(Tag, Items),
+    /// The tag of the elements, and the elements.
+    List(Tag, Items),
+}
+
+/// A value as it came: in wire order, and with repeats.
+pub type Raw = Value;
+
+/// The fields of a struct, each with its id.
+#[cycle(value)]
+#[derive(Drop)]
+pub struct Fields {
+    // In wire order as they came, or by rising id.
+    pub(crate) list: Vec<(i16, Value)>,
+}
+
+/// The pairs of a map, each a key and its value.
+#[cycle(value)]
+#[derive(Drop)]
+pub struct Pairs {
+    // In wire order as they came, or by rising key.
+    pub(crate) list: Vec<(Value, Value)>,
+}
+
+/// The elements of a list, or the members of a set.
+#[cycle(value)]
+#[derive(Drop)]
+pub struct Items {
+    // In wire order as they came; the members of a tidy set rise.
+    pub(crate) list: Vec<Value>,
+}
+
+impl Value {
+    /// The kind of the value.
+    pub fn tag(&self) -> Tag
+        ensures { result ≡ tag_of (tree_of self.now) }
+    {
+        match self {
+            Value::Bool(_) => Tag::Bool,
+            Value::I8(_) => Tag::I8,
+            Value::I16(_) => Tag::I16,
+            Value::I32(_) => Tag::I32,
+            Value::I64(_) => Tag::I64,
+            Value::Double(_) => Tag::Double,
+            Value::Bytes(_) => Tag::Bytes,
+            Value::Struct(_) => Tag::Struct,
+            Value::Map(_, _, _) => Tag::Map,
+            Value::Set(_, _) => Tag::Set,
+            Value::List(_, _) => Tag::List,
+        }
+    }
+}
+
+impl Fields {
+    pub fn new(fields: Vec<(i16, Value)>) -> Self
+        ensures { fields_of result ≡ fields.items }
+    {
+        Fields { list: fields }
+    }
+
+    pub fn as_slice(&self) -> &[(i16, Value)]
+        ensures { result.now ≡ fields_of self.now }
+    {
+        self.list.as_slice()
+    }
+
+    pub fn into_vec(self) -> Vec<(i16, Value)>
+        ensures { result.items ≡ fields_of self }
+    {
+        self.list
+    }
+}
+
+impl Pairs {
+    pub fn new(pairs: Vec<(Value, Value)>) -> Self
+        ensures { pairs_of result ≡ pairs.items }
+    {
+        Pairs { list: pairs }
+    }
+
+    pub fn as_slice(&self) -> &[(Value, Value)]
+        ensures { result.now ≡ pairs_of self.now }
+    {
+        self.list.as_slice()
+    }
+
+    pub fn into_vec(self) -> Vec<(Value, Value)>
+        ensures { result.items ≡ pairs_of self }
+    {
+        self.list
+    }
+}
+
+impl Items {
+    pub fn new(items: Vec<Value>) -> Self
+        ensures { items_of result ≡ items.items }
+    {
+        Items { list: items }
+    }
+
+    pub fn as_slice(&self) -> &[Value]
+        ensures { result.now ≡ items_of self.now }
+    {
+        self.list.as_slice()
+    }
+
+    pub fn into_vec(self) -> Vec<Value>
+        ensures { result.items ≡ items_of self }
+    {
+        self.list
+    }
+}
