@@ -10,3 +10,6 @@ pub mod Ordering
 pub mod Runs
 pub mod WrongRuns
 pub mod RightRuns
+pub mod Splitting
+pub mod Fronting
+pub mod Plainly

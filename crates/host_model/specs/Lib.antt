@@ -8,3 +8,4 @@ pub mod Headline
 pub mod World
 pub mod Report
 pub mod TinyDesk
+pub mod Plain

@@ -2,13 +2,15 @@
 //!
 //! The files of `specs/`, in reading order: the split of a stream into frames; marks on the tape; the journal and its
 //! legal histories; desks; the conversation of a connection; the order between connections; the headline; the
-//! world, whose every run meets it; and a tiny desk for examples. The crate runs no logic.
+//! world, whose every run meets it; a tiny desk for examples; and how the plain programs' values are seen. The only
+//! code is `plain`, which computes the definitions on small inputs.
 #![tactic(auto)]
 
 mod cause;
 pub mod examples;
 mod key;
 pub mod laws;
+pub mod plain;
 
 pub use cause::EndCause;
 pub use key::Key;

@@ -1,0 +1,14 @@
+//! Plain programs for small inputs: they compute the definitions, slowly; tests compare faster bodies with them.
+
+mod desks;
+mod frames;
+mod journals;
+mod tape;
+
+pub use desks::{Decided, PlainDesk, called, sent};
+pub use frames::split;
+pub use journals::{PlainEntry, PlainServices, after, entries_of, is_legal};
+pub use tape::{input, marks_of, output};
+
+#[cfg(test)]
+mod tests;

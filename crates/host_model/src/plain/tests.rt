@@ -1,0 +1,204 @@
+//! A table of small examples, whose expected values are worked out by hand.
+
+use super::*;
+use outside::{Bytes, EnvelopeFault, Mark};
+use std::alloc::{AllocError, Global};
+use std::process::Abort;
+use std::test::Fail;
+
+/// The desk of the examples: call 10 is replied to with its answer, twice, and call 11 isn't.
+struct Tiny;
+
+impl PlainDesk for Tiny {
+    ghost use Rattle.host_model.specs.TinyDesk.{desk};
+
+    type Call = u8;
+
+    type Answer = u8;
+
+    ghost desk = { λ _. desk };
+
+    fn decide(&self, alloc: Global, payload: &[u8]) -> Result<Decided<u8>, AllocError> {
+        match payload {
+            [] => Ok(Decided::Passed),
+            [1, ..] => Ok(Decided::Called(10)),
+            [2, ..] => Ok(Decided::Replied(Bytes::new(Vec::from_slice(alloc, &[20, 21])?))),
+            [3, ..] => Ok(Decided::Passed),
+            [4, ..] => Ok(Decided::Refused(EnvelopeFault::Short)),
+            _ => Ok(Decided::Called(11)),
+        }
+    }
+
+    fn is_silent(&self, call: u8) -> bool {
+        call == 11
+    }
+
+    fn reply(&self, alloc: Global, _payload: &[u8], answer: u8) -> Result<Vec<u8>, AllocError> {
+        Vec::from_slice(alloc, &[answer, answer])
+    }
+}
+
+/// Two services, whose answer is the number of their calls before, and which start again behind 255.
+struct Counting;
+
+impl PlainServices for Counting {
+    ghost use Rattle.std.specs.Prelude.{◌+◌, ◌-◌, ◌%◌};
+
+    type Call = u8;
+
+    type Answer = u8;
+
+    type Memory = u8;
+
+    ghost rules = { λ _. record { slot = λ call. call - 10; rule = λ call count. (count, (count + 1) % 256) } };
+
+    fn slot(&self, call: u8) -> usize {
+        call.saturating_sub(10) as usize
+    }
+
+    fn rule(&self, _call: u8, count: u8) -> (u8, u8) {
+        (count, count.wrapping_add(1))
+    }
+
+    fn is_same(&self, answer: u8, other: u8) -> bool {
+        answer == other
+    }
+}
+
+#[test]
+fn a_table_of_small_examples(rt: HostRuntime) -> Result<(), Fail> {
+    let alloc = rt.alloc();
+    frames_and_rests(&rt, alloc)?;
+    calls_and_replies(&rt, alloc)?;
+    histories(&rt, alloc)?;
+    for c in 0..3 {
+        let own = marks_of(alloc, c, tape(alloc)?.as_slice())?;
+        let (count, read, written) = [
+            (5, b"abd".as_slice(), b"z".as_slice()),
+            (3, b"c", b"yx"),
+            (0, b"", b""),
+        ][c as usize];
+        assert_eq!(rt; own.len(), count);
+        assert_eq!(rt; input(alloc, own.as_slice())?.as_slice(), read);
+        assert_eq!(rt; output(alloc, own.as_slice())?.as_slice(), written);
+    }
+    Ok(())
+}
+
+fn frames_and_rests<R: Abort>(rt: &R, alloc: Global) -> Result<(), Fail> {
+    splits(rt, alloc, b"", &[], 0)?;
+    splits(
+        rt,
+        alloc,
+        b"\0\0\0\x01a\0\0\0\x02bc\0\0\0",
+        &[b"a", b"bc"],
+        11,
+    )?;
+    splits(rt, alloc, b"\0\0\0\x01a\0\0\0\0\0\0\0\x01b", &[b"a"], 5)?;
+    splits(rt, alloc, b"\0\0\0\x03abc", &[], 0)?;
+    splits(rt, alloc, b"\0\0\0\x02a", &[], 0)?;
+    splits(rt, alloc, b"\xff\xff\xff\xffab", &[], 0)
+}
+
+/// The bytes are the frames of these payloads, of two bytes at most, and a rest that begins at `at`.
+fn splits<R: Abort>(
+    rt: &R,
+    alloc: Global,
+    bytes: &[u8],
+    payloads: &[&[u8]],
+    at: usize,
+) -> Result<(), Fail> {
+    let (found, rest) = split(alloc, 2, bytes)?;
+    assert_eq!(rt; rest, at);
+    assert_eq!(rt; found.len(), payloads.len());
+    for (payload, expected) in found.iter().zip(payloads) {
+        assert_eq!(rt; payload.as_slice(), *expected);
+    }
+    Ok(())
+}
+
+fn calls_and_replies<R: Abort>(rt: &R, alloc: Global) -> Result<(), Fail> {
+    let bytes = b"\0\0\0\x01\x01\0\0\0\x01\x02\0\0\0\x01\x03\0\0\0\x01\x05\0\0\0\x01\x01";
+    let payloads = split(alloc, 2, bytes)?.0;
+    let calls = called(alloc, &Tiny, payloads.as_slice())?;
+    assert_eq!(rt; calls.as_slice(), [(0, 10), (3, 11), (4, 10)].as_slice());
+    let entries = [entry(0, 10, 5), entry(3, 11, 6), entry(4, 10, 7)];
+    assert_eq!(rt; entries_of(alloc, 0, &entries)?.len(), 3);
+    assert_eq!(rt; entries_of(alloc, 1, &entries)?.len(), 0);
+    assert_eq!(rt;
+        sent(alloc, &Tiny, &entries[..2], payloads.as_slice())?.as_slice(),
+        [5, 5, 20, 21].as_slice()
+    );
+    assert_eq!(rt;
+        sent(alloc, &Tiny, &entries, payloads.as_slice())?.as_slice(),
+        [5, 5, 20, 21, 7, 7].as_slice()
+    );
+    Ok(())
+}
+
+/// An entry of connection 0.
+fn entry(number: u64, call: u8, answer: u8) -> PlainEntry<u8, u8> {
+    PlainEntry {
+        connection: 0,
+        number,
+        call,
+        answer,
+    }
+}
+
+fn histories<R: Abort>(rt: &R, alloc: Global) -> Result<(), Fail> {
+    leaves(rt, alloc, &[], true, &[5, 255])?;
+    leaves(
+        rt,
+        alloc,
+        &[
+            entry(0, 10, 5),
+            entry(1, 11, 255),
+            entry(2, 10, 6),
+            entry(3, 11, 0),
+        ],
+        true,
+        &[7, 1],
+    )?;
+    leaves(
+        rt,
+        alloc,
+        &[entry(0, 10, 5), entry(1, 10, 5)],
+        false,
+        &[7, 255],
+    )?;
+    leaves(rt, alloc, &[entry(0, 12, 0)], false, &[5, 255])
+}
+
+/// From 5 and 255 calls before, this journal is legal or isn't, and leaves these memories.
+fn leaves<R: Abort>(
+    rt: &R,
+    alloc: Global,
+    journal: &[PlainEntry<u8, u8>],
+    legal: bool,
+    memories: &[u8],
+) -> Result<(), Fail> {
+    let mut now = [5, 255];
+    assert_eq!(rt; is_legal(alloc, &Counting, &now, journal)?, legal);
+    after(&Counting, &mut now, journal);
+    assert_eq!(rt; now.as_slice(), memories);
+    Ok(())
+}
+
+/// What two connections were seen to do.
+fn tape(alloc: Global) -> Result<Vec<Mark>, AllocError> {
+    let mut tape = Vec::new(alloc);
+    tape.push(Mark::Opened(0))?;
+    tape.push(Mark::Read(0, bytes(alloc, b"ab")?))?;
+    tape.push(Mark::Read(1, bytes(alloc, b"c")?))?;
+    tape.push(Mark::Wrote(0, bytes(alloc, b"z")?))?;
+    tape.push(Mark::Wrote(1, bytes(alloc, b"yx")?))?;
+    tape.push(Mark::Read(0, bytes(alloc, b"d")?))?;
+    tape.push(Mark::Ended(1))?;
+    tape.push(Mark::Closed(0))?;
+    Ok(tape)
+}
+
+fn bytes(alloc: Global, items: &[u8]) -> Result<Bytes, AllocError> {
+    Ok(Bytes::new(Vec::from_slice(alloc, items)?))
+}

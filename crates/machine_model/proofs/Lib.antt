@@ -1,0 +1,10 @@
+pub mod Lists
+pub mod Standing
+pub mod Changing
+pub mod Linking
+pub mod Serving
+pub mod Collecting
+pub mod Running
+pub mod Merging
+pub mod Owning
+pub mod Computing

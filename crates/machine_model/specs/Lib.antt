@@ -1,0 +1,9 @@
+pub mod Hall
+pub mod HallRule
+pub mod OwnCalls
+pub mod Loop
+pub mod Worker
+pub mod Machine
+pub mod Places
+pub mod Merge
+pub mod Plain
