@@ -8,3 +8,4 @@ pub mod Running
 pub mod Merging
 pub mod Owning
 pub mod Computing
+pub mod WrongSteps

@@ -7,3 +7,4 @@ pub mod Machine
 pub mod Places
 pub mod Merge
 pub mod Plain
+pub mod Tiny

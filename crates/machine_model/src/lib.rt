@@ -5,4 +5,5 @@
 //! history of the hall and the loop's own order make. The crate runs no logic.
 #![tactic(auto)]
 
+pub mod examples;
 pub mod laws;
