@@ -10,7 +10,7 @@ use Rattle.host_model.specs.World.{Line, HasEnded, unopened_line, over}
 use Rattle.thrift_host.specs.declared.run.Run.{Run}
 use Rattle.thrift_host.specs.Office.{desk, rules, memories}
 use Rattle.thrift_host.specs.Rehearsal.{IsRead}
-use Rattle.thrift_host.specs.Run.{IsUnderWay, Stands, EndsWell, IsRehearsed}
+use Rattle.thrift_host.specs.Run.{IsUnderWay, Stands, EndsWell, IsFed, IsRehearsed}
 
 -- an ended phase says its cause
 ended_phase : (phase : Phase) (cause : EndCause) → cause_of phase ≡ Some cause → phase ≡ ended cause
@@ -28,10 +28,10 @@ all_ended : (lines : ℕ → Line) (cause : EndCause) → (lines 0).stage ≡ ov
 all_ended lines cause is_over others zero = subst (λ s. HasEnded s (Some cause)) (sym is_over) refl
 all_ended lines cause is_over others (suc c) = subst (λ (line : Line). HasEnded line.stage None) (sym (others (suc c) (suc-ne-zero c))) tt
 
-pub rehearsed : (all : List ℕ) (run : Run) (cause : EndCause) → cause_of run.conn.phase ≡ Some cause → (u : IsUnderWay all run)
+pub rehearsed : (all ends : List ℕ) (run : Run) (cause : EndCause) → cause_of run.conn.phase ≡ Some cause → (u : IsUnderWay all run) → IsFed ends run
     → (((c : ℕ) → HasEnded (u.world.lines c).stage (slice_get (cause ∷ []) c)) → Headline desk rules memories u.world.tape u.world.journal (cause ∷ []))
-    → IsRehearsed all (record { tape = run.tape; journal = run.journal; written = run.written; cause = cause })
-rehearsed all run cause e u law =
+    → IsRehearsed all ends (record { tape = run.tape; journal = run.journal; written = run.written; cause = cause })
+rehearsed all ends run cause e u fed law =
     let phase = ended_phase run.conn.phase cause e in
     let is_over : (u.world.lines 0).stage ≡ over cause = subst (λ ph. Stands ph (u.world.lines 0)) phase u.stands in
     let well : EndsWell (ended cause) (take run.at all) all = subst (λ ph. EndsWell ph (take run.at all) all) phase u.ends_well in
@@ -42,5 +42,6 @@ rehearsed all run cause e u law =
       scripted = well.0;
       fed = (drop run.at all, sym (take-append-drop run.at all) ∙ ap (λ front. front ++ drop run.at all) (sym u.read));
       ended_there = subst (λ read. IsRead cause read all) (sym u.read) well.1;
+      cut = fed.fed;
       sent = sym u.sent;
     }

@@ -3,9 +3,11 @@ pub mod Calls
 pub mod Cuts
 pub mod Digits
 pub mod Ends
+pub mod Fed
 pub mod Fronts
 pub mod Moves
 pub mod Pieces
+pub mod Reading
 pub mod Results
 pub mod Saying
 pub mod Taking

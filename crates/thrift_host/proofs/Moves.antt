@@ -256,7 +256,7 @@ writes_all all run new reply some is_left conn_is tape_is written_is same_journa
 -- 5. bytes are read
 
 -- where a connection stands that reads
-reads_at : (phase : Phase) (line : Line) → IsReading phase → Stands phase line → (line.held ≡ bytes_held phase) × (line.stage ≡ open_ [])
+pub reads_at : (phase : Phase) (line : Line) → IsReading phase → Stands phase line → (line.held ≡ bytes_held phase) × (line.stage ≡ open_ [])
 reads_at (sizing bytes) line h s = s
 reads_at (framing size bytes) line h s = s
 reads_at (held size) line h s = absurd h

@@ -2,6 +2,7 @@ pub mod Words
 pub mod Script
 pub mod Message
 pub mod Office
+pub mod Feeding
 pub mod Rehearsal
 pub mod Run
 pub mod Pieces

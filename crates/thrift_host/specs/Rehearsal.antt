@@ -15,7 +15,8 @@ use Rattle.thrift_host.specs.declared.message.Call.TheVariants.{Ping, Add}
 use Rattle.thrift_host.specs.declared.message.Answer.{Answer}
 use Rattle.thrift_host.specs.declared.message.Answer.TheVariants.{Empty, Sum}
 use Rattle.thrift_host.specs.declared.entry.Entry.{Entry as Kept}
-use Rattle.thrift_host.specs.Script.{joined}
+use Rattle.thrift_host.specs.Script.{joined, ends_from}
+use Rattle.thrift_host.specs.Feeding.{AreFed}
 use Rattle.thrift_host.specs.Message.{message_of}
 use Rattle.thrift_host.specs.Office.{desk, rules, memories, longest_frame}
 
@@ -52,7 +53,7 @@ IsRead Cut read all = read ≡ all
 IsRead _ read all = Unit {0}
 
 -- The text is the report of a run on these pieces: its tape, journal and cause meet the headline, what it read is a beginning of the pieces, and the whole
--- of them where it found their end.
+-- of them where it found their end; and each read takes its part of the piece under way.
 pub record Reports (pieces : List (List ℕ)) (text : List ℕ) : Type 0 where
   pub tape : List Mark
   pub journal : List (Entry Call Answer)
@@ -61,6 +62,7 @@ pub record Reports (pieces : List (List ℕ)) (text : List ℕ) : Type 0 where
   pub scripted : IsScripted cause
   pub fed : IsPrefix (input (marks_of 0 tape)) (joined pieces)
   pub ended : IsRead cause (input (marks_of 0 tape)) (joined pieces)
+  pub cut : AreFed (ends_from 0 pieces) tape
   pub printed : text ≡ report entry_text tape journal (cause ∷ [])
 
 -- payload number i of these bytes is the first that is no message that the host knows

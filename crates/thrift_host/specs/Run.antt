@@ -17,6 +17,7 @@ use Rattle.thrift_host.specs.declared.message.Answer.{Answer}
 use Rattle.thrift_host.specs.Office.{desk, rules, memories, longest_frame, answered, reply_to}
 use Rattle.thrift_host.specs.Message.{message_of}
 use Rattle.thrift_host.specs.declared.entry.Entry.{Entry as Kept}
+use Rattle.thrift_host.specs.Feeding.{AreFed, IsInPiece, AddsNoRead}
 use Rattle.thrift_host.specs.Rehearsal.{entry_of, IsScripted, IsRead}
 
 -- what a connection's phase says of where it stands in the world
@@ -54,6 +55,17 @@ pub record IsUnderWay (all : List ℕ) (run : Run) : Type 0 where
   pub few : run.conn.frames ≤ run.at
   pub ends_well : EndsWell run.conn.phase (take run.at all) all
 
+-- each read of a run took its part of the pieces with these ends, and the run counts the pieces that it has read
+pub record IsFed (ends : List ℕ) (run : Run) : Type 0 where
+  pub fed : AreFed ends run.tape.items
+  pub in_piece : IsInPiece ends run.piece run.at
+
+-- a run that reads nothing
+pub record StaysFed (old new : Run) : Type 0 where
+  pub same_at : new.at ≡ old.at
+  pub same_piece : new.piece ≡ old.piece
+  pub adds : AddsNoRead old.tape.items new.tape.items
+
 -- how much a connection has to do before it reads again
 abbrev pub work_of : Phase → ℕ
 work_of (sizing bytes) = 1
@@ -85,10 +97,11 @@ IsSettled old number payload new settled =
     (new ≡ old ++ record { key = record { c = 0; i = number }; call = message.call; answer = answered message.call } ∷ [])
     × ((settled ≡ Reply (reply_to (Some message) (answered message.call))) ⊎ (settled ≡ NoMemory)))
 
--- what a whole run on these bytes has come to
-pub record IsRehearsed (all : List ℕ) (run : Rehearsed) : Type 0 where
+-- what a whole run on these bytes, cut by these ends, has come to
+pub record IsRehearsed (all ends : List ℕ) (run : Rehearsed) : Type 0 where
   pub headline : Headline desk rules memories run.tape.items (map entry_of run.journal.items) (run.cause ∷ [])
   pub scripted : IsScripted run.cause
   pub fed : IsPrefix (input (marks_of 0 run.tape.items)) all
   pub ended_there : IsRead run.cause (input (marks_of 0 run.tape.items)) all
+  pub cut : AreFed ends run.tape.items
   pub sent : run.written.items ≡ output (marks_of 0 run.tape.items)

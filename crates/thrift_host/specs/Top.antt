@@ -6,7 +6,7 @@ use Rattle.text_out.specs.Line.{line_of}
 use Rattle.host_model.specs.Report.{numbered}
 use Rattle.thrift_host.specs.declared.status.Status.{Status}
 use Rattle.thrift_host.specs.declared.status.Status.TheVariants.{Done, Usage, ScriptRefused, ReadFault, WriteFault, NoMemory, Unbuilt}
-use Rattle.thrift_host.specs.Script.{script_of, joined}
+use Rattle.thrift_host.specs.Script.{script_of, joined, ends_from}
 use Rattle.thrift_host.specs.Rehearsal.{Reports, IsUnbuilt, AreBuilt}
 
 -- An input that was a script, read to its end, with messages alone that the host knows, and the report of a run of it.
@@ -76,14 +76,15 @@ Says Unbuilt left_before before now faults_before faults =
     (i : ℕ) × IsUnbuiltAt left_before i × IsSaid before now faults_before faults (unbuilt_text i)
 Says status left_before before now faults_before faults = IsSaid before now faults_before faults (error_text status)
 
--- the input was read to its end, and is a script of these bytes
-pub record IsRead (left_before left : Option (List ℕ)) (bytes : List ℕ) : Type 0 where
+-- the input was read to its end, and is a script of these bytes, whose pieces end here
+pub record IsRead (left_before left : Option (List ℕ)) (bytes ends : List ℕ) : Type 0 where
   pub text : List ℕ
   pub pieces : List (List ℕ)
   pub read : left_before ≡ told_before text left
   pub to_its_end : IsSpent left
   pub script : script_of text ≡ Some pieces
   pub whole : bytes ≡ joined pieces
+  pub cut : ends ≡ ends_from 0 pieces
 
 -- a status that ends the command at its input
 abbrev pub EndsInput : Status → Option (List ℕ) → Type 0
@@ -92,19 +93,19 @@ EndsInput ReadFault left_before = Unit {0}
 EndsInput NoMemory left_before = Unit {0}
 EndsInput _ left_before = ⊥
 
--- the text is the report of a run on these bytes
-abbrev pub IsReportOn : List ℕ → List ℕ → Type 0
-IsReportOn bytes report = (pieces : List (List ℕ)) → bytes ≡ joined pieces → Reports pieces report
+-- the text is the report of a run on these bytes, whose pieces end here
+abbrev pub IsReportOn : (bytes ends report : List ℕ) → Type 0
+IsReportOn bytes ends report = (pieces : List (List ℕ)) → bytes ≡ joined pieces → ends ≡ ends_from 0 pieces → Reports pieces report
 
--- What a status says of the output of a run on these bytes.
-abbrev pub Reported : Status → List ℕ → (taken_before taken : Option (List ℕ)) → Type 0
-Reported Done bytes taken_before taken =
-    (report : List ℕ) × IsReportOn bytes report × (taken ≡ told_more taken_before report)
-Reported WriteFault bytes taken_before taken =
-    (report : List ℕ) × (front : ℕ) × IsReportOn bytes report × (taken ≡ told_more taken_before (take front report))
-Reported NoMemory bytes taken_before taken =
-    (taken ≡ taken_before) ⊎ ((report : List ℕ) × (front : ℕ) × IsReportOn bytes report × (taken ≡ told_more taken_before (take front report)))
-Reported _ bytes taken_before taken = ⊥
+-- What a status says of the output of a run on these bytes, whose pieces end here.
+abbrev pub Reported : Status → (bytes ends : List ℕ) → (taken_before taken : Option (List ℕ)) → Type 0
+Reported Done bytes ends taken_before taken =
+    (report : List ℕ) × IsReportOn bytes ends report × (taken ≡ told_more taken_before report)
+Reported WriteFault bytes ends taken_before taken =
+    (report : List ℕ) × (front : ℕ) × IsReportOn bytes ends report × (taken ≡ told_more taken_before (take front report))
+Reported NoMemory bytes ends taken_before taken =
+    (taken ≡ taken_before) ⊎ ((report : List ℕ) × (front : ℕ) × IsReportOn bytes ends report × (taken ≡ told_more taken_before (take front report)))
+Reported _ bytes ends taken_before taken = ⊥
 
 -- What a status says of the errors where frame `number` isn't built.
 abbrev pub EndsUnbuilt : Status → ℕ → (before now : Option (List ℕ)) (faults_before faults : ℕ) → Type 0

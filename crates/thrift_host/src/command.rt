@@ -3,6 +3,7 @@
 ghost use Rattle.std.specs.Prelude.{◌≡◌, ◌≢◌, ◌↔◌, length, map, string_bytes, MatchResult, IfOk, ◌<◌, ◌^◌};
 ghost use Rattle.outside.specs.Cause.{Rose};
 ghost use Rattle.thrift_host.specs.Words.{rehearse_words};
+ghost use Rattle.thrift_host.specs.Script.{AreEnds};
 ghost use Rattle.thrift_host.specs.Top.{Means, Says, IsSaid, IsRead, EndsInput, EndsUnbuilt, Reported, error_text};
 
 use crate::input::{InputError, read_whole};
@@ -52,9 +53,10 @@ pub fn host<R, S: Source, K: Sink, E: Sink>(
 /// The script that the input is, or the status that it ends the command with.
 fn read_input<S: Source>(alloc: Global, input: &mut S) -> Result<Script, Status>
     ensures input { MatchResult result
-        (λ script. IsRead (S.left input.old) (S.left input.new) script.bytes.items)
+        (λ script. IsRead (S.left input.old) (S.left input.new) script.bytes.items script.ends.items)
         (λ status. EndsInput status (S.left input.old)) }
     ensures small { IfOk result (λ script. length script.bytes.items < 2 ^ 62) }
+    ensures ends { IfOk result (λ script. AreEnds script.ends.items (length script.bytes.items)) }
     ensures fault { result ≡ Err Status.ReadFault → Rose (S.faults input.old) (S.faults input.new) }
 {
     let text = match read_whole(alloc, input) {
@@ -71,8 +73,9 @@ fn read_input<S: Source>(alloc: Global, input: &mut S) -> Result<Script, Status>
 
 /// Runs a script and writes its report.
 fn run<K: Sink>(alloc: Global, script: &Script, output: &mut K) -> Status
-    requires { length script.now.bytes.items < 2 ^ 62 }
-    ensures written { Reported result script.now.bytes.items (K.taken output.old) (K.taken output.new) }
+    requires small { length script.now.bytes.items < 2 ^ 62 }
+    requires ends { AreEnds script.now.ends.items (length script.now.bytes.items) }
+    ensures written { Reported result script.now.bytes.items script.now.ends.items (K.taken output.old) (K.taken output.new) }
     ensures fault { result ≡ Status.WriteFault → Rose (K.faults output.old) (K.faults output.new) }
 {
     let Ok(run) = rehearse(alloc, script) else {

@@ -1,15 +1,17 @@
 //! The run of a script: one connection, from its opening to its end.
 
-ghost use Rattle.std.specs.Prelude.{◌≡◌, ℕ, ◌+◌, ◌<◌, ◌≤◌, ◌^◌, List, length, take, drop, OnOk, IfOk, None};
+ghost use Rattle.std.specs.Prelude.{◌≡◌, ℕ, suc, if◌then◌else◌, ◌+◌, ◌<◌, ◌≤◌, ◌^◌, List, length, take, drop, OnOk, IfOk, None};
 ghost use Rattle.conn_state.specs.Phase.{left_to_write, cause_of, IsReading, IsHeld, IsReady};
-ghost use Rattle.thrift_host.specs.Run.{IsSettled, IsUnderWay, MovesOn, closed_tape, IsRehearsed};
+ghost use Rattle.thrift_host.specs.Feeding.{IsInPiece, piece_end};
+ghost use Rattle.thrift_host.specs.Script.{AreEnds};
+ghost use Rattle.thrift_host.specs.Run.{IsSettled, IsUnderWay, IsFed, StaysFed, MovesOn, closed_tape, IsRehearsed};
 
 use crate::entry::Entry;
 use crate::message::{Answer, Call, Message};
 use crate::office::{answer, reply};
 use crate::script::Script;
 use conn_state::Conn;
-use conn_state::laws::every_piece_stays_within;
+use conn_state::laws::{every_piece_stays_within, every_run_splits};
 use host_model::laws::{every_moment_stands, every_run_meets};
 use host_model::{EndCause, Key};
 use outside::{Bytes, Mark, Settled};
@@ -38,7 +40,8 @@ pub(crate) struct Run {
 impl Run {
     /// A run whose connection is open, and of which nothing is read.
     fn open(alloc: Global) -> Result<Run, AllocError>
-        ensures { IfOk result (λ run. (all : List ℕ) → IsUnderWay all run) }
+        ensures under_way { IfOk result (λ run. (all : List ℕ) → IsUnderWay all run) }
+        ensures fed { IfOk result (λ run. (ends : List ℕ) (size : ℕ) → AreEnds ends size → IsFed ends run) }
     {
         let mut tape = Vec::new(alloc);
         tape.push(Mark::Opened(0))?;
@@ -57,7 +60,9 @@ impl Run {
         requires under_way { IsUnderWay script.now.bytes.items self.old }
         requires open { cause_of self.old.conn.phase ≡ None }
         requires small { length script.now.bytes.items < 2 ^ 62 }
-        ensures { OnOk result (MovesOn script.now.bytes.items self.old self.new) }
+        ensures moved { OnOk result (MovesOn script.now.bytes.items self.old self.new) }
+        ensures fed { OnOk result (AreEnds script.now.ends.items (length script.now.bytes.items) → IsFed script.now.ends.items self.old →
+            IsFed script.now.ends.items self.new) }
     {
         if self.conn.asks().is_some() {
             return self.admit(alloc);
@@ -79,7 +84,8 @@ impl Run {
     /// Takes room for the frame whose size is whole. Without it the connection ends.
     fn admit(&mut self, alloc: Global) -> Result<(), AllocError>
         requires { IsHeld self.old.conn.phase }
-        ensures { OnOk result ((all : List ℕ) → IsUnderWay all self.old → MovesOn all self.old self.new) }
+        ensures moved { OnOk result ((all : List ℕ) → IsUnderWay all self.old → MovesOn all self.old self.new) }
+        ensures still { OnOk result (StaysFed self.old self.new) }
     {
         if self.conn.admit(alloc).is_err() {
             self.conn.end(EndCause::NoMemory);
@@ -93,9 +99,14 @@ impl Run {
         requires reading { IsReading self.old.conn.phase }
         requires some { self.old.at < length script.now.bytes.items }
         requires few { self.old.conn.frames < 2 ^ 62 }
-        ensures { OnOk result (IsUnderWay script.now.bytes.items self.old → MovesOn script.now.bytes.items self.old self.new) }
+        requires small { length script.now.bytes.items < 2 ^ 62 }
+        ensures moved { OnOk result (IsUnderWay script.now.bytes.items self.old → MovesOn script.now.bytes.items self.old self.new) }
+        ensures fed { OnOk result (AreEnds script.now.ends.items (length script.now.bytes.items) → IsUnderWay script.now.bytes.items self.old →
+            IsFed script.now.ends.items self.old → IsFed script.now.ends.items self.new) }
     {
         every_piece_stays_within();
+        every_run_splits();
+        every_moment_stands::<Call, Answer, ()>();
         let end = self.end_of_piece(script);
         let count = self.conn.want().min(end - self.at);
         let bytes = part_of(&script.bytes, self.at, count);
@@ -113,6 +124,8 @@ impl Run {
         requires { self.now.at < length script.now.bytes.items }
         ensures some { self.now.at < result }
         ensures within { result ≤ length script.now.bytes.items }
+        ensures end { AreEnds script.now.ends.items (length script.now.bytes.items) → IsInPiece script.now.ends.items self.now.piece self.now.at →
+            result ≡ piece_end script.now.ends.items self.now.at }
     {
         let all = script.bytes.len();
         match script.ends.get(self.piece) {
@@ -124,7 +137,8 @@ impl Run {
     /// Ends the connection behind all bytes of the script.
     fn find_end(&mut self) -> Result<(), AllocError>
         requires { IsReading self.old.conn.phase }
-        ensures { OnOk result ((all : List ℕ) → self.old.at ≡ length all → IsUnderWay all self.old → MovesOn all self.old self.new) }
+        ensures moved { OnOk result ((all : List ℕ) → self.old.at ≡ length all → IsUnderWay all self.old → MovesOn all self.old self.new) }
+        ensures still { OnOk result (StaysFed self.old self.new) }
     {
         self.conn.end_of_input();
         self.tape.push(Mark::Ended(0))?;
@@ -135,7 +149,8 @@ impl Run {
     /// Makes the call of the frame that is ready. Without memory for the reply the connection ends.
     fn call(&mut self, alloc: Global) -> Result<(), AllocError>
         requires { IsReady self.old.conn.phase }
-        ensures { OnOk result ((all : List ℕ) → IsUnderWay all self.old → MovesOn all self.old self.new) }
+        ensures moved { OnOk result ((all : List ℕ) → IsUnderWay all self.old → MovesOn all self.old self.new) }
+        ensures still { OnOk result (StaysFed self.old self.new) }
     {
         every_moment_stands::<Call, Answer, ()>();
         let (number, payload) = self.conn.give();
@@ -148,7 +163,8 @@ impl Run {
     /// Writes the whole reply.
     fn write(&mut self, alloc: Global) -> Result<(), AllocError>
         requires { 0 < length (left_to_write self.old.conn.phase) }
-        ensures { OnOk result ((all : List ℕ) → IsUnderWay all self.old → MovesOn all self.old self.new) }
+        ensures moved { OnOk result ((all : List ℕ) → IsUnderWay all self.old → MovesOn all self.old self.new) }
+        ensures still { OnOk result (StaysFed self.old self.new) }
     {
         let reply = Vec::from_slice(alloc, self.conn.pending())?;
         let count = reply.len();
@@ -184,7 +200,9 @@ fn settle(
 }
 
 /// The number of the piece under way, once this one is read to its end or isn't.
-fn piece_behind(piece: usize, is_read: bool) -> usize {
+fn piece_behind(piece: usize, is_read: bool) -> usize
+    ensures { piece < 2 ^ 62 → result ≡ (if is_read then suc piece else piece) }
+{
     if is_read {
         piece.saturating_add(1)
     } else {
@@ -223,8 +241,9 @@ pub(crate) struct Rehearsed {
 
 /// Runs a script to its connection's end.
 pub(crate) fn rehearse(alloc: Global, script: &Script) -> Result<Rehearsed, AllocError>
-    requires { length script.now.bytes.items < 2 ^ 62 }
-    ensures { IfOk result (λ run. IsRehearsed script.now.bytes.items run) }
+    requires small { length script.now.bytes.items < 2 ^ 62 }
+    requires ends { AreEnds script.now.ends.items (length script.now.bytes.items) }
+    ensures { IfOk result (λ run. IsRehearsed script.now.bytes.items script.now.ends.items run) }
 {
     let mut run = Run::open(alloc)?;
     'run: loop {

@@ -5,6 +5,6 @@ use Rattle.thrift_host.proofs.run.rehearse.Goals as goal
 
 pub returns-in-Some : goal.returns-in-Some
 returns-in-Some c =
-    let u = c.run.invariant in
-    rehearsed c.args.script.now.bytes.items c.run.run c.in-Some.cause (sym c.in-Some.ensures.cause) u
+    let u = c.run.invariant.0 in
+    rehearsed c.args.script.now.bytes.items c.args.script.now.ends.items c.run.run c.in-Some.cause (sym c.in-Some.ensures.cause) u c.run.invariant.1
     (λ ends. c.every_run_meets.ensures desk rules memories u.acts u.world (c.in-Some.cause ∷ []) (omega arith) u.reached ends)

@@ -1,12 +1,14 @@
-use Rattle.std.proofs.Common.{refl, sym, ap, ◌∙◌}
+use Rattle.std.proofs.Common.{[], ◌∷◌, refl, sym, ap, ◌∙◌}
 use Rattle.conn_state.specs.Phase.{View, ended}
+use Rattle.outside.specs.declared.marks.Mark.TheVariants.{Closed}
 use Rattle.host_model.specs.declared.cause.EndCause.TheVariants.{NoMemory}
 use Rattle.thrift_host.proofs.Results.{on_ok, on_err}
 use Rattle.thrift_host.proofs.Moves.{admits, refuses}
+use Rattle.thrift_host.proofs.Fed.{adds_none}
 use Rattle.thrift_host.proofs.run.Run.admit.Goals as goal
 
-pub returns-in_ok-push : goal.returns-in_ok-push
-returns-in_ok-push c = λ all u.
+pub returns-in_ok-push-clause-moved : goal.returns-in_ok-push-clause-moved
+returns-in_ok-push-clause-moved c = λ all u.
     let same = on_err c.admit.result (sym c.if-is_err.ensures.value) c.admit.ensures.err in
     refuses all c.args.self.now _ c.requires
     (record {
@@ -17,6 +19,13 @@ returns-in_ok-push c = λ all u.
       same_at = refl;
     }) u
 
-pub returns-else-is_err : goal.returns-else-is_err
-returns-else-is_err c = λ all u.
+pub returns-else-is_err-clause-moved : goal.returns-else-is_err-clause-moved
+returns-else-is_err-clause-moved c = λ all u.
     admits all c.args.self.now c.admit.new.self c.requires (on_ok c.admit.result (sym c.if-is_err.ensures.value) c.admit.ensures.ok) u
+
+pub returns-in_ok-push-clause-still : goal.returns-in_ok-push-clause-still
+returns-in_ok-push-clause-still c =
+    record { same_at = refl; same_piece = refl; adds = (Closed 0 ∷ [], c.in_ok-push.ensures.items, (tt, tt)) }
+
+pub returns-else-is_err-clause-still : goal.returns-else-is_err-clause-still
+returns-else-is_err-clause-still c = record { same_at = refl; same_piece = refl; adds = adds_none c.args.self.now.tape.items }

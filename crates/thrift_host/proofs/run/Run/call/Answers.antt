@@ -1,13 +1,15 @@
-use Rattle.std.proofs.Common.{◌∙◌, refl, ap, subst, arith}
+use Rattle.std.proofs.Common.{◌∙◌, refl, sym, ap, subst, arith}
 use Rattle.conn_state.specs.Phase.{View}
 use Rattle.conn_state.specs.Step.{after_answer}
 use Rattle.thrift_host.specs.Office.{desk, rules, memories}
 use Rattle.thrift_host.specs.Run.{IsSettled}
 use Rattle.thrift_host.proofs.Calls.{settles_payload}
+use Rattle.thrift_host.specs.Feeding.{AddsNoRead}
+use Rattle.thrift_host.proofs.Fed.{adds_close}
 use Rattle.thrift_host.proofs.run.Run.call.Goals as goal
 
-pub returns : goal.returns
-returns c = λ all u.
+pub returns-clause-moved : goal.returns-clause-moved
+returns-clause-moved c = λ all u.
     let moment = c.every_moment_stands.ensures desk rules memories u.acts u.world (omega arith) u.reached in
     settles_payload all c.args.self.now _ c.give-number.result.0 c.give-number.result.1.items c.in_ok-settled.settled
     (record {
@@ -19,3 +21,11 @@ returns c = λ all u.
     })
     (subst (λ p. IsSettled c.args.self.now.journal.items c.give-number.result.0 p c.settle.new.journal.items c.in_ok-settled.settled) c.deref.ensures.value c.in_ok-settled.ensures)
     u moment
+
+pub returns-clause-still : goal.returns-clause-still
+returns-clause-still c =
+    record {
+      same_at = refl;
+      same_piece = refl;
+      adds = subst (AddsNoRead c.args.self.now.tape.items) (sym c.in_ok-close_if_ended.ensures) (adds_close _ c.args.self.now.tape.items);
+    }

@@ -5,10 +5,11 @@ use Rattle.host_model.specs.Marks.{marks_of, input, output}
 use Rattle.host_model.specs.World.{at_first, moves, opens, open_, unopened_line, with_line}
 use Rattle.thrift_host.specs.Rehearsal.{entry_of}
 use Rattle.thrift_host.specs.Run.{Stands, EndsWell}
+use Rattle.thrift_host.proofs.Fed.{fed_first}
 use Rattle.thrift_host.proofs.run.Run.open.Goals as goal
 
-pub returns : goal.returns
-returns c = λ all.
+pub returns-clause-under_way : goal.returns-clause-under_way
+returns-clause-under_way c = λ all.
     let tape = c.in_ok-push.ensures.items ∙ ap (λ t. t ++ Opened 0 ∷ []) c.new-tape.ensures.items in
     record {
       acts = moves 0 opens ∷ [];
@@ -27,3 +28,7 @@ returns c = λ all.
       few = omega (arith, ap (λ (v : View). v.frames) c.new.ensures);
       ends_well = subst (λ (v : View). EndsWell v.phase [] all) (sym c.new.ensures) tt;
     }
+
+pub returns-clause-fed : goal.returns-clause-fed
+returns-clause-fed c = λ ends size are.
+    fed_first ends size are _ (c.in_ok-push.ensures.items ∙ ap (λ t. t ++ Opened 0 ∷ []) c.new-tape.ensures.items) refl refl

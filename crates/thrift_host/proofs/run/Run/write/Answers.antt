@@ -5,11 +5,23 @@ use Rattle.conn_state.specs.Step.{after_write}
 use Rattle.thrift_host.proofs.Moves.{writes_all}
 use Rattle.thrift_host.proofs.run.Run.write.Goals as goal
 
-pub returns : goal.returns
-returns c = λ all u.
+pub returns-clause-moved : goal.returns-clause-moved
+returns-clause-moved c = λ all u.
     let count : c.len-count.result ≡ length c.in_ok-reply.reply.items = c.len-count.ensures ∙ sym c.deref.ensures.len ∙ ap length c.deref.ensures.value in
     writes_all all c.args.self.now _ c.in_ok-reply.reply.items c.requires (c.in_ok-reply.ensures.items ∙ c.pending.ensures.left)
     (c.wrote.ensures ∙ ap (λ n. record c.args.self.now.conn { phase = after_write (drop n (left_to_write c.args.self.now.conn.phase)) }) count)
     (c.in_ok-push.ensures.items ∙ ap (λ r. c.args.self.now.tape.items ++ Wrote 0 r ∷ []) c.new.ensures)
     (c.in_ok-extend_from_slice.ensures.items ∙ ap (λ r. c.args.self.now.written.items ++ r) c.deref.ensures.value)
     refl refl u
+
+pub returns-clause-still : goal.returns-clause-still
+returns-clause-still c =
+    record {
+      same_at = refl;
+      same_piece = refl;
+      adds = (
+        Wrote 0 c.in_ok-reply.reply.items ∷ [],
+        c.in_ok-push.ensures.items ∙ ap (λ r. c.args.self.now.tape.items ++ Wrote 0 r ∷ []) c.new.ensures,
+        (tt, tt),
+      );
+    }
