@@ -1,3 +1,4 @@
 pub mod Cause
 pub mod Content
+pub mod Files
 pub mod Memory

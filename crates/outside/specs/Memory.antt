@@ -2,6 +2,7 @@
 use Rattle.std.specs.Prelude.{ℕ, ◌++◌, List, take, drop, Bool, nat_eq, if◌then◌else◌}
 use Rattle.std.specs.List.{list_any}
 use Rattle.outside.specs.Cause.{one_more}
+use Rattle.outside.specs.Files.{File}
 
 -- a reader's bytes: those given, those left, the longest piece of one read, the numbers of the calls that are to
 -- fail, the number of the next call, and the count of faults
@@ -50,3 +51,18 @@ after_failed_write w = record w {
   faults = one_more w.faults;
   wants = if is_listed w.fails w.call then w.wants else one_more w.wants;
 }
+
+-- files in memory: the files, the numbers of the reads that are to fail, the number of the next read, and the count of faults
+pub record Filing : Type 0 where
+  pub files : List File
+  pub fails : List ℕ
+  pub call : ℕ
+  pub faults : ℕ
+
+-- a whole file was read, or there is none, or it has more bytes than the limit, or there is no memory for it
+abbrev pub after_file : Filing → Filing
+after_file f = record f { call = one_more f.call }
+
+-- a file wasn't read: the fault is counted
+abbrev pub after_failed_file : Filing → Filing
+after_failed_file f = record f { call = one_more f.call; faults = one_more f.faults }

@@ -1,6 +1,7 @@
 //! Each public call once, with ample memory.
 
 use super::*;
+use std::alloc::{AllocError, Global};
 use std::io;
 use std::test::Fail;
 
@@ -86,4 +87,68 @@ impl io::Write for Full {
     fn flush(&mut self) -> io::Result<()> {
         Ok(())
     }
+}
+
+/// Files in memory: two of one name, and reads that fail.
+fn some_files(alloc: Global) -> Result<MemFiles, AllocError> {
+    let mut files = Vec::new(alloc);
+    files.push((String::from_str(alloc, "a")?, b"first".to_vec(alloc)?))?;
+    files.push((String::from_str(alloc, "b")?, Vec::new(alloc)))?;
+    files.push((String::from_str(alloc, "a")?, b"last".to_vec(alloc)?))?;
+    Ok(MemFiles::new(files, [2].to_vec(alloc)?))
+}
+
+#[test]
+fn a_file_is_read_whole_or_not_at_all(rt: HostRuntime) -> Result<(), Fail> {
+    let mut files = some_files(rt.alloc())?;
+    assert!(rt; holds(files.read_whole(rt.alloc(), "a", 5), b"first"));
+    assert_eq!(rt;
+        fault(files.read_whole(rt.alloc(), "a", 4)),
+        Some(FileFail::TooLong)
+    );
+    assert_eq!(rt;
+        fault(files.read_whole(rt.alloc(), "a", 5)),
+        Some(FileFail::Failed)
+    );
+    assert_eq!(rt;
+        fault(files.read_whole(rt.alloc(), "c", 5)),
+        Some(FileFail::Absent)
+    );
+    assert!(rt; holds(files.read_whole(rt.alloc(), "b", 0), b""));
+    assert_eq!(rt; files.faults(), 1);
+    Ok(())
+}
+
+#[test]
+fn the_systems_files_are_read_by_their_paths(rt: HostRuntime) -> Result<(), Fail> {
+    let mut files = RealFiles::new(&rt);
+    assert!(rt; holds(files.read_whole(rt.alloc(), "/dev/null", 0), b""));
+    assert_eq!(rt;
+        fault(files.read_whole(rt.alloc(), "/dev/zero", 9)),
+        Some(FileFail::TooLong)
+    );
+    assert_eq!(rt;
+        fault(files.read_whole(rt.alloc(), "/no/such/file", 9)),
+        Some(FileFail::Absent)
+    );
+    assert_eq!(rt; files.faults(), 0);
+    assert_eq!(rt;
+        fault(files.read_whole(rt.alloc(), "/", 9)),
+        Some(FileFail::Failed)
+    );
+    assert_eq!(rt; files.faults(), 1);
+    Ok(())
+}
+
+/// Whether these bytes were read.
+fn holds(read: Result<Vec<u8>, FileFail>, bytes: &[u8]) -> bool {
+    match read {
+        Ok(file) => file.as_slice() == bytes,
+        Err(_) => false,
+    }
+}
+
+/// Why nothing was read.
+fn fault(read: Result<Vec<u8>, FileFail>) -> Option<FileFail> {
+    read.err()
 }
