@@ -110,28 +110,34 @@ fn untidy_values(rt: HostRuntime) -> Result<(), Fail> {
     Ok(())
 }
 
-// Structs in one another, each beside a thousand numbers.
-fn nested(alloc: Global, levels: u32) -> Result<Value, AllocError> {
-    let mut value = Value::Bool(true);
-    for _ in 0..levels {
-        let mut fields = Vec::new(alloc);
-        for id in 0..1000 {
-            fields.push((id, Value::I32(7)))?;
-        }
-        fields.push((1000, value))?;
-        value = Value::Struct(Fields::new(fields));
+// A list of so many numbers.
+fn sevens(alloc: Global, count: usize) -> Result<Value, AllocError> {
+    let mut items = Vec::new(alloc);
+    for _ in 0..count {
+        items.push(Value::I32(7))?;
+    }
+    Ok(Value::List(Tag::I32, Items::new(items)))
+}
+
+// The largest value that the codecs read: 64 levels and 4,000,000 values, in structs in one another, each with a list of numbers.
+fn largest(alloc: Global) -> Result<Value, AllocError> {
+    let mut value = sevens(alloc, 3)?;
+    for _ in 0..63 {
+        let beside = sevens(alloc, 63_490)?;
+        value = Value::Struct(Fields::new(vec![in alloc; (1i16, beside), (2i16, value)]?));
     }
     Ok(value)
 }
 
 #[test]
 fn deep_and_wide(rt: HostRuntime) -> Result<(), Fail> {
-    let value = nested(rt.alloc(), 64)?;
+    let value = largest(rt.alloc())?;
     assert_eq!(rt; value.depth(), 64);
-    assert_eq!(rt; value.count(), 64 * 1001 + 1);
+    assert_eq!(rt; value.count(), 4_000_000);
     assert!(rt; value.is_tidy());
     let copy = value.try_clone(rt.alloc())?;
     assert_eq!(rt; value.compare(&copy), Ordering::Equal);
+    drop(copy);
     Ok(())
 }
 
