@@ -1,13 +1,11 @@
 -- What a step changes belongs to one connection, and all others keep what they had.
-use Rattle.std.proofs.Common.{◌≡◌, ℕ, suc, ◌<◌, ◌≤◌, ◌⊎◌, Bool, false, ◌==◌, if◌then◌else◌, Option, None, Some, List, [], ◌∷◌, ◌++◌, refl, sym, ap, ◌∙◌, subst, inl, inr, arith}
+use Rattle.std.proofs.Common.{◌≡◌, ℕ, ◌<◌, ◌≤◌, ◌⊎◌, false, ◌==◌, if◌then◌else◌, Some, List, [], sym, ◌∙◌, subst, inl, inr, arith}
 use Rattle.std.proofs.lemmas.Bool.{cases_eq}
 use Rattle.host_model.specs.declared.key.Key.{Key}
-use Rattle.host_model.specs.Journal.{Entry, Rules, after, entries_of}
+use Rattle.host_model.specs.Journal.{Rules, after, entries_of}
 use Rattle.host_model.specs.Desk.{Desk}
-use Rattle.host_model.specs.World.{Line, unopened_line, World, Act, ReachedBy, Move, marks_by, Moves, moves, with_line}
-use Rattle.machine_model.specs.Hall.{Hall}
-use Rattle.machine_model.specs.Loop.{Conn, Loop}
-use Rattle.machine_model.specs.Worker.{Hand, key_held}
+use Rattle.host_model.specs.World.{unopened_line, World, Act, ReachedBy}
+use Rattle.machine_model.specs.Worker.{key_held}
 use Rattle.machine_model.specs.Machine.{Cell}
 use Rattle.machine_model.specs.Places.{Place, held_by, jobs_of, outcomes_of, IsAt}
 use Rattle.machine_model.proofs.Lists.{put_same, put_other}

@@ -1,28 +1,26 @@
 -- An outcome that is collected settles its connection's payload in the world.
-use Rattle.std.proofs.Common.{◌≡◌, ℕ, suc, ◌+◌, ◌<◌, ◌≤◌, ◌⊎◌, Bool, true, false, ◌==◌, if◌then◌else◌, Option, None, Some, List, [], ◌∷◌, ◌++◌, length, refl, sym, ap, ◌∙◌, subst, inl, inr, arith, append-nil, length-append}
-use Rattle.std.proofs.lemmas.Bool.{cases_eq, cases_lt, cases_Bool}
+use Rattle.std.proofs.Common.{◌≡◌, ℕ, suc, ◌+◌, ◌<◌, ◌≤◌, ◌⊎◌, Bool, true, false, if◌then◌else◌, Option, None, Some, List, [], ◌∷◌, ◌++◌, length, refl, sym, ap, ◌∙◌, subst, inl, inr, arith, append-nil, length-append}
+use Rattle.std.proofs.lemmas.Bool.{cases_eq, cases_lt}
 use Rattle.std.proofs.lemmas.Option.{none-some, same_Some}
 use Rattle.outside.specs.declared.outcomes.Settled.{Settled}
 use Rattle.outside.specs.declared.outcomes.Settled.TheVariants.{Reply as Replied, Nothing, Close as Refused, NoMemory}
-use Rattle.outside.specs.declared.outcomes.EnvelopeFault.{EnvelopeFault}
-use Rattle.outside.specs.declared.marks.Mark.{Mark}
 use Rattle.host_model.specs.declared.key.Key.{Key}
 use Rattle.host_model.specs.declared.cause.EndCause.{EndCause}
 use Rattle.host_model.specs.declared.cause.EndCause.TheVariants.{Envelope, NoMemory as LackOfMemory}
-use Rattle.host_model.specs.Journal.{Entry, Rules, after, entries_of}
+use Rattle.host_model.specs.Journal.{Entry, Rules, entries_of}
 use Rattle.host_model.specs.Desk.{Desk, Decision, Close, Silent, Reply, Invoke}
-use Rattle.host_model.specs.Conversation.{but_last, Done, answer_at, reply_for, replied}
+use Rattle.host_model.specs.Conversation.{Done, answer_at, reply_for, replied}
 use Rattle.host_model.specs.World.{Stage, open_, pending, answered, over, over_pending, Line, World, Act, ReachedBy, Move, marks_by, Moves, NeedsNoCall, GivesUp, HasEnded, Moment}
 use Rattle.host_model.specs.World as World
 use Rattle.host_model.proofs.Lists.{nil-cons, cons_parts}
 use Rattle.machine_model.specs.Hall.{key_of, Job, Outcome, Hall}
 use Rattle.machine_model.specs.HallRule.{Answer, empty, is_closed, outcome, outcome_of, Collects}
-use Rattle.machine_model.specs.Loop.{Conn, Loop, with_conn, changed, settled_open, marks_settled, settle, settle_marks, after_collect}
+use Rattle.machine_model.specs.Loop.{Conn, changed, settled_open, marks_settled, settle, settle_marks, after_collect}
 use Rattle.machine_model.specs.Worker.{Hand, key_held, settled_by, settled_with}
 use Rattle.machine_model.specs.Machine.{Cell}
 use Rattle.machine_model.specs.Places.{Place, collected_all, ready, queued, held_by, put_out, jobs_of, outcomes_of, IsUnderWay, IsEntered, IsOutcome, IsAt}
 use Rattle.machine_model.proofs.Lists.{put_same, put_other, own_first, own_first_other}
-use Rattle.machine_model.proofs.Standing.{uncalled, entered, Rests, Waits, StageIs, LineIs, Sim, done_but_last, entered_more, IsCalledOrNot, phase_of}
+use Rattle.machine_model.proofs.Standing.{uncalled, entered, Rests, Waits, LineIs, Sim, done_but_last, entered_more, IsCalledOrNot, phase_of}
 use Rattle.machine_model.proofs.Linking.{by_move}
 use Rattle.machine_model.proofs.Serving.{still}
 

@@ -1,29 +1,34 @@
 -- What the plain machine computes is a run.
-use Rattle.std.proofs.Common.{◌≡◌, ◌≢◌, ℕ, zero, suc, ◌+◌, ◌<◌, ◌≤◌, ◌^◌, ◌⊎◌, Bool, true, false, ◌&&◌, not, ◌==◌, nat_lt, nat_le, if◌then◌else◌, Option, None, Some, MatchOption, List, [], ◌∷◌, ◌++◌, length, take, drop, slice_get, refl, sym, ap, ◌∙◌, subst, inl, inr, arith, append-nil}
-use Rattle.std.specs.Int.{w32, to_be_bytes, from_be_bytes}
-use Rattle.std.proofs.lemmas.Bool.{and_parts, eqb-true, ltb-true, leb-true, lt-ltb, true≢false, false≢true}
+use Rattle.std.proofs.Common.{◌≡◌, ◌≢◌, ℕ, ℤ, pos, negsuc, ◌+◌, ◌<◌, ◌≤◌, ◌^◌, ◌⊎◌, Bool, true, false, ◌&&◌, ◌||◌, not, ◌==◌, nat_lt, nat_le, if◌then◌else◌, Option, None, Some, MatchOption, FitsSigned, List, [], ◌∷◌, ◌++◌, map, length, take, drop, slice_get, refl, sym, ap, ◌∙◌, subst, inl, inr, ⊎_elim, arith}
+use Rattle.std.specs.Int.{w32, to_be_bytes, from_be_bytes, cast_signed, cast_unsigned}
+use Rattle.std.proofs.lemmas.Int.{of_z-to_z, ints}
+use Rattle.std.proofs.Math.Facts.{sfits_to_z}
+use Rattle.std.proofs.lemmas.Bool.{or_cases, and_parts, eqb-true, ltb-true, leb-true, lt-ltb, true≢false, false≢true}
 use Rattle.std.proofs.lemmas.Option.{none-some, same_Some}
 use Rattle.outside.specs.declared.outcomes.Settled.{Settled}
+use Rattle.outside.specs.declared.outcomes.Settled.TheVariants.{NoMemory as Lack}
+use Rattle.outside.specs.declared.marks.Mark.{Mark}
+use Rattle.outside.specs.declared.marks.Mark.TheVariants.{Ended, Wrote, ReadFailed, WriteFailed, Closed}
 use Rattle.host_model.specs.declared.key.Key.{Key}
 use Rattle.host_model.specs.declared.cause.EndCause.{EndCause}
-use Rattle.host_model.specs.declared.cause.EndCause.TheVariants.{End, Cut, SizeFault, Envelope, ReadFault, WriteFault, NoMemory, Stopped}
-use Rattle.host_model.specs.Frames.{frame, IsPayload, IsPartial}
-use Rattle.host_model.specs.Journal.{Entry, Rules, IsAnswered}
+use Rattle.host_model.specs.declared.cause.EndCause.TheVariants.{NoMemory, Stopped, ReadFault, WriteFault}
+use Rattle.host_model.specs.Frames.{frame, IsPartial, IsOutside}
+use Rattle.host_model.specs.Journal.{Rules, IsAnswered}
 use Rattle.host_model.specs.Desk.{Desk, Decision, Close, Silent, Reply, Invoke}
-use Rattle.host_model.specs.World.{IsGivenUp}
-use Rattle.machine_model.specs.Hall.{key_of, Job, Outcome, Hall}
-use Rattle.machine_model.specs.HallRule.{Answer, done, job, empty, is_closed, applied, outcome, entry_of, Takes, Collects}
-use Rattle.machine_model.specs.Loop.{Conn, Loop, IsOpen, OwesNothing, Made, part, whole, Makes, StaysInSize, changed, read_more, marks_read, Link, opens, reads, ends, fails_read, writes, fails_write, gives_up, Happens}
+use Rattle.host_model.specs.World.{IsGivenUp, end_behind}
+use Rattle.machine_model.specs.Hall.{Job, Outcome}
+use Rattle.machine_model.specs.HallRule.{done, job, empty, is_closed, applied, no_memory, journal_fault, is_broken, outcome, entry_of}
+use Rattle.machine_model.specs.Loop.{Conn, Loop, with_cause, IsOpen, OwesNothing, Made, part, bad_size, whole, Makes, StaysInSize, changed, read_more, marks_read, Link, opens, reads, ends, fails_read, writes, fails_write, gives_up, Happens}
 use Rattle.machine_model.specs.Worker.{Hand, idle, holds, has_answer, has_none, made_of, key_held, IsSettled}
-use Rattle.machine_model.specs.Machine.{Cell, with_hand, Event, on_link, submits, takes, applies, puts, collects, closes, Steps, Runs}
-use Rattle.machine_model.specs.Plain.{when, is_empty, are_same, has_none_yet, is_given_up, is_open, owes_nothing, is_size, is_whole, made_behind, made_by, stays_in_size, read_plain, link_plain, with_loop, submit_plain, take_plain, effect_plain, call_plain, apply_plain, outcome_plain, put_plain, collect_plain, step_plain, run_plain}
+use Rattle.machine_model.specs.Machine.{Cell, Event, on_link, submits, takes, applies, puts, collects, closes, Steps, Runs}
+use Rattle.machine_model.specs.Plain.{when, is_empty, are_same, has_none_yet, is_given_up, is_open, owes_nothing, is_size, is_whole, is_bad_size, made_behind, made_by, stays_in_size, Moved, ended_plain, made_plain, reads_plain, ends_plain, fails_read_plain, writes_plain, fails_write_plain, gives_up_plain, moved_plain, link_plain, with_loop, Fate, answers, lacks_for_call, lacks_for_answer, fails_journal, Told, goes, applies_so, puts_none, event_told, submit_plain, take_plain, fate_plain, broken_plain, call_plain, apply_plain, outcome_plain, put_plain, lack_plain, collect_plain, step_plain, told_plain, run_plain}
 
 -- what a test says
 pub passed : {X : Type 0} (b : Bool) (x : Option X) (y : X) → when b x ≡ Some y → (b ≡ true) × (x ≡ Some y)
 passed true x y e = (refl, e)
 passed false x y e = absurd (none-some y e)
 
-same_lists : (xs ys : List ℕ) → are_same xs ys ≡ true → xs ≡ ys
+pub same_lists : (xs ys : List ℕ) → are_same xs ys ≡ true → xs ≡ ys
 same_lists [] [] e = refl
 same_lists [] (y ∷ ys) e = absurd (false≢true e)
 same_lists (x ∷ xs) [] e = absurd (false≢true e)
@@ -70,14 +75,39 @@ stays held bytes e l = go (nat_lt (length held) 4) refl e
 
 module _ (max : ℕ) (small : max < 2 ^ 31) (short : (bytes : List ℕ) → length bytes < 4 → IsPartial max bytes)
     (under_way : (size : ℕ) (bytes : List ℕ) → 1 ≤ size → size ≤ max → length bytes < size → IsPartial max (to_be_bytes w32 size ++ bytes)) where
-  made_whole : (bytes : List ℕ) (made : Made) → when (is_whole max bytes) (Some (whole (drop 4 bytes))) ≡ Some made → Makes max bytes made
-  made_whole bytes made e =
-      let t : (is_whole max bytes ≡ true) × (Some (whole (drop 4 bytes)) ≡ Some made) = passed (is_whole max bytes) (Some (whole (drop 4 bytes))) made e in
+  made_whole : (bytes : List ℕ) → is_whole max bytes ≡ true → Makes max bytes (whole (drop 4 bytes))
+  made_whole bytes t =
       let p : List ℕ = drop 4 bytes in
-      let a : (nat_le 1 (length p) ≡ true) × ((nat_le (length p) max && are_same bytes (frame p)) ≡ true) = and_parts (nat_le 1 (length p)) (nat_le (length p) max && are_same bytes (frame p)) t.0 in
+      let a : (nat_le 1 (length p) ≡ true) × ((nat_le (length p) max && are_same bytes (frame p)) ≡ true) = and_parts (nat_le 1 (length p)) (nat_le (length p) max && are_same bytes (frame p)) t in
       let b : (nat_le (length p) max ≡ true) × (are_same bytes (frame p) ≡ true) = and_parts (nat_le (length p) max) (are_same bytes (frame p)) a.1 in
-      subst (Makes max bytes) (same_Some (whole p) made t.1)
       (record { some = leb-true 1 (length p) a.0; within = leb-true (length p) max b.0 }, same_lists bytes (frame p) b.1)
+
+  -- a number of four bytes that is 0 or above max, as two's complement
+  signed_outside : (n : ℕ) (z : ℤ) → n < 2 ^ 32 → (n ≡ 0) ⊎ (max < n) → cast_signed w32 n ≡ z → IsOutside max z × (n ≡ cast_unsigned w32 z)
+  signed_outside n (pos k) fits out is =
+      let same : n ≡ k = sym (of_z-to_z w32 n fits) ∙ ap (cast_unsigned w32) is in
+      let signed : FitsSigned w32 (pos k) = subst (FitsSigned w32) is (sfits_to_z {w = w32} {n = n} (record { fits = fits })) in (
+        (
+          signed,
+          ⊎_elim (λ (e : n ≡ 0). inl (omega (arith, ints))) (λ (l : max < n). inr (omega (arith, ints))) out,
+        ),
+        sym (of_z-to_z w32 n fits) ∙ ap (cast_unsigned w32) is,
+      )
+  signed_outside n (negsuc k) fits out is =
+      let signed : FitsSigned w32 (negsuc k) = subst (FitsSigned w32) is (sfits_to_z {w = w32} {n = n} (record { fits = fits })) in
+      ((signed, inl (omega (arith, ints))), sym (of_z-to_z w32 n fits) ∙ ap (cast_unsigned w32) is)
+
+  made_bad : (size : ℕ) (bytes : List ℕ) (made : Made) → when (is_bad_size max size bytes) (Some (bad_size (cast_signed w32 size))) ≡ Some made → Makes max bytes made
+  made_bad size bytes made e =
+      let t : (is_bad_size max size bytes ≡ true) × (Some (bad_size (cast_signed w32 size)) ≡ Some made) = passed (is_bad_size max size bytes) (Some (bad_size (cast_signed w32 size))) made e in
+      let a : ((size == 0 || nat_lt max size) ≡ true) × ((nat_lt size 4294967296 && are_same bytes (to_be_bytes w32 size)) ≡ true) =
+      and_parts (size == 0 || nat_lt max size) (nat_lt size 4294967296 && are_same bytes (to_be_bytes w32 size)) t.0 in
+      let b : (nat_lt size 4294967296 ≡ true) × (are_same bytes (to_be_bytes w32 size) ≡ true) = and_parts (nat_lt size 4294967296) (are_same bytes (to_be_bytes w32 size)) a.1 in
+      let fits : size < 4294967296 = ltb-true size 4294967296 b.0 in
+      let out : (size ≡ 0) ⊎ (max < size) = ⊎_elim (λ f. inl (eqb-true size 0 f)) (λ f. inr (ltb-true max size f)) (or_cases (size == 0) (nat_lt max size) a.0) in
+      let s : IsOutside max (cast_signed w32 size) × (size ≡ cast_unsigned w32 (cast_signed w32 size)) = signed_outside size (cast_signed w32 size) (omega arith) out refl in
+      subst (Makes max bytes) (same_Some (bad_size (cast_signed w32 size)) made t.1)
+      (s.0, same_lists bytes (to_be_bytes w32 size) b.1 ∙ ap (to_be_bytes w32) s.1)
 
   made_part : (size : ℕ) (bytes : List ℕ) → (is_size max size bytes && nat_lt (length (drop 4 bytes)) size) ≡ true → IsPartial max bytes
   made_part size bytes e =
@@ -91,10 +121,16 @@ module _ (max : ℕ) (small : max < 2 ^ 31) (short : (bytes : List ℕ) → leng
   made_behind_is : (size : ℕ) (bytes : List ℕ) (made : Made) → made_behind max size bytes ≡ Some made → Makes max bytes made
   made_behind_is size bytes made e = go (is_size max size bytes && nat_lt (length (drop 4 bytes)) size) refl e
     where
+      rest : (b : Bool) → is_whole max bytes ≡ b
+          → (if b then Some (whole (drop 4 bytes)) else when (is_bad_size max size bytes) (Some (bad_size (cast_signed w32 size)))) ≡ Some made → Makes max bytes made
+      rest true s f = subst (Makes max bytes) (same_Some (whole (drop 4 bytes)) made f) (made_whole bytes s)
+      rest false s f = made_bad size bytes made f
+
       go : (b : Bool) → (is_size max size bytes && nat_lt (length (drop 4 bytes)) size) ≡ b
-          → (if b then Some part else when (is_whole max bytes) (Some (whole (drop 4 bytes)))) ≡ Some made → Makes max bytes made
+          → (if b then Some part else if is_whole max bytes then Some (whole (drop 4 bytes)) else when (is_bad_size max size bytes) (Some (bad_size (cast_signed w32 size)))) ≡ Some made
+          → Makes max bytes made
       go true s f = subst (Makes max bytes) (same_Some part made f) (made_part size bytes s)
-      go false s f = made_whole bytes made f
+      go false s f = rest (is_whole max bytes) refl f
 
   made_is : (bytes : List ℕ) (made : Made) → made_by max bytes ≡ Some made → Makes max bytes made
   made_is bytes made e = go (nat_lt (length bytes) 4) refl e
@@ -103,50 +139,71 @@ module _ (max : ℕ) (small : max < 2 ^ 31) (short : (bytes : List ℕ) → leng
       go true s f = subst (Makes max bytes) (same_Some part made f) (short bytes (ltb-true (length bytes) 4 s))
       go false s f = made_behind_is (from_be_bytes w32 (take 4 bytes)) bytes made f
 
-  read_is : (old : Loop) (c : ℕ) (bytes : List ℕ) (new : Loop) → is_open old c ≡ true → owes_nothing (old.conns c) ≡ true → not (is_empty bytes) ≡ true
-      → stays_in_size (old.conns c).held bytes ≡ true → (made : Option Made) → made_by max ((old.conns c).held ++ bytes) ≡ made → read_plain old c bytes made ≡ Some new
-      → Happens max old (reads c bytes) new
-  read_is old c bytes new o w n s None m e = absurd (none-some new e)
-  read_is old c bytes new o w n s (Some made) m e = (
-    made,
-    opened old c o,
-    owes (old.conns c) w,
-    some_bytes bytes n,
-    stays (old.conns c).held bytes s,
-    made_is ((old.conns c).held ++ bytes) made m,
-    sym (same_Some (changed old c (read_more (old.conns c) bytes made) (marks_read c bytes made)) new e),
-  )
+  -- what a connection that is open does
+  module _ (old : Loop) (c : ℕ) (new : Loop) (o : IsOpen old c) where
+    -- it is this one then, with these marks
+    to : (conn : Conn) (marks : List Mark) → moved_plain old c (Some (conn, marks)) ≡ Some new → new ≡ changed old c conn marks
+    to conn marks e = sym (same_Some (changed old c conn marks) new e)
 
-  link_is : (old : Loop) (link : Link) (new : Loop) → link_plain max old link ≡ Some new → Happens max old link new
+    -- a test, and what it leaves
+    tested : (b : Bool) (moved : Moved) → moved_plain old c (when b moved) ≡ Some new → (b ≡ true) × (moved_plain old c moved ≡ Some new)
+    tested true moved e = (refl, e)
+    tested false moved e = absurd (none-some new e)
+
+    reads_made : (bytes : List ℕ) → OwesNothing (old.conns c) → bytes ≢ [] → StaysInSize (old.conns c).held bytes → (made : Option Made)
+        → made_by max ((old.conns c).held ++ bytes) ≡ made → moved_plain old c (made_plain c (old.conns c) bytes made) ≡ Some new → Happens max old (reads c bytes) new
+    reads_made bytes w n s None m e = absurd (none-some new e)
+    reads_made bytes w n s (Some made) m e =
+        (made, o, w, n, s, made_is ((old.conns c).held ++ bytes) made m, to (read_more (old.conns c) bytes made) (marks_read c bytes made) e)
+
+    reads_is : (bytes : List ℕ) → moved_plain old c (reads_plain max c bytes (old.conns c)) ≡ Some new → Happens max old (reads c bytes) new
+    reads_is bytes e =
+        let t : (_ ≡ true) × (_ ≡ Some new) = tested _ (made_plain c (old.conns c) bytes (made_by max ((old.conns c).held ++ bytes))) e in
+        let a : (owes_nothing (old.conns c) ≡ true) × ((not (is_empty bytes) && stays_in_size (old.conns c).held bytes) ≡ true) = and_parts _ _ t.0 in
+        let b : (not (is_empty bytes) ≡ true) × (stays_in_size (old.conns c).held bytes ≡ true) = and_parts _ _ a.1 in
+        reads_made bytes (owes (old.conns c) a.0) (some_bytes bytes b.0) (stays (old.conns c).held bytes b.1) (made_by max ((old.conns c).held ++ bytes)) refl t.1
+
+    ends_is : moved_plain old c (ends_plain c (old.conns c)) ≡ Some new → Happens max old (ends c) new
+    ends_is e =
+        let t : (_ ≡ true) × (_ ≡ Some new) = tested (owes_nothing (old.conns c)) (ended_plain c (old.conns c) (Ended c) (end_behind (old.conns c).held)) e in
+        (o, owes (old.conns c) t.0, to _ _ t.1)
+
+    fails_read_is : moved_plain old c (fails_read_plain c (old.conns c)) ≡ Some new → Happens max old (fails_read c) new
+    fails_read_is e =
+        let t : (_ ≡ true) × (_ ≡ Some new) = tested (owes_nothing (old.conns c)) (ended_plain c (old.conns c) (ReadFailed c) ReadFault) e in
+        (o, owes (old.conns c) t.0, to _ _ t.1)
+
+    writes_is : (count : ℕ) → moved_plain old c (writes_plain c count (old.conns c)) ≡ Some new → Happens max old (writes c count) new
+    writes_is count e =
+        let t : (_ ≡ true) × (_ ≡ Some new) =
+        tested (nat_le 1 count && nat_le count (length (old.conns c).left)) (Some (record (old.conns c) { left = drop count (old.conns c).left }, Wrote c (take count (old.conns c).left) ∷ [])) e in
+        let b : (nat_le 1 count ≡ true) × (nat_le count (length (old.conns c).left) ≡ true) = and_parts _ _ t.0 in
+        (o, leb-true 1 count b.0, leb-true count (length (old.conns c).left) b.1, to _ _ t.1)
+
+    fails_write_is : moved_plain old c (fails_write_plain c (old.conns c)) ≡ Some new → Happens max old (fails_write c) new
+    fails_write_is e =
+        let t : (_ ≡ true) × (_ ≡ Some new) = tested (not (is_empty (old.conns c).left)) (ended_plain c (old.conns c) (WriteFailed c) WriteFault) e in
+        (o, some_bytes (old.conns c).left t.0, to _ _ t.1)
+
+    gives_up_is : (cause : EndCause) → moved_plain old c (gives_up_plain c cause (old.conns c)) ≡ Some new → Happens max old (gives_up c cause) new
+    gives_up_is cause e =
+        let t : (_ ≡ true) × (_ ≡ Some new) = tested (is_given_up cause) (Some (with_cause (old.conns c) cause, Closed c ∷ [])) e in
+        (o, given_up cause t.0, to _ _ t.1)
+
+  -- an open connection is asked for
+  on_open : (old : Loop) (c : ℕ) (moved : Option Loop) (new : Loop) → when (is_open old c) moved ≡ Some new → IsOpen old c × (moved ≡ Some new)
+  on_open old c moved new e =
+      let t : (is_open old c ≡ true) × (moved ≡ Some new) = passed (is_open old c) moved new e in (opened old c t.0, t.1)
+
+  pub link_is : (old : Loop) (link : Link) (new : Loop) → link_plain max old link ≡ Some new → Happens max old link new
   link_is old opens new e =
       let t : (_ ≡ true) × (_ ≡ Some new) = passed _ _ new e in (ltb-true _ _ t.0, sym (same_Some _ new t.1))
-  link_is old (reads c bytes) new e =
-      let t : (_ ≡ true) × (read_plain old c bytes (made_by max ((old.conns c).held ++ bytes)) ≡ Some new) = passed _ _ new e in
-      let a : (is_open old c ≡ true) × ((owes_nothing (old.conns c) && (not (is_empty bytes) && stays_in_size (old.conns c).held bytes)) ≡ true) = and_parts _ _ t.0 in
-      let b : (owes_nothing (old.conns c) ≡ true) × ((not (is_empty bytes) && stays_in_size (old.conns c).held bytes) ≡ true) = and_parts _ _ a.1 in
-      let f : (not (is_empty bytes) ≡ true) × (stays_in_size (old.conns c).held bytes ≡ true) = and_parts _ _ b.1 in
-      read_is old c bytes new a.0 b.0 f.0 f.1 (made_by max ((old.conns c).held ++ bytes)) refl t.1
-  link_is old (ends c) new e =
-      let t : (_ ≡ true) × (_ ≡ Some new) = passed _ _ new e in
-      let a : (is_open old c ≡ true) × (owes_nothing (old.conns c) ≡ true) = and_parts _ _ t.0 in
-      (opened old c a.0, owes (old.conns c) a.1, sym (same_Some _ new t.1))
-  link_is old (fails_read c) new e =
-      let t : (_ ≡ true) × (_ ≡ Some new) = passed _ _ new e in
-      let a : (is_open old c ≡ true) × (owes_nothing (old.conns c) ≡ true) = and_parts _ _ t.0 in
-      (opened old c a.0, owes (old.conns c) a.1, sym (same_Some _ new t.1))
-  link_is old (writes c count) new e =
-      let t : (_ ≡ true) × (_ ≡ Some new) = passed _ _ new e in
-      let a : (is_open old c ≡ true) × ((nat_le 1 count && nat_le count (length (old.conns c).left)) ≡ true) = and_parts _ _ t.0 in
-      let b : (nat_le 1 count ≡ true) × (nat_le count (length (old.conns c).left) ≡ true) = and_parts _ _ a.1 in
-      (opened old c a.0, leb-true 1 count b.0, leb-true count (length (old.conns c).left) b.1, sym (same_Some _ new t.1))
-  link_is old (fails_write c) new e =
-      let t : (_ ≡ true) × (_ ≡ Some new) = passed _ _ new e in
-      let a : (is_open old c ≡ true) × (not (is_empty (old.conns c).left) ≡ true) = and_parts _ _ t.0 in
-      (opened old c a.0, some_bytes (old.conns c).left a.1, sym (same_Some _ new t.1))
-  link_is old (gives_up c cause) new e =
-      let t : (_ ≡ true) × (_ ≡ Some new) = passed _ _ new e in
-      let a : (is_open old c ≡ true) × (is_given_up cause ≡ true) = and_parts _ _ t.0 in
-      (opened old c a.0, given_up cause a.1, sym (same_Some _ new t.1))
+  link_is old (reads c bytes) new e = let t : IsOpen old c × (_ ≡ Some new) = on_open old c _ new e in reads_is old c new t.0 bytes t.1
+  link_is old (ends c) new e = let t : IsOpen old c × (_ ≡ Some new) = on_open old c _ new e in ends_is old c new t.0 t.1
+  link_is old (fails_read c) new e = let t : IsOpen old c × (_ ≡ Some new) = on_open old c _ new e in fails_read_is old c new t.0 t.1
+  link_is old (writes c count) new e = let t : IsOpen old c × (_ ≡ Some new) = on_open old c _ new e in writes_is old c new t.0 count t.1
+  link_is old (fails_write c) new e = let t : IsOpen old c × (_ ≡ Some new) = on_open old c _ new e in fails_write_is old c new t.0 t.1
+  link_is old (gives_up c cause) new e = let t : IsOpen old c × (_ ≡ Some new) = on_open old c _ new e in gives_up_is old c new t.0 cause t.1
 
 module _ {C A M : Type 0} (d : Desk C A) (r : Rules C A M) (small : d.max < 2 ^ 31) (short : (bytes : List ℕ) → length bytes < 4 → IsPartial d.max bytes)
     (under_way : (size : ℕ) (bytes : List ℕ) → 1 ≤ size → size ≤ d.max → length bytes < size → IsPartial d.max (to_be_bytes w32 size ++ bytes)) where
@@ -176,44 +233,64 @@ module _ {C A M : Type 0} (d : Desk C A) (r : Rules C A M) (small : d.max < 2 ^ 
   take_is old w new (has_answer key payload answer) h jobs j e = absurd (none-some new e)
   take_is old w new (has_none key payload) h jobs j e = absurd (none-some new e)
 
-  effect_is : (old : Cell C A M) (w : ℕ) (new : Cell C A M) (key : Key) (payload : List ℕ) (call : C) → old.hands w ≡ holds key payload → d.decide payload ≡ Invoke call
-      → old.hall.broken ≡ false → (m : Option M) → slice_get old.hall.memories (r.slot call) ≡ m → effect_plain r old w key payload call m ≡ Some new → Steps d r old (applies w) new
-  effect_is old w new key payload call h q b None g e = absurd (none-some new e)
-  effect_is old w new key payload call h q b (Some m) g e = (
-    key,
-    call,
-    (
-      applied (r.rule call m).0,
-      has_answer key payload (r.rule call m).0,
-      _,
-      (payload, h, q, refl),
+  -- an Apply that goes so, of a job in the hand whose call this is
+  module _ (old : Cell C A M) (w : ℕ) (new : Cell C A M) (key : Key) (payload : List ℕ) (call : C) (h : old.hands w ≡ holds key payload) (q : d.decide payload ≡ Invoke call) where
+    is_its_answer : (m : M) → slice_get old.hall.memories (r.slot call) ≡ Some m → IsAnswered r old.hall.memories (entry_of key call (r.rule call m).0)
+    is_its_answer m g = subst (λ x. MatchOption x ⊥ (λ y. (r.rule call m).0 ≡ (r.rule call y).0)) (sym g) refl
+
+    fate_is : old.hall.broken ≡ false → (fate : Fate) (m : Option M) → slice_get old.hall.memories (r.slot call) ≡ m → fate_plain r old w key payload call fate m ≡ Some new
+        → Steps d r old (applies w) new
+    fate_is b answers (Some m) g e = (
+      key,
+      call,
+      (applied (r.rule call m).0, _, _, (payload, h, q, refl), (old.hall.faults, omega arith, (b, (is_its_answer m g, refl))), sym (same_Some _ new e)),
+    )
+    fate_is b lacks_for_answer (Some m) g e = (
+      key,
+      call,
+      (no_memory, _, _, (payload, h, q, refl), (old.hall.faults, omega arith, (b, inr ((r.rule call m).0, (is_its_answer m g, refl)))), sym (same_Some _ new e)),
+    )
+    fate_is b answers None g e = absurd (none-some new e)
+    fate_is b lacks_for_answer None g e = absurd (none-some new e)
+    fate_is b lacks_for_call m g e =
+        (key, call, (no_memory, _, old.hall, (payload, h, q, refl), (old.hall.faults, omega arith, (b, inl refl)), sym (same_Some _ new e)))
+    fate_is b fails_journal m g e = (
+      key,
+      call,
       (
-        old.hall.faults,
-        omega arith,
-        (b, (subst (λ x. MatchOption x ⊥ (λ y. (r.rule call m).0 ≡ (r.rule call y).0)) (sym g) refl, refl)),
+        journal_fault,
+        _,
+        _,
+        (payload, h, q, refl),
+        (old.hall.faults + 1, omega arith, (b, omega arith, refl)),
+        sym (same_Some _ new e),
       ),
-      sym (same_Some _ new e),
-    ),
-  )
+    )
 
-  not_broken : (b : Bool) → not b ≡ true → b ≡ false
-  not_broken true e = absurd (false≢true e)
-  not_broken false e = refl
+    broken_is : old.hall.broken ≡ true → (fate : Fate) → broken_plain old w key payload fate ≡ Some new → Steps d r old (applies w) new
+    broken_is b answers e = (key, call, (is_broken, _, old.hall, (payload, h, q, refl), (old.hall.faults, omega arith, (b, refl)), sym (same_Some _ new e)))
+    broken_is b lacks_for_call e = absurd (none-some new e)
+    broken_is b lacks_for_answer e = absurd (none-some new e)
+    broken_is b fails_journal e = absurd (none-some new e)
 
-  call_is : (old : Cell C A M) (w : ℕ) (new : Cell C A M) (key : Key) (payload : List ℕ) → old.hands w ≡ holds key payload → (decision : Decision C) → d.decide payload ≡ decision
-      → call_plain r old w key payload decision ≡ Some new → Steps d r old (applies w) new
-  call_is old w new key payload h (Invoke call) q e =
-      let t : (not old.hall.broken ≡ true) × (effect_plain r old w key payload call (slice_get old.hall.memories (r.slot call)) ≡ Some new) = passed _ _ new e in
-      effect_is old w new key payload call h q (not_broken old.hall.broken t.0) (slice_get old.hall.memories (r.slot call)) refl t.1
-  call_is old w new key payload h (Close fault) q e = absurd (none-some new e)
-  call_is old w new key payload h Silent q e = absurd (none-some new e)
-  call_is old w new key payload h (Reply reply) q e = absurd (none-some new e)
+    invoke_is : (fate : Fate) (b : Bool) → old.hall.broken ≡ b
+        → (if b then broken_plain old w key payload fate else fate_plain r old w key payload call fate (slice_get old.hall.memories (r.slot call))) ≡ Some new
+        → Steps d r old (applies w) new
+    invoke_is fate true b e = broken_is b fate e
+    invoke_is fate false b e = fate_is b fate (slice_get old.hall.memories (r.slot call)) refl e
 
-  apply_is : (old : Cell C A M) (w : ℕ) (new : Cell C A M) (hand : Hand A) → old.hands w ≡ hand → apply_plain d r old w hand ≡ Some new → Steps d r old (applies w) new
-  apply_is old w new (holds key payload) h e = call_is old w new key payload h (d.decide payload) refl e
-  apply_is old w new idle h e = absurd (none-some new e)
-  apply_is old w new (has_answer key payload answer) h e = absurd (none-some new e)
-  apply_is old w new (has_none key payload) h e = absurd (none-some new e)
+  call_is : (old : Cell C A M) (w : ℕ) (new : Cell C A M) (key : Key) (payload : List ℕ) (fate : Fate) → old.hands w ≡ holds key payload → (decision : Decision C)
+      → d.decide payload ≡ decision → call_plain r old w key payload fate decision ≡ Some new → Steps d r old (applies w) new
+  call_is old w new key payload fate h (Invoke call) q e = invoke_is old w new key payload call h q fate old.hall.broken refl e
+  call_is old w new key payload fate h (Close fault) q e = absurd (none-some new e)
+  call_is old w new key payload fate h Silent q e = absurd (none-some new e)
+  call_is old w new key payload fate h (Reply reply) q e = absurd (none-some new e)
+
+  apply_is : (old : Cell C A M) (w : ℕ) (new : Cell C A M) (fate : Fate) (hand : Hand A) → old.hands w ≡ hand → apply_plain d r old w fate hand ≡ Some new → Steps d r old (applies w) new
+  apply_is old w new fate (holds key payload) h e = call_is old w new key payload fate h (d.decide payload) refl e
+  apply_is old w new fate idle h e = absurd (none-some new e)
+  apply_is old w new fate (has_answer key payload answer) h e = absurd (none-some new e)
+  apply_is old w new fate (has_none key payload) h e = absurd (none-some new e)
 
   outcome_is : (old : Cell C A M) (w : ℕ) (new : Cell C A M) (key : Key) → ((settled : Settled) → made_of d (old.hands w) ≡ Some settled → IsSettled d (old.hands w) key settled)
       → (settled : Option Settled) → made_of d (old.hands w) ≡ settled → outcome_plain old w key settled ≡ Some new → Steps d r old (puts w) new
@@ -228,13 +305,15 @@ module _ {C A M : Type 0} (d : Desk C A) (r : Rules C A M) (small : d.max < 2 ^ 
       outcome_is old w new key (λ settled m. (ap key_held h, inl m)) (made_of d (has_answer key payload answer)) (ap (made_of d) h) e
   put_is old w new (has_none key payload) h e = absurd (none-some new e)
 
-  collect_is : (old new : Cell C A M) (outs : List Outcome) → old.hall.outcomes ≡ outs → collect_plain old outs ≡ new → Steps d r old collects new
+  collect_is : (old new : Cell C A M) (outs : List Outcome) → old.hall.outcomes ≡ outs → collect_plain old outs ≡ Some new → Steps d r old collects new
   collect_is old new [] o e = by_closed old.hall.closed refl
     where
       by_closed : (b : Bool) → old.hall.closed ≡ b → Steps d r old collects new
-      by_closed true k = (is_closed, old.loop, old.hall, refl, (o, k, refl), sym e)
-      by_closed false k = (empty, old.loop, old.hall, refl, (o, k, refl), sym e)
-  collect_is old new (first ∷ later) o e = (outcome first.key first.settled, _, _, refl, (later, o, refl), sym e)
+      by_closed true k = (is_closed, old.loop, old.hall, refl, (o, k, refl), sym (same_Some old new e))
+      by_closed false k = (empty, old.loop, old.hall, refl, (o, k, refl), sym (same_Some old new e))
+  collect_is old new (first ∷ later) o e =
+      let t : (nat_lt first.key.c old.loop.count ≡ true) × (_ ≡ Some new) = passed _ _ new e in
+      (outcome first.key first.settled, _, _, refl, (later, o, refl), sym (same_Some _ new t.1))
 
   step_is : (old : Cell C A M) (event : Event) (new : Cell C A M) → step_plain d r old event ≡ Some new → Steps d r old event new
   step_is old (on_link link) new e = loop_is old link new (link_plain d.max old.loop link) refl e
@@ -242,20 +321,29 @@ module _ {C A M : Type 0} (d : Desk C A) (r : Rules C A M) (small : d.max < 2 ^ 
       let t : (nat_lt c old.loop.count ≡ true) × (_ ≡ Some new) = passed _ _ new e in
       submit_is old c new (ltb-true c old.loop.count t.0) old.hall.closed refl (slice_get (old.loop.conns c).payloads (old.loop.conns c).submitted) refl t.1
   step_is old (takes w) new e = take_is old w new (old.hands w) refl old.hall.jobs refl e
-  step_is old (applies w) new e = apply_is old w new (old.hands w) refl e
+  step_is old (applies w) new e = apply_is old w new answers (old.hands w) refl e
   step_is old (puts w) new e = put_is old w new (old.hands w) refl e
-  step_is old collects new e = collect_is old new old.hall.outcomes refl (same_Some _ new e)
+  step_is old collects new e = collect_is old new old.hall.outcomes refl e
   step_is old closes new e = (done, old.loop, _, refl, refl, sym (same_Some _ new e))
 
-  stuck : (events : List Event) (new : Cell C A M) → run_plain d r events None ≡ Some new → ⊥
-  stuck [] new e = none-some new e
-  stuck (event ∷ events) new e = none-some new e
+  lack_is : (old : Cell C A M) (w : ℕ) (new : Cell C A M) (key : Option Key) → key_held (old.hands w) ≡ key → lack_plain old w key ≡ Some new → Steps d r old (puts w) new
+  lack_is old w new None h e = absurd (none-some new e)
+  lack_is old w new (Some key) h e = (key, Lack, (done, idle, _, ((h, inr refl), refl), refl, sym (same_Some _ new e)))
 
-  pub run_is : (old : Cell C A M) (events : List Event) (new : Cell C A M) → run_plain d r events (Some old) ≡ Some new → Runs d r old events new
+  told_is : (old : Cell C A M) (told : Told) (new : Cell C A M) → told_plain d r old told ≡ Some new → Steps d r old (event_told told) new
+  told_is old (goes event) new e = step_is old event new e
+  told_is old (applies_so w fate) new e = apply_is old w new fate (old.hands w) refl e
+  told_is old (puts_none w) new e = lack_is old w new (key_held (old.hands w)) refl e
+
+  stuck : (told : List Told) (new : Cell C A M) → run_plain d r told None ≡ Some new → ⊥
+  stuck [] new e = none-some new e
+  stuck (one ∷ later) new e = none-some new e
+
+  pub run_is : (old : Cell C A M) (told : List Told) (new : Cell C A M) → run_plain d r told (Some old) ≡ Some new → Runs d r old (map event_told told) new
   run_is old [] new e = sym (same_Some old new e)
-  run_is old (event ∷ events) new e = go (step_plain d r old event) refl e (λ next. run_is next events new)
+  run_is old (told ∷ later) new e = go (told_plain d r old told) refl e (λ next. run_is next later new)
     where
-      go : (x : Option (Cell C A M)) → step_plain d r old event ≡ x → run_plain d r events x ≡ Some new
-          → ((next : Cell C A M) → run_plain d r events (Some next) ≡ Some new → Runs d r next events new) → Runs d r old (event ∷ events) new
-      go None s f rec = absurd (stuck events new f)
-      go (Some next) s f rec = (next, step_is old event next s, rec next f)
+      go : (x : Option (Cell C A M)) → told_plain d r old told ≡ x → run_plain d r later x ≡ Some new
+          → ((next : Cell C A M) → run_plain d r later (Some next) ≡ Some new → Runs d r next (map event_told later) new) → Runs d r old (map event_told (told ∷ later)) new
+      go None s f rec = absurd (stuck later new f)
+      go (Some next) s f rec = (next, told_is old told next s, rec next f)

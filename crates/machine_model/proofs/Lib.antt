@@ -6,6 +6,13 @@ pub mod Serving
 pub mod Collecting
 pub mod Running
 pub mod Merging
+pub mod Keys
 pub mod Owning
+pub mod Determining
+pub mod Summing
+pub mod Fitting
 pub mod Computing
+pub mod Showing
+pub mod Weaving
+pub mod Seeing
 pub mod WrongSteps

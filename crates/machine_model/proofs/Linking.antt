@@ -1,17 +1,16 @@
 -- What happens on a connection alone is an act of the world.
-use Rattle.std.proofs.Common.{◌≡◌, ◌≢◌, ℕ, ℤ, zero, suc, ◌+◌, ◌<◌, ◌≤◌, ◌⊎◌, Bool, false, ◌==◌, if◌then◌else◌, Option, None, Some, List, [], ◌∷◌, ◌++◌, length, take, drop, refl, sym, ap, ◌∙◌, subst, inl, inr, arith}
+use Rattle.std.proofs.Common.{◌≡◌, ◌≢◌, ℕ, zero, suc, ◌<◌, ◌≤◌, ◌⊎◌, false, None, Some, List, [], ◌∷◌, ◌++◌, length, take, drop, refl, sym, ap, ◌∙◌, subst, inl, inr, arith}
 use Rattle.std.proofs.lemmas.Bool.{cases_eq}
 use Rattle.std.proofs.lemmas.List.{take-append-drop}
-use Rattle.outside.specs.declared.marks.Mark.{Mark}
 use Rattle.outside.specs.declared.marks.Mark.TheVariants.{Opened}
 use Rattle.host_model.specs.declared.key.Key.{Key}
 use Rattle.host_model.specs.declared.cause.EndCause.{EndCause}
 use Rattle.host_model.specs.declared.cause.EndCause.TheVariants.{SizeFault, ReadFault, WriteFault}
-use Rattle.host_model.specs.Frames.{IsPartial, frame, size_bytes}
+use Rattle.host_model.specs.Frames.{IsPartial}
 use Rattle.host_model.specs.Marks.{marks_of, output}
 use Rattle.host_model.specs.Journal.{Entry, Rules, after, entries_of}
 use Rattle.host_model.specs.Desk.{Desk}
-use Rattle.host_model.specs.Conversation.{but_last, Done, sent}
+use Rattle.host_model.specs.Conversation.{Done}
 use Rattle.host_model.specs.World.{Stage, open_, pending, answered, over, over_pending, Line, unopened_line, World, Act, ReachedBy, Move, marks_by, Moves, moves, with_line, end_behind, IsGivenUp, GivesUp, StandsAt, Moment}
 use Rattle.host_model.specs.World as World
 use Rattle.machine_model.specs.Hall.{Hall, Job, Outcome}
@@ -20,8 +19,8 @@ use Rattle.machine_model.specs.Worker.{Hand, key_held}
 use Rattle.machine_model.specs.Machine.{Cell}
 use Rattle.machine_model.specs.Places.{Place, collected_all, ready, queued, held_by, put_out, jobs_of, outcomes_of, IsUnderWay, IsAt}
 use Rattle.machine_model.proofs.Lists.{put_same, put_other}
-use Rattle.machine_model.proofs.Standing.{uncalled, entered, Rests, Waits, StageIs, LineIs, Sim, clear_by_count, clear_by_left, done_but_last, IsCalledOrNot, phase_of}
-use Rattle.machine_model.proofs.Changing.{Change, changed_one}
+use Rattle.machine_model.proofs.Standing.{uncalled, Rests, Waits, StageIs, LineIs, Sim, clear_by_count, clear_by_left, done_but_last, IsCalledOrNot, phase_of}
+use Rattle.machine_model.proofs.Changing.{changed_one}
 
 -- no payload that a worker holds is collected
 pub not_held : (w : ℕ) → collected_all ≡ held_by w → ⊥

@@ -1,5 +1,5 @@
 -- Facts about the elements of one connection in a list, functions that are changed at one number, and entries.
-use Rattle.std.proofs.Common.{◌≡◌, ℕ, suc, ◌<◌, Bool, true, false, cond, ◌==◌, if◌then◌else◌, None, Some, List, [], ◌∷◌, ◌++◌, length, filter, slice_get, refl, sym, ap, ◌∙◌, subst, arith, append-nil, eq-eqb, ne_eqb}
+use Rattle.std.proofs.Common.{◌≡◌, ℕ, zero, suc, ◌<◌, cond, ◌==◌, if◌then◌else◌, None, Some, List, [], ◌∷◌, ◌++◌, length, filter, slice_get, refl, ap, ◌∙◌, arith, append-nil, eq-eqb, ne_eqb}
 use Rattle.std.specs.List.{AllByRecursion}
 use Rattle.std.proofs.lemmas.List.Elements.{filter-append}
 use Rattle.host_model.specs.Journal.{Entry, Rules, after, after_call}
@@ -34,6 +34,12 @@ module _ {X : Type 0} (f : X → ℕ) where
 pub get_last : {X : Type 0} (xs : List X) (x : X) → slice_get (xs ++ x ∷ []) (length xs) ≡ Some x
 get_last [] x = refl
 get_last (y ∷ xs) x = get_last xs x
+
+-- there is an element at each place within a list
+pub get_within : {X : Type 0} (xs : List X) (n : ℕ) → n < length xs → (x : X) × (slice_get xs n ≡ Some x)
+get_within [] n l = absurd (let f : ⊥ = omega arith in f)
+get_within (x ∷ xs) zero l = (x, refl)
+get_within (x ∷ xs) (suc n) l = get_within xs n (omega arith)
 
 module _ {C A : Type 0} where
   -- entries of smaller numbers don't answer

@@ -1,20 +1,19 @@
 -- One history of the hall and the loop's weave, step by step, are a run.
-use Rattle.std.proofs.Common.{◌≡◌, ◌≢◌, ℕ, suc, ◌⊎◌, Bool, cond, ◌==◌, if◌then◌else◌, List, [], ◌∷◌, ◌++◌, map, refl, sym, ap, ◌∙◌, subst, inl, inr, append_assoc, eq-eqb, ne_eqb}
+use Rattle.std.proofs.Common.{◌≡◌, ◌≢◌, ℕ, ◌⊎◌, cond, ◌==◌, if◌then◌else◌, List, [], ◌∷◌, ◌++◌, map, refl, sym, ap, ◌∙◌, subst, inl, inr, eq-eqb, ne_eqb}
 use Rattle.std.specs.List.{flat_map}
 use Rattle.std.proofs.lemmas.Bool.{cases_eq}
-use Rattle.host_model.specs.declared.key.Key.{Key}
 use Rattle.host_model.specs.declared.cause.EndCause.{EndCause}
 use Rattle.host_model.specs.Journal.{Rules}
 use Rattle.host_model.specs.Headline.{Headline}
 use Rattle.host_model.specs.Desk.{Desk}
 use Rattle.host_model.proofs.Lists.{nil-cons, cons_parts}
 use Rattle.machine_model.specs.Hall.{Hall, IsNew}
-use Rattle.machine_model.specs.HallRule.{Op, submit, take_job, apply, put, collect, close, Answer, done, job, empty, is_closed, applied, no_memory, journal_fault, is_broken, outcome, Gives}
+use Rattle.machine_model.specs.HallRule.{Op, submit, take_job, apply, put, collect, close, Answer, empty, is_closed, Gives}
 use Rattle.machine_model.specs.OwnCalls.{Call, IsHistory, hall_after, calls_by}
-use Rattle.machine_model.specs.Loop.{Loop, Link, Happens, LoopAsks}
-use Rattle.machine_model.specs.Worker.{Hand, idle, holds, tried, took, WorkerAsks}
-use Rattle.machine_model.specs.Machine.{Cell, with_hand, Event, on_link, Steps, Runs, IsFirst, HasEnded}
-use Rattle.machine_model.specs.Merge.{Item, links, calls, Turn, worked, worked_by_call, found_none, stopped, asked, AreTurns, no_loop, event_by, ask_of, OfTurns, calls_in, Weaves, lead, behind, threaded, merge, event_of, IsOneHistory, at_first}
+use Rattle.machine_model.specs.Loop.{Loop, LoopAsks}
+use Rattle.machine_model.specs.Worker.{Hand, idle, holds, tried, WorkerAsks}
+use Rattle.machine_model.specs.Machine.{Cell, with_hand, Event, Steps, Runs, IsFirst, HasEnded}
+use Rattle.machine_model.specs.Merge.{Item, links, calls, Turn, worked, worked_by_call, found_none, stopped, asked, AreTurns, event_by, ask_of, OfTurns, calls_in, Weaves, lead, behind, threaded, merge, event_of, IsOneHistory, at_first}
 use Rattle.machine_model.proofs.Lists.{put_same, put_other}
 
 module _ {C A : Type 0} (d : Desk C A) where
@@ -69,7 +68,7 @@ module _ {C A M : Type 0} where
   own_call : (seat : ℕ) (e : Call C A M) (log : List (Call C A M)) → e.seat ≡ seat → calls_by seat (e ∷ log) ≡ e ∷ calls_by seat log
   own_call seat e log is = ap (λ b. cond b (e ∷ calls_by seat log) (calls_by seat log)) (eq-eqb e.seat seat is)
 
-  other_call : (seat : ℕ) (e : Call C A M) (log : List (Call C A M)) → (e.seat ≡ seat → ⊥) → calls_by seat (e ∷ log) ≡ calls_by seat log
+  pub other_call : (seat : ℕ) (e : Call C A M) (log : List (Call C A M)) → (e.seat ≡ seat → ⊥) → calls_by seat (e ∷ log) ≡ calls_by seat log
   other_call seat e log n = ap (λ b. cond b (e ∷ calls_by seat log) (calls_by seat log)) (ne_eqb e.seat seat n)
 
 module _ {C A M : Type 0} (d : Desk C A) (r : Rules C A M) where

@@ -1,88 +1,15 @@
 -- What each seat knows of its own calls is enough for what it asks of the hall.
-use Rattle.std.proofs.Common.{◌≡◌, ℕ, zero, suc, ◌+◌, ◌<◌, ◌≤◌, ◌⊎◌, Bool, true, false, cond, ◌||◌, ◌==◌, if◌then◌else◌, Option, None, Some, List, [], ◌∷◌, ◌++◌, map, length, slice_get, slice_set, refl, sym, ap, ◌∙◌, subst, inl, inr, ⊎_elim, arith, append_assoc, append-nil, length-append, eq-eqb}
-use Rattle.std.proofs.lemmas.Bool.{cases_eq, true≢false, false≢true, and_from, and_parts, or_parts, or_from, or_left, or_right, or_cases, eqb-true, false_from_ne_true}
-use Rattle.std.proofs.lemmas.List.{length-set, length-map, map-append}
+use Rattle.std.proofs.Common.{◌≡◌, ℕ, suc, ◌+◌, ◌<◌, ◌≤◌, ◌⊎◌, Bool, true, false, if◌then◌else◌, Option, None, Some, List, [], ◌∷◌, ◌++◌, map, length, slice_get, slice_set, refl, sym, ap, ◌∙◌, subst, inl, inr, ⊎_elim, arith, append_assoc, append-nil, length-append}
+use Rattle.std.proofs.lemmas.Bool.{cases_eq, true≢false, false≢true, or_parts, or_left, or_right, or_cases, false_from_ne_true}
+use Rattle.std.proofs.lemmas.List.{length-set, map-append}
 use Rattle.outside.specs.declared.outcomes.Settled.{Settled}
 use Rattle.host_model.specs.declared.key.Key.{Key}
 use Rattle.host_model.specs.Journal.{Rules, after_call}
-use Rattle.machine_model.specs.Hall.{key_of, is_same, Job, Outcome, Hall, IsNew, has, without, keys_in}
+use Rattle.machine_model.specs.Hall.{is_same, Job, Outcome, Hall, IsNew, has, without, keys_in}
 use Rattle.machine_model.specs.HallRule.{Op, submit, take_job, apply, put, collect, close, Answer, done, job, empty, is_closed, applied, no_memory, journal_fault, is_broken, outcome, job_of, outcome_of, TakesEffect, Applies, Gives}
-use Rattle.machine_model.specs.OwnCalls.{Call, most_keys, most_bytes, IsHistory, hall_after, calls_by, Can, submits_key, applies_key, any_of, adds_key, frees_key, number_of, held_after, holds_from, holds_key, May, AllAllowed}
+use Rattle.machine_model.specs.OwnCalls.{Call, most_keys, IsHistory, hall_after, calls_by, Can, submits_key, any_of, adds_key, frees_key, number_of, held_after, holds_from, holds_key, May, AllAllowed}
 use Rattle.machine_model.proofs.Lists.{own_push, own_push_other}
-
--- keys that are the same
-same_key : (x y : Key) → is_same x y ≡ true → x ≡ y
-same_key x y e =
-    let parts : ((x.c == y.c) ≡ true) × ((x.i == y.i) ≡ true) = and_parts (x.c == y.c) (x.i == y.i) e in
-    (λ i. key_of (eqb-true x.c y.c parts.0 i) (eqb-true x.i y.i parts.1 i))
-
-is_same_self : (x : Key) → is_same x x ≡ true
-is_same_self x = and_from (x.c == x.c) (x.i == x.i) (eq-eqb x.c x.c refl) (eq-eqb x.i x.i refl)
-
-cases_key : (x y : Key) → (x ≡ y) ⊎ (is_same x y ≡ false)
-cases_key x y = go (is_same x y) refl
-  where
-    go : (b : Bool) → is_same x y ≡ b → (x ≡ y) ⊎ (is_same x y ≡ false)
-    go true e = inl (same_key x y e)
-    go false e = inr e
-
-other_key : (x y : Key) → (x ≡ y → ⊥) → is_same x y ≡ false
-other_key x y n = false_from_ne_true (is_same x y) (λ e. n (same_key x y e))
-
--- keys in lists
-has_left : (k : Key) (xs ys : List Key) → has k xs ≡ true → has k (xs ++ ys) ≡ true
-has_left k [] ys e = absurd (false≢true e)
-has_left k (x ∷ xs) ys e =
-    ⊎_elim (or_left (is_same x k) (has k (xs ++ ys))) (λ f. or_right (is_same x k) (has k (xs ++ ys)) (has_left k xs ys f)) (or_cases (is_same x k) (has k xs) e)
-
-has_right : (k : Key) (xs ys : List Key) → has k ys ≡ true → has k (xs ++ ys) ≡ true
-has_right k [] ys e = e
-has_right k (x ∷ xs) ys e = or_right (is_same x k) (has k (xs ++ ys)) (has_right k xs ys e)
-
-has_either : (k : Key) (xs ys : List Key) → has k (xs ++ ys) ≡ true → (has k xs ≡ true) ⊎ (has k ys ≡ true)
-has_either k [] ys e = inr e
-has_either k (x ∷ xs) ys e =
-    ⊎_elim (λ f. inl (or_left (is_same x k) (has k xs) f)) (λ f. ⊎_elim (λ g. inl (or_right (is_same x k) (has k xs) g)) (λ g. inr g) (has_either k xs ys f))
-    (or_cases (is_same x k) (has k (xs ++ ys)) e)
-
-has_one : (k x : Key) → has k (x ∷ []) ≡ true → x ≡ k
-has_one k x e = go (or_cases (is_same x k) false e)
-  where
-    go : (is_same x k ≡ true) ⊎ (false ≡ true) → x ≡ k
-    go (inl f) = same_key x k f
-    go (inr f) = absurd (false≢true f)
-
-has_self : (k : Key) (ks : List Key) → has k (k ∷ ks) ≡ true
-has_self k ks = or_left (is_same k k) (has k ks) (is_same_self k)
-
--- a list without a key has no more keys, has the others, and is one shorter
-has_without : (k x : Key) (xs : List Key) → has k (without x xs) ≡ true → has k xs ≡ true
-has_without k x [] e = e
-has_without k x (y ∷ xs) e = go (is_same y x) e (has_without k x xs)
-  where
-    go : (b : Bool) → has k (if b then xs else y ∷ without x xs) ≡ true → (has k (without x xs) ≡ true → has k xs ≡ true) → (is_same y k || has k xs) ≡ true
-    go true f rec = or_right (is_same y k) (has k xs) f
-    go false f rec =
-        ⊎_elim (or_left (is_same y k) (has k xs)) (λ g. or_right (is_same y k) (has k xs) (rec g)) (or_cases (is_same y k) (has k (without x xs)) f)
-
-without_other : (k x : Key) (xs : List Key) → (x ≡ k → ⊥) → has k xs ≡ true → has k (without x xs) ≡ true
-without_other k x [] n e = e
-without_other k x (y ∷ xs) n e = go (is_same y x) refl (or_cases (is_same y k) (has k xs) e) (without_other k x xs n)
-  where
-    go : (b : Bool) → is_same y x ≡ b → (is_same y k ≡ true) ⊎ (has k xs ≡ true) → (has k xs ≡ true → has k (without x xs) ≡ true)
-        → has k (if b then xs else y ∷ without x xs) ≡ true
-    go true s (inl f) rec = absurd (n (sym (same_key y x s) ∙ same_key y k f))
-    go true s (inr f) rec = f
-    go false s (inl f) rec = or_left (is_same y k) (has k (without x xs)) f
-    go false s (inr f) rec = or_right (is_same y k) (has k (without x xs)) (rec f)
-
-length-without : (x : Key) (xs : List Key) → has x xs ≡ true → suc (length (without x xs)) ≡ length xs
-length-without x [] e = absurd (false≢true e)
-length-without x (y ∷ xs) e = go (is_same y x) e (length-without x xs)
-  where
-    go : (b : Bool) → (b || has x xs) ≡ true → (has x xs ≡ true → suc (length (without x xs)) ≡ length xs) → suc (length (if b then xs else y ∷ without x xs)) ≡ suc (length xs)
-    go true f rec = refl
-    go false f rec = ap suc (rec f)
+use Rattle.machine_model.proofs.Keys.{same_key, is_same_self, has_left, has_right, has_either, has_one, has_self, has_without, without_other, length-without, job_keys, outcome_keys, with_job, with_taken, with_put, counts, in_jobs, in_taken, in_outcomes, where_in}
 
 -- no key stands twice
 abbrev Apart : List Key → Type 0
@@ -103,12 +30,6 @@ apart_push (x ∷ ks) k a n =
     here (inr f) s = true≢false (sym (is_same_self x) ∙ subst (λ y. is_same x y ≡ false) (has_one x k f) s)
 
 module _ {C A M : Type 0} where
-  abbrev job_keys : Hall C A M → List Key
-  job_keys hall = map (λ (j : Job). j.key) hall.jobs
-
-  abbrev outcome_keys : Hall C A M → List Key
-  outcome_keys hall = map (λ (o : Outcome). o.key) hall.outcomes
-
   number_push : (count : Op C → Answer A → ℕ) (own : List (Call C A M)) (e : Call C A M) → number_of count (own ++ e ∷ []) ≡ number_of count own + count e.op e.answer
   number_push count [] e = omega arith
   number_push count (x ∷ own) e =
@@ -136,39 +57,6 @@ module _ {C A M : Type 0} where
     held : (a : ℕ) (k : Key) → holds_key k (calls_by a log) ≡ true → (has k hall.taken ≡ true) × (has k (job_keys hall) ≡ false)
     alone : (a b : ℕ) (k : Key) → holds_key k (calls_by a log) ≡ true → holds_key k (calls_by b log) ≡ true → a ≡ b
     apart : Apart (job_keys hall)
-
-  -- the halls after a Submit, a Take and a Put
-  abbrev with_job : Hall C A M → Key → List ℕ → Hall C A M
-  with_job old key payload = record old { jobs = old.jobs ++ job_of key payload ∷ [] }
-
-  abbrev with_taken : Hall C A M → Key → List Job → Hall C A M
-  with_taken old key later = record old { jobs = later; taken = old.taken ++ key ∷ [] }
-
-  abbrev with_put : Hall C A M → Key → Settled → Hall C A M
-  with_put old key settled = record old { taken = without key old.taken; outcomes = old.outcomes ++ outcome_of key settled ∷ [] }
-
-  -- lengths of the keys
-  counts : (hall : Hall C A M) → length (keys_in hall) ≡ length (job_keys hall) + (length hall.taken + length (outcome_keys hall))
-  counts hall =
-      length-append (job_keys hall) (hall.taken ++ outcome_keys hall) ∙ ap (λ n. length (job_keys hall) + n) (length-append hall.taken (outcome_keys hall))
-
-  in_jobs : (k : Key) (hall : Hall C A M) → has k (job_keys hall) ≡ true → has k (keys_in hall) ≡ true
-  in_jobs k hall e = has_left k (job_keys hall) (hall.taken ++ outcome_keys hall) e
-
-  in_taken : (k : Key) (hall : Hall C A M) → has k hall.taken ≡ true → has k (keys_in hall) ≡ true
-  in_taken k hall e = has_right k (job_keys hall) (hall.taken ++ outcome_keys hall) (has_left k hall.taken (outcome_keys hall) e)
-
-  in_outcomes : (k : Key) (hall : Hall C A M) → has k (outcome_keys hall) ≡ true → has k (keys_in hall) ≡ true
-  in_outcomes k hall e = has_right k (job_keys hall) (hall.taken ++ outcome_keys hall) (has_right k hall.taken (outcome_keys hall) e)
-
-  where_in : (k : Key) (hall : Hall C A M) → has k (keys_in hall) ≡ true
-      → (has k (job_keys hall) ≡ true) ⊎ ((has k hall.taken ≡ true) ⊎ (has k (outcome_keys hall) ≡ true))
-  where_in k hall e = go (has_either k (job_keys hall) (hall.taken ++ outcome_keys hall) e)
-    where
-      go : (has k (job_keys hall) ≡ true) ⊎ (has k (hall.taken ++ outcome_keys hall) ≡ true)
-          → (has k (job_keys hall) ≡ true) ⊎ ((has k hall.taken ≡ true) ⊎ (has k (outcome_keys hall) ≡ true))
-      go (inl f) = inl f
-      go (inr f) = inr (has_either k hall.taken (outcome_keys hall) f)
 
   module _ (opening : Hall C A M) (log : List (Call C A M)) (old : Hall C A M) (o : Owned opening log old) (e : Call C A M) where
     abbrev more : List (Call C A M)
@@ -453,7 +341,7 @@ module _ {C A M : Type 0} where
             omega arith
 
   -- the memories once a call's service, where there is one, has answered
-  abbrev moved : (r : Rules C A M) (memories : List M) (call : C) → Option M → List M
+  abbrev pub moved : (r : Rules C A M) (memories : List M) (call : C) → Option M → List M
   moved r memories call None = memories
   moved r memories call (Some m) = slice_set memories (r.slot call) (r.rule call m).1
 
@@ -462,7 +350,7 @@ module _ {C A M : Type 0} where
   same_moved r memories call (Some m) = length-set memories (r.slot call) (r.rule call m).1
 
   -- they are as many
-  same_number : (r : Rules C A M) (memories : List M) (call : C) → length (after_call r memories call) ≡ length memories
+  pub same_number : (r : Rules C A M) (memories : List M) (call : C) → length (after_call r memories call) ≡ length memories
   same_number r memories call = same_moved r memories call (slice_get memories (r.slot call))
 
   module _ (r : Rules C A M) (opening : Hall C A M) (log : List (Call C A M)) (old : Hall C A M) (o : Owned opening log old) (seat : ℕ) (new : Hall C A M) where

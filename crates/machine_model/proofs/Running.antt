@@ -1,24 +1,25 @@
 -- A run of the machine is a run of the world.
-use Rattle.std.proofs.Common.{◌≡◌, ℕ, zero, suc, ◌<◌, ◌≤◌, ◌^◌, ◌⊎◌, Bool, false, Option, None, Some, List, [], ◌∷◌, ◌++◌, length, slice_get, refl, sym, ap, ◌∙◌, subst, inl, inr, arith}
+use Rattle.std.proofs.Common.{◌≡◌, ℕ, ◌<◌, ◌≤◌, ◌^◌, ◌⊎◌, Option, None, Some, List, [], ◌∷◌, length, slice_get, refl, sym, ap, ◌∙◌, subst, inl, inr, arith}
 use Rattle.std.proofs.lemmas.Bool.{cases_lt}
-use Rattle.std.proofs.lemmas.Option.{none-some, same_Some, slice_get_past}
+use Rattle.std.proofs.lemmas.Option.{none-some, slice_get_past}
 use Rattle.outside.specs.declared.marks.Mark.{Mark}
 use Rattle.host_model.specs.declared.cause.EndCause.{EndCause}
 use Rattle.host_model.specs.Frames.{Frames}
 use Rattle.host_model.specs.Marks.{marks_of, input, output}
 use Rattle.host_model.specs.Journal.{Entry, Rules, after, Legal, entries_of}
 use Rattle.host_model.specs.Desk.{Desk}
-use Rattle.host_model.specs.Conversation.{but_last, Done, Turns, sent}
+use Rattle.host_model.specs.Conversation.{Done, Turns, sent}
 use Rattle.host_model.specs.Order.{InOrder}
 use Rattle.host_model.specs.Headline.{Headline}
 use Rattle.host_model.specs.World.{Stage, open_, Line, unopened_line, unopened, World, Act, ReachedBy, StandsAt, Moment, at_first}
 use Rattle.host_model.specs.World as World
 use Rattle.machine_model.specs.Hall.{key_of, Hall}
-use Rattle.machine_model.specs.HallRule.{Answer, done, Op, submit, apply, put, Closes}
-use Rattle.machine_model.specs.Loop.{Conn, Loop}
-use Rattle.machine_model.specs.Worker.{Hand, idle, key_held}
+use Rattle.machine_model.specs.HallRule.{Answer, done, submit, apply, put, Closes}
+use Rattle.machine_model.specs.Loop.{Conn}
+use Rattle.machine_model.specs.Worker.{key_held}
 use Rattle.machine_model.specs.Machine.{Cell, Event, on_link, submits, takes, applies, puts, collects, closes, ByLoop, ByWorker, Steps, Runs, IsFirst, HasEnded}
-use Rattle.machine_model.specs.Places.{Place, collected_all, ready, queued, held_by, put_out, jobs_of, outcomes_of, IsAt, WhatIsWritten, Keeps}
+use Rattle.machine_model.specs.Places.{Place, collected_all, ready, queued, held_by, put_out, jobs_of, outcomes_of, WhatIsWritten, Keeps}
+use Rattle.machine_model.proofs.Lists.{get_within}
 use Rattle.machine_model.proofs.Standing.{Rests, Waits, StageIs, LineIs, Sim, IsCalledOrNot, phase_of}
 use Rattle.machine_model.proofs.Linking.{link_kept}
 use Rattle.machine_model.proofs.Serving.{submits_kept, takes_kept, puts_kept, applies_kept, closes_kept}
@@ -30,7 +31,7 @@ module _ {C A M : Type 0} (d : Desk C A) (r : Rules C A M) (opening : List M)
   closed_kept old s done hall g = closes_kept d r opening old s hall g
   closed_kept old s _ hall g = absurd g
 
-  step_kept : (old new : Cell C A M) (event : Event) → Steps d r old event new → Sim d r opening old → Sim d r opening new
+  pub step_kept : (old new : Cell C A M) (event : Event) → Steps d r old event new → Sim d r opening old → Sim d r opening new
   step_kept old new (on_link link) t s = subst (Sim d r opening) (sym t.2) (link_kept d r opening all old link t.0 t.1 s)
   step_kept old new (submits c) t s =
       let b : ByLoop d r old (submit (key_of c t.0) t.1) new = t.2 in
@@ -52,7 +53,7 @@ module _ {C A M : Type 0} (d : Desk C A) (r : Rules C A M) (opening : List M)
   run_kept old new [] t s = subst (Sim d r opening) (sym t) s
   run_kept old new (event ∷ events) t s = run_kept t.0 new events t.2 (step_kept old t.0 event t.1 s)
 
-  first_kept : (first : Cell C A M) → IsFirst opening first → Sim d r opening first
+  pub first_kept : (first : Cell C A M) → IsFirst opening first → Sim d r opening first
   first_kept first f =
       record {
         acts = [];
@@ -124,11 +125,6 @@ module _ {C A M : Type 0} (d : Desk C A) (r : Rules C A M) (opening : List M)
   ended es conn line (held_by w) cause e (inr p) t = rests_ended d es conn.payloads cause line.stage p (subst (λ k. Waits d es conn.payloads k line.stage) e t)
   ended es conn line (put_out settled) cause e (inl q) t = absurd (let f : ⊥ = cc in f)
   ended es conn line (put_out settled) cause e (inr p) t = rests_ended d es conn.payloads cause line.stage p (subst (λ k. Waits d es conn.payloads k line.stage) e t)
-
-  get_within : {X : Type 0} (xs : List X) (n : ℕ) → n < length xs → (x : X) × (slice_get xs n ≡ Some x)
-  get_within [] n l = absurd (let f : ⊥ = omega arith in f)
-  get_within (x ∷ xs) zero l = (x, refl)
-  get_within (x ∷ xs) (suc n) l = get_within xs n (omega arith)
 
   pub all_ended : (cell : Cell C A M) (causes : List EndCause) (s : Sim d r opening cell) → HasEnded cell.loop causes
       → (c : ℕ) → World.HasEnded (s.world.lines c).stage (slice_get causes c)

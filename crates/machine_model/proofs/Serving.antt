@@ -1,5 +1,5 @@
 -- What the loop and the workers ask of the hall: what they do to the last payload of one connection.
-use Rattle.std.proofs.Common.{◌≡◌, ◌≢◌, ℕ, zero, suc, ◌+◌, ◌<◌, ◌≤◌, ◌^◌, ◌⊎◌, Bool, true, false, ◌==◌, if◌then◌else◌, Option, None, Some, List, [], ◌∷◌, ◌++◌, length, slice_get, refl, sym, ap, ◌∙◌, subst, inl, inr, arith, append-nil, length-append}
+use Rattle.std.proofs.Common.{◌≡◌, ℕ, suc, ◌+◌, ◌<◌, ◌≤◌, ◌^◌, ◌⊎◌, true, false, Option, None, Some, List, [], ◌∷◌, ◌++◌, length, slice_get, refl, sym, ap, ◌∙◌, subst, inl, inr, arith, append-nil, length-append}
 use Rattle.std.proofs.lemmas.Bool.{cases_eq, cases_lt, true≢false}
 use Rattle.std.proofs.lemmas.Option.{none-some, same_Some, slice_get_past}
 use Rattle.outside.specs.declared.outcomes.Settled.{Settled}
@@ -7,21 +7,21 @@ use Rattle.outside.specs.declared.outcomes.Settled.TheVariants.{NoMemory}
 use Rattle.host_model.specs.declared.key.Key.{Key}
 use Rattle.host_model.specs.declared.cause.EndCause.{EndCause}
 use Rattle.host_model.specs.Journal.{Entry, Rules, after, after_call, IsAnswered, entries_of}
-use Rattle.host_model.specs.Desk.{Desk, Decision, Invoke}
-use Rattle.host_model.specs.Conversation.{but_last, Done, answer_at}
-use Rattle.host_model.specs.World.{Stage, Line, unopened_line, World, Act, enters, ReachedBy, with_line, Enters, Moment}
+use Rattle.host_model.specs.Desk.{Desk, Invoke}
+use Rattle.host_model.specs.Conversation.{Done}
+use Rattle.host_model.specs.World.{Line, enters, with_line, Enters}
 use Rattle.host_model.proofs.Lists.{nil-cons, cons_parts}
 use Rattle.host_model.proofs.Replies.{numbers_done, done_called}
 use Rattle.host_model.proofs.Filters.{entries_same, entries_other}
 use Rattle.machine_model.specs.Hall.{key_of, Job, Outcome, Hall, without}
-use Rattle.machine_model.specs.HallRule.{Op, take_job, apply, put, Answer, done, job, empty, is_closed, applied, no_memory, journal_fault, is_broken, outcome, job_of, outcome_of, entry_of, Submits, Takes, TakesEffect, Applies, Puts}
-use Rattle.machine_model.specs.Loop.{Conn, Loop, with_conn, changed, submitted_more, after_submit}
-use Rattle.machine_model.specs.Worker.{Hand, idle, holds, has_answer, has_none, took, tried, made_of, settled_by, settled_with, key_held, IsSettled, WorkerAsks}
+use Rattle.machine_model.specs.HallRule.{take_job, apply, put, Answer, done, job, empty, is_closed, applied, no_memory, journal_fault, is_broken, job_of, outcome_of, entry_of, Submits, Takes, TakesEffect, Applies, Puts}
+use Rattle.machine_model.specs.Loop.{Conn, changed, submitted_more, after_submit}
+use Rattle.machine_model.specs.Worker.{Hand, idle, holds, has_answer, has_none, made_of, settled_by, settled_with, key_held, WorkerAsks}
 use Rattle.machine_model.specs.Machine.{Cell, with_hand}
 use Rattle.machine_model.specs.Places.{Place, collected_all, ready, queued, held_by, put_out, jobs_of, outcomes_of, IsUnderWay, IsEntered, Carries, IsOutcome, IsAt}
 use Rattle.machine_model.proofs.Lists.{put_same, put_other, own_push, own_push_other, own_first, own_first_other, get_last, answer_last, after_push}
-use Rattle.machine_model.proofs.Standing.{uncalled, entered, Waits, StageIs, LineIs, Sim, done_but_last, entered_more, carried_key}
-use Rattle.machine_model.proofs.Changing.{Change, changed_one}
+use Rattle.machine_model.proofs.Standing.{uncalled, entered, LineIs, Sim, done_but_last, entered_more, carried_key}
+use Rattle.machine_model.proofs.Changing.{changed_one}
 
 -- the worker of a place
 abbrev worker_of : Place → ℕ

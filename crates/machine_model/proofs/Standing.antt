@@ -1,17 +1,16 @@
 -- What a place says of a connection's line in the world, and what the cell and the world keep of each other.
-use Rattle.std.proofs.Common.{◌≡◌, ℕ, suc, ◌+◌, ◌<◌, ◌≤◌, ◌⊎◌, Bool, true, false, ◌==◌, if◌then◌else◌, Option, None, Some, List, [], ◌∷◌, ◌++◌, length, refl, sym, ap, ◌∙◌, subst, inl, inr, arith, length-append}
-use Rattle.std.specs.List.{AllByRecursion}
+use Rattle.std.proofs.Common.{◌≡◌, ℕ, ◌+◌, ◌<◌, ◌≤◌, ◌⊎◌, false, Option, None, Some, List, [], ◌∷◌, ◌++◌, length, refl, sym, ap, ◌∙◌, subst, inl, inr, arith, length-append}
 use Rattle.std.proofs.lemmas.Option.{none-some}
 use Rattle.outside.specs.declared.outcomes.Settled.{Settled}
 use Rattle.host_model.specs.declared.key.Key.{Key}
 use Rattle.host_model.specs.declared.cause.EndCause.{EndCause}
 use Rattle.host_model.specs.Journal.{Entry, Rules, after, entries_of}
-use Rattle.host_model.specs.Desk.{Desk, Invoke}
+use Rattle.host_model.specs.Desk.{Desk}
 use Rattle.host_model.specs.Conversation.{but_last, Done}
 use Rattle.host_model.specs.World.{Stage, open_, pending, answered, over, over_pending, Line, unopened_line, World, Act, ReachedBy, HasEnded}
 use Rattle.host_model.proofs.Lists.{but_last-push}
 use Rattle.host_model.proofs.Replies.{numbers_done}
-use Rattle.machine_model.specs.Hall.{key_of, Job, Outcome, Hall}
+use Rattle.machine_model.specs.Hall.{key_of, Job, Outcome}
 use Rattle.machine_model.specs.Loop.{Conn}
 use Rattle.machine_model.specs.Worker.{Hand, idle, holds, has_answer, has_none, key_held}
 use Rattle.machine_model.specs.Machine.{Cell}

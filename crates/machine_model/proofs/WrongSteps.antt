@@ -2,9 +2,9 @@
 use Rattle.std.proofs.Common.{◌≡◌, ℕ, false, ◌==◌, Option, None, Some, List, [], ◌∷◌, sym, ◌∙◌, eq-eqb}
 use Rattle.std.proofs.lemmas.Bool.{true≢false}
 use Rattle.outside.specs.declared.outcomes.Settled.{Settled}
-use Rattle.outside.specs.declared.outcomes.Settled.TheVariants.{Reply as Replied, Nothing, Close as Refused, NoMemory}
+use Rattle.outside.specs.declared.outcomes.Settled.TheVariants.{Reply as Replied, Nothing, NoMemory}
 use Rattle.host_model.specs.declared.key.Key.{Key}
-use Rattle.host_model.specs.Desk.{Decision, Close, Silent, Reply, Invoke}
+use Rattle.host_model.specs.Desk.{Decision, Invoke}
 use Rattle.machine_model.specs.Hall.{Job, Outcome}
 use Rattle.machine_model.specs.Worker.{Hand, idle, holds, has_answer, has_none}
 

@@ -1,10 +1,14 @@
 pub mod Hall
 pub mod HallRule
+pub mod Determined
 pub mod OwnCalls
 pub mod Loop
 pub mod Worker
 pub mod Machine
+pub mod Bounds
 pub mod Places
 pub mod Merge
 pub mod Plain
+pub mod Seen
 pub mod Tiny
+pub mod TinyThreads

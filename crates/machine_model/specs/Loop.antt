@@ -4,7 +4,6 @@ use Rattle.outside.specs.declared.outcomes.Settled.{Settled}
 use Rattle.outside.specs.declared.outcomes.Settled.TheVariants.{Reply, Nothing, Close, NoMemory}
 use Rattle.outside.specs.declared.marks.Mark.{Mark}
 use Rattle.outside.specs.declared.marks.Mark.TheVariants.{Opened, Read, Ended, Wrote, ReadFailed, WriteFailed, Closed}
-use Rattle.host_model.specs.declared.key.Key.{Key}
 use Rattle.host_model.specs.declared.cause.EndCause.{EndCause}
 use Rattle.host_model.specs.declared.cause.EndCause.TheVariants.{SizeFault, Envelope, ReadFault, WriteFault, NoMemory as LackOfMemory}
 use Rattle.host_model.specs.Frames.{frame, size_bytes, IsPayload, IsOutside, IsPartial}

@@ -7,7 +7,7 @@ use Rattle.host_model.specs.Journal.{Rules}
 use Rattle.host_model.specs.Desk.{Desk}
 use Rattle.machine_model.specs.Hall.{key_of, Hall, IsNew}
 use Rattle.machine_model.specs.HallRule.{Op, submit, take_job, apply, put, collect, close, Answer, Gives}
-use Rattle.machine_model.specs.Loop.{Conn, Loop, Link, Happens, LoopAsks}
+use Rattle.machine_model.specs.Loop.{Loop, Link, Happens, LoopAsks}
 use Rattle.machine_model.specs.Worker.{Hand, idle, WorkerAsks}
 
 -- the loop's part, the hall, and what each worker, by its number, holds

@@ -1,5 +1,5 @@
 -- Threads: from one history of the hall, and the loop's own order of what it did, the run of the machine that they make.
-use Rattle.std.specs.Prelude.{◌≡◌, ◌≢◌, ℕ, ◌⊎◌, ◌==◌, if◌then◌else◌, List, [], ◌∷◌, ◌++◌, map}
+use Rattle.std.specs.Prelude.{◌≡◌, ◌≢◌, ℕ, ◌==◌, if◌then◌else◌, List, [], ◌∷◌, ◌++◌, map}
 use Rattle.std.specs.List.{flat_map}
 use Rattle.outside.specs.declared.outcomes.Settled.{Settled}
 use Rattle.host_model.specs.declared.key.Key.{Key}
@@ -9,7 +9,7 @@ use Rattle.machine_model.specs.Hall.{Hall, IsNew}
 use Rattle.machine_model.specs.HallRule.{Op, submit, take_job, apply, put, collect, close, Answer, done, job, empty, is_closed, applied, no_memory, journal_fault, is_broken}
 use Rattle.machine_model.specs.OwnCalls.{Call, IsHistory, calls_by}
 use Rattle.machine_model.specs.Loop.{Loop, Link, Happens, LoopAsks, new_conn}
-use Rattle.machine_model.specs.Worker.{Hand, idle, holds, tried, IsSettled}
+use Rattle.machine_model.specs.Worker.{idle, holds, tried, IsSettled}
 use Rattle.machine_model.specs.Machine.{Cell, Event, on_link, submits, takes, applies, puts, collects, closes}
 
 -- what the loop did: something on a connection, or a call of the hall

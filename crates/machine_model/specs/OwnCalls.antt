@@ -1,9 +1,9 @@
 -- What may be asked of a hall: the condition of each operation, and the condition on a seat's own calls that implies it.
-use Rattle.std.specs.Prelude.{◌≡◌, ℕ, zero, suc, ◌+◌, ◌<◌, ◌≤◌, Bool, true, false, ◌||◌, ◌==◌, if◌then◌else◌, List, [], ◌∷◌, ◌++◌, length, filter}
+use Rattle.std.specs.Prelude.{◌≡◌, ℕ, ◌+◌, ◌<◌, ◌≤◌, Bool, true, false, ◌||◌, ◌==◌, if◌then◌else◌, List, [], ◌∷◌, ◌++◌, length, filter}
 use Rattle.host_model.specs.declared.key.Key.{Key}
 use Rattle.host_model.specs.Journal.{Rules}
 use Rattle.machine_model.specs.Hall.{Hall, is_same, has, keys_in}
-use Rattle.machine_model.specs.HallRule.{Op, submit, take_job, apply, put, collect, close, Answer, done, job, outcome, Gives}
+use Rattle.machine_model.specs.HallRule.{Op, submit, take_job, apply, put, collect, Answer, done, job, outcome, Gives}
 
 -- a call of the hall: who made it, what was asked and answered, and the hall after it
 pub record Call (C A M : Type 0) : Type 0 where

@@ -1,8 +1,7 @@
 -- What holds of every cell that a run reaches: the last payload of each connection is at exactly one place.
-use Rattle.std.specs.Prelude.{◌≡◌, ℕ, suc, ◌<◌, ◌≤◌, ◌⊎◌, Bool, false, ◌==◌, Option, None, Some, List, [], ◌∷◌, ◌++◌, length, filter}
+use Rattle.std.specs.Prelude.{◌≡◌, ℕ, suc, ◌<◌, ◌≤◌, ◌⊎◌, false, ◌==◌, Option, None, Some, List, [], ◌∷◌, ◌++◌, length, filter}
 use Rattle.outside.specs.declared.outcomes.Settled.{Settled}
 use Rattle.outside.specs.declared.outcomes.Settled.TheVariants.{NoMemory}
-use Rattle.outside.specs.declared.marks.Mark.{Mark}
 use Rattle.host_model.specs.declared.key.Key.{Key}
 use Rattle.host_model.specs.declared.cause.EndCause.{EndCause}
 use Rattle.host_model.specs.Frames.{Frames}
@@ -11,9 +10,9 @@ use Rattle.host_model.specs.Journal.{Entry, Rules, Legal, after, entries_of}
 use Rattle.host_model.specs.Desk.{Desk, Invoke}
 use Rattle.host_model.specs.Conversation.{IsLast, Done, Turns, sent, answer_at}
 use Rattle.host_model.specs.Order.{InOrder}
-use Rattle.machine_model.specs.Hall.{key_of, Job, Outcome, Hall}
+use Rattle.machine_model.specs.Hall.{key_of, Job, Outcome}
 use Rattle.machine_model.specs.HallRule.{job_of, outcome_of}
-use Rattle.machine_model.specs.Loop.{Conn, Loop}
+use Rattle.machine_model.specs.Loop.{Conn}
 use Rattle.machine_model.specs.Worker.{Hand, idle, holds, has_answer, has_none, settled_by, settled_with, key_held}
 use Rattle.machine_model.specs.Machine.{Cell}
 

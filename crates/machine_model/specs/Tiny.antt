@@ -1,5 +1,5 @@
 -- Small runs of a tiny desk, for examples.
-use Rattle.std.specs.Prelude.{◌≡◌, ℕ, zero, suc, false, Option, None, Some, List, [], ◌∷◌, ◌++◌}
+use Rattle.std.specs.Prelude.{◌≡◌, ℕ, zero, suc, false, Option, None, Some, List, [], ◌∷◌, map}
 use Rattle.outside.specs.declared.marks.Mark.{Mark}
 use Rattle.host_model.specs.declared.cause.EndCause.{EndCause}
 use Rattle.host_model.specs.Journal.{Entry}
@@ -8,8 +8,8 @@ use Rattle.outside.specs.declared.outcomes.Settled.TheVariants.{Nothing}
 use Rattle.machine_model.specs.Hall.{key_of, Job, Outcome, Hall}
 use Rattle.machine_model.specs.HallRule.{job_of, outcome_of}
 use Rattle.machine_model.specs.Loop.{Conn, Loop, opens, reads, ends, writes}
-use Rattle.machine_model.specs.Machine.{Cell, Event, on_link, submits, takes, applies, puts, collects}
-use Rattle.machine_model.specs.Plain.{run_plain}
+use Rattle.machine_model.specs.Machine.{Cell, Event, on_link, takes, applies, puts}
+use Rattle.machine_model.specs.Plain.{goes, run_plain}
 use Rattle.machine_model.specs.Merge.{at_first}
 
 -- a newly opened hall, whose service has had five calls before
@@ -63,7 +63,7 @@ shown (Some cell) = Some (cell.loop.tape, cell.hall.journal, causes_from cell.lo
 
 -- events lead from the start to this tape, this journal and these causes
 abbrev pub LeadTo : List Event → List Mark → List (Entry ℕ ℕ) → List (Option EndCause) → Type 0
-LeadTo events tape journal causes = shown (run_plain desk counting events (Some (at_first tiny_hall))) ≡ Some (tape, journal, causes)
+LeadTo events tape journal causes = shown (run_plain desk counting (map goes events) (Some (at_first tiny_hall))) ≡ Some (tape, journal, causes)
 
 -- a loop with n connections that are all like this one
 abbrev pub loop_of : ℕ → Conn → Loop

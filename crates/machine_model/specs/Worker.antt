@@ -1,5 +1,5 @@
 -- A worker's part of the machine: the job in its hand, what its job comes to, and what it asks of the hall.
-use Rattle.std.specs.Prelude.{◌≡◌, ℕ, ◌⊎◌, Bool, if◌then◌else◌, Option, None, Some, List}
+use Rattle.std.specs.Prelude.{◌≡◌, ℕ, ◌⊎◌, if◌then◌else◌, Option, None, Some, List}
 use Rattle.outside.specs.declared.outcomes.Settled.{Settled}
 use Rattle.outside.specs.declared.outcomes.Settled.TheVariants.{Reply as Replied, Nothing, Close as Closed, NoMemory}
 use Rattle.host_model.specs.declared.key.Key.{Key}

@@ -1,18 +1,27 @@
 //! Examples: small runs that the plain machine computes, and steps that there can't be, each the contract of a function
 //! that does nothing.
 
-ghost use Rattle.std.specs.Prelude.{◌≡◌, ℕ, true, false, None, Some, List, [], ◌∷◌, ◌++◌};
+ghost use Rattle.std.specs.Prelude.{◌≡◌, ℕ, true, false, None, Some, List, [], ◌∷◌, ◌++◌, map};
 ghost use Rattle.outside.specs.declared.outcomes.EnvelopeFault.TheVariants.{Short};
-ghost use Rattle.outside.specs.declared.outcomes.Settled.TheVariants.{Reply, Nothing};
+ghost use Rattle.outside.specs.declared.outcomes.Settled.TheVariants.{Reply, Nothing, Close as Refused};
+ghost use Rattle.outside.specs.declared.marks.Mark.{Mark};
 ghost use Rattle.outside.specs.declared.marks.Mark.TheVariants.{Opened, Read, Ended, Wrote, WriteFailed, Closed};
+ghost use Rattle.host_model.specs.declared.cause.EndCause.{EndCause};
+ghost use Rattle.host_model.specs.Journal.{Entry};
 ghost use Rattle.host_model.specs.declared.cause.EndCause.TheVariants.{End, Envelope, WriteFault, Stopped};
-ghost use Rattle.host_model.specs.TinyDesk.{desk, counting, call_of, one};
+ghost use Rattle.host_model.specs.TinyDesk.{desk, counting, call_of, one, IsRun};
 ghost use Rattle.machine_model.specs.Hall.{key_of, Hall};
 ghost use Rattle.machine_model.specs.HallRule.{take_job, submit, apply, put, collect, done, job, empty, is_closed, applied, no_memory, journal_fault, outcome, Gives};
-ghost use Rattle.machine_model.specs.Loop.{Loop, new_conn, opens, reads, ends, writes, fails_write, gives_up, Happens, LoopAsks};
+ghost use Rattle.machine_model.specs.Loop.{Loop, new_conn, opens, reads, ends, writes, fails_write, gives_up, with_cause, changed, Happens, LoopAsks};
 ghost use Rattle.machine_model.specs.Worker.{Hand, holds, has_answer, has_none, WorkerAsks};
-ghost use Rattle.machine_model.specs.Machine.{on_link, submits, takes, applies, puts, collects};
+ghost use Rattle.machine_model.specs.Machine.{Event, HasEnded, on_link, submits, takes, applies, puts, collects};
+ghost use Rattle.machine_model.specs.OwnCalls.{hall_after};
+ghost use Rattle.machine_model.specs.Merge.{IsOneHistory};
+ghost use Rattle.machine_model.specs.TinyThreads.{small_history, small_weave, small_tape};
 ghost use Rattle.machine_model.specs.Tiny.{tiny_hall, open_one, sends_size, sends, works, calls, gets, leaves, LeadTo, loop_of, with_payload, two_jobs, two_outcomes};
+
+use super::laws::{every_run_meets, one_history_runs, plain_machine_runs};
+use host_model::laws::less_than_a_frame;
 
 /// Runs as they go. A second connection's call is answered from the memory that the first one's left. A connection reads on
 /// only behind another's reply. A write takes a part of a reply, and the next one fails. Two workers take two jobs, and the
@@ -52,6 +61,27 @@ pub fn runs()
         (Opened 0 ∷ Read 0 one ∷ Read 0 (1 ∷ []) ∷ Closed 0 ∷ []) (call_of 0 5 ∷ []) (Some Stopped ∷ []) }
 {}
 
+/// What the plain machine shows of a run of the tiny desk, in which each connection has ended, meets the headline.
+pub fn shown_runs_meet()
+    ensures { (events : List Event) (tape : List Mark) (journal : List (Entry ℕ ℕ)) (causes : List EndCause) →
+        LeadTo events tape journal (map Some causes) → IsRun tape journal causes }
+{
+    plain_machine_runs::<u8, u8, u8>();
+    every_run_meets::<u8, u8, u8>();
+}
+
+/// One history of the hall and the loop's own order: two connections, two workers, a payload in pieces, a reply in two writes,
+/// both inputs end, and the hall is closed. So the premises of the law on one history can be met.
+pub fn one_history()
+    ensures is_one { (loop : Loop) × IsOneHistory desk counting (5 ∷ []) tiny_hall small_history small_weave loop × (loop.tape ≡ small_tape)
+        × HasEnded loop (End ∷ End ∷ []) }
+    ensures journal { (hall_after tiny_hall small_history).journal ≡ call_of 1 5 ∷ call_of 0 6 ∷ [] }
+    ensures meets { IsRun small_tape (call_of 1 5 ∷ call_of 0 6 ∷ []) (End ∷ End ∷ []) }
+{
+    less_than_a_frame();
+    one_history_runs::<u8, u8, u8>();
+}
+
 /// What the loop can't do.
 pub fn wrong_steps_of_the_loop()
     ensures one_too_many_open { (new : Loop) → Happens 2 (loop_of 1024 new_conn) opens new → ⊥ }
@@ -61,6 +91,9 @@ pub fn wrong_steps_of_the_loop()
     ensures written_without_a_reply { (new : Loop) → Happens 2 (loop_of 1 (with_payload 1 1 [])) (writes 0 1) new → ⊥ }
     ensures ended_while_a_payload_is_under_way { (new : Loop) → Happens 2 (loop_of 1 (with_payload 1 0 [])) (ends 0) new → ⊥ }
     ensures given_up_as_at_its_end { (new : Loop) → Happens 2 (loop_of 1 new_conn) (gives_up 0 End) new → ⊥ }
+    ensures given_up_without_its_mark { Happens 2 (loop_of 1 new_conn) (gives_up 0 Stopped) (changed (loop_of 1 new_conn) 0 (with_cause new_conn Stopped) []) → ⊥ }
+    ensures refused_without_its_mark { LoopAsks {C = ℕ} {A = ℕ} (loop_of 1 (with_payload 1 0 [])) collect (outcome (key_of 0 0) (Refused Short))
+        (changed (loop_of 1 (with_payload 1 0 [])) 0 (record (with_payload 1 1 []) { cause = Some (Envelope Short) }) []) → ⊥ }
     ensures submitted_twice { (new : Loop) → LoopAsks {C = ℕ} {A = ℕ} (loop_of 1 (with_payload 1 0 [])) (submit (key_of 0 0) (1 ∷ [])) done new → ⊥ }
     ensures submitted_with_another_number { (new : Loop) → LoopAsks {C = ℕ} {A = ℕ} (loop_of 1 (with_payload 0 0 [])) (submit (key_of 0 1) (1 ∷ [])) done new → ⊥ }
     ensures submitted_with_another_payload { (new : Loop) → LoopAsks {C = ℕ} {A = ℕ} (loop_of 1 (with_payload 0 0 [])) (submit (key_of 0 0) (2 ∷ [])) done new → ⊥ }

@@ -1,4 +1,4 @@
-use Rattle.std.proofs.Common.{◌≡◌, refl, ℕ, ◌<◌, ◌≤◌, Some, ap, ◌∙◌, ⊎_elim, arith}
+use Rattle.std.proofs.Common.{refl, ℕ, Some, ap, ◌∙◌, ⊎_elim}
 use Rattle.host_model.specs.TinyDesk.{desk}
 use Rattle.machine_model.specs.Worker.{Hand, key_held}
 use Rattle.machine_model.proofs.WrongSteps.{differ, kind_of, payload_of, call_made, connection_in, reply_in, outcome_kind}

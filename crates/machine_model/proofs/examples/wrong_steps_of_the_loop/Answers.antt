@@ -1,4 +1,5 @@
-use Rattle.std.proofs.Common.{◌≡◌, refl, ℕ, ◌+◌, ◌<◌, ◌≤◌, [], ap, arith}
+use Rattle.std.proofs.Common.{refl, ◌+◌, ◌<◌, ◌≤◌, [], ap, arith, length}
+use Rattle.machine_model.specs.Loop.{Loop}
 use Rattle.machine_model.proofs.WrongSteps.{differ, some_list, first_in}
 use Rattle.machine_model.proofs.examples.wrong_steps_of_the_loop.Goals as goal
 
@@ -22,6 +23,12 @@ returns-clause-ended_while_a_payload_is_under_way c = λ new t. differ 0 1 refl 
 
 pub returns-clause-given_up_as_at_its_end : goal.returns-clause-given_up_as_at_its_end
 returns-clause-given_up_as_at_its_end c = λ new t. t.1
+
+pub returns-clause-given_up_without_its_mark : goal.returns-clause-given_up_without_its_mark
+returns-clause-given_up_without_its_mark c = λ t. differ 0 1 refl (ap (λ (l : Loop). length l.tape) t.2)
+
+pub returns-clause-refused_without_its_mark : goal.returns-clause-refused_without_its_mark
+returns-clause-refused_without_its_mark c = λ t. differ 0 1 refl (ap (λ (l : Loop). length l.tape) t)
 
 pub returns-clause-submitted_twice : goal.returns-clause-submitted_twice
 returns-clause-submitted_twice c = λ new t. differ 0 1 refl (t.1)

@@ -1,0 +1,5 @@
+pub mod Codes
+pub mod Reading
+pub mod Spelling
+pub mod Written
+pub mod Examples

@@ -1,0 +1,131 @@
+-- How the binary protocol reads the parts of a value that hold no other values.
+use Rattle.std.specs.Prelude.{ℕ, ℤ, pos, negsuc, List, length, take, drop, slice_index, Option, Some, None, Ok, Err, ◌==◌, nat_le, if◌then◌else◌}
+use Rattle.std.specs.Int.{Width, w8, w16, w32, w64, byte_len}
+use Rattle.wire_num.specs.Fixed.{unsigned_of, signed_of}
+use Rattle.thrift_value.specs.declared.tag.Tag.{Tag}
+use Rattle.thrift_value.specs.declared.tag.Tag.TheVariants as tags
+use Rattle.thrift_value.specs.declared.wire_fault.WireFault.TheVariants.{Short, BadType, BadSize}
+use Rattle.thrift_value.specs.Tree.{Tree, of_bool, of_i8, of_i16, of_i32, of_i64, of_double}
+use Rattle.wire_model.specs.Reader.{Reader, ◌>>=◌, give, fail}
+use Rattle.wire_model.specs.Wire.{Head, stop, head, Wire}
+use Rattle.binary_codec.specs.Codes.{tag_of_code}
+
+-- so many bytes, or Short
+abbrev pub taken : ℕ → Reader (List ℕ)
+taken size rest =
+    if nat_le size (length rest.bytes) then Ok (take size rest.bytes, record { bytes = drop size rest.bytes; left = rest.left }) else Err Short
+
+-- a byte, and a number of a width, the highest byte first (Thrift binary protocol, 'Integer encoding')
+abbrev pub byte : Reader ℕ
+byte = do
+  bytes ← taken 1
+  give (slice_index bytes 0)
+
+abbrev pub unsigned : Width → Reader ℕ
+unsigned width = do
+  bytes ← taken (byte_len width)
+  give (unsigned_of width bytes)
+
+abbrev pub signed : Width → Reader ℤ
+signed width = do
+  bytes ← taken (byte_len width)
+  give (signed_of width bytes)
+
+-- the tag of a code, or BadType
+abbrev pub tag_or_fault : ℕ → Option Tag → Reader Tag
+tag_or_fault code (Some tag) = give tag
+tag_or_fault code None = fail (BadType code)
+
+unfoldable pub tag_coded : ℕ → Reader Tag
+tag_coded code = tag_or_fault code (tag_of_code code)
+
+-- a header behind any field: 0, or a type code and an id (Thrift binary protocol, 'Struct')
+abbrev pub head_coded : ℕ → Reader Head
+head_coded code =
+    if code == 0 then give stop
+    else do
+      tag ← tag_coded code
+      id ← signed w16
+      give (head id tag)
+
+unfoldable pub binary_field : ℤ → Reader Head
+binary_field last = do
+  code ← byte
+  head_coded code
+
+-- a number or a bool; a bool is true exactly where its byte is 1
+unfoldable pub binary_scalar : Tag → Reader Tree
+binary_scalar tags.Bool = do
+  b ← byte
+  give (of_bool (b == 1))
+binary_scalar tags.I8 = do
+  n ← signed w8
+  give (of_i8 n)
+binary_scalar tags.I16 = do
+  n ← signed w16
+  give (of_i16 n)
+binary_scalar tags.I32 = do
+  n ← signed w32
+  give (of_i32 n)
+binary_scalar tags.I64 = do
+  n ← signed w64
+  give (of_i64 n)
+binary_scalar tags.Double = do
+  n ← unsigned w64
+  give (of_double n)
+binary_scalar tag = fail Short
+
+-- a length that isn't negative, or BadSize
+abbrev pub unsigned_size : ℤ → Reader ℕ
+unsigned_size (pos n) = give n
+unsigned_size (negsuc n) = fail BadSize
+
+-- no more than the bytes that are left, or Short
+abbrev pub within_room : ℕ → Reader ℕ
+within_room n rest = if nat_le n (length rest.bytes) then Ok (n, rest) else Err Short
+
+-- a length or size: BadSize comes before Short
+unfoldable pub binary_size : Reader ℕ
+binary_size = do
+  n ← signed w32
+  size ← unsigned_size n
+  within_room size
+
+-- a length and that many bytes (Thrift binary protocol, 'Binary encoding')
+unfoldable pub binary_span : Reader (List ℕ)
+binary_span = do
+  size ← binary_size
+  taken size
+
+-- the tag of the elements of a container; that of an empty one is bool, whatever its code is
+abbrev pub items_coded : ℕ → ℕ → Reader (Tag × ℕ)
+items_coded code size =
+    if size == 0 then give (tags.Bool, size)
+    else do
+      tag ← tag_coded code
+      give (tag, size)
+
+abbrev pub pairs_coded : ℕ → ℕ → ℕ → Reader (Tag × Tag × ℕ)
+pairs_coded key value size =
+    if size == 0 then give (tags.Bool, tags.Bool, size)
+    else do
+      key_tag ← tag_coded key
+      value_tag ← tag_coded value
+      give (key_tag, value_tag, size)
+
+-- the header of a list or set, and of a map (Thrift binary protocol, 'List and Set', 'Map')
+unfoldable pub binary_items : Reader (Tag × ℕ)
+binary_items = do
+  code ← byte
+  size ← binary_size
+  items_coded code size
+
+unfoldable pub binary_pairs : Reader (Tag × Tag × ℕ)
+binary_pairs = do
+  key ← byte
+  value ← byte
+  size ← binary_size
+  pairs_coded key value size
+
+abbrev pub binary : Wire
+binary = record { field = binary_field; scalar = binary_scalar; span = binary_span; items = binary_items; pairs = binary_pairs }

@@ -1,0 +1,139 @@
+//! How the binary protocol reads and writes the parts of a value that hold no other values.
+
+ghost use Rattle.std.specs.Prelude.{◌≡◌, ◌<◌, ◌^◌, ◌++◌, length, OnOk, OnErr};
+ghost use Rattle.thrift_value.specs.TreeOf.{tree_of};
+ghost use Rattle.wire_model.specs.Gives.{Gives};
+ghost use Rattle.wire_walk.specs.Steps.{head_of, Grows};
+ghost use Rattle.binary_codec.specs.Reading.{binary_field, binary_scalar, binary_span, binary_items, binary_pairs};
+ghost use Rattle.binary_codec.specs.Written.{head_text, scalar_text, span_text, items_header, pairs_header};
+
+use crate::codes::{code_of, tag_coded};
+use crate::numbers::{i8_in, i16_in, i32_in, i64_in, size_in, u8_in, u64_in};
+use crate::protocol::Binary;
+use std::alloc::AllocError;
+use thrift_value::{Tag, Value, WireFault};
+use wire_num::{put_be64, put_i16, put_i32, put_i64, put_u8};
+use wire_walk::{Codec, Header, Rest};
+
+impl Codec for Binary {
+    // A header is 0, or a type code and an id (Thrift binary protocol, 'Struct').
+    #[tactic(auto, unfolding(crate::specs::Reading::binary_field))]
+    fn field<'a>(_last: i16, rest: Rest<'a>) -> Result<(Header, Rest<'a>), WireFault> {
+        let (code, rest) = u8_in(rest)?;
+        if code == 0 {
+            return Ok((Header::Stop, rest));
+        }
+        let (tag, rest) = tag_coded(code, rest)?;
+        let (id, rest) = i16_in(rest)?;
+        Ok((Header::Field(id, tag), rest))
+    }
+
+    // A bool is true exactly where its byte is 1.
+    #[tactic(auto, unfolding(crate::specs::Reading::binary_scalar))]
+    fn scalar<'a>(tag: Tag, rest: Rest<'a>) -> Result<(Value, Rest<'a>), WireFault> {
+        match tag {
+            Tag::Bool => {
+                let (byte, rest) = u8_in(rest)?;
+                Ok((Value::Bool(byte == 1), rest))
+            }
+            Tag::I8 => {
+                let (number, rest) = i8_in(rest)?;
+                Ok((Value::I8(number), rest))
+            }
+            Tag::I16 => {
+                let (number, rest) = i16_in(rest)?;
+                Ok((Value::I16(number), rest))
+            }
+            Tag::I32 => {
+                let (number, rest) = i32_in(rest)?;
+                Ok((Value::I32(number), rest))
+            }
+            Tag::I64 => {
+                let (number, rest) = i64_in(rest)?;
+                Ok((Value::I64(number), rest))
+            }
+            Tag::Double => {
+                let (bits, rest) = u64_in(rest)?;
+                Ok((Value::Double(bits), rest))
+            }
+            _ => Err(WireFault::Short),
+        }
+    }
+
+    // A length and that many bytes (Thrift binary protocol, 'Binary encoding').
+    #[tactic(auto, unfolding(crate::specs::Reading::binary_span))]
+    fn span<'a>(rest: Rest<'a>) -> Result<(&'a [u8], Rest<'a>), WireFault> {
+        let (size, rest) = size_in(rest)?;
+        rest.next(size)
+    }
+
+    // A type code and a size (Thrift binary protocol, 'List and Set'). The code of an empty container isn't looked at.
+    #[tactic(auto, unfolding(crate::specs::Reading::binary_items))]
+    fn items<'a>(rest: Rest<'a>) -> Result<(Tag, usize, Rest<'a>), WireFault> {
+        let (code, rest) = u8_in(rest)?;
+        let (size, rest) = size_in(rest)?;
+        if size == 0 {
+            return Ok((Tag::Bool, size, rest));
+        }
+        let (tag, rest) = tag_coded(code, rest)?;
+        Ok((tag, size, rest))
+    }
+
+    // Two type codes and a size (Thrift binary protocol, 'Map'). The codes of an empty map aren't looked at.
+    #[tactic(auto, unfolding(crate::specs::Reading::binary_pairs))]
+    fn pairs<'a>(rest: Rest<'a>) -> Result<(Tag, Tag, usize, Rest<'a>), WireFault> {
+        let (key, rest) = u8_in(rest)?;
+        let (value, rest) = u8_in(rest)?;
+        let (size, rest) = size_in(rest)?;
+        if size == 0 {
+            return Ok((Tag::Bool, Tag::Bool, size, rest));
+        }
+        let (key_tag, rest) = tag_coded(key, rest)?;
+        let (value_tag, rest) = tag_coded(value, rest)?;
+        Ok((key_tag, value_tag, size, rest))
+    }
+
+    fn flags() -> bool {
+        false
+    }
+
+    fn put_header(_last: i16, header: Header, into: &mut Vec<u8>) -> Result<(), AllocError> {
+        match header {
+            Header::Stop => put_u8(into, 0),
+            Header::Field(id, tag) => {
+                put_u8(into, code_of(tag))?;
+                put_i16(into, id)
+            }
+            Header::Flag(_, _) => Ok(()),
+        }
+    }
+
+    fn put_scalar(value: &Value, into: &mut Vec<u8>) -> Result<(), AllocError> {
+        match value {
+            Value::Bool(true) => put_u8(into, 1),
+            Value::Bool(false) => put_u8(into, 0),
+            Value::I8(number) => into.extend_from_slice(&number.to_be_bytes()),
+            Value::I16(number) => put_i16(into, *number),
+            Value::I32(number) => put_i32(into, *number),
+            Value::I64(number) => put_i64(into, *number),
+            Value::Double(bits) => put_be64(into, *bits),
+            _ => Ok(()),
+        }
+    }
+
+    fn put_span(text: &[u8], into: &mut Vec<u8>) -> Result<(), AllocError> {
+        put_i32(into, text.len() as i32)?;
+        into.extend_from_slice(text)
+    }
+
+    fn put_items(tag: Tag, count: usize, into: &mut Vec<u8>) -> Result<(), AllocError> {
+        put_u8(into, code_of(tag))?;
+        put_i32(into, count as i32)
+    }
+
+    fn put_pairs(key: Tag, value: Tag, count: usize, into: &mut Vec<u8>) -> Result<(), AllocError> {
+        put_u8(into, code_of(key))?;
+        put_u8(into, code_of(value))?;
+        put_i32(into, count as i32)
+    }
+}

@@ -1,0 +1,68 @@
+//! Whole structs.
+
+ghost use Rattle.std.specs.Prelude.{◌≡◌, ◌≤◌, ◌+◌, ◌-◌, ℕ, length, drop, Ok, IfOk};
+ghost use Rattle.thrift_value.specs.Measures.{count_of};
+ghost use Rattle.thrift_value.specs.Tidy.{IsWellTagged};
+ghost use Rattle.thrift_value.specs.Tree.{Tree};
+ghost use Rattle.thrift_value.specs.TreeOf.{tree_of};
+ghost use Rattle.wire_model.specs.Gives.{Gives};
+ghost use Rattle.wire_model.specs.Place.{found_struct, struct_at, IsWithinBounds, StandsAt};
+ghost use Rattle.wire_model.specs.Sizes.{HasSmallSizes};
+ghost use Rattle.binary_codec.specs.Reading.{binary};
+ghost use Rattle.binary_codec.specs.Spelling.{binary_format};
+
+use crate::laws::{binary_leaves_agree, spelled_struct_is_raw};
+use crate::protocol::Binary;
+use std::alloc::Global;
+use thrift_value::{Raw, Tag, WireFault};
+use wire_model::laws::{struct_read_is_spelled, struct_spelled_is_read, value_read_is_spelled};
+use wire_walk::{Rest, read};
+
+/// How many levels a struct that is read may have.
+const MAX_LEVELS: u32 = 64;
+
+/// How many values a struct that is read may be.
+const MAX_VALUES: u32 = 4_000_000;
+
+/// The struct at `at` as it came, and the place behind it; or the fault that comes first (Thrift binary protocol,
+/// 'Struct'). It has at most 64 levels and 4,000,000 values, and no more values than bytes were read for it.
+pub fn read_struct(alloc: Global, bytes: &[u8], at: usize) -> Result<(Raw, usize), WireFault>
+    requires { at ≤ length bytes.now }
+    // Which struct or which fault it is; want of memory alone is free.
+    ensures exact { Gives (λ x. (tree_of x.0, x.1)) result (struct_at binary bytes.now at) }
+    // What is read is spelled there, within the bounds.
+    ensures found { IfOk result (λ x. StandsAt binary_format bytes.now at (tree_of x.0) x.1) }
+    ensures bounds { IfOk result (λ x. IsWithinBounds (tree_of x.0)) }
+    ensures tagged { IfOk result (λ x. IsWellTagged (tree_of x.0)) }
+    ensures sizes { IfOk result (λ x. HasSmallSizes (tree_of x.0)) }
+    ensures place { IfOk result (λ x. x.1 ≤ length bytes.now) }
+    ensures count { IfOk result (λ x. at + count_of (tree_of x.0) ≤ x.1) }
+    // What is spelled there, within the bounds, is read.
+    ensures only { (x : Tree) (behind : ℕ) → StandsAt binary_format bytes.now at x behind → IsWithinBounds x
+        → Gives (λ y. (tree_of y.0, y.1)) result (found_struct x behind) }
+{
+    struct_read_is_spelled::<Binary>();
+    struct_spelled_is_read::<Binary>();
+    binary_leaves_agree();
+    spelled_struct_is_raw();
+    struct_in(alloc, bytes, at)
+}
+
+/// The same, by its reading alone.
+fn struct_in(alloc: Global, bytes: &[u8], at: usize) -> Result<(Raw, usize), WireFault>
+    requires { at ≤ length bytes.now }
+    ensures { Gives (λ x. (tree_of x.0, x.1)) result (struct_at binary bytes.now at) }
+{
+    value_read_is_spelled::<Binary>();
+    binary_leaves_agree();
+    let (_, behind) = bytes.split_at(at);
+    match read::<Binary>(
+        alloc,
+        Rest::new(behind, MAX_VALUES),
+        MAX_LEVELS,
+        Tag::Struct,
+    ) {
+        Ok((value, rest)) => Ok((value, bytes.len() - rest.bytes().len())),
+        Err(fault) => Err(fault),
+    }
+}

@@ -1,0 +1,273 @@
+//! Structs read and written, and each fault at its place.
+
+use crate::vectors::VECTORS;
+use crate::{Binary, read_struct, write_struct};
+use std::alloc::{AllocError, Global};
+use std::cmp::Ordering;
+use std::test::Fail;
+use thrift_value::WireFault::{BadSize, BadType, Short, TooDeep, TooMany};
+use thrift_value::{ByteText, Fields, Items, Pairs, Raw, Tag, Value, WireFault};
+use wire_walk::{Rest, read};
+
+// What is written of the struct in front, and the place behind it; nothing where it isn't tidy.
+fn written_again(alloc: Global, bytes: &[u8]) -> Result<Option<(Raw, usize, Vec<u8>)>, WireFault> {
+    let (value, behind) = read_struct(alloc, bytes, 0)?;
+    if !value.is_tidy() {
+        return Ok(None);
+    }
+    let mut written = Vec::new(alloc);
+    match write_struct(&value, &mut written) {
+        Ok(()) => Ok(Some((value, behind, written))),
+        Err(_) => Err(WireFault::NoMemory),
+    }
+}
+
+#[test]
+fn structs_of_apache_are_read_and_written_again(rt: HostRuntime) -> Result<(), Fail> {
+    for (bytes, count, depth) in &VECTORS {
+        match written_again(rt.alloc(), bytes) {
+            Ok(Some((value, behind, written))) => {
+                assert_eq!(rt; written.as_slice(), *bytes);
+                assert_eq!(rt; behind, bytes.len());
+                assert_eq!(rt; (value.count(), value.depth()), (*count, *depth));
+            }
+            _ => panic!(rt; "a struct of Apache's was not read and written again"),
+        }
+    }
+    Ok(())
+}
+
+fn text(alloc: Global, bytes: &[u8]) -> Result<Value, AllocError> {
+    Ok(Value::Bytes(ByteText::new(bytes.to_vec(alloc)?)))
+}
+
+// A struct of one field.
+fn alone(alloc: Global, value: Value) -> Result<Value, AllocError> {
+    Ok(Value::Struct(Fields::new(vec![in alloc; (1i16, value)]?)))
+}
+
+// What some structs of one field hold.
+fn held(alloc: Global) -> Result<Vec<(&'static [u8], Value)>, AllocError> {
+    let none = Value::List(Tag::Bool, Items::new(Vec::new(alloc)));
+    let list = Value::List(
+        Tag::I16,
+        Items::new(vec![in alloc; Value::I16(2), Value::I16(-1)]?),
+    );
+    let set = Value::Set(
+        Tag::I8,
+        Items::new(vec![in alloc; Value::I8(-1), Value::I8(7)]?),
+    );
+    let pair = (text(alloc, b"k")?, Value::Bool(true));
+    let map = Value::Map(Tag::Bytes, Tag::Bool, Pairs::new(vec![in alloc; pair]?));
+    let inner = Value::Struct(Fields::new(vec![in alloc; (258i16, Value::I32(-2))]?));
+    Ok(vec![in alloc;
+        (b"\x02\0\x01\x01\0".as_slice(), Value::Bool(true)),
+        (b"\x02\0\x01\x02\0", Value::Bool(false)),
+        (b"\x03\0\x01\x80\0", Value::I8(-128)),
+        (
+            b"\x04\0\x01\x3f\xf8\0\0\0\0\0\x09\0",
+            Value::Double(0x3ff8_0000_0000_0009)
+        ),
+        (b"\x06\0\x01\x01\x02\0", Value::I16(0x0102)),
+        (b"\x08\0\x01\xff\xff\xff\xfe\0", Value::I32(-2)),
+        (
+            b"\x0a\0\x01\x01\x02\x03\x04\x05\x06\x07\x08\0",
+            Value::I64(0x0102_0304_0506_0708)
+        ),
+        (b"\x0b\0\x01\0\0\0\x02\xff\0\0", text(alloc, b"\xff\0")?),
+        (b"\x0c\0\x01\x08\x01\x02\xff\xff\xff\xfe\0\0", inner),
+        (b"\x0d\0\x01\x0b\x02\0\0\0\x01\0\0\0\x01k\x01\0", map),
+        (b"\x0e\0\x01\x03\0\0\0\x02\xff\x07\0", set),
+        (b"\x0f\0\x01\x06\0\0\0\x02\0\x02\xff\xff\0", list),
+        (b"\x0f\0\x01\x02\0\0\0\0\0", none),
+    ]?)
+}
+
+#[test]
+fn structs_hold_what_they_say(rt: HostRuntime) -> Result<(), Fail> {
+    for (bytes, value) in held(rt.alloc())? {
+        let wanted = alone(rt.alloc(), value)?;
+        match read_struct(rt.alloc(), bytes, 0) {
+            Ok((found, behind)) => {
+                assert_eq!(rt; found.compare(&wanted), Ordering::Equal);
+                assert_eq!(rt; behind, bytes.len());
+            }
+            Err(_) => panic!(rt; "a struct was refused"),
+        }
+    }
+    // Fields come as they stand, repeats too.
+    let twice = vec![in rt.alloc();
+        (2i16, Value::I8(5)),
+        (1i16, Value::I8(6)),
+        (2i16, Value::I8(5)),
+    ]?;
+    let wanted = Value::Struct(Fields::new(twice));
+    match read_struct(
+        rt.alloc(),
+        b"\x03\0\x02\x05\x03\0\x01\x06\x03\0\x02\x05\0",
+        0,
+    ) {
+        Ok((found, _)) => assert_eq!(rt; found.compare(&wanted), Ordering::Equal),
+        Err(_) => panic!(rt; "a struct with a repeated field was refused"),
+    }
+    // At a place, with bytes in front and behind.
+    match read_struct(rt.alloc(), b"..\x03\0\x01\x05\0..", 2) {
+        Ok((found, behind)) => assert_eq!(rt; (found.count(), behind), (2, 7)),
+        Err(_) => panic!(rt; "a struct in the middle was refused"),
+    }
+    Ok(())
+}
+
+// Whether the first field is an empty container that names bool, for its keys too.
+fn holds_none_of_bool(found: &Value) -> bool {
+    let Value::Struct(fields) = found else {
+        return false;
+    };
+    match fields.as_slice().first() {
+        Some((_, Value::List(Tag::Bool, items))) => items.as_slice().is_empty(),
+        Some((_, Value::Set(Tag::Bool, items))) => items.as_slice().is_empty(),
+        Some((_, Value::Map(Tag::Bool, Tag::Bool, pairs))) => pairs.as_slice().is_empty(),
+        _ => false,
+    }
+}
+
+// Empty containers with codes of other kinds and of none, and the place behind each.
+const EMPTY: [(&[u8], usize); 6] = [
+    (b"\x0f\0\x01\x08\0\0\0\0\0", 9),
+    (b"\x0f\0\x01\x63\0\0\0\0\0..", 9),
+    (b"\x0f\0\x01\0\0\0\0\0\0", 9),
+    (b"\x0e\0\x01\xff\0\0\0\0\0", 9),
+    (b"\x0d\0\x01\x08\x0b\0\0\0\0\0", 10),
+    (b"\x0d\0\x01\x62\x63\0\0\0\0\0.", 10),
+];
+
+#[test]
+fn empty_containers_name_bool(rt: HostRuntime) {
+    for (bytes, place) in &EMPTY {
+        match read_struct(rt.alloc(), bytes, 0) {
+            Ok((found, behind)) => {
+                assert!(rt; holds_none_of_bool(&found));
+                assert_eq!(rt; behind, *place);
+            }
+            Err(_) => panic!(rt; "an empty container was refused"),
+        }
+    }
+}
+
+// Each fault at each place; where there are two, the first in reading order.
+const FAULTS: [(&[u8], WireFault); 48] = [
+    // No header, a part of one, no value, a part of one, no end.
+    (b"", Short),
+    (b"\x02", Short),
+    (b"\x02\0", Short),
+    (b"\x02\0\x01", Short),
+    (b"\x03\0\x01", Short),
+    (b"\x04\0\x01\0\0\0\0\0\0\0", Short),
+    (b"\x06\0\x01\0", Short),
+    (b"\x08\0\x01\0\0\0", Short),
+    (b"\x0a\0\x01\0\0\0\0\0\0\0", Short),
+    (b"\x0b\0\x01\0\0\0", Short),
+    (b"\x0b\0\x01\0\0\0\x02a", Short),
+    (b"\x0c\0\x01", Short),
+    (b"\x0c\0\x01\0", Short),
+    (b"\x0d\0\x01\x02", Short),
+    (b"\x0d\0\x01\x02\x02\0\0\0", Short),
+    (b"\x0e\0\x01\x02\0\0\0", Short),
+    (b"\x0f\0\x01", Short),
+    (b"\x0f\0\x01\x08\0\0\0\x01\0\0\0", Short),
+    (b"\x03\0\x01\x05", Short),
+    // More elements than bytes are left, up to the most.
+    (b"\x0b\0\x01\x7f\xff\xff\xff\0\0\0\0\0\0\0", Short),
+    (b"\x0f\0\x01\x08\x7f\xff\xff\xff\0\0\0\0\0\0\0", Short),
+    (b"\x0e\0\x01\x02\0\0\0\x03\x01\0", Short),
+    (b"\x0d\0\x01\x08\x08\x40\0\0\0\0\0\0\0\0\0\0", Short),
+    // Codes of no kind: of a field, an element, a key, a map's value.
+    (b"\x01\0\x01\0\0", BadType(1)),
+    (b"\x05\0\x01\0\0", BadType(5)),
+    (b"\x07\0\x01\0\0", BadType(7)),
+    (b"\x09\0\x01\0\0", BadType(9)),
+    (b"\x10\0\x01\0\0", BadType(16)),
+    (b"\xff", BadType(255)),
+    (b"\x0c\0\x01\x80\0\x01\0\0", BadType(128)),
+    (b"\x0f\0\x01\0\0\0\0\x01\0\0", BadType(0)),
+    (b"\x0e\0\x01\x01\0\0\0\x01\0\0", BadType(1)),
+    (b"\x0d\0\x01\x05\x02\0\0\0\x01\0\0\0", BadType(5)),
+    (b"\x0d\0\x01\x02\x11\0\0\0\x01\0\0\0", BadType(17)),
+    // Sizes below 0.
+    (b"\x0b\0\x01\xff\xff\xff\xff\0", BadSize),
+    (b"\x0d\0\x01\x02\x02\x80\0\0\0\0", BadSize),
+    (b"\x0e\0\x01\x02\xff\xff\xff\xfe\0", BadSize),
+    (b"\x0f\0\x01\x02\x80\0\0\x01\0", BadSize),
+    // Two at once: the code before the id, the size before the codes, the first code before the second.
+    (b"\x01", BadType(1)),
+    (b"\x0f\0\x01\x01\xff\xff\xff\xff", BadSize),
+    (b"\x0f\0\x01\x01\x7f\xff\xff\xff", Short),
+    (b"\x0f\0\x01\x01\0\0\0\x02\x01", Short),
+    (b"\x0d\0\x01\x07\x09\0\0\0\x01\0\0\0", BadType(7)),
+    (b"\x0d\0\x01\x07\x09\xff\xff\xff\xff", BadSize),
+    (b"\x0d\0\x01\x07", Short),
+    // A fault in an earlier field, element or pair comes first.
+    (
+        b"\x03\0\x01\x05\x07\0\x02\x0b\0\x03\xff\xff\xff\xff",
+        BadType(7),
+    ),
+    (
+        b"\x0f\0\x01\x0b\0\0\0\x02\xff\xff\xff\xff\0\0\0\x09",
+        BadSize,
+    ),
+    (b"\x0d\0\x01\x02\x0c\0\0\0\x01\x01\x07\0\0", BadType(7)),
+];
+
+#[test]
+fn faults_in_reading_order(rt: HostRuntime) -> Result<(), Fail> {
+    for (bytes, fault) in &FAULTS {
+        match read_struct(rt.alloc(), bytes, 0) {
+            Ok(_) => panic!(rt; "a struct at fault was read"),
+            Err(found) => assert_eq!(rt; found, *fault),
+        }
+    }
+    Ok(())
+}
+
+// A struct with a list of one bool in field 1, and in field 2 so many lists in one another.
+fn nested(alloc: Global, lists: u32) -> Result<Vec<u8>, AllocError> {
+    let mut bytes = Vec::new(alloc);
+    bytes.extend_from_slice(b"\x0f\0\x01\x02\0\0\0\x01\x01\x0f\0\x02")?;
+    for _ in 1..lists {
+        bytes.extend_from_slice(b"\x0f\0\0\0\x01")?;
+    }
+    bytes.extend_from_slice(b"\x02\0\0\0\0\0")?;
+    Ok(bytes)
+}
+
+// How many lists, how many values may come, and what reading answers: how many values, or the fault.
+const BOUNDS: [(u32, u32, Result<u64, WireFault>); 6] = [
+    (63, 4_000_000, Ok(66)),
+    (63, 66, Ok(66)),
+    (63, 65, Err(TooMany)),
+    (64, 4_000_000, Err(TooDeep)),
+    // The list that would be level 65 is the last value that may come, or one too many.
+    (64, 67, Err(TooDeep)),
+    (64, 66, Err(TooMany)),
+];
+
+#[test]
+fn levels_and_values_are_bounded(rt: HostRuntime) -> Result<(), Fail> {
+    for (lists, values, wanted) in &BOUNDS {
+        let bytes = nested(rt.alloc(), *lists)?;
+        let rest = Rest::new(bytes.as_slice(), *values);
+        let found = match read::<Binary>(rt.alloc(), rest, 64, Tag::Struct) {
+            Ok((value, _)) => Ok(value.count()),
+            Err(fault) => Err(fault),
+        };
+        assert_eq!(rt; found, *wanted);
+        if *values == 4_000_000 {
+            let whole = match read_struct(rt.alloc(), bytes.as_slice(), 0) {
+                Ok((value, _)) => Ok(value.count()),
+                Err(fault) => Err(fault),
+            };
+            assert_eq!(rt; whole, *wanted);
+        }
+    }
+    Ok(())
+}

@@ -1,0 +1,97 @@
+-- Reading a head: what it says, or the first fault in reading order (Thrift binary protocol, 'Message').
+use Rattle.std.specs.Prelude.{◌≡◌, ⊤, ◌-◌, ◌==◌, ◌&&◌, ◌||◌, ℕ, ℤ, pos, negsuc, List, ◌++◌, length, take, drop, slice_index, nat_le, Result, Ok, Err, if◌then◌else◌}
+use Rattle.std.specs.Int.{w32}
+use Rattle.outside.specs.declared.outcomes.EnvelopeFault.{EnvelopeFault}
+use Rattle.outside.specs.declared.outcomes.EnvelopeFault.TheVariants.{Short, Version, NameSize, MessageType}
+use Rattle.wire_num.specs.Fixed.{unsigned_of, signed_of}
+use Rattle.envelope.specs.declared.head.Protocol.{Protocol}
+use Rattle.envelope.specs.declared.head.Protocol.TheVariants.{Binary}
+use Rattle.envelope.specs.declared.head.Head.{Head}
+use Rattle.envelope.specs.declared.head.HeadFault.{HeadFault}
+use Rattle.envelope.specs.declared.head.HeadFault.TheVariants.{Envelope, NoMemory}
+use Rattle.envelope.specs.Said.{Said, IsCall}
+use Rattle.envelope.specs.Spelling.{IsSpelling}
+
+-- one step of a reading and then the next, unless the first is at fault
+infixl 10 ◌>>=◌
+abbrev pub ◌>>=◌ : {A B : Type 0} → Result A EnvelopeFault → (A → Result B EnvelopeFault) → Result B EnvelopeFault
+(Ok x) >>= f = f x
+(Err fault) >>= f = Err fault
+
+-- so many bytes, and those behind them
+abbrev pub piece : ℕ → List ℕ → Result (List ℕ × List ℕ) EnvelopeFault
+piece size bytes = if nat_le size (length bytes) then Ok (take size bytes, drop size bytes) else Err Short
+
+-- an i32, and the bytes behind it
+unfoldable pub number : List ℕ → Result (ℤ × List ℕ) EnvelopeFault
+number bytes = do
+  front ← piece 4 bytes
+  Ok (signed_of w32 front.0, front.1)
+
+-- a name of this length, and the bytes behind it
+unfoldable pub name_of : ℤ → List ℕ → Result (List ℕ × List ℕ) EnvelopeFault
+name_of (pos size) bytes = piece size bytes
+name_of (negsuc _) bytes = Err NameSize
+
+-- a strict head begins with the bytes 80 01
+unfoldable pub version : List ℕ → Result ⊤ EnvelopeFault
+version first =
+    if slice_index first 0 == 128 && slice_index first 1 == 1 then Ok tt else Err (Version (unsigned_of w32 first))
+
+-- a strict head, told by its first four bytes and those behind them
+unfoldable pub strict_head : List ℕ → List ℕ → Result (Said × List ℕ) EnvelopeFault
+strict_head first bytes = do
+  _ ← version first
+  size ← number bytes
+  name ← name_of size.0 size.1
+  id ← number name.1
+  Ok (record { name = name.0; kind = slice_index first 3; id = id.0 }, id.1)
+
+-- an old head, told by its name's length and the bytes behind that
+unfoldable pub old_head : ℤ → List ℕ → Result (Said × List ℕ) EnvelopeFault
+old_head size bytes = do
+  name ← name_of size bytes
+  kind ← piece 1 name.1
+  id ← number kind.1
+  Ok (record { name = name.0; kind = slice_index kind.0 0; id = id.0 }, id.1)
+
+-- a first number below 0 begins a strict head, any other is the length of an old head's name
+unfoldable pub either_head : ℤ → List ℕ → List ℕ → Result (Said × List ℕ) EnvelopeFault
+either_head (pos size) first bytes = old_head (pos size) bytes
+either_head (negsuc _) first bytes = strict_head first bytes
+
+-- a whole head of any type, and the bytes behind it
+unfoldable pub whole_head : Protocol → List ℕ → Result (Said × List ℕ) EnvelopeFault
+whole_head Binary bytes = do
+  front ← piece 4 bytes
+  either_head (signed_of w32 front.0) front.0 front.1
+
+-- the type has to be one that a host takes
+unfoldable pub call_type : ℕ → Result ⊤ EnvelopeFault
+call_type kind = if kind == 1 || kind == 4 then Ok tt else Err (MessageType kind)
+
+-- the head in front of these bytes: a whole head, and then its type
+unfoldable pub head_at : Protocol → List ℕ → Result Head EnvelopeFault
+head_at protocol bytes = do
+  whole ← whole_head protocol bytes
+  _ ← call_type whole.0.kind
+  Ok (record { name = whole.0.name; kind = whole.0.kind; id = whole.0.id; behind = length bytes - length whole.1 })
+
+-- what a head that was read says
+abbrev pub said_by : Head → Said
+said_by head = record { name = head.name; kind = head.kind; id = head.id }
+
+-- the answer is this one; want of memory may stand in its place
+abbrev pub Answers : Result Head EnvelopeFault → Result Head HeadFault → Type 0
+Answers meant (Ok head) = meant ≡ Ok head
+Answers meant (Err (Envelope fault)) = meant ≡ Err fault
+Answers meant (Err NoMemory) = ⊤
+
+-- a call's head stands in front of the bytes, up to the place behind it
+pub record StandsIn (protocol : Protocol) (bytes : List ℕ) (head : Head) : Type 0 where
+  pub text : List ℕ
+  pub rest : List ℕ
+  pub whole : bytes ≡ text ++ rest
+  pub spelled : IsSpelling protocol (said_by head) text
+  pub call : IsCall head.kind
+  pub behind : head.behind ≡ length text

@@ -1,0 +1,20 @@
+-- What a message's head says (Thrift binary protocol, 'Message').
+use Rattle.std.specs.Prelude.{◌≡◌, ◌<◌, ◌^◌, ◌⊎◌, ℕ, ℤ, List, All, length, FitsSigned}
+use Rattle.std.specs.Int.{w32}
+
+-- the method's name, the message's type, and the sequence id
+pub record Said : Type 0 where
+  pub name : List ℕ
+  pub kind : ℕ
+  pub id : ℤ
+
+-- each number fits its place: the name has a length of 31 bits, the type is a byte, the sequence id has 32 bits
+pub record IsInRange (said : Said) : Type 0 where
+  pub name : length said.name < 2 ^ 31
+  pub bytes : All (λ b. b < 256) said.name
+  pub kind : said.kind < 256
+  pub id : FitsSigned w32 said.id
+
+-- the types that a host takes: a call, and a call without a reply
+abbrev pub IsCall : ℕ → Type 0
+IsCall kind = (kind ≡ 1) ⊎ (kind ≡ 4)

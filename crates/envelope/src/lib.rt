@@ -1,0 +1,20 @@
+//! Message heads: name, type and sequence id in front of a message's struct (Thrift binary protocol, 'Message'). It
+//! reads both forms of a head, strict and old, and writes the strict one. It reads no struct, knows no service, and
+//! judges a message's type only so far that a host takes calls alone.
+//!
+//! `let head = read_head(alloc, Protocol::Binary, payload)?` answers the head and the place behind it, where the
+//! arguments begin; `write_head(Protocol::Binary, b"add", 2, head.id, &mut reply)?` begins the reply.
+
+#![tactic(auto)]
+
+mod head;
+mod laws;
+mod read;
+#[cfg(test)]
+mod tests;
+mod write;
+
+pub use head::{Head, HeadFault, Protocol};
+pub use laws::{heads_are_read_back, no_head_is_a_prefix, written_heads_are_spelled};
+pub use read::read_head;
+pub use write::write_head;

@@ -1,0 +1,123 @@
+//! Heads read and written, and each fault at its place.
+
+use crate::{Head, HeadFault, Protocol, read_head, write_head};
+use outside::EnvelopeFault;
+use outside::EnvelopeFault::{MessageType, NameSize, Short, Version};
+use std::test::Fail;
+
+// The bytes of a payload, and of its head the name, the type, the sequence id and the place behind it.
+const HEADS: [(&[u8], &[u8], u8, i32, usize); 7] = [
+    (b"\x80\x01\0\x01\0\0\0\x04ping\0\0\0\0\0", b"ping", 1, 0, 16),
+    (
+        b"\x80\x01\0\x04\0\0\0\x03zip\xff\xff\xff\xff\0",
+        b"zip",
+        4,
+        -1,
+        15,
+    ),
+    // The byte between version and type says nothing.
+    (
+        b"\x80\x01\x7f\x01\0\0\0\0\x7f\xff\xff\xff",
+        b"",
+        1,
+        i32::MAX,
+        12,
+    ),
+    (
+        b"\0\0\0\x03add\x01\0\0\0\x01\x08\0\x01\0\0\0\x01\x08\0\x02\0\0\0\x01\0",
+        b"add",
+        1,
+        1,
+        12,
+    ),
+    (b"\0\0\0\0\x04\x80\0\0\0", b"", 4, i32::MIN, 9),
+    (
+        b"\0\0\0\x01\0\x01\x01\x02\x03\x04\0",
+        b"\0",
+        1,
+        0x0102_0304,
+        10,
+    ),
+    (
+        b"\x80\x01\0\x01\0\0\0\x03\xff\x80\0\0\0\0\x07",
+        b"\xff\x80\0",
+        1,
+        7,
+        15,
+    ),
+];
+
+#[test]
+fn heads_in_both_forms(rt: HostRuntime) -> Result<(), Fail> {
+    for (payload, name, kind, id, behind) in &HEADS {
+        match read_head(rt.alloc(), Protocol::Binary, payload) {
+            Ok(head) => {
+                assert_eq!(rt; head.name.as_slice(), *name);
+                assert_eq!(rt; (head.kind, head.id, head.behind), (*kind, *id, *behind));
+            }
+            Err(_) => panic!(rt; "a head that is whole was refused"),
+        }
+    }
+    Ok(())
+}
+
+// Each fault alone, at each place where it may come; and where there are two, the first in reading order.
+const FAULTS: [(&[u8], EnvelopeFault); 24] = [
+    // The first number needs four bytes, whatever they are.
+    (b"", Short),
+    (b"\x80", Short),
+    (b"\x80\x02", Short),
+    (b"\x80\x01\0", Short),
+    (b"\0\0\0", Short),
+    // Strict: no size, a part of it, no name, a part of it, no sequence id, a part of it.
+    (b"\x80\x01\0\x01", Short),
+    (b"\x80\x01\0\x01\0\0\0", Short),
+    (b"\x80\x01\0\x01\0\0\0\x01", Short),
+    (b"\x80\x01\0\x01\0\0\0\x04pin", Short),
+    (b"\x80\x01\0\x01\0\0\0\x04ping", Short),
+    (b"\x80\x01\0\x02\0\0\0\x04ping\0\0\0", Short),
+    (b"\x80\x01\0\x01\x7f\xff\xff\xffping\0\0\0\0", Short),
+    // Old: the name, the type, the sequence id.
+    (b"\x7f\xff\xff\xff", Short),
+    (b"\0\0\0\x03ad", Short),
+    (b"\0\0\0\x03add", Short),
+    (b"\0\0\0\x03add\x09\0\0\x01", Short),
+    // Another version, with a name's length below 0 behind it too.
+    (
+        b"\x80\x02\0\x01\0\0\0\x04ping\0\0\0\0\0",
+        Version(0x8002_0001),
+    ),
+    (b"\x81\x01\0\x01\xff\xff\xff\xff", Version(0x8101_0001)),
+    (b"\xff\xff\xff\xff", Version(0xffff_ffff)),
+    // A name's length below 0, with a type that is no call's too.
+    (b"\x80\x01\0\x01\xff\xff\xff\xff", NameSize),
+    (b"\x80\x01\0\x02\x80\0\0\0\0\0\0\0", NameSize),
+    // Types of replies, and none.
+    (b"\x80\x01\0\x02\0\0\0\x04ping\0\0\0\0\0", MessageType(2)),
+    (b"\0\0\0\x03add\x03\0\0\0\x01", MessageType(3)),
+    (b"\x80\x01\0\0\0\0\0\0\0\0\0\0", MessageType(0)),
+];
+
+#[test]
+fn faults_in_reading_order(rt: HostRuntime) -> Result<(), Fail> {
+    for (payload, fault) in &FAULTS {
+        match read_head(rt.alloc(), Protocol::Binary, payload) {
+            Ok(_) => panic!(rt; "a head at fault was read"),
+            Err(HeadFault::NoMemory) => panic!(rt; "there was no memory for a short name"),
+            Err(HeadFault::Envelope(found)) => assert_eq!(rt; found, *fault),
+        }
+    }
+    Ok(())
+}
+
+#[test]
+fn a_written_head_stands_behind_what_was_there(rt: HostRuntime) -> Result<(), Fail> {
+    let mut into = Vec::new(rt.alloc());
+    into.extend_from_slice(b"..")?;
+    write_head(Protocol::Binary, b"add", 2, 1, &mut into)?;
+    assert_eq!(rt;
+        into.as_slice(),
+        b"..\x80\x01\0\x02\0\0\0\x03add\0\0\0\x01".as_slice()
+    );
+    Ok(())
+}

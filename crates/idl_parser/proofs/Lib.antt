@@ -1,0 +1,15 @@
+pub mod Outcomes
+pub mod Sound
+pub mod Sets
+pub mod Complete
+pub mod Local
+pub mod Completion
+pub mod Deeper
+pub mod Room
+pub mod Clear
+pub mod OneMoreLevel
+pub mod Faults
+pub mod Rows
+pub mod Firsts
+pub mod Places
+pub mod Parsing

@@ -1,0 +1,142 @@
+-- A loop over a row: what was read so far, and what is left of it.
+use Rattle.std.proofs.Common.{◌≡◌, Bool, true, false, ℕ, zero, suc, ◌+◌, ◌-◌, ◌≤◌, ◌<◌, List, [], ◌∷◌, ◌++◌, map, Option, Some, None, refl, sym, ap, ◌∙◌, subst, arith}
+use Rattle.idl_parser.specs.declared.terminal.Terminal.{Terminal}
+use Rattle.idl_parser.specs.declared.reader.Stop.{Stop}
+use Rattle.idl_parser.specs.declared.reader.Stop.TheVariants.{NoMemory, Stuck, Deep}
+use Rattle.idl_parser.specs.Phrases.{Lexeme, Node, none, pair, Phrase, many}
+use Rattle.idl_parser.specs.Shapes.{starts_in, first}
+use Rattle.idl_parser.specs.Leaves.{neither}
+use Rattle.idl_parser.specs.Reading.{Outcome, done, failed, made, and_then, repeat, read}
+use Rattle.idl_parser.specs.Spots.{Stops, most}
+use Rattle.std.proofs.lemmas.List.{map-append}
+use Rattle.idl_parser.specs.declared.tree.ConstTree.{ConstTree}
+use Rattle.idl_parser.specs.declared.tree.Include.{Include}
+use Rattle.idl_parser.specs.Documents.{with_header}
+use Rattle.idl_parser.specs.Trees.{ahead, pair_row, entry_node, both_nodes, header_node, include_node, some_of}
+use Rattle.idl_parser.proofs.Outcomes.{chosen, passed}
+
+-- the row of a text is what was read of it so far, in front of the row of what is left
+pub record SoFar (limit i : ℕ) (join : Node → Node → Node) (p : Phrase) (set : List Terminal) (start left : List Lexeme) (xs : List Node) : Type 0 where
+  pub within : i ≤ limit
+  pub is : repeat limit join (starts_in set) (read limit p) start ≡ made (ahead join xs) (repeat (limit - i) join (starts_in set) (read limit p) left)
+
+made_nothing : (join : Node → Node → Node) (o : Outcome) → o ≡ made (ahead join []) o
+made_nothing join (done x rest) = refl
+made_nothing join (failed d rest) = refl
+
+pub begin : (limit : ℕ) (join : Node → Node → Node) (p : Phrase) (set : List Terminal) (start : List Lexeme) → SoFar limit 0 join p set start start []
+begin limit join p set start =
+    let e : limit ≡ limit - 0 = omega arith in
+    record {
+      within = omega arith;
+      is = ap (λ k. repeat k join (starts_in set) (read limit p) start) e ∙ made_nothing join (repeat (limit - 0) join (starts_in set) (read limit p) start);
+    }
+
+ahead_more : (join : Node → Node → Node) (xs : List Node) (x y : Node) → ahead join xs (join x y) ≡ ahead join (xs ++ x ∷ []) y
+ahead_more join [] x y = refl
+ahead_more join (z ∷ xs) x y = ap (join z) (ahead_more join xs x y)
+
+made_more : (join : Node → Node → Node) (xs : List Node) (x : Node) (o : Outcome) → made (ahead join xs) (made (join x) o) ≡ made (ahead join (xs ++ x ∷ [])) o
+made_more join xs x (done y rest) = ap (λ z. done z rest) (ahead_more join xs x y)
+made_more join xs x (failed d rest) = refl
+
+-- one round of the row
+round_is : (limit i : ℕ) (join : Node → Node → Node) (p : Phrase) (set : List Terminal) (left : List Lexeme) → i < limit → starts_in set left ≡ true
+    → repeat (limit - i) join (starts_in set) (read limit p) left ≡ and_then join (read limit p left) (repeat (limit - (i + 1)) join (starts_in set) (read limit p))
+round_is limit i join p set left less here =
+    let e : limit - i ≡ suc (limit - (i + 1)) = omega arith in
+    ap (λ k. repeat k join (starts_in set) (read limit p) left) e
+    ∙ chosen (starts_in set left) (and_then join (read limit p left) (repeat (limit - (i + 1)) join (starts_in set) (read limit p))) (done none left) here
+
+pub onward : {limit i : ℕ} {join : Node → Node → Node} {p : Phrase} {set : List Terminal} {start left : List Lexeme} {xs : List Node}
+    → SoFar limit i join p set start left xs → i < limit → starts_in set left ≡ true → (x : Node) (mid : List Lexeme) → read limit p left ≡ done x mid
+    → SoFar limit (i + 1) join p set start mid (xs ++ x ∷ [])
+onward {limit} {i} {join} {p} {set} {start} {left} {xs} s less here x mid e = record {
+  within = omega arith;
+  is =
+      s.is ∙ ap (made (ahead join xs)) (round_is limit i join p set left less here
+      ∙ ap (λ o. and_then join o (repeat (limit - (i + 1)) join (starts_in set) (read limit p))) e)
+      ∙ made_more join xs x (repeat (limit - (i + 1)) join (starts_in set) (read limit p) mid);
+}
+
+last_is : (k : ℕ) (limit : ℕ) (join : Node → Node → Node) (p : Phrase) (set : List Terminal) (left : List Lexeme) → starts_in set left ≡ false
+    → repeat k join (starts_in set) (read limit p) left ≡ done none left
+last_is zero limit join p set left none_here = refl
+last_is (suc k) limit join p set left none_here = passed (starts_in set left) _ (done none left) none_here
+
+pub row_of : (limit : ℕ) (join : Node → Node → Node) (p : Phrase) (set : List Terminal) (start : List Lexeme) (o : Outcome) → first p ≡ set
+    → repeat limit join (starts_in set) (read limit p) start ≡ o → read limit (many join p) start ≡ o
+row_of limit join p set start o is e = ap (λ set. repeat limit join (starts_in set) (read limit p) start) is ∙ e
+
+pub finished : {limit i : ℕ} {join : Node → Node → Node} {p : Phrase} {set : List Terminal} {start left : List Lexeme} {xs : List Node}
+    → first p ≡ set → SoFar limit i join p set start left xs → starts_in set left ≡ false → read limit (many join p) start ≡ done (ahead join xs none) left
+finished {limit} {i} {join} {p} {set} {start} {left} {xs} is s none_here =
+    row_of limit join p set start (done (ahead join xs none) left) is (s.is ∙ ap (made (ahead join xs)) (last_is (limit - i) limit join p set left none_here))
+
+pub ended : {limit i : ℕ} {join : Node → Node → Node} {p : Phrase} {set : List Terminal} {start left : List Lexeme} {xs : List Node}
+    → first p ≡ set → SoFar limit i join p set start left xs → limit ≤ i → read limit (many join p) start ≡ done (ahead join xs none) left
+ended {limit} {i} {join} {p} {set} {start} {left} {xs} is s all =
+    let e : limit - i ≡ 0 = omega arith in
+    row_of limit join p set start (done (ahead join xs none) left) is (s.is ∙ ap (λ k. made (ahead join xs) (repeat k join (starts_in set) (read limit p) left)) e)
+
+stuck_row : (limit i : ℕ) (join : Node → Node → Node) (p : Phrase) (set : List Terminal) (start left : List Lexeme) (xs : List Node) (d : Bool) (rest : List Lexeme)
+    → first p ≡ set → SoFar limit i join p set start left xs → i < limit → starts_in set left ≡ true → read limit p left ≡ failed d rest
+    → read limit (many join p) start ≡ failed d rest
+stuck_row limit i join p set start left xs d rest is s less here e =
+    row_of limit join p set start (failed d rest) is
+    (s.is ∙ ap (made (ahead join xs)) (round_is limit i join p set left less here
+    ∙ ap (λ o. and_then join o (repeat (limit - (i + 1)) join (starts_in set) (read limit p))) e))
+
+pub stops_row : {limit i : ℕ} {join : Node → Node → Node} {p : Phrase} {set : List Terminal} {start left : List Lexeme} {xs : List Node} (e : Stop) (rest : List Lexeme)
+    → first p ≡ set → SoFar limit i join p set start left xs → i < limit → starts_in set left ≡ true → Stops e (read limit p left) rest
+    → Stops e (read limit (many join p) start) rest
+stops_row NoMemory rest is s less here h = tt
+stops_row {limit} {i} {join} {p} {set} {start} {left} {xs} Stuck rest is s less here h = stuck_row limit i join p set start left xs false rest is s less here h
+stops_row {limit} {i} {join} {p} {set} {start} {left} {xs} Deep rest is s less here h = stuck_row limit i join p set start left xs true rest is s less here h
+
+-- of a row of which nothing is kept, nothing is kept
+pub neither_ahead : (xs : List Node) → ahead neither xs none ≡ none
+neither_ahead [] = refl
+neither_ahead (x ∷ xs) = refl
+
+-- the loops' bound
+pub below : (i : ℕ) → i < 4194304 → i < most
+unfolding most
+below i h = h
+
+pub all_read : (i : ℕ) → 4194304 ≤ i → most ≤ i
+unfolding most
+all_read i h = h
+
+-- one item more
+pub put_on : {A : Type 0} (tree : A → Node) {limit i : ℕ} {join : Node → Node → Node} {p : Phrase} {set : List Terminal} {start left : List Lexeme} (all more : List A) (x : A) (mid : List Lexeme)
+    → SoFar limit i join p set start left (map tree all) → i < limit → starts_in set left ≡ true → read limit p left ≡ done (tree x) mid → more ≡ all ++ x ∷ []
+    → SoFar limit (i + 1) join p set start mid (map tree more)
+put_on tree {limit} {i} {join} {p} {set} {start} {left} all more x mid s less here e is =
+    subst (λ xs. SoFar limit (i + 1) join p set start mid xs) (sym (ap (map tree) is ∙ map-append tree all (x ∷ [])))
+    (onward s less here (tree x) mid e)
+
+-- a row of pairs
+pub row_of_entries : (ps : List (ConstTree × ConstTree)) → ahead pair (map entry_node ps) none ≡ pair_row (map both_nodes ps)
+row_of_entries [] = refl
+row_of_entries (p ∷ ps) = ap (pair (entry_node p)) (row_of_entries ps)
+
+-- of a row of headers the includes are kept
+abbrev pub Kept : List Node → List Include → Type 0
+Kept xs all = (tail : Node) → ahead with_header xs tail ≡ ahead pair (map include_node all) tail
+
+ahead_append : (join : Node → Node → Node) (xs ys : List Node) (tail : Node) → ahead join (xs ++ ys) tail ≡ ahead join xs (ahead join ys tail)
+ahead_append join [] ys tail = refl
+ahead_append join (x ∷ xs) ys tail = ap (join x) (ahead_append join xs ys tail)
+
+one_header : (h : Option Include) (tail : Node) → with_header (header_node h) tail ≡ ahead pair (map include_node (some_of h)) tail
+unfolding include_node
+one_header None tail = refl
+one_header (Some i) tail = refl
+
+pub kept_on : (xs : List Node) (all more : List Include) (h : Option Include) → Kept xs all → more ≡ all ++ some_of h → Kept (xs ++ header_node h ∷ []) more
+kept_on xs all more h kept is tail =
+    ahead_append with_header xs (header_node h ∷ []) tail ∙ ap (ahead with_header xs) (one_header h tail)
+    ∙ kept (ahead pair (map include_node (some_of h)) tail)
+    ∙ sym (ap (λ ys. ahead pair (map include_node ys) tail) is ∙ ap (λ ys. ahead pair ys tail) (map-append include_node all (some_of h))
+    ∙ ahead_append pair (map include_node all) (map include_node (some_of h)) tail)

@@ -1,0 +1,26 @@
+use Rattle.std.proofs.Common.{◌≢◌, ◌∙◌, ap, map, rules}
+use Rattle.idl_parser.specs.declared.reader.Stop.TheVariants.{NoMemory}
+use Rattle.idl_parser.specs.Spots.{lexeme_of}
+use Rattle.idl_parser.specs.Faults.{next_place}
+use Rattle.idl_parser.specs.Trees.{document_node}
+use Rattle.idl_parser.proofs.Parsing.{document_of, fault_of}
+use Rattle.idl_parser.proofs.parse.Goals as goal
+
+pub returns-in-Ok-whole_document-clause-ok : goal.returns-in-Ok-whole_document-clause-ok
+returns-in-Ok-whole_document-clause-ok c =
+    document_of c.args.text.now c.args.tokens.now c.new-reader.result c.whole_document.new.self (document_node c.in-Ok-whole_document.document)
+    (c.new-reader.ensures ∙ ap (map (lexeme_of c.args.text.now)) c.as_slice.ensures.value ∙ c.in-Ok.ensures)
+    c.in-Ok-whole_document.ensures
+
+pub returns : goal.returns
+returns c = record {
+  ok = tt;
+  fault = λ named.
+      let told : c.in-Err.stop ≢ NoMemory = search rules in
+      fault_of c.args.text.now c.args.tokens.now _ c.new-reader.result c.whole_document.new.self c.in-Err.stop told
+      (c.new-reader.ensures ∙ ap (map (lexeme_of c.args.text.now)) c.as_slice.ensures.value ∙ c.in-Ok.ensures)
+      c.requires.short (c.tokens_stand_in_order.ensures c.args.text.now c.args.tokens.now c.requires.tokens)
+      c.in-Err.ensures
+      (c.fault-kind.ensures.place ∙ ap (λ end. next_place end c.whole_document.new.self) c.behind.ensures.is)
+      c.fault-kind.ensures.kind;
+}

@@ -1,0 +1,45 @@
+-- Constant values (Thrift IDL, 'Constant Values').
+use Rattle.std.specs.Prelude.{ℕ, zero, suc}
+use Rattle.idl_parser.specs.declared.terminal.Terminal.TheVariants as word
+use Rattle.idl_parser.specs.Phrases.{pair, Phrase, deep, chain, either, many}
+use Rattle.idl_parser.specs.Leaves.{sign, kept, the_first, the_second}
+use Rattle.idl_parser.specs.Parts.{identifier, integer, decimal, literal, separator}
+
+-- the containers, of values such as the inner ones
+unfoldable pub list_item : Phrase → Phrase
+list_item inner = chain the_first inner separator
+
+unfoldable pub list_rest : Phrase → Phrase
+list_rest inner = chain the_first (many pair (list_item inner)) (sign word.CloseBracket)
+
+abbrev pub list_value : Phrase → Phrase
+list_value inner = chain pair (kept word.OpenBracket) (list_rest inner)
+
+unfoldable pub map_entry : Phrase → Phrase
+map_entry inner = chain pair inner (chain the_second (sign word.Colon) (chain the_first inner separator))
+
+unfoldable pub map_rest : Phrase → Phrase
+map_rest inner = chain the_first (many pair (map_entry inner)) (sign word.CloseBrace)
+
+abbrev pub map_value : Phrase → Phrase
+map_value inner = chain pair (kept word.OpenBrace) (map_rest inner)
+
+unfoldable pub collection : Phrase → Phrase
+collection inner = either (list_value inner) (map_value inner)
+
+-- where no level is left
+unfoldable pub no_collection : Phrase
+no_collection = either (deep word.OpenBracket) (deep word.OpenBrace)
+
+-- a number, a literal, a name or something else
+abbrev pub leaf_or : Phrase → Phrase
+leaf_or other = either integer (either decimal (either literal (either identifier other)))
+
+-- a list or a map of so many levels at most
+unfoldable pub inner_value : ℕ → Phrase
+inner_value zero = no_collection
+inner_value (suc levels) = collection (leaf_or (inner_value levels))
+
+-- a value of so many levels of containers at most
+unfoldable pub value_of : ℕ → Phrase
+value_of levels = leaf_or (inner_value levels)

@@ -1,0 +1,36 @@
+-- Where and why a text is no document.
+use Rattle.std.specs.Prelude.{◌≡◌, ℕ, Bool, true, false, List, [], ◌∷◌, if◌then◌else◌}
+use Rattle.idl_token.specs.declared.Place.{Place}
+use Rattle.idl_token.specs.declared.Token.{Token}
+use Rattle.idl_parser.specs.declared.ParseKind.{ParseKind}
+use Rattle.idl_parser.specs.declared.ParseKind.TheVariants.{Found, Refused, TooDeep}
+use Rattle.idl_parser.specs.declared.ParseFault.{ParseFault}
+use Rattle.idl_parser.specs.declared.terminal.Terminal.{Terminal}
+use Rattle.idl_parser.specs.declared.terminal.Terminal.TheVariants as word
+use Rattle.idl_parser.specs.Terminals.{same}
+use Rattle.idl_parser.specs.Phrases.{Lexeme}
+use Rattle.idl_parser.specs.Symbols.{behind, start, lexemes}
+use Rattle.idl_parser.specs.FirstFault.{IsFirstFault}
+use Rattle.idl_parser.specs.Spots.{deepest}
+
+-- the place of the symbol at fault, or that behind the last byte
+abbrev pub next_place : Place → List Lexeme → Place
+next_place end [] = end
+next_place end (t ∷ rest) = t.place
+
+abbrev pub kind_at : Bool → Terminal → ParseKind
+kind_at true k = TooDeep
+kind_at false k = if same k word.Refused then Refused else Found
+
+-- a symbol that opens a level too many, a symbol that is left out by name, or another that can't stand there
+abbrev pub fault_kind : Bool → List Lexeme → ParseKind
+fault_kind too_deep [] = kind_at too_deep word.Identifier
+fault_kind too_deep (t ∷ rest) = kind_at too_deep t.what
+
+-- the first fault of a text with these tokens
+pub record IsFaultOf (text : List ℕ) (tokens : List Token) (fault : ParseFault) : Type 0 where
+  pub rest : List Lexeme
+  pub too_deep : Bool
+  pub first : IsFirstFault deepest (lexemes text tokens) rest too_deep
+  pub kind : fault.kind ≡ fault_kind too_deep rest
+  pub at : fault.at ≡ next_place (behind start text) rest

@@ -1,0 +1,17 @@
+pub mod Terminals
+pub mod Phrases
+pub mod Leaves
+pub mod Parts
+pub mod Types
+pub mod Constants
+pub mod Fields
+pub mod Definitions
+pub mod Documents
+pub mod FirstFault
+pub mod Shapes
+pub mod Reading
+pub mod Symbols
+pub mod Spots
+pub mod Starts
+pub mod Trees
+pub mod Faults

@@ -1,0 +1,37 @@
+-- What a call of a reader reads.
+use Rattle.std.specs.Prelude.{◌≡◌, ℕ, ◌-◌, Bool, true, false, List, [], ◌∷◌, take, drop, Result, MatchResult}
+use Rattle.idl_parser.specs.declared.reader.Stop.{Stop}
+use Rattle.idl_parser.specs.declared.reader.Stop.TheVariants.{NoMemory, Stuck, Deep}
+use Rattle.idl_parser.specs.declared.symbol.Symbol.{Symbol}
+use Rattle.idl_parser.specs.Phrases.{Lexeme, Node, Phrase}
+use Rattle.idl_parser.specs.Reading.{Outcome, done, failed, read}
+
+-- no text has more symbols
+unfoldable pub most : ℕ
+most = 4194304
+
+-- how many levels of containers may stand in one another
+unfoldable pub deepest : ℕ
+deepest = 64
+
+abbrev pub lexeme_of : List ℕ → Symbol → Lexeme
+lexeme_of text s = record { what = s.what; bytes = take (s.to - s.from) (drop s.from text); place = s.place }
+
+-- the reading failed there; want of memory tells nothing
+abbrev pub Stops : Stop → Outcome → List Lexeme → Type 0
+Stops NoMemory o rest = Unit {0}
+Stops Stuck o rest = o ≡ failed false rest
+Stops Deep o rest = o ≡ failed true rest
+
+abbrev pub Reads : {A : Type 0} → Phrase → (A → Node) → List Lexeme → List Lexeme → Result A Stop → Type 0
+Reads p tree old new result =
+    MatchResult result (λ x. read most p old ≡ done (tree x) new) (λ e. Stops e (read most p old) new)
+
+abbrev pub is_none_left : List Lexeme → Bool
+is_none_left [] = true
+is_none_left (t ∷ rest) = false
+
+abbrev pub is_deep : Stop → Bool
+is_deep NoMemory = false
+is_deep Stuck = false
+is_deep Deep = true

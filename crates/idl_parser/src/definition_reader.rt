@@ -1,0 +1,319 @@
+//! Definitions.
+ghost use Rattle.std.specs.Prelude.{◌≡◌};
+ghost use Rattle.idl_parser.specs.Phrases.{none, pair, many, word};
+ghost use Rattle.idl_parser.specs.Shapes.{starts_in, first};
+ghost use Rattle.idl_parser.specs.Starts.{entry_starts, function_starts};
+ghost use Rattle.idl_parser.specs.Definitions.{constant, typedef, enum_number, enum_value, closing, enumeration, struct_word, structure, fields_in_parentheses, oneway, result_type, throws, function, parent, service, bare_definition, definition};
+ghost use Rattle.idl_parser.specs.Trees.{maybe_node, int_node, name_node, fields_node, oneway_node, result_node, function_node, functions_node, const_node, typedef_node, enum_value_node, enum_values_node, enum_node, struct_word_of, struct_node, service_node, definition_node};
+ghost use Rattle.idl_parser.specs.Spots.{Reads, deepest};
+
+use crate::reader::{MAX_SYMBOLS, Reader, Stop, deepest, put};
+use crate::terminal::Terminal;
+use crate::tree::{
+    Const, Definition, Enum, EnumValue, Field, Function, Int, Name, Service, Struct, StructKind,
+    TypeTree, Typedef,
+};
+use idl_token::Place;
+
+impl<'a> Reader<'a> {
+    #[tactic(auto, unfolding(crate::specs::Definitions::constant_rest, crate::specs::Trees::const_node))]
+    fn constant(&mut self) -> Result<Const, Stop>
+        ensures { Reads (constant deepest) const_node self.old self.new result }
+    {
+        let at = self.word(Terminal::Const)?;
+        let kind = self.type_tree(deepest())?;
+        let name = self.name()?;
+        self.sign(Terminal::Equals)?;
+        let value = self.value(deepest())?;
+        Ok(Const {
+            at,
+            kind,
+            name,
+            value,
+        })
+    }
+
+    #[tactic(auto, unfolding(crate::specs::Definitions::typedef_rest, crate::specs::Trees::typedef_node))]
+    fn typedef(&mut self) -> Result<Typedef, Stop>
+        ensures { Reads (typedef deepest) typedef_node self.old self.new result }
+    {
+        let at = self.word(Terminal::Typedef)?;
+        let kind = self.type_tree(deepest())?;
+        let name = self.name()?;
+        self.annotation()?;
+        Ok(Typedef { at, kind, name })
+    }
+
+    #[tactic(auto, unfolding(crate::specs::Definitions::enum_number))]
+    fn enum_number(&mut self) -> Result<Option<Int>, Stop>
+        ensures { Reads enum_number (maybe_node int_node) self.old self.new result }
+    {
+        if self.starts(&[Terminal::Equals]) {
+            self.sign(Terminal::Equals)?;
+            let number = self.int()?;
+            return Ok(Some(number));
+        }
+        Ok(None)
+    }
+
+    #[tactic(auto, unfolding(crate::specs::Definitions::enum_value, crate::specs::Trees::enum_value_node))]
+    fn enum_value(&mut self) -> Result<EnumValue, Stop>
+        ensures { Reads enum_value enum_value_node self.old self.new result }
+    {
+        let name = self.name()?;
+        let number = self.enum_number()?;
+        self.ending()?;
+        Ok(EnumValue { name, number })
+    }
+
+    fn begins_name(&self) -> bool
+        ensures { result ≡ starts_in entry_starts self.now }
+    {
+        self.starts(&[Terminal::Identifier])
+    }
+
+    fn enum_values(&mut self) -> Result<Vec<EnumValue>, Stop>
+        ensures { Reads (many pair enum_value) (λ v. enum_values_node v.items) self.old self.new result }
+    {
+        let mut all = Vec::new(self.alloc());
+        'row: for _round in 0..MAX_SYMBOLS {
+            if !self.begins_name() {
+                return Ok(all);
+            }
+            match self.enum_value() {
+                Ok(item) => {
+                    if let Err(full) = put(&mut all, item) {
+                        return Err(full);
+                    }
+                }
+                Err(stop) => return Err(stop),
+            }
+        }
+        Ok(all)
+    }
+
+    /// A closing brace, and an annotation or none.
+    #[tactic(auto, unfolding(crate::specs::Definitions::closing))]
+    fn closing(&mut self) -> Result<(), Stop>
+        ensures { Reads closing (λ _. none) self.old self.new result }
+    {
+        self.sign(Terminal::CloseBrace)?;
+        self.annotation()
+    }
+
+    #[tactic(auto, unfolding(crate::specs::Definitions::enum_rest, crate::specs::Trees::enum_node))]
+    fn enumeration(&mut self) -> Result<Enum, Stop>
+        ensures { Reads enumeration enum_node self.old self.new result }
+    {
+        let at = self.word(Terminal::Enum)?;
+        let name = self.name()?;
+        self.sign(Terminal::OpenBrace)?;
+        let values = self.enum_values()?;
+        self.closing()?;
+        Ok(Enum { at, name, values })
+    }
+
+    #[tactic(auto, unfolding(crate::specs::Definitions::struct_word))]
+    fn struct_word(&mut self) -> Result<(Place, StructKind), Stop>
+        ensures { Reads struct_word (λ w. word (struct_word_of w.1) w.0) self.old self.new result }
+    {
+        if self.starts(&[Terminal::Struct]) {
+            return Ok((self.word(Terminal::Struct)?, StructKind::Struct));
+        }
+        if self.starts(&[Terminal::Union]) {
+            return Ok((self.word(Terminal::Union)?, StructKind::Union));
+        }
+        Ok((self.word(Terminal::Exception)?, StructKind::Exception))
+    }
+
+    #[tactic(auto, unfolding(crate::specs::Definitions::struct_rest, crate::specs::Trees::struct_node))]
+    fn structure(&mut self) -> Result<Struct, Stop>
+        ensures { Reads (structure deepest) struct_node self.old self.new result }
+    {
+        let (at, kind) = self.struct_word()?;
+        let name = self.name()?;
+        self.sign(Terminal::OpenBrace)?;
+        let fields = self.fields()?;
+        self.closing()?;
+        Ok(Struct {
+            at,
+            kind,
+            name,
+            fields,
+        })
+    }
+
+    #[tactic(auto, unfolding(crate::specs::Definitions::fields_in_parentheses))]
+    fn fields_in_parentheses(&mut self) -> Result<Vec<Field>, Stop>
+        ensures { Reads (fields_in_parentheses deepest) (λ v. fields_node v.items) self.old self.new result }
+    {
+        self.sign(Terminal::OpenParen)?;
+        let fields = self.fields()?;
+        self.sign(Terminal::CloseParen)?;
+        Ok(fields)
+    }
+
+    #[tactic(auto, unfolding(crate::specs::Definitions::oneway))]
+    fn oneway(&mut self) -> Result<bool, Stop>
+        ensures { Reads oneway oneway_node self.old self.new result }
+    {
+        if self.starts(&[Terminal::Oneway]) {
+            self.flag(Terminal::Oneway)?;
+            return Ok(true);
+        }
+        Ok(false)
+    }
+
+    #[tactic(auto, unfolding(crate::specs::Definitions::result_type))]
+    fn result_type(&mut self) -> Result<Option<TypeTree>, Stop>
+        ensures { Reads (result_type deepest) result_node self.old self.new result }
+    {
+        if self.starts(&[Terminal::Void]) {
+            self.flag(Terminal::Void)?;
+            return Ok(None);
+        }
+        let kind = self.type_tree(deepest())?;
+        Ok(Some(kind))
+    }
+
+    #[tactic(auto, unfolding(crate::specs::Definitions::throws))]
+    fn throws(&mut self) -> Result<Option<Vec<Field>>, Stop>
+        ensures { Reads (throws deepest) (maybe_node (λ v. fields_node v.items)) self.old self.new result }
+    {
+        if self.starts(&[Terminal::Throws]) {
+            self.sign(Terminal::Throws)?;
+            let fields = self.fields_in_parentheses()?;
+            return Ok(Some(fields));
+        }
+        Ok(None)
+    }
+
+    #[tactic(auto, unfolding(crate::specs::Definitions::function, crate::specs::Trees::function_node))]
+    fn function(&mut self) -> Result<Function, Stop>
+        ensures { Reads (function deepest) function_node self.old self.new result }
+    {
+        let at = self.place();
+        let oneway = self.oneway()?;
+        let result = self.result_type()?;
+        let name = self.name()?;
+        let arguments = self.fields_in_parentheses()?;
+        let throws = self.throws()?;
+        self.ending()?;
+        Ok(Function {
+            at,
+            oneway,
+            result,
+            name,
+            arguments,
+            throws,
+        })
+    }
+
+    fn begins_function(&self) -> bool
+        ensures { result ≡ starts_in function_starts self.now }
+    {
+        self.starts(&[
+            Terminal::Oneway,
+            Terminal::Void,
+            Terminal::Bool,
+            Terminal::Byte,
+            Terminal::I8,
+            Terminal::I16,
+            Terminal::I32,
+            Terminal::I64,
+            Terminal::DoubleWord,
+            Terminal::StringWord,
+            Terminal::Binary,
+            Terminal::Identifier,
+            Terminal::Map,
+            Terminal::Set,
+            Terminal::List,
+        ])
+    }
+
+    fn functions(&mut self) -> Result<Vec<Function>, Stop>
+        ensures { Reads (many pair (function deepest)) (λ v. functions_node v.items) self.old self.new result }
+    {
+        let mut all = Vec::new(self.alloc());
+        'row: for _round in 0..MAX_SYMBOLS {
+            if !self.begins_function() {
+                return Ok(all);
+            }
+            match self.function() {
+                Ok(item) => {
+                    if let Err(full) = put(&mut all, item) {
+                        return Err(full);
+                    }
+                }
+                Err(stop) => return Err(stop),
+            }
+        }
+        Ok(all)
+    }
+
+    #[tactic(auto, unfolding(crate::specs::Definitions::parent))]
+    fn parent(&mut self) -> Result<Option<Name>, Stop>
+        ensures { Reads parent (maybe_node name_node) self.old self.new result }
+    {
+        if self.starts(&[Terminal::Extends]) {
+            self.sign(Terminal::Extends)?;
+            let name = self.name()?;
+            return Ok(Some(name));
+        }
+        Ok(None)
+    }
+
+    #[tactic(auto, unfolding(crate::specs::Definitions::service_rest, crate::specs::Trees::service_node))]
+    fn service(&mut self) -> Result<Service, Stop>
+        ensures { Reads (service deepest) service_node self.old self.new result }
+    {
+        let at = self.word(Terminal::Service)?;
+        let name = self.name()?;
+        let parent = self.parent()?;
+        self.sign(Terminal::OpenBrace)?;
+        let functions = self.functions()?;
+        self.closing()?;
+        Ok(Service {
+            at,
+            name,
+            parent,
+            functions,
+        })
+    }
+
+    #[tactic(auto, unfolding(crate::specs::Definitions::struct_word))]
+    fn begins_struct(&self) -> bool
+        ensures { result ≡ starts_in (first (structure deepest)) self.now }
+    {
+        self.starts(&[Terminal::Struct, Terminal::Union, Terminal::Exception])
+    }
+
+    #[tactic(auto, unfolding(crate::specs::Definitions::bare_definition, crate::specs::Trees::definition_node))]
+    fn bare_definition(&mut self) -> Result<Definition, Stop>
+        ensures { Reads (bare_definition deepest) definition_node self.old self.new result }
+    {
+        if self.starts(&[Terminal::Const]) {
+            return Ok(Definition::Const(self.constant()?));
+        }
+        if self.starts(&[Terminal::Typedef]) {
+            return Ok(Definition::Typedef(self.typedef()?));
+        }
+        if self.starts(&[Terminal::Enum]) {
+            return Ok(Definition::Enum(self.enumeration()?));
+        }
+        if self.begins_struct() {
+            return Ok(Definition::Struct(self.structure()?));
+        }
+        Ok(Definition::Service(self.service()?))
+    }
+
+    /// A definition, and a separator or none.
+    #[tactic(auto, unfolding(crate::specs::Definitions::definition))]
+    pub(crate) fn definition(&mut self) -> Result<Definition, Stop>
+        ensures { Reads (definition deepest) definition_node self.old self.new result }
+    {
+        let bare = self.bare_definition()?;
+        self.separator()?;
+        Ok(bare)
+    }
+}

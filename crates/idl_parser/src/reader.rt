@@ -1,0 +1,289 @@
+//! A reader of symbols, with one symbol of look-ahead.
+ghost use Rattle.std.specs.Prelude.{◌≡◌, ◌≢◌, ◌-◌, map, ◌++◌, ◌∷◌, [], take, drop, MatchResult};
+ghost use Rattle.std.specs.List.{list_any};
+ghost use Rattle.idl_parser.specs.Phrases.{none, place_at, word, flag, text, number, one};
+ghost use Rattle.idl_parser.specs.Leaves.{sign, kept, flagged, text_leaf, literal_leaf, number_leaf, literal_bytes, number_of};
+ghost use Rattle.idl_parser.specs.Parts.{identifier, decimal, literal, integer};
+ghost use Rattle.idl_parser.specs.Faults.{next_place, fault_kind, kind_at};
+ghost use Rattle.idl_parser.specs.Trees.{name_node, double_node, literal_node, int_node};
+ghost use Rattle.idl_parser.specs.Terminals.{same};
+ghost use Rattle.idl_parser.specs.Shapes.{starts_in, has};
+ghost use Rattle.idl_parser.specs.Spots.{Reads, deepest, lexeme_of, is_none_left, is_deep};
+
+use crate::ParseKind;
+use crate::leaves::{literal_bytes, number_of};
+use crate::symbol::Symbol;
+use crate::terminal::{Terminal, same};
+use crate::tree::{Double, Int, Literal, Name};
+use idl_token::Place;
+use std::alloc::{AllocFailed, Global};
+use std::marker::Model;
+use thrift_value::ByteText;
+
+/// No text has more symbols.
+pub(crate) const MAX_SYMBOLS: usize = 4_194_304;
+
+/// How many levels of containers may stand in one another.
+#[tactic(auto, unfolding(crate::specs::Spots::deepest))]
+pub(crate) fn deepest() -> usize
+    ensures { result ≡ deepest }
+{
+    64
+}
+
+/// Why a reading ended.
+#[derive(Clone, Copy, Debug, PartialEq, Eq)]
+pub(crate) enum Stop {
+    /// There was no room in memory.
+    NoMemory,
+    /// The symbol that is next can't stand there.
+    Stuck,
+    /// The symbol that is next opens a level too many.
+    Deep,
+}
+
+impl<T: Drop> From<AllocFailed<T>> for Stop {
+    ghost use Rattle.idl_parser.specs.declared.reader.Stop.TheVariants.{NoMemory};
+
+    ghost from_gives = { λ _ stop. stop ≡ NoMemory };
+
+    fn from(_failed: AllocFailed<T>) -> Self {
+        Stop::NoMemory
+    }
+}
+
+/// Reads symbols from the front.
+#[derive(Drop)]
+pub(crate) struct Reader<'a> {
+    text: &'a [u8],
+    left: &'a [Symbol],
+    alloc: Global,
+}
+
+impl<'a> Model for Reader<'a> {
+    ghost use Rattle.std.specs.Prelude.{List, map};
+    ghost use Rattle.idl_parser.specs.Phrases.{Lexeme};
+    ghost use Rattle.idl_parser.specs.Spots.{lexeme_of};
+
+    ghost Value = { List Lexeme };
+
+    ghost view = { λ r. map (lexeme_of r.text.now) r.left.now };
+}
+
+impl<'a> Reader<'a> {
+    /// Whether the next symbol is one of some.
+    pub(crate) fn starts(&self, set: &[Terminal]) -> bool
+        ensures { result ≡ starts_in set.now self.now }
+    {
+        match self.left.first() {
+            Some(symbol) => is_in(set, symbol.what),
+            None => false,
+        }
+    }
+
+    /// Passes one symbol, of which nothing is kept.
+    pub(crate) fn sign(&mut self, wanted: Terminal) -> Result<(), Stop>
+        ensures { Reads (sign wanted) (λ _. none) self.old self.new result }
+    {
+        match self.left.split_first() {
+            Some((symbol, rest)) if same(symbol.what, wanted) => {
+                self.left = rest;
+                Ok(())
+            }
+            _ => Err(Stop::Stuck),
+        }
+    }
+
+    /// Passes one symbol, of which it is kept that it was there.
+    pub(crate) fn flag(&mut self, wanted: Terminal) -> Result<(), Stop>
+        ensures { Reads (flagged wanted) (λ _. flag wanted) self.old self.new result }
+    {
+        match self.left.split_first() {
+            Some((symbol, rest)) if same(symbol.what, wanted) => {
+                self.left = rest;
+                Ok(())
+            }
+            _ => Err(Stop::Stuck),
+        }
+    }
+
+    /// A reader of symbols of a text.
+    pub(crate) fn new(alloc: Global, text: &'a [u8], symbols: &'a [Symbol]) -> Self
+        ensures { result ≡ map (lexeme_of text.now) symbols.now }
+    {
+        Reader {
+            text,
+            left: symbols,
+            alloc,
+        }
+    }
+
+    /// Whether no symbol is left.
+    pub(crate) fn is_at_end(&self) -> bool
+        ensures { result ≡ is_none_left self.now }
+    {
+        self.left.is_empty()
+    }
+
+    /// What is wrong with the next symbol, where a reading stopped there, and where that is.
+    pub(crate) fn fault(&self, stop: Stop, end: Place) -> (Place, ParseKind)
+        requires { stop ≢ Stop.NoMemory }
+        ensures place { result.0 ≡ next_place end self.now }
+        ensures kind { result.1 ≡ fault_kind (is_deep stop) self.now }
+    {
+        match self.left.first() {
+            Some(symbol) => (symbol.place, kind_at(stop, symbol.what)),
+            None => (end, kind_at(stop, Terminal::Identifier)),
+        }
+    }
+
+    /// The place of the next symbol.
+    pub(crate) fn place(&self) -> Place
+        ensures { result ≡ place_at self.now }
+    {
+        match self.left.first() {
+            Some(symbol) => symbol.place,
+            None => Place { line: 0, column: 0 },
+        }
+    }
+
+    /// Where memory comes from.
+    pub(crate) fn alloc(&self) -> Global {
+        self.alloc
+    }
+
+    /// Passes one symbol, and gives its place and its bytes.
+    fn take(&mut self, wanted: Terminal) -> Result<Taken<'a>, Stop>
+        ensures as_text { Reads (one wanted (text_leaf wanted)) (λ t. text wanted t.bytes.now t.place) self.old self.new result }
+        ensures as_literal { Reads (one wanted (literal_leaf wanted)) (λ t. text wanted (literal_bytes t.bytes.now) t.place) self.old self.new result }
+        ensures as_number { Reads (one wanted number_leaf) (λ t. number (number_of t.bytes.now) t.place) self.old self.new result }
+    {
+        match self.left.split_first() {
+            Some((symbol, rest)) if same(symbol.what, wanted) => {
+                self.left = rest;
+                Ok(Taken {
+                    bytes: part(self.text, symbol.from as usize, symbol.to as usize),
+                    place: symbol.place,
+                })
+            }
+            _ => Err(Stop::Stuck),
+        }
+    }
+
+    /// Passes one symbol, and gives its place.
+    pub(crate) fn word(&mut self, wanted: Terminal) -> Result<Place, Stop>
+        ensures { Reads (kept wanted) (word wanted) self.old self.new result }
+    {
+        match self.left.split_first() {
+            Some((symbol, rest)) if same(symbol.what, wanted) => {
+                self.left = rest;
+                Ok(symbol.place)
+            }
+            _ => Err(Stop::Stuck),
+        }
+    }
+
+    /// An identifier.
+    pub(crate) fn name(&mut self) -> Result<Name, Stop>
+        ensures { Reads identifier name_node self.old self.new result }
+    {
+        let taken = self.take(Terminal::Identifier)?;
+        let text = copied(self.alloc, taken.bytes)?;
+        Ok(Name {
+            at: taken.place,
+            text,
+        })
+    }
+
+    /// A number with a fraction or an exponent.
+    pub(crate) fn double(&mut self) -> Result<Double, Stop>
+        ensures { Reads decimal double_node self.old self.new result }
+    {
+        let taken = self.take(Terminal::Double)?;
+        let text = copied(self.alloc, taken.bytes)?;
+        Ok(Double {
+            at: taken.place,
+            text,
+        })
+    }
+
+    /// A literal.
+    pub(crate) fn literal(&mut self) -> Result<Literal, Stop>
+        ensures { Reads literal literal_node self.old self.new result }
+    {
+        let taken = self.take(Terminal::Literal)?;
+        let bytes = literal_bytes(self.alloc, taken.bytes)?;
+        Ok(Literal {
+            at: taken.place,
+            bytes,
+        })
+    }
+
+    /// An integer.
+    pub(crate) fn int(&mut self) -> Result<Int, Stop>
+        ensures { Reads integer int_node self.old self.new result }
+    {
+        let taken = self.take(Terminal::Int)?;
+        let value = number_of(taken.bytes)?;
+        Ok(Int {
+            at: taken.place,
+            value,
+        })
+    }
+}
+
+/// A symbol that was passed.
+#[derive(Clone, Copy)]
+struct Taken<'a> {
+    bytes: &'a [u8],
+    place: Place,
+}
+
+/// Adds an item to a list.
+pub(crate) fn put<T: Drop>(all: &mut Vec<T>, item: T) -> Result<(), Stop>
+    ensures { MatchResult result (λ _. all.new.items ≡ all.old.items ++ item ∷ []) (λ e. e ≡ Stop.NoMemory) }
+{
+    all.push(item)?;
+    Ok(())
+}
+
+fn kind_at(stop: Stop, what: Terminal) -> ParseKind
+    ensures { result ≡ kind_at (is_deep stop) what }
+{
+    match stop {
+        Stop::Deep => ParseKind::TooDeep,
+        _ if same(what, Terminal::Refused) => ParseKind::Refused,
+        _ => ParseKind::Found,
+    }
+}
+
+/// A copy of some bytes.
+fn copied(alloc: Global, bytes: &[u8]) -> Result<ByteText, Stop>
+    ensures { MatchResult result (λ text. text ≡ bytes.now) (λ e. e ≡ Stop.NoMemory) }
+{
+    match bytes.to_vec(alloc) {
+        Ok(copy) => Ok(ByteText::new(copy)),
+        Err(_) => Err(Stop::NoMemory),
+    }
+}
+
+/// The bytes of a text between two places.
+pub(crate) fn part(text: &[u8], from: usize, to: usize) -> &[u8]
+    ensures { result.now ≡ take (to - from) (drop from text.now) }
+{
+    let (_, rest) = text.split_at(from.min(text.len()));
+    let (front, _) = rest.split_at(to.saturating_sub(from).min(rest.len()));
+    front
+}
+
+fn is_one_of(what: Terminal, set: &[Terminal]) -> bool
+    ensures { result ≡ list_any (λ each. same what each) set.now }
+{
+    set.iter().any(|each| same(what, *each))
+}
+
+fn is_in(set: &[Terminal], what: Terminal) -> bool
+    ensures { result ≡ has set.now what }
+{
+    is_one_of(what, set)
+}

@@ -1,0 +1,95 @@
+//! Separators, annotations and what else is left out.
+ghost use Rattle.std.specs.Prelude.{◌≡◌};
+ghost use Rattle.idl_parser.specs.Phrases.{Node, none, many};
+ghost use Rattle.idl_parser.specs.Leaves.{neither};
+ghost use Rattle.idl_parser.specs.Parts.{separator, annotation_value, annotation_entry, annotation};
+ghost use Rattle.idl_parser.specs.Types.{cpp_type};
+ghost use Rattle.idl_parser.specs.Fields.{ending};
+ghost use Rattle.idl_parser.specs.Spots.{Reads};
+
+use crate::reader::{MAX_SYMBOLS, Reader, Stop};
+use crate::terminal::Terminal;
+
+impl<'a> Reader<'a> {
+    /// A separator, or none.
+    #[tactic(auto, unfolding(crate::specs::Parts::separator))]
+    pub(crate) fn separator(&mut self) -> Result<(), Stop>
+        ensures { Reads separator (λ _. none) self.old self.new result }
+    {
+        if self.starts(&[Terminal::Comma]) {
+            return self.sign(Terminal::Comma);
+        }
+        if self.starts(&[Terminal::Semicolon]) {
+            return self.sign(Terminal::Semicolon);
+        }
+        Ok(())
+    }
+
+    #[tactic(auto, unfolding(crate::specs::Parts::annotation_value))]
+    fn annotation_value(&mut self) -> Result<(), Stop>
+        ensures { Reads annotation_value (λ _. none) self.old self.new result }
+    {
+        if self.starts(&[Terminal::Equals]) {
+            self.sign(Terminal::Equals)?;
+            self.sign(Terminal::Literal)?;
+        }
+        Ok(())
+    }
+
+    #[tactic(auto, unfolding(crate::specs::Parts::annotation_entry))]
+    fn annotation_entry(&mut self) -> Result<(), Stop>
+        ensures { Reads annotation_entry (λ _. none) self.old self.new result }
+    {
+        self.sign(Terminal::Identifier)?;
+        self.annotation_value()?;
+        self.separator()
+    }
+
+    fn annotation_entries(&mut self) -> Result<(), Stop>
+        ensures { Reads (many neither annotation_entry) (λ _. none) self.old self.new result }
+    {
+        'entries: for _round in 0..MAX_SYMBOLS {
+            if !self.starts(&[Terminal::Identifier]) {
+                return Ok(());
+            }
+            if let Err(stop) = self.annotation_entry() {
+                return Err(stop);
+            }
+        }
+        Ok(())
+    }
+
+    /// An annotation, or none.
+    #[tactic(auto, unfolding(crate::specs::Parts::annotation))]
+    pub(crate) fn annotation(&mut self) -> Result<(), Stop>
+        ensures { Reads annotation (λ _. none) self.old self.new result }
+    {
+        if self.starts(&[Terminal::OpenParen]) {
+            self.sign(Terminal::OpenParen)?;
+            self.annotation_entries()?;
+            self.sign(Terminal::CloseParen)?;
+        }
+        Ok(())
+    }
+
+    /// The word `cpp_type` with its literal, or nothing.
+    #[tactic(auto, unfolding(crate::specs::Types::cpp_type))]
+    pub(crate) fn cpp_type(&mut self) -> Result<(), Stop>
+        ensures { Reads cpp_type (λ _. none) self.old self.new result }
+    {
+        if self.starts(&[Terminal::CppType]) {
+            self.sign(Terminal::CppType)?;
+            self.sign(Terminal::Literal)?;
+        }
+        Ok(())
+    }
+
+    /// An annotation or none, and a separator or none.
+    #[tactic(auto, unfolding(crate::specs::Fields::ending))]
+    pub(crate) fn ending(&mut self) -> Result<(), Stop>
+        ensures { Reads ending (λ _. none) self.old self.new result }
+    {
+        self.annotation()?;
+        self.separator()
+    }
+}

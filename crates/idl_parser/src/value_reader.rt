@@ -1,0 +1,173 @@
+//! Constant values.
+ghost use Rattle.std.specs.Prelude.{◌≡◌};
+ghost use Rattle.idl_parser.specs.Phrases.{pair, many};
+ghost use Rattle.idl_parser.specs.Shapes.{starts_in};
+ghost use Rattle.idl_parser.specs.Starts.{value_starts};
+ghost use Rattle.idl_parser.specs.Reading.{read};
+ghost use Rattle.idl_parser.specs.Constants.{list_item, list_value, map_entry, map_value, collection, no_collection, inner_value, value_of};
+ghost use Rattle.idl_parser.specs.Trees.{value_node, values_node, entry_node, pairs_node};
+ghost use Rattle.idl_parser.specs.Spots.{Reads, Stops, most};
+
+use crate::reader::{MAX_SYMBOLS, Reader, Stop, put};
+use crate::terminal::Terminal;
+use crate::tree::ConstTree;
+
+impl<'a> Reader<'a> {
+    /// Whether a value may begin with the next symbol.
+    fn begins_value(&self) -> bool
+        ensures { result ≡ starts_in value_starts self.now }
+    {
+        self.starts(&[
+            Terminal::Int,
+            Terminal::Double,
+            Terminal::Literal,
+            Terminal::Identifier,
+            Terminal::OpenBracket,
+            Terminal::OpenBrace,
+        ])
+    }
+
+    /// How a reading ends at a value for which there is no level.
+    #[tactic(auto, unfolding(crate::specs::Constants::no_collection))]
+    fn no_value_level(&self) -> Stop
+        ensures { Stops result (read most no_collection self.now) self.now }
+    {
+        if self.starts(&[Terminal::OpenBracket]) {
+            return Stop::Deep;
+        }
+        if self.starts(&[Terminal::OpenBrace]) {
+            return Stop::Deep;
+        }
+        Stop::Stuck
+    }
+
+    /// A value of so many levels of containers at most.
+    #[cycle(value_reader)]
+    #[tactic(auto, unfolding(crate::specs::Constants::value_of))]
+    pub(crate) fn value(&mut self, levels: usize) -> Result<ConstTree, Stop>
+        ensures { Reads (value_of levels) value_node self.old self.new result }
+    {
+        if self.starts(&[Terminal::Int]) {
+            return Ok(ConstTree::Int(self.int()?));
+        }
+        if self.starts(&[Terminal::Double]) {
+            return Ok(ConstTree::Double(self.double()?));
+        }
+        if self.starts(&[Terminal::Literal]) {
+            return Ok(ConstTree::Literal(self.literal()?));
+        }
+        if self.starts(&[Terminal::Identifier]) {
+            return Ok(ConstTree::Name(self.name()?));
+        }
+        self.inner_value(levels)
+    }
+
+    /// A list or a map of so many levels at most.
+    #[cycle(value_reader)]
+    fn inner_value(&mut self, levels: usize) -> Result<ConstTree, Stop>
+        ensures { Reads (inner_value levels) value_node self.old self.new result }
+    {
+        if levels == 0 {
+            return Err(self.no_value_level());
+        }
+        self.collection(levels - 1)
+    }
+
+    /// A list or a map whose parts have so many levels at most.
+    #[cycle(value_reader)]
+    #[tactic(auto, unfolding(crate::specs::Constants::collection))]
+    fn collection(&mut self, levels: usize) -> Result<ConstTree, Stop>
+        ensures { Reads (collection (value_of levels)) value_node self.old self.new result }
+    {
+        if self.starts(&[Terminal::OpenBracket]) {
+            return self.list_value(levels);
+        }
+        self.map_value(levels)
+    }
+
+    #[cycle(value_reader)]
+    #[tactic(auto, unfolding(crate::specs::Constants::list_rest))]
+    fn list_value(&mut self, levels: usize) -> Result<ConstTree, Stop>
+        ensures { Reads (list_value (value_of levels)) value_node self.old self.new result }
+    {
+        let at = self.word(Terminal::OpenBracket)?;
+        let items = self.list_items(levels)?;
+        self.sign(Terminal::CloseBracket)?;
+        Ok(ConstTree::List(at, items))
+    }
+
+    #[cycle(value_reader)]
+    #[tactic(auto, unfolding(crate::specs::Constants::list_item))]
+    fn list_item(&mut self, levels: usize) -> Result<ConstTree, Stop>
+        ensures { Reads (list_item (value_of levels)) value_node self.old self.new result }
+    {
+        let item = self.value(levels)?;
+        self.separator()?;
+        Ok(item)
+    }
+
+    #[cycle(value_reader)]
+    fn list_items(&mut self, levels: usize) -> Result<Vec<ConstTree>, Stop>
+        ensures { Reads (many pair (list_item (value_of levels))) (λ v. values_node v.items) self.old self.new result }
+    {
+        let mut all = Vec::new(self.alloc());
+        'row: for _round in 0..MAX_SYMBOLS {
+            if !self.begins_value() {
+                return Ok(all);
+            }
+            match self.list_item(levels) {
+                Ok(item) => {
+                    if let Err(full) = put(&mut all, item) {
+                        return Err(full);
+                    }
+                }
+                Err(stop) => return Err(stop),
+            }
+        }
+        Ok(all)
+    }
+
+    #[cycle(value_reader)]
+    #[tactic(auto, unfolding(crate::specs::Constants::map_rest))]
+    fn map_value(&mut self, levels: usize) -> Result<ConstTree, Stop>
+        ensures { Reads (map_value (value_of levels)) value_node self.old self.new result }
+    {
+        let at = self.word(Terminal::OpenBrace)?;
+        let pairs = self.map_entries(levels)?;
+        self.sign(Terminal::CloseBrace)?;
+        Ok(ConstTree::Map(at, pairs))
+    }
+
+    #[cycle(value_reader)]
+    #[tactic(auto, unfolding(crate::specs::Constants::map_entry))]
+    fn map_entry(&mut self, levels: usize) -> Result<(ConstTree, ConstTree), Stop>
+        ensures { Reads (map_entry (value_of levels)) entry_node self.old self.new result }
+    {
+        let key = self.value(levels)?;
+        self.sign(Terminal::Colon)?;
+        let value = self.value(levels)?;
+        self.separator()?;
+        Ok((key, value))
+    }
+
+    #[cycle(value_reader)]
+    fn map_entries(&mut self, levels: usize) -> Result<Vec<(ConstTree, ConstTree)>, Stop>
+        ensures { Reads (many pair (map_entry (value_of levels))) (λ v. pairs_node v.items) self.old self.new result }
+    {
+        let mut all = Vec::new(self.alloc());
+        'row: for _round in 0..MAX_SYMBOLS {
+            if !self.begins_value() {
+                return Ok(all);
+            }
+            match self.map_entry(levels) {
+                Ok(item) => {
+                    if let Err(full) = put(&mut all, item) {
+                        return Err(full);
+                    }
+                }
+                Err(stop) => return Err(stop),
+            }
+        }
+        Ok(all)
+    }
+}

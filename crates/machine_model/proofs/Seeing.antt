@@ -1,0 +1,313 @@
+-- How the plain program's values are seen, after a change.
+use Rattle.std.proofs.Common.{◌≡◌, ℕ, zero, suc, ◌+◌, ◌<◌, ◌≤◌, ◌⊎◌, Bool, true, false, ◌&&◌, ◌==◌, nat_lt, if◌then◌else◌, Option, None, Some, List, [], ◌∷◌, ◌++◌, map, length, drop, slice_get, option_map, append_assoc, append-nil, get_or, slice_set, refl, sym, ap, ◌∙◌, subst, inl, inr, arith, length-append}
+use Rattle.std.proofs.lemmas.Bool.{cases_eq, cases_lt, lt-ltb, true≢false, false≢true}
+use Rattle.std.proofs.lemmas.List.{length-map, length-set, map-set, get_or-set_same, get_or-set_other}
+use Rattle.host_model.specs.declared.cause.EndCause.{EndCause}
+use Rattle.machine_model.specs.declared.plain.conns.PlainConn.{PlainConn}
+use Rattle.machine_model.specs.Loop.{Conn, new_conn, open_one, open_among, with_conn, changed}
+use Rattle.machine_model.specs.Plain.{Moved, has_none_yet, moved_plain, answers, lacks_for_answer, Told, effect_plain, fate_plain, told_plain, run_plain}
+use Rattle.host_model.specs.Journal.{Rules}
+use Rattle.host_model.specs.Desk.{Desk}
+use Rattle.std.proofs.lemmas.Option.{none-some, same_Some}
+use Rattle.machine_model.specs.declared.plain.links.PlainLoop.{PlainLoop}
+use Rattle.outside.specs.declared.marks.Mark.{Mark}
+use Rattle.std.proofs.Math.Seq.{drop-length}
+use Rattle.host_model.specs.declared.key.Key.{Key}
+use Rattle.host_model.proofs.Fronting.{next_of}
+use Rattle.machine_model.specs.declared.plain.hands.PlainHand.{PlainHand}
+use Rattle.machine_model.specs.declared.plain.hands.PlainHand.TheVariants.{Idle}
+use Rattle.machine_model.specs.Hall.{is_same, without}
+use Rattle.machine_model.specs.Worker.{idle, has_answer, has_none}
+use Rattle.machine_model.specs.Machine.{Cell, with_hand}
+use Rattle.machine_model.specs.Seen.{conn_of, conns_of, loop_of, hand_of, hands_of}
+use Rattle.machine_model.proofs.Lists.{put_same, put_other}
+
+-- a function with this value in place of one
+abbrev pub changed_at : {Y : Type 0} → (ℕ → Y) → ℕ → Y → ℕ → Y
+changed_at g c v i = if i == c then v else g i
+
+module _ {X Y : Type 0} (f : X → Y) (none : Y) where
+  -- an element within the list
+  pub seen_at : (xs : List X) (i : ℕ) (d : X) → i < length xs → get_or (map f xs) i none ≡ f (get_or xs i d)
+  seen_at [] i d l = absurd (let g : ⊥ = omega arith in g)
+  seen_at (x ∷ xs) zero d l = refl
+  seen_at (x ∷ xs) (suc i) d l = seen_at xs i d (omega arith)
+
+  seen_past : (xs : List X) (i : ℕ) → length xs ≤ i → get_or (map f xs) i none ≡ none
+  seen_past [] i l = refl
+  seen_past (x ∷ xs) zero l = absurd (let g : ⊥ = omega arith in g)
+  seen_past (x ∷ xs) (suc i) l = seen_past xs i (omega arith)
+
+  seen_push : (xs : List X) (x : X) (i : ℕ) → i < length xs → get_or (map f (xs ++ x ∷ [])) i none ≡ get_or (map f xs) i none
+  seen_push [] x i l = absurd (let g : ⊥ = omega arith in g)
+  seen_push (y ∷ xs) x zero l = refl
+  seen_push (y ∷ xs) x (suc i) l = seen_push xs x i (omega arith)
+
+  seen_last : (xs : List X) (x : X) → get_or (map f (xs ++ x ∷ [])) (length xs) none ≡ f x
+  seen_last [] x = refl
+  seen_last (y ∷ xs) x = seen_last xs x
+
+  -- the elements by their numbers
+  abbrev pub seen : List X → ℕ → Y
+  seen xs i = get_or (map f xs) i none
+
+  -- once one is changed
+  pub seen_set : (xs : List X) (c : ℕ) (x : X) → c < length xs → seen (slice_set xs c x) ≡ changed_at (seen xs) c (f x)
+  seen_set xs c x l = λ k i. go i (cases_eq i c) k
+    where
+      go : (i : ℕ) → (i ≡ c) ⊎ (i ≡ c → ⊥) → seen (slice_set xs c x) i ≡ changed_at (seen xs) c (f x) i
+      go i (inl e) =
+          let n : length (map f xs) ≡ length xs = length-map xs f in
+          subst (λ y. seen (slice_set xs c x) y ≡ changed_at (seen xs) c (f x) y) (sym e)
+          (ap (λ ys. get_or ys c none) (map-set f xs c x) ∙ get_or-set_same (map f xs) c (f x) none (omega arith) ∙ sym (put_same (seen xs) c (f x)))
+      go i (inr n) =
+          ap (λ ys. get_or ys i none) (map-set f xs c x) ∙ get_or-set_other (map f xs) c i (f x) none n ∙ sym (put_other (seen xs) c (f x) i n)
+
+  -- and once there is one more
+  pub seen_more : (xs : List X) (x : X) → seen (xs ++ x ∷ []) ≡ changed_at (seen xs) (length xs) (f x)
+  seen_more xs x = λ k i. go i (cases_eq i (length xs)) k
+    where
+      other : (i : ℕ) → (i ≡ length xs → ⊥) → (i < length xs) ⊎ (length xs ≤ i) → seen (xs ++ x ∷ []) i ≡ seen xs i
+      other i n (inl l) = seen_push xs x i l
+      other i n (inr l) =
+          let m : length (xs ++ x ∷ []) ≡ length xs + 1 = length-append xs (x ∷ []) in
+          let h : length (xs ++ x ∷ []) ≤ i = elim (cases_lt (length xs) i) [ inl h ↦ omega arith | inr h ↦ absurd (n (omega arith)) ] in
+          seen_past (xs ++ x ∷ []) i h ∙ sym (seen_past xs i l)
+
+      go : (i : ℕ) → (i ≡ length xs) ⊎ (i ≡ length xs → ⊥) → seen (xs ++ x ∷ []) i ≡ changed_at (seen xs) (length xs) (f x) i
+      go i (inl e) =
+          subst (λ y. seen (xs ++ x ∷ []) y ≡ changed_at (seen xs) (length xs) (f x) y) (sym e) (seen_last xs x ∙ sym (put_same (seen xs) (length xs) (f x)))
+      go i (inr n) = other i n (cases_lt i (length xs)) ∙ sym (put_other (seen xs) (length xs) (f x) i n)
+
+-- the connections, once one is changed, and once there is one more
+pub conns_set : (xs : List PlainConn) (c : ℕ) (x : PlainConn) → c < length xs → conns_of (slice_set xs c x) ≡ with_conn (conns_of xs) c (conn_of x)
+conns_set xs c x l = seen_set conn_of new_conn xs c x l
+
+pub conns_more : (xs : List PlainConn) (x : PlainConn) → conns_of (xs ++ x ∷ []) ≡ with_conn (conns_of xs) (length xs) (conn_of x)
+conns_more xs x = seen_more conn_of new_conn xs x
+
+-- a connection that is put twice is put the second time
+pub put_again : (conns : ℕ → Conn) (c : ℕ) (one other : Conn) → with_conn (with_conn conns c one) c other ≡ with_conn conns c other
+put_again conns c one other = λ k i. go i (cases_eq i c) k
+  where
+    go : (i : ℕ) → (i ≡ c) ⊎ (i ≡ c → ⊥) → with_conn (with_conn conns c one) c other i ≡ with_conn conns c other i
+    go i (inl e) =
+        subst (λ y. with_conn (with_conn conns c one) c other y ≡ with_conn conns c other y) (sym e)
+        (put_same (with_conn conns c one) c other ∙ sym (put_same conns c other))
+    go i (inr n) = put_other (with_conn conns c one) c other i n ∙ put_other conns c one i n ∙ sym (put_other conns c other i n)
+
+-- a connection at its number
+pub conn_seen : (xs : List PlainConn) (i : ℕ) (d : PlainConn) → i < length xs → conns_of xs i ≡ conn_of (get_or xs i d)
+conn_seen xs i d l = seen_at conn_of new_conn xs i d l
+
+one_open : (cause : Option EndCause) → has_none_yet cause ≡ true → open_one cause ≡ 1
+one_open None e = refl
+one_open (Some cause) e = absurd (false≢true e)
+
+none_open : (cause : Option EndCause) → has_none_yet cause ≡ false → open_one cause ≡ 0
+none_open None e = absurd (true≢false e)
+none_open (Some cause) e = refl
+
+-- how many of the first i are open
+pub record Counting (xs : List PlainConn) (i count : ℕ) : Type 0 where
+  pub so_far : count ≡ open_among (conns_of xs) i
+  pub within : count ≤ i
+
+pub counts_open : (xs : List PlainConn) (i count next : ℕ) (x : PlainConn) → Counting xs i count → i < length xs → x ≡ get_or xs i x → has_none_yet x.cause ≡ true
+    → next ≡ count + 1 → Counting xs (i + 1) next
+counts_open xs i count next x w l is open_ e =
+    let n : i + 1 ≡ suc i = omega arith in
+    let o : open_one (conns_of xs i).cause ≡ 1 = ap (λ (y : Conn). open_one y.cause) (conn_seen xs i x l ∙ ap conn_of (sym is)) ∙ one_open x.cause open_ in
+    let s : count ≡ open_among (conns_of xs) i = w.so_far in
+    let m : count ≤ i = w.within in
+    let t : next ≡ open_one (conns_of xs i).cause + open_among (conns_of xs) i = omega arith in
+    record { so_far = t ∙ ap (open_among (conns_of xs)) (sym n); within = omega arith }
+
+pub counts_ended : (xs : List PlainConn) (i count : ℕ) (x : PlainConn) → Counting xs i count → i < length xs → x ≡ get_or xs i x → has_none_yet x.cause ≡ false
+    → Counting xs (i + 1) count
+counts_ended xs i count x w l is over =
+    let n : i + 1 ≡ suc i = omega arith in
+    let o : open_one (conns_of xs i).cause ≡ 0 = ap (λ (y : Conn). open_one y.cause) (conn_seen xs i x l ∙ ap conn_of (sym is)) ∙ none_open x.cause over in
+    let s : count ≡ open_among (conns_of xs) i = w.so_far in
+    let m : count ≤ i = w.within in
+    let t : count ≡ open_one (conns_of xs i).cause + open_among (conns_of xs) i = omega arith in
+    record { so_far = t ∙ ap (open_among (conns_of xs)) (sym n); within = omega arith }
+
+-- a connection that is there is open by its cause
+pub open_is : (xs : List PlainConn) (i : ℕ) (x : PlainConn) → i < length xs → x ≡ get_or xs i x
+    → has_none_yet x.cause ≡ (nat_lt i (length xs) && has_none_yet (conns_of xs i).cause)
+open_is xs i x l is =
+    ap (λ (y : Conn). has_none_yet y.cause) (ap conn_of is ∙ sym (conn_seen xs i x l)) ∙ ap (λ b. b && has_none_yet (conns_of xs i).cause) (sym (lt-ltb i (length xs) l))
+
+-- the loop once one connection is changed, and once it is taken out
+pub loop_set : (old : PlainLoop) (c : ℕ) (x : PlainConn) (marks tape : List Mark) → c < length old.conns.items → tape ≡ old.tape.items ++ marks
+    → record { tape = tape; count = length (slice_set old.conns.items c x); conns = conns_of (slice_set old.conns.items c x) } ≡ changed (loop_of old) c (conn_of x) marks
+loop_set old c x marks tape l e =
+    (λ i. record { tape = e i; count = length-set old.conns.items c x i; conns = conns_set old.conns.items c x l i })
+
+pub changed_out : (old : PlainLoop) (c : ℕ) (x : PlainConn) (now : Conn) (marks : List Mark) → c < length old.conns.items
+    → changed (record { tape = old.tape.items; count = length (slice_set old.conns.items c x); conns = conns_of (slice_set old.conns.items c x) }) c now marks ≡ changed (loop_of old) c now marks
+changed_out old c x now marks l =
+    (λ i. record {
+      tape = old.tape.items ++ marks;
+      count = length-set old.conns.items c x i;
+      conns = (ap (λ cs. with_conn cs c now) (conns_set old.conns.items c x l) ∙ put_again (conns_of old.conns.items) c (conn_of x) now) i;
+    })
+
+pub taken_out : (old : PlainLoop) (c : ℕ) (x : PlainConn) (m : Moved) → c < length old.conns.items
+    → moved_plain (record { tape = old.tape.items; count = length (slice_set old.conns.items c x); conns = conns_of (slice_set old.conns.items c x) }) c m ≡ moved_plain (loop_of old) c m
+taken_out old c x None l = refl
+taken_out old c x (Some m) l = ap Some (changed_out old c x m.0 m.1 l)
+
+-- the first element, and those behind it
+pub first_and_rest : {X : Type 0} (xs : List X) (x : X) → 0 < length xs → x ≡ get_or xs 0 x → xs ≡ x ∷ drop 1 xs
+first_and_rest [] x l is = absurd (let g : ⊥ = omega arith in g)
+first_and_rest (y ∷ xs) x l is = ap (λ z. z ∷ xs) (sym is)
+
+-- the keys that are left so far, and what is left of the rest
+abbrev left_of : Key → Bool → List Key → List Key
+left_of key is_out keys = if is_out then keys else without key keys
+
+pub record Leaving (key : Key) (keys : List Key) (i : ℕ) (left : List Key) (is_out : Bool) : Type 0 where
+  pub so_far : left ++ left_of key is_out (drop i keys) ≡ without key keys
+
+pub takes_key_out : (key : Key) (keys : List Key) (i : ℕ) (k : Key) (left : List Key) → Leaving key keys i left false → i < length keys → k ≡ get_or keys i k → is_same k key ≡ true
+    → Leaving key keys (i + 1) left true
+takes_key_out key keys i k left w l is same =
+    record {
+      so_far = ap (λ b. left ++ (if b then drop (i + 1) keys else k ∷ without key (drop (i + 1) keys))) (sym same)
+          ∙ ap (λ ks. left ++ without key ks) (sym (next_of keys i k l is)) ∙ w.so_far;
+    }
+
+pub keeps_other_key : (key : Key) (keys : List Key) (i : ℕ) (k : Key) (left next : List Key) → Leaving key keys i left false → i < length keys → k ≡ get_or keys i k → is_same k key ≡ false
+    → next ≡ left ++ k ∷ [] → Leaving key keys (i + 1) next false
+keeps_other_key key keys i k left next w l is other e =
+    let rest : List Key = without key (drop (i + 1) keys) in
+    record {
+      so_far = ap (λ t. t ++ rest) e ∙ append_assoc left (k ∷ []) rest
+          ∙ ap (λ b. left ++ (if b then drop (i + 1) keys else k ∷ rest)) (sym other)
+          ∙ ap (λ ks. left ++ without key ks) (sym (next_of keys i k l is)) ∙ w.so_far;
+    }
+
+pub keeps_later_key : (key : Key) (keys : List Key) (i : ℕ) (k : Key) (left next : List Key) → Leaving key keys i left true → i < length keys → k ≡ get_or keys i k
+    → next ≡ left ++ k ∷ [] → Leaving key keys (i + 1) next true
+keeps_later_key key keys i k left next w l is e =
+    record {
+      so_far = ap (λ t. t ++ drop (i + 1) keys) e ∙ append_assoc left (k ∷ []) (drop (i + 1) keys)
+          ∙ ap (λ ks. left ++ ks) (sym (next_of keys i k l is)) ∙ w.so_far;
+    }
+
+all_left : (key : Key) (is_out : Bool) → left_of key is_out [] ≡ []
+all_left key true = refl
+all_left key false = refl
+
+pub left_all : (key : Key) (keys left : List Key) (is_out : Bool) → Leaving key keys (length keys) left is_out → left ≡ without key keys
+left_all key keys left is_out w =
+    sym (append-nil left) ∙ ap (λ t. left ++ t) (sym (all_left key is_out)) ∙ ap (λ ks. left ++ left_of key is_out ks) (sym (drop-length keys)) ∙ w.so_far
+
+module _ {A : Type 0} where
+  -- hands, once one is changed, and once there is room for one more
+  pub hands_set : (xs : List (PlainHand A)) (w : ℕ) (x : PlainHand A) → w < length xs → hands_of (slice_set xs w x) ≡ with_hand (hands_of xs) w (hand_of x)
+  hands_set xs w x l = seen_set hand_of idle xs w x l
+
+  pub hand_seen : (xs : List (PlainHand A)) (w : ℕ) (x : PlainHand A) → w < length xs → x ≡ get_or xs w x → hand_of x ≡ hands_of xs w
+  hand_seen xs w x l is = ap hand_of is ∙ sym (seen_at hand_of idle xs w x l)
+
+  pub no_hand : (xs : List (PlainHand A)) (w : ℕ) → length xs ≤ w → idle ≡ hands_of xs w
+  no_hand xs w l = sym (seen_past hand_of idle xs w l)
+
+  pub record Room (first now : List (PlainHand A)) : Type 0 where
+    pub same : hands_of now ≡ hands_of first
+
+  pub more_room : (first now next : List (PlainHand A)) → Room first now → next ≡ now ++ Idle ∷ [] → Room first next
+  more_room first now next r e =
+      record { same = ap hands_of e ∙ (λ k i. go i (cases_eq i (length now)) k) ∙ r.same }
+    where
+      go : (i : ℕ) → (i ≡ length now) ⊎ (i ≡ length now → ⊥) → hands_of (now ++ Idle ∷ []) i ≡ hands_of now i
+      go i (inl q) =
+          (λ k. seen_more hand_of idle now Idle k i) ∙ subst (λ y. changed_at (hands_of now) (length now) idle y ≡ hands_of now y) (sym q)
+          (put_same (hands_of now) (length now) idle ∙ sym (seen_past hand_of idle now (length now) (omega arith)))
+      go i (inr n) = (λ k. seen_more hand_of idle now Idle k i) ∙ put_other (hands_of now) (length now) idle i n
+
+-- a memory at its slot
+pub memory_seen : {X Y : Type 0} (f : X → Y) (xs : List X) (i : ℕ) (x : X) → i < length xs → x ≡ get_or xs i x → Some (f x) ≡ option_map f (slice_get xs i)
+memory_seen f [] i x l is = absurd (let g : ⊥ = omega arith in g)
+memory_seen f (y ∷ xs) zero x l is = ap (λ z. Some (f z)) is
+memory_seen f (y ∷ xs) (suc i) x l is = memory_seen f xs i x (omega arith) is
+
+pub no_memory_seen : {X Y : Type 0} (f : X → Y) (xs : List X) (i : ℕ) → length xs ≤ i → None ≡ option_map f (slice_get xs i)
+no_memory_seen f [] i l = refl
+no_memory_seen f (y ∷ xs) zero l = absurd (let g : ⊥ = omega arith in g)
+no_memory_seen f (y ∷ xs) (suc i) l = no_memory_seen f xs i (omega arith)
+
+module _ {C A M : Type 0} (r : Rules C A M) where
+  -- an Apply that is answered, or lacks memory for the copy of its answer
+  pub fate_answers : (old new : Cell C A M) (w : ℕ) (key : Key) (payload : List ℕ) (call : C) (answer : A) (m : Option M) → Some answer ≡ option_map (λ m. (r.rule call m).0) m
+      → new ≡ record old { hall = effect_plain r old.hall key call answer; hands = with_hand old.hands w (has_answer key payload answer) }
+      → Some new ≡ fate_plain r old w key payload call answers m
+  fate_answers old new w key payload call answer None e is = absurd (none-some answer (sym e))
+  fate_answers old new w key payload call answer (Some m) e is =
+      ap Some is ∙ ap (λ a. Some (record old { hall = effect_plain r old.hall key call a; hands = with_hand old.hands w (has_answer key payload a) }))
+      (same_Some answer (r.rule call m).0 e)
+
+  pub fate_lacks : (old new : Cell C A M) (w : ℕ) (key : Key) (payload : List ℕ) (call : C) (answer : A) (m : Option M) → Some answer ≡ option_map (λ m. (r.rule call m).0) m
+      → new ≡ record old { hall = effect_plain r old.hall key call answer; hands = with_hand old.hands w (has_none key payload) }
+      → Some new ≡ fate_plain r old w key payload call lacks_for_answer m
+  fate_lacks old new w key payload call answer None e is = absurd (none-some answer (sym e))
+  fate_lacks old new w key payload call answer (Some m) e is =
+      ap Some is ∙ ap (λ a. Some (record old { hall = effect_plain r old.hall key call a; hands = with_hand old.hands w (has_none key payload) }))
+      (same_Some answer (r.rule call m).0 e)
+
+  pub fate_unanswered : (old : Cell C A M) (w : ℕ) (key : Key) (payload : List ℕ) (call : C) (m : Option M) → None ≡ option_map (λ m. (r.rule call m).0) m
+      → None ≡ fate_plain r old w key payload call answers m
+  fate_unanswered old w key payload call None e = refl
+  fate_unanswered old w key payload call (Some m) e = absurd (none-some (r.rule call m).0 e)
+
+  pub fate_unanswered_too : (old : Cell C A M) (w : ℕ) (key : Key) (payload : List ℕ) (call : C) (m : Option M) → None ≡ option_map (λ m. (r.rule call m).0) m
+      → None ≡ fate_plain r old w key payload call lacks_for_answer m
+  fate_unanswered_too old w key payload call None e = refl
+  fate_unanswered_too old w key payload call (Some m) e = absurd (none-some (r.rule call m).0 e)
+
+pub ruleset fates = (fate_answers, fate_lacks, fate_unanswered, fate_unanswered_too)
+
+-- the events that are left, from here, lead to where all lead from the start
+pub record Going {C A M E : Type 0} (d : Desk C A) (r : Rules C A M) (told_by : E → Told) (first : Cell C A M) (events : List E) (i : ℕ) (now : Cell C A M) : Type 0 where
+  pub so_far : run_plain d r (map told_by (drop i events)) (Some now) ≡ run_plain d r (map told_by events) (Some first)
+
+module _ {C A M E : Type 0} (d : Desk C A) (r : Rules C A M) (told_by : E → Told) where
+  pub goes_on : (first now next : Cell C A M) (events : List E) (i : ℕ) (event : E) → Going d r told_by first events i now → i < length events → event ≡ get_or events i event
+      → Some next ≡ told_plain d r now (told_by event) → Going d r told_by first events (i + 1) next
+  goes_on first now next events i event g l is e =
+      record {
+        so_far = ap (run_plain d r (map told_by (drop (i + 1) events))) e ∙ ap (λ es. run_plain d r (map told_by es) (Some now)) (sym (next_of events i event l is)) ∙ g.so_far;
+      }
+
+  nowhere : (told : List Told) → run_plain d r told None ≡ None
+  nowhere [] = refl
+  nowhere (one ∷ later) = refl
+
+  pub stops : (first now : Cell C A M) (events : List E) (i : ℕ) (event : E) → Going d r told_by first events i now → i < length events → event ≡ get_or events i event
+      → None ≡ told_plain d r now (told_by event) → None ≡ run_plain d r (map told_by events) (Some first)
+  stops first now events i event g l is e =
+      sym (nowhere (map told_by (drop (i + 1) events))) ∙ ap (run_plain d r (map told_by (drop (i + 1) events))) e
+      ∙ ap (λ es. run_plain d r (map told_by es) (Some now)) (sym (next_of events i event l is)) ∙ g.so_far
+
+  pub all_gone : (first now : Cell C A M) (events : List E) → Going d r told_by first events (length events) now → Some now ≡ run_plain d r (map told_by events) (Some first)
+  all_gone first now events g = ap (λ es. run_plain d r (map told_by es) (Some now)) (sym (drop-length events)) ∙ g.so_far
+
+pub ruleset running = (goes_on, stops, all_gone)
+
+-- the payload that is to be submitted next
+pub payload_seen : {X : Type 0} (f : X → List ℕ) (xs : List X) (i : ℕ) (x : X) → i < length xs → x ≡ get_or xs i x → slice_get (map f xs) i ≡ Some (f x)
+payload_seen f [] i x l is = absurd (let g : ⊥ = omega arith in g)
+payload_seen f (y ∷ xs) zero x l is = ap (λ z. Some (f z)) (sym is)
+payload_seen f (y ∷ xs) (suc i) x l is = payload_seen f xs i x (omega arith) is
+
+pub no_payload : {X : Type 0} (f : X → List ℕ) (xs : List X) (i : ℕ) → length xs ≤ i → slice_get (map f xs) i ≡ None
+no_payload f [] i l = refl
+no_payload f (y ∷ xs) zero l = absurd (let g : ⊥ = omega arith in g)
+no_payload f (y ∷ xs) (suc i) l = no_payload f xs i (omega arith)
+
+pub ruleset payloads = (payload_seen, no_payload)
+
+pub ruleset seeing = (conns_set, conns_more, conn_seen, put_again, counts_open, counts_ended, open_is, first_and_rest, takes_key_out, keeps_other_key, keeps_later_key, left_all, hands_set, hand_seen, no_hand, more_room)

@@ -1,0 +1,60 @@
+-- What the plain machine shows of a run of the tiny desk.
+use Rattle.std.proofs.Common.{◌≡◌, ℕ, zero, suc, ◌+◌, ◌<◌, Option, None, Some, List, [], ◌∷◌, map, length, slice_get, refl, sym, ap, ◌∙◌, subst, arith}
+use Rattle.std.proofs.lemmas.List.{length-map}
+use Rattle.std.proofs.lemmas.Option.{none-some, same_Some}
+use Rattle.outside.specs.declared.marks.Mark.{Mark}
+use Rattle.host_model.specs.declared.cause.EndCause.{EndCause}
+use Rattle.host_model.specs.Journal.{Entry}
+use Rattle.host_model.specs.TinyDesk.{desk, counting, IsRun}
+use Rattle.host_model.specs.Headline.{Headline}
+use Rattle.machine_model.specs.Hall.{IsNew}
+use Rattle.machine_model.specs.Loop.{Conn, Loop}
+use Rattle.machine_model.specs.Machine.{Cell, Event, Runs, IsFirst, HasEnded}
+use Rattle.machine_model.specs.Plain.{Told, goes, event_told, run_plain}
+use Rattle.machine_model.specs.Merge.{at_first}
+use Rattle.machine_model.specs.Tiny.{tiny_hall, causes_from, shown, LeadTo}
+
+pub tiny_is_new : IsNew (5 ∷ []) tiny_hall
+tiny_is_new = record { jobs = refl; taken = refl; outcomes = refl; memories = refl; journal = refl; closed = refl; broken = refl }
+
+pub tiny_is_first : IsFirst (5 ∷ []) (at_first tiny_hall)
+tiny_is_first = record { tape = refl; count = refl; hall = tiny_is_new; hands = λ w. refl }
+
+-- the causes of n connections
+cause_numbers : (conns : ℕ → Conn) (c n : ℕ) → length (causes_from conns c n) ≡ n
+cause_numbers conns c zero = refl
+cause_numbers conns c (suc n) = ap suc (cause_numbers conns (suc c) n)
+
+cause_at : (conns : ℕ → Conn) (c n x : ℕ) → x < n → slice_get (causes_from conns c n) x ≡ Some (conns (c + x)).cause
+cause_at conns c zero x l = absurd (let f : ⊥ = omega arith in f)
+cause_at conns c (suc n) zero l = let e : c ≡ c + 0 = omega arith in ap (λ y. Some (conns y).cause) e
+cause_at conns c (suc n) (suc x) l =
+    let e : suc c + x ≡ c + suc x = omega arith in cause_at conns (suc c) n x (omega arith) ∙ ap (λ y. Some (conns y).cause) e
+
+some_at : (causes : List EndCause) (x : ℕ) (cause : Option EndCause) → slice_get (map Some causes) x ≡ Some cause → cause ≡ slice_get causes x
+some_at [] x cause e = absurd (none-some cause e)
+some_at (first ∷ causes) zero cause e = sym (same_Some (Some first) cause e)
+some_at (first ∷ causes) (suc x) cause e = some_at causes x cause e
+
+pub ended_by : (loop : Loop) (causes : List EndCause) → causes_from loop.conns 0 loop.count ≡ map Some causes → HasEnded loop causes
+ended_by loop causes e =
+    record {
+      count = sym (length-map causes Some) ∙ ap length (sym e) ∙ cause_numbers loop.conns 0 loop.count;
+      each = λ c l. some_at causes c (loop.conns c).cause (ap (λ (xs : List (Option EndCause)). slice_get xs c) (sym e) ∙ cause_at loop.conns 0 loop.count c l
+          ∙ (let n : 0 + c ≡ c = omega arith in ap (λ y. Some (loop.conns y).cause) n));
+    }
+
+-- what is shown is of a run
+pub shown_meets : ((told : List Told) (cell : Cell ℕ ℕ ℕ) → run_plain desk counting told (Some (at_first tiny_hall)) ≡ Some cell → Runs desk counting (at_first tiny_hall) (map event_told told) cell)
+    → ((events : List Event) (cell : Cell ℕ ℕ ℕ) (causes : List EndCause) → Runs desk counting (at_first tiny_hall) events cell → HasEnded cell.loop causes
+    → Headline desk counting (5 ∷ []) cell.loop.tape cell.hall.journal causes)
+    → (events : List Event) (tape : List Mark) (journal : List (Entry ℕ ℕ)) (causes : List EndCause) → LeadTo events tape journal (map Some causes) → IsRun tape journal causes
+shown_meets runs law events tape journal causes e = go (run_plain desk counting (map goes events) (Some (at_first tiny_hall))) refl e
+  where
+    go : (x : Option (Cell ℕ ℕ ℕ)) → run_plain desk counting (map goes events) (Some (at_first tiny_hall)) ≡ x → shown x ≡ Some (tape, journal, map Some causes) → IsRun tape journal causes
+    go None r s = absurd (none-some (tape, journal, map Some causes) s)
+    go (Some cell) r s =
+        let t : (cell.loop.tape, cell.hall.journal, causes_from cell.loop.conns 0 cell.loop.count) ≡ (tape, journal, map Some causes) =
+        same_Some (cell.loop.tape, cell.hall.journal, causes_from cell.loop.conns 0 cell.loop.count) (tape, journal, map Some causes) s in
+        subst (λ (u : List Mark × List (Entry ℕ ℕ)). Headline desk counting (5 ∷ []) u.0 u.1 causes) (λ i. ((t i).0, (t i).1))
+        (law (map event_told (map goes events)) cell causes (runs (map goes events) cell r) (ended_by cell.loop causes (λ i. (t i).2)))

@@ -1,0 +1,241 @@
+//! A connection, and what happens on it.
+
+ghost use Rattle.std.specs.Prelude.{◌≡◌, ◌++◌, ◌∷◌, [], IfOk, option_map};
+ghost use Rattle.outside.specs.declared.marks.Mark.TheVariants.{Closed};
+ghost use Rattle.host_model.specs.World.{end_behind};
+ghost use Rattle.machine_model.specs.Loop.{new_conn, with_cause};
+ghost use Rattle.machine_model.specs.Plain.{owes_nothing, stays_in_size, is_given_up, reads_plain, ends_plain, fails_read_plain, writes_plain, fails_write_plain, gives_up_plain, made_plain};
+ghost use Rattle.machine_model.specs.Seen.{conn_of, moved_of, seen_made};
+
+use super::made::{PlainMade, made_by};
+use host_model::EndCause;
+use outside::{Bytes, Mark};
+use std::alloc::{AllocError, Global};
+
+/// A connection.
+#[derive(Debug, Drop)]
+pub struct PlainConn {
+    /// The payloads read whole.
+    pub payloads: Vec<Vec<u8>>,
+    /// The bytes read behind them.
+    pub held: Vec<u8>,
+    /// How many payloads were submitted.
+    pub submitted: u64,
+    /// How many of them were collected.
+    pub collected: u64,
+    /// What isn't written of the last reply.
+    pub left: Vec<u8>,
+    /// Why it has ended, where it has.
+    pub cause: Option<EndCause>,
+}
+
+/// A connection after what it did, and the marks of that.
+#[derive(Debug, Drop)]
+pub struct PlainMoved {
+    pub conn: PlainConn,
+    pub marks: Vec<Mark>,
+}
+
+impl PlainConn {
+    /// A connection on which nothing has happened; takes no memory.
+    pub fn new(alloc: Global) -> Self
+        ensures { conn_of result ≡ new_conn }
+    {
+        PlainConn {
+            payloads: Vec::new(alloc),
+            held: Vec::new(alloc),
+            submitted: 0,
+            collected: 0,
+            left: Vec::new(alloc),
+            cause: None,
+        }
+    }
+}
+
+/// Whether nothing is owed to a connection.
+fn owes_nothing(conn: &PlainConn) -> bool
+    ensures { result ≡ owes_nothing (conn_of conn.now) }
+{
+    conn.collected == conn.payloads.len() as u64 && conn.left.is_empty()
+}
+
+/// Whether bytes behind those held don't pass the end of a size that is under way.
+fn stays_in_size(held: &[u8], bytes: &[u8]) -> bool
+    ensures { result ≡ stays_in_size held.now bytes.now }
+{
+    if held.len() < 4 {
+        return bytes.len() <= 4 - held.len();
+    }
+    true
+}
+
+/// It has ended by this cause, and these marks say so.
+fn ended(
+    alloc: Global,
+    c: u32,
+    conn: PlainConn,
+    mark: Mark,
+    cause: EndCause,
+) -> Result<PlainMoved, AllocError>
+    ensures { IfOk result (λ moved. moved_of moved ≡ (with_cause (conn_of conn) cause, mark ∷ Closed c ∷ [])) }
+{
+    let mut marks = Vec::new(alloc);
+    marks.push(mark)?;
+    marks.push(Mark::Closed(c))?;
+    let conn = PlainConn {
+        cause: Some(cause),
+        ..conn
+    };
+    Ok(PlainMoved { conn, marks })
+}
+
+/// It reads bytes.
+pub fn reads(
+    alloc: Global,
+    max: u32,
+    c: u32,
+    bytes: &[u8],
+    conn: PlainConn,
+) -> Result<Option<PlainMoved>, AllocError>
+    ensures { IfOk result (λ moved. option_map moved_of moved ≡ reads_plain max c bytes.now (conn_of conn)) }
+{
+    if !owes_nothing(&conn) {
+        return Ok(None);
+    }
+    if bytes.is_empty() {
+        return Ok(None);
+    }
+    if !stays_in_size(conn.held.as_slice(), bytes) {
+        return Ok(None);
+    }
+    let mut held = Vec::from_slice(alloc, conn.held.as_slice())?;
+    held.extend_from_slice(bytes)?;
+    match made_by(alloc, max, held.as_slice())? {
+        None => Ok(None),
+        Some(made) => Ok(Some(read_more(alloc, c, conn, bytes, made)?)),
+    }
+}
+
+/// It has read bytes that make this.
+fn read_more(
+    alloc: Global,
+    c: u32,
+    conn: PlainConn,
+    bytes: &[u8],
+    made: PlainMade,
+) -> Result<PlainMoved, AllocError>
+    ensures { IfOk result (λ moved. Some (moved_of moved) ≡ made_plain c (conn_of conn) bytes.now (Some (seen_made made))) }
+{
+    let mut conn = conn;
+    let mut marks = Vec::new(alloc);
+    marks.push(Mark::Read(c, Bytes::new(Vec::from_slice(alloc, bytes)?)))?;
+    match made {
+        PlainMade::Part => conn.held.extend_from_slice(bytes)?,
+        PlainMade::BadSize(size) => {
+            conn.held.extend_from_slice(bytes)?;
+            conn.cause = Some(EndCause::SizeFault(size));
+            marks.push(Mark::Closed(c))?;
+        }
+        PlainMade::Whole(payload) => {
+            conn.payloads.push(payload)?;
+            conn.held = Vec::new(alloc);
+        }
+    }
+    Ok(PlainMoved { conn, marks })
+}
+
+/// The cause of an input that ends behind these bytes.
+fn end_behind(held: &[u8]) -> EndCause
+    ensures { result ≡ end_behind held.now }
+{
+    if held.is_empty() {
+        EndCause::End
+    } else {
+        EndCause::Cut
+    }
+}
+
+/// Its input ends.
+pub fn ends(alloc: Global, c: u32, conn: PlainConn) -> Result<Option<PlainMoved>, AllocError>
+    ensures { IfOk result (λ moved. option_map moved_of moved ≡ ends_plain c (conn_of conn)) }
+{
+    if !owes_nothing(&conn) {
+        return Ok(None);
+    }
+    let cause = end_behind(conn.held.as_slice());
+    Ok(Some(ended(alloc, c, conn, Mark::Ended(c), cause)?))
+}
+
+/// A read fails.
+pub fn fails_read(alloc: Global, c: u32, conn: PlainConn) -> Result<Option<PlainMoved>, AllocError>
+    ensures { IfOk result (λ moved. option_map moved_of moved ≡ fails_read_plain c (conn_of conn)) }
+{
+    if !owes_nothing(&conn) {
+        return Ok(None);
+    }
+    Ok(Some(ended(alloc, c, conn, Mark::ReadFailed(c), EndCause::ReadFault)?))
+}
+
+/// So many bytes of its reply are written.
+pub fn writes(
+    alloc: Global,
+    c: u32,
+    count: usize,
+    conn: PlainConn,
+) -> Result<Option<PlainMoved>, AllocError>
+    ensures { IfOk result (λ moved. option_map moved_of moved ≡ writes_plain c count (conn_of conn)) }
+{
+    if count == 0 {
+        return Ok(None);
+    }
+    if conn.left.len() < count {
+        return Ok(None);
+    }
+    let (written, left) = conn.left.as_slice().split_at(count);
+    let mark = Mark::Wrote(c, Bytes::new(Vec::from_slice(alloc, written)?));
+    let left = Vec::from_slice(alloc, left)?;
+    let mut marks = Vec::new(alloc);
+    marks.push(mark)?;
+    Ok(Some(PlainMoved {
+        conn: PlainConn { left, ..conn },
+        marks,
+    }))
+}
+
+/// A write fails.
+pub fn fails_write(alloc: Global, c: u32, conn: PlainConn) -> Result<Option<PlainMoved>, AllocError>
+    ensures { IfOk result (λ moved. option_map moved_of moved ≡ fails_write_plain c (conn_of conn)) }
+{
+    if conn.left.is_empty() {
+        return Ok(None);
+    }
+    Ok(Some(ended(alloc, c, conn, Mark::WriteFailed(c), EndCause::WriteFault)?))
+}
+
+/// Whether a connection is given up from outside by this cause.
+fn is_given_up(cause: EndCause) -> bool
+    ensures { result ≡ is_given_up cause }
+{
+    matches!(cause, EndCause::NoMemory | EndCause::Stopped)
+}
+
+/// It is given up.
+pub fn gives_up(
+    alloc: Global,
+    c: u32,
+    cause: EndCause,
+    conn: PlainConn,
+) -> Result<Option<PlainMoved>, AllocError>
+    ensures { IfOk result (λ moved. option_map moved_of moved ≡ gives_up_plain c cause (conn_of conn)) }
+{
+    if !is_given_up(cause) {
+        return Ok(None);
+    }
+    let mut marks = Vec::new(alloc);
+    marks.push(Mark::Closed(c))?;
+    let conn = PlainConn {
+        cause: Some(cause),
+        ..conn
+    };
+    Ok(Some(PlainMoved { conn, marks }))
+}

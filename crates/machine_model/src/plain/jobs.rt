@@ -1,0 +1,135 @@
+//! A worker's jobs: taken, and put with their outcomes.
+
+ghost use Rattle.std.specs.Prelude.{◌≡◌, IfOk, option_map};
+ghost use Rattle.host_model.specs.Plain.{decision_of};
+ghost use Rattle.machine_model.specs.Worker.{settled_by, settled_with, key_held};
+ghost use Rattle.machine_model.specs.Plain.{take_plain, outcome_plain, put_plain, lack_plain};
+ghost use Rattle.machine_model.specs.Seen.{cell_of, hand_of};
+
+use super::cells::{PlainCell, with_hand_of};
+use super::halls::{PlainOutcome, take_first, without};
+use super::hands::{PlainHand, hand_at};
+use host_model::Key;
+use host_model::plain::{Decided, PlainDesk};
+use outside::{Bytes, Settled};
+use std::alloc::{AllocError, Global};
+
+/// A job is taken, where there is one.
+pub fn takes<C: Copy, A: Copy, M: Copy>(
+    alloc: Global,
+    cell: PlainCell<C, A, M>,
+    w: u32,
+) -> Result<Option<PlainCell<C, A, M>>, AllocError>
+    ensures { IfOk result (λ next. option_map cell_of next ≡ take_plain (cell_of cell) w ((cell_of cell).hands w) (cell_of cell).hall.jobs) }
+{
+    let mut cell = cell;
+    let PlainHand::Idle = hand_at(alloc, cell.hands.as_slice(), w)? else {
+        return Ok(None);
+    };
+    match take_first(&mut cell.hall.jobs) {
+        None => Ok(Some(with_hand_of(cell, w, PlainHand::Idle)?)),
+        Some(job) => {
+            cell.hall.taken.push(job.key)?;
+            Ok(Some(with_hand_of(cell, w, PlainHand::Holds(job.key, job.payload))?))
+        }
+    }
+}
+
+/// What a payload comes to without a call.
+fn settled_by<C: Copy>(decided: Decided<C>) -> Option<Settled>
+    ensures { result ≡ settled_by (decision_of decided) }
+{
+    match decided {
+        Decided::Refused(fault) => Some(Settled::Close(fault)),
+        Decided::Passed => Some(Settled::Nothing),
+        Decided::Replied(reply) => Some(Settled::Reply(reply)),
+        Decided::Called(_) => None,
+    }
+}
+
+/// What a payload comes to by its call's answer.
+fn settled_with<D: PlainDesk>(
+    alloc: Global,
+    desk: &D,
+    payload: &[u8],
+    answer: D::Answer,
+) -> Result<Option<Settled>, AllocError>
+    ensures { IfOk result (λ settled. settled ≡ settled_with (D.desk desk.now) payload.now answer ((D.desk desk.now).decide payload.now)) }
+{
+    let Decided::Called(call) = desk.decide(alloc, payload)? else {
+        return Ok(None);
+    };
+    if desk.is_silent(call) {
+        return Ok(Some(Settled::Nothing));
+    }
+    Ok(Some(Settled::Reply(Bytes::new(desk.reply(alloc, payload, answer)?))))
+}
+
+/// An outcome is put, where the job is settled.
+fn puts_outcome<C: Copy, A: Copy, M: Copy>(
+    alloc: Global,
+    cell: PlainCell<C, A, M>,
+    w: u32,
+    key: Key,
+    settled: Option<Settled>,
+) -> Result<Option<PlainCell<C, A, M>>, AllocError>
+    ensures { IfOk result (λ next. option_map cell_of next ≡ outcome_plain (cell_of cell) w key settled) }
+{
+    let Some(settled) = settled else {
+        return Ok(None);
+    };
+    let mut cell = cell;
+    let taken = without(alloc, key, cell.hall.taken.as_slice())?;
+    cell.hall.taken = taken;
+    cell.hall.outcomes.push(PlainOutcome { key, settled })?;
+    Ok(Some(with_hand_of(cell, w, PlainHand::Idle)?))
+}
+
+/// A worker puts its job's outcome, where it is settled.
+pub fn puts<D: PlainDesk, M: Copy>(
+    alloc: Global,
+    desk: &D,
+    cell: PlainCell<D::Call, D::Answer, M>,
+    w: u32,
+) -> Result<Option<PlainCell<D::Call, D::Answer, M>>, AllocError>
+    ensures { IfOk result (λ next. option_map cell_of next ≡ put_plain (D.desk desk.now) (cell_of cell) w ((cell_of cell).hands w)) }
+{
+    match hand_at(alloc, cell.hands.as_slice(), w)? {
+        PlainHand::Idle => Ok(None),
+        PlainHand::Holds(key, payload) => {
+            let settled = settled_by(desk.decide(alloc, payload.as_slice())?);
+            puts_outcome(alloc, cell, w, key, settled)
+        }
+        PlainHand::HasAnswer(key, payload, answer) => {
+            let settled = settled_with(alloc, desk, payload.as_slice(), answer)?;
+            puts_outcome(alloc, cell, w, key, settled)
+        }
+        PlainHand::HasNone(_, _) => Ok(None),
+    }
+}
+
+/// The key of the job that a worker holds.
+fn key_held<A: Copy>(hand: PlainHand<A>) -> Option<Key>
+    ensures { result ≡ key_held (hand_of hand) }
+{
+    match hand {
+        PlainHand::Idle => None,
+        PlainHand::Holds(key, _) => Some(key),
+        PlainHand::HasAnswer(key, _, _) => Some(key),
+        PlainHand::HasNone(key, _) => Some(key),
+    }
+}
+
+/// A worker puts want of memory.
+pub fn puts_none<C: Copy, A: Copy, M: Copy>(
+    alloc: Global,
+    cell: PlainCell<C, A, M>,
+    w: u32,
+) -> Result<Option<PlainCell<C, A, M>>, AllocError>
+    ensures { IfOk result (λ next. option_map cell_of next ≡ lack_plain (cell_of cell) w (key_held ((cell_of cell).hands w))) }
+{
+    match key_held(hand_at(alloc, cell.hands.as_slice(), w)?) {
+        None => Ok(None),
+        Some(key) => puts_outcome(alloc, cell, w, key, Some(Settled::NoMemory)),
+    }
+}

@@ -1,0 +1,111 @@
+//! Runs of the machine.
+
+ghost use Rattle.std.specs.Prelude.{◌≡◌, ◌<◌, ◌^◌, Some, map, IfOk, IfSome, option_map};
+ghost use Rattle.machine_model.specs.Machine.{IsFirst, Runs};
+ghost use Rattle.machine_model.specs.Plain.{event_told, told_plain, run_plain, with_loop, link_plain};
+ghost use Rattle.machine_model.specs.Seen.{cell_of, link_of, told_of};
+
+use super::calls::applies;
+use super::cells::{PlainCell, PlainEvent};
+use super::halls::PlainHall;
+use super::jobs::{puts, puts_none, takes};
+use super::links::{PlainLink, PlainLoop, link};
+use super::rounds::{collects, submits};
+use crate::laws::plain_machine_runs;
+use host_model::plain::{PlainDesk, PlainServices};
+use std::alloc::{AllocError, Global};
+
+/// The machine before it has done anything, with services of these memories; takes no memory.
+pub fn start<C: Copy, A: Copy, M: Copy>(alloc: Global, memories: Vec<M>) -> PlainCell<C, A, M>
+    ensures { IsFirst memories.items (cell_of result) }
+{
+    PlainCell {
+        line: PlainLoop {
+            tape: Vec::new(alloc),
+            conns: Vec::new(alloc),
+        },
+        hall: PlainHall {
+            jobs: Vec::new(alloc),
+            taken: Vec::new(alloc),
+            outcomes: Vec::new(alloc),
+            memories,
+            journal: Vec::new(alloc),
+            faults: 0,
+            closed: false,
+            broken: false,
+        },
+        hands: Vec::new(alloc),
+    }
+}
+
+/// Something happens on a connection, where it can.
+fn happens<C: Copy, A: Copy, M: Copy>(
+    alloc: Global,
+    max: u32,
+    cell: PlainCell<C, A, M>,
+    event: &PlainLink,
+) -> Result<Option<PlainCell<C, A, M>>, AllocError>
+    ensures { IfOk result (λ next. option_map cell_of next ≡ with_loop (cell_of cell) (link_plain max (cell_of cell).loop (link_of event.now))) }
+{
+    let PlainCell { line, hall, hands } = cell;
+    let Some(line) = link(alloc, max, line, event)? else {
+        return Ok(None);
+    };
+    Ok(Some(PlainCell { line, hall, hands }))
+}
+
+/// The machine after an event, where it can be; payloads of this desk have at most `max` bytes.
+pub fn step<D: PlainDesk, S: PlainServices<Call = D::Call, Answer = D::Answer>>(
+    alloc: Global,
+    max: u32,
+    desk: &D,
+    services: &S,
+    cell: PlainCell<D::Call, D::Answer, S::Memory>,
+    event: &PlainEvent,
+) -> Result<Option<PlainCell<D::Call, D::Answer, S::Memory>>, AllocError>
+    requires { max ≡ (D.desk desk.now).max }
+    ensures { IfOk result (λ next. option_map cell_of next ≡ told_plain (D.desk desk.now) (S.rules services.now) (cell_of cell) (told_of event.now)) }
+{
+    match event {
+        PlainEvent::Happens(event) => happens(alloc, max, cell, event),
+        PlainEvent::Submits(c) => submits(alloc, cell, *c),
+        PlainEvent::Takes(w) => takes(alloc, cell, *w),
+        PlainEvent::Applies(w, fate) => applies(alloc, desk, services, cell, *w, *fate),
+        PlainEvent::Puts(w) => puts(alloc, desk, cell, *w),
+        PlainEvent::PutsNone(w) => puts_none(alloc, cell, *w),
+        PlainEvent::Collects => collects(alloc, cell),
+        PlainEvent::Closes => {
+            let mut cell = cell;
+            cell.hall.closed = true;
+            Ok(Some(cell))
+        }
+    }
+}
+
+/// The machine after all of these events, where each can be: a run of it.
+#[tactic(auto, using(crate::proofs::Seeing::running))]
+pub fn run<D: PlainDesk, S: PlainServices<Call = D::Call, Answer = D::Answer>>(
+    alloc: Global,
+    max: u32,
+    desk: &D,
+    services: &S,
+    cell: PlainCell<D::Call, D::Answer, S::Memory>,
+    events: &[PlainEvent],
+) -> Result<Option<PlainCell<D::Call, D::Answer, S::Memory>>, AllocError>
+    requires same_max { max ≡ (D.desk desk.now).max }
+    requires small { max < 2 ^ 31 }
+    ensures plainly { IfOk result (λ next. option_map cell_of next
+        ≡ run_plain (D.desk desk.now) (S.rules services.now) (map told_of events.now) (Some (cell_of cell))) }
+    ensures runs { IfOk result (λ next. IfSome next (λ last.
+        Runs (D.desk desk.now) (S.rules services.now) (cell_of cell) (map event_told (map told_of events.now)) (cell_of last))) }
+{
+    plain_machine_runs::<D::Call, D::Answer, S::Memory>();
+    let mut now = cell;
+    for event in events {
+        match step(alloc, max, desk, services, now, event)? {
+            None => return Ok(None),
+            Some(next) => now = next,
+        }
+    }
+    Ok(Some(now))
+}

@@ -1,0 +1,5 @@
+use Rattle.wire_model.proofs.Places.{one_value}
+use Rattle.wire_model.proofs.laws.no_spelling_goes_on.Goals as goal
+
+pub returns : goal.returns
+returns g c = one_value g.P.Protocol.wire g.P.Protocol.format g.P.Protocol.script

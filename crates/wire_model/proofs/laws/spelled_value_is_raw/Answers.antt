@@ -1,0 +1,5 @@
+use Rattle.wire_model.proofs.Raws.{raw_value}
+use Rattle.wire_model.proofs.laws.spelled_value_is_raw.Goals as goal
+
+pub returns : goal.returns
+returns g c = raw_value g.P.Protocol.wire g.P.Protocol.format g.P.Protocol.script

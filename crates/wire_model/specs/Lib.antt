@@ -1,0 +1,9 @@
+pub mod Reader
+pub mod Wire
+pub mod Reading
+pub mod Format
+pub mod Script
+pub mod Sizes
+pub mod Place
+pub mod Gives
+pub mod Protocol

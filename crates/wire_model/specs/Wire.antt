@@ -1,0 +1,30 @@
+-- What a protocol reads by itself: the parts of a value that hold no other values.
+use Rattle.std.specs.Prelude.{⊤, ℕ, ℤ, Bool, List}
+use Rattle.thrift_value.specs.declared.tag.Tag.{Tag}
+use Rattle.thrift_value.specs.declared.tag.Tag.TheVariants as tags
+use Rattle.thrift_value.specs.Tree.{Tree}
+use Rattle.wire_model.specs.Reader.{Reader}
+
+-- what stands before a field of a struct: the end of the struct, the id and the tag of a field whose value follows, or
+-- the id and the value of a bool field that has its value in the header (Thrift compact protocol, 'Struct encoding')
+pub data Head : Type 0 where
+  stop : Head
+  head : ℤ → Tag → Head
+  flagged : ℤ → Bool → Head
+
+-- the readers of a protocol; field takes the id of the field before, 0 at the first
+pub record Wire : Type 0 where
+  pub field : ℤ → Reader Head
+  pub scalar : Tag → Reader Tree
+  pub span : Reader (List ℕ)
+  pub items : Reader (Tag × ℕ)
+  pub pairs : Reader (Tag × Tag × ℕ)
+
+-- the kinds of values that are neither bytes nor hold other values
+abbrev pub IsScalar : Tag → Type 0
+IsScalar tags.Bytes = ⊥
+IsScalar tags.Struct = ⊥
+IsScalar tags.Map = ⊥
+IsScalar tags.Set = ⊥
+IsScalar tags.List = ⊥
+IsScalar _ = ⊤

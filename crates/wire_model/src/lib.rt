@@ -1,0 +1,17 @@
+//! Values on the wire: what Thrift's binary and compact protocols share, and the laws of reading and writing.
+//!
+//! A protocol has readers of its own for field headers, numbers, texts and container headers, the spellings of these, and
+//! what it writes of them ([`Protocol`]). From these parts the files of `specs/` make the reading of a whole value with its
+//! first fault, the spellings of a value, and the bytes that are written for it. A protocol proves of its parts alone that
+//! they agree (`IsProtocol`); the laws then say it of every value.
+//!
+//! No byte of either protocol is known here, and nothing runs. A crate that reads says in its contract that it gives
+//! `struct_at binary bytes.now at`, and gets the rest by citing a law in the body of its function:
+//! `struct_read_is_spelled::<Binary>(); binary_leaves_agree();`, and then
+//! `c.struct_read_is_spelled.ensures c.binary_leaves_agree.ensures` in the answer.
+#![tactic(auto)]
+
+pub mod laws;
+mod protocol;
+
+pub use protocol::Protocol;

@@ -1,0 +1,17 @@
+//! A protocol, by its definitions alone.
+
+ghost use Rattle.wire_model.specs.Format.{Format};
+ghost use Rattle.wire_model.specs.Script.{Script};
+ghost use Rattle.wire_model.specs.Wire.{Wire};
+
+/// A protocol: how it reads, how it spells, and what it writes.
+pub trait Protocol {
+    // How the parts of a value are read that hold no other values.
+    ghost wire: { Wire };
+
+    // Which bytes stand for such a part.
+    ghost format: { Format };
+
+    // Which of these bytes are written.
+    ghost script: { Script };
+}

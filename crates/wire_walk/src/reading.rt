@@ -1,0 +1,177 @@
+//! Reading a value: level by level, from left to right.
+
+ghost use Rattle.std.specs.Prelude.{◌≡◌, length, pos, suc, ◌+◌, ◌<◌, ◌++◌, ◌∷◌, [], MatchResult, IfOk, OnOk};
+ghost use Rattle.thrift_value.specs.Tree.{of_bytes};
+ghost use Rattle.thrift_value.specs.TreeOf.{tree_of, fields_tree, items_tree, pairs_tree};
+ghost use Rattle.wire_model.specs.Gives.{Gives};
+ghost use Rattle.wire_model.specs.Reading.{layer, value, field_list, item_list, pair_list};
+ghost use Rattle.wire_walk.specs.Steps.{below};
+
+use crate::codec::Codec;
+use crate::header::Header;
+use crate::rest::Rest;
+use std::alloc::{AllocError, Global};
+use thrift_value::{ByteText, Fields, Items, Pairs, Tag, Value, WireFault};
+
+/// The value of a tag in front, with so many levels that may still be opened.
+#[cycle(reading)]
+pub fn read<'a, C: Codec>(
+    alloc: Global,
+    rest: Rest<'a>,
+    levels: u32,
+    tag: Tag,
+) -> Result<(Value, Rest<'a>), WireFault>
+    ensures { Gives (λ r. (tree_of r.0, r.1)) result (layer C.wire levels (below C.wire levels) tag rest.entry) }
+{
+    let rest = rest.one_more()?;
+    match tag {
+        Tag::Bytes => {
+            let (text, rest) = C::span(rest)?;
+            let Ok(value) = kept_text(alloc, text) else {
+                return Err(WireFault::NoMemory);
+            };
+            Ok((value, rest))
+        }
+        Tag::Struct => {
+            let levels = deeper(levels)?;
+            let (fields, rest) = read_fields::<C>(alloc, rest, levels)?;
+            Ok((Value::Struct(fields), rest))
+        }
+        Tag::Map => {
+            let levels = deeper(levels)?;
+            let (key, value, count, rest) = C::pairs(rest)?;
+            let (pairs, rest) = read_pairs::<C>(alloc, rest, levels, key, value, count)?;
+            Ok((Value::Map(key, value, pairs), rest))
+        }
+        Tag::Set => {
+            let levels = deeper(levels)?;
+            let (element, count, rest) = C::items(rest)?;
+            let (items, rest) = read_items::<C>(alloc, rest, levels, element, count)?;
+            Ok((Value::Set(element, items), rest))
+        }
+        Tag::List => {
+            let levels = deeper(levels)?;
+            let (element, count, rest) = C::items(rest)?;
+            let (items, rest) = read_items::<C>(alloc, rest, levels, element, count)?;
+            Ok((Value::List(element, items), rest))
+        }
+        tag => C::scalar(tag, rest),
+    }
+}
+
+/// One level less, if there is one.
+fn deeper(levels: u32) -> Result<u32, WireFault>
+    ensures { MatchResult result (λ n. levels ≡ suc n) (λ fault. (levels ≡ 0) × (fault ≡ WireFault.TooDeep)) }
+{
+    if levels == 0 {
+        return Err(WireFault::TooDeep);
+    }
+    Ok(levels - 1)
+}
+
+/// A text in memory of its own.
+#[tactic(auto, using(thrift_value::proofs::Trees::tree_equations))]
+fn kept_text(alloc: Global, text: &[u8]) -> Result<Value, AllocError>
+    ensures { IfOk result (λ value. tree_of value ≡ of_bytes text.now) }
+{
+    Ok(Value::Bytes(ByteText::new(text.to_vec(alloc)?)))
+}
+
+/// One more at the end of a list.
+fn keep<T: Drop>(list: &mut Vec<T>, item: T) -> Result<(), AllocError>
+    ensures { OnOk result (list.new.items ≡ list.old.items ++ item ∷ []) }
+{
+    if list.push(item).is_err() {
+        return Err(AllocError);
+    }
+    Ok(())
+}
+
+/// The fields of a struct, up to its end.
+#[cycle(reading)]
+fn read_fields<'a, C: Codec>(
+    alloc: Global,
+    rest: Rest<'a>,
+    levels: u32,
+) -> Result<(Fields, Rest<'a>), WireFault>
+    ensures { Gives (λ r. (fields_tree r.0, r.1)) result
+        (field_list C.wire (value C.wire levels) (length rest.entry.bytes) (pos 0) rest.entry) }
+{
+    let mut fields = Vec::new(alloc);
+    let mut last = 0;
+    let mut rest = rest;
+    for step in 0..rest.bytes().len() {
+        let (header, behind) = C::field(last, rest)?;
+        match header {
+            Header::Stop => return Ok((Fields::new(fields), behind)),
+            Header::Field(id, tag) => {
+                let (value, behind) = read::<C>(alloc, behind, levels, tag)?;
+                let Ok(()) = keep(&mut fields, (id, value)) else {
+                    return Err(WireFault::NoMemory);
+                };
+                last = id;
+                rest = behind;
+                continue;
+            }
+            Header::Flag(id, flag) => {
+                let behind = behind.one_more()?;
+                let Ok(()) = keep(&mut fields, (id, Value::Bool(flag))) else {
+                    return Err(WireFault::NoMemory);
+                };
+                last = id;
+                rest = behind;
+                continue;
+            }
+        }
+    }
+    Err(WireFault::Short)
+}
+
+/// So many values of a tag.
+#[cycle(reading)]
+fn read_items<'a, C: Codec>(
+    alloc: Global,
+    rest: Rest<'a>,
+    levels: u32,
+    tag: Tag,
+    count: usize,
+) -> Result<(Items, Rest<'a>), WireFault>
+    ensures { Gives (λ r. (items_tree r.0, r.1)) result (item_list (value C.wire levels) tag count rest.entry) }
+{
+    let mut items = Vec::new(alloc);
+    let mut rest = rest;
+    for step in 0..count {
+        let (value, behind) = read::<C>(alloc, rest, levels, tag)?;
+        let Ok(()) = keep(&mut items, value) else {
+            return Err(WireFault::NoMemory);
+        };
+        rest = behind;
+    }
+    Ok((Items::new(items), rest))
+}
+
+/// So many pairs.
+#[cycle(reading)]
+fn read_pairs<'a, C: Codec>(
+    alloc: Global,
+    rest: Rest<'a>,
+    levels: u32,
+    key_tag: Tag,
+    value_tag: Tag,
+    count: usize,
+) -> Result<(Pairs, Rest<'a>), WireFault>
+    ensures { Gives (λ r. (pairs_tree r.0, r.1)) result
+        (pair_list (value C.wire levels) key_tag value_tag count rest.entry) }
+{
+    let mut pairs = Vec::new(alloc);
+    let mut rest = rest;
+    for step in 0..count {
+        let (key, behind) = read::<C>(alloc, rest, levels, key_tag)?;
+        let (value, behind) = read::<C>(alloc, behind, levels, value_tag)?;
+        let Ok(()) = keep(&mut pairs, (key, value)) else {
+            return Err(WireFault::NoMemory);
+        };
+        rest = behind;
+    }
+    Ok((Pairs::new(pairs), rest))
+}
