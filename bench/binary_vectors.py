@@ -1,5 +1,5 @@
 #!/usr/bin/env python3
-"""Prints the table of crates/binary_codec/src/vectors.rt and the one of crates/envelope/src/vectors.rt.
+"""Prints the table of crates/binary_codec/src/vectors.rt, or a table of message heads, which no test uses yet.
 
 Each row is made by Apache Thrift's own Python library (Debian package python3-thrift, 0.17.0): a value or a head is
 written by its TBinaryProtocol, and the bytes are printed as a Rust byte string. Run: bench/binary_vectors.py structs
@@ -18,24 +18,19 @@ CODES = {
     "bytes": TType.STRING, "struct": TType.STRUCT, "map": TType.MAP, "set": TType.SET, "list": TType.LIST,
 }
 
+# How a value that holds no other is written.
+WRITERS = {
+    "bool": TBinaryProtocol.writeBool, "i8": TBinaryProtocol.writeByte, "i16": TBinaryProtocol.writeI16,
+    "i32": TBinaryProtocol.writeI32, "i64": TBinaryProtocol.writeI64, "double": TBinaryProtocol.writeDouble,
+    "bytes": TBinaryProtocol.writeBinary,
+}
+
 
 def put(out, value):
     """Writes a value: a kind, and what it holds."""
     kind = value[0]
-    if kind == "bool":
-        out.writeBool(value[1])
-    elif kind == "i8":
-        out.writeByte(value[1])
-    elif kind == "i16":
-        out.writeI16(value[1])
-    elif kind == "i32":
-        out.writeI32(value[1])
-    elif kind == "i64":
-        out.writeI64(value[1])
-    elif kind == "double":
-        out.writeDouble(value[1])
-    elif kind == "bytes":
-        out.writeBinary(value[1])
+    if kind in WRITERS:
+        WRITERS[kind](out, value[1])
     elif kind == "struct":
         out.writeStructBegin("")
         for number, inner in value[1]:
