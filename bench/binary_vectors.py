@@ -1,9 +1,15 @@
 #!/usr/bin/env python3
-"""Prints the table of crates/binary_codec/src/vectors.rt, or a table of message heads, which no test uses yet.
+"""Prints crates/binary_codec/src/vectors.rt (structs), or crates/envelope/src/vectors.rt (heads).
 
 Each row is made by Apache Thrift's own Python library (Debian package python3-thrift, 0.17.0): a value or a head is
-written by its TBinaryProtocol, and the bytes are printed as a Rust byte string. Run: bench/binary_vectors.py structs
-or bench/binary_vectors.py heads.
+written by its TBinaryProtocol, and the bytes are printed as a Rust byte string. Beside the bytes of a struct stands its
+tree as text, made from the value that was written; the script ends with a failure where Apache's own reading of the
+bytes gives another text. Run: bench/binary_vectors.py structs > crates/binary_codec/src/vectors.rt, or with heads into
+the other file, and then rt fmt in the crate.
+
+The text of a tree: its values in the order of the wire, with a blank between them. A number is its kind, a colon and its
+digits, a double the hexadecimal digits of its bits, bytes their hexadecimal digits; a struct is followed by the ids of its
+fields, a container by the kinds of its elements and their number, and then come their values.
 """
 import struct
 import sys
@@ -81,6 +87,55 @@ def depth(value):
     return 0
 
 
+def shown(value):
+    """The text of a tree."""
+    kind = value[0]
+    if kind == "bool":
+        return "true" if value[1] else "false"
+    if kind == "double":
+        return "double:" + struct.pack(">d", value[1]).hex()
+    if kind == "bytes":
+        return "bytes:" + value[1].hex()
+    if kind == "struct":
+        inner = [shown(x) for _, x in value[1]]
+        return " ".join(["struct:" + ",".join(str(number_) for number_, _ in value[1])] + inner)
+    if kind == "map":
+        inner = [shown(x) for pair in value[3] for x in pair]
+        return " ".join([f"map:{value[1]},{value[2]}:{len(value[3])}"] + inner)
+    if kind in ("set", "list"):
+        return " ".join([f"{kind}:{value[1]}:{len(value[2])}"] + [shown(x) for x in value[2]])
+    return f"{kind}:{value[1]}"
+
+
+KINDS = {code: kind for kind, code in CODES.items()}
+
+# How a value that holds no other is read.
+READERS = {
+    "bool": TBinaryProtocol.readBool, "i8": TBinaryProtocol.readByte, "i16": TBinaryProtocol.readI16,
+    "i32": TBinaryProtocol.readI32, "i64": TBinaryProtocol.readI64, "double": TBinaryProtocol.readDouble,
+    "bytes": TBinaryProtocol.readBinary,
+}
+
+
+def taken(source, kind):
+    """A value of this kind, as Apache's library reads it."""
+    if kind in READERS:
+        return (kind, READERS[kind](source))
+    if kind == "struct":
+        source.readStructBegin()
+        fields = []
+        while True:
+            _, code, number_ = source.readFieldBegin()
+            if code == TType.STOP:
+                return ("struct", fields)
+            fields += [(number_, taken(source, KINDS[code]))]
+    if kind == "map":
+        key, inner, size = source.readMapBegin()
+        return ("map", KINDS[key], KINDS[inner], [(taken(source, KINDS[key]), taken(source, KINDS[inner])) for _ in range(size)])
+    code, size = source.readSetBegin() if kind == "set" else source.readListBegin()
+    return (kind, KINDS[code], [taken(source, KINDS[code]) for _ in range(size)])
+
+
 def number(bits):
     """The double of these 64 bits."""
     return struct.unpack(">d", struct.pack(">Q", bits))[0]
@@ -94,7 +149,7 @@ SCALARS = [
     ("i64", 0), ("i64", 72623859790382856), ("i64", -4), ("i64", 2**63 - 1), ("i64", -(2**63)),
     ("double", 0.0), ("double", -0.0), ("double", 1.5), ("double", -2.0), ("double", number(1)),
     ("double", number(0x7FEFFFFFFFFFFFFF)), ("double", float("inf")), ("double", float("-inf")),
-    ("bytes", b""), ("bytes", b"a"), ("bytes", b"\0\xff\x80"), ("bytes", "grüß".encode()), ("bytes", b"x" * 300),
+    ("bytes", b""), ("bytes", b"a"), ("bytes", b"\0\xff\x80"), ("bytes", "grüß".encode()), ("bytes", b"x" * 130),
 ]
 
 # Two values of each kind, the smaller one first.
@@ -149,20 +204,79 @@ def literal(data):
     return 'b"' + "".join(chr(b) if 32 <= b < 127 and b not in (34, 92) else f"\\x{b:02x}" for b in data) + '"'
 
 
+def written(value):
+    """The bytes that Apache's library writes for a value."""
+    buffer = TMemoryBuffer()
+    put(TBinaryProtocol(buffer), value)
+    return buffer.getvalue()
+
+
+def as_read(data):
+    """The text of the struct that Apache's library reads."""
+    return shown(taken(TBinaryProtocol(TMemoryBuffer(data)), "struct"))
+
+
+# Structs that are read otherwise than by Apache's library, and the text of what is read here: an empty container keeps
+# the tag bool, whatever kind it names, and a bool is true where its byte is 1 alone.
+DIFFERENCES = [
+    (written(("struct", [(1, ("list", "i32", []))])), "struct:1 list:bool:0"),
+    (written(("struct", [(2, ("set", "bytes", []))])), "struct:2 set:bool:0"),
+    (written(("struct", [(3, ("map", "i64", "struct", []))])), "struct:3 map:bool,bool:0"),
+    (written(("struct", [(1, ("list", "list", [("list", "double", [])]))])), "struct:1 list:list:1 list:bool:0"),
+    (b"\x02\0\x01\x02\0", "struct:1 false"),
+    (b"\x02\0\x01\xff\0", "struct:1 false"),
+    (b"\x0f\0\x01\x02\0\0\0\x03\0\x01\x7f\0", "struct:1 list:bool:3 false true false"),
+]
+
+
+# How many structs stand in one table.
+TABLE = 21
+
+
 def print_structs():
-    for value in structs():
-        buffer = TMemoryBuffer()
-        put(TBinaryProtocol(buffer), value)
-        print(f"    ({literal(buffer.getvalue())}, {count(value)}, {depth(value)}),")
+    rows = structs()
+    print("//! Structs as Apache Thrift's own library writes and reads them. Printed by bench/binary_vectors.py, which says how.\n")
+    print("/// The bytes of a struct, how many values it is, how many levels it has, and its tree as text.")
+    print("pub(crate) type Row = (&'static [u8], u64, u32, &'static [u8]);\n")
+    # Several tables, each behind a function, since a proof that sees so long a table doesn't end.
+    tables = [rows[at:at + TABLE] for at in range(0, len(rows), TABLE)]
+    for place, table in enumerate(tables):
+        print(f"const TABLE_{place}: [Row; {len(table)}] = [")
+        for value in table:
+            data = written(value)
+            if as_read(data) != shown(value):
+                sys.exit(f"Apache reads {as_read(data)} for {shown(value)}")
+            print(f"    ({literal(data)}, {count(value)}, {depth(value)}, b\"{shown(value)}\"),")
+        print("];\n")
+        print(f"fn table_{place}() -> &'static [Row] {{\n    &TABLE_{place}\n}}\n")
+    print("/// All the structs, in several tables.")
+    print(f"pub(crate) fn tables() -> [&'static [Row]; {len(tables)}] {{")
+    print("    [" + ", ".join(f"table_{place}()" for place in range(len(tables))) + "]\n}\n")
+    print("/// Structs that are read otherwise here, by own choice: the bytes, the tree as Apache's library reads it, and as it is")
+    print("/// read here. An empty container keeps the tag bool, and a bool is true where its byte is 1 alone.")
+    print(f"pub(crate) const DIFFERENCES: [(&[u8], &[u8], &[u8]); {len(DIFFERENCES)}] = [")
+    for data, here in DIFFERENCES:
+        print(f"    ({literal(data)}, b\"{as_read(data)}\", b\"{here}\"),")
+    print("];")
 
 
 def print_heads():
+    rows = []
     for strict in (True, False):
         for kind in (TMessageType.CALL, TMessageType.REPLY, TMessageType.EXCEPTION, TMessageType.ONEWAY):
             for name, number_ in (("ping", 0), ("", -1), ("Calculator:add", 2147483647)):
                 buffer = TMemoryBuffer()
-                TBinaryProtocol(buffer, strictWrite=strict).writeMessageBegin(name, kind, number_)
-                print(f"    ({literal(buffer.getvalue())}, {literal(name.encode())}, {kind}, {number_}, {str(strict).lower()}),")
+                out = TBinaryProtocol(buffer, strictWrite=strict)
+                out.writeMessageBegin(name, kind, number_)
+                behind = len(buffer.getvalue())
+                put(out, ("struct", []))
+                rows += [f"    ({literal(buffer.getvalue())}, {literal(name.encode())}, {kind}, {number_}, {behind}),"]
+    print("//! Messages as Apache Thrift's own library writes them. Printed by bench/binary_vectors.py, which says how.\n")
+    print("/// The bytes of a message with an empty struct, half of them with a strict head and half with an old one; and of the")
+    print("/// head the name, the type, the sequence id and the place behind it.")
+    print(f"pub(crate) const MESSAGES: [(&[u8], &[u8], u8, i32, usize); {len(rows)}] = [")
+    print("\n".join(rows))
+    print("];")
 
 
 if __name__ == "__main__":

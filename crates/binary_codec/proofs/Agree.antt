@@ -4,19 +4,19 @@ use Rattle.std.specs.Int.{w16}
 use Rattle.std.proofs.Common.{refl}
 use Rattle.thrift_value.specs.Tree.{Tree, of_bool}
 use Rattle.wire_model.specs.Protocol.{IsProtocol}
-use Rattle.wire_model.specs.Script.{heading}
+use Rattle.wire_model.specs.Writing.{heading}
 use Rattle.binary_codec.specs.Reading.{binary}
 use Rattle.binary_codec.specs.Spelling.{IsHead, binary_format}
-use Rattle.binary_codec.specs.Written.{head_text, binary_script}
+use Rattle.binary_codec.specs.Written.{head_text, binary_writing}
 use Rattle.binary_codec.proofs.Leaves.{field_reads, span_reads}
 use Rattle.binary_codec.proofs.Scalars.{scalar_reads, scalar_written, scalar_range}
 use Rattle.binary_codec.proofs.Containers.{items_reads, items_written, items_range, pairs_reads, pairs_written, pairs_range}
 
-head_written : (last id : ℤ) (x : Tree) → FitsSigned w16 id → IsHead last (heading binary_script.flags id x) (head_text last (heading binary_script.flags id x))
+head_written : (last id : ℤ) (x : Tree) → FitsSigned w16 id → IsHead last (heading binary_writing.flags id x) (head_text last (heading binary_writing.flags id x))
 head_written last id (of_bool b) fits = (fits, refl)
 head_written last id x fits = (fits, refl)
 
-pub leaves_agree : IsProtocol binary binary_format binary_script
+pub leaves_agree : IsProtocol binary binary_format binary_writing
 leaves_agree = record {
   field = λ last fits. field_reads last;
   id = λ last id tag text h. h.0;

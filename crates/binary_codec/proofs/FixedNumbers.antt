@@ -11,10 +11,10 @@ use Rattle.std.proofs.lemmas.Nat.{be_bytes_2, be_bytes_4, be_bytes_8, from_be_by
 use Rattle.wire_num.specs.Fixed.{unsigned_of, signed_of, unsigned_bytes, signed_bytes}
 use Rattle.thrift_value.specs.declared.wire_fault.WireFault.{WireFault}
 use Rattle.thrift_value.specs.declared.wire_fault.WireFault.TheVariants.{Short}
-use Rattle.wire_model.specs.Reader.{Rest, give}
+use Rattle.wire_model.specs.Reader.{Rest, give, piece}
 use Rattle.wire_model.specs.Protocol.{AreBytes}
 use Rattle.wire_model.proofs.Steps.{went_on, goes_on, ok_is}
-use Rattle.binary_codec.specs.Reading.{taken, byte, unsigned, signed}
+use Rattle.binary_codec.specs.Reading.{byte, unsigned, signed}
 
 -- each place of bytes, also behind their end
 pub byte_at : (bytes : List ℕ) → AreBytes bytes → (i : ℕ) → get_or bytes i 0 < 256
@@ -119,10 +119,10 @@ pub record Front (size : ℕ) (bytes : List ℕ) (before after : Rest) : Type 0 
   pub left : after.left ≡ before.left
   pub each : AreBytes bytes
 
-taken_if : (b : Bool) (size : ℕ) (before : Rest) (x : List ℕ × Rest) → AreBytes before.bytes → leb size (length before.bytes) ≡ b
+piece_if : (b : Bool) (size : ℕ) (before : Rest) (x : List ℕ × Rest) → AreBytes before.bytes → leb size (length before.bytes) ≡ b
     → cond b (Ok (take size before.bytes, record { bytes = drop size before.bytes; left = before.left })) (Err Short) ≡ Ok x → Front size x.0 before x.1
-taken_if false size before x fits t e = absurd cc
-taken_if true size before x fits t e =
+piece_if false size before x fits t e = absurd cc
+piece_if true size before x fits t e =
     let le : size ≤ length before.bytes = leb-true size (length before.bytes) t in
     subst (λ (y : List ℕ × Rest). Front size y.0 before y.1) (ok_is (take size before.bytes, record { bytes = drop size before.bytes; left = before.left }) x e)
     (record {
@@ -132,11 +132,11 @@ taken_if true size before x fits t e =
       each = All-take (λ b. b < 256) size before.bytes fits;
     })
 
-pub taken_found : (size : ℕ) (before after : Rest) (x : List ℕ) → AreBytes before.bytes → taken size before ≡ Ok (x, after) → Front size x before after
-taken_found size before after x fits e = taken_if (leb size (length before.bytes)) size before (x, after) fits refl e
+pub piece_found : (size : ℕ) (before after : Rest) (x : List ℕ) → AreBytes before.bytes → piece size before ≡ Ok (x, after) → Front size x before after
+piece_found size before after x fits e = piece_if (leb size (length before.bytes)) size before (x, after) fits refl e
 
-pub taken_given : (size : ℕ) (x more : List ℕ) (left : ℕ) → length x ≡ size → taken size (record { bytes = x ++ more; left = left }) ≡ Ok (x, record { bytes = more; left = left })
-taken_given size x more left len =
+pub piece_given : (size : ℕ) (x more : List ℕ) (left : ℕ) → length x ≡ size → piece size (record { bytes = x ++ more; left = left }) ≡ Ok (x, record { bytes = more; left = left })
+piece_given size x more left len =
     let enough : leb size (length (x ++ more)) ≡ true = le-leb size (length (x ++ more)) (omega (arith, length-append x more)) in
     ap (λ (b : Bool). cond b (Ok (take size (x ++ more), record { bytes = drop size (x ++ more); left = left })) (Err Short)) enough
     ∙ ap (λ (t : List ℕ). taken_is t (drop size (x ++ more)) left) (take_at x more size len) ∙ ap (λ (t : List ℕ). taken_is x t left) (drop_at x more size len)
@@ -150,9 +150,9 @@ pub record SignedFront (w : Width) (z : ℤ) (before after : Rest) : Type 0 wher
 
 pub signed_found : (w : Width) (limit : ℕ) → IsWide w limit → (before after : Rest) (z : ℤ) → AreBytes before.bytes → signed w before ≡ Ok (z, after) → SignedFront w z before after
 signed_found w limit wide before after z fits e =
-    let one = went_on (taken (byte_len w) before) (λ bytes. give (signed_of w bytes)) (z, after) e in
+    let one = went_on (piece (byte_len w) before) (λ bytes. give (signed_of w bytes)) (z, after) e in
     let bytes = one.0.0 in
-    let f = taken_found (byte_len w) before one.0.1 bytes fits one.1 in
+    let f = piece_found (byte_len w) before one.0.1 bytes fits one.1 in
     let n : ℕ = from_be_bytes w bytes in
     let small : n < limit = wide.below bytes f.each in
     let text : signed_bytes w (signed_of w bytes) ≡ bytes = ap (to_be_bytes w) (wide.bits n small) ∙ wide.back bytes f.len f.each in
@@ -164,8 +164,8 @@ pub signed_given : (w : Width) (limit : ℕ) → IsWide w limit → (z : ℤ) (m
 signed_given w limit wide z more left fits =
     let n : ℕ = cast_unsigned w z in
     let read : signed_of w (signed_bytes w z) ≡ z = ap (cast_signed w) (wide.again n (wide.unsigned z fits)) ∙ to_z-of_z w z fits in
-    goes_on (taken (byte_len w) (record { bytes = signed_bytes w z ++ more; left = left })) (λ bytes. give (signed_of w bytes)) (signed_bytes w z) (record { bytes = more; left = left }) _
-    (taken_given (byte_len w) (signed_bytes w z) more left (wide.len n)) (ap (λ (y : ℤ). give y (record { bytes = more; left = left })) read)
+    goes_on (piece (byte_len w) (record { bytes = signed_bytes w z ++ more; left = left })) (λ bytes. give (signed_of w bytes)) (signed_bytes w z) (record { bytes = more; left = left }) _
+    (piece_given (byte_len w) (signed_bytes w z) more left (wide.len n)) (ap (λ (y : ℤ). give y (record { bytes = more; left = left })) read)
 
 -- ---- unsigned numbers
 
@@ -176,17 +176,17 @@ pub record UnsignedFront (w : Width) (limit n : ℕ) (before after : Rest) : Typ
 
 pub unsigned_found : (w : Width) (limit : ℕ) → IsWide w limit → (before after : Rest) (n : ℕ) → AreBytes before.bytes → unsigned w before ≡ Ok (n, after) → UnsignedFront w limit n before after
 unsigned_found w limit wide before after n fits e =
-    let one = went_on (taken (byte_len w) before) (λ bytes. give (unsigned_of w bytes)) (n, after) e in
+    let one = went_on (piece (byte_len w) before) (λ bytes. give (unsigned_of w bytes)) (n, after) e in
     let bytes = one.0.0 in
-    let f = taken_found (byte_len w) before one.0.1 bytes fits one.1 in
+    let f = piece_found (byte_len w) before one.0.1 bytes fits one.1 in
     subst (λ (y : ℕ × Rest). UnsignedFront w limit y.0 before y.1) (ok_is (unsigned_of w bytes, one.0.1) (n, after) one.2)
     (record { whole = f.whole ∙ ap (λ (t : List ℕ). t ++ one.0.1.bytes) (sym (wide.back bytes f.len f.each)); small = wide.below bytes f.each; left = f.left })
 
 pub unsigned_given : (w : Width) (limit : ℕ) → IsWide w limit → (n : ℕ) (more : List ℕ) (left : ℕ) → n < limit
     → unsigned w (record { bytes = unsigned_bytes w n ++ more; left = left }) ≡ Ok (n, record { bytes = more; left = left })
 unsigned_given w limit wide n more left small =
-    goes_on (taken (byte_len w) (record { bytes = unsigned_bytes w n ++ more; left = left })) (λ bytes. give (unsigned_of w bytes)) (unsigned_bytes w n) (record { bytes = more; left = left }) _
-    (taken_given (byte_len w) (unsigned_bytes w n) more left (wide.len n)) (ap (λ (k : ℕ). give k (record { bytes = more; left = left })) (wide.again n small))
+    goes_on (piece (byte_len w) (record { bytes = unsigned_bytes w n ++ more; left = left })) (λ bytes. give (unsigned_of w bytes)) (unsigned_bytes w n) (record { bytes = more; left = left }) _
+    (piece_given (byte_len w) (unsigned_bytes w n) more left (wide.len n)) (ap (λ (k : ℕ). give k (record { bytes = more; left = left })) (wide.again n small))
 
 -- ---- a byte
 
@@ -202,11 +202,11 @@ byte_front (b ∷ c ∷ more) before after f = let len : suc (suc (length more))
 
 pub byte_found : (before after : Rest) (b : ℕ) → AreBytes before.bytes → byte before ≡ Ok (b, after) → ByteFront b before after
 byte_found before after b fits e =
-    let one = went_on (taken 1 before) (λ bytes. give (slice_index bytes 0)) (b, after) e in
+    let one = went_on (piece 1 before) (λ bytes. give (slice_index bytes 0)) (b, after) e in
     subst (λ (y : ℕ × Rest). ByteFront y.0 before y.1) (ok_is (slice_index one.0.0 0, one.0.1) (b, after) one.2)
-    (byte_front one.0.0 before one.0.1 (taken_found 1 before one.0.1 one.0.0 fits one.1))
+    (byte_front one.0.0 before one.0.1 (piece_found 1 before one.0.1 one.0.0 fits one.1))
 
 pub byte_given : (b : ℕ) (more : List ℕ) (left : ℕ) → byte (record { bytes = b ∷ more; left = left }) ≡ Ok (b, record { bytes = more; left = left })
 byte_given b more left =
-    goes_on (taken 1 (record { bytes = b ∷ more; left = left })) (λ bytes. give (slice_index bytes 0)) (b ∷ []) (record { bytes = more; left = left }) _
-    (taken_given 1 (b ∷ []) more left refl) refl
+    goes_on (piece 1 (record { bytes = b ∷ more; left = left })) (λ bytes. give (slice_index bytes 0)) (b ∷ []) (record { bytes = more; left = left }) _
+    (piece_given 1 (b ∷ []) more left refl) refl

@@ -8,14 +8,14 @@ use Rattle.std.proofs.lemmas.Int.{fits_signed_from_abs}
 use Rattle.wire_num.specs.Fixed.{unsigned_bytes, signed_bytes}
 use Rattle.thrift_value.specs.declared.wire_fault.WireFault.{WireFault}
 use Rattle.thrift_value.specs.declared.wire_fault.WireFault.TheVariants.{Short}
-use Rattle.wire_model.specs.Reader.{Rest, ◌>>=◌, give}
-use Rattle.wire_model.specs.Wire.{Head, stop, head, flagged}
+use Rattle.wire_model.specs.Reader.{Rest, ◌>>=◌, give, piece}
+use Rattle.wire_model.specs.Wire.{FieldHeader, stop, head, flagged}
 use Rattle.wire_model.specs.Protocol.{AreBytes, Found, Reads}
 use Rattle.wire_model.proofs.Steps.{went_on, goes_on, ok_is, bytes_behind}
 use Rattle.binary_codec.specs.Codes.{code_of}
-use Rattle.binary_codec.specs.Reading.{taken, byte, signed, tag_coded, head_coded, binary_field, unsigned_size, within_room, binary_size, binary_span}
+use Rattle.binary_codec.specs.Reading.{byte, signed, tag_coded, head_coded, binary_field, unsigned_size, within_room, binary_size, binary_span}
 use Rattle.binary_codec.specs.Spelling.{IsHead, IsSpan}
-use Rattle.binary_codec.proofs.FixedNumbers.{wide_16, wide_32, taken_found, taken_given, SignedFront, signed_found, signed_given, ByteFront, byte_found, byte_given}
+use Rattle.binary_codec.proofs.FixedNumbers.{wide_16, wide_32, piece_found, piece_given, SignedFront, signed_found, signed_given, ByteFront, byte_found, byte_given}
 use Rattle.binary_codec.proofs.CodeLaws.{code_small, tag_found, tag_given}
 
 abbrev rest : List ℕ → ℕ → Rest
@@ -27,10 +27,10 @@ after_byte b before after f fits = bytes_behind (b ∷ []) after.bytes (subst Ar
 
 -- ---- headers of fields
 
-head_found_if : (b : Bool) (last : ℤ) (code : ℕ) (before middle after : Rest) (h : Head) → AreBytes before.bytes → ByteFront code before middle → eqb code 0 ≡ b
+head_found_if : (b : Bool) (last : ℤ) (code : ℕ) (before middle after : Rest) (h : FieldHeader) → AreBytes before.bytes → ByteFront code before middle → eqb code 0 ≡ b
     → cond b (give stop) (tag_coded code >>= λ tag. signed w16 >>= λ id. give (head id tag)) middle ≡ Ok (h, after) → Found (IsHead last) h before after
 head_found_if true last code before middle after h fits f test e =
-    subst (λ (y : Head × Rest). Found (IsHead last) y.0 before y.1) (ok_is (stop, middle) (h, after) e)
+    subst (λ (y : FieldHeader × Rest). Found (IsHead last) y.0 before y.1) (ok_is (stop, middle) (h, after) e)
     (record { text = 0 ∷ []; whole = f.whole ∙ ap (λ (k : ℕ). k ∷ middle.bytes) (eqb-true code 0 test); spells = refl; left = f.left })
 head_found_if false last code before middle after h fits f test e =
     let one = went_on (tag_coded code middle) (λ tag. signed w16 >>= λ id. give (head id tag)) (h, after) e in
@@ -41,7 +41,7 @@ head_found_if false last code before middle after h fits f test e =
     let id = two.0.0 in
     let s = signed_found w16 (2 ^ 16) wide_16 third two.0.1 id (subst (λ (r : Rest). AreBytes r.bytes) (sym t.1) (after_byte code before middle f fits)) two.1 in
     let same : middle.bytes ≡ signed_bytes w16 id ++ two.0.1.bytes = ap (λ (r : Rest). r.bytes) (sym t.1) ∙ s.whole in
-    subst (λ (y : Head × Rest). Found (IsHead last) y.0 before y.1) (ok_is (head id tag, two.0.1) (h, after) two.2)
+    subst (λ (y : FieldHeader × Rest). Found (IsHead last) y.0 before y.1) (ok_is (head id tag, two.0.1) (h, after) two.2)
     (record {
       text = code_of tag ∷ signed_bytes w16 id;
       whole = f.whole ∙ ap (λ (k : ℕ). k ∷ middle.bytes) t.0 ∙ ap (λ (x : List ℕ). code_of tag ∷ x) same;
@@ -49,13 +49,13 @@ head_found_if false last code before middle after h fits f test e =
       left = s.left ∙ ap (λ (r : Rest). r.left) t.1 ∙ f.left;
     })
 
-field_found : (last : ℤ) (before after : Rest) (h : Head) → AreBytes before.bytes → binary_field last before ≡ Ok (h, after) → Found (IsHead last) h before after
+field_found : (last : ℤ) (before after : Rest) (h : FieldHeader) → AreBytes before.bytes → binary_field last before ≡ Ok (h, after) → Found (IsHead last) h before after
 unfolding binary_field
 field_found last before after h fits e =
     let one = went_on (byte before) (λ code. head_coded code) (h, after) e in
     head_found_if (eqb one.0.0 0) last one.0.0 before one.0.1 after h fits (byte_found before one.0.1 one.0.0 fits one.1) refl one.2
 
-field_only : (last : ℤ) (h : Head) (text more : List ℕ) (left : ℕ) → IsHead last h text → binary_field last (rest (text ++ more) left) ≡ Ok (h, rest more left)
+field_only : (last : ℤ) (h : FieldHeader) (text more : List ℕ) (left : ℕ) → IsHead last h text → binary_field last (rest (text ++ more) left) ≡ Ok (h, rest more left)
 unfolding binary_field
 field_only last stop text more left is =
     ap (λ (t : List ℕ). binary_field last (rest (t ++ more) left)) is ∙ goes_on (byte (rest (0 ∷ more) left)) (λ code. head_coded code) 0 (rest more left) _ (byte_given 0 more left) refl
@@ -70,7 +70,7 @@ field_only last (head id tag) text more left is =
     (goes_on (signed w16 (rest behind left)) (λ id. give (head id tag)) id (rest more left) _ (signed_given w16 (2 ^ 16) wide_16 id more left is.0) refl))
 field_only last (flagged id flag) text more left is = absurd is
 
-field_byte : (last : ℤ) (h : Head) (text : List ℕ) → IsHead last h text → 1 ≤ length text
+field_byte : (last : ℤ) (h : FieldHeader) (text : List ℕ) → IsHead last h text → 1 ≤ length text
 field_byte last stop text is = let l : length text ≡ 1 = ap length is in omega arith
 field_byte last (head id tag) text is = let l : length text ≡ 3 = ap length is.1 in omega arith
 field_byte last (flagged id flag) text is = absurd is
@@ -118,11 +118,11 @@ size_given n more left small enough =
 span_found : (before after : Rest) (bytes : List ℕ) → AreBytes before.bytes → binary_span before ≡ Ok (bytes, after) → Found IsSpan bytes before after
 unfolding binary_span
 span_found before after bytes fits e =
-    let one = went_on (binary_size before) (λ size. taken size) (bytes, after) e in
+    let one = went_on (binary_size before) (λ size. piece size) (bytes, after) e in
     let n = one.0.0 in
     let middle = one.0.1 in
     let s = size_found before middle n fits one.1 in
-    let f = taken_found n middle after bytes (bytes_behind (unsigned_bytes w32 n) middle.bytes (subst AreBytes s.whole fits)) one.2 in
+    let f = piece_found n middle after bytes (bytes_behind (unsigned_bytes w32 n) middle.bytes (subst AreBytes s.whole fits)) one.2 in
     let len : n ≡ length bytes = sym f.len in
     record {
       text = unsigned_bytes w32 (length bytes) ++ bytes;
@@ -137,9 +137,9 @@ unfolding binary_span
 span_only bytes text more left is =
     let n : ℕ = length bytes in
     ap (λ (t : List ℕ). binary_span (rest t left)) (ap (λ (t : List ℕ). t ++ more) is.whole ∙ append_assoc (unsigned_bytes w32 n) bytes more)
-    ∙ goes_on (binary_size (rest (unsigned_bytes w32 n ++ (bytes ++ more)) left)) (λ size. taken size) n (rest (bytes ++ more) left) _
+    ∙ goes_on (binary_size (rest (unsigned_bytes w32 n ++ (bytes ++ more)) left)) (λ size. piece size) n (rest (bytes ++ more) left) _
     (size_given n (bytes ++ more) left is.size (omega (arith, length-append bytes more)))
-    (taken_given n bytes more left refl)
+    (piece_given n bytes more left refl)
 
 span_byte : (bytes text : List ℕ) → IsSpan bytes text → 1 ≤ length text
 span_byte bytes text is =

@@ -1,5 +1,5 @@
 -- From the reading of a struct in front to the struct at a place.
-use Rattle.std.proofs.Common.{◌≡◌, ℕ, ◌+◌, ◌-◌, ◌<◌, ◌≤◌, List, length, drop, Result, Ok, Err, refl, ap, ◌∙◌, arith, Fits, w8, slice_index_or}
+use Rattle.std.proofs.Common.{◌≡◌, ℕ, ◌+◌, ◌-◌, ◌<◌, ◌≤◌, List, length, drop, Result, Ok, Err, ap, ◌∙◌, arith, Fits, w8, slice_index_or}
 use Rattle.std.proofs.lemmas.List.{length-append, length-drop}
 use Rattle.std.proofs.lemmas.List.Elements.{All-drop, All-from_get_or}
 use Rattle.thrift_value.specs.declared.tag.Tag.TheVariants.{Struct}
@@ -10,11 +10,10 @@ use Rattle.thrift_value.specs.declared.value.Value.{Value}
 use Rattle.thrift_value.specs.Tree.{Tree}
 use Rattle.thrift_value.specs.TreeOf.{tree_of}
 use Rattle.wire_model.specs.Reader.{Rest}
-use Rattle.wire_model.specs.Reading.{layer, value}
+use Rattle.wire_model.specs.Reading.{value}
 use Rattle.wire_model.specs.Gives.{Fails, Gives}
 use Rattle.wire_model.specs.Place.{max_levels, max_values, placed, struct_at, Taken}
 use Rattle.wire_model.specs.Protocol.{AreBytes}
-use Rattle.wire_walk.specs.Steps.{below}
 use Rattle.binary_codec.specs.Reading.{binary}
 use Rattle.binary_codec.specs.Spelling.{binary_format}
 
@@ -22,22 +21,18 @@ use Rattle.binary_codec.specs.Spelling.{binary_format}
 abbrev pub front : List ℕ → ℕ → Rest
 front bytes at = record { bytes = drop at bytes; left = max_values }
 
--- the reading in front, by its first layer
+-- the reading in front
 abbrev pub struct_in_front : Rest → Result (Tree × Rest) WireFault
-struct_in_front rest = layer binary max_levels (below binary max_levels) Struct rest
-
-layer_is : (rest : Rest) → value binary max_levels Struct rest ≡ struct_in_front rest
-unfolding value below
-layer_is rest = refl
+struct_in_front rest = value binary max_levels Struct rest
 
 pub placed_here : (bytes : List ℕ) (at : ℕ) (x : Tree) (after : Rest) → struct_in_front (front bytes at) ≡ Ok (x, after) → struct_at binary bytes at ≡ Ok (x, length bytes - length after.bytes)
-placed_here bytes at x after e = ap (placed (length bytes)) (layer_is (front bytes at) ∙ e)
+placed_here bytes at x after e = ap (placed (length bytes)) e
 
 pub taken_here : (bytes : List ℕ) (at : ℕ) (x : Tree) (after : Rest)
     → ((levels : ℕ) (before after : Rest) (x : Tree) → AreBytes before.bytes → value binary levels Struct before ≡ Ok (x, after) → Taken binary_format levels Struct x before after)
     → AreBytes (drop at bytes) → struct_in_front (front bytes at) ≡ Ok (x, after) → length after.bytes ≤ length bytes
 taken_here bytes at x after law fits e =
-    let t = law max_levels (front bytes at) after x fits (layer_is (front bytes at) ∙ e) in
+    let t = law max_levels (front bytes at) after x fits e in
     let len : length (drop at bytes) ≡ length t.text + length after.bytes = ap length t.whole ∙ length-append t.text after.bytes in
     omega (arith, length-drop at bytes)
 
@@ -45,12 +40,8 @@ fails_placed : (size : ℕ) (fault : WireFault) (r : Result (Tree × Rest) WireF
 fails_placed size NoMemory r h = tt
 fails_placed size fault r h = ap (placed size) h
 
-fails_layer : (fault : WireFault) (rest : Rest) → Fails fault (struct_in_front rest) → Fails fault (value binary max_levels Struct rest)
-fails_layer NoMemory rest h = tt
-fails_layer fault rest h = layer_is rest ∙ h
-
 pub fault_here : (bytes : List ℕ) (at : ℕ) (fault : WireFault) → Fails fault (struct_in_front (front bytes at)) → Fails fault (struct_at binary bytes at)
-fault_here bytes at fault h = fails_placed (length bytes) fault (value binary max_levels Struct (front bytes at)) (fails_layer fault (front bytes at) h)
+fault_here bytes at fault h = fails_placed (length bytes) fault (struct_in_front (front bytes at)) h
 
 -- what a slice keeps of its bytes
 pub bytes_fit : (bytes : List ℕ) → ((i : ℕ) → Fits w8 (slice_index_or bytes i 0)) → AreBytes bytes

@@ -1,34 +1,29 @@
 -- How the binary protocol reads the parts of a value that hold no other values.
-use Rattle.std.specs.Prelude.{ℕ, ℤ, pos, negsuc, List, length, take, drop, slice_index, Option, Some, None, Ok, Err, ◌==◌, nat_le, if◌then◌else◌}
+use Rattle.std.specs.Prelude.{ℕ, ℤ, pos, negsuc, List, length, slice_index, Option, Some, None, Ok, Err, ◌==◌, nat_le, if◌then◌else◌}
 use Rattle.std.specs.Int.{Width, w8, w16, w32, w64, byte_len}
 use Rattle.wire_num.specs.Fixed.{unsigned_of, signed_of}
 use Rattle.thrift_value.specs.declared.tag.Tag.{Tag}
 use Rattle.thrift_value.specs.declared.tag.Tag.TheVariants as tags
 use Rattle.thrift_value.specs.declared.wire_fault.WireFault.TheVariants.{Short, BadType, BadSize}
 use Rattle.thrift_value.specs.Tree.{Tree, of_bool, of_i8, of_i16, of_i32, of_i64, of_double}
-use Rattle.wire_model.specs.Reader.{Reader, ◌>>=◌, give, fail}
-use Rattle.wire_model.specs.Wire.{Head, stop, head, Wire}
+use Rattle.wire_model.specs.Reader.{Reader, ◌>>=◌, give, fail, piece}
+use Rattle.wire_model.specs.Wire.{FieldHeader, stop, head, Wire}
 use Rattle.binary_codec.specs.Codes.{tag_of_code}
-
--- so many bytes, or Short
-abbrev pub taken : ℕ → Reader (List ℕ)
-taken size rest =
-    if nat_le size (length rest.bytes) then Ok (take size rest.bytes, record { bytes = drop size rest.bytes; left = rest.left }) else Err Short
 
 -- a byte, and a number of a width, the highest byte first (Thrift binary protocol, 'Integer encoding')
 abbrev pub byte : Reader ℕ
 byte = do
-  bytes ← taken 1
+  bytes ← piece 1
   give (slice_index bytes 0)
 
 abbrev pub unsigned : Width → Reader ℕ
 unsigned width = do
-  bytes ← taken (byte_len width)
+  bytes ← piece (byte_len width)
   give (unsigned_of width bytes)
 
 abbrev pub signed : Width → Reader ℤ
 signed width = do
-  bytes ← taken (byte_len width)
+  bytes ← piece (byte_len width)
   give (signed_of width bytes)
 
 -- the tag of a code, or BadType
@@ -40,7 +35,7 @@ unfoldable pub tag_coded : ℕ → Reader Tag
 tag_coded code = tag_or_fault code (tag_of_code code)
 
 -- a header behind any field: 0, or a type code and an id (Thrift binary protocol, 'Struct')
-abbrev pub head_coded : ℕ → Reader Head
+abbrev pub head_coded : ℕ → Reader FieldHeader
 head_coded code =
     if code == 0 then give stop
     else do
@@ -48,12 +43,13 @@ head_coded code =
       id ← signed w16
       give (head id tag)
 
-unfoldable pub binary_field : ℤ → Reader Head
+unfoldable pub binary_field : ℤ → Reader FieldHeader
 binary_field last = do
   code ← byte
   head_coded code
 
--- a number or a bool; a bool is true exactly where its byte is 1
+-- a number or a bool (Thrift binary protocol, 'Integer encoding', 'Double encoding', 'Boolean encoding'). Own choice: a byte
+-- that is neither 0 nor 1 is false
 unfoldable pub binary_scalar : Tag → Reader Tree
 binary_scalar tags.Bool = do
   b ← byte
@@ -84,7 +80,7 @@ unsigned_size (negsuc n) = fail BadSize
 abbrev pub within_room : ℕ → Reader ℕ
 within_room n rest = if nat_le n (length rest.bytes) then Ok (n, rest) else Err Short
 
--- a length or size: BadSize comes before Short
+-- a length or size. Own choice: BadSize comes before Short, and no more is announced than the bytes that are left
 unfoldable pub binary_size : Reader ℕ
 binary_size = do
   n ← signed w32
@@ -95,9 +91,9 @@ binary_size = do
 unfoldable pub binary_span : Reader (List ℕ)
 binary_span = do
   size ← binary_size
-  taken size
+  piece size
 
--- the tag of the elements of a container; that of an empty one is bool, whatever its code is
+-- the tag of the elements of a container. Own choice: that of an empty one is bool, whatever its code is
 abbrev pub items_coded : ℕ → ℕ → Reader (Tag × ℕ)
 items_coded code size =
     if size == 0 then give (tags.Bool, size)

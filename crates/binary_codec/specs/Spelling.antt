@@ -5,19 +5,19 @@ use Rattle.wire_num.specs.Fixed.{unsigned_bytes, signed_bytes}
 use Rattle.thrift_value.specs.declared.tag.Tag.{Tag}
 use Rattle.thrift_value.specs.declared.tag.Tag.TheVariants as tags
 use Rattle.thrift_value.specs.Tree.{Tree, of_bool, of_i8, of_i16, of_i32, of_i64, of_double}
-use Rattle.wire_model.specs.Wire.{Head, stop, head, flagged}
+use Rattle.wire_model.specs.Wire.{FieldHeader, stop, head, flagged}
 use Rattle.wire_model.specs.Format.{Format}
 use Rattle.wire_model.specs.Protocol.{AreBytes}
 use Rattle.binary_codec.specs.Codes.{code_of}
 
 -- the end of a struct, or a type code and an id (Thrift binary protocol, 'Struct'); no header has a value
-abbrev pub IsHead : ℤ → Head → List ℕ → Type 0
+abbrev pub IsHead : ℤ → FieldHeader → List ℕ → Type 0
 IsHead last stop text = text ≡ 0 ∷ []
 IsHead last (head id tag) text = FitsSigned w16 id × (text ≡ code_of tag ∷ signed_bytes w16 id)
 IsHead last (flagged id flag) text = ⊥
 
 -- a number or a bool (Thrift binary protocol, 'Integer encoding', 'Double encoding', 'Boolean encoding'): true is the
--- byte 1, and every other byte is false
+-- byte 1, and 0 is false. Own choice: every other byte is false too
 abbrev pub IsScalarText : Tree → List ℕ → Type 0
 IsScalarText (of_bool true) text = text ≡ 1 ∷ []
 IsScalarText (of_bool false) text = (b : ℕ) × (b < 256) × (b ≡ 1 → ⊥) × (text ≡ b ∷ [])
@@ -34,7 +34,7 @@ pub record IsSpan (bytes text : List ℕ) : Type 0 where
   pub each : AreBytes bytes
   pub whole : text ≡ unsigned_bytes w32 (length bytes) ++ bytes
 
--- the code of the elements' tag; an empty container has any code, and the tag bool
+-- the code of the elements' tag. Own choice: an empty container has any code, and the tag bool
 abbrev pub IsElementCode : Tag → ℕ → ℕ → Type 0
 IsElementCode tag zero code = (tag ≡ tags.Bool) × (code < 256)
 IsElementCode tag (suc _) code = code ≡ code_of tag

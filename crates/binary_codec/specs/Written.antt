@@ -4,12 +4,12 @@ use Rattle.std.specs.Int.{w8, w16, w32, w64}
 use Rattle.wire_num.specs.Fixed.{unsigned_bytes, signed_bytes}
 use Rattle.thrift_value.specs.declared.tag.Tag.{Tag}
 use Rattle.thrift_value.specs.Tree.{Tree, of_bool, of_i8, of_i16, of_i32, of_i64, of_double}
-use Rattle.wire_model.specs.Wire.{Head, stop, head, flagged}
-use Rattle.wire_model.specs.Script.{Script}
+use Rattle.wire_model.specs.Wire.{FieldHeader, stop, head, flagged}
+use Rattle.wire_model.specs.Writing.{Writing}
 use Rattle.binary_codec.specs.Codes.{code_of}
 
 -- a header; that of a field with its value in it isn't written
-abbrev pub head_text : ℤ → Head → List ℕ
+abbrev pub head_text : ℤ → FieldHeader → List ℕ
 head_text last stop = 0 ∷ []
 head_text last (head id tag) = code_of tag ∷ signed_bytes w16 id
 head_text last (flagged id flag) = []
@@ -36,6 +36,6 @@ items_header tag count = code_of tag ∷ unsigned_bytes w32 count
 abbrev pub pairs_header : Tag → Tag → ℕ → List ℕ
 pairs_header key value count = code_of key ∷ code_of value ∷ unsigned_bytes w32 count
 
-abbrev pub binary_script : Script
-binary_script =
+abbrev pub binary_writing : Writing
+binary_writing =
     record { flags = false; head = head_text; scalar = scalar_text; span = span_text; items = items_header; pairs = pairs_header }

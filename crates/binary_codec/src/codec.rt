@@ -2,7 +2,6 @@
 
 ghost use Rattle.std.specs.Prelude.{◌≡◌, ◌<◌, ◌^◌, ◌++◌, length, OnOk, OnErr};
 ghost use Rattle.thrift_value.specs.TreeOf.{tree_of};
-ghost use Rattle.wire_model.specs.Gives.{Gives};
 ghost use Rattle.wire_walk.specs.Steps.{head_of, Grows};
 ghost use Rattle.binary_codec.specs.Reading.{binary_field, binary_scalar, binary_span, binary_items, binary_pairs};
 ghost use Rattle.binary_codec.specs.Written.{head_text, scalar_text, span_text, items_header, pairs_header};
@@ -28,7 +27,8 @@ impl Codec for Binary {
         Ok((Header::Field(id, tag), rest))
     }
 
-    // A bool is true exactly where its byte is 1.
+    // A number (Thrift binary protocol, 'Integer encoding', 'Double encoding'), or a bool, whose byte is 1 or 0 ('Boolean
+    // encoding'). Own choice: every byte but 1 is false.
     #[tactic(auto, unfolding(crate::specs::Reading::binary_scalar))]
     fn scalar<'a>(tag: Tag, rest: Rest<'a>) -> Result<(Value, Rest<'a>), WireFault> {
         match tag {
@@ -67,7 +67,8 @@ impl Codec for Binary {
         rest.next(size)
     }
 
-    // A type code and a size (Thrift binary protocol, 'List and Set'). The code of an empty container isn't looked at.
+    // A type code and a size (Thrift binary protocol, 'List and Set'). Own choice: the code of an empty container isn't
+    // looked at.
     #[tactic(auto, unfolding(crate::specs::Reading::binary_items))]
     fn items<'a>(rest: Rest<'a>) -> Result<(Tag, usize, Rest<'a>), WireFault> {
         let (code, rest) = u8_in(rest)?;
@@ -79,7 +80,7 @@ impl Codec for Binary {
         Ok((tag, size, rest))
     }
 
-    // Two type codes and a size (Thrift binary protocol, 'Map'). The codes of an empty map aren't looked at.
+    // Two type codes and a size (Thrift binary protocol, 'Map'). Own choice: the codes of an empty map aren't looked at.
     #[tactic(auto, unfolding(crate::specs::Reading::binary_pairs))]
     fn pairs<'a>(rest: Rest<'a>) -> Result<(Tag, Tag, usize, Rest<'a>), WireFault> {
         let (key, rest) = u8_in(rest)?;

@@ -1,7 +1,7 @@
 //! The codes of the kinds of values (Thrift binary protocol, 'Struct').
 
 ghost use Rattle.std.specs.Prelude.{◌≡◌};
-ghost use Rattle.wire_model.specs.Gives.{Gives};
+ghost use Rattle.wire_model.specs.Gives.{Tells};
 ghost use Rattle.binary_codec.specs.Codes.{code_of, tag_of_code};
 ghost use Rattle.binary_codec.specs.Reading.{tag_coded};
 
@@ -51,7 +51,7 @@ fn tag_of_code(code: u8) -> Option<Tag>
 /// The tag of a code, or BadType; nothing is read.
 #[tactic(auto, unfolding(crate::specs::Reading::tag_coded))]
 pub(crate) fn tag_coded(code: u8, rest: Rest<'_>) -> Result<(Tag, Rest<'_>), WireFault>
-    ensures { Gives (λ r. (r.0, r.1)) result (tag_coded code rest.entry) }
+    ensures { Tells (λ r. (r.0, r.1)) result (tag_coded code rest.entry) }
 {
     match tag_of_code(code) {
         Some(tag) => Ok((tag, rest)),

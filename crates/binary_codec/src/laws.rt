@@ -9,11 +9,11 @@ ghost use Rattle.thrift_value.specs.Tidy.{IsTidy, IsWellTagged};
 ghost use Rattle.thrift_value.specs.Tree.{Tree};
 ghost use Rattle.wire_model.specs.Format.{Spells};
 ghost use Rattle.wire_model.specs.Place.{struct_at, found_struct, IsWithinBounds};
-ghost use Rattle.wire_model.specs.Script.{text};
+ghost use Rattle.wire_model.specs.Writing.{text};
 ghost use Rattle.wire_model.specs.Sizes.{HasSmallSizes};
 ghost use Rattle.binary_codec.specs.Reading.{binary};
 ghost use Rattle.binary_codec.specs.Spelling.{binary_format};
-ghost use Rattle.binary_codec.specs.Written.{binary_script};
+ghost use Rattle.binary_codec.specs.Written.{binary_writing};
 ghost use Rattle.wire_model.specs.Protocol.{IsProtocol};
 
 use crate::protocol::Binary;
@@ -23,15 +23,15 @@ use wire_model::laws::{
 
 /// Numbers, texts and headers are read and written as they are spelled.
 pub fn binary_leaves_agree()
-    ensures { IsProtocol binary binary_format binary_script }
+    ensures { IsProtocol binary binary_format binary_writing }
 {}
 
 /// What is written of a tidy struct is a spelling of its plain form, and is read as that, whatever stands before it and
 /// follows.
 pub fn written_struct_is_read()
-    ensures spelled { (x : Tree) → IsTidy x → IsInRange x → HasSmallSizes x → Spells binary_format (plain x) (text binary_script x) }
+    ensures spelled { (x : Tree) → IsTidy x → IsInRange x → HasSmallSizes x → Spells binary_format (plain x) (text binary_writing x) }
     ensures read { (x : Tree) (front more : List ℕ) → IsTidy x → IsInRange x → HasSmallSizes x → IsWithinBounds x
-        → struct_at binary (front ++ (text binary_script x ++ more)) (length front) ≡ found_struct (plain x) (length front + length (text binary_script x)) }
+        → struct_at binary (front ++ (text binary_writing x ++ more)) (length front) ≡ found_struct (plain x) (length front + length (text binary_writing x)) }
 {
     written_is_spelled::<Binary>();
     written_is_read::<Binary>();

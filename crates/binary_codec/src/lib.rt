@@ -10,6 +10,8 @@ mod codec;
 mod codes;
 pub mod examples;
 pub mod laws;
+#[cfg(test)]
+mod notation;
 mod numbers;
 mod protocol;
 mod structs;

@@ -1,18 +1,18 @@
 //! The binary protocol, by its definitions.
 
-use wire_model::Protocol;
+use wire_model::WireProtocol;
 
 /// The binary protocol.
 pub struct Binary;
 
-impl Protocol for Binary {
+impl WireProtocol for Binary {
     ghost use Rattle.binary_codec.specs.Reading.{binary};
     ghost use Rattle.binary_codec.specs.Spelling.{binary_format};
-    ghost use Rattle.binary_codec.specs.Written.{binary_script};
+    ghost use Rattle.binary_codec.specs.Written.{binary_writing};
 
     ghost wire = { binary };
 
     ghost format = { binary_format };
 
-    ghost script = { binary_script };
+    ghost writing = { binary_writing };
 }

@@ -18,14 +18,14 @@ use thrift_value::{Raw, Tag, WireFault};
 use wire_model::laws::{struct_read_is_spelled, struct_spelled_is_read, value_read_is_spelled};
 use wire_walk::{Rest, read};
 
-/// How many levels a struct that is read may have.
+/// How many levels a struct that is read may have, by own choice.
 const MAX_LEVELS: u32 = 64;
 
-/// How many values a struct that is read may be.
+/// How many values a struct that is read may be, by own choice.
 const MAX_VALUES: u32 = 4_000_000;
 
 /// The struct at `at` as it came, and the place behind it; or the fault that comes first (Thrift binary protocol,
-/// 'Struct'). It has at most 64 levels and 4,000,000 values, and no more values than bytes were read for it.
+/// 'Struct'). Own choice: it has at most 64 levels and 4,000,000 values. It has no more values than bytes were read for it.
 pub fn read_struct(alloc: Global, bytes: &[u8], at: usize) -> Result<(Raw, usize), WireFault>
     requires { at ≤ length bytes.now }
     // Which struct or which fault it is; want of memory alone is free.

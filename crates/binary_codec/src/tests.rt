@@ -1,12 +1,12 @@
 //! Structs read and written, and each fault at its place.
 
-use crate::vectors::VECTORS;
+use crate::notation::notation;
+use crate::vectors::{DIFFERENCES, Row, tables};
 use crate::{Binary, read_struct, write_struct};
 use std::alloc::{AllocError, Global};
-use std::cmp::Ordering;
 use std::test::Fail;
 use thrift_value::WireFault::{BadSize, BadType, Short, TooDeep, TooMany};
-use thrift_value::{ByteText, Fields, Items, Pairs, Raw, Tag, Value, WireFault};
+use thrift_value::{Raw, Tag, Value, WireFault};
 use wire_walk::{Rest, read};
 
 // What is written of the struct in front, and the place behind it; nothing where it isn't tidy.
@@ -22,98 +22,69 @@ fn written_again(alloc: Global, bytes: &[u8]) -> Result<Option<(Raw, usize, Vec<
     }
 }
 
+// Whether a struct of Apache's is read as its tree, and written again byte for byte.
+fn holds(alloc: Global, row: &Row) -> Result<bool, AllocError> {
+    let (bytes, count, depth, tree) = row;
+    match written_again(alloc, bytes) {
+        Ok(Some((value, behind, written))) => {
+            let found = notation(alloc, &value)?;
+            let is_whole = behind == bytes.len() && written.as_slice() == *bytes;
+            let is_measured = value.count() == *count && value.depth() == *depth;
+            Ok(found.as_bytes() == *tree && is_whole && is_measured)
+        }
+        _ => Ok(false),
+    }
+}
+
+// How many of them are.
+fn holding(alloc: Global, rows: &[Row]) -> Result<usize, AllocError> {
+    let mut holding: usize = 0;
+    for row in rows {
+        if holds(alloc, row)? {
+            holding = holding.saturating_add(1);
+        }
+    }
+    Ok(holding)
+}
+
 #[test]
 fn structs_of_apache_are_read_and_written_again(rt: HostRuntime) -> Result<(), Fail> {
-    for (bytes, count, depth) in &VECTORS {
-        match written_again(rt.alloc(), bytes) {
-            Ok(Some((value, behind, written))) => {
-                assert_eq!(rt; written.as_slice(), *bytes);
-                assert_eq!(rt; behind, bytes.len());
-                assert_eq!(rt; (value.count(), value.depth()), (*count, *depth));
-            }
-            _ => panic!(rt; "a struct of Apache's was not read and written again"),
-        }
+    for rows in tables() {
+        assert_eq!(rt; holding(rt.alloc(), rows)?, rows.len());
     }
     Ok(())
 }
 
-fn text(alloc: Global, bytes: &[u8]) -> Result<Value, AllocError> {
-    Ok(Value::Bytes(ByteText::new(bytes.to_vec(alloc)?)))
-}
-
-// A struct of one field.
-fn alone(alloc: Global, value: Value) -> Result<Value, AllocError> {
-    Ok(Value::Struct(Fields::new(vec![in alloc; (1i16, value)]?)))
-}
-
-// What some structs of one field hold.
-fn held(alloc: Global) -> Result<Vec<(&'static [u8], Value)>, AllocError> {
-    let none = Value::List(Tag::Bool, Items::new(Vec::new(alloc)));
-    let list = Value::List(
-        Tag::I16,
-        Items::new(vec![in alloc; Value::I16(2), Value::I16(-1)]?),
-    );
-    let set = Value::Set(
-        Tag::I8,
-        Items::new(vec![in alloc; Value::I8(-1), Value::I8(7)]?),
-    );
-    let pair = (text(alloc, b"k")?, Value::Bool(true));
-    let map = Value::Map(Tag::Bytes, Tag::Bool, Pairs::new(vec![in alloc; pair]?));
-    let inner = Value::Struct(Fields::new(vec![in alloc; (258i16, Value::I32(-2))]?));
-    Ok(vec![in alloc;
-        (b"\x02\0\x01\x01\0".as_slice(), Value::Bool(true)),
-        (b"\x02\0\x01\x02\0", Value::Bool(false)),
-        (b"\x03\0\x01\x80\0", Value::I8(-128)),
-        (
-            b"\x04\0\x01\x3f\xf8\0\0\0\0\0\x09\0",
-            Value::Double(0x3ff8_0000_0000_0009)
-        ),
-        (b"\x06\0\x01\x01\x02\0", Value::I16(0x0102)),
-        (b"\x08\0\x01\xff\xff\xff\xfe\0", Value::I32(-2)),
-        (
-            b"\x0a\0\x01\x01\x02\x03\x04\x05\x06\x07\x08\0",
-            Value::I64(0x0102_0304_0506_0708)
-        ),
-        (b"\x0b\0\x01\0\0\0\x02\xff\0\0", text(alloc, b"\xff\0")?),
-        (b"\x0c\0\x01\x08\x01\x02\xff\xff\xff\xfe\0\0", inner),
-        (b"\x0d\0\x01\x0b\x02\0\0\0\x01\0\0\0\x01k\x01\0", map),
-        (b"\x0e\0\x01\x03\0\0\0\x02\xff\x07\0", set),
-        (b"\x0f\0\x01\x06\0\0\0\x02\0\x02\xff\xff\0", list),
-        (b"\x0f\0\x01\x02\0\0\0\0\0", none),
-    ]?)
-}
-
 #[test]
-fn structs_hold_what_they_say(rt: HostRuntime) -> Result<(), Fail> {
-    for (bytes, value) in held(rt.alloc())? {
-        let wanted = alone(rt.alloc(), value)?;
+fn structs_are_read_otherwise_by_own_choice(rt: HostRuntime) -> Result<(), Fail> {
+    for (bytes, apache, here) in &DIFFERENCES {
         match read_struct(rt.alloc(), bytes, 0) {
-            Ok((found, behind)) => {
-                assert_eq!(rt; found.compare(&wanted), Ordering::Equal);
+            Ok((value, behind)) => {
+                let found = notation(rt.alloc(), &value)?;
+                assert_eq!(rt; found.as_bytes(), *here);
+                assert_ne!(rt; found.as_bytes(), *apache);
                 assert_eq!(rt; behind, bytes.len());
             }
             Err(_) => panic!(rt; "a struct was refused"),
         }
     }
-    // Fields come as they stand, repeats too.
-    let twice = vec![in rt.alloc();
-        (2i16, Value::I8(5)),
-        (1i16, Value::I8(6)),
-        (2i16, Value::I8(5)),
-    ]?;
-    let wanted = Value::Struct(Fields::new(twice));
+    Ok(())
+}
+
+#[test]
+fn fields_come_as_they_stand(rt: HostRuntime) -> Result<(), Fail> {
+    // Repeats too, with bytes in front and behind.
     match read_struct(
         rt.alloc(),
-        b"\x03\0\x02\x05\x03\0\x01\x06\x03\0\x02\x05\0",
-        0,
+        b"..\x03\0\x02\x05\x03\0\x01\x06\x03\0\x02\x05\0..",
+        2,
     ) {
-        Ok((found, _)) => assert_eq!(rt; found.compare(&wanted), Ordering::Equal),
+        Ok((value, behind)) => {
+            let found = notation(rt.alloc(), &value)?;
+            assert_eq!(rt; found.as_str(), "struct:2,1,2 i8:5 i8:6 i8:5");
+            assert_eq!(rt; behind, 15);
+        }
         Err(_) => panic!(rt; "a struct with a repeated field was refused"),
-    }
-    // At a place, with bytes in front and behind.
-    match read_struct(rt.alloc(), b"..\x03\0\x01\x05\0..", 2) {
-        Ok((found, behind)) => assert_eq!(rt; (found.count(), behind), (2, 7)),
-        Err(_) => panic!(rt; "a struct in the middle was refused"),
     }
     Ok(())
 }

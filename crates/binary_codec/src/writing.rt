@@ -9,11 +9,11 @@ ghost use Rattle.thrift_value.specs.Tidy.{IsTidy};
 ghost use Rattle.thrift_value.specs.TreeOf.{tree_of};
 ghost use Rattle.wire_model.specs.Format.{Spells};
 ghost use Rattle.wire_model.specs.Place.{found_struct, max_levels, max_values, struct_at};
-ghost use Rattle.wire_model.specs.Script.{text};
+ghost use Rattle.wire_model.specs.Writing.{text};
 ghost use Rattle.wire_model.specs.Sizes.{HasSmallSizes};
 ghost use Rattle.binary_codec.specs.Reading.{binary};
 ghost use Rattle.binary_codec.specs.Spelling.{binary_format};
-ghost use Rattle.binary_codec.specs.Written.{binary_script};
+ghost use Rattle.binary_codec.specs.Written.{binary_writing};
 
 use crate::laws::written_struct_is_read;
 use crate::protocol::Binary;
@@ -21,17 +21,17 @@ use std::alloc::AllocError;
 use thrift_value::Value;
 use wire_walk::put;
 
-/// Appends a tidy struct of at most 64 levels (Thrift binary protocol, 'Struct'): bools as 0 and 1, and the codes of
-/// the tags that the containers name.
+/// Appends a tidy struct (Thrift binary protocol, 'Struct'): bools as 0 and 1, and the codes of the tags that the
+/// containers name. Own choice: it has no more levels than may be read. Where memory runs out, nothing was appended.
 pub fn write_struct(value: &Value, into: &mut Vec<u8>) -> Result<(), AllocError>
     requires is_struct { tag_of (tree_of value.now) ≡ tags.Struct }
     requires tidy { IsTidy (tree_of value.now) }
     requires depth { depth_of (tree_of value.now) ≤ max_levels }
     requires sizes { HasSmallSizes (tree_of value.now) }
-    ensures ok { OnOk result (into.new.items ≡ into.old.items ++ text binary_script (tree_of value.now)) }
+    ensures ok { OnOk result (into.new.items ≡ into.old.items ++ text binary_writing (tree_of value.now)) }
     ensures err { OnErr result (into.new.items ≡ into.old.items) }
     // What it appends is a spelling of the value's plain form, and is read as that, whatever follows.
-    ensures spelled { Spells binary_format (plain (tree_of value.now)) (text binary_script (tree_of value.now)) }
+    ensures spelled { Spells binary_format (plain (tree_of value.now)) (text binary_writing (tree_of value.now)) }
     ensures read_back { OnOk result (count_of (tree_of value.now) ≤ max_values → (more : List ℕ)
         → struct_at binary (into.new.items ++ more) (length into.old.items)
         ≡ found_struct (plain (tree_of value.now)) (length into.new.items)) }
@@ -44,7 +44,7 @@ pub fn write_struct(value: &Value, into: &mut Vec<u8>) -> Result<(), AllocError>
 /// The same, by what it appends alone.
 fn append(value: &Value, into: &mut Vec<u8>) -> Result<(), AllocError>
     requires { HasSmallSizes (tree_of value.now) }
-    ensures ok { OnOk result (into.new.items ≡ into.old.items ++ text binary_script (tree_of value.now)) }
+    ensures ok { OnOk result (into.new.items ≡ into.old.items ++ text binary_writing (tree_of value.now)) }
     ensures err { OnErr result (into.new.items ≡ into.old.items) }
 {
     let start = into.len();

@@ -13,7 +13,7 @@ use Rattle.envelope.specs.declared.head.Protocol.{Protocol}
 use Rattle.envelope.specs.declared.head.Protocol.TheVariants.{Binary}
 use Rattle.envelope.specs.declared.head.Head.{Head}
 use Rattle.envelope.specs.Said.{Said, IsInRange, IsCall}
-use Rattle.envelope.specs.Spelling.{name_text, strict_text, old_text, Spells, IsSpelling, head_text}
+use Rattle.envelope.specs.Spelling.{name_text, strict_text, old_text, IsBinarySpelling, IsSpelling, head_text}
 use Rattle.envelope.specs.Readout.{◌>>=◌, piece, number, name_of, version, strict_head, old_head, either_head, whole_head, call_type, head_at, Answers, StandsIn}
 use Rattle.envelope.specs.declared.head.HeadFault.{HeadFault}
 use Rattle.envelope.proofs.Pieces.{AreBytes, ok, fail, bind_found, bind_only, same_ok, IsPiece, piece_found, piece_only, IsNumber, number_found, number_only, read_number, IsName, name_found, name_only, spelled_number}
@@ -22,7 +22,7 @@ use Rattle.envelope.proofs.Pieces.{AreBytes, ok, fail, bind_found, bind_only, sa
 pub record Found (bytes : List ℕ) (said : Said) (rest : List ℕ) : Type 0 where
   pub text : List ℕ
   pub whole : bytes ≡ text ++ rest
-  pub spells : Spells said text
+  pub spells : IsBinarySpelling said text
 
 same_found : (bytes : List ℕ) (found r : Said × List ℕ) → ok found ≡ ok r → Found bytes found.0 found.1 → Found bytes r.0 r.1
 same_found bytes found r e is = subst (λ (q : Said × List ℕ). Found bytes q.0 q.1) (same_ok found r e) is
@@ -277,16 +277,16 @@ one_head p one other text a b =
     ap (λ (q : Said × List ℕ). q.0) (both p one other text [] a (subst (IsSpelling p other) (sym (append_nil_is text)) b))
 
 -- what an answer says, where it is the one that reading gives
-pub found_by : (p : Protocol) (bytes : List ℕ) (result : Result Head HeadFault) → AreBytes bytes → Answers (head_at p bytes) result
+pub found_by : (p : Protocol) (bytes : List ℕ) (result : Result Head HeadFault) → AreBytes bytes → Answers result (head_at p bytes)
     → IfOk result (λ head. StandsIn p bytes head)
 found_by p bytes (Ok head) are exact = head_found p bytes head are exact
 found_by p bytes (Err fault) are exact = tt
 
-pub only_by : (p : Protocol) (bytes : List ℕ) (result : Result Head HeadFault) → Answers (head_at p bytes) result
+pub only_by : (p : Protocol) (bytes : List ℕ) (result : Result Head HeadFault) → Answers result (head_at p bytes)
     → (said : Said) (text rest : List ℕ) → bytes ≡ text ++ rest → IsSpelling p said text → IsCall said.kind
-    → Answers (Ok (record { name = said.name; kind = said.kind; id = said.id; behind = length text })) result
+    → Answers result (Ok (record { name = said.name; kind = said.kind; id = said.id; behind = length text }))
 only_by p bytes result exact said text rest is spells call =
-    subst (λ (meant : Result Head EnvelopeFault). Answers meant result) (head_only p bytes said text rest is spells call) exact
+    subst (λ (meant : Result Head EnvelopeFault). Answers result meant) (head_only p bytes said text rest is spells call) exact
 
 -- what is left is no more than there was
 pub no_more : (p : Protocol) (bytes : List ℕ) (r : Said × List ℕ) → AreBytes bytes → whole_head p bytes ≡ Ok r → length r.1 ≤ length bytes
@@ -312,8 +312,8 @@ head_refused p bytes said text rest is spells none =
     ∙ bind_only (whole_head p (text ++ rest)) _ (said, rest) (whole_only p said text rest spells)
     ∙ ap (λ r. r >>= λ _. ok (let h : Head = record { name = said.name; kind = said.kind; id = said.id; behind = length (text ++ rest) - length rest } in h)) (call_refused said.kind none)
 
-pub refused_by : (p : Protocol) (bytes : List ℕ) (result : Result Head HeadFault) → Answers (head_at p bytes) result
+pub refused_by : (p : Protocol) (bytes : List ℕ) (result : Result Head HeadFault) → Answers result (head_at p bytes)
     → (said : Said) (text rest : List ℕ) → bytes ≡ text ++ rest → IsSpelling p said text → (IsCall said.kind → ⊥)
-    → Answers (Err (MessageType said.kind)) result
+    → Answers result (Err (MessageType said.kind))
 refused_by p bytes result exact said text rest is spells none =
-    subst (λ (meant : Result Head EnvelopeFault). Answers meant result) (head_refused p bytes said text rest is spells none) exact
+    subst (λ (meant : Result Head EnvelopeFault). Answers result meant) (head_refused p bytes said text rest is spells none) exact

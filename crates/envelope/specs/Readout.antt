@@ -81,11 +81,11 @@ head_at protocol bytes = do
 abbrev pub said_by : Head → Said
 said_by head = record { name = head.name; kind = head.kind; id = head.id }
 
--- the answer is this one; want of memory may stand in its place
-abbrev pub Answers : Result Head EnvelopeFault → Result Head HeadFault → Type 0
-Answers meant (Ok head) = meant ≡ Ok head
-Answers meant (Err (Envelope fault)) = meant ≡ Err fault
-Answers meant (Err NoMemory) = ⊤
+-- what was answered is this; want of memory may stand in its place
+abbrev pub Answers : Result Head HeadFault → Result Head EnvelopeFault → Type 0
+Answers (Ok head) meant = meant ≡ Ok head
+Answers (Err (Envelope fault)) meant = meant ≡ Err fault
+Answers (Err NoMemory) meant = ⊤
 
 -- a call's head stands in front of the bytes, up to the place behind it
 pub record StandsIn (protocol : Protocol) (bytes : List ℕ) (head : Head) : Type 0 where

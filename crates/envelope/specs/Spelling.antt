@@ -25,13 +25,13 @@ pub record IsStrict (said : Said) (text : List ℕ) : Type 0 where
   pub is : text ≡ strict_text unused said
 
 -- the bytes spell the head in one of its forms
-pub record Spells (said : Said) (text : List ℕ) : Type 0 where
+pub record IsBinarySpelling (said : Said) (text : List ℕ) : Type 0 where
   pub range : IsInRange said
   pub form : IsStrict said text ⊎ (text ≡ old_text said)
 
 -- the bytes spell the head in this protocol
 abbrev pub IsSpelling : Protocol → Said → List ℕ → Type 0
-IsSpelling Binary said text = Spells said text
+IsSpelling Binary said text = IsBinarySpelling said text
 
 -- the spelling that is written: the strict one, with 0 for the byte that says nothing
 abbrev pub head_text : Protocol → Said → List ℕ

@@ -12,6 +12,8 @@ mod laws;
 mod read;
 #[cfg(test)]
 mod tests;
+#[cfg(test)]
+mod vectors;
 mod write;
 
 pub use head::{Head, HeadFault, Protocol};

@@ -19,10 +19,10 @@ pub fn read_head(alloc: Global, protocol: Protocol, payload: &[u8]) -> Result<He
     ensures found { IfOk result (λ head. StandsIn protocol payload.now head) }
     ensures only { (said : Said) (text rest : List ℕ) → payload.now ≡ text ++ rest → IsSpelling protocol said text
         → IsCall said.kind
-        → Answers (Ok (record { name = said.name; kind = said.kind; id = said.id; behind = length text })) result }
+        → Answers result (Ok (record { name = said.name; kind = said.kind; id = said.id; behind = length text })) }
     ensures refused { (said : Said) (text rest : List ℕ) → payload.now ≡ text ++ rest → IsSpelling protocol said text
-        → (IsCall said.kind → ⊥) → Answers (Err (EnvelopeFault.MessageType said.kind)) result }
-    ensures exact { Answers (head_at protocol payload.now) result }
+        → (IsCall said.kind → ⊥) → Answers result (Err (EnvelopeFault.MessageType said.kind)) }
+    ensures exact { Answers result (head_at protocol payload.now) }
 {
     head_of(alloc, protocol, payload)
 }
@@ -30,7 +30,7 @@ pub fn read_head(alloc: Global, protocol: Protocol, payload: &[u8]) -> Result<He
 /// The head, or the fault that comes first.
 #[tactic(auto, unfolding(crate::specs::Readout::head_at, crate::specs::Readout::call_type))]
 fn head_of(alloc: Global, protocol: Protocol, payload: &[u8]) -> Result<Head, HeadFault>
-    ensures { Answers (head_at protocol payload.now) result }
+    ensures { Answers result (head_at protocol payload.now) }
 {
     let front = match protocol {
         Protocol::Binary => binary_head(payload),

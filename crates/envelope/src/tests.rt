@@ -1,8 +1,10 @@
 //! Heads read and written, and each fault at its place.
 
+use crate::vectors::MESSAGES;
 use crate::{Head, HeadFault, Protocol, read_head, write_head};
 use outside::EnvelopeFault;
 use outside::EnvelopeFault::{MessageType, NameSize, Short, Version};
+use std::alloc::{AllocError, Global};
 use std::test::Fail;
 
 // The bytes of a payload, and of its head the name, the type, the sequence id and the place behind it.
@@ -56,6 +58,45 @@ fn heads_in_both_forms(rt: HostRuntime) -> Result<(), Fail> {
                 assert_eq!(rt; (head.kind, head.id, head.behind), (*kind, *id, *behind));
             }
             Err(_) => panic!(rt; "a head that is whole was refused"),
+        }
+    }
+    Ok(())
+}
+
+#[test]
+fn heads_of_apache(rt: HostRuntime) -> Result<(), Fail> {
+    for (payload, name, kind, id, behind) in &MESSAGES {
+        match read_head(rt.alloc(), Protocol::Binary, payload) {
+            Ok(head) => {
+                assert!(rt; *kind == 1 || *kind == 4);
+                assert_eq!(rt; head.name.as_slice(), *name);
+                assert_eq!(rt; (head.kind, head.id, head.behind), (*kind, *id, *behind));
+            }
+            Err(HeadFault::Envelope(fault)) => {
+                assert!(rt; *kind == 2 || *kind == 3);
+                assert_eq!(rt; fault, MessageType(*kind));
+            }
+            Err(HeadFault::NoMemory) => panic!(rt; "there was no memory for a short name"),
+        }
+    }
+    Ok(())
+}
+
+// What is written of a head; nothing where the name is long.
+fn written(alloc: Global, name: &[u8], kind: u8, id: i32) -> Result<Vec<u8>, AllocError> {
+    let mut into = Vec::new(alloc);
+    if name.len() < 100 {
+        write_head(Protocol::Binary, name, kind, id, &mut into)?;
+    }
+    Ok(into)
+}
+
+#[test]
+fn strict_heads_of_apache_are_written(rt: HostRuntime) -> Result<(), Fail> {
+    for (payload, name, kind, id, behind) in &MESSAGES {
+        if payload.first() == Some(&0x80) {
+            let head = written(rt.alloc(), name, *kind, *id)?;
+            assert_eq!(rt; Some(head.as_slice()), payload.get(..*behind));
         }
     }
     Ok(())

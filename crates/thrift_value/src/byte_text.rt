@@ -26,12 +26,14 @@ impl ByteText {
         ByteText { bytes }
     }
 
+    /// The bytes.
     pub fn as_slice(&self) -> &[u8]
         ensures { result.now ≡ self.now }
     {
         self.bytes.as_slice()
     }
 
+    /// The bytes, to be taken apart.
     pub fn into_vec(self) -> Vec<u8>
         ensures { result.items ≡ self }
     {

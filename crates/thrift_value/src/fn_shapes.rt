@@ -19,18 +19,21 @@ impl Model for FnShapes {
 }
 
 impl FnShapes {
+    /// The shapes in this order, a line each.
     pub fn new(lines: Vec<ByteText>) -> Self
         ensures { result ≡ lines.items }
     {
         FnShapes { lines }
     }
 
+    /// The lines in order.
     pub fn as_slice(&self) -> &[ByteText]
         ensures { result.now ≡ self.now }
     {
         self.lines.as_slice()
     }
 
+    /// The lines in order, to be taken apart.
     pub fn into_vec(self) -> Vec<ByteText>
         ensures { result.items ≡ self }
     {

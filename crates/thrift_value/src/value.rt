@@ -10,14 +10,21 @@ use crate::tag::Tag;
 #[cycle(value)]
 #[derive(Drop)]
 pub enum Value {
+    /// True or false.
     Bool(bool),
+    /// A number of 8 bits, a byte in an IDL.
     I8(i8),
+    /// A number of 16 bits.
     I16(i16),
+    /// A number of 32 bits, or the number of an enum's value.
     I32(i32),
+    /// A number of 64 bits.
     I64(i64),
     /// The 64 bits of the number.
     Double(u64),
+    /// A string or a binary.
     Bytes(ByteText),
+    /// A struct, union or exception: its fields.
     Struct(Fields),
     /// The tag of the keys, the tag of their values, and the pairs.
     Map(Tag, Tag, Pairs),
@@ -76,18 +83,21 @@ impl Value {
 }
 
 impl Fields {
+    /// The fields in this order, as they are.
     pub fn new(fields: Vec<(i16, Value)>) -> Self
         ensures { fields_of result ≡ fields.items }
     {
         Fields { list: fields }
     }
 
+    /// The fields in order, each with its id.
     pub fn as_slice(&self) -> &[(i16, Value)]
         ensures { result.now ≡ fields_of self.now }
     {
         self.list.as_slice()
     }
 
+    /// The fields in order, to be taken apart.
     pub fn into_vec(self) -> Vec<(i16, Value)>
         ensures { result.items ≡ fields_of self }
     {
@@ -96,18 +106,21 @@ impl Fields {
 }
 
 impl Pairs {
+    /// The pairs in this order, as they are.
     pub fn new(pairs: Vec<(Value, Value)>) -> Self
         ensures { pairs_of result ≡ pairs.items }
     {
         Pairs { list: pairs }
     }
 
+    /// The pairs in order, each a key and its value.
     pub fn as_slice(&self) -> &[(Value, Value)]
         ensures { result.now ≡ pairs_of self.now }
     {
         self.list.as_slice()
     }
 
+    /// The pairs in order, to be taken apart.
     pub fn into_vec(self) -> Vec<(Value, Value)>
         ensures { result.items ≡ pairs_of self }
     {
@@ -116,18 +129,21 @@ impl Pairs {
 }
 
 impl Items {
+    /// The elements in this order, as they are.
     pub fn new(items: Vec<Value>) -> Self
         ensures { items_of result ≡ items.items }
     {
         Items { list: items }
     }
 
+    /// The elements in order.
     pub fn as_slice(&self) -> &[Value]
         ensures { result.now ≡ items_of self.now }
     {
         self.list.as_slice()
     }
 
+    /// The elements in order, to be taken apart.
     pub fn into_vec(self) -> Vec<Value>
         ensures { result.items ≡ items_of self }
     {

@@ -15,7 +15,7 @@ use Rattle.wire_model.specs.Reading.{value}
 use Rattle.wire_model.specs.Format.{Format, Spells}
 use Rattle.wire_model.specs.Place.{max_levels, max_values, placed, struct_at, IsWithinBounds, StandsAt}
 use Rattle.wire_model.specs.Protocol.{AreBytes, IsProtocol}
-use Rattle.wire_model.specs.Script.{Script}
+use Rattle.wire_model.specs.Writing.{Writing}
 use Rattle.wire_model.proofs.Taking.{value_taken}
 use Rattle.wire_model.proofs.Giving.{value_given, spelled_given}
 
@@ -29,14 +29,14 @@ placed_ok : (size : ℕ) (r : Result (Tree × Rest) WireFault) (y : Tree × ℕ)
 placed_ok size (Ok x) y e = (x, refl, answer_is (x.0, size - length x.1.bytes) y e)
 placed_ok size (Err fault) y e = absurd cc
 
-pub place_taken : (wire : Wire) (format : Format) (script : Script) → IsProtocol wire format script → (bytes : List ℕ) (at : ℕ) (x : Tree) (behind : ℕ) → AreBytes bytes → at ≤ length bytes
+pub place_taken : (wire : Wire) (format : Format) (writing : Writing) → IsProtocol wire format writing → (bytes : List ℕ) (at : ℕ) (x : Tree) (behind : ℕ) → AreBytes bytes → at ≤ length bytes
     → struct_at wire bytes at ≡ Ok (x, behind) → StandsAt format bytes at x behind × IsWithinBounds x × (behind ≤ length bytes) × (at + count_of x ≤ behind)
-place_taken wire format script p bytes at x behind fits within e =
+place_taken wire format writing p bytes at x behind fits within e =
     let before : Rest = record { bytes = drop at bytes; left = max_values } in
     let o = placed_ok (length bytes) (value wire max_levels tags.Struct before) (x, behind) e in
     let y = o.0.0 in
     let after = o.0.1 in
-    let t = value_taken wire format script p max_levels tags.Struct before after y (All-drop (λ b. b < 256) at bytes fits) o.1 in
+    let t = value_taken wire format writing p max_levels tags.Struct before after y (All-drop (λ b. b < 256) at bytes fits) o.1 in
     let len : length (drop at bytes) ≡ length t.text + length after.bytes = ap length t.whole ∙ length-append t.text after.bytes in
     let some : count_of y ≤ length t.text = t.bytes in
     let count : count_of y + after.left ≡ max_values = t.count in
@@ -48,10 +48,10 @@ place_taken wire format script p bytes at x behind fits within e =
       omega arith,
     )
 
-pub place_given : (wire : Wire) (format : Format) (script : Script) → IsProtocol wire format script → (bytes : List ℕ) (at : ℕ) (x : Tree) (behind : ℕ)
+pub place_given : (wire : Wire) (format : Format) (writing : Writing) → IsProtocol wire format writing → (bytes : List ℕ) (at : ℕ) (x : Tree) (behind : ℕ)
     → StandsAt format bytes at x behind → IsWithinBounds x → struct_at wire bytes at ≡ Ok (x, behind)
-place_given wire format script p bytes at x behind s b =
-    let given = spelled_given wire format script p max_levels max_values x s.text s.more s.spells b.depth b.count in
+place_given wire format writing p bytes at x behind s b =
+    let given = spelled_given wire format writing p max_levels max_values x s.text s.more s.spells b.depth b.count in
     let after : Rest = record { bytes = s.more; left = max_values - count_of x } in
     let here : value wire max_levels tags.Struct (record { bytes = drop at bytes; left = max_values }) ≡ Ok (x, after) =
     ap (λ (t : List ℕ). value wire max_levels tags.Struct (record { bytes = t; left = max_values })) s.whole
@@ -76,15 +76,15 @@ whole_is x y e = cc
 same_answer : (x y : Tree) (a b : Rest) → placed_whole x a ≡ placed_whole y b → (x ≡ y) × (a.bytes ≡ b.bytes)
 same_answer x y a b e = (ap (λ (z : Tree × Rest). z.0) (whole_is (x, a) (y, b) e), ap (λ (z : Tree × Rest). z.1.bytes) (whole_is (x, a) (y, b) e))
 
-pub one_value : (wire : Wire) (format : Format) (script : Script) → IsProtocol wire format script → (x y : Tree) (text more : List ℕ) → tag_of x ≡ tag_of y
+pub one_value : (wire : Wire) (format : Format) (writing : Writing) → IsProtocol wire format writing → (x y : Tree) (text more : List ℕ) → tag_of x ≡ tag_of y
     → Spells format x text → Spells format y (text ++ more) → (x ≡ y) × (more ≡ [])
-one_value wire format script p x y text more same h k =
+one_value wire format writing p x y text more same h k =
     let levels : ℕ = depth_of x + depth_of y in
     let all : List ℕ = text ++ more in
     let one : value wire levels (tag_of x) (record { bytes = all; left = count_of x + count_of y }) ≡ placed_whole x (record { bytes = more; left = count_of y }) =
-    value_given wire format script p x levels (omega arith) (count_of y) text more h in
+    value_given wire format writing p x levels (omega arith) (count_of y) text more h in
     let two : value wire levels (tag_of y) (record { bytes = all ++ []; left = count_of y + count_of x }) ≡ placed_whole y (record { bytes = []; left = count_of x }) =
-    value_given wire format script p y levels (omega arith) (count_of x) all [] k in
+    value_given wire format writing p y levels (omega arith) (count_of x) all [] k in
     let swap : count_of x + count_of y ≡ count_of y + count_of x = omega arith in
     let bridge : value wire levels (tag_of x) (record { bytes = all; left = count_of x + count_of y }) ≡ value wire levels (tag_of y) (record { bytes = all ++ []; left = count_of y + count_of x }) =
     ap (λ (t : Tag). value wire levels t (record { bytes = all; left = count_of x + count_of y })) same
@@ -94,13 +94,13 @@ one_value wire format script p x y text more same h k =
 
 -- ---- what was written at a place
 
-pub place_written : (wire : Wire) (format : Format) (script : Script) → IsProtocol wire format script → (x y : Tree) → HasMeasuresOf x y → (text front more : List ℕ) → Spells format y text
+pub place_written : (wire : Wire) (format : Format) (writing : Writing) → IsProtocol wire format writing → (x y : Tree) → HasMeasuresOf x y → (text front more : List ℕ) → Spells format y text
     → IsWithinBounds x → struct_at wire (front ++ (text ++ more)) (length front) ≡ Ok (y, length front + length text)
-place_written wire format script p x y m text front more h b =
+place_written wire format writing p x y m text front more h b =
     let depth : depth_of x ≤ max_levels = b.depth in
     let count : count_of x ≤ max_values = b.count in
     let same_depth : depth_of y ≡ depth_of x = m.depth in
     let same_count : count_of y ≡ count_of x = m.count in
-    place_given wire format script p (front ++ (text ++ more)) (length front) y (length front + length text)
+    place_given wire format writing p (front ++ (text ++ more)) (length front) y (length front + length text)
     (record { text = text; more = more; within = omega (arith, length-append front (text ++ more)); whole = drop_at front (text ++ more) (length front) refl; spells = h; end = refl })
     (record { is_struct = m.tag ∙ b.is_struct; depth = omega arith; count = omega arith })

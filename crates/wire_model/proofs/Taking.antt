@@ -10,12 +10,12 @@ use Rattle.thrift_value.specs.Tree.{Tree, of_bool, of_bytes, of_struct, of_map, 
 use Rattle.thrift_value.specs.Tags.{tag_of}
 use Rattle.thrift_value.specs.Measures.{depth_of, fields_depth, items_depth, pairs_depth, count_of, fields_count, items_count, pairs_count}
 use Rattle.wire_model.specs.Reader.{Rest, Reader, ◌>>=◌, give, fail, one_more}
-use Rattle.wire_model.specs.Wire.{Head, stop, head, flagged, Wire, IsScalar}
+use Rattle.wire_model.specs.Wire.{FieldHeader, stop, head, flagged, Wire, IsScalar}
 use Rattle.wire_model.specs.Reading.{item_list, pair_list, field_behind, field_list, parts, layer, value}
 use Rattle.wire_model.specs.Format.{Format, Joined, items_len, pairs_len, Spells, SpellsFields, SpellsItems, SpellsPairs}
 use Rattle.wire_model.specs.Place.{Taken}
 use Rattle.wire_model.specs.Protocol.{AreBytes, Found, IsProtocol}
-use Rattle.wire_model.specs.Script.{Script}
+use Rattle.wire_model.specs.Writing.{Writing}
 use Rattle.wire_model.proofs.Steps.{went_on, ok_is, Moved, Moved-none, Moved-then, Moved_of_found, bytes_after, counted}
 
 -- a reader of values takes spellings of them
@@ -124,12 +124,12 @@ abbrev TakesFields : Format → ℕ → ℤ → Reader FieldTrees → Type 0
 TakesFields format levels last others = (before after : Rest) (fs : FieldTrees) → AreBytes before.bytes → others before ≡ Ok (fs, after) → TakenFields format levels last fs before after
 
 -- behind the header that was found
-behind_taken : (wire : Wire) (format : Format) (script : Script) (p : IsProtocol wire format script) (levels : ℕ) (read : Tag → Reader Tree) → Takes format levels read
+behind_taken : (wire : Wire) (format : Format) (writing : Writing) (p : IsProtocol wire format writing) (levels : ℕ) (read : Tag → Reader Tree) → Takes format levels read
     → (others : ℤ → Reader FieldTrees) → ((id : ℤ) → FitsSigned w16 id → TakesFields format levels id (others id))
-    → (last : ℤ) → FitsSigned w16 last → (h : Head) (before middle after : Rest) (fs : FieldTrees) → AreBytes before.bytes
+    → (last : ℤ) → FitsSigned w16 last → (h : FieldHeader) (before middle after : Rest) (fs : FieldTrees) → AreBytes before.bytes
     → Found (format.head last) h before middle → field_behind read others h middle ≡ Ok (fs, after) → TakenFields format levels last fs before after
 unfolding field_behind
-behind_taken wire format script p levels read takes others rest_takes last last_fits stop before middle after fs fits f e =
+behind_taken wire format writing p levels read takes others rest_takes last last_fits stop before middle after fs fits f e =
     subst (λ (y : FieldTrees × Rest). TakenFields format levels last y.0 before y.1) (ok_is (no_fields, middle) (fs, after) e)
     (record {
       text = f.text;
@@ -138,7 +138,7 @@ behind_taken wire format script p levels read takes others rest_takes last last_
       end = let b : 1 ≤ length f.text = (p.field last last_fits).byte stop f.text f.spells in omega arith;
       depth = omega arith;
     })
-behind_taken wire format script p levels read takes others rest_takes last last_fits (head id tag) before middle after fs fits f e =
+behind_taken wire format writing p levels read takes others rest_takes last last_fits (head id tag) before middle after fs fits f e =
     let one = went_on (read tag middle) (λ x. others id >>= λ more. give (field id x more)) (fs, after) e in
     let x = one.0.0 in
     let third = one.0.1 in
@@ -164,7 +164,7 @@ behind_taken wire format script p levels read takes others rest_takes last last_
       end = let a : 0 + count_of x ≤ length (f.text ++ t.text) = header.bytes in let b : fields_count two.0.0 + 1 ≤ length ts.text = ts.end in omega (arith, length-append (f.text ++ t.text) ts.text);
       depth = let a : depth_of x ≤ levels = t.depth in let b : fields_depth two.0.0 ≤ levels = ts.depth in omega arith;
     })
-behind_taken wire format script p levels read takes others rest_takes last last_fits (flagged id flag) before middle after fs fits f e =
+behind_taken wire format writing p levels read takes others rest_takes last last_fits (flagged id flag) before middle after fs fits f e =
     let one = went_on (one_more middle) (λ x. others id >>= λ more. give (field id (of_bool flag) more)) (fs, after) e in
     let third = one.0.1 in
     let two = went_on (others id third) (λ more. give (field id (of_bool flag) more)) (fs, after) one.2 in
@@ -187,13 +187,13 @@ behind_taken wire format script p levels read takes others rest_takes last last_
       depth = let d : fields_depth two.0.0 ≤ levels = ts.depth in omega arith;
     })
 
-fields_taken : (wire : Wire) (format : Format) (script : Script) (p : IsProtocol wire format script) (levels : ℕ) (read : Tag → Reader Tree) → Takes format levels read
+fields_taken : (wire : Wire) (format : Format) (writing : Writing) (p : IsProtocol wire format writing) (levels : ℕ) (read : Tag → Reader Tree) → Takes format levels read
     → (most : ℕ) (last : ℤ) → FitsSigned w16 last → TakesFields format levels last (field_list wire read most last)
 unfolding field_list
-fields_taken wire format script p levels read takes zero last last_fits before after fs fits e = absurd cc
-fields_taken wire format script p levels read takes (suc most) last last_fits before after fs fits e =
+fields_taken wire format writing p levels read takes zero last last_fits before after fs fits e = absurd cc
+fields_taken wire format writing p levels read takes (suc most) last last_fits before after fs fits e =
     let one = went_on (wire.field last before) (λ h. field_behind read (field_list wire read most) h) (fs, after) e in
-    behind_taken wire format script p levels read takes (field_list wire read most) (λ id id_fits. fields_taken wire format script p levels read takes most id id_fits) last last_fits
+    behind_taken wire format writing p levels read takes (field_list wire read most) (λ id id_fits. fields_taken wire format writing p levels read takes most id id_fits) last last_fits
     one.0.0 before one.0.1 after fs fits ((p.field last last_fits).found before one.0.1 one.0.0 fits one.1) one.2
 
 -- ---- a value
@@ -253,11 +253,11 @@ record TakenItemsWhole (format : Format) (levels : ℕ) (make : Tag → ItemTree
   count : (items_count items + 1) + after.left ≡ suc before.left
   bytes : items_count items + 1 ≤ length text
 
-items_parts : (wire : Wire) (format : Format) (script : Script) (p : IsProtocol wire format script) (levels : ℕ) (read : Tag → Reader Tree) → Takes format levels read
+items_parts : (wire : Wire) (format : Format) (writing : Writing) (p : IsProtocol wire format writing) (levels : ℕ) (read : Tag → Reader Tree) → Takes format levels read
     → (make : Tag → ItemTrees → Tree) (before after : Rest) (x : Tree) → AreBytes before.bytes
     → (wire.items >>= λ found. item_list read found.0 found.1 >>= λ items. give (make found.0 items)) before ≡ Ok (x, after)
     → TakenItemsWhole format levels make x before after
-items_parts wire format script p levels read takes make before after x fits e =
+items_parts wire format writing p levels read takes make before after x fits e =
     let one = went_on (wire.items before) (λ found. item_list read found.0 found.1 >>= λ items. give (make found.0 items)) (x, after) e in
     let h = one.0.0 in
     let middle = one.0.1 in
@@ -279,11 +279,11 @@ items_parts wire format script p levels read takes make before after x fits e =
       bytes = j.2;
     })
 
-map_parts : (wire : Wire) (format : Format) (script : Script) (p : IsProtocol wire format script) (levels : ℕ) (read : Tag → Reader Tree) → Takes format levels read
+map_parts : (wire : Wire) (format : Format) (writing : Writing) (p : IsProtocol wire format writing) (levels : ℕ) (read : Tag → Reader Tree) → Takes format levels read
     → (before after : Rest) (x : Tree) → AreBytes before.bytes
     → (wire.pairs >>= λ found. pair_list read found.0 found.1 found.2 >>= λ pairs. give (of_map found.0 found.1 pairs)) before ≡ Ok (x, after)
     → TakenParts format (suc levels) tags.Map x before after
-map_parts wire format script p levels read takes before after x fits e =
+map_parts wire format writing p levels read takes before after x fits e =
     let one = went_on (wire.pairs before) (λ found. pair_list read found.0 found.1 found.2 >>= λ pairs. give (of_map found.0 found.1 pairs)) (x, after) e in
     let h = one.0.0 in
     let middle = one.0.1 in
@@ -303,13 +303,13 @@ map_parts wire format script p levels read takes before after x fits e =
       bytes = j.2;
     })
 
-struct_parts : (wire : Wire) (format : Format) (script : Script) (p : IsProtocol wire format script) (levels : ℕ) (read : Tag → Reader Tree) → Takes format levels read
+struct_parts : (wire : Wire) (format : Format) (writing : Writing) (p : IsProtocol wire format writing) (levels : ℕ) (read : Tag → Reader Tree) → Takes format levels read
     → (before after : Rest) (x : Tree) → AreBytes before.bytes
     → (field_list wire read (length before.bytes) (pos 0) >>= λ fields. give (of_struct fields)) before ≡ Ok (x, after)
     → TakenParts format (suc levels) tags.Struct x before after
-struct_parts wire format script p levels read takes before after x fits e =
+struct_parts wire format writing p levels read takes before after x fits e =
     let one = went_on (field_list wire read (length before.bytes) (pos 0) before) (λ fields. give (of_struct fields)) (x, after) e in
-    let t = fields_taken wire format script p levels read takes (length before.bytes) (pos 0) (search rules) before one.0.1 one.0.0 fits one.1 in
+    let t = fields_taken wire format writing p levels read takes (length before.bytes) (pos 0) (search rules) before one.0.1 one.0.0 fits one.1 in
     subst (λ (z : Tree × Rest). TakenParts format (suc levels) tags.Struct z.0 before z.1) (ok_is (of_struct one.0.0, one.0.1) (x, after) one.2)
     (record {
       text = t.text;
@@ -321,11 +321,11 @@ struct_parts wire format script p levels read takes before after x fits e =
       bytes = t.end;
     })
 
-parts_taken : (wire : Wire) (format : Format) (script : Script) (p : IsProtocol wire format script) (levels : ℕ) (read : Tag → Reader Tree)
+parts_taken : (wire : Wire) (format : Format) (writing : Writing) (p : IsProtocol wire format writing) (levels : ℕ) (read : Tag → Reader Tree)
     → ((l : ℕ) → levels ≡ suc l → Takes format l read) → (tag : Tag) (before after : Rest) (x : Tree) → AreBytes before.bytes
     → parts wire levels read tag before ≡ Ok (x, after) → TakenParts format levels tag x before after
 unfolding parts
-parts_taken wire format script p levels read takes tags.Bytes before after x fits e =
+parts_taken wire format writing p levels read takes tags.Bytes before after x fits e =
     let one = went_on (wire.span before) (λ text. give (of_bytes text)) (x, after) e in
     let f = p.span.found before one.0.1 one.0.0 fits one.1 in
     let b = p.span.byte one.0.0 f.text f.spells in
@@ -339,32 +339,32 @@ parts_taken wire format script p levels read takes tags.Bytes before after x fit
       count = let y : one.0.1.left ≡ before.left = f.left in omega arith;
       bytes = b;
     })
-parts_taken wire format script p zero read takes tags.Struct before after x fits e = absurd cc
-parts_taken wire format script p (suc l) read takes tags.Struct before after x fits e = struct_parts wire format script p l read (takes l refl) before after x fits e
-parts_taken wire format script p zero read takes tags.Map before after x fits e = absurd cc
-parts_taken wire format script p (suc l) read takes tags.Map before after x fits e = map_parts wire format script p l read (takes l refl) before after x fits e
-parts_taken wire format script p zero read takes tags.Set before after x fits e = absurd cc
-parts_taken wire format script p (suc l) read takes tags.Set before after x fits e =
-    let t = items_parts wire format script p l read (takes l refl) (λ tag xs. of_set tag xs) before after x fits e in
+parts_taken wire format writing p zero read takes tags.Struct before after x fits e = absurd cc
+parts_taken wire format writing p (suc l) read takes tags.Struct before after x fits e = struct_parts wire format writing p l read (takes l refl) before after x fits e
+parts_taken wire format writing p zero read takes tags.Map before after x fits e = absurd cc
+parts_taken wire format writing p (suc l) read takes tags.Map before after x fits e = map_parts wire format writing p l read (takes l refl) before after x fits e
+parts_taken wire format writing p zero read takes tags.Set before after x fits e = absurd cc
+parts_taken wire format writing p (suc l) read takes tags.Set before after x fits e =
+    let t = items_parts wire format writing p l read (takes l refl) (λ tag xs. of_set tag xs) before after x fits e in
     subst (λ (z : Tree). TakenParts format (suc l) tags.Set z before after) t.made
     (record { text = t.text; whole = t.whole; spells = t.spells; kind = refl; depth = let d : items_depth t.items ≤ l = t.depth in omega arith; count = t.count; bytes = t.bytes })
-parts_taken wire format script p zero read takes tags.List before after x fits e = absurd cc
-parts_taken wire format script p (suc l) read takes tags.List before after x fits e =
-    let t = items_parts wire format script p l read (takes l refl) (λ tag xs. of_list tag xs) before after x fits e in
+parts_taken wire format writing p zero read takes tags.List before after x fits e = absurd cc
+parts_taken wire format writing p (suc l) read takes tags.List before after x fits e =
+    let t = items_parts wire format writing p l read (takes l refl) (λ tag xs. of_list tag xs) before after x fits e in
     subst (λ (z : Tree). TakenParts format (suc l) tags.List z before after) t.made
     (record { text = t.text; whole = t.whole; spells = t.spells; kind = refl; depth = let d : items_depth t.items ≤ l = t.depth in omega arith; count = t.count; bytes = t.bytes })
-parts_taken wire format script p levels read takes tag before after x fits e =
+parts_taken wire format writing p levels read takes tag before after x fits e =
     let f = (p.scalar tag tt).found before after x fits e in
     scalar_taken format levels tag tt x before after f ((p.scalar tag tt).byte x f.text f.spells)
 
-layer_taken : (wire : Wire) (format : Format) (script : Script) (p : IsProtocol wire format script) (levels : ℕ) (read : Tag → Reader Tree)
+layer_taken : (wire : Wire) (format : Format) (writing : Writing) (p : IsProtocol wire format writing) (levels : ℕ) (read : Tag → Reader Tree)
     → ((l : ℕ) → levels ≡ suc l → Takes format l read) → Takes format levels (layer wire levels read)
 unfolding layer
-layer_taken wire format script p levels read takes tag before after x fits e =
+layer_taken wire format writing p levels read takes tag before after x fits e =
     let one = went_on (one_more before) (λ _. parts wire levels read tag) (x, after) e in
     let middle = one.0.1 in
     let c = counted before one.0 one.1 in
-    let t = parts_taken wire format script p levels read takes tag middle after x (subst AreBytes (sym c.1) fits) one.2 in
+    let t = parts_taken wire format writing p levels read takes tag middle after x (subst AreBytes (sym c.1) fits) one.2 in
     record {
       text = t.text;
       whole = sym c.1 ∙ t.whole;
@@ -375,8 +375,8 @@ layer_taken wire format script p levels read takes tag before after x fits e =
       bytes = t.bytes;
     }
 
-pub value_taken : (wire : Wire) (format : Format) (script : Script) (p : IsProtocol wire format script) (levels : ℕ) → Takes format levels (value wire levels)
+pub value_taken : (wire : Wire) (format : Format) (writing : Writing) (p : IsProtocol wire format writing) (levels : ℕ) → Takes format levels (value wire levels)
 unfolding value
-value_taken wire format script p zero = layer_taken wire format script p zero (λ _. fail TooDeep) (λ l e. absurd (zero-suc e))
-value_taken wire format script p (suc levels) =
-    layer_taken wire format script p (suc levels) (value wire levels) (λ l e. subst (λ (k : ℕ). Takes format k (value wire levels)) (suc_is e) (value_taken wire format script p levels))
+value_taken wire format writing p zero = layer_taken wire format writing p zero (λ _. fail TooDeep) (λ l e. absurd (zero-suc e))
+value_taken wire format writing p (suc levels) =
+    layer_taken wire format writing p (suc levels) (value wire levels) (λ l e. subst (λ (k : ℕ). Takes format k (value wire levels)) (suc_is e) (value_taken wire format writing p levels))

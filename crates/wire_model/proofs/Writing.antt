@@ -9,10 +9,10 @@ use Rattle.thrift_value.specs.Tags.{tag_of}
 use Rattle.thrift_value.specs.Plain.{plain, plain_fields, plain_items, plain_pairs, HasMeasuresOf}
 use Rattle.thrift_value.specs.Ranges.{IsInRange, AreFieldsInRange, AreItemsInRange, ArePairsInRange}
 use Rattle.thrift_value.specs.Tidy.{IsWellTagged, AreWellTaggedFields, AreWellTaggedItems, AreWellTaggedPairs}
-use Rattle.wire_model.specs.Wire.{Head, head, flagged, Wire}
+use Rattle.wire_model.specs.Wire.{FieldHeader, head, flagged, Wire}
 use Rattle.wire_model.specs.Format.{Format, IsField, items_len, pairs_len, Spells, SpellsFields, SpellsItems, SpellsPairs}
 use Rattle.wire_model.specs.Protocol.{IsProtocol}
-use Rattle.wire_model.specs.Script.{Script, heading, behind_heading, text, fields_text, items_text, pairs_text}
+use Rattle.wire_model.specs.Writing.{Writing, heading, behind_heading, text, fields_text, items_text, pairs_text}
 use Rattle.wire_model.specs.Sizes.{HasSmallSizes, HaveFieldsSmallSizes, HaveItemsSmallSizes, HavePairsSmallSizes}
 
 items_len-plain : (xs : ItemTrees) → items_len xs ≡ items_len (plain_items xs)
@@ -32,70 +32,70 @@ field_written format false last id (of_bool b) same h body first second = inl (r
 field_written format flags last id x same h body first second =
     inl (record { front = h; back = body; whole = refl; first = subst (λ (k : Tag). format.head last (head id k) h) same first; second = second })
 
-module _ (wire : Wire) (format : Format) (script : Script) (p : IsProtocol wire format script) (measures : (x : Tree) → HasMeasuresOf x (plain x)) where
+module _ (wire : Wire) (format : Format) (writing : Writing) (p : IsProtocol wire format writing) (measures : (x : Tree) → HasMeasuresOf x (plain x)) where
   mutual
-    pub value_written : (x : Tree) → IsWellTagged x → IsInRange x → HasSmallSizes x → Spells format (plain x) (text script x)
+    pub value_written : (x : Tree) → IsWellTagged x → IsInRange x → HasSmallSizes x → Spells format (plain x) (text writing x)
     value_written (of_bytes bytes) t r s = p.span_written bytes s r
     value_written (of_struct fs) t r s = fields_written fs (pos 0) (search rules) t r s
     value_written (of_map a b no_pairs) t r s =
-        record { front = script.pairs a b 0; back = []; whole = refl; first = p.pairs_written a b 0 s.0; second = refl }
+        record { front = writing.pairs a b 0; back = []; whole = refl; first = p.pairs_written a b 0 s.0; second = refl }
     value_written (of_map a b (pair k x ps)) t r s =
         record {
-          front = script.pairs a b (suc (pairs_len ps));
-          back = pairs_text script (pair k x ps);
+          front = writing.pairs a b (suc (pairs_len ps));
+          back = pairs_text writing (pair k x ps);
           whole = refl;
-          first = subst (λ (n : ℕ). format.pairs a b n (script.pairs a b (suc (pairs_len ps)))) (ap suc (pairs_len-plain ps)) (p.pairs_written a b (suc (pairs_len ps)) s.0);
+          first = subst (λ (n : ℕ). format.pairs a b n (writing.pairs a b (suc (pairs_len ps)))) (ap suc (pairs_len-plain ps)) (p.pairs_written a b (suc (pairs_len ps)) s.0);
           second = pairs_written (pair k x ps) a b t r s.1;
         }
-    value_written (of_set a no_items) t r s = record { front = script.items a 0; back = []; whole = refl; first = p.items_written a 0 s.0; second = refl }
+    value_written (of_set a no_items) t r s = record { front = writing.items a 0; back = []; whole = refl; first = p.items_written a 0 s.0; second = refl }
     value_written (of_set a (item x xs)) t r s =
         record {
-          front = script.items a (suc (items_len xs));
-          back = items_text script (item x xs);
+          front = writing.items a (suc (items_len xs));
+          back = items_text writing (item x xs);
           whole = refl;
-          first = subst (λ (n : ℕ). format.items a n (script.items a (suc (items_len xs)))) (ap suc (items_len-plain xs)) (p.items_written a (suc (items_len xs)) s.0);
+          first = subst (λ (n : ℕ). format.items a n (writing.items a (suc (items_len xs)))) (ap suc (items_len-plain xs)) (p.items_written a (suc (items_len xs)) s.0);
           second = items_written (item x xs) a t r s.1;
         }
-    value_written (of_list a no_items) t r s = record { front = script.items a 0; back = []; whole = refl; first = p.items_written a 0 s.0; second = refl }
+    value_written (of_list a no_items) t r s = record { front = writing.items a 0; back = []; whole = refl; first = p.items_written a 0 s.0; second = refl }
     value_written (of_list a (item x xs)) t r s =
         record {
-          front = script.items a (suc (items_len xs));
-          back = items_text script (item x xs);
+          front = writing.items a (suc (items_len xs));
+          back = items_text writing (item x xs);
           whole = refl;
-          first = subst (λ (n : ℕ). format.items a n (script.items a (suc (items_len xs)))) (ap suc (items_len-plain xs)) (p.items_written a (suc (items_len xs)) s.0);
+          first = subst (λ (n : ℕ). format.items a n (writing.items a (suc (items_len xs)))) (ap suc (items_len-plain xs)) (p.items_written a (suc (items_len xs)) s.0);
           second = items_written (item x xs) a t r s.1;
         }
     value_written x t r s = p.scalar_written x tt r
 
     fields_written : (fs : FieldTrees) (last : ℤ) → FitsSigned w16 last → AreWellTaggedFields fs → AreFieldsInRange fs → HaveFieldsSmallSizes fs
-        → SpellsFields format last (plain_fields fs) (fields_text script last fs)
+        → SpellsFields format last (plain_fields fs) (fields_text writing last fs)
     fields_written no_fields last fits t r s = p.stop_written last
     fields_written (field id x xs) last fits t r s =
-        let h : Head = heading script.flags id x in
-        let body = behind_heading h (text script x) in
+        let h : FieldHeader = heading writing.flags id x in
+        let body = behind_heading h (text writing x) in
         record {
-          front = script.head last h ++ body;
-          back = fields_text script id xs;
-          whole = sym (append_assoc (script.head last h) body (fields_text script id xs));
-          first = field_written format script.flags last id x (sym (measures x).tag) (script.head last h) (text script x) (p.head_written last id x fits r.0) (value_written x t.0 r.1 s.0);
+          front = writing.head last h ++ body;
+          back = fields_text writing id xs;
+          whole = sym (append_assoc (writing.head last h) body (fields_text writing id xs));
+          first = field_written format writing.flags last id x (sym (measures x).tag) (writing.head last h) (text writing x) (p.head_written last id x fits r.0) (value_written x t.0 r.1 s.0);
           second = fields_written xs id r.0 t.1 r.2 s.1;
         }
 
-    items_written : (xs : ItemTrees) (a : Tag) → AreWellTaggedItems a xs → AreItemsInRange xs → HaveItemsSmallSizes xs → SpellsItems format a (plain_items xs) (items_text script xs)
+    items_written : (xs : ItemTrees) (a : Tag) → AreWellTaggedItems a xs → AreItemsInRange xs → HaveItemsSmallSizes xs → SpellsItems format a (plain_items xs) (items_text writing xs)
     items_written no_items a t r s = refl
     items_written (item x xs) a t r s =
-        ((measures x).tag ∙ t.0, record { front = text script x; back = items_text script xs; whole = refl; first = value_written x t.1 r.0 s.0; second = items_written xs a t.2 r.1 s.1 })
+        ((measures x).tag ∙ t.0, record { front = text writing x; back = items_text writing xs; whole = refl; first = value_written x t.1 r.0 s.0; second = items_written xs a t.2 r.1 s.1 })
 
-    pairs_written : (ps : PairTrees) (a b : Tag) → AreWellTaggedPairs a b ps → ArePairsInRange ps → HavePairsSmallSizes ps → SpellsPairs format a b (plain_pairs ps) (pairs_text script ps)
+    pairs_written : (ps : PairTrees) (a b : Tag) → AreWellTaggedPairs a b ps → ArePairsInRange ps → HavePairsSmallSizes ps → SpellsPairs format a b (plain_pairs ps) (pairs_text writing ps)
     pairs_written no_pairs a b t r s = refl
     pairs_written (pair k x ps) a b t r s = (
       (measures k).tag ∙ t.0,
       (measures x).tag ∙ t.1,
       record {
-        front = text script k;
-        back = text script x ++ pairs_text script ps;
+        front = text writing k;
+        back = text writing x ++ pairs_text writing ps;
         whole = refl;
         first = value_written k t.2 r.0 s.0;
-        second = record { front = text script x; back = pairs_text script ps; whole = refl; first = value_written x t.3 r.1 s.1; second = pairs_written ps a b t.4 r.2 s.2 };
+        second = record { front = text writing x; back = pairs_text writing ps; whole = refl; first = value_written x t.3 r.1 s.1; second = pairs_written ps a b t.4 r.2 s.2 };
       },
     )

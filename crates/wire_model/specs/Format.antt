@@ -3,13 +3,13 @@ use Rattle.std.specs.Prelude.{◌≡◌, ℕ, suc, zero, ℤ, pos, Bool, List, [
 use Rattle.thrift_value.specs.declared.tag.Tag.{Tag}
 use Rattle.thrift_value.specs.Tree.{Tree, of_bool, of_bytes, of_struct, of_map, of_set, of_list, FieldTrees, no_fields, field, ItemTrees, no_items, item, PairTrees, no_pairs, pair}
 use Rattle.thrift_value.specs.Tags.{tag_of}
-use Rattle.wire_model.specs.Wire.{Head, stop, head, flagged}
+use Rattle.wire_model.specs.Wire.{FieldHeader, stop, head, flagged}
 
 -- The spellings of what a protocol has by itself: which bytes are a header behind the field `last`; a number or bool; a
 -- text with its length; the header of a list or set, and of a map, with its number of elements. Each says which numbers
--- may stand there. The header of an empty container has the tag bool, whatever its bytes are.
+-- may stand there. Own choice: the header of an empty container has the tag bool, whatever its bytes are.
 pub record Format : Type 1 where
-  pub head : ℤ → Head → List ℕ → Type 0
+  pub head : ℤ → FieldHeader → List ℕ → Type 0
   pub scalar : Tree → List ℕ → Type 0
   pub span : List ℕ → List ℕ → Type 0
   pub items : Tag → ℕ → List ℕ → Type 0

@@ -12,3 +12,13 @@ Fails fault read = read ≡ Err fault
 abbrev pub Gives : {X Y : Type 0} → (X → Y) → Result X WireFault → Result Y WireFault → Type 0
 Gives view (Ok x) read = read ≡ Ok (view x)
 Gives view (Err fault) read = Fails fault read
+
+-- the fault is what reading gives, and never want of memory
+abbrev pub IsTold : {Y : Type 0} → WireFault → Result Y WireFault → Type 0
+IsTold NoMemory read = ⊥
+IsTold fault read = read ≡ Err fault
+
+-- what was answered, seen by view, is what reading gives, with no memory taken
+abbrev pub Tells : {X Y : Type 0} → (X → Y) → Result X WireFault → Result Y WireFault → Type 0
+Tells view (Ok x) read = read ≡ Ok (view x)
+Tells view (Err fault) read = IsTold fault read

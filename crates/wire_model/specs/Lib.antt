@@ -2,7 +2,7 @@ pub mod Reader
 pub mod Wire
 pub mod Reading
 pub mod Format
-pub mod Script
+pub mod Writing
 pub mod Sizes
 pub mod Place
 pub mod Gives

@@ -9,7 +9,7 @@ use Rattle.thrift_value.specs.Ranges.{IsInRange}
 use Rattle.wire_model.specs.Reader.{Rest, Reader}
 use Rattle.wire_model.specs.Wire.{stop, head, flagged, Wire, IsScalar}
 use Rattle.wire_model.specs.Format.{Format}
-use Rattle.wire_model.specs.Script.{Script, heading}
+use Rattle.wire_model.specs.Writing.{Writing, heading}
 
 -- each number is a byte
 abbrev pub AreBytes : List ℕ → Type 0
@@ -36,7 +36,7 @@ plain_tag tag zero = tags.Bool
 plain_tag tag (suc _) = tag
 
 -- readers, spellings and what is written belong together
-pub record IsProtocol (wire : Wire) (format : Format) (script : Script) : Type 0 where
+pub record IsProtocol (wire : Wire) (format : Format) (writing : Writing) : Type 0 where
   pub field : (last : ℤ) → FitsSigned w16 last → Reads (wire.field last) (format.head last) (λ _. 0)
   pub id : (last id : ℤ) (tag : Tag) (text : List ℕ) → format.head last (head id tag) text → FitsSigned w16 id
   pub flagged_id : (last id : ℤ) (flag : Bool) (text : List ℕ) → format.head last (flagged id flag) text → FitsSigned w16 id
@@ -44,14 +44,14 @@ pub record IsProtocol (wire : Wire) (format : Format) (script : Script) : Type 0
   pub span : Reads wire.span format.span (λ _. 0)
   pub items : Reads wire.items (λ found. format.items found.0 found.1) (λ found. found.1)
   pub pairs : Reads wire.pairs (λ found. format.pairs found.0 found.1 found.2) (λ found. found.2)
-  pub stop_written : (last : ℤ) → format.head last stop (script.head last stop)
+  pub stop_written : (last : ℤ) → format.head last stop (writing.head last stop)
   pub head_written : (last id : ℤ) (x : Tree) → FitsSigned w16 last → FitsSigned w16 id
-      → format.head last (heading script.flags id x) (script.head last (heading script.flags id x))
-  pub scalar_written : (x : Tree) → IsScalar (tag_of x) → IsInRange x → format.scalar x (script.scalar x)
-  pub span_written : (bytes : List ℕ) → length bytes < 2 ^ 31 → AreBytes bytes → format.span bytes (script.span bytes)
-  pub items_written : (tag : Tag) (count : ℕ) → count < 2 ^ 31 → format.items (plain_tag tag count) count (script.items tag count)
+      → format.head last (heading writing.flags id x) (writing.head last (heading writing.flags id x))
+  pub scalar_written : (x : Tree) → IsScalar (tag_of x) → IsInRange x → format.scalar x (writing.scalar x)
+  pub span_written : (bytes : List ℕ) → length bytes < 2 ^ 31 → AreBytes bytes → format.span bytes (writing.span bytes)
+  pub items_written : (tag : Tag) (count : ℕ) → count < 2 ^ 31 → format.items (plain_tag tag count) count (writing.items tag count)
   pub pairs_written : (key value : Tag) (count : ℕ) → count < 2 ^ 31
-      → format.pairs (plain_tag key count) (plain_tag value count) count (script.pairs key value count)
+      → format.pairs (plain_tag key count) (plain_tag value count) count (writing.pairs key value count)
   pub scalar_range : (x : Tree) (text : List ℕ) → IsScalar (tag_of x) → format.scalar x text → IsInRange x
   pub span_range : (bytes text : List ℕ) → format.span bytes text → (length bytes < 2 ^ 31) × AreBytes bytes
   pub items_range : (tag : Tag) (count : ℕ) (text : List ℕ) → format.items tag count text → (count < 2 ^ 31) × (plain_tag tag count ≡ tag)

@@ -1,7 +1,7 @@
 -- Readers: what is read from the front of bytes, while the values that may still come are counted down.
-use Rattle.std.specs.Prelude.{ℕ, ◌-◌, ⊤, List, length, Result, Ok, Err, ◌==◌, if◌then◌else◌}
+use Rattle.std.specs.Prelude.{ℕ, ◌-◌, ⊤, List, length, take, drop, nat_le, Result, Ok, Err, ◌==◌, if◌then◌else◌}
 use Rattle.thrift_value.specs.declared.wire_fault.WireFault.{WireFault}
-use Rattle.thrift_value.specs.declared.wire_fault.WireFault.TheVariants.{TooMany}
+use Rattle.thrift_value.specs.declared.wire_fault.WireFault.TheVariants.{Short, TooMany}
 
 -- what is still to be read: the bytes, and how many more values may come
 pub record Rest : Type 0 where
@@ -33,6 +33,11 @@ fail fault rest = Err fault
 -- how many bytes are left
 abbrev pub room : Rest → Result (ℕ × Rest) WireFault
 room rest = Ok (length rest.bytes, rest)
+
+-- so many bytes, or Short
+abbrev pub piece : ℕ → Reader (List ℕ)
+piece size rest =
+    if nat_le size (length rest.bytes) then Ok (take size rest.bytes, record { bytes = drop size rest.bytes; left = rest.left }) else Err Short
 
 -- one more value, or TooMany
 abbrev pub one_more : Rest → Result (⊤ × Rest) WireFault

@@ -1,11 +1,13 @@
--- Reading a value: level by level, from left to right, with the first fault that is met.
+-- Reading a value: level by level, from left to right, with the first fault that is met. What stands where is the
+-- standard's (Thrift binary and compact protocol, 'Struct', 'List and Set', 'Map'); that values and levels are counted, and
+-- which fault comes before which, is own choice.
 use Rattle.std.specs.Prelude.{⊤, ℕ, zero, suc, ℤ, pos}
 use Rattle.thrift_value.specs.declared.tag.Tag.{Tag}
 use Rattle.thrift_value.specs.declared.tag.Tag.TheVariants as tags
 use Rattle.thrift_value.specs.declared.wire_fault.WireFault.TheVariants.{Short, TooDeep}
 use Rattle.thrift_value.specs.Tree.{Tree, of_bool, of_bytes, of_struct, of_map, of_set, of_list, FieldTrees, no_fields, field, ItemTrees, no_items, item, PairTrees, no_pairs, pair}
 use Rattle.wire_model.specs.Reader.{Reader, ◌>>=◌, give, fail, room, one_more}
-use Rattle.wire_model.specs.Wire.{Head, stop, head, flagged, Wire}
+use Rattle.wire_model.specs.Wire.{FieldHeader, stop, head, flagged, Wire}
 
 -- one more level, or TooDeep
 abbrev pub deeper : ℕ → Reader ⊤
@@ -30,7 +32,7 @@ pair_list value key_tag value_tag (suc count) = do
   give (pair k x more)
 
 -- what stands behind a header: the end, or the field's value and the fields behind it. A flagged bool counts as a value
-unfoldable pub field_behind : (Tag → Reader Tree) → (ℤ → Reader FieldTrees) → Head → Reader FieldTrees
+unfoldable pub field_behind : (Tag → Reader Tree) → (ℤ → Reader FieldTrees) → FieldHeader → Reader FieldTrees
 field_behind value others stop = give no_fields
 field_behind value others (head id tag) = do
   x ← value tag

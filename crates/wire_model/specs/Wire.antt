@@ -6,15 +6,15 @@ use Rattle.thrift_value.specs.Tree.{Tree}
 use Rattle.wire_model.specs.Reader.{Reader}
 
 -- what stands before a field of a struct: the end of the struct, the id and the tag of a field whose value follows, or
--- the id and the value of a bool field that has its value in the header (Thrift compact protocol, 'Struct encoding')
-pub data Head : Type 0 where
-  stop : Head
-  head : ℤ → Tag → Head
-  flagged : ℤ → Bool → Head
+-- the id and the value of a bool field that has its value in the header (the flagged header: Thrift compact protocol, 'Struct')
+pub data FieldHeader : Type 0 where
+  stop : FieldHeader
+  head : ℤ → Tag → FieldHeader
+  flagged : ℤ → Bool → FieldHeader
 
 -- the readers of a protocol; field takes the id of the field before, 0 at the first
 pub record Wire : Type 0 where
-  pub field : ℤ → Reader Head
+  pub field : ℤ → Reader FieldHeader
   pub scalar : Tag → Reader Tree
   pub span : Reader (List ℕ)
   pub items : Reader (Tag × ℕ)

@@ -1,11 +1,11 @@
 //! A protocol, by its definitions alone.
 
 ghost use Rattle.wire_model.specs.Format.{Format};
-ghost use Rattle.wire_model.specs.Script.{Script};
+ghost use Rattle.wire_model.specs.Writing.{Writing};
 ghost use Rattle.wire_model.specs.Wire.{Wire};
 
 /// A protocol: how it reads, how it spells, and what it writes.
-pub trait Protocol {
+pub trait WireProtocol {
     // How the parts of a value are read that hold no other values.
     ghost wire: { Wire };
 
@@ -13,5 +13,5 @@ pub trait Protocol {
     ghost format: { Format };
 
     // Which of these bytes are written.
-    ghost script: { Script };
+    ghost writing: { Writing };
 }

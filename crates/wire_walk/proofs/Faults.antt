@@ -2,7 +2,7 @@
 use Rattle.std.proofs.Common.{◌≡◌, List, [], ◌∷◌, ◌++◌, Result, Ok, Err, refl, sym, ap, subst}
 use Rattle.thrift_value.specs.declared.wire_fault.WireFault.{WireFault}
 use Rattle.thrift_value.specs.declared.wire_fault.WireFault.TheVariants.{Short, BadType, BadSize, LongVarint, FieldRange, TooDeep, TooMany, NoMemory}
-use Rattle.wire_model.specs.Gives.{Fails, Gives}
+use Rattle.wire_model.specs.Gives.{Fails, Gives, IsTold, Tells}
 use Rattle.wire_model.specs.Reader.{Rest, go_on}
 use Rattle.wire_walk.specs.Walked.{joined, in_front}
 
@@ -55,3 +55,12 @@ gives_same view result r s e h = subst (λ x. Gives view result x) e h
 
 pub too_deep : {X : Type 0} (fault : WireFault) (r : Result X WireFault) → fault ≡ TooDeep → r ≡ Err TooDeep → Fails fault r
 too_deep fault r is e = subst (λ f. Fails f r) (sym is) e
+
+-- what is told is given
+pub fails_told : {X : Type 0} (fault : WireFault) (r : Result X WireFault) → IsTold fault r → Fails fault r
+fails_told NoMemory r h = tt
+fails_told fault r h = h
+
+pub gives_told : {X Y : Type 0} (view : X → Y) (result : Result X WireFault) (r : Result Y WireFault) → Tells view result r → Gives view result r
+gives_told view (Ok x) r h = h
+gives_told view (Err fault) r h = fails_told fault r h

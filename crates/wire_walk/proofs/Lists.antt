@@ -12,12 +12,10 @@ use Rattle.thrift_value.specs.Tree.{Tree, of_bool, FieldTrees, no_fields, field,
 use Rattle.thrift_value.specs.TreeOf.{tree_of, fields_of, items_of, pairs_of, field_tree, pair_tree, field_trees, item_trees, pair_trees, fields_tree, items_tree, pairs_tree}
 use Rattle.wire_model.specs.Gives.{Fails}
 use Rattle.wire_model.specs.Reader.{Rest, go_on, give, one_more}
-use Rattle.wire_model.specs.Reading.{layer, value, field_list, field_behind, item_list, pair_list}
-use Rattle.wire_model.specs.Wire.{Head, stop, head, flagged, Wire}
-use Rattle.wire_walk.specs.Steps.{below}
+use Rattle.wire_model.specs.Reading.{value, field_list, field_behind, item_list, pair_list}
+use Rattle.wire_model.specs.Wire.{FieldHeader, stop, head, flagged, Wire}
 use Rattle.wire_walk.specs.Walked.{joined, in_front}
 use Rattle.wire_walk.proofs.Faults.{fails_on, fails_front, fails_same, on_ok, front_push, front_none}
-use Rattle.wire_walk.proofs.Opened.{value_is}
 
 map_push : {A B : Type 0} (f : A → B) (xs : List A) (x : A) → map f (xs ++ x ∷ []) ≡ map f xs ++ f x ∷ []
 map_push f [] x = refl
@@ -37,22 +35,22 @@ items_begin wire levels tag items count all start none same =
     ∙ front_none item (item_list (value wire levels) tag all start)
 
 pub items_fail : (wire : Wire) (levels : ℕ) (tag : Tag) (items : List Value) (count left : ℕ) (rest : Rest) (all : ℕ) (start : Rest) (fault : WireFault)
-    → count ≡ suc left → AreItemsRead wire levels tag items count rest all start → Fails fault (layer wire levels (below wire levels) tag rest)
+    → count ≡ suc left → AreItemsRead wire levels tag items count rest all start → Fails fault (value wire levels tag rest)
     → Fails fault (item_list (value wire levels) tag all start)
 unfolding item_list
 items_fail wire levels tag items count left rest all start fault more kept h =
     fails_same fault _ _ ((λ i. in_front item (map tree_of items) (item_list (value wire levels) tag (sym more i) rest)) ∙ kept)
     (fails_front item (map tree_of items) fault (item_list (value wire levels) tag (suc left) rest)
-    (fails_on fault (value wire levels tag rest) _ (fails_same fault _ _ (value_is wire levels tag rest) h)))
+    (fails_on fault (value wire levels tag rest) _ h))
 
 pub items_step : (wire : Wire) (levels : ℕ) (tag : Tag) (items new : List Value) (x : Value) (count left : ℕ) (rest behind : Rest) (all : ℕ) (start : Rest)
-    → count ≡ suc left → AreItemsRead wire levels tag items count rest all start → layer wire levels (below wire levels) tag rest ≡ Ok (tree_of x, behind)
+    → count ≡ suc left → AreItemsRead wire levels tag items count rest all start → value wire levels tag rest ≡ Ok (tree_of x, behind)
     → new ≡ items ++ x ∷ [] → AreItemsRead wire levels tag new left behind all start
 unfolding item_list
 items_step wire levels tag items new x count left rest behind all start more kept read is =
     let opened : item_list (value wire levels) tag (suc left) rest
     ≡ go_on (item_list (value wire levels) tag left behind) (λ xs r. Ok (item (tree_of x) xs, r)) =
-    on_ok (value wire levels tag rest) _ (tree_of x) behind (sym (value_is wire levels tag rest) ∙ read) in
+    on_ok (value wire levels tag rest) _ (tree_of x) behind read in
     (λ i. in_front item ((ap (map tree_of) is ∙ map_push tree_of items x) i) (item_list (value wire levels) tag left behind))
     ∙ front_push item (map tree_of items) (tree_of x) (item_list (value wire levels) tag left behind)
     ∙ ap (in_front item (map tree_of items)) (sym opened)
@@ -88,34 +86,34 @@ pairs_begin wire levels k v pairs count all start none same =
     ∙ front_none pair_of (pair_list (value wire levels) k v all start)
 
 pub pairs_fail : (wire : Wire) (levels : ℕ) (k v : Tag) (pairs : List (Value × Value)) (count left : ℕ) (rest : Rest) (all : ℕ) (start : Rest) (fault : WireFault)
-    → count ≡ suc left → ArePairsRead wire levels k v pairs count rest all start → Fails fault (layer wire levels (below wire levels) k rest)
+    → count ≡ suc left → ArePairsRead wire levels k v pairs count rest all start → Fails fault (value wire levels k rest)
     → Fails fault (pair_list (value wire levels) k v all start)
 unfolding pair_list
 pairs_fail wire levels k v pairs count left rest all start fault more kept h =
     fails_same fault _ _ ((λ i. in_front pair_of (map pair_tree pairs) (pair_list (value wire levels) k v (sym more i) rest)) ∙ kept)
     (fails_front pair_of (map pair_tree pairs) fault (pair_list (value wire levels) k v (suc left) rest)
-    (fails_on fault (value wire levels k rest) _ (fails_same fault _ _ (value_is wire levels k rest) h)))
+    (fails_on fault (value wire levels k rest) _ h))
 
 pub pairs_fail_later : (wire : Wire) (levels : ℕ) (k v : Tag) (pairs : List (Value × Value)) (x : Tree) (count left : ℕ) (rest between : Rest) (all : ℕ) (start : Rest) (fault : WireFault)
-    → count ≡ suc left → ArePairsRead wire levels k v pairs count rest all start → layer wire levels (below wire levels) k rest ≡ Ok (x, between)
-    → Fails fault (layer wire levels (below wire levels) v between) → Fails fault (pair_list (value wire levels) k v all start)
+    → count ≡ suc left → ArePairsRead wire levels k v pairs count rest all start → value wire levels k rest ≡ Ok (x, between)
+    → Fails fault (value wire levels v between) → Fails fault (pair_list (value wire levels) k v all start)
 unfolding pair_list
 pairs_fail_later wire levels k v pairs x count left rest between all start fault more kept key h =
     fails_same fault _ _ ((λ i. in_front pair_of (map pair_tree pairs) (pair_list (value wire levels) k v (sym more i) rest)) ∙ kept)
     (fails_front pair_of (map pair_tree pairs) fault (pair_list (value wire levels) k v (suc left) rest)
-    (fails_same fault _ _ (sym (on_ok (value wire levels k rest) _ x between (sym (value_is wire levels k rest) ∙ key)))
-    (fails_on fault (value wire levels v between) _ (fails_same fault _ _ (value_is wire levels v between) h))))
+    (fails_same fault _ _ (sym (on_ok (value wire levels k rest) _ x between key))
+    (fails_on fault (value wire levels v between) _ h)))
 
 pub pairs_step : (wire : Wire) (levels : ℕ) (k v : Tag) (pairs new : List (Value × Value)) (p : Value × Value) (count left : ℕ) (rest between behind : Rest) (all : ℕ) (start : Rest)
-    → count ≡ suc left → ArePairsRead wire levels k v pairs count rest all start → layer wire levels (below wire levels) k rest ≡ Ok (tree_of p.0, between)
-    → layer wire levels (below wire levels) v between ≡ Ok (tree_of p.1, behind)
+    → count ≡ suc left → ArePairsRead wire levels k v pairs count rest all start → value wire levels k rest ≡ Ok (tree_of p.0, between)
+    → value wire levels v between ≡ Ok (tree_of p.1, behind)
     → new ≡ pairs ++ p ∷ [] → ArePairsRead wire levels k v new left behind all start
 unfolding pair_list
 pairs_step wire levels k v pairs new p count left rest between behind all start more kept key read is =
     let opened : pair_list (value wire levels) k v (suc left) rest
     ≡ go_on (pair_list (value wire levels) k v left behind) (λ ps r. Ok (pair_of (pair_tree p) ps, r)) =
-    on_ok (value wire levels k rest) _ (tree_of p.0) between (sym (value_is wire levels k rest) ∙ key)
-    ∙ on_ok (value wire levels v between) _ (tree_of p.1) behind (sym (value_is wire levels v between) ∙ read) in
+    on_ok (value wire levels k rest) _ (tree_of p.0) between key
+    ∙ on_ok (value wire levels v between) _ (tree_of p.1) behind read in
     (λ i. in_front pair_of ((ap (map pair_tree) is ∙ map_push pair_tree pairs p) i) (pair_list (value wire levels) k v left behind))
     ∙ front_push pair_of (map pair_tree pairs) (pair_tree p) (pair_list (value wire levels) k v left behind)
     ∙ ap (in_front pair_of (map pair_tree pairs)) (sym opened)
@@ -162,14 +160,14 @@ fields_fail wire levels fields most left last rest start fault more kept h =
     (fails_on fault (wire.field last rest) _ h))
 
 -- the fields behind a header
-behind_header : (wire : Wire) (levels left : ℕ) (last : ℤ) (rest behind : Rest) (h : Head) → wire.field last rest ≡ Ok (h, behind)
+behind_header : (wire : Wire) (levels left : ℕ) (last : ℤ) (rest behind : Rest) (h : FieldHeader) → wire.field last rest ≡ Ok (h, behind)
     → field_list wire (value wire levels) (suc left) last rest ≡ field_behind (value wire levels) (field_list wire (value wire levels) left) h behind
 unfolding field_list
 behind_header wire levels left last rest behind h read =
-    on_ok (wire.field last rest) (λ (found : Head). field_behind (value wire levels) (field_list wire (value wire levels) left) found) h behind read
+    on_ok (wire.field last rest) (λ (found : FieldHeader). field_behind (value wire levels) (field_list wire (value wire levels) left) found) h behind read
 
 -- what is kept, with the next header opened
-opened_field : (wire : Wire) (levels : ℕ) (fields : List (ℤ × Value)) (most left : ℕ) (last : ℤ) (rest behind start : Rest) (h : Head)
+opened_field : (wire : Wire) (levels : ℕ) (fields : List (ℤ × Value)) (most left : ℕ) (last : ℤ) (rest behind start : Rest) (h : FieldHeader)
     → most ≡ suc left → AreFieldsRead wire levels fields most last rest start → wire.field last rest ≡ Ok (h, behind)
     → in_front field_of (map field_tree fields) (field_behind (value wire levels) (field_list wire (value wire levels) left) h behind)
     ≡ field_list wire (value wire levels) (length start.bytes) (pos 0) start
@@ -180,13 +178,13 @@ opened_field wire levels fields most left last rest behind start h more kept rea
 -- the field's value is at fault
 pub field_value_fails : (wire : Wire) (levels : ℕ) (fields : List (ℤ × Value)) (most left : ℕ) (last : ℤ) (rest behind start : Rest) (id : ℤ) (tag : Tag) (fault : WireFault)
     → most ≡ suc left → AreFieldsRead wire levels fields most last rest start → wire.field last rest ≡ Ok (head id tag, behind)
-    → Fails fault (layer wire levels (below wire levels) tag behind)
+    → Fails fault (value wire levels tag behind)
     → Fails fault (field_list wire (value wire levels) (length start.bytes) (pos 0) start)
 unfolding field_behind
 field_value_fails wire levels fields most left last rest behind start id tag fault more kept read h =
     fails_same fault _ _ (opened_field wire levels fields most left last rest behind start (head id tag) more kept read)
     (fails_front field_of (map field_tree fields) fault _
-    (fails_on fault (value wire levels tag behind) _ (fails_same fault _ _ (value_is wire levels tag behind) h)))
+    (fails_on fault (value wire levels tag behind) _ h))
 
 -- a flag is one value too many
 pub flag_fails : (wire : Wire) (levels : ℕ) (fields : List (ℤ × Value)) (most left : ℕ) (last : ℤ) (rest behind start : Rest) (id : ℤ) (b : Bool) (fault : WireFault)
@@ -201,7 +199,7 @@ flag_fails wire levels fields most left last rest behind start id b fault more k
 -- a field more
 pub field_step : (wire : Wire) (levels : ℕ) (fields new : List (ℤ × Value)) (most left : ℕ) (last : ℤ) (rest behind inside start : Rest) (id : ℤ) (tag : Tag) (x : Value)
     → most ≡ suc left → AreFieldsRead wire levels fields most last rest start → wire.field last rest ≡ Ok (head id tag, behind)
-    → layer wire levels (below wire levels) tag behind ≡ Ok (tree_of x, inside) → new ≡ fields ++ (id, x) ∷ []
+    → value wire levels tag behind ≡ Ok (tree_of x, inside) → new ≡ fields ++ (id, x) ∷ []
     → AreFieldsRead wire levels new left id inside start
 unfolding field_behind
 field_step wire levels fields new most left last rest behind inside start id tag x more kept read found is =
@@ -210,7 +208,7 @@ field_step wire levels fields new most left last rest behind inside start id tag
     (λ i. in_front field_of ((ap (map field_tree) is ∙ map_push field_tree fields added) i) others)
     ∙ front_push field_of (map field_tree fields) (field_tree added) others
     ∙ ap (in_front field_of (map field_tree fields))
-    (sym (on_ok (value wire levels tag behind) (λ y. (λ r. go_on (field_list wire (value wire levels) left id r) (λ ys. give (field id y ys)))) (tree_of x) inside (sym (value_is wire levels tag behind) ∙ found)))
+    (sym (on_ok (value wire levels tag behind) (λ y. (λ r. go_on (field_list wire (value wire levels) left id r) (λ ys. give (field id y ys)))) (tree_of x) inside found))
     ∙ opened_field wire levels fields most left last rest behind start (head id tag) more kept read
 
 pub flag_step : (wire : Wire) (levels : ℕ) (fields new : List (ℤ × Value)) (most left : ℕ) (last : ℤ) (rest behind inside start : Rest) (id : ℤ) (b : Bool) (x : Value)

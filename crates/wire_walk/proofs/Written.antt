@@ -14,9 +14,9 @@ use Rattle.thrift_value.specs.Tree.{of_struct, of_map, of_set, of_list}
 use Rattle.thrift_value.specs.TreeOf.{tree_of, fields_of, items_of, pairs_of, field_tree, pair_tree, field_trees, item_trees, pair_trees}
 use Rattle.thrift_value.proofs.Trees.{tree_of-Bytes, tree_of-is_Struct, tree_of-is_Map, tree_of-is_Set, tree_of-is_List}
 use Rattle.wire_model.specs.Format.{items_len, pairs_len}
-use Rattle.wire_model.specs.Script.{Script, text, fields_text, items_text, pairs_text, heading, behind_heading}
+use Rattle.wire_model.specs.Writing.{Writing, text, fields_text, items_text, pairs_text, heading, behind_heading}
 use Rattle.wire_model.specs.Sizes.{HasSmallSizes, HaveFieldsSmallSizes, HaveItemsSmallSizes, HavePairsSmallSizes}
-use Rattle.wire_model.specs.Wire.{Head, stop}
+use Rattle.wire_model.specs.Wire.{FieldHeader, stop}
 use Rattle.wire_walk.specs.Steps.{Grows}
 
 append_nil : (xs : List ℕ) → xs ++ [] ≡ xs
@@ -69,161 +69,161 @@ module _ {A : Type 0} where
 
 -- items
 
-pub record AreItemsWritten (script : Script) (left all : List Value) (old now : List ℕ) : Type 0 where
-  pub written : now ++ items_text script (item_trees (map tree_of left)) ≡ old ++ items_text script (item_trees (map tree_of all))
+pub record AreItemsWritten (writing : Writing) (left all : List Value) (old now : List ℕ) : Type 0 where
+  pub written : now ++ items_text writing (item_trees (map tree_of left)) ≡ old ++ items_text writing (item_trees (map tree_of all))
   pub small : HaveItemsSmallSizes (item_trees (map tree_of left))
   pub low : items_depth (item_trees (map tree_of left)) ≤ items_depth (item_trees (map tree_of all))
   pub grown : Grows old now
 
-pub items_written_begin : (script : Script) (all : List Value) (old : List ℕ) → HaveItemsSmallSizes (item_trees (map tree_of all))
-    → AreItemsWritten script all all old old
-items_written_begin script all old small = record { written = refl; small = small; low = omega arith; grown = grows_none old }
+pub items_written_begin : (writing : Writing) (all : List Value) (old : List ℕ) → HaveItemsSmallSizes (item_trees (map tree_of all))
+    → AreItemsWritten writing all all old old
+items_written_begin writing all old small = record { written = refl; small = small; low = omega arith; grown = grows_none old }
 
-items_first : (script : Script) (x : Value) (more all : List Value) (old now : List ℕ)
-    → AreItemsWritten script (x ∷ more) all old now → HasSmallSizes (tree_of x) × (depth_of (tree_of x) ≤ items_depth (item_trees (map tree_of all)))
-items_first script x more all old now kept = (kept.small.0, omega (arith, kept.low))
+items_first : (writing : Writing) (x : Value) (more all : List Value) (old now : List ℕ)
+    → AreItemsWritten writing (x ∷ more) all old now → HasSmallSizes (tree_of x) × (depth_of (tree_of x) ≤ items_depth (item_trees (map tree_of all)))
+items_first writing x more all old now kept = (kept.small.0, omega (arith, kept.low))
 
-items_rest : (script : Script) (x : Value) (more all : List Value) (old now new : List ℕ)
-    → AreItemsWritten script (x ∷ more) all old now → new ≡ now ++ text script (tree_of x) → AreItemsWritten script more all old new
-items_rest script x more all old now new kept is = record {
+items_rest : (writing : Writing) (x : Value) (more all : List Value) (old now new : List ℕ)
+    → AreItemsWritten writing (x ∷ more) all old now → new ≡ now ++ text writing (tree_of x) → AreItemsWritten writing more all old new
+items_rest writing x more all old now new kept is = record {
   written =
-      ap (λ z. z ++ items_text script (item_trees (map tree_of more))) is
-      ∙ append_assoc now (text script (tree_of x)) (items_text script (item_trees (map tree_of more))) ∙ kept.written;
+      ap (λ z. z ++ items_text writing (item_trees (map tree_of more))) is
+      ∙ append_assoc now (text writing (tree_of x)) (items_text writing (item_trees (map tree_of more))) ∙ kept.written;
   small = kept.small.1;
   low = omega (arith, kept.low);
-  grown = grows_more old now new (text script (tree_of x)) kept.grown is;
+  grown = grows_more old now new (text writing (tree_of x)) kept.grown is;
 }
 
-pub item_ready : (script : Script) (xs : List Value) (i : ℕ) (x : Value) (old now : List ℕ) → i < length xs → x ≡ get_or xs i x
-    → AreItemsWritten script (drop i xs) xs old now → HasSmallSizes (tree_of x) × (depth_of (tree_of x) ≤ items_depth (item_trees (map tree_of xs)))
-item_ready script xs i x old now within is kept =
-    items_first script x (drop (i + 1) xs) xs old now (subst (λ ys. AreItemsWritten script ys xs old now) (cut xs i x within is) kept)
+pub item_ready : (writing : Writing) (xs : List Value) (i : ℕ) (x : Value) (old now : List ℕ) → i < length xs → x ≡ get_or xs i x
+    → AreItemsWritten writing (drop i xs) xs old now → HasSmallSizes (tree_of x) × (depth_of (tree_of x) ≤ items_depth (item_trees (map tree_of xs)))
+item_ready writing xs i x old now within is kept =
+    items_first writing x (drop (i + 1) xs) xs old now (subst (λ ys. AreItemsWritten writing ys xs old now) (cut xs i x within is) kept)
 
-pub item_written : (script : Script) (xs : List Value) (i : ℕ) (x : Value) (old now new : List ℕ) → i < length xs → x ≡ get_or xs i x
-    → AreItemsWritten script (drop i xs) xs old now → new ≡ now ++ text script (tree_of x) → AreItemsWritten script (drop (i + 1) xs) xs old new
-item_written script xs i x old now new within is kept =
-    items_rest script x (drop (i + 1) xs) xs old now new (subst (λ ys. AreItemsWritten script ys xs old now) (cut xs i x within is) kept)
+pub item_written : (writing : Writing) (xs : List Value) (i : ℕ) (x : Value) (old now new : List ℕ) → i < length xs → x ≡ get_or xs i x
+    → AreItemsWritten writing (drop i xs) xs old now → new ≡ now ++ text writing (tree_of x) → AreItemsWritten writing (drop (i + 1) xs) xs old new
+item_written writing xs i x old now new within is kept =
+    items_rest writing x (drop (i + 1) xs) xs old now new (subst (λ ys. AreItemsWritten writing ys xs old now) (cut xs i x within is) kept)
 
-items_last : (script : Script) (xs : List Value) (old now : List ℕ)
-    → AreItemsWritten script [] xs old now → now ≡ old ++ items_text script (item_trees (map tree_of xs))
-items_last script xs old now kept = sym (append_nil now) ∙ kept.written
+items_last : (writing : Writing) (xs : List Value) (old now : List ℕ)
+    → AreItemsWritten writing [] xs old now → now ≡ old ++ items_text writing (item_trees (map tree_of xs))
+items_last writing xs old now kept = sym (append_nil now) ∙ kept.written
 
-pub items_written : (script : Script) (xs : List Value) (i : ℕ) (old now : List ℕ) → length xs ≤ i
-    → AreItemsWritten script (drop i xs) xs old now → now ≡ old ++ items_text script (item_trees (map tree_of xs))
-items_written script xs i old now end kept =
-    items_last script xs old now (subst (λ ys. AreItemsWritten script ys xs old now) (over xs i end) kept)
+pub items_written : (writing : Writing) (xs : List Value) (i : ℕ) (old now : List ℕ) → length xs ≤ i
+    → AreItemsWritten writing (drop i xs) xs old now → now ≡ old ++ items_text writing (item_trees (map tree_of xs))
+items_written writing xs i old now end kept =
+    items_last writing xs old now (subst (λ ys. AreItemsWritten writing ys xs old now) (over xs i end) kept)
 
 -- pairs
 
-pub record ArePairsWritten (script : Script) (left all : List (Value × Value)) (old now : List ℕ) : Type 0 where
-  pub written : now ++ pairs_text script (pair_trees (map pair_tree left)) ≡ old ++ pairs_text script (pair_trees (map pair_tree all))
+pub record ArePairsWritten (writing : Writing) (left all : List (Value × Value)) (old now : List ℕ) : Type 0 where
+  pub written : now ++ pairs_text writing (pair_trees (map pair_tree left)) ≡ old ++ pairs_text writing (pair_trees (map pair_tree all))
   pub small : HavePairsSmallSizes (pair_trees (map pair_tree left))
   pub low : pairs_depth (pair_trees (map pair_tree left)) ≤ pairs_depth (pair_trees (map pair_tree all))
   pub grown : Grows old now
 
-pub pairs_written_begin : (script : Script) (all : List (Value × Value)) (old : List ℕ) → HavePairsSmallSizes (pair_trees (map pair_tree all))
-    → ArePairsWritten script all all old old
-pairs_written_begin script all old small = record { written = refl; small = small; low = omega arith; grown = grows_none old }
+pub pairs_written_begin : (writing : Writing) (all : List (Value × Value)) (old : List ℕ) → HavePairsSmallSizes (pair_trees (map pair_tree all))
+    → ArePairsWritten writing all all old old
+pairs_written_begin writing all old small = record { written = refl; small = small; low = omega arith; grown = grows_none old }
 
-pairs_first : (script : Script) (p : Value × Value) (more all : List (Value × Value)) (old now : List ℕ)
-    → ArePairsWritten script (p ∷ more) all old now
+pairs_first : (writing : Writing) (p : Value × Value) (more all : List (Value × Value)) (old now : List ℕ)
+    → ArePairsWritten writing (p ∷ more) all old now
     → (HasSmallSizes (tree_of p.0) × (depth_of (tree_of p.0) ≤ pairs_depth (pair_trees (map pair_tree all)))) × (HasSmallSizes (tree_of p.1) × (depth_of (tree_of p.1) ≤ pairs_depth (pair_trees (map pair_tree all))))
-pairs_first script p more all old now kept =
+pairs_first writing p more all old now kept =
     ((kept.small.0, omega (arith, kept.low)), (kept.small.1, omega (arith, kept.low)))
 
-pairs_rest : (script : Script) (p : Value × Value) (more all : List (Value × Value)) (old now between new : List ℕ)
-    → ArePairsWritten script (p ∷ more) all old now → between ≡ now ++ text script (tree_of p.0) → new ≡ between ++ text script (tree_of p.1)
-    → ArePairsWritten script more all old new
-pairs_rest script p more all old now between new kept key is = record {
+pairs_rest : (writing : Writing) (p : Value × Value) (more all : List (Value × Value)) (old now between new : List ℕ)
+    → ArePairsWritten writing (p ∷ more) all old now → between ≡ now ++ text writing (tree_of p.0) → new ≡ between ++ text writing (tree_of p.1)
+    → ArePairsWritten writing more all old new
+pairs_rest writing p more all old now between new kept key is = record {
   written =
-      ap (λ z. z ++ pairs_text script (pair_trees (map pair_tree more))) is
-      ∙ append_assoc between (text script (tree_of p.1)) (pairs_text script (pair_trees (map pair_tree more)))
-      ∙ ap (λ z. z ++ (text script (tree_of p.1) ++ pairs_text script (pair_trees (map pair_tree more)))) key
-      ∙ append_assoc now (text script (tree_of p.0)) (text script (tree_of p.1) ++ pairs_text script (pair_trees (map pair_tree more))) ∙ kept.written;
+      ap (λ z. z ++ pairs_text writing (pair_trees (map pair_tree more))) is
+      ∙ append_assoc between (text writing (tree_of p.1)) (pairs_text writing (pair_trees (map pair_tree more)))
+      ∙ ap (λ z. z ++ (text writing (tree_of p.1) ++ pairs_text writing (pair_trees (map pair_tree more)))) key
+      ∙ append_assoc now (text writing (tree_of p.0)) (text writing (tree_of p.1) ++ pairs_text writing (pair_trees (map pair_tree more))) ∙ kept.written;
   small = kept.small.2;
   low = omega (arith, kept.low);
-  grown = grows_more old between new (text script (tree_of p.1)) (grows_more old now between (text script (tree_of p.0)) kept.grown key) is;
+  grown = grows_more old between new (text writing (tree_of p.1)) (grows_more old now between (text writing (tree_of p.0)) kept.grown key) is;
 }
 
-pub pair_ready : (script : Script) (xs : List (Value × Value)) (i : ℕ) (p : Value × Value) (old now : List ℕ) → i < length xs → p ≡ get_or xs i p
-    → ArePairsWritten script (drop i xs) xs old now
+pub pair_ready : (writing : Writing) (xs : List (Value × Value)) (i : ℕ) (p : Value × Value) (old now : List ℕ) → i < length xs → p ≡ get_or xs i p
+    → ArePairsWritten writing (drop i xs) xs old now
     → (HasSmallSizes (tree_of p.0) × (depth_of (tree_of p.0) ≤ pairs_depth (pair_trees (map pair_tree xs)))) × (HasSmallSizes (tree_of p.1) × (depth_of (tree_of p.1) ≤ pairs_depth (pair_trees (map pair_tree xs))))
-pair_ready script xs i p old now within is kept =
-    pairs_first script p (drop (i + 1) xs) xs old now (subst (λ ys. ArePairsWritten script ys xs old now) (cut xs i p within is) kept)
+pair_ready writing xs i p old now within is kept =
+    pairs_first writing p (drop (i + 1) xs) xs old now (subst (λ ys. ArePairsWritten writing ys xs old now) (cut xs i p within is) kept)
 
-pub pair_written : (script : Script) (xs : List (Value × Value)) (i : ℕ) (p : Value × Value) (old now between new : List ℕ) → i < length xs → p ≡ get_or xs i p
-    → ArePairsWritten script (drop i xs) xs old now → between ≡ now ++ text script (tree_of p.0) → new ≡ between ++ text script (tree_of p.1)
-    → ArePairsWritten script (drop (i + 1) xs) xs old new
-pair_written script xs i p old now between new within is kept =
-    pairs_rest script p (drop (i + 1) xs) xs old now between new (subst (λ ys. ArePairsWritten script ys xs old now) (cut xs i p within is) kept)
+pub pair_written : (writing : Writing) (xs : List (Value × Value)) (i : ℕ) (p : Value × Value) (old now between new : List ℕ) → i < length xs → p ≡ get_or xs i p
+    → ArePairsWritten writing (drop i xs) xs old now → between ≡ now ++ text writing (tree_of p.0) → new ≡ between ++ text writing (tree_of p.1)
+    → ArePairsWritten writing (drop (i + 1) xs) xs old new
+pair_written writing xs i p old now between new within is kept =
+    pairs_rest writing p (drop (i + 1) xs) xs old now between new (subst (λ ys. ArePairsWritten writing ys xs old now) (cut xs i p within is) kept)
 
-pairs_last : (script : Script) (xs : List (Value × Value)) (old now : List ℕ)
-    → ArePairsWritten script [] xs old now → now ≡ old ++ pairs_text script (pair_trees (map pair_tree xs))
-pairs_last script xs old now kept = sym (append_nil now) ∙ kept.written
+pairs_last : (writing : Writing) (xs : List (Value × Value)) (old now : List ℕ)
+    → ArePairsWritten writing [] xs old now → now ≡ old ++ pairs_text writing (pair_trees (map pair_tree xs))
+pairs_last writing xs old now kept = sym (append_nil now) ∙ kept.written
 
-pub pairs_written : (script : Script) (xs : List (Value × Value)) (i : ℕ) (old now : List ℕ) → length xs ≤ i
-    → ArePairsWritten script (drop i xs) xs old now → now ≡ old ++ pairs_text script (pair_trees (map pair_tree xs))
-pairs_written script xs i old now end kept =
-    pairs_last script xs old now (subst (λ ys. ArePairsWritten script ys xs old now) (over xs i end) kept)
+pub pairs_written : (writing : Writing) (xs : List (Value × Value)) (i : ℕ) (old now : List ℕ) → length xs ≤ i
+    → ArePairsWritten writing (drop i xs) xs old now → now ≡ old ++ pairs_text writing (pair_trees (map pair_tree xs))
+pairs_written writing xs i old now end kept =
+    pairs_last writing xs old now (subst (λ ys. ArePairsWritten writing ys xs old now) (over xs i end) kept)
 
 -- fields
 
-pub record AreFieldsWritten (script : Script) (last : ℤ) (left all : List (ℤ × Value)) (old now : List ℕ) : Type 0 where
-  pub written : now ++ fields_text script last (field_trees (map field_tree left)) ≡ old ++ fields_text script (pos 0) (field_trees (map field_tree all))
+pub record AreFieldsWritten (writing : Writing) (last : ℤ) (left all : List (ℤ × Value)) (old now : List ℕ) : Type 0 where
+  pub written : now ++ fields_text writing last (field_trees (map field_tree left)) ≡ old ++ fields_text writing (pos 0) (field_trees (map field_tree all))
   pub small : HaveFieldsSmallSizes (field_trees (map field_tree left))
   pub low : fields_depth (field_trees (map field_tree left)) ≤ fields_depth (field_trees (map field_tree all))
   pub grown : Grows old now
 
-pub fields_written_begin : (script : Script) (all : List (ℤ × Value)) (old : List ℕ) → HaveFieldsSmallSizes (field_trees (map field_tree all))
-    → AreFieldsWritten script (pos 0) all all old old
-fields_written_begin script all old small = record { written = refl; small = small; low = omega arith; grown = grows_none old }
+pub fields_written_begin : (writing : Writing) (all : List (ℤ × Value)) (old : List ℕ) → HaveFieldsSmallSizes (field_trees (map field_tree all))
+    → AreFieldsWritten writing (pos 0) all all old old
+fields_written_begin writing all old small = record { written = refl; small = small; low = omega arith; grown = grows_none old }
 
-fields_first : (script : Script) (last : ℤ) (f : ℤ × Value) (more all : List (ℤ × Value)) (old now : List ℕ)
-    → AreFieldsWritten script last (f ∷ more) all old now → HasSmallSizes (tree_of f.1) × (depth_of (tree_of f.1) ≤ fields_depth (field_trees (map field_tree all)))
-fields_first script last f more all old now kept = (kept.small.0, omega (arith, kept.low))
+fields_first : (writing : Writing) (last : ℤ) (f : ℤ × Value) (more all : List (ℤ × Value)) (old now : List ℕ)
+    → AreFieldsWritten writing last (f ∷ more) all old now → HasSmallSizes (tree_of f.1) × (depth_of (tree_of f.1) ≤ fields_depth (field_trees (map field_tree all)))
+fields_first writing last f more all old now kept = (kept.small.0, omega (arith, kept.low))
 
-fields_rest : (script : Script) (last : ℤ) (f : ℤ × Value) (more all : List (ℤ × Value)) (old now between new : List ℕ) (h : Head)
-    → AreFieldsWritten script last (f ∷ more) all old now → h ≡ heading script.flags f.0 (tree_of f.1)
-    → between ≡ now ++ script.head last h → new ≡ between ++ behind_heading h (text script (tree_of f.1))
-    → AreFieldsWritten script f.0 more all old new
-fields_rest script last f more all old now between new h kept headed first second =
-    let others : List ℕ = fields_text script f.0 (field_trees (map field_tree more)) in
-    let own : List ℕ = text script (tree_of f.1) in
+fields_rest : (writing : Writing) (last : ℤ) (f : ℤ × Value) (more all : List (ℤ × Value)) (old now between new : List ℕ) (h : FieldHeader)
+    → AreFieldsWritten writing last (f ∷ more) all old now → h ≡ heading writing.flags f.0 (tree_of f.1)
+    → between ≡ now ++ writing.head last h → new ≡ between ++ behind_heading h (text writing (tree_of f.1))
+    → AreFieldsWritten writing f.0 more all old new
+fields_rest writing last f more all old now between new h kept headed first second =
+    let others : List ℕ = fields_text writing f.0 (field_trees (map field_tree more)) in
+    let own : List ℕ = text writing (tree_of f.1) in
     record {
       written =
-          ap (λ z. z ++ others) (both_written now between new (script.head last h) (behind_heading h own) first second)
-          ∙ append_assoc now (script.head last h ++ behind_heading h own) others
-          ∙ ap (λ z. now ++ z) (append_assoc (script.head last h) (behind_heading h own) others)
-          ∙ ap (λ (g : Head). now ++ (script.head last g ++ (behind_heading g own ++ others))) headed
+          ap (λ z. z ++ others) (both_written now between new (writing.head last h) (behind_heading h own) first second)
+          ∙ append_assoc now (writing.head last h ++ behind_heading h own) others
+          ∙ ap (λ z. now ++ z) (append_assoc (writing.head last h) (behind_heading h own) others)
+          ∙ ap (λ (g : FieldHeader). now ++ (writing.head last g ++ (behind_heading g own ++ others))) headed
           ∙ kept.written;
       small = kept.small.1;
       low = omega (arith, kept.low);
-      grown = grows_more old between new (behind_heading h own) (grows_more old now between (script.head last h) kept.grown first) second;
+      grown = grows_more old between new (behind_heading h own) (grows_more old now between (writing.head last h) kept.grown first) second;
     }
 
-pub field_ready : (script : Script) (last : ℤ) (xs : List (ℤ × Value)) (i : ℕ) (f : ℤ × Value) (old now : List ℕ) → i < length xs → f ≡ get_or xs i f
-    → AreFieldsWritten script last (drop i xs) xs old now → HasSmallSizes (tree_of f.1) × (depth_of (tree_of f.1) ≤ fields_depth (field_trees (map field_tree xs)))
-field_ready script last xs i f old now within is kept =
-    fields_first script last f (drop (i + 1) xs) xs old now (subst (λ ys. AreFieldsWritten script last ys xs old now) (cut xs i f within is) kept)
+pub field_ready : (writing : Writing) (last : ℤ) (xs : List (ℤ × Value)) (i : ℕ) (f : ℤ × Value) (old now : List ℕ) → i < length xs → f ≡ get_or xs i f
+    → AreFieldsWritten writing last (drop i xs) xs old now → HasSmallSizes (tree_of f.1) × (depth_of (tree_of f.1) ≤ fields_depth (field_trees (map field_tree xs)))
+field_ready writing last xs i f old now within is kept =
+    fields_first writing last f (drop (i + 1) xs) xs old now (subst (λ ys. AreFieldsWritten writing last ys xs old now) (cut xs i f within is) kept)
 
-pub field_written : (script : Script) (last : ℤ) (xs : List (ℤ × Value)) (i : ℕ) (f : ℤ × Value) (old now between new : List ℕ) (h : Head)
+pub field_written : (writing : Writing) (last : ℤ) (xs : List (ℤ × Value)) (i : ℕ) (f : ℤ × Value) (old now between new : List ℕ) (h : FieldHeader)
     → i < length xs → f ≡ get_or xs i f
-    → AreFieldsWritten script last (drop i xs) xs old now → h ≡ heading script.flags f.0 (tree_of f.1)
-    → between ≡ now ++ script.head last h → new ≡ between ++ behind_heading h (text script (tree_of f.1))
-    → AreFieldsWritten script f.0 (drop (i + 1) xs) xs old new
-field_written script last xs i f old now between new h within is kept =
-    fields_rest script last f (drop (i + 1) xs) xs old now between new h (subst (λ ys. AreFieldsWritten script last ys xs old now) (cut xs i f within is) kept)
+    → AreFieldsWritten writing last (drop i xs) xs old now → h ≡ heading writing.flags f.0 (tree_of f.1)
+    → between ≡ now ++ writing.head last h → new ≡ between ++ behind_heading h (text writing (tree_of f.1))
+    → AreFieldsWritten writing f.0 (drop (i + 1) xs) xs old new
+field_written writing last xs i f old now between new h within is kept =
+    fields_rest writing last f (drop (i + 1) xs) xs old now between new h (subst (λ ys. AreFieldsWritten writing last ys xs old now) (cut xs i f within is) kept)
 
-fields_last : (script : Script) (last : ℤ) (xs : List (ℤ × Value)) (old now new : List ℕ)
-    → AreFieldsWritten script last [] xs old now → new ≡ now ++ script.head last stop
-    → new ≡ old ++ fields_text script (pos 0) (field_trees (map field_tree xs))
-fields_last script last xs old now new kept is = is ∙ kept.written
+fields_last : (writing : Writing) (last : ℤ) (xs : List (ℤ × Value)) (old now new : List ℕ)
+    → AreFieldsWritten writing last [] xs old now → new ≡ now ++ writing.head last stop
+    → new ≡ old ++ fields_text writing (pos 0) (field_trees (map field_tree xs))
+fields_last writing last xs old now new kept is = is ∙ kept.written
 
-pub fields_written : (script : Script) (last : ℤ) (xs : List (ℤ × Value)) (i : ℕ) (old now new : List ℕ) → length xs ≤ i
-    → AreFieldsWritten script last (drop i xs) xs old now → new ≡ now ++ script.head last stop
-    → new ≡ old ++ fields_text script (pos 0) (field_trees (map field_tree xs))
-fields_written script last xs i old now new end kept =
-    fields_last script last xs old now new (subst (λ ys. AreFieldsWritten script last ys xs old now) (over xs i end) kept)
+pub fields_written : (writing : Writing) (last : ℤ) (xs : List (ℤ × Value)) (i : ℕ) (old now new : List ℕ) → length xs ≤ i
+    → AreFieldsWritten writing last (drop i xs) xs old now → new ≡ now ++ writing.head last stop
+    → new ≡ old ++ fields_text writing (pos 0) (field_trees (map field_tree xs))
+fields_written writing last xs i old now new end kept =
+    fields_last writing last xs old now new (subst (λ ys. AreFieldsWritten writing last ys xs old now) (over xs i end) kept)
 
 -- a value by its kind
 
@@ -238,34 +238,34 @@ len_pairs (p ∷ ps) = ap suc (len_pairs ps)
 pub bytes_small : (v : Value) (t : List ℕ) → v ≡ values.Bytes t → HasSmallSizes (tree_of v) → length t < 2 ^ 31
 bytes_small v t is small = subst HasSmallSizes (ap tree_of is ∙ tree_of-Bytes t) small
 
-pub bytes_text : (script : Script) (v : Value) (t : List ℕ) → v ≡ values.Bytes t → script.span t ≡ text script (tree_of v)
-bytes_text script v t is = ap (text script) (sym (ap tree_of is ∙ tree_of-Bytes t))
+pub bytes_text : (writing : Writing) (v : Value) (t : List ℕ) → v ≡ values.Bytes t → writing.span t ≡ text writing (tree_of v)
+bytes_text writing v t is = ap (text writing) (sym (ap tree_of is ∙ tree_of-Bytes t))
 
 -- a struct, its fields as a slice
-pub record IsStruct (script : Script) (v : Value) (xs : List (ℤ × Value)) : Type 0 where
+pub record IsStruct (writing : Writing) (v : Value) (xs : List (ℤ × Value)) : Type 0 where
   pub small : HaveFieldsSmallSizes (field_trees (map field_tree xs))
   pub deep : depth_of (tree_of v) ≡ fields_depth (field_trees (map field_tree xs)) + 1
-  pub text_is : fields_text script (pos 0) (field_trees (map field_tree xs)) ≡ text script (tree_of v)
+  pub text_is : fields_text writing (pos 0) (field_trees (map field_tree xs)) ≡ text writing (tree_of v)
 
-pub struct_parts : (script : Script) (v : Value) (fields : Fields) (xs : List (ℤ × Value)) → v ≡ values.Struct fields → xs ≡ fields_of fields
-    → HasSmallSizes (tree_of v) → IsStruct script v xs
-struct_parts script v fields xs is same small =
+pub struct_parts : (writing : Writing) (v : Value) (fields : Fields) (xs : List (ℤ × Value)) → v ≡ values.Struct fields → xs ≡ fields_of fields
+    → HasSmallSizes (tree_of v) → IsStruct writing v xs
+struct_parts writing v fields xs is same small =
     let tree : tree_of v ≡ of_struct (field_trees (map field_tree xs)) = tree_of-is_Struct v fields is ∙ ap (λ ys. of_struct (field_trees (map field_tree ys))) (sym same) in
     record {
       small = subst HasSmallSizes tree small;
       deep = ap depth_of tree;
-      text_is = ap (text script) (sym tree);
+      text_is = ap (text writing) (sym tree);
     }
 
-pub record IsMap (script : Script) (v : Value) (key value : Tag) (ps : List (Value × Value)) : Type 0 where
+pub record IsMap (writing : Writing) (v : Value) (key value : Tag) (ps : List (Value × Value)) : Type 0 where
   pub count : length ps < 2 ^ 31
   pub small : HavePairsSmallSizes (pair_trees (map pair_tree ps))
   pub deep : depth_of (tree_of v) ≡ pairs_depth (pair_trees (map pair_tree ps)) + 1
-  pub text_is : script.pairs key value (length ps) ++ pairs_text script (pair_trees (map pair_tree ps)) ≡ text script (tree_of v)
+  pub text_is : writing.pairs key value (length ps) ++ pairs_text writing (pair_trees (map pair_tree ps)) ≡ text writing (tree_of v)
 
-pub map_parts : (script : Script) (v : Value) (key value : Tag) (pairs : Pairs) (ps : List (Value × Value)) → v ≡ values.Map key value pairs → ps ≡ pairs_of pairs
-    → HasSmallSizes (tree_of v) → IsMap script v key value ps
-map_parts script v key value pairs ps is same small =
+pub map_parts : (writing : Writing) (v : Value) (key value : Tag) (pairs : Pairs) (ps : List (Value × Value)) → v ≡ values.Map key value pairs → ps ≡ pairs_of pairs
+    → HasSmallSizes (tree_of v) → IsMap writing v key value ps
+map_parts writing v key value pairs ps is same small =
     let tree : tree_of v ≡ of_map key value (pair_trees (map pair_tree ps)) =
     tree_of-is_Map v key value pairs is ∙ ap (λ ys. of_map key value (pair_trees (map pair_tree ys))) (sym same) in
     let sized : HasSmallSizes (of_map key value (pair_trees (map pair_tree ps))) = subst HasSmallSizes tree small in
@@ -273,18 +273,18 @@ map_parts script v key value pairs ps is same small =
       count = subst (λ n. n < 2 ^ 31) (len_pairs ps) sized.0;
       small = sized.1;
       deep = ap depth_of tree;
-      text_is = ap (λ n. script.pairs key value n ++ pairs_text script (pair_trees (map pair_tree ps))) (sym (len_pairs ps)) ∙ ap (text script) (sym tree);
+      text_is = ap (λ n. writing.pairs key value n ++ pairs_text writing (pair_trees (map pair_tree ps))) (sym (len_pairs ps)) ∙ ap (text writing) (sym tree);
     }
 
-pub record IsItems (script : Script) (v : Value) (element : Tag) (xs : List Value) : Type 0 where
+pub record IsItems (writing : Writing) (v : Value) (element : Tag) (xs : List Value) : Type 0 where
   pub count : length xs < 2 ^ 31
   pub small : HaveItemsSmallSizes (item_trees (map tree_of xs))
   pub deep : depth_of (tree_of v) ≡ items_depth (item_trees (map tree_of xs)) + 1
-  pub text_is : script.items element (length xs) ++ items_text script (item_trees (map tree_of xs)) ≡ text script (tree_of v)
+  pub text_is : writing.items element (length xs) ++ items_text writing (item_trees (map tree_of xs)) ≡ text writing (tree_of v)
 
-pub set_parts : (script : Script) (v : Value) (element : Tag) (items : Items) (xs : List Value) → v ≡ values.Set element items → xs ≡ items_of items
-    → HasSmallSizes (tree_of v) → IsItems script v element xs
-set_parts script v element items xs is same small =
+pub set_parts : (writing : Writing) (v : Value) (element : Tag) (items : Items) (xs : List Value) → v ≡ values.Set element items → xs ≡ items_of items
+    → HasSmallSizes (tree_of v) → IsItems writing v element xs
+set_parts writing v element items xs is same small =
     let tree : tree_of v ≡ of_set element (item_trees (map tree_of xs)) =
     tree_of-is_Set v element items is ∙ ap (λ ys. of_set element (item_trees (map tree_of ys))) (sym same) in
     let sized : HasSmallSizes (of_set element (item_trees (map tree_of xs))) = subst HasSmallSizes tree small in
@@ -292,12 +292,12 @@ set_parts script v element items xs is same small =
       count = subst (λ n. n < 2 ^ 31) (len_items xs) sized.0;
       small = sized.1;
       deep = ap depth_of tree;
-      text_is = ap (λ n. script.items element n ++ items_text script (item_trees (map tree_of xs))) (sym (len_items xs)) ∙ ap (text script) (sym tree);
+      text_is = ap (λ n. writing.items element n ++ items_text writing (item_trees (map tree_of xs))) (sym (len_items xs)) ∙ ap (text writing) (sym tree);
     }
 
-pub list_parts : (script : Script) (v : Value) (element : Tag) (items : Items) (xs : List Value) → v ≡ values.List element items → xs ≡ items_of items
-    → HasSmallSizes (tree_of v) → IsItems script v element xs
-list_parts script v element items xs is same small =
+pub list_parts : (writing : Writing) (v : Value) (element : Tag) (items : Items) (xs : List Value) → v ≡ values.List element items → xs ≡ items_of items
+    → HasSmallSizes (tree_of v) → IsItems writing v element xs
+list_parts writing v element items xs is same small =
     let tree : tree_of v ≡ of_list element (item_trees (map tree_of xs)) =
     tree_of-is_List v element items is ∙ ap (λ ys. of_list element (item_trees (map tree_of ys))) (sym same) in
     let sized : HasSmallSizes (of_list element (item_trees (map tree_of xs))) = subst HasSmallSizes tree small in
@@ -305,5 +305,5 @@ list_parts script v element items xs is same small =
       count = subst (λ n. n < 2 ^ 31) (len_items xs) sized.0;
       small = sized.1;
       deep = ap depth_of tree;
-      text_is = ap (λ n. script.items element n ++ items_text script (item_trees (map tree_of xs))) (sym (len_items xs)) ∙ ap (text script) (sym tree);
+      text_is = ap (λ n. writing.items element n ++ items_text writing (item_trees (map tree_of xs))) (sym (len_items xs)) ∙ ap (text writing) (sym tree);
     }

@@ -4,8 +4,7 @@ ghost use Rattle.std.specs.Prelude.{◌≡◌, length, pos, suc, ◌+◌, ◌<�
 ghost use Rattle.thrift_value.specs.Tree.{of_bytes};
 ghost use Rattle.thrift_value.specs.TreeOf.{tree_of, fields_tree, items_tree, pairs_tree};
 ghost use Rattle.wire_model.specs.Gives.{Gives};
-ghost use Rattle.wire_model.specs.Reading.{layer, value, field_list, item_list, pair_list};
-ghost use Rattle.wire_walk.specs.Steps.{below};
+ghost use Rattle.wire_model.specs.Reading.{value, field_list, item_list, pair_list};
 
 use crate::codec::Codec;
 use crate::header::Header;
@@ -21,7 +20,7 @@ pub fn read<'a, C: Codec>(
     levels: u32,
     tag: Tag,
 ) -> Result<(Value, Rest<'a>), WireFault>
-    ensures { Gives (λ r. (tree_of r.0, r.1)) result (layer C.wire levels (below C.wire levels) tag rest.entry) }
+    ensures { Gives (λ r. (tree_of r.0, r.1)) result (value C.wire levels tag rest.entry) }
 {
     let rest = rest.one_more()?;
     match tag {

@@ -1,9 +1,8 @@
 //! What is still to be read.
 
 ghost use Rattle.std.specs.Prelude.{◌≡◌, length};
-ghost use Rattle.wire_model.specs.Gives.{Gives};
-ghost use Rattle.wire_model.specs.Reader.{one_more};
-ghost use Rattle.wire_walk.specs.Steps.{piece};
+ghost use Rattle.wire_model.specs.Gives.{Tells};
+ghost use Rattle.wire_model.specs.Reader.{one_more, piece};
 
 use std::marker::Model;
 use thrift_value::WireFault;
@@ -40,7 +39,7 @@ impl<'a> Rest<'a> {
 
     /// The next bytes, so many, and what is left behind them.
     pub fn next(self, size: usize) -> Result<(&'a [u8], Rest<'a>), WireFault>
-        ensures { Gives (λ r. (r.0.now, r.1)) result (piece size self.entry) }
+        ensures { Tells (λ r. (r.0.now, r.1)) result (piece size self.entry) }
     {
         if self.bytes.len() < size {
             return Err(WireFault::Short);
@@ -57,7 +56,7 @@ impl<'a> Rest<'a> {
 
     /// What is left when one more value comes.
     pub(crate) fn one_more(self) -> Result<Rest<'a>, WireFault>
-        ensures { Gives (λ r. (tt, r)) result (one_more self.entry) }
+        ensures { Tells (λ r. (tt, r)) result (one_more self.entry) }
     {
         if self.left == 0 {
             return Err(WireFault::TooMany);

@@ -2,7 +2,7 @@
 
 ghost use Rattle.std.specs.Prelude.{◌≡◌, ◌++◌, map, pos, OnOk, OnErr};
 ghost use Rattle.thrift_value.specs.TreeOf.{tree_of, field_tree, pair_tree, field_trees, item_trees, pair_trees};
-ghost use Rattle.wire_model.specs.Script.{text, fields_text, items_text, pairs_text, heading, behind_heading};
+ghost use Rattle.wire_model.specs.Writing.{text, fields_text, items_text, pairs_text, heading, behind_heading};
 ghost use Rattle.wire_model.specs.Sizes.{HasSmallSizes, HaveFieldsSmallSizes, HaveItemsSmallSizes, HavePairsSmallSizes};
 ghost use Rattle.wire_walk.specs.Steps.{head_of, Grows};
 
@@ -15,7 +15,7 @@ use thrift_value::{Tag, Value};
 #[cycle(writing)]
 pub fn put<C: Codec>(value: &Value, into: &mut Vec<u8>) -> Result<(), AllocError>
     requires { HasSmallSizes (tree_of value.now) }
-    ensures ok { OnOk result (into.new.items ≡ into.old.items ++ text C.script (tree_of value.now)) }
+    ensures ok { OnOk result (into.new.items ≡ into.old.items ++ text C.writing (tree_of value.now)) }
     ensures err { OnErr result (Grows into.old.items into.new.items) }
 {
     match value {
@@ -42,7 +42,7 @@ pub fn put<C: Codec>(value: &Value, into: &mut Vec<u8>) -> Result<(), AllocError
 fn put_fields<C: Codec>(fields: &[(i16, Value)], into: &mut Vec<u8>) -> Result<(), AllocError>
     requires { HaveFieldsSmallSizes (field_trees (map field_tree fields.now)) }
     ensures ok { OnOk result
-        (into.new.items ≡ into.old.items ++ fields_text C.script (pos 0) (field_trees (map field_tree fields.now))) }
+        (into.new.items ≡ into.old.items ++ fields_text C.writing (pos 0) (field_trees (map field_tree fields.now))) }
     ensures err { OnErr result (Grows into.old.items into.new.items) }
 {
     let mut last = 0;
@@ -57,7 +57,7 @@ fn put_fields<C: Codec>(fields: &[(i16, Value)], into: &mut Vec<u8>) -> Result<(
 
 /// The header of a field.
 fn header_of<C: Codec>(id: i16, value: &Value) -> Header
-    ensures { head_of result ≡ heading C.script.flags id (tree_of value.now) }
+    ensures { head_of result ≡ heading C.writing.flags id (tree_of value.now) }
 {
     match value {
         Value::Bool(flag) => {
@@ -76,7 +76,7 @@ fn header_of<C: Codec>(id: i16, value: &Value) -> Header
 fn put_behind<C: Codec>(header: Header, value: &Value, into: &mut Vec<u8>) -> Result<(), AllocError>
     requires { HasSmallSizes (tree_of value.now) }
     ensures ok { OnOk result
-        (into.new.items ≡ into.old.items ++ behind_heading (head_of header) (text C.script (tree_of value.now))) }
+        (into.new.items ≡ into.old.items ++ behind_heading (head_of header) (text C.writing (tree_of value.now))) }
     ensures err { OnErr result (Grows into.old.items into.new.items) }
 {
     match header {
@@ -91,7 +91,7 @@ fn put_behind<C: Codec>(header: Header, value: &Value, into: &mut Vec<u8>) -> Re
 fn put_items<C: Codec>(items: &[Value], into: &mut Vec<u8>) -> Result<(), AllocError>
     requires { HaveItemsSmallSizes (item_trees (map tree_of items.now)) }
     ensures ok { OnOk result
-        (into.new.items ≡ into.old.items ++ items_text C.script (item_trees (map tree_of items.now))) }
+        (into.new.items ≡ into.old.items ++ items_text C.writing (item_trees (map tree_of items.now))) }
     ensures err { OnErr result (Grows into.old.items into.new.items) }
 {
     for value in items {
@@ -105,7 +105,7 @@ fn put_items<C: Codec>(items: &[Value], into: &mut Vec<u8>) -> Result<(), AllocE
 fn put_pairs<C: Codec>(pairs: &[(Value, Value)], into: &mut Vec<u8>) -> Result<(), AllocError>
     requires { HavePairsSmallSizes (pair_trees (map pair_tree pairs.now)) }
     ensures ok { OnOk result
-        (into.new.items ≡ into.old.items ++ pairs_text C.script (pair_trees (map pair_tree pairs.now))) }
+        (into.new.items ≡ into.old.items ++ pairs_text C.writing (pair_trees (map pair_tree pairs.now))) }
     ensures err { OnErr result (Grows into.old.items into.new.items) }
 {
     for (key, value) in pairs {

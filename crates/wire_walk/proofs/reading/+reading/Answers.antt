@@ -7,7 +7,7 @@ use Rattle.thrift_value.proofs.Trees.{tree_of-Struct, tree_of-Map, tree_of-Set, 
 use Rattle.thrift_value.specs.declared.value.Value.TheVariants.{Bool}
 use Rattle.wire_model.specs.Wire.{head, flagged}
 use Rattle.wire_walk.specs.Steps.{head_of}
-use Rattle.wire_walk.proofs.Faults.{fails_on, fails_same, gives_same, too_deep, on_ok}
+use Rattle.wire_walk.proofs.Faults.{fails_on, fails_same, fails_told, gives_same, gives_told, too_deep, on_ok}
 use Rattle.wire_walk.proofs.Opened.{not_counted, bytes_is, struct_too_deep, map_too_deep, set_too_deep, list_too_deep, struct_is, map_is, set_is, list_is, scalar_is}
 use Rattle.wire_walk.proofs.Lists.{items_begin, items_fail, items_step, items_end, pairs_begin, pairs_fail, pairs_fail_later, pairs_step, pairs_end, fields_begin, fields_fail, field_value_fails, flag_fails, field_step, flag_step, fields_end, fields_run_out}
 use Rattle.wire_walk.proofs.reading.+reading.Goals as goal
@@ -16,19 +16,19 @@ pub read-returns-in_err-rest : goal.read-returns-in_err-rest
 read-returns-in_err-rest g t c =
     let p = err_from_is_err_and c.from_residual.result c.from_residual.ensures.1 in
     rw (p.1, p.2)
-    (not_counted g.C.Protocol.wire c.args.levels c.args.tag c.args.rest c.in_err-rest.field-0.0 c.in_err-rest.ensures)
+    (not_counted g.C.WireProtocol.wire c.args.levels c.args.tag c.args.rest c.in_err-rest.field-0.0 (fails_told _ _ c.in_err-rest.ensures))
 
 pub read-returns-in_err-text-in-Bytes : goal.read-returns-in_err-text-in-Bytes
 read-returns-in_err-text-in-Bytes g t c =
     let p = err_from_is_err_and c.from_residual-in_err-text-in-Bytes.result c.from_residual-in_err-text-in-Bytes.ensures.1 in
     rw (p.1, p.2)
-    (fails_same c.in_err-text-in-Bytes.field-0.0 _ _ (sym (bytes_is g.C.Protocol.wire c.args.levels c.args.tag c.args.rest c.in_ok-rest.rest c.in_ok-rest.ensures c.in-Bytes.is))
-    (fails_on c.in_err-text-in-Bytes.field-0.0 (g.C.Protocol.wire.span c.in_ok-rest.rest) _ c.in_err-text-in-Bytes.ensures))
+    (fails_same c.in_err-text-in-Bytes.field-0.0 _ _ (sym (bytes_is g.C.WireProtocol.wire c.args.levels c.args.tag c.args.rest c.in_ok-rest.rest c.in_ok-rest.ensures c.in-Bytes.is))
+    (fails_on c.in_err-text-in-Bytes.field-0.0 (g.C.WireProtocol.wire.span c.in_ok-rest.rest) _ (fails_told _ _ c.in_err-text-in-Bytes.ensures)))
 
 pub read-returns-in-Ok : goal.read-returns-in-Ok
 read-returns-in-Ok g t c =
-    bytes_is g.C.Protocol.wire c.args.levels c.args.tag c.args.rest c.in_ok-rest.rest c.in_ok-rest.ensures c.in-Bytes.is
-    ∙ on_ok (g.C.Protocol.wire.span c.in_ok-rest.rest) _ c.in_ok-text-in-Bytes.text.now c.in_ok-text-in-Bytes.rest c.in_ok-text-in-Bytes.ensures
+    bytes_is g.C.WireProtocol.wire c.args.levels c.args.tag c.args.rest c.in_ok-rest.rest c.in_ok-rest.ensures c.in-Bytes.is
+    ∙ on_ok (g.C.WireProtocol.wire.span c.in_ok-rest.rest) _ c.in_ok-text-in-Bytes.text.now c.in_ok-text-in-Bytes.rest c.in_ok-text-in-Bytes.ensures
     ∙ ap (λ x. Ok (x, c.in_ok-text-in-Bytes.rest)) (sym c.in-Ok.ensures)
 
 pub read-returns-in_err-levels-in-Struct : goal.read-returns-in_err-levels-in-Struct
@@ -36,39 +36,39 @@ read-returns-in_err-levels-in-Struct g t c =
     let p = err_from_is_err_and c.from_residual-in_err-levels-in-Struct.result c.from_residual-in_err-levels-in-Struct.ensures.1 in
     rw (p.1, p.2)
     (too_deep c.in_err-levels-in-Struct.field-0.0 _ c.in_err-levels-in-Struct.ensures.1
-    (struct_too_deep g.C.Protocol.wire c.args.levels c.args.tag c.args.rest c.in_ok-rest.rest c.in_ok-rest.ensures c.in-Struct.is c.in_err-levels-in-Struct.ensures.0))
+    (struct_too_deep g.C.WireProtocol.wire c.args.levels c.args.tag c.args.rest c.in_ok-rest.rest c.in_ok-rest.ensures c.in-Struct.is c.in_err-levels-in-Struct.ensures.0))
 
 pub read-returns-in_err-levels-in-Map : goal.read-returns-in_err-levels-in-Map
 read-returns-in_err-levels-in-Map g t c =
     let p = err_from_is_err_and c.from_residual-in_err-levels-in-Map.result c.from_residual-in_err-levels-in-Map.ensures.1 in
     rw (p.1, p.2)
     (too_deep c.in_err-levels-in-Map.field-0.0 _ c.in_err-levels-in-Map.ensures.1
-    (map_too_deep g.C.Protocol.wire c.args.levels c.args.tag c.args.rest c.in_ok-rest.rest c.in_ok-rest.ensures c.in-Map.is c.in_err-levels-in-Map.ensures.0))
+    (map_too_deep g.C.WireProtocol.wire c.args.levels c.args.tag c.args.rest c.in_ok-rest.rest c.in_ok-rest.ensures c.in-Map.is c.in_err-levels-in-Map.ensures.0))
 
 pub read-returns-in_err-levels-in-Set : goal.read-returns-in_err-levels-in-Set
 read-returns-in_err-levels-in-Set g t c =
     let p = err_from_is_err_and c.from_residual-in_err-levels-in-Set.result c.from_residual-in_err-levels-in-Set.ensures.1 in
     rw (p.1, p.2)
     (too_deep c.in_err-levels-in-Set.field-0.0 _ c.in_err-levels-in-Set.ensures.1
-    (set_too_deep g.C.Protocol.wire c.args.levels c.args.tag c.args.rest c.in_ok-rest.rest c.in_ok-rest.ensures c.in-Set.is c.in_err-levels-in-Set.ensures.0))
+    (set_too_deep g.C.WireProtocol.wire c.args.levels c.args.tag c.args.rest c.in_ok-rest.rest c.in_ok-rest.ensures c.in-Set.is c.in_err-levels-in-Set.ensures.0))
 
 pub read-returns-in_err-levels-in-List : goal.read-returns-in_err-levels-in-List
 read-returns-in_err-levels-in-List g t c =
     let p = err_from_is_err_and c.from_residual-in_err-levels-in-List.result c.from_residual-in_err-levels-in-List.ensures.1 in
     rw (p.1, p.2)
     (too_deep c.in_err-levels-in-List.field-0.0 _ c.in_err-levels-in-List.ensures.1
-    (list_too_deep g.C.Protocol.wire c.args.levels c.args.tag c.args.rest c.in_ok-rest.rest c.in_ok-rest.ensures c.in-List.is c.in_err-levels-in-List.ensures.0))
+    (list_too_deep g.C.WireProtocol.wire c.args.levels c.args.tag c.args.rest c.in_ok-rest.rest c.in_ok-rest.ensures c.in-List.is c.in_err-levels-in-List.ensures.0))
 
 pub read-returns-in_err-fields-in-Struct : goal.read-returns-in_err-fields-in-Struct
 read-returns-in_err-fields-in-Struct g t c =
     let p = err_from_is_err_and c.from_residual-in_err-fields-in-Struct.result c.from_residual-in_err-fields-in-Struct.ensures.1 in
     rw (p.1, p.2)
-    (fails_same c.in_err-fields-in-Struct.field-0.0 _ _ (sym (struct_is g.C.Protocol.wire c.args.levels c.in_ok-levels-in-Struct.levels c.args.tag c.args.rest c.in_ok-rest.rest c.in_ok-rest.ensures c.in-Struct.is c.in_ok-levels-in-Struct.ensures))
+    (fails_same c.in_err-fields-in-Struct.field-0.0 _ _ (sym (struct_is g.C.WireProtocol.wire c.args.levels c.in_ok-levels-in-Struct.levels c.args.tag c.args.rest c.in_ok-rest.rest c.in_ok-rest.ensures c.in-Struct.is c.in_ok-levels-in-Struct.ensures))
     (fails_on c.in_err-fields-in-Struct.field-0.0 _ _ c.in_err-fields-in-Struct.ensures))
 
 pub read-returns-in_ok-fields-in-Struct : goal.read-returns-in_ok-fields-in-Struct
 read-returns-in_ok-fields-in-Struct g t c =
-    (struct_is g.C.Protocol.wire c.args.levels c.in_ok-levels-in-Struct.levels c.args.tag c.args.rest c.in_ok-rest.rest c.in_ok-rest.ensures c.in-Struct.is c.in_ok-levels-in-Struct.ensures)
+    (struct_is g.C.WireProtocol.wire c.args.levels c.in_ok-levels-in-Struct.levels c.args.tag c.args.rest c.in_ok-rest.rest c.in_ok-rest.ensures c.in-Struct.is c.in_ok-levels-in-Struct.ensures)
     ∙ on_ok _ _ (fields_tree c.in_ok-fields-in-Struct.fields) c.in_ok-fields-in-Struct.rest c.in_ok-fields-in-Struct.ensures
     ∙ ap (λ x. Ok (x, c.in_ok-fields-in-Struct.rest)) (sym (tree_of-Struct c.in_ok-fields-in-Struct.fields))
 
@@ -76,20 +76,20 @@ pub read-returns-in_err-key-in-Map : goal.read-returns-in_err-key-in-Map
 read-returns-in_err-key-in-Map g t c =
     let p = err_from_is_err_and c.from_residual-in_err-key-in-Map.result c.from_residual-in_err-key-in-Map.ensures.1 in
     rw (p.1, p.2)
-    (fails_same c.in_err-key-in-Map.field-0.0 _ _ (sym (map_is g.C.Protocol.wire c.args.levels c.in_ok-levels-in-Map.levels c.args.tag c.args.rest c.in_ok-rest.rest c.in_ok-rest.ensures c.in-Map.is c.in_ok-levels-in-Map.ensures))
-    (fails_on c.in_err-key-in-Map.field-0.0 (g.C.Protocol.wire.pairs c.in_ok-rest.rest) _ c.in_err-key-in-Map.ensures))
+    (fails_same c.in_err-key-in-Map.field-0.0 _ _ (sym (map_is g.C.WireProtocol.wire c.args.levels c.in_ok-levels-in-Map.levels c.args.tag c.args.rest c.in_ok-rest.rest c.in_ok-rest.ensures c.in-Map.is c.in_ok-levels-in-Map.ensures))
+    (fails_on c.in_err-key-in-Map.field-0.0 (g.C.WireProtocol.wire.pairs c.in_ok-rest.rest) _ (fails_told _ _ c.in_err-key-in-Map.ensures)))
 
 pub read-returns-in_err-pairs-in-Map : goal.read-returns-in_err-pairs-in-Map
 read-returns-in_err-pairs-in-Map g t c =
     let p = err_from_is_err_and c.from_residual-in_err-pairs-in-Map.result c.from_residual-in_err-pairs-in-Map.ensures.1 in
     rw (p.1, p.2)
-    (fails_same c.in_err-pairs-in-Map.field-0.0 _ _ (sym ((map_is g.C.Protocol.wire c.args.levels c.in_ok-levels-in-Map.levels c.args.tag c.args.rest c.in_ok-rest.rest c.in_ok-rest.ensures c.in-Map.is c.in_ok-levels-in-Map.ensures) ∙ on_ok (g.C.Protocol.wire.pairs c.in_ok-rest.rest) _ (c.in_ok-key-in-Map.key, c.in_ok-key-in-Map.value, c.in_ok-key-in-Map.count) c.in_ok-key-in-Map.rest c.in_ok-key-in-Map.ensures))
+    (fails_same c.in_err-pairs-in-Map.field-0.0 _ _ (sym ((map_is g.C.WireProtocol.wire c.args.levels c.in_ok-levels-in-Map.levels c.args.tag c.args.rest c.in_ok-rest.rest c.in_ok-rest.ensures c.in-Map.is c.in_ok-levels-in-Map.ensures) ∙ on_ok (g.C.WireProtocol.wire.pairs c.in_ok-rest.rest) _ (c.in_ok-key-in-Map.key, c.in_ok-key-in-Map.value, c.in_ok-key-in-Map.count) c.in_ok-key-in-Map.rest c.in_ok-key-in-Map.ensures))
     (fails_on c.in_err-pairs-in-Map.field-0.0 _ _ c.in_err-pairs-in-Map.ensures))
 
 pub read-returns-in_ok-pairs-in-Map : goal.read-returns-in_ok-pairs-in-Map
 read-returns-in_ok-pairs-in-Map g t c =
-    (map_is g.C.Protocol.wire c.args.levels c.in_ok-levels-in-Map.levels c.args.tag c.args.rest c.in_ok-rest.rest c.in_ok-rest.ensures c.in-Map.is c.in_ok-levels-in-Map.ensures)
-    ∙ on_ok (g.C.Protocol.wire.pairs c.in_ok-rest.rest) _ (c.in_ok-key-in-Map.key, c.in_ok-key-in-Map.value, c.in_ok-key-in-Map.count) c.in_ok-key-in-Map.rest c.in_ok-key-in-Map.ensures
+    (map_is g.C.WireProtocol.wire c.args.levels c.in_ok-levels-in-Map.levels c.args.tag c.args.rest c.in_ok-rest.rest c.in_ok-rest.ensures c.in-Map.is c.in_ok-levels-in-Map.ensures)
+    ∙ on_ok (g.C.WireProtocol.wire.pairs c.in_ok-rest.rest) _ (c.in_ok-key-in-Map.key, c.in_ok-key-in-Map.value, c.in_ok-key-in-Map.count) c.in_ok-key-in-Map.rest c.in_ok-key-in-Map.ensures
     ∙ on_ok _ _ (pairs_tree c.in_ok-pairs-in-Map.pairs) c.in_ok-pairs-in-Map.rest c.in_ok-pairs-in-Map.ensures
     ∙ ap (λ x. Ok (x, c.in_ok-pairs-in-Map.rest)) (sym (tree_of-Map c.in_ok-key-in-Map.key c.in_ok-key-in-Map.value c.in_ok-pairs-in-Map.pairs))
 
@@ -97,20 +97,20 @@ pub read-returns-in_err-element-in-Set : goal.read-returns-in_err-element-in-Set
 read-returns-in_err-element-in-Set g t c =
     let p = err_from_is_err_and c.from_residual-in_err-element-in-Set.result c.from_residual-in_err-element-in-Set.ensures.1 in
     rw (p.1, p.2)
-    (fails_same c.in_err-element-in-Set.field-0.0 _ _ (sym (set_is g.C.Protocol.wire c.args.levels c.in_ok-levels-in-Set.levels c.args.tag c.args.rest c.in_ok-rest.rest c.in_ok-rest.ensures c.in-Set.is c.in_ok-levels-in-Set.ensures))
-    (fails_on c.in_err-element-in-Set.field-0.0 (g.C.Protocol.wire.items c.in_ok-rest.rest) _ c.in_err-element-in-Set.ensures))
+    (fails_same c.in_err-element-in-Set.field-0.0 _ _ (sym (set_is g.C.WireProtocol.wire c.args.levels c.in_ok-levels-in-Set.levels c.args.tag c.args.rest c.in_ok-rest.rest c.in_ok-rest.ensures c.in-Set.is c.in_ok-levels-in-Set.ensures))
+    (fails_on c.in_err-element-in-Set.field-0.0 (g.C.WireProtocol.wire.items c.in_ok-rest.rest) _ (fails_told _ _ c.in_err-element-in-Set.ensures)))
 
 pub read-returns-in_err-items-in-Set : goal.read-returns-in_err-items-in-Set
 read-returns-in_err-items-in-Set g t c =
     let p = err_from_is_err_and c.from_residual-in_err-items-in-Set.result c.from_residual-in_err-items-in-Set.ensures.1 in
     rw (p.1, p.2)
-    (fails_same c.in_err-items-in-Set.field-0.0 _ _ (sym ((set_is g.C.Protocol.wire c.args.levels c.in_ok-levels-in-Set.levels c.args.tag c.args.rest c.in_ok-rest.rest c.in_ok-rest.ensures c.in-Set.is c.in_ok-levels-in-Set.ensures) ∙ on_ok (g.C.Protocol.wire.items c.in_ok-rest.rest) _ (c.in_ok-element-in-Set.element, c.in_ok-element-in-Set.count) c.in_ok-element-in-Set.rest c.in_ok-element-in-Set.ensures))
+    (fails_same c.in_err-items-in-Set.field-0.0 _ _ (sym ((set_is g.C.WireProtocol.wire c.args.levels c.in_ok-levels-in-Set.levels c.args.tag c.args.rest c.in_ok-rest.rest c.in_ok-rest.ensures c.in-Set.is c.in_ok-levels-in-Set.ensures) ∙ on_ok (g.C.WireProtocol.wire.items c.in_ok-rest.rest) _ (c.in_ok-element-in-Set.element, c.in_ok-element-in-Set.count) c.in_ok-element-in-Set.rest c.in_ok-element-in-Set.ensures))
     (fails_on c.in_err-items-in-Set.field-0.0 _ _ c.in_err-items-in-Set.ensures))
 
 pub read-returns-in_ok-items-in-Set : goal.read-returns-in_ok-items-in-Set
 read-returns-in_ok-items-in-Set g t c =
-    (set_is g.C.Protocol.wire c.args.levels c.in_ok-levels-in-Set.levels c.args.tag c.args.rest c.in_ok-rest.rest c.in_ok-rest.ensures c.in-Set.is c.in_ok-levels-in-Set.ensures)
-    ∙ on_ok (g.C.Protocol.wire.items c.in_ok-rest.rest) _ (c.in_ok-element-in-Set.element, c.in_ok-element-in-Set.count) c.in_ok-element-in-Set.rest c.in_ok-element-in-Set.ensures
+    (set_is g.C.WireProtocol.wire c.args.levels c.in_ok-levels-in-Set.levels c.args.tag c.args.rest c.in_ok-rest.rest c.in_ok-rest.ensures c.in-Set.is c.in_ok-levels-in-Set.ensures)
+    ∙ on_ok (g.C.WireProtocol.wire.items c.in_ok-rest.rest) _ (c.in_ok-element-in-Set.element, c.in_ok-element-in-Set.count) c.in_ok-element-in-Set.rest c.in_ok-element-in-Set.ensures
     ∙ on_ok _ _ (items_tree c.in_ok-items-in-Set.items) c.in_ok-items-in-Set.rest c.in_ok-items-in-Set.ensures
     ∙ ap (λ x. Ok (x, c.in_ok-items-in-Set.rest)) (sym (tree_of-Set c.in_ok-element-in-Set.element c.in_ok-items-in-Set.items))
 
@@ -118,101 +118,101 @@ pub read-returns-in_err-element-in-List : goal.read-returns-in_err-element-in-Li
 read-returns-in_err-element-in-List g t c =
     let p = err_from_is_err_and c.from_residual-in_err-element-in-List.result c.from_residual-in_err-element-in-List.ensures.1 in
     rw (p.1, p.2)
-    (fails_same c.in_err-element-in-List.field-0.0 _ _ (sym (list_is g.C.Protocol.wire c.args.levels c.in_ok-levels-in-List.levels c.args.tag c.args.rest c.in_ok-rest.rest c.in_ok-rest.ensures c.in-List.is c.in_ok-levels-in-List.ensures))
-    (fails_on c.in_err-element-in-List.field-0.0 (g.C.Protocol.wire.items c.in_ok-rest.rest) _ c.in_err-element-in-List.ensures))
+    (fails_same c.in_err-element-in-List.field-0.0 _ _ (sym (list_is g.C.WireProtocol.wire c.args.levels c.in_ok-levels-in-List.levels c.args.tag c.args.rest c.in_ok-rest.rest c.in_ok-rest.ensures c.in-List.is c.in_ok-levels-in-List.ensures))
+    (fails_on c.in_err-element-in-List.field-0.0 (g.C.WireProtocol.wire.items c.in_ok-rest.rest) _ (fails_told _ _ c.in_err-element-in-List.ensures)))
 
 pub read-returns-in_err-items-in-List : goal.read-returns-in_err-items-in-List
 read-returns-in_err-items-in-List g t c =
     let p = err_from_is_err_and c.from_residual-in_err-items-in-List.result c.from_residual-in_err-items-in-List.ensures.1 in
     rw (p.1, p.2)
-    (fails_same c.in_err-items-in-List.field-0.0 _ _ (sym ((list_is g.C.Protocol.wire c.args.levels c.in_ok-levels-in-List.levels c.args.tag c.args.rest c.in_ok-rest.rest c.in_ok-rest.ensures c.in-List.is c.in_ok-levels-in-List.ensures) ∙ on_ok (g.C.Protocol.wire.items c.in_ok-rest.rest) _ (c.in_ok-element-in-List.element, c.in_ok-element-in-List.count) c.in_ok-element-in-List.rest c.in_ok-element-in-List.ensures))
+    (fails_same c.in_err-items-in-List.field-0.0 _ _ (sym ((list_is g.C.WireProtocol.wire c.args.levels c.in_ok-levels-in-List.levels c.args.tag c.args.rest c.in_ok-rest.rest c.in_ok-rest.ensures c.in-List.is c.in_ok-levels-in-List.ensures) ∙ on_ok (g.C.WireProtocol.wire.items c.in_ok-rest.rest) _ (c.in_ok-element-in-List.element, c.in_ok-element-in-List.count) c.in_ok-element-in-List.rest c.in_ok-element-in-List.ensures))
     (fails_on c.in_err-items-in-List.field-0.0 _ _ c.in_err-items-in-List.ensures))
 
 pub read-returns-in_ok-items-in-List : goal.read-returns-in_ok-items-in-List
 read-returns-in_ok-items-in-List g t c =
-    (list_is g.C.Protocol.wire c.args.levels c.in_ok-levels-in-List.levels c.args.tag c.args.rest c.in_ok-rest.rest c.in_ok-rest.ensures c.in-List.is c.in_ok-levels-in-List.ensures)
-    ∙ on_ok (g.C.Protocol.wire.items c.in_ok-rest.rest) _ (c.in_ok-element-in-List.element, c.in_ok-element-in-List.count) c.in_ok-element-in-List.rest c.in_ok-element-in-List.ensures
+    (list_is g.C.WireProtocol.wire c.args.levels c.in_ok-levels-in-List.levels c.args.tag c.args.rest c.in_ok-rest.rest c.in_ok-rest.ensures c.in-List.is c.in_ok-levels-in-List.ensures)
+    ∙ on_ok (g.C.WireProtocol.wire.items c.in_ok-rest.rest) _ (c.in_ok-element-in-List.element, c.in_ok-element-in-List.count) c.in_ok-element-in-List.rest c.in_ok-element-in-List.ensures
     ∙ on_ok _ _ (items_tree c.in_ok-items-in-List.items) c.in_ok-items-in-List.rest c.in_ok-items-in-List.ensures
     ∙ ap (λ x. Ok (x, c.in_ok-items-in-List.rest)) (sym (tree_of-List c.in_ok-element-in-List.element c.in_ok-items-in-List.items))
 
 pub read-returns-in_default : goal.read-returns-in_default
 read-returns-in_default g t c =
-    gives_same _ c.scalar.result _ _ (scalar_is g.C.Protocol.wire c.args.levels c.args.tag c.args.rest c.in_ok-rest.rest c.in_ok-rest.ensures c.in_default.not-Bytes c.in_default.not-Struct c.in_default.not-Map c.in_default.not-Set c.in_default.not-List)
-    c.scalar.ensures
+    gives_same _ c.scalar.result _ _ (scalar_is g.C.WireProtocol.wire c.args.levels c.args.tag c.args.rest c.in_ok-rest.rest c.in_ok-rest.ensures c.in_default.not-Bytes c.in_default.not-Struct c.in_default.not-Map c.in_default.not-Set c.in_default.not-List)
+    (gives_told _ _ _ c.scalar.ensures)
 
 pub read_items-loop-step-init : goal.read_items-loop-step-init
 read_items-loop-step-init g t c =
-    items_begin g.C.Protocol.wire c.args.levels c.args.tag _ _ c.args.count c.args.rest c.new-items.ensures.items (omega arith)
+    items_begin g.C.WireProtocol.wire c.args.levels c.args.tag _ _ c.args.count c.args.rest c.new-items.ensures.items (omega arith)
 
 pub read_items-returns-in_err-value : goal.read_items-returns-in_err-value
 read_items-returns-in_err-value g t c =
     let p = err_from_is_err_and c.from_residual.result c.from_residual.ensures.1 in
     rw (p.1, p.2)
-    (items_fail g.C.Protocol.wire c.args.levels c.args.tag c.loop-step.items.items (c.args.count - c.loop-step.step) (c.args.count - (c.loop-step.step + 1)) c.loop-step.rest c.args.count c.args.rest c.in_err-value.field-0.0
+    (items_fail g.C.WireProtocol.wire c.args.levels c.args.tag c.loop-step.items.items (c.args.count - c.loop-step.step) (c.args.count - (c.loop-step.step + 1)) c.loop-step.rest c.args.count c.args.rest c.in_err-value.field-0.0
     (let more : c.args.count - c.loop-step.step ≡ suc (c.args.count - (c.loop-step.step + 1)) = omega arith in more) c.loop-step.invariant c.in_err-value.ensures)
 
 pub read_items-loop-step-preserved : goal.read_items-loop-step-preserved
 read_items-loop-step-preserved g t c =
-    items_step g.C.Protocol.wire c.args.levels c.args.tag c.loop-step.items.items _ c.in_ok-value.value (c.args.count - c.loop-step.step) (c.args.count - (c.loop-step.step + 1)) c.loop-step.rest c.in_ok-value.behind c.args.count c.args.rest
+    items_step g.C.WireProtocol.wire c.args.levels c.args.tag c.loop-step.items.items _ c.in_ok-value.value (c.args.count - c.loop-step.step) (c.args.count - (c.loop-step.step + 1)) c.loop-step.rest c.in_ok-value.behind c.args.count c.args.rest
     (let more : c.args.count - c.loop-step.step ≡ suc (c.args.count - (c.loop-step.step + 1)) = omega arith in more) c.loop-step.invariant c.in_ok-value.ensures c.in-Ok.ensures
 
 pub read_items-returns : goal.read_items-returns
 read_items-returns g t c =
-    items_end g.C.Protocol.wire c.args.levels c.args.tag c.loop-step.items.items c.new.result (c.args.count - c.loop-step.step) c.loop-step.rest c.args.count c.args.rest (let none : c.args.count - c.loop-step.step ≡ 0 = omega arith in none) c.loop-step.invariant c.new.ensures
+    items_end g.C.WireProtocol.wire c.args.levels c.args.tag c.loop-step.items.items c.new.result (c.args.count - c.loop-step.step) c.loop-step.rest c.args.count c.args.rest (let none : c.args.count - c.loop-step.step ≡ 0 = omega arith in none) c.loop-step.invariant c.new.ensures
 
 pub read_pairs-loop-step-init : goal.read_pairs-loop-step-init
 read_pairs-loop-step-init g t c =
-    pairs_begin g.C.Protocol.wire c.args.levels c.args.key_tag c.args.value_tag _ _ c.args.count c.args.rest c.new-pairs.ensures.items (omega arith)
+    pairs_begin g.C.WireProtocol.wire c.args.levels c.args.key_tag c.args.value_tag _ _ c.args.count c.args.rest c.new-pairs.ensures.items (omega arith)
 
 pub read_pairs-returns-in_err-key : goal.read_pairs-returns-in_err-key
 read_pairs-returns-in_err-key g t c =
     let p = err_from_is_err_and c.from_residual.result c.from_residual.ensures.1 in
     rw (p.1, p.2)
-    (pairs_fail g.C.Protocol.wire c.args.levels c.args.key_tag c.args.value_tag c.loop-step.pairs.items (c.args.count - c.loop-step.step) (c.args.count - (c.loop-step.step + 1)) c.loop-step.rest c.args.count c.args.rest c.in_err-key.field-0.0
+    (pairs_fail g.C.WireProtocol.wire c.args.levels c.args.key_tag c.args.value_tag c.loop-step.pairs.items (c.args.count - c.loop-step.step) (c.args.count - (c.loop-step.step + 1)) c.loop-step.rest c.args.count c.args.rest c.in_err-key.field-0.0
     (let more : c.args.count - c.loop-step.step ≡ suc (c.args.count - (c.loop-step.step + 1)) = omega arith in more) c.loop-step.invariant c.in_err-key.ensures)
 
 pub read_pairs-returns-in_err-value : goal.read_pairs-returns-in_err-value
 read_pairs-returns-in_err-value g t c =
     let p = err_from_is_err_and c.from_residual-in_err-value.result c.from_residual-in_err-value.ensures.1 in
     rw (p.1, p.2)
-    (pairs_fail_later g.C.Protocol.wire c.args.levels c.args.key_tag c.args.value_tag c.loop-step.pairs.items (tree_of c.in_ok-key.key) (c.args.count - c.loop-step.step) (c.args.count - (c.loop-step.step + 1)) c.loop-step.rest c.in_ok-key.behind c.args.count c.args.rest c.in_err-value.field-0.0
+    (pairs_fail_later g.C.WireProtocol.wire c.args.levels c.args.key_tag c.args.value_tag c.loop-step.pairs.items (tree_of c.in_ok-key.key) (c.args.count - c.loop-step.step) (c.args.count - (c.loop-step.step + 1)) c.loop-step.rest c.in_ok-key.behind c.args.count c.args.rest c.in_err-value.field-0.0
     (let more : c.args.count - c.loop-step.step ≡ suc (c.args.count - (c.loop-step.step + 1)) = omega arith in more) c.loop-step.invariant c.in_ok-key.ensures c.in_err-value.ensures)
 
 pub read_pairs-loop-step-preserved : goal.read_pairs-loop-step-preserved
 read_pairs-loop-step-preserved g t c =
-    pairs_step g.C.Protocol.wire c.args.levels c.args.key_tag c.args.value_tag c.loop-step.pairs.items _ (c.in_ok-key.key, c.in_ok-value.value) (c.args.count - c.loop-step.step) (c.args.count - (c.loop-step.step + 1)) c.loop-step.rest c.in_ok-key.behind c.in_ok-value.behind c.args.count c.args.rest
+    pairs_step g.C.WireProtocol.wire c.args.levels c.args.key_tag c.args.value_tag c.loop-step.pairs.items _ (c.in_ok-key.key, c.in_ok-value.value) (c.args.count - c.loop-step.step) (c.args.count - (c.loop-step.step + 1)) c.loop-step.rest c.in_ok-key.behind c.in_ok-value.behind c.args.count c.args.rest
     (let more : c.args.count - c.loop-step.step ≡ suc (c.args.count - (c.loop-step.step + 1)) = omega arith in more) c.loop-step.invariant c.in_ok-key.ensures c.in_ok-value.ensures c.in-Ok.ensures
 
 pub read_pairs-returns : goal.read_pairs-returns
 read_pairs-returns g t c =
-    pairs_end g.C.Protocol.wire c.args.levels c.args.key_tag c.args.value_tag c.loop-step.pairs.items c.new.result (c.args.count - c.loop-step.step) c.loop-step.rest c.args.count c.args.rest (let none : c.args.count - c.loop-step.step ≡ 0 = omega arith in none) c.loop-step.invariant c.new.ensures
+    pairs_end g.C.WireProtocol.wire c.args.levels c.args.key_tag c.args.value_tag c.loop-step.pairs.items c.new.result (c.args.count - c.loop-step.step) c.loop-step.rest c.args.count c.args.rest (let none : c.args.count - c.loop-step.step ≡ 0 = omega arith in none) c.loop-step.invariant c.new.ensures
 
 pub read_fields-loop-step-init : goal.read_fields-loop-step-init
 read_fields-loop-step-init g t c =
-    fields_begin g.C.Protocol.wire c.args.levels _ _ c.args.rest c.new-fields.ensures.items (let same : length c.bytes-step-end.result.now - 0 ≡ length c.args.rest.bytes = omega (arith, ap length c.bytes-step-end.ensures) in same)
+    fields_begin g.C.WireProtocol.wire c.args.levels _ _ c.args.rest c.new-fields.ensures.items (let same : length c.bytes-step-end.result.now - 0 ≡ length c.args.rest.bytes = omega (arith, ap length c.bytes-step-end.ensures) in same)
 
 pub read_fields-returns-in_err-header : goal.read_fields-returns-in_err-header
 read_fields-returns-in_err-header g t c =
     let p = err_from_is_err_and c.from_residual.result c.from_residual.ensures.1 in
     rw (p.1, p.2)
-    (fields_fail g.C.Protocol.wire c.args.levels c.loop-step.fields.items (length c.bytes-step-end.result.now - c.loop-step.step) (length c.bytes-step-end.result.now - (c.loop-step.step + 1)) (to_z w16 c.loop-step.last-bits) c.loop-step.rest c.args.rest c.in_err-header.field-0.0 (let more : length c.bytes-step-end.result.now - c.loop-step.step ≡ suc (length c.bytes-step-end.result.now - (c.loop-step.step + 1)) = omega arith in more) c.loop-step.invariant c.in_err-header.ensures)
+    (fields_fail g.C.WireProtocol.wire c.args.levels c.loop-step.fields.items (length c.bytes-step-end.result.now - c.loop-step.step) (length c.bytes-step-end.result.now - (c.loop-step.step + 1)) (to_z w16 c.loop-step.last-bits) c.loop-step.rest c.args.rest c.in_err-header.field-0.0 (let more : length c.bytes-step-end.result.now - c.loop-step.step ≡ suc (length c.bytes-step-end.result.now - (c.loop-step.step + 1)) = omega arith in more) c.loop-step.invariant (fails_told _ _ c.in_err-header.ensures))
 
 pub read_fields-returns-in-Stop : goal.read_fields-returns-in-Stop
 read_fields-returns-in-Stop g t c =
-    fields_end g.C.Protocol.wire c.args.levels c.loop-step.fields.items c.new.result (length c.bytes-step-end.result.now - c.loop-step.step) (length c.bytes-step-end.result.now - (c.loop-step.step + 1)) (to_z w16 c.loop-step.last-bits) c.loop-step.rest c.in_ok-header.behind c.args.rest (let more : length c.bytes-step-end.result.now - c.loop-step.step ≡ suc (length c.bytes-step-end.result.now - (c.loop-step.step + 1)) = omega arith in more) c.loop-step.invariant (c.in_ok-header.ensures ∙ ap (λ h. Ok (head_of h, c.in_ok-header.behind)) c.in-Stop.is) c.new.ensures
+    fields_end g.C.WireProtocol.wire c.args.levels c.loop-step.fields.items c.new.result (length c.bytes-step-end.result.now - c.loop-step.step) (length c.bytes-step-end.result.now - (c.loop-step.step + 1)) (to_z w16 c.loop-step.last-bits) c.loop-step.rest c.in_ok-header.behind c.args.rest (let more : length c.bytes-step-end.result.now - c.loop-step.step ≡ suc (length c.bytes-step-end.result.now - (c.loop-step.step + 1)) = omega arith in more) c.loop-step.invariant (c.in_ok-header.ensures ∙ ap (λ h. Ok (head_of h, c.in_ok-header.behind)) c.in-Stop.is) c.new.ensures
 
 pub read_fields-returns-in_err-value-in-Field : goal.read_fields-returns-in_err-value-in-Field
 read_fields-returns-in_err-value-in-Field g t c =
     let p = err_from_is_err_and c.from_residual-in_err-value-in-Field.result c.from_residual-in_err-value-in-Field.ensures.1 in
     rw (p.1, p.2)
-    (field_value_fails g.C.Protocol.wire c.args.levels c.loop-step.fields.items (length c.bytes-step-end.result.now - c.loop-step.step) (length c.bytes-step-end.result.now - (c.loop-step.step + 1)) (to_z w16 c.loop-step.last-bits) c.loop-step.rest c.in_ok-header.behind c.args.rest c.in-Field.id c.in-Field.tag c.in_err-value-in-Field.field-0.0 (let more : length c.bytes-step-end.result.now - c.loop-step.step ≡ suc (length c.bytes-step-end.result.now - (c.loop-step.step + 1)) = omega arith in more) c.loop-step.invariant (c.in_ok-header.ensures ∙ ap (λ h. Ok (head_of h, c.in_ok-header.behind)) c.in-Field.is) c.in_err-value-in-Field.ensures)
+    (field_value_fails g.C.WireProtocol.wire c.args.levels c.loop-step.fields.items (length c.bytes-step-end.result.now - c.loop-step.step) (length c.bytes-step-end.result.now - (c.loop-step.step + 1)) (to_z w16 c.loop-step.last-bits) c.loop-step.rest c.in_ok-header.behind c.args.rest c.in-Field.id c.in-Field.tag c.in_err-value-in-Field.field-0.0 (let more : length c.bytes-step-end.result.now - c.loop-step.step ≡ suc (length c.bytes-step-end.result.now - (c.loop-step.step + 1)) = omega arith in more) c.loop-step.invariant (c.in_ok-header.ensures ∙ ap (λ h. Ok (head_of h, c.in_ok-header.behind)) c.in-Field.is) c.in_err-value-in-Field.ensures)
 
 pub read_fields-loop-step-preserved-in-Field : goal.read_fields-loop-step-preserved-in-Field
 read_fields-loop-step-preserved-in-Field g t c =
     let fits : FitsSigned w16 c.in-Field.id = search rules in
     let id : ℤ = to_z w16 (of_z w16 c.in-Field.id) in
     let same : c.in-Field.id ≡ id = sym (to_z-of_z w16 c.in-Field.id fits) in
-    field_step g.C.Protocol.wire c.args.levels c.loop-step.fields.items _ (length c.bytes-step-end.result.now - c.loop-step.step) (length c.bytes-step-end.result.now - (c.loop-step.step + 1)) (to_z w16 c.loop-step.last-bits) c.loop-step.rest c.in_ok-header.behind c.in_ok-value-in-Field.behind c.args.rest id c.in-Field.tag c.in_ok-value-in-Field.value
+    field_step g.C.WireProtocol.wire c.args.levels c.loop-step.fields.items _ (length c.bytes-step-end.result.now - c.loop-step.step) (length c.bytes-step-end.result.now - (c.loop-step.step + 1)) (to_z w16 c.loop-step.last-bits) c.loop-step.rest c.in_ok-header.behind c.in_ok-value-in-Field.behind c.args.rest id c.in-Field.tag c.in_ok-value-in-Field.value
     (let more : length c.bytes-step-end.result.now - c.loop-step.step ≡ suc (length c.bytes-step-end.result.now - (c.loop-step.step + 1)) = omega arith in more)
     c.loop-step.invariant
     (c.in_ok-header.ensures ∙ ap (λ h. Ok (head_of h, c.in_ok-header.behind)) c.in-Field.is ∙ ap (λ z. Ok (head z c.in-Field.tag, c.in_ok-header.behind)) same)
@@ -222,14 +222,14 @@ pub read_fields-returns-in_err-behind-in-Flag : goal.read_fields-returns-in_err-
 read_fields-returns-in_err-behind-in-Flag g t c =
     let p = err_from_is_err_and c.from_residual-in_err-behind-in-Flag.result c.from_residual-in_err-behind-in-Flag.ensures.1 in
     rw (p.1, p.2)
-    (flag_fails g.C.Protocol.wire c.args.levels c.loop-step.fields.items (length c.bytes-step-end.result.now - c.loop-step.step) (length c.bytes-step-end.result.now - (c.loop-step.step + 1)) (to_z w16 c.loop-step.last-bits) c.loop-step.rest c.in_ok-header.behind c.args.rest c.in-Flag.id c.in-Flag.flag c.in_err-behind-in-Flag.field-0.0 (let more : length c.bytes-step-end.result.now - c.loop-step.step ≡ suc (length c.bytes-step-end.result.now - (c.loop-step.step + 1)) = omega arith in more) c.loop-step.invariant (c.in_ok-header.ensures ∙ ap (λ h. Ok (head_of h, c.in_ok-header.behind)) c.in-Flag.is) c.in_err-behind-in-Flag.ensures)
+    (flag_fails g.C.WireProtocol.wire c.args.levels c.loop-step.fields.items (length c.bytes-step-end.result.now - c.loop-step.step) (length c.bytes-step-end.result.now - (c.loop-step.step + 1)) (to_z w16 c.loop-step.last-bits) c.loop-step.rest c.in_ok-header.behind c.args.rest c.in-Flag.id c.in-Flag.flag c.in_err-behind-in-Flag.field-0.0 (let more : length c.bytes-step-end.result.now - c.loop-step.step ≡ suc (length c.bytes-step-end.result.now - (c.loop-step.step + 1)) = omega arith in more) c.loop-step.invariant (c.in_ok-header.ensures ∙ ap (λ h. Ok (head_of h, c.in_ok-header.behind)) c.in-Flag.is) (fails_told _ _ c.in_err-behind-in-Flag.ensures))
 
 pub read_fields-loop-step-preserved : goal.read_fields-loop-step-preserved
 read_fields-loop-step-preserved g t c =
     let fits : FitsSigned w16 c.in-Flag.id = search rules in
     let id : ℤ = to_z w16 (of_z w16 c.in-Flag.id) in
     let same : c.in-Flag.id ≡ id = sym (to_z-of_z w16 c.in-Flag.id fits) in
-    flag_step g.C.Protocol.wire c.args.levels c.loop-step.fields.items _ (length c.bytes-step-end.result.now - c.loop-step.step) (length c.bytes-step-end.result.now - (c.loop-step.step + 1)) (to_z w16 c.loop-step.last-bits) c.loop-step.rest c.in_ok-header.behind c.in_ok-behind-in-Flag.behind c.args.rest id c.in-Flag.flag (Bool c.in-Flag.flag)
+    flag_step g.C.WireProtocol.wire c.args.levels c.loop-step.fields.items _ (length c.bytes-step-end.result.now - c.loop-step.step) (length c.bytes-step-end.result.now - (c.loop-step.step + 1)) (to_z w16 c.loop-step.last-bits) c.loop-step.rest c.in_ok-header.behind c.in_ok-behind-in-Flag.behind c.args.rest id c.in-Flag.flag (Bool c.in-Flag.flag)
     (let more : length c.bytes-step-end.result.now - c.loop-step.step ≡ suc (length c.bytes-step-end.result.now - (c.loop-step.step + 1)) = omega arith in more)
     c.loop-step.invariant
     (c.in_ok-header.ensures ∙ ap (λ h. Ok (head_of h, c.in_ok-header.behind)) c.in-Flag.is ∙ ap (λ z. Ok (flagged z c.in-Flag.flag, c.in_ok-header.behind)) same)
@@ -237,4 +237,4 @@ read_fields-loop-step-preserved g t c =
 
 pub read_fields-returns : goal.read_fields-returns
 read_fields-returns g t c =
-    fields_run_out g.C.Protocol.wire c.args.levels c.loop-step.fields.items (length c.bytes-step-end.result.now - c.loop-step.step) (to_z w16 c.loop-step.last-bits) c.loop-step.rest c.args.rest (let none : length c.bytes-step-end.result.now - c.loop-step.step ≡ 0 = omega arith in none) c.loop-step.invariant
+    fields_run_out g.C.WireProtocol.wire c.args.levels c.loop-step.fields.items (length c.bytes-step-end.result.now - c.loop-step.step) (to_z w16 c.loop-step.last-bits) c.loop-step.rest c.args.rest (let none : length c.bytes-step-end.result.now - c.loop-step.step ≡ 0 = omega arith in none) c.loop-step.invariant

@@ -16,10 +16,10 @@ decreases-read_pairs g l = 2 * l.levels + 1
 
 -- what was read, in front of what reading gives for the rest, is what reading gives from the start
 abbrev pub invariant-read_fields-loop-step : goal.invariant-read_fields-loop-step
-invariant-read_fields-loop-step g l = AreFieldsRead g.C.Protocol.wire l.levels l.fields.items (l.step-end - l.step) l.last l.rest l.fn.rest
+invariant-read_fields-loop-step g l = AreFieldsRead g.C.WireProtocol.wire l.levels l.fields.items (l.step-end - l.step) l.last l.rest l.fn.rest
 
 abbrev pub invariant-read_items-loop-step : goal.invariant-read_items-loop-step
-invariant-read_items-loop-step g l = AreItemsRead g.C.Protocol.wire l.levels l.tag l.items.items (l.count - l.step) l.rest l.fn.count l.fn.rest
+invariant-read_items-loop-step g l = AreItemsRead g.C.WireProtocol.wire l.levels l.tag l.items.items (l.count - l.step) l.rest l.fn.count l.fn.rest
 
 abbrev pub invariant-read_pairs-loop-step : goal.invariant-read_pairs-loop-step
-invariant-read_pairs-loop-step g l = ArePairsRead g.C.Protocol.wire l.levels l.key_tag l.value_tag l.pairs.items (l.count - l.step) l.rest l.fn.count l.fn.rest
+invariant-read_pairs-loop-step g l = ArePairsRead g.C.WireProtocol.wire l.levels l.key_tag l.value_tag l.pairs.items (l.count - l.step) l.rest l.fn.count l.fn.rest
