@@ -50,7 +50,7 @@ stuck_end n levels front d x most ends h =
     let e : failed d [] ≡ done x [] = sym ends ∙ all in cc
 
 -- a front that is longer than another of the same symbols begins with it and the next symbol
-longer : (front : List Lexeme) (t : Lexeme) (r front' rest' : List Lexeme) → front ++ t ∷ r ≡ front' ++ rest' → length rest' ≤ length r
+pub longer : (front : List Lexeme) (t : Lexeme) (r front' rest' : List Lexeme) → front ++ t ∷ r ≡ front' ++ rest' → length rest' ≤ length r
     → (c : List Lexeme) × (front' ≡ (front ++ t ∷ []) ++ c)
 longer [] t r [] rest' e h = let l : suc (length r) ≡ length rest' = ap length e in absurd (let no_room : ⊥ = omega arith in no_room)
 longer [] t r (s ∷ front') rest' e h = let i : s ≡ t = cc in (front', ap (λ k. k ∷ front') i)

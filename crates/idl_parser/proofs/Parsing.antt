@@ -7,12 +7,13 @@ use Rattle.idl_parser.specs.declared.ParseFault.{ParseFault}
 use Rattle.idl_parser.specs.declared.reader.Stop.{Stop}
 use Rattle.idl_parser.specs.declared.reader.Stop.TheVariants.{NoMemory, Stuck, Deep}
 use Rattle.idl_parser.specs.Phrases.{Lexeme, Node}
-use Rattle.idl_parser.specs.Documents.{document, DocumentIn}
-use Rattle.idl_parser.specs.Symbols.{behind, start, lexemes, lexeme_at}
+use Rattle.idl_parser.specs.Documents.{deepest, document, DocumentIn}
+use Rattle.idl_token.specs.Places.{place_of}
+use Rattle.idl_parser.specs.Symbols.{lexemes, lexeme_at}
 use Rattle.idl_parser.specs.FirstFault.{IsFirstFault}
 use Rattle.idl_parser.specs.Faults.{next_place, fault_kind, IsFaultOf}
 use Rattle.idl_parser.specs.Reading.{done, whole, read}
-use Rattle.idl_parser.specs.Spots.{most, deepest, Stops, is_deep}
+use Rattle.idl_parser.specs.Spots.{most, Stops, is_deep}
 use Rattle.idl_parser.proofs.Faults.{document_is_read, fault_is_first}
 use Rattle.idl_parser.proofs.Places.{few}
 
@@ -40,7 +41,7 @@ first_of text tokens ts rest Deep told is short order e =
 pub fault_of : (text : List ℕ) (tokens : List Token) (fault : ParseFault) (ts rest : List Lexeme) (stop : Stop) → stop ≢ NoMemory → ts ≡ lexemes text tokens
     → length text ≤ 4194304 → StandBetween 0 (length text) tokens
     → Stops stop (whole (read most (document deepest) ts)) rest
-    → fault.at ≡ next_place (behind start text) rest → fault.kind ≡ fault_kind (is_deep stop) rest → IsFaultOf text tokens fault
+    → fault.at ≡ next_place (place_of text (length text)) rest → fault.kind ≡ fault_kind (is_deep stop) rest → IsFaultOf text tokens fault
 fault_of text tokens fault ts rest stop told is short order e at kind = record {
   rest = rest;
   too_deep = is_deep stop;

@@ -1,12 +1,21 @@
 -- Places further on in a text.
-use Rattle.std.proofs.Common.{◌≡◌, ℕ, zero, suc, ◌+◌, ◌-◌, ◌≤◌, ◌<◌, List, [], ◌∷◌, ◌++◌, length, take, drop, map, refl, sym, ap, ◌∙◌, arith}
-use Rattle.std.proofs.lemmas.List.{append_assoc, map-append}
+use Rattle.std.proofs.Common.{◌≡◌, Bool, true, false, cond, not, ℕ, zero, suc, ◌+◌, ◌-◌, ◌≤◌, ◌<◌, ◌==◌, List, [], ◌∷◌, ◌++◌, length, take, drop, map, refl, sym, ap, ◌∙◌, inl, inr, arith}
+use mathlib.Core.List.{reverse}
+use Rattle.std.specs.Prelude.{count_by}
+use Rattle.std.specs.List.{prefix_len, suffix_len}
+use Rattle.std.proofs.Math.Dec.{eqb}
+use Rattle.std.proofs.lemmas.Bool.{eqb-true, eq-eqb}
+use Rattle.std.proofs.lemmas.Bool.Decides.{eqb_tells}
+use Rattle.std.proofs.lemmas.List.{append_assoc, map-append, reverse-append, length-reverse, take_all}
+use Rattle.std.proofs.lemmas.List.Folds.{prefix_len-append}
+use Rattle.std.proofs.lemmas.List.Sums.{suffix_len-le-length, sum_by-cons}
+use Rattle.idl_token.specs.Places.{place_of}
 use Rattle.idl_token.specs.declared.Place.{Place}
 use Rattle.idl_token.specs.declared.Token.{Token}
 use Rattle.idl_token.specs.Tokens.{StandBetween}
 use Rattle.idl_parser.specs.declared.symbol.Symbol.{Symbol}
-use Rattle.idl_parser.specs.Symbols.{behind, behind_byte, lexemes, lexeme_at}
-use Rattle.idl_parser.specs.Spots.{lexeme_of}
+use Rattle.idl_parser.specs.Symbols.{lexemes, lexeme_at}
+use Rattle.idl_parser.specs.Spots.{lexeme_of, start, behind, behind_byte}
 
 behind_append : (at : Place) (xs ys : List ℕ) → behind at (xs ++ ys) ≡ behind (behind at xs) ys
 behind_append at [] ys = refl
@@ -20,6 +29,77 @@ take_both (suc a) k (x ∷ text) = let e : suc (a + k) ≡ suc a + k = omega ari
 
 behind_from : (at : Place) (text : List ℕ) (a k : ℕ) → behind (behind at (take a text)) (take k (drop a text)) ≡ behind at (take (a + k) text)
 behind_from at text a k = sym (behind_append at (take a text) (take k (drop a text))) ∙ ap (behind at) (take_both a k text)
+
+-- the last bytes that are no newline, with one byte more in front
+abbrev goes_on : ℕ → Bool
+goes_on b = not (b == 10)
+
+suffix_cons : (b : ℕ) (xs : List ℕ)
+    → suffix_len goes_on (b ∷ xs) ≡ cond (eqb (suffix_len goes_on xs) (length xs)) (length xs + cond (not (b == 10)) 1 0) (suffix_len goes_on xs)
+suffix_cons b xs =
+    ap (prefix_len goes_on) (reverse-append (b ∷ []) xs)
+    ∙ prefix_len-append goes_on (reverse xs) (b ∷ [])
+    ∙ (λ i. cond (eqb (suffix_len goes_on xs) (length-reverse xs i)) (length-reverse xs i + cond (not (b == 10)) 1 0) (suffix_len goes_on xs))
+
+differ : (a b : ℕ) → a < b → eqb a b ≡ false
+differ a b less = elim (eqb_tells a b) [
+  | inl same ↦ let e : a ≡ b = same.1 in absurd (let no_room : ⊥ = omega arith in no_room)
+  | inr other ↦ other.0
+]
+
+-- the column behind so many bytes, of which so many stand behind the last newline
+abbrev column_of : ℕ → ℕ → ℕ → ℕ
+column_of column size last = cond (eqb last size) (column + size) (1 + last)
+
+column_step : (newline all : Bool) (column size last : ℕ) → last ≤ size → eqb last size ≡ all
+    → cond all (cond newline 1 (column + 1) + size) (1 + last) ≡ column_of column (suc size) (cond all (size + cond (not newline) 1 0) last)
+column_step true true column size last most is =
+    rw (differ (size + 0) (suc size) (omega arith)) (let e : 1 + size ≡ 1 + (size + 0) = omega arith in e)
+column_step true false column size last most is = rw (differ last (suc size) (omega arith)) refl
+column_step false true column size last most is =
+    rw (eq-eqb (size + 1) (suc size) (omega arith)) (let e : column + 1 + size ≡ column + suc size = omega arith in e)
+column_step false false column size last most is = rw (differ last (suc size) (omega arith)) refl
+
+abbrev moved : Place → ℕ → ℕ → ℕ → Place
+moved at lines size last = record { line = at.line + lines; column = column_of at.column size last }
+
+moved_step : (newline : Bool) (at : Place) (lines size last : ℕ) → last ≤ size
+    → moved (cond newline (record { line = at.line + 1; column = 1 }) (record { line = at.line; column = at.column + 1 })) lines size last
+    ≡ moved at (cond newline 1 0 + lines) (suc size) (cond (eqb last size) (size + cond (not newline) 1 0) last)
+moved_step true at lines size last most =
+    let line : at.line + 1 + lines ≡ at.line + (1 + lines) = omega arith in
+    λ i. record { line = line i; column = column_step true (eqb last size) at.column size last most refl i }
+moved_step false at lines size last most =
+    let line : at.line + lines ≡ at.line + (0 + lines) = omega arith in
+    λ i. record { line = line i; column = column_step false (eqb last size) at.column size last most refl i }
+
+behind_is : (at : Place) (xs : List ℕ) → behind at xs ≡ moved at (count_by (λ b. b == 10) xs) (length xs) (suffix_len goes_on xs)
+behind_is at [] =
+    let line : at.line ≡ at.line + 0 = omega arith in
+    let column : at.column ≡ at.column + 0 = omega arith in
+    λ i. record { line = line i; column = column i }
+behind_is at (b ∷ xs) =
+    let lines = sym (sum_by-cons (λ b. cond (b == 10) 1 0) b xs) in
+    let last = sym (suffix_cons b xs) in
+    behind_is (behind_byte at b) xs
+    ∙ moved_step (b == 10) at (count_by (λ b. b == 10) xs) (length xs) (suffix_len goes_on xs) (suffix_len-le-length goes_on xs)
+    ∙ (λ i. moved at (lines i) (suc (length xs)) (last i))
+
+first_column : (all : Bool) (size last : ℕ) → eqb last size ≡ all → cond all (1 + size) (1 + last) ≡ 1 + last
+first_column true size last is = let e : last ≡ size = eqb-true last size is in omega arith
+first_column false size last is = refl
+
+-- walking over a text counts its lines and columns
+pub place_behind : (text : List ℕ) (at : ℕ) → behind start (take at text) ≡ place_of text at
+place_behind text at =
+    behind_is start (take at text)
+    ∙ (λ i. record {
+      line = 1 + count_by (λ b. b == 10) (take at text);
+      column = first_column (eqb (suffix_len goes_on (take at text)) (length (take at text))) (length (take at text)) (suffix_len goes_on (take at text)) refl i;
+    })
+
+pub place_at_end : (text : List ℕ) → behind start text ≡ place_of text (length text)
+place_at_end text = ap (behind start) (sym (take_all (length text) text (omega arith))) ∙ place_behind text (length text)
 
 pub behind_more : (at : Place) (text : List ℕ) (a b : ℕ) → a ≤ b → behind (behind at (take a text)) (take (b - a) (drop a text)) ≡ behind at (take b text)
 behind_more at text a b h = let e : a + (b - a) ≡ b = omega arith in behind_from at text a (b - a) ∙ ap (λ n. behind at (take n text)) e

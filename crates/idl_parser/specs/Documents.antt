@@ -30,6 +30,10 @@ abbrev pub with_header : Node → Node → Node
 with_header none xs = xs
 with_header x xs = pair x xs
 
+-- how many levels of containers may stand in one another in a type or a constant
+unfoldable pub deepest : ℕ
+deepest = 64
+
 unfoldable pub document : ℕ → Phrase
 document levels = chain pair (many with_header header) (many pair (definition levels))
 

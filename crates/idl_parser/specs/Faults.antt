@@ -1,5 +1,6 @@
 -- Where and why a text is no document.
-use Rattle.std.specs.Prelude.{◌≡◌, ℕ, Bool, true, false, List, [], ◌∷◌, if◌then◌else◌}
+use Rattle.std.specs.Prelude.{◌≡◌, ℕ, Bool, true, false, List, [], ◌∷◌, length, if◌then◌else◌}
+use Rattle.idl_token.specs.Places.{place_of}
 use Rattle.idl_token.specs.declared.Place.{Place}
 use Rattle.idl_token.specs.declared.Token.{Token}
 use Rattle.idl_parser.specs.declared.ParseKind.{ParseKind}
@@ -9,9 +10,9 @@ use Rattle.idl_parser.specs.declared.terminal.Terminal.{Terminal}
 use Rattle.idl_parser.specs.declared.terminal.Terminal.TheVariants as word
 use Rattle.idl_parser.specs.Terminals.{same}
 use Rattle.idl_parser.specs.Phrases.{Lexeme}
-use Rattle.idl_parser.specs.Symbols.{behind, start, lexemes}
+use Rattle.idl_parser.specs.Symbols.{lexemes}
 use Rattle.idl_parser.specs.FirstFault.{IsFirstFault}
-use Rattle.idl_parser.specs.Spots.{deepest}
+use Rattle.idl_parser.specs.Documents.{deepest}
 
 -- the place of the symbol at fault, or that behind the last byte
 abbrev pub next_place : Place → List Lexeme → Place
@@ -33,4 +34,4 @@ pub record IsFaultOf (text : List ℕ) (tokens : List Token) (fault : ParseFault
   pub too_deep : Bool
   pub first : IsFirstFault deepest (lexemes text tokens) rest too_deep
   pub kind : fault.kind ≡ fault_kind too_deep rest
-  pub at : fault.at ≡ next_place (behind start text) rest
+  pub at : fault.at ≡ next_place (place_of text (length text)) rest

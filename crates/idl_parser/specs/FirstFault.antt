@@ -24,3 +24,11 @@ pub record IsFirstFault (levels : ℕ) (ts rest : List Lexeme) (too_deep : Bool)
   pub before : CanGoOn levels front
   pub here : IsStuck levels front rest
   pub deep : (too_deep ≡ true) ↔ IsDeep levels front rest
+
+-- the symbols are some document
+abbrev pub IsDocument : ℕ → List Lexeme → Type 0
+IsDocument levels ts = (d : Node) × DocumentIn levels ts d
+
+-- the symbols have a first fault
+abbrev pub HasFirstFault : ℕ → List Lexeme → Type 0
+HasFirstFault levels ts = (rest : List Lexeme) × (too_deep : Bool) × IsFirstFault levels ts rest too_deep

@@ -15,3 +15,9 @@ pub mod Spots
 pub mod Starts
 pub mod Trees
 pub mod Faults
+pub mod Aside
+pub mod Printed
+pub mod ReadBack
+pub mod PlainPhrases
+pub mod PlainEnds
+pub mod PlainVerdicts

@@ -1,25 +1,14 @@
 -- The symbols of a text: its tokens as the grammar sees them.
-use Rattle.std.specs.Prelude.{ℕ, ◌+◌, ◌-◌, ◌==◌, List, [], ◌∷◌, map, take, drop, slice_index, codes, nat_eq, if◌then◌else◌}
+use Rattle.std.specs.Prelude.{ℕ, ◌==◌, List, map, slice_index, codes, nat_eq, if◌then◌else◌}
 use Rattle.std.specs.Cmp.Lexicographic.{pointwise}
-use Rattle.idl_token.specs.declared.Place.{Place}
+use Rattle.idl_token.specs.Places.{place_of}
+use Rattle.idl_token.specs.Tokens.{bytes_of}
 use Rattle.idl_token.specs.declared.Token.{Token}
 use Rattle.idl_token.specs.declared.TokenKind.{TokenKind}
 use Rattle.idl_token.specs.declared.TokenKind.TheVariants as kind
 use Rattle.idl_parser.specs.declared.terminal.Terminal.{Terminal}
 use Rattle.idl_parser.specs.declared.terminal.Terminal.TheVariants as word
 use Rattle.idl_parser.specs.Phrases.{Lexeme}
-
--- the place behind a byte, and behind some: only a newline ends a line, and the column counts bytes
-abbrev pub behind_byte : Place → ℕ → Place
-behind_byte at b = if b == 10 then record { line = at.line + 1; column = 1 } else record { line = at.line; column = at.column + 1 }
-
-abbrev pub behind : Place → List ℕ → Place
-behind at [] = at
-behind at (b ∷ bytes) = behind (behind_byte at b) bytes
-
--- the first place of a text
-abbrev pub start : Place
-start = record { line = 1; column = 1 }
 
 -- the symbol of a keyword
 unfoldable pub last_words : List ℕ → Terminal
@@ -93,9 +82,9 @@ terminal_of kind.Refused text = word.Refused
 -- a token as a symbol, with its bytes and its place
 abbrev pub lexeme_at : List ℕ → Token → Lexeme
 lexeme_at text token = record {
-  what = terminal_of token.kind (take (token.to - token.from) (drop token.from text));
-  bytes = take (token.to - token.from) (drop token.from text);
-  place = behind start (take token.from text);
+  what = terminal_of token.kind (bytes_of text token);
+  bytes = bytes_of text token;
+  place = place_of text token.from;
 }
 
 abbrev pub lexemes : List ℕ → List Token → List Lexeme

@@ -5,7 +5,8 @@ ghost use Rattle.idl_parser.specs.Shapes.{starts_in, first};
 ghost use Rattle.idl_parser.specs.Starts.{entry_starts, function_starts};
 ghost use Rattle.idl_parser.specs.Definitions.{constant, typedef, enum_number, enum_value, closing, enumeration, struct_word, structure, fields_in_parentheses, oneway, result_type, throws, function, parent, service, bare_definition, definition};
 ghost use Rattle.idl_parser.specs.Trees.{maybe_node, int_node, name_node, fields_node, oneway_node, result_node, function_node, functions_node, const_node, typedef_node, enum_value_node, enum_values_node, enum_node, struct_word_of, struct_node, service_node, definition_node};
-ghost use Rattle.idl_parser.specs.Spots.{Reads, deepest};
+ghost use Rattle.idl_parser.specs.Spots.{Reads};
+ghost use Rattle.idl_parser.specs.Documents.{deepest};
 
 use crate::reader::{MAX_SYMBOLS, Reader, Stop, deepest, put};
 use crate::terminal::Terminal;

@@ -4,10 +4,10 @@ ghost use Rattle.idl_parser.specs.Phrases.{none, pair, many};
 ghost use Rattle.idl_parser.specs.Shapes.{starts_in};
 ghost use Rattle.idl_parser.specs.Starts.{definition_starts, header_starts};
 ghost use Rattle.idl_parser.specs.Definitions.{definition};
-ghost use Rattle.idl_parser.specs.Documents.{include, cpp_include, namespace, header, with_header, document};
+ghost use Rattle.idl_parser.specs.Documents.{include, cpp_include, namespace, header, with_header, deepest, document};
 ghost use Rattle.idl_parser.specs.Trees.{include_node, includes_node, definitions_node, header_node, document_node};
 ghost use Rattle.idl_parser.specs.Reading.{read, whole, done};
-ghost use Rattle.idl_parser.specs.Spots.{Reads, Stops, most, deepest};
+ghost use Rattle.idl_parser.specs.Spots.{Reads, Stops, most};
 ghost use Rattle.idl_parser.specs.Trees.{some_of};
 
 use crate::reader::{MAX_SYMBOLS, Reader, Stop, put};

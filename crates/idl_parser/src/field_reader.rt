@@ -4,7 +4,8 @@ ghost use Rattle.idl_parser.specs.Shapes.{starts_in};
 ghost use Rattle.idl_parser.specs.Starts.{field_starts};
 ghost use Rattle.idl_parser.specs.Fields.{field_id, field_need, field_default, field, fields};
 ghost use Rattle.idl_parser.specs.Trees.{maybe_node, int_node, need_node, value_node, field_node, fields_node};
-ghost use Rattle.idl_parser.specs.Spots.{Reads, deepest};
+ghost use Rattle.idl_parser.specs.Spots.{Reads};
+ghost use Rattle.idl_parser.specs.Documents.{deepest};
 
 use crate::reader::{MAX_SYMBOLS, Reader, Stop, deepest, put};
 use crate::terminal::Terminal;

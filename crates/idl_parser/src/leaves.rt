@@ -1,5 +1,6 @@
 //! What literals and integers stand for.
-ghost use Rattle.std.specs.Prelude.{◌≡◌, ◌-◌, ◌≤◌, ◌<◌, false, pos, neg_ℤ, take, drop, length, slice_index, MatchResult, IfSome, IsTrue, if◌then◌else◌};
+ghost use Rattle.std.specs.Prelude.{◌≡◌, ◌-◌, ◌^◌, ◌≤◌, ◌<◌, false, pos, neg_ℤ, take, drop, length, slice_index, FitsSigned, MatchResult, IsTrue, if◌then◌else◌};
+ghost use Rattle.std.specs.Int.{w64};
 ghost use Rattle.std.specs.Char.{is_ascii_hexdigit};
 ghost use Rattle.std.specs.List.{prefix_len};
 ghost use Rattle.idl_token.specs.Numbers.{digit_value, value_behind, is_hexadecimal, sign_in, magnitude};
@@ -69,16 +70,17 @@ fn digit_value(byte: u8) -> u8
     }
 }
 
-/// The number that digits write, where it fits.
-fn digits_value(digits: &[u8], radix: u64) -> Option<u64>
-    ensures { IfSome result (λ n. n ≡ value_behind radix 0 digits.now) }
+/// The number that digits write.
+fn digits_value(digits: &[u8], radix: u64) -> u64
+    requires some { 0 < radix }
+    requires fits { value_behind radix 0 digits.now < 2 ^ 64 }
+    ensures { result ≡ value_behind radix 0 digits.now }
 {
     let mut value = 0u64;
     for byte in digits {
-        let shifted = value.checked_mul(radix)?;
-        value = shifted.checked_add(u64::from(digit_value(*byte)))?;
+        value = value * radix + u64::from(digit_value(*byte));
     }
-    Some(value)
+    value
 }
 
 /// A byte of a text, or 0 behind its end.
@@ -119,8 +121,9 @@ fn is_hexadecimal(text: &[u8]) -> bool
     inside.len() > 0 && hexadecimal_digits_in(inside) == inside.len()
 }
 
-fn magnitude(int: &[u8]) -> Option<u64>
-    ensures { IfSome result (λ n. n ≡ magnitude int.now) }
+fn magnitude(int: &[u8]) -> u64
+    requires { magnitude int.now < 2 ^ 64 }
+    ensures { result ≡ magnitude int.now }
 {
     if is_hexadecimal(int) {
         let (_, digits) = int.split_at(2);
@@ -131,30 +134,27 @@ fn magnitude(int: &[u8]) -> Option<u64>
     }
 }
 
-fn signed(negative: bool, size: u64) -> Result<i64, Stop>
-    ensures { MatchResult result (λ n. n ≡ if negative then neg_ℤ (pos size) else pos size) (λ e. e ≡ Stop.NoMemory) }
+fn signed(negative: bool, size: u64) -> i64
+    requires { FitsSigned w64 (if negative then neg_ℤ (pos size) else pos size) }
+    ensures { result ≡ if negative then neg_ℤ (pos size) else pos size }
 {
     let size = i128::from(size);
     let number = if negative { -size } else { size };
-    match i64::try_from(number) {
-        Ok(fits) => Ok(fits),
-        Err(_) => Err(Stop::NoMemory),
-    }
+    number as i64
 }
 
 /// The number of an integer's token.
 #[tactic(auto, unfolding(crate::specs::Leaves::number_of))]
-pub(crate) fn number_of(int: &[u8]) -> Result<i64, Stop>
-    ensures { MatchResult result (λ n. n ≡ number_of int.now) (λ e. e ≡ Stop.NoMemory) }
+pub(crate) fn number_of(int: &[u8]) -> i64
+    requires { FitsSigned w64 (number_of int.now) }
+    ensures { result ≡ number_of int.now }
 {
     if int == b"true".as_slice() {
-        return Ok(1);
+        return 1;
     }
     if int == b"false".as_slice() {
-        return Ok(0);
+        return 0;
     }
-    match magnitude(int) {
-        Some(size) => signed(byte_at(int, 0) == b'-', size),
-        None => Err(Stop::NoMemory),
-    }
+    let size = magnitude(int);
+    signed(byte_at(int, 0) == b'-', size)
 }

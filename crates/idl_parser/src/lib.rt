@@ -7,22 +7,28 @@
 
 ghost use Rattle.std.specs.Prelude.{◌≡◌, ◌≢◌, ◌≤◌, length, IfOk, IfErr};
 ghost use Rattle.idl_token.specs.Tokens.{AreTokensOf};
-ghost use Rattle.idl_parser.specs.Documents.{DocumentIn};
+ghost use Rattle.idl_parser.specs.Documents.{deepest, DocumentIn};
 ghost use Rattle.idl_parser.specs.Faults.{IsFaultOf};
-ghost use Rattle.idl_parser.specs.Spots.{deepest};
 ghost use Rattle.idl_parser.specs.Symbols.{lexemes};
 ghost use Rattle.idl_parser.specs.Trees.{document_node};
 
 use crate::reader::{Reader, Stop};
 use crate::symbol::{behind, symbols};
-use idl_token::{Place, Token, tokens_stand_in_order};
+use idl_token::{
+    Place, Token, big_integers_are_outside_64_bits, each_token_is_of_its_kind,
+    tokens_stand_in_order,
+};
 use std::alloc::Global;
 
+mod definition_printer;
 mod definition_reader;
 mod document_reader;
+mod field_printer;
 mod field_reader;
 mod laws;
 mod leaves;
+pub mod plain;
+mod printer;
 mod reader;
 mod small_reader;
 mod symbol;
@@ -30,13 +36,17 @@ mod terminal;
 #[cfg(test)]
 mod tests;
 mod tree;
+mod type_printer;
 mod type_reader;
+mod value_printer;
 mod value_reader;
 
 pub use laws::{
-    a_document_has_no_fault, a_reading_finds_the_document_or_the_first_fault,
-    one_more_level_changes_no_document, the_document_is_determined,
+    a_document_has_no_fault, a_document_or_a_first_fault,
+    a_reading_finds_the_document_or_the_first_fault, one_more_level_changes_no_document,
+    only_what_is_left_out_is_refused, the_document_is_determined, the_first_fault_is_determined,
 };
+pub use printer::{a_printed_document_is_parsed_to_itself, a_printed_document_is_read_back, print};
 pub use tree::{
     Base, Const, ConstTree, Definition, Document, Double, Enum, EnumValue, Field, Function,
     Include, Int, Literal, Name, Need, Service, Struct, StructKind, TypeTree, Typedef,
@@ -72,6 +82,8 @@ pub fn parse(alloc: Global, text: &[u8], tokens: &[Token]) -> Result<Document, P
     ensures fault { IfErr result (λ f. f.kind ≢ ParseKind.NoMemory → IsFaultOf text.now tokens.now f) }
 {
     tokens_stand_in_order();
+    each_token_is_of_its_kind();
+    big_integers_are_outside_64_bits();
     let start = Place { line: 1, column: 1 };
     let no_memory = ParseFault {
         at: start,

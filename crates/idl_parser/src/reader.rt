@@ -1,14 +1,15 @@
 //! A reader of symbols, with one symbol of look-ahead.
-ghost use Rattle.std.specs.Prelude.{◌≡◌, ◌≢◌, ◌-◌, map, ◌++◌, ◌∷◌, [], take, drop, MatchResult};
+ghost use Rattle.std.specs.Prelude.{◌≡◌, ◌≢◌, ◌-◌, map, ◌++◌, ◌∷◌, [], take, drop, IfErr, MatchResult};
 ghost use Rattle.std.specs.List.{list_any};
-ghost use Rattle.idl_parser.specs.Phrases.{none, place_at, word, flag, text, number, one};
-ghost use Rattle.idl_parser.specs.Leaves.{sign, kept, flagged, text_leaf, literal_leaf, number_leaf, literal_bytes, number_of};
+ghost use Rattle.idl_parser.specs.Phrases.{none, place_at, word, flag, text, one};
+ghost use Rattle.idl_parser.specs.Leaves.{sign, kept, flagged, text_leaf, literal_leaf, literal_bytes};
 ghost use Rattle.idl_parser.specs.Parts.{identifier, decimal, literal, integer};
 ghost use Rattle.idl_parser.specs.Faults.{next_place, fault_kind, kind_at};
 ghost use Rattle.idl_parser.specs.Trees.{name_node, double_node, literal_node, int_node};
 ghost use Rattle.idl_parser.specs.Terminals.{same};
 ghost use Rattle.idl_parser.specs.Shapes.{starts_in, has};
-ghost use Rattle.idl_parser.specs.Spots.{Reads, deepest, lexeme_of, is_none_left, is_deep};
+ghost use Rattle.idl_parser.specs.Documents.{deepest};
+ghost use Rattle.idl_parser.specs.Spots.{Reads, IntsFit, lexeme_of, is_none_left, is_deep};
 
 use crate::ParseKind;
 use crate::leaves::{literal_bytes, number_of};
@@ -24,7 +25,7 @@ use thrift_value::ByteText;
 pub(crate) const MAX_SYMBOLS: usize = 4_194_304;
 
 /// How many levels of containers may stand in one another.
-#[tactic(auto, unfolding(crate::specs::Spots::deepest))]
+#[tactic(auto, unfolding(crate::specs::Documents::deepest))]
 pub(crate) fn deepest() -> usize
     ensures { result ≡ deepest }
 {
@@ -63,11 +64,13 @@ pub(crate) struct Reader<'a> {
 impl<'a> Model for Reader<'a> {
     ghost use Rattle.std.specs.Prelude.{List, map};
     ghost use Rattle.idl_parser.specs.Phrases.{Lexeme};
-    ghost use Rattle.idl_parser.specs.Spots.{lexeme_of};
+    ghost use Rattle.idl_parser.specs.Spots.{lexeme_of, IntsFit};
 
     ghost Value = { List Lexeme };
 
     ghost view = { λ r. map (lexeme_of r.text.now) r.left.now };
+
+    ghost invariant = { λ r. IntsFit (map (lexeme_of r.text.now) r.left.now) };
 }
 
 impl<'a> Reader<'a> {
@@ -109,6 +112,7 @@ impl<'a> Reader<'a> {
 
     /// A reader of symbols of a text.
     pub(crate) fn new(alloc: Global, text: &'a [u8], symbols: &'a [Symbol]) -> Self
+        requires { IntsFit (map (lexeme_of text.now) symbols.now) }
         ensures { result ≡ map (lexeme_of text.now) symbols.now }
     {
         Reader {
@@ -156,7 +160,6 @@ impl<'a> Reader<'a> {
     fn take(&mut self, wanted: Terminal) -> Result<Taken<'a>, Stop>
         ensures as_text { Reads (one wanted (text_leaf wanted)) (λ t. text wanted t.bytes.now t.place) self.old self.new result }
         ensures as_literal { Reads (one wanted (literal_leaf wanted)) (λ t. text wanted (literal_bytes t.bytes.now) t.place) self.old self.new result }
-        ensures as_number { Reads (one wanted number_leaf) (λ t. number (number_of t.bytes.now) t.place) self.old self.new result }
     {
         match self.left.split_first() {
             Some((symbol, rest)) if same(symbol.what, wanted) => {
@@ -219,16 +222,23 @@ impl<'a> Reader<'a> {
         })
     }
 
-    /// An integer.
+    /// An integer, for which there is always room.
     pub(crate) fn int(&mut self) -> Result<Int, Stop>
-        ensures { Reads integer int_node self.old self.new result }
+        ensures reads { Reads integer int_node self.old self.new result }
+        ensures total { IfErr result (λ stop. stop ≢ Stop.NoMemory) }
     {
-        let taken = self.take(Terminal::Int)?;
-        let value = number_of(taken.bytes)?;
-        Ok(Int {
-            at: taken.place,
-            value,
-        })
+        match self.left.split_first() {
+            Some((symbol, rest)) if same(symbol.what, Terminal::Int) => {
+                let bytes = part(self.text, symbol.from as usize, symbol.to as usize);
+                let value = number_of(bytes);
+                self.left = rest;
+                Ok(Int {
+                    at: symbol.place,
+                    value,
+                })
+            }
+            _ => Err(Stop::Stuck),
+        }
     }
 }
 

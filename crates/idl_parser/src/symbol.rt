@@ -1,8 +1,8 @@
 //! A token as the grammar sees it.
 ghost use Rattle.std.specs.Prelude.{◌≡◌, ◌≤◌, ◌+◌, ◌-◌, ◌<◌, ◌^◌, length, map, take, drop, MatchResult};
 ghost use Rattle.idl_token.specs.Tokens.{StandBetween};
-ghost use Rattle.idl_parser.specs.Symbols.{behind, behind_byte, start, first_words, more_words, last_words, sign_of, terminal_of, lexemes, lexeme_at};
-ghost use Rattle.idl_parser.specs.Spots.{lexeme_of};
+ghost use Rattle.idl_parser.specs.Symbols.{first_words, more_words, last_words, sign_of, terminal_of, lexemes, lexeme_at};
+ghost use Rattle.idl_parser.specs.Spots.{lexeme_of, start, behind, behind_byte};
 
 use crate::leaves::byte_at;
 use crate::reader::{Stop, part, put};

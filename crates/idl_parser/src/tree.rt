@@ -42,14 +42,23 @@ pub struct Double {
 /// A base type.
 #[derive(Clone, Copy, Debug, PartialEq, Eq)]
 pub enum Base {
+    /// `bool`
     Bool,
+    /// `byte`
     Byte,
+    /// `i8`
     I8,
+    /// `i16`
     I16,
+    /// `i32`
     I32,
+    /// `i64`
     I64,
+    /// `double`
     Double,
+    /// `string`
     String,
+    /// `binary`
     Binary,
 }
 
@@ -58,6 +67,7 @@ pub enum Base {
 pub enum TypeTree {
     /// The place of the word, and the base type.
     Base(Place, Base),
+    /// A name: of a typedef, an enum or a struct, here or in an included file.
     Named(Name),
     /// The place of the word, the keys' type and the values' type.
     Map(Place, Box<TypeTree>, Box<TypeTree>),
@@ -70,9 +80,13 @@ pub enum TypeTree {
 /// A constant value (Thrift IDL, 'Constant Values').
 #[derive(Drop)]
 pub enum ConstTree {
+    /// An integer.
     Int(Int),
+    /// A number with a fraction or an exponent.
     Double(Double),
+    /// A literal.
     Literal(Literal),
+    /// A name: of a constant or of an enum's value.
     Name(Name),
     /// The place of the bracket, and the elements.
     List(Place, Vec<ConstTree>),
@@ -83,8 +97,11 @@ pub enum ConstTree {
 /// What is said of a field's presence.
 #[derive(Clone, Copy, Debug, PartialEq, Eq)]
 pub enum Need {
+    /// Neither word.
     Default,
+    /// `required`
     Required,
+    /// `optional`
     Optional,
 }
 
@@ -93,10 +110,15 @@ pub enum Need {
 pub struct Field {
     /// The place of its first token.
     pub at: Place,
+    /// Its number, where it is written.
     pub id: Option<Int>,
+    /// What is said of its presence.
     pub need: Need,
+    /// Its type.
     pub kind: TypeTree,
+    /// Its name.
     pub name: Name,
+    /// The value behind `=`, where there is one.
     pub default: Option<ConstTree>,
 }
 
@@ -105,11 +127,15 @@ pub struct Field {
 pub struct Function {
     /// The place of its first token.
     pub at: Place,
+    /// Whether `oneway` stands in front.
     pub oneway: bool,
     /// The type of its result; none is `void`.
     pub result: Option<TypeTree>,
+    /// Its name.
     pub name: Name,
+    /// Its arguments in order.
     pub arguments: Vec<Field>,
+    /// The exceptions behind `throws` in order, where that word stands.
     pub throws: Option<Vec<Field>>,
 }
 
@@ -118,8 +144,11 @@ pub struct Function {
 pub struct Const {
     /// The place of the word `const`.
     pub at: Place,
+    /// Its type.
     pub kind: TypeTree,
+    /// Its name.
     pub name: Name,
+    /// Its value.
     pub value: ConstTree,
 }
 
@@ -128,14 +157,18 @@ pub struct Const {
 pub struct Typedef {
     /// The place of the word `typedef`.
     pub at: Place,
+    /// The type that is named.
     pub kind: TypeTree,
+    /// The name.
     pub name: Name,
 }
 
 /// A value of an enum; its place is that of its name.
 #[derive(Drop)]
 pub struct EnumValue {
+    /// Its name.
     pub name: Name,
+    /// Its number, where it is written.
     pub number: Option<Int>,
 }
 
@@ -144,15 +177,20 @@ pub struct EnumValue {
 pub struct Enum {
     /// The place of the word `enum`.
     pub at: Place,
+    /// Its name.
     pub name: Name,
+    /// Its values in order.
     pub values: Vec<EnumValue>,
 }
 
 /// What a list of fields makes.
 #[derive(Clone, Copy, Debug, PartialEq, Eq)]
 pub enum StructKind {
+    /// `struct`
     Struct,
+    /// `union`
     Union,
+    /// `exception`
     Exception,
 }
 
@@ -161,8 +199,11 @@ pub enum StructKind {
 pub struct Struct {
     /// The place of its first word.
     pub at: Place,
+    /// Which of the three it is.
     pub kind: StructKind,
+    /// Its name.
     pub name: Name,
+    /// Its fields in order.
     pub fields: Vec<Field>,
 }
 
@@ -171,18 +212,26 @@ pub struct Struct {
 pub struct Service {
     /// The place of the word `service`.
     pub at: Place,
+    /// Its name.
     pub name: Name,
+    /// The name behind `extends`, where there is one.
     pub parent: Option<Name>,
+    /// Its own functions in order.
     pub functions: Vec<Function>,
 }
 
 /// A definition (Thrift IDL, 'Definition').
 #[derive(Drop)]
 pub enum Definition {
+    /// A constant.
     Const(Const),
+    /// A name for a type.
     Typedef(Typedef),
+    /// An enum.
     Enum(Enum),
+    /// A struct, a union or an exception.
     Struct(Struct),
+    /// A service.
     Service(Service),
 }
 
@@ -191,6 +240,7 @@ pub enum Definition {
 pub struct Include {
     /// The place of the word `include`.
     pub at: Place,
+    /// The file's name as it is written.
     pub file: Literal,
 }
 
@@ -198,6 +248,8 @@ pub struct Include {
 /// `cpp_include` and `cpp_type` are left out.
 #[derive(Drop)]
 pub struct Document {
+    /// Its includes in order.
     pub includes: Vec<Include>,
+    /// Its definitions in order.
     pub definitions: Vec<Definition>,
 }

@@ -43,7 +43,7 @@ drop_none : (n : ℕ) → drop {A = ℕ} n [] ≡ []
 drop_none zero = refl
 drop_none (suc n) = refl
 
-drop_drop : (n m : ℕ) (text : List ℕ) → drop m (drop n text) ≡ drop (n + m) text
+pub drop_drop : (n m : ℕ) (text : List ℕ) → drop m (drop n text) ≡ drop (n + m) text
 drop_drop zero m text = let is : m ≡ 0 + m = omega arith in ap (λ k. drop k text) is
 drop_drop (suc n) m [] = drop_none m ∙ sym (drop_none (suc n + m))
 drop_drop (suc n) m (b ∷ text) = let is : suc (n + m) ≡ suc n + m = omega arith in drop_drop n m text ∙ ap (λ k. drop k (b ∷ text)) is

@@ -1,7 +1,12 @@
 pub mod Scans
 pub mod Values
+pub mod Longest
 pub mod Fronts
 pub mod Reaches
 pub mod PieceLemmas
 pub mod CutLemmas
 pub mod OneOutcome
+pub mod WholeTokens
+pub mod Gaps
+pub mod WordPieces
+pub mod Spellings

@@ -8,11 +8,11 @@ use Rattle.idl_token.specs.Literals.{bad_escape_in}
 use Rattle.idl_token.specs.Lengths.{comment_from, bad_escape_from}
 
 -- a place moved twice
-moved : (a b c : ℕ) (o : Option ℕ) → a + b ≡ c → option_map (λ n. c + n) o ≡ option_map (λ n. a + n) (option_map (λ n. b + n) o)
+pub moved : (a b c : ℕ) (o : Option ℕ) → a + b ≡ c → option_map (λ n. c + n) o ≡ option_map (λ n. a + n) (option_map (λ n. b + n) o)
 moved a b c None is = refl
 moved a b c (Some n) is = ap Some (omega arith)
 
-still : (o : Option ℕ) → option_map (λ n. 0 + n) o ≡ o
+pub still : (o : Option ℕ) → option_map (λ n. 0 + n) o ≡ o
 still None = refl
 still (Some n) = ap Some (omega arith)
 

@@ -8,3 +8,5 @@ pub mod Pieces
 pub mod Places
 pub mod Tokens
 pub mod Lengths
+pub mod Spellings
+pub mod Plain

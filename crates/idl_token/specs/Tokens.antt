@@ -1,6 +1,7 @@
 -- The tokens of a text, or its first fault.
-use Rattle.std.specs.Prelude.{◌≡◌, ◌≢◌, ℕ, ◌+◌, ◌<◌, ◌≤◌, List, [], ◌∷◌, drop}
+use Rattle.std.specs.Prelude.{◌≡◌, ◌≢◌, ℕ, ◌+◌, ◌-◌, ◌<◌, ◌≤◌, List, [], ◌∷◌, take, drop}
 use Rattle.idl_token.specs.Pieces.{IsPiece}
+use Rattle.idl_token.specs.Wholes.{sound, whole_of}
 use Rattle.idl_token.specs.Places.{place_of}
 use Rattle.idl_token.specs.declared.Token.{Token}
 use Rattle.idl_token.specs.declared.LexFault.{LexFault}
@@ -49,6 +50,14 @@ pub record IsFirstFault (f : LexFault) (text : List ℕ) : Type 0 where
   pub more : rest ≢ []
   pub fault : IsPiece rest (Fault f.kind inside)
   pub place : f.at ≡ place_of text (end_of 0 pieces + inside)
+
+-- the bytes of a token
+abbrev pub bytes_of : List ℕ → Token → List ℕ
+bytes_of text t = take (t.to - t.from) (drop t.from text)
+
+-- a token's bytes are, as a whole, a token of its kind
+abbrev pub IsOfItsKind : List ℕ → Token → Type 0
+IsOfItsKind text t = whole_of (bytes_of text t) ≡ sound t.kind
 
 -- tokens stand in order between two places, each with a byte or more
 abbrev pub StandBetween : ℕ → ℕ → List Token → Type 0

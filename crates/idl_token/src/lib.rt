@@ -7,8 +7,9 @@
 
 ghost use Rattle.std.specs.Prelude.{◌≡◌, ◌≢◌, ◌≤◌, ◌↔◌, ℕ, false, FitsSigned, List, length, IfOk, IfErr};
 ghost use Rattle.std.specs.Int.{w64};
+ghost use Rattle.std.specs.List.{All};
 ghost use Rattle.idl_token.specs.Numbers.{is_big_int, int_of};
-ghost use Rattle.idl_token.specs.Tokens.{AreTokensOf, IsFirstFault, StandBetween};
+ghost use Rattle.idl_token.specs.Tokens.{AreTokensOf, IsFirstFault, IsOfItsKind, StandBetween};
 
 use crate::pieces::{Piece, next_piece};
 use crate::places::place_at;
@@ -16,11 +17,18 @@ use std::alloc::Global;
 
 mod blanks;
 mod classes;
+mod laws;
 mod literals;
 mod numbers;
 mod pieces;
 mod places;
+pub mod plain;
 mod words;
+
+pub use laws::{
+    a_sign_spells_itself, a_text_has_the_tokens_that_it_spells, a_word_spells_itself,
+    joined_texts_spell_the_tokens_of_both, white_space_spells_nothing,
+};
 
 /// What a token is.
 #[derive(Clone, Copy, Debug, PartialEq, Eq)]
@@ -145,6 +153,11 @@ pub fn the_fault_is_determined()
 /// Tokens stand in order within the text, and each has a byte or more.
 pub fn tokens_stand_in_order()
     ensures { (text : List ℕ) (ts : List Token) → AreTokensOf ts text → StandBetween 0 (length text) ts }
+{}
+
+/// The bytes of each token are, as a whole, a token of its kind.
+pub fn each_token_is_of_its_kind()
+    ensures { (text : List ℕ) (ts : List Token) → AreTokensOf ts text → All (IsOfItsKind text) ts }
 {}
 
 /// An integer is too big exactly where its number has no place in 64 bits.

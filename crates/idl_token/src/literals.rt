@@ -41,7 +41,7 @@ pub(crate) fn bad_escape_in(literal: &[u8]) -> Option<usize>
     None
 }
 
-fn closes(taken: bool, byte: u8, quote: u8) -> bool
+pub(crate) fn closes(taken: bool, byte: u8, quote: u8) -> bool
     ensures { result ≡ (not taken && byte == quote) }
 {
     !taken && byte == quote
@@ -54,7 +54,7 @@ fn is_bad_escape(taken: bool, byte: u8) -> bool
 }
 
 /// Whether a byte is a backslash that takes the byte behind it.
-fn takes_next(taken: bool, byte: u8) -> bool
+pub(crate) fn takes_next(taken: bool, byte: u8) -> bool
     ensures { result ≡ (not taken && byte == 92) }
 {
     !taken && byte == b'\\'

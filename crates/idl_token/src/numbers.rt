@@ -8,7 +8,7 @@ ghost use Rattle.idl_token.specs.Lengths.{decimal_len, hexadecimal_len, exponent
 
 use crate::classes::{byte_at, is_exponent_mark, is_plus_or_minus};
 
-fn sign_in(text: &[u8]) -> usize
+pub(crate) fn sign_in(text: &[u8]) -> usize
     ensures value { result ≡ sign_in text.now }
     ensures within { result ≤ length text.now }
 {
@@ -19,7 +19,7 @@ fn sign_in(text: &[u8]) -> usize
     }
 }
 
-fn digits_in(text: &[u8]) -> usize
+pub(crate) fn digits_in(text: &[u8]) -> usize
     ensures value { result ≡ digits_in text.now }
     ensures within { result ≤ length text.now }
 {
@@ -172,7 +172,7 @@ pub(crate) fn is_big_int(int: &[u8]) -> bool
     }
 }
 
-fn is_hexadecimal(text: &[u8]) -> bool
+pub(crate) fn is_hexadecimal(text: &[u8]) -> bool
     ensures value { result ≡ is_hexadecimal text.now }
     ensures long { IsTrue result → 2 ≤ length text.now }
 {

@@ -73,13 +73,13 @@ fn sign_len(text: &[u8]) -> usize
 }
 
 #[tactic(auto, unfolding(crate::specs::Wholes::signs))]
-fn is_sign(byte: u8) -> bool
+pub(crate) fn is_sign(byte: u8) -> bool
     ensures { result ≡ list_any (λ sign. sign == byte) signs }
 {
     b"{}()[]<>,;:=*&".contains(&byte)
 }
 
-fn opening_fault(text: &[u8]) -> LexKind
+pub(crate) fn opening_fault(text: &[u8]) -> LexKind
     ensures { result ≡ opening_fault text.now }
 {
     if is_quote(byte_at(text, 0)) {
@@ -122,7 +122,7 @@ fn token_piece(text: &[u8], size: usize) -> Piece
     }
 }
 
-fn kind_of_sign(text: &[u8]) -> TokenKind
+pub(crate) fn kind_of_sign(text: &[u8]) -> TokenKind
     ensures { result ≡ kind_of_sign text.now }
 {
     if byte_at(text, 0) == b'&' {

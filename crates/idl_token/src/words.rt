@@ -21,7 +21,7 @@ pub(crate) fn word_len(text: &[u8]) -> usize
     word_bytes_in(text)
 }
 
-fn word_bytes_in(text: &[u8]) -> usize
+pub(crate) fn word_bytes_in(text: &[u8]) -> usize
     ensures value { result ≡ prefix_len is_word_byte text.now }
     ensures within { result ≤ length text.now }
 {

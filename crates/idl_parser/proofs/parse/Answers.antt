@@ -1,10 +1,18 @@
-use Rattle.std.proofs.Common.{◌≢◌, ◌∙◌, ap, map, rules}
+use Rattle.std.proofs.Common.{◌≢◌, ◌∙◌, ap, map, subst, sym, rules}
 use Rattle.idl_parser.specs.declared.reader.Stop.TheVariants.{NoMemory}
-use Rattle.idl_parser.specs.Spots.{lexeme_of}
+use Rattle.idl_parser.specs.Spots.{lexeme_of, IntsFit}
 use Rattle.idl_parser.specs.Faults.{next_place}
 use Rattle.idl_parser.specs.Trees.{document_node}
 use Rattle.idl_parser.proofs.Parsing.{document_of, fault_of}
+use Rattle.idl_parser.proofs.Places.{place_at_end}
+use Rattle.idl_parser.proofs.Ints.{ints_fit}
 use Rattle.idl_parser.proofs.parse.Goals as goal
+
+pub new-reader-requires : goal.new-reader-requires
+new-reader-requires c =
+    subst IntsFit (sym (ap (map (lexeme_of c.args.text.now)) c.as_slice.ensures.value ∙ c.in-Ok.ensures))
+    (ints_fit c.big_integers_are_outside_64_bits.ensures c.args.text.now c.args.tokens.now
+    (c.each_token_is_of_its_kind.ensures c.args.text.now c.args.tokens.now c.requires.tokens))
 
 pub returns-in-Ok-whole_document-clause-ok : goal.returns-in-Ok-whole_document-clause-ok
 returns-in-Ok-whole_document-clause-ok c =
@@ -21,6 +29,6 @@ returns c = record {
       (c.new-reader.ensures ∙ ap (map (lexeme_of c.args.text.now)) c.as_slice.ensures.value ∙ c.in-Ok.ensures)
       c.requires.short (c.tokens_stand_in_order.ensures c.args.text.now c.args.tokens.now c.requires.tokens)
       c.in-Err.ensures
-      (c.fault-kind.ensures.place ∙ ap (λ end. next_place end c.whole_document.new.self) c.behind.ensures.is)
+      (c.fault-kind.ensures.place ∙ ap (λ end. next_place end c.whole_document.new.self) (c.behind.ensures.is ∙ place_at_end c.args.text.now))
       c.fault-kind.ensures.kind;
 }

@@ -1,5 +1,5 @@
 use Rattle.std.proofs.Common.{◌≡◌, ◌≤◌, ◌+◌, drop}
-use Rattle.idl_parser.specs.Symbols.{behind}
+use Rattle.idl_parser.specs.Spots.{behind}
 use Rattle.idl_parser.proofs.symbol.behind.Given as goal
 
 abbrev pub invariant-loop-byte : goal.invariant-loop-byte

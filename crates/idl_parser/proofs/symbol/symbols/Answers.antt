@@ -2,7 +2,7 @@ use Rattle.std.proofs.Common.{◌≡◌, ◌∙◌, ◌+◌, ◌≤◌, ◌<◌,
 use Rattle.idl_token.specs.declared.Token.{Token}
 use Rattle.idl_token.specs.declared.TokenKind.TheVariants.{Keyword}
 use Rattle.idl_token.specs.Tokens.{StandBetween}
-use Rattle.idl_parser.specs.Symbols.{behind, start}
+use Rattle.idl_parser.specs.Spots.{start, behind}
 use Rattle.idl_parser.proofs.Places.{earlier, bounded, made_on}
 use Rattle.idl_parser.proofs.symbol.symbols.Goals as goal
 

@@ -1,7 +1,7 @@
 use Rattle.std.proofs.Common.{◌≡◌, ◌≤◌, ◌+◌, ◌++◌, drop, take, map, length}
 use Rattle.idl_token.specs.Tokens.{StandBetween}
-use Rattle.idl_parser.specs.Symbols.{behind, start, lexemes}
-use Rattle.idl_parser.specs.Spots.{lexeme_of}
+use Rattle.idl_parser.specs.Symbols.{lexemes}
+use Rattle.idl_parser.specs.Spots.{start, behind, lexeme_of}
 use Rattle.idl_parser.proofs.symbol.symbols.Given as goal
 
 abbrev pub invariant-tokens : goal.invariant-tokens

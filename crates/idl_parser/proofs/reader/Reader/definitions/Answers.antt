@@ -1,6 +1,6 @@
 use Rattle.std.proofs.Common.{◌∙◌, sym}
 use Rattle.idl_parser.proofs.Rows.{finished, ended, stops_row, below, all_read, put_on}
-use Rattle.idl_parser.specs.Spots.{deepest}
+use Rattle.idl_parser.specs.Documents.{deepest}
 use Rattle.idl_parser.specs.Trees.{definition_node}
 use Rattle.idl_parser.proofs.Firsts.{first_of_definition}
 use Rattle.idl_parser.proofs.reader.Reader.definitions.Goals as goal

@@ -2,7 +2,8 @@ use Rattle.std.proofs.Common.{map}
 use Rattle.idl_parser.specs.Phrases.{pair}
 use Rattle.idl_parser.specs.Starts.{definition_starts}
 use Rattle.idl_parser.specs.Definitions.{definition}
-use Rattle.idl_parser.specs.Spots.{most, deepest}
+use Rattle.idl_parser.specs.Spots.{most}
+use Rattle.idl_parser.specs.Documents.{deepest}
 use Rattle.idl_parser.specs.Trees.{definition_node}
 use Rattle.idl_parser.proofs.Rows.{SoFar}
 use Rattle.idl_parser.proofs.reader.Reader.definitions.Given as goal

@@ -1,7 +1,7 @@
 use Rattle.std.proofs.Common.{◌∙◌, sym}
 use Rattle.idl_parser.proofs.Rows.{finished, ended, stops_row, below, all_read, put_on}
 use Rattle.idl_parser.specs.Fields.{fields}
-use Rattle.idl_parser.specs.Spots.{deepest}
+use Rattle.idl_parser.specs.Documents.{deepest}
 use Rattle.idl_parser.specs.Trees.{field_node}
 use Rattle.idl_parser.proofs.Firsts.{first_of_field}
 use Rattle.idl_parser.proofs.reader.Reader.fields.Goals as goal

@@ -2,7 +2,8 @@ use Rattle.std.proofs.Common.{map}
 use Rattle.idl_parser.specs.Phrases.{pair}
 use Rattle.idl_parser.specs.Starts.{field_starts}
 use Rattle.idl_parser.specs.Fields.{field}
-use Rattle.idl_parser.specs.Spots.{most, deepest}
+use Rattle.idl_parser.specs.Spots.{most}
+use Rattle.idl_parser.specs.Documents.{deepest}
 use Rattle.idl_parser.specs.Trees.{field_node}
 use Rattle.idl_parser.proofs.Rows.{SoFar}
 use Rattle.idl_parser.proofs.reader.Reader.fields.Given as goal

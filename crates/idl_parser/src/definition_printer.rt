@@ -1,0 +1,230 @@
+//! The text of definitions.
+ghost use Rattle.std.specs.Prelude.{◌≡◌, ◌++◌, OnOk};
+ghost use Rattle.std.specs.List.{flat_map};
+ghost use Rattle.idl_parser.specs.Printed.{maybe_text, oneway_text, result_text, throws_text, signature_text, function_text, function_line, const_text, typedef_text, number_text, enum_value_text, enum_value_line, enum_text, struct_word_text, struct_text, parent_text, service_text, definition_text, opening, ending};
+
+use crate::field_printer::{put_arguments, put_field_lines};
+use crate::tree::{
+    Const, Definition, Enum, EnumValue, Field, Function, Int, Name, Service, Struct, StructKind,
+    TypeTree, Typedef,
+};
+use crate::type_printer::put_type;
+use crate::value_printer::{put_int, put_value};
+use std::alloc::AllocError;
+
+fn put_opening(into: &mut Vec<u8>) -> Result<(), AllocError>
+    ensures { OnOk result (into.new.items ≡ into.old.items ++ opening) }
+{
+    into.extend_from_slice(b" {\n")
+}
+
+fn put_ending(into: &mut Vec<u8>) -> Result<(), AllocError>
+    ensures { OnOk result (into.new.items ≡ into.old.items ++ ending) }
+{
+    into.extend_from_slice(b"}\n")
+}
+
+fn put_name(into: &mut Vec<u8>, name: &Name) -> Result<(), AllocError>
+    ensures { OnOk result (into.new.items ≡ into.old.items ++ name.now.text) }
+{
+    into.extend_from_slice(name.text.as_slice())
+}
+
+#[tactic(auto, unfolding(crate::specs::Printed::const_text))]
+fn put_const(into: &mut Vec<u8>, constant: &Const) -> Result<(), AllocError>
+    ensures { OnOk result (into.new.items ≡ into.old.items ++ const_text constant.now) }
+{
+    into.extend_from_slice(b"const ")?;
+    put_type(into, &constant.kind)?;
+    into.extend_from_slice(b" ")?;
+    put_name(into, &constant.name)?;
+    into.extend_from_slice(b" = ")?;
+    put_value(into, &constant.value)?;
+    into.extend_from_slice(b"\n")
+}
+
+#[tactic(auto, unfolding(crate::specs::Printed::typedef_text))]
+fn put_typedef(into: &mut Vec<u8>, typedef: &Typedef) -> Result<(), AllocError>
+    ensures { OnOk result (into.new.items ≡ into.old.items ++ typedef_text typedef.now) }
+{
+    into.extend_from_slice(b"typedef ")?;
+    put_type(into, &typedef.kind)?;
+    into.extend_from_slice(b" ")?;
+    put_name(into, &typedef.name)?;
+    into.extend_from_slice(b"\n")
+}
+
+fn put_number(into: &mut Vec<u8>, number: Option<Int>) -> Result<(), AllocError>
+    ensures { OnOk result (into.new.items ≡ into.old.items ++ maybe_text number_text number) }
+{
+    match number {
+        Some(number) => {
+            into.extend_from_slice(b" = ")?;
+            put_int(into, number)
+        }
+        None => Ok(()),
+    }
+}
+
+#[tactic(auto, unfolding(crate::specs::Printed::enum_value_text))]
+fn put_enum_value(into: &mut Vec<u8>, value: &EnumValue) -> Result<(), AllocError>
+    ensures { OnOk result (into.new.items ≡ into.old.items ++ enum_value_text value.now) }
+{
+    put_name(into, &value.name)?;
+    put_number(into, value.number)
+}
+
+fn put_enum_value_line(into: &mut Vec<u8>, value: &EnumValue) -> Result<(), AllocError>
+    ensures { OnOk result (into.new.items ≡ into.old.items ++ enum_value_line value.now) }
+{
+    into.extend_from_slice(b"  ")?;
+    put_enum_value(into, value)?;
+    into.extend_from_slice(b"\n")
+}
+
+fn put_enum_values(into: &mut Vec<u8>, values: &[EnumValue]) -> Result<(), AllocError>
+    ensures { OnOk result (into.new.items ≡ into.old.items ++ flat_map enum_value_line values.now) }
+{
+    for value in values {
+        put_enum_value_line(into, value)?;
+    }
+    Ok(())
+}
+
+#[tactic(auto, unfolding(crate::specs::Printed::enum_text))]
+fn put_enum(into: &mut Vec<u8>, enumeration: &Enum) -> Result<(), AllocError>
+    ensures { OnOk result (into.new.items ≡ into.old.items ++ enum_text enumeration.now) }
+{
+    into.extend_from_slice(b"\nenum ")?;
+    put_name(into, &enumeration.name)?;
+    put_opening(into)?;
+    put_enum_values(into, enumeration.values.as_slice())?;
+    put_ending(into)
+}
+
+fn put_struct_word(into: &mut Vec<u8>, kind: StructKind) -> Result<(), AllocError>
+    ensures { OnOk result (into.new.items ≡ into.old.items ++ struct_word_text kind) }
+{
+    match kind {
+        StructKind::Struct => into.extend_from_slice(b"struct "),
+        StructKind::Union => into.extend_from_slice(b"union "),
+        StructKind::Exception => into.extend_from_slice(b"exception "),
+    }
+}
+
+#[tactic(auto, unfolding(crate::specs::Printed::struct_text))]
+fn put_struct(into: &mut Vec<u8>, structure: &Struct) -> Result<(), AllocError>
+    ensures { OnOk result (into.new.items ≡ into.old.items ++ struct_text structure.now) }
+{
+    into.extend_from_slice(b"\n")?;
+    put_struct_word(into, structure.kind)?;
+    put_name(into, &structure.name)?;
+    put_opening(into)?;
+    put_field_lines(into, structure.fields.as_slice())?;
+    put_ending(into)
+}
+
+fn put_oneway(into: &mut Vec<u8>, oneway: bool) -> Result<(), AllocError>
+    ensures { OnOk result (into.new.items ≡ into.old.items ++ oneway_text oneway) }
+{
+    if oneway {
+        into.extend_from_slice(b"oneway ")
+    } else {
+        Ok(())
+    }
+}
+
+fn put_result(into: &mut Vec<u8>, kind: &Option<TypeTree>) -> Result<(), AllocError>
+    ensures { OnOk result (into.new.items ≡ into.old.items ++ result_text kind.now) }
+{
+    match kind {
+        Some(kind) => put_type(into, kind),
+        None => into.extend_from_slice(b"void"),
+    }
+}
+
+fn put_throws(into: &mut Vec<u8>, throws: &Option<Vec<Field>>) -> Result<(), AllocError>
+    ensures { OnOk result (into.new.items ≡ into.old.items ++ maybe_text (λ v. throws_text v.items) throws.now) }
+{
+    match throws {
+        Some(fields) => {
+            into.extend_from_slice(b" throws ")?;
+            put_arguments(into, fields.as_slice())
+        }
+        None => Ok(()),
+    }
+}
+
+#[tactic(auto, unfolding(crate::specs::Printed::signature_text))]
+fn put_signature(into: &mut Vec<u8>, function: &Function) -> Result<(), AllocError>
+    ensures { OnOk result (into.new.items ≡ into.old.items ++ signature_text function.now) }
+{
+    put_name(into, &function.name)?;
+    put_arguments(into, function.arguments.as_slice())?;
+    put_throws(into, &function.throws)
+}
+
+#[tactic(auto, unfolding(crate::specs::Printed::function_text))]
+fn put_function(into: &mut Vec<u8>, function: &Function) -> Result<(), AllocError>
+    ensures { OnOk result (into.new.items ≡ into.old.items ++ function_text function.now) }
+{
+    put_oneway(into, function.oneway)?;
+    put_result(into, &function.result)?;
+    into.extend_from_slice(b" ")?;
+    put_signature(into, function)
+}
+
+fn put_function_line(into: &mut Vec<u8>, function: &Function) -> Result<(), AllocError>
+    ensures { OnOk result (into.new.items ≡ into.old.items ++ function_line function.now) }
+{
+    into.extend_from_slice(b"  ")?;
+    put_function(into, function)?;
+    into.extend_from_slice(b"\n")
+}
+
+fn put_functions(into: &mut Vec<u8>, functions: &[Function]) -> Result<(), AllocError>
+    ensures { OnOk result (into.new.items ≡ into.old.items ++ flat_map function_line functions.now) }
+{
+    for function in functions {
+        put_function_line(into, function)?;
+    }
+    Ok(())
+}
+
+fn put_parent(into: &mut Vec<u8>, parent: &Option<Name>) -> Result<(), AllocError>
+    ensures { OnOk result (into.new.items ≡ into.old.items ++ maybe_text parent_text parent.now) }
+{
+    match parent {
+        Some(name) => {
+            into.extend_from_slice(b" extends ")?;
+            put_name(into, name)
+        }
+        None => Ok(()),
+    }
+}
+
+#[tactic(auto, unfolding(crate::specs::Printed::service_text))]
+fn put_service(into: &mut Vec<u8>, service: &Service) -> Result<(), AllocError>
+    ensures { OnOk result (into.new.items ≡ into.old.items ++ service_text service.now) }
+{
+    into.extend_from_slice(b"\nservice ")?;
+    put_name(into, &service.name)?;
+    put_parent(into, &service.parent)?;
+    put_opening(into)?;
+    put_functions(into, service.functions.as_slice())?;
+    put_ending(into)
+}
+
+/// Appends a definition.
+#[tactic(auto, unfolding(crate::specs::Printed::definition_text))]
+pub(crate) fn put_definition(into: &mut Vec<u8>, definition: &Definition) -> Result<(), AllocError>
+    ensures { OnOk result (into.new.items ≡ into.old.items ++ definition_text definition.now) }
+{
+    match definition {
+        Definition::Const(constant) => put_const(into, constant),
+        Definition::Typedef(typedef) => put_typedef(into, typedef),
+        Definition::Enum(enumeration) => put_enum(into, enumeration),
+        Definition::Struct(structure) => put_struct(into, structure),
+        Definition::Service(service) => put_service(into, service),
+    }
+}

@@ -1,0 +1,125 @@
+//! Texts as they are printed.
+ghost use Rattle.std.specs.Prelude.{◌≤◌, length};
+
+use super::*;
+use crate::parse;
+use idl_token::tokens;
+
+const TUTORIAL: &[u8] = b"include \"shared.thrift\"
+namespace cpp tutorial
+namespace java tutorial
+typedef i32 MyInteger
+const i32 INT32CONSTANT = 9853
+const map<string,string> MAPCONSTANT = {'hello':'world', 'goodnight':'moon'}
+enum Operation {
+  ADD = 1,
+  SUBTRACT = 2,
+  MULTIPLY = 3,
+  DIVIDE = 4
+}
+struct Work {
+  1: i32 num1 = 0,
+  2: i32 num2,
+  3: Operation op,
+  4: optional string comment,
+}
+exception InvalidOperation {
+  1: i32 whatOp,
+  2: string why
+}
+service Calculator extends shared.SharedService {
+   void ping(),
+   i32 add(1:i32 num1, 2:i32 num2),
+   i32 calculate(1:i32 logid, 2:Work w) throws (1:InvalidOperation ouch),
+   oneway void zip()
+}
+";
+
+const TUTORIAL_PRINTED: &[u8] = b"include \"shared.thrift\"
+typedef i32 MyInteger
+const i32 INT32CONSTANT = 9853
+const map<string, string> MAPCONSTANT = {\"hello\": \"world\", \"goodnight\": \"moon\"}
+
+enum Operation {
+  ADD = 1
+  SUBTRACT = 2
+  MULTIPLY = 3
+  DIVIDE = 4
+}
+
+struct Work {
+  1: i32 num1 = 0
+  2: i32 num2
+  3: Operation op
+  4: optional string comment
+}
+
+exception InvalidOperation {
+  1: i32 whatOp
+  2: string why
+}
+
+service Calculator extends shared.SharedService {
+  void ping()
+  i32 add(1: i32 num1, 2: i32 num2)
+  i32 calculate(1: i32 logid, 2: Work w) throws (1: InvalidOperation ouch)
+  oneway void zip()
+}
+";
+
+const PARTS: &[u8] = b"const list<double> D = [1.5e3; -.5 2E1] const set<binary> B = []
+const string S = 'a\"\\\\\\n\\'\t' const bool T = true
+union U { -1: required set<i8> (x) a = [0x1F], T b } (a = 'b')";
+
+const PARTS_PRINTED: &[u8] = b"const list<double> D = [1.5e3, -.5, 2E1]
+const set<binary> B = []
+const string S = \"a\\\"\\\\\\n'\\t\"
+const bool T = 1
+
+union U {
+  -1: required set<i8> a = [31]
+  T b
+}
+";
+
+fn print_of(alloc: Global, text: &[u8]) -> Option<Vec<u8>>
+    requires { length text.now ≤ 4194304 }
+{
+    let Ok(all) = tokens(alloc, text) else {
+        return None;
+    };
+    let Ok(document) = parse(alloc, text, all.as_slice()) else {
+        return None;
+    };
+    match print(alloc, &document) {
+        Ok(printed) => Some(printed),
+        Err(_) => None,
+    }
+}
+
+#[test]
+fn the_tutorial_is_printed(rt: HostRuntime) {
+    let Some(printed) = print_of(rt.alloc(), TUTORIAL) else {
+        assert!(rt; false, "no text");
+        return;
+    };
+    assert_eq!(rt; printed.as_slice(), TUTORIAL_PRINTED);
+}
+
+#[test]
+fn a_printed_text_is_printed_as_it_is(rt: HostRuntime) {
+    let Some(printed) = print_of(rt.alloc(), TUTORIAL_PRINTED) else {
+        assert!(rt; false, "no text");
+        return;
+    };
+    assert_eq!(rt; printed.as_slice(), TUTORIAL_PRINTED);
+}
+
+#[test]
+fn each_part_is_printed(rt: HostRuntime) {
+    let Some(printed) = print_of(rt.alloc(), PARTS) else {
+        assert!(rt; false, "no text");
+        return;
+    };
+    assert_eq!(rt; printed.as_slice(), PARTS_PRINTED);
+}

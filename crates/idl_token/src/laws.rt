@@ -1,0 +1,35 @@
+//! Texts that are written to be read again.
+ghost use Rattle.std.specs.Prelude.{◌≡◌, ℕ, Bool, true, false, List, [], ◌∷◌, ◌++◌};
+ghost use Rattle.idl_token.specs.Classes.{is_quote, is_white};
+ghost use Rattle.idl_token.specs.Wholes.{sound, whole_of};
+ghost use Rattle.idl_token.specs.Tokens.{AreTokensOf};
+ghost use Rattle.idl_token.specs.Spellings.{Mark, marks_of, ends, parted, any, Spelling, Spells};
+
+use crate::{Token, TokenKind};
+
+/// A token spells itself, at the end of a text or in front of a byte that ends each word.
+pub fn a_word_spells_itself()
+    ensures { (w : List ℕ) (kind : TokenKind) → whole_of w ≡ sound kind → Spells parted w (record { kind = kind; bytes = w } ∷ []) }
+{}
+
+/// A sign spells itself in front of anything.
+pub fn a_sign_spells_itself()
+    ensures { (s : ℕ) → ends s ≡ true → is_quote s ≡ false → whole_of (s ∷ []) ≡ sound TokenKind.Sign
+        → Spells any (s ∷ []) (record { kind = TokenKind.Sign; bytes = s ∷ [] } ∷ []) }
+{}
+
+/// White space spells nothing.
+pub fn white_space_spells_nothing()
+    ensures { (b : ℕ) → is_white b ≡ true → Spells any (b ∷ []) [] }
+{}
+
+/// One text behind another spells the tokens of both.
+pub fn joined_texts_spell_the_tokens_of_both()
+    ensures { (before test : List ℕ → Bool) (first second : List ℕ) (ms ns : List Mark) → Spells before first ms → Spells test second ns
+        → ((more : List ℕ) → test more ≡ true → before (second ++ more) ≡ true) → Spells test (first ++ second) (ms ++ ns) }
+{}
+
+/// A text that spells tokens to its end has these.
+pub fn a_text_has_the_tokens_that_it_spells()
+    ensures { (text : List ℕ) (marks : List Mark) → Spelling text [] marks → (tokens : List Token) × AreTokensOf tokens text × (marks_of text tokens ≡ marks) }
+{}

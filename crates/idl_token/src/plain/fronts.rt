@@ -1,0 +1,51 @@
+//! What stands at the front of a text, by trying each front.
+ghost use Rattle.std.specs.Prelude.{◌≡◌, ◌<◌, ◌≤◌, length, None, MatchOption, IfSome};
+ghost use Rattle.idl_token.specs.Blanks.{blank_in};
+ghost use Rattle.idl_token.specs.Pieces.{IsPiece, IsWithin, LongestIn, BeginsNone};
+ghost use Rattle.idl_token.specs.Plain.{told, IsInside};
+
+use super::wholes::{Whole, whole_of};
+use crate::blanks::blank_in;
+use crate::pieces::{Piece, opening_fault};
+
+/// The blank, the longest token or the fault at the front of a text.
+pub(super) fn front_piece(text: &[u8]) -> Piece
+    ensures stands { IsPiece text.now result }
+    ensures within { IsWithin text.now result }
+{
+    match blank_in(text) {
+        Some(size) => Piece::Blank(size),
+        None => token_piece(text),
+    }
+}
+
+/// The longest token or the fault at the front of a text that begins with no blank.
+fn token_piece(text: &[u8]) -> Piece
+    requires { blank_in text.now ≡ None }
+    ensures stands { IsPiece text.now result }
+    ensures within { IsWithin text.now result }
+{
+    match longest(text) {
+        Some((size, Whole::Sound(kind))) => Piece::Token(kind, size),
+        Some((_, Whole::Flawed(kind, place))) => Piece::Fault(kind, place),
+        None => Piece::Fault(opening_fault(text), 0),
+    }
+}
+
+/// The longest front that is a token, and its length.
+#[tactic(auto, using(crate::proofs::Longest::longest_fronts))]
+fn longest(text: &[u8]) -> Option<(usize, Whole)>
+    ensures is { MatchOption result (BeginsNone text.now) (λ found. LongestIn text.now found.0 (told found.1)) }
+    ensures above { IfSome result (λ found. 0 < found.0) }
+    ensures inside { IfSome result (λ found. IsInside (told found.1) (length text.now)) }
+{
+    let mut size = text.len();
+    'sizes: while size > 0 {
+        let (front, _) = text.split_at(size);
+        if let Some(whole) = whole_of(front) {
+            return Some((size, whole));
+        }
+        size -= 1;
+    }
+    None
+}
