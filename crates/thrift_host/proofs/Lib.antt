@@ -5,10 +5,12 @@ pub mod Digits
 pub mod Ends
 pub mod Fed
 pub mod Fronts
+pub mod Judging
 pub mod Moves
 pub mod Pieces
 pub mod Reading
 pub mod Results
 pub mod Saying
 pub mod Taking
+pub mod Verdicts
 pub mod Walking

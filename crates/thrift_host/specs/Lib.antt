@@ -6,4 +6,7 @@ pub mod Feeding
 pub mod Rehearsal
 pub mod Run
 pub mod Pieces
+pub mod Tutorial
+pub mod Check
+pub mod Refusals
 pub mod Top

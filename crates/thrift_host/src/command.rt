@@ -1,41 +1,54 @@
 //! The top call.
 
-ghost use Rattle.std.specs.Prelude.{◌≡◌, ◌≢◌, ◌↔◌, length, map, string_bytes, MatchResult, IfOk, ◌<◌, ◌^◌};
+ghost use Rattle.std.specs.Prelude.{◌≡◌, ◌↔◌, List, Option, length, map, string_bytes, MatchResult, IfOk, ◌<◌, ◌^◌};
 ghost use Rattle.outside.specs.Cause.{Rose};
-ghost use Rattle.thrift_host.specs.Words.{rehearse_words};
+ghost use Rattle.outside.specs.Files.{File};
+ghost use Rattle.thrift_host.specs.Words.{AreNoCommand, checked_idl};
 ghost use Rattle.thrift_host.specs.Script.{AreEnds};
-ghost use Rattle.thrift_host.specs.Top.{Means, Says, IsSaid, IsRead, EndsInput, EndsUnbuilt, Reported, error_text};
+ghost use Rattle.thrift_host.specs.Check.{IsChecked};
+ghost use Rattle.thrift_host.specs.Top.{MeansOf, MeansOfIdl, SaysOf, SaysOfIdl, IsSaid, IsRead, EndsInput, EndsUnbuilt, EndsRefused, Reported, error_text, include_text};
 
+use crate::check::{Checked, check};
 use crate::input::{InputError, read_whole};
 use crate::lines::put_unbuilt;
 use crate::office::first_unbuilt;
+use crate::refusal::{Refusal, put_refusal};
 use crate::report::{ReportError, write_all, write_report};
 use crate::run::rehearse;
 use crate::script::{Script, ScriptError, read_script};
 use crate::status::Status;
-use crate::words::is_rehearse;
-use outside::{Sink, Source};
+use crate::words::{checked_idl, is_rehearse};
+use outside::{Files, Sink, Source};
 use std::alloc::Global;
 
-/// Runs the command of these words, which leave the program's name out: it reads its input, writes its report to the output, and where it isn't
-/// done says why on the errors, in one line. A write of that line that fails changes nothing.
-pub fn host<R, S: Source, K: Sink, E: Sink>(
+/// Runs the command of these words, which leave the program's name out: it checks an IDL, or it reads its input and writes its report to the
+/// output. Where it isn't done it says why on the errors, in one line. A write of that line that fails changes nothing.
+pub fn host<R, F: Files, S: Source, K: Sink, E: Sink>(
     rt: &R,
     alloc: Global,
     words: &[String],
+    files: &mut F,
     input: &mut S,
     output: &mut K,
     errors: &mut E,
 ) -> Status
-    // Done: the input is a script, read to its end, and the bytes added to the output are the report of a run of it,
+    // An IDL is checked: Done, IdlRefused and Unbuilt come exactly by the text of its file, since no text has two verdicts, and nothing is written.
+    // Else Done: the input is a script, read to its end, and the bytes added to the output are the report of a run of it,
     // whose tape, journal and cause meet the headline. ScriptRefused and Unbuilt come exactly by the input, since no
     // input is two of no script, a script with an unbuilt frame, and one without.
-    ensures means { Means result (S.left input.old) (S.left input.new) (K.taken output.old) (K.taken output.new) }
-    ensures usage { (result ≡ Status.Usage) ↔ (map string_bytes words.now ≢ rehearse_words) }
+    ensures means { MeansOf (checked_idl (map string_bytes words.now)) (F.files files.old) result
+        (S.left input.old) (S.left input.new) (K.taken output.old) (K.taken output.new) }
+    ensures usage { (result ≡ Status.Usage) ↔ AreNoCommand (map string_bytes words.now) }
+    ensures file_fault { result ≡ Status.FileFault → Rose (F.faults files.old) (F.faults files.new) }
     ensures read_fault { result ≡ Status.ReadFault → Rose (S.faults input.old) (S.faults input.new) }
     ensures write_fault { result ≡ Status.WriteFault → Rose (K.faults output.old) (K.faults output.new) }
-    ensures errors { Says result (S.left input.old) (E.taken errors.old) (E.taken errors.new) (E.faults errors.old) (E.faults errors.new) }
+    ensures errors { SaysOf (checked_idl (map string_bytes words.now)) (F.files files.old) result
+        (S.left input.old) (E.taken errors.old) (E.taken errors.new) (E.faults errors.old) (E.faults errors.new) }
 {
+    if let Some(idl) = checked_idl(words) {
+        let checked = check(alloc, files, idl);
+        return end_check(alloc, errors, idl, checked);
+    }
     if !is_rehearse(words) {
         return end(errors, Status::Usage);
     }
@@ -104,6 +117,43 @@ fn end<E: Sink>(errors: &mut E, status: Status) -> Status
     status
 }
 
+/// Ends the command with what became of its IDL.
+fn end_check<E: Sink>(alloc: Global, errors: &mut E, idl: &str, checked: Checked) -> Status
+    ensures means { (files : Option (List File)) → IsChecked files idl.now checked → MeansOfIdl files idl.now result }
+    ensures said { (files : Option (List File)) → IsChecked files idl.now checked → SaysOfIdl files idl.now result
+        (E.taken errors.old) (E.taken errors.new) (E.faults errors.old) (E.faults errors.new) }
+    ensures fault { result ≡ Status.FileFault → checked ≡ Checked.FileFault }
+{
+    match checked {
+        Checked::Accepted => end(errors, Status::Done),
+        Checked::HasInclude => end_include(errors),
+        Checked::Refused(refusal) => end_refused(alloc, errors, idl, refusal),
+        Checked::FileFault => end(errors, Status::FileFault),
+        Checked::NoMemory => end(errors, Status::NoMemory),
+    }
+}
+
+/// Ends the command at an `include` header, which isn't built.
+fn end_include<E: Sink>(errors: &mut E) -> Status
+    ensures same { result ≡ Status.Unbuilt }
+    ensures said { IsSaid (E.taken errors.old) (E.taken errors.new) (E.faults errors.old) (E.faults errors.new) include_text }
+{
+    say(errors, b"thriftd: unbuilt include\n");
+    Status::Unbuilt
+}
+
+/// Ends the command at an IDL that is refused; without memory for its line with NoMemory.
+fn end_refused<E: Sink>(alloc: Global, errors: &mut E, idl: &str, refusal: Refusal) -> Status
+    ensures { EndsRefused result idl.now refusal (E.taken errors.old) (E.taken errors.new) (E.faults errors.old) (E.faults errors.new) }
+{
+    let mut line = Vec::new(alloc);
+    if put_refusal(&mut line, idl, refusal).is_err() {
+        return end(errors, Status::NoMemory);
+    }
+    say(errors, &line);
+    Status::IdlRefused
+}
+
 /// Ends the command at a frame that isn't built; without memory for its line with NoMemory.
 fn end_unbuilt<E: Sink>(alloc: Global, errors: &mut E, number: u64) -> Status
     ensures { EndsUnbuilt result number (E.taken errors.old) (E.taken errors.new) (E.faults errors.old) (E.faults errors.new) }
@@ -130,10 +180,12 @@ fn error_line(status: Status) -> &'static [u8]
     match status {
         Status::Done => b"",
         Status::Usage => b"thriftd: usage\n",
+        Status::IdlRefused => b"thriftd: idl\n",
         Status::ScriptRefused => b"thriftd: script\n",
+        Status::FileFault => b"thriftd: file fault\n",
         Status::ReadFault => b"thriftd: read fault\n",
         Status::WriteFault => b"thriftd: write fault\n",
         Status::NoMemory => b"thriftd: no memory\n",
-        Status::Unbuilt => b"thriftd: unbuilt frame\n",
+        Status::Unbuilt => b"thriftd: unbuilt\n",
     }
 }

@@ -1,7 +1,7 @@
-//! The program: it hands its words and the standard streams to the top call, and ends with its status.
+//! The program: it hands its words, the system's files and the standard streams to the top call, and ends with its status.
 #![tactic(auto)]
 
-use outside::{RealIn, RealOut};
+use outside::{RealFiles, RealIn, RealOut};
 use std::io::ErrorKind;
 use std::process::ExitCode;
 use std::{env, io};
@@ -17,6 +17,7 @@ fn main(rt: HostRuntime) -> ExitCode {
         // A word that isn't UTF-8 makes no command, as no word does.
         Err(_) => Vec::new(rt.alloc()),
     };
+    let mut files = RealFiles::new(&rt);
     let mut input = RealIn::new(&rt);
     let mut output = RealOut::output(&rt);
     let mut errors = RealOut::errors(&rt);
@@ -24,6 +25,7 @@ fn main(rt: HostRuntime) -> ExitCode {
         &rt,
         rt.alloc(),
         &words,
+        &mut files,
         &mut input,
         &mut output,
         &mut errors,

@@ -1,0 +1,129 @@
+//! What becomes of an IDL: it is found, read, cut into tokens and parsed, or refused at its first fault.
+
+ghost use Rattle.std.specs.Prelude.{◌≡◌, ◌≢◌, ◌≤◌, ℕ, List, length};
+ghost use Rattle.outside.specs.Cause.{Rose};
+ghost use Rattle.idl_token.specs.Tokens.{AreTokensOf, IsFirstFault};
+ghost use Rattle.idl_parser.specs.Faults.{IsFaultOf};
+ghost use Rattle.idl_parser.specs.Trees.{document_node};
+ghost use Rattle.thrift_host.specs.Check.{IsChecked, IsDocument, IsJudged, longest_idl, unread, without_place};
+
+use crate::refusal::{IdlKind, Refusal};
+use crate::tutorial::tutorial;
+use idl_parser::{Document, ParseFault, ParseKind, parse};
+use idl_token::{LexFault, LexKind, MAX_TEXT, Place, Token, tokens};
+use outside::{FileFail, Files};
+use std::alloc::Global;
+
+/// What becomes of an IDL.
+#[derive(Clone, Copy, Debug, PartialEq, Eq)]
+pub(crate) enum Checked {
+    /// Its text is a document that includes no other file.
+    Accepted,
+    /// Its text is a document with an `include` header.
+    HasInclude,
+    /// There is no such file, it is too long, or its text is no document.
+    Refused(Refusal),
+    /// The file couldn't be read.
+    FileFault,
+    /// Memory ran out.
+    NoMemory,
+}
+
+/// Checks the IDL of this name.
+pub(crate) fn check<F: Files>(alloc: Global, files: &mut F, idl: &str) -> Checked
+    ensures checked { IsChecked (F.files files.old) idl.now result }
+    ensures same { F.files files.new ≡ F.files files.old }
+    ensures fault { result ≡ Checked.FileFault → Rose (F.faults files.old) (F.faults files.new) }
+{
+    if idl == "@tutorial" {
+        return judge(alloc, tutorial());
+    }
+    match files.read_whole(alloc, idl, MAX_TEXT) {
+        Ok(text) => judge(alloc, &text),
+        Err(fail) => unread(fail),
+    }
+}
+
+/// What becomes of an IDL that isn't read.
+fn unread(fail: FileFail) -> Checked
+    ensures { result ≡ unread fail }
+{
+    match fail {
+        FileFail::Absent => refused_whole(IdlKind::Absent),
+        FileFail::TooLong => refused_whole(IdlKind::TooLong),
+        FileFail::Failed => Checked::FileFault,
+        FileFail::NoMemory => Checked::NoMemory,
+    }
+}
+
+/// A refusal of the file as a whole.
+fn refused_whole(kind: IdlKind) -> Checked
+    ensures { result ≡ without_place kind }
+{
+    let at = Place { line: 0, column: 0 };
+    Checked::Refused(Refusal { at, kind })
+}
+
+/// The verdict on a text.
+fn judge(alloc: Global, text: &[u8]) -> Checked
+    requires { length text.now ≤ longest_idl }
+    ensures { IsJudged text.now result }
+{
+    match tokens(alloc, text) {
+        Ok(tokens) => judge_tokens(alloc, text, tokens.as_slice()),
+        Err(fault) => lex_refusal(fault),
+    }
+}
+
+/// The verdict on a text with these tokens.
+fn judge_tokens(alloc: Global, text: &[u8], tokens: &[Token]) -> Checked
+    requires short { length text.now ≤ longest_idl }
+    requires tokens { AreTokensOf tokens.now text.now }
+    ensures { IsJudged text.now result }
+{
+    match parse(alloc, text, tokens) {
+        Ok(document) => judge_document(&document),
+        Err(fault) => parse_refusal(fault),
+    }
+}
+
+/// The verdict on a document.
+fn judge_document(document: &Document) -> Checked
+    ensures { (text : List ℕ) → IsDocument text (document_node document.now) → IsJudged text result }
+{
+    if document.includes.is_empty() {
+        Checked::Accepted
+    } else {
+        Checked::HasInclude
+    }
+}
+
+/// The verdict on a text with this fault of the lexer.
+fn lex_refusal(fault: LexFault) -> Checked
+    ensures { (text : List ℕ) → (fault.kind ≢ LexKind.NoMemory → IsFirstFault fault text) → IsJudged text result }
+{
+    match fault.kind {
+        LexKind::NoMemory => Checked::NoMemory,
+        kind => Checked::Refused(Refusal {
+            at: fault.at,
+            kind: IdlKind::Lex(kind),
+        }),
+    }
+}
+
+/// The verdict on a text with this fault of the parser.
+fn parse_refusal(fault: ParseFault) -> Checked
+    ensures { (text : List ℕ) (tokens : List Token) → AreTokensOf tokens text
+        → (fault.kind ≢ ParseKind.NoMemory → IsFaultOf text tokens fault) → IsJudged text result }
+{
+    match fault.kind {
+        ParseKind::NoMemory => Checked::NoMemory,
+        kind => Checked::Refused(Refusal {
+            at: fault.at,
+            kind: IdlKind::Parse(kind),
+        }),
+    }
+}
+
+#[cfg(test)]
+mod tests;
