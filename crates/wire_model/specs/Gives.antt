@@ -18,7 +18,7 @@ abbrev pub IsTold : {Y : Type 0} → WireFault → Result Y WireFault → Type 0
 IsTold NoMemory read = ⊥
 IsTold fault read = read ≡ Err fault
 
--- what was answered, seen by view, is what reading gives, with no memory taken
+-- what was answered, seen by view, is what reading gives; want of memory is never answered
 abbrev pub Tells : {X Y : Type 0} → (X → Y) → Result X WireFault → Result Y WireFault → Type 0
 Tells view (Ok x) read = read ≡ Ok (view x)
 Tells view (Err fault) read = IsTold fault read

@@ -5,7 +5,7 @@
 //! of the bytes; `put::<Binary>(&value, &mut bytes)?` appends one.
 //!
 //! A protocol is a [`Codec`]: how field headers, numbers, texts and container headers are read and written. These readers
-//! take no memory, so that memory is taken only for what is known to be there.
+//! never answer want of memory: memory is taken only for what is known to be there.
 
 #![tactic(auto)]
 
