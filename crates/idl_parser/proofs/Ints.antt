@@ -1,14 +1,12 @@
 -- The integers of a text have a place in 64 bits.
-use Rattle.std.proofs.Common.{◌≡◌, ◌↔◌, Bool, true, false, cond, ◌==◌, ◌||◌, ℕ, zero, suc, ℤ, pos, ◌+◌, ◌*◌, ◌^◌, ◌<◌, ◌≤◌, List, [], ◌∷◌, length, get_or, drop, codes, Option, Some, None, refl, ap, subst, arith, drop-cons}
+use Rattle.std.proofs.Common.{◌≡◌, ◌↔◌, Bool, true, false, cond, ◌==◌, ◌||◌, ℕ, ℤ, pos, List, [], ◌∷◌, codes, Option, Some, None, refl, subst, arith}
 use Rattle.std.specs.Prelude.{FitsSigned, slice_index, nat_eq}
 use Rattle.std.specs.Int.{w64}
 use Rattle.std.specs.List.{All, AllByRecursion}
 use Rattle.std.specs.Cmp.Lexicographic.{pointwise}
-use Rattle.std.proofs.Math.Nat.{mul-le-mul_left}
 use Rattle.std.proofs.lemmas.List.Elements.{recursion_from_All}
-use lib.IntN.{neg_ℤ}
 use Rattle.idl_token.specs.Words.{is_word, is_one_of, keywords, truth_words, is_refused, kind_of_word}
-use Rattle.idl_token.specs.Numbers.{value_behind, digit_value, magnitude, is_int, is_double, is_big_int, is_big_double, int_of}
+use Rattle.idl_token.specs.Numbers.{is_int, is_double, is_big_int, is_big_double, int_of}
 use Rattle.idl_token.specs.Literals.{is_literal, bad_escape_in}
 use Rattle.idl_token.specs.Wholes.{other, sound, number, literal, is_sign, whole_of}
 use Rattle.idl_token.specs.Tokens.{bytes_of, IsOfItsKind}
@@ -19,31 +17,6 @@ use Rattle.idl_parser.specs.Leaves.{number_of}
 use Rattle.idl_parser.specs.Symbols.{lexemes}
 use Rattle.idl_parser.specs.Spots.{IntsFit}
 use Rattle.idl_parser.proofs.KindSymbols.{int_alone}
-
--- a number that fits 64 bits has a magnitude of at most 2 ^ 63
-small : (minus : Bool) (n : ℕ) → FitsSigned w64 (cond minus (neg_ℤ (pos n)) (pos n)) → n < 2 ^ 64
-small true zero fits = omega arith
-small true (suc n) fits = omega (arith, fits.sfits)
-small false n fits = omega (arith, fits.sfits)
-
-pub small_magnitude : (int : List ℕ) → FitsSigned w64 (int_of int) → magnitude int < 2 ^ 64
-small_magnitude int fits = small (slice_index int 0 == 45) (magnitude int) fits
-
-value_grows : (radix n : ℕ) (digits : List ℕ) → 0 < radix → n ≤ value_behind radix n digits
-value_grows radix n [] some = omega arith
-value_grows radix n (b ∷ digits) some =
-    let more = value_grows radix (n * radix + digit_value b) digits some in
-    omega (arith, more, mul-le-mul_left n some)
-
--- one digit more of a number that fits
-pub next_fits : (radix value i : ℕ) (digits : List ℕ) → 0 < radix → i < length digits
-    → value_behind radix value (drop i digits) ≡ value_behind radix 0 digits → value_behind radix 0 digits < 2 ^ 64
-    → value * radix + digit_value (get_or digits i 0) < 2 ^ 64
-next_fits radix value i digits some inside number fits =
-    let next = value * radix + digit_value (get_or digits i 0) in
-    let read : value_behind radix value (drop i digits) ≡ value_behind radix next (drop (suc i) digits) = ap (value_behind radix value) (drop-cons digits i 0 inside) in
-    let grows = value_grows radix next (drop (suc i) digits) some in
-    omega (arith, grows, read, number, fits)
 
 -- the words for truth, and the other integers
 truth : (yes_word no_word : Bool) (z : ℤ) → (yes_word ≡ false → no_word ≡ false → FitsSigned w64 z) → FitsSigned w64 (cond yes_word (pos 1) (cond no_word (pos 0) z))

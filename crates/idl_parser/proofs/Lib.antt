@@ -11,11 +11,6 @@ pub mod OneMoreLevel
 pub mod Faults
 pub mod OneFault
 pub mod Rows
-pub mod PlainLists
-pub mod PlainEnding
-pub mod PlainOutlines
-pub mod PlainGoing
-pub mod PlainVerdict
 pub mod Firsts
 pub mod Places
 pub mod KindSymbols
@@ -33,3 +28,4 @@ pub mod PrintedValues
 pub mod PrintedFields
 pub mod PrintedDefinitions
 pub mod PrintedDocuments
+pub mod Canonical

@@ -6,7 +6,7 @@ use Rattle.std.specs.List.{prefix_len, suffix_len}
 use Rattle.std.proofs.Math.Dec.{eqb}
 use Rattle.std.proofs.lemmas.Bool.{eqb-true, eq-eqb}
 use Rattle.std.proofs.lemmas.Bool.Decides.{eqb_tells}
-use Rattle.std.proofs.lemmas.List.{append_assoc, map-append, reverse-append, length-reverse, take_all}
+use Rattle.std.proofs.lemmas.List.{append_assoc, map-append, reverse-append, length-reverse}
 use Rattle.std.proofs.lemmas.List.Folds.{prefix_len-append}
 use Rattle.std.proofs.lemmas.List.Sums.{suffix_len-le-length, sum_by-cons}
 use Rattle.idl_token.specs.Places.{place_of}
@@ -97,9 +97,6 @@ place_behind text at =
       line = 1 + count_by (λ b. b == 10) (take at text);
       column = first_column (eqb (suffix_len goes_on (take at text)) (length (take at text))) (length (take at text)) (suffix_len goes_on (take at text)) refl i;
     })
-
-pub place_at_end : (text : List ℕ) → behind start text ≡ place_of text (length text)
-place_at_end text = ap (behind start) (sym (take_all (length text) text (omega arith))) ∙ place_behind text (length text)
 
 pub behind_more : (at : Place) (text : List ℕ) (a b : ℕ) → a ≤ b → behind (behind at (take a text)) (take (b - a) (drop a text)) ≡ behind at (take b text)
 behind_more at text a b h = let e : a + (b - a) ≡ b = omega arith in behind_from at text a (b - a) ∙ ap (λ n. behind at (take n text)) e

@@ -1,10 +1,9 @@
 -- The words and signs of the grammar, as they are printed.
-use Rattle.std.proofs.Common.{◌≡◌, ℕ, true, false, List, [], ◌∷◌, codes, refl}
+use Rattle.std.proofs.Common.{◌≡◌, ℕ, List, [], ◌∷◌, codes, refl}
 use Rattle.idl_token.specs.declared.TokenKind.TheVariants.{Keyword, Sign}
-use Rattle.idl_token.specs.Classes.{is_quote}
 use Rattle.idl_token.specs.Words.{keywords, kind_of_word}
 use Rattle.idl_token.specs.Wholes.{sound, whole_of, signs}
-use Rattle.idl_token.specs.Spellings.{parted, any, ends}
+use Rattle.idl_token.specs.Spellings.{parted, any}
 use Rattle.idl_token.proofs.Spellings.{word as spells_word, sign as spells_sign}
 use Rattle.idl_parser.specs.declared.terminal.Terminal.{Terminal}
 use Rattle.idl_parser.specs.declared.terminal.Terminal.TheVariants as word
@@ -14,8 +13,8 @@ use Rattle.idl_parser.proofs.PrintedPhrases.{IsWordOf}
 keyword : (k : Terminal) (text : List ℕ) → whole_of text ≡ sound Keyword → first_words text ≡ k → IsWordOf parted k text
 keyword k text whole what = record { mark = record { kind = Keyword; bytes = text }; what = what; spells = spells_word text Keyword whole }
 
-a_sign : (k : Terminal) (s : ℕ) → ends s ≡ true → is_quote s ≡ false → whole_of (s ∷ []) ≡ sound Sign → sign_of s ≡ k → IsWordOf any k (s ∷ [])
-a_sign k s e no_quote whole what = record { mark = record { kind = Sign; bytes = s ∷ [] }; what = what; spells = spells_sign s e no_quote whole }
+a_sign : (k : Terminal) (s : ℕ) → whole_of (s ∷ []) ≡ sound Sign → sign_of s ≡ k → IsWordOf any k (s ∷ [])
+a_sign k s whole what = record { mark = record { kind = Sign; bytes = s ∷ [] }; what = what; spells = spells_sign s whole }
 
 pub include_word : IsWordOf parted word.Include (codes "include")
 unfolding keywords kind_of_word first_words more_words last_words
@@ -123,44 +122,44 @@ list_word = keyword word.List (codes "list") refl refl
 
 pub open_brace_sign : IsWordOf any word.OpenBrace (123 ∷ [])
 unfolding signs sign_of
-open_brace_sign = a_sign word.OpenBrace 123 refl refl refl refl
+open_brace_sign = a_sign word.OpenBrace 123 refl refl
 
 pub close_brace_sign : IsWordOf any word.CloseBrace (125 ∷ [])
 unfolding signs sign_of
-close_brace_sign = a_sign word.CloseBrace 125 refl refl refl refl
+close_brace_sign = a_sign word.CloseBrace 125 refl refl
 
 pub open_paren_sign : IsWordOf any word.OpenParen (40 ∷ [])
 unfolding signs sign_of
-open_paren_sign = a_sign word.OpenParen 40 refl refl refl refl
+open_paren_sign = a_sign word.OpenParen 40 refl refl
 
 pub close_paren_sign : IsWordOf any word.CloseParen (41 ∷ [])
 unfolding signs sign_of
-close_paren_sign = a_sign word.CloseParen 41 refl refl refl refl
+close_paren_sign = a_sign word.CloseParen 41 refl refl
 
 pub open_bracket_sign : IsWordOf any word.OpenBracket (91 ∷ [])
 unfolding signs sign_of
-open_bracket_sign = a_sign word.OpenBracket 91 refl refl refl refl
+open_bracket_sign = a_sign word.OpenBracket 91 refl refl
 
 pub close_bracket_sign : IsWordOf any word.CloseBracket (93 ∷ [])
 unfolding signs sign_of
-close_bracket_sign = a_sign word.CloseBracket 93 refl refl refl refl
+close_bracket_sign = a_sign word.CloseBracket 93 refl refl
 
 pub less_sign : IsWordOf any word.Less (60 ∷ [])
 unfolding signs sign_of
-less_sign = a_sign word.Less 60 refl refl refl refl
+less_sign = a_sign word.Less 60 refl refl
 
 pub greater_sign : IsWordOf any word.Greater (62 ∷ [])
 unfolding signs sign_of
-greater_sign = a_sign word.Greater 62 refl refl refl refl
+greater_sign = a_sign word.Greater 62 refl refl
 
 pub comma_sign : IsWordOf any word.Comma (44 ∷ [])
 unfolding signs sign_of
-comma_sign = a_sign word.Comma 44 refl refl refl refl
+comma_sign = a_sign word.Comma 44 refl refl
 
 pub colon_sign : IsWordOf any word.Colon (58 ∷ [])
 unfolding signs sign_of
-colon_sign = a_sign word.Colon 58 refl refl refl refl
+colon_sign = a_sign word.Colon 58 refl refl
 
 pub equals_sign : IsWordOf any word.Equals (61 ∷ [])
 unfolding signs sign_of
-equals_sign = a_sign word.Equals 61 refl refl refl refl
+equals_sign = a_sign word.Equals 61 refl refl

@@ -28,10 +28,14 @@ abbrev pub fault_kind : Bool → List Lexeme → ParseKind
 fault_kind too_deep [] = kind_at too_deep word.Identifier
 fault_kind too_deep (t ∷ rest) = kind_at too_deep t.what
 
--- the first fault of a text with these tokens
-pub record IsFaultOf (text : List ℕ) (tokens : List Token) (fault : ParseFault) : Type 0 where
+-- the first fault of a text with these tokens, where types and constants have so many levels of containers at most
+pub record IsFaultWithin (levels : ℕ) (text : List ℕ) (tokens : List Token) (fault : ParseFault) : Type 0 where
   pub rest : List Lexeme
   pub too_deep : Bool
-  pub first : IsFirstFault deepest (lexemes text tokens) rest too_deep
+  pub first : IsFirstFault levels (lexemes text tokens) rest too_deep
   pub kind : fault.kind ≡ fault_kind too_deep rest
   pub at : fault.at ≡ next_place (place_of text (length text)) rest
+
+-- the first fault of a text with these tokens
+abbrev pub IsFaultOf : List ℕ → List Token → ParseFault → Type 0
+IsFaultOf text tokens fault = IsFaultWithin deepest text tokens fault

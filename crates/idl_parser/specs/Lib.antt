@@ -18,6 +18,3 @@ pub mod Faults
 pub mod Aside
 pub mod Printed
 pub mod ReadBack
-pub mod PlainPhrases
-pub mod PlainEnds
-pub mod PlainVerdicts

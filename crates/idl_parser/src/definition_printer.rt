@@ -1,6 +1,7 @@
 //! The text of definitions.
 ghost use Rattle.std.specs.Prelude.{◌≡◌, ◌++◌, OnOk};
 ghost use Rattle.std.specs.List.{flat_map};
+ghost use Rattle.std.specs.Option.{option_copied};
 ghost use Rattle.idl_parser.specs.Printed.{maybe_text, oneway_text, result_text, throws_text, signature_text, function_text, function_line, const_text, typedef_text, number_text, enum_value_text, enum_value_line, enum_text, struct_word_text, struct_text, parent_text, service_text, definition_text, opening, ending};
 
 use crate::field_printer::{put_arguments, put_field_lines};
@@ -134,8 +135,8 @@ fn put_oneway(into: &mut Vec<u8>, oneway: bool) -> Result<(), AllocError>
     }
 }
 
-fn put_result(into: &mut Vec<u8>, kind: &Option<TypeTree>) -> Result<(), AllocError>
-    ensures { OnOk result (into.new.items ≡ into.old.items ++ result_text kind.now) }
+fn put_result(into: &mut Vec<u8>, kind: Option<&TypeTree>) -> Result<(), AllocError>
+    ensures { OnOk result (into.new.items ≡ into.old.items ++ result_text (option_copied kind.entry)) }
 {
     match kind {
         Some(kind) => put_type(into, kind),
@@ -143,8 +144,8 @@ fn put_result(into: &mut Vec<u8>, kind: &Option<TypeTree>) -> Result<(), AllocEr
     }
 }
 
-fn put_throws(into: &mut Vec<u8>, throws: &Option<Vec<Field>>) -> Result<(), AllocError>
-    ensures { OnOk result (into.new.items ≡ into.old.items ++ maybe_text (λ v. throws_text v.items) throws.now) }
+fn put_throws(into: &mut Vec<u8>, throws: Option<&Vec<Field>>) -> Result<(), AllocError>
+    ensures { OnOk result (into.new.items ≡ into.old.items ++ maybe_text (λ v. throws_text v.items) (option_copied throws.entry)) }
 {
     match throws {
         Some(fields) => {
@@ -161,7 +162,7 @@ fn put_signature(into: &mut Vec<u8>, function: &Function) -> Result<(), AllocErr
 {
     put_name(into, &function.name)?;
     put_arguments(into, function.arguments.as_slice())?;
-    put_throws(into, &function.throws)
+    put_throws(into, function.throws.as_ref())
 }
 
 #[tactic(auto, unfolding(crate::specs::Printed::function_text))]
@@ -169,7 +170,7 @@ fn put_function(into: &mut Vec<u8>, function: &Function) -> Result<(), AllocErro
     ensures { OnOk result (into.new.items ≡ into.old.items ++ function_text function.now) }
 {
     put_oneway(into, function.oneway)?;
-    put_result(into, &function.result)?;
+    put_result(into, function.result.as_ref())?;
     into.extend_from_slice(b" ")?;
     put_signature(into, function)
 }
@@ -191,8 +192,8 @@ fn put_functions(into: &mut Vec<u8>, functions: &[Function]) -> Result<(), Alloc
     Ok(())
 }
 
-fn put_parent(into: &mut Vec<u8>, parent: &Option<Name>) -> Result<(), AllocError>
-    ensures { OnOk result (into.new.items ≡ into.old.items ++ maybe_text parent_text parent.now) }
+fn put_parent(into: &mut Vec<u8>, parent: Option<&Name>) -> Result<(), AllocError>
+    ensures { OnOk result (into.new.items ≡ into.old.items ++ maybe_text parent_text (option_copied parent.entry)) }
 {
     match parent {
         Some(name) => {
@@ -209,7 +210,7 @@ fn put_service(into: &mut Vec<u8>, service: &Service) -> Result<(), AllocError>
 {
     into.extend_from_slice(b"\nservice ")?;
     put_name(into, &service.name)?;
-    put_parent(into, &service.parent)?;
+    put_parent(into, service.parent.as_ref())?;
     put_opening(into)?;
     put_functions(into, service.functions.as_slice())?;
     put_ending(into)

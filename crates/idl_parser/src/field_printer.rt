@@ -1,5 +1,6 @@
 //! The text of fields.
 ghost use Rattle.std.specs.Prelude.{◌≡◌, ◌++◌, map, OnOk};
+ghost use Rattle.std.specs.Option.{option_copied};
 ghost use Rattle.idl_parser.specs.Printed.{maybe_text, id_text, need_text, default_text, typed_text, field_text, field_line, field_lines, separated, arguments_text};
 
 use crate::tree::{ConstTree, Field, Int, Need};
@@ -29,8 +30,8 @@ fn put_need(into: &mut Vec<u8>, need: Need) -> Result<(), AllocError>
     }
 }
 
-fn put_default(into: &mut Vec<u8>, default: &Option<ConstTree>) -> Result<(), AllocError>
-    ensures { OnOk result (into.new.items ≡ into.old.items ++ maybe_text default_text default.now) }
+fn put_default(into: &mut Vec<u8>, default: Option<&ConstTree>) -> Result<(), AllocError>
+    ensures { OnOk result (into.new.items ≡ into.old.items ++ maybe_text default_text (option_copied default.entry)) }
 {
     match default {
         Some(value) => {
@@ -48,7 +49,7 @@ fn put_typed(into: &mut Vec<u8>, field: &Field) -> Result<(), AllocError>
     put_type(into, &field.kind)?;
     into.extend_from_slice(b" ")?;
     into.extend_from_slice(field.name.text.as_slice())?;
-    put_default(into, &field.default)
+    put_default(into, field.default.as_ref())
 }
 
 #[tactic(auto, unfolding(crate::specs::Printed::field_text))]

@@ -1,8 +1,9 @@
-//! The parser of the interface language: the tokens of a text become a tree, or the first fault is found.
+//! The parser and the printer of the interface language: the tokens of a text become a document, or the first fault is
+//! found; a document becomes a text.
 //!
-//! `parse(alloc, text, tokens.as_slice())` takes what `idl_token::tokens` gave for the text. It knows the
-//! grammar alone: whether a name is defined, a constant fits or a field's number is taken is the checker's
-//! matter. Separators, annotations, namespaces, `cpp_include` and `cpp_type` are read and left out.
+//! `parse(alloc, text, tokens.as_slice())` takes what `idl_token::tokens` gave for the text, and `print(alloc, &document)`
+//! gives the text. The crate knows the grammar alone: whether a name is defined, a constant fits or a field's number is
+//! taken is the checker's matter. Separators, annotations, namespaces, `cpp_include` and `cpp_type` are read and left out.
 #![tactic(auto)]
 
 ghost use Rattle.std.specs.Prelude.{◌≡◌, ◌≢◌, ◌≤◌, length, IfOk, IfErr};
@@ -13,9 +14,8 @@ ghost use Rattle.idl_parser.specs.Symbols.{lexemes};
 ghost use Rattle.idl_parser.specs.Trees.{document_node};
 
 use crate::reader::{Reader, Stop};
-use crate::symbol::{behind, symbols};
 use idl_token::{
-    Place, Token, big_integers_are_outside_64_bits, each_token_is_of_its_kind,
+    MAX_TEXT, Place, Token, big_integers_are_outside_64_bits, each_token_is_of_its_kind, place_at,
     tokens_stand_in_order,
 };
 use std::alloc::Global;
@@ -27,7 +27,6 @@ mod field_printer;
 mod field_reader;
 mod laws;
 mod leaves;
-pub mod plain;
 mod printer;
 mod reader;
 mod small_reader;
@@ -46,7 +45,12 @@ pub use laws::{
     a_reading_finds_the_document_or_the_first_fault, one_more_level_changes_no_document,
     only_what_is_left_out_is_refused, the_document_is_determined, the_first_fault_is_determined,
 };
-pub use printer::{a_printed_document_is_parsed_to_itself, a_printed_document_is_read_back, print};
+pub use printer::{
+    a_printed_document_is_parsed_to_itself, a_printed_document_is_read_back, print,
+    the_print_is_canonical,
+};
+pub use symbol::{Symbol, symbols};
+pub use terminal::{Terminal, same};
 pub use tree::{
     Base, Const, ConstTree, Definition, Document, Double, Enum, EnumValue, Field, Function,
     Include, Int, Literal, Name, Need, Service, Struct, StructKind, TypeTree, Typedef,
@@ -76,7 +80,7 @@ pub struct ParseFault {
 
 /// The document of a text, or its first fault.
 pub fn parse(alloc: Global, text: &[u8], tokens: &[Token]) -> Result<Document, ParseFault>
-    requires short { length text.now ≤ 4194304 }
+    requires short { length text.now ≤ MAX_TEXT }
     requires tokens { AreTokensOf tokens.now text.now }
     ensures ok { IfOk result (λ d. DocumentIn deepest (lexemes text.now tokens.now) (document_node d)) }
     ensures fault { IfErr result (λ f. f.kind ≢ ParseKind.NoMemory → IsFaultOf text.now tokens.now f) }
@@ -84,9 +88,8 @@ pub fn parse(alloc: Global, text: &[u8], tokens: &[Token]) -> Result<Document, P
     tokens_stand_in_order();
     each_token_is_of_its_kind();
     big_integers_are_outside_64_bits();
-    let start = Place { line: 1, column: 1 };
     let no_memory = ParseFault {
-        at: start,
+        at: Place { line: 1, column: 1 },
         kind: ParseKind::NoMemory,
     };
     let Ok(all) = symbols(alloc, text, tokens) else {
@@ -97,7 +100,7 @@ pub fn parse(alloc: Global, text: &[u8], tokens: &[Token]) -> Result<Document, P
         Ok(document) => Ok(document),
         Err(Stop::NoMemory) => Err(no_memory),
         Err(stop) => {
-            let (at, kind) = reader.fault(stop, behind(start, text));
+            let (at, kind) = reader.fault(stop, place_at(text, text.len()));
             Err(ParseFault { at, kind })
         }
     }

@@ -60,6 +60,11 @@ pub fn a_printed_document_is_read_back()
     ensures { (d : Document) → IsRead d → IsReadAs (document_node d) (printed d) }
 {}
 
+/// The printed text says nothing but the tree, places aside: documents with one tree have one text.
+pub fn the_print_is_canonical()
+    ensures { (d e : Document) → aside (document_node d) ≡ aside (document_node e) → printed d ≡ printed e }
+{}
+
 /// What is parsed from the printed text of a document that was read is the document, but for the places.
 pub fn a_printed_document_is_parsed_to_itself()
     ensures { (d parsed : Document) (tokens : List Token) → IsRead d → AreTokensOf tokens (printed d)

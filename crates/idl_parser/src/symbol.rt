@@ -1,22 +1,26 @@
 //! A token as the grammar sees it.
-ghost use Rattle.std.specs.Prelude.{◌≡◌, ◌≤◌, ◌+◌, ◌-◌, ◌<◌, ◌^◌, length, map, take, drop, MatchResult};
+ghost use Rattle.std.specs.Prelude.{◌≡◌, ◌≤◌, ◌+◌, ◌-◌, ◌<◌, ◌^◌, length, map, take, drop, IfOk};
 ghost use Rattle.idl_token.specs.Tokens.{StandBetween};
 ghost use Rattle.idl_parser.specs.Symbols.{first_words, more_words, last_words, sign_of, terminal_of, lexemes, lexeme_at};
 ghost use Rattle.idl_parser.specs.Spots.{lexeme_of, start, behind, behind_byte};
 
 use crate::leaves::byte_at;
-use crate::reader::{Stop, part, put};
+use crate::reader::part;
 use crate::terminal::Terminal;
-use idl_token::{Place, Token, TokenKind};
-use std::alloc::Global;
+use idl_token::{MAX_TEXT, Place, Token, TokenKind};
+use std::alloc::{AllocError, Global};
 
-/// A token of a text: what it is to the grammar, its bytes' place in the text, and its line and column.
+/// A token of a text, as the grammar sees it.
 #[derive(Clone, Copy, Debug, PartialEq, Eq)]
-pub(crate) struct Symbol {
-    pub(crate) what: Terminal,
-    pub(crate) from: u32,
-    pub(crate) to: u32,
-    pub(crate) place: Place,
+pub struct Symbol {
+    /// What it is to the grammar.
+    pub what: Terminal,
+    /// The place of its first byte, from 0.
+    pub from: u32,
+    /// The place behind its last byte.
+    pub to: u32,
+    /// Its line and column.
+    pub place: Place,
 }
 
 #[tactic(auto, unfolding(crate::specs::Symbols::first_words))]
@@ -202,7 +206,7 @@ pub(crate) fn behind(at: Place, bytes: &[u8]) -> Place
 #[tactic(auto, using(crate::proofs::Places::behind_more))]
 fn placed(text: &[u8], token: Token, at: usize, place: Place) -> Symbol
     requires before { at ≤ token.from }
-    requires short { token.from ≤ 4194304 }
+    requires short { token.from ≤ MAX_TEXT }
     requires line { place.line ≤ 1 + at }
     requires column { place.column ≤ 1 + at }
     requires place { place ≡ behind start (take at text.now) }
@@ -223,10 +227,10 @@ fn placed(text: &[u8], token: Token, at: usize, place: Place) -> Symbol
 }
 
 /// The symbols of a text, in one walk over it.
-pub(crate) fn symbols(alloc: Global, text: &[u8], tokens: &[Token]) -> Result<Vec<Symbol>, Stop>
-    requires short { length text.now ≤ 4194304 }
+pub fn symbols(alloc: Global, text: &[u8], tokens: &[Token]) -> Result<Vec<Symbol>, AllocError>
+    requires short { length text.now ≤ MAX_TEXT }
     requires order { StandBetween 0 (length text.now) tokens.now }
-    ensures { MatchResult result (λ v. map (lexeme_of text.now) v.items ≡ lexemes text.now tokens.now) (λ e. e ≡ Stop.NoMemory) }
+    ensures { IfOk result (λ v. map (lexeme_of text.now) v.items ≡ lexemes text.now tokens.now) }
 {
     let mut all = Vec::new(alloc);
     let mut at = 0;
@@ -235,9 +239,7 @@ pub(crate) fn symbols(alloc: Global, text: &[u8], tokens: &[Token]) -> Result<Ve
         let symbol = placed(text, *token, at, place);
         at = symbol.from as usize;
         place = symbol.place;
-        if let Err(full) = put(&mut all, symbol) {
-            return Err(full);
-        }
+        all.push(symbol)?;
     }
     Ok(all)
 }

@@ -5,53 +5,99 @@ ghost use Rattle.idl_parser.specs.Terminals.{code, same};
 /// What a token is to the grammar.
 #[derive(Clone, Copy, Debug, PartialEq, Eq)]
 pub enum Terminal {
+    /// A name.
     Identifier,
+    /// An integer.
     Int,
+    /// A number with a fraction or an exponent.
     Double,
+    /// A literal.
     Literal,
     /// A word or sign that is left out by name.
     Refused,
+    /// `namespace`
     Namespace,
+    /// `include`
     Include,
+    /// `cpp_include`
     CppInclude,
+    /// `const`
     Const,
+    /// `typedef`
     Typedef,
+    /// `enum`
     Enum,
+    /// `struct`
     Struct,
+    /// `union`
     Union,
+    /// `exception`
     Exception,
+    /// `service`
     Service,
+    /// `extends`
     Extends,
+    /// `throws`
     Throws,
+    /// `oneway`
     Oneway,
+    /// `void`
     Void,
+    /// `required`
     Required,
+    /// `optional`
     Optional,
+    /// `bool`
     Bool,
+    /// `byte`
     Byte,
+    /// `i8`
     I8,
+    /// `i16`
     I16,
+    /// `i32`
     I32,
+    /// `i64`
     I64,
+    /// `double`
     DoubleWord,
+    /// `string`
     StringWord,
+    /// `binary`
     Binary,
+    /// `map`
     Map,
+    /// `set`
     Set,
+    /// `list`
     List,
+    /// `cpp_type`
     CppType,
+    /// `{`
     OpenBrace,
+    /// `}`
     CloseBrace,
+    /// `(`
     OpenParen,
+    /// `)`
     CloseParen,
+    /// `[`
     OpenBracket,
+    /// `]`
     CloseBracket,
+    /// `<`
     Less,
+    /// `>`
     Greater,
+    /// `,`
     Comma,
+    /// `;`
     Semicolon,
+    /// `:`
     Colon,
+    /// `=`
     Equals,
+    /// `*`
     Star,
 }
 
@@ -63,7 +109,7 @@ fn code(terminal: Terminal) -> u8
 }
 
 /// Whether two symbols are the same.
-pub(crate) fn same(one: Terminal, other: Terminal) -> bool
+pub fn same(one: Terminal, other: Terminal) -> bool
     ensures { result ≡ same one other }
 {
     code(one) == code(other)

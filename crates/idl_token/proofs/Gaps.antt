@@ -1,4 +1,4 @@
--- Bytes that end each word, and words in front of them.
+-- Bytes that end each token, and tokens in front of them.
 use Rattle.std.proofs.Common.{◌≡◌, ℕ, zero, suc, ◌+◌, ◌<◌, ◌==◌, ◌&&◌, ◌||◌, not, nat_lt, Bool, true, false, cond, List, [], ◌∷◌, ◌++◌, length, take, drop, refl, ap, ◌∙◌, ◌⊎◌, inl, inr, arith}
 use Rattle.std.specs.Prelude.{slice_index}
 use Rattle.std.specs.List.{prefix_len, list_any}
@@ -54,7 +54,7 @@ hexadecimal_stops (c ∷ []) r b e =
 hexadecimal_stops (c ∷ d ∷ w) r b e =
     ap (λ k. c == 48 && d == 120 && k) (run_stops is_ascii_hexdigit w r b e.hex) ∙ and_none (c == 48 && d == 120)
 
-neither_one : (a b : Bool) → a ≡ false → b ≡ false → (a || b) ≡ false
+pub neither_one : (a b : Bool) → a ≡ false → b ≡ false → (a || b) ≡ false
 neither_one a b p q = rw (p, q) refl
 
 pub int_stops : (w r : List ℕ) (b : ℕ) → Ends b → is_int (w ++ b ∷ r) ≡ false
@@ -133,7 +133,7 @@ sign_stops c w r b =
     is_false _ (λ one. let one = eqb-true (length (c ∷ (w ++ b ∷ r))) 1 one in omega (arith, one, length-append w (b ∷ r))) in
     ap (λ k. list_any (λ sign. sign == c) signs && k) long ∙ and_none (list_any (λ sign. sign == c) signs)
 
--- a word with more behind it is no word
+-- a token with such a byte behind it is none
 pub longer_is_other : (c : ℕ) (w r : List ℕ) (b : ℕ) → Ends b → IsNoPart (c ∷ w) → whole_of ((c ∷ w) ++ b ∷ r) ≡ other
 longer_is_other c w r b e part =
     other_of ((c ∷ w) ++ b ∷ r) (word_stops (c ∷ w) r b e) (int_stops (c ∷ w) r b e) (double_stops (c ∷ w) r b e) (literal_stops c w r b part) (sign_stops c w r b)
@@ -142,7 +142,7 @@ longer_is_other c w r b e part =
 pub opens_none : (b : ℕ) (r : List ℕ) → Ends b → is_literal (b ∷ r) ≡ false → is_sign (b ∷ r) ≡ false → whole_of (b ∷ r) ≡ other
 opens_none b r e no_literal no_sign = other_of (b ∷ r) (word_stops [] r b e) (int_stops [] r b e) (double_stops [] r b e) no_literal no_sign
 
--- what is taken past a word
+-- what is taken past a token
 pub record Past (w : List ℕ) (b : ℕ) (r : List ℕ) (m : ℕ) : Type 0 where
   pub rest : List ℕ
   pub is : take m (w ++ b ∷ r) ≡ w ++ b ∷ rest

@@ -4,8 +4,10 @@ pub mod Longest
 pub mod Fronts
 pub mod Reaches
 pub mod PieceLemmas
+pub mod IntTokens
 pub mod CutLemmas
 pub mod OneOutcome
+pub mod SomeOutcome
 pub mod WholeTokens
 pub mod Gaps
 pub mod WordPieces

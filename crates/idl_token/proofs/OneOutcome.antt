@@ -75,7 +75,7 @@ one_first_fault text f g a b =
     λ i. record { at = at i; kind = kind i }
 
 -- a token has a byte
-some_bytes : (text : List ℕ) (kind : TokenKind) (n : ℕ) → LongestIn text n (sound kind) → 0 < n
+pub some_bytes : (text : List ℕ) (kind : TokenKind) (n : ℕ) → LongestIn text n (sound kind) → 0 < n
 unfolding signs
 some_bytes text kind zero longest = absurd (longest.token (sym longest.is))
 some_bytes text kind (suc n) longest = omega arith
@@ -84,7 +84,7 @@ first_byte : (text : List ℕ) (b : ℕ) → 0 < b → slice_index text 0 ≡ b 
 first_byte [] b above is = absurd (omega (arith, is))
 first_byte (c ∷ text) b above is = omega arith
 
-mapped : (k : ℕ) (o : Option ℕ) (n : ℕ) → option_map (λ m. k + m) o ≡ Some n → (m : ℕ) × (o ≡ Some m) × (n ≡ k + m)
+pub mapped : (k : ℕ) (o : Option ℕ) (n : ℕ) → option_map (λ m. k + m) o ≡ Some n → (m : ℕ) × (o ≡ Some m) × (n ≡ k + m)
 mapped k None n is = absurd (cc)
 mapped k (Some m) n is = (m, refl, let same : n ≡ k + m = cc in same)
 

@@ -37,7 +37,7 @@ literal_by None n = refl
 literal_by (Some place) n = refl
 
 -- the shapes by their lengths: the first that reaches as far
-abbrev chosen : Bool → Bool → Bool → Bool → Bool → TokenKind → Bool → Bool → Option ℕ → TokenKind → Whole
+abbrev pub chosen : Bool → Bool → Bool → Bool → Bool → TokenKind → Bool → Bool → Option ℕ → TokenKind → Whole
 chosen w i d l s word big_int big_double place sign =
     cond w (sound word) (cond i (number Int big_int) (cond d (number Double big_double) (cond l (literal place) (cond s (sound sign) other))))
 

@@ -1,18 +1,18 @@
 -- Texts that spell tokens, joined.
-use Rattle.std.proofs.Common.{◌≡◌, ◌≢◌, ℕ, ◌+◌, ◌-◌, Bool, true, false, List, [], ◌∷◌, ◌++◌, length, take, drop, refl, sym, ap, ◌∙◌, subst, arith}
+use Rattle.std.proofs.Common.{◌≡◌, ◌≢◌, ℕ, ◌+◌, ◌-◌, Bool, true, List, [], ◌∷◌, ◌++◌, length, take, drop, refl, sym, ap, ◌∙◌, subst, arith}
 use Rattle.std.proofs.Math.Seq.{take-append_seam, drop-append_seam}
 use Rattle.std.proofs.lemmas.List.{append_assoc}
-use Rattle.idl_token.specs.Classes.{is_quote, is_white}
+use Rattle.idl_token.specs.Classes.{is_white}
 use Rattle.idl_token.specs.Wholes.{sound, whole_of, signs}
 use Rattle.idl_token.specs.Tokens.{size_of, tokens_in, Cuts, AreTokensOf}
-use Rattle.idl_token.specs.Spellings.{Mark, marks_of, ends, parted, any, marks_in, Spelling, Spells}
+use Rattle.idl_token.specs.Spellings.{Mark, marks_of, parted, any, marks_in, Spelling, Spelled, Spells}
 use Rattle.idl_token.specs.declared.Token.{Token}
 use Rattle.idl_token.specs.declared.TokenKind.{TokenKind}
 use Rattle.idl_token.specs.declared.TokenKind.TheVariants.{Sign}
 use Rattle.idl_token.specs.declared.pieces.Piece.{Piece}
 use Rattle.idl_token.specs.declared.pieces.Piece.TheVariants.{Blank, Token as Tok, Fault}
 use Rattle.idl_token.proofs.CutLemmas.{drop_drop}
-use Rattle.idl_token.proofs.WordPieces.{ends_by, word_piece, sign_piece, white_piece}
+use Rattle.idl_token.proofs.WordPieces.{word_piece, sign_piece, white_piece}
 
 cuts_on : (text : List ℕ) (ps qs : List Piece) (mid rest : List ℕ) → Cuts text ps mid → Cuts mid qs rest → Cuts text (ps ++ qs) rest
 cuts_on text [] qs mid rest cut more = subst (λ t. Cuts t qs rest) (sym cut) more
@@ -49,10 +49,10 @@ white b h more p = record {
   are = refl;
 }
 
-pub sign : (s : ℕ) → ends s ≡ true → is_quote s ≡ false → whole_of (s ∷ []) ≡ sound Sign → Spells any (s ∷ []) (record { kind = Sign; bytes = s ∷ [] } ∷ [])
-sign s e no_quote whole more p = record {
+pub sign : (s : ℕ) → whole_of (s ∷ []) ≡ sound Sign → Spells any (s ∷ []) (record { kind = Sign; bytes = s ∷ [] } ∷ [])
+sign s whole more p = record {
   pieces = Tok Sign 1 ∷ [];
-  cut = (some_cut s more, tt, sign_piece s more (ends_by s e) no_quote whole, refl);
+  cut = (some_cut s more, tt, sign_piece s more whole, refl);
   are = refl;
 }
 
@@ -83,6 +83,6 @@ marks_are whole text at (Tok kind n ∷ ps) rest is cut =
 marks_are whole text at (Fault kind place ∷ ps) rest is cut = absurd cut.1
 
 -- a text that spells tokens has these
-pub spelled_tokens : (text : List ℕ) (marks : List Mark) → Spelling text [] marks → (tokens : List Token) × AreTokensOf tokens text × (marks_of text tokens ≡ marks)
+pub spelled_tokens : (text : List ℕ) (marks : List Mark) → Spelled text marks → (tokens : List Token) × AreTokensOf tokens text × (marks_of text tokens ≡ marks)
 spelled_tokens text marks s =
     (tokens_in 0 s.pieces, record { pieces = s.pieces; cut = s.cut; are = refl }, marks_are text text 0 s.pieces [] refl s.cut ∙ s.are)

@@ -21,6 +21,16 @@ above radix value most i digits some inside passes number =
     let grows = value_behind_grows radix next (drop (suc i) digits) some in
     sym (lt-ltb most (value_behind radix 0 digits) (omega (arith, grows, read, number)))
 
+-- one digit more of a number that fits
+pub next_fits : (radix value i : ℕ) (digits : List ℕ) → 0 < radix → i < length digits
+    → value_behind radix value (drop i digits) ≡ value_behind radix 0 digits → value_behind radix 0 digits < 2 ^ 64
+    → value * radix + digit_value (get_or digits i 0) < 2 ^ 64
+next_fits radix value i digits some inside number fits =
+    let next = value * radix + digit_value (get_or digits i 0) in
+    let read : value_behind radix value (drop i digits) ≡ value_behind radix next (drop (suc i) digits) = ap (value_behind radix value) (drop-cons digits i 0 inside) in
+    let grows = value_behind_grows radix next (drop (suc i) digits) some in
+    omega (arith, grows, read, number, fits)
+
 -- a number fits 64 bits where its magnitude does, for its sign
 fits_64 : (minus : Bool) (n : ℕ) → (nat_lt (cond minus (2 ^ 63) (2 ^ 63 - 1)) n ≡ false) ↔ FitsSigned w64 (cond minus (neg_ℤ (pos n)) (pos n))
 fits_64 true zero = (λ is. record { sfits = omega arith }, λ fits. le-ltb (2 ^ 63) 0 (omega arith))

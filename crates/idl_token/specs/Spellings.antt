@@ -1,7 +1,6 @@
 -- Texts that are written to be read again: which tokens a text spells, whatever stands behind it.
-use Rattle.std.specs.Prelude.{◌≡◌, ℕ, ◌==◌, ◌&&◌, not, Bool, true, List, [], ◌∷◌, ◌++◌, map, take, drop}
-use Rattle.std.specs.Char.{is_ascii_digit, is_ascii_hexdigit}
-use Rattle.idl_token.specs.Classes.{is_word_start, is_word_byte, is_plus_or_minus, is_exponent_mark}
+use Rattle.std.specs.Prelude.{◌≡◌, ℕ, ◌&&◌, not, Bool, true, List, [], ◌∷◌, ◌++◌, map, take, drop}
+use Rattle.idl_token.specs.Classes.{is_word_byte, is_plus_or_minus}
 use Rattle.idl_token.specs.Tokens.{bytes_of, Cuts}
 use Rattle.idl_token.specs.declared.Token.{Token}
 use Rattle.idl_token.specs.declared.TokenKind.{TokenKind}
@@ -22,11 +21,9 @@ marks_of text tokens = map (mark_of text) tokens
 
 -- a byte that stands in no word, integer or double, as white space and the signs
 abbrev pub ends : ℕ → Bool
-ends b =
-    not (is_word_start b) && (not (is_word_byte b) && (not (is_ascii_digit b) && (not (is_ascii_hexdigit b) && (not (is_plus_or_minus b)
-    && (not (is_exponent_mark b) && (not (b == 46) && (not (b == 120) && not (b == 48))))))))
+ends b = not (is_word_byte b) && not (is_plus_or_minus b)
 
--- what may stand behind any word: nothing, or such a byte
+-- what may stand behind any token: nothing, or such a byte
 abbrev pub parted : List ℕ → Bool
 parted [] = true
 parted (b ∷ more) = ends b
@@ -51,3 +48,7 @@ pub record Spelling (text rest : List ℕ) (marks : List Mark) : Type 0 where
 -- a text spells tokens, whatever stands behind it that meets a test
 abbrev pub Spells : (List ℕ → Bool) → List ℕ → List Mark → Type 0
 Spells test text marks = (more : List ℕ) → test more ≡ true → Spelling (text ++ more) more marks
+
+-- a text spells tokens to its end
+abbrev pub Spelled : List ℕ → List Mark → Type 0
+Spelled text marks = Spelling text [] marks

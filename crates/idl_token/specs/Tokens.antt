@@ -51,6 +51,14 @@ pub record IsFirstFault (f : LexFault) (text : List ℕ) : Type 0 where
   pub fault : IsPiece rest (Fault f.kind inside)
   pub place : f.at ≡ place_of text (end_of 0 pieces + inside)
 
+-- a text has tokens
+abbrev pub HasTokens : List ℕ → Type 0
+HasTokens text = (ts : List Token) × AreTokensOf ts text
+
+-- a text has a first fault
+abbrev pub HasFirstFault : List ℕ → Type 0
+HasFirstFault text = (f : LexFault) × IsFirstFault f text
+
 -- the bytes of a token
 abbrev pub bytes_of : List ℕ → Token → List ℕ
 bytes_of text t = take (t.to - t.from) (drop t.from text)

@@ -1,21 +1,20 @@
 //! Texts that are written to be read again.
-ghost use Rattle.std.specs.Prelude.{◌≡◌, ℕ, Bool, true, false, List, [], ◌∷◌, ◌++◌};
-ghost use Rattle.idl_token.specs.Classes.{is_quote, is_white};
+ghost use Rattle.std.specs.Prelude.{◌≡◌, ℕ, Bool, true, List, [], ◌∷◌, ◌++◌};
+ghost use Rattle.idl_token.specs.Classes.{is_white};
 ghost use Rattle.idl_token.specs.Wholes.{sound, whole_of};
 ghost use Rattle.idl_token.specs.Tokens.{AreTokensOf};
-ghost use Rattle.idl_token.specs.Spellings.{Mark, marks_of, ends, parted, any, Spelling, Spells};
+ghost use Rattle.idl_token.specs.Spellings.{Mark, marks_of, parted, any, Spelled, Spells};
 
 use crate::{Token, TokenKind};
 
-/// A token spells itself, at the end of a text or in front of a byte that ends each word.
-pub fn a_word_spells_itself()
-    ensures { (w : List ℕ) (kind : TokenKind) → whole_of w ≡ sound kind → Spells parted w (record { kind = kind; bytes = w } ∷ []) }
+/// A token spells itself, at the end of a text or in front of a byte that stands in no word and no number.
+pub fn a_token_spells_itself()
+    ensures { (token : List ℕ) (kind : TokenKind) → whole_of token ≡ sound kind → Spells parted token (record { kind = kind; bytes = token } ∷ []) }
 {}
 
 /// A sign spells itself in front of anything.
 pub fn a_sign_spells_itself()
-    ensures { (s : ℕ) → ends s ≡ true → is_quote s ≡ false → whole_of (s ∷ []) ≡ sound TokenKind.Sign
-        → Spells any (s ∷ []) (record { kind = TokenKind.Sign; bytes = s ∷ [] } ∷ []) }
+    ensures { (s : ℕ) → whole_of (s ∷ []) ≡ sound TokenKind.Sign → Spells any (s ∷ []) (record { kind = TokenKind.Sign; bytes = s ∷ [] } ∷ []) }
 {}
 
 /// White space spells nothing.
@@ -31,5 +30,5 @@ pub fn joined_texts_spell_the_tokens_of_both()
 
 /// A text that spells tokens to its end has these.
 pub fn a_text_has_the_tokens_that_it_spells()
-    ensures { (text : List ℕ) (marks : List Mark) → Spelling text [] marks → (tokens : List Token) × AreTokensOf tokens text × (marks_of text tokens ≡ marks) }
+    ensures { (text : List ℕ) (marks : List Mark) → Spelled text marks → (tokens : List Token) × AreTokensOf tokens text × (marks_of text tokens ≡ marks) }
 {}

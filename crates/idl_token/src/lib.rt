@@ -1,18 +1,23 @@
 //! The lexer of the interface language: a text is cut into tokens by longest match, or its first fault
-//! is found.
+//! is found, with its kind, line and column.
 //!
-//! It knows no grammar: what follows what is the parser's matter. `tokens` is the one call; a token's
-//! text is the slice of the text from `from` to `to`.
+//! It is no parser: it knows no grammar, resolves no escapes and reads no doubles. `tokens` takes the text
+//! and is the one call that finds faults; of a token `t` the bytes are `text[t.from..t.to]`, the number of
+//! an integer is its `int_value`, and the line and column of any byte are its `place_at`.
+//!
+//! The laws say that a text has one list of tokens or one first fault, and which tokens a text has that
+//! was put together of tokens and white space. `plain` is a second lexer with the same contract, for small texts.
 #![tactic(auto)]
 
-ghost use Rattle.std.specs.Prelude.{◌≡◌, ◌≢◌, ◌≤◌, ◌↔◌, ℕ, false, FitsSigned, List, length, IfOk, IfErr};
+ghost use Rattle.std.specs.Prelude.{◌≡◌, ◌≢◌, ◌≤◌, ◌↔◌, ◌⊎◌, ℕ, false, FitsSigned, List, length, IfOk, IfErr};
 ghost use Rattle.std.specs.Int.{w64};
 ghost use Rattle.std.specs.List.{All};
+ghost use Rattle.idl_token.specs.Words.{is_one_of, truth_words};
 ghost use Rattle.idl_token.specs.Numbers.{is_big_int, int_of};
-ghost use Rattle.idl_token.specs.Tokens.{AreTokensOf, IsFirstFault, IsOfItsKind, StandBetween};
+ghost use Rattle.idl_token.specs.Wholes.{sound, whole_of};
+ghost use Rattle.idl_token.specs.Tokens.{AreTokensOf, IsFirstFault, HasTokens, HasFirstFault, IsOfItsKind, StandBetween};
 
 use crate::pieces::{Piece, next_piece};
-use crate::places::place_at;
 use std::alloc::Global;
 
 mod blanks;
@@ -26,9 +31,11 @@ pub mod plain;
 mod words;
 
 pub use laws::{
-    a_sign_spells_itself, a_text_has_the_tokens_that_it_spells, a_word_spells_itself,
+    a_sign_spells_itself, a_text_has_the_tokens_that_it_spells, a_token_spells_itself,
     joined_texts_spell_the_tokens_of_both, white_space_spells_nothing,
 };
+pub use numbers::int_value;
+pub use places::place_at;
 
 /// What a token is.
 #[derive(Clone, Copy, Debug, PartialEq, Eq)]
@@ -135,6 +142,16 @@ pub fn tokens(alloc: Global, text: &[u8]) -> Result<Vec<Token>, LexFault>
     Ok(tokens)
 }
 
+/// Each text has tokens or a first fault.
+pub fn tokens_or_a_first_fault()
+    ensures { (text : List ℕ) → HasTokens text ⊎ HasFirstFault text }
+{}
+
+/// A first fault is one of the text, never want of memory.
+pub fn a_first_fault_is_no_want_of_memory()
+    ensures { (text : List ℕ) (fault : LexFault) → IsFirstFault fault text → fault.kind ≢ LexKind.NoMemory }
+{}
+
 /// A text has one list of tokens.
 pub fn tokens_are_determined()
     ensures { (text : List ℕ) (ts us : List Token) → AreTokensOf ts text → AreTokensOf us text → ts ≡ us }
@@ -163,6 +180,11 @@ pub fn each_token_is_of_its_kind()
 /// An integer is too big exactly where its number has no place in 64 bits.
 pub fn big_integers_are_outside_64_bits()
     ensures { (int : List ℕ) → (is_big_int int ≡ false) ↔ FitsSigned w64 (int_of int) }
+{}
+
+/// A token that is an integer, and none of the words for truth, has a number with a place in 64 bits.
+pub fn an_integer_has_a_place_in_64_bits()
+    ensures { (token : List ℕ) → whole_of token ≡ sound TokenKind.Int → is_one_of truth_words token ≡ false → FitsSigned w64 (int_of token) }
 {}
 
 #[cfg(test)]

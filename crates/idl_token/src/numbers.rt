@@ -1,8 +1,9 @@
 //! Numbers: integers and doubles.
-ghost use Rattle.std.specs.Prelude.{◌≡◌, ◌<◌, ◌≤◌, nat_lt, not, count_by, length, IsTrue};
+ghost use Rattle.std.specs.Prelude.{◌≡◌, ◌^◌, ◌<◌, ◌≤◌, nat_lt, not, pos, neg_ℤ, count_by, length, FitsSigned, IsTrue, if◌then◌else◌};
+ghost use Rattle.std.specs.Int.{w64};
 ghost use Rattle.std.specs.Char.{is_ascii_digit, is_ascii_hexdigit};
 ghost use Rattle.std.specs.List.{prefix_len};
-ghost use Rattle.idl_token.specs.Numbers.{sign_in, digits_in, digit_value, value_behind, is_hexadecimal, behind_exponent_mark, is_big_int, is_big_double};
+ghost use Rattle.idl_token.specs.Numbers.{sign_in, digits_in, digit_value, value_behind, is_hexadecimal, magnitude, int_of, behind_exponent_mark, is_big_int, is_big_double};
 ghost use Rattle.idl_token.specs.Classes.{is_exponent_mark};
 ghost use Rattle.idl_token.specs.Lengths.{decimal_len, hexadecimal_len, exponent_len, fraction_len, unsigned_double_len, double_len, int_len};
 
@@ -181,6 +182,50 @@ pub(crate) fn is_hexadecimal(text: &[u8]) -> bool
     }
     let (_, inside) = text.split_at(2);
     inside.len() > 0 && hexadecimal_digits_in(inside) == inside.len()
+}
+
+/// The number of an integer written in digits, which has to have a place in 64 bits.
+pub fn int_value(int: &[u8]) -> i64
+    requires { FitsSigned w64 (int_of int.now) }
+    ensures { result ≡ int_of int.now }
+{
+    let size = magnitude(int);
+    signed(byte_at(int, 0) == b'-', size)
+}
+
+fn magnitude(int: &[u8]) -> u64
+    requires { magnitude int.now < 2 ^ 64 }
+    ensures { result ≡ magnitude int.now }
+{
+    if is_hexadecimal(int) {
+        let (_, digits) = int.split_at(2);
+        digits_value(digits, 16)
+    } else {
+        let (_, digits) = int.split_at(sign_in(int));
+        digits_value(digits, 10)
+    }
+}
+
+/// The number that digits write.
+fn digits_value(digits: &[u8], radix: u64) -> u64
+    requires some { 0 < radix }
+    requires fits { value_behind radix 0 digits.now < 2 ^ 64 }
+    ensures { result ≡ value_behind radix 0 digits.now }
+{
+    let mut value = 0u64;
+    for byte in digits {
+        value = value * radix + u64::from(digit_value(*byte));
+    }
+    value
+}
+
+fn signed(negative: bool, size: u64) -> i64
+    requires { FitsSigned w64 (if negative then neg_ℤ (pos size) else pos size) }
+    ensures { result ≡ if negative then neg_ℤ (pos size) else pos size }
+{
+    let size = i128::from(size);
+    let number = if negative { -size } else { size };
+    number as i64
 }
 
 /// Whether a double has too many digits or too large an exponent.

@@ -3,12 +3,12 @@ ghost use Rattle.std.specs.Prelude.{◌≡◌, ◌≤◌, ◌==◌, not, length,
 ghost use Rattle.std.specs.List.{suffix_len};
 ghost use Rattle.idl_token.specs.Places.{place_of};
 
-use crate::Place;
+use crate::{MAX_TEXT, Place};
 
-/// Line and column of a byte, or of the end.
-pub(crate) fn place_at(text: &[u8], at: usize) -> Place
+/// The line and column of a byte of a text, or of its end.
+pub fn place_at(text: &[u8], at: usize) -> Place
     requires within { at ≤ length text.now }
-    requires short { length text.now ≤ 4194304 }
+    requires short { length text.now ≤ MAX_TEXT }
     ensures { result ≡ place_of text.now at }
 {
     let (before, _) = text.split_at(at);

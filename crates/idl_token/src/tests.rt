@@ -266,3 +266,19 @@ fn texts_have_their_first_fault(rt: HostRuntime) {
     expect_all_faults(&rt, rt.alloc(), &FIRST_FAULTS);
     expect_all_faults(&rt, rt.alloc(), &FAULTS);
 }
+
+#[test]
+fn integers_have_their_numbers(rt: HostRuntime) {
+    assert_eq!(rt; int_value(b"+0042"), 42);
+    assert_eq!(rt; int_value(b"-9223372036854775808"), i64::MIN);
+    assert_eq!(rt; int_value(b"0x7fFFffffFFFFffff"), i64::MAX);
+}
+
+#[test]
+fn bytes_have_their_places(rt: HostRuntime) {
+    let text: &[u8] = b"a\r\n\tb";
+    let newline = Place { line: 1, column: 3 };
+    assert_eq!(rt; place_at(text, 2), newline);
+    let end = Place { line: 2, column: 3 };
+    assert_eq!(rt; place_at(text, 5), end);
+}

@@ -4,7 +4,6 @@ use Rattle.idl_parser.specs.Spots.{lexeme_of, IntsFit}
 use Rattle.idl_parser.specs.Faults.{next_place}
 use Rattle.idl_parser.specs.Trees.{document_node}
 use Rattle.idl_parser.proofs.Parsing.{document_of, fault_of}
-use Rattle.idl_parser.proofs.Places.{place_at_end}
 use Rattle.idl_parser.proofs.Ints.{ints_fit}
 use Rattle.idl_parser.proofs.parse.Goals as goal
 
@@ -29,6 +28,6 @@ returns c = record {
       (c.new-reader.ensures ∙ ap (map (lexeme_of c.args.text.now)) c.as_slice.ensures.value ∙ c.in-Ok.ensures)
       c.requires.short (c.tokens_stand_in_order.ensures c.args.text.now c.args.tokens.now c.requires.tokens)
       c.in-Err.ensures
-      (c.fault-kind.ensures.place ∙ ap (λ end. next_place end c.whole_document.new.self) (c.behind.ensures.is ∙ place_at_end c.args.text.now))
+      (c.fault-kind.ensures.place ∙ ap (λ end. next_place end c.whole_document.new.self) c.place_at.ensures)
       c.fault-kind.ensures.kind;
 }

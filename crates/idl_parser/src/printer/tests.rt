@@ -3,7 +3,7 @@ ghost use Rattle.std.specs.Prelude.{◌≤◌, length};
 
 use super::*;
 use crate::parse;
-use idl_token::tokens;
+use idl_token::{MAX_TEXT, tokens};
 
 const TUTORIAL: &[u8] = b"include \"shared.thrift\"
 namespace cpp tutorial
@@ -83,7 +83,7 @@ union U {
 ";
 
 fn print_of(alloc: Global, text: &[u8]) -> Option<Vec<u8>>
-    requires { length text.now ≤ 4194304 }
+    requires { length text.now ≤ MAX_TEXT }
 {
     let Ok(all) = tokens(alloc, text) else {
         return None;

@@ -34,6 +34,6 @@ tokens-preserved c =
       line = omega arith;
       column = omega arith;
       place = c.placed-symbol.ensures.place ∙ ap (λ n. behind start (take n c.args.text.now)) (sym from);
-      made = made_on c.args.text.now c.tokens.all.items c.put.new.all.items c.placed-symbol.result t (drop c.tokens.token-index c.args.tokens.now) rest c.args.tokens.now
-          c.tokens.invariant.made split c.in_default.ensures c.placed-symbol.ensures.is;
+      made = made_on c.args.text.now c.tokens.all.items c.push.new.self.items c.placed-symbol.result t (drop c.tokens.token-index c.args.tokens.now) rest c.args.tokens.now
+          c.tokens.invariant.made split c.in_ok-push.ensures.items c.placed-symbol.ensures.is;
     }

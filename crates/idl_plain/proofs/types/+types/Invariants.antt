@@ -1,0 +1,23 @@
+use Rattle.std.proofs.Common.{◌+◌, ◌*◌}
+use Rattle.idl_plain.proofs.types.+types.Given as goal
+
+abbrev pub decreases-type_of : goal.decreases-type_of
+decreases-type_of l = 5 * l.levels + 2
+
+abbrev pub decreases-bare_type : goal.decreases-bare_type
+decreases-bare_type l = 5 * l.levels + 1
+
+abbrev pub decreases-inner_type : goal.decreases-inner_type
+decreases-inner_type l = 5 * l.levels
+
+abbrev pub decreases-container : goal.decreases-container
+decreases-container l = 5 * l.levels + 4
+
+abbrev pub decreases-map_type : goal.decreases-map_type
+decreases-map_type l = 5 * l.levels + 3
+
+abbrev pub decreases-set_type : goal.decreases-set_type
+decreases-set_type l = 5 * l.levels + 3
+
+abbrev pub decreases-list_type : goal.decreases-list_type
+decreases-list_type l = 5 * l.levels + 3

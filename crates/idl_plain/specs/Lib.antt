@@ -1,0 +1,3 @@
+pub mod PlainPhrases
+pub mod PlainEnds
+pub mod PlainVerdicts

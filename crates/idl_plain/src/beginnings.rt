@@ -1,0 +1,117 @@
+//! Whether some phrase begins with some symbols.
+ghost use Rattle.std.specs.Prelude.{◌≡◌, ◌↔◌, ◌<◌, ◌+◌, ◌&&◌, ◌||◌, false, length, List, IfOk, IsTrue};
+ghost use Rattle.std.specs.List.{list_any};
+ghost use Rattle.idl_parser.specs.Phrases as grammar;
+ghost use Rattle.idl_parser.specs.Phrases.{Lexeme};
+ghost use Rattle.idl_plain.specs.PlainPhrases.{outline, outline_of, terminals, BeginsWith};
+ghost use Rattle.idl_plain.specs.PlainEnds as by_cases;
+ghost use Rattle.idl_plain.specs.PlainEnds.{is_end, is_possible};
+
+use crate::endings::{ends_from, is_at};
+use crate::phrase::Phrase;
+use idl_parser::Terminal;
+use std::alloc::{AllocError, Global};
+
+/// Whether some such phrase begins with these symbols.
+pub fn goes_on(alloc: Global, phrase: &Phrase, front: &[Terminal]) -> Result<bool, AllocError>
+    ensures { IfOk result (λ yes. (p : grammar.Phrase) (ts : List Lexeme) → outline p ≡ outline_of phrase.now → terminals ts ≡ front.now → IsTrue yes ↔ BeginsWith p ts) }
+{
+    goes_on_from(alloc, phrase, front, 0)
+}
+
+#[cycle(goes_on)]
+#[tactic(auto, using(crate::proofs::PlainOutlines::outlines))]
+fn goes_on_from(
+    alloc: Global,
+    phrase: &Phrase,
+    symbols: &[Terminal],
+    from: usize,
+) -> Result<bool, AllocError>
+    ensures { IfOk result (λ yes. yes ≡ by_cases.goes_on (outline_of phrase.now) symbols.now from) }
+{
+    match phrase {
+        Phrase::One(wanted) => Ok(is_all(symbols, from, *wanted)),
+        Phrase::Deep(_) => Ok(false),
+        Phrase::Chain(first, second) => {
+            if goes_on_from(alloc, first, symbols, from)? && is_possible(second) {
+                return Ok(true);
+            }
+            let middles = ends_from(alloc, first, symbols, from)?;
+            goes_on_from_one(alloc, second, symbols, middles.as_slice())
+        }
+        Phrase::Either(first, second) => {
+            if goes_on_from(alloc, first, symbols, from)? {
+                return Ok(true);
+            }
+            goes_on_from(alloc, second, symbols, from)
+        }
+        Phrase::Maybe(inner) => {
+            if is_end(symbols, from) {
+                return Ok(true);
+            }
+            goes_on_from(alloc, inner, symbols, from)
+        }
+        Phrase::Many(inner) => {
+            let starts = ends_from(alloc, phrase, symbols, from)?;
+            if one_is_end(symbols, starts.as_slice()) {
+                return Ok(true);
+            }
+            goes_on_from_one(alloc, inner, symbols, starts.as_slice())
+        }
+    }
+}
+
+/// Whether some phrase begins with all symbols from one of some places on.
+#[cycle(goes_on)]
+#[tactic(auto, using(crate::proofs::PlainGoing::searches))]
+fn goes_on_from_one(
+    alloc: Global,
+    phrase: &Phrase,
+    symbols: &[Terminal],
+    starts: &[usize],
+) -> Result<bool, AllocError>
+    ensures { IfOk result (λ yes. yes ≡ list_any (by_cases.goes_on (outline_of phrase.now) symbols.now) starts.now) }
+{
+    for from in starts {
+        if goes_on_from(alloc, phrase, symbols, *from)? {
+            return Ok(true);
+        }
+    }
+    Ok(false)
+}
+
+/// Whether some symbols are such a phrase.
+#[tactic(auto, using(crate::proofs::PlainOutlines::outlines))]
+fn is_possible(phrase: &Phrase) -> bool
+    ensures { result ≡ is_possible (outline_of phrase.now) }
+{
+    match phrase {
+        Phrase::One(_) | Phrase::Maybe(_) | Phrase::Many(_) => true,
+        Phrase::Deep(_) => false,
+        Phrase::Chain(first, second) => is_possible(first) && is_possible(second),
+        Phrase::Either(first, second) => is_possible(first) || is_possible(second),
+    }
+}
+
+/// Whether nothing is left from a place on, or one such symbol alone.
+fn is_all(symbols: &[Terminal], from: usize, wanted: Terminal) -> bool
+    ensures { result ≡ (is_end symbols.now from || (by_cases.is_at symbols.now from wanted && is_end symbols.now (from + 1))) }
+{
+    if is_end(symbols, from) {
+        return true;
+    }
+    is_at(symbols, from, wanted) && is_end(symbols, from + 1)
+}
+
+fn is_end(symbols: &[Terminal], at: usize) -> bool
+    ensures is { result ≡ is_end symbols.now at }
+    ensures within { result ≡ false → at < length symbols.now }
+{
+    symbols.len() <= at
+}
+
+fn one_is_end(symbols: &[Terminal], places: &[usize]) -> bool
+    ensures { result ≡ list_any (is_end symbols.now) places.now }
+{
+    places.iter().any(|at| is_end(symbols, *at))
+}

@@ -1,0 +1,89 @@
+//! Constant values (Thrift IDL, 'Constant Values').
+ghost use Rattle.std.specs.Prelude.{◌≡◌, IfOk};
+ghost use Rattle.idl_plain.specs.PlainPhrases.{outline, outline_of};
+ghost use Rattle.idl_parser.specs.Constants.{list_item, list_value, map_entry, map_value, collection, no_collection, inner_value, value_of};
+
+use crate::parts::separator;
+use crate::phrase::{Phrase, chain, either, many};
+use idl_parser::Terminal;
+use std::alloc::{AllocError, Global};
+
+/// A container where no level is left.
+#[tactic(auto, using(crate::proofs::PlainOutlines::outlines), unfolding(idl_parser::specs::Constants::no_collection))]
+fn no_collection(alloc: Global) -> Result<Phrase, AllocError>
+    ensures { IfOk result (λ p. outline_of p ≡ outline no_collection) }
+{
+    either(
+        alloc,
+        Phrase::Deep(Terminal::OpenBracket),
+        Phrase::Deep(Terminal::OpenBrace),
+    )
+}
+
+/// A value of so many levels of containers at most.
+#[cycle(values)]
+#[tactic(auto, using(crate::proofs::PlainOutlines::outlines), unfolding(idl_parser::specs::Constants::value_of))]
+pub(crate) fn value_of(alloc: Global, levels: usize) -> Result<Phrase, AllocError>
+    ensures { IfOk result (λ p. outline_of p ≡ outline (value_of levels)) }
+{
+    let mut value = either(
+        alloc,
+        Phrase::One(Terminal::Identifier),
+        inner_value(alloc, levels)?,
+    )?;
+    value = either(alloc, Phrase::One(Terminal::Literal), value)?;
+    value = either(alloc, Phrase::One(Terminal::Double), value)?;
+    either(alloc, Phrase::One(Terminal::Int), value)
+}
+
+#[cycle(values)]
+#[tactic(auto, using(crate::proofs::PlainOutlines::outlines))]
+fn inner_value(alloc: Global, levels: usize) -> Result<Phrase, AllocError>
+    ensures { IfOk result (λ p. outline_of p ≡ outline (inner_value levels)) }
+{
+    if levels == 0 {
+        return no_collection(alloc);
+    }
+    collection(alloc, levels - 1)
+}
+
+/// A container whose parts have so many levels at most.
+#[cycle(values)]
+#[tactic(auto, using(crate::proofs::PlainOutlines::outlines), unfolding(idl_parser::specs::Constants::collection))]
+fn collection(alloc: Global, levels: usize) -> Result<Phrase, AllocError>
+    ensures { IfOk result (λ p. outline_of p ≡ outline (collection (value_of levels))) }
+{
+    let list = list_value(alloc, levels)?;
+    either(alloc, list, map_value(alloc, levels)?)
+}
+
+#[cycle(values)]
+#[tactic(auto, using(crate::proofs::PlainOutlines::outlines), unfolding(idl_parser::specs::Constants::list_item, idl_parser::specs::Constants::list_rest))]
+fn list_value(alloc: Global, levels: usize) -> Result<Phrase, AllocError>
+    ensures { IfOk result (λ p. outline_of p ≡ outline (list_value (value_of levels))) }
+{
+    let item = chain(alloc, value_of(alloc, levels)?, separator(alloc)?)?;
+    let items = many(alloc, item)?;
+    let rest = chain(alloc, items, Phrase::One(Terminal::CloseBracket))?;
+    chain(alloc, Phrase::One(Terminal::OpenBracket), rest)
+}
+
+#[cycle(values)]
+#[tactic(auto, using(crate::proofs::PlainOutlines::outlines), unfolding(idl_parser::specs::Constants::map_entry))]
+fn map_entry(alloc: Global, levels: usize) -> Result<Phrase, AllocError>
+    ensures { IfOk result (λ p. outline_of p ≡ outline (map_entry (value_of levels))) }
+{
+    let value = chain(alloc, value_of(alloc, levels)?, separator(alloc)?)?;
+    let value = chain(alloc, Phrase::One(Terminal::Colon), value)?;
+    chain(alloc, value_of(alloc, levels)?, value)
+}
+
+#[cycle(values)]
+#[tactic(auto, using(crate::proofs::PlainOutlines::outlines), unfolding(idl_parser::specs::Constants::map_rest))]
+fn map_value(alloc: Global, levels: usize) -> Result<Phrase, AllocError>
+    ensures { IfOk result (λ p. outline_of p ≡ outline (map_value (value_of levels))) }
+{
+    let entries = many(alloc, map_entry(alloc, levels)?)?;
+    let rest = chain(alloc, entries, Phrase::One(Terminal::CloseBrace))?;
+    chain(alloc, Phrase::One(Terminal::OpenBrace), rest)
+}
