@@ -8,7 +8,8 @@ use Rattle.idl_parser.specs.declared.tree.Document.{Document}
 use Rattle.idl_parser.specs.Phrases.{Node, pair}
 use Rattle.idl_parser.specs.Trees.{include_node, includes_node, definitions_node, document_node}
 use Rattle.thrift_host.specs.declared.check.Checked.{Checked}
-use Rattle.thrift_host.specs.Check.{has_include, IsJudged, IsJudgedWithin, IsJudgedAsHeld, IsCheckedIn, longest_idl}
+use Rattle.thrift_host.specs.declared.check.Checked.TheVariants.{Accepted, HasInclude, Refused, FileFault, NoMemory}
+use Rattle.thrift_host.specs.Check.{Verdict, accepted, including, refused, has_include, IsJudged, IsJudgedWithin, IsJudgedAsHeld, IsCheckedIn, IsChecked, OnVerdict, is_tutorial, longest_idl}
 
 -- whether a row of includes has a first one
 row_included : (includes : List Include) (definitions : Node) (b : Bool) → eqb (length includes) 0 ≡ b
@@ -26,15 +27,31 @@ included d b test =
     row_included d.includes.items (definitions_node d.definitions.items) b (ap (λ n. eqb n 0) (sym d.includes.ok.0) ∙ test)
 
 -- a text within the limit that is judged
-within : (text : List ℕ) (checked : Checked) (b : Bool) → leb (length text) longest_idl ≡ b → length text ≤ longest_idl
-    → IsJudged text checked → IsJudgedWithin b text checked
-within text checked true test small judged = judged
-within text checked false test small judged =
+within : (text : List ℕ) (verdict : Verdict) (b : Bool) → leb (length text) longest_idl ≡ b → length text ≤ longest_idl
+    → IsJudged text verdict → IsJudgedWithin b text verdict
+within text verdict true test small judged = judged
+within text verdict false test small judged =
     let e : false ≡ true = sym test ∙ le-leb (length text) longest_idl small in absurd (let f : ⊥ = cc in f)
 
 -- what a file holds that was read and judged
-pub read_and_judged : (told : Option (List File)) (idl text : List ℕ) (checked : Checked) → length text ≤ longest_idl
-    → IsJudged text checked → OnTold told idl (λ held. held ≡ Some text) → IsCheckedIn false told idl checked
-read_and_judged None idl text checked small judged holds verdict = tt
-read_and_judged (Some files) idl text checked small judged holds verdict =
-    subst (λ held. IsJudgedAsHeld held checked) (sym holds) (within text checked (leb (length text) longest_idl) refl small judged)
+held : (told : Option (List File)) (idl text : List ℕ) (verdict : Verdict) → length text ≤ longest_idl
+    → OnTold told idl (λ held. held ≡ Some text) → IsJudged text verdict → IsCheckedIn false told idl verdict
+held None idl text verdict small holds judged = tt
+held (Some files) idl text verdict small holds judged =
+    subst (λ held. IsJudgedAsHeld held verdict) (sym holds) (within text verdict (leb (length text) longest_idl) refl small judged)
+
+-- what follows from a verdict holds of it too
+follows : (checked : Checked) (P Q : Verdict → Type 0) → ((verdict : Verdict) → P verdict → Q verdict) → OnVerdict checked P → OnVerdict checked Q
+follows Accepted P Q step p = step accepted p
+follows HasInclude P Q step p = step including p
+follows (Refused refusal) P Q step p = step (refused refusal.at refusal.kind) p
+follows FileFault P Q step p = tt
+follows NoMemory P Q step p = tt
+
+-- the verdict on a file that was read and judged
+pub read_and_judged : (told : Option (List File)) (idl text : List ℕ) (checked : Checked) → is_tutorial idl ≡ false → length text ≤ longest_idl
+    → OnVerdict checked (λ verdict. IsJudged text verdict) → OnTold told idl (λ held. held ≡ Some text)
+    → OnVerdict checked (λ verdict. IsChecked told idl verdict)
+read_and_judged told idl text checked test small judged holds =
+    follows checked (λ verdict. IsJudged text verdict) (λ verdict. IsChecked told idl verdict)
+    (λ verdict is. subst (λ b. IsCheckedIn b told idl verdict) (sym test) (held told idl text verdict small holds is)) judged

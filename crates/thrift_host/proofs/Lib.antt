@@ -11,6 +11,7 @@ pub mod Pieces
 pub mod Reading
 pub mod Results
 pub mod Saying
+pub mod SomeVerdict
 pub mod Taking
 pub mod Verdicts
 pub mod Walking

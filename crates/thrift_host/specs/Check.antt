@@ -1,21 +1,33 @@
 -- What becomes of an IDL that is checked.
-use Rattle.std.specs.Prelude.{◌≡◌, ℕ, Bool, true, false, nat_le, List, length, codes, Option, Some, None, ⊤}
+use Rattle.std.specs.Prelude.{◌≡◌, ℕ, ◌⊎◌, Bool, true, false, nat_le, List, length, codes, Option, Some, None, ⊤}
 use Rattle.std.specs.Str.{bytes_eq}
 use Rattle.outside.specs.Files.{File, OnTold}
 use Rattle.outside.specs.declared.files.FileFail.{FileFail}
 use Rattle.outside.specs.declared.files.FileFail.TheVariants as fail
 use Rattle.idl_token.specs.declared.Place.{Place}
 use Rattle.idl_token.specs.declared.Token.{Token}
+use Rattle.idl_token.specs.declared.LexFault.{LexFault}
+use Rattle.idl_token.specs.declared.LexKind.{LexKind}
+use Rattle.idl_token.specs.declared.LexKind.TheVariants as lex
 use Rattle.idl_token.specs.Tokens.{AreTokensOf, IsFirstFault}
+use Rattle.idl_parser.specs.declared.ParseFault.{ParseFault}
+use Rattle.idl_parser.specs.declared.ParseKind.{ParseKind}
+use Rattle.idl_parser.specs.declared.ParseKind.TheVariants as parse
 use Rattle.idl_parser.specs.Phrases.{Node, pair}
 use Rattle.idl_parser.specs.Symbols.{lexemes}
 use Rattle.idl_parser.specs.Documents.{deepest, DocumentIn}
 use Rattle.idl_parser.specs.Faults.{IsFaultOf}
 use Rattle.thrift_host.specs.declared.refusal.IdlKind.{IdlKind}
-use Rattle.thrift_host.specs.declared.refusal.IdlKind.TheVariants.{Absent, TooLong, Lex, Parse}
+use Rattle.thrift_host.specs.declared.refusal.IdlKind.TheVariants as kinds
 use Rattle.thrift_host.specs.declared.check.Checked.{Checked}
 use Rattle.thrift_host.specs.declared.check.Checked.TheVariants.{Accepted, HasInclude, Refused, FileFault, NoMemory}
 use Rattle.thrift_host.specs.Tutorial.{tutorial_text}
+
+-- The verdict on an IDL: a document without an include, a document with one, or refused at a place for a kind of fault.
+pub data Verdict : Type 0 where
+  accepted : Verdict
+  including : Verdict
+  refused : Place → IdlKind → Verdict
 
 -- the longest text of an IDL, in bytes
 abbrev pub longest_idl : ℕ
@@ -32,58 +44,81 @@ abbrev pub has_include : Node → Bool
 has_include (pair (pair include includes) definitions) = true
 has_include tree = false
 
--- The first fault of a text: the lexer's, or where the text has tokens the parser's.
-abbrev pub IsFlawOf : List ℕ → Place → IdlKind → Type 0
-IsFlawOf text at Absent = ⊥
-IsFlawOf text at TooLong = ⊥
-IsFlawOf text at (Lex kind) = IsFirstFault (record { at = at; kind = kind }) text
-IsFlawOf text at (Parse kind) =
-    (tokens : List Token) × AreTokensOf tokens text × IsFaultOf text tokens (record { at = at; kind = kind })
+-- the kind of a fault of the lexer; want of memory is none
+abbrev pub kind_of_lexer : LexKind → Option IdlKind
+kind_of_lexer lex.BadByte = Some kinds.BadByte
+kind_of_lexer lex.OpenLiteral = Some kinds.OpenLiteral
+kind_of_lexer lex.OpenComment = Some kinds.OpenComment
+kind_of_lexer lex.BadEscape = Some kinds.BadEscape
+kind_of_lexer lex.BigNumber = Some kinds.BigNumber
+kind_of_lexer lex.NoMemory = None
 
--- The verdict on a text. Want of memory says nothing of it.
-abbrev pub IsJudged : List ℕ → Checked → Type 0
-IsJudged text Accepted = (tree : Node) × IsDocument text tree × (has_include tree ≡ false)
-IsJudged text HasInclude = (tree : Node) × IsDocument text tree × (has_include tree ≡ true)
-IsJudged text (Refused refusal) = IsFlawOf text refusal.at refusal.kind
-IsJudged text FileFault = ⊥
-IsJudged text NoMemory = ⊤
+-- the kind of a fault of the parser; want of memory is none
+abbrev pub kind_of_parser : ParseKind → Option IdlKind
+kind_of_parser parse.Found = Some kinds.Found
+kind_of_parser parse.Refused = Some kinds.Refused
+kind_of_parser parse.TooDeep = Some kinds.TooDeep
+kind_of_parser parse.NoMemory = None
 
--- a refusal of a file as a whole, with the place 0:0
-abbrev pub without_place : IdlKind → Checked
-without_place kind = Refused (record { at = record { line = 0; column = 0 }; kind = kind })
+-- the first fault that the lexer finds in the text has this place and kind
+pub record IsLexFlaw (text : List ℕ) (at : Place) (is : IdlKind) : Type 0 where
+  pub fault : LexFault
+  pub first : IsFirstFault fault text
+  pub place : at ≡ fault.at
+  pub named : kind_of_lexer fault.kind ≡ Some is
+
+-- the text has tokens, and the first fault that the parser finds in them has this place and kind
+pub record IsParseFlaw (text : List ℕ) (at : Place) (is : IdlKind) : Type 0 where
+  pub tokens : List Token
+  pub cut : AreTokensOf tokens text
+  pub fault : ParseFault
+  pub first : IsFaultOf text tokens fault
+  pub place : at ≡ fault.at
+  pub named : kind_of_parser fault.kind ≡ Some is
+
+-- The verdict on a text.
+abbrev pub IsJudged : List ℕ → Verdict → Type 0
+IsJudged text accepted = (tree : Node) × IsDocument text tree × (has_include tree ≡ false)
+IsJudged text including = (tree : Node) × IsDocument text tree × (has_include tree ≡ true)
+IsJudged text (refused at is) = IsLexFlaw text at is ⊎ IsParseFlaw text at is
+
+-- the place 0:0, of a file as a whole
+abbrev pub whole_file : Place
+whole_file = record { line = 0; column = 0 }
 
 -- the verdict on a text, where it is within the limit
-abbrev pub IsJudgedWithin : Bool → List ℕ → Checked → Type 0
-IsJudgedWithin false text checked = checked ≡ without_place TooLong
-IsJudgedWithin true text checked = IsJudged text checked
+abbrev pub IsJudgedWithin : Bool → List ℕ → Verdict → Type 0
+IsJudgedWithin false text verdict = verdict ≡ refused whole_file kinds.TooLong
+IsJudgedWithin true text verdict = IsJudged text verdict
 
 -- The verdict on what a file holds, or that there is no such file.
-abbrev pub IsJudgedAsHeld : Option (List ℕ) → Checked → Type 0
-IsJudgedAsHeld None checked = checked ≡ without_place Absent
-IsJudgedAsHeld (Some text) checked = IsJudgedWithin (nat_le (length text) longest_idl) text checked
-
--- neither a fault of the file nor want of memory
-abbrev pub IsVerdict : Checked → Type 0
-IsVerdict FileFault = ⊥
-IsVerdict NoMemory = ⊥
-IsVerdict checked = ⊤
+abbrev pub IsJudgedAsHeld : Option (List ℕ) → Verdict → Type 0
+IsJudgedAsHeld None verdict = verdict ≡ refused whole_file kinds.Absent
+IsJudgedAsHeld (Some text) verdict = IsJudgedWithin (nat_le (length text) longest_idl) text verdict
 
 -- `@tutorial` names the text that the program holds
 abbrev pub is_tutorial : List ℕ → Bool
 is_tutorial idl = bytes_eq idl (codes "@tutorial")
 
-abbrev pub IsCheckedIn : Bool → Option (List File) → List ℕ → Checked → Type 0
-IsCheckedIn true files idl checked = IsJudged tutorial_text checked
-IsCheckedIn false files idl checked = IsVerdict checked → OnTold files idl (λ held. IsJudgedAsHeld held checked)
+abbrev pub IsCheckedIn : Bool → Option (List File) → List ℕ → Verdict → Type 0
+IsCheckedIn true files idl verdict = IsJudged tutorial_text verdict
+IsCheckedIn false files idl verdict = OnTold files idl (λ held. IsJudgedAsHeld held verdict)
 
--- What becomes of the IDL of a name: the tutorial's text is judged, or else what the file of this name holds, where files are told. A fault
--- of the file and want of memory say nothing of it.
-abbrev pub IsChecked : Option (List File) → List ℕ → Checked → Type 0
-IsChecked files idl checked = IsCheckedIn (is_tutorial idl) files idl checked
+-- The verdict on the IDL of a name: that on the tutorial's text, or else on what the file of this name holds, where files are told.
+abbrev pub IsChecked : Option (List File) → List ℕ → Verdict → Type 0
+IsChecked files idl verdict = IsCheckedIn (is_tutorial idl) files idl verdict
+
+-- this holds of the verdict; a fault of the file and want of memory are none
+abbrev pub OnVerdict : Checked → (Verdict → Type 0) → Type 0
+OnVerdict Accepted P = P accepted
+OnVerdict HasInclude P = P including
+OnVerdict (Refused refusal) P = P (refused refusal.at refusal.kind)
+OnVerdict FileFault P = ⊤
+OnVerdict NoMemory P = ⊤
 
 -- what becomes of an IDL that isn't read
 abbrev pub unread : FileFail → Checked
-unread fail.Absent = without_place Absent
-unread fail.TooLong = without_place TooLong
+unread fail.Absent = Refused (record { at = whole_file; kind = kinds.Absent })
+unread fail.TooLong = Refused (record { at = whole_file; kind = kinds.TooLong })
 unread fail.Failed = FileFault
 unread fail.NoMemory = NoMemory

@@ -1,15 +1,16 @@
 -- What the top call promises of its status, its input, its output and its errors' line.
-use Rattle.std.specs.Prelude.{◌≡◌, ℕ, ◌⊎◌, List, [], Option, Some, None, take, codes, ⊤}
+use Rattle.std.specs.Prelude.{◌≡◌, ℕ, ◌⊎◌, false, List, [], Option, Some, None, take, codes, MatchOption, ⊤}
 use Rattle.outside.specs.Cause.{Rose}
 use Rattle.outside.specs.Content.{told_before, told_more, IsSpent}
 use Rattle.outside.specs.Files.{File}
 use Rattle.text_out.specs.Line.{line_of}
+use Rattle.idl_token.specs.declared.Place.{Place}
 use Rattle.host_model.specs.Report.{numbered}
 use Rattle.thrift_host.specs.declared.status.Status.{Status}
 use Rattle.thrift_host.specs.declared.status.Status.TheVariants.{Done, Usage, IdlRefused, ScriptRefused, FileFault, ReadFault, WriteFault, NoMemory, Unbuilt}
+use Rattle.thrift_host.specs.declared.refusal.IdlKind.{IdlKind}
 use Rattle.thrift_host.specs.declared.refusal.Refusal.{Refusal}
-use Rattle.thrift_host.specs.declared.check.Checked.TheVariants as checked
-use Rattle.thrift_host.specs.Check.{IsChecked}
+use Rattle.thrift_host.specs.Check.{accepted, including, refused, IsChecked, is_tutorial}
 use Rattle.thrift_host.specs.Refusals.{refusal_text}
 use Rattle.thrift_host.specs.Script.{script_of, joined, ends_from}
 use Rattle.thrift_host.specs.Rehearsal.{Reports, IsUnbuilt, AreBuilt}
@@ -49,7 +50,7 @@ IsUnbuiltAt left_before i =
 -- What a status of a rehearsal says of the input and of the output: nothing is added to the output but with Done, WriteFault and NoMemory.
 abbrev pub Means : Status → (left_before left taken_before taken : Option (List ℕ)) → Type 0
 Means Done left_before left taken_before taken = IsReported left_before left taken_before taken
-Means Usage left_before left taken_before taken = taken ≡ taken_before
+Means Usage left_before left taken_before taken = (left ≡ left_before) × (taken ≡ taken_before)
 Means ScriptRefused left_before left taken_before taken = IsRefused left_before × (taken ≡ taken_before)
 Means ReadFault left_before left taken_before taken = taken ≡ taken_before
 Means IdlRefused left_before left taken_before taken = ⊥
@@ -60,11 +61,11 @@ Means Unbuilt left_before left taken_before taken = ((i : ℕ) × IsUnbuiltAt le
 
 -- What a status says of the IDL that is checked.
 abbrev pub MeansOfIdl : Option (List File) → List ℕ → Status → Type 0
-MeansOfIdl files idl Done = IsChecked files idl checked.Accepted
-MeansOfIdl files idl IdlRefused = (refusal : Refusal) × IsChecked files idl (checked.Refused refusal)
-MeansOfIdl files idl FileFault = IsChecked files idl checked.FileFault
+MeansOfIdl files idl Done = IsChecked files idl accepted
+MeansOfIdl files idl IdlRefused = (at : Place) × (kind : IdlKind) × IsChecked files idl (refused at kind)
+MeansOfIdl files idl FileFault = is_tutorial idl ≡ false
 MeansOfIdl files idl NoMemory = ⊤
-MeansOfIdl files idl Unbuilt = IsChecked files idl checked.HasInclude
+MeansOfIdl files idl Unbuilt = IsChecked files idl including
 MeansOfIdl files idl _ = ⊥
 
 -- What a status says of the command: where it checks an IDL, nothing is read of the input, and nothing is added to the output.
@@ -73,17 +74,17 @@ MeansOf None files status left_before left taken_before taken = Means status lef
 MeansOf (Some idl) files status left_before left taken_before taken =
     MeansOfIdl files idl status × (left ≡ left_before) × (taken ≡ taken_before)
 
--- the errors' line of a status; that of an IDL that is refused and that of what is unbuilt say more
-abbrev pub error_text : Status → List ℕ
-error_text Done = []
-error_text Usage = line_of (codes "thriftd: usage")
-error_text IdlRefused = line_of (codes "thriftd: idl")
-error_text ScriptRefused = line_of (codes "thriftd: script")
-error_text FileFault = line_of (codes "thriftd: file fault")
-error_text ReadFault = line_of (codes "thriftd: read fault")
-error_text WriteFault = line_of (codes "thriftd: write fault")
-error_text NoMemory = line_of (codes "thriftd: no memory")
-error_text Unbuilt = line_of (codes "thriftd: unbuilt")
+-- the errors' line of a status, where it has one fixed line; Done has none to write
+abbrev pub error_text : Status → Option (List ℕ)
+error_text Done = Some []
+error_text Usage = Some (line_of (codes "thriftd: usage"))
+error_text IdlRefused = None
+error_text ScriptRefused = Some (line_of (codes "thriftd: script"))
+error_text FileFault = Some (line_of (codes "thriftd: file fault"))
+error_text ReadFault = Some (line_of (codes "thriftd: read fault"))
+error_text WriteFault = Some (line_of (codes "thriftd: write fault"))
+error_text NoMemory = Some (line_of (codes "thriftd: no memory"))
+error_text Unbuilt = None
 
 abbrev pub unbuilt_text : ℕ → List ℕ
 unbuilt_text i = line_of (numbered (codes "thriftd: unbuilt frame") i)
@@ -97,18 +98,22 @@ pub record IsSaid (before now : Option (List ℕ)) (faults_before faults : ℕ) 
   pub written : now ≡ told_more before (take front text)
   pub whole : (now ≡ told_more before text) ⊎ Rose faults_before faults
 
+-- the one fixed line of a status was added to the errors
+abbrev pub IsLineSaid : Status → (before now : Option (List ℕ)) (faults_before faults : ℕ) → Type 0
+IsLineSaid status before now faults_before faults = MatchOption (error_text status) ⊥ (λ text. IsSaid before now faults_before faults text)
+
 -- the line of a status was added to the errors; an unbuilt frame's has its number
 abbrev pub Says : Status → Option (List ℕ) → (before now : Option (List ℕ)) (faults_before faults : ℕ) → Type 0
 Says Unbuilt left_before before now faults_before faults =
     (i : ℕ) × IsUnbuiltAt left_before i × IsSaid before now faults_before faults (unbuilt_text i)
-Says status left_before before now faults_before faults = IsSaid before now faults_before faults (error_text status)
+Says status left_before before now faults_before faults = IsLineSaid status before now faults_before faults
 
 -- the line of a status was added to the errors where an IDL is checked; a refused one's has the file, the place and the kind
 abbrev pub SaysOfIdl : Option (List File) → List ℕ → Status → (before now : Option (List ℕ)) (faults_before faults : ℕ) → Type 0
 SaysOfIdl files idl IdlRefused before now faults_before faults =
-    (refusal : Refusal) × IsChecked files idl (checked.Refused refusal) × IsSaid before now faults_before faults (refusal_text idl refusal)
+    (at : Place) × (kind : IdlKind) × IsChecked files idl (refused at kind) × IsSaid before now faults_before faults (refusal_text idl at kind)
 SaysOfIdl files idl Unbuilt before now faults_before faults = IsSaid before now faults_before faults include_text
-SaysOfIdl files idl status before now faults_before faults = IsSaid before now faults_before faults (error_text status)
+SaysOfIdl files idl status before now faults_before faults = IsLineSaid status before now faults_before faults
 
 abbrev pub SaysOf : Option (List ℕ) → Option (List File) → Status → Option (List ℕ) → (before now : Option (List ℕ)) (faults_before faults : ℕ) → Type 0
 SaysOf None files status left_before before now faults_before faults = Says status left_before before now faults_before faults
@@ -148,11 +153,12 @@ Reported _ bytes ends taken_before taken = ⊥
 -- What a status says of the errors where frame `number` isn't built.
 abbrev pub EndsUnbuilt : Status → ℕ → (before now : Option (List ℕ)) (faults_before faults : ℕ) → Type 0
 EndsUnbuilt Unbuilt number before now faults_before faults = IsSaid before now faults_before faults (unbuilt_text number)
-EndsUnbuilt NoMemory number before now faults_before faults = IsSaid before now faults_before faults (error_text NoMemory)
+EndsUnbuilt NoMemory number before now faults_before faults = IsLineSaid NoMemory before now faults_before faults
 EndsUnbuilt _ number before now faults_before faults = ⊥
 
 -- What a status says of the errors where an IDL is refused.
 abbrev pub EndsRefused : Status → List ℕ → Refusal → (before now : Option (List ℕ)) (faults_before faults : ℕ) → Type 0
-EndsRefused IdlRefused idl refusal before now faults_before faults = IsSaid before now faults_before faults (refusal_text idl refusal)
-EndsRefused NoMemory idl refusal before now faults_before faults = IsSaid before now faults_before faults (error_text NoMemory)
+EndsRefused IdlRefused idl refusal before now faults_before faults =
+    IsSaid before now faults_before faults (refusal_text idl refusal.at refusal.kind)
+EndsRefused NoMemory idl refusal before now faults_before faults = IsLineSaid NoMemory before now faults_before faults
 EndsRefused _ idl refusal before now faults_before faults = ⊥

@@ -1,11 +1,11 @@
 //! What becomes of an IDL: it is found, read, cut into tokens and parsed, or refused at its first fault.
 
-ghost use Rattle.std.specs.Prelude.{◌≡◌, ◌≢◌, ◌≤◌, ℕ, List, length};
+ghost use Rattle.std.specs.Prelude.{◌≡◌, ◌≢◌, ◌≤◌, ℕ, false, List, Option, Some, length, MatchOption};
 ghost use Rattle.outside.specs.Cause.{Rose};
 ghost use Rattle.idl_token.specs.Tokens.{AreTokensOf, IsFirstFault};
 ghost use Rattle.idl_parser.specs.Faults.{IsFaultOf};
 ghost use Rattle.idl_parser.specs.Trees.{document_node};
-ghost use Rattle.thrift_host.specs.Check.{IsChecked, IsDocument, IsJudged, longest_idl, unread, without_place};
+ghost use Rattle.thrift_host.specs.Check.{IsChecked, IsDocument, IsJudged, OnVerdict, is_tutorial, kind_of_lexer, kind_of_parser, longest_idl, unread, whole_file};
 
 use crate::refusal::{IdlKind, Refusal};
 use crate::tutorial::tutorial;
@@ -31,8 +31,9 @@ pub(crate) enum Checked {
 
 /// Checks the IDL of this name.
 pub(crate) fn check<F: Files>(alloc: Global, files: &mut F, idl: &str) -> Checked
-    ensures checked { IsChecked (F.files files.old) idl.now result }
+    ensures checked { OnVerdict result (λ verdict. IsChecked (F.files files.old) idl.now verdict) }
     ensures same { F.files files.new ≡ F.files files.old }
+    ensures of_a_file { result ≡ Checked.FileFault → is_tutorial idl.now ≡ false }
     ensures fault { result ≡ Checked.FileFault → Rose (F.faults files.old) (F.faults files.new) }
 {
     if idl == "@tutorial" {
@@ -58,16 +59,17 @@ fn unread(fail: FileFail) -> Checked
 
 /// A refusal of the file as a whole.
 fn refused_whole(kind: IdlKind) -> Checked
-    ensures { result ≡ without_place kind }
+    ensures { result ≡ Checked.Refused (record { at = whole_file; kind = kind }) }
 {
     let at = Place { line: 0, column: 0 };
     Checked::Refused(Refusal { at, kind })
 }
 
-/// The verdict on a text.
+/// What becomes of a text.
 fn judge(alloc: Global, text: &[u8]) -> Checked
     requires { length text.now ≤ longest_idl }
-    ensures { IsJudged text.now result }
+    ensures judged { OnVerdict result (λ verdict. IsJudged text.now verdict) }
+    ensures no_file { result ≢ Checked.FileFault }
 {
     match tokens(alloc, text) {
         Ok(tokens) => judge_tokens(alloc, text, tokens.as_slice()),
@@ -75,11 +77,12 @@ fn judge(alloc: Global, text: &[u8]) -> Checked
     }
 }
 
-/// The verdict on a text with these tokens.
+/// What becomes of a text with these tokens.
 fn judge_tokens(alloc: Global, text: &[u8], tokens: &[Token]) -> Checked
     requires short { length text.now ≤ longest_idl }
     requires tokens { AreTokensOf tokens.now text.now }
-    ensures { IsJudged text.now result }
+    ensures judged { OnVerdict result (λ verdict. IsJudged text.now verdict) }
+    ensures no_file { result ≢ Checked.FileFault }
 {
     match parse(alloc, text, tokens) {
         Ok(document) => judge_document(&document),
@@ -87,9 +90,10 @@ fn judge_tokens(alloc: Global, text: &[u8], tokens: &[Token]) -> Checked
     }
 }
 
-/// The verdict on a document.
+/// What becomes of a text with this document.
 fn judge_document(document: &Document) -> Checked
-    ensures { (text : List ℕ) → IsDocument text (document_node document.now) → IsJudged text result }
+    ensures judged { (text : List ℕ) → IsDocument text (document_node document.now) → OnVerdict result (λ verdict. IsJudged text verdict) }
+    ensures no_file { result ≢ Checked.FileFault }
 {
     if document.includes.is_empty() {
         Checked::Accepted
@@ -98,30 +102,52 @@ fn judge_document(document: &Document) -> Checked
     }
 }
 
-/// The verdict on a text with this fault of the lexer.
+/// What becomes of a text with this fault of the lexer.
 fn lex_refusal(fault: LexFault) -> Checked
-    ensures { (text : List ℕ) → (fault.kind ≢ LexKind.NoMemory → IsFirstFault fault text) → IsJudged text result }
+    ensures judged { (text : List ℕ) → (fault.kind ≢ LexKind.NoMemory → IsFirstFault fault text) → OnVerdict result (λ verdict. IsJudged text verdict) }
+    ensures no_file { result ≢ Checked.FileFault }
 {
-    match fault.kind {
-        LexKind::NoMemory => Checked::NoMemory,
-        kind => Checked::Refused(Refusal {
-            at: fault.at,
-            kind: IdlKind::Lex(kind),
-        }),
+    match lexer_kind(fault.kind) {
+        None => Checked::NoMemory,
+        Some(kind) => Checked::Refused(Refusal { at: fault.at, kind }),
     }
 }
 
-/// The verdict on a text with this fault of the parser.
-fn parse_refusal(fault: ParseFault) -> Checked
-    ensures { (text : List ℕ) (tokens : List Token) → AreTokensOf tokens text
-        → (fault.kind ≢ ParseKind.NoMemory → IsFaultOf text tokens fault) → IsJudged text result }
+/// The kind of a fault of the lexer; want of memory is none.
+fn lexer_kind(kind: LexKind) -> Option<IdlKind>
+    ensures { result ≡ kind_of_lexer kind }
 {
-    match fault.kind {
-        ParseKind::NoMemory => Checked::NoMemory,
-        kind => Checked::Refused(Refusal {
-            at: fault.at,
-            kind: IdlKind::Parse(kind),
-        }),
+    match kind {
+        LexKind::BadByte => Some(IdlKind::BadByte),
+        LexKind::OpenLiteral => Some(IdlKind::OpenLiteral),
+        LexKind::OpenComment => Some(IdlKind::OpenComment),
+        LexKind::BadEscape => Some(IdlKind::BadEscape),
+        LexKind::BigNumber => Some(IdlKind::BigNumber),
+        LexKind::NoMemory => None,
+    }
+}
+
+/// What becomes of a text with this fault of the parser.
+fn parse_refusal(fault: ParseFault) -> Checked
+    ensures judged { (text : List ℕ) (tokens : List Token) → AreTokensOf tokens text
+        → (fault.kind ≢ ParseKind.NoMemory → IsFaultOf text tokens fault) → OnVerdict result (λ verdict. IsJudged text verdict) }
+    ensures no_file { result ≢ Checked.FileFault }
+{
+    match parser_kind(fault.kind) {
+        None => Checked::NoMemory,
+        Some(kind) => Checked::Refused(Refusal { at: fault.at, kind }),
+    }
+}
+
+/// The kind of a fault of the parser; want of memory is none.
+fn parser_kind(kind: ParseKind) -> Option<IdlKind>
+    ensures { result ≡ kind_of_parser kind }
+{
+    match kind {
+        ParseKind::Found => Some(IdlKind::Found),
+        ParseKind::Refused => Some(IdlKind::Refused),
+        ParseKind::TooDeep => Some(IdlKind::TooDeep),
+        ParseKind::NoMemory => None,
     }
 }
 

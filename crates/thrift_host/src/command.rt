@@ -1,11 +1,11 @@
 //! The top call.
 
-ghost use Rattle.std.specs.Prelude.{◌≡◌, ◌↔◌, List, Option, length, map, string_bytes, MatchResult, IfOk, ◌<◌, ◌^◌};
+ghost use Rattle.std.specs.Prelude.{◌≡◌, ◌↔◌, ◌<◌, ◌^◌, false, List, Option, Some, None, length, map, string_bytes, MatchOption, MatchResult, IfOk, IfSome};
 ghost use Rattle.outside.specs.Cause.{Rose};
 ghost use Rattle.outside.specs.Files.{File};
 ghost use Rattle.thrift_host.specs.Words.{AreNoCommand, checked_idl};
 ghost use Rattle.thrift_host.specs.Script.{AreEnds};
-ghost use Rattle.thrift_host.specs.Check.{IsChecked};
+ghost use Rattle.thrift_host.specs.Check.{IsChecked, OnVerdict, is_tutorial};
 ghost use Rattle.thrift_host.specs.Top.{MeansOf, MeansOfIdl, SaysOf, SaysOfIdl, IsSaid, IsRead, EndsInput, EndsUnbuilt, EndsRefused, Reported, error_text, include_text};
 
 use crate::check::{Checked, check};
@@ -32,13 +32,15 @@ pub fn host<R, F: Files, S: Source, K: Sink, E: Sink>(
     output: &mut K,
     errors: &mut E,
 ) -> Status
-    // An IDL is checked: Done, IdlRefused and Unbuilt come exactly by the text of its file, since no text has two verdicts, and nothing is written.
+    // An IDL is checked: Done, IdlRefused and Unbuilt come exactly by the text of its file, since each text has one verdict; nothing is read of the
+    // input, and nothing is written.
     // Else Done: the input is a script, read to its end, and the bytes added to the output are the report of a run of it,
     // whose tape, journal and cause meet the headline. ScriptRefused and Unbuilt come exactly by the input, since no
     // input is two of no script, a script with an unbuilt frame, and one without.
     ensures means { MeansOf (checked_idl (map string_bytes words.now)) (F.files files.old) result
         (S.left input.old) (S.left input.new) (K.taken output.old) (K.taken output.new) }
     ensures usage { (result ≡ Status.Usage) ↔ AreNoCommand (map string_bytes words.now) }
+    ensures files { F.files files.new ≡ F.files files.old }
     ensures file_fault { result ≡ Status.FileFault → Rose (F.faults files.old) (F.faults files.new) }
     ensures read_fault { result ≡ Status.ReadFault → Rose (S.faults input.old) (S.faults input.new) }
     ensures write_fault { result ≡ Status.WriteFault → Rose (K.faults output.old) (K.faults output.new) }
@@ -108,19 +110,23 @@ fn run<K: Sink>(alloc: Global, script: &Script, output: &mut K) -> Status
     }
 }
 
-/// Ends the command with a status, whose line goes to the errors.
+/// Ends the command with a status, whose fixed line goes to the errors.
 fn end<E: Sink>(errors: &mut E, status: Status) -> Status
     ensures same { result ≡ status }
-    ensures said { IsSaid (E.taken errors.old) (E.taken errors.new) (E.faults errors.old) (E.faults errors.new) (error_text status) }
+    ensures said { IfSome (error_text status)
+        (λ text. IsSaid (E.taken errors.old) (E.taken errors.new) (E.faults errors.old) (E.faults errors.new) text) }
 {
-    say(errors, error_line(status));
+    if let Some(line) = error_line(status) {
+        say(errors, line.as_bytes());
+    }
     status
 }
 
 /// Ends the command with what became of its IDL.
 fn end_check<E: Sink>(alloc: Global, errors: &mut E, idl: &str, checked: Checked) -> Status
-    ensures means { (files : Option (List File)) → IsChecked files idl.now checked → MeansOfIdl files idl.now result }
-    ensures said { (files : Option (List File)) → IsChecked files idl.now checked → SaysOfIdl files idl.now result
+    ensures means { (files : Option (List File)) → OnVerdict checked (λ verdict. IsChecked files idl.now verdict)
+        → (checked ≡ Checked.FileFault → is_tutorial idl.now ≡ false) → MeansOfIdl files idl.now result }
+    ensures said { (files : Option (List File)) → OnVerdict checked (λ verdict. IsChecked files idl.now verdict) → SaysOfIdl files idl.now result
         (E.taken errors.old) (E.taken errors.new) (E.faults errors.old) (E.faults errors.new) }
     ensures fault { result ≡ Status.FileFault → checked ≡ Checked.FileFault }
 {
@@ -173,19 +179,18 @@ fn say<E: Sink>(errors: &mut E, line: &[u8])
     let _ = write_all(errors, line);
 }
 
-/// The errors' line of a status.
-fn error_line(status: Status) -> &'static [u8]
-    ensures { result.now ≡ error_text status }
+/// The errors' line of a status, where it has one fixed line.
+fn error_line(status: Status) -> Option<&'static str>
+    ensures { MatchOption result (error_text status ≡ None) (λ line. error_text status ≡ Some line.now) }
 {
     match status {
-        Status::Done => b"",
-        Status::Usage => b"thriftd: usage\n",
-        Status::IdlRefused => b"thriftd: idl\n",
-        Status::ScriptRefused => b"thriftd: script\n",
-        Status::FileFault => b"thriftd: file fault\n",
-        Status::ReadFault => b"thriftd: read fault\n",
-        Status::WriteFault => b"thriftd: write fault\n",
-        Status::NoMemory => b"thriftd: no memory\n",
-        Status::Unbuilt => b"thriftd: unbuilt\n",
+        Status::Done => Some(""),
+        Status::Usage => Some("thriftd: usage\n"),
+        Status::ScriptRefused => Some("thriftd: script\n"),
+        Status::FileFault => Some("thriftd: file fault\n"),
+        Status::ReadFault => Some("thriftd: read fault\n"),
+        Status::WriteFault => Some("thriftd: write fault\n"),
+        Status::NoMemory => Some("thriftd: no memory\n"),
+        Status::IdlRefused | Status::Unbuilt => None,
     }
 }

@@ -18,13 +18,17 @@ mod run;
 mod script;
 mod status;
 #[cfg(test)]
+mod testing;
+#[cfg(test)]
 mod tests;
 mod tutorial;
 mod words;
 
 pub use command::host;
 pub use entry::Entry;
-pub use laws::{a_text_has_one_verdict, an_idl_has_one_verdict};
+pub use laws::{
+    a_text_has_a_verdict, a_text_has_one_verdict, an_idl_has_a_verdict, an_idl_has_one_verdict,
+};
 pub use message::{Answer, Call, Message};
 pub use script::Script;
 pub use status::Status;

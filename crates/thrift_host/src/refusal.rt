@@ -1,10 +1,9 @@
 //! Why an IDL is refused, and the errors' line that says so.
 
 ghost use Rattle.std.specs.Prelude.{◌≡◌, ◌∷◌, [], ◌++◌, codes, OnOk};
-ghost use Rattle.thrift_host.specs.Refusals.{kind_word, lex_word, parse_word, place_text, refusal_text};
+ghost use Rattle.thrift_host.specs.Refusals.{kind_word, place_text, refusal_text};
 
-use idl_parser::ParseKind;
-use idl_token::{LexKind, Place};
+use idl_token::Place;
 use std::alloc::AllocError;
 use text_out::decimal;
 
@@ -15,10 +14,22 @@ pub(crate) enum IdlKind {
     Absent,
     /// The file is longer than an IDL may be.
     TooLong,
-    /// The lexer found a fault; it isn't want of memory.
-    Lex(LexKind),
-    /// The parser found a fault; it isn't want of memory.
-    Parse(ParseKind),
+    /// A byte with which no token begins.
+    BadByte,
+    /// A literal without its end.
+    OpenLiteral,
+    /// A comment without its end.
+    OpenComment,
+    /// A backslash in a literal with a byte behind it that makes no escape.
+    BadEscape,
+    /// An integer outside 64 bits, or a double with too many digits or too large an exponent.
+    BigNumber,
+    /// A token with which no document goes on, or the end of the text.
+    Found,
+    /// Such a token that is left out by name.
+    Refused,
+    /// A token that opens a level too many.
+    TooDeep,
 }
 
 /// Why an IDL is refused.
@@ -32,12 +43,12 @@ pub(crate) struct Refusal {
 
 /// Appends the errors' line of an IDL that is refused.
 pub(crate) fn put_refusal(into: &mut Vec<u8>, idl: &str, refusal: Refusal) -> Result<(), AllocError>
-    ensures { OnOk result (into.new.items ≡ into.old.items ++ refusal_text idl.now refusal) }
+    ensures { OnOk result (into.new.items ≡ into.old.items ++ refusal_text idl.now refusal.at refusal.kind) }
 {
     put_name(into, idl)?;
     put_place(into, refusal.at)?;
     into.push(b' ')?;
-    text_out::line(into, kind_word(refusal.kind))
+    text_out::line(into, kind_word(refusal.kind).as_bytes())
 }
 
 /// Appends the front of the line: the file's name, with a blank behind it.
@@ -60,39 +71,19 @@ fn put_place(into: &mut Vec<u8>, at: Place) -> Result<(), AllocError>
 }
 
 /// The word of a kind.
-fn kind_word(kind: IdlKind) -> &'static [u8]
+fn kind_word(kind: IdlKind) -> &'static str
     ensures { result.now ≡ kind_word kind }
 {
     match kind {
-        IdlKind::Absent => b"Absent",
-        IdlKind::TooLong => b"TooLong",
-        IdlKind::Lex(kind) => lex_word(kind),
-        IdlKind::Parse(kind) => parse_word(kind),
-    }
-}
-
-/// The word of a fault of the lexer.
-fn lex_word(kind: LexKind) -> &'static [u8]
-    ensures { result.now ≡ lex_word kind }
-{
-    match kind {
-        LexKind::BadByte => b"BadByte",
-        LexKind::OpenLiteral => b"OpenLiteral",
-        LexKind::OpenComment => b"OpenComment",
-        LexKind::BadEscape => b"BadEscape",
-        LexKind::BigNumber => b"BigNumber",
-        LexKind::NoMemory => b"NoMemory",
-    }
-}
-
-/// The word of a fault of the parser.
-fn parse_word(kind: ParseKind) -> &'static [u8]
-    ensures { result.now ≡ parse_word kind }
-{
-    match kind {
-        ParseKind::Found => b"Found",
-        ParseKind::Refused => b"Refused",
-        ParseKind::TooDeep => b"TooDeep",
-        ParseKind::NoMemory => b"NoMemory",
+        IdlKind::Absent => "Absent",
+        IdlKind::TooLong => "TooLong",
+        IdlKind::BadByte => "BadByte",
+        IdlKind::OpenLiteral => "OpenLiteral",
+        IdlKind::OpenComment => "OpenComment",
+        IdlKind::BadEscape => "BadEscape",
+        IdlKind::BigNumber => "BigNumber",
+        IdlKind::Found => "Found",
+        IdlKind::Refused => "Refused",
+        IdlKind::TooDeep => "TooDeep",
     }
 }

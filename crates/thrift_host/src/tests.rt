@@ -1,66 +1,31 @@
 //! Recorded connections through the top call: what is written, and what is refused.
 
-use super::*;
-use outside::{MemFiles, MemSink, MemSource};
+use crate::script::LONGEST_SCRIPT;
+use crate::status::Status;
+use crate::testing::{Ended, Given, REHEARSE};
+use outside::{MemSink, MemSource};
 use std::alloc::{AllocError, Global};
 use std::process::Abort;
 use std::test::Fail;
 
-/// What a command came to.
-#[derive(Drop)]
-struct Ended {
-    status: Status,
-    output: Vec<u8>,
-    errors: Vec<u8>,
+/// Runs the command on a script, over streams that never fail.
+fn run<R>(rt: &R, alloc: Global, script: Vec<u8>) -> Result<Ended, AllocError> {
+    let mut given = Given::empty(alloc);
+    given.input = MemSource::new(script, Vec::new(alloc));
+    given.run(rt, alloc, &REHEARSE)
 }
 
-/// The words of the one command.
-fn rehearse_words(alloc: Global) -> Result<Vec<String>, AllocError> {
-    let mut words = Vec::new(alloc);
-    for word in [
-        "rehearse",
-        "@tutorial",
-        "binary",
-        "0",
-        "Calculator=calculator",
-    ] {
-        words.push(String::from_str(alloc, word)?)?;
-    }
-    Ok(words)
-}
-
-/// Runs the command on an input and sinks of these kinds.
-fn run_over<R>(
+/// Runs the command on `PING`, given and taken a byte at a time, with these numbers of the reads and writes that fail.
+fn run_ping<R>(
     rt: &R,
     alloc: Global,
-    mut input: MemSource,
-    mut output: MemSink,
-    mut errors: MemSink,
+    reads: Vec<u64>,
+    writes: Vec<u64>,
 ) -> Result<Ended, AllocError> {
-    let words = rehearse_words(alloc)?;
-    let mut files = MemFiles::new(Vec::new(alloc), Vec::new(alloc));
-    let status = host(
-        rt,
-        alloc,
-        &words,
-        &mut files,
-        &mut input,
-        &mut output,
-        &mut errors,
-    );
-    Ok(Ended {
-        status,
-        output: output.into_bytes(),
-        errors: errors.into_bytes(),
-    })
-}
-
-/// Runs the command on a script, over streams that never fail.
-fn run<R>(rt: &R, alloc: Global, script: &[u8]) -> Result<Ended, AllocError> {
-    let input = MemSource::new(script.to_vec(alloc)?, Vec::new(alloc));
-    let output = MemSink::new(alloc, Vec::new(alloc));
-    let errors = MemSink::new(alloc, Vec::new(alloc));
-    run_over(rt, alloc, input, output, errors)
+    let mut given = Given::empty(alloc);
+    given.input = MemSource::in_pieces(PING.to_vec(alloc)?, reads, 1);
+    given.output = MemSink::in_pieces(alloc, writes, 1);
+    given.run(rt, alloc, &REHEARSE)
 }
 
 const PING: &[u8] = b"open\ndata 0 00000011800100010000000470696e670000000000\nend 0\n";
@@ -107,7 +72,7 @@ const REPORTS: [(&[u8], &[u8]); 9] = [
 
 #[test]
 fn ping_is_reported_whole(rt: HostRuntime) -> Result<(), Fail> {
-    let ended = run(&rt, rt.alloc(), PING)?;
+    let ended = run(&rt, rt.alloc(), PING.to_vec(rt.alloc())?)?;
     assert_eq!(rt; ended.status, Status::Done);
     assert_eq!(rt; ended.output.as_slice(), PING_REPORT);
     assert_eq!(rt; ended.errors.as_slice(), b"".as_slice());
@@ -117,7 +82,7 @@ fn ping_is_reported_whole(rt: HostRuntime) -> Result<(), Fail> {
 #[test]
 fn connections_end_as_recorded(rt: HostRuntime) -> Result<(), Fail> {
     for (script, end) in &REPORTS {
-        let ended = run(&rt, rt.alloc(), script)?;
+        let ended = run(&rt, rt.alloc(), script.to_vec(rt.alloc())?)?;
         assert_eq!(rt; ended.status, Status::Done);
         assert!(rt; ended.output.as_slice().ends_with(end));
     }
@@ -142,10 +107,7 @@ fn bytes_may_come_one_by_one(rt: HostRuntime) -> Result<(), Fail> {
     report.extend_from_slice(
         b"conn 0 End 000000178001000200000003616464000000010800000000000200\ncalls 1\n",
     )?;
-    let input = MemSource::in_pieces(script, Vec::new(alloc), 1);
-    let output = MemSink::in_pieces(alloc, Vec::new(alloc), 1);
-    let errors = MemSink::new(alloc, Vec::new(alloc));
-    let ended = run_over(&rt, alloc, input, output, errors)?;
+    let ended = run(&rt, alloc, script)?;
     assert_eq!(rt; ended.status, Status::Done);
     assert_eq!(rt; ended.output.as_slice(), report.as_slice());
     Ok(())
@@ -159,7 +121,7 @@ fn refusals_are_named(rt: HostRuntime) -> Result<(), Fail> {
         b"open\ndata 0 0\nend 0\n",
         b"data 0 00\nend 0\n",
     ] {
-        let ended = run(&rt, alloc, script)?;
+        let ended = run(&rt, alloc, script.to_vec(alloc)?)?;
         assert_eq!(rt; ended.status, Status::ScriptRefused);
         assert_eq!(rt; ended.errors.as_slice(), b"thriftd: script\n".as_slice());
         assert_eq!(rt; ended.output.as_slice(), b"".as_slice());
@@ -167,7 +129,9 @@ fn refusals_are_named(rt: HostRuntime) -> Result<(), Fail> {
     let ended = run(
         &rt,
         alloc,
-        b"open\ndata 0 00000011800100010000000470696e6700000000000000000100\nend 0\n",
+        b"open\ndata 0 00000011800100010000000470696e6700000000000000000100\nend 0\n".to_vec(
+            alloc,
+        )?,
     )?;
     assert_eq!(rt; ended.status, Status::Unbuilt);
     assert_eq!(rt;
@@ -179,22 +143,30 @@ fn refusals_are_named(rt: HostRuntime) -> Result<(), Fail> {
 }
 
 #[test]
-fn streams_fail_at_each_call(rt: HostRuntime) -> Result<(), Fail> {
+fn each_read_may_fail(rt: HostRuntime) -> Result<(), Fail> {
     let alloc = rt.alloc();
-    for call in [0, 1, 5, 60] {
-        let input = MemSource::in_pieces(PING.to_vec(alloc)?, vec![in alloc; call]?, 1);
-        let output = MemSink::new(alloc, Vec::new(alloc));
-        let errors = MemSink::new(alloc, vec![in alloc; 0]?);
-        let ended = run_over(&rt, alloc, input, output, errors)?;
+    // One read a byte, and one that finds the end.
+    let reads = PING.len() as u64 + 1;
+    for call in 0..reads {
+        let ended = run_ping(&rt, alloc, vec![in alloc; call]?, Vec::new(alloc))?;
         assert_eq!(rt; ended.status, Status::ReadFault);
-        assert_eq!(rt; ended.output.as_slice(), b"".as_slice());
-        assert_eq!(rt; ended.errors.as_slice(), b"".as_slice());
+        assert!(rt; ended.output.is_empty());
+        assert_eq!(rt;
+            ended.errors.as_slice(),
+            b"thriftd: read fault\n".as_slice()
+        );
     }
-    for call in [0, 1, 7, 100] {
-        let input = MemSource::new(PING.to_vec(alloc)?, Vec::new(alloc));
-        let output = MemSink::in_pieces(alloc, vec![in alloc; call]?, 1);
-        let errors = MemSink::new(alloc, Vec::new(alloc));
-        let ended = run_over(&rt, alloc, input, output, errors)?;
+    let ended = run_ping(&rt, alloc, vec![in alloc; reads]?, Vec::new(alloc))?;
+    assert_eq!(rt; ended.status, Status::Done);
+    Ok(())
+}
+
+#[test]
+fn each_write_may_fail(rt: HostRuntime) -> Result<(), Fail> {
+    let alloc = rt.alloc();
+    let writes = PING_REPORT.len() as u64;
+    for call in 0..writes {
+        let ended = run_ping(&rt, alloc, Vec::new(alloc), vec![in alloc; call]?)?;
         assert_eq!(rt; ended.status, Status::WriteFault);
         assert_eq!(rt; ended.output.len() as u64, call);
         assert!(rt; PING_REPORT.starts_with(ended.output.as_slice()));
@@ -203,5 +175,35 @@ fn streams_fail_at_each_call(rt: HostRuntime) -> Result<(), Fail> {
             b"thriftd: write fault\n".as_slice()
         );
     }
+    let ended = run_ping(&rt, alloc, Vec::new(alloc), vec![in alloc; writes]?)?;
+    assert_eq!(rt; ended.status, Status::Done);
+    assert_eq!(rt; ended.output.as_slice(), PING_REPORT);
+    Ok(())
+}
+
+#[test]
+fn a_line_that_is_not_written_changes_no_status(rt: HostRuntime) -> Result<(), Fail> {
+    let alloc = rt.alloc();
+    let mut given = Given::empty(alloc);
+    given.errors = MemSink::new(alloc, vec![in alloc; 0]?);
+    let ended = given.run(&rt, alloc, &REHEARSE)?;
+    assert_eq!(rt; ended.status, Status::ScriptRefused);
+    assert!(rt; ended.errors.is_empty());
+    Ok(())
+}
+
+#[test]
+fn scripts_have_a_longest(rt: HostRuntime) -> Result<(), Fail> {
+    let alloc = rt.alloc();
+    let said = b"\nopen\nend 0\n";
+    let mut longest = vec![in alloc; b'#'; LONGEST_SCRIPT - 12]?;
+    longest.extend_from_slice(said)?;
+    let ended = run(&rt, alloc, longest)?;
+    assert_eq!(rt; ended.status, Status::Done);
+    let mut longer = vec![in alloc; b'#'; LONGEST_SCRIPT - 11]?;
+    longer.extend_from_slice(said)?;
+    let ended = run(&rt, alloc, longer)?;
+    assert_eq!(rt; ended.status, Status::ScriptRefused);
+    assert_eq!(rt; ended.errors.as_slice(), b"thriftd: script\n".as_slice());
     Ok(())
 }

@@ -1,55 +1,19 @@
 //! IDLs through the top call: what is accepted, and what is refused where.
 
-use crate::command::host;
 use crate::status::Status;
-use outside::{MemFiles, MemSink, MemSource};
+use crate::testing::{Ended, Given};
+use outside::MemFiles;
 use std::alloc::{AllocError, Global};
 use std::process::Abort;
 use std::test::Fail;
-
-/// What a command came to.
-#[derive(Drop)]
-struct Ended {
-    status: Status,
-    output: Vec<u8>,
-    errors: Vec<u8>,
-}
-
-/// Runs the command of these words over these files.
-fn run<R>(rt: &R, alloc: Global, words: &[&str], mut files: MemFiles) -> Result<Ended, AllocError> {
-    let mut all = Vec::new(alloc);
-    for word in words {
-        all.push(String::from_str(alloc, word)?)?;
-    }
-    let mut input = MemSource::new(Vec::new(alloc), Vec::new(alloc));
-    let mut output = MemSink::new(alloc, Vec::new(alloc));
-    let mut errors = MemSink::new(alloc, Vec::new(alloc));
-    let status = host(
-        rt,
-        alloc,
-        &all,
-        &mut files,
-        &mut input,
-        &mut output,
-        &mut errors,
-    );
-    Ok(Ended {
-        status,
-        output: output.into_bytes(),
-        errors: errors.into_bytes(),
-    })
-}
 
 /// Checks `a.thrift`, which holds this text.
 fn check_text<R>(rt: &R, alloc: Global, text: Vec<u8>) -> Result<Ended, AllocError> {
     let mut files = Vec::new(alloc);
     files.push((String::from_str(alloc, "a.thrift")?, text))?;
-    run(
-        rt,
-        alloc,
-        &["check", "a.thrift"],
-        MemFiles::new(files, Vec::new(alloc)),
-    )
+    let mut given = Given::empty(alloc);
+    given.files = MemFiles::new(files, Vec::new(alloc));
+    given.run(rt, alloc, &["check", "a.thrift"])
 }
 
 /// Texts with their status and the errors' line.
@@ -134,10 +98,10 @@ fn texts_have_a_longest(rt: HostRuntime) -> Result<(), Fail> {
     Ok(())
 }
 
+/// No file is there; the second part of a row has the numbers of the reads that fail.
 #[test]
 fn files_are_named_by_the_words(rt: HostRuntime) -> Result<(), Fail> {
     let alloc = rt.alloc();
-    // Each read of these files fails at its first call; what they answer else is that there is none.
     let rows: [(&[&str], &[u64], Status, &[u8]); 8] = [
         (
             &["check", "b.thrift"],
@@ -169,8 +133,9 @@ fn files_are_named_by_the_words(rt: HostRuntime) -> Result<(), Fail> {
         (&[], &[], Status::Usage, b"thriftd: usage\n"),
     ];
     for (words, fails, status, line) in &rows {
-        let files = MemFiles::new(Vec::new(alloc), fails.to_vec(alloc)?);
-        let ended = run(&rt, alloc, words, files)?;
+        let mut given = Given::empty(alloc);
+        given.files = MemFiles::new(Vec::new(alloc), fails.to_vec(alloc)?);
+        let ended = given.run(&rt, alloc, words)?;
         assert_eq!(rt; ended.status, *status);
         assert_eq!(rt; ended.errors.as_slice(), *line);
         assert!(rt; ended.output.is_empty());
