@@ -1,6 +1,6 @@
 //! The report of a run, which goes to a sink in pieces, so that its memory doesn't grow with the run.
 
-ghost use Rattle.std.specs.Prelude.{◌≡◌, ℕ, [], ◌∷◌, ◌++◌, codes, map, take, MatchResult, OnOk};
+ghost use Rattle.std.specs.Prelude.{◌≡◌, ◌<◌, ℕ, [], ◌∷◌, ◌++◌, codes, length, map, take, MatchResult, OnOk};
 ghost use Rattle.outside.specs.Cause.{HasCause};
 ghost use Rattle.outside.specs.Content.{told_more};
 ghost use Rattle.text_out.specs.Hex.{hex_of};
@@ -93,6 +93,7 @@ fn write_tape<K: Sink>(out: &mut K, pending: &mut Vec<u8>, tape: &[Mark]) -> Res
 fn write_mark<K: Sink>(out: &mut K, pending: &mut Vec<u8>, mark: &Mark) -> Result<(), ReportError>
     ensures told { Takes (K.taken out.old) (K.taken out.new)
         (pending.old.items ++ (line_of (mark_text mark.now))) pending.new.items result }
+    ensures few { OnOk result (length pending.new.items < PIECE) }
     ensures cause { HasSinkCause (K.faults out.old) (K.faults out.new) result }
 {
     match put_mark(pending, mark) {
@@ -127,6 +128,7 @@ fn write_entry<K: Sink>(
 ) -> Result<(), ReportError>
     ensures told { Takes (K.taken out.old) (K.taken out.new)
         (pending.old.items ++ (line_of (entry_text (entry_of entry.now)))) pending.new.items result }
+    ensures few { OnOk result (length pending.new.items < PIECE) }
     ensures cause { HasSinkCause (K.faults out.old) (K.faults out.new) result }
 {
     match put_entry(pending, entry) {
@@ -204,6 +206,7 @@ fn write_hex<K: Sink>(out: &mut K, pending: &mut Vec<u8>, bytes: &[u8]) -> Resul
 fn write_chunk<K: Sink>(out: &mut K, pending: &mut Vec<u8>, chunk: &[u8]) -> Result<(), ReportError>
     ensures told { Takes (K.taken out.old) (K.taken out.new)
         (pending.old.items ++ (hex_of chunk.now)) pending.new.items result }
+    ensures few { OnOk result (length pending.new.items < PIECE) }
     ensures cause { HasSinkCause (K.faults out.old) (K.faults out.new) result }
 {
     match hex(pending, chunk) {
@@ -217,6 +220,7 @@ fn write_chunk<K: Sink>(out: &mut K, pending: &mut Vec<u8>, chunk: &[u8]) -> Res
 fn write_count<K: Sink>(out: &mut K, pending: &mut Vec<u8>, count: usize) -> Result<(), ReportError>
     ensures told { Takes (K.taken out.old) (K.taken out.new)
         (pending.old.items ++ (line_of (numbered (codes "calls") count))) pending.new.items result }
+    ensures few { OnOk result (length pending.new.items < PIECE) }
     ensures cause { HasSinkCause (K.faults out.old) (K.faults out.new) result }
 {
     match put_count(pending, count) {
@@ -229,6 +233,7 @@ fn write_count<K: Sink>(out: &mut K, pending: &mut Vec<u8>, count: usize) -> Res
 #[tactic(auto, using(crate::proofs::Taking::taking))]
 fn settle<K: Sink>(out: &mut K, pending: &mut Vec<u8>) -> Result<(), ReportError>
     ensures told { Takes (K.taken out.old) (K.taken out.new) pending.old.items pending.new.items result }
+    ensures few { OnOk result (length pending.new.items < PIECE) }
     ensures cause { HasSinkCause (K.faults out.old) (K.faults out.new) result }
 {
     if pending.len() < PIECE {
