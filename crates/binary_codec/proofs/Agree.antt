@@ -1,32 +1,90 @@
 -- The parts together.
 use Rattle.std.specs.Prelude.{ℤ, FitsSigned}
 use Rattle.std.specs.Int.{w16}
-use Rattle.std.proofs.Common.{refl}
+use Rattle.std.proofs.Common.{◌≡◌, ◌++◌, Ok, refl, subst}
+use Rattle.thrift_value.specs.declared.tag.Tag.{Tag}
+use Rattle.thrift_value.specs.Tags.{tag_of}
 use Rattle.thrift_value.specs.Tree.{Tree, of_bool}
-use Rattle.wire_model.specs.Protocol.{IsProtocol}
-use Rattle.wire_model.specs.Writing.{heading}
-use Rattle.binary_codec.specs.Reading.{binary}
-use Rattle.binary_codec.specs.Spelling.{IsHead, binary_format}
-use Rattle.binary_codec.specs.Written.{head_text, binary_writing}
-use Rattle.binary_codec.proofs.Leaves.{field_reads, span_reads}
-use Rattle.binary_codec.proofs.Scalars.{scalar_reads, scalar_written, scalar_range}
-use Rattle.binary_codec.proofs.Containers.{items_reads, items_written, items_range, pairs_reads, pairs_written, pairs_range}
+use Rattle.wire_model.specs.Wire.{IsScalar}
+use Rattle.wire_model.specs.Protocol.{DecodesPart, IsProtocol}
+use Rattle.wire_model.specs.Encoder.{heading}
+use Rattle.binary_codec.specs.Faults.{HasHeaderFault, HasScalarFault, HasSizeFault, HasItemsFault, HasPairsFault}
+use Rattle.binary_codec.specs.Reading.{binary_field, binary_scalar, binary_span, binary_items, binary_pairs, binary}
+use Rattle.binary_codec.specs.Spelling.{IsHeader, IsScalarText, IsSpan, IsItems, IsPairs, binary_format}
+use Rattle.binary_codec.specs.Written.{header_text, binary_encoder}
+use Rattle.binary_codec.proofs.Leaves.{field_found, field_only, field_byte, span_found, span_only, span_byte}
+use Rattle.binary_codec.proofs.Scalars.{scalar_found, scalar_only, scalar_byte, scalar_written, scalar_range}
+use Rattle.binary_codec.proofs.Containers.{items_found, items_only, items_byte, items_written, items_range, pairs_found, pairs_only, pairs_byte, pairs_written, pairs_range}
+use Rattle.binary_codec.proofs.FaultTable.{field_fault_found, field_fault_only, scalar_fault_found, scalar_fault_only, span_fault_found, span_fault_only, items_fault_found, items_fault_only, pairs_fault_found, pairs_fault_only}
+use Rattle.binary_codec.proofs.PartsStay.{parts_stay}
+use Rattle.binary_codec.proofs.ShortParts.{field_mends, scalar_mends, span_mends, items_mends, pairs_mends}
 
-head_written : (last id : ℤ) (x : Tree) → FitsSigned w16 id → IsHead last (heading binary_writing.flags id x) (head_text last (heading binary_writing.flags id x))
-head_written last id (of_bool b) fits = (fits, refl)
-head_written last id x fits = (fits, refl)
+field_decodes : (last : ℤ) → DecodesPart (binary_field last) (IsHeader last) (λ _. 0) HasHeaderFault
+field_decodes last = record {
+  found = λ before after h fits e. field_found last before after h fits e;
+  only = λ h text more left is enough. field_only last h text more left is;
+  byte = field_byte last;
+  fault_found = field_fault_found last;
+  fault_only = λ unread fault fits h. field_fault_only last unread fault h;
+  mends = field_mends last;
+}
 
-pub leaves_agree : IsProtocol binary binary_format binary_writing
+scalar_decodes : (tag : Tag) → IsScalar tag → DecodesPart (binary_scalar tag) (λ x text. (tag_of x ≡ tag) × IsScalarText x text) (λ _. 0) (HasScalarFault tag)
+scalar_decodes tag is = record {
+  found = λ before after x fits e. scalar_found tag is before after x fits e;
+  only = λ x text more left h enough. subst (λ (k : Tag). binary_scalar k (record { bytes = text ++ more; budget = left }) ≡ Ok (x, record { bytes = more; budget = left })) h.0 (scalar_only x text more left h.1);
+  byte = λ x text h. scalar_byte x text h.1;
+  fault_found = scalar_fault_found tag is;
+  fault_only = λ unread fault fits h. scalar_fault_only tag is unread fault h;
+  mends = scalar_mends tag is;
+}
+
+span_decodes : DecodesPart binary_span IsSpan (λ _. 0) HasSizeFault
+span_decodes = record {
+  found = λ before after x fits e. span_found before after x fits e;
+  only = λ x text more left is enough. span_only x text more left is;
+  byte = span_byte;
+  fault_found = span_fault_found;
+  fault_only = λ unread fault fits h. span_fault_only unread fault h;
+  mends = span_mends;
+}
+
+items_decodes : DecodesPart binary_items (λ found. IsItems found.0 found.1) (λ found. found.1) HasItemsFault
+items_decodes = record {
+  found = λ before after x fits e. items_found before after x fits e;
+  only = items_only;
+  byte = items_byte;
+  fault_found = items_fault_found;
+  fault_only = λ unread fault fits h. items_fault_only unread fault h;
+  mends = items_mends;
+}
+
+pairs_decodes : DecodesPart binary_pairs (λ found. IsPairs found.0 found.1 found.2) (λ found. found.2) HasPairsFault
+pairs_decodes = record {
+  found = λ before after x fits e. pairs_found before after x fits e;
+  only = pairs_only;
+  byte = pairs_byte;
+  fault_found = pairs_fault_found;
+  fault_only = λ unread fault fits h. pairs_fault_only unread fault h;
+  mends = pairs_mends;
+}
+
+header_written : (last id : ℤ) (x : Tree) → FitsSigned w16 id → IsHeader last (heading binary_encoder.flags id x) (header_text last (heading binary_encoder.flags id x))
+header_written last id (of_bool b) fits = (fits, refl)
+header_written last id x fits = (fits, refl)
+
+pub leaves_agree : IsProtocol binary binary_format binary_encoder
 leaves_agree = record {
-  field = λ last fits. field_reads last;
+  field = λ last fits. field_decodes last;
   id = λ last id tag text h. h.0;
   flagged_id = λ last id flag text h. absurd h;
-  scalar = scalar_reads;
-  span = span_reads;
-  items = items_reads;
-  pairs = pairs_reads;
+  scalar = scalar_decodes;
+  span = span_decodes;
+  items = items_decodes;
+  pairs = pairs_decodes;
+  stays = parts_stay;
   stop_written = λ last. refl;
-  head_written = λ last id x last_fits fits. head_written last id x fits;
+  header_written = λ last id x last_fits fits. header_written last id x fits;
   scalar_written = scalar_written;
   span_written = λ bytes small each. record { size = small; each = each; whole = refl };
   items_written = items_written;

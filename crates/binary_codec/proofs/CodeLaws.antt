@@ -3,7 +3,7 @@ use Rattle.std.proofs.Common.{◌≡◌, ℕ, ◌<◌, Bool, true, false, cond, 
 use Rattle.std.proofs.lemmas.Bool.{eqb-true}
 use Rattle.thrift_value.specs.declared.tag.Tag.{Tag}
 use Rattle.thrift_value.specs.declared.tag.Tag.TheVariants as tags
-use Rattle.wire_model.specs.Reader.{Rest}
+use Rattle.wire_model.specs.Decoder.{Unread}
 use Rattle.wire_model.proofs.Steps.{ok_is}
 use Rattle.binary_codec.specs.Codes.{code_of, tag_of_code}
 use Rattle.binary_codec.specs.Reading.{tag_or_fault, tag_coded}
@@ -61,16 +61,16 @@ code_small tags.Map = (omega arith, omega arith)
 code_small tags.Set = (omega arith, omega arith)
 code_small tags.List = (omega arith, omega arith)
 
-tag_found_if : (o : Option Tag) (code : ℕ) (before after : Rest) (t : Tag) → tag_of_code code ≡ o → tag_or_fault code o before ≡ Ok (t, after) → (code ≡ code_of t) × (after ≡ before)
+tag_found_if : (o : Option Tag) (code : ℕ) (before after : Unread) (t : Tag) → tag_of_code code ≡ o → tag_or_fault code o before ≡ Ok (t, after) → (code ≡ code_of t) × (after ≡ before)
 tag_found_if None code before after t is e = absurd cc
 tag_found_if (Some u) code before after t is e =
     let same : (u, before) ≡ (t, after) = ok_is (u, before) (t, after) e in
-    (code_is code u is ∙ ap (λ (y : Tag × Rest). code_of y.0) same, sym (ap (λ (y : Tag × Rest). y.1) same))
+    (code_is code u is ∙ ap (λ (y : Tag × Unread). code_of y.0) same, sym (ap (λ (y : Tag × Unread). y.1) same))
 
-pub tag_found : (code : ℕ) (before after : Rest) (t : Tag) → tag_coded code before ≡ Ok (t, after) → (code ≡ code_of t) × (after ≡ before)
+pub tag_found : (code : ℕ) (before after : Unread) (t : Tag) → tag_coded code before ≡ Ok (t, after) → (code ≡ code_of t) × (after ≡ before)
 unfolding tag_coded
 tag_found code before after t e = tag_found_if (tag_of_code code) code before after t refl e
 
-pub tag_given : (t : Tag) (r : Rest) → tag_coded (code_of t) r ≡ Ok (t, r)
+pub tag_given : (t : Tag) (r : Unread) → tag_coded (code_of t) r ≡ Ok (t, r)
 unfolding tag_coded
 tag_given t r = ap (λ (o : Option Tag). tag_or_fault (code_of t) o r) (tag_is t)

@@ -5,8 +5,9 @@ use Rattle.std.proofs.lemmas.Bool.{eqb-true, eqb-false, ne_eqb}
 use Rattle.wire_num.specs.Fixed.{unsigned_bytes}
 use Rattle.thrift_value.specs.declared.tag.Tag.{Tag}
 use Rattle.thrift_value.specs.declared.tag.Tag.TheVariants as tags
-use Rattle.wire_model.specs.Reader.{Rest, ◌>>=◌, give}
-use Rattle.wire_model.specs.Protocol.{AreBytes, Found, Reads, plain_tag}
+use Rattle.wire_model.specs.Decoder.{Unread, ◌>>=◌, give}
+use Rattle.wire_num.specs.Encoded.{AreByteSized}
+use Rattle.wire_model.specs.Protocol.{IsInFront, plain_tag}
 use Rattle.wire_model.proofs.Steps.{went_on, goes_on, ok_is}
 use Rattle.binary_codec.specs.Codes.{code_of}
 use Rattle.binary_codec.specs.Reading.{byte, tag_coded, binary_size, items_coded, pairs_coded, binary_items, binary_pairs}
@@ -16,8 +17,8 @@ use Rattle.binary_codec.proofs.FixedNumbers.{byte_found, byte_given}
 use Rattle.binary_codec.proofs.CodeLaws.{code_small, tag_found, tag_given}
 use Rattle.binary_codec.proofs.Leaves.{after_byte, size_found, size_given}
 
-abbrev rest : List ℕ → ℕ → Rest
-rest bytes left = record { bytes = bytes; left = left }
+abbrev rest : List ℕ → ℕ → Unread
+rest bytes left = record { bytes = bytes; budget = left }
 
 -- the code of an empty container, and of one with elements
 empty_code : (size code : ℕ) → size ≡ 0 → code < 256 → IsElementCode tags.Bool size code
@@ -38,23 +39,23 @@ plain_code (suc n) code tag is = refl
 
 -- ---- lists and sets
 
-record ItemsRead (code size : ℕ) (found : Tag × ℕ) (before after : Rest) : Type 0 where
+record ItemsRead (code size : ℕ) (found : Tag × ℕ) (before after : Unread) : Type 0 where
   size_is : found.1 ≡ size
   coded : IsElementCode found.0 size code
   same : after ≡ before
 
-items_if : (b : Bool) (code size : ℕ) (before after : Rest) (found : Tag × ℕ) → code < 256 → eqb size 0 ≡ b
+items_if : (b : Bool) (code size : ℕ) (before after : Unread) (found : Tag × ℕ) → code < 256 → eqb size 0 ≡ b
     → cond b (give (tags.Bool, size)) (tag_coded code >>= λ tag. give (tag, size)) before ≡ Ok (found, after) → ItemsRead code size found before after
 items_if true code size before after found small test e =
-    subst (λ (y : (Tag × ℕ) × Rest). ItemsRead code size y.0 before y.1) (ok_is ((tags.Bool, size), before) (found, after) e)
+    subst (λ (y : (Tag × ℕ) × Unread). ItemsRead code size y.0 before y.1) (ok_is ((tags.Bool, size), before) (found, after) e)
     (record { size_is = refl; coded = empty_code size code (eqb-true size 0 test) small; same = refl })
 items_if false code size before after found small test e =
     let one = went_on (tag_coded code before) (λ tag. give (tag, size)) (found, after) e in
     let t = tag_found code before one.0.1 one.0.0 one.1 in
-    subst (λ (y : (Tag × ℕ) × Rest). ItemsRead code size y.0 before y.1) (ok_is ((one.0.0, size), one.0.1) (found, after) one.2)
+    subst (λ (y : (Tag × ℕ) × Unread). ItemsRead code size y.0 before y.1) (ok_is ((one.0.0, size), one.0.1) (found, after) one.2)
     (record { size_is = refl; coded = full_code size code one.0.0 (eqb-false size 0 test) t.0; same = t.1 })
 
-items_found : (before after : Rest) (found : Tag × ℕ) → AreBytes before.bytes → binary_items before ≡ Ok (found, after) → Found (λ f. IsItems f.0 f.1) found before after
+pub items_found : (before after : Unread) (found : Tag × ℕ) → AreByteSized before.bytes → binary_items before ≡ Ok (found, after) → IsInFront (λ f. IsItems f.0 f.1) found before after
 unfolding binary_items
 items_found before after found fits e =
     let one = went_on (byte before) (λ code. binary_size >>= λ size. items_coded code size) (found, after) e in
@@ -68,23 +69,23 @@ items_found before after found fits e =
     let i = items_if (eqb size 0) code size third after found b.small refl two.2 in
     record {
       text = code ∷ unsigned_bytes w32 found.1;
-      whole = b.whole ∙ ap (λ (t : List ℕ). code ∷ t) (s.whole ∙ ap (λ (r : Rest). unsigned_bytes w32 size ++ r.bytes) (sym i.same) ∙ ap (λ (k : ℕ). unsigned_bytes w32 k ++ after.bytes) (sym i.size_is));
+      whole = b.whole ∙ ap (λ (t : List ℕ). code ∷ t) (s.whole ∙ ap (λ (r : Unread). unsigned_bytes w32 size ++ r.bytes) (sym i.same) ∙ ap (λ (k : ℕ). unsigned_bytes w32 k ++ after.bytes) (sym i.size_is));
       spells = record {
         code = code;
         coded = subst (λ (k : ℕ). IsElementCode found.0 k code) (sym i.size_is) i.coded;
         size = subst (λ (k : ℕ). k < 2 ^ 31) (sym i.size_is) s.small;
         whole = refl;
       };
-      left = ap (λ (r : Rest). r.left) i.same ∙ s.left ∙ b.left;
+      budget = ap (λ (r : Unread). r.budget) i.same ∙ s.budget ∙ b.budget;
     }
 
-items_coded_given : (tag : Tag) (size code : ℕ) (r : Rest) → IsElementCode tag size code → items_coded code size r ≡ Ok ((tag, size), r)
+items_coded_given : (tag : Tag) (size code : ℕ) (r : Unread) → IsElementCode tag size code → items_coded code size r ≡ Ok ((tag, size), r)
 items_coded_given tag zero code r is = ap (λ (t : Tag). Ok ((t, zero), r)) (sym is.0)
 items_coded_given tag (suc n) code r is =
     ap (λ (b : Bool). cond b (give (tags.Bool, suc n)) (tag_coded code >>= λ tag. give (tag, suc n)) r) (ne_eqb (suc n) 0 (omega arith))
     ∙ goes_on (tag_coded code r) (λ tag. give (tag, suc n)) tag r _ (subst (λ (c : ℕ). tag_coded c r ≡ Ok (tag, r)) (sym is) (tag_given tag r)) refl
 
-items_only : (found : Tag × ℕ) (text more : List ℕ) (left : ℕ) → IsItems found.0 found.1 text → found.1 ≤ length more → binary_items (rest (text ++ more) left) ≡ Ok (found, rest more left)
+pub items_only : (found : Tag × ℕ) (text more : List ℕ) (left : ℕ) → IsItems found.0 found.1 text → found.1 ≤ length more → binary_items (rest (text ++ more) left) ≡ Ok (found, rest more left)
 unfolding binary_items
 items_only found text more left is enough =
     let size : ℕ = found.1 in
@@ -94,11 +95,8 @@ items_only found text more left is enough =
     (goes_on (binary_size (rest behind left)) (λ size. items_coded is.code size) size (rest more left) _ (size_given size more left is.size enough)
     (items_coded_given found.0 size is.code (rest more left) is.coded))
 
-items_byte : (found : Tag × ℕ) (text : List ℕ) → IsItems found.0 found.1 text → 1 ≤ length text
+pub items_byte : (found : Tag × ℕ) (text : List ℕ) → IsItems found.0 found.1 text → 1 ≤ length text
 items_byte found text is = let l : length text ≡ 5 = ap length is.whole in omega arith
-
-pub items_reads : Reads binary_items (λ found. IsItems found.0 found.1) (λ found. found.1)
-items_reads = record { found = λ before after x fits e. items_found before after x fits e; only = items_only; byte = items_byte }
 
 pub items_written : (tag : Tag) (size : ℕ) → size < 2 ^ 31 → IsItems (plain_tag tag size) size (items_header tag size)
 items_written tag size small = record { code = code_of tag; coded = written_code size tag; size = small; whole = refl }
@@ -108,17 +106,17 @@ items_range tag size text is = (is.size, plain_code size is.code tag is.coded)
 
 -- ---- maps
 
-record PairsRead (key value size : ℕ) (found : Tag × Tag × ℕ) (before after : Rest) : Type 0 where
+record PairsRead (key value size : ℕ) (found : Tag × Tag × ℕ) (before after : Unread) : Type 0 where
   size_is : found.2 ≡ size
   key_coded : IsElementCode found.0 size key
   value_coded : IsElementCode found.1 size value
   same : after ≡ before
 
-pairs_if : (b : Bool) (key value size : ℕ) (before after : Rest) (found : Tag × Tag × ℕ) → key < 256 → value < 256 → eqb size 0 ≡ b
+pairs_if : (b : Bool) (key value size : ℕ) (before after : Unread) (found : Tag × Tag × ℕ) → key < 256 → value < 256 → eqb size 0 ≡ b
     → cond b (give (tags.Bool, tags.Bool, size)) (tag_coded key >>= λ t. tag_coded value >>= λ u. give (t, u, size)) before ≡ Ok (found, after) → PairsRead key value size found before after
 pairs_if true key value size before after found key_small value_small test e =
     let none : size ≡ 0 = eqb-true size 0 test in
-    subst (λ (y : (Tag × Tag × ℕ) × Rest). PairsRead key value size y.0 before y.1) (ok_is ((tags.Bool, tags.Bool, size), before) (found, after) e)
+    subst (λ (y : (Tag × Tag × ℕ) × Unread). PairsRead key value size y.0 before y.1) (ok_is ((tags.Bool, tags.Bool, size), before) (found, after) e)
     (record { size_is = refl; key_coded = empty_code size key none key_small; value_coded = empty_code size value none value_small; same = refl })
 pairs_if false key value size before after found key_small value_small test e =
     let one = went_on (tag_coded key before) (λ t. tag_coded value >>= λ u. give (t, u, size)) (found, after) e in
@@ -126,10 +124,10 @@ pairs_if false key value size before after found key_small value_small test e =
     let two = went_on (tag_coded value one.0.1) (λ u. give (one.0.0, u, size)) (found, after) one.2 in
     let u = tag_found value one.0.1 two.0.1 two.0.0 two.1 in
     let some = eqb-false size 0 test in
-    subst (λ (y : (Tag × Tag × ℕ) × Rest). PairsRead key value size y.0 before y.1) (ok_is ((one.0.0, two.0.0, size), two.0.1) (found, after) two.2)
+    subst (λ (y : (Tag × Tag × ℕ) × Unread). PairsRead key value size y.0 before y.1) (ok_is ((one.0.0, two.0.0, size), two.0.1) (found, after) two.2)
     (record { size_is = refl; key_coded = full_code size key one.0.0 some t.0; value_coded = full_code size value two.0.0 some u.0; same = u.1 ∙ t.1 })
 
-pairs_found : (before after : Rest) (found : Tag × Tag × ℕ) → AreBytes before.bytes → binary_pairs before ≡ Ok (found, after) → Found (λ f. IsPairs f.0 f.1 f.2) found before after
+pub pairs_found : (before after : Unread) (found : Tag × Tag × ℕ) → AreByteSized before.bytes → binary_pairs before ≡ Ok (found, after) → IsInFront (λ f. IsPairs f.0 f.1 f.2) found before after
 unfolding binary_pairs
 pairs_found before after found fits e =
     let one = went_on (byte before) (λ key. byte >>= λ value. binary_size >>= λ size. pairs_coded key value size) (found, after) e in
@@ -147,7 +145,7 @@ pairs_found before after found fits e =
     let s = size_found third fourth size (after_byte value second third c second_fits) three.1 in
     let i = pairs_if (eqb size 0) key value size fourth after found b.small c.small refl three.2 in
     let behind : third.bytes ≡ unsigned_bytes w32 found.2 ++ after.bytes =
-    s.whole ∙ ap (λ (r : Rest). unsigned_bytes w32 size ++ r.bytes) (sym i.same) ∙ ap (λ (k : ℕ). unsigned_bytes w32 k ++ after.bytes) (sym i.size_is) in
+    s.whole ∙ ap (λ (r : Unread). unsigned_bytes w32 size ++ r.bytes) (sym i.same) ∙ ap (λ (k : ℕ). unsigned_bytes w32 k ++ after.bytes) (sym i.size_is) in
     record {
       text = key ∷ value ∷ unsigned_bytes w32 found.2;
       whole = b.whole ∙ ap (λ (t : List ℕ). key ∷ t) (c.whole ∙ ap (λ (t : List ℕ). value ∷ t) behind);
@@ -159,17 +157,17 @@ pairs_found before after found fits e =
         size = subst (λ (k : ℕ). k < 2 ^ 31) (sym i.size_is) s.small;
         whole = refl;
       };
-      left = ap (λ (r : Rest). r.left) i.same ∙ s.left ∙ c.left ∙ b.left;
+      budget = ap (λ (r : Unread). r.budget) i.same ∙ s.budget ∙ c.budget ∙ b.budget;
     }
 
-pairs_coded_given : (t u : Tag) (size key value : ℕ) (r : Rest) → IsElementCode t size key → IsElementCode u size value → pairs_coded key value size r ≡ Ok ((t, u, size), r)
+pairs_coded_given : (t u : Tag) (size key value : ℕ) (r : Unread) → IsElementCode t size key → IsElementCode u size value → pairs_coded key value size r ≡ Ok ((t, u, size), r)
 pairs_coded_given t u zero key value r is_key is_value = ap (λ (x : Tag). Ok ((x, tags.Bool, zero), r)) (sym is_key.0) ∙ ap (λ (x : Tag). Ok ((t, x, zero), r)) (sym is_value.0)
 pairs_coded_given t u (suc n) key value r is_key is_value =
     ap (λ (b : Bool). cond b (give (tags.Bool, tags.Bool, suc n)) (tag_coded key >>= λ t. tag_coded value >>= λ u. give (t, u, suc n)) r) (ne_eqb (suc n) 0 (omega arith))
     ∙ goes_on (tag_coded key r) (λ t. tag_coded value >>= λ u. give (t, u, suc n)) t r _ (subst (λ (c : ℕ). tag_coded c r ≡ Ok (t, r)) (sym is_key) (tag_given t r))
     (goes_on (tag_coded value r) (λ u. give (t, u, suc n)) u r _ (subst (λ (c : ℕ). tag_coded c r ≡ Ok (u, r)) (sym is_value) (tag_given u r)) refl)
 
-pairs_only : (found : Tag × Tag × ℕ) (text more : List ℕ) (left : ℕ) → IsPairs found.0 found.1 found.2 text → found.2 ≤ length more
+pub pairs_only : (found : Tag × Tag × ℕ) (text more : List ℕ) (left : ℕ) → IsPairs found.0 found.1 found.2 text → found.2 ≤ length more
     → binary_pairs (rest (text ++ more) left) ≡ Ok (found, rest more left)
 unfolding binary_pairs
 pairs_only found text more left is enough =
@@ -182,11 +180,8 @@ pairs_only found text more left is enough =
     (goes_on (binary_size (rest behind left)) (λ size. pairs_coded is.key_code is.value_code size) size (rest more left) _ (size_given size more left is.size enough)
     (pairs_coded_given found.0 found.1 size is.key_code is.value_code (rest more left) is.key_coded is.value_coded)))
 
-pairs_byte : (found : Tag × Tag × ℕ) (text : List ℕ) → IsPairs found.0 found.1 found.2 text → 1 ≤ length text
+pub pairs_byte : (found : Tag × Tag × ℕ) (text : List ℕ) → IsPairs found.0 found.1 found.2 text → 1 ≤ length text
 pairs_byte found text is = let l : length text ≡ 6 = ap length is.whole in omega arith
-
-pub pairs_reads : Reads binary_pairs (λ found. IsPairs found.0 found.1 found.2) (λ found. found.2)
-pairs_reads = record { found = λ before after x fits e. pairs_found before after x fits e; only = pairs_only; byte = pairs_byte }
 
 pub pairs_written : (key value : Tag) (size : ℕ) → size < 2 ^ 31 → IsPairs (plain_tag key size) (plain_tag value size) size (pairs_header key value size)
 pairs_written key value size small =

@@ -3,6 +3,9 @@ pub mod CodeLaws
 pub mod Leaves
 pub mod Scalars
 pub mod Containers
+pub mod FaultTable
+pub mod PartsStay
+pub mod ShortParts
 pub mod Agree
 pub mod Placing
 pub mod ReadBack

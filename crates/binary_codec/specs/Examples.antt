@@ -7,13 +7,15 @@ use Rattle.thrift_value.specs.Tree.{Tree, of_i32, of_bytes, of_struct, of_map, o
 abbrev pub two_numbers : Tree
 two_numbers = of_struct (field (pos 1) (of_i32 (pos 1)) (field (pos 2) (of_i32 (pos 2)) no_fields))
 
+-- its bytes
 abbrev pub two_numbers_bytes : List ℕ
 two_numbers_bytes = 8 ∷ 0 ∷ 1 ∷ 0 ∷ 0 ∷ 0 ∷ 1 ∷ 8 ∷ 0 ∷ 2 ∷ 0 ∷ 0 ∷ 0 ∷ 2 ∷ 0 ∷ []
 
--- a list of numbers with nothing in it, and how it is read: its element tag isn't told
+-- a list of numbers with nothing in it
 abbrev pub empty_list_bytes : List ℕ
 empty_list_bytes = 15 ∷ 0 ∷ 1 ∷ 8 ∷ 0 ∷ 0 ∷ 0 ∷ 0 ∷ 0 ∷ []
 
+-- how it is read: its element tag isn't told
 abbrev pub empty_list : Tree
 empty_list = of_struct (field (pos 1) (of_list tags.Bool no_items) no_fields)
 
@@ -23,6 +25,7 @@ lookup =
     of_struct (field (pos 3)
     (of_map tags.Bytes tags.Set (pair (of_bytes (97 ∷ 98 ∷ [])) (of_set tags.I32 (item (of_i32 (pos 7)) no_items)) no_pairs)) no_fields)
 
+-- its bytes
 abbrev pub lookup_bytes : List ℕ
 lookup_bytes =
     13 ∷ 0 ∷ 3 ∷ 11 ∷ 14 ∷ 0 ∷ 0 ∷ 0 ∷ 1 ∷ 0 ∷ 0 ∷ 0 ∷ 2 ∷ 97 ∷ 98 ∷ 8 ∷ 0 ∷ 0 ∷ 0 ∷ 1 ∷ 0 ∷ 0 ∷ 0 ∷ 7 ∷ 0 ∷ []
@@ -33,6 +36,7 @@ nested_lists zero = []
 nested_lists (suc zero) = 2 ∷ 0 ∷ 0 ∷ 0 ∷ 0 ∷ []
 nested_lists (suc (suc n)) = 15 ∷ 0 ∷ 0 ∷ 0 ∷ 1 ∷ nested_lists (suc n)
 
+-- how they are read
 abbrev pub nested_list_trees : ℕ → Tree
 nested_list_trees zero = of_list tags.Bool no_items
 nested_list_trees (suc zero) = of_list tags.Bool no_items
@@ -42,5 +46,6 @@ nested_list_trees (suc (suc n)) = of_list tags.List (item (nested_list_trees (su
 abbrev pub deep_bytes : ℕ → List ℕ
 deep_bytes n = 15 ∷ 0 ∷ 1 ∷ nested_lists n ++ 0 ∷ []
 
+-- how it is read
 abbrev pub deep : ℕ → Tree
 deep n = of_struct (field (pos 1) (nested_list_trees n) no_fields)

@@ -1,5 +1,6 @@
 pub mod Codes
 pub mod Reading
+pub mod Faults
 pub mod Spelling
 pub mod Written
 pub mod Examples

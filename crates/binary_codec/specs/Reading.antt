@@ -1,56 +1,58 @@
 -- How the binary protocol reads the parts of a value that hold no other values.
-use Rattle.std.specs.Prelude.{ℕ, ℤ, pos, negsuc, List, length, slice_index, Option, Some, None, Ok, Err, ◌==◌, nat_le, if◌then◌else◌}
-use Rattle.std.specs.Int.{Width, w8, w16, w32, w64, byte_len}
-use Rattle.wire_num.specs.Fixed.{unsigned_of, signed_of}
+use Rattle.std.specs.Prelude.{ℕ, ℤ, pos, negsuc, List, length, Option, Some, None, Ok, Err, ◌==◌, nat_le, if◌then◌else◌}
+use Rattle.std.specs.Int.{Width, w8, w16, w32, w64}
+use Rattle.wire_num.specs.Decoding.{decode_bytes, decode_byte, decode_unsigned, decode_signed}
 use Rattle.thrift_value.specs.declared.tag.Tag.{Tag}
 use Rattle.thrift_value.specs.declared.tag.Tag.TheVariants as tags
 use Rattle.thrift_value.specs.declared.wire_fault.WireFault.TheVariants.{Short, BadType, BadSize}
 use Rattle.thrift_value.specs.Tree.{Tree, of_bool, of_i8, of_i16, of_i32, of_i64, of_double}
-use Rattle.wire_model.specs.Reader.{Reader, ◌>>=◌, give, fail, piece}
-use Rattle.wire_model.specs.Wire.{FieldHeader, stop, head, Wire}
+use Rattle.wire_model.specs.Decoder.{Decoder, ◌>>=◌, give, fail, uncounted}
+use Rattle.wire_model.specs.Wire.{FieldHeader, stop, typed, Wire}
 use Rattle.binary_codec.specs.Codes.{tag_of_code}
 
--- a byte, and a number of a width, the highest byte first (Thrift binary protocol, 'Integer encoding')
-abbrev pub byte : Reader ℕ
-byte = do
-  bytes ← piece 1
-  give (slice_index bytes 0)
+-- a byte; it is no value of its own
+abbrev pub byte : Decoder ℕ
+byte unread = uncounted decode_byte unread
 
-abbrev pub unsigned : Width → Reader ℕ
-unsigned width = do
-  bytes ← piece (byte_len width)
-  give (unsigned_of width bytes)
+-- a number of a width
+abbrev pub unsigned : Width → Decoder ℕ
+unsigned width unread = uncounted (decode_unsigned width) unread
 
-abbrev pub signed : Width → Reader ℤ
-signed width = do
-  bytes ← piece (byte_len width)
-  give (signed_of width bytes)
+-- the same as two's complement
+abbrev pub signed : Width → Decoder ℤ
+signed width unread = uncounted (decode_signed width) unread
+
+-- so many bytes
+abbrev pub some_bytes : ℕ → Decoder (List ℕ)
+some_bytes size unread = uncounted (decode_bytes size) unread
 
 -- the tag of a code, or BadType
-abbrev pub tag_or_fault : ℕ → Option Tag → Reader Tag
+abbrev pub tag_or_fault : ℕ → Option Tag → Decoder Tag
 tag_or_fault code (Some tag) = give tag
 tag_or_fault code None = fail (BadType code)
 
-unfoldable pub tag_coded : ℕ → Reader Tag
+-- the tag of a code that was read
+unfoldable pub tag_coded : ℕ → Decoder Tag
 tag_coded code = tag_or_fault code (tag_of_code code)
 
 -- a header behind any field: 0, or a type code and an id (Thrift binary protocol, 'Struct')
-abbrev pub head_coded : ℕ → Reader FieldHeader
-head_coded code =
+abbrev pub header_coded : ℕ → Decoder FieldHeader
+header_coded code =
     if code == 0 then give stop
     else do
       tag ← tag_coded code
       id ← signed w16
-      give (head id tag)
+      give (typed id tag)
 
-unfoldable pub binary_field : ℤ → Reader FieldHeader
+-- a header behind any field; the field before makes no difference
+unfoldable pub binary_field : ℤ → Decoder FieldHeader
 binary_field last = do
   code ← byte
-  head_coded code
+  header_coded code
 
 -- a number or a bool (Thrift binary protocol, 'Integer encoding', 'Double encoding', 'Boolean encoding'). Own choice: a byte
 -- that is neither 0 nor 1 is false
-unfoldable pub binary_scalar : Tag → Reader Tree
+unfoldable pub binary_scalar : Tag → Decoder Tree
 binary_scalar tags.Bool = do
   b ← byte
   give (of_bool (b == 1))
@@ -72,36 +74,37 @@ binary_scalar tags.Double = do
 binary_scalar tag = fail Short
 
 -- a length that isn't negative, or BadSize
-abbrev pub unsigned_size : ℤ → Reader ℕ
+abbrev pub unsigned_size : ℤ → Decoder ℕ
 unsigned_size (pos n) = give n
 unsigned_size (negsuc n) = fail BadSize
 
 -- no more than the bytes that are left, or Short
-abbrev pub within_room : ℕ → Reader ℕ
+abbrev pub within_room : ℕ → Decoder ℕ
 within_room n rest = if nat_le n (length rest.bytes) then Ok (n, rest) else Err Short
 
 -- a length or size. Own choice: BadSize comes before Short, and no more is announced than the bytes that are left
-unfoldable pub binary_size : Reader ℕ
+unfoldable pub binary_size : Decoder ℕ
 binary_size = do
   n ← signed w32
   size ← unsigned_size n
   within_room size
 
 -- a length and that many bytes (Thrift binary protocol, 'Binary encoding')
-unfoldable pub binary_span : Reader (List ℕ)
+unfoldable pub binary_span : Decoder (List ℕ)
 binary_span = do
   size ← binary_size
-  piece size
+  some_bytes size
 
 -- the tag of the elements of a container. Own choice: that of an empty one is bool, whatever its code is
-abbrev pub items_coded : ℕ → ℕ → Reader (Tag × ℕ)
+abbrev pub items_coded : ℕ → ℕ → Decoder (Tag × ℕ)
 items_coded code size =
     if size == 0 then give (tags.Bool, size)
     else do
       tag ← tag_coded code
       give (tag, size)
 
-abbrev pub pairs_coded : ℕ → ℕ → ℕ → Reader (Tag × Tag × ℕ)
+-- the tags of the keys and of the values of a map, alike
+abbrev pub pairs_coded : ℕ → ℕ → ℕ → Decoder (Tag × Tag × ℕ)
 pairs_coded key value size =
     if size == 0 then give (tags.Bool, tags.Bool, size)
     else do
@@ -109,19 +112,21 @@ pairs_coded key value size =
       value_tag ← tag_coded value
       give (key_tag, value_tag, size)
 
--- the header of a list or set, and of a map (Thrift binary protocol, 'List and Set', 'Map')
-unfoldable pub binary_items : Reader (Tag × ℕ)
+-- the header of a list or set (Thrift binary protocol, 'List and Set')
+unfoldable pub binary_items : Decoder (Tag × ℕ)
 binary_items = do
   code ← byte
   size ← binary_size
   items_coded code size
 
-unfoldable pub binary_pairs : Reader (Tag × Tag × ℕ)
+-- the header of a map (Thrift binary protocol, 'Map')
+unfoldable pub binary_pairs : Decoder (Tag × Tag × ℕ)
 binary_pairs = do
   key ← byte
   value ← byte
   size ← binary_size
   pairs_coded key value size
 
+-- the parts of a value together
 abbrev pub binary : Wire
 binary = record { field = binary_field; scalar = binary_scalar; span = binary_span; items = binary_items; pairs = binary_pairs }

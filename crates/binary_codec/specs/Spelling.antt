@@ -5,16 +5,17 @@ use Rattle.wire_num.specs.Fixed.{unsigned_bytes, signed_bytes}
 use Rattle.thrift_value.specs.declared.tag.Tag.{Tag}
 use Rattle.thrift_value.specs.declared.tag.Tag.TheVariants as tags
 use Rattle.thrift_value.specs.Tree.{Tree, of_bool, of_i8, of_i16, of_i32, of_i64, of_double}
-use Rattle.wire_model.specs.Wire.{FieldHeader, stop, head, flagged}
+use Rattle.wire_model.specs.Wire.{FieldHeader, stop, typed, flagged}
 use Rattle.wire_model.specs.Format.{Format}
-use Rattle.wire_model.specs.Protocol.{AreBytes}
+use Rattle.wire_num.specs.Encoded.{AreByteSized}
 use Rattle.binary_codec.specs.Codes.{code_of}
+use Rattle.binary_codec.specs.Faults.{binary_faults}
 
 -- the end of a struct, or a type code and an id (Thrift binary protocol, 'Struct'); no header has a value
-abbrev pub IsHead : ℤ → FieldHeader → List ℕ → Type 0
-IsHead last stop text = text ≡ 0 ∷ []
-IsHead last (head id tag) text = FitsSigned w16 id × (text ≡ code_of tag ∷ signed_bytes w16 id)
-IsHead last (flagged id flag) text = ⊥
+abbrev pub IsHeader : ℤ → FieldHeader → List ℕ → Type 0
+IsHeader last stop text = text ≡ 0 ∷ []
+IsHeader last (typed id tag) text = FitsSigned w16 id × (text ≡ code_of tag ∷ signed_bytes w16 id)
+IsHeader last (flagged id flag) text = ⊥
 
 -- a number or a bool (Thrift binary protocol, 'Integer encoding', 'Double encoding', 'Boolean encoding'): true is the
 -- byte 1, and 0 is false. Own choice: every other byte is false too
@@ -31,7 +32,7 @@ IsScalarText _ text = ⊥
 -- a length and that many bytes (Thrift binary protocol, 'Binary encoding')
 pub record IsSpan (bytes text : List ℕ) : Type 0 where
   pub size : length bytes < 2 ^ 31
-  pub each : AreBytes bytes
+  pub each : AreByteSized bytes
   pub whole : text ≡ unsigned_bytes w32 (length bytes) ++ bytes
 
 -- the code of the elements' tag. Own choice: an empty container has any code, and the tag bool
@@ -55,5 +56,6 @@ pub record IsPairs (key value : Tag) (count : ℕ) (text : List ℕ) : Type 0 wh
   pub size : count < 2 ^ 31
   pub whole : text ≡ key_code ∷ value_code ∷ unsigned_bytes w32 count
 
+-- the spellings of all parts, and their first faults
 abbrev pub binary_format : Format
-binary_format = record { head = IsHead; scalar = IsScalarText; span = IsSpan; items = IsItems; pairs = IsPairs }
+binary_format = record { header = IsHeader; scalar = IsScalarText; span = IsSpan; items = IsItems; pairs = IsPairs; faults = binary_faults }

@@ -4,15 +4,15 @@ use Rattle.std.specs.Int.{w8, w16, w32, w64}
 use Rattle.wire_num.specs.Fixed.{unsigned_bytes, signed_bytes}
 use Rattle.thrift_value.specs.declared.tag.Tag.{Tag}
 use Rattle.thrift_value.specs.Tree.{Tree, of_bool, of_i8, of_i16, of_i32, of_i64, of_double}
-use Rattle.wire_model.specs.Wire.{FieldHeader, stop, head, flagged}
-use Rattle.wire_model.specs.Writing.{Writing}
+use Rattle.wire_model.specs.Wire.{FieldHeader, stop, typed, flagged}
+use Rattle.wire_model.specs.Encoder.{Encoder}
 use Rattle.binary_codec.specs.Codes.{code_of}
 
 -- a header; that of a field with its value in it isn't written
-abbrev pub head_text : ℤ → FieldHeader → List ℕ
-head_text last stop = 0 ∷ []
-head_text last (head id tag) = code_of tag ∷ signed_bytes w16 id
-head_text last (flagged id flag) = []
+abbrev pub header_text : ℤ → FieldHeader → List ℕ
+header_text last stop = 0 ∷ []
+header_text last (typed id tag) = code_of tag ∷ signed_bytes w16 id
+header_text last (flagged id flag) = []
 
 -- a number or a bool, a bool as 0 or 1
 abbrev pub scalar_text : Tree → List ℕ
@@ -33,9 +33,11 @@ span_text bytes = unsigned_bytes w32 (length bytes) ++ bytes
 abbrev pub items_header : Tag → ℕ → List ℕ
 items_header tag count = code_of tag ∷ unsigned_bytes w32 count
 
+-- the header of a map, with the codes of the tags of its keys and its values
 abbrev pub pairs_header : Tag → Tag → ℕ → List ℕ
 pairs_header key value count = code_of key ∷ code_of value ∷ unsigned_bytes w32 count
 
-abbrev pub binary_writing : Writing
-binary_writing =
-    record { flags = false; head = head_text; scalar = scalar_text; span = span_text; items = items_header; pairs = pairs_header }
+-- what is written of all parts
+abbrev pub binary_encoder : Encoder
+binary_encoder =
+    record { flags = false; header = header_text; scalar = scalar_text; span = span_text; items = items_header; pairs = pairs_header }

@@ -2,9 +2,9 @@
 
 ghost use Rattle.std.specs.Prelude.{◌≡◌, ◌<◌, ◌^◌, ◌++◌, length, OnOk, OnErr};
 ghost use Rattle.thrift_value.specs.TreeOf.{tree_of};
-ghost use Rattle.wire_walk.specs.Steps.{head_of, Grows};
+ghost use Rattle.wire_walk.specs.Steps.{field_header_of, Grows};
 ghost use Rattle.binary_codec.specs.Reading.{binary_field, binary_scalar, binary_span, binary_items, binary_pairs};
-ghost use Rattle.binary_codec.specs.Written.{head_text, scalar_text, span_text, items_header, pairs_header};
+ghost use Rattle.binary_codec.specs.Written.{header_text, scalar_text, span_text, items_header, pairs_header};
 
 use crate::codes::{code_of, tag_coded};
 use crate::numbers::{i8_in, i16_in, i32_in, i64_in, size_in, u8_in, u64_in};
@@ -12,12 +12,12 @@ use crate::protocol::Binary;
 use std::alloc::AllocError;
 use thrift_value::{Tag, Value, WireFault};
 use wire_num::{put_be64, put_i16, put_i32, put_i64, put_u8};
-use wire_walk::{Codec, Header, Rest};
+use wire_walk::{Codec, Header, Input};
 
 impl Codec for Binary {
     // A header is 0, or a type code and an id (Thrift binary protocol, 'Struct').
     #[tactic(auto, unfolding(crate::specs::Reading::binary_field))]
-    fn field<'a>(_last: i16, rest: Rest<'a>) -> Result<(Header, Rest<'a>), WireFault> {
+    fn field<'a>(_last: i16, rest: Input<'a>) -> Result<(Header, Input<'a>), WireFault> {
         let (code, rest) = u8_in(rest)?;
         if code == 0 {
             return Ok((Header::Stop, rest));
@@ -30,7 +30,7 @@ impl Codec for Binary {
     // A number (Thrift binary protocol, 'Integer encoding', 'Double encoding'), or a bool, whose byte is 1 or 0 ('Boolean
     // encoding'). Own choice: every byte but 1 is false.
     #[tactic(auto, unfolding(crate::specs::Reading::binary_scalar))]
-    fn scalar<'a>(tag: Tag, rest: Rest<'a>) -> Result<(Value, Rest<'a>), WireFault> {
+    fn scalar<'a>(tag: Tag, rest: Input<'a>) -> Result<(Value, Input<'a>), WireFault> {
         match tag {
             Tag::Bool => {
                 let (byte, rest) = u8_in(rest)?;
@@ -62,7 +62,7 @@ impl Codec for Binary {
 
     // A length and that many bytes (Thrift binary protocol, 'Binary encoding').
     #[tactic(auto, unfolding(crate::specs::Reading::binary_span))]
-    fn span<'a>(rest: Rest<'a>) -> Result<(&'a [u8], Rest<'a>), WireFault> {
+    fn span<'a>(rest: Input<'a>) -> Result<(&'a [u8], Input<'a>), WireFault> {
         let (size, rest) = size_in(rest)?;
         rest.next(size)
     }
@@ -70,7 +70,7 @@ impl Codec for Binary {
     // A type code and a size (Thrift binary protocol, 'List and Set'). Own choice: the code of an empty container isn't
     // looked at.
     #[tactic(auto, unfolding(crate::specs::Reading::binary_items))]
-    fn items<'a>(rest: Rest<'a>) -> Result<(Tag, usize, Rest<'a>), WireFault> {
+    fn items<'a>(rest: Input<'a>) -> Result<(Tag, usize, Input<'a>), WireFault> {
         let (code, rest) = u8_in(rest)?;
         let (size, rest) = size_in(rest)?;
         if size == 0 {
@@ -82,7 +82,7 @@ impl Codec for Binary {
 
     // Two type codes and a size (Thrift binary protocol, 'Map'). Own choice: the codes of an empty map aren't looked at.
     #[tactic(auto, unfolding(crate::specs::Reading::binary_pairs))]
-    fn pairs<'a>(rest: Rest<'a>) -> Result<(Tag, Tag, usize, Rest<'a>), WireFault> {
+    fn pairs<'a>(rest: Input<'a>) -> Result<(Tag, Tag, usize, Input<'a>), WireFault> {
         let (key, rest) = u8_in(rest)?;
         let (value, rest) = u8_in(rest)?;
         let (size, rest) = size_in(rest)?;

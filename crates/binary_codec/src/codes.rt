@@ -1,12 +1,12 @@
 //! The codes of the kinds of values (Thrift binary protocol, 'Struct').
 
 ghost use Rattle.std.specs.Prelude.{◌≡◌};
-ghost use Rattle.wire_model.specs.Gives.{Tells};
+ghost use Rattle.wire_model.specs.Answering.{AnswersExactly};
 ghost use Rattle.binary_codec.specs.Codes.{code_of, tag_of_code};
 ghost use Rattle.binary_codec.specs.Reading.{tag_coded};
 
 use thrift_value::{Tag, WireFault};
-use wire_walk::Rest;
+use wire_walk::Input;
 
 /// The code of a tag.
 pub(crate) fn code_of(tag: Tag) -> u8
@@ -50,8 +50,8 @@ fn tag_of_code(code: u8) -> Option<Tag>
 
 /// The tag of a code, or BadType; nothing is read.
 #[tactic(auto, unfolding(crate::specs::Reading::tag_coded))]
-pub(crate) fn tag_coded(code: u8, rest: Rest<'_>) -> Result<(Tag, Rest<'_>), WireFault>
-    ensures { Tells (λ r. (r.0, r.1)) result (tag_coded code rest.entry) }
+pub(crate) fn tag_coded(code: u8, rest: Input<'_>) -> Result<(Tag, Input<'_>), WireFault>
+    ensures { AnswersExactly (λ r. (r.0, r.1)) result (tag_coded code rest.entry) }
 {
     match tag_of_code(code) {
         Some(tag) => Ok((tag, rest)),

@@ -6,9 +6,9 @@ ghost use Rattle.thrift_value.specs.declared.wire_fault.WireFault.TheVariants as
 ghost use Rattle.thrift_value.specs.Tree.{of_bool, of_i8, of_i32, of_double, of_struct, of_map, of_list, no_fields, field, no_items, no_pairs};
 ghost use Rattle.wire_model.specs.Place.{struct_at, found_struct};
 ghost use Rattle.wire_model.specs.Reading.{value};
-ghost use Rattle.wire_model.specs.Writing.{text};
+ghost use Rattle.wire_model.specs.Encoder.{text};
 ghost use Rattle.binary_codec.specs.Reading.{binary};
-ghost use Rattle.binary_codec.specs.Written.{binary_writing};
+ghost use Rattle.binary_codec.specs.Written.{binary_encoder};
 ghost use Rattle.binary_codec.specs.Examples.{two_numbers, two_numbers_bytes, empty_list, empty_list_bytes, lookup, lookup_bytes, deep, deep_bytes};
 
 /// Structs that are read, and the places behind them.
@@ -41,18 +41,18 @@ pub fn first_faults()
     ensures key_type_first { struct_at binary (13 ∷ 0 ∷ 1 ∷ 98 ∷ 99 ∷ 0 ∷ 0 ∷ 0 ∷ 1 ∷ 0 ∷ []) 0 ≡ Err (faults.BadType 98) }
     ensures huge_list { struct_at binary (15 ∷ 0 ∷ 1 ∷ 8 ∷ 127 ∷ 255 ∷ 255 ∷ 255 ∷ 0 ∷ 0 ∷ 0 ∷ 0 ∷ 0 ∷ 0 ∷ 0 ∷ []) 0 ≡ Err faults.Short }
     ensures sixty_five_levels { struct_at binary (deep_bytes 64) 0 ≡ Err faults.TooDeep }
-    ensures number_before_level { value binary 0 tags.List (record { bytes = []; left = 0 }) ≡ Err faults.TooMany }
-    ensures level_before_header { value binary 0 tags.List (record { bytes = []; left = 1 }) ≡ Err faults.TooDeep }
-    ensures one_value_too_many { value binary 64 tags.Struct (record { bytes = two_numbers_bytes; left = 2 }) ≡ Err faults.TooMany }
+    ensures number_before_level { value binary 0 tags.List (record { bytes = []; budget = 0 }) ≡ Err faults.TooMany }
+    ensures level_before_header { value binary 0 tags.List (record { bytes = []; budget = 1 }) ≡ Err faults.TooDeep }
+    ensures one_value_too_many { value binary 64 tags.Struct (record { bytes = two_numbers_bytes; budget = 2 }) ≡ Err faults.TooMany }
 {}
 
 /// What is written.
 pub fn structs_are_written()
-    ensures numbers { text binary_writing two_numbers ≡ two_numbers_bytes }
-    ensures own_tag { text binary_writing (of_struct (field (pos 1) (of_list tags.I32 no_items) no_fields)) ≡ empty_list_bytes }
-    ensures map { text binary_writing lookup ≡ lookup_bytes }
-    ensures signed { text binary_writing (of_i8 (negsuc 0)) ≡ 255 ∷ [] }
-    ensures bools { text binary_writing (of_struct (field (pos 1) (of_bool true) (field (pos 2) (of_bool false) no_fields)))
+    ensures numbers { text binary_encoder two_numbers ≡ two_numbers_bytes }
+    ensures own_tag { text binary_encoder (of_struct (field (pos 1) (of_list tags.I32 no_items) no_fields)) ≡ empty_list_bytes }
+    ensures map { text binary_encoder lookup ≡ lookup_bytes }
+    ensures signed { text binary_encoder (of_i8 (negsuc 0)) ≡ 255 ∷ [] }
+    ensures bools { text binary_encoder (of_struct (field (pos 1) (of_bool true) (field (pos 2) (of_bool false) no_fields)))
         ≡ 2 ∷ 0 ∷ 1 ∷ 1 ∷ 2 ∷ 0 ∷ 2 ∷ 0 ∷ 0 ∷ [] }
-    ensures double { text binary_writing (of_double (2 ^ 56)) ≡ 1 ∷ 0 ∷ 0 ∷ 0 ∷ 0 ∷ 0 ∷ 0 ∷ 0 ∷ [] }
+    ensures double { text binary_encoder (of_double (2 ^ 56)) ≡ 1 ∷ 0 ∷ 0 ∷ 0 ∷ 0 ∷ 0 ∷ 0 ∷ 0 ∷ [] }
 {}

@@ -2,8 +2,14 @@
 //! anyone sent, so it takes memory only for what is there, and names the fault that comes first. It knows no message
 //! head, no IDL and no types but the eleven kinds of the wire; what it reads is raw, in wire order and with repeats.
 //!
-//! `let (arguments, behind) = read_struct(alloc, payload, head.behind)?` reads the struct behind a message's head;
-//! `write_struct(&result, &mut reply)?` appends one.
+//! ```
+//! // The struct behind a message's head.
+//! let (arguments, behind) = read_struct(alloc, payload, head.behind)?;
+//! // A struct that was made here is tested before it is written.
+//! if result.tag() == Tag::Struct && result.is_tidy() && result.has_small_sizes() && result.depth() <= 64 {
+//!     write_struct(&result, &mut reply)?;
+//! }
+//! ```
 #![tactic(auto)]
 
 mod codec;

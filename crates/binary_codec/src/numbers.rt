@@ -1,72 +1,73 @@
-//! Numbers in front of the bytes (Thrift binary protocol, 'Integer encoding').
+//! Numbers in front of what is left, none of them a value of its own (Thrift binary protocol, 'Integer encoding').
 
 ghost use Rattle.std.specs.Int.{w8, w16, w32, w64};
-ghost use Rattle.wire_model.specs.Gives.{Tells};
+ghost use Rattle.wire_model.specs.Answering.{AnswersExactly};
 ghost use Rattle.binary_codec.specs.Reading.{byte, unsigned, signed, binary_size};
 
-use byteorder::{BigEndian, ByteOrder};
 use thrift_value::WireFault;
-use wire_walk::Rest;
+use wire_num::{decode_be64, decode_i8, decode_i16, decode_i32, decode_i64, decode_u8};
+use wire_walk::Input;
 
 /// A byte.
-pub(crate) fn u8_in(rest: Rest<'_>) -> Result<(u8, Rest<'_>), WireFault>
-    ensures { Tells (λ r. (r.0, r.1)) result (byte rest.entry) }
+pub(crate) fn u8_in(input: Input<'_>) -> Result<(u8, Input<'_>), WireFault>
+    ensures { AnswersExactly (λ r. (r.0, r.1)) result (byte input.entry) }
 {
-    let (bytes, rest) = rest.next(1)?;
-    Ok((bytes[0], rest))
+    let (number, behind) = decode_u8(input.bytes())?;
+    Ok((number, input.with_bytes(behind)))
 }
 
 /// Eight bits.
-pub(crate) fn i8_in(rest: Rest<'_>) -> Result<(i8, Rest<'_>), WireFault>
-    ensures { Tells (λ r. (r.0, r.1)) result (signed w8 rest.entry) }
+pub(crate) fn i8_in(input: Input<'_>) -> Result<(i8, Input<'_>), WireFault>
+    ensures { AnswersExactly (λ r. (r.0, r.1)) result (signed w8 input.entry) }
 {
-    let (bytes, rest) = rest.next(1)?;
-    Ok((i8::from_be_bytes([bytes[0]]), rest))
+    let (number, behind) = decode_i8(input.bytes())?;
+    Ok((number, input.with_bytes(behind)))
 }
 
 /// Sixteen bits.
-pub(crate) fn i16_in(rest: Rest<'_>) -> Result<(i16, Rest<'_>), WireFault>
-    ensures { Tells (λ r. (r.0, r.1)) result (signed w16 rest.entry) }
+pub(crate) fn i16_in(input: Input<'_>) -> Result<(i16, Input<'_>), WireFault>
+    ensures { AnswersExactly (λ r. (r.0, r.1)) result (signed w16 input.entry) }
 {
-    let (bytes, rest) = rest.next(2)?;
-    Ok((BigEndian::read_i16(bytes), rest))
+    let (number, behind) = decode_i16(input.bytes())?;
+    Ok((number, input.with_bytes(behind)))
 }
 
 /// Thirty-two bits.
-pub(crate) fn i32_in(rest: Rest<'_>) -> Result<(i32, Rest<'_>), WireFault>
-    ensures { Tells (λ r. (r.0, r.1)) result (signed w32 rest.entry) }
+pub(crate) fn i32_in(input: Input<'_>) -> Result<(i32, Input<'_>), WireFault>
+    ensures { AnswersExactly (λ r. (r.0, r.1)) result (signed w32 input.entry) }
 {
-    let (bytes, rest) = rest.next(4)?;
-    Ok((BigEndian::read_i32(bytes), rest))
+    let (number, behind) = decode_i32(input.bytes())?;
+    Ok((number, input.with_bytes(behind)))
 }
 
 /// Sixty-four bits.
-pub(crate) fn i64_in(rest: Rest<'_>) -> Result<(i64, Rest<'_>), WireFault>
-    ensures { Tells (λ r. (r.0, r.1)) result (signed w64 rest.entry) }
+pub(crate) fn i64_in(input: Input<'_>) -> Result<(i64, Input<'_>), WireFault>
+    ensures { AnswersExactly (λ r. (r.0, r.1)) result (signed w64 input.entry) }
 {
-    let (bytes, rest) = rest.next(8)?;
-    Ok((BigEndian::read_i64(bytes), rest))
+    let (number, behind) = decode_i64(input.bytes())?;
+    Ok((number, input.with_bytes(behind)))
 }
 
 /// Sixty-four bits, unsigned.
-pub(crate) fn u64_in(rest: Rest<'_>) -> Result<(u64, Rest<'_>), WireFault>
-    ensures { Tells (λ r. (r.0, r.1)) result (unsigned w64 rest.entry) }
+pub(crate) fn u64_in(input: Input<'_>) -> Result<(u64, Input<'_>), WireFault>
+    ensures { AnswersExactly (λ r. (r.0, r.1)) result (unsigned w64 input.entry) }
 {
-    let (bytes, rest) = rest.next(8)?;
-    Ok((BigEndian::read_u64(bytes), rest))
+    let (number, behind) = decode_be64(input.bytes())?;
+    Ok((number, input.with_bytes(behind)))
 }
 
 /// A length or size: not negative, and no more than the bytes that are left behind it.
 #[tactic(auto, unfolding(crate::specs::Reading::binary_size))]
-pub(crate) fn size_in(rest: Rest<'_>) -> Result<(usize, Rest<'_>), WireFault>
-    ensures { Tells (λ r. (r.0, r.1)) result (binary_size rest.entry) }
+pub(crate) fn size_in(input: Input<'_>) -> Result<(usize, Input<'_>), WireFault>
+    ensures { AnswersExactly (λ r. (r.0, r.1)) result (binary_size input.entry) }
 {
-    let (number, rest) = i32_in(rest)?;
-    let Ok(size) = usize::try_from(number) else {
+    let (number, input) = i32_in(input)?;
+    if number < 0 {
         return Err(WireFault::BadSize);
-    };
-    if rest.bytes().len() < size {
+    }
+    let size = number as usize;
+    if input.bytes().len() < size {
         return Err(WireFault::Short);
     }
-    Ok((size, rest))
+    Ok((size, input))
 }

@@ -8,11 +8,11 @@ pub struct Binary;
 impl WireProtocol for Binary {
     ghost use Rattle.binary_codec.specs.Reading.{binary};
     ghost use Rattle.binary_codec.specs.Spelling.{binary_format};
-    ghost use Rattle.binary_codec.specs.Written.{binary_writing};
+    ghost use Rattle.binary_codec.specs.Written.{binary_encoder};
 
     ghost wire = { binary };
 
     ghost format = { binary_format };
 
-    ghost writing = { binary_writing };
+    ghost encoder = { binary_encoder };
 }

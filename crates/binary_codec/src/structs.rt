@@ -5,9 +5,9 @@ ghost use Rattle.thrift_value.specs.Measures.{count_of};
 ghost use Rattle.thrift_value.specs.Tidy.{IsWellTagged};
 ghost use Rattle.thrift_value.specs.Tree.{Tree};
 ghost use Rattle.thrift_value.specs.TreeOf.{tree_of};
-ghost use Rattle.wire_model.specs.Gives.{Gives};
-ghost use Rattle.wire_model.specs.Place.{found_struct, struct_at, IsWithinBounds, StandsAt};
-ghost use Rattle.wire_model.specs.Sizes.{HasSmallSizes};
+ghost use Rattle.wire_model.specs.Answering.{AnswersOrNoMemory};
+ghost use Rattle.wire_model.specs.Place.{found_struct, struct_at, IsWithinBounds, IsEncodedAt};
+ghost use Rattle.thrift_value.specs.Sizes.{HasSmallSizes};
 ghost use Rattle.binary_codec.specs.Reading.{binary};
 ghost use Rattle.binary_codec.specs.Spelling.{binary_format};
 
@@ -16,7 +16,7 @@ use crate::protocol::Binary;
 use std::alloc::Global;
 use thrift_value::{Raw, Tag, WireFault};
 use wire_model::laws::{struct_read_is_spelled, struct_spelled_is_read, value_read_is_spelled};
-use wire_walk::{Rest, read};
+use wire_walk::{Input, read};
 
 /// How many levels a struct that is read may have, by own choice.
 const MAX_LEVELS: u32 = 64;
@@ -29,17 +29,17 @@ const MAX_VALUES: u32 = 4_000_000;
 pub fn read_struct(alloc: Global, bytes: &[u8], at: usize) -> Result<(Raw, usize), WireFault>
     requires { at ≤ length bytes.now }
     // Which struct or which fault it is; want of memory alone is free.
-    ensures exact { Gives (λ x. (tree_of x.0, x.1)) result (struct_at binary bytes.now at) }
+    ensures exact { AnswersOrNoMemory (λ x. (tree_of x.0, x.1)) result (struct_at binary bytes.now at) }
     // What is read is spelled there, within the bounds.
-    ensures found { IfOk result (λ x. StandsAt binary_format bytes.now at (tree_of x.0) x.1) }
+    ensures found { IfOk result (λ x. IsEncodedAt binary_format bytes.now at (tree_of x.0) x.1) }
     ensures bounds { IfOk result (λ x. IsWithinBounds (tree_of x.0)) }
     ensures tagged { IfOk result (λ x. IsWellTagged (tree_of x.0)) }
     ensures sizes { IfOk result (λ x. HasSmallSizes (tree_of x.0)) }
     ensures place { IfOk result (λ x. x.1 ≤ length bytes.now) }
     ensures count { IfOk result (λ x. at + count_of (tree_of x.0) ≤ x.1) }
     // What is spelled there, within the bounds, is read.
-    ensures only { (x : Tree) (behind : ℕ) → StandsAt binary_format bytes.now at x behind → IsWithinBounds x
-        → Gives (λ y. (tree_of y.0, y.1)) result (found_struct x behind) }
+    ensures only { (x : Tree) (behind : ℕ) → IsEncodedAt binary_format bytes.now at x behind → IsWithinBounds x
+        → AnswersOrNoMemory (λ y. (tree_of y.0, y.1)) result (found_struct x behind) }
 {
     struct_read_is_spelled::<Binary>();
     struct_spelled_is_read::<Binary>();
@@ -51,18 +51,12 @@ pub fn read_struct(alloc: Global, bytes: &[u8], at: usize) -> Result<(Raw, usize
 /// The same, by its reading alone.
 fn struct_in(alloc: Global, bytes: &[u8], at: usize) -> Result<(Raw, usize), WireFault>
     requires { at ≤ length bytes.now }
-    ensures { Gives (λ x. (tree_of x.0, x.1)) result (struct_at binary bytes.now at) }
+    ensures { AnswersOrNoMemory (λ x. (tree_of x.0, x.1)) result (struct_at binary bytes.now at) }
 {
     value_read_is_spelled::<Binary>();
     binary_leaves_agree();
     let (_, behind) = bytes.split_at(at);
-    match read::<Binary>(
-        alloc,
-        Rest::new(behind, MAX_VALUES),
-        MAX_LEVELS,
-        Tag::Struct,
-    ) {
-        Ok((value, rest)) => Ok((value, bytes.len() - rest.bytes().len())),
-        Err(fault) => Err(fault),
-    }
+    let input = Input::new(behind, MAX_VALUES);
+    let (value, rest) = read::<Binary>(alloc, input, MAX_LEVELS, Tag::Struct)?;
+    Ok((value, bytes.len() - rest.bytes().len()))
 }

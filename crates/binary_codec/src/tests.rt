@@ -7,7 +7,7 @@ use std::alloc::{AllocError, Global};
 use std::test::Fail;
 use thrift_value::WireFault::{BadSize, BadType, Short, TooDeep, TooMany};
 use thrift_value::{Raw, Tag, Value, WireFault};
-use wire_walk::{Rest, read};
+use wire_walk::{Input, read};
 
 // What is written of the struct in front, and the place behind it; nothing where it isn't tidy.
 fn written_again(alloc: Global, bytes: &[u8]) -> Result<Option<(Raw, usize, Vec<u8>)>, WireFault> {
@@ -16,10 +16,8 @@ fn written_again(alloc: Global, bytes: &[u8]) -> Result<Option<(Raw, usize, Vec<
         return Ok(None);
     }
     let mut written = Vec::new(alloc);
-    match write_struct(&value, &mut written) {
-        Ok(()) => Ok(Some((value, behind, written))),
-        Err(_) => Err(WireFault::NoMemory),
-    }
+    write_struct(&value, &mut written)?;
+    Ok(Some((value, behind, written)))
 }
 
 // Whether a struct of Apache's is read as its tree, and written again byte for byte.
@@ -226,7 +224,7 @@ const BOUNDS: [(u32, u32, Result<u64, WireFault>); 6] = [
 fn levels_and_values_are_bounded(rt: HostRuntime) -> Result<(), Fail> {
     for (lists, values, wanted) in &BOUNDS {
         let bytes = nested(rt.alloc(), *lists)?;
-        let rest = Rest::new(bytes.as_slice(), *values);
+        let rest = Input::new(bytes.as_slice(), *values);
         let found = match read::<Binary>(rt.alloc(), rest, 64, Tag::Struct) {
             Ok((value, _)) => Ok(value.count()),
             Err(fault) => Err(fault),
@@ -239,6 +237,32 @@ fn levels_and_values_are_bounded(rt: HostRuntime) -> Result<(), Fail> {
             };
             assert_eq!(rt; whole, *wanted);
         }
+    }
+    Ok(())
+}
+
+// A struct whose one field is a list of so many numbers of eight bits.
+fn long_list(alloc: Global, count: u32) -> Result<Vec<u8>, AllocError> {
+    let mut bytes = Vec::new(alloc);
+    bytes.extend_from_slice(b"\x0f\0\x01\x03")?;
+    bytes.extend_from_slice(&count.to_be_bytes())?;
+    for i in 0..count {
+        bytes.push((i % 251) as u8)?;
+    }
+    bytes.push(0)?;
+    Ok(bytes)
+}
+
+#[test]
+fn a_struct_of_a_hundred_thousand_values_is_read(rt: HostRuntime) -> Result<(), Fail> {
+    let bytes = long_list(rt.alloc(), 99_998)?;
+    match written_again(rt.alloc(), &bytes) {
+        Ok(Some((value, behind, written))) => {
+            assert_eq!(rt; value.count(), 100_000);
+            assert_eq!(rt; behind, bytes.len());
+            assert!(rt; written.as_slice() == bytes.as_slice());
+        }
+        _ => panic!(rt; "a long struct was refused"),
     }
     Ok(())
 }

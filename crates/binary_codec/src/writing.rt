@@ -1,19 +1,20 @@
-//! Writing a struct.
+//! Encoder a struct.
 
 ghost use Rattle.std.specs.Prelude.{◌≡◌, ◌≤◌, ◌++◌, ℕ, List, length, OnOk, OnErr};
 ghost use Rattle.thrift_value.specs.declared.tag.Tag.TheVariants as tags;
 ghost use Rattle.thrift_value.specs.Measures.{count_of, depth_of};
 ghost use Rattle.thrift_value.specs.Plain.{plain};
+ghost use Rattle.thrift_value.specs.Ranges.{IsInRange};
 ghost use Rattle.thrift_value.specs.Tags.{tag_of};
 ghost use Rattle.thrift_value.specs.Tidy.{IsTidy};
 ghost use Rattle.thrift_value.specs.TreeOf.{tree_of};
 ghost use Rattle.wire_model.specs.Format.{Spells};
 ghost use Rattle.wire_model.specs.Place.{found_struct, max_levels, max_values, struct_at};
-ghost use Rattle.wire_model.specs.Writing.{text};
-ghost use Rattle.wire_model.specs.Sizes.{HasSmallSizes};
+ghost use Rattle.wire_model.specs.Encoder.{text};
+ghost use Rattle.thrift_value.specs.Sizes.{HasSmallSizes};
 ghost use Rattle.binary_codec.specs.Reading.{binary};
 ghost use Rattle.binary_codec.specs.Spelling.{binary_format};
-ghost use Rattle.binary_codec.specs.Written.{binary_writing};
+ghost use Rattle.binary_codec.specs.Written.{binary_encoder};
 
 use crate::laws::written_struct_is_read;
 use crate::protocol::Binary;
@@ -28,15 +29,14 @@ pub fn write_struct(value: &Value, into: &mut Vec<u8>) -> Result<(), AllocError>
     requires tidy { IsTidy (tree_of value.now) }
     requires depth { depth_of (tree_of value.now) ≤ max_levels }
     requires sizes { HasSmallSizes (tree_of value.now) }
-    ensures ok { OnOk result (into.new.items ≡ into.old.items ++ text binary_writing (tree_of value.now)) }
+    ensures ok { OnOk result (into.new.items ≡ into.old.items ++ text binary_encoder (tree_of value.now)) }
     ensures err { OnErr result (into.new.items ≡ into.old.items) }
     // What it appends is a spelling of the value's plain form, and is read as that, whatever follows.
-    ensures spelled { Spells binary_format (plain (tree_of value.now)) (text binary_writing (tree_of value.now)) }
+    ensures spelled { OnOk result (Spells binary_format (plain (tree_of value.now)) (text binary_encoder (tree_of value.now))) }
     ensures read_back { OnOk result (count_of (tree_of value.now) ≤ max_values → (more : List ℕ)
         → struct_at binary (into.new.items ++ more) (length into.old.items)
         ≡ found_struct (plain (tree_of value.now)) (length into.new.items)) }
 {
-    value.numbers_fit();
     written_struct_is_read();
     append(value, into)
 }
@@ -44,7 +44,8 @@ pub fn write_struct(value: &Value, into: &mut Vec<u8>) -> Result<(), AllocError>
 /// The same, by what it appends alone.
 fn append(value: &Value, into: &mut Vec<u8>) -> Result<(), AllocError>
     requires { HasSmallSizes (tree_of value.now) }
-    ensures ok { OnOk result (into.new.items ≡ into.old.items ++ text binary_writing (tree_of value.now)) }
+    ensures ok { OnOk result (into.new.items ≡ into.old.items ++ text binary_encoder (tree_of value.now)) }
+    ensures in_range { OnOk result (IsInRange (tree_of value.now)) }
     ensures err { OnErr result (into.new.items ≡ into.old.items) }
 {
     let start = into.len();

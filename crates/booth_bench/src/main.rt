@@ -3,7 +3,8 @@
 #![tactic(auto)]
 
 ghost use Rattle.std.specs.Prelude.{◌≡◌, ◌≤◌, All, length};
-ghost use Rattle.seat_booth.specs.Place.{IsSeatOf};
+ghost use Rattle.seat_booth.specs.Limits.{most_seats};
+ghost use Rattle.seat_booth.specs.Seats.{IsSeatOf};
 
 use seat_booth::running_sum::RunningSum;
 use seat_booth::{Booth, Seat, new_booth};
@@ -42,7 +43,7 @@ fn take_lock<R: Wait>(rt: &R, sum: &Mutex<u64>, calls: u32) {
 
 /// The sum that so many threads make at a booth.
 fn booth_sum<R: Threads + Wait + Sync>(rt: &R, alloc: Global, threads: u32) -> Option<u64>
-    requires { (1 ≤ threads) × (threads ≤ 64) }
+    requires { (1 ≤ threads) × (threads ≤ most_seats) }
 {
     let Ok((booth, seats)) = new_booth(alloc, RunningSum { sum: 0 }, threads) else {
         return None;
@@ -61,13 +62,11 @@ fn booth_sum<R: Threads + Wait + Sync>(rt: &R, alloc: Global, threads: u32) -> O
 
 /// The sum that so many threads make under a lock.
 fn mutex_sum<R: Threads + Wait + Sync>(rt: &R, alloc: Global, threads: u32) -> Option<u64>
-    requires { (1 ≤ threads) × (threads ≤ 64) }
+    requires { (1 ≤ threads) × (threads ≤ most_seats) }
 {
     let sum = Mutex::new(0);
     let calls = CALLS / threads;
-    let Ok(_done) = map_indices(rt, alloc, threads as usize, &|_| take_lock(rt, &sum, calls)) else {
-        return None;
-    };
+    map_indices(rt, alloc, threads as usize, &|_| take_lock(rt, &sum, calls)).ok()?;
     Some(sum.into_inner())
 }
 

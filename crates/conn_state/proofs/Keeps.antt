@@ -6,11 +6,11 @@ use Rattle.outside.specs.declared.outcomes.Settled.TheVariants.{Reply, Nothing, 
 use Rattle.host_model.specs.declared.cause.EndCause.{EndCause}
 use Rattle.host_model.specs.declared.cause.EndCause.TheVariants.{End, Cut, SizeFault, Envelope, ReadFault, WriteFault, NoMemory, Stopped}
 use Rattle.host_model.specs.Frames.{Frames, frame, size_bytes, IsPayload, IsRest, HasNoBadSize, IsPartial}
-use Rattle.conn_state.specs.Phase.{Phase, View, sizing, held, framing, ready, waiting, writing, ended, bytes_held, wanted, left_to_write, IsHeld, IsReading, IsWaiting, IsOpen}
-use Rattle.conn_state.specs.Step.{after_bytes, after_admission, after_answer, after_write, after_end_of_input, IsFromOutside}
-use Rattle.conn_state.specs.Run.{AreBytes}
-use Rattle.conn_state.specs.Split.{AllGiven, OneIsLost, HoldsLess, EndsBy, Stands, Splits, IsWhole, IsPiece}
-use Rattle.conn_state.proofs.Lists.{AreBytes-append, AllByRecursion-push, handed_on, frames_on}
+use Rattle.conn_state.specs.Phase.{Phase, ConnView, sizing, held, framing, ready, waiting, writing, ended, bytes_held, wanted, left_to_write, IsHeld, IsReading, IsWaiting, HasNotEnded}
+use Rattle.conn_state.specs.Step.{after_bytes, after_admission, after_answer, after_wrote, after_end_of_input, IsFromOutside}
+use Rattle.conn_state.specs.Run.{EachIsByte}
+use Rattle.conn_state.specs.Split.{AllGiven, OneIsLost, HoldsLess, CauseSays, PhaseSays, Splits, IsOneFrame, StaysWithin}
+use Rattle.conn_state.proofs.Lists.{bytes_append, AllByRecursion-push, handed_on, frames_on}
 use Rattle.conn_state.proofs.Partials.{size_is_partial, payload_is_partial}
 use Rattle.conn_state.proofs.Pieces.{piece_of_size_bytes, piece_of_payload_bytes}
 
@@ -22,7 +22,7 @@ bad_size_is_rest max z payload more allowed e =
 
 -- a piece that makes no frame whole keeps the payloads
 same_payloads : (max : ℕ) (bytes piece : List ℕ) (handed_out : List (ℕ × List ℕ)) (payloads : List (List ℕ)) (part : List ℕ) (now : ℕ) (phase : Phase)
-    → Frames max bytes payloads part → now ≡ length payloads → IsRest max (part ++ piece) → Stands max payloads (part ++ piece) handed_out phase
+    → Frames max bytes payloads part → now ≡ length payloads → IsRest max (part ++ piece) → PhaseSays max payloads (part ++ piece) handed_out phase
     → Splits max (bytes ++ piece) handed_out (record { frames = now; phase = phase })
 same_payloads max bytes piece handed_out payloads part now phase split counted no_more stands = record {
   payloads = payloads;
@@ -38,7 +38,7 @@ same_payloads max bytes piece handed_out payloads part now phase split counted n
 
 -- a piece that makes a frame whole adds its payload
 one_payload_more : (max : ℕ) (bytes piece : List ℕ) (handed_out : List (ℕ × List ℕ)) (payloads : List (List ℕ)) (part : List ℕ) (frames now number : ℕ) (payload : List ℕ)
-    → Frames max bytes payloads part → frames ≡ length payloads → AllGiven payloads handed_out → IsWhole max frames (part ++ piece) now number payload
+    → Frames max bytes payloads part → frames ≡ length payloads → AllGiven payloads handed_out → IsOneFrame max frames (part ++ piece) now number payload
     → Splits max (bytes ++ piece) handed_out (record { frames = now; phase = ready number payload })
 one_payload_more max bytes piece handed_out payloads part frames now number payload split counted all whole =
     let joined : bytes ++ piece ≡ flat_map frame payloads ++ (part ++ piece) =
@@ -59,7 +59,7 @@ one_payload_more max bytes piece handed_out payloads part frames now number payl
 
 -- a piece keeps the split
 from_piece : (max : ℕ) (bytes piece : List ℕ) (handed_out : List (ℕ × List ℕ)) (payloads : List (List ℕ)) (part : List ℕ) (frames now : ℕ) (phase : Phase)
-    → Frames max bytes payloads part → frames ≡ length payloads → AllGiven payloads handed_out → IsPiece max frames (part ++ piece) now phase
+    → Frames max bytes payloads part → frames ≡ length payloads → AllGiven payloads handed_out → StaysWithin max frames (part ++ piece) now phase
     → Splits max (bytes ++ piece) handed_out (record { frames = now; phase = phase })
 from_piece max bytes piece handed_out payloads part frames now (sizing xs) split counted all p =
     same_payloads max bytes piece handed_out payloads part now (sizing xs) split (p.counted ∙ counted) p.partial.rest (all, p.same, p.holds)
@@ -83,10 +83,10 @@ from_piece max bytes piece handed_out payloads part frames now (ended NoMemory) 
 from_piece max bytes piece handed_out payloads part frames now (ended Stopped) split counted all p = absurd p
 
 -- what is taken in a phase that holds less than a frame is a piece
-took_piece : (max frames : ℕ) (phase : Phase) (bytes : List ℕ) → max < 2 ^ 31 → HoldsLess max phase → AreBytes bytes → 0 < length bytes → length bytes ≤ wanted phase
-    → IsPiece max frames (bytes_held phase ++ bytes) (after_bytes max frames phase bytes).frames (after_bytes max frames phase bytes).phase
+took_piece : (max frames : ℕ) (phase : Phase) (bytes : List ℕ) → max < 2 ^ 31 → HoldsLess max phase → EachIsByte bytes → 0 < length bytes → length bytes ≤ wanted phase
+    → StaysWithin max frames (bytes_held phase ++ bytes) (after_bytes max frames phase bytes).frames (after_bytes max frames phase bytes).phase
 took_piece max frames (sizing xs) bytes small holds are some asked =
-    piece_of_size_bytes max frames (xs ++ bytes) small (AreBytes-append xs bytes holds.1 are) (omega (arith, length-append xs bytes))
+    piece_of_size_bytes max frames (xs ++ bytes) small (bytes_append xs bytes holds.1 are) (omega (arith, length-append xs bytes))
 took_piece max frames (framing n xs) bytes small holds are some asked =
     piece_of_payload_bytes max frames n (xs ++ bytes) small holds.some holds.within (omega (arith, holds.fewer, length-append xs bytes))
 took_piece max frames (held n) bytes small holds are some asked = absurd (omega arith)
@@ -102,7 +102,7 @@ pub record Asks (max : ℕ) (payloads : List (List ℕ)) (rest : List ℕ) (hand
   pub holds : HoldsLess max phase
 
 asks_of : (max : ℕ) (payloads : List (List ℕ)) (rest : List ℕ) (handed_out : List (ℕ × List ℕ)) (phase : Phase) → 0 < wanted phase
-    → Stands max payloads rest handed_out phase → Asks max payloads rest handed_out phase
+    → PhaseSays max payloads rest handed_out phase → Asks max payloads rest handed_out phase
 asks_of max payloads rest handed_out (sizing xs) some stands = record { all = stands.0; same = stands.1; holds = stands.2 }
 asks_of max payloads rest handed_out (held n) some stands = record { all = stands.0; same = stands.1; holds = stands.2 }
 asks_of max payloads rest handed_out (framing n xs) some stands = record { all = stands.0; same = stands.1; holds = stands.2 }
@@ -112,15 +112,15 @@ asks_of max payloads rest handed_out (writing xs) some stands = absurd (omega ar
 asks_of max payloads rest handed_out (ended cause) some stands = absurd (omega arith)
 
 -- bytes that are taken are a piece
-pub took_is_piece : (max : ℕ) (bytes piece : List ℕ) (handed_out : List (ℕ × List ℕ)) (old : View) → max < 2 ^ 31 → Splits max bytes handed_out old
-    → AreBytes piece → 0 < length piece → length piece ≤ wanted old.phase
-    → IsPiece max old.frames (bytes_held old.phase ++ piece) (after_bytes max old.frames old.phase piece).frames (after_bytes max old.frames old.phase piece).phase
+pub took_is_piece : (max : ℕ) (bytes piece : List ℕ) (handed_out : List (ℕ × List ℕ)) (old : ConnView) → max < 2 ^ 31 → Splits max bytes handed_out old
+    → EachIsByte piece → 0 < length piece → length piece ≤ wanted old.phase
+    → StaysWithin max old.frames (bytes_held old.phase ++ piece) (after_bytes max old.frames old.phase piece).frames (after_bytes max old.frames old.phase piece).phase
 took_is_piece max bytes piece handed_out old small splits are some asked =
     let asks = asks_of max splits.payloads splits.rest handed_out old.phase (omega arith) splits.stands in
     took_piece max old.frames old.phase piece small asks.holds are some asked
 
-pub took_keeps : (max : ℕ) (bytes piece : List ℕ) (handed_out : List (ℕ × List ℕ)) (old : View) → max < 2 ^ 31 → Splits max bytes handed_out old
-    → AreBytes piece → 0 < length piece → length piece ≤ wanted old.phase
+pub took_keeps : (max : ℕ) (bytes piece : List ℕ) (handed_out : List (ℕ × List ℕ)) (old : ConnView) → max < 2 ^ 31 → Splits max bytes handed_out old
+    → EachIsByte piece → 0 < length piece → length piece ≤ wanted old.phase
     → Splits max (bytes ++ piece) handed_out (after_bytes max old.frames old.phase piece)
 took_keeps max bytes piece handed_out old small splits are some asked =
     let asks = asks_of max splits.payloads splits.rest handed_out old.phase (omega arith) splits.stands in
@@ -152,8 +152,8 @@ left_of_held max payloads rest handed_out phase small all same holds =
 nothing_is_partial : (max : ℕ) (rest : List ℕ) → rest ≡ [] → HasNoBadSize max rest
 nothing_is_partial max rest none = subst (λ (xs : List ℕ). HasNoBadSize max xs) (sym none) (size_is_partial max [] (omega arith)).size
 
-pub left_of : (max : ℕ) (payloads : List (List ℕ)) (rest : List ℕ) (handed_out : List (ℕ × List ℕ)) (phase : Phase) → max < 2 ^ 31 → IsOpen phase
-    → Stands max payloads rest handed_out phase → Left max payloads rest handed_out
+pub left_of : (max : ℕ) (payloads : List (List ℕ)) (rest : List ℕ) (handed_out : List (ℕ × List ℕ)) (phase : Phase) → max < 2 ^ 31 → HasNotEnded phase
+    → PhaseSays max payloads rest handed_out phase → Left max payloads rest handed_out
 left_of max payloads rest handed_out (sizing xs) small open_ stands = left_of_held max payloads rest handed_out (sizing xs) small stands.0 stands.1 stands.2
 left_of max payloads rest handed_out (held n) small open_ stands = left_of_held max payloads rest handed_out (held n) small stands.0 stands.1 stands.2
 left_of max payloads rest handed_out (framing n xs) small open_ stands = left_of_held max payloads rest handed_out (framing n xs) small stands.0 stands.1 stands.2
@@ -165,7 +165,7 @@ left_of max payloads rest handed_out (ended cause) small open_ stands = absurd o
 
 -- an end from outside
 pub stands_ended : (max : ℕ) (payloads : List (List ℕ)) (rest : List ℕ) (handed_out : List (ℕ × List ℕ)) (cause : EndCause) → IsFromOutside cause
-    → Left max payloads rest handed_out → EndsBy max payloads rest handed_out cause
+    → Left max payloads rest handed_out → CauseSays max payloads rest handed_out cause
 stands_ended max payloads rest handed_out End outside left = absurd outside
 stands_ended max payloads rest handed_out Cut outside left = absurd outside
 stands_ended max payloads rest handed_out (SizeFault z) outside left = absurd outside
@@ -177,7 +177,7 @@ stands_ended max payloads rest handed_out Stopped outside left = left
 
 -- the end of the input
 pub stands_at_end : (max : ℕ) (payloads : List (List ℕ)) (rest : List ℕ) (handed_out : List (ℕ × List ℕ)) (phase : Phase) → max < 2 ^ 31 → IsReading phase
-    → Stands max payloads rest handed_out phase → Stands max payloads rest handed_out (after_end_of_input phase)
+    → PhaseSays max payloads rest handed_out phase → PhaseSays max payloads rest handed_out (after_end_of_input phase)
 stands_at_end max payloads rest handed_out (sizing []) small reading stands = (stands.0, stands.1)
 stands_at_end max payloads rest handed_out (sizing (x ∷ xs)) small reading stands =
     (stands.0, (λ none. let no : x ∷ xs ≡ [] = sym stands.1 ∙ none in cc), (left_of_held max payloads rest handed_out (sizing (x ∷ xs)) small stands.0 stands.1 stands.2).1)
@@ -191,12 +191,12 @@ stands_at_end max payloads rest handed_out (ended cause) small reading stands = 
 
 -- a new size
 stands_anew : (max : ℕ) (payloads : List (List ℕ)) (rest : List ℕ) (handed_out : List (ℕ × List ℕ)) → AllGiven payloads handed_out → rest ≡ []
-    → Stands max payloads rest handed_out (sizing [])
+    → PhaseSays max payloads rest handed_out (sizing [])
 stands_anew max payloads rest handed_out all none = (all, none, (omega arith, λ i. omega arith))
 
 -- the admission of a frame
 pub stands_admitted : (max : ℕ) (payloads : List (List ℕ)) (rest : List ℕ) (handed_out : List (ℕ × List ℕ)) (phase : Phase) → IsHeld phase
-    → Stands max payloads rest handed_out phase → Stands max payloads rest handed_out (after_admission phase)
+    → PhaseSays max payloads rest handed_out phase → PhaseSays max payloads rest handed_out (after_admission phase)
 stands_admitted max payloads rest handed_out (held n) is stands = stands
 stands_admitted max payloads rest handed_out (sizing xs) is stands = absurd is
 stands_admitted max payloads rest handed_out (framing n xs) is stands = absurd is
@@ -207,14 +207,14 @@ stands_admitted max payloads rest handed_out (ended cause) is stands = absurd is
 
 -- the outcome of a frame
 stands_settled : (max : ℕ) (payloads : List (List ℕ)) (rest : List ℕ) (handed_out : List (ℕ × List ℕ)) (number : ℕ) (settled : Settled)
-    → Stands max payloads rest handed_out (waiting number) → Stands max payloads rest handed_out (after_answer settled)
+    → PhaseSays max payloads rest handed_out (waiting number) → PhaseSays max payloads rest handed_out (after_answer settled)
 stands_settled max payloads rest handed_out number (Reply reply) stands = (stands.0, stands.1)
 stands_settled max payloads rest handed_out number Nothing stands = stands_anew max payloads rest handed_out stands.0 stands.1
 stands_settled max payloads rest handed_out number (Close fault) stands = (stands.0, stands.1, omega (arith, stands.2))
 stands_settled max payloads rest handed_out number NoRoom stands = (inl stands.0, nothing_is_partial max rest stands.1)
 
 pub stands_answered : (max : ℕ) (payloads : List (List ℕ)) (rest : List ℕ) (handed_out : List (ℕ × List ℕ)) (phase : Phase) (settled : Settled) → IsWaiting phase
-    → Stands max payloads rest handed_out phase → Stands max payloads rest handed_out (after_answer settled)
+    → PhaseSays max payloads rest handed_out phase → PhaseSays max payloads rest handed_out (after_answer settled)
 stands_answered max payloads rest handed_out (waiting number) settled is stands = stands_settled max payloads rest handed_out number settled stands
 stands_answered max payloads rest handed_out (sizing xs) settled is stands = absurd is
 stands_answered max payloads rest handed_out (held n) settled is stands = absurd is
@@ -225,12 +225,12 @@ stands_answered max payloads rest handed_out (ended cause) settled is stands = a
 
 -- a write
 stands_left : (max : ℕ) (payloads : List (List ℕ)) (rest : List ℕ) (handed_out : List (ℕ × List ℕ)) (left : List ℕ) → AllGiven payloads handed_out → rest ≡ []
-    → Stands max payloads rest handed_out (after_write left)
+    → PhaseSays max payloads rest handed_out (after_wrote left)
 stands_left max payloads rest handed_out [] all none = stands_anew max payloads rest handed_out all none
 stands_left max payloads rest handed_out (x ∷ xs) all none = (all, none)
 
 pub stands_written : (max : ℕ) (payloads : List (List ℕ)) (rest : List ℕ) (handed_out : List (ℕ × List ℕ)) (phase : Phase) (left : List ℕ) → 0 < length (left_to_write phase)
-    → Stands max payloads rest handed_out phase → Stands max payloads rest handed_out (after_write left)
+    → PhaseSays max payloads rest handed_out phase → PhaseSays max payloads rest handed_out (after_wrote left)
 stands_written max payloads rest handed_out (writing xs) left some stands = stands_left max payloads rest handed_out left stands.0 stands.1
 stands_written max payloads rest handed_out (sizing xs) left some stands = absurd (omega arith)
 stands_written max payloads rest handed_out (held n) left some stands = absurd (omega arith)
@@ -241,7 +241,7 @@ stands_written max payloads rest handed_out (ended cause) left some stands = abs
 
 -- the payload that is whole is handed out
 pub stands_given : (max : ℕ) (payloads : List (List ℕ)) (rest : List ℕ) (handed_out : List (ℕ × List ℕ)) (number : ℕ) (payload : List ℕ)
-    → Stands max payloads rest handed_out (ready number payload) → Stands max payloads rest (handed_out ++ (number, payload) ∷ []) (waiting number)
+    → PhaseSays max payloads rest handed_out (ready number payload) → PhaseSays max payloads rest (handed_out ++ (number, payload) ∷ []) (waiting number)
 stands_given max payloads rest handed_out number payload stands =
     let is = stands.0 in
     let numbers : handed_out ++ (number, payload) ∷ [] ≡ enumerate_from 0 is.before ++ (length is.before, payload) ∷ [] =

@@ -4,13 +4,13 @@ use Rattle.std.proofs.lemmas.List.{append-nil}
 use Rattle.std.specs.List.{enumerate_from, flat_map, AllByRecursion}
 use Rattle.std.proofs.lemmas.List.Concat.{flat_map-append}
 use Rattle.host_model.specs.Frames.{frame}
-use Rattle.conn_state.specs.Run.{AreBytes}
+use Rattle.conn_state.specs.Run.{EachIsByte}
 
 -- bytes behind bytes are bytes
-pub AreBytes-append : (xs ys : List ℕ) → AreBytes xs → AreBytes ys → (i : ℕ) → slice_index (xs ++ ys) i < 2 ^ 8
-AreBytes-append [] ys front back i = back i
-AreBytes-append (x ∷ xs) ys front back zero = front 0
-AreBytes-append (x ∷ xs) ys front back (suc i) = AreBytes-append xs ys (λ j. front (suc j)) back i
+pub bytes_append : (xs ys : List ℕ) → EachIsByte xs → EachIsByte ys → (i : ℕ) → slice_index (xs ++ ys) i < 2 ^ 8
+bytes_append [] ys front back i = back i
+bytes_append (x ∷ xs) ys front back zero = front 0
+bytes_append (x ∷ xs) ys front back (suc i) = bytes_append xs ys (λ j. front (suc j)) back i
 
 -- what holds of each and of one more
 pub AllByRecursion-push : {X : Type 0} (P : X → Type 0) (xs : List X) (x : X) → AllByRecursion P xs → P x → AllByRecursion P (xs ++ x ∷ [])

@@ -17,11 +17,11 @@ phase_of (Ended cause) = ended cause
 
 -- A size that is held is whole only where it was looked at; a payload under way isn't whole and has room for the rest of
 -- it; a reply isn't written past its end.
-abbrev pub IsSound : State → Type 0
-IsSound (ReadingSize bytes) = length bytes < 4
-IsSound (Held size) = 0 < size
-IsSound (ReadingFrame size payload) = (length payload.items < size) × (size ≤ vec_capacity payload)
-IsSound (Ready number payload) = Unit {0}
-IsSound (Waiting number) = Unit {0}
-IsSound (Writing reply done) = done ≤ length reply
-IsSound (Ended cause) = Unit {0}
+abbrev pub IsSoundState : State → Type 0
+IsSoundState (ReadingSize bytes) = length bytes < 4
+IsSoundState (Held size) = 0 < size
+IsSoundState (ReadingFrame size payload) = (length payload.items < size) × (size ≤ vec_capacity payload)
+IsSoundState (Ready number payload) = Unit {0}
+IsSoundState (Waiting number) = Unit {0}
+IsSoundState (Writing reply done) = done ≤ length reply
+IsSoundState (Ended cause) = Unit {0}

@@ -3,6 +3,7 @@ use Rattle.std.specs.Prelude.{ℕ, ◌-◌, min, List, [], ◌++◌, length, Opt
 use Rattle.std.specs.Int.{w32, to_be_bytes}
 use Rattle.host_model.specs.declared.cause.EndCause.{EndCause}
 
+-- what a connection is doing
 pub data Phase : Type 0 where
   -- it reads a size, of which these bytes are held
   sizing : (bytes : List ℕ) → Phase
@@ -20,13 +21,13 @@ pub data Phase : Type 0 where
   ended : (cause : EndCause) → Phase
 
 -- a connection: how many frames were whole so far, and what it is doing
-pub record View : Type 0 where
+pub record ConnView : Type 0 where
   pub frames : ℕ
   pub phase : Phase
 
 -- a new connection
-abbrev pub fresh : View
-fresh = record { frames = 0; phase = sizing [] }
+abbrev pub fresh_conn : ConnView
+fresh_conn = record { frames = 0; phase = sizing [] }
 
 -- the bytes held of the size or the frame that is under way
 abbrev pub bytes_held : Phase → List ℕ
@@ -41,9 +42,13 @@ missing (sizing bytes) = 4 - length bytes
 missing (framing size bytes) = size - length bytes
 missing _ = 0
 
--- how many of them are asked for at once
+-- the most bytes that are asked for at once
+abbrev pub most_wanted : ℕ
+most_wanted = 65536
+
+-- how many of the missing bytes are asked for at once
 abbrev pub wanted : Phase → ℕ
-wanted phase = min (missing phase) 65536
+wanted phase = min (missing phase) most_wanted
 
 -- the size of a frame that isn't admitted
 abbrev pub size_asked : Phase → Option ℕ
@@ -87,6 +92,6 @@ IsWriting (writing left) = Unit {0}
 IsWriting _ = ⊥
 
 -- it hasn't ended
-abbrev pub IsOpen : Phase → Type 0
-IsOpen (ended cause) = ⊥
-IsOpen _ = Unit {0}
+abbrev pub HasNotEnded : Phase → Type 0
+HasNotEnded (ended cause) = ⊥
+HasNotEnded _ = Unit {0}

@@ -4,8 +4,8 @@ use Rattle.std.specs.List.{enumerate_from}
 use Rattle.host_model.specs.declared.cause.EndCause.{EndCause}
 use Rattle.host_model.specs.declared.cause.EndCause.TheVariants.{End, Cut, SizeFault, Envelope}
 use Rattle.host_model.specs.Frames.{Frames, frame, size_bytes, IsPayload, IsOutside, HasNoBadSize, IsPartial}
-use Rattle.conn_state.specs.Phase.{Phase, View, sizing, held, framing, ready, waiting, writing, ended, bytes_held}
-use Rattle.conn_state.specs.Run.{AreBytes}
+use Rattle.conn_state.specs.Phase.{Phase, ConnView, sizing, held, framing, ready, waiting, writing, ended, bytes_held}
+use Rattle.conn_state.specs.Run.{EachIsByte}
 
 -- each payload was handed out, under its number
 abbrev pub AllGiven : List (List ℕ) → List (ℕ × List ℕ) → Type 0
@@ -26,63 +26,63 @@ pub record OneIsLost (payloads : List (List ℕ)) (rest : List ℕ) (handed_out 
   pub nothing_behind : rest ≡ []
 
 -- the size of a frame that max allows, and fewer bytes of its payload
-pub record IsUnderWay (max size : ℕ) (bytes : List ℕ) : Type 0 where
+pub record IsPartOfFrame (max size : ℕ) (bytes : List ℕ) : Type 0 where
   pub some : 1 ≤ size
   pub within : size ≤ max
   pub fewer : length bytes < size
 
 -- what a phase holds is less than a size, or a size that max allows and less than its payload
 abbrev pub HoldsLess : ℕ → Phase → Type 0
-HoldsLess max (sizing bytes) = (length bytes < 4) × AreBytes bytes
-HoldsLess max (held size) = IsUnderWay max size []
-HoldsLess max (framing size bytes) = IsUnderWay max size bytes
+HoldsLess max (sizing bytes) = (length bytes < 4) × EachIsByte bytes
+HoldsLess max (held size) = IsPartOfFrame max size []
+HoldsLess max (framing size bytes) = IsPartOfFrame max size bytes
 HoldsLess max _ = ⊥
 
 -- what a cause says of the payloads, the rest behind them, and what was handed out
-abbrev pub EndsBy : ℕ → List (List ℕ) → List ℕ → List (ℕ × List ℕ) → EndCause → Type 0
-EndsBy max payloads rest handed_out End = AllGiven payloads handed_out × (rest ≡ [])
-EndsBy max payloads rest handed_out Cut =
+abbrev pub CauseSays : ℕ → List (List ℕ) → List ℕ → List (ℕ × List ℕ) → EndCause → Type 0
+CauseSays max payloads rest handed_out End = AllGiven payloads handed_out × (rest ≡ [])
+CauseSays max payloads rest handed_out Cut =
     AllGiven payloads handed_out × (rest ≢ []) × HasNoBadSize max rest
-EndsBy max payloads rest handed_out (SizeFault size) =
+CauseSays max payloads rest handed_out (SizeFault size) =
     AllGiven payloads handed_out × (rest ≡ size_bytes size) × IsOutside max size
-EndsBy max payloads rest handed_out (Envelope fault) =
+CauseSays max payloads rest handed_out (Envelope fault) =
     AllGiven payloads handed_out × (rest ≡ []) × (0 < length payloads)
-EndsBy max payloads rest handed_out _ =
+CauseSays max payloads rest handed_out _ =
     (AllGiven payloads handed_out ⊎ OneIsLost payloads rest handed_out) × HasNoBadSize max rest
 
 -- what a phase says of them
-abbrev pub Stands : ℕ → List (List ℕ) → List ℕ → List (ℕ × List ℕ) → Phase → Type 0
-Stands max payloads rest handed_out (sizing bytes) =
+abbrev pub PhaseSays : ℕ → List (List ℕ) → List ℕ → List (ℕ × List ℕ) → Phase → Type 0
+PhaseSays max payloads rest handed_out (sizing bytes) =
     AllGiven payloads handed_out × (rest ≡ bytes_held (sizing bytes)) × HoldsLess max (sizing bytes)
-Stands max payloads rest handed_out (held size) =
+PhaseSays max payloads rest handed_out (held size) =
     AllGiven payloads handed_out × (rest ≡ bytes_held (held size)) × HoldsLess max (held size)
-Stands max payloads rest handed_out (framing size bytes) =
+PhaseSays max payloads rest handed_out (framing size bytes) =
     AllGiven payloads handed_out × (rest ≡ bytes_held (framing size bytes)) × HoldsLess max (framing size bytes)
-Stands max payloads rest handed_out (ready number payload) =
+PhaseSays max payloads rest handed_out (ready number payload) =
     LastIsLeft payloads handed_out number payload × (rest ≡ [])
-Stands max payloads rest handed_out (waiting number) =
+PhaseSays max payloads rest handed_out (waiting number) =
     AllGiven payloads handed_out × (rest ≡ []) × (length payloads ≡ number + 1)
-Stands max payloads rest handed_out (writing left) = AllGiven payloads handed_out × (rest ≡ [])
-Stands max payloads rest handed_out (ended cause) = EndsBy max payloads rest handed_out cause
+PhaseSays max payloads rest handed_out (writing left) = AllGiven payloads handed_out × (rest ≡ [])
+PhaseSays max payloads rest handed_out (ended cause) = CauseSays max payloads rest handed_out cause
 
 -- The bytes taken split into the payloads of whole frames and a rest, as many as are counted, and the phase says which
 -- of them were handed out and what the rest is.
-pub record Splits (max : ℕ) (bytes : List ℕ) (handed_out : List (ℕ × List ℕ)) (view : View) : Type 0 where
+pub record Splits (max : ℕ) (bytes : List ℕ) (handed_out : List (ℕ × List ℕ)) (view : ConnView) : Type 0 where
   pub payloads : List (List ℕ)
   pub rest : List ℕ
   pub frames : Frames max bytes payloads rest
   pub counted : view.frames ≡ length payloads
-  pub stands : Stands max payloads rest handed_out view.phase
+  pub stands : PhaseSays max payloads rest handed_out view.phase
 
 -- bytes that are less than a frame are held by the phase, and no frame more is counted
-pub record IsLess (max frames : ℕ) (bytes : List ℕ) (now : ℕ) (phase : Phase) : Type 0 where
+pub record IsLessThanFrame (max frames : ℕ) (bytes : List ℕ) (now : ℕ) (phase : Phase) : Type 0 where
   pub partial : IsPartial max bytes
   pub same : bytes ≡ bytes_held phase
   pub holds : HoldsLess max phase
   pub counted : now ≡ frames
 
 -- bytes that are a frame are counted as one more, whose payload is whole under the number of frames before it
-pub record IsWhole (max frames : ℕ) (bytes : List ℕ) (now number : ℕ) (payload : List ℕ) : Type 0 where
+pub record IsOneFrame (max frames : ℕ) (bytes : List ℕ) (now number : ℕ) (payload : List ℕ) : Type 0 where
   pub allowed : IsPayload max payload
   pub same : bytes ≡ frame payload
   pub numbered : number ≡ frames
@@ -96,10 +96,10 @@ pub record IsBadSize (max frames : ℕ) (bytes : List ℕ) (now : ℕ) (size : �
 
 -- The bytes held, with a piece behind them, are less than a frame, or just one frame, or just one size that no frame
 -- has: a piece never goes past the size or the frame that is under way.
-abbrev pub IsPiece : ℕ → ℕ → List ℕ → ℕ → Phase → Type 0
-IsPiece max frames bytes now (sizing part) = IsLess max frames bytes now (sizing part)
-IsPiece max frames bytes now (held size) = IsLess max frames bytes now (held size)
-IsPiece max frames bytes now (framing size part) = IsLess max frames bytes now (framing size part)
-IsPiece max frames bytes now (ready number payload) = IsWhole max frames bytes now number payload
-IsPiece max frames bytes now (ended (SizeFault size)) = IsBadSize max frames bytes now size
-IsPiece max frames bytes now _ = ⊥
+abbrev pub StaysWithin : ℕ → ℕ → List ℕ → ℕ → Phase → Type 0
+StaysWithin max frames bytes now (sizing part) = IsLessThanFrame max frames bytes now (sizing part)
+StaysWithin max frames bytes now (held size) = IsLessThanFrame max frames bytes now (held size)
+StaysWithin max frames bytes now (framing size part) = IsLessThanFrame max frames bytes now (framing size part)
+StaysWithin max frames bytes now (ready number payload) = IsOneFrame max frames bytes now number payload
+StaysWithin max frames bytes now (ended (SizeFault size)) = IsBadSize max frames bytes now size
+StaysWithin max frames bytes now _ = ⊥

@@ -3,7 +3,20 @@
 //! to admit a frame.
 //!
 //! Read at most `want` bytes and hand them to `took`; at `asks` call `admit`; `give` hands out a payload, `answered`
-//! takes its outcome, and `pending` and `wrote` write the reply (Thrift framed transport).
+//! takes its outcome, and `pending` and `wrote` write the reply (Thrift framed transport). One frame, with `frames` read before:
+//!
+//! ```rust
+//! let count = source.read(&mut into[..conn.want()])?;
+//! conn.took(&into[..count], max_frame);
+//! if conn.asks().is_some() {
+//!     conn.admit(alloc)?;
+//! } else if conn.frames() > frames {
+//!     let (number, payload) = conn.give();
+//!     conn.answered(settle(number, payload));
+//!     let count = sink.write(conn.pending())?;
+//!     conn.wrote(count);
+//! }
+//! ```
 
 #![tactic(auto)]
 

@@ -1,10 +1,10 @@
 //! The machine of one connection.
 
 ghost use Rattle.std.specs.Prelude.{◌≡◌, ◌≢◌, ◌+◌, ◌<◌, ◌≤◌, ◌^◌, ◌↔◌, length, drop, IsSome, IsNone, OnOk, OnErr};
-ghost use Rattle.conn_state.specs.Phase.{fresh, wanted, size_asked, left_to_write, cause_of, IsHeld, IsReading, IsReady, IsWaiting, IsOpen, IsWriting, ready, waiting, ended};
-ghost use Rattle.conn_state.specs.Run.{AreBytes};
-ghost use Rattle.conn_state.specs.Step.{after_took, after_size, after_admission, after_answer, after_write, after_end_of_input, IsFromOutside};
-ghost use Rattle.conn_state.specs.Inside.{phase_of, IsSound};
+ghost use Rattle.conn_state.specs.Phase.{fresh_conn, wanted, size_asked, left_to_write, cause_of, IsHeld, IsReading, IsReady, IsWaiting, HasNotEnded, IsWriting, ready, waiting, ended};
+ghost use Rattle.conn_state.specs.Run.{EachIsByte};
+ghost use Rattle.conn_state.specs.Step.{after_took, after_size, after_admission, after_answer, after_wrote, after_end_of_input, IsFromOutside};
+ghost use Rattle.conn_state.specs.Inside.{phase_of, IsSoundState};
 
 use super::size_bytes::SizeBytes;
 use host_model::EndCause;
@@ -45,21 +45,21 @@ pub struct Conn {
 }
 
 impl Model for Conn {
-    ghost use Rattle.conn_state.specs.Phase.{View};
+    ghost use Rattle.conn_state.specs.Phase.{ConnView};
 
-    ghost Value = { View };
+    ghost Value = { ConnView };
 
-    ghost use Rattle.conn_state.specs.Inside.{phase_of, IsSound};
+    ghost use Rattle.conn_state.specs.Inside.{phase_of, IsSoundState};
 
     ghost view = { λ c. record { frames = c.frames; phase = phase_of c.state } };
 
-    ghost invariant = { λ c. IsSound c.state };
+    ghost invariant = { λ c. IsSoundState c.state };
 }
 
 impl Conn {
     /// A new connection, of which no byte is read.
     pub fn new() -> Self
-        ensures { result ≡ fresh }
+        ensures { result ≡ fresh_conn }
     {
         Conn {
             frames: 0,
@@ -94,7 +94,7 @@ impl Conn {
         requires asked { length bytes.now ≤ wanted self.old.phase }
         requires counted { self.old.frames < 2 ^ 62 }
         ensures after { self.new ≡ after_took max_frame self.old bytes.now }
-        ensures bytes { AreBytes bytes.now }
+        ensures bytes { EachIsByte bytes.now }
         ensures whole { self.old.frames < self.new.frames ↔ IsReady self.new.phase }
     {
         let number = self.frames;
@@ -188,7 +188,7 @@ impl Conn {
     pub fn wrote(&mut self, count: usize)
         requires some { 0 < count }
         requires pending { count ≤ length (left_to_write self.old.phase) }
-        ensures { self.new ≡ record self.old { phase = after_write (drop count (left_to_write self.old.phase)) } }
+        ensures { self.new ≡ record self.old { phase = after_wrote (drop count (left_to_write self.old.phase)) } }
     {
         match mem::replace(&mut self.state, State::Waiting(0)) {
             State::Writing(reply, done) => {
@@ -213,7 +213,7 @@ impl Conn {
 
     /// Ends the connection for a cause that its bytes don't show. A payload that is whole and not handed out is lost.
     pub fn end(&mut self, cause: EndCause)
-        requires open { IsOpen self.old.phase }
+        requires open { HasNotEnded self.old.phase }
         requires outside { IsFromOutside cause }
         ensures { self.new ≡ record self.old { phase = ended cause } }
     {
@@ -223,7 +223,7 @@ impl Conn {
     /// Why the connection ended, exactly where it has.
     pub fn cause(&self) -> Option<EndCause>
         ensures cause { result ≡ cause_of self.now.phase }
-        ensures over { IsNone result ↔ IsOpen self.now.phase }
+        ensures over { IsNone result ↔ HasNotEnded self.now.phase }
     {
         match &self.state {
             State::Ended(cause) => Some(*cause),
@@ -235,7 +235,7 @@ impl Conn {
 /// What a connection does once this size is whole.
 fn with_size(size: i32, max_frame: u32) -> State
     ensures phase { phase_of result ≡ after_size max_frame size }
-    ensures sound { IsSound result }
+    ensures sound { IsSoundState result }
 {
     if size < 1 {
         return State::Ended(EndCause::SizeFault(size));
@@ -250,8 +250,8 @@ fn with_size(size: i32, max_frame: u32) -> State
 /// What a connection does once this many bytes of its reply are written.
 fn written(reply: Bytes, done: usize) -> State
     requires { done ≤ length reply }
-    ensures phase { phase_of result ≡ after_write (drop done reply) }
-    ensures sound { IsSound result }
+    ensures phase { phase_of result ≡ after_wrote (drop done reply) }
+    ensures sound { IsSoundState result }
 {
     if done < reply.as_slice().len() {
         return State::Writing(reply, done);

@@ -1,11 +1,13 @@
 //! A connection's whole path, sizes that no frame has, and each way to end.
 
-ghost use Rattle.std.specs.Prelude.{IfOk};
-ghost use Rattle.conn_state.specs.Phase.{IsWaiting};
+ghost use Rattle.std.specs.Prelude.{◌<◌, ◌≤◌, ◌^◌, length, IfOk};
+ghost use Rattle.conn_state.specs.Phase.{wanted, IsWaiting};
 
 use super::*;
+use host_model::plain::split;
 use outside::{Bytes, EnvelopeFault, Settled};
 use std::alloc::{AllocError, Global};
+use std::process::Abort;
 use std::test::Fail;
 
 /// The largest frame of these tests, the program's own default.
@@ -108,4 +110,88 @@ fn an_outcome_may_end_the_connection_or_have_no_reply(rt: HostRuntime) -> Result
     silent.answered(Settled::Nothing);
     assert_eq!(rt; silent.want(), 4);
     Ok(())
+}
+
+/// The largest frame of the streams below.
+const SMALL: u32 = 8;
+
+/// More frames than a stream below has.
+const MOST_FRAMES: u64 = 100;
+
+/// Takes a piece; a frame that it begins is admitted, and one that it ends is handed out and has no reply.
+fn take_piece(
+    alloc: Global,
+    conn: &mut Conn,
+    piece: &[u8],
+    payloads: &mut Vec<Vec<u8>>,
+) -> Result<(), AllocError>
+    requires some { 0 < length piece.now }
+    requires asked { length piece.now ≤ wanted conn.old.phase }
+    requires counted { conn.old.frames < 2 ^ 62 }
+{
+    let before = conn.frames();
+    conn.took(piece, SMALL);
+    if conn.asks().is_some() {
+        return conn.admit(alloc);
+    }
+    if before < conn.frames() {
+        let (_, payload) = conn.give();
+        conn.answered(Settled::Nothing);
+        payloads.push(payload)?;
+    }
+    Ok(())
+}
+
+/// The payloads that come out of a stream which is cut into pieces of at most `cut` bytes, and how the connection ended.
+fn payloads_of(
+    alloc: Global,
+    stream: &[u8],
+    cut: usize,
+) -> Result<(Vec<Vec<u8>>, Option<EndCause>), AllocError> {
+    let mut conn = Conn::new();
+    let mut payloads = Vec::new(alloc);
+    let mut left = stream;
+    for _ in 0..stream.len() {
+        let count = conn.want().min(cut).min(left.len());
+        if count == 0 || conn.frames() >= MOST_FRAMES {
+            break;
+        }
+        let (piece, behind) = left.split_at(count);
+        take_piece(alloc, &mut conn, piece, &mut payloads)?;
+        left = behind;
+    }
+    Ok((payloads, conn.cause()))
+}
+
+/// However a stream is cut, the payloads are those of the plain split, and a size that no frame has ends the connection.
+fn splits_as_plain<R: Abort>(
+    rt: &R,
+    alloc: Global,
+    stream: &[u8],
+    cause: Option<EndCause>,
+) -> Result<(), Fail> {
+    let (payloads, _) = split(alloc, SMALL, stream)?;
+    for cut in [1, 2, 3, 64] {
+        let (found, ended) = payloads_of(alloc, stream, cut)?;
+        assert_eq!(rt; ended, cause);
+        assert_eq!(rt; found.len(), payloads.len());
+        for (one, other) in found.iter().zip(payloads.iter()) {
+            assert_eq!(rt; one.as_slice(), other.as_slice());
+        }
+    }
+    Ok(())
+}
+
+#[test]
+fn a_stream_is_split_as_the_plain_program_splits_it(rt: HostRuntime) -> Result<(), Fail> {
+    let alloc = rt.alloc();
+    splits_as_plain(&rt, alloc, b"", None)?;
+    splits_as_plain(&rt, alloc, b"\0\0\0\x02ab\0\0\0\x01c\0\0\0\x05de", None)?;
+    splits_as_plain(&rt, alloc, b"\0\0\0\x08abcdefgh\0\0", None)?;
+    let zero = Some(EndCause::SizeFault(0));
+    splits_as_plain(&rt, alloc, b"\0\0\0\x01a\0\0\0\0\0\0\0\x01b", zero)?;
+    let nine = Some(EndCause::SizeFault(9));
+    splits_as_plain(&rt, alloc, b"\0\0\0\x03abc\0\0\0\x09defghijkl", nine)?;
+    let below_zero = Some(EndCause::SizeFault(-1));
+    splits_as_plain(&rt, alloc, b"\xff\xff\xff\xff\0\0\0\x01a", below_zero)
 }

@@ -14,9 +14,9 @@ use Rattle.envelope.specs.declared.head.Protocol.TheVariants.{Binary}
 use Rattle.envelope.specs.declared.head.Head.{Head}
 use Rattle.envelope.specs.Said.{Said, IsInRange, IsCall}
 use Rattle.envelope.specs.Spelling.{name_text, strict_text, old_text, IsBinarySpelling, IsSpelling, head_text}
-use Rattle.envelope.specs.Readout.{◌>>=◌, piece, number, name_of, version, strict_head, old_head, either_head, whole_head, call_type, head_at, Answers, StandsIn}
+use Rattle.envelope.specs.Readout.{◌>>=◌, head_bytes, head_byte, head_i32, name_of, version, strict_head, old_head, either_head, whole_head, call_type, head_at, IsHeadOrNoMemory, IsEncodedIn}
 use Rattle.envelope.specs.declared.head.HeadFault.{HeadFault}
-use Rattle.envelope.proofs.Pieces.{AreBytes, ok, fail, bind_found, bind_only, same_ok, IsPiece, piece_found, piece_only, IsNumber, number_found, number_only, read_number, IsName, name_found, name_only, spelled_number}
+use Rattle.envelope.proofs.Pieces.{AreBytes, ok, fail, bind_found, bind_only, same_ok, piece_found, piece_only, IsByteFront, byte_found, byte_only, IsNumber, number_found, number_only, read_number, IsName, name_found, name_only, spelled_number}
 
 -- a head stands in front, of any type
 pub record Found (bytes : List ℕ) (said : Said) (rest : List ℕ) : Type 0 where
@@ -75,35 +75,30 @@ strict_found : (first bytes : List ℕ) (r : Said × List ℕ) → length first 
 unfolding strict_head
 strict_found first bytes r four are are_behind e =
     let v = bind_found (version first) _ r e in
-    let size = bind_found (number bytes) _ r v.2 in
+    let size = bind_found (head_i32 bytes) _ r v.2 in
     let sized = number_found bytes size.0 are_behind size.1 in
     let name = bind_found (name_of size.0.0 size.0.1) _ r size.2 in
     let named = name_found size.0.0 size.0.1 name.0 sized.rest_bytes name.1 in
-    let id = bind_found (number name.0.1) _ r name.2 in
+    let id = bind_found (head_i32 name.0.1) _ r name.2 in
     let last = number_found name.0.1 id.0 named.rest_bytes id.1 in
     same_found (first ++ bytes) (record { name = name.0.0; kind = get_or first 3 0; id = id.0.0 }, id.0.1) r id.2
     (strict_in first bytes size.0.1 name.0.1 id.0.1 name.0.0 size.0.0 id.0.0 four are (version_found first v.0 v.1) sized named last)
 
-one_byte : (front : List ℕ) → length front ≡ 1 → front ≡ get_or front 0 0 ∷ []
-one_byte [] size = absurd (omega arith)
-one_byte (a ∷ []) size = refl
-one_byte (a ∷ b ∷ more) size = absurd (omega arith)
-
-old_in : (first bytes named kind more rest name : List ℕ) (size id : ℤ) → signed_bytes w32 size ≡ first → FitsSigned w32 size
-    → IsName size bytes name named → IsPiece 1 named kind more → AreBytes kind → IsNumber more id rest
-    → Found (first ++ bytes) (record { name = name; kind = get_or kind 0 0; id = id }) rest
-old_in first bytes named kind more rest name size id spelled fits is_name typed are last =
-    let said : Said = record { name = name; kind = get_or kind 0 0; id = id } in
+old_in : (first bytes named : List ℕ) (kind : ℕ) (more rest name : List ℕ) (size id : ℤ) → signed_bytes w32 size ≡ first → FitsSigned w32 size
+    → IsName size bytes name named → IsByteFront named kind more → IsNumber more id rest
+    → Found (first ++ bytes) (record { name = name; kind = kind; id = id }) rest
+old_in first bytes named kind more rest name size id spelled fits is_name typed last =
+    let said : Said = record { name = name; kind = kind; id = id } in
     let b : length name < 2 ^ 31 = omega (arith, ints, is_name.size, fits.sfits) in
     let front : first ++ bytes ≡ name_text name ++ named =
     (λ i. sym spelled i ++ is_name.whole i) ∙ sym (append_assoc (signed_bytes w32 size) name named) ∙ (λ i. (signed_bytes w32 (is_name.size i) ++ name) ++ named) in
-    let kinded : named ≡ get_or kind 0 0 ∷ (signed_bytes w32 id ++ rest) =
-    typed.whole ∙ (λ i. one_byte kind typed.size i ++ last.whole i) in
+    let kinded : named ≡ kind ∷ (signed_bytes w32 id ++ rest) =
+    typed.whole ∙ ap (λ (t : List ℕ). kind ∷ t) last.whole in
     record {
       text = old_text said;
-      whole = front ∙ ap (λ t. name_text name ++ t) kinded ∙ sym (append_assoc (name_text name) (get_or kind 0 0 ∷ signed_bytes w32 id) rest);
+      whole = front ∙ ap (λ t. name_text name ++ t) kinded ∙ sym (append_assoc (name_text name) (kind ∷ signed_bytes w32 id) rest);
       spells = record {
-        range = record { name = b; bytes = is_name.name_bytes; kind = are 0; id = last.fits };
+        range = record { name = b; bytes = is_name.name_bytes; kind = typed.small; id = last.fits };
         form = inr refl;
       };
     }
@@ -114,12 +109,12 @@ unfolding old_head
 old_found first bytes size r spelled fits are e =
     let name = bind_found (name_of size bytes) _ r e in
     let named = name_found size bytes name.0 are name.1 in
-    let kind = bind_found (piece 1 name.0.1) _ r name.2 in
-    let typed = piece_found 1 name.0.1 kind.0 kind.1 in
-    let id = bind_found (number kind.0.1) _ r kind.2 in
-    let last = number_found kind.0.1 id.0 (typed.rest_bytes named.rest_bytes) id.1 in
-    same_found (first ++ bytes) (record { name = name.0.0; kind = get_or kind.0.0 0 0; id = id.0.0 }, id.0.1) r id.2
-    (old_in first bytes name.0.1 kind.0.0 kind.0.1 id.0.1 name.0.0 size id.0.0 spelled fits named typed (typed.front_bytes named.rest_bytes) last)
+    let kind = bind_found (head_byte name.0.1) _ r name.2 in
+    let typed = byte_found name.0.1 kind.0 named.rest_bytes kind.1 in
+    let id = bind_found (head_i32 kind.0.1) _ r kind.2 in
+    let last = number_found kind.0.1 id.0 typed.rest_bytes id.1 in
+    same_found (first ++ bytes) (record { name = name.0.0; kind = kind.0.0; id = id.0.0 }, id.0.1) r id.2
+    (old_in first bytes name.0.1 kind.0.0 kind.0.1 id.0.1 name.0.0 size id.0.0 spelled fits named typed last)
 
 either_found : (first bytes : List ℕ) (size : ℤ) (r : Said × List ℕ) → length first ≡ 4 → AreBytes first → AreBytes bytes
     → signed_bytes w32 size ≡ first → FitsSigned w32 size → either_head size first bytes ≡ Ok r → Found (first ++ bytes) r.0 r.1
@@ -131,7 +126,7 @@ either_found first bytes (negsuc n) r four are are_behind spelled fits e = stric
 pub whole_found : (p : Protocol) (bytes : List ℕ) (r : Said × List ℕ) → AreBytes bytes → whole_head p bytes ≡ Ok r → Found bytes r.0 r.1
 unfolding whole_head
 whole_found Binary bytes r are e =
-    let front = bind_found (piece 4 bytes) _ r e in
+    let front = bind_found (head_bytes 4 bytes) _ r e in
     let p = piece_found 4 bytes front.0 front.1 in
     let s = spelled_number front.0.0 p.size (p.front_bytes are) in
     subst (λ b. Found b r.0 r.1) (sym p.whole)
@@ -145,11 +140,11 @@ strict_only unused said more range =
     let size : FitsSigned w32 (pos (length said.name)) = record { sfits = omega (arith, ints, range.name) } in
     let behind : (name_text said.name ++ signed_bytes w32 said.id) ++ more ≡ signed_bytes w32 (pos (length said.name)) ++ (said.name ++ (signed_bytes w32 said.id ++ more)) =
     append_assoc (name_text said.name) (signed_bytes w32 said.id) more ∙ append_assoc (signed_bytes w32 (pos (length said.name))) said.name (signed_bytes w32 said.id ++ more) in
-    bind_only (number ((name_text said.name ++ signed_bytes w32 said.id) ++ more)) _ (pos (length said.name), said.name ++ (signed_bytes w32 said.id ++ more))
-    (ap number behind ∙ number_only (pos (length said.name)) (said.name ++ (signed_bytes w32 said.id ++ more)) size)
+    bind_only (head_i32 ((name_text said.name ++ signed_bytes w32 said.id) ++ more)) _ (pos (length said.name), said.name ++ (signed_bytes w32 said.id ++ more))
+    (ap head_i32 behind ∙ number_only (pos (length said.name)) (said.name ++ (signed_bytes w32 said.id ++ more)) size)
     ∙ (bind_only (name_of (pos (length said.name)) (said.name ++ (signed_bytes w32 said.id ++ more))) _ (said.name, signed_bytes w32 said.id ++ more)
     (name_only said.name (signed_bytes w32 said.id ++ more))
-    ∙ bind_only (number (signed_bytes w32 said.id ++ more)) _ (said.id, more) (number_only said.id more range.id))
+    ∙ bind_only (head_i32 (signed_bytes w32 said.id ++ more)) _ (said.id, more) (number_only said.id more range.id))
 
 -- an old head behind the length of its name
 old_only : (said : Said) (more : List ℕ) → IsInRange said
@@ -158,9 +153,9 @@ unfolding old_head
 old_only said more range =
     bind_only (name_of (pos (length said.name)) ((said.name ++ (said.kind ∷ signed_bytes w32 said.id)) ++ more)) _ (said.name, (said.kind ∷ signed_bytes w32 said.id) ++ more)
     (ap (name_of (pos (length said.name))) (append_assoc said.name (said.kind ∷ signed_bytes w32 said.id) more) ∙ name_only said.name ((said.kind ∷ signed_bytes w32 said.id) ++ more))
-    ∙ (bind_only (piece 1 ((said.kind ∷ signed_bytes w32 said.id) ++ more)) _ (said.kind ∷ [], signed_bytes w32 said.id ++ more)
-    (piece_only 1 (said.kind ∷ []) (signed_bytes w32 said.id ++ more) refl)
-    ∙ bind_only (number (signed_bytes w32 said.id ++ more)) _ (said.id, more) (number_only said.id more range.id))
+    ∙ (bind_only (head_byte ((said.kind ∷ signed_bytes w32 said.id) ++ more)) _ (said.kind, signed_bytes w32 said.id ++ more)
+    (byte_only said.kind (signed_bytes w32 said.id ++ more) range.kind)
+    ∙ bind_only (head_i32 (signed_bytes w32 said.id ++ more)) _ (said.id, more) (number_only said.id more range.id))
 
 -- the first four bytes of a strict head are a number below 0
 strict_is_negative : (unused kind : ℕ) → unused < 256 → kind < 256 → (z : ℤ) → z ≡ signed_of w32 (128 ∷ 1 ∷ unused ∷ kind ∷ []) → (bytes : List ℕ) (first : List ℕ)
@@ -179,7 +174,7 @@ unfolding whole_head
 strict_whole unused said more byte range =
     let first : List ℕ = 128 ∷ 1 ∷ unused ∷ said.kind ∷ [] in
     let behind : List ℕ = (name_text said.name ++ signed_bytes w32 said.id) ++ more in
-    bind_only (piece 4 (strict_text unused said ++ more)) _ (first, behind) (piece_only 4 first behind refl)
+    bind_only (head_bytes 4 (strict_text unused said ++ more)) _ (first, behind) (piece_only 4 first behind refl)
     ∙ strict_is_negative unused said.kind byte range.kind (signed_of w32 first) refl behind first
     ∙ strict_only unused said more range
 
@@ -191,7 +186,7 @@ old_whole said more range =
     let behind : List ℕ = (said.name ++ (said.kind ∷ signed_bytes w32 said.id)) ++ more in
     let parted : old_text said ++ more ≡ first ++ behind =
     ap (λ t. t ++ more) (append_assoc first said.name (said.kind ∷ signed_bytes w32 said.id)) ∙ append_assoc first (said.name ++ (said.kind ∷ signed_bytes w32 said.id)) more in
-    bind_only (piece 4 (old_text said ++ more)) (λ (front : List ℕ × List ℕ). either_head (signed_of w32 front.0) front.0 front.1) (first, behind) (ap (piece 4) parted ∙ piece_only 4 first behind refl)
+    bind_only (head_bytes 4 (old_text said ++ more)) (λ (front : List ℕ × List ℕ). either_head (signed_of w32 front.0) front.0 front.1) (first, behind) (ap (head_bytes 4) parted ∙ piece_only 4 first behind refl)
     ∙ ap (λ z. either_head z first behind) (read_number (pos (length said.name)) size)
     ∙ old_only said more range
 
@@ -221,13 +216,13 @@ placed : (text more : List ℕ) → length (text ++ more) - length more ≡ leng
 placed text more = omega (arith, length-append text more)
 
 -- the head that is read stands in front
-pub head_found : (p : Protocol) (bytes : List ℕ) (head : Head) → AreBytes bytes → head_at p bytes ≡ Ok head → StandsIn p bytes head
+pub head_found : (p : Protocol) (bytes : List ℕ) (head : Head) → AreBytes bytes → head_at p bytes ≡ Ok head → IsEncodedIn p bytes head
 unfolding head_at
 head_found Binary bytes head are e =
     let whole = bind_found (whole_head Binary bytes) _ head e in
     let typed = bind_found (call_type whole.0.0.kind) _ head whole.2 in
     let found = whole_found Binary bytes whole.0 are whole.1 in
-    subst (λ (h : Head). StandsIn Binary bytes h) (same_ok _ head typed.2)
+    subst (λ (h : Head). IsEncodedIn Binary bytes h) (same_ok _ head typed.2)
     (record {
       text = found.text;
       rest = whole.0.1;
@@ -277,16 +272,16 @@ one_head p one other text a b =
     ap (λ (q : Said × List ℕ). q.0) (both p one other text [] a (subst (IsSpelling p other) (sym (append_nil_is text)) b))
 
 -- what an answer says, where it is the one that reading gives
-pub found_by : (p : Protocol) (bytes : List ℕ) (result : Result Head HeadFault) → AreBytes bytes → Answers result (head_at p bytes)
-    → IfOk result (λ head. StandsIn p bytes head)
+pub found_by : (p : Protocol) (bytes : List ℕ) (result : Result Head HeadFault) → AreBytes bytes → IsHeadOrNoMemory result (head_at p bytes)
+    → IfOk result (λ head. IsEncodedIn p bytes head)
 found_by p bytes (Ok head) are exact = head_found p bytes head are exact
 found_by p bytes (Err fault) are exact = tt
 
-pub only_by : (p : Protocol) (bytes : List ℕ) (result : Result Head HeadFault) → Answers result (head_at p bytes)
+pub only_by : (p : Protocol) (bytes : List ℕ) (result : Result Head HeadFault) → IsHeadOrNoMemory result (head_at p bytes)
     → (said : Said) (text rest : List ℕ) → bytes ≡ text ++ rest → IsSpelling p said text → IsCall said.kind
-    → Answers result (Ok (record { name = said.name; kind = said.kind; id = said.id; behind = length text }))
+    → IsHeadOrNoMemory result (Ok (record { name = said.name; kind = said.kind; id = said.id; behind = length text }))
 only_by p bytes result exact said text rest is spells call =
-    subst (λ (meant : Result Head EnvelopeFault). Answers result meant) (head_only p bytes said text rest is spells call) exact
+    subst (λ (meant : Result Head EnvelopeFault). IsHeadOrNoMemory result meant) (head_only p bytes said text rest is spells call) exact
 
 -- what is left is no more than there was
 pub no_more : (p : Protocol) (bytes : List ℕ) (r : Said × List ℕ) → AreBytes bytes → whole_head p bytes ≡ Ok r → length r.1 ≤ length bytes
@@ -312,8 +307,8 @@ head_refused p bytes said text rest is spells none =
     ∙ bind_only (whole_head p (text ++ rest)) _ (said, rest) (whole_only p said text rest spells)
     ∙ ap (λ r. r >>= λ _. ok (let h : Head = record { name = said.name; kind = said.kind; id = said.id; behind = length (text ++ rest) - length rest } in h)) (call_refused said.kind none)
 
-pub refused_by : (p : Protocol) (bytes : List ℕ) (result : Result Head HeadFault) → Answers result (head_at p bytes)
+pub refused_by : (p : Protocol) (bytes : List ℕ) (result : Result Head HeadFault) → IsHeadOrNoMemory result (head_at p bytes)
     → (said : Said) (text rest : List ℕ) → bytes ≡ text ++ rest → IsSpelling p said text → (IsCall said.kind → ⊥)
-    → Answers result (Err (MessageType said.kind))
+    → IsHeadOrNoMemory result (Err (MessageType said.kind))
 refused_by p bytes result exact said text rest is spells none =
-    subst (λ (meant : Result Head EnvelopeFault). Answers result meant) (head_refused p bytes said text rest is spells none) exact
+    subst (λ (meant : Result Head EnvelopeFault). IsHeadOrNoMemory result meant) (head_refused p bytes said text rest is spells none) exact

@@ -1,18 +1,19 @@
--- What the pieces of a head are: so many bytes, a number, a name.
-use Rattle.std.proofs.Common.{◌≡◌, ℕ, ℤ, pos, negsuc, zero, suc, ◌+◌, ◌<◌, ◌≤◌, ◌^◌, Bool, true, false, nat_le, if◌then◌else◌, List, [], ◌∷◌, ◌++◌, length, take, drop, get_or, Result, Ok, Err, refl, sym, ap, ◌∙◌, subst, arith, FitsSigned, rules}
+-- What the pieces of a head are: so many bytes, a byte, a number, a name.
+use Rattle.std.proofs.Common.{◌≡◌, ℕ, ℤ, pos, negsuc, ◌<◌, List, [], ◌∷◌, ◌++◌, length, get_or, Result, Ok, Err, refl, sym, ap, ◌∙◌, subst, FitsSigned}
 use Rattle.std.specs.Int.{w32, from_be_bytes, to_be_bytes, cast_signed, cast_unsigned}
 use Rattle.std.specs.List.{All}
-use Rattle.std.proofs.lemmas.Bool.{leb-true, leb-false}
-use Rattle.std.proofs.lemmas.Int.{of_z-to_z, to_z-of_z}
-use Rattle.std.proofs.Math.Facts.{sfits_to_z}
-use Rattle.std.proofs.Math.Seq.{take-append_seam, drop-append_seam}
-use Rattle.std.proofs.lemmas.List.{take-append-drop, length-take-le, length-append, get_or-drop}
-use Rattle.std.proofs.lemmas.List.Elements.{All-from_get_or}
-use Rattle.std.proofs.lemmas.Nat.{be_bytes_4, from_be_bytes-to_be_bytes_4}
+use Rattle.std.proofs.lemmas.Int.{to_z-of_z}
+use Rattle.std.proofs.lemmas.List.{take_at, drop_at}
+use Rattle.std.proofs.lemmas.List.Elements.{All-from_get_or, All-take, All-drop}
+use Rattle.wire_num.specs.declared.fault.NumFault.{NumFault}
+use Rattle.wire_num.specs.Decoding.{decode_bytes, decode_byte, decode_signed}
+use Rattle.wire_num.specs.Encoded.{AreByteSized}
 use Rattle.wire_num.specs.Fixed.{signed_of, signed_bytes}
+use Rattle.wire_num.proofs.Fronts.{front_found, front_only}
+use Rattle.wire_num.proofs.Numbers.{byte_decodes, signed_decodes}
+use Rattle.wire_num.proofs.Widths.{byte_at, wide_32}
 use Rattle.outside.specs.declared.outcomes.EnvelopeFault.{EnvelopeFault}
-use Rattle.outside.specs.declared.outcomes.EnvelopeFault.TheVariants.{Short}
-use Rattle.envelope.specs.Readout.{◌>>=◌, piece, number, name_of}
+use Rattle.envelope.specs.Readout.{◌>>=◌, in_head, head_bytes, head_byte, head_i32, name_of}
 
 -- each is a byte
 abbrev pub AreBytes : List ℕ → Type 0
@@ -37,6 +38,22 @@ bind_only r f x e = ap (λ s. s >>= f) e
 pub same_ok : {A : Type 0} (x y : A) → ok x ≡ ok y → x ≡ y
 same_ok x y e = cc
 
+-- what was decoded in a head
+pub decoded_in_head : {A : Type 0} (r : Result A NumFault) (x : A) → in_head r ≡ Ok x → r ≡ Ok x
+decoded_in_head (Ok y) x e = ap (λ z. Ok z) (same_ok y x e)
+decoded_in_head (Err fault) x e = absurd cc
+
+all_bytes : (bytes : List ℕ) → AreBytes bytes → AreByteSized bytes
+all_bytes bytes are = All-from_get_or (λ b. b < 256) bytes 0 (λ i h. are i)
+
+bytes_before : (bytes front rest : List ℕ) → bytes ≡ front ++ rest → AreBytes bytes → AreBytes front
+bytes_before bytes front rest whole are =
+    byte_at front (subst AreByteSized (take_at front rest (length front) refl) (All-take (λ b. b < 256) (length front) (front ++ rest) (subst AreByteSized whole (all_bytes bytes are))))
+
+bytes_behind : (bytes front rest : List ℕ) → bytes ≡ front ++ rest → AreBytes bytes → AreBytes rest
+bytes_behind bytes front rest whole are =
+    byte_at rest (subst AreByteSized (drop_at front rest (length front) refl) (All-drop (λ b. b < 256) (length front) (front ++ rest) (subst AreByteSized whole (all_bytes bytes are))))
+
 -- so many bytes in front, and those behind them
 pub record IsPiece (n : ℕ) (bytes front rest : List ℕ) : Type 0 where
   pub whole : bytes ≡ front ++ rest
@@ -44,41 +61,27 @@ pub record IsPiece (n : ℕ) (bytes front rest : List ℕ) : Type 0 where
   pub front_bytes : AreBytes bytes → AreBytes front
   pub rest_bytes : AreBytes bytes → AreBytes rest
 
-front_fits : (bytes : List ℕ) (n i : ℕ) → AreBytes bytes → get_or (take n bytes) i 0 < 256
-front_fits bytes zero i fits = omega arith
-front_fits [] (suc n) i fits = omega arith
-front_fits (b ∷ bytes) (suc n) zero fits = fits 0
-front_fits (b ∷ bytes) (suc n) (suc i) fits = front_fits bytes n i (λ k. fits (suc k))
+pub piece_found : (n : ℕ) (bytes : List ℕ) (r : List ℕ × List ℕ) → head_bytes n bytes ≡ Ok r → IsPiece n bytes r.0 r.1
+piece_found n bytes r e =
+    let f = front_found n bytes r.0 r.1 (decoded_in_head (decode_bytes n bytes) r e) in
+    record { whole = f.whole; size = f.len; front_bytes = bytes_before bytes r.0 r.1 f.whole; rest_bytes = bytes_behind bytes r.0 r.1 f.whole }
 
-cut : (n : ℕ) (bytes : List ℕ) → n ≤ length bytes → IsPiece n bytes (take n bytes) (drop n bytes)
-cut n bytes within = record {
-  whole = sym (take-append-drop n bytes);
-  size = length-take-le n bytes within;
-  front_bytes = λ are i. front_fits bytes n i are;
-  rest_bytes = λ are i. rw get_or-drop (are (n + i));
-}
+pub piece_only : (n : ℕ) (front rest : List ℕ) → length front ≡ n → head_bytes n (front ++ rest) ≡ Ok (front, rest)
+piece_only n front rest size = ap in_head (front_only n front rest size)
 
-piece_by : (b : Bool) (n : ℕ) (bytes : List ℕ) (r : List ℕ × List ℕ) → nat_le n (length bytes) ≡ b
-    → (if b then Ok (take n bytes, drop n bytes) else fail (List ℕ × List ℕ) Short) ≡ Ok r → IsPiece n bytes r.0 r.1
-piece_by true n bytes r test e =
-    subst (λ (q : List ℕ × List ℕ). IsPiece n bytes q.0 q.1) (same_ok (take n bytes, drop n bytes) r e) (cut n bytes (leb-true n (length bytes) test))
-piece_by false n bytes r test e = absurd (cc)
+-- a byte in front
+pub record IsByteFront (bytes : List ℕ) (b : ℕ) (rest : List ℕ) : Type 0 where
+  pub whole : bytes ≡ b ∷ rest
+  pub small : b < 256
+  pub rest_bytes : AreBytes rest
 
-pub piece_found : (n : ℕ) (bytes : List ℕ) (r : List ℕ × List ℕ) → piece n bytes ≡ Ok r → IsPiece n bytes r.0 r.1
-piece_found n bytes r e = piece_by (nat_le n (length bytes)) n bytes r refl e
+pub byte_found : (bytes : List ℕ) (r : ℕ × List ℕ) → AreBytes bytes → head_byte bytes ≡ Ok r → IsByteFront bytes r.0 r.1
+byte_found bytes r are e =
+    let f = byte_decodes.found bytes r.1 r.0 (all_bytes bytes are) (decoded_in_head (decode_byte bytes) r e) in
+    record { whole = f.whole ∙ ap (λ (t : List ℕ). t ++ r.1) f.is.1; small = f.is.0; rest_bytes = bytes_behind bytes f.encoding r.1 f.whole are }
 
-piece_only_by : (b : Bool) (n : ℕ) (front rest : List ℕ) → length front ≡ n → nat_le n (length (front ++ rest)) ≡ b
-    → (if b then Ok (take n (front ++ rest), drop n (front ++ rest)) else fail (List ℕ × List ℕ) Short) ≡ Ok (front, rest)
-piece_only_by true n front rest size test =
-    let t : take n (front ++ rest) ≡ front = ap (λ k. take k (front ++ rest)) (sym size) ∙ take-append_seam front rest in
-    let d : drop n (front ++ rest) ≡ rest = ap (λ k. drop k (front ++ rest)) (sym size) ∙ drop-append_seam front rest in
-    λ i. Ok (t i, d i)
-piece_only_by false n front rest size test =
-    let short : length (front ++ rest) < n = leb-false n (length (front ++ rest)) test in
-    absurd (omega (arith, length-append front rest))
-
-pub piece_only : (n : ℕ) (front rest : List ℕ) → length front ≡ n → piece n (front ++ rest) ≡ Ok (front, rest)
-piece_only n front rest size = piece_only_by (nat_le n (length (front ++ rest))) n front rest size refl
+pub byte_only : (b : ℕ) (rest : List ℕ) → b < 256 → head_byte (b ∷ rest) ≡ Ok (b, rest)
+byte_only b rest small = ap in_head (byte_decodes.only b (b ∷ []) rest (small, refl))
 
 -- a number in front
 pub record IsNumber (bytes : List ℕ) (n : ℤ) (rest : List ℕ) : Type 0 where
@@ -86,41 +89,24 @@ pub record IsNumber (bytes : List ℕ) (n : ℤ) (rest : List ℕ) : Type 0 wher
   pub fits : FitsSigned w32 n
   pub rest_bytes : AreBytes rest
 
-from_be_bytes-fits : (bytes : List ℕ) → AreBytes bytes → from_be_bytes w32 bytes < 2 ^ 32
-from_be_bytes-fits bytes are = omega (arith, are 0, are 1, are 2, are 3)
-
 -- four bytes as a number, and back
 pub spelled_number : (four : List ℕ) → length four ≡ 4 → AreBytes four
     → (signed_bytes w32 (signed_of w32 four) ≡ four) × FitsSigned w32 (signed_of w32 four)
 spelled_number four size are =
-    let small : from_be_bytes w32 four < 2 ^ 32 = from_be_bytes-fits four are in (
-      ap (to_be_bytes w32) (of_z-to_z w32 (from_be_bytes w32 four) small) ∙ be_bytes_4 four (from_be_bytes w32 four) size are refl,
-      sfits_to_z {w = w32} {n = from_be_bytes w32 four} (record { fits = small }),
-    )
+    let small = wide_32.below four (all_bytes four are) in
+    (ap (to_be_bytes w32) (wide_32.signs (from_be_bytes w32 four) small) ∙ wide_32.back four size (all_bytes four are), wide_32.fits (from_be_bytes w32 four) small)
 
-number_in : (bytes front rest : List ℕ) → IsPiece 4 bytes front rest → AreBytes bytes → IsNumber bytes (signed_of w32 front) rest
-number_in bytes front rest is are =
-    let s = spelled_number front is.size (is.front_bytes are) in
-    record { whole = is.whole ∙ ap (λ f. f ++ rest) (sym s.0); fits = s.1; rest_bytes = is.rest_bytes are }
-
-pub number_found : (bytes : List ℕ) (r : ℤ × List ℕ) → AreBytes bytes → number bytes ≡ Ok r → IsNumber bytes r.0 r.1
-unfolding number
+pub number_found : (bytes : List ℕ) (r : ℤ × List ℕ) → AreBytes bytes → head_i32 bytes ≡ Ok r → IsNumber bytes r.0 r.1
 number_found bytes r are e =
-    let b = bind_found (piece 4 bytes) (λ (front : List ℕ × List ℕ). ok (signed_of w32 front.0, front.1)) r e in
-    subst (λ (q : ℤ × List ℕ). IsNumber bytes q.0 q.1) (same_ok (signed_of w32 b.0.0, b.0.1) r b.2)
-    (number_in bytes b.0.0 b.0.1 (piece_found 4 bytes b.0 b.1) are)
+    let f = (signed_decodes w32 wide_32).found bytes r.1 r.0 (all_bytes bytes are) (decoded_in_head (decode_signed w32 bytes) r e) in
+    record { whole = f.whole ∙ ap (λ (t : List ℕ). t ++ r.1) f.is.1; fits = f.is.0; rest_bytes = bytes_behind bytes f.encoding r.1 f.whole are }
 
 -- what the bytes of a number spell
 pub read_number : (n : ℤ) → FitsSigned w32 n → signed_of w32 (signed_bytes w32 n) ≡ n
-read_number n fits =
-    let b : cast_unsigned w32 n < 2 ^ 32 = search (rules, fits) in
-    ap (cast_signed w32) (from_be_bytes-to_be_bytes_4 (cast_unsigned w32 n) b) ∙ to_z-of_z w32 n fits
+read_number n fits = ap (cast_signed w32) (wide_32.again (cast_unsigned w32 n) (wide_32.unsigned n fits)) ∙ to_z-of_z w32 n fits
 
-pub number_only : (n : ℤ) (rest : List ℕ) → FitsSigned w32 n → number (signed_bytes w32 n ++ rest) ≡ Ok (n, rest)
-unfolding number
-number_only n rest fits =
-    bind_only (piece 4 (signed_bytes w32 n ++ rest)) (λ (front : List ℕ × List ℕ). ok (signed_of w32 front.0, front.1)) (signed_bytes w32 n, rest) (piece_only 4 (signed_bytes w32 n) rest refl)
-    ∙ ap (λ z. Ok (z, rest)) (read_number n fits)
+pub number_only : (n : ℤ) (rest : List ℕ) → FitsSigned w32 n → head_i32 (signed_bytes w32 n ++ rest) ≡ Ok (n, rest)
+number_only n rest fits = ap in_head ((signed_decodes w32 wide_32).only n (signed_bytes w32 n) rest (fits, refl))
 
 -- a name of this length in front
 pub record IsName (z : ℤ) (bytes name rest : List ℕ) : Type 0 where

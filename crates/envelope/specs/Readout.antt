@@ -1,16 +1,19 @@
 -- Reading a head: what it says, or the first fault in reading order (Thrift binary protocol, 'Message').
-use Rattle.std.specs.Prelude.{◌≡◌, ⊤, ◌-◌, ◌==◌, ◌&&◌, ◌||◌, ℕ, ℤ, pos, negsuc, List, ◌++◌, length, take, drop, slice_index, nat_le, Result, Ok, Err, if◌then◌else◌}
+use Rattle.std.specs.Prelude.{◌≡◌, ⊤, ◌-◌, ◌==◌, ◌&&◌, ◌||◌, ℕ, ℤ, pos, negsuc, List, ◌++◌, length, slice_index, Result, Ok, Err, if◌then◌else◌}
 use Rattle.std.specs.Int.{w32}
 use Rattle.outside.specs.declared.outcomes.EnvelopeFault.{EnvelopeFault}
-use Rattle.outside.specs.declared.outcomes.EnvelopeFault.TheVariants.{Short, Version, NameSize, MessageType}
+use Rattle.outside.specs.declared.outcomes.EnvelopeFault.TheVariants.{Short, Version, NameSize, LongVarint, MessageType}
+use Rattle.wire_num.specs.declared.fault.NumFault.{NumFault}
+use Rattle.wire_num.specs.declared.fault.NumFault.TheVariants as number
+use Rattle.wire_num.specs.Decoding.{decode_bytes, decode_byte, decode_signed}
 use Rattle.wire_num.specs.Fixed.{unsigned_of, signed_of}
 use Rattle.envelope.specs.declared.head.Protocol.{Protocol}
 use Rattle.envelope.specs.declared.head.Protocol.TheVariants.{Binary}
 use Rattle.envelope.specs.declared.head.Head.{Head}
 use Rattle.envelope.specs.declared.head.HeadFault.{HeadFault}
 use Rattle.envelope.specs.declared.head.HeadFault.TheVariants.{Envelope, NoMemory}
-use Rattle.envelope.specs.Said.{Said, IsCall}
-use Rattle.envelope.specs.Spelling.{IsSpelling}
+use Rattle.envelope.specs.Said.{Said, call, call_without_reply, IsCall}
+use Rattle.envelope.specs.Spelling.{strict_mark, strict_version, IsSpelling}
 
 -- one step of a reading and then the next, unless the first is at fault
 infixl 10 ◌>>=◌
@@ -18,42 +21,54 @@ abbrev pub ◌>>=◌ : {A B : Type 0} → Result A EnvelopeFault → (A → Resu
 (Ok x) >>= f = f x
 (Err fault) >>= f = Err fault
 
+-- the fault of a head whose number has this fault
+abbrev pub envelope_fault_of : NumFault → EnvelopeFault
+envelope_fault_of number.Short = Short
+envelope_fault_of number.LongVarint = LongVarint
+
+-- what was decoded, or the fault of the head
+abbrev pub in_head : {A : Type 0} → Result A NumFault → Result A EnvelopeFault
+in_head (Ok x) = Ok x
+in_head (Err fault) = Err (envelope_fault_of fault)
+
 -- so many bytes, and those behind them
-abbrev pub piece : ℕ → List ℕ → Result (List ℕ × List ℕ) EnvelopeFault
-piece size bytes = if nat_le size (length bytes) then Ok (take size bytes, drop size bytes) else Err Short
+abbrev pub head_bytes : ℕ → List ℕ → Result (List ℕ × List ℕ) EnvelopeFault
+head_bytes size bytes = in_head (decode_bytes size bytes)
+
+-- a byte, and those behind it
+abbrev pub head_byte : List ℕ → Result (ℕ × List ℕ) EnvelopeFault
+head_byte bytes = in_head (decode_byte bytes)
 
 -- an i32, and the bytes behind it
-unfoldable pub number : List ℕ → Result (ℤ × List ℕ) EnvelopeFault
-number bytes = do
-  front ← piece 4 bytes
-  Ok (signed_of w32 front.0, front.1)
+abbrev pub head_i32 : List ℕ → Result (ℤ × List ℕ) EnvelopeFault
+head_i32 bytes = in_head (decode_signed w32 bytes)
 
 -- a name of this length, and the bytes behind it
 unfoldable pub name_of : ℤ → List ℕ → Result (List ℕ × List ℕ) EnvelopeFault
-name_of (pos size) bytes = piece size bytes
+name_of (pos size) bytes = head_bytes size bytes
 name_of (negsuc _) bytes = Err NameSize
 
--- a strict head begins with the bytes 80 01
+-- a strict head begins with the bytes of its version
 unfoldable pub version : List ℕ → Result ⊤ EnvelopeFault
 version first =
-    if slice_index first 0 == 128 && slice_index first 1 == 1 then Ok tt else Err (Version (unsigned_of w32 first))
+    if slice_index first 0 == strict_mark && slice_index first 1 == strict_version then Ok tt else Err (Version (unsigned_of w32 first))
 
 -- a strict head, told by its first four bytes and those behind them
 unfoldable pub strict_head : List ℕ → List ℕ → Result (Said × List ℕ) EnvelopeFault
 strict_head first bytes = do
   _ ← version first
-  size ← number bytes
+  size ← head_i32 bytes
   name ← name_of size.0 size.1
-  id ← number name.1
+  id ← head_i32 name.1
   Ok (record { name = name.0; kind = slice_index first 3; id = id.0 }, id.1)
 
 -- an old head, told by its name's length and the bytes behind that
 unfoldable pub old_head : ℤ → List ℕ → Result (Said × List ℕ) EnvelopeFault
 old_head size bytes = do
   name ← name_of size bytes
-  kind ← piece 1 name.1
-  id ← number kind.1
-  Ok (record { name = name.0; kind = slice_index kind.0 0; id = id.0 }, id.1)
+  kind ← head_byte name.1
+  id ← head_i32 kind.1
+  Ok (record { name = name.0; kind = kind.0; id = id.0 }, id.1)
 
 -- a first number below 0 begins a strict head, any other is the length of an old head's name
 unfoldable pub either_head : ℤ → List ℕ → List ℕ → Result (Said × List ℕ) EnvelopeFault
@@ -63,12 +78,12 @@ either_head (negsuc _) first bytes = strict_head first bytes
 -- a whole head of any type, and the bytes behind it
 unfoldable pub whole_head : Protocol → List ℕ → Result (Said × List ℕ) EnvelopeFault
 whole_head Binary bytes = do
-  front ← piece 4 bytes
+  front ← head_bytes 4 bytes
   either_head (signed_of w32 front.0) front.0 front.1
 
 -- the type has to be one that a host takes
 unfoldable pub call_type : ℕ → Result ⊤ EnvelopeFault
-call_type kind = if kind == 1 || kind == 4 then Ok tt else Err (MessageType kind)
+call_type kind = if kind == call || kind == call_without_reply then Ok tt else Err (MessageType kind)
 
 -- the head in front of these bytes: a whole head, and then its type
 unfoldable pub head_at : Protocol → List ℕ → Result Head EnvelopeFault
@@ -81,14 +96,18 @@ head_at protocol bytes = do
 abbrev pub said_by : Head → Said
 said_by head = record { name = head.name; kind = head.kind; id = head.id }
 
--- what was answered is this; want of memory may stand in its place
-abbrev pub Answers : Result Head HeadFault → Result Head EnvelopeFault → Type 0
-Answers (Ok head) meant = meant ≡ Ok head
-Answers (Err (Envelope fault)) meant = meant ≡ Err fault
-Answers (Err NoMemory) meant = ⊤
+-- what was answered, seen by view, is what is meant; want of memory may stand in its place
+abbrev pub MeansOrNoMemory : {X Y : Type 0} → (X → Y) → Result X HeadFault → Result Y EnvelopeFault → Type 0
+MeansOrNoMemory view (Ok x) meant = meant ≡ Ok (view x)
+MeansOrNoMemory view (Err (Envelope fault)) meant = meant ≡ Err fault
+MeansOrNoMemory view (Err NoMemory) meant = ⊤
+
+-- the head that was answered is this, or its fault; want of memory may stand in its place
+abbrev pub IsHeadOrNoMemory : Result Head HeadFault → Result Head EnvelopeFault → Type 0
+IsHeadOrNoMemory result meant = MeansOrNoMemory (λ head. head) result meant
 
 -- a call's head stands in front of the bytes, up to the place behind it
-pub record StandsIn (protocol : Protocol) (bytes : List ℕ) (head : Head) : Type 0 where
+pub record IsEncodedIn (protocol : Protocol) (bytes : List ℕ) (head : Head) : Type 0 where
   pub text : List ℕ
   pub rest : List ℕ
   pub whole : bytes ≡ text ++ rest

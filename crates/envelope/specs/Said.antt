@@ -15,6 +15,14 @@ pub record IsInRange (said : Said) : Type 0 where
   pub kind : said.kind < 256
   pub id : FitsSigned w32 said.id
 
--- the types that a host takes: a call, and a call without a reply
+-- the type of a call
+abbrev pub call : ℕ
+call = 1
+
+-- the type of a call without a reply
+abbrev pub call_without_reply : ℕ
+call_without_reply = 4
+
+-- the types that a host takes
 abbrev pub IsCall : ℕ → Type 0
-IsCall kind = (kind ≡ 1) ⊎ (kind ≡ 4)
+IsCall kind = (kind ≡ call) ⊎ (kind ≡ call_without_reply)

@@ -10,15 +10,24 @@ use Rattle.envelope.specs.Said.{Said, IsInRange}
 abbrev pub name_text : List ℕ → List ℕ
 name_text name = signed_bytes w32 (pos (length name)) ++ name
 
--- strict: the version 80 01, a byte that says nothing, the type, the name, the sequence id
+-- the first byte of the version of a strict head, which tells it from an old one
+abbrev pub strict_mark : ℕ
+strict_mark = 128
+
+-- the second byte of the version of a strict head
+abbrev pub strict_version : ℕ
+strict_version = 1
+
+-- strict: the version, a byte that says nothing, the type, the name, the sequence id
 abbrev pub strict_text : ℕ → Said → List ℕ
 strict_text unused said =
-    (128 ∷ 1 ∷ unused ∷ said.kind ∷ []) ++ (name_text said.name ++ signed_bytes w32 said.id)
+    (strict_mark ∷ strict_version ∷ unused ∷ said.kind ∷ []) ++ (name_text said.name ++ signed_bytes w32 said.id)
 
 -- old: the name, the type, the sequence id
 abbrev pub old_text : Said → List ℕ
 old_text said = name_text said.name ++ (said.kind ∷ signed_bytes w32 said.id)
 
+-- the bytes spell the head in its strict form, with any byte for the one that says nothing
 pub record IsStrict (said : Said) (text : List ℕ) : Type 0 where
   pub unused : ℕ
   pub byte : unused < 256

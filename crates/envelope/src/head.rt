@@ -1,7 +1,13 @@
 //! What a head is.
 
 use outside::EnvelopeFault;
+use std::alloc::AllocError;
+use thiserror::Error;
 use thrift_value::ByteText;
+use wire_num::NumFault;
+
+/// The first two bytes of a strict head (Thrift binary protocol, 'Message').
+pub(crate) const STRICT_VERSION: [u8; 2] = [0x80, 0x01];
 
 /// How messages are spelled.
 #[derive(Clone, Copy, Debug, PartialEq, Eq)]
@@ -24,10 +30,60 @@ pub struct Head {
 }
 
 /// Why no head was read.
-#[derive(Clone, Copy, Debug, PartialEq, Eq)]
+#[derive(Clone, Copy, Debug, PartialEq, Eq, Error)]
 pub enum HeadFault {
     /// The bytes are at fault.
+    #[error("the message has no head: {}", fault_text(.0))]
     Envelope(EnvelopeFault),
     /// There was no memory for the name. No bytes are at fault.
+    #[error("out of memory")]
     NoMemory,
+}
+
+/// What is at fault with the bytes of a head.
+fn fault_text(fault: &EnvelopeFault) -> &'static str {
+    match fault {
+        EnvelopeFault::Short => "the bytes end inside it",
+        EnvelopeFault::Version(_) => "it has another version",
+        EnvelopeFault::NameSize => "the length of its name is below 0",
+        EnvelopeFault::LongVarint => "a number has more bytes than its longest form",
+        EnvelopeFault::MessageType(_) => "it is the head of no call",
+    }
+}
+
+impl From<EnvelopeFault> for HeadFault {
+    ghost use Rattle.std.specs.Prelude.{◌≡◌};
+    ghost use Rattle.envelope.specs.declared.head.HeadFault.TheVariants.{Envelope};
+
+    ghost from_gives = { λ fault result. result ≡ Envelope fault };
+
+    fn from(fault: EnvelopeFault) -> HeadFault {
+        HeadFault::Envelope(fault)
+    }
+}
+
+impl From<NumFault> for HeadFault {
+    ghost use Rattle.std.specs.Prelude.{◌≡◌};
+    ghost use Rattle.envelope.specs.Readout.{envelope_fault_of};
+    ghost use Rattle.envelope.specs.declared.head.HeadFault.TheVariants.{Envelope};
+
+    ghost from_gives = { λ fault result. result ≡ Envelope (envelope_fault_of fault) };
+
+    fn from(fault: NumFault) -> HeadFault {
+        match fault {
+            NumFault::Short => HeadFault::Envelope(EnvelopeFault::Short),
+            NumFault::LongVarint => HeadFault::Envelope(EnvelopeFault::LongVarint),
+        }
+    }
+}
+
+impl From<AllocError> for HeadFault {
+    ghost use Rattle.std.specs.Prelude.{◌≡◌};
+    ghost use Rattle.envelope.specs.declared.head.HeadFault.TheVariants as faults;
+
+    ghost from_gives = { λ _ result. result ≡ faults.NoMemory };
+
+    fn from(_error: AllocError) -> HeadFault {
+        HeadFault::NoMemory
+    }
 }

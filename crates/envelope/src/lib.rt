@@ -2,8 +2,14 @@
 //! reads both forms of a head, strict and old, and writes the strict one. It reads no struct, knows no service, and
 //! judges a message's type only so far that a host takes calls alone.
 //!
-//! `let head = read_head(alloc, Protocol::Binary, payload)?` answers the head and the place behind it, where the
-//! arguments begin; `write_head(Protocol::Binary, b"add", 2, head.id, &mut reply)?` begins the reply.
+//! ```
+//! // The head, and the place behind it, where the arguments begin.
+//! let head = read_head(alloc, Protocol::Binary, payload)?;
+//! let arguments = payload.split_at(head.behind).1;
+//! // The head of the reply: type 2, with the name and the sequence id of the call.
+//! let mut reply = Vec::new(alloc);
+//! write_head(Protocol::Binary, head.name.as_slice(), 2, head.id, &mut reply)?;
+//! ```
 
 #![tactic(auto)]
 

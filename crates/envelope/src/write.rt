@@ -3,7 +3,7 @@
 ghost use Rattle.std.specs.Prelude.{◌≡◌, ◌<◌, ◌^◌, ◌++◌, OnOk, OnErr, length, take, vec_len};
 ghost use Rattle.envelope.specs.Spelling.{head_text};
 
-use super::head::Protocol;
+use super::head::{Protocol, STRICT_VERSION};
 use std::alloc::AllocError;
 use wire_num::{put_i32, put_u8};
 
@@ -38,7 +38,8 @@ fn write_strict(name: &[u8], kind: u8, id: i32, into: &mut Vec<u8>) -> Result<()
         ≡ into.old.items ++ head_text Protocol.Binary (record { name = name.now; kind = kind; id = id })) }
     ensures err { OnErr result (take (vec_len into.old) into.new.items ≡ into.old.items) }
 {
-    into.extend_from_slice(&[0x80, 0x01, 0, kind])?;
+    into.extend_from_slice(&STRICT_VERSION)?;
+    into.extend_from_slice(&[0, kind])?;
     put_i32(into, name.len() as i32)?;
     into.extend_from_slice(name)?;
     put_i32(into, id)

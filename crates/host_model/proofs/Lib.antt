@@ -4,7 +4,7 @@ pub mod Replies
 pub mod Turning
 pub mod Talking
 pub mod Moving
-pub mod Lines
+pub mod Endpoints
 pub mod Filters
 pub mod Ordering
 pub mod Runs

@@ -8,8 +8,8 @@ use Rattle.host_model.specs.declared.cause.EndCause.{EndCause}
 use Rattle.host_model.specs.declared.cause.EndCause.TheVariants.{End, Cut, SizeFault, Envelope, ReadFault, WriteFault, NoMemory, Stopped}
 use Rattle.host_model.specs.Frames.{Frames, frame, size_bytes, IsPayload, IsRest, IsOutside, IsPartial, HasNoBadSize}
 use Rattle.host_model.specs.Marks.{input, output, ending}
-use Rattle.host_model.specs.Journal.{Entry}
-use Rattle.host_model.specs.Desk.{Desk, Decision, Close, Silent, Reply, Invoke}
+use Rattle.host_model.specs.Journal.{JournalEntry}
+use Rattle.host_model.specs.DeskRules.{DeskRules, DeskDecision, Close, Silent, Reply, Invoke}
 use Rattle.host_model.specs.Conversation.{but_last, sent, reply_for, answer_at, called_by, Done, IsPrefix, IsReplying, IsFinished, IsBrokenOff, GoesOn, AllGoOn, EndsBy}
 use Rattle.host_model.specs.World.{Stage, unopened, open_, pending, answered, over, over_pending, NeedsNoCall, IsGivenUp, GivesUp, end_behind}
 use Rattle.host_model.proofs.Lists.{Always, always-push, front_nil, but_last-push, length-but_last, all_push, all_but_last}
@@ -18,7 +18,7 @@ use Rattle.host_model.proofs.Replies.{sent-push, sent_but_last, done_uncalled, r
 use Rattle.host_model.proofs.Turning.{TurnSoFar}
 use Rattle.host_model.proofs.Talking.{Kept, IsOpen, IsWaiting, kept_ending, running_push, input_push, output_push, turns_quiet, turns_later}
 
-goes_on : {C : Type 0} (decision : Decision C) → NeedsNoCall decision → GoesOn decision
+goes_on : {C : Type 0} (decision : DeskDecision C) → NeedsNoCall decision → GoesOn decision
 goes_on (Close fault) n = absurd n
 goes_on Silent n = tt
 goes_on (Reply reply) n = tt
@@ -27,7 +27,7 @@ goes_on (Invoke call) n = absurd n
 same_length : {X : Type 0} (xs : List X) → length xs ≤ length xs
 same_length xs = omega arith
 
-module _ {C A : Type 0} (d : Desk C A) (c : ℕ) (own : List Mark) (es : List (Entry C A)) where
+module _ {C A : Type 0} (d : DeskRules C A) (c : ℕ) (own : List Mark) (es : List (JournalEntry C A)) where
   pub kept_opens : Kept d c own es [] [] unopened → Kept d c (own ++ Opened c ∷ []) es [] [] (open_ [])
   kept_opens k =
       let i : input (own ++ Opened c ∷ []) ≡ input own = input_push own (Opened c) ∙ append-nil (input own) in

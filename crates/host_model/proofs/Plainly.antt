@@ -3,106 +3,106 @@ use Rattle.std.proofs.Common.{◌≡◌, ℕ, suc, ◌+◌, ◌<◌, if◌then�
 use Rattle.std.proofs.Math.Seq.{drop-length}
 use Rattle.std.proofs.lemmas.List.{map-append}
 use Rattle.host_model.specs.declared.plain.journals.PlainEntry.{PlainEntry}
-use Rattle.host_model.specs.Journal.{Entry, Rules, entries_of, after, after_call, IsAnswered, Legal}
-use Rattle.host_model.specs.Desk.{Desk}
+use Rattle.host_model.specs.Journal.{JournalEntry, ServiceRules, entries_of, after, after_call, IsAnswered, Legal}
+use Rattle.host_model.specs.DeskRules.{DeskRules}
 use Rattle.host_model.specs.Conversation.{called_by, called, answer_at, reply_for, sent}
-use Rattle.host_model.specs.Plain.{entry_of, journal_of}
+use Rattle.host_model.specs.Plain.{entry_seen, journal_seen}
 use Rattle.host_model.proofs.Fronting.{next_of}
 
 -- no entry before number i of these is of frame n
 pub record Seeking {C A : Type 0} (entries : List (PlainEntry C A)) (n i : ℕ) : Type 0 where
-  pub so_far : answer_at (journal_of (drop i entries)) n ≡ answer_at (journal_of entries) n
+  pub so_far : answer_at (journal_seen (drop i entries)) n ≡ answer_at (journal_seen entries) n
 
 pub seek_on : {C A : Type 0} (entries : List (PlainEntry C A)) (n i : ℕ) (e : PlainEntry C A) → Seeking entries n i → i < length entries
-    → e ≡ get_or entries i e → (e.number ≡ n → ⊥) → Seeking entries n (i + 1)
+    → e ≡ get_or entries i e → (e.key.i ≡ n → ⊥) → Seeking entries n (i + 1)
 seek_on entries n i e w l is ne =
     record {
-      so_far = ap (λ b. if b then Some e.answer else answer_at (journal_of (drop (i + 1) entries)) n) (sym (ne_eqb e.number n ne))
-          ∙ ap (λ es. answer_at (journal_of es) n) (sym (next_of entries i e l is)) ∙ w.so_far;
+      so_far = ap (λ b. if b then Some e.answer else answer_at (journal_seen (drop (i + 1) entries)) n) (sym (ne_eqb e.key.i n ne))
+          ∙ ap (λ es. answer_at (journal_seen es) n) (sym (next_of entries i e l is)) ∙ w.so_far;
     }
 
 pub sought : {C A : Type 0} (entries : List (PlainEntry C A)) (n i : ℕ) (e : PlainEntry C A) → Seeking entries n i → i < length entries
-    → e ≡ get_or entries i e → e.number ≡ n → Some e.answer ≡ answer_at (journal_of entries) n
+    → e ≡ get_or entries i e → e.key.i ≡ n → Some e.answer ≡ answer_at (journal_seen entries) n
 sought entries n i e w l is eq =
-    ap (λ b. if b then Some e.answer else answer_at (journal_of (drop (i + 1) entries)) n) (sym (eq-eqb e.number n eq))
-    ∙ ap (λ es. answer_at (journal_of es) n) (sym (next_of entries i e l is)) ∙ w.so_far
+    ap (λ b. if b then Some e.answer else answer_at (journal_seen (drop (i + 1) entries)) n) (sym (eq-eqb e.key.i n eq))
+    ∙ ap (λ es. answer_at (journal_seen es) n) (sym (next_of entries i e l is)) ∙ w.so_far
 
-pub not_sought : {C A : Type 0} (entries : List (PlainEntry C A)) (n : ℕ) → Seeking entries n (length entries) → None ≡ answer_at (journal_of entries) n
-not_sought entries n w = ap (λ es. answer_at (journal_of es) n) (sym (drop-length entries)) ∙ w.so_far
+pub not_sought : {C A : Type 0} (entries : List (PlainEntry C A)) (n : ℕ) → Seeking entries n (length entries) → None ≡ answer_at (journal_seen entries) n
+not_sought entries n w = ap (λ es. answer_at (journal_seen es) n) (sym (drop-length entries)) ∙ w.so_far
 
 -- the entries of a connection so far, and those of the rest, are those of the whole
 pub record Owning {C A : Type 0} (c : ℕ) (entries : List (PlainEntry C A)) (i : ℕ) (own : List (PlainEntry C A)) : Type 0 where
-  pub so_far : journal_of own ++ entries_of c (journal_of (drop i entries)) ≡ entries_of c (journal_of entries)
+  pub so_far : journal_seen own ++ entries_of c (journal_seen (drop i entries)) ≡ entries_of c (journal_seen entries)
 
 pub own_on : {C A : Type 0} (c : ℕ) (entries : List (PlainEntry C A)) (i : ℕ) (e : PlainEntry C A) (own next : List (PlainEntry C A))
-    → Owning c entries i own → i < length entries → e ≡ get_or entries i e → e.connection ≡ c → next ≡ own ++ e ∷ [] → Owning c entries (i + 1) next
+    → Owning c entries i own → i < length entries → e ≡ get_or entries i e → e.key.c ≡ c → next ≡ own ++ e ∷ [] → Owning c entries (i + 1) next
 own_on {C} {A} c entries i e own next w l is t n =
-    let rest : List (Entry C A) = entries_of c (journal_of (drop (i + 1) entries)) in
+    let rest : List (JournalEntry C A) = entries_of c (journal_seen (drop (i + 1) entries)) in
     record {
-      so_far = ap (λ s. s ++ rest) (ap journal_of n ∙ map-append entry_of own (e ∷ [])) ∙ append_assoc (journal_of own) (entry_of e ∷ []) rest
-          ∙ ap (λ b. journal_of own ++ cond b (entry_of e ∷ rest) rest) (sym (eq-eqb e.connection c t))
-          ∙ ap (λ es. journal_of own ++ entries_of c (journal_of es)) (sym (next_of entries i e l is)) ∙ w.so_far;
+      so_far = ap (λ s. s ++ rest) (ap journal_seen n ∙ map-append entry_seen own (e ∷ [])) ∙ append_assoc (journal_seen own) (entry_seen e ∷ []) rest
+          ∙ ap (λ b. journal_seen own ++ cond b (entry_seen e ∷ rest) rest) (sym (eq-eqb e.key.c c t))
+          ∙ ap (λ es. journal_seen own ++ entries_of c (journal_seen es)) (sym (next_of entries i e l is)) ∙ w.so_far;
     }
 
 pub own_past : {C A : Type 0} (c : ℕ) (entries : List (PlainEntry C A)) (i : ℕ) (e : PlainEntry C A) (own next : List (PlainEntry C A))
-    → Owning c entries i own → i < length entries → e ≡ get_or entries i e → (e.connection ≡ c → ⊥) → next ≡ own → Owning c entries (i + 1) next
+    → Owning c entries i own → i < length entries → e ≡ get_or entries i e → (e.key.c ≡ c → ⊥) → next ≡ own → Owning c entries (i + 1) next
 own_past {C} {A} c entries i e own next w l is t n =
-    let rest : List (Entry C A) = entries_of c (journal_of (drop (i + 1) entries)) in
+    let rest : List (JournalEntry C A) = entries_of c (journal_seen (drop (i + 1) entries)) in
     record {
-      so_far = ap (λ s. journal_of s ++ rest) n
-          ∙ ap (λ b. journal_of own ++ cond b (entry_of e ∷ rest) rest) (sym (ne_eqb e.connection c t))
-          ∙ ap (λ es. journal_of own ++ entries_of c (journal_of es)) (sym (next_of entries i e l is)) ∙ w.so_far;
+      so_far = ap (λ s. journal_seen s ++ rest) n
+          ∙ ap (λ b. journal_seen own ++ cond b (entry_seen e ∷ rest) rest) (sym (ne_eqb e.key.c c t))
+          ∙ ap (λ es. journal_seen own ++ entries_of c (journal_seen es)) (sym (next_of entries i e l is)) ∙ w.so_far;
     }
 
 pub own_all : {C A : Type 0} (c : ℕ) (entries : List (PlainEntry C A)) (own : List (PlainEntry C A)) → Owning c entries (length entries) own
-    → journal_of own ≡ entries_of c (journal_of entries)
+    → journal_seen own ≡ entries_of c (journal_seen entries)
 own_all c entries own w =
-    sym (append-nil (journal_of own)) ∙ ap (λ es. journal_of own ++ entries_of c (journal_of es)) (sym (drop-length entries)) ∙ w.so_far
+    sym (append-nil (journal_seen own)) ∙ ap (λ es. journal_seen own ++ entries_of c (journal_seen es)) (sym (drop-length entries)) ∙ w.so_far
 
 -- the rest of a journal leaves, after these memories, what the whole leaves after the first ones
-pub record Leaving {C A M : Type 0} (r : Rules C A M) (first : List M) (entries : List (PlainEntry C A)) (i : ℕ) (memories : List M) : Type 0 where
-  pub so_far : after r memories (journal_of (drop i entries)) ≡ after r first (journal_of entries)
+pub record Leaving {C A M : Type 0} (r : ServiceRules C A M) (first : List M) (entries : List (PlainEntry C A)) (i : ℕ) (memories : List M) : Type 0 where
+  pub so_far : after r memories (journal_seen (drop i entries)) ≡ after r first (journal_seen entries)
 
-pub leave_on : {C A M : Type 0} (r : Rules C A M) (first : List M) (entries : List (PlainEntry C A)) (i : ℕ) (e : PlainEntry C A) (memories next : List M)
+pub leave_on : {C A M : Type 0} (r : ServiceRules C A M) (first : List M) (entries : List (PlainEntry C A)) (i : ℕ) (e : PlainEntry C A) (memories next : List M)
     → Leaving r first entries i memories → i < length entries → e ≡ get_or entries i e → next ≡ after_call r memories e.call
     → Leaving r first entries (i + 1) next
 leave_on r first entries i e memories next w l is n =
     record {
-      so_far = ap (λ ms. after r ms (journal_of (drop (i + 1) entries))) n
-          ∙ ap (λ es. after r memories (journal_of es)) (sym (next_of entries i e l is)) ∙ w.so_far;
+      so_far = ap (λ ms. after r ms (journal_seen (drop (i + 1) entries))) n
+          ∙ ap (λ es. after r memories (journal_seen es)) (sym (next_of entries i e l is)) ∙ w.so_far;
     }
 
-pub left_all : {C A M : Type 0} (r : Rules C A M) (first : List M) (entries : List (PlainEntry C A)) (memories : List M)
-    → Leaving r first entries (length entries) memories → memories ≡ after r first (journal_of entries)
-left_all r first entries memories w = ap (λ es. after r memories (journal_of es)) (sym (drop-length entries)) ∙ w.so_far
+pub left_all : {C A M : Type 0} (r : ServiceRules C A M) (first : List M) (entries : List (PlainEntry C A)) (memories : List M)
+    → Leaving r first entries (length entries) memories → memories ≡ after r first (journal_seen entries)
+left_all r first entries memories w = ap (λ es. after r memories (journal_seen es)) (sym (drop-length entries)) ∙ w.so_far
 
 -- a journal is legal where its rest is legal from these memories
-pub record Going {C A M : Type 0} (r : Rules C A M) (first : List M) (entries : List (PlainEntry C A)) (i : ℕ) (memories : List M) : Type 0 where
-  pub forth : Legal r memories (journal_of (drop i entries)) → Legal r first (journal_of entries)
-  pub back : Legal r first (journal_of entries) → Legal r memories (journal_of (drop i entries))
+pub record Going {C A M : Type 0} (r : ServiceRules C A M) (first : List M) (entries : List (PlainEntry C A)) (i : ℕ) (memories : List M) : Type 0 where
+  pub forth : Legal r memories (journal_seen (drop i entries)) → Legal r first (journal_seen entries)
+  pub back : Legal r first (journal_seen entries) → Legal r memories (journal_seen (drop i entries))
 
-pub go_on : {C A M : Type 0} (r : Rules C A M) (first : List M) (entries : List (PlainEntry C A)) (i : ℕ) (e : PlainEntry C A) (memories next : List M)
-    → Going r first entries i memories → i < length entries → e ≡ get_or entries i e → IsAnswered r memories (entry_of e)
+pub go_on : {C A M : Type 0} (r : ServiceRules C A M) (first : List M) (entries : List (PlainEntry C A)) (i : ℕ) (e : PlainEntry C A) (memories next : List M)
+    → Going r first entries i memories → i < length entries → e ≡ get_or entries i e → IsAnswered r memories (entry_seen e)
     → next ≡ after_call r memories e.call → Going r first entries (i + 1) next
 go_on r first entries i e memories next w l is a n =
     record {
-      forth = λ h. w.forth (subst (λ es. Legal r memories (journal_of es)) (sym (next_of entries i e l is))
-          (a, subst (λ ms. Legal r ms (journal_of (drop (i + 1) entries))) n h));
-      back = λ h. subst (λ ms. Legal r ms (journal_of (drop (i + 1) entries))) (sym n)
-          (subst (λ es. Legal r memories (journal_of es)) (next_of entries i e l is) (w.back h)).1;
+      forth = λ h. w.forth (subst (λ es. Legal r memories (journal_seen es)) (sym (next_of entries i e l is))
+          (a, subst (λ ms. Legal r ms (journal_seen (drop (i + 1) entries))) n h));
+      back = λ h. subst (λ ms. Legal r ms (journal_seen (drop (i + 1) entries))) (sym n)
+          (subst (λ es. Legal r memories (journal_seen es)) (next_of entries i e l is) (w.back h)).1;
     }
 
-pub gone : {C A M : Type 0} (r : Rules C A M) (first : List M) (entries : List (PlainEntry C A)) (memories : List M)
-    → Going r first entries (length entries) memories → Legal r first (journal_of entries)
-gone r first entries memories w = w.forth (subst (λ es. Legal r memories (journal_of es)) (sym (drop-length entries)) tt)
+pub gone : {C A M : Type 0} (r : ServiceRules C A M) (first : List M) (entries : List (PlainEntry C A)) (memories : List M)
+    → Going r first entries (length entries) memories → Legal r first (journal_seen entries)
+gone r first entries memories w = w.forth (subst (λ es. Legal r memories (journal_seen es)) (sym (drop-length entries)) tt)
 
-pub not_gone : {C A M : Type 0} (r : Rules C A M) (first : List M) (entries : List (PlainEntry C A)) (i : ℕ) (e : PlainEntry C A) (memories : List M)
-    → Going r first entries i memories → i < length entries → e ≡ get_or entries i e → (IsAnswered r memories (entry_of e) → ⊥)
-    → Legal r first (journal_of entries) → ⊥
+pub not_gone : {C A M : Type 0} (r : ServiceRules C A M) (first : List M) (entries : List (PlainEntry C A)) (i : ℕ) (e : PlainEntry C A) (memories : List M)
+    → Going r first entries i memories → i < length entries → e ≡ get_or entries i e → (IsAnswered r memories (entry_seen e) → ⊥)
+    → Legal r first (journal_seen entries) → ⊥
 not_gone r first entries i e memories w l is a h =
-    a (subst (λ es. Legal r memories (journal_of es)) (next_of entries i e l is) (w.back h)).0
+    a (subst (λ es. Legal r memories (journal_seen es)) (next_of entries i e l is) (w.back h)).0
 
-module _ {C A X : Type 0} (d : Desk C A) (payloads : List X) (bytes : X → List ℕ) where
+module _ {C A X : Type 0} (d : DeskRules C A) (payloads : List X) (bytes : X → List ℕ) where
   -- the calls so far, and those of the further payloads, are the calls of all
   pub record Calling (i : ℕ) (out : List (ℕ × C)) : Type 0 where
     pub so_far : out ++ called d i (map bytes (drop i payloads)) ≡ called d 0 (map bytes payloads)
@@ -122,10 +122,10 @@ module _ {C A X : Type 0} (d : Desk C A) (payloads : List X) (bytes : X → List
   called_all out w = sym (append-nil out) ∙ ap (λ ps. out ++ called d (length payloads) (map bytes ps)) (sym (drop-length payloads)) ∙ w.so_far
 
   -- what was sent so far, and what is sent to the further payloads, are what is sent to all
-  pub record Sending (es : List (Entry C A)) (i : ℕ) (out : List ℕ) : Type 0 where
+  pub record Sending (es : List (JournalEntry C A)) (i : ℕ) (out : List ℕ) : Type 0 where
     pub so_far : out ++ sent d es i (map bytes (drop i payloads)) ≡ sent d es 0 (map bytes payloads)
 
-  pub send_on : (es : List (Entry C A)) (i : ℕ) (p : X) (out next : List ℕ) → Sending es i out → i < length payloads → p ≡ get_or payloads i p
+  pub send_on : (es : List (JournalEntry C A)) (i : ℕ) (p : X) (out next : List ℕ) → Sending es i out → i < length payloads → p ≡ get_or payloads i p
       → next ≡ out ++ reply_for d (bytes p) (d.decide (bytes p)) (answer_at es i) → Sending es (i + 1) next
   send_on es i p out next w l is e =
       let n : i + 1 ≡ suc i = omega arith in
@@ -136,7 +136,7 @@ module _ {C A X : Type 0} (d : Desk C A) (payloads : List X) (bytes : X → List
             ∙ ap (λ ps. out ++ sent d es i (map bytes ps)) (sym (next_of payloads i p l is)) ∙ w.so_far;
       }
 
-  pub sent_all : (es : List (Entry C A)) (out : List ℕ) → Sending es (length payloads) out → out ≡ sent d es 0 (map bytes payloads)
+  pub sent_all : (es : List (JournalEntry C A)) (out : List ℕ) → Sending es (length payloads) out → out ≡ sent d es 0 (map bytes payloads)
   sent_all es out w = sym (append-nil out) ∙ ap (λ ps. out ++ sent d es (length payloads) (map bytes ps)) (sym (drop-length payloads)) ∙ w.so_far
 
 pub ruleset plainly = (own_on, own_past, own_all, seek_on, sought, not_sought, leave_on, left_all, go_on, gone, not_gone, call_on, called_all, send_on, sent_all)

@@ -8,16 +8,16 @@ use Rattle.host_model.specs.declared.cause.EndCause.{EndCause}
 use Rattle.host_model.specs.declared.cause.EndCause.TheVariants.{End, Cut, SizeFault, Envelope, ReadFault, WriteFault, NoMemory, Stopped}
 use Rattle.host_model.specs.Frames.{Frames, HasNoBadSize}
 use Rattle.host_model.specs.Marks.{Marks, input, output, read_by, written_by, IsTransfer, ending}
-use Rattle.host_model.specs.Journal.{Entry}
-use Rattle.host_model.specs.Desk.{Desk}
+use Rattle.host_model.specs.Journal.{JournalEntry}
+use Rattle.host_model.specs.DeskRules.{DeskRules}
 use Rattle.host_model.specs.Conversation.{but_last, sent, Done, IsPrefix, AllGoOn, EndsBy}
-use Rattle.host_model.specs.World.{Stage, unopened, open_, pending, answered, over, over_pending, IsGivenUp, Line}
+use Rattle.host_model.specs.World.{Stage, unopened, open_, pending, answered, over, over_pending, IsGivenUp, Endpoint}
 use Rattle.host_model.proofs.Lists.{Always, always-append, front_nil, length-but_last, all_push}
 use Rattle.host_model.proofs.Replies.{numbers_done}
 use Rattle.host_model.proofs.Turning.{TurnSoFar, turn_later, turn_quiet}
 
 -- every payload is settled, and left is what isn't written of the last reply
-pub record IsOpen {C A : Type 0} (d : Desk C A) (es : List (Entry C A)) (out : List ℕ) (ps : List (List ℕ)) (held left : List ℕ) : Type 0 where
+pub record IsOpen {C A : Type 0} (d : DeskRules C A) (es : List (JournalEntry C A)) (out : List ℕ) (ps : List (List ℕ)) (held left : List ℕ) : Type 0 where
   pub on : AllGoOn d ps
   pub done : Done d es ps
   pub size : HasNoBadSize d.max held
@@ -26,20 +26,20 @@ pub record IsOpen {C A : Type 0} (d : Desk C A) (es : List (Entry C A)) (out : L
   pub none : left ≢ [] → held ≡ []
 
 -- the last payload has no reply yet
-pub record IsWaiting {C A : Type 0} (d : Desk C A) (es : List (Entry C A)) (out : List ℕ) (ps : List (List ℕ)) (held : List ℕ) : Type 0 where
+pub record IsWaiting {C A : Type 0} (d : DeskRules C A) (es : List (JournalEntry C A)) (out : List ℕ) (ps : List (List ℕ)) (held : List ℕ) : Type 0 where
   pub on : AllGoOn d (but_last ps)
   pub none : held ≡ []
   pub written : out ≡ sent d es 0 (but_last ps)
 
 -- nothing has happened
-pub record IsUnopened {C A : Type 0} (es : List (Entry C A)) (out : List ℕ) (ps : List (List ℕ)) (held : List ℕ) : Type 0 where
+pub record IsUnopened {C A : Type 0} (es : List (JournalEntry C A)) (out : List ℕ) (ps : List (List ℕ)) (held : List ℕ) : Type 0 where
   pub no_entries : es ≡ []
   pub no_output : out ≡ []
   pub no_payloads : ps ≡ []
   pub no_rest : held ≡ []
 
 -- what the stage says
-abbrev pub Says : {C A : Type 0} → Desk C A → List (Entry C A) → List ℕ → List (List ℕ) → List ℕ → Stage → Type 0
+abbrev pub Says : {C A : Type 0} → DeskRules C A → List (JournalEntry C A) → List ℕ → List (List ℕ) → List ℕ → Stage → Type 0
 Says d es out ps held unopened = IsUnopened es out ps held
 Says d es out ps held (open_ left) = IsOpen d es out ps held left
 Says d es out ps held pending = IsWaiting d es out ps held × Done d es (but_last ps)
@@ -72,14 +72,14 @@ settled ps answered = length ps
 settled ps (over cause) = length ps
 
 -- a connection's marks, entries, payloads, held bytes and stage are one conversation so far
-pub record Kept {C A : Type 0} (d : Desk C A) (c : ℕ) (own : List Mark) (es : List (Entry C A)) (ps : List (List ℕ)) (held : List ℕ) (stage : Stage) : Type 0 where
+pub record Kept {C A : Type 0} (d : DeskRules C A) (c : ℕ) (own : List Mark) (es : List (JournalEntry C A)) (ps : List (List ℕ)) (held : List ℕ) (stage : Stage) : Type 0 where
   pub frames : Frames d.max (input own) ps held
   pub says : Says d es (output own) ps held stage
   pub shape : Shape c own stage
   pub turns : Always (TurnSoFar d es (settled ps stage)) own
 
-abbrev pub KeptLine : {C A : Type 0} → Desk C A → ℕ → List Mark → List (Entry C A) → Line → Type 0
-KeptLine d c own es line = Kept d c own es line.payloads line.held line.stage
+abbrev pub KeptEndpoint : {C A : Type 0} → DeskRules C A → ℕ → List Mark → List (JournalEntry C A) → Endpoint → Type 0
+KeptEndpoint d c own es endpoint = Kept d c own es endpoint.payloads endpoint.held endpoint.stage
 
 -- one more mark adds its bytes
 pub input_push : (own : List Mark) (m : Mark) → input (own ++ m ∷ []) ≡ input own ++ read_by m
@@ -124,9 +124,9 @@ running_push c own m transfer r =
 marks_ended : (c : ℕ) (own : List Mark) (cause : EndCause) → IsRunning c own → Marks c (own ++ ending c cause) cause
 marks_ended c own cause r = record { transfers = r.transfers; shape = ap (λ s. s ++ ending c cause) r.shape; only = r.only }
 
-module _ {C A : Type 0} (d : Desk C A) where
+module _ {C A : Type 0} (d : DeskRules C A) where
   -- turns stay while marks without bytes are added
-  pub turns_quiet : (es : List (Entry C A)) (n : ℕ) (own more : List Mark) → input more ≡ [] → output more ≡ []
+  pub turns_quiet : (es : List (JournalEntry C A)) (n : ℕ) (own more : List Mark) → input more ≡ [] → output more ≡ []
       → Always (TurnSoFar d es n) own → Always (TurnSoFar d es n) (own ++ more)
   turns_quiet es n own more i o a =
       always-append (TurnSoFar d es n) own more a
@@ -135,11 +135,11 @@ module _ {C A : Type 0} (d : Desk C A) where
       let y : output ts ≡ [] = front_nil (output ts) (output bs) (sym (ap output e ∙ flat_map-append written_by ts bs) ∙ o) in
       turn_quiet d es n own (own ++ ts) (input_quiet own ts x) (output_quiet own ts y) (a own [] (sym (append-nil own))))
 
-  pub turns_later : (es : List (Entry C A)) (n m : ℕ) (own : List Mark) → n ≤ m → Always (TurnSoFar d es n) own → Always (TurnSoFar d es m) own
+  pub turns_later : (es : List (JournalEntry C A)) (n m : ℕ) (own : List Mark) → n ≤ m → Always (TurnSoFar d es n) own → Always (TurnSoFar d es m) own
   turns_later es n m own l a front back e = turn_later d es n m front l (a front back e)
 
   -- a running connection ends with a cause
-  pub kept_ending : (c : ℕ) (own : List Mark) (es : List (Entry C A)) (ps : List (List ℕ)) (held : List ℕ) (n : ℕ) (cause : EndCause) (new : Stage)
+  pub kept_ending : (c : ℕ) (own : List Mark) (es : List (JournalEntry C A)) (ps : List (List ℕ)) (held : List ℕ) (n : ℕ) (cause : EndCause) (new : Stage)
       → Frames d.max (input own) ps held → IsRunning c own → Always (TurnSoFar d es n) own → n ≤ settled ps new
       → Says d es (output own) ps held new → (Marks c (own ++ ending c cause) cause → Shape c (own ++ ending c cause) new)
       → Kept d c (own ++ ending c cause) es ps held new
@@ -151,7 +151,7 @@ module _ {C A : Type 0} (d : Desk C A) where
         turns = turns_quiet es (settled ps new) own (ending c cause) (no_input c cause) (no_output c cause) (turns_later es n (settled ps new) own l turns);
       }
 
-  ends_done : (es : List (Entry C A)) (out : List ℕ) (ps : List (List ℕ)) (held : List ℕ) (cause : EndCause) → EndsBy d ps held es out cause → Done d es ps ⊎ Done d es (but_last ps)
+  ends_done : (es : List (JournalEntry C A)) (out : List ℕ) (ps : List (List ℕ)) (held : List ℕ) (cause : EndCause) → EndsBy d ps held es out cause → Done d es ps ⊎ Done d es (but_last ps)
   ends_done es out ps held End r = inl r.2.done
   ends_done es out ps held Cut r = inl r.3.done
   ends_done es out ps held (SizeFault z) r = inl r.3.done
@@ -161,7 +161,7 @@ module _ {C A : Type 0} (d : Desk C A) where
   ends_done es out ps held NoMemory r = r.done
   ends_done es out ps held Stopped r = r.done
 
-  says_done : (es : List (Entry C A)) (out : List ℕ) (ps : List (List ℕ)) (held : List ℕ) (stage : Stage) → Says d es out ps held stage → Done d es ps ⊎ Done d es (but_last ps)
+  says_done : (es : List (JournalEntry C A)) (out : List ℕ) (ps : List (List ℕ)) (held : List ℕ) (stage : Stage) → Says d es out ps held stage → Done d es ps ⊎ Done d es (but_last ps)
   says_done es out ps held unopened s = inl (subst (λ r. Done d r ps) (sym s.no_entries) (subst (λ r. Done d [] r) (sym s.no_payloads) refl))
   says_done es out ps held (open_ left) s = inl s.done
   says_done es out ps held pending s = inr s.1
@@ -170,10 +170,10 @@ module _ {C A : Type 0} (d : Desk C A) where
   says_done es out ps held (over_pending cause) s = inr s.2
 
   -- the entries have the payloads' numbers
-  pub numbers_kept : (es : List (Entry C A)) (out : List ℕ) (ps : List (List ℕ)) (held : List ℕ) (stage : Stage) → Says d es out ps held stage
-      → AllByRecursion (λ (e : Entry C A). e.number < length ps) es
+  pub numbers_kept : (es : List (JournalEntry C A)) (out : List ℕ) (ps : List (List ℕ)) (held : List ℕ) (stage : Stage) → Says d es out ps held stage
+      → AllByRecursion (λ (e : JournalEntry C A). e.key.i < length ps) es
   numbers_kept es out ps held stage s = go (says_done es out ps held stage s)
     where
-      go : Done d es ps ⊎ Done d es (but_last ps) → AllByRecursion (λ (e : Entry C A). e.number < length ps) es
+      go : Done d es ps ⊎ Done d es (but_last ps) → AllByRecursion (λ (e : JournalEntry C A). e.key.i < length ps) es
       go (inl a) = numbers_done d (length ps) es ps (let l : length ps ≤ length ps = omega arith in l) a
       go (inr b) = numbers_done d (length ps) es (but_last ps) (length-but_last ps) b

@@ -1,9 +1,9 @@
 pub mod Frames
 pub mod Marks
 pub mod Journal
-pub mod Desk
+pub mod DeskRules
 pub mod Conversation
-pub mod Order
+pub mod OrderBetween
 pub mod Headline
 pub mod World
 pub mod Report

@@ -30,10 +30,11 @@ abbrev pub written_by : Mark → List ℕ
 written_by (Wrote c bytes) = bytes
 written_by _ = []
 
--- all bytes that a connection's marks say were read, and all that were written
+-- all bytes that a connection's marks say were read
 abbrev pub input : List Mark → List ℕ
 input marks = flat_map read_by marks
 
+-- all bytes that they say were written
 abbrev pub output : List Mark → List ℕ
 output marks = flat_map written_by marks
 

@@ -12,11 +12,19 @@ use Rattle.text_out.specs.Line.{line_of}
 use Rattle.host_model.specs.declared.cause.EndCause.{EndCause}
 use Rattle.host_model.specs.declared.cause.EndCause.TheVariants.{End, Cut, SizeFault, Envelope, ReadFault, WriteFault, NoMemory, Stopped}
 use Rattle.host_model.specs.Marks.{marks_of, output}
-use Rattle.host_model.specs.Journal.{Entry}
+use Rattle.host_model.specs.Journal.{JournalEntry}
+
+-- the byte between two words
+abbrev pub blank : ℕ
+blank = 32
+
+-- the byte that stands where there are no bytes
+abbrev pub dash : ℕ
+dash = 45
 
 -- a word, a blank and a number
 abbrev pub numbered : List ℕ → ℕ → List ℕ
-numbered word n = word ++ 32 ∷ natural_of n
+numbered word n = word ++ blank ∷ natural_of n
 
 -- a mark, where reads and writes have the number of their bytes
 abbrev pub mark_text : Mark → List ℕ
@@ -49,26 +57,27 @@ cause_text Stopped = codes "Stopped"
 
 -- bytes in hexadecimal, or a dash where there are none
 abbrev pub hex_or_dash : List ℕ → List ℕ
-hex_or_dash [] = 45 ∷ []
+hex_or_dash [] = dash ∷ []
 hex_or_dash (b ∷ bytes) = hex_of (b ∷ bytes)
 
 -- a connection, its cause, and all bytes that were written to it
 abbrev pub end_text : ℕ → EndCause → List ℕ → List ℕ
-end_text c cause out = numbered (codes "conn") c ++ 32 ∷ cause_text cause ++ 32 ∷ hex_or_dash out
+end_text c cause out = numbered (codes "conn") c ++ blank ∷ cause_text cause ++ blank ∷ hex_or_dash out
 
 -- the lines of the connections from number c on
 abbrev pub end_lines : List Mark → ℕ → List EndCause → List ℕ
 end_lines tape c [] = []
 end_lines tape c (cause ∷ causes) = line_of (end_text c cause (output (marks_of c tape))) ++ end_lines tape (suc c) causes
 
--- the lines of the tape, and of the journal by the text of an entry
+-- the lines of the tape
 abbrev pub tape_lines : List Mark → List ℕ
 tape_lines tape = flat_map (λ mark. line_of (mark_text mark)) tape
 
-abbrev pub journal_lines : {C A : Type 0} → (Entry C A → List ℕ) → List (Entry C A) → List ℕ
+-- the lines of the journal, by the text of an entry
+abbrev pub journal_lines : {C A : Type 0} → (JournalEntry C A → List ℕ) → List (JournalEntry C A) → List ℕ
 journal_lines entry_text journal = flat_map (λ e. line_of (entry_text e)) journal
 
 -- the report: the tape, the journal, a line for each connection, and the number of calls
-abbrev pub report : {C A : Type 0} → (Entry C A → List ℕ) → List Mark → List (Entry C A) → List EndCause → List ℕ
+abbrev pub report : {C A : Type 0} → (JournalEntry C A → List ℕ) → List Mark → List (JournalEntry C A) → List EndCause → List ℕ
 report entry_text tape journal causes =
     tape_lines tape ++ journal_lines entry_text journal ++ end_lines tape 0 causes ++ line_of (numbered (codes "calls") (length journal))

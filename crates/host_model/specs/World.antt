@@ -7,10 +7,10 @@ use Rattle.host_model.specs.declared.cause.EndCause.{EndCause}
 use Rattle.host_model.specs.declared.cause.EndCause.TheVariants.{End, Cut, SizeFault, Envelope, ReadFault, WriteFault, NoMemory, Stopped}
 use Rattle.host_model.specs.Frames.{Frames, frame, size_bytes, IsPayload, IsOutside, IsPartial, HasNoBadSize}
 use Rattle.host_model.specs.Marks.{marks_of, input, output}
-use Rattle.host_model.specs.Journal.{Entry, Rules, IsAnswered, Legal, after, entries_of}
-use Rattle.host_model.specs.Desk.{Desk, Decision, Close, Silent, Reply, Invoke}
+use Rattle.host_model.specs.Journal.{JournalEntry, ServiceRules, IsAnswered, Legal, after, entries_of}
+use Rattle.host_model.specs.DeskRules.{DeskRules, DeskDecision, Close, Silent, Reply, Invoke}
 use Rattle.host_model.specs.Conversation.{reply_for, answer_at, IsLast, AllGoOn, Done, sent, but_last, EndsBy, Turns}
-use Rattle.host_model.specs.Order.{InOrder}
+use Rattle.host_model.specs.OrderBetween.{InOrder}
 
 -- where a connection stands
 pub data Stage : Type 0 where
@@ -28,14 +28,14 @@ pub data Stage : Type 0 where
   over_pending : (cause : EndCause) → Stage
 
 -- a connection: the payloads read whole, the bytes read behind them, and where it stands
-pub record Line : Type 0 where
+pub record Endpoint : Type 0 where
   pub payloads : List (List ℕ)
   pub held : List ℕ
   pub stage : Stage
 
 -- nothing was read
-abbrev pub unopened_line : Line
-unopened_line = record { payloads = []; held = []; stage = unopened }
+abbrev pub unopened_endpoint : Endpoint
+unopened_endpoint = record { payloads = []; held = []; stage = unopened }
 
 -- what a connection does
 pub data Move : Type 0 where
@@ -78,7 +78,7 @@ end_behind [] = End
 end_behind (byte ∷ bytes) = Cut
 
 -- a decision that is settled without a call and doesn't end the connection
-abbrev pub NeedsNoCall : {C : Type 0} → Decision C → Type 0
+abbrev pub NeedsNoCall : {C : Type 0} → DeskDecision C → Type 0
 NeedsNoCall Silent = Unit {0}
 NeedsNoCall (Reply reply) = Unit {0}
 NeedsNoCall _ = ⊥
@@ -97,9 +97,9 @@ GivesUp pending cause new = new ≡ over_pending cause
 GivesUp _ cause new = ⊥
 
 -- A connection with these entries goes from old to new by a move.
-abbrev pub Moves : {C A : Type 0} → Desk C A → List (Entry C A) → Line → Move → Line → Type 0
+abbrev pub Moves : {C A : Type 0} → DeskRules C A → List (JournalEntry C A) → Endpoint → Move → Endpoint → Type 0
 Moves d es old opens new =
-    (old ≡ unopened_line) × (new ≡ record { payloads = []; held = []; stage = open_ [] })
+    (old ≡ unopened_endpoint) × (new ≡ record { payloads = []; held = []; stage = open_ [] })
 Moves d es old (reads bytes) new =
     (old.stage ≡ open_ []) × (bytes ≢ []) × IsPartial d.max (old.held ++ bytes) × (new ≡ record old { held = old.held ++ bytes })
 Moves d es old (reads_frame bytes payload) new =
@@ -131,16 +131,16 @@ Moves d es old (gives_up cause) new =
 -- the tape, the journal, and each connection by its number
 pub record World (C A : Type 0) : Type 0 where
   pub tape : List Mark
-  pub journal : List (Entry C A)
-  pub lines : ℕ → Line
+  pub journal : List (JournalEntry C A)
+  pub endpoints : ℕ → Endpoint
 
 -- nothing has happened
 abbrev pub at_first : {C A : Type 0} → World C A
-at_first = record { tape = []; journal = []; lines = λ _. unopened_line }
+at_first = record { tape = []; journal = []; endpoints = λ _. unopened_endpoint }
 
 -- the connections with this one in place of c
-abbrev pub with_line : (ℕ → Line) → ℕ → Line → ℕ → Line
-with_line lines c line x = if x == c then line else lines x
+abbrev pub with_endpoint : (ℕ → Endpoint) → ℕ → Endpoint → ℕ → Endpoint
+with_endpoint endpoints c endpoint x = if x == c then endpoint else endpoints x
 
 -- where a connection stands once its pending payload's call has been entered
 abbrev pub Enters : Stage → Stage → Type 0
@@ -151,28 +151,28 @@ Enters _ new = ⊥
 -- one act: connection c moves, or the call of a pending payload takes effect
 pub data Act (C A : Type 0) : Type 0 where
   moves : (c : ℕ) (move : Move) → Act C A
-  enters : (entry : Entry C A) → Act C A
+  enters : (entry : JournalEntry C A) → Act C A
 
 -- The world goes from old to new by an act, where the services began with these memories.
-abbrev pub Does : {C A M : Type 0} → Desk C A → Rules C A M → List M → World C A → Act C A → World C A → Type 0
-Does d r memories old (moves c move) new =
-    (line : Line) × Moves d (entries_of c old.journal) (old.lines c) move line
-    × (new ≡ record { tape = old.tape ++ marks_by c move; journal = old.journal; lines = with_line old.lines c line })
-Does d r memories old (enters e) new =
-    (before : List (List ℕ)) × (p : List ℕ) × (stage : Stage) × IsLast (old.lines e.connection).payloads before p
-    × Enters (old.lines e.connection).stage stage × (d.decide p ≡ Invoke e.call) × (e.number ≡ length before)
+abbrev pub Acts : {C A M : Type 0} → DeskRules C A → ServiceRules C A M → List M → World C A → Act C A → World C A → Type 0
+Acts d r memories old (moves c move) new =
+    (endpoint : Endpoint) × Moves d (entries_of c old.journal) (old.endpoints c) move endpoint
+    × (new ≡ record { tape = old.tape ++ marks_by c move; journal = old.journal; endpoints = with_endpoint old.endpoints c endpoint })
+Acts d r memories old (enters e) new =
+    (before : List (List ℕ)) × (p : List ℕ) × (stage : Stage) × IsLast (old.endpoints e.key.c).payloads before p
+    × Enters (old.endpoints e.key.c).stage stage × (d.decide p ≡ Invoke e.call) × (e.key.i ≡ length before)
     × IsAnswered r (after r memories old.journal) e
     × (new ≡ record {
       tape = old.tape;
       journal = old.journal ++ e ∷ [];
-      lines = with_line old.lines e.connection (record (old.lines e.connection) { stage = stage });
+      endpoints = with_endpoint old.endpoints e.key.c (record (old.endpoints e.key.c) { stage = stage });
     })
 
 -- These acts, the last one first, lead from the first world to this one.
-abbrev pub ReachedBy : {C A M : Type 0} → Desk C A → Rules C A M → List M → List (Act C A) → World C A → Type 0
+abbrev pub ReachedBy : {C A M : Type 0} → DeskRules C A → ServiceRules C A M → List M → List (Act C A) → World C A → Type 0
 ReachedBy d r memories [] world = world ≡ at_first
 ReachedBy {C} {A} d r memories (act ∷ acts) world =
-    (old : World C A) × ReachedBy d r memories acts old × Does d r memories old act world
+    (old : World C A) × ReachedBy d r memories acts old × Acts d r memories old act world
 
 -- A connection has ended by the cause that stands at its number, and one that has none there was never opened.
 abbrev pub HasEnded : Stage → Option EndCause → Type 0
@@ -182,19 +182,19 @@ HasEnded (over_pending cause) (Some given) = given ≡ cause
 HasEnded _ _ = ⊥
 
 -- what a connection's stage says of its payloads, the bytes held, its entries and the bytes written
-abbrev pub StandsAt : {C A : Type 0} → Desk C A → List (List ℕ) → List ℕ → List (Entry C A) → List ℕ → Stage → Type 0
-StandsAt d ps held es out unopened = (ps ≡ []) × (held ≡ []) × (es ≡ []) × (out ≡ [])
-StandsAt d ps held es out (open_ left) = AllGoOn d ps × HasNoBadSize d.max held × Done d es ps × (sent d es 0 ps ≡ out ++ left)
-StandsAt d ps held es out pending = AllGoOn d (but_last ps) × (held ≡ []) × Done d es (but_last ps) × (out ≡ sent d es 0 (but_last ps))
-StandsAt d ps held es out answered = AllGoOn d ps × (held ≡ []) × Done d es ps × (out ≡ sent d es 0 (but_last ps))
-StandsAt d ps held es out (over cause) = EndsBy d ps held es out cause
-StandsAt d ps held es out (over_pending cause) = EndsBy d ps held es out cause
+abbrev pub StageSays : {C A : Type 0} → DeskRules C A → List (List ℕ) → List ℕ → List (JournalEntry C A) → List ℕ → Stage → Type 0
+StageSays d ps held es out unopened = (ps ≡ []) × (held ≡ []) × (es ≡ []) × (out ≡ [])
+StageSays d ps held es out (open_ left) = AllGoOn d ps × HasNoBadSize d.max held × Done d es ps × (sent d es 0 ps ≡ out ++ left)
+StageSays d ps held es out pending = AllGoOn d (but_last ps) × (held ≡ []) × Done d es (but_last ps) × (out ≡ sent d es 0 (but_last ps))
+StageSays d ps held es out answered = AllGoOn d ps × (held ≡ []) × Done d es ps × (out ≡ sent d es 0 (but_last ps))
+StageSays d ps held es out (over cause) = EndsBy d ps held es out cause
+StageSays d ps held es out (over_pending cause) = EndsBy d ps held es out cause
 
 -- A moment of a run: the journal is a legal history, its calls stand in order, and each connection's bytes split into its payloads and what is held, with
 -- the calls, the replies and the turns that its stage says.
-pub record Moment {C A M : Type 0} (d : Desk C A) (r : Rules C A M) (memories : List M) (world : World C A) : Type 0 where
+pub record Moment {C A M : Type 0} (d : DeskRules C A) (r : ServiceRules C A M) (memories : List M) (world : World C A) : Type 0 where
   pub legal : Legal r memories world.journal
   pub order : InOrder d world.tape world.journal
-  pub frames : (c : ℕ) → Frames d.max (input (marks_of c world.tape)) (world.lines c).payloads (world.lines c).held
-  pub stands : (c : ℕ) → StandsAt d (world.lines c).payloads (world.lines c).held (entries_of c world.journal) (output (marks_of c world.tape)) (world.lines c).stage
+  pub frames : (c : ℕ) → Frames d.max (input (marks_of c world.tape)) (world.endpoints c).payloads (world.endpoints c).held
+  pub stands : (c : ℕ) → StageSays d (world.endpoints c).payloads (world.endpoints c).held (entries_of c world.journal) (output (marks_of c world.tape)) (world.endpoints c).stage
   pub turns : (c : ℕ) → Turns d (entries_of c world.journal) (marks_of c world.tape)

@@ -5,8 +5,8 @@ ghost use Rattle.std.specs.Prelude.{◌≡◌, ℕ, ◌<◌, ◌≤◌, ◌^◌,
 ghost use Rattle.std.specs.Int.{w32, to_be_bytes};
 ghost use Rattle.host_model.specs.declared.cause.EndCause.{EndCause};
 ghost use Rattle.host_model.specs.Frames.{Frames, IsPartial};
-ghost use Rattle.host_model.specs.Journal.{Rules};
-ghost use Rattle.host_model.specs.Desk.{Desk};
+ghost use Rattle.host_model.specs.Journal.{ServiceRules};
+ghost use Rattle.host_model.specs.DeskRules.{DeskRules};
 ghost use Rattle.host_model.specs.Headline.{Headline};
 ghost use Rattle.host_model.specs.World.{World, Act, ReachedBy, HasEnded, Moment};
 
@@ -27,13 +27,13 @@ pub fn less_than_a_frame()
 
 /// The journal of every run is a legal history, its calls stand in order, and each connection that has ended has had a whole conversation.
 pub fn every_run_meets<C, A, M>()
-    ensures { (d : Desk C A) (r : Rules C A M) (memories : List M) (acts : List (Act C A)) (world : World C A) (causes : List EndCause) →
-        d.max < 2 ^ 31 → ReachedBy d r memories acts world → ((c : ℕ) → HasEnded (world.lines c).stage (slice_get causes c)) →
+    ensures { (d : DeskRules C A) (r : ServiceRules C A M) (memories : List M) (acts : List (Act C A)) (world : World C A) (causes : List EndCause) →
+        d.max < 2 ^ 31 → ReachedBy d r memories acts world → ((c : ℕ) → HasEnded (world.endpoints c).stage (slice_get causes c)) →
         Headline d r memories world.tape world.journal causes }
 {}
 
 /// At each moment of a run its journal, its tape and its connections stand as their stages say.
 pub fn every_moment_stands<C, A, M>()
-    ensures { (d : Desk C A) (r : Rules C A M) (memories : List M) (acts : List (Act C A)) (world : World C A) →
+    ensures { (d : DeskRules C A) (r : ServiceRules C A M) (memories : List M) (acts : List (Act C A)) (world : World C A) →
         d.max < 2 ^ 31 → ReachedBy d r memories acts world → Moment d r memories world }
 {}

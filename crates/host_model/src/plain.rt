@@ -1,4 +1,11 @@
 //! Plain programs for small inputs: they compute the definitions, slowly; tests compare faster bodies with them.
+//!
+//! ```rust
+//! let (payloads, rest) = split(alloc, max, bytes)?;
+//! let calls = called(alloc, &desk, payloads.as_slice())?;
+//! let out = sent(alloc, &desk, journal, payloads.as_slice())?;
+//! after(&services, &mut memories, journal);
+//! ```
 
 mod desks;
 mod frames;

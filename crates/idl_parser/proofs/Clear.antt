@@ -2,26 +2,24 @@
 use Rattle.std.proofs.Common.{◌≡◌, true, false, ℕ, zero, suc, [], refl}
 use Rattle.idl_parser.specs.Shapes.{starts_in, can_be, more, IsClear}
 use Rattle.idl_parser.specs.Parts.{separator, annotation_value, annotation_entry, annotation}
-use Rattle.idl_parser.specs.Types as types
-use Rattle.idl_parser.specs.Types.{base, cpp_type, set_rest, container, no_container, inner_type, bare_type, type_of}
-use Rattle.idl_parser.specs.Constants as values
-use Rattle.idl_parser.specs.Constants.{list_item, map_entry, collection, no_collection, inner_value, value_of}
-use Rattle.idl_parser.specs.Fields.{field_id, field_need, field_default, ending, field, fields}
+use Rattle.idl_parser.specs.Types.{base, cpp_type, map_type_rest, set_type_rest, list_type_rest, container, no_container, inner_type, bare_type, type_of}
+use Rattle.idl_parser.specs.Constants.{list_item, list_value_rest, map_entry, map_value_rest, collection, no_collection, inner_value, value_of}
+use Rattle.idl_parser.specs.Fields.{field_id, field_need, field_default, field_ending, field, fields}
 use Rattle.idl_parser.specs.Definitions.{constant_rest, constant, typedef_rest, typedef, enum_number, enum_value, closing, enum_rest, enumeration, struct_word, struct_rest, structure, fields_in_parentheses, oneway, result_type, throws, function, parent, service_rest, service, bare_definition, definition}
 use Rattle.idl_parser.specs.Documents.{namespace_rest, header, document}
 
 clear_separator : IsClear separator
-unfolding separator annotation_value annotation_entry annotation base cpp_type types.map_rest set_rest types.list_rest container no_container inner_type bare_type type_of list_item values.list_rest map_entry values.map_rest collection no_collection inner_value value_of field_id field_need field_default ending field fields constant_rest typedef_rest enum_number enum_value closing enum_rest struct_word struct_rest fields_in_parentheses oneway result_type throws function parent service_rest bare_definition definition namespace_rest header document
+unfolding separator annotation_value annotation_entry annotation base cpp_type map_type_rest set_type_rest list_type_rest container no_container inner_type bare_type type_of list_item list_value_rest map_entry map_value_rest collection no_collection inner_value value_of field_id field_need field_default field_ending field fields constant_rest typedef_rest enum_number enum_value closing enum_rest struct_word struct_rest fields_in_parentheses oneway result_type throws function parent service_rest bare_definition definition namespace_rest header document
 clear_separator =
     ((tt, tt, refl, refl, refl), refl)
 
 clear_annotation : IsClear annotation
-unfolding separator annotation_value annotation_entry annotation base cpp_type types.map_rest set_rest types.list_rest container no_container inner_type bare_type type_of list_item values.list_rest map_entry values.map_rest collection no_collection inner_value value_of field_id field_need field_default ending field fields constant_rest typedef_rest enum_number enum_value closing enum_rest struct_word struct_rest fields_in_parentheses oneway result_type throws function parent service_rest bare_definition definition namespace_rest header document
+unfolding separator annotation_value annotation_entry annotation base cpp_type map_type_rest set_type_rest list_type_rest container no_container inner_type bare_type type_of list_item list_value_rest map_entry map_value_rest collection no_collection inner_value value_of field_id field_need field_default field_ending field fields constant_rest typedef_rest enum_number enum_value closing enum_rest struct_word struct_rest fields_in_parentheses oneway result_type throws function parent service_rest bare_definition definition namespace_rest header document
 clear_annotation =
     ((tt, (((tt, (((tt, tt, refl, refl), refl), clear_separator, refl, refl), refl, refl), refl, refl), tt, refl, refl), refl, refl), refl)
 
 clear_base : IsClear base
-unfolding separator annotation_value annotation_entry annotation base cpp_type types.map_rest set_rest types.list_rest container no_container inner_type bare_type type_of list_item values.list_rest map_entry values.map_rest collection no_collection inner_value value_of field_id field_need field_default ending field fields constant_rest typedef_rest enum_number enum_value closing enum_rest struct_word struct_rest fields_in_parentheses oneway result_type throws function parent service_rest bare_definition definition namespace_rest header document
+unfolding separator annotation_value annotation_entry annotation base cpp_type map_type_rest set_type_rest list_type_rest container no_container inner_type bare_type type_of list_item list_value_rest map_entry map_value_rest collection no_collection inner_value value_of field_id field_need field_default field_ending field fields constant_rest typedef_rest enum_number enum_value closing enum_rest struct_word struct_rest fields_in_parentheses oneway result_type throws function parent service_rest bare_definition definition namespace_rest header document
 clear_base = (
   tt,
   (
@@ -43,12 +41,12 @@ clear_base = (
 )
 
 clear_cpp_type : IsClear cpp_type
-unfolding separator annotation_value annotation_entry annotation base cpp_type types.map_rest set_rest types.list_rest container no_container inner_type bare_type type_of list_item values.list_rest map_entry values.map_rest collection no_collection inner_value value_of field_id field_need field_default ending field fields constant_rest typedef_rest enum_number enum_value closing enum_rest struct_word struct_rest fields_in_parentheses oneway result_type throws function parent service_rest bare_definition definition namespace_rest header document
+unfolding separator annotation_value annotation_entry annotation base cpp_type map_type_rest set_type_rest list_type_rest container no_container inner_type bare_type type_of list_item list_value_rest map_entry map_value_rest collection no_collection inner_value value_of field_id field_need field_default field_ending field fields constant_rest typedef_rest enum_number enum_value closing enum_rest struct_word struct_rest fields_in_parentheses oneway result_type throws function parent service_rest bare_definition definition namespace_rest header document
 clear_cpp_type =
     ((tt, tt, refl, refl), refl)
 
 clear_type : (levels : ℕ) → IsClear (type_of levels)
-unfolding separator annotation_value annotation_entry annotation base cpp_type types.map_rest set_rest types.list_rest container no_container inner_type bare_type type_of list_item values.list_rest map_entry values.map_rest collection no_collection inner_value value_of field_id field_need field_default ending field fields constant_rest typedef_rest enum_number enum_value closing enum_rest struct_word struct_rest fields_in_parentheses oneway result_type throws function parent service_rest bare_definition definition namespace_rest header document
+unfolding separator annotation_value annotation_entry annotation base cpp_type map_type_rest set_type_rest list_type_rest container no_container inner_type bare_type type_of list_item list_value_rest map_entry map_value_rest collection no_collection inner_value value_of field_id field_need field_default field_ending field fields constant_rest typedef_rest enum_number enum_value closing enum_rest struct_word struct_rest fields_in_parentheses oneway result_type throws function parent service_rest bare_definition definition namespace_rest header document
 clear_type zero =
     ((clear_base, (tt, (tt, (tt, tt, refl, refl, refl), refl, refl, refl), refl, refl, refl), refl, refl, refl), clear_annotation, refl, refl)
 clear_type (suc zero) = (
@@ -148,7 +146,7 @@ clear_type (suc (suc n)) = (
 )
 
 clear_value : (levels : ℕ) → IsClear (value_of levels)
-unfolding separator annotation_value annotation_entry annotation base cpp_type types.map_rest set_rest types.list_rest container no_container inner_type bare_type type_of list_item values.list_rest map_entry values.map_rest collection no_collection inner_value value_of field_id field_need field_default ending field fields constant_rest typedef_rest enum_number enum_value closing enum_rest struct_word struct_rest fields_in_parentheses oneway result_type throws function parent service_rest bare_definition definition namespace_rest header document
+unfolding separator annotation_value annotation_entry annotation base cpp_type map_type_rest set_type_rest list_type_rest container no_container inner_type bare_type type_of list_item list_value_rest map_entry map_value_rest collection no_collection inner_value value_of field_id field_need field_default field_ending field fields constant_rest typedef_rest enum_number enum_value closing enum_rest struct_word struct_rest fields_in_parentheses oneway result_type throws function parent service_rest bare_definition definition namespace_rest header document
 clear_value zero =
     (tt, (tt, (tt, (tt, (tt, tt, refl, refl, refl), refl, refl, refl), refl, refl, refl), refl, refl, refl), refl, refl, refl)
 clear_value (suc zero) = (
@@ -253,13 +251,13 @@ clear_value (suc (suc n)) = (
   refl,
 )
 
-clear_ending : IsClear ending
-unfolding separator annotation_value annotation_entry annotation base cpp_type types.map_rest set_rest types.list_rest container no_container inner_type bare_type type_of list_item values.list_rest map_entry values.map_rest collection no_collection inner_value value_of field_id field_need field_default ending field fields constant_rest typedef_rest enum_number enum_value closing enum_rest struct_word struct_rest fields_in_parentheses oneway result_type throws function parent service_rest bare_definition definition namespace_rest header document
+clear_ending : IsClear field_ending
+unfolding separator annotation_value annotation_entry annotation base cpp_type map_type_rest set_type_rest list_type_rest container no_container inner_type bare_type type_of list_item list_value_rest map_entry map_value_rest collection no_collection inner_value value_of field_id field_need field_default field_ending field fields constant_rest typedef_rest enum_number enum_value closing enum_rest struct_word struct_rest fields_in_parentheses oneway result_type throws function parent service_rest bare_definition definition namespace_rest header document
 clear_ending =
     (clear_annotation, clear_separator, refl, refl)
 
 clear_enumeration : IsClear enumeration
-unfolding separator annotation_value annotation_entry annotation base cpp_type types.map_rest set_rest types.list_rest container no_container inner_type bare_type type_of list_item values.list_rest map_entry values.map_rest collection no_collection inner_value value_of field_id field_need field_default ending field fields constant_rest typedef_rest enum_number enum_value closing enum_rest struct_word struct_rest fields_in_parentheses oneway result_type throws function parent service_rest bare_definition definition namespace_rest header document
+unfolding separator annotation_value annotation_entry annotation base cpp_type map_type_rest set_type_rest list_type_rest container no_container inner_type bare_type type_of list_item list_value_rest map_entry map_value_rest collection no_collection inner_value value_of field_id field_need field_default field_ending field fields constant_rest typedef_rest enum_number enum_value closing enum_rest struct_word struct_rest fields_in_parentheses oneway result_type throws function parent service_rest bare_definition definition namespace_rest header document
 clear_enumeration = (
   tt,
   (
@@ -283,7 +281,7 @@ clear_enumeration = (
 )
 
 clear_header : IsClear header
-unfolding separator annotation_value annotation_entry annotation base cpp_type types.map_rest set_rest types.list_rest container no_container inner_type bare_type type_of list_item values.list_rest map_entry values.map_rest collection no_collection inner_value value_of field_id field_need field_default ending field fields constant_rest typedef_rest enum_number enum_value closing enum_rest struct_word struct_rest fields_in_parentheses oneway result_type throws function parent service_rest bare_definition definition namespace_rest header document
+unfolding separator annotation_value annotation_entry annotation base cpp_type map_type_rest set_type_rest list_type_rest container no_container inner_type bare_type type_of list_item list_value_rest map_entry map_value_rest collection no_collection inner_value value_of field_id field_need field_default field_ending field fields constant_rest typedef_rest enum_number enum_value closing enum_rest struct_word struct_rest fields_in_parentheses oneway result_type throws function parent service_rest bare_definition definition namespace_rest header document
 clear_header = (
   (tt, tt, refl, refl),
   (
@@ -299,7 +297,7 @@ clear_header = (
 )
 
 clear_field : (levels : ℕ) → IsClear (field levels)
-unfolding separator annotation_value annotation_entry annotation base cpp_type types.map_rest set_rest types.list_rest container no_container inner_type bare_type type_of list_item values.list_rest map_entry values.map_rest collection no_collection inner_value value_of field_id field_need field_default ending field fields constant_rest typedef_rest enum_number enum_value closing enum_rest struct_word struct_rest fields_in_parentheses oneway result_type throws function parent service_rest bare_definition definition namespace_rest header document
+unfolding separator annotation_value annotation_entry annotation base cpp_type map_type_rest set_type_rest list_type_rest container no_container inner_type bare_type type_of list_item list_value_rest map_entry map_value_rest collection no_collection inner_value value_of field_id field_need field_default field_ending field fields constant_rest typedef_rest enum_number enum_value closing enum_rest struct_word struct_rest fields_in_parentheses oneway result_type throws function parent service_rest bare_definition definition namespace_rest header document
 clear_field zero = (
   (
     ((tt, tt, refl, refl), refl),
@@ -360,28 +358,28 @@ clear_field (suc n) = (
 )
 
 clear_fields : (levels : ℕ) → IsClear (fields levels)
-unfolding separator annotation_value annotation_entry annotation base cpp_type types.map_rest set_rest types.list_rest container no_container inner_type bare_type type_of list_item values.list_rest map_entry values.map_rest collection no_collection inner_value value_of field_id field_need field_default ending field fields constant_rest typedef_rest enum_number enum_value closing enum_rest struct_word struct_rest fields_in_parentheses oneway result_type throws function parent service_rest bare_definition definition namespace_rest header document
+unfolding separator annotation_value annotation_entry annotation base cpp_type map_type_rest set_type_rest list_type_rest container no_container inner_type bare_type type_of list_item list_value_rest map_entry map_value_rest collection no_collection inner_value value_of field_id field_need field_default field_ending field fields constant_rest typedef_rest enum_number enum_value closing enum_rest struct_word struct_rest fields_in_parentheses oneway result_type throws function parent service_rest bare_definition definition namespace_rest header document
 clear_fields zero =
     (clear_field zero, refl, refl)
 clear_fields (suc n) =
     (clear_field (suc n), refl, refl)
 
 clear_constant : (levels : ℕ) → IsClear (constant levels)
-unfolding separator annotation_value annotation_entry annotation base cpp_type types.map_rest set_rest types.list_rest container no_container inner_type bare_type type_of list_item values.list_rest map_entry values.map_rest collection no_collection inner_value value_of field_id field_need field_default ending field fields constant_rest typedef_rest enum_number enum_value closing enum_rest struct_word struct_rest fields_in_parentheses oneway result_type throws function parent service_rest bare_definition definition namespace_rest header document
+unfolding separator annotation_value annotation_entry annotation base cpp_type map_type_rest set_type_rest list_type_rest container no_container inner_type bare_type type_of list_item list_value_rest map_entry map_value_rest collection no_collection inner_value value_of field_id field_need field_default field_ending field fields constant_rest typedef_rest enum_number enum_value closing enum_rest struct_word struct_rest fields_in_parentheses oneway result_type throws function parent service_rest bare_definition definition namespace_rest header document
 clear_constant zero =
     (tt, (clear_type zero, (tt, (tt, clear_value zero, refl, refl), refl, refl), refl, refl), refl, refl)
 clear_constant (suc n) =
     (tt, (clear_type (suc n), (tt, (tt, clear_value (suc n), refl, refl), refl, refl), refl, refl), refl, refl)
 
 clear_typedef : (levels : ℕ) → IsClear (typedef levels)
-unfolding separator annotation_value annotation_entry annotation base cpp_type types.map_rest set_rest types.list_rest container no_container inner_type bare_type type_of list_item values.list_rest map_entry values.map_rest collection no_collection inner_value value_of field_id field_need field_default ending field fields constant_rest typedef_rest enum_number enum_value closing enum_rest struct_word struct_rest fields_in_parentheses oneway result_type throws function parent service_rest bare_definition definition namespace_rest header document
+unfolding separator annotation_value annotation_entry annotation base cpp_type map_type_rest set_type_rest list_type_rest container no_container inner_type bare_type type_of list_item list_value_rest map_entry map_value_rest collection no_collection inner_value value_of field_id field_need field_default field_ending field fields constant_rest typedef_rest enum_number enum_value closing enum_rest struct_word struct_rest fields_in_parentheses oneway result_type throws function parent service_rest bare_definition definition namespace_rest header document
 clear_typedef zero =
     (tt, (clear_type zero, (tt, clear_annotation, refl, refl), refl, refl), refl, refl)
 clear_typedef (suc n) =
     (tt, (clear_type (suc n), (tt, clear_annotation, refl, refl), refl, refl), refl, refl)
 
 clear_structure : (levels : ℕ) → IsClear (structure levels)
-unfolding separator annotation_value annotation_entry annotation base cpp_type types.map_rest set_rest types.list_rest container no_container inner_type bare_type type_of list_item values.list_rest map_entry values.map_rest collection no_collection inner_value value_of field_id field_need field_default ending field fields constant_rest typedef_rest enum_number enum_value closing enum_rest struct_word struct_rest fields_in_parentheses oneway result_type throws function parent service_rest bare_definition definition namespace_rest header document
+unfolding separator annotation_value annotation_entry annotation base cpp_type map_type_rest set_type_rest list_type_rest container no_container inner_type bare_type type_of list_item list_value_rest map_entry map_value_rest collection no_collection inner_value value_of field_id field_need field_default field_ending field fields constant_rest typedef_rest enum_number enum_value closing enum_rest struct_word struct_rest fields_in_parentheses oneway result_type throws function parent service_rest bare_definition definition namespace_rest header document
 clear_structure zero = (
   (tt, (tt, tt, refl, refl, refl), refl, refl, refl),
   (
@@ -411,14 +409,14 @@ clear_structure (suc n) = (
 )
 
 clear_throws : (levels : ℕ) → IsClear (throws levels)
-unfolding separator annotation_value annotation_entry annotation base cpp_type types.map_rest set_rest types.list_rest container no_container inner_type bare_type type_of list_item values.list_rest map_entry values.map_rest collection no_collection inner_value value_of field_id field_need field_default ending field fields constant_rest typedef_rest enum_number enum_value closing enum_rest struct_word struct_rest fields_in_parentheses oneway result_type throws function parent service_rest bare_definition definition namespace_rest header document
+unfolding separator annotation_value annotation_entry annotation base cpp_type map_type_rest set_type_rest list_type_rest container no_container inner_type bare_type type_of list_item list_value_rest map_entry map_value_rest collection no_collection inner_value value_of field_id field_need field_default field_ending field fields constant_rest typedef_rest enum_number enum_value closing enum_rest struct_word struct_rest fields_in_parentheses oneway result_type throws function parent service_rest bare_definition definition namespace_rest header document
 clear_throws zero =
     ((tt, (tt, (clear_fields zero, tt, refl, refl), refl, refl), refl, refl), refl)
 clear_throws (suc n) =
     ((tt, (tt, (clear_fields (suc n), tt, refl, refl), refl, refl), refl, refl), refl)
 
 clear_function : (levels : ℕ) → IsClear (function levels)
-unfolding separator annotation_value annotation_entry annotation base cpp_type types.map_rest set_rest types.list_rest container no_container inner_type bare_type type_of list_item values.list_rest map_entry values.map_rest collection no_collection inner_value value_of field_id field_need field_default ending field fields constant_rest typedef_rest enum_number enum_value closing enum_rest struct_word struct_rest fields_in_parentheses oneway result_type throws function parent service_rest bare_definition definition namespace_rest header document
+unfolding separator annotation_value annotation_entry annotation base cpp_type map_type_rest set_type_rest list_type_rest container no_container inner_type bare_type type_of list_item list_value_rest map_entry map_value_rest collection no_collection inner_value value_of field_id field_need field_default field_ending field fields constant_rest typedef_rest enum_number enum_value closing enum_rest struct_word struct_rest fields_in_parentheses oneway result_type throws function parent service_rest bare_definition definition namespace_rest header document
 clear_function zero = (
   (
     (tt, refl),
@@ -479,7 +477,7 @@ clear_function (suc n) = (
 )
 
 clear_service : (levels : ℕ) → IsClear (service levels)
-unfolding separator annotation_value annotation_entry annotation base cpp_type types.map_rest set_rest types.list_rest container no_container inner_type bare_type type_of list_item values.list_rest map_entry values.map_rest collection no_collection inner_value value_of field_id field_need field_default ending field fields constant_rest typedef_rest enum_number enum_value closing enum_rest struct_word struct_rest fields_in_parentheses oneway result_type throws function parent service_rest bare_definition definition namespace_rest header document
+unfolding separator annotation_value annotation_entry annotation base cpp_type map_type_rest set_type_rest list_type_rest container no_container inner_type bare_type type_of list_item list_value_rest map_entry map_value_rest collection no_collection inner_value value_of field_id field_need field_default field_ending field fields constant_rest typedef_rest enum_number enum_value closing enum_rest struct_word struct_rest fields_in_parentheses oneway result_type throws function parent service_rest bare_definition definition namespace_rest header document
 clear_service zero = (
   tt,
   (
@@ -519,7 +517,7 @@ clear_service (suc n) = (
 )
 
 clear_definition : (levels : ℕ) → IsClear (definition levels)
-unfolding separator annotation_value annotation_entry annotation base cpp_type types.map_rest set_rest types.list_rest container no_container inner_type bare_type type_of list_item values.list_rest map_entry values.map_rest collection no_collection inner_value value_of field_id field_need field_default ending field fields constant_rest typedef_rest enum_number enum_value closing enum_rest struct_word struct_rest fields_in_parentheses oneway result_type throws function parent service_rest bare_definition definition namespace_rest header document
+unfolding separator annotation_value annotation_entry annotation base cpp_type map_type_rest set_type_rest list_type_rest container no_container inner_type bare_type type_of list_item list_value_rest map_entry map_value_rest collection no_collection inner_value value_of field_id field_need field_default field_ending field fields constant_rest typedef_rest enum_number enum_value closing enum_rest struct_word struct_rest fields_in_parentheses oneway result_type throws function parent service_rest bare_definition definition namespace_rest header document
 clear_definition zero = (
   (
     clear_constant zero,
@@ -564,14 +562,14 @@ clear_definition (suc n) = (
 )
 
 pub clear_document : (levels : ℕ) → IsClear (document levels)
-unfolding separator annotation_value annotation_entry annotation base cpp_type types.map_rest set_rest types.list_rest container no_container inner_type bare_type type_of list_item values.list_rest map_entry values.map_rest collection no_collection inner_value value_of field_id field_need field_default ending field fields constant_rest typedef_rest enum_number enum_value closing enum_rest struct_word struct_rest fields_in_parentheses oneway result_type throws function parent service_rest bare_definition definition namespace_rest header document
+unfolding separator annotation_value annotation_entry annotation base cpp_type map_type_rest set_type_rest list_type_rest container no_container inner_type bare_type type_of list_item list_value_rest map_entry map_value_rest collection no_collection inner_value value_of field_id field_need field_default field_ending field fields constant_rest typedef_rest enum_number enum_value closing enum_rest struct_word struct_rest fields_in_parentheses oneway result_type throws function parent service_rest bare_definition definition namespace_rest header document
 clear_document zero =
     ((clear_header, refl, refl), (clear_definition zero, refl, refl), refl, refl)
 clear_document (suc n) =
     ((clear_header, refl, refl), (clear_definition (suc n), refl, refl), refl, refl)
 
 pub can_be_document : (levels : ℕ) → can_be (document levels) ≡ true
-unfolding separator annotation_value annotation_entry annotation base cpp_type types.map_rest set_rest types.list_rest container no_container inner_type bare_type type_of list_item values.list_rest map_entry values.map_rest collection no_collection inner_value value_of field_id field_need field_default ending field fields constant_rest typedef_rest enum_number enum_value closing enum_rest struct_word struct_rest fields_in_parentheses oneway result_type throws function parent service_rest bare_definition definition namespace_rest header document
+unfolding separator annotation_value annotation_entry annotation base cpp_type map_type_rest set_type_rest list_type_rest container no_container inner_type bare_type type_of list_item list_value_rest map_entry map_value_rest collection no_collection inner_value value_of field_id field_need field_default field_ending field fields constant_rest typedef_rest enum_number enum_value closing enum_rest struct_word struct_rest fields_in_parentheses oneway result_type throws function parent service_rest bare_definition definition namespace_rest header document
 can_be_document levels = refl
 
 pub nothing_behind : (levels : ℕ) → starts_in (more (document levels)) [] ≡ false

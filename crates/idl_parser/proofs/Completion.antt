@@ -2,11 +2,11 @@
 use Rattle.std.proofs.Common.{◌≡◌, Bool, true, false, ◌&&◌, ℕ, zero, suc, List, [], ◌∷◌, ◌++◌, ◌⊎◌, refl, sym, ap, ◌∙◌, subst, inl, inr}
 use Rattle.std.proofs.lemmas.Bool.{eq-eqb}
 use Rattle.std.proofs.lemmas.List.{append_assoc}
-use Rattle.idl_parser.specs.declared.terminal.Terminal.{Terminal}
-use Rattle.idl_parser.specs.Terminals.{code, same}
-use Rattle.idl_parser.specs.Phrases.{Lexeme, Node, none, placed, place_at, Phrase, one, deep, chain, either, maybe, many, marked, In}
+use Rattle.idl_token.specs.declared.terminal.Terminal.{Terminal}
+use Rattle.idl_token.specs.Terminals.{code, same}
+use Rattle.idl_parser.specs.Phrases.{Lexeme, Node, none, placed, place_at, Phrase, one, deep, chain, either, maybe, many, marked, Derives}
 use Rattle.idl_parser.specs.Shapes.{starts_in, first, can_be, IsClear}
-use Rattle.idl_parser.specs.Reading.{done, failed, made, and_then, read_one, repeat, read}
+use Rattle.idl_parser.specs.Reading.{done, failed, map_tree, parse_then, read_one, repeat, read}
 use Rattle.idl_parser.proofs.Outcomes.{which, one_failed, made_failed}
 use Rattle.idl_parser.proofs.Sound.{Cut, cut, sound}
 
@@ -15,12 +15,12 @@ pub record Completable (p : Phrase) (ts rest : List Lexeme) : Type 0 where
   pub front : List Lexeme
   pub more : List Lexeme
   pub is : ts ≡ front ++ rest
-  pub goes : (tail : List Lexeme) → (x : Node) × In p (front ++ (more ++ tail)) x tail
+  pub goes : (tail : List Lexeme) → (x : Node) × Derives p (front ++ (more ++ tail)) x tail
 
 -- some such phrase
 record Sample (p : Phrase) : Type 0 where
   symbols : List Lexeme
-  goes : (tail : List Lexeme) → (x : Node) × In p (symbols ++ tail) x tail
+  goes : (tail : List Lexeme) → (x : Node) × Derives p (symbols ++ tail) x tail
 
 and_left : (a b : Bool) → (a && b) ≡ true → a ≡ true
 and_left true b e = refl
@@ -51,7 +51,7 @@ sample (chain join p q) is =
               r.symbols ++ tail,
               a.0,
               b.0,
-              subst (λ m. In p m a.0 (r.symbols ++ tail)) (sym (append_assoc l.symbols r.symbols tail)) a.1,
+              subst (λ m. Derives p m a.0 (r.symbols ++ tail)) (sym (append_assoc l.symbols r.symbols tail)) a.1,
               b.1,
               refl,
             ),
@@ -81,7 +81,7 @@ chain_left join p q ts rest s l = record {
           s.symbols ++ tail,
           a.0,
           b.0,
-          subst (λ m. In p (l.front ++ m) a.0 (s.symbols ++ tail)) (sym (append_assoc l.more s.symbols tail)) a.1,
+          subst (λ m. Derives p (l.front ++ m) a.0 (s.symbols ++ tail)) (sym (append_assoc l.more s.symbols tail)) a.1,
           b.1,
           refl,
         ),
@@ -102,7 +102,7 @@ chain_right join p q ts mid rest c r = record {
           r.front ++ (r.more ++ tail),
           a.0,
           b.0,
-          subst (λ m. In p m a.0 (r.front ++ (r.more ++ tail))) (sym (append_assoc c.front r.front (r.more ++ tail))) a.1,
+          subst (λ m. Derives p m a.0 (r.front ++ (r.more ++ tail))) (sym (append_assoc c.front r.front (r.more ++ tail))) a.1,
           b.1,
           refl,
         ),
@@ -133,7 +133,7 @@ row_right join p ts mid rest c r = record {
             r.front ++ (r.more ++ tail),
             a.0,
             b.0,
-            subst (λ m. In p m a.0 (r.front ++ (r.more ++ tail))) (sym (append_assoc c.front r.front (r.more ++ tail))) a.1,
+            subst (λ m. Derives p m a.0 (r.front ++ (r.more ++ tail))) (sym (append_assoc c.front r.front (r.more ++ tail))) a.1,
             b.1.1,
             refl,
           ),
@@ -149,7 +149,7 @@ row_fails : (n m : ℕ) (join : Node → Node → Node) (p : Phrase)
     → (ts rest : List Lexeme) (d : Bool) → repeat m join (starts_in (first p)) (read n p) ts ≡ failed d rest → Completable (many join p) ts rest
 row_fails n zero join p each ts rest d e = cc
 row_fails n (suc m) join p each ts rest d e =
-    elim (which (starts_in (first p) ts) (and_then join (read n p ts) (repeat m join (starts_in (first p)) (read n p))) (done none ts) (failed d rest) e) [
+    elim (which (starts_in (first p) ts) (parse_then join (read n p ts) (repeat m join (starts_in (first p)) (read n p))) (done none ts) (failed d rest) e) [
       | inr h ↦ let e : done none ts ≡ failed d rest = h.1 in cc
       | inl h ↦ elim (one_failed join (read n p ts) (repeat m join (starts_in (first p)) (read n p)) d rest h.1) [
         | inl l ↦ elim (each ts rest d l) [ inl is ↦ row_empty join p ts rest is | inr c ↦ row_left join p ts rest c ]
@@ -194,7 +194,7 @@ fails n (either p q) ts rest d clear e =
       ]
     ]
 fails n (maybe f p) ts rest d clear e =
-    elim (which (starts_in (first p) ts) (made f (read n p ts)) (done none ts) (failed d rest) e) [
+    elim (which (starts_in (first p) ts) (map_tree f (read n p ts)) (done none ts) (failed d rest) e) [
       | inr h ↦ let e : done none ts ≡ failed d rest = h.1 in cc
       | inl h ↦ elim (fails n p ts rest d clear.0 (made_failed f (read n p ts) d rest h.1)) [
         | inl is ↦ inl is

@@ -1,10 +1,10 @@
 -- With one more level what was read is read, and where a level was missing the reading goes on.
 use Rattle.std.proofs.Common.{◌≡◌, Bool, true, false, ◌||◌, ◌&&◌, ℕ, zero, suc, ◌<◌, List, [], ◌∷◌, ◌++◌, length, refl, sym, ap, subst, arith}
-use Rattle.idl_parser.specs.declared.terminal.Terminal.{Terminal}
-use Rattle.idl_parser.specs.Terminals.{same}
+use Rattle.idl_token.specs.declared.terminal.Terminal.{Terminal}
+use Rattle.idl_token.specs.Terminals.{same}
 use Rattle.idl_parser.specs.Phrases.{Lexeme, Node, none, placed, place_at, Phrase, one, deep, chain, either, maybe, many, marked}
 use Rattle.idl_parser.specs.Shapes.{starts_in, first, may_be_empty}
-use Rattle.idl_parser.specs.Reading.{Outcome, done, failed, rest_of, made, and_then, choose, read_one, repeat, read}
+use Rattle.idl_parser.specs.Reading.{ParseResult, done, failed, rest_of, map_tree, parse_then, choose, read_one, repeat, read}
 use Rattle.idl_parser.proofs.Outcomes.{made_rest}
 use Rattle.idl_parser.proofs.Local.{Behind, all_left, behind_less, then_behind, repeat_behind, remains}
 
@@ -43,33 +43,33 @@ deeper_first p p' (at_many join a a' l) = deeper_first a a' l
 deeper_first p p' (at_marked a a' l) = deeper_first a a' l
 
 -- the same outcome, but one that failed at a level too many goes on
-abbrev pub GoesOn : Outcome → Outcome → Type 0
+abbrev pub GoesOn : ParseResult → ParseResult → Type 0
 GoesOn (done x rest) o = o ≡ done x rest
 GoesOn (failed true rest) o = length (rest_of o) < length rest
 GoesOn (failed false rest) o = o ≡ failed false rest
 
-made_on : (f : Node → Node) (o o' : Outcome) → GoesOn o o' → GoesOn (made f o) (made f o')
-made_on f (done x rest) o' h = ap (made f) h
+made_on : (f : Node → Node) (o o' : ParseResult) → GoesOn o o' → GoesOn (map_tree f o) (map_tree f o')
+made_on f (done x rest) o' h = ap (map_tree f) h
 made_on f (failed true rest) o' h = subst (λ r. length r < length rest) (sym (made_rest f o')) h
-made_on f (failed false rest) o' h = ap (made f) h
+made_on f (failed false rest) o' h = ap (map_tree f) h
 
-then_on : (join : Node → Node → Node) (o o' : Outcome) (go go' : List Lexeme → Outcome) → GoesOn o o'
+then_on : (join : Node → Node → Node) (o o' : ParseResult) (go go' : List Lexeme → ParseResult) → GoesOn o o'
     → ((mid : List Lexeme) → GoesOn (go mid) (go' mid)) → ((mid : List Lexeme) → Behind mid (rest_of (go' mid)))
-    → GoesOn (and_then join o go) (and_then join o' go')
+    → GoesOn (parse_then join o go) (parse_then join o' go')
 then_on join (done a mid) o' go go' h next rests =
-    subst (λ o. GoesOn (made (join a) (go mid)) (and_then join o go')) (sym h) (made_on (join a) (go mid) (go' mid) (next mid))
+    subst (λ o. GoesOn (map_tree (join a) (go mid)) (parse_then join o go')) (sym h) (made_on (join a) (go mid) (go' mid) (next mid))
 then_on join (failed true rest) o' go go' h next rests =
-    let less = behind_less (rest_of o') (rest_of (and_then join o' go')) (then_behind (rest_of o') join o' go' (all_left (rest_of o')) rests) in
+    let less = behind_less (rest_of o') (rest_of (parse_then join o' go')) (then_behind (rest_of o') join o' go' (all_left (rest_of o')) rests) in
     omega arith
-then_on join (failed false rest) o' go go' h next rests = ap (λ o. and_then join o go') h
+then_on join (failed false rest) o' go go' h next rests = ap (λ o. parse_then join o go') h
 
-choose_on : (b c : Bool) (x x' y y' : Outcome) → b ≡ c → GoesOn x x' → GoesOn y y' → GoesOn (choose b x y) (choose c x' y')
+choose_on : (b c : Bool) (x x' y y' : ParseResult) → b ≡ c → GoesOn x x' → GoesOn y y' → GoesOn (choose b x y) (choose c x' y')
 choose_on true true x x' y y' e l r = l
 choose_on true false x x' y y' e l r = cc
 choose_on false true x x' y y' e l r = cc
 choose_on false false x x' y y' e l r = r
 
-repeat_on : (n : ℕ) (join : Node → Node → Node) (s s' : List Lexeme → Bool) (go go' : List Lexeme → Outcome)
+repeat_on : (n : ℕ) (join : Node → Node → Node) (s s' : List Lexeme → Bool) (go go' : List Lexeme → ParseResult)
     → ((ts : List Lexeme) → s ts ≡ s' ts)
     → ((ts : List Lexeme) → GoesOn (go ts) (go' ts)) → ((mid : List Lexeme) → Behind mid (rest_of (go' mid)))
     → (ts : List Lexeme) → GoesOn (repeat n join s go ts) (repeat n join s' go' ts)
@@ -85,11 +85,11 @@ one_on k f [] = refl
 one_on k f (t ∷ ts) = choose_on (same t.what k) (same t.what k) (done (f t) ts) (done (f t) ts) (failed false (t ∷ ts)) (failed false (t ∷ ts)) refl refl refl
 
 opened_on : (k : Terminal) (join : Node → Node → Node) (f : Lexeme → Node) (n : ℕ) (q : Phrase) (ts : List Lexeme)
-    → GoesOn (failed (starts_in (k ∷ []) ts) ts) (and_then join (read_one k f ts) (read n q))
+    → GoesOn (failed (starts_in (k ∷ []) ts) ts) (parse_then join (read_one k f ts) (read n q))
 opened_on k join f n q [] = refl
 opened_on k join f n q (t ∷ ts) = go (same t.what k)
   where
-    go : (b : Bool) → GoesOn (failed (b || false) (t ∷ ts)) (and_then join (choose b (done (f t) ts) (failed false (t ∷ ts))) (read n q))
+    go : (b : Bool) → GoesOn (failed (b || false) (t ∷ ts)) (parse_then join (choose b (done (f t) ts) (failed false (t ∷ ts))) (read n q))
     go true =
         let less = behind_less ts (rest_of (read n q ts)) (remains n q ts) in
         subst (λ r. length r < length (t ∷ ts)) (sym (made_rest (join (f t)) (read n q ts))) (omega arith)

@@ -4,8 +4,8 @@ use mathlib.Core.List.{append-nil}
 use Rattle.std.proofs.lemmas.List.{append_assoc, length-append}
 use Rattle.idl_parser.specs.Phrases.{Lexeme, Node}
 use Rattle.idl_parser.specs.Documents.{document, DocumentIn}
-use Rattle.idl_parser.specs.FirstFault.{CanGoOn, IsFirstFault}
-use Rattle.idl_parser.specs.Reading.{Outcome, done, failed, rest_of, whole, read}
+use Rattle.idl_parser.specs.FirstFault.{CanGoOn, IsFirstSyntaxFault}
+use Rattle.idl_parser.specs.Reading.{ParseResult, done, failed, rest_of, whole, read}
 use Rattle.idl_parser.proofs.Sound.{cut, sound}
 use Rattle.idl_parser.proofs.Complete.{complete}
 use Rattle.idl_parser.proofs.Local.{moved, local}
@@ -19,7 +19,7 @@ use Rattle.idl_parser.proofs.OneMoreLevel.{deeper_document}
 pub read_whole : (n levels : ℕ) (ts : List Lexeme) (d : Node) → DocumentIn levels ts d → length ts ≤ n → read n (document levels) ts ≡ done d []
 read_whole n levels ts d h most = complete n (document levels) ts d [] (clear_document levels) h (nothing_behind levels) most
 
-moved_rest : (o : Outcome) (rest : List Lexeme) → rest_of (moved o rest) ≡ rest
+moved_rest : (o : ParseResult) (rest : List Lexeme) → rest_of (moved o rest) ≡ rest
 moved_rest (done x r) rest = refl
 moved_rest (failed d r) rest = refl
 
@@ -71,7 +71,7 @@ record Begun (levels : ℕ) (ts : List Lexeme) (rest : List Lexeme) : Type 0 whe
   tree : Node
   goes : DocumentIn levels (front ++ more) tree
 
-begun_by : (n levels : ℕ) (ts : List Lexeme) (o : Outcome) → read n (document levels) ts ≡ o → Begun levels ts (rest_of o)
+begun_by : (n levels : ℕ) (ts : List Lexeme) (o : ParseResult) → read n (document levels) ts ≡ o → Begun levels ts (rest_of o)
 begun_by n levels ts (done x rest) e =
     let c = cut (document levels) ts x rest (sound n (document levels) ts x rest e) in
     let a = c.again [] in
@@ -95,13 +95,13 @@ deep_at n levels front t r less =
     )
 
 -- at which symbol the reading ended, and whether at a level too many
-record Ended (o : Outcome) (d : Bool) (rest : List Lexeme) : Type 0 where
+record Ended (o : ParseResult) (d : Bool) (rest : List Lexeme) : Type 0 where
   there : rest_of o ≡ rest
   deep : d ≡ true → o ≡ failed true rest
-  plain : (o' : Outcome) → d ≡ false → GoesOn o o' → rest_of o' ≡ rest
+  plain : (o' : ParseResult) → d ≡ false → GoesOn o o' → rest_of o' ≡ rest
   at_end : rest ≡ [] → o ≡ failed d []
 
-ended : (o : Outcome) (d : Bool) (rest : List Lexeme) → whole o ≡ failed d rest → Ended o d rest
+ended : (o : ParseResult) (d : Bool) (rest : List Lexeme) → whole o ≡ failed d rest → Ended o d rest
 ended (done x []) d rest e = cc
 ended (done x (t ∷ r)) d rest e =
     let s : t ∷ r ≡ rest = cc in
@@ -132,7 +132,7 @@ ended (failed false r) d rest e =
     }
 
 fault_with : (n levels : ℕ) (ts : List Lexeme) (d : Bool) (rest front : List Lexeme) → ts ≡ front ++ rest → CanGoOn levels front → length ts ≤ n
-    → Ended (read n (document levels) ts) d rest → IsFirstFault levels ts rest d
+    → Ended (read n (document levels) ts) d rest → IsFirstSyntaxFault levels ts rest d
 fault_with n levels ts true [] front is before most ended =
     let on = goes_on n (document levels) (document (suc levels)) (deeper_document levels) ts in
     let less : length (rest_of (read n (document (suc levels)) ts)) < 0 =
@@ -176,7 +176,7 @@ fault_with n levels ts false (t ∷ r) front is before most ended =
       );
     }
 
-pub fault_is_first : (n levels : ℕ) (ts rest : List Lexeme) (d : Bool) → length ts ≤ n → whole (read n (document levels) ts) ≡ failed d rest → IsFirstFault levels ts rest d
+pub fault_is_first : (n levels : ℕ) (ts rest : List Lexeme) (d : Bool) → length ts ≤ n → whole (read n (document levels) ts) ≡ failed d rest → IsFirstSyntaxFault levels ts rest d
 fault_is_first n levels ts rest d most e =
     let o = read n (document levels) ts in
     let end = ended o d rest e in
@@ -186,7 +186,7 @@ fault_is_first n levels ts rest d most e =
 pub document_is_read : (n levels : ℕ) (ts : List Lexeme) (x : Node) (rest : List Lexeme) → whole (read n (document levels) ts) ≡ done x rest → DocumentIn levels ts x
 document_is_read n levels ts x rest e = go (read n (document levels) ts) refl e
   where
-    go : (o : Outcome) → read n (document levels) ts ≡ o → whole o ≡ done x rest → DocumentIn levels ts x
+    go : (o : ParseResult) → read n (document levels) ts ≡ o → whole o ≡ done x rest → DocumentIn levels ts x
     go (done y []) was e = let s : y ≡ x = cc in sound n (document levels) ts x [] (was ∙ ap (λ z. done z []) s)
     go (done y (t ∷ r)) was e = cc
     go (failed d r) was e = cc
@@ -206,7 +206,7 @@ more_levels levels ts d h =
     (subst (λ o. GoesOn o (read n (document (suc levels)) ts)) (read_whole n levels ts d h (omega arith)) on)
 
 -- a document has no first fault
-pub no_fault : (levels : ℕ) (ts rest : List Lexeme) (d : Node) (deep : Bool) → DocumentIn levels ts d → IsFirstFault levels ts rest deep → ⊥
+pub no_fault : (levels : ℕ) (ts rest : List Lexeme) (d : Node) (deep : Bool) → DocumentIn levels ts d → IsFirstSyntaxFault levels ts rest deep → ⊥
 no_fault levels ts [] d deep h f = f.here d (subst (λ k. DocumentIn levels k d) (f.is ∙ append-nil f.front) h)
 no_fault levels ts (t ∷ rest) d deep h f =
     f.here (rest, d, subst (λ k. DocumentIn levels k d) (f.is ∙ sym (append_assoc f.front (t ∷ []) rest)) h)

@@ -1,21 +1,22 @@
 -- Which symbol the tokens of a kind become.
-use Rattle.std.proofs.Common.{◌≡◌, ◌↔◌, Bool, true, false, cond, not, ◌==◌, ◌||◌, ◌&&◌, ℕ, List, [], ◌∷◌, length, codes, Option, Some, None, refl, sym, ap, ◌∙◌, inl, inr}
-use Rattle.std.specs.Prelude.{slice_index, nat_eq}
+use Rattle.std.proofs.Common.{◌≡◌, ◌↔◌, Bool, true, false, cond, not, ◌==◌, ◌||◌, ◌&&◌, ℕ, List, [], ◌∷◌, length, Option, Some, None, refl, sym, ap, ◌∙◌, inl, inr}
+use Rattle.std.specs.Prelude.{slice_index, nat_eq, is_some}
+use Rattle.std.specs.Option.{unwrap_or}
 use Rattle.std.specs.List.{list_any, list_all}
 use Rattle.std.specs.Cmp.Lexicographic.{pointwise}
 use Rattle.std.proofs.Math.Dec.{eqb}
 use Rattle.std.proofs.lemmas.Bool.{eq-eqb}
 use Rattle.std.proofs.lemmas.Bool.Decides.{eqb_tells}
-use Rattle.idl_token.specs.Words.{is_word, is_one_of, keywords, truth_words, is_refused, kind_of_word}
+use Rattle.idl_token.specs.Words.{is_word, keywords, terminal_in, keyword_of, is_keyword, is_truth_word, is_refused, kind_of_word}
 use Rattle.idl_token.specs.Numbers.{is_int, is_double, is_big_int, is_big_double}
 use Rattle.idl_token.specs.Literals.{is_literal, bad_escape_in}
-use Rattle.idl_token.specs.Wholes.{other, sound, number, literal, signs, is_sign, whole_of}
+use Rattle.idl_token.specs.Wholes.{other, sound, number_whole, literal_whole, signs, is_sign, whole_of}
 use Rattle.idl_token.specs.declared.TokenKind.{TokenKind}
 use Rattle.idl_token.specs.declared.TokenKind.TheVariants as kind
-use Rattle.idl_parser.specs.declared.terminal.Terminal.{Terminal}
-use Rattle.idl_parser.specs.declared.terminal.Terminal.TheVariants as word
-use Rattle.idl_parser.specs.Terminals.{same}
-use Rattle.idl_parser.specs.Symbols.{first_words, more_words, last_words, sign_of, terminal_of}
+use Rattle.idl_token.specs.declared.terminal.Terminal.{Terminal}
+use Rattle.idl_token.specs.declared.terminal.Terminal.TheVariants as word
+use Rattle.idl_token.specs.Terminals.{same}
+use Rattle.idl_parser.specs.Symbols.{sign_of, terminal_of}
 
 -- the symbol of the first row whose test passes
 abbrev pick : List (Bool × Terminal) → Terminal
@@ -68,52 +69,29 @@ never k (r ∷ rows) lack end =
     never_case r.0 k r.1 rows (both_left (not (same r.1 k)) (lacks k rows) lack) (never k rows (both_right (not (same r.1 k)) (lacks k rows) lack) end)
 
 -- keywords
-abbrev keyword_rows : List ℕ → List (Bool × Terminal)
-keyword_rows w =
-    row (pointwise nat_eq w (codes "namespace")) word.Namespace
-    ∷ row (pointwise nat_eq w (codes "include")) word.Include
-    ∷ row (pointwise nat_eq w (codes "cpp_include")) word.CppInclude
-    ∷ row (pointwise nat_eq w (codes "const")) word.Const
-    ∷ row (pointwise nat_eq w (codes "typedef")) word.Typedef
-    ∷ row (pointwise nat_eq w (codes "enum")) word.Enum
-    ∷ row (pointwise nat_eq w (codes "struct")) word.Struct
-    ∷ row (pointwise nat_eq w (codes "union")) word.Union
-    ∷ row (pointwise nat_eq w (codes "exception")) word.Exception
-    ∷ row (pointwise nat_eq w (codes "service")) word.Service
-    ∷ row (pointwise nat_eq w (codes "extends")) word.Extends
-    ∷ row (pointwise nat_eq w (codes "throws")) word.Throws
-    ∷ row (pointwise nat_eq w (codes "oneway")) word.Oneway
-    ∷ row (pointwise nat_eq w (codes "void")) word.Void
-    ∷ row (pointwise nat_eq w (codes "required")) word.Required
-    ∷ row (pointwise nat_eq w (codes "optional")) word.Optional
-    ∷ row (pointwise nat_eq w (codes "bool")) word.Bool
-    ∷ row (pointwise nat_eq w (codes "byte")) word.Byte
-    ∷ row (pointwise nat_eq w (codes "i8")) word.I8
-    ∷ row (pointwise nat_eq w (codes "i16")) word.I16
-    ∷ row (pointwise nat_eq w (codes "i32")) word.I32
-    ∷ row (pointwise nat_eq w (codes "i64")) word.I64
-    ∷ row (pointwise nat_eq w (codes "double")) word.DoubleWord
-    ∷ row (pointwise nat_eq w (codes "string")) word.StringWord
-    ∷ row (pointwise nat_eq w (codes "binary")) word.Binary
-    ∷ row (pointwise nat_eq w (codes "map")) word.Map
-    ∷ row (pointwise nat_eq w (codes "set")) word.Set
-    ∷ row (pointwise nat_eq w (codes "list")) word.List
-    ∷ row (pointwise nat_eq w (codes "cpp_type")) word.CppType
-    ∷ []
+terminal_case : (b : Bool) (j k : Terminal) (rest : Option Terminal) → not (same j k) ≡ true → (is_some rest ≡ true → same (unwrap_or rest word.Refused) k ≡ false)
+    → is_some (cond b (Some j) rest) ≡ true → same (unwrap_or (cond b (Some j) rest) word.Refused) k ≡ false
+terminal_case true j k rest other_one later some = turned (same j k) other_one
+terminal_case false j k rest other_one later some = later some
 
-keyword_picked : (w : List ℕ) → first_words w ≡ pick (keyword_rows w)
-unfolding first_words more_words last_words
-keyword_picked w = refl
+terminal_differs : (k : Terminal) (rows : List (List ℕ × Terminal)) (w : List ℕ) → list_all (λ r. not (same r.1 k)) rows ≡ true
+    → is_some (terminal_in (λ r. r.0) (λ r. r.1) rows w) ≡ true → same (unwrap_or (terminal_in (λ r. r.0) (λ r. r.1) rows w) word.Refused) k ≡ false
+terminal_differs k [] w lack some = cc
+terminal_differs k (r ∷ rows) w lack some =
+    terminal_case (pointwise nat_eq w r.0) r.1 k (terminal_in (λ r. r.0) (λ r. r.1) rows w) (both_left (not (same r.1 k)) (list_all (λ r. not (same r.1 k)) rows) lack)
+    (terminal_differs k rows w (both_right (not (same r.1 k)) (list_all (λ r. not (same r.1 k)) rows) lack)) some
 
-keyword_found : (w : List ℕ) → is_one_of keywords w ≡ true → passes_or (keyword_rows w) false ≡ true
+pub keyword_is_kept : (w : List ℕ) → is_keyword w ≡ true → same (unwrap_or (keyword_of w) word.Refused) word.Refused ≡ false
 unfolding keywords
-keyword_found w e = e
+keyword_is_kept w e = terminal_differs word.Refused keywords w refl e
 
-pub keyword_is_kept : (w : List ℕ) → is_one_of keywords w ≡ true → same (first_words w) word.Refused ≡ false
-keyword_is_kept w e = ap (λ k. same k word.Refused) (keyword_picked w) ∙ found (keyword_rows w) false refl (keyword_found w e) refl
+none_or_some : (o : Option Terminal) → (is_some o ≡ true → same (unwrap_or o word.Refused) word.Int ≡ false) → same (unwrap_or o word.Refused) word.Int ≡ false
+none_or_some None later = refl
+none_or_some (Some k) later = later refl
 
-keyword_is_no_int : (w : List ℕ) → same (first_words w) word.Int ≡ false
-keyword_is_no_int w = ap (λ k. same k word.Int) (keyword_picked w) ∙ never word.Int (keyword_rows w) refl refl
+keyword_is_no_int : (w : List ℕ) → same (unwrap_or (keyword_of w) word.Refused) word.Int ≡ false
+unfolding keywords
+keyword_is_no_int w = none_or_some (keyword_of w) (terminal_differs word.Int keywords w refl)
 
 -- signs
 abbrev sign_rows : ℕ → List (Bool × Terminal)
@@ -174,7 +152,7 @@ no_sign_word false false true e = cc
 no_sign_word false false false e = cc
 
 whole_keyword : (word int double closed sign big long refused : Bool) (k : TokenKind) (bad : Option ℕ)
-    → cond word (sound k) (cond int (number kind.Int big) (cond double (number kind.Double long) (cond closed (literal bad) (cond sign (sound (cond refused kind.Refused kind.Sign)) other)))) ≡ sound kind.Keyword
+    → cond word (sound k) (cond int (number_whole kind.Int big) (cond double (number_whole kind.Double long) (cond closed (literal_whole bad) (cond sign (sound (cond refused kind.Refused kind.Sign)) other)))) ≡ sound kind.Keyword
     → k ≡ kind.Keyword
 whole_keyword true int double closed sign big long refused k bad e = cc
 whole_keyword false true double closed sign true long refused k bad e = cc
@@ -192,7 +170,7 @@ record WholeSign (sign refused : Bool) : Type 0 where
   kept : refused ≡ false
 
 whole_sign : (word int double closed sign big long refused : Bool) (k : TokenKind) (bad : Option ℕ) → (k ≡ kind.Sign → ⊥)
-    → cond word (sound k) (cond int (number kind.Int big) (cond double (number kind.Double long) (cond closed (literal bad) (cond sign (sound (cond refused kind.Refused kind.Sign)) other)))) ≡ sound kind.Sign
+    → cond word (sound k) (cond int (number_whole kind.Int big) (cond double (number_whole kind.Double long) (cond closed (literal_whole bad) (cond sign (sound (cond refused kind.Refused kind.Sign)) other)))) ≡ sound kind.Sign
     → WholeSign sign refused
 whole_sign true int double closed sign big long refused k bad no_word e = absurd (no_word (let same_kind : k ≡ kind.Sign = cc in same_kind))
 whole_sign false true double closed sign true long refused k bad no_word e = cc
@@ -205,17 +183,17 @@ whole_sign false false false false true big long true k bad no_word e = cc
 whole_sign false false false false true big long false k bad no_word e = record { sign_is = refl; kept = refl }
 whole_sign false false false false false big long refused k bad no_word e = cc
 
-kept_keyword : (w : List ℕ) → whole_of w ≡ sound kind.Keyword → same (first_words w) word.Refused ≡ false
+kept_keyword : (w : List ℕ) → whole_of w ≡ sound kind.Keyword → same (unwrap_or (keyword_of w) word.Refused) word.Refused ≡ false
 unfolding kind_of_word
 kept_keyword w is =
     let k = whole_keyword (is_word w) (is_int w) (is_double w) (is_literal w) (is_sign w) (is_big_int w) (is_big_double w) (slice_index w 0 == 38) (kind_of_word w) (bad_escape_in w) is in
-    keyword_is_kept w (keyword_word (is_one_of keywords w) (is_one_of truth_words w) (is_refused w) k)
+    keyword_is_kept w (keyword_word (is_keyword w) (is_truth_word w) (is_refused w) k)
 
 kept_sign : (w : List ℕ) → whole_of w ≡ sound kind.Sign → same (sign_of (slice_index w 0)) word.Refused ≡ false
 unfolding kind_of_word
 kept_sign w is =
     let s = whole_sign (is_word w) (is_int w) (is_double w) (is_literal w) (is_sign w) (is_big_int w) (is_big_double w) (slice_index w 0 == 38) (kind_of_word w) (bad_escape_in w)
-    (no_sign_word (is_one_of keywords w) (is_one_of truth_words w) (is_refused w)) is in
+    (no_sign_word (is_keyword w) (is_truth_word w) (is_refused w)) is in
     sign_is_kept (slice_index w 0) (both_left (list_any (λ sign. sign == slice_index w 0) signs) (length w == 1) s.sign_is) s.kept
 
 differs : (k : Terminal) → same k word.Refused ≡ false → k ≡ word.Refused → ⊥
@@ -223,7 +201,7 @@ differs k other_one is = let e : true ≡ false = sym (ap (λ k. same k word.Ref
 
 -- a token becomes `Refused` exactly where its kind is
 pub refused_alone : (k : TokenKind) (w : List ℕ) → whole_of w ≡ sound k → (terminal_of k w ≡ word.Refused) ↔ (k ≡ kind.Refused)
-refused_alone kind.Keyword w is = (λ e. absurd (differs (first_words w) (kept_keyword w is) e), λ e. cc)
+refused_alone kind.Keyword w is = (λ e. absurd (differs (unwrap_or (keyword_of w) word.Refused) (kept_keyword w is) e), λ e. cc)
 refused_alone kind.Identifier w is = (λ e. cc, λ e. cc)
 refused_alone kind.Int w is = (λ e. cc, λ e. cc)
 refused_alone kind.Double w is = (λ e. cc, λ e. cc)

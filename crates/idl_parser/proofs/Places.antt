@@ -9,17 +9,17 @@ use Rattle.std.proofs.lemmas.Bool.Decides.{eqb_tells}
 use Rattle.std.proofs.lemmas.List.{append_assoc, map-append, reverse-append, length-reverse}
 use Rattle.std.proofs.lemmas.List.Folds.{prefix_len-append}
 use Rattle.std.proofs.lemmas.List.Sums.{suffix_len-le-length, sum_by-cons}
-use Rattle.idl_token.specs.Places.{place_of}
+use Rattle.idl_token.specs.Places.{line_and_column}
 use Rattle.idl_token.specs.declared.Place.{Place}
 use Rattle.idl_token.specs.declared.Token.{Token}
 use Rattle.idl_token.specs.Tokens.{StandBetween}
 use Rattle.idl_parser.specs.declared.symbol.Symbol.{Symbol}
 use Rattle.idl_parser.specs.Symbols.{lexemes, lexeme_at}
-use Rattle.idl_parser.specs.Spots.{lexeme_of, start, behind, behind_byte}
+use Rattle.idl_parser.specs.ReaderCalls.{lexeme_of, start, place_behind, place_behind_byte}
 
-behind_append : (at : Place) (xs ys : List ℕ) → behind at (xs ++ ys) ≡ behind (behind at xs) ys
+behind_append : (at : Place) (xs ys : List ℕ) → place_behind at (xs ++ ys) ≡ place_behind (place_behind at xs) ys
 behind_append at [] ys = refl
-behind_append at (x ∷ xs) ys = behind_append (behind_byte at x) xs ys
+behind_append at (x ∷ xs) ys = behind_append (place_behind_byte at x) xs ys
 
 take_both : (a k : ℕ) (text : List ℕ) → take a text ++ take k (drop a text) ≡ take (a + k) text
 take_both zero k text = ap (λ n. take n text) (let e : k ≡ 0 + k = omega arith in e)
@@ -27,8 +27,8 @@ take_both (suc a) zero [] = let e : suc (a + 0) ≡ suc a + 0 = omega arith in a
 take_both (suc a) (suc k) [] = let e : suc (a + suc k) ≡ suc a + suc k = omega arith in ap (λ n. take n []) e
 take_both (suc a) k (x ∷ text) = let e : suc (a + k) ≡ suc a + k = omega arith in ap (λ xs. x ∷ xs) (take_both a k text) ∙ ap (λ n. take n (x ∷ text)) e
 
-behind_from : (at : Place) (text : List ℕ) (a k : ℕ) → behind (behind at (take a text)) (take k (drop a text)) ≡ behind at (take (a + k) text)
-behind_from at text a k = sym (behind_append at (take a text) (take k (drop a text))) ∙ ap (behind at) (take_both a k text)
+behind_from : (at : Place) (text : List ℕ) (a k : ℕ) → place_behind (place_behind at (take a text)) (take k (drop a text)) ≡ place_behind at (take (a + k) text)
+behind_from at text a k = sym (behind_append at (take a text) (take k (drop a text))) ∙ ap (place_behind at) (take_both a k text)
 
 -- the last bytes that are no newline, with one byte more in front
 abbrev goes_on : ℕ → Bool
@@ -73,7 +73,7 @@ moved_step false at lines size last most =
     let line : at.line + lines ≡ at.line + (0 + lines) = omega arith in
     λ i. record { line = line i; column = column_step false (eqb last size) at.column size last most refl i }
 
-behind_is : (at : Place) (xs : List ℕ) → behind at xs ≡ moved at (count_by (λ b. b == 10) xs) (length xs) (suffix_len goes_on xs)
+behind_is : (at : Place) (xs : List ℕ) → place_behind at xs ≡ moved at (count_by (λ b. b == 10) xs) (length xs) (suffix_len goes_on xs)
 behind_is at [] =
     let line : at.line ≡ at.line + 0 = omega arith in
     let column : at.column ≡ at.column + 0 = omega arith in
@@ -81,7 +81,7 @@ behind_is at [] =
 behind_is at (b ∷ xs) =
     let lines = sym (sum_by-cons (λ b. cond (b == 10) 1 0) b xs) in
     let last = sym (suffix_cons b xs) in
-    behind_is (behind_byte at b) xs
+    behind_is (place_behind_byte at b) xs
     ∙ moved_step (b == 10) at (count_by (λ b. b == 10) xs) (length xs) (suffix_len goes_on xs) (suffix_len-le-length goes_on xs)
     ∙ (λ i. moved at (lines i) (suc (length xs)) (last i))
 
@@ -90,16 +90,16 @@ first_column true size last is = let e : last ≡ size = eqb-true last size is i
 first_column false size last is = refl
 
 -- walking over a text counts its lines and columns
-pub place_behind : (text : List ℕ) (at : ℕ) → behind start (take at text) ≡ place_of text at
-place_behind text at =
+pub walk_is_place : (text : List ℕ) (at : ℕ) → place_behind start (take at text) ≡ line_and_column text at
+walk_is_place text at =
     behind_is start (take at text)
     ∙ (λ i. record {
       line = 1 + count_by (λ b. b == 10) (take at text);
       column = first_column (eqb (suffix_len goes_on (take at text)) (length (take at text))) (length (take at text)) (suffix_len goes_on (take at text)) refl i;
     })
 
-pub behind_more : (at : Place) (text : List ℕ) (a b : ℕ) → a ≤ b → behind (behind at (take a text)) (take (b - a) (drop a text)) ≡ behind at (take b text)
-behind_more at text a b h = let e : a + (b - a) ≡ b = omega arith in behind_from at text a (b - a) ∙ ap (λ n. behind at (take n text)) e
+pub behind_more : (at : Place) (text : List ℕ) (a b : ℕ) → a ≤ b → place_behind (place_behind at (take a text)) (take (b - a) (drop a text)) ≡ place_behind at (take b text)
+behind_more at text a b h = let e : a + (b - a) ≡ b = omega arith in behind_from at text a (b - a) ∙ ap (λ n. place_behind at (take n text)) e
 
 pub earlier : (a b end : ℕ) (ts : List Token) → a ≤ b → StandBetween b end ts → StandBetween a end ts
 earlier a b end [] h s = omega arith

@@ -3,8 +3,8 @@ use Rattle.std.proofs.Common.{◌≡◌, ℕ, Bool, true, false, List, ◌∷◌
 use Rattle.std.specs.Global.{Vec}
 use Rattle.idl_token.specs.declared.Place.{Place}
 use Rattle.idl_token.specs.Spellings.{parted, any}
-use Rattle.idl_parser.specs.declared.terminal.Terminal.{Terminal}
-use Rattle.idl_parser.specs.declared.terminal.Terminal.TheVariants as word
+use Rattle.idl_token.specs.declared.terminal.Terminal.{Terminal}
+use Rattle.idl_token.specs.declared.terminal.Terminal.TheVariants as word
 use Rattle.idl_parser.specs.declared.tree.Int.{Int}
 use Rattle.idl_parser.specs.declared.tree.Name.{Name}
 use Rattle.idl_parser.specs.declared.tree.Field.{Field}
@@ -30,7 +30,7 @@ use Rattle.idl_parser.specs.Parts.{identifier}
 use Rattle.idl_parser.specs.Types.{type_of, bare_type}
 use Rattle.idl_parser.specs.Definitions.{constant_rest, constant, typedef_rest, typedef, enum_number, enum_value, closing, enum_rest, enumeration, struct_word, struct_rest, structure, oneway, result_type, throws, function, parent, service_rest, service, bare_definition, definition}
 use Rattle.idl_parser.specs.Trees.{maybe_node, int_node, name_node, type_step, type_node, fields_node, oneway_node, result_node, function_node, const_node, typedef_node, enum_value_node, enum_node, struct_word_of, struct_node, service_node, definition_node}
-use Rattle.idl_parser.specs.Printed.{maybe_text, number_text, opening, ending, oneway_text, result_text, throws_text, signature_text, function_text, function_line, const_text, typedef_text, enum_value_text, enum_value_line, enum_text, struct_word_text, struct_text, parent_text, service_text, definition_text}
+use Rattle.idl_parser.specs.Printed.{maybe_text, number_text, opening_line, closing_line, oneway_text, result_text, throws_text, signature_text, function_text, function_line, const_text, typedef_text, enum_value_text, enum_value_line, enum_text, struct_word_text, spaced_word, struct_text, parent_text, service_text, definition_text}
 use Rattle.idl_parser.proofs.PrintedPhrases.{Prints, IsWord, IsWordOf, Glue, prints_pair, prints_after, prints_before, prints_quiet, prints_either, prints_never, prints_given, prints_missing, prints_marked, prints_kept, prints_flagged, prints_front, prints_end, prints_lines, sign_word, word_front, word_end, word_quiet, word_of_front, word_of_end}
 use Rattle.idl_parser.proofs.PrintedWords.{const_word, typedef_word, enum_word, struct_word as struct_keyword, union_word, exception_word, service_word, extends_word, throws_word, oneway_word, void_word, open_brace_sign, close_brace_sign}
 use Rattle.idl_parser.proofs.PrintedLeaves.{prints_identifier, prints_integer}
@@ -61,10 +61,10 @@ prints_typedef levels t =
     (λ more q. refl))
     (λ more q. refl)
 
-opening_word : IsWord any (sign word.OpenBrace) opening
+opening_word : IsWord any (sign word.OpenBrace) opening_line
 opening_word = word_front 32 refl (word_end 10 refl (λ more. refl) (sign_word open_brace_sign))
 
-closing_word : IsWord any closing ending
+closing_word : IsWord any closing closing_line
 unfolding closing
 closing_word = word_end 10 refl (λ more. refl) (word_quiet (sign_word close_brace_sign) no_annotation)
 
@@ -142,7 +142,7 @@ unfolding result_type
 prints_result levels None = prints_either (prints_flagged word.Void word.Void void_word) (flag_no_type levels word.Void)
 prints_result levels (Some t) = prints_either (prints_never (λ ts rest h. type_no_flag word.Void t h.3)) (prints_type levels t)
 
-throws_keyword : IsWord any (sign word.Throws) (codes " throws ")
+throws_keyword : IsWord any (sign word.Throws) (codes " " ++ spaced_word word.Throws)
 throws_keyword = word_front 32 refl (word_end 32 refl (λ more. refl) (sign_word throws_word))
 
 prints_throws : (levels : ℕ) (t : Option (Vec Field)) → Prints any (throws levels) (maybe_node (λ v. fields_node v.items) t) (maybe_text (λ v. throws_text v.items) t)
@@ -168,7 +168,7 @@ prints_parent None = prints_missing
 prints_parent (Some name) =
     prints_given (prints_after (word_front 32 refl (word_end 32 refl (λ more. refl) (sign_word extends_word))) (prints_name name) (λ more q. refl))
 
-glue_parent : (p : Option Name) (t : List ℕ) → Glue parted any (maybe_text parent_text p ++ (opening ++ t))
+glue_parent : (p : Option Name) (t : List ℕ) → Glue parted any (maybe_text parent_text p ++ (opening_line ++ t))
 glue_parent None t more q = refl
 glue_parent (Some name) t more q = refl
 

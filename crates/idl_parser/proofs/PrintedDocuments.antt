@@ -8,17 +8,17 @@ use Rattle.idl_token.specs.Spellings.{any, Spelling}
 use Rattle.idl_token.proofs.Spellings.{joined, nothing as spells_nothing, spelled_tokens}
 use Rattle.idl_token.proofs.OneOutcome.{one_token_list}
 use Rattle.idl_token.proofs.WholeTokens.{kinds_by_recursion}
-use Rattle.idl_parser.specs.declared.terminal.Terminal.TheVariants as word
+use Rattle.idl_token.specs.declared.terminal.Terminal.TheVariants as word
 use Rattle.idl_parser.specs.declared.tree.Include.{Include}
 use Rattle.idl_parser.specs.declared.tree.Document.{Document}
-use Rattle.idl_parser.specs.Phrases.{Lexeme, Node, none, pair, many, Times, In}
+use Rattle.idl_parser.specs.Phrases.{Lexeme, Node, none, pair, many, Times, Derives}
 use Rattle.idl_parser.specs.Definitions.{definition}
 use Rattle.idl_parser.specs.Documents.{deepest, include, header, with_header, document, DocumentIn}
 use Rattle.idl_parser.specs.Symbols.{lexemes}
 use Rattle.idl_parser.specs.Trees.{row, include_node, includes_node, definition_node, document_node}
-use Rattle.idl_parser.specs.Aside.{aside}
-use Rattle.idl_parser.specs.Printed.{include_text, definition_text, printed}
-use Rattle.idl_parser.specs.ReadBack.{IsRead, IsReadAs}
+use Rattle.idl_parser.specs.Unplaced.{without_places}
+use Rattle.idl_parser.specs.Printed.{include_line, definition_text, printed}
+use Rattle.idl_parser.specs.ReadBack.{IsParsed, IsParsedAs}
 use Rattle.idl_parser.proofs.Faults.{one_document}
 use Rattle.idl_parser.proofs.Marks.{Marked, marked_split, lexemes_marked, AreSound, lexemes_sound}
 use Rattle.idl_parser.proofs.PrintedPhrases.{IsText, Prints, sound_behind, prints_pair, prints_kept, prints_end, prints_lines, word_of_end}
@@ -26,8 +26,8 @@ use Rattle.idl_parser.proofs.PrintedWords.{include_word}
 use Rattle.idl_parser.proofs.PrintedLeaves.{prints_literal}
 use Rattle.idl_parser.proofs.PrintedDefinitions.{prints_definition}
 
-prints_include : (i : Include) → Prints any include (include_node i) (include_text i)
-unfolding include_node include_text
+prints_include : (i : Include) → Prints any include (include_node i) (include_line i)
+unfolding include_node include_line
 prints_include i =
     prints_pair (prints_kept word.Include word.Include i.at (word_of_end 32 refl (λ more. refl) include_word))
     (prints_end 10 refl (λ more. refl) (prints_literal word.Literal i.file.bytes i.file.at)) (λ more q. refl)
@@ -55,30 +55,30 @@ no_headers = record {
 }
 
 -- one header in front of a row: an include is printed, another is passed over
-header_step : (ts mid : List Lexeme) (a b : Node) (i : Include) (is : List Include) → AreSound ts → In header ts a mid → row (map include_node (i ∷ is)) ≡ with_header a b
-    → (AreSound mid → row (map include_node (i ∷ is)) ≡ b → IsText any (many with_header header) (row (map include_node (i ∷ is))) (flat_map include_text (i ∷ is)))
-    → (AreSound mid → b ≡ row (map include_node is) → IsText any (many with_header header) (row (map include_node is)) (flat_map include_text is))
-    → IsText any (many with_header header) (row (map include_node (i ∷ is))) (flat_map include_text (i ∷ is))
+header_step : (ts mid : List Lexeme) (a b : Node) (i : Include) (is : List Include) → AreSound ts → Derives header ts a mid → row (map include_node (i ∷ is)) ≡ with_header a b
+    → (AreSound mid → row (map include_node (i ∷ is)) ≡ b → IsText any (many with_header header) (row (map include_node (i ∷ is))) (flat_map include_line (i ∷ is)))
+    → (AreSound mid → b ≡ row (map include_node is) → IsText any (many with_header header) (row (map include_node is)) (flat_map include_line is))
+    → IsText any (many with_header header) (row (map include_node (i ∷ is))) (flat_map include_line (i ∷ is))
 unfolding header
 header_step ts mid a b i is sounds (inl l) is_row pass take =
     let e : pair (include_node i) (row (map include_node is)) ≡ pair a b = is_row ∙ ap (λ n. with_header n b) l.5 ∙ ap (λ n. pair n b) (sym l.5) in
     let first : a ≡ include_node i = cc in
     let more : b ≡ row (map include_node is) = cc in
-    include_cons ((prints_include i).print ts mid sounds (subst (λ x. In include ts x mid) first l)) (take (sound_behind header ts a mid (inl l) sounds) more)
+    include_cons ((prints_include i).print ts mid sounds (subst (λ x. Derives include ts x mid) first l)) (take (sound_behind header ts a mid (inl l) sounds) more)
 header_step ts mid a b i is sounds (inr (inl m)) is_row pass take = pass (sound_behind header ts a mid (inr (inl m)) sounds) (is_row ∙ ap (λ n. with_header n b) m.5)
 header_step ts mid a b i is sounds (inr (inr n)) is_row pass take = pass (sound_behind header ts a mid (inr (inr n)) sounds) (is_row ∙ ap (λ x. with_header x b) n.5)
 
 -- a row of headers, of which the includes are kept
-headers : (count : ℕ) (ts rest : List Lexeme) (is : List Include) → AreSound ts → Times with_header (In header) count ts (row (map include_node is)) rest
-    → IsText any (many with_header header) (row (map include_node is)) (flat_map include_text is)
+headers : (count : ℕ) (ts rest : List Lexeme) (is : List Include) → AreSound ts → Times with_header (Derives header) count ts (row (map include_node is)) rest
+    → IsText any (many with_header header) (row (map include_node is)) (flat_map include_line is)
 headers count ts rest [] sounds h = no_headers
 headers zero ts rest (i ∷ is) sounds h = let e : pair (include_node i) (row (map include_node is)) ≡ none = h.1 in absurd (cc)
 headers (suc count) ts rest (i ∷ is) sounds h =
     header_step ts h.0 h.1 h.2 i is sounds h.3 h.5
-    (λ s e. headers count h.0 rest (i ∷ is) s (subst (λ x. Times with_header (In header) count h.0 x rest) (sym e) h.4))
-    (λ s e. headers count h.0 rest is s (subst (λ x. Times with_header (In header) count h.0 x rest) e h.4))
+    (λ s e. headers count h.0 rest (i ∷ is) s (subst (λ x. Times with_header (Derives header) count h.0 x rest) (sym e) h.4))
+    (λ s e. headers count h.0 rest is s (subst (λ x. Times with_header (Derives header) count h.0 x rest) e h.4))
 
-prints_headers : (is : List Include) → Prints any (many with_header header) (includes_node is) (flat_map include_text is)
+prints_headers : (is : List Include) → Prints any (many with_header header) (includes_node is) (flat_map include_line is)
 prints_headers is = record { print = λ ts rest sounds h. headers h.0 ts rest is sounds h.1 }
 
 -- each document
@@ -88,7 +88,7 @@ prints_document levels d =
     prints_pair (prints_headers d.includes.items) (prints_lines (definition levels) definition_node definition_text (prints_definition levels) d.definitions.items) (λ more q. refl)
 
 -- a document that was read is read from its printed text
-pub read_back : (d : Document) → IsRead d → IsReadAs (document_node d) (printed d)
+pub read_back : (d : Document) → IsParsed d → IsParsedAs (document_node d) (printed d)
 read_back d r =
     let sounds = lexemes_sound r.text r.tokens (kinds_by_recursion r.text r.tokens r.are) in
     let t = (prints_document deepest d).print (lexemes r.text r.tokens) [] sounds r.document in
@@ -99,10 +99,10 @@ read_back d r =
     record { tokens = s.0; are = s.1; again = again.0; document = again.1; same = again.2 }
 
 -- and what is parsed from it is the document
-pub parsed_to_itself : (d parsed : Document) (tokens : List Token) → IsRead d → AreTokensOf tokens (printed d)
-    → DocumentIn deepest (lexemes (printed d) tokens) (document_node parsed) → aside (document_node parsed) ≡ aside (document_node d)
+pub parsed_to_itself : (d parsed : Document) (tokens : List Token) → IsParsed d → AreTokensOf tokens (printed d)
+    → DocumentIn deepest (lexemes (printed d) tokens) (document_node parsed) → without_places (document_node parsed) ≡ without_places (document_node d)
 parsed_to_itself d parsed tokens r are is =
     let b = read_back d r in
     let alike = one_token_list (printed d) tokens b.tokens are b.are in
     let here = subst (λ ts. DocumentIn deepest (lexemes (printed d) ts) (document_node parsed)) alike is in
-    ap aside (one_document deepest (lexemes (printed d) b.tokens) (document_node parsed) b.again here b.document) ∙ b.same
+    ap without_places (one_document deepest (lexemes (printed d) b.tokens) (document_node parsed) b.again here b.document) ∙ b.same

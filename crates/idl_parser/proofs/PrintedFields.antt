@@ -2,15 +2,15 @@
 use Rattle.std.proofs.Common.{◌≡◌, ℕ, Bool, List, ◌++◌, codes, Option, Some, None, refl, sym, ap, ◌∙◌, subst}
 use Rattle.std.proofs.lemmas.List.{append_assoc}
 use Rattle.idl_token.specs.Spellings.{parted, any}
-use Rattle.idl_parser.specs.declared.terminal.Terminal.TheVariants as word
+use Rattle.idl_token.specs.declared.terminal.Terminal.TheVariants as word
 use Rattle.idl_parser.specs.declared.tree.Int.{Int}
 use Rattle.idl_parser.specs.declared.tree.Need.{Need}
 use Rattle.idl_parser.specs.declared.tree.Need.TheVariants as need
 use Rattle.idl_parser.specs.declared.tree.ConstTree.{ConstTree}
 use Rattle.idl_parser.specs.declared.tree.Field.{Field}
 use Rattle.idl_parser.specs.Phrases.{chain}
-use Rattle.idl_parser.specs.Leaves.{sign, the_first}
-use Rattle.idl_parser.specs.Fields.{field_id, field_need, field_default, ending, field, fields}
+use Rattle.idl_parser.specs.Leaves.{sign, left_tree}
+use Rattle.idl_parser.specs.Fields.{field_id, field_need, field_default, field_ending, field, fields}
 use Rattle.idl_parser.specs.Definitions.{fields_in_parentheses}
 use Rattle.idl_parser.specs.Trees.{maybe_node, int_node, need_node, value_node, field_node, fields_node}
 use Rattle.idl_parser.specs.Printed.{maybe_text, id_text, need_text, type_text, default_text, typed_text, field_text, field_line, field_lines, arguments_text}
@@ -20,12 +20,12 @@ use Rattle.idl_parser.proofs.PrintedLeaves.{prints_identifier, prints_integer}
 use Rattle.idl_parser.proofs.PrintedTypes.{no_annotation, prints_type}
 use Rattle.idl_parser.proofs.PrintedValues.{no_separator, comma_separator, colon_word, prints_value}
 
-pub no_ending : IsNothing ending
-unfolding ending
+pub no_ending : IsNothing field_ending
+unfolding field_ending
 no_ending = nothing_both no_annotation no_separator
 
-comma_ending : IsWord any ending (codes ", ")
-unfolding ending
+comma_ending : IsWord any field_ending (codes ", ")
+unfolding field_ending
 comma_ending = quiet_word no_annotation comma_separator
 
 pub equals_word : IsWord any (sign word.Equals) (codes " = ")
@@ -53,7 +53,7 @@ prints_default levels (Some v) = prints_given (prints_after equals_word (prints_
 
 -- a field with what stands behind its name
 field_by : {Q : List ℕ → Bool} (levels : ℕ) (f : Field) (t : List ℕ)
-    → Prints Q (chain the_first (field_default levels) ending) (maybe_node value_node f.default) t → Glue parted Q t
+    → Prints Q (chain left_tree (field_default levels) field_ending) (maybe_node value_node f.default) t → Glue parted Q t
     → Prints Q (field levels) (field_node f) (maybe_text id_text f.id ++ (need_text f.need ++ (type_text f.kind ++ (codes " " ++ (f.name.text ++ t)))))
 unfolding field field_node
 field_by levels f t behind glue =

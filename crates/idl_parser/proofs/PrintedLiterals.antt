@@ -9,7 +9,7 @@ use Rattle.idl_token.specs.Words.{is_word, kind_of_word}
 use Rattle.idl_token.specs.Numbers.{is_int, is_double, is_big_int, is_big_double}
 use Rattle.idl_token.specs.Literals.{is_closed, is_literal, bad_escape_in}
 use Rattle.idl_token.specs.Lengths.{bad_escape_from}
-use Rattle.idl_token.specs.Wholes.{other, sound, whole_of, number, literal, is_sign, kind_of_sign}
+use Rattle.idl_token.specs.Wholes.{other, sound, whole_of, number_whole, literal_whole, is_sign, kind_of_sign}
 use Rattle.idl_token.proofs.Gaps.{int_stops, double_stops}
 use Rattle.idl_token.proofs.Scans.{bad_escape_from_front}
 use Rattle.idl_token.proofs.WordPieces.{ends_by}
@@ -69,13 +69,13 @@ resolved (b ∷ bytes) = go (b == 34) (b == 92) (b == 10) (b == 9) (b == 13) ref
 whole : (text : List ℕ) → is_word text ≡ false → is_int text ≡ false → is_double text ≡ false → is_literal text ≡ true → bad_escape_in text ≡ None
     → whole_of text ≡ sound kind.Literal
 whole text w n d l b = λ i.
-    cond (w i) (sound (kind_of_word text)) (cond (n i) (number kind.Int (is_big_int text)) (cond (d i) (number kind.Double (is_big_double text))
-    (cond (l i) (literal (b i)) (cond (is_sign text) (sound (kind_of_sign text)) other))))
+    cond (w i) (sound (kind_of_word text)) (cond (n i) (number_whole kind.Int (is_big_int text)) (cond (d i) (number_whole kind.Double (is_big_double text))
+    (cond (l i) (literal_whole (b i)) (cond (is_sign text) (sound (kind_of_sign text)) other))))
 
 -- the text of a literal is one
-pub literal_whole : (bytes : List ℕ) → whole_of (literal_text bytes) ≡ sound kind.Literal
+pub printed_literal : (bytes : List ℕ) → whole_of (literal_text bytes) ≡ sound kind.Literal
 unfolding literal_text
-literal_whole bytes =
+printed_literal bytes =
     let e = ends_by 34 refl in
     let rest = inside bytes ++ 34 ∷ [] in
     whole (34 ∷ rest) refl (int_stops [] rest 34 e) (double_stops [] rest 34 e) (closed bytes) (sym (bad_escape_from_front (34 ∷ rest)) ∙ good 1 bytes)

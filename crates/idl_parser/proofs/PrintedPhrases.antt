@@ -7,34 +7,34 @@ use Rattle.std.proofs.lemmas.List.{append_assoc}
 use Rattle.idl_token.specs.declared.Place.{Place}
 use Rattle.idl_token.specs.Classes.{is_white}
 use Rattle.idl_token.specs.Wholes.{sound, whole_of}
-use Rattle.idl_parser.specs.declared.terminal.Terminal.{Terminal}
-use Rattle.idl_parser.specs.Terminals.{code, same}
-use Rattle.idl_parser.specs.Phrases.{Lexeme, Node, none, word, flag, text as leaf, given, pair, placed, place_at, Phrase, one, chain, either, maybe, many, marked, Times, In}
-use Rattle.idl_parser.specs.Leaves.{sign, kept, flagged, text_leaf, neither, the_first, the_second}
+use Rattle.idl_token.specs.declared.terminal.Terminal.{Terminal}
+use Rattle.idl_token.specs.Terminals.{code, same}
+use Rattle.idl_parser.specs.Phrases.{Lexeme, Node, none, word, flag, text as leaf, given, pair, placed, place_at, Phrase, one, chain, either, maybe, many, marked, Times, Derives}
+use Rattle.idl_parser.specs.Leaves.{sign, kept_word, flagged, text_leaf, neither, left_tree, right_tree}
 use Rattle.idl_parser.specs.Symbols.{terminal_of}
 use Rattle.idl_parser.specs.Trees.{row}
-use Rattle.idl_parser.specs.Aside.{aside, nowhere}
+use Rattle.idl_parser.specs.Unplaced.{without_places, nowhere}
 use Rattle.idl_parser.specs.Printed.{behind_comma, separated}
 use Rattle.idl_parser.proofs.Sound.{cut}
-use Rattle.idl_token.specs.Spellings.{Mark, parted, any, Spells}
+use Rattle.idl_token.specs.Spellings.{BareToken, parted, any, Spells}
 use Rattle.idl_token.proofs.Spellings.{joined, nothing as spells_nothing, white as spells_white, word as spells_word}
 use Rattle.idl_parser.proofs.Marks.{Marked, marked_split, AreSound}
 
 -- a text spells a phrase with a tree, places aside
 pub record IsText (P : List ℕ → Bool) (p : Phrase) (x : Node) (text : List ℕ) : Type 0 where
-  pub marks : List Mark
+  pub marks : List BareToken
   pub spells : Spells P text marks
-  pub stands : (ts rest : List Lexeme) → Marked ts marks rest → (n : Node) × In p ts n rest × (aside n ≡ aside x)
+  pub stands : (ts rest : List Lexeme) → Marked ts marks rest → (n : Node) × Derives p ts n rest × (without_places n ≡ without_places x)
 
 -- the same of a phrase with any tree
 pub record IsWord (P : List ℕ → Bool) (p : Phrase) (text : List ℕ) : Type 0 where
-  pub marks : List Mark
+  pub marks : List BareToken
   pub spells : Spells P text marks
-  pub stands : (ts rest : List Lexeme) → Marked ts marks rest → (n : Node) × In p ts n rest
+  pub stands : (ts rest : List Lexeme) → Marked ts marks rest → (n : Node) × Derives p ts n rest
 
 -- what was read as this phrase with this tree is spelled by the text
 pub record Prints (P : List ℕ → Bool) (p : Phrase) (x : Node) (text : List ℕ) : Type 0 where
-  pub print : (ts rest : List Lexeme) → AreSound ts → In p ts x rest → IsText P p x text
+  pub print : (ts rest : List Lexeme) → AreSound ts → Derives p ts x rest → IsText P p x text
 
 -- what stands behind the second text may stand behind the first with the second
 abbrev pub Glue : (List ℕ → Bool) → (List ℕ → Bool) → List ℕ → Type 0
@@ -42,19 +42,19 @@ Glue P Q second = (more : List ℕ) → Q more ≡ true → P (second ++ more) �
 
 -- the phrase may be left out
 pub record IsNothing (p : Phrase) : Type 0 where
-  pub left_out : (ts : List Lexeme) → (y : Node) × In p ts y ts
+  pub left_out : (ts : List Lexeme) → (y : Node) × Derives p ts y ts
 
 sound_rest : (front rest : List Lexeme) → AreSound (front ++ rest) → AreSound rest
 sound_rest [] rest h = h
 sound_rest (t ∷ front) rest h = sound_rest front rest h.1
 
-pub sound_behind : (p : Phrase) (ts : List Lexeme) (x : Node) (rest : List Lexeme) → In p ts x rest → AreSound ts → AreSound rest
+pub sound_behind : (p : Phrase) (ts : List Lexeme) (x : Node) (rest : List Lexeme) → Derives p ts x rest → AreSound ts → AreSound rest
 sound_behind p ts x rest h sounds =
     let c = cut p ts x rest h in
     sound_rest c.front rest (subst AreSound c.is sounds)
 
 -- other texts of the same symbols
-pub prints_as : {P Q : List ℕ → Bool} {p : Phrase} {x : Node} {first second : List ℕ} → ((ms : List Mark) → Spells P first ms → Spells Q second ms)
+pub prints_as : {P Q : List ℕ → Bool} {p : Phrase} {x : Node} {first second : List ℕ} → ((ms : List BareToken) → Spells P first ms → Spells Q second ms)
     → Prints P p x first → Prints Q p x second
 prints_as as_well a_text = record {
   print = λ ts rest sounds h.
@@ -62,20 +62,20 @@ prints_as as_well a_text = record {
       record { marks = t.marks; spells = as_well t.marks t.spells; stands = t.stands };
 }
 
-pub word_as : {P Q : List ℕ → Bool} {p : Phrase} {first second : List ℕ} → ((ms : List Mark) → Spells P first ms → Spells Q second ms)
+pub word_as : {P Q : List ℕ → Bool} {p : Phrase} {first second : List ℕ} → ((ms : List BareToken) → Spells P first ms → Spells Q second ms)
     → IsWord P p first → IsWord Q p second
 word_as as_well a_text = record { marks = a_text.marks; spells = as_well a_text.marks a_text.spells; stands = a_text.stands }
 
 -- white space in front and behind
-white_front : (P : List ℕ → Bool) (text : List ℕ) (b : ℕ) → is_white b ≡ true → (ms : List Mark) → Spells P text ms → Spells P (b ∷ text) ms
+white_front : (P : List ℕ → Bool) (text : List ℕ) (b : ℕ) → is_white b ≡ true → (ms : List BareToken) → Spells P text ms → Spells P (b ∷ text) ms
 white_front P text b h ms u = joined any P (b ∷ []) text [] ms (spells_white b h) u (λ more p. refl)
 
-white_end : (P : List ℕ → Bool) (text : List ℕ) (b : ℕ) → is_white b ≡ true → ((more : List ℕ) → P (b ∷ more) ≡ true) → (ms : List Mark)
+white_end : (P : List ℕ → Bool) (text : List ℕ) (b : ℕ) → is_white b ≡ true → ((more : List ℕ) → P (b ∷ more) ≡ true) → (ms : List BareToken)
     → Spells P text ms → Spells any (text ++ b ∷ []) ms
 white_end P text b h e ms u =
     subst (λ ns. Spells any (text ++ b ∷ []) ns) (append-nil ms) (joined P any text (b ∷ []) ms [] u (spells_white b h) (λ more p. e more))
 
-anywhere : (P : List ℕ → Bool) (text : List ℕ) (ms : List Mark) → Spells any text ms → Spells P text ms
+anywhere : (P : List ℕ → Bool) (text : List ℕ) (ms : List BareToken) → Spells any text ms → Spells P text ms
 anywhere P text ms u more p = u more refl
 
 pub prints_front : {P : List ℕ → Bool} {p : Phrase} {x : Node} {text : List ℕ} (b : ℕ) → is_white b ≡ true → Prints P p x text → Prints P p x (b ∷ text)
@@ -115,15 +115,15 @@ prints_pair {P} {Q} {p} {q} {a} {b} a_text b_text glue = record {
       let e : pair a b ≡ pair h.1 h.2 = h.5 in
       let left : h.1 ≡ a = cc in
       let right : h.2 ≡ b = cc in
-      text_pair (a_text.print ts h.0 sounds (subst (λ x. In p ts x h.0) left h.3))
-      (b_text.print h.0 rest (sound_behind p ts h.1 h.0 h.3 sounds) (subst (λ x. In q h.0 x rest) right h.4)) glue;
+      text_pair (a_text.print ts h.0 sounds (subst (λ x. Derives p ts x h.0) left h.3))
+      (b_text.print h.0 rest (sound_behind p ts h.1 h.0 h.3 sounds) (subst (λ x. Derives q h.0 x rest) right h.4)) glue;
 }
 
 pub prints_after : {P Q : List ℕ → Bool} {p q : Phrase} {x : Node} {first second : List ℕ} → IsWord P p first → Prints Q q x second
-    → Glue P Q second → Prints Q (chain the_second p q) x (first ++ second)
+    → Glue P Q second → Prints Q (chain right_tree p q) x (first ++ second)
 prints_after {P} {Q} {p} {q} {x} {first} {second} a_text b_text glue = record {
   print = λ ts rest sounds h.
-      let t = b_text.print h.0 rest (sound_behind p ts h.1 h.0 h.3 sounds) (subst (λ y. In q h.0 y rest) (sym h.5) h.4) in
+      let t = b_text.print h.0 rest (sound_behind p ts h.1 h.0 h.3 sounds) (subst (λ y. Derives q h.0 y rest) (sym h.5) h.4) in
       record {
         marks = a_text.marks ++ t.marks;
         spells = joined P Q first second a_text.marks t.marks a_text.spells t.spells glue;
@@ -136,10 +136,10 @@ prints_after {P} {Q} {p} {q} {x} {first} {second} a_text b_text glue = record {
 }
 
 pub prints_before : {P Q : List ℕ → Bool} {p q : Phrase} {x : Node} {first second : List ℕ} → Prints P p x first → IsWord Q q second
-    → Glue P Q second → Prints Q (chain the_first p q) x (first ++ second)
+    → Glue P Q second → Prints Q (chain left_tree p q) x (first ++ second)
 prints_before {P} {Q} {p} {q} {x} {first} {second} a_text b_text glue = record {
   print = λ ts rest sounds h.
-      let t = a_text.print ts h.0 sounds (subst (λ y. In p ts y h.0) (sym h.5) h.3) in
+      let t = a_text.print ts h.0 sounds (subst (λ y. Derives p ts y h.0) (sym h.5) h.3) in
       record {
         marks = t.marks ++ b_text.marks;
         spells = joined P Q first second t.marks b_text.marks t.spells b_text.spells glue;
@@ -152,10 +152,10 @@ prints_before {P} {Q} {p} {q} {x} {first} {second} a_text b_text glue = record {
 }
 
 -- what may be left out is left out
-pub prints_quiet : {P : List ℕ → Bool} {p q : Phrase} {x : Node} {text : List ℕ} → Prints P p x text → IsNothing q → Prints P (chain the_first p q) x text
+pub prints_quiet : {P : List ℕ → Bool} {p q : Phrase} {x : Node} {text : List ℕ} → Prints P p x text → IsNothing q → Prints P (chain left_tree p q) x text
 prints_quiet {P} {p} {q} a_text nothing = record {
   print = λ ts rest sounds h.
-      let t = a_text.print ts h.0 sounds (subst (λ y. In p ts y h.0) (sym h.5) h.3) in
+      let t = a_text.print ts h.0 sounds (subst (λ y. Derives p ts y h.0) (sym h.5) h.3) in
       record {
         marks = t.marks;
         spells = t.spells;
@@ -166,10 +166,10 @@ prints_quiet {P} {p} {q} a_text nothing = record {
       };
 }
 
-pub prints_quiet_front : {P : List ℕ → Bool} {p q : Phrase} {x : Node} {text : List ℕ} → IsNothing p → Prints P q x text → Prints P (chain the_second p q) x text
+pub prints_quiet_front : {P : List ℕ → Bool} {p q : Phrase} {x : Node} {text : List ℕ} → IsNothing p → Prints P q x text → Prints P (chain right_tree p q) x text
 prints_quiet_front {P} {p} {q} nothing a_text = record {
   print = λ ts rest sounds h.
-      let t = a_text.print h.0 rest (sound_behind p ts h.1 h.0 h.3 sounds) (subst (λ y. In q h.0 y rest) (sym h.5) h.4) in
+      let t = a_text.print h.0 rest (sound_behind p ts h.1 h.0 h.3 sounds) (subst (λ y. Derives q h.0 y rest) (sym h.5) h.4) in
       record {
         marks = t.marks;
         spells = t.spells;
@@ -215,7 +215,7 @@ pub word_nothing : {P : List ℕ → Bool} {p : Phrase} → IsNothing p → IsWo
 word_nothing {P} {p} nothing = record {
   marks = [];
   spells = spells_nothing _;
-  stands = λ ts rest m. let l = nothing.left_out rest in (l.0, subst (λ ts. In p ts l.0 rest) (sym m) l.1);
+  stands = λ ts rest m. let l = nothing.left_out rest in (l.0, subst (λ ts. Derives p ts l.0 rest) (sym m) l.1);
 }
 
 pub word_maybe : {P : List ℕ → Bool} {f : Node → Node} {p : Phrase} {text : List ℕ} → IsWord P p text → IsWord P (maybe f p) text
@@ -256,7 +256,7 @@ prints_either a_text b_text = record {
       ];
 }
 
-pub prints_never : {P : List ℕ → Bool} {p : Phrase} {x : Node} {text : List ℕ} → ((ts rest : List Lexeme) → In p ts x rest → ⊥) → Prints P p x text
+pub prints_never : {P : List ℕ → Bool} {p : Phrase} {x : Node} {text : List ℕ} → ((ts rest : List Lexeme) → Derives p ts x rest → ⊥) → Prints P p x text
 prints_never none_reads = record { print = λ ts rest sounds h. absurd (none_reads ts rest h) }
 
 -- a part that may be missing
@@ -275,7 +275,7 @@ prints_given {P} {p} {x} a_text = record {
         | inr r ↦
             let e : given x ≡ given r.0 = r.2 in
             let is : r.0 ≡ x = cc in
-            text_given (a_text.print ts rest sounds (subst (λ y. In p ts y rest) is r.1))
+            text_given (a_text.print ts rest sounds (subst (λ y. Derives p ts y rest) is r.1))
       ];
 }
 
@@ -294,7 +294,7 @@ prints_marked {P} {p} {x} at a_text = record {
   print = λ ts rest sounds h.
       let e : placed at x ≡ placed (place_at ts) h.0 = h.2 in
       let is : h.0 ≡ x = cc in
-      let t = a_text.print ts rest sounds (subst (λ y. In p ts y rest) is h.1) in
+      let t = a_text.print ts rest sounds (subst (λ y. Derives p ts y rest) is h.1) in
       record {
         marks = t.marks;
         spells = t.spells;
@@ -304,11 +304,11 @@ prints_marked {P} {p} {x} at a_text = record {
 
 -- a word of a terminal
 pub record IsWordOf (P : List ℕ → Bool) (k : Terminal) (text : List ℕ) : Type 0 where
-  pub mark : Mark
+  pub mark : BareToken
   pub what : terminal_of mark.kind mark.bytes ≡ k
   pub spells : Spells P text (mark ∷ [])
 
-pub word_of_as : {P Q : List ℕ → Bool} {k : Terminal} {first second : List ℕ} → ((ms : List Mark) → Spells P first ms → Spells Q second ms)
+pub word_of_as : {P Q : List ℕ → Bool} {k : Terminal} {first second : List ℕ} → ((ms : List BareToken) → Spells P first ms → Spells Q second ms)
     → IsWordOf P k first → IsWordOf Q k second
 word_of_as as_well a_text = record { mark = a_text.mark; what = a_text.what; spells = as_well (a_text.mark ∷ []) a_text.spells }
 
@@ -328,7 +328,7 @@ record OneOf (k : Terminal) (ts rest : List Lexeme) : Type 0 where
   alike : same at.what k ≡ true
   is : ts ≡ at ∷ rest
 
-one_of : (k : Terminal) (m : Mark) (ts rest : List Lexeme) → terminal_of m.kind m.bytes ≡ k → Marked ts (m ∷ []) rest → OneOf k ts rest
+one_of : (k : Terminal) (m : BareToken) (ts rest : List Lexeme) → terminal_of m.kind m.bytes ≡ k → Marked ts (m ∷ []) rest → OneOf k ts rest
 one_of k m ts rest what h = record {
   at = h.0;
   alike = same_as h.0.what k (h.3 ∙ what);
@@ -342,19 +342,19 @@ sign_word {P} {k} w = record {
   stands = λ ts rest m. let o = one_of k w.mark ts rest w.what m in (none, (o.at, o.alike, o.is, refl));
 }
 
-kept_text : {P : List ℕ → Bool} {k : Terminal} {text : List ℕ} (at : Place) → IsWordOf P k text → IsText P (kept k) (word k at) text
+kept_text : {P : List ℕ → Bool} {k : Terminal} {text : List ℕ} (at : Place) → IsWordOf P k text → IsText P (kept_word k) (word k at) text
 kept_text {P} {k} at w = record {
   marks = w.mark ∷ [];
   spells = w.spells;
   stands = λ ts rest m. let o = one_of k w.mark ts rest w.what m in (word k o.at.place, (o.at, o.alike, o.is, refl), refl);
 }
 
-pub prints_kept : {P : List ℕ → Bool} {text : List ℕ} (k j : Terminal) (at : Place) → IsWordOf P j text → Prints P (kept k) (word j at) text
+pub prints_kept : {P : List ℕ → Bool} {text : List ℕ} (k j : Terminal) (at : Place) → IsWordOf P j text → Prints P (kept_word k) (word j at) text
 prints_kept {P} {text} k j at w = record {
   print = λ ts rest sounds h.
       let e : word j at ≡ word k h.0.place = h.3 in
       let is : j ≡ k = cc in
-      subst (λ i. IsText P (kept i) (word j at) text) is (kept_text at w);
+      subst (λ i. IsText P (kept_word i) (word j at) text) is (kept_text at w);
 }
 
 flagged_text : {P : List ℕ → Bool} {k : Terminal} {text : List ℕ} → IsWordOf P k text → IsText P (flagged k) (flag k) text
@@ -396,10 +396,10 @@ prints_text k j bytes at = record {
 -- a row of phrases
 record RowIn (p : Phrase) (ts : List Lexeme) (a b : Node) (rest : List Lexeme) : Type 0 where
   mid : List Lexeme
-  first : In p ts a mid
-  more : In (many pair p) mid b rest
+  first : Derives p ts a mid
+  more : Derives (many pair p) mid b rest
 
-row_in : (p : Phrase) (ts : List Lexeme) (a b : Node) (rest : List Lexeme) (count : ℕ) → Times pair (In p) count ts (pair a b) rest → RowIn p ts a b rest
+row_in : (p : Phrase) (ts : List Lexeme) (a b : Node) (rest : List Lexeme) (count : ℕ) → Times pair (Derives p) count ts (pair a b) rest → RowIn p ts a b rest
 row_in p ts a b rest zero h = let e : pair a b ≡ none = h.1 in absurd (cc)
 row_in p ts a b rest (suc count) h =
     let e : pair a b ≡ pair h.1 h.2 = h.5 in
@@ -407,8 +407,8 @@ row_in p ts a b rest (suc count) h =
     let right : h.2 ≡ b = cc in
     record {
       mid = h.0;
-      first = subst (λ x. In p ts x h.0) left h.3;
-      more = (count, subst (λ x. Times pair (In p) count h.0 x rest) right h.4);
+      first = subst (λ x. Derives p ts x h.0) left h.3;
+      more = (count, subst (λ x. Times pair (Derives p) count h.0 x rest) right h.4);
     }
 
 pub prints_empty : {P : List ℕ → Bool} {p : Phrase} → Prints P (many pair p) none []

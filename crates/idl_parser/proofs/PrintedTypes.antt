@@ -2,8 +2,8 @@
 use Rattle.std.proofs.Common.{◌≡◌, ℕ, zero, suc, Bool, List, ◌++◌, codes, refl, sym, subst, inl, inr}
 use Rattle.idl_token.specs.declared.Place.{Place}
 use Rattle.idl_token.specs.Spellings.{parted}
-use Rattle.idl_parser.specs.declared.terminal.Terminal.{Terminal}
-use Rattle.idl_parser.specs.declared.terminal.Terminal.TheVariants as word
+use Rattle.idl_token.specs.declared.terminal.Terminal.{Terminal}
+use Rattle.idl_token.specs.declared.terminal.Terminal.TheVariants as word
 use Rattle.idl_parser.specs.declared.tree.Base.{Base}
 use Rattle.idl_parser.specs.declared.tree.Base.TheVariants as base
 use Rattle.idl_parser.specs.declared.tree.TypeTree.{TypeTree}
@@ -11,10 +11,11 @@ use Rattle.idl_parser.specs.declared.tree.TypeTree.TheOpen.{TypeTree-F}
 use Rattle.idl_parser.specs.declared.tree.TypeTree.TheOpen as of_type
 use Rattle.idl_parser.specs.declared.tree.TypeTree.TheFolds.{map-TypeTree, fold_out-TypeTree}
 use Rattle.idl_parser.specs.declared.tree.TypeTree.TheViews.{out-TypeTree}
-use Rattle.idl_parser.specs.Phrases.{Lexeme, Node, word as word_node, text as leaf, pair, Phrase, chain, In}
-use Rattle.idl_parser.specs.Leaves.{kept}
+use Rattle.idl_token.specs.Words.{keyword_text}
+use Rattle.idl_parser.specs.Phrases.{Lexeme, Node, word as word_node, text as leaf, pair, Phrase, chain, Derives}
+use Rattle.idl_parser.specs.Leaves.{kept_word}
 use Rattle.idl_parser.specs.Parts.{identifier, annotation, annotated}
-use Rattle.idl_parser.specs.Types.{base as base_phrase, cpp_type, map_rest, set_rest, list_rest, container, no_container, bare_or, inner_type, bare_type, type_of}
+use Rattle.idl_parser.specs.Types.{base as base_phrase, cpp_type, map_type_rest, set_type_rest, list_type_rest, container, no_container, bare_or, inner_type, bare_type, type_of}
 use Rattle.idl_parser.specs.Trees.{base_word, type_step, type_node}
 use Rattle.idl_parser.specs.Printed.{base_text, type_text_step, type_text}
 use Rattle.idl_parser.proofs.PrintedPhrases.{Prints, IsWordOf, IsNothing, prints_pair, prints_after, prints_before, prints_quiet, prints_quiet_front, prints_either, prints_never, prints_kept, prints_anywhere, nothing_maybe, sign_word, word_end, word_quiet}
@@ -40,17 +41,17 @@ base_word_of base.Double = double_word
 base_word_of base.String = string_word
 base_word_of base.Binary = binary_word
 
-pub by_words : {P : List ℕ → Bool} {x : Node} {text : List ℕ} → ((k : Terminal) → Prints P (kept k) x text) → Prints P base_phrase x text
+pub by_words : {P : List ℕ → Bool} {x : Node} {text : List ℕ} → ((k : Terminal) → Prints P (kept_word k) x text) → Prints P base_phrase x text
 unfolding base_phrase
 by_words each =
     prints_either (each word.Bool) (prints_either (each word.Byte) (prints_either (each word.I8) (prints_either (each word.I16) (prints_either (each word.I32)
     (prints_either (each word.I64) (prints_either (each word.DoubleWord) (prints_either (each word.StringWord) (each word.Binary))))))))
 
 -- phrases of which no such tree is made
-pub word_no_leaf : {P : List ℕ → Bool} {text : List ℕ} (k j : Terminal) (bytes : List ℕ) (at : Place) → Prints P (kept k) (leaf j bytes at) text
+pub word_no_leaf : {P : List ℕ → Bool} {text : List ℕ} (k j : Terminal) (bytes : List ℕ) (at : Place) → Prints P (kept_word k) (leaf j bytes at) text
 word_no_leaf k j bytes at = prints_never (λ ts rest h. let e : leaf j bytes at ≡ word_node k h.0.place = h.3 in cc)
 
-pub word_no_pair : {P : List ℕ → Bool} {text : List ℕ} (k : Terminal) (a b : Node) → Prints P (kept k) (pair a b) text
+pub word_no_pair : {P : List ℕ → Bool} {text : List ℕ} (k : Terminal) (a b : Node) → Prints P (kept_word k) (pair a b) text
 word_no_pair k a b = prints_never (λ ts rest h. let e : pair a b ≡ word_node k h.0.place = h.3 in cc)
 
 pub name_no_pair : {P : List ℕ → Bool} {text : List ℕ} (a b : Node) → Prints P identifier (pair a b) text
@@ -60,7 +61,7 @@ name_no_word : {P : List ℕ → Bool} {text : List ℕ} (k : Terminal) (at : Pl
 name_no_word k at = prints_never (λ ts rest h. let e : word_node k at ≡ leaf word.Identifier h.0.bytes h.0.place = h.3 in cc)
 
 -- what begins with another word
-pub other_word : {P : List ℕ → Bool} {text : List ℕ} {q : Phrase} (k j : Terminal) (at : Place) (y : Node) → (k ≡ j → ⊥) → Prints P (chain pair (kept k) q) (pair (word_node j at) y) text
+pub other_word : {P : List ℕ → Bool} {text : List ℕ} {q : Phrase} (k j : Terminal) (at : Place) (y : Node) → (k ≡ j → ⊥) → Prints P (chain pair (kept_word k) q) (pair (word_node j at) y) text
 other_word k j at y distinct = prints_never (λ ts rest h.
     let e : pair (word_node j at) y ≡ pair h.1 h.2 = h.5 in
     let f : h.1 ≡ word_node k h.3.0.place = h.3.3 in
@@ -75,7 +76,7 @@ IsPair x = ⊥
 kept_pair : (a b x : Node) → x ≡ pair a b → IsPair x
 kept_pair a b x e = subst IsPair (sym e) tt
 
-pub inner_is_pair : (levels : ℕ) (ts : List Lexeme) (x : Node) (rest : List Lexeme) → In (inner_type levels) ts x rest → IsPair x
+pub inner_is_pair : (levels : ℕ) (ts : List Lexeme) (x : Node) (rest : List Lexeme) → Derives (inner_type levels) ts x rest → IsPair x
 unfolding inner_type no_container container
 inner_is_pair zero ts x rest h = elim h [ inl l ↦ absurd l | inr r ↦ elim r [ inl m ↦ absurd m | inr n ↦ absurd n ] ]
 inner_is_pair (suc levels) ts x rest h = elim h [
@@ -88,8 +89,8 @@ abbrev PrintsTypes : Phrase → Type 0
 PrintsTypes inner = (x : TypeTree) → Prints parted inner (type_node x) (type_text x)
 
 prints_map : (inner : Phrase) (at : Place) (k v : TypeTree) → PrintsTypes inner
-    → Prints parted (container inner) (pair (word_node word.Map at) (pair (type_node k) (type_node v))) (codes "map<" ++ (type_text k ++ (codes ", " ++ (type_text v ++ codes ">"))))
-unfolding container map_rest
+    → Prints parted (container inner) (pair (word_node word.Map at) (pair (type_node k) (type_node v))) (keyword_text word.Map ++ (codes "<" ++ (type_text k ++ (codes ", " ++ (type_text v ++ codes ">")))))
+unfolding container map_type_rest
 prints_map inner at k v each =
     prints_either
     (prints_pair (prints_kept word.Map word.Map at map_word)
@@ -100,8 +101,8 @@ prints_map inner at k v each =
     (prints_either (other_word word.Set word.Map at _ (λ e. cc)) (other_word word.List word.Map at _ (λ e. cc)))
 
 prints_set : (inner : Phrase) (at : Place) (x : TypeTree) → PrintsTypes inner
-    → Prints parted (container inner) (pair (word_node word.Set at) (type_node x)) (codes "set<" ++ (type_text x ++ codes ">"))
-unfolding container set_rest
+    → Prints parted (container inner) (pair (word_node word.Set at) (type_node x)) (keyword_text word.Set ++ (codes "<" ++ (type_text x ++ codes ">")))
+unfolding container set_type_rest
 prints_set inner at x each =
     prints_either (other_word word.Map word.Set at _ (λ e. cc))
     (prints_either
@@ -112,8 +113,8 @@ prints_set inner at x each =
     (other_word word.List word.Set at _ (λ e. cc)))
 
 prints_list : (inner : Phrase) (at : Place) (x : TypeTree) → PrintsTypes inner
-    → Prints parted (container inner) (pair (word_node word.List at) (type_node x)) (codes "list<" ++ (type_text x ++ codes ">"))
-unfolding container list_rest
+    → Prints parted (container inner) (pair (word_node word.List at) (type_node x)) (keyword_text word.List ++ (codes "<" ++ (type_text x ++ codes ">")))
+unfolding container list_type_rest
 prints_list inner at x each =
     prints_either (other_word word.Map word.List at _ (λ e. cc))
     (prints_either (other_word word.Set word.List at _ (λ e. cc))

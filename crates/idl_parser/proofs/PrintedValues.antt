@@ -4,19 +4,19 @@ use Rattle.std.specs.List.{flat_map}
 use Rattle.std.proofs.lemmas.List.{append_assoc}
 use Rattle.idl_token.specs.declared.Place.{Place}
 use Rattle.idl_token.specs.Spellings.{parted, any}
-use Rattle.idl_parser.specs.declared.terminal.Terminal.{Terminal}
-use Rattle.idl_parser.specs.declared.terminal.Terminal.TheVariants as word
+use Rattle.idl_token.specs.declared.terminal.Terminal.{Terminal}
+use Rattle.idl_token.specs.declared.terminal.Terminal.TheVariants as word
 use Rattle.idl_parser.specs.declared.tree.ConstTree.{ConstTree}
 use Rattle.idl_parser.specs.declared.tree.ConstTree.TheOpen.{ConstTree-F}
 use Rattle.idl_parser.specs.declared.tree.ConstTree.TheOpen as of_value
 use Rattle.idl_parser.specs.declared.tree.ConstTree.TheFolds.{map-ConstTree, fold_out-ConstTree}
 use Rattle.idl_parser.specs.declared.tree.ConstTree.TheViews.{out-ConstTree}
-use Rattle.idl_parser.specs.Phrases.{Lexeme, Node, word as word_node, text as leaf, number, pair, Phrase, one, In}
+use Rattle.idl_parser.specs.Phrases.{Lexeme, Node, word as word_node, text as leaf, number, pair, Phrase, one, Derives}
 use Rattle.idl_parser.specs.Leaves.{sign, text_leaf, literal_leaf, number_leaf}
 use Rattle.idl_parser.specs.Parts.{literal, separator}
-use Rattle.idl_parser.specs.Constants.{list_item, list_rest, map_entry, map_rest, collection, no_collection, leaf_or, inner_value, value_of}
+use Rattle.idl_parser.specs.Constants.{list_item, list_value_rest, map_entry, map_value_rest, collection, no_collection, leaf_or, inner_value, value_of}
 use Rattle.idl_parser.specs.Trees.{row, value_step, value_node, entry_node, both_nodes, pair_row}
-use Rattle.idl_parser.specs.Printed.{separated, separated_pairs, behind_comma, entry_behind_comma, entry_text, both_texts, value_text_step, value_text}
+use Rattle.idl_parser.specs.Printed.{separated, separated_pairs, behind_comma, pair_behind_comma, pair_text, both_texts, value_text_step, value_text}
 use Rattle.idl_parser.proofs.Rows.{row_of_entries}
 use Rattle.idl_parser.proofs.PrintedPhrases.{Prints, IsWord, IsNothing, prints_pair, prints_after, prints_before, prints_quiet, prints_either, prints_never, prints_kept, prints_anywhere, prints_separated, nothing_maybe, sign_word, word_end, word_maybe, word_either}
 use Rattle.idl_parser.proofs.PrintedWords.{open_bracket_sign, close_bracket_sign, open_brace_sign, close_brace_sign, comma_sign, colon_sign}
@@ -41,7 +41,7 @@ one_never k f refuses = prints_never (λ ts rest h. refuses h.0 h.3)
 kept_pair : (a b x : Node) → x ≡ pair a b → IsPair x
 kept_pair a b x e = subst IsPair (sym e) tt
 
-inner_is_pair : (levels : ℕ) (ts : List Lexeme) (x : Node) (rest : List Lexeme) → In (inner_value levels) ts x rest → IsPair x
+inner_is_pair : (levels : ℕ) (ts : List Lexeme) (x : Node) (rest : List Lexeme) → Derives (inner_value levels) ts x rest → IsPair x
 unfolding inner_value no_collection collection
 inner_is_pair zero ts x rest h = elim h [ inl l ↦ absurd l | inr r ↦ absurd r ]
 inner_is_pair (suc levels) ts x rest h = elim h [ inl l ↦ kept_pair l.1 l.2 x l.5 | inr r ↦ kept_pair r.1 r.2 x r.5 ]
@@ -52,7 +52,7 @@ PrintsValues inner = (x : ConstTree) → Prints parted inner (value_node x) (val
 
 prints_items : (inner : Phrase) (at : Place) (xs : List ConstTree) → PrintsValues inner
     → Prints parted (collection inner) (pair (word_node word.OpenBracket at) (row (map value_node xs))) (codes "[" ++ (separated (map value_text xs) ++ codes "]"))
-unfolding collection list_rest list_item
+unfolding collection list_value_rest list_item
 prints_items inner at xs each =
     prints_either
     (prints_pair (prints_kept word.OpenBracket word.OpenBracket at open_bracket_sign)
@@ -64,9 +64,9 @@ prints_items inner at xs each =
     (other_word word.OpenBrace word.OpenBracket at _ (λ e. cc))
 
 abbrev entry_of : ConstTree × ConstTree → List ℕ
-entry_of p = entry_text (both_texts p)
+entry_of p = pair_text (both_texts p)
 
-rest_of_entries : (ps : List (ConstTree × ConstTree)) → flat_map behind_comma (map entry_of ps) ≡ flat_map entry_behind_comma (map both_texts ps)
+rest_of_entries : (ps : List (ConstTree × ConstTree)) → flat_map behind_comma (map entry_of ps) ≡ flat_map pair_behind_comma (map both_texts ps)
 rest_of_entries [] = refl
 rest_of_entries (p ∷ ps) = ap (λ t. behind_comma (entry_of p) ++ t) (rest_of_entries ps)
 
@@ -86,7 +86,7 @@ other_entry inner each p =
 
 prints_pairs : (inner : Phrase) (at : Place) (ps : List (ConstTree × ConstTree)) → PrintsValues inner
     → Prints parted (collection inner) (pair (word_node word.OpenBrace at) (pair_row (map both_nodes ps))) (codes "{" ++ (separated_pairs (map both_texts ps) ++ codes "}"))
-unfolding collection map_rest
+unfolding collection map_value_rest
 prints_pairs inner at ps each =
     subst (λ x. Prints parted (collection inner) (pair (word_node word.OpenBrace at) x) (codes "{" ++ (separated_pairs (map both_texts ps) ++ codes "}"))) (row_of_entries ps)
     (subst (λ t. Prints parted (collection inner) (pair (word_node word.OpenBrace at) (row (map entry_node ps))) (codes "{" ++ (t ++ codes "}"))) (text_of_entries ps)

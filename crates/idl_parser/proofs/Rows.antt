@@ -1,13 +1,16 @@
 -- A loop over a row: what was read so far, and what is left of it.
-use Rattle.std.proofs.Common.{◌≡◌, Bool, true, false, ℕ, zero, suc, ◌+◌, ◌-◌, ◌≤◌, ◌<◌, List, [], ◌∷◌, ◌++◌, map, Option, Some, None, refl, sym, ap, ◌∙◌, subst, arith}
-use Rattle.idl_parser.specs.declared.terminal.Terminal.{Terminal}
+use Rattle.std.proofs.Common.{◌≡◌, Bool, true, false, ℕ, zero, suc, ◌+◌, ◌-◌, ◌≤◌, ◌<◌, List, [], ◌∷◌, ◌++◌, map, Option, Some, None, Result, Ok, Err, refl, sym, ap, ◌∙◌, subst, arith}
+use Rattle.idl_token.specs.Limits.{longest_text}
+use Rattle.idl_token.specs.declared.terminal.Terminal.{Terminal}
 use Rattle.idl_parser.specs.declared.reader.Stop.{Stop}
 use Rattle.idl_parser.specs.declared.reader.Stop.TheVariants.{NoMemory, Stuck, Deep}
 use Rattle.idl_parser.specs.Phrases.{Lexeme, Node, none, pair, Phrase, many}
 use Rattle.idl_parser.specs.Shapes.{starts_in, first}
 use Rattle.idl_parser.specs.Leaves.{neither}
-use Rattle.idl_parser.specs.Reading.{Outcome, done, failed, made, and_then, repeat, read}
-use Rattle.idl_parser.specs.Spots.{Stops, most}
+use Rattle.idl_parser.specs.Reading.{ParseResult, done, failed, map_tree, parse_then, repeat, read}
+use Rattle.idl_parser.specs.ReaderCalls.{StopsAt, most}
+use Rattle.std.specs.Prelude.{MatchResult}
+use Rattle.std.specs.Result.{IsErrAnd}
 use Rattle.std.proofs.lemmas.List.{map-append}
 use Rattle.idl_parser.specs.declared.tree.ConstTree.{ConstTree}
 use Rattle.idl_parser.specs.declared.tree.Include.{Include}
@@ -18,9 +21,9 @@ use Rattle.idl_parser.proofs.Outcomes.{chosen, passed}
 -- the row of a text is what was read of it so far, in front of the row of what is left
 pub record SoFar (limit i : ℕ) (join : Node → Node → Node) (p : Phrase) (set : List Terminal) (start left : List Lexeme) (xs : List Node) : Type 0 where
   pub within : i ≤ limit
-  pub is : repeat limit join (starts_in set) (read limit p) start ≡ made (ahead join xs) (repeat (limit - i) join (starts_in set) (read limit p) left)
+  pub is : repeat limit join (starts_in set) (read limit p) start ≡ map_tree (ahead join xs) (repeat (limit - i) join (starts_in set) (read limit p) left)
 
-made_nothing : (join : Node → Node → Node) (o : Outcome) → o ≡ made (ahead join []) o
+made_nothing : (join : Node → Node → Node) (o : ParseResult) → o ≡ map_tree (ahead join []) o
 made_nothing join (done x rest) = refl
 made_nothing join (failed d rest) = refl
 
@@ -36,17 +39,17 @@ ahead_more : (join : Node → Node → Node) (xs : List Node) (x y : Node) → a
 ahead_more join [] x y = refl
 ahead_more join (z ∷ xs) x y = ap (join z) (ahead_more join xs x y)
 
-made_more : (join : Node → Node → Node) (xs : List Node) (x : Node) (o : Outcome) → made (ahead join xs) (made (join x) o) ≡ made (ahead join (xs ++ x ∷ [])) o
+made_more : (join : Node → Node → Node) (xs : List Node) (x : Node) (o : ParseResult) → map_tree (ahead join xs) (map_tree (join x) o) ≡ map_tree (ahead join (xs ++ x ∷ [])) o
 made_more join xs x (done y rest) = ap (λ z. done z rest) (ahead_more join xs x y)
 made_more join xs x (failed d rest) = refl
 
 -- one round of the row
 round_is : (limit i : ℕ) (join : Node → Node → Node) (p : Phrase) (set : List Terminal) (left : List Lexeme) → i < limit → starts_in set left ≡ true
-    → repeat (limit - i) join (starts_in set) (read limit p) left ≡ and_then join (read limit p left) (repeat (limit - (i + 1)) join (starts_in set) (read limit p))
+    → repeat (limit - i) join (starts_in set) (read limit p) left ≡ parse_then join (read limit p left) (repeat (limit - (i + 1)) join (starts_in set) (read limit p))
 round_is limit i join p set left less here =
     let e : limit - i ≡ suc (limit - (i + 1)) = omega arith in
     ap (λ k. repeat k join (starts_in set) (read limit p) left) e
-    ∙ chosen (starts_in set left) (and_then join (read limit p left) (repeat (limit - (i + 1)) join (starts_in set) (read limit p))) (done none left) here
+    ∙ chosen (starts_in set left) (parse_then join (read limit p left) (repeat (limit - (i + 1)) join (starts_in set) (read limit p))) (done none left) here
 
 pub onward : {limit i : ℕ} {join : Node → Node → Node} {p : Phrase} {set : List Terminal} {start left : List Lexeme} {xs : List Node}
     → SoFar limit i join p set start left xs → i < limit → starts_in set left ≡ true → (x : Node) (mid : List Lexeme) → read limit p left ≡ done x mid
@@ -54,8 +57,8 @@ pub onward : {limit i : ℕ} {join : Node → Node → Node} {p : Phrase} {set :
 onward {limit} {i} {join} {p} {set} {start} {left} {xs} s less here x mid e = record {
   within = omega arith;
   is =
-      s.is ∙ ap (made (ahead join xs)) (round_is limit i join p set left less here
-      ∙ ap (λ o. and_then join o (repeat (limit - (i + 1)) join (starts_in set) (read limit p))) e)
+      s.is ∙ ap (map_tree (ahead join xs)) (round_is limit i join p set left less here
+      ∙ ap (λ o. parse_then join o (repeat (limit - (i + 1)) join (starts_in set) (read limit p))) e)
       ∙ made_more join xs x (repeat (limit - (i + 1)) join (starts_in set) (read limit p) mid);
 }
 
@@ -64,35 +67,43 @@ last_is : (k : ℕ) (limit : ℕ) (join : Node → Node → Node) (p : Phrase) (
 last_is zero limit join p set left none_here = refl
 last_is (suc k) limit join p set left none_here = passed (starts_in set left) _ (done none left) none_here
 
-pub row_of : (limit : ℕ) (join : Node → Node → Node) (p : Phrase) (set : List Terminal) (start : List Lexeme) (o : Outcome) → first p ≡ set
+pub row_of : (limit : ℕ) (join : Node → Node → Node) (p : Phrase) (set : List Terminal) (start : List Lexeme) (o : ParseResult) → first p ≡ set
     → repeat limit join (starts_in set) (read limit p) start ≡ o → read limit (many join p) start ≡ o
 row_of limit join p set start o is e = ap (λ set. repeat limit join (starts_in set) (read limit p) start) is ∙ e
 
 pub finished : {limit i : ℕ} {join : Node → Node → Node} {p : Phrase} {set : List Terminal} {start left : List Lexeme} {xs : List Node}
     → first p ≡ set → SoFar limit i join p set start left xs → starts_in set left ≡ false → read limit (many join p) start ≡ done (ahead join xs none) left
 finished {limit} {i} {join} {p} {set} {start} {left} {xs} is s none_here =
-    row_of limit join p set start (done (ahead join xs none) left) is (s.is ∙ ap (made (ahead join xs)) (last_is (limit - i) limit join p set left none_here))
+    row_of limit join p set start (done (ahead join xs none) left) is (s.is ∙ ap (map_tree (ahead join xs)) (last_is (limit - i) limit join p set left none_here))
 
 pub ended : {limit i : ℕ} {join : Node → Node → Node} {p : Phrase} {set : List Terminal} {start left : List Lexeme} {xs : List Node}
     → first p ≡ set → SoFar limit i join p set start left xs → limit ≤ i → read limit (many join p) start ≡ done (ahead join xs none) left
 ended {limit} {i} {join} {p} {set} {start} {left} {xs} is s all =
     let e : limit - i ≡ 0 = omega arith in
-    row_of limit join p set start (done (ahead join xs none) left) is (s.is ∙ ap (λ k. made (ahead join xs) (repeat k join (starts_in set) (read limit p) left)) e)
+    row_of limit join p set start (done (ahead join xs none) left) is (s.is ∙ ap (λ k. map_tree (ahead join xs) (repeat k join (starts_in set) (read limit p) left)) e)
 
 stuck_row : (limit i : ℕ) (join : Node → Node → Node) (p : Phrase) (set : List Terminal) (start left : List Lexeme) (xs : List Node) (d : Bool) (rest : List Lexeme)
     → first p ≡ set → SoFar limit i join p set start left xs → i < limit → starts_in set left ≡ true → read limit p left ≡ failed d rest
     → read limit (many join p) start ≡ failed d rest
 stuck_row limit i join p set start left xs d rest is s less here e =
     row_of limit join p set start (failed d rest) is
-    (s.is ∙ ap (made (ahead join xs)) (round_is limit i join p set left less here
-    ∙ ap (λ o. and_then join o (repeat (limit - (i + 1)) join (starts_in set) (read limit p))) e))
+    (s.is ∙ ap (map_tree (ahead join xs)) (round_is limit i join p set left less here
+    ∙ ap (λ o. parse_then join o (repeat (limit - (i + 1)) join (starts_in set) (read limit p))) e))
 
 pub stops_row : {limit i : ℕ} {join : Node → Node → Node} {p : Phrase} {set : List Terminal} {start left : List Lexeme} {xs : List Node} (e : Stop) (rest : List Lexeme)
-    → first p ≡ set → SoFar limit i join p set start left xs → i < limit → starts_in set left ≡ true → Stops e (read limit p left) rest
-    → Stops e (read limit (many join p) start) rest
+    → first p ≡ set → SoFar limit i join p set start left xs → i < limit → starts_in set left ≡ true → StopsAt e (read limit p left) rest
+    → StopsAt e (read limit (many join p) start) rest
 stops_row NoMemory rest is s less here h = tt
 stops_row {limit} {i} {join} {p} {set} {start} {left} {xs} Stuck rest is s less here h = stuck_row limit i join p set start left xs false rest is s less here h
 stops_row {limit} {i} {join} {p} {set} {start} {left} {xs} Deep rest is s less here h = stuck_row limit i join p set start left xs true rest is s less here h
+
+-- what a `?` hands on where an item wasn't read
+pub handed_on : {A : Type 0} (tree : A → Node) {limit i : ℕ} {join : Node → Node → Node} {p : Phrase} {set : List Terminal} {start left : List Lexeme} {xs : List Node} (stop : Stop) (rest : List Lexeme)
+    (answer : Result A Stop) → IsErrAnd answer (λ e. e ≡ stop) → first p ≡ set → SoFar limit i join p set start left xs → i < limit → starts_in set left ≡ true → StopsAt stop (read limit p left) rest
+    → MatchResult answer (λ x. read limit (many join p) start ≡ done (tree x) rest) (λ e. StopsAt e (read limit (many join p) start) rest)
+handed_on tree stop rest (Ok x) given is s less here h = absurd given
+handed_on tree {limit} {i} {join} {p} {set} {start} {left} {xs} stop rest (Err e) given is s less here h =
+    subst (λ each. StopsAt each (read limit (many join p) start) rest) (sym given) (stops_row stop rest is s less here h)
 
 -- of a row of which nothing is kept, nothing is kept
 pub neither_ahead : (xs : List Node) → ahead neither xs none ≡ none
@@ -100,11 +111,11 @@ neither_ahead [] = refl
 neither_ahead (x ∷ xs) = refl
 
 -- the loops' bound
-pub below : (i : ℕ) → i < 4194304 → i < most
+pub below : (i : ℕ) → i < longest_text → i < most
 unfolding most
 below i h = h
 
-pub all_read : (i : ℕ) → 4194304 ≤ i → most ≤ i
+pub all_read : (i : ℕ) → longest_text ≤ i → most ≤ i
 unfolding most
 all_read i h = h
 

@@ -1,29 +1,29 @@
 -- What is read is a phrase, and a phrase is read where nothing lets it go on.
 use Rattle.std.proofs.Common.{◌≡◌, Bool, true, false, ℕ, zero, suc, ◌+◌, ◌≤◌, List, [], ◌∷◌, ◌++◌, length, refl, sym, ap, ◌∙◌, subst, inl, inr, arith}
 use Rattle.std.proofs.lemmas.List.{append_assoc, length-append}
-use Rattle.idl_parser.specs.declared.terminal.Terminal.{Terminal}
-use Rattle.idl_parser.specs.Terminals.{same}
-use Rattle.idl_parser.specs.Phrases.{Lexeme, Node, none, placed, place_at, Phrase, one, deep, chain, either, maybe, many, marked, Times, In}
+use Rattle.idl_token.specs.declared.terminal.Terminal.{Terminal}
+use Rattle.idl_token.specs.Terminals.{same}
+use Rattle.idl_parser.specs.Phrases.{Lexeme, Node, none, placed, place_at, Phrase, one, deep, chain, either, maybe, many, marked, Times, Derives}
 use Rattle.idl_parser.specs.Shapes.{starts_in, first}
-use Rattle.idl_parser.specs.Reading.{Outcome, done, failed, made, and_then, choose, read_one, repeat, read}
+use Rattle.idl_parser.specs.Reading.{ParseResult, done, failed, map_tree, parse_then, choose, read_one, repeat, read}
 use Rattle.idl_parser.proofs.Outcomes.{which, made_done, both_done}
 
 -- one symbol
-one_done : (k : Terminal) (f : Lexeme → Node) (ts : List Lexeme) (x : Node) (rest : List Lexeme) → read_one k f ts ≡ done x rest → In (one k f) ts x rest
+one_done : (k : Terminal) (f : Lexeme → Node) (ts : List Lexeme) (x : Node) (rest : List Lexeme) → read_one k f ts ≡ done x rest → Derives (one k f) ts x rest
 one_done k f [] x rest e = cc
 one_done k f (t ∷ ts) x rest e = go (same t.what k) refl e
   where
-    go : (b : Bool) → same t.what k ≡ b → choose b (done (f t) ts) (failed false (t ∷ ts)) ≡ done x rest → In (one k f) (t ∷ ts) x rest
+    go : (b : Bool) → same t.what k ≡ b → choose b (done (f t) ts) (failed false (t ∷ ts)) ≡ done x rest → Derives (one k f) (t ∷ ts) x rest
     go true is h = let r : ts ≡ rest = cc in (t, is, ap (λ r. t ∷ r) r, cc)
     go false is h = cc
 
 -- a row
-repeat_done : (n : ℕ) (join : Node → Node → Node) (begins : List Lexeme → Bool) (go : List Lexeme → Outcome) (P : List Lexeme → Node → List Lexeme → Type 0)
+repeat_done : (n : ℕ) (join : Node → Node → Node) (begins : List Lexeme → Bool) (go : List Lexeme → ParseResult) (P : List Lexeme → Node → List Lexeme → Type 0)
     → ((ts : List Lexeme) (x : Node) (rest : List Lexeme) → go ts ≡ done x rest → P ts x rest)
     → (ts : List Lexeme) (x : Node) (rest : List Lexeme) → repeat n join begins go ts ≡ done x rest → (count : ℕ) × Times join P count ts x rest
 repeat_done zero join begins go P each ts x rest e = (zero, (cc, cc))
 repeat_done (suc n) join begins go P each ts x rest e =
-    elim (which (begins ts) (and_then join (go ts) (repeat n join begins go)) (done none ts) (done x rest) e) [
+    elim (which (begins ts) (parse_then join (go ts) (repeat n join begins go)) (done none ts) (done x rest) e) [
       | inl h ↦
           let s = both_done join (go ts) (repeat n join begins go) x rest h.1 in
           let r = repeat_done n join begins go P each s.mid s.b rest s.right in
@@ -32,7 +32,7 @@ repeat_done (suc n) join begins go P each ts x rest e =
     ]
 
 -- what is read is a phrase
-pub sound : (n : ℕ) (p : Phrase) (ts : List Lexeme) (x : Node) (rest : List Lexeme) → read n p ts ≡ done x rest → In p ts x rest
+pub sound : (n : ℕ) (p : Phrase) (ts : List Lexeme) (x : Node) (rest : List Lexeme) → read n p ts ≡ done x rest → Derives p ts x rest
 sound n (one k f) ts x rest e = one_done k f ts x rest e
 sound n (deep k) ts x rest e = cc
 sound n (chain join p q) ts x rest e =
@@ -44,11 +44,11 @@ sound n (either p q) ts x rest e =
       | inr h ↦ inr (sound n q ts x rest h.1)
     ]
 sound n (maybe f p) ts x rest e =
-    elim (which (starts_in (first p) ts) (made f (read n p ts)) (done none ts) (done x rest) e) [
+    elim (which (starts_in (first p) ts) (map_tree f (read n p ts)) (done none ts) (done x rest) e) [
       | inl h ↦ let m = made_done f (read n p ts) x rest h.1 in inr (m.tree, sound n p ts m.tree rest m.was, m.is)
       | inr h ↦ let e : done none ts ≡ done x rest = h.1 in inl (cc, cc)
     ]
-sound n (many join p) ts x rest e = repeat_done n join (starts_in (first p)) (read n p) (In p) (sound n p) ts x rest e
+sound n (many join p) ts x rest e = repeat_done n join (starts_in (first p)) (read n p) (Derives p) (sound n p) ts x rest e
 sound n (marked p) ts x rest e =
     let m = made_done (placed (place_at ts)) (read n p ts) x rest e in (m.tree, sound n p ts m.tree rest m.was, m.is)
 
@@ -56,7 +56,7 @@ sound n (marked p) ts x rest e =
 pub record Cut (p : Phrase) (ts rest : List Lexeme) : Type 0 where
   pub front : List Lexeme
   pub is : ts ≡ front ++ rest
-  pub again : (tail : List Lexeme) → (x : Node) × In p (front ++ tail) x tail
+  pub again : (tail : List Lexeme) → (x : Node) × Derives p (front ++ tail) x tail
 
 record RowCut (join : Node → Node → Node) (P : List Lexeme → Node → List Lexeme → Type 0) (ts rest : List Lexeme) : Type 0 where
   front : List Lexeme
@@ -64,8 +64,8 @@ record RowCut (join : Node → Node → Node) (P : List Lexeme → Node → List
   again : (tail : List Lexeme) → (x : Node) × ((count : ℕ) × Times join P count (front ++ tail) x tail)
 
 cut_row : (join : Node → Node → Node) (p : Phrase)
-    → ((ts : List Lexeme) (x : Node) (rest : List Lexeme) → In p ts x rest → Cut p ts rest)
-    → (count : ℕ) (ts : List Lexeme) (x : Node) (rest : List Lexeme) → Times join (In p) count ts x rest → RowCut join (In p) ts rest
+    → ((ts : List Lexeme) (x : Node) (rest : List Lexeme) → Derives p ts x rest → Cut p ts rest)
+    → (count : ℕ) (ts : List Lexeme) (x : Node) (rest : List Lexeme) → Times join (Derives p) count ts x rest → RowCut join (Derives p) ts rest
 cut_row join p each zero ts x rest h = record { front = []; is = h.0; again = λ tail. (none, (zero, (refl, refl))) }
 cut_row join p each (suc count) ts x rest h =
     let l = each ts h.1 h.0 h.3 in
@@ -83,7 +83,7 @@ cut_row join p each (suc count) ts x rest h =
                 r.front ++ tail,
                 a.0,
                 b.0,
-                subst (λ m. In p m a.0 (r.front ++ tail)) (sym (append_assoc l.front r.front tail)) a.1,
+                subst (λ m. Derives p m a.0 (r.front ++ tail)) (sym (append_assoc l.front r.front tail)) a.1,
                 b.1.1,
                 refl,
               ),
@@ -91,7 +91,7 @@ cut_row join p each (suc count) ts x rest h =
           );
     }
 
-pub cut : (p : Phrase) (ts : List Lexeme) (x : Node) (rest : List Lexeme) → In p ts x rest → Cut p ts rest
+pub cut : (p : Phrase) (ts : List Lexeme) (x : Node) (rest : List Lexeme) → Derives p ts x rest → Cut p ts rest
 cut (one k f) ts x rest h = record { front = h.0 ∷ []; is = h.2; again = λ tail. (f h.0, (h.0, h.1, refl, refl)) }
 cut (deep k) ts x rest h = absurd h
 cut (chain join p q) ts x rest h =
@@ -108,7 +108,7 @@ cut (chain join p q) ts x rest h =
               r.front ++ tail,
               a.0,
               b.0,
-              subst (λ m. In p m a.0 (r.front ++ tail)) (sym (append_assoc l.front r.front tail)) a.1,
+              subst (λ m. Derives p m a.0 (r.front ++ tail)) (sym (append_assoc l.front r.front tail)) a.1,
               b.1,
               refl,
             ),
@@ -134,7 +134,7 @@ cut (marked p) ts x rest h =
       again = λ tail. (placed (place_at (l.front ++ tail)) (l.again tail).0, ((l.again tail).0, (l.again tail).1, refl));
     }
 
-pub shrinks : (p : Phrase) (ts : List Lexeme) (x : Node) (rest : List Lexeme) → In p ts x rest → length rest ≤ length ts
+pub shrinks : (p : Phrase) (ts : List Lexeme) (x : Node) (rest : List Lexeme) → Derives p ts x rest → length rest ≤ length ts
 shrinks p ts x rest h =
     let l = cut p ts x rest h in
     let e : length ts ≡ length l.front + length rest = ap length l.is ∙ length-append l.front rest in

@@ -1,29 +1,35 @@
 -- Constant values (Thrift IDL, 'Constant Values').
 use Rattle.std.specs.Prelude.{ℕ, zero, suc}
-use Rattle.idl_parser.specs.declared.terminal.Terminal.TheVariants as word
+use Rattle.idl_token.specs.declared.terminal.Terminal.TheVariants as word
 use Rattle.idl_parser.specs.Phrases.{pair, Phrase, deep, chain, either, many}
-use Rattle.idl_parser.specs.Leaves.{sign, kept, the_first, the_second}
+use Rattle.idl_parser.specs.Leaves.{sign, kept_word, left_tree, right_tree}
 use Rattle.idl_parser.specs.Parts.{identifier, integer, decimal, literal, separator}
 
 -- the containers, of values such as the inner ones
 unfoldable pub list_item : Phrase → Phrase
-list_item inner = chain the_first inner separator
+list_item inner = chain left_tree inner separator
 
-unfoldable pub list_rest : Phrase → Phrase
-list_rest inner = chain the_first (many pair (list_item inner)) (sign word.CloseBracket)
+-- what stands behind `[`
+unfoldable pub list_value_rest : Phrase → Phrase
+list_value_rest inner = chain left_tree (many pair (list_item inner)) (sign word.CloseBracket)
 
+-- a list (Thrift IDL, 'ConstList')
 abbrev pub list_value : Phrase → Phrase
-list_value inner = chain pair (kept word.OpenBracket) (list_rest inner)
+list_value inner = chain pair (kept_word word.OpenBracket) (list_value_rest inner)
 
+-- a key and its value, and a separator or none
 unfoldable pub map_entry : Phrase → Phrase
-map_entry inner = chain pair inner (chain the_second (sign word.Colon) (chain the_first inner separator))
+map_entry inner = chain pair inner (chain right_tree (sign word.Colon) (chain left_tree inner separator))
 
-unfoldable pub map_rest : Phrase → Phrase
-map_rest inner = chain the_first (many pair (map_entry inner)) (sign word.CloseBrace)
+-- what stands behind `{`
+unfoldable pub map_value_rest : Phrase → Phrase
+map_value_rest inner = chain left_tree (many pair (map_entry inner)) (sign word.CloseBrace)
 
+-- a map (Thrift IDL, 'ConstMap')
 abbrev pub map_value : Phrase → Phrase
-map_value inner = chain pair (kept word.OpenBrace) (map_rest inner)
+map_value inner = chain pair (kept_word word.OpenBrace) (map_value_rest inner)
 
+-- a list or a map
 unfoldable pub collection : Phrase → Phrase
 collection inner = either (list_value inner) (map_value inner)
 

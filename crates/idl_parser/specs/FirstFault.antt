@@ -18,7 +18,7 @@ IsDeep levels front [] = ⊥
 IsDeep levels front (t ∷ rest) = CanGoOn (suc levels) (front ++ t ∷ [])
 
 -- the first symbol with which no document goes on has the rest behind it, or the rest is empty
-pub record IsFirstFault (levels : ℕ) (ts rest : List Lexeme) (too_deep : Bool) : Type 0 where
+pub record IsFirstSyntaxFault (levels : ℕ) (ts rest : List Lexeme) (too_deep : Bool) : Type 0 where
   pub front : List Lexeme
   pub is : ts ≡ front ++ rest
   pub before : CanGoOn levels front
@@ -26,9 +26,9 @@ pub record IsFirstFault (levels : ℕ) (ts rest : List Lexeme) (too_deep : Bool)
   pub deep : (too_deep ≡ true) ↔ IsDeep levels front rest
 
 -- the symbols are some document
-abbrev pub IsDocument : ℕ → List Lexeme → Type 0
-IsDocument levels ts = (d : Node) × DocumentIn levels ts d
+abbrev pub AreDocument : ℕ → List Lexeme → Type 0
+AreDocument levels ts = (d : Node) × DocumentIn levels ts d
 
 -- the symbols have a first fault
-abbrev pub HasFirstFault : ℕ → List Lexeme → Type 0
-HasFirstFault levels ts = (rest : List Lexeme) × (too_deep : Bool) × IsFirstFault levels ts rest too_deep
+abbrev pub HasFirstSyntaxFault : ℕ → List Lexeme → Type 0
+HasFirstSyntaxFault levels ts = (rest : List Lexeme) × (too_deep : Bool) × IsFirstSyntaxFault levels ts rest too_deep

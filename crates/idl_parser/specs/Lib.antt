@@ -1,4 +1,3 @@
-pub mod Terminals
 pub mod Phrases
 pub mod Leaves
 pub mod Parts
@@ -11,10 +10,10 @@ pub mod FirstFault
 pub mod Shapes
 pub mod Reading
 pub mod Symbols
-pub mod Spots
+pub mod ReaderCalls
 pub mod Starts
 pub mod Trees
 pub mod Faults
-pub mod Aside
+pub mod Unplaced
 pub mod Printed
 pub mod ReadBack

@@ -1,8 +1,8 @@
 -- What a grammar is: phrases, the symbols that they stand for, and the trees that they make of them.
 use Rattle.std.specs.Prelude.{◌≡◌, ◌⊎◌, ℕ, zero, suc, ℤ, true, List, [], ◌∷◌}
 use Rattle.idl_token.specs.declared.Place.{Place}
-use Rattle.idl_parser.specs.declared.terminal.Terminal.{Terminal}
-use Rattle.idl_parser.specs.Terminals.{same}
+use Rattle.idl_token.specs.declared.terminal.Terminal.{Terminal}
+use Rattle.idl_token.specs.Terminals.{same}
 
 -- a symbol of a text: what it is, its bytes, and the place of the first one
 pub record Lexeme : Type 0 where
@@ -50,12 +50,12 @@ Times join P (suc count) ts x rest =
     (mid : List Lexeme) × (a : Node) × (b : Node) × P ts a mid × Times join P count mid b rest × (x ≡ join a b)
 
 -- a phrase stands at the front of some symbols, with its tree, and leaves the rest
-abbrev pub In : Phrase → List Lexeme → Node → List Lexeme → Type 0
-In (one k f) ts x rest = (t : Lexeme) × (same t.what k ≡ true) × (ts ≡ t ∷ rest) × (x ≡ f t)
-In (deep k) ts x rest = ⊥
-In (chain join p q) ts x rest =
-    (mid : List Lexeme) × (a : Node) × (b : Node) × In p ts a mid × In q mid b rest × (x ≡ join a b)
-In (either p q) ts x rest = In p ts x rest ⊎ In q ts x rest
-In (maybe f p) ts x rest = ((ts ≡ rest) × (x ≡ none)) ⊎ ((a : Node) × In p ts a rest × (x ≡ f a))
-In (many join p) ts x rest = (count : ℕ) × Times join (In p) count ts x rest
-In (marked p) ts x rest = (a : Node) × In p ts a rest × (x ≡ placed (place_at ts) a)
+abbrev pub Derives : Phrase → List Lexeme → Node → List Lexeme → Type 0
+Derives (one k f) ts x rest = (t : Lexeme) × (same t.what k ≡ true) × (ts ≡ t ∷ rest) × (x ≡ f t)
+Derives (deep k) ts x rest = ⊥
+Derives (chain join p q) ts x rest =
+    (mid : List Lexeme) × (a : Node) × (b : Node) × Derives p ts a mid × Derives q mid b rest × (x ≡ join a b)
+Derives (either p q) ts x rest = Derives p ts x rest ⊎ Derives q ts x rest
+Derives (maybe f p) ts x rest = ((ts ≡ rest) × (x ≡ none)) ⊎ ((a : Node) × Derives p ts a rest × (x ≡ f a))
+Derives (many join p) ts x rest = (count : ℕ) × Times join (Derives p) count ts x rest
+Derives (marked p) ts x rest = (a : Node) × Derives p ts a rest × (x ≡ placed (place_at ts) a)

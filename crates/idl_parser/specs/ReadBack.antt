@@ -7,19 +7,19 @@ use Rattle.idl_parser.specs.Phrases.{Node}
 use Rattle.idl_parser.specs.Documents.{deepest, DocumentIn}
 use Rattle.idl_parser.specs.Symbols.{lexemes}
 use Rattle.idl_parser.specs.Trees.{document_node}
-use Rattle.idl_parser.specs.Aside.{aside}
+use Rattle.idl_parser.specs.Unplaced.{without_places}
 
 -- the document is that of some text
-pub record IsRead (d : Document) : Type 0 where
+pub record IsParsed (d : Document) : Type 0 where
   pub text : List ℕ
   pub tokens : List Token
   pub are : AreTokensOf tokens text
   pub document : DocumentIn deepest (lexemes text tokens) (document_node d)
 
 -- a text has tokens, and these are a document with the same tree, places aside
-pub record IsReadAs (tree : Node) (text : List ℕ) : Type 0 where
+pub record IsParsedAs (tree : Node) (text : List ℕ) : Type 0 where
   pub tokens : List Token
   pub are : AreTokensOf tokens text
   pub again : Node
   pub document : DocumentIn deepest (lexemes text tokens) again
-  pub same : aside again ≡ aside tree
+  pub same : without_places again ≡ without_places tree

@@ -1,22 +1,23 @@
 -- What one symbol of look-ahead tells of a phrase.
 use Rattle.std.specs.Prelude.{◌≡◌, Bool, true, false, not, ◌&&◌, ◌||◌, List, [], ◌∷◌, ◌++◌}
-use Rattle.idl_parser.specs.declared.terminal.Terminal.{Terminal}
-use Rattle.idl_parser.specs.Terminals.{same}
+use Rattle.idl_token.specs.declared.terminal.Terminal.{Terminal}
+use Rattle.idl_token.specs.Terminals.{same}
 use Rattle.idl_parser.specs.Phrases.{Lexeme, Phrase, one, deep, chain, either, maybe, many, marked}
 
-abbrev pub has : List Terminal → Terminal → Bool
-has [] k = false
-has (x ∷ xs) k = same k x || has xs k
+-- a symbol is one of these
+abbrev pub contains_terminal : List Terminal → Terminal → Bool
+contains_terminal [] k = false
+contains_terminal (x ∷ xs) k = same k x || contains_terminal xs k
 
 -- the first symbol is one of these
 abbrev pub starts_in : List Terminal → List Lexeme → Bool
 starts_in set [] = false
-starts_in set (t ∷ ts) = has set t.what
+starts_in set (t ∷ ts) = contains_terminal set t.what
 
 -- no symbol is in both
 abbrev pub apart : List Terminal → List Terminal → Bool
 apart [] ys = true
-apart (x ∷ xs) ys = not (has ys x) && apart xs ys
+apart (x ∷ xs) ys = not (contains_terminal ys x) && apart xs ys
 
 -- the phrase may be no symbol at all
 abbrev pub may_be_empty : Phrase → Bool

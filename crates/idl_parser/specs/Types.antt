@@ -1,42 +1,48 @@
 -- Types (Thrift IDL, 'Types').
 use Rattle.std.specs.Prelude.{ℕ, zero, suc}
-use Rattle.idl_parser.specs.declared.terminal.Terminal.TheVariants as word
+use Rattle.idl_token.specs.declared.terminal.Terminal.TheVariants as word
 use Rattle.idl_parser.specs.Phrases.{pair, Phrase, deep, chain, either, maybe}
-use Rattle.idl_parser.specs.Leaves.{sign, kept, neither, the_first, the_second, dropped}
+use Rattle.idl_parser.specs.Leaves.{sign, kept_word, neither, left_tree, right_tree, dropped}
 use Rattle.idl_parser.specs.Parts.{identifier, annotated}
 
 -- a base type's word
 unfoldable pub base : Phrase
 base =
-    either (kept word.Bool) (either (kept word.Byte) (either (kept word.I8) (either (kept word.I16) (either (kept word.I32)
-    (either (kept word.I64) (either (kept word.DoubleWord) (either (kept word.StringWord) (kept word.Binary))))))))
+    either (kept_word word.Bool) (either (kept_word word.Byte) (either (kept_word word.I8) (either (kept_word word.I16) (either (kept_word word.I32)
+    (either (kept_word word.I64) (either (kept_word word.DoubleWord) (either (kept_word word.StringWord) (kept_word word.Binary))))))))
 
 -- `cpp_type` and a literal, or nothing; nothing is kept of it
 unfoldable pub cpp_type : Phrase
 cpp_type = maybe dropped (chain neither (sign word.CppType) (sign word.Literal))
 
 -- the containers, of types such as the inner ones
-unfoldable pub map_rest : Phrase → Phrase
-map_rest inner =
-    chain the_second cpp_type (chain the_second (sign word.Less)
-    (chain pair inner (chain the_second (sign word.Comma) (chain the_first inner (sign word.Greater)))))
+unfoldable pub map_type_rest : Phrase → Phrase
+map_type_rest inner =
+    chain right_tree cpp_type (chain right_tree (sign word.Less)
+    (chain pair inner (chain right_tree (sign word.Comma) (chain left_tree inner (sign word.Greater)))))
 
+-- a map
 abbrev pub map_type : Phrase → Phrase
-map_type inner = chain pair (kept word.Map) (map_rest inner)
+map_type inner = chain pair (kept_word word.Map) (map_type_rest inner)
 
-unfoldable pub set_rest : Phrase → Phrase
-set_rest inner = chain the_second cpp_type (chain the_second (sign word.Less) (chain the_first inner (sign word.Greater)))
+-- what stands behind `set`
+unfoldable pub set_type_rest : Phrase → Phrase
+set_type_rest inner = chain right_tree cpp_type (chain right_tree (sign word.Less) (chain left_tree inner (sign word.Greater)))
 
+-- a set
 abbrev pub set_type : Phrase → Phrase
-set_type inner = chain pair (kept word.Set) (set_rest inner)
+set_type inner = chain pair (kept_word word.Set) (set_type_rest inner)
 
-unfoldable pub list_rest : Phrase → Phrase
-list_rest inner =
-    chain the_second cpp_type (chain the_second (sign word.Less) (chain the_first inner (chain neither (sign word.Greater) cpp_type)))
+-- what stands behind `list`
+unfoldable pub list_type_rest : Phrase → Phrase
+list_type_rest inner =
+    chain right_tree cpp_type (chain right_tree (sign word.Less) (chain left_tree inner (chain neither (sign word.Greater) cpp_type)))
 
+-- a list
 abbrev pub list_type : Phrase → Phrase
-list_type inner = chain pair (kept word.List) (list_rest inner)
+list_type inner = chain pair (kept_word word.List) (list_type_rest inner)
 
+-- a map, a set or a list
 unfoldable pub container : Phrase → Phrase
 container inner = either (map_type inner) (either (set_type inner) (list_type inner))
 

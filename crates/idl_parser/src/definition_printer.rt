@@ -2,25 +2,26 @@
 ghost use Rattle.std.specs.Prelude.{◌≡◌, ◌++◌, OnOk};
 ghost use Rattle.std.specs.List.{flat_map};
 ghost use Rattle.std.specs.Option.{option_copied};
-ghost use Rattle.idl_parser.specs.Printed.{maybe_text, oneway_text, result_text, throws_text, signature_text, function_text, function_line, const_text, typedef_text, number_text, enum_value_text, enum_value_line, enum_text, struct_word_text, struct_text, parent_text, service_text, definition_text, opening, ending};
+ghost use Rattle.idl_parser.specs.Printed.{maybe_text, oneway_text, result_text, throws_text, signature_text, function_text, function_line, const_text, typedef_text, number_text, enum_value_text, enum_value_line, enum_text, struct_word_text, struct_text, parent_text, service_text, definition_text, opening_line, closing_line};
 
 use crate::field_printer::{put_arguments, put_field_lines};
 use crate::tree::{
     Const, Definition, Enum, EnumValue, Field, Function, Int, Name, Service, Struct, StructKind,
     TypeTree, Typedef,
 };
-use crate::type_printer::put_type;
+use crate::type_printer::{put_spaced_word, put_type, put_word};
 use crate::value_printer::{put_int, put_value};
+use idl_token::Terminal;
 use std::alloc::AllocError;
 
 fn put_opening(into: &mut Vec<u8>) -> Result<(), AllocError>
-    ensures { OnOk result (into.new.items ≡ into.old.items ++ opening) }
+    ensures { OnOk result (into.new.items ≡ into.old.items ++ opening_line) }
 {
     into.extend_from_slice(b" {\n")
 }
 
 fn put_ending(into: &mut Vec<u8>) -> Result<(), AllocError>
-    ensures { OnOk result (into.new.items ≡ into.old.items ++ ending) }
+    ensures { OnOk result (into.new.items ≡ into.old.items ++ closing_line) }
 {
     into.extend_from_slice(b"}\n")
 }
@@ -35,7 +36,7 @@ fn put_name(into: &mut Vec<u8>, name: &Name) -> Result<(), AllocError>
 fn put_const(into: &mut Vec<u8>, constant: &Const) -> Result<(), AllocError>
     ensures { OnOk result (into.new.items ≡ into.old.items ++ const_text constant.now) }
 {
-    into.extend_from_slice(b"const ")?;
+    put_spaced_word(into, Terminal::Const)?;
     put_type(into, &constant.kind)?;
     into.extend_from_slice(b" ")?;
     put_name(into, &constant.name)?;
@@ -48,7 +49,7 @@ fn put_const(into: &mut Vec<u8>, constant: &Const) -> Result<(), AllocError>
 fn put_typedef(into: &mut Vec<u8>, typedef: &Typedef) -> Result<(), AllocError>
     ensures { OnOk result (into.new.items ≡ into.old.items ++ typedef_text typedef.now) }
 {
-    into.extend_from_slice(b"typedef ")?;
+    put_spaced_word(into, Terminal::Typedef)?;
     put_type(into, &typedef.kind)?;
     into.extend_from_slice(b" ")?;
     put_name(into, &typedef.name)?;
@@ -96,7 +97,8 @@ fn put_enum_values(into: &mut Vec<u8>, values: &[EnumValue]) -> Result<(), Alloc
 fn put_enum(into: &mut Vec<u8>, enumeration: &Enum) -> Result<(), AllocError>
     ensures { OnOk result (into.new.items ≡ into.old.items ++ enum_text enumeration.now) }
 {
-    into.extend_from_slice(b"\nenum ")?;
+    into.extend_from_slice(b"\n")?;
+    put_spaced_word(into, Terminal::Enum)?;
     put_name(into, &enumeration.name)?;
     put_opening(into)?;
     put_enum_values(into, enumeration.values.as_slice())?;
@@ -107,9 +109,9 @@ fn put_struct_word(into: &mut Vec<u8>, kind: StructKind) -> Result<(), AllocErro
     ensures { OnOk result (into.new.items ≡ into.old.items ++ struct_word_text kind) }
 {
     match kind {
-        StructKind::Struct => into.extend_from_slice(b"struct "),
-        StructKind::Union => into.extend_from_slice(b"union "),
-        StructKind::Exception => into.extend_from_slice(b"exception "),
+        StructKind::Struct => put_spaced_word(into, Terminal::Struct),
+        StructKind::Union => put_spaced_word(into, Terminal::Union),
+        StructKind::Exception => put_spaced_word(into, Terminal::Exception),
     }
 }
 
@@ -129,7 +131,7 @@ fn put_oneway(into: &mut Vec<u8>, oneway: bool) -> Result<(), AllocError>
     ensures { OnOk result (into.new.items ≡ into.old.items ++ oneway_text oneway) }
 {
     if oneway {
-        into.extend_from_slice(b"oneway ")
+        put_spaced_word(into, Terminal::Oneway)
     } else {
         Ok(())
     }
@@ -140,7 +142,7 @@ fn put_result(into: &mut Vec<u8>, kind: Option<&TypeTree>) -> Result<(), AllocEr
 {
     match kind {
         Some(kind) => put_type(into, kind),
-        None => into.extend_from_slice(b"void"),
+        None => put_word(into, Terminal::Void),
     }
 }
 
@@ -149,7 +151,8 @@ fn put_throws(into: &mut Vec<u8>, throws: Option<&Vec<Field>>) -> Result<(), All
 {
     match throws {
         Some(fields) => {
-            into.extend_from_slice(b" throws ")?;
+            into.extend_from_slice(b" ")?;
+            put_spaced_word(into, Terminal::Throws)?;
             put_arguments(into, fields.as_slice())
         }
         None => Ok(()),
@@ -197,7 +200,8 @@ fn put_parent(into: &mut Vec<u8>, parent: Option<&Name>) -> Result<(), AllocErro
 {
     match parent {
         Some(name) => {
-            into.extend_from_slice(b" extends ")?;
+            into.extend_from_slice(b" ")?;
+            put_spaced_word(into, Terminal::Extends)?;
             put_name(into, name)
         }
         None => Ok(()),
@@ -208,7 +212,8 @@ fn put_parent(into: &mut Vec<u8>, parent: Option<&Name>) -> Result<(), AllocErro
 fn put_service(into: &mut Vec<u8>, service: &Service) -> Result<(), AllocError>
     ensures { OnOk result (into.new.items ≡ into.old.items ++ service_text service.now) }
 {
-    into.extend_from_slice(b"\nservice ")?;
+    into.extend_from_slice(b"\n")?;
+    put_spaced_word(into, Terminal::Service)?;
     put_name(into, &service.name)?;
     put_parent(into, service.parent.as_ref())?;
     put_opening(into)?;

@@ -5,27 +5,25 @@ ghost use Rattle.idl_parser.specs.Shapes.{starts_in, first};
 ghost use Rattle.idl_parser.specs.Starts.{entry_starts, function_starts};
 ghost use Rattle.idl_parser.specs.Definitions.{constant, typedef, enum_number, enum_value, closing, enumeration, struct_word, structure, fields_in_parentheses, oneway, result_type, throws, function, parent, service, bare_definition, definition};
 ghost use Rattle.idl_parser.specs.Trees.{maybe_node, int_node, name_node, fields_node, oneway_node, result_node, function_node, functions_node, const_node, typedef_node, enum_value_node, enum_values_node, enum_node, struct_word_of, struct_node, service_node, definition_node};
-ghost use Rattle.idl_parser.specs.Spots.{Reads};
+ghost use Rattle.idl_parser.specs.ReaderCalls.{Parses};
 ghost use Rattle.idl_parser.specs.Documents.{deepest};
 
-use crate::reader::{MAX_SYMBOLS, Reader, Stop, deepest, put};
-use crate::terminal::Terminal;
+use crate::reader::{MAX_SYMBOLS, Stop, SymbolReader, deepest, kept, put};
 use crate::tree::{
     Const, Definition, Enum, EnumValue, Field, Function, Int, Name, Service, Struct, StructKind,
     TypeTree, Typedef,
 };
-use idl_token::Place;
+use idl_token::{Place, Terminal};
 
-impl<'a> Reader<'a> {
+impl<'a> SymbolReader<'a> {
     #[tactic(auto, unfolding(crate::specs::Definitions::constant_rest, crate::specs::Trees::const_node))]
     fn constant(&mut self) -> Result<Const, Stop>
-        ensures { Reads (constant deepest) const_node self.old self.new result }
+        ensures { Parses (constant deepest) const_node self.old self.new result }
     {
         let at = self.word(Terminal::Const)?;
         let kind = self.type_tree(deepest())?;
         let name = self.name()?;
-        self.sign(Terminal::Equals)?;
-        let value = self.value(deepest())?;
+        let value = self.assigned()?;
         Ok(Const {
             at,
             kind,
@@ -36,18 +34,18 @@ impl<'a> Reader<'a> {
 
     #[tactic(auto, unfolding(crate::specs::Definitions::typedef_rest, crate::specs::Trees::typedef_node))]
     fn typedef(&mut self) -> Result<Typedef, Stop>
-        ensures { Reads (typedef deepest) typedef_node self.old self.new result }
+        ensures { Parses (typedef deepest) typedef_node self.old self.new result }
     {
         let at = self.word(Terminal::Typedef)?;
         let kind = self.type_tree(deepest())?;
         let name = self.name()?;
-        self.annotation()?;
-        Ok(Typedef { at, kind, name })
+        let behind = self.annotation();
+        kept(Typedef { at, kind, name }, behind)
     }
 
     #[tactic(auto, unfolding(crate::specs::Definitions::enum_number))]
     fn enum_number(&mut self) -> Result<Option<Int>, Stop>
-        ensures { Reads enum_number (maybe_node int_node) self.old self.new result }
+        ensures { Parses enum_number (maybe_node int_node) self.old self.new result }
     {
         if self.starts(&[Terminal::Equals]) {
             self.sign(Terminal::Equals)?;
@@ -59,12 +57,12 @@ impl<'a> Reader<'a> {
 
     #[tactic(auto, unfolding(crate::specs::Definitions::enum_value, crate::specs::Trees::enum_value_node))]
     fn enum_value(&mut self) -> Result<EnumValue, Stop>
-        ensures { Reads enum_value enum_value_node self.old self.new result }
+        ensures { Parses enum_value enum_value_node self.old self.new result }
     {
         let name = self.name()?;
         let number = self.enum_number()?;
-        self.ending()?;
-        Ok(EnumValue { name, number })
+        let behind = self.field_ending();
+        kept(EnumValue { name, number }, behind)
     }
 
     fn begins_name(&self) -> bool
@@ -74,21 +72,15 @@ impl<'a> Reader<'a> {
     }
 
     fn enum_values(&mut self) -> Result<Vec<EnumValue>, Stop>
-        ensures { Reads (many pair enum_value) (λ v. enum_values_node v.items) self.old self.new result }
+        ensures { Parses (many pair enum_value) (λ v. enum_values_node v.items) self.old self.new result }
     {
         let mut all = Vec::new(self.alloc());
         'row: for _round in 0..MAX_SYMBOLS {
             if !self.begins_name() {
                 return Ok(all);
             }
-            match self.enum_value() {
-                Ok(item) => {
-                    if let Err(full) = put(&mut all, item) {
-                        return Err(full);
-                    }
-                }
-                Err(stop) => return Err(stop),
-            }
+            let item = self.enum_value()?;
+            put(&mut all, item)?;
         }
         Ok(all)
     }
@@ -96,7 +88,7 @@ impl<'a> Reader<'a> {
     /// A closing brace, and an annotation or none.
     #[tactic(auto, unfolding(crate::specs::Definitions::closing))]
     fn closing(&mut self) -> Result<(), Stop>
-        ensures { Reads closing (λ _. none) self.old self.new result }
+        ensures { Parses closing (λ _. none) self.old self.new result }
     {
         self.sign(Terminal::CloseBrace)?;
         self.annotation()
@@ -104,19 +96,19 @@ impl<'a> Reader<'a> {
 
     #[tactic(auto, unfolding(crate::specs::Definitions::enum_rest, crate::specs::Trees::enum_node))]
     fn enumeration(&mut self) -> Result<Enum, Stop>
-        ensures { Reads enumeration enum_node self.old self.new result }
+        ensures { Parses enumeration enum_node self.old self.new result }
     {
         let at = self.word(Terminal::Enum)?;
         let name = self.name()?;
         self.sign(Terminal::OpenBrace)?;
         let values = self.enum_values()?;
-        self.closing()?;
-        Ok(Enum { at, name, values })
+        let behind = self.closing();
+        kept(Enum { at, name, values }, behind)
     }
 
     #[tactic(auto, unfolding(crate::specs::Definitions::struct_word))]
     fn struct_word(&mut self) -> Result<(Place, StructKind), Stop>
-        ensures { Reads struct_word (λ w. word (struct_word_of w.1) w.0) self.old self.new result }
+        ensures { Parses struct_word (λ w. word (struct_word_of w.1) w.0) self.old self.new result }
     {
         if self.starts(&[Terminal::Struct]) {
             return Ok((self.word(Terminal::Struct)?, StructKind::Struct));
@@ -129,34 +121,35 @@ impl<'a> Reader<'a> {
 
     #[tactic(auto, unfolding(crate::specs::Definitions::struct_rest, crate::specs::Trees::struct_node))]
     fn structure(&mut self) -> Result<Struct, Stop>
-        ensures { Reads (structure deepest) struct_node self.old self.new result }
+        ensures { Parses (structure deepest) struct_node self.old self.new result }
     {
         let (at, kind) = self.struct_word()?;
         let name = self.name()?;
         self.sign(Terminal::OpenBrace)?;
         let fields = self.fields()?;
-        self.closing()?;
-        Ok(Struct {
+        let structure = Struct {
             at,
             kind,
             name,
             fields,
-        })
+        };
+        let behind = self.closing();
+        kept(structure, behind)
     }
 
     #[tactic(auto, unfolding(crate::specs::Definitions::fields_in_parentheses))]
     fn fields_in_parentheses(&mut self) -> Result<Vec<Field>, Stop>
-        ensures { Reads (fields_in_parentheses deepest) (λ v. fields_node v.items) self.old self.new result }
+        ensures { Parses (fields_in_parentheses deepest) (λ v. fields_node v.items) self.old self.new result }
     {
         self.sign(Terminal::OpenParen)?;
         let fields = self.fields()?;
-        self.sign(Terminal::CloseParen)?;
-        Ok(fields)
+        let behind = self.sign(Terminal::CloseParen);
+        kept(fields, behind)
     }
 
     #[tactic(auto, unfolding(crate::specs::Definitions::oneway))]
     fn oneway(&mut self) -> Result<bool, Stop>
-        ensures { Reads oneway oneway_node self.old self.new result }
+        ensures { Parses oneway oneway_node self.old self.new result }
     {
         if self.starts(&[Terminal::Oneway]) {
             self.flag(Terminal::Oneway)?;
@@ -167,7 +160,7 @@ impl<'a> Reader<'a> {
 
     #[tactic(auto, unfolding(crate::specs::Definitions::result_type))]
     fn result_type(&mut self) -> Result<Option<TypeTree>, Stop>
-        ensures { Reads (result_type deepest) result_node self.old self.new result }
+        ensures { Parses (result_type deepest) result_node self.old self.new result }
     {
         if self.starts(&[Terminal::Void]) {
             self.flag(Terminal::Void)?;
@@ -179,7 +172,7 @@ impl<'a> Reader<'a> {
 
     #[tactic(auto, unfolding(crate::specs::Definitions::throws))]
     fn throws(&mut self) -> Result<Option<Vec<Field>>, Stop>
-        ensures { Reads (throws deepest) (maybe_node (λ v. fields_node v.items)) self.old self.new result }
+        ensures { Parses (throws deepest) (maybe_node (λ v. fields_node v.items)) self.old self.new result }
     {
         if self.starts(&[Terminal::Throws]) {
             self.sign(Terminal::Throws)?;
@@ -191,7 +184,7 @@ impl<'a> Reader<'a> {
 
     #[tactic(auto, unfolding(crate::specs::Definitions::function, crate::specs::Trees::function_node))]
     fn function(&mut self) -> Result<Function, Stop>
-        ensures { Reads (function deepest) function_node self.old self.new result }
+        ensures { Parses (function deepest) function_node self.old self.new result }
     {
         let at = self.place();
         let oneway = self.oneway()?;
@@ -199,15 +192,16 @@ impl<'a> Reader<'a> {
         let name = self.name()?;
         let arguments = self.fields_in_parentheses()?;
         let throws = self.throws()?;
-        self.ending()?;
-        Ok(Function {
+        let function = Function {
             at,
             oneway,
             result,
             name,
             arguments,
             throws,
-        })
+        };
+        let behind = self.field_ending();
+        kept(function, behind)
     }
 
     fn begins_function(&self) -> bool
@@ -233,28 +227,22 @@ impl<'a> Reader<'a> {
     }
 
     fn functions(&mut self) -> Result<Vec<Function>, Stop>
-        ensures { Reads (many pair (function deepest)) (λ v. functions_node v.items) self.old self.new result }
+        ensures { Parses (many pair (function deepest)) (λ v. functions_node v.items) self.old self.new result }
     {
         let mut all = Vec::new(self.alloc());
         'row: for _round in 0..MAX_SYMBOLS {
             if !self.begins_function() {
                 return Ok(all);
             }
-            match self.function() {
-                Ok(item) => {
-                    if let Err(full) = put(&mut all, item) {
-                        return Err(full);
-                    }
-                }
-                Err(stop) => return Err(stop),
-            }
+            let item = self.function()?;
+            put(&mut all, item)?;
         }
         Ok(all)
     }
 
     #[tactic(auto, unfolding(crate::specs::Definitions::parent))]
     fn parent(&mut self) -> Result<Option<Name>, Stop>
-        ensures { Reads parent (maybe_node name_node) self.old self.new result }
+        ensures { Parses parent (maybe_node name_node) self.old self.new result }
     {
         if self.starts(&[Terminal::Extends]) {
             self.sign(Terminal::Extends)?;
@@ -266,20 +254,21 @@ impl<'a> Reader<'a> {
 
     #[tactic(auto, unfolding(crate::specs::Definitions::service_rest, crate::specs::Trees::service_node))]
     fn service(&mut self) -> Result<Service, Stop>
-        ensures { Reads (service deepest) service_node self.old self.new result }
+        ensures { Parses (service deepest) service_node self.old self.new result }
     {
         let at = self.word(Terminal::Service)?;
         let name = self.name()?;
         let parent = self.parent()?;
         self.sign(Terminal::OpenBrace)?;
         let functions = self.functions()?;
-        self.closing()?;
-        Ok(Service {
+        let service = Service {
             at,
             name,
             parent,
             functions,
-        })
+        };
+        let behind = self.closing();
+        kept(service, behind)
     }
 
     #[tactic(auto, unfolding(crate::specs::Definitions::struct_word))]
@@ -291,7 +280,7 @@ impl<'a> Reader<'a> {
 
     #[tactic(auto, unfolding(crate::specs::Definitions::bare_definition, crate::specs::Trees::definition_node))]
     fn bare_definition(&mut self) -> Result<Definition, Stop>
-        ensures { Reads (bare_definition deepest) definition_node self.old self.new result }
+        ensures { Parses (bare_definition deepest) definition_node self.old self.new result }
     {
         if self.starts(&[Terminal::Const]) {
             return Ok(Definition::Const(self.constant()?));
@@ -311,10 +300,10 @@ impl<'a> Reader<'a> {
     /// A definition, and a separator or none.
     #[tactic(auto, unfolding(crate::specs::Definitions::definition))]
     pub(crate) fn definition(&mut self) -> Result<Definition, Stop>
-        ensures { Reads (definition deepest) definition_node self.old self.new result }
+        ensures { Parses (definition deepest) definition_node self.old self.new result }
     {
         let bare = self.bare_definition()?;
-        self.separator()?;
-        Ok(bare)
+        let behind = self.separator();
+        kept(bare, behind)
     }
 }

@@ -7,17 +7,17 @@ ghost use Rattle.idl_parser.specs.Definitions.{definition};
 ghost use Rattle.idl_parser.specs.Documents.{include, cpp_include, namespace, header, with_header, deepest, document};
 ghost use Rattle.idl_parser.specs.Trees.{include_node, includes_node, definitions_node, header_node, document_node};
 ghost use Rattle.idl_parser.specs.Reading.{read, whole, done};
-ghost use Rattle.idl_parser.specs.Spots.{Reads, Stops, most};
+ghost use Rattle.idl_parser.specs.ReaderCalls.{Parses, StopsAt, most};
 ghost use Rattle.idl_parser.specs.Trees.{some_of};
 
-use crate::reader::{MAX_SYMBOLS, Reader, Stop, put};
-use crate::terminal::Terminal;
+use crate::reader::{MAX_SYMBOLS, Stop, SymbolReader, put};
 use crate::tree::{Definition, Document, Include};
+use idl_token::Terminal;
 
-impl<'a> Reader<'a> {
+impl<'a> SymbolReader<'a> {
     #[tactic(auto, unfolding(crate::specs::Trees::include_node))]
     fn include(&mut self) -> Result<Include, Stop>
-        ensures { Reads include include_node self.old self.new result }
+        ensures { Parses include include_node self.old self.new result }
     {
         let at = self.word(Terminal::Include)?;
         let file = self.literal()?;
@@ -25,7 +25,7 @@ impl<'a> Reader<'a> {
     }
 
     fn cpp_include(&mut self) -> Result<(), Stop>
-        ensures { Reads cpp_include (λ _. none) self.old self.new result }
+        ensures { Parses cpp_include (λ _. none) self.old self.new result }
     {
         self.sign(Terminal::CppInclude)?;
         self.sign(Terminal::Literal)
@@ -33,7 +33,7 @@ impl<'a> Reader<'a> {
 
     #[tactic(auto, unfolding(crate::specs::Documents::namespace_rest))]
     fn namespace(&mut self) -> Result<(), Stop>
-        ensures { Reads namespace (λ _. none) self.old self.new result }
+        ensures { Parses namespace (λ _. none) self.old self.new result }
     {
         self.sign(Terminal::Namespace)?;
         if self.starts(&[Terminal::Identifier]) {
@@ -49,7 +49,7 @@ impl<'a> Reader<'a> {
     /// A header: an include, or nothing of one that is left out.
     #[tactic(auto, unfolding(crate::specs::Documents::header))]
     fn header(&mut self) -> Result<Option<Include>, Stop>
-        ensures { Reads header header_node self.old self.new result }
+        ensures { Parses header header_node self.old self.new result }
     {
         if self.starts(&[Terminal::Include]) {
             return Ok(Some(self.include()?));
@@ -69,21 +69,15 @@ impl<'a> Reader<'a> {
     }
 
     fn headers(&mut self) -> Result<Vec<Include>, Stop>
-        ensures { Reads (many with_header header) (λ v. includes_node v.items) self.old self.new result }
+        ensures { Parses (many with_header header) (λ v. includes_node v.items) self.old self.new result }
     {
         let mut all = Vec::new(self.alloc());
         'row: for _round in 0..MAX_SYMBOLS {
             if !self.begins_header() {
                 return Ok(all);
             }
-            match self.header() {
-                Ok(item) => {
-                    if let Err(full) = put_some(&mut all, item) {
-                        return Err(full);
-                    }
-                }
-                Err(stop) => return Err(stop),
-            }
+            let item = self.header()?;
+            put_some(&mut all, item)?;
         }
         Ok(all)
     }
@@ -103,21 +97,15 @@ impl<'a> Reader<'a> {
     }
 
     fn definitions(&mut self) -> Result<Vec<Definition>, Stop>
-        ensures { Reads (many pair (definition deepest)) (λ v. definitions_node v.items) self.old self.new result }
+        ensures { Parses (many pair (definition deepest)) (λ v. definitions_node v.items) self.old self.new result }
     {
         let mut all = Vec::new(self.alloc());
         'row: for _round in 0..MAX_SYMBOLS {
             if !self.begins_definition() {
                 return Ok(all);
             }
-            match self.definition() {
-                Ok(item) => {
-                    if let Err(full) = put(&mut all, item) {
-                        return Err(full);
-                    }
-                }
-                Err(stop) => return Err(stop),
-            }
+            let item = self.definition()?;
+            put(&mut all, item)?;
         }
         Ok(all)
     }
@@ -125,7 +113,7 @@ impl<'a> Reader<'a> {
     /// Headers and then definitions, as far as they go.
     #[tactic(auto, unfolding(crate::specs::Documents::document, crate::specs::Trees::document_node))]
     pub(crate) fn document(&mut self) -> Result<Document, Stop>
-        ensures { Reads (document deepest) document_node self.old self.new result }
+        ensures { Parses (document deepest) document_node self.old self.new result }
     {
         let includes = self.headers()?;
         let definitions = self.definitions()?;
@@ -146,10 +134,10 @@ fn put_some(all: &mut Vec<Include>, item: Option<Include>) -> Result<(), Stop>
     }
 }
 
-impl<'a> Reader<'a> {
+impl<'a> SymbolReader<'a> {
     /// A whole document.
     pub(crate) fn whole_document(&mut self) -> Result<Document, Stop>
-        ensures { MatchResult result (λ d. whole (read most (document deepest) self.old) ≡ done (document_node d) self.new) (λ e. Stops e (whole (read most (document deepest) self.old)) self.new) }
+        ensures { MatchResult result (λ d. whole (read most (document deepest) self.old) ≡ done (document_node d) self.new) (λ e. StopsAt e (whole (read most (document deepest) self.old)) self.new) }
     {
         match self.document() {
             Ok(document) => {

@@ -1,11 +1,12 @@
 //! The text of fields.
 ghost use Rattle.std.specs.Prelude.{◌≡◌, ◌++◌, map, OnOk};
 ghost use Rattle.std.specs.Option.{option_copied};
-ghost use Rattle.idl_parser.specs.Printed.{maybe_text, id_text, need_text, default_text, typed_text, field_text, field_line, field_lines, separated, arguments_text};
+ghost use Rattle.idl_parser.specs.Printed.{maybe_text, id_text, need_text, default_text, typed_text, field_text, field_line, field_lines, behind_comma, separated, arguments_text};
 
 use crate::tree::{ConstTree, Field, Int, Need};
-use crate::type_printer::put_type;
+use crate::type_printer::{put_spaced_word, put_type};
 use crate::value_printer::{put_int, put_value};
+use idl_token::Terminal;
 use std::alloc::AllocError;
 
 fn put_id(into: &mut Vec<u8>, id: Option<Int>) -> Result<(), AllocError>
@@ -25,8 +26,8 @@ fn put_need(into: &mut Vec<u8>, need: Need) -> Result<(), AllocError>
 {
     match need {
         Need::Default => Ok(()),
-        Need::Required => into.extend_from_slice(b"required "),
-        Need::Optional => into.extend_from_slice(b"optional "),
+        Need::Required => put_spaced_word(into, Terminal::Required),
+        Need::Optional => put_spaced_word(into, Terminal::Optional),
     }
 }
 
@@ -79,6 +80,13 @@ pub(crate) fn put_field_lines(into: &mut Vec<u8>, fields: &[Field]) -> Result<()
     Ok(())
 }
 
+fn put_behind_comma(into: &mut Vec<u8>, field: &Field) -> Result<(), AllocError>
+    ensures { OnOk result (into.new.items ≡ into.old.items ++ behind_comma (field_text field.now)) }
+{
+    into.extend_from_slice(b", ")?;
+    put_field(into, field)
+}
+
 fn put_separated(into: &mut Vec<u8>, fields: &[Field]) -> Result<(), AllocError>
     ensures { OnOk result (into.new.items ≡ into.old.items ++ separated (map field_text fields.now)) }
 {
@@ -87,8 +95,7 @@ fn put_separated(into: &mut Vec<u8>, fields: &[Field]) -> Result<(), AllocError>
     };
     put_field(into, first)?;
     for field in more {
-        into.extend_from_slice(b", ")?;
-        put_field(into, field)?;
+        put_behind_comma(into, field)?;
     }
     Ok(())
 }

@@ -4,14 +4,14 @@ ghost use Rattle.idl_parser.specs.Shapes.{starts_in};
 ghost use Rattle.idl_parser.specs.Starts.{field_starts};
 ghost use Rattle.idl_parser.specs.Fields.{field_id, field_need, field_default, field, fields};
 ghost use Rattle.idl_parser.specs.Trees.{maybe_node, int_node, need_node, value_node, field_node, fields_node};
-ghost use Rattle.idl_parser.specs.Spots.{Reads};
+ghost use Rattle.idl_parser.specs.ReaderCalls.{Parses};
 ghost use Rattle.idl_parser.specs.Documents.{deepest};
 
-use crate::reader::{MAX_SYMBOLS, Reader, Stop, deepest, put};
-use crate::terminal::Terminal;
+use crate::reader::{MAX_SYMBOLS, Stop, SymbolReader, deepest, kept, put};
 use crate::tree::{ConstTree, Field, Int, Need};
+use idl_token::Terminal;
 
-impl<'a> Reader<'a> {
+impl<'a> SymbolReader<'a> {
     /// Whether a field may begin with the next symbol.
     fn begins_field(&self) -> bool
         ensures { result ≡ starts_in field_starts self.now }
@@ -38,7 +38,7 @@ impl<'a> Reader<'a> {
 
     #[tactic(auto, unfolding(crate::specs::Fields::field_id))]
     fn field_id(&mut self) -> Result<Option<Int>, Stop>
-        ensures { Reads field_id (maybe_node int_node) self.old self.new result }
+        ensures { Parses field_id (maybe_node int_node) self.old self.new result }
     {
         if self.starts(&[Terminal::Int]) {
             let id = self.int()?;
@@ -50,7 +50,7 @@ impl<'a> Reader<'a> {
 
     #[tactic(auto, unfolding(crate::specs::Fields::field_need))]
     fn field_need(&mut self) -> Result<Need, Stop>
-        ensures { Reads field_need need_node self.old self.new result }
+        ensures { Parses field_need need_node self.old self.new result }
     {
         if self.starts(&[Terminal::Required]) {
             self.flag(Terminal::Required)?;
@@ -65,19 +65,17 @@ impl<'a> Reader<'a> {
 
     #[tactic(auto, unfolding(crate::specs::Fields::field_default))]
     fn field_default(&mut self) -> Result<Option<ConstTree>, Stop>
-        ensures { Reads (field_default deepest) (maybe_node value_node) self.old self.new result }
+        ensures { Parses (field_default deepest) (maybe_node value_node) self.old self.new result }
     {
         if self.starts(&[Terminal::Equals]) {
-            self.sign(Terminal::Equals)?;
-            let value = self.value(deepest())?;
-            return Ok(Some(value));
+            return Ok(Some(self.assigned()?));
         }
         Ok(None)
     }
 
     #[tactic(auto, unfolding(crate::specs::Fields::field, crate::specs::Trees::field_node))]
     fn field(&mut self) -> Result<Field, Stop>
-        ensures { Reads (field deepest) field_node self.old self.new result }
+        ensures { Parses (field deepest) field_node self.old self.new result }
     {
         let at = self.place();
         let id = self.field_id()?;
@@ -85,35 +83,30 @@ impl<'a> Reader<'a> {
         let kind = self.type_tree(deepest())?;
         let name = self.name()?;
         let default = self.field_default()?;
-        self.ending()?;
-        Ok(Field {
+        let field = Field {
             at,
             id,
             need,
             kind,
             name,
             default,
-        })
+        };
+        let behind = self.field_ending();
+        kept(field, behind)
     }
 
     /// Fields, up to a symbol with which none begins.
     #[tactic(auto, unfolding(crate::specs::Fields::fields))]
     pub(crate) fn fields(&mut self) -> Result<Vec<Field>, Stop>
-        ensures { Reads (fields deepest) (λ v. fields_node v.items) self.old self.new result }
+        ensures { Parses (fields deepest) (λ v. fields_node v.items) self.old self.new result }
     {
         let mut all = Vec::new(self.alloc());
         'row: for _round in 0..MAX_SYMBOLS {
             if !self.begins_field() {
                 return Ok(all);
             }
-            match self.field() {
-                Ok(item) => {
-                    if let Err(full) = put(&mut all, item) {
-                        return Err(full);
-                    }
-                }
-                Err(stop) => return Err(stop),
-            }
+            let item = self.field()?;
+            put(&mut all, item)?;
         }
         Ok(all)
     }

@@ -1,7 +1,7 @@
 //! What literals and integers stand for.
-ghost use Rattle.std.specs.Prelude.{◌≡◌, ◌-◌, false, take, drop, length, slice_index, FitsSigned, MatchResult};
+ghost use Rattle.std.specs.Prelude.{◌≡◌, ◌-◌, false, take, drop, length, FitsSigned, MatchResult};
 ghost use Rattle.std.specs.Int.{w64};
-ghost use Rattle.idl_parser.specs.Leaves.{escaped, unescaped, literal_bytes, number_of};
+ghost use Rattle.idl_parser.specs.Leaves.{escaped, unescaped, literal_bytes, int_number};
 
 use crate::reader::Stop;
 use idl_token::int_value;
@@ -30,9 +30,7 @@ fn unescaped(alloc: Global, bytes: &[u8]) -> Result<ByteText, Stop>
             taken = true;
         } else {
             let next = if taken { escaped(*byte) } else { *byte };
-            if all.push(next).is_err() {
-                return Err(Stop::NoMemory);
-            }
+            all.push(next)?;
             taken = false;
         }
     }
@@ -56,21 +54,11 @@ fn inside(literal: &[u8]) -> &[u8]
     front
 }
 
-/// A byte of a text, or 0 behind its end.
-pub(crate) fn byte_at(text: &[u8], at: usize) -> u8
-    ensures { result ≡ slice_index text.now at }
-{
-    match text.get(at) {
-        Some(byte) => *byte,
-        None => 0,
-    }
-}
-
 /// The number of an integer's token.
-#[tactic(auto, unfolding(crate::specs::Leaves::number_of))]
-pub(crate) fn number_of(int: &[u8]) -> i64
-    requires { FitsSigned w64 (number_of int.now) }
-    ensures { result ≡ number_of int.now }
+#[tactic(auto, unfolding(crate::specs::Leaves::int_number))]
+pub(crate) fn int_number(int: &[u8]) -> i64
+    requires { FitsSigned w64 (int_number int.now) }
+    ensures { result ≡ int_number int.now }
 {
     if int == b"true".as_slice() {
         return 1;

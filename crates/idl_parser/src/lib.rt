@@ -2,7 +2,21 @@
 //! found; a document becomes a text.
 //!
 //! `parse(alloc, text, tokens.as_slice())` takes what `idl_token::tokens` gave for the text, and `print(alloc, &document)`
-//! gives the text. The crate knows the grammar alone: whether a name is defined, a constant fits or a field's number is
+//! gives the text:
+//!
+//! ```
+//! let tokens = idl_token::tokens(alloc, text)?;
+//! let document = parse(alloc, text, tokens.as_slice())?;
+//! for definition in document.definitions.iter() {
+//!     match definition {
+//!         Definition::Struct(structure) => { .. structure.name.text, structure.fields .. }
+//!         ..
+//!     }
+//! }
+//! let text = print(alloc, &document)?;
+//! ```
+//!
+//! The crate knows the grammar alone: whether a name is defined, a constant fits or a field's number is
 //! taken is the checker's matter. Separators, annotations, namespaces, `cpp_include` and `cpp_type` are read and left out.
 #![tactic(auto)]
 
@@ -13,12 +27,13 @@ ghost use Rattle.idl_parser.specs.Faults.{IsFaultOf};
 ghost use Rattle.idl_parser.specs.Symbols.{lexemes};
 ghost use Rattle.idl_parser.specs.Trees.{document_node};
 
-use crate::reader::{Reader, Stop};
+use crate::reader::{Stop, SymbolReader};
 use idl_token::{
-    MAX_TEXT, Place, Token, big_integers_are_outside_64_bits, each_token_is_of_its_kind, place_at,
+    MAX_TEXT, Place, Token, an_integer_has_a_place_in_64_bits, each_token_is_of_its_kind, place_at,
     tokens_stand_in_order,
 };
-use std::alloc::Global;
+use std::alloc::{AllocError, Global};
+use thiserror::Error;
 
 mod definition_printer;
 mod definition_reader;
@@ -31,7 +46,6 @@ mod printer;
 mod reader;
 mod small_reader;
 mod symbol;
-mod terminal;
 #[cfg(test)]
 mod tests;
 mod tree;
@@ -50,32 +64,49 @@ pub use printer::{
     the_print_is_canonical,
 };
 pub use symbol::{Symbol, symbols};
-pub use terminal::{Terminal, same};
 pub use tree::{
     Base, Const, ConstTree, Definition, Document, Double, Enum, EnumValue, Field, Function,
     Include, Int, Literal, Name, Need, Service, Struct, StructKind, TypeTree, Typedef,
 };
 
 /// What is wrong with a token.
-#[derive(Clone, Copy, Debug, PartialEq, Eq)]
+#[derive(Clone, Copy, Debug, PartialEq, Eq, Error)]
 pub enum ParseKind {
     /// No document goes on with it.
+    #[error("no document goes on with this")]
     Found,
     /// It is a word or a sign that is left out by name.
+    #[error("this word or sign isn't part of the language here")]
     Refused,
     /// It opens level 65 of a type or a constant.
+    #[error("more than 64 levels of containers")]
     TooDeep,
     /// The document found no room in memory.
+    #[error("out of memory")]
     NoMemory,
 }
 
 /// The first fault of a text.
-#[derive(Clone, Copy, Debug, PartialEq, Eq)]
+#[derive(Clone, Copy, Debug, PartialEq, Eq, Error)]
+#[error("{at}: {kind}")]
 pub struct ParseFault {
     /// The place of the token at fault, or that behind the last byte.
     pub at: Place,
     /// What is wrong there.
     pub kind: ParseKind,
+}
+
+impl From<AllocError> for ParseFault {
+    ghost use Rattle.idl_parser.specs.declared.ParseKind.TheVariants.{NoMemory};
+
+    ghost from_gives = { λ _ fault. fault.kind ≡ NoMemory };
+
+    fn from(_error: AllocError) -> Self {
+        ParseFault {
+            at: Place { line: 1, column: 1 },
+            kind: ParseKind::NoMemory,
+        }
+    }
 }
 
 /// The document of a text, or its first fault.
@@ -87,18 +118,12 @@ pub fn parse(alloc: Global, text: &[u8], tokens: &[Token]) -> Result<Document, P
 {
     tokens_stand_in_order();
     each_token_is_of_its_kind();
-    big_integers_are_outside_64_bits();
-    let no_memory = ParseFault {
-        at: Place { line: 1, column: 1 },
-        kind: ParseKind::NoMemory,
-    };
-    let Ok(all) = symbols(alloc, text, tokens) else {
-        return Err(no_memory);
-    };
-    let mut reader = Reader::new(alloc, text, all.as_slice());
+    an_integer_has_a_place_in_64_bits();
+    let all = symbols(alloc, text, tokens)?;
+    let mut reader = SymbolReader::new(alloc, text, all.as_slice());
     match reader.whole_document() {
         Ok(document) => Ok(document),
-        Err(Stop::NoMemory) => Err(no_memory),
+        Err(Stop::NoMemory) => Err(AllocError.into()),
         Err(stop) => {
             let (at, kind) = reader.fault(stop, place_at(text, text.len()));
             Err(ParseFault { at, kind })

@@ -2,30 +2,31 @@
 ghost use Rattle.std.specs.Prelude.{◌≡◌, ◌++◌, List, OnOk, IfOk};
 ghost use Rattle.std.specs.List.{flat_map};
 ghost use Rattle.idl_token.specs.Tokens.{AreTokensOf};
-ghost use Rattle.idl_parser.specs.Aside.{aside};
+ghost use Rattle.idl_parser.specs.Unplaced.{without_places};
 ghost use Rattle.idl_parser.specs.Documents.{deepest, DocumentIn};
-ghost use Rattle.idl_parser.specs.Printed.{include_text, definition_text, printed};
-ghost use Rattle.idl_parser.specs.ReadBack.{IsRead, IsReadAs};
+ghost use Rattle.idl_parser.specs.Printed.{include_line, definition_text, printed};
+ghost use Rattle.idl_parser.specs.ReadBack.{IsParsed, IsParsedAs};
 ghost use Rattle.idl_parser.specs.Symbols.{lexemes};
 ghost use Rattle.idl_parser.specs.Trees.{document_node};
 
 use crate::definition_printer::put_definition;
 use crate::tree::{Definition, Document, Include};
+use crate::type_printer::put_spaced_word;
 use crate::value_printer::put_literal;
-use idl_token::Token;
+use idl_token::{Terminal, Token};
 use std::alloc::{AllocError, Global};
 
-#[tactic(auto, unfolding(crate::specs::Printed::include_text))]
+#[tactic(auto, unfolding(crate::specs::Printed::include_line))]
 fn put_include(into: &mut Vec<u8>, include: &Include) -> Result<(), AllocError>
-    ensures { OnOk result (into.new.items ≡ into.old.items ++ include_text include.now) }
+    ensures { OnOk result (into.new.items ≡ into.old.items ++ include_line include.now) }
 {
-    into.extend_from_slice(b"include ")?;
+    put_spaced_word(into, Terminal::Include)?;
     put_literal(into, include.file.bytes.as_slice())?;
     into.extend_from_slice(b"\n")
 }
 
 fn put_includes(into: &mut Vec<u8>, includes: &[Include]) -> Result<(), AllocError>
-    ensures { OnOk result (into.new.items ≡ into.old.items ++ flat_map include_text includes.now) }
+    ensures { OnOk result (into.new.items ≡ into.old.items ++ flat_map include_line includes.now) }
 {
     for include in includes {
         put_include(into, include)?;
@@ -46,7 +47,7 @@ fn put_definitions(into: &mut Vec<u8>, definitions: &[Definition]) -> Result<(),
 #[tactic(auto, unfolding(crate::specs::Printed::printed))]
 pub fn print(alloc: Global, document: &Document) -> Result<Vec<u8>, AllocError>
     ensures exact { IfOk result (λ text. text.items ≡ printed document.now) }
-    ensures read_back { IfOk result (λ text. IsRead document.now → IsReadAs (document_node document.now) text.items) }
+    ensures read_back { IfOk result (λ text. IsParsed document.now → IsParsedAs (document_node document.now) text.items) }
 {
     a_printed_document_is_read_back();
     let mut text = Vec::new(alloc);
@@ -57,18 +58,18 @@ pub fn print(alloc: Global, document: &Document) -> Result<Vec<u8>, AllocError>
 
 /// A document that was read is the one that is read from its printed text, but for the places.
 pub fn a_printed_document_is_read_back()
-    ensures { (d : Document) → IsRead d → IsReadAs (document_node d) (printed d) }
+    ensures { (d : Document) → IsParsed d → IsParsedAs (document_node d) (printed d) }
 {}
 
 /// The printed text says nothing but the tree, places aside: documents with one tree have one text.
 pub fn the_print_is_canonical()
-    ensures { (d e : Document) → aside (document_node d) ≡ aside (document_node e) → printed d ≡ printed e }
+    ensures { (d e : Document) → without_places (document_node d) ≡ without_places (document_node e) → printed d ≡ printed e }
 {}
 
 /// What is parsed from the printed text of a document that was read is the document, but for the places.
 pub fn a_printed_document_is_parsed_to_itself()
-    ensures { (d parsed : Document) (tokens : List Token) → IsRead d → AreTokensOf tokens (printed d)
-        → DocumentIn deepest (lexemes (printed d) tokens) (document_node parsed) → aside (document_node parsed) ≡ aside (document_node d) }
+    ensures { (d parsed : Document) (tokens : List Token) → IsParsed d → AreTokensOf tokens (printed d)
+        → DocumentIn deepest (lexemes (printed d) tokens) (document_node parsed) → without_places (document_node parsed) ≡ without_places (document_node d) }
 {}
 
 #[cfg(test)]

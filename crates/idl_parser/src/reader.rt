@@ -1,28 +1,27 @@
 //! A reader of symbols, with one symbol of look-ahead.
-ghost use Rattle.std.specs.Prelude.{◌≡◌, ◌≢◌, ◌-◌, map, ◌++◌, ◌∷◌, [], take, drop, IfErr, MatchResult};
+ghost use Rattle.std.specs.Prelude.{◌≡◌, ◌≢◌, ◌-◌, map, ◌++◌, ◌∷◌, [], take, drop, IfErr, Result, MatchResult};
 ghost use Rattle.std.specs.List.{list_any};
 ghost use Rattle.idl_parser.specs.Phrases.{none, place_at, word, flag, text, one};
-ghost use Rattle.idl_parser.specs.Leaves.{sign, kept, flagged, text_leaf, literal_leaf, literal_bytes};
+ghost use Rattle.idl_parser.specs.Leaves.{sign, kept_word, flagged, text_leaf, literal_leaf, literal_bytes};
 ghost use Rattle.idl_parser.specs.Parts.{identifier, decimal, literal, integer};
 ghost use Rattle.idl_parser.specs.Faults.{next_place, fault_kind, kind_at};
 ghost use Rattle.idl_parser.specs.Trees.{name_node, double_node, literal_node, int_node};
-ghost use Rattle.idl_parser.specs.Terminals.{same};
-ghost use Rattle.idl_parser.specs.Shapes.{starts_in, has};
+ghost use Rattle.idl_token.specs.Terminals.{same};
+ghost use Rattle.idl_parser.specs.Shapes.{starts_in, contains_terminal};
 ghost use Rattle.idl_parser.specs.Documents.{deepest};
-ghost use Rattle.idl_parser.specs.Spots.{Reads, IntsFit, lexeme_of, is_none_left, is_deep};
+ghost use Rattle.idl_parser.specs.ReaderCalls.{Parses, IntsFit, lexeme_of, is_none_left, is_deep};
 
 use crate::ParseKind;
-use crate::leaves::{literal_bytes, number_of};
+use crate::leaves::{int_number, literal_bytes};
 use crate::symbol::Symbol;
-use crate::terminal::{Terminal, same};
 use crate::tree::{Double, Int, Literal, Name};
-use idl_token::Place;
-use std::alloc::{AllocFailed, Global};
+use idl_token::{MAX_TEXT, Place, Terminal, same};
+use std::alloc::{AllocError, AllocFailed, Global};
 use std::marker::Model;
 use thrift_value::ByteText;
 
-/// No text has more symbols.
-pub(crate) const MAX_SYMBOLS: usize = 4_194_304;
+/// No text has more symbols than bytes. A row is read by so many rounds at most, since a loop has to have an end.
+pub(crate) const MAX_SYMBOLS: usize = MAX_TEXT;
 
 /// How many levels of containers may stand in one another.
 #[tactic(auto, unfolding(crate::specs::Documents::deepest))]
@@ -43,6 +42,16 @@ pub(crate) enum Stop {
     Deep,
 }
 
+impl From<AllocError> for Stop {
+    ghost use Rattle.idl_parser.specs.declared.reader.Stop.TheVariants.{NoMemory};
+
+    ghost from_gives = { λ _ stop. stop ≡ NoMemory };
+
+    fn from(_error: AllocError) -> Self {
+        Stop::NoMemory
+    }
+}
+
 impl<T: Drop> From<AllocFailed<T>> for Stop {
     ghost use Rattle.idl_parser.specs.declared.reader.Stop.TheVariants.{NoMemory};
 
@@ -55,16 +64,16 @@ impl<T: Drop> From<AllocFailed<T>> for Stop {
 
 /// Reads symbols from the front.
 #[derive(Drop)]
-pub(crate) struct Reader<'a> {
+pub(crate) struct SymbolReader<'a> {
     text: &'a [u8],
     left: &'a [Symbol],
     alloc: Global,
 }
 
-impl<'a> Model for Reader<'a> {
+impl<'a> Model for SymbolReader<'a> {
     ghost use Rattle.std.specs.Prelude.{List, map};
     ghost use Rattle.idl_parser.specs.Phrases.{Lexeme};
-    ghost use Rattle.idl_parser.specs.Spots.{lexeme_of, IntsFit};
+    ghost use Rattle.idl_parser.specs.ReaderCalls.{lexeme_of, IntsFit};
 
     ghost Value = { List Lexeme };
 
@@ -73,7 +82,7 @@ impl<'a> Model for Reader<'a> {
     ghost invariant = { λ r. IntsFit (map (lexeme_of r.text.now) r.left.now) };
 }
 
-impl<'a> Reader<'a> {
+impl<'a> SymbolReader<'a> {
     /// Whether the next symbol is one of some.
     pub(crate) fn starts(&self, set: &[Terminal]) -> bool
         ensures { result ≡ starts_in set.now self.now }
@@ -86,7 +95,7 @@ impl<'a> Reader<'a> {
 
     /// Passes one symbol, of which nothing is kept.
     pub(crate) fn sign(&mut self, wanted: Terminal) -> Result<(), Stop>
-        ensures { Reads (sign wanted) (λ _. none) self.old self.new result }
+        ensures { Parses (sign wanted) (λ _. none) self.old self.new result }
     {
         match self.left.split_first() {
             Some((symbol, rest)) if same(symbol.what, wanted) => {
@@ -99,7 +108,7 @@ impl<'a> Reader<'a> {
 
     /// Passes one symbol, of which it is kept that it was there.
     pub(crate) fn flag(&mut self, wanted: Terminal) -> Result<(), Stop>
-        ensures { Reads (flagged wanted) (λ _. flag wanted) self.old self.new result }
+        ensures { Parses (flagged wanted) (λ _. flag wanted) self.old self.new result }
     {
         match self.left.split_first() {
             Some((symbol, rest)) if same(symbol.what, wanted) => {
@@ -115,7 +124,7 @@ impl<'a> Reader<'a> {
         requires { IntsFit (map (lexeme_of text.now) symbols.now) }
         ensures { result ≡ map (lexeme_of text.now) symbols.now }
     {
-        Reader {
+        SymbolReader {
             text,
             left: symbols,
             alloc,
@@ -158,8 +167,8 @@ impl<'a> Reader<'a> {
 
     /// Passes one symbol, and gives its place and its bytes.
     fn take(&mut self, wanted: Terminal) -> Result<Taken<'a>, Stop>
-        ensures as_text { Reads (one wanted (text_leaf wanted)) (λ t. text wanted t.bytes.now t.place) self.old self.new result }
-        ensures as_literal { Reads (one wanted (literal_leaf wanted)) (λ t. text wanted (literal_bytes t.bytes.now) t.place) self.old self.new result }
+        ensures as_text { Parses (one wanted (text_leaf wanted)) (λ t. text wanted t.bytes.now t.place) self.old self.new result }
+        ensures as_literal { Parses (one wanted (literal_leaf wanted)) (λ t. text wanted (literal_bytes t.bytes.now) t.place) self.old self.new result }
     {
         match self.left.split_first() {
             Some((symbol, rest)) if same(symbol.what, wanted) => {
@@ -175,7 +184,7 @@ impl<'a> Reader<'a> {
 
     /// Passes one symbol, and gives its place.
     pub(crate) fn word(&mut self, wanted: Terminal) -> Result<Place, Stop>
-        ensures { Reads (kept wanted) (word wanted) self.old self.new result }
+        ensures { Parses (kept_word wanted) (word wanted) self.old self.new result }
     {
         match self.left.split_first() {
             Some((symbol, rest)) if same(symbol.what, wanted) => {
@@ -188,7 +197,7 @@ impl<'a> Reader<'a> {
 
     /// An identifier.
     pub(crate) fn name(&mut self) -> Result<Name, Stop>
-        ensures { Reads identifier name_node self.old self.new result }
+        ensures { Parses identifier name_node self.old self.new result }
     {
         let taken = self.take(Terminal::Identifier)?;
         let text = copied(self.alloc, taken.bytes)?;
@@ -200,7 +209,7 @@ impl<'a> Reader<'a> {
 
     /// A number with a fraction or an exponent.
     pub(crate) fn double(&mut self) -> Result<Double, Stop>
-        ensures { Reads decimal double_node self.old self.new result }
+        ensures { Parses decimal double_node self.old self.new result }
     {
         let taken = self.take(Terminal::Double)?;
         let text = copied(self.alloc, taken.bytes)?;
@@ -212,7 +221,7 @@ impl<'a> Reader<'a> {
 
     /// A literal.
     pub(crate) fn literal(&mut self) -> Result<Literal, Stop>
-        ensures { Reads literal literal_node self.old self.new result }
+        ensures { Parses literal literal_node self.old self.new result }
     {
         let taken = self.take(Terminal::Literal)?;
         let bytes = literal_bytes(self.alloc, taken.bytes)?;
@@ -224,13 +233,13 @@ impl<'a> Reader<'a> {
 
     /// An integer, for which there is always room.
     pub(crate) fn int(&mut self) -> Result<Int, Stop>
-        ensures reads { Reads integer int_node self.old self.new result }
+        ensures reads { Parses integer int_node self.old self.new result }
         ensures total { IfErr result (λ stop. stop ≢ Stop.NoMemory) }
     {
         match self.left.split_first() {
             Some((symbol, rest)) if same(symbol.what, Terminal::Int) => {
                 let bytes = part(self.text, symbol.from as usize, symbol.to as usize);
-                let value = number_of(bytes);
+                let value = int_number(bytes);
                 self.left = rest;
                 Ok(Int {
                     at: symbol.place,
@@ -257,6 +266,16 @@ pub(crate) fn put<T: Drop>(all: &mut Vec<T>, item: T) -> Result<(), Stop>
     Ok(())
 }
 
+/// What was read, where what stands behind it was read too.
+pub(crate) fn kept<T: Drop>(item: T, behind: Result<(), Stop>) -> Result<T, Stop>
+    ensures { MatchResult behind (λ _. result ≡ Result.Ok item) (λ stop. result ≡ Result.Err stop) }
+{
+    match behind {
+        Ok(()) => Ok(item),
+        Err(stop) => Err(stop),
+    }
+}
+
 fn kind_at(stop: Stop, what: Terminal) -> ParseKind
     ensures { result ≡ kind_at (is_deep stop) what }
 {
@@ -271,10 +290,7 @@ fn kind_at(stop: Stop, what: Terminal) -> ParseKind
 fn copied(alloc: Global, bytes: &[u8]) -> Result<ByteText, Stop>
     ensures { MatchResult result (λ text. text ≡ bytes.now) (λ e. e ≡ Stop.NoMemory) }
 {
-    match bytes.to_vec(alloc) {
-        Ok(copy) => Ok(ByteText::new(copy)),
-        Err(_) => Err(Stop::NoMemory),
-    }
+    Ok(ByteText::new(bytes.to_vec(alloc)?))
 }
 
 /// The bytes of a text between two places.
@@ -293,7 +309,7 @@ fn is_one_of(what: Terminal, set: &[Terminal]) -> bool
 }
 
 fn is_in(set: &[Terminal], what: Terminal) -> bool
-    ensures { result ≡ has set.now what }
+    ensures { result ≡ contains_terminal set.now what }
 {
     is_one_of(what, set)
 }

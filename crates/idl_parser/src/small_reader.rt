@@ -4,17 +4,17 @@ ghost use Rattle.idl_parser.specs.Phrases.{Node, none, many};
 ghost use Rattle.idl_parser.specs.Leaves.{neither};
 ghost use Rattle.idl_parser.specs.Parts.{separator, annotation_value, annotation_entry, annotation};
 ghost use Rattle.idl_parser.specs.Types.{cpp_type};
-ghost use Rattle.idl_parser.specs.Fields.{ending};
-ghost use Rattle.idl_parser.specs.Spots.{Reads};
+ghost use Rattle.idl_parser.specs.Fields.{field_ending};
+ghost use Rattle.idl_parser.specs.ReaderCalls.{Parses};
 
-use crate::reader::{MAX_SYMBOLS, Reader, Stop};
-use crate::terminal::Terminal;
+use crate::reader::{MAX_SYMBOLS, Stop, SymbolReader};
+use idl_token::Terminal;
 
-impl<'a> Reader<'a> {
+impl<'a> SymbolReader<'a> {
     /// A separator, or none.
     #[tactic(auto, unfolding(crate::specs::Parts::separator))]
     pub(crate) fn separator(&mut self) -> Result<(), Stop>
-        ensures { Reads separator (λ _. none) self.old self.new result }
+        ensures { Parses separator (λ _. none) self.old self.new result }
     {
         if self.starts(&[Terminal::Comma]) {
             return self.sign(Terminal::Comma);
@@ -27,7 +27,7 @@ impl<'a> Reader<'a> {
 
     #[tactic(auto, unfolding(crate::specs::Parts::annotation_value))]
     fn annotation_value(&mut self) -> Result<(), Stop>
-        ensures { Reads annotation_value (λ _. none) self.old self.new result }
+        ensures { Parses annotation_value (λ _. none) self.old self.new result }
     {
         if self.starts(&[Terminal::Equals]) {
             self.sign(Terminal::Equals)?;
@@ -38,7 +38,7 @@ impl<'a> Reader<'a> {
 
     #[tactic(auto, unfolding(crate::specs::Parts::annotation_entry))]
     fn annotation_entry(&mut self) -> Result<(), Stop>
-        ensures { Reads annotation_entry (λ _. none) self.old self.new result }
+        ensures { Parses annotation_entry (λ _. none) self.old self.new result }
     {
         self.sign(Terminal::Identifier)?;
         self.annotation_value()?;
@@ -46,15 +46,13 @@ impl<'a> Reader<'a> {
     }
 
     fn annotation_entries(&mut self) -> Result<(), Stop>
-        ensures { Reads (many neither annotation_entry) (λ _. none) self.old self.new result }
+        ensures { Parses (many neither annotation_entry) (λ _. none) self.old self.new result }
     {
         'entries: for _round in 0..MAX_SYMBOLS {
             if !self.starts(&[Terminal::Identifier]) {
                 return Ok(());
             }
-            if let Err(stop) = self.annotation_entry() {
-                return Err(stop);
-            }
+            self.annotation_entry()?;
         }
         Ok(())
     }
@@ -62,7 +60,7 @@ impl<'a> Reader<'a> {
     /// An annotation, or none.
     #[tactic(auto, unfolding(crate::specs::Parts::annotation))]
     pub(crate) fn annotation(&mut self) -> Result<(), Stop>
-        ensures { Reads annotation (λ _. none) self.old self.new result }
+        ensures { Parses annotation (λ _. none) self.old self.new result }
     {
         if self.starts(&[Terminal::OpenParen]) {
             self.sign(Terminal::OpenParen)?;
@@ -75,7 +73,7 @@ impl<'a> Reader<'a> {
     /// The word `cpp_type` with its literal, or nothing.
     #[tactic(auto, unfolding(crate::specs::Types::cpp_type))]
     pub(crate) fn cpp_type(&mut self) -> Result<(), Stop>
-        ensures { Reads cpp_type (λ _. none) self.old self.new result }
+        ensures { Parses cpp_type (λ _. none) self.old self.new result }
     {
         if self.starts(&[Terminal::CppType]) {
             self.sign(Terminal::CppType)?;
@@ -85,9 +83,9 @@ impl<'a> Reader<'a> {
     }
 
     /// An annotation or none, and a separator or none.
-    #[tactic(auto, unfolding(crate::specs::Fields::ending))]
-    pub(crate) fn ending(&mut self) -> Result<(), Stop>
-        ensures { Reads ending (λ _. none) self.old self.new result }
+    #[tactic(auto, unfolding(crate::specs::Fields::field_ending))]
+    pub(crate) fn field_ending(&mut self) -> Result<(), Stop>
+        ensures { Parses field_ending (λ _. none) self.old self.new result }
     {
         self.annotation()?;
         self.separator()

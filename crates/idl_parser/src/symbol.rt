@@ -1,13 +1,11 @@
 //! A token as the grammar sees it.
 ghost use Rattle.std.specs.Prelude.{◌≡◌, ◌≤◌, ◌+◌, ◌-◌, ◌<◌, ◌^◌, length, map, take, drop, IfOk};
 ghost use Rattle.idl_token.specs.Tokens.{StandBetween};
-ghost use Rattle.idl_parser.specs.Symbols.{first_words, more_words, last_words, sign_of, terminal_of, lexemes, lexeme_at};
-ghost use Rattle.idl_parser.specs.Spots.{lexeme_of, start, behind, behind_byte};
+ghost use Rattle.idl_parser.specs.Symbols.{sign_of, terminal_of, lexemes, lexeme_at};
+ghost use Rattle.idl_parser.specs.ReaderCalls.{lexeme_of, start, place_behind, place_behind_byte};
 
-use crate::leaves::byte_at;
 use crate::reader::part;
-use crate::terminal::Terminal;
-use idl_token::{MAX_TEXT, Place, Token, TokenKind};
+use idl_token::{MAX_TEXT, Place, Terminal, Token, TokenKind, byte_at, keyword_of};
 use std::alloc::{AllocError, Global};
 
 /// A token of a text, as the grammar sees it.
@@ -21,114 +19,6 @@ pub struct Symbol {
     pub to: u32,
     /// Its line and column.
     pub place: Place,
-}
-
-#[tactic(auto, unfolding(crate::specs::Symbols::first_words))]
-fn first_words(text: &[u8]) -> Terminal
-    ensures { result ≡ first_words text.now }
-{
-    if text == b"namespace".as_slice() {
-        return Terminal::Namespace;
-    }
-    if text == b"include".as_slice() {
-        return Terminal::Include;
-    }
-    if text == b"cpp_include".as_slice() {
-        return Terminal::CppInclude;
-    }
-    if text == b"const".as_slice() {
-        return Terminal::Const;
-    }
-    if text == b"typedef".as_slice() {
-        return Terminal::Typedef;
-    }
-    if text == b"enum".as_slice() {
-        return Terminal::Enum;
-    }
-    if text == b"struct".as_slice() {
-        return Terminal::Struct;
-    }
-    if text == b"union".as_slice() {
-        return Terminal::Union;
-    }
-    if text == b"exception".as_slice() {
-        return Terminal::Exception;
-    }
-    if text == b"service".as_slice() {
-        return Terminal::Service;
-    }
-    more_words(text)
-}
-
-#[tactic(auto, unfolding(crate::specs::Symbols::more_words))]
-fn more_words(text: &[u8]) -> Terminal
-    ensures { result ≡ more_words text.now }
-{
-    if text == b"extends".as_slice() {
-        return Terminal::Extends;
-    }
-    if text == b"throws".as_slice() {
-        return Terminal::Throws;
-    }
-    if text == b"oneway".as_slice() {
-        return Terminal::Oneway;
-    }
-    if text == b"void".as_slice() {
-        return Terminal::Void;
-    }
-    if text == b"required".as_slice() {
-        return Terminal::Required;
-    }
-    if text == b"optional".as_slice() {
-        return Terminal::Optional;
-    }
-    if text == b"bool".as_slice() {
-        return Terminal::Bool;
-    }
-    if text == b"byte".as_slice() {
-        return Terminal::Byte;
-    }
-    if text == b"i8".as_slice() {
-        return Terminal::I8;
-    }
-    if text == b"i16".as_slice() {
-        return Terminal::I16;
-    }
-    last_words(text)
-}
-
-#[tactic(auto, unfolding(crate::specs::Symbols::last_words))]
-fn last_words(text: &[u8]) -> Terminal
-    ensures { result ≡ last_words text.now }
-{
-    if text == b"i32".as_slice() {
-        return Terminal::I32;
-    }
-    if text == b"i64".as_slice() {
-        return Terminal::I64;
-    }
-    if text == b"double".as_slice() {
-        return Terminal::DoubleWord;
-    }
-    if text == b"string".as_slice() {
-        return Terminal::StringWord;
-    }
-    if text == b"binary".as_slice() {
-        return Terminal::Binary;
-    }
-    if text == b"map".as_slice() {
-        return Terminal::Map;
-    }
-    if text == b"set".as_slice() {
-        return Terminal::Set;
-    }
-    if text == b"list".as_slice() {
-        return Terminal::List;
-    }
-    if text == b"cpp_type".as_slice() {
-        return Terminal::CppType;
-    }
-    Terminal::Refused
 }
 
 #[tactic(auto, unfolding(crate::specs::Symbols::sign_of))]
@@ -157,7 +47,7 @@ fn terminal_of(kind: TokenKind, text: &[u8]) -> Terminal
     ensures { result ≡ terminal_of kind text.now }
 {
     match kind {
-        TokenKind::Keyword => first_words(text),
+        TokenKind::Keyword => keyword_of(text).unwrap_or(Terminal::Refused),
         TokenKind::Identifier => Terminal::Identifier,
         TokenKind::Int => Terminal::Int,
         TokenKind::Double => Terminal::Double,
@@ -167,10 +57,10 @@ fn terminal_of(kind: TokenKind, text: &[u8]) -> Terminal
     }
 }
 
-fn behind_byte(at: Place, byte: u8) -> Place
+fn place_behind_byte(at: Place, byte: u8) -> Place
     requires line { at.line + 1 < 2 ^ 32 }
     requires column { at.column + 1 < 2 ^ 32 }
-    ensures is { result ≡ behind_byte at byte }
+    ensures is { result ≡ place_behind_byte at byte }
     ensures line { result.line ≤ at.line + 1 }
     ensures column { result.column ≤ at.column + 1 }
 {
@@ -188,16 +78,16 @@ fn behind_byte(at: Place, byte: u8) -> Place
 }
 
 /// The place behind some bytes.
-pub(crate) fn behind(at: Place, bytes: &[u8]) -> Place
+pub(crate) fn place_behind(at: Place, bytes: &[u8]) -> Place
     requires line { at.line + length bytes.now < 2 ^ 32 }
     requires column { at.column + length bytes.now < 2 ^ 32 }
-    ensures is { result ≡ behind at bytes.now }
+    ensures is { result ≡ place_behind at bytes.now }
     ensures line { result.line ≤ at.line + length bytes.now }
     ensures column { result.column ≤ at.column + length bytes.now }
 {
     let mut place = at;
     for byte in bytes {
-        place = behind_byte(place, *byte);
+        place = place_behind_byte(place, *byte);
     }
     place
 }
@@ -209,14 +99,14 @@ fn placed(text: &[u8], token: Token, at: usize, place: Place) -> Symbol
     requires short { token.from ≤ MAX_TEXT }
     requires line { place.line ≤ 1 + at }
     requires column { place.column ≤ 1 + at }
-    requires place { place ≡ behind start (take at text.now) }
+    requires place { place ≡ place_behind start (take at text.now) }
     ensures is { lexeme_of text.now result ≡ lexeme_at text.now token }
     ensures from { result.from ≡ token.from }
     ensures line { result.place.line ≤ 1 + token.from }
     ensures column { result.place.column ≤ 1 + token.from }
-    ensures place { result.place ≡ behind start (take token.from text.now) }
+    ensures place { result.place ≡ place_behind start (take token.from text.now) }
 {
-    let place = behind(place, part(text, at, token.from as usize));
+    let place = place_behind(place, part(text, at, token.from as usize));
     let bytes = part(text, token.from as usize, token.to as usize);
     Symbol {
         what: terminal_of(token.kind, bytes),

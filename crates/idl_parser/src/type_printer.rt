@@ -1,24 +1,49 @@
 //! The text of types.
 ghost use Rattle.std.specs.Prelude.{◌≡◌, ◌++◌, OnOk};
-ghost use Rattle.idl_parser.specs.Printed.{base_text, type_text};
+ghost use Rattle.idl_parser.specs.Printed.{base_text, spaced_word, type_text};
+ghost use Rattle.idl_parser.specs.Trees.{base_word};
+ghost use Rattle.idl_token.specs.Words.{keyword_text};
 
 use crate::tree::{Base, TypeTree};
+use idl_token::{Terminal, keyword_text};
 use std::alloc::AllocError;
+
+/// Appends a keyword.
+pub(crate) fn put_word(into: &mut Vec<u8>, keyword: Terminal) -> Result<(), AllocError>
+    ensures { OnOk result (into.new.items ≡ into.old.items ++ keyword_text keyword) }
+{
+    into.extend_from_slice(keyword_text(keyword).as_bytes())
+}
+
+/// Appends a keyword and a blank.
+pub(crate) fn put_spaced_word(into: &mut Vec<u8>, keyword: Terminal) -> Result<(), AllocError>
+    ensures { OnOk result (into.new.items ≡ into.old.items ++ spaced_word keyword) }
+{
+    put_word(into, keyword)?;
+    into.extend_from_slice(b" ")
+}
+
+/// The word of a base type.
+pub(crate) fn base_terminal(base: Base) -> Terminal
+    ensures { result ≡ base_word base }
+{
+    match base {
+        Base::Bool => Terminal::Bool,
+        Base::Byte => Terminal::Byte,
+        Base::I8 => Terminal::I8,
+        Base::I16 => Terminal::I16,
+        Base::I32 => Terminal::I32,
+        Base::I64 => Terminal::I64,
+        Base::Double => Terminal::DoubleWord,
+        Base::String => Terminal::StringWord,
+        Base::Binary => Terminal::Binary,
+    }
+}
 
 fn put_base(into: &mut Vec<u8>, base: Base) -> Result<(), AllocError>
     ensures { OnOk result (into.new.items ≡ into.old.items ++ base_text base) }
 {
-    match base {
-        Base::Bool => into.extend_from_slice(b"bool"),
-        Base::Byte => into.extend_from_slice(b"byte"),
-        Base::I8 => into.extend_from_slice(b"i8"),
-        Base::I16 => into.extend_from_slice(b"i16"),
-        Base::I32 => into.extend_from_slice(b"i32"),
-        Base::I64 => into.extend_from_slice(b"i64"),
-        Base::Double => into.extend_from_slice(b"double"),
-        Base::String => into.extend_from_slice(b"string"),
-        Base::Binary => into.extend_from_slice(b"binary"),
-    }
+    put_word(into, base_terminal(base))
 }
 
 /// Appends a type. It recurses once a level.
@@ -30,19 +55,22 @@ pub(crate) fn put_type(into: &mut Vec<u8>, kind: &TypeTree) -> Result<(), AllocE
         TypeTree::Base(_, base) => put_base(into, *base),
         TypeTree::Named(name) => into.extend_from_slice(name.text.as_slice()),
         TypeTree::Map(_, key, value) => {
-            into.extend_from_slice(b"map<")?;
+            put_word(into, Terminal::Map)?;
+            into.extend_from_slice(b"<")?;
             put_type(into, key)?;
             into.extend_from_slice(b", ")?;
             put_type(into, value)?;
             into.extend_from_slice(b">")
         }
         TypeTree::Set(_, member) => {
-            into.extend_from_slice(b"set<")?;
+            put_word(into, Terminal::Set)?;
+            into.extend_from_slice(b"<")?;
             put_type(into, member)?;
             into.extend_from_slice(b">")
         }
         TypeTree::List(_, element) => {
-            into.extend_from_slice(b"list<")?;
+            put_word(into, Terminal::List)?;
+            into.extend_from_slice(b"<")?;
             put_type(into, element)?;
             into.extend_from_slice(b">")
         }

@@ -1,58 +1,65 @@
 //! Types.
 ghost use Rattle.std.specs.Prelude.{◌≡◌, MatchResult};
-ghost use Rattle.idl_parser.specs.Phrases.{word};
+ghost use Rattle.idl_parser.specs.Phrases.{none, word, chain};
+ghost use Rattle.idl_parser.specs.Leaves.{sign, kept_word, neither, left_tree};
 ghost use Rattle.idl_parser.specs.Shapes.{starts_in, first};
 ghost use Rattle.idl_parser.specs.Reading.{read};
-ghost use Rattle.idl_parser.specs.Types.{base, map_type, set_type, list_type, no_container, container, inner_type, bare_type, type_of};
+ghost use Rattle.idl_parser.specs.Types.{base, cpp_type, map_type, set_type, list_type, no_container, container, inner_type, bare_type, type_of};
 ghost use Rattle.idl_parser.specs.Trees.{base_word, type_node};
-ghost use Rattle.idl_parser.specs.Spots.{Reads, Stops, most};
+ghost use Rattle.idl_parser.specs.ReaderCalls.{Parses, StopsAt, most};
 
-use crate::reader::{Reader, Stop};
-use crate::terminal::Terminal;
+use crate::reader::{Stop, SymbolReader, kept};
 use crate::tree::{Base, TypeTree};
-use idl_token::Place;
+use crate::type_printer::base_terminal;
+use idl_token::{Place, Terminal};
 use std::alloc::Global;
 
 fn boxed(alloc: Global, tree: TypeTree) -> Result<Box<TypeTree>, Stop>
     ensures { MatchResult result (λ b. b.value ≡ tree) (λ e. e ≡ Stop.NoMemory) }
 {
-    match Box::new(alloc, tree) {
-        Ok(kept) => Ok(kept),
-        Err(_) => Err(Stop::NoMemory),
-    }
+    Ok(Box::new(alloc, tree)?)
 }
 
-impl<'a> Reader<'a> {
-    /// The word of a base type, and its place.
+impl<'a> SymbolReader<'a> {
+    /// The base type whose word is next, where one is.
     #[tactic(auto, unfolding(crate::specs::Types::base))]
-    fn base(&mut self) -> Result<(Place, Base), Stop>
-        ensures { Reads base (λ b. word (base_word b.1) b.0) self.old self.new result }
+    fn next_base(&self) -> Base
+        ensures { read most base self.now ≡ read most (kept_word (base_word result)) self.now }
     {
         if self.starts(&[Terminal::Bool]) {
-            return Ok((self.word(Terminal::Bool)?, Base::Bool));
+            return Base::Bool;
         }
         if self.starts(&[Terminal::Byte]) {
-            return Ok((self.word(Terminal::Byte)?, Base::Byte));
+            return Base::Byte;
         }
         if self.starts(&[Terminal::I8]) {
-            return Ok((self.word(Terminal::I8)?, Base::I8));
+            return Base::I8;
         }
         if self.starts(&[Terminal::I16]) {
-            return Ok((self.word(Terminal::I16)?, Base::I16));
+            return Base::I16;
         }
         if self.starts(&[Terminal::I32]) {
-            return Ok((self.word(Terminal::I32)?, Base::I32));
+            return Base::I32;
         }
         if self.starts(&[Terminal::I64]) {
-            return Ok((self.word(Terminal::I64)?, Base::I64));
+            return Base::I64;
         }
         if self.starts(&[Terminal::DoubleWord]) {
-            return Ok((self.word(Terminal::DoubleWord)?, Base::Double));
+            return Base::Double;
         }
         if self.starts(&[Terminal::StringWord]) {
-            return Ok((self.word(Terminal::StringWord)?, Base::String));
+            return Base::String;
         }
-        Ok((self.word(Terminal::Binary)?, Base::Binary))
+        Base::Binary
+    }
+
+    /// The word of a base type, and its place.
+    fn base(&mut self) -> Result<(Place, Base), Stop>
+        ensures { Parses base (λ b. word (base_word b.1) b.0) self.old self.new result }
+    {
+        let base = self.next_base();
+        let at = self.word(base_terminal(base))?;
+        Ok((at, base))
     }
 
     /// Whether a base type's word is next.
@@ -76,7 +83,7 @@ impl<'a> Reader<'a> {
     /// How a reading ends at a type for which there is no level.
     #[tactic(auto, unfolding(crate::specs::Types::no_container))]
     fn no_level(&self) -> Stop
-        ensures { Stops result (read most no_container self.now) self.now }
+        ensures { StopsAt result (read most no_container self.now) self.now }
     {
         if self.starts(&[Terminal::Map]) {
             return Stop::Deep;
@@ -90,22 +97,30 @@ impl<'a> Reader<'a> {
         Stop::Stuck
     }
 
+    /// The `>` behind a list's element, and `cpp_type` with its literal or nothing.
+    fn list_end(&mut self) -> Result<(), Stop>
+        ensures { Parses (chain neither (sign Terminal.Greater) cpp_type) (λ _. none) self.old self.new result }
+    {
+        self.sign(Terminal::Greater)?;
+        self.cpp_type()
+    }
+
     /// A type of so many levels at most, and an annotation or none.
     #[cycle(type_reader)]
     #[tactic(auto, unfolding(crate::specs::Types::type_of))]
     pub(crate) fn type_tree(&mut self, levels: usize) -> Result<TypeTree, Stop>
-        ensures { Reads (type_of levels) type_node self.old self.new result }
+        ensures { Parses (type_of levels) type_node self.old self.new result }
     {
         let kind = self.bare_type(levels)?;
-        self.annotation()?;
-        Ok(kind)
+        let behind = self.annotation();
+        kept(kind, behind)
     }
 
     /// A type without its annotation.
     #[cycle(type_reader)]
     #[tactic(auto, unfolding(crate::specs::Types::bare_type))]
     fn bare_type(&mut self, levels: usize) -> Result<TypeTree, Stop>
-        ensures { Reads (bare_type levels) type_node self.old self.new result }
+        ensures { Parses (bare_type levels) type_node self.old self.new result }
     {
         if self.begins_base() {
             let (at, base) = self.base()?;
@@ -120,7 +135,7 @@ impl<'a> Reader<'a> {
     /// A container of so many levels at most.
     #[cycle(type_reader)]
     fn inner_type(&mut self, levels: usize) -> Result<TypeTree, Stop>
-        ensures { Reads (inner_type levels) type_node self.old self.new result }
+        ensures { Parses (inner_type levels) type_node self.old self.new result }
     {
         if levels == 0 {
             return Err(self.no_level());
@@ -132,7 +147,7 @@ impl<'a> Reader<'a> {
     #[cycle(type_reader)]
     #[tactic(auto, unfolding(crate::specs::Types::container))]
     fn container(&mut self, levels: usize) -> Result<TypeTree, Stop>
-        ensures { Reads (container (type_of levels)) type_node self.old self.new result }
+        ensures { Parses (container (type_of levels)) type_node self.old self.new result }
     {
         if self.starts(&[Terminal::Map]) {
             return self.map_type(levels);
@@ -143,47 +158,52 @@ impl<'a> Reader<'a> {
         self.list_type(levels)
     }
 
+    /// A type and a sign behind it.
     #[cycle(type_reader)]
-    #[tactic(auto, unfolding(crate::specs::Types::map_rest))]
+    fn type_before(&mut self, levels: usize, behind: Terminal) -> Result<Box<TypeTree>, Stop>
+        ensures { Parses (chain left_tree (type_of levels) (sign behind)) (λ b. type_node b.value) self.old self.new result }
+    {
+        let tree = self.type_tree(levels)?;
+        let passed = self.sign(behind);
+        boxed(self.alloc(), kept(tree, passed)?)
+    }
+
+    #[cycle(type_reader)]
+    #[tactic(auto, unfolding(crate::specs::Types::map_type_rest))]
     fn map_type(&mut self, levels: usize) -> Result<TypeTree, Stop>
-        ensures { Reads (map_type (type_of levels)) type_node self.old self.new result }
+        ensures { Parses (map_type (type_of levels)) type_node self.old self.new result }
     {
         let at = self.word(Terminal::Map)?;
         self.cpp_type()?;
         self.sign(Terminal::Less)?;
         let key = self.type_tree(levels)?;
         self.sign(Terminal::Comma)?;
-        let value = self.type_tree(levels)?;
-        self.sign(Terminal::Greater)?;
-        let key = boxed(self.alloc(), key)?;
-        let value = boxed(self.alloc(), value)?;
-        Ok(TypeTree::Map(at, key, value))
+        let value = self.type_before(levels, Terminal::Greater)?;
+        Ok(TypeTree::Map(at, boxed(self.alloc(), key)?, value))
     }
 
     #[cycle(type_reader)]
-    #[tactic(auto, unfolding(crate::specs::Types::set_rest))]
+    #[tactic(auto, unfolding(crate::specs::Types::set_type_rest))]
     fn set_type(&mut self, levels: usize) -> Result<TypeTree, Stop>
-        ensures { Reads (set_type (type_of levels)) type_node self.old self.new result }
+        ensures { Parses (set_type (type_of levels)) type_node self.old self.new result }
     {
         let at = self.word(Terminal::Set)?;
         self.cpp_type()?;
         self.sign(Terminal::Less)?;
-        let member = self.type_tree(levels)?;
-        self.sign(Terminal::Greater)?;
-        Ok(TypeTree::Set(at, boxed(self.alloc(), member)?))
+        Ok(TypeTree::Set(at, self.type_before(levels, Terminal::Greater)?))
     }
 
     #[cycle(type_reader)]
-    #[tactic(auto, unfolding(crate::specs::Types::list_rest))]
+    #[tactic(auto, unfolding(crate::specs::Types::list_type_rest))]
     fn list_type(&mut self, levels: usize) -> Result<TypeTree, Stop>
-        ensures { Reads (list_type (type_of levels)) type_node self.old self.new result }
+        ensures { Parses (list_type (type_of levels)) type_node self.old self.new result }
     {
         let at = self.word(Terminal::List)?;
         self.cpp_type()?;
         self.sign(Terminal::Less)?;
         let element = self.type_tree(levels)?;
-        self.sign(Terminal::Greater)?;
-        self.cpp_type()?;
+        let behind = self.list_end();
+        let element = kept(element, behind)?;
         Ok(TypeTree::List(at, boxed(self.alloc(), element)?))
     }
 }

@@ -2,7 +2,7 @@
 ghost use Rattle.std.specs.Prelude.{◌≡◌, ◌++◌, ◌∷◌, [], codes, map, OnOk};
 ghost use Rattle.std.specs.List.{flat_map};
 ghost use Rattle.text_out.specs.Decimal.{decimal_of};
-ghost use Rattle.idl_parser.specs.Printed.{escape_of, literal_text, behind_comma, value_text, values_text, entry_text, entry_behind_comma, both_texts, pairs_text};
+ghost use Rattle.idl_parser.specs.Printed.{escape_of, literal_text, behind_comma, value_text, values_text, pair_text, pair_behind_comma, both_texts, pairs_text};
 
 use crate::tree::{ConstTree, Int};
 use std::alloc::AllocError;

@@ -1,18 +1,20 @@
 //! Constant values.
 ghost use Rattle.std.specs.Prelude.{◌≡◌};
-ghost use Rattle.idl_parser.specs.Phrases.{pair, many};
+ghost use Rattle.idl_parser.specs.Phrases.{chain, pair, many};
+ghost use Rattle.idl_parser.specs.Leaves.{sign, right_tree};
+ghost use Rattle.idl_parser.specs.Documents.{deepest};
 ghost use Rattle.idl_parser.specs.Shapes.{starts_in};
 ghost use Rattle.idl_parser.specs.Starts.{value_starts};
 ghost use Rattle.idl_parser.specs.Reading.{read};
 ghost use Rattle.idl_parser.specs.Constants.{list_item, list_value, map_entry, map_value, collection, no_collection, inner_value, value_of};
 ghost use Rattle.idl_parser.specs.Trees.{value_node, values_node, entry_node, pairs_node};
-ghost use Rattle.idl_parser.specs.Spots.{Reads, Stops, most};
+ghost use Rattle.idl_parser.specs.ReaderCalls.{Parses, StopsAt, most};
 
-use crate::reader::{MAX_SYMBOLS, Reader, Stop, put};
-use crate::terminal::Terminal;
+use crate::reader::{MAX_SYMBOLS, Stop, SymbolReader, deepest, kept, put};
 use crate::tree::ConstTree;
+use idl_token::Terminal;
 
-impl<'a> Reader<'a> {
+impl<'a> SymbolReader<'a> {
     /// Whether a value may begin with the next symbol.
     fn begins_value(&self) -> bool
         ensures { result ≡ starts_in value_starts self.now }
@@ -30,7 +32,7 @@ impl<'a> Reader<'a> {
     /// How a reading ends at a value for which there is no level.
     #[tactic(auto, unfolding(crate::specs::Constants::no_collection))]
     fn no_value_level(&self) -> Stop
-        ensures { Stops result (read most no_collection self.now) self.now }
+        ensures { StopsAt result (read most no_collection self.now) self.now }
     {
         if self.starts(&[Terminal::OpenBracket]) {
             return Stop::Deep;
@@ -45,7 +47,7 @@ impl<'a> Reader<'a> {
     #[cycle(value_reader)]
     #[tactic(auto, unfolding(crate::specs::Constants::value_of))]
     pub(crate) fn value(&mut self, levels: usize) -> Result<ConstTree, Stop>
-        ensures { Reads (value_of levels) value_node self.old self.new result }
+        ensures { Parses (value_of levels) value_node self.old self.new result }
     {
         if self.starts(&[Terminal::Int]) {
             return Ok(ConstTree::Int(self.int()?));
@@ -65,7 +67,7 @@ impl<'a> Reader<'a> {
     /// A list or a map of so many levels at most.
     #[cycle(value_reader)]
     fn inner_value(&mut self, levels: usize) -> Result<ConstTree, Stop>
-        ensures { Reads (inner_value levels) value_node self.old self.new result }
+        ensures { Parses (inner_value levels) value_node self.old self.new result }
     {
         if levels == 0 {
             return Err(self.no_value_level());
@@ -77,7 +79,7 @@ impl<'a> Reader<'a> {
     #[cycle(value_reader)]
     #[tactic(auto, unfolding(crate::specs::Constants::collection))]
     fn collection(&mut self, levels: usize) -> Result<ConstTree, Stop>
-        ensures { Reads (collection (value_of levels)) value_node self.old self.new result }
+        ensures { Parses (collection (value_of levels)) value_node self.old self.new result }
     {
         if self.starts(&[Terminal::OpenBracket]) {
             return self.list_value(levels);
@@ -86,9 +88,9 @@ impl<'a> Reader<'a> {
     }
 
     #[cycle(value_reader)]
-    #[tactic(auto, unfolding(crate::specs::Constants::list_rest))]
+    #[tactic(auto, unfolding(crate::specs::Constants::list_value_rest))]
     fn list_value(&mut self, levels: usize) -> Result<ConstTree, Stop>
-        ensures { Reads (list_value (value_of levels)) value_node self.old self.new result }
+        ensures { Parses (list_value (value_of levels)) value_node self.old self.new result }
     {
         let at = self.word(Terminal::OpenBracket)?;
         let items = self.list_items(levels)?;
@@ -96,41 +98,36 @@ impl<'a> Reader<'a> {
         Ok(ConstTree::List(at, items))
     }
 
+    /// A value, and a separator or none.
     #[cycle(value_reader)]
     #[tactic(auto, unfolding(crate::specs::Constants::list_item))]
     fn list_item(&mut self, levels: usize) -> Result<ConstTree, Stop>
-        ensures { Reads (list_item (value_of levels)) value_node self.old self.new result }
+        ensures { Parses (list_item (value_of levels)) value_node self.old self.new result }
     {
         let item = self.value(levels)?;
-        self.separator()?;
-        Ok(item)
+        let behind = self.separator();
+        kept(item, behind)
     }
 
     #[cycle(value_reader)]
     fn list_items(&mut self, levels: usize) -> Result<Vec<ConstTree>, Stop>
-        ensures { Reads (many pair (list_item (value_of levels))) (λ v. values_node v.items) self.old self.new result }
+        ensures { Parses (many pair (list_item (value_of levels))) (λ v. values_node v.items) self.old self.new result }
     {
         let mut all = Vec::new(self.alloc());
         'row: for _round in 0..MAX_SYMBOLS {
             if !self.begins_value() {
                 return Ok(all);
             }
-            match self.list_item(levels) {
-                Ok(item) => {
-                    if let Err(full) = put(&mut all, item) {
-                        return Err(full);
-                    }
-                }
-                Err(stop) => return Err(stop),
-            }
+            let item = self.list_item(levels)?;
+            put(&mut all, item)?;
         }
         Ok(all)
     }
 
     #[cycle(value_reader)]
-    #[tactic(auto, unfolding(crate::specs::Constants::map_rest))]
+    #[tactic(auto, unfolding(crate::specs::Constants::map_value_rest))]
     fn map_value(&mut self, levels: usize) -> Result<ConstTree, Stop>
-        ensures { Reads (map_value (value_of levels)) value_node self.old self.new result }
+        ensures { Parses (map_value (value_of levels)) value_node self.old self.new result }
     {
         let at = self.word(Terminal::OpenBrace)?;
         let pairs = self.map_entries(levels)?;
@@ -139,35 +136,36 @@ impl<'a> Reader<'a> {
     }
 
     #[cycle(value_reader)]
-    #[tactic(auto, unfolding(crate::specs::Constants::map_entry))]
+    #[tactic(auto, unfolding(crate::specs::Constants::map_entry, crate::specs::Constants::list_item))]
     fn map_entry(&mut self, levels: usize) -> Result<(ConstTree, ConstTree), Stop>
-        ensures { Reads (map_entry (value_of levels)) entry_node self.old self.new result }
+        ensures { Parses (map_entry (value_of levels)) entry_node self.old self.new result }
     {
         let key = self.value(levels)?;
         self.sign(Terminal::Colon)?;
-        let value = self.value(levels)?;
-        self.separator()?;
+        let value = self.list_item(levels)?;
         Ok((key, value))
     }
 
     #[cycle(value_reader)]
     fn map_entries(&mut self, levels: usize) -> Result<Vec<(ConstTree, ConstTree)>, Stop>
-        ensures { Reads (many pair (map_entry (value_of levels))) (λ v. pairs_node v.items) self.old self.new result }
+        ensures { Parses (many pair (map_entry (value_of levels))) (λ v. pairs_node v.items) self.old self.new result }
     {
         let mut all = Vec::new(self.alloc());
         'row: for _round in 0..MAX_SYMBOLS {
             if !self.begins_value() {
                 return Ok(all);
             }
-            match self.map_entry(levels) {
-                Ok(item) => {
-                    if let Err(full) = put(&mut all, item) {
-                        return Err(full);
-                    }
-                }
-                Err(stop) => return Err(stop),
-            }
+            let item = self.map_entry(levels)?;
+            put(&mut all, item)?;
         }
         Ok(all)
+    }
+
+    /// `=` and a value.
+    pub(crate) fn assigned(&mut self) -> Result<ConstTree, Stop>
+        ensures { Parses (chain right_tree (sign Terminal.Equals) (value_of deepest)) value_node self.old self.new result }
+    {
+        self.sign(Terminal::Equals)?;
+        self.value(deepest())
     }
 }

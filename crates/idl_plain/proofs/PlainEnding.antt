@@ -3,9 +3,9 @@ use Rattle.std.proofs.Common.{◌≡◌, ℕ, zero, suc, ◌+◌, ◌-◌, ◌<�
 use Rattle.std.specs.List.{Contains, flat_map}
 use Rattle.std.proofs.lemmas.Bool.{cases_order}
 use Rattle.std.proofs.lemmas.List.{length-drop}
-use Rattle.idl_parser.specs.declared.terminal.Terminal.{Terminal}
-use Rattle.idl_parser.specs.Phrases.{Lexeme, Node, none, placed, place_at, Phrase, one, deep, chain, either, maybe, many, marked, Times, In}
-use Rattle.idl_plain.specs.PlainPhrases.{outline, terminals, Stands, StandsBetween}
+use Rattle.idl_token.specs.declared.terminal.Terminal.{Terminal}
+use Rattle.idl_parser.specs.Phrases.{Lexeme, Node, none, placed, place_at, Phrase, one, deep, chain, either, maybe, many, marked, Times, Derives}
+use Rattle.idl_plain.specs.PlainPhrases.{outline, terminals, DerivesFront, DerivesBetween}
 use Rattle.idl_plain.specs.PlainEnds.{is_at, times, ends}
 use Rattle.idl_parser.proofs.Sound.{cut}
 use Rattle.idl_plain.proofs.PlainLists.{Among, among_left, among_right, among_cases, among_each, each_among, place_of, same_place, symbol_at, is_there, terminals_long, among_contained, contained_among}
@@ -14,7 +14,7 @@ use Rattle.idl_plain.proofs.PlainLists.{Among, among_left, among_right, among_ca
 pub record Reaches (p : Phrase) (ts : List Lexeme) (from to : ℕ) : Type 0 where
   pub behind : from ≤ to
   pub within : to ≤ length ts
-  pub stands : Stands p (drop from ts) (drop to ts)
+  pub stands : DerivesFront p (drop from ts) (drop to ts)
 
 -- so many phrases in a row do
 pub record RowReaches (join : Node → Node → Node) (p : Phrase) (ts : List Lexeme) (from to : ℕ) : Type 0 where
@@ -22,7 +22,7 @@ pub record RowReaches (join : Node → Node → Node) (p : Phrase) (ts : List Le
   pub within : to ≤ length ts
   pub count : ℕ
   pub tree : Node
-  pub stands : Times join (In p) count (drop from ts) tree (drop to ts)
+  pub stands : Times join (Derives p) count (drop from ts) tree (drop to ts)
 
 one_found : (k : Terminal) (f : Lexeme → Node) (ts : List Lexeme) (from to : ℕ) (b : Bool) → is_at (terminals ts) from k ≡ b
     → Among to (cond b ((from + 1) ∷ []) []) → Reaches (one k f) ts from to
@@ -125,8 +125,8 @@ pub record FewSteps (go : ℕ → List ℕ) (from to : ℕ) : Type 0 where
   pub steps : Steps go count from to
 
 few_steps : (join : Node → Node → Node) (p : Phrase) (ts : List Lexeme) (go : ℕ → List ℕ)
-    → ((from to : ℕ) → from ≤ length ts → to ≤ length ts → Stands p (drop from ts) (drop to ts) → Among to (go from))
-    → (count : ℕ) (from to : ℕ) (x : Node) → from ≤ length ts → to ≤ length ts → Times join (In p) count (drop from ts) x (drop to ts)
+    → ((from to : ℕ) → from ≤ length ts → to ≤ length ts → DerivesFront p (drop from ts) (drop to ts) → Among to (go from))
+    → (count : ℕ) (from to : ℕ) (x : Node) → from ≤ length ts → to ≤ length ts → Times join (Derives p) count (drop from ts) x (drop to ts)
     → FewSteps go from to
 few_steps join p ts go each zero from to x inside until h =
     let e = same_place ts from to inside until h.0 in record { count = zero; few = omega arith; steps = e }
@@ -134,8 +134,8 @@ few_steps join p ts go each (suc count) from to x inside until h =
     let c = cut p (drop from ts) h.1 h.0 h.3 in
     let m = place_of ts c.front h.0 from inside c.is in
     let mid = from + length c.front in
-    let l = each from mid inside m.0 (h.1, subst (In p (drop from ts) h.1) m.1 h.3) in
-    let r = few_steps join p ts go each count mid to h.2 m.0 until (subst (λ s. Times join (In p) count s h.2 (drop to ts)) m.1 h.4) in
+    let l = each from mid inside m.0 (h.1, subst (Derives p (drop from ts) h.1) m.1 h.3) in
+    let r = few_steps join p ts go each count mid to h.2 m.0 until (subst (λ s. Times join (Derives p) count s h.2 (drop to ts)) m.1 h.4) in
     step mid (omega arith) l r (cases_order from mid)
   where
     step : (mid : ℕ) → from ≤ mid → Among mid (go from) → FewSteps go mid to → ((from ≡ mid) ⊎ ((from < mid) ⊎ (mid < from))) → FewSteps go from to
@@ -143,7 +143,7 @@ few_steps join p ts go each (suc count) from to x inside until h =
     step mid up l r (inr (inl less)) = let w = r.few in record { count = suc r.count; few = omega arith; steps = (mid, l, r.steps) }
     step mid up l r (inr (inr more)) = absurd (omega arith)
 
-pub complete : (p : Phrase) (ts : List Lexeme) (from to : ℕ) → from ≤ length ts → to ≤ length ts → Stands p (drop from ts) (drop to ts)
+pub complete : (p : Phrase) (ts : List Lexeme) (from to : ℕ) → from ≤ length ts → to ≤ length ts → DerivesFront p (drop from ts) (drop to ts)
     → Among to (ends (outline p) (terminals ts) from)
 complete (one k f) ts from to inside until (x, h) =
     let there = is_there ts from k h.0 (drop to ts) h.2 h.1 in
@@ -155,8 +155,8 @@ complete (chain join p q) ts from to inside until (x, h) =
     let m = place_of ts c.front h.0 from inside c.is in
     let mid = from + length c.front in
     among_each (ends (outline q) (terminals ts)) mid to (ends (outline p) (terminals ts) from)
-    (complete p ts from mid inside m.0 (h.1, subst (In p (drop from ts) h.1) m.1 h.3))
-    (complete q ts mid to m.0 until (h.2, subst (λ s. In q s h.2 (drop to ts)) m.1 h.4))
+    (complete p ts from mid inside m.0 (h.1, subst (Derives p (drop from ts) h.1) m.1 h.3))
+    (complete q ts mid to m.0 until (h.2, subst (λ s. Derives q s h.2 (drop to ts)) m.1 h.4))
 complete (either p q) ts from to inside until (x, inl h) =
     among_left to (ends (outline p) (terminals ts) from) (ends (outline q) (terminals ts) from) (complete p ts from to inside until (x, h))
 complete (either p q) ts from to inside until (x, inr h) =
@@ -171,7 +171,7 @@ complete (marked p) ts from to inside until (x, h) = complete p ts from to insid
 
 -- both ways
 pub ends_are : (p : Phrase) (ts : List Lexeme) (from to : ℕ) (all : List ℕ) → from ≤ length ts → all ≡ ends (outline p) (terminals ts) from
-    → (Contains all to → StandsBetween p ts from to) × (StandsBetween p ts from to → Contains all to)
+    → (Contains all to → DerivesBetween p ts from to) × (DerivesBetween p ts from to → Contains all to)
 ends_are p ts from to all inside is = (
   λ h. (let g = found p ts from to inside (subst (Among to) is (among_contained all to h)) in (g.within, g.stands)),
   λ h. contained_among all to (subst (Among to) (sym is) (complete p ts from to inside h.0 h.1)),

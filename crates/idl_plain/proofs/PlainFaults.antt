@@ -2,24 +2,24 @@
 use Rattle.std.proofs.Common.{◌≡◌, ◌≤◌, ℕ, Bool, List, map, drop, length, sym, ap, ◌∙◌, subst}
 use Rattle.std.proofs.lemmas.Simd.{map-map}
 use Rattle.std.proofs.lemmas.List.{drop-map, length-map}
-use Rattle.idl_token.specs.Places.{place_of}
+use Rattle.idl_token.specs.Places.{line_and_column}
 use Rattle.idl_token.specs.declared.Token.{Token}
 use Rattle.idl_parser.specs.declared.ParseFault.{ParseFault}
 use Rattle.idl_parser.specs.declared.symbol.Symbol.{Symbol}
-use Rattle.idl_parser.specs.declared.terminal.Terminal.{Terminal}
+use Rattle.idl_token.specs.declared.terminal.Terminal.{Terminal}
 use Rattle.idl_parser.specs.Phrases.{Lexeme}
-use Rattle.idl_parser.specs.FirstFault.{IsFirstFault}
+use Rattle.idl_parser.specs.FirstFault.{IsFirstSyntaxFault}
 use Rattle.idl_parser.specs.Faults.{next_place, fault_kind, IsFaultWithin}
-use Rattle.idl_parser.specs.Spots.{lexeme_of}
+use Rattle.idl_parser.specs.ReaderCalls.{lexeme_of}
 use Rattle.idl_parser.specs.Symbols.{lexemes}
-use Rattle.idl_plain.specs.declared.verdicts.Verdict.{Verdict}
+use Rattle.idl_plain.specs.declared.verdicts.Recognition.{Recognition}
 use Rattle.idl_plain.specs.PlainPhrases.{terminals}
-use Rattle.idl_plain.specs.PlainVerdicts.{IsVerdict}
+use Rattle.idl_plain.specs.PlainVerdicts.{IsRecognition}
 
 -- a verdict on what the symbols of a text are is one on its lexemes
-pub verdict_of : (levels : ℕ) (text : List ℕ) (tokens : List Token) (all seen : List Symbol) (whats judged : List Terminal) (verdict : Verdict)
+pub verdict_of : (levels : ℕ) (text : List ℕ) (tokens : List Token) (all seen : List Symbol) (whats judged : List Terminal) (verdict : Recognition)
     → map (lexeme_of text) all ≡ lexemes text tokens → seen ≡ all → whats ≡ map (λ s. s.what) seen → judged ≡ whats
-    → ((ts : List Lexeme) → terminals ts ≡ judged → IsVerdict levels ts verdict) → IsVerdict levels (lexemes text tokens) verdict
+    → ((ts : List Lexeme) → terminals ts ≡ judged → IsRecognition levels ts verdict) → IsRecognition levels (lexemes text tokens) verdict
 verdict_of levels text tokens all seen whats judged verdict made there are same told =
     told (lexemes text tokens) (ap terminals (sym made) ∙ map-map (λ t. t.what) (lexeme_of text) all ∙ ap (map (λ s. s.what)) (sym there) ∙ sym are ∙ sym same)
 
@@ -30,8 +30,8 @@ long_enough text tokens all at made within = subst (λ n. at ≤ n) (ap length (
 -- the first fault of the symbols is that of the text
 pub fault_there : (levels : ℕ) (text : List ℕ) (tokens : List Token) (all rest : List Symbol) (at : ℕ) (deep : Bool) (fault : ParseFault)
     → map (lexeme_of text) all ≡ lexemes text tokens → rest ≡ drop at all
-    → (at ≤ length (lexemes text tokens)) × IsFirstFault levels (lexemes text tokens) (drop at (lexemes text tokens)) deep
-    → fault.at ≡ next_place (place_of text (length text)) (map (lexeme_of text) rest)
+    → (at ≤ length (lexemes text tokens)) × IsFirstSyntaxFault levels (lexemes text tokens) (drop at (lexemes text tokens)) deep
+    → fault.at ≡ next_place (line_and_column text (length text)) (map (lexeme_of text) rest)
     → fault.kind ≡ fault_kind deep (map (lexeme_of text) rest) → IsFaultWithin levels text tokens fault
 fault_there levels text tokens all rest at deep fault made left first place kind =
     let same : map (lexeme_of text) rest ≡ drop at (lexemes text tokens) =
@@ -41,5 +41,5 @@ fault_there levels text tokens all rest at deep fault made left first place kind
       too_deep = deep;
       first = first.1;
       kind = kind ∙ ap (fault_kind deep) same;
-      at = place ∙ ap (next_place (place_of text (length text))) same;
+      at = place ∙ ap (next_place (line_and_column text (length text))) same;
     }

@@ -4,9 +4,9 @@ use Rattle.std.specs.Prelude.{IsTrue}
 use Rattle.std.specs.List.{list_any}
 use Rattle.std.proofs.lemmas.Bool.{eq-eqb}
 use Rattle.std.proofs.lemmas.List.{drop_more, drop_all}
-use Rattle.idl_parser.specs.Terminals.{code, same}
-use Rattle.idl_parser.specs.Phrases.{Lexeme, Node, none, placed, place_at, Phrase, one, deep, chain, either, maybe, many, marked, Times, In}
-use Rattle.idl_plain.specs.PlainPhrases.{outline, terminals, Stands, BeginsWith}
+use Rattle.idl_token.specs.Terminals.{code, same}
+use Rattle.idl_parser.specs.Phrases.{Lexeme, Node, none, placed, place_at, Phrase, one, deep, chain, either, maybe, many, marked, Times, Derives}
+use Rattle.idl_plain.specs.PlainPhrases.{outline, terminals, DerivesFront, BeginsWith}
 use Rattle.idl_plain.specs.PlainEnds.{is_at, is_end, ends, is_possible, goes_on}
 use Rattle.idl_parser.proofs.Sound.{cut}
 use Rattle.idl_plain.proofs.PlainLists.{Among, any_among, among_any, or_left, or_right, or_cases, and_both, and_cases, place_of, symbol_at, is_there, none_left, at_end, parted, no_symbols}
@@ -31,13 +31,13 @@ search_fails p xs i s over = ap (list_any p) (sym (drop_all i xs over)) ∙ s.le
 pub ruleset searches = (search_begins, search_on, search_ends, search_fails)
 
 -- whatever follows stands behind the phrase
-more_behind : (p : Phrase) (ts rest : List Lexeme) → Stands p ts rest → (tail : List Lexeme) → Stands p (ts ++ tail) (rest ++ tail)
+more_behind : (p : Phrase) (ts rest : List Lexeme) → DerivesFront p ts rest → (tail : List Lexeme) → DerivesFront p (ts ++ tail) (rest ++ tail)
 more_behind p ts rest s tail =
     let c = cut p ts s.0 rest s.1 in
-    subst (λ l. Stands p l (rest ++ tail)) (sym (ap (λ l. l ++ tail) c.is ∙ append_assoc c.front rest tail)) (c.again (rest ++ tail))
+    subst (λ l. DerivesFront p l (rest ++ tail)) (sym (ap (λ l. l ++ tail) c.is ∙ append_assoc c.front rest tail)) (c.again (rest ++ tail))
 
 -- some symbols are a phrase that is possible
-sample_of : (p : Phrase) → is_possible (outline p) ≡ true → (ts : List Lexeme) × Stands p ts []
+sample_of : (p : Phrase) → is_possible (outline p) ≡ true → (ts : List Lexeme) × DerivesFront p ts []
 sample_of (one k f) is =
     let t : Lexeme = record { what = k; bytes = []; place = record { line = 0; column = 0 } } in
     (t ∷ [], (f t, (t, eq-eqb (code k) (code k) refl, refl, refl)))
@@ -56,7 +56,7 @@ sample_of (maybe f p) is = ([], (none, inl (refl, refl)))
 sample_of (many join p) is = ([], (none, (zero, (refl, refl))))
 sample_of (marked p) is = let l = sample_of p is in (l.0, (placed (place_at l.0) l.1.0, (l.1.0, l.1.1, refl)))
 
-possible : (p : Phrase) (ts : List Lexeme) (x : Node) (rest : List Lexeme) → In p ts x rest → is_possible (outline p) ≡ true
+possible : (p : Phrase) (ts : List Lexeme) (x : Node) (rest : List Lexeme) → Derives p ts x rest → is_possible (outline p) ≡ true
 possible (one k f) ts x rest h = refl
 possible (deep k) ts x rest h = absurd h
 possible (chain join p q) ts x rest h = and_both (is_possible (outline p)) (is_possible (outline q)) (possible p ts h.1 h.0 h.3) (possible q h.0 h.2 rest h.4)
@@ -68,15 +68,15 @@ possible (marked p) ts x rest h = possible p ts h.0 rest h.1
 
 -- a row and one phrase more
 row_then : (join : Node → Node → Node) (p : Phrase) (count : ℕ) (ts : List Lexeme) (x : Node) (mid rest : List Lexeme)
-    → Times join (In p) count ts x mid → Stands p mid rest → Stands (many join p) ts rest
+    → Times join (Derives p) count ts x mid → DerivesFront p mid rest → DerivesFront (many join p) ts rest
 row_then join p zero ts x mid rest h s =
-    (join s.0 none, (suc zero, (rest, s.0, none, subst (λ l. In p l s.0 rest) (sym h.0) s.1, (refl, refl), refl)))
+    (join s.0 none, (suc zero, (rest, s.0, none, subst (λ l. Derives p l s.0 rest) (sym h.0) s.1, (refl, refl), refl)))
 row_then join p (suc count) ts x mid rest h s =
     let g = row_then join p count h.0 h.2 mid rest h.4 s in
     (join h.1 g.0, (suc g.1.0, (h.0, h.1, g.0, h.3, g.1.1, refl)))
 
 -- a phrase and then a row
-then_row : (join : Node → Node → Node) (p : Phrase) (ts mid rest : List Lexeme) → Stands p ts mid → Stands (many join p) mid rest → Stands (many join p) ts rest
+then_row : (join : Node → Node → Node) (p : Phrase) (ts mid rest : List Lexeme) → DerivesFront p ts mid → DerivesFront (many join p) mid rest → DerivesFront (many join p) ts rest
 then_row join p ts mid rest l r = (join l.0 r.0, (suc r.1.0, (mid, l.0, r.0, l.1, r.1.1, refl)))
 
 nothing_left : (p : Phrase) (ts : List Lexeme) (from : ℕ) → is_end (terminals ts) from ≡ true → BeginsWith p [] → BeginsWith p (drop from ts)
@@ -100,7 +100,7 @@ begun (chain join p q) ts from inside h =
           let l = begun p ts from inside both.0 in
           let r = sample_of q both.1 in
           let s = more_behind p (drop from ts ++ l.0) [] l.1 r.0 in
-          let t : Stands p (drop from ts ++ (l.0 ++ r.0)) r.0 = subst (λ m. Stands p m r.0) (append_assoc (drop from ts) l.0 r.0) s in
+          let t : DerivesFront p (drop from ts ++ (l.0 ++ r.0)) r.0 = subst (λ m. DerivesFront p m r.0) (append_assoc (drop from ts) l.0 r.0) s in
           (l.0 ++ r.0, (join t.0 r.1.0, (r.0, t.0, r.1.0, t.1, r.1.1, refl)))
       | inr a ↦
           let m = any_among (goes_on (outline q) (terminals ts)) (ends (outline p) (terminals ts) from) a in
@@ -122,7 +122,7 @@ begun (many join p) ts from inside h =
       | inl a ↦
           let m = any_among (is_end (terminals ts)) (ends (outline (many join p)) (terminals ts) from) a in
           let l = found (many join p) ts from m.0 inside m.1 in
-          ([], subst (λ l. Stands (many join p) l []) (sym (append-nil (drop from ts))) (subst (Stands (many join p) (drop from ts)) (none_left ts m.0 m.2) l.stands))
+          ([], subst (λ l. DerivesFront (many join p) l []) (sym (append-nil (drop from ts))) (subst (DerivesFront (many join p) (drop from ts)) (none_left ts m.0 m.2) l.stands))
       | inr a ↦
           let m = any_among (goes_on (outline p) (terminals ts)) (ends (outline (many join p)) (terminals ts) from) a in
           let l = found (many join p) ts from m.0 inside m.1 in
@@ -144,7 +144,7 @@ here_in_row join p ts from inside = complete (many join p) ts from from inside i
 
 row_onward : (join : Node → Node → Node) (p : Phrase) (ts : List Lexeme)
     → ((from : ℕ) → from ≤ length ts → BeginsWith p (drop from ts) → goes_on (outline p) (terminals ts) from ≡ true)
-    → (count : ℕ) (from : ℕ) (more : List Lexeme) (x : Node) → from ≤ length ts → Times join (In p) count (drop from ts ++ more) x [] → Onward join p ts from
+    → (count : ℕ) (from : ℕ) (more : List Lexeme) (x : Node) → from ≤ length ts → Times join (Derives p) count (drop from ts ++ more) x [] → Onward join p ts from
 row_onward join p ts each zero from more x inside h =
     (from, here_in_row join p ts from inside, inl (at_end ts from (no_symbols (drop from ts) more h.0)))
 row_onward join p ts each (suc count) from more x inside h =
@@ -153,9 +153,9 @@ row_onward join p ts each (suc count) from more x inside h =
       | inl g ↦
           let m = place_of ts c.front g.0 from inside g.1 in
           let mid = from + length c.front in
-          let left : Stands p (drop from ts) (drop mid ts) =
-          subst (Stands p (drop from ts)) m.1 (subst (λ l. Stands p l g.0) (sym g.1) (c.again g.0)) in
-          let r = row_onward join p ts each count mid more h.2 m.0 (subst (λ l. Times join (In p) count l h.2 []) (g.2 ∙ ap (λ l. l ++ more) m.1) h.4) in
+          let left : DerivesFront p (drop from ts) (drop mid ts) =
+          subst (DerivesFront p (drop from ts)) m.1 (subst (λ l. DerivesFront p l g.0) (sym g.1) (c.again g.0)) in
+          let r = row_onward join p ts each count mid more h.2 m.0 (subst (λ l. Times join (Derives p) count l h.2 []) (g.2 ∙ ap (λ l. l ++ more) m.1) h.4) in
           let f = found (many join p) ts mid r.0 m.0 r.1 in (
             r.0,
             complete (many join p) ts from r.0 inside f.within (then_row join p (drop from ts) (drop mid ts) (drop r.0 ts) left f.stands),
@@ -164,7 +164,7 @@ row_onward join p ts each (suc count) from more x inside h =
       | inr g ↦ (
         from,
         here_in_row join p ts from inside,
-        inr (each from inside (g.0, subst (λ l. Stands p l []) (append-nil c.front ∙ g.1) (c.again []))),
+        inr (each from inside (g.0, subst (λ l. DerivesFront p l []) (append-nil c.front ∙ g.1) (c.again []))),
       )
     ]
 
@@ -192,15 +192,15 @@ goes (chain join p q) ts from inside (more, (x, h)) =
       | inl g ↦
           let m = place_of ts c.front g.0 from inside g.1 in
           let mid = from + length c.front in
-          let left : Stands p (drop from ts) (drop mid ts) =
-          subst (Stands p (drop from ts)) m.1 (subst (λ l. Stands p l g.0) (sym g.1) (c.again g.0)) in
-          let right : BeginsWith q (drop mid ts) = (more, (h.2, subst (λ l. In q l h.2 []) (g.2 ∙ ap (λ l. l ++ more) m.1) h.4)) in
+          let left : DerivesFront p (drop from ts) (drop mid ts) =
+          subst (DerivesFront p (drop from ts)) m.1 (subst (λ l. DerivesFront p l g.0) (sym g.1) (c.again g.0)) in
+          let right : BeginsWith q (drop mid ts) = (more, (h.2, subst (λ l. Derives q l h.2 []) (g.2 ∙ ap (λ l. l ++ more) m.1) h.4)) in
           or_right (goes_on (outline p) (terminals ts) from && is_possible (outline q)) (list_any (goes_on (outline q) (terminals ts)) (ends (outline p) (terminals ts) from))
           (among_any (goes_on (outline q) (terminals ts)) mid (ends (outline p) (terminals ts) from) (complete p ts from mid inside m.0 left) (goes q ts mid m.0 right))
       | inr g ↦
           or_left (goes_on (outline p) (terminals ts) from && is_possible (outline q)) (list_any (goes_on (outline q) (terminals ts)) (ends (outline p) (terminals ts) from))
           (and_both (goes_on (outline p) (terminals ts) from) (is_possible (outline q))
-          (goes p ts from inside (g.0, subst (λ l. Stands p l []) (append-nil c.front ∙ g.1) (c.again [])))
+          (goes p ts from inside (g.0, subst (λ l. DerivesFront p l []) (append-nil c.front ∙ g.1) (c.again [])))
           (possible q h.0 h.2 [] h.4))
     ]
 goes (either p q) ts from inside (more, (x, inl h)) =

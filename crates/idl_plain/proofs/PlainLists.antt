@@ -4,8 +4,8 @@ use Rattle.std.specs.List.{Contains, flat_map, list_any}
 use Rattle.std.proofs.Math.Seq.{drop-append_seam}
 use Rattle.std.proofs.lemmas.Bool.{le-leb, leb-true}
 use Rattle.std.proofs.lemmas.List.{length-append, length-drop, drop-drop, drop_all}
-use Rattle.idl_parser.specs.declared.terminal.Terminal.{Terminal}
-use Rattle.idl_parser.specs.Terminals.{same}
+use Rattle.idl_token.specs.declared.terminal.Terminal.{Terminal}
+use Rattle.idl_token.specs.Terminals.{same}
 use Rattle.idl_parser.specs.Phrases.{Lexeme}
 use Rattle.idl_plain.specs.PlainPhrases.{terminals}
 use Rattle.idl_plain.specs.PlainEnds.{is_at, is_end}

@@ -1,9 +1,9 @@
 -- The outline of each kind of phrase in memory.
 use Rattle.std.proofs.Common.{◌≡◌, rules}
 use Rattle.std.specs.Global.{Box}
-use Rattle.idl_parser.specs.declared.terminal.Terminal.{Terminal}
-use Rattle.idl_plain.specs.declared.phrase.Phrase as plain
-use Rattle.idl_plain.specs.declared.phrase.Phrase.TheFolds.{the_lemmas}
+use Rattle.idl_token.specs.declared.terminal.Terminal.{Terminal}
+use Rattle.idl_plain.specs.declared.phrase.PlainPhrase as plain
+use Rattle.idl_plain.specs.declared.phrase.PlainPhrase.TheFolds.{the_lemmas}
 use Rattle.idl_plain.specs.PlainPhrases.{symbol, never, both, choice, perhaps, row, outline_of}
 
 pub outline_of-One : (k : Terminal) → outline_of (plain.One k) ≡ symbol k
@@ -12,16 +12,16 @@ outline_of-One k = search (rules, the_lemmas)
 pub outline_of-Deep : (k : Terminal) → outline_of (plain.Deep k) ≡ never k
 outline_of-Deep k = search (rules, the_lemmas)
 
-pub outline_of-Chain : (p q : Box plain.Phrase) → outline_of (plain.Chain p q) ≡ both (outline_of p.value) (outline_of q.value)
+pub outline_of-Chain : (p q : Box plain.PlainPhrase) → outline_of (plain.Chain p q) ≡ both (outline_of p.value) (outline_of q.value)
 outline_of-Chain p q = search (rules, the_lemmas)
 
-pub outline_of-Either : (p q : Box plain.Phrase) → outline_of (plain.Either p q) ≡ choice (outline_of p.value) (outline_of q.value)
+pub outline_of-Either : (p q : Box plain.PlainPhrase) → outline_of (plain.Either p q) ≡ choice (outline_of p.value) (outline_of q.value)
 outline_of-Either p q = search (rules, the_lemmas)
 
-pub outline_of-Maybe : (p : Box plain.Phrase) → outline_of (plain.Maybe p) ≡ perhaps (outline_of p.value)
+pub outline_of-Maybe : (p : Box plain.PlainPhrase) → outline_of (plain.Maybe p) ≡ perhaps (outline_of p.value)
 outline_of-Maybe p = search (rules, the_lemmas)
 
-pub outline_of-Many : (p : Box plain.Phrase) → outline_of (plain.Many p) ≡ row (outline_of p.value)
+pub outline_of-Many : (p : Box plain.PlainPhrase) → outline_of (plain.Many p) ≡ row (outline_of p.value)
 outline_of-Many p = search (rules, the_lemmas)
 
 pub ruleset outlines = (outline_of-One, outline_of-Deep, outline_of-Chain, outline_of-Either, outline_of-Maybe, outline_of-Many)

@@ -5,11 +5,11 @@ use Rattle.std.specs.List.{Contains, list_any}
 use Rattle.std.proofs.Math.Seq.{drop-length}
 use Rattle.std.proofs.lemmas.Bool.{eq-eqb, eqb-true}
 use Rattle.std.proofs.lemmas.List.{take-append-drop, take_all, drop_all}
-use Rattle.idl_parser.specs.declared.terminal.Terminal.{Terminal}
+use Rattle.idl_token.specs.declared.terminal.Terminal.{Terminal}
 use Rattle.idl_parser.specs.Phrases.{Lexeme, none, pair, Phrase}
 use Rattle.idl_parser.specs.Documents.{document, DocumentIn}
-use Rattle.idl_parser.specs.FirstFault.{CanGoOn, IsStuck, IsDeep, IsFirstFault}
-use Rattle.idl_plain.specs.PlainPhrases.{terminals, Stands, StandsBetween, BeginsWith}
+use Rattle.idl_parser.specs.FirstFault.{CanGoOn, IsStuck, IsDeep, IsFirstSyntaxFault}
+use Rattle.idl_plain.specs.PlainPhrases.{terminals, DerivesFront, DerivesBetween, BeginsWith}
 use Rattle.idl_plain.proofs.PlainLists.{any_among, among_any, among_contained, contained_among, terminals_long}
 
 -- a symbol behind a front
@@ -43,7 +43,7 @@ nothing_begins levels ts = ([], pair none none, ([], none, none, (zero, (refl, r
 -- no document goes on with the symbol at a place
 pub stuck : (levels : ℕ) (ts : List Lexeme) (at : ℕ) (deep : Bool) → at < length ts → CanGoOn levels (take at ts)
     → (CanGoOn levels (take (at + 1) ts) → ⊥) → (IsTrue deep ↔ CanGoOn (suc levels) (take (at + 1) ts))
-    → (at ≤ length ts) × IsFirstFault levels ts (drop at ts) deep
+    → (at ≤ length ts) × IsFirstSyntaxFault levels ts (drop at ts) deep
 stuck levels ts at deep less before fails one_level =
     let o = one_more ts at less in (
       omega arith,
@@ -60,8 +60,8 @@ stuck levels ts at deep less before fails one_level =
     )
 
 -- all symbols are no document
-pub unended : (levels : ℕ) (ts : List Lexeme) (at : ℕ) → at ≡ length ts → CanGoOn levels (take at ts) → (Stands (document levels) ts [] → ⊥)
-    → (at ≤ length ts) × IsFirstFault levels ts (drop at ts) false
+pub unended : (levels : ℕ) (ts : List Lexeme) (at : ℕ) → at ≡ length ts → CanGoOn levels (take at ts) → (DerivesFront (document levels) ts [] → ⊥)
+    → (at ≤ length ts) × IsFirstSyntaxFault levels ts (drop at ts) false
 unended levels ts at is before fails =
     let whole : take at ts ≡ ts = take_all at ts (omega arith) in
     let over : drop at ts ≡ [] = drop_all at ts (omega arith) in (
@@ -77,20 +77,20 @@ unended levels ts at is before fails =
 
 -- the phrase of all symbols, among the places at which it may end
 pub stands_is : (p : Phrase) (ts : List Lexeme) (places : List ℕ) (n : ℕ) (b : Bool) → n ≡ length ts → b ≡ list_any (λ place. place == n) places
-    → ((to : ℕ) → Contains places to ↔ StandsBetween p ts 0 to) → (IsTrue b → Stands p ts []) × (Stands p ts [] → IsTrue b)
+    → ((to : ℕ) → Contains places to ↔ DerivesBetween p ts 0 to) → (IsTrue b → DerivesFront p ts []) × (DerivesFront p ts [] → IsTrue b)
 stands_is p ts places n b long is each = (forth, back)
   where
     over : drop n ts ≡ []
     over = ap (λ k. drop k ts) long ∙ drop-length ts
 
-    forth : IsTrue b → Stands p ts []
+    forth : IsTrue b → DerivesFront p ts []
     forth h =
         let m = any_among (λ place. place == n) places (sym is ∙ h) in
         let here = eqb-true m.0 n m.2 in
-        subst (Stands p ts) (ap (λ k. drop k ts) here ∙ over) ((each m.0).0 (contained_among places m.0 m.1)).1
+        subst (DerivesFront p ts) (ap (λ k. drop k ts) here ∙ over) ((each m.0).0 (contained_among places m.0 m.1)).1
 
-    back : Stands p ts [] → IsTrue b
-    back s = is ∙ among_any (λ place. place == n) n places (among_contained places n ((each n).1 (omega arith, subst (Stands p ts) (sym over) s))) (eq-eqb n n refl)
+    back : DerivesFront p ts [] → IsTrue b
+    back s = is ∙ among_any (λ place. place == n) n places (among_contained places n ((each n).1 (omega arith, subst (DerivesFront p ts) (sym over) s))) (eq-eqb n n refl)
 
 pub front_is : (symbols front : List Terminal) (ts : List Lexeme) (n : ℕ) → terminals ts ≡ symbols → front ≡ take n symbols → terminals (take n ts) ≡ front
 front_is symbols front ts n same is = terminals-take n ts ∙ ap (take n) same ∙ sym is

@@ -1,11 +1,12 @@
 -- What the plain recognizer computes of a phrase, by cases: where it may end, and whether some such phrase begins with
--- the symbols that are left. No part of the promise: the proofs tie it to `Stands` and `BeginsWith`.
+-- the symbols that are left. No part of the promise: the proofs tie it to `DerivesFront` and `BeginsWith`.
 use Rattle.std.specs.Prelude.{ℕ, zero, suc, ◌+◌, nat_le, Bool, true, false, ◌&&◌, ◌||◌, List, [], ◌∷◌, ◌++◌, length, Option, Some, None, if◌then◌else◌}
 use Rattle.std.specs.List.{slice_get, flat_map, list_any}
-use Rattle.idl_parser.specs.declared.terminal.Terminal.{Terminal}
-use Rattle.idl_parser.specs.Terminals.{same}
+use Rattle.idl_token.specs.declared.terminal.Terminal.{Terminal}
+use Rattle.idl_token.specs.Terminals.{same}
 use Rattle.idl_plain.specs.PlainPhrases.{Outline, symbol, never, both, choice, perhaps, row}
 
+-- it is there, and this symbol
 abbrev pub is_symbol : Terminal → Option Terminal → Bool
 is_symbol k None = false
 is_symbol k (Some t) = same t k

@@ -1,11 +1,11 @@
 -- Phrases with what is made of trees forgotten, as the plain recognizer has them.
 use Rattle.std.specs.Prelude.{ℕ, ◌≤◌, List, [], ◌++◌, map, drop, length}
-use Rattle.idl_parser.specs.declared.terminal.Terminal.{Terminal}
-use Rattle.idl_plain.specs.declared.phrase.Phrase as plain
-use Rattle.idl_plain.specs.declared.phrase.Phrase.TheOpen.{Phrase-F}
-use Rattle.idl_plain.specs.declared.phrase.Phrase.TheOpen as layer
-use Rattle.idl_plain.specs.declared.phrase.Phrase.TheFolds.{fold-Phrase}
-use Rattle.idl_parser.specs.Phrases.{Lexeme, Node, Phrase, one, deep, chain, either, maybe, many, marked, In}
+use Rattle.idl_token.specs.declared.terminal.Terminal.{Terminal}
+use Rattle.idl_plain.specs.declared.phrase.PlainPhrase as plain
+use Rattle.idl_plain.specs.declared.phrase.PlainPhrase.TheOpen.{PlainPhrase-F}
+use Rattle.idl_plain.specs.declared.phrase.PlainPhrase.TheOpen as layer
+use Rattle.idl_plain.specs.declared.phrase.PlainPhrase.TheFolds.{fold-PlainPhrase}
+use Rattle.idl_parser.specs.Phrases.{Lexeme, Node, Phrase, one, deep, chain, either, maybe, many, marked, Derives}
 
 -- a phrase without its trees
 pub data Outline : Type 0 where
@@ -27,7 +27,7 @@ outline (many join p) = row (outline p)
 outline (marked p) = outline p
 
 -- one level of a phrase in memory, with the outlines of what it holds in their places
-abbrev pub outline_step : Phrase-F Outline → Outline
+abbrev pub outline_step : PlainPhrase-F Outline → Outline
 outline_step (layer.One k) = symbol k
 outline_step (layer.Deep k) = never k
 outline_step (layer.Chain p q) = both p.value q.value
@@ -36,21 +36,21 @@ outline_step (layer.Maybe p) = perhaps p.value
 outline_step (layer.Many p) = row p.value
 
 -- the outline of a phrase in memory
-abbrev pub outline_of : plain.Phrase → Outline
-outline_of = fold-Phrase Outline outline_step
+abbrev pub outline_of : plain.PlainPhrase → Outline
+outline_of = fold-PlainPhrase Outline outline_step
 
 -- the symbols alone, without their bytes and places
 abbrev pub terminals : List Lexeme → List Terminal
 terminals ts = map (λ t. t.what) ts
 
 -- such a phrase stands in front of some symbols and leaves the rest, with some tree
-abbrev pub Stands : Phrase → List Lexeme → List Lexeme → Type 0
-Stands p ts rest = (x : Node) × In p ts x rest
+abbrev pub DerivesFront : Phrase → List Lexeme → List Lexeme → Type 0
+DerivesFront p ts rest = (x : Node) × Derives p ts x rest
 
 -- such a phrase stands between two places of some symbols
-abbrev pub StandsBetween : Phrase → List Lexeme → ℕ → ℕ → Type 0
-StandsBetween p ts from to = (to ≤ length ts) × Stands p (drop from ts) (drop to ts)
+abbrev pub DerivesBetween : Phrase → List Lexeme → ℕ → ℕ → Type 0
+DerivesBetween p ts from to = (to ≤ length ts) × DerivesFront p (drop from ts) (drop to ts)
 
 -- some such phrase begins with these symbols
 abbrev pub BeginsWith : Phrase → List Lexeme → Type 0
-BeginsWith p front = (more : List Lexeme) × Stands p (front ++ more) []
+BeginsWith p front = (more : List Lexeme) × DerivesFront p (front ++ more) []

@@ -8,12 +8,12 @@ ghost use Rattle.idl_plain.specs.PlainEnds as by_cases;
 ghost use Rattle.idl_plain.specs.PlainEnds.{is_end, is_possible};
 
 use crate::endings::{ends_from, is_at};
-use crate::phrase::Phrase;
-use idl_parser::Terminal;
+use crate::phrase::PlainPhrase;
+use idl_token::Terminal;
 use std::alloc::{AllocError, Global};
 
 /// Whether some such phrase begins with these symbols.
-pub fn goes_on(alloc: Global, phrase: &Phrase, front: &[Terminal]) -> Result<bool, AllocError>
+pub fn goes_on(alloc: Global, phrase: &PlainPhrase, front: &[Terminal]) -> Result<bool, AllocError>
     ensures { IfOk result (λ yes. (p : grammar.Phrase) (ts : List Lexeme) → outline p ≡ outline_of phrase.now → terminals ts ≡ front.now → IsTrue yes ↔ BeginsWith p ts) }
 {
     goes_on_from(alloc, phrase, front, 0)
@@ -23,35 +23,35 @@ pub fn goes_on(alloc: Global, phrase: &Phrase, front: &[Terminal]) -> Result<boo
 #[tactic(auto, using(crate::proofs::PlainOutlines::outlines))]
 fn goes_on_from(
     alloc: Global,
-    phrase: &Phrase,
+    phrase: &PlainPhrase,
     symbols: &[Terminal],
     from: usize,
 ) -> Result<bool, AllocError>
     ensures { IfOk result (λ yes. yes ≡ by_cases.goes_on (outline_of phrase.now) symbols.now from) }
 {
     match phrase {
-        Phrase::One(wanted) => Ok(is_all(symbols, from, *wanted)),
-        Phrase::Deep(_) => Ok(false),
-        Phrase::Chain(first, second) => {
+        PlainPhrase::One(wanted) => Ok(is_all(symbols, from, *wanted)),
+        PlainPhrase::Deep(_) => Ok(false),
+        PlainPhrase::Chain(first, second) => {
             if goes_on_from(alloc, first, symbols, from)? && is_possible(second) {
                 return Ok(true);
             }
             let middles = ends_from(alloc, first, symbols, from)?;
             goes_on_from_one(alloc, second, symbols, middles.as_slice())
         }
-        Phrase::Either(first, second) => {
+        PlainPhrase::Either(first, second) => {
             if goes_on_from(alloc, first, symbols, from)? {
                 return Ok(true);
             }
             goes_on_from(alloc, second, symbols, from)
         }
-        Phrase::Maybe(inner) => {
+        PlainPhrase::Maybe(inner) => {
             if is_end(symbols, from) {
                 return Ok(true);
             }
             goes_on_from(alloc, inner, symbols, from)
         }
-        Phrase::Many(inner) => {
+        PlainPhrase::Many(inner) => {
             let starts = ends_from(alloc, phrase, symbols, from)?;
             if one_is_end(symbols, starts.as_slice()) {
                 return Ok(true);
@@ -66,7 +66,7 @@ fn goes_on_from(
 #[tactic(auto, using(crate::proofs::PlainGoing::searches))]
 fn goes_on_from_one(
     alloc: Global,
-    phrase: &Phrase,
+    phrase: &PlainPhrase,
     symbols: &[Terminal],
     starts: &[usize],
 ) -> Result<bool, AllocError>
@@ -82,14 +82,14 @@ fn goes_on_from_one(
 
 /// Whether some symbols are such a phrase.
 #[tactic(auto, using(crate::proofs::PlainOutlines::outlines))]
-fn is_possible(phrase: &Phrase) -> bool
+fn is_possible(phrase: &PlainPhrase) -> bool
     ensures { result ≡ is_possible (outline_of phrase.now) }
 {
     match phrase {
-        Phrase::One(_) | Phrase::Maybe(_) | Phrase::Many(_) => true,
-        Phrase::Deep(_) => false,
-        Phrase::Chain(first, second) => is_possible(first) && is_possible(second),
-        Phrase::Either(first, second) => is_possible(first) || is_possible(second),
+        PlainPhrase::One(_) | PlainPhrase::Maybe(_) | PlainPhrase::Many(_) => true,
+        PlainPhrase::Deep(_) => false,
+        PlainPhrase::Chain(first, second) => is_possible(first) && is_possible(second),
+        PlainPhrase::Either(first, second) => is_possible(first) || is_possible(second),
     }
 }
 

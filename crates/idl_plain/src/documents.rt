@@ -5,42 +5,46 @@ ghost use Rattle.idl_parser.specs.Documents.{include, cpp_include, namespace, he
 
 use crate::definitions::definition;
 use crate::parts::annotation;
-use crate::phrase::{Phrase, chain, either, many};
-use idl_parser::Terminal;
+use crate::phrase::{PlainPhrase, chain, either, many};
+use idl_token::Terminal;
 use std::alloc::{AllocError, Global};
 
 #[tactic(auto, using(crate::proofs::PlainOutlines::outlines))]
-fn include(alloc: Global) -> Result<Phrase, AllocError>
+fn include(alloc: Global) -> Result<PlainPhrase, AllocError>
     ensures { IfOk result (λ p. outline_of p ≡ outline include) }
 {
-    let include = Phrase::One(Terminal::Include);
-    chain(alloc, include, Phrase::One(Terminal::Literal))
+    let include = PlainPhrase::One(Terminal::Include);
+    chain(alloc, include, PlainPhrase::One(Terminal::Literal))
 }
 
 #[tactic(auto, using(crate::proofs::PlainOutlines::outlines))]
-fn cpp_include(alloc: Global) -> Result<Phrase, AllocError>
+fn cpp_include(alloc: Global) -> Result<PlainPhrase, AllocError>
     ensures { IfOk result (λ p. outline_of p ≡ outline cpp_include) }
 {
-    let include = Phrase::One(Terminal::CppInclude);
-    chain(alloc, include, Phrase::One(Terminal::Literal))
+    let include = PlainPhrase::One(Terminal::CppInclude);
+    chain(alloc, include, PlainPhrase::One(Terminal::Literal))
 }
 
 #[tactic(auto, using(crate::proofs::PlainOutlines::outlines), unfolding(idl_parser::specs::Documents::namespace_rest))]
-fn namespace(alloc: Global) -> Result<Phrase, AllocError>
+fn namespace(alloc: Global) -> Result<PlainPhrase, AllocError>
     ensures { IfOk result (λ p. outline_of p ≡ outline namespace) }
 {
     let scope = either(
         alloc,
-        Phrase::One(Terminal::Identifier),
-        Phrase::One(Terminal::Star),
+        PlainPhrase::One(Terminal::Identifier),
+        PlainPhrase::One(Terminal::Star),
     )?;
-    let rest = chain(alloc, Phrase::One(Terminal::Identifier), annotation(alloc)?)?;
+    let rest = chain(
+        alloc,
+        PlainPhrase::One(Terminal::Identifier),
+        annotation(alloc)?,
+    )?;
     let rest = chain(alloc, scope, rest)?;
-    chain(alloc, Phrase::One(Terminal::Namespace), rest)
+    chain(alloc, PlainPhrase::One(Terminal::Namespace), rest)
 }
 
 #[tactic(auto, using(crate::proofs::PlainOutlines::outlines), unfolding(idl_parser::specs::Documents::header))]
-fn header(alloc: Global) -> Result<Phrase, AllocError>
+fn header(alloc: Global) -> Result<PlainPhrase, AllocError>
     ensures { IfOk result (λ p. outline_of p ≡ outline header) }
 {
     let rest = either(alloc, cpp_include(alloc)?, namespace(alloc)?)?;
@@ -49,7 +53,7 @@ fn header(alloc: Global) -> Result<Phrase, AllocError>
 
 /// The documents whose types and constants have so many levels of containers at most.
 #[tactic(auto, using(crate::proofs::PlainOutlines::outlines), unfolding(idl_parser::specs::Documents::document))]
-pub fn document(alloc: Global, levels: usize) -> Result<Phrase, AllocError>
+pub fn document(alloc: Global, levels: usize) -> Result<PlainPhrase, AllocError>
     ensures { IfOk result (λ p. outline_of p ≡ outline (document levels)) }
 {
     let headers = many(alloc, header(alloc)?)?;

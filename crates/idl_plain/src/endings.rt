@@ -3,23 +3,23 @@ ghost use Rattle.std.specs.Prelude.{◌≡◌, ◌↔◌, ◌≤◌, ◌<◌, �
 ghost use Rattle.std.specs.List.{Contains, flat_map};
 ghost use Rattle.idl_parser.specs.Phrases as grammar;
 ghost use Rattle.idl_parser.specs.Phrases.{Lexeme};
-ghost use Rattle.idl_plain.specs.PlainPhrases.{outline, outline_of, terminals, StandsBetween};
+ghost use Rattle.idl_plain.specs.PlainPhrases.{outline, outline_of, terminals, DerivesBetween};
 ghost use Rattle.idl_plain.specs.PlainEnds as by_cases;
 ghost use Rattle.idl_plain.specs.PlainEnds.{is_at, times};
 
-use crate::phrase::Phrase;
-use idl_parser::{Terminal, same};
+use crate::phrase::PlainPhrase;
+use idl_token::{Terminal, same};
 use std::alloc::{AllocError, Global};
 
 /// All places at which a phrase that begins at `from` may end.
 pub fn ends(
     alloc: Global,
-    phrase: &Phrase,
+    phrase: &PlainPhrase,
     symbols: &[Terminal],
     from: usize,
 ) -> Result<Vec<usize>, AllocError>
     requires { from ≤ length symbols.now }
-    ensures { IfOk result (λ found. (p : grammar.Phrase) (ts : List Lexeme) → outline p ≡ outline_of phrase.now → terminals ts ≡ symbols.now → (to : ℕ) → Contains found.items to ↔ StandsBetween p ts from to) }
+    ensures { IfOk result (λ found. (p : grammar.Phrase) (ts : List Lexeme) → outline p ≡ outline_of phrase.now → terminals ts ≡ symbols.now → (to : ℕ) → Contains found.items to ↔ DerivesBetween p ts from to) }
 {
     ends_from(alloc, phrase, symbols, from)
 }
@@ -28,7 +28,7 @@ pub fn ends(
 #[tactic(auto, using(crate::proofs::PlainOutlines::outlines))]
 pub(crate) fn ends_from(
     alloc: Global,
-    phrase: &Phrase,
+    phrase: &PlainPhrase,
     symbols: &[Terminal],
     from: usize,
 ) -> Result<Vec<usize>, AllocError>
@@ -36,25 +36,25 @@ pub(crate) fn ends_from(
 {
     let mut all = Vec::new(alloc);
     match phrase {
-        Phrase::One(wanted) => {
+        PlainPhrase::One(wanted) => {
             if is_at(symbols, from, *wanted) {
                 all.push(from + 1)?;
             }
         }
-        Phrase::Deep(_) => {}
-        Phrase::Chain(first, second) => {
+        PlainPhrase::Deep(_) => {}
+        PlainPhrase::Chain(first, second) => {
             let middles = ends_from(alloc, first, symbols, from)?;
             return ends_from_each(alloc, second, symbols, middles.as_slice());
         }
-        Phrase::Either(first, second) => {
+        PlainPhrase::Either(first, second) => {
             all.append(&mut ends_from(alloc, first, symbols, from)?)?;
             all.append(&mut ends_from(alloc, second, symbols, from)?)?;
         }
-        Phrase::Maybe(inner) => {
+        PlainPhrase::Maybe(inner) => {
             all.push(from)?;
             all.append(&mut ends_from(alloc, inner, symbols, from)?)?;
         }
-        Phrase::Many(inner) => return ends_of_row(alloc, inner, symbols, from),
+        PlainPhrase::Many(inner) => return ends_of_row(alloc, inner, symbols, from),
     }
     Ok(all)
 }
@@ -63,7 +63,7 @@ pub(crate) fn ends_from(
 #[cycle(ends)]
 fn ends_from_each(
     alloc: Global,
-    phrase: &Phrase,
+    phrase: &PlainPhrase,
     symbols: &[Terminal],
     starts: &[usize],
 ) -> Result<Vec<usize>, AllocError>
@@ -81,7 +81,7 @@ fn ends_from_each(
 #[tactic(auto, using(crate::proofs::PlainEnding::rows))]
 fn ends_of_row(
     alloc: Global,
-    phrase: &Phrase,
+    phrase: &PlainPhrase,
     symbols: &[Terminal],
     from: usize,
 ) -> Result<Vec<usize>, AllocError>

@@ -1,14 +1,14 @@
 //! What is wrong with a small text.
 ghost use Rattle.std.specs.Prelude.{◌≡◌, ◌≤◌, length, map, IfOk};
-ghost use Rattle.idl_token.specs.Places.{place_of};
+ghost use Rattle.idl_token.specs.Places.{line_and_column};
 ghost use Rattle.idl_token.specs.Tokens.{AreTokensOf};
 ghost use Rattle.idl_parser.specs.Faults.{fault_kind, kind_at, next_place};
-ghost use Rattle.idl_parser.specs.Spots.{lexeme_of};
+ghost use Rattle.idl_parser.specs.ReaderCalls.{lexeme_of};
 ghost use Rattle.idl_plain.specs.PlainVerdicts.{IsOutcomeWithin};
 
-use crate::verdicts::{Verdict, first_fault};
-use idl_parser::{ParseFault, ParseKind, Symbol, Terminal, same, symbols};
-use idl_token::{MAX_TEXT, Token, place_at, tokens_stand_in_order};
+use crate::verdicts::{Recognition, first_fault};
+use idl_parser::{ParseFault, ParseKind, Symbol, symbols};
+use idl_token::{MAX_TEXT, Terminal, Token, place_at, same, tokens_stand_in_order};
 use std::alloc::{AllocError, Global};
 
 /// The first fault of a small text with these tokens, where types and constants have so many levels of containers at
@@ -28,8 +28,8 @@ pub fn fault_of(
     let whats = terminals(alloc, all.as_slice())?;
     let verdict = first_fault(alloc, levels, whats.as_slice())?;
     match verdict {
-        Verdict::Document => Ok(None),
-        Verdict::Fault { at, too_deep } => {
+        Recognition::Document => Ok(None),
+        Recognition::Fault { at, too_deep } => {
             let (_, rest) = all.as_slice().split_at(at);
             Ok(Some(fault(text, rest, too_deep)))
         }
@@ -50,7 +50,7 @@ fn terminals(alloc: Global, symbols: &[Symbol]) -> Result<Vec<Terminal>, AllocEr
 /// The fault at the first of the symbols that are left of a text, or at its end.
 fn fault(text: &[u8], rest: &[Symbol], too_deep: bool) -> ParseFault
     requires short { length text.now ≤ MAX_TEXT }
-    ensures at { result.at ≡ next_place (place_of text.now (length text.now)) (map (lexeme_of text.now) rest.now) }
+    ensures at { result.at ≡ next_place (line_and_column text.now (length text.now)) (map (lexeme_of text.now) rest.now) }
     ensures kind { result.kind ≡ fault_kind too_deep (map (lexeme_of text.now) rest.now) }
 {
     match rest.first() {

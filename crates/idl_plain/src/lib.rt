@@ -26,5 +26,5 @@ pub use beginnings::goes_on;
 pub use documents::document;
 pub use endings::ends;
 pub use faults::fault_of;
-pub use phrase::Phrase;
-pub use verdicts::{Verdict, first_fault};
+pub use phrase::PlainPhrase;
+pub use verdicts::{Recognition, first_fault};

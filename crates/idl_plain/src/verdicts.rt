@@ -4,19 +4,19 @@ ghost use Rattle.std.specs.List.{list_any};
 ghost use Rattle.idl_parser.specs.Documents.{document};
 ghost use Rattle.idl_parser.specs.Phrases as grammar;
 ghost use Rattle.idl_parser.specs.Phrases.{Lexeme};
-ghost use Rattle.idl_plain.specs.PlainPhrases.{outline, outline_of, terminals, Stands};
-ghost use Rattle.idl_plain.specs.PlainVerdicts.{IsVerdict};
+ghost use Rattle.idl_plain.specs.PlainPhrases.{outline, outline_of, terminals, DerivesFront};
+ghost use Rattle.idl_plain.specs.PlainVerdicts.{IsRecognition};
 
 use crate::beginnings::goes_on;
 use crate::documents::document;
 use crate::endings::ends;
-use crate::phrase::Phrase;
-use idl_parser::Terminal;
+use crate::phrase::PlainPhrase;
+use idl_token::Terminal;
 use std::alloc::{AllocError, Global};
 
 /// What some symbols are.
 #[derive(Clone, Copy, Debug, PartialEq, Eq)]
-pub enum Verdict {
+pub enum Recognition {
     /// A document.
     Document,
     /// None.
@@ -30,8 +30,12 @@ pub enum Verdict {
 
 /// Whether some symbols are a document whose types and constants have so many levels of containers at most, or where
 /// their first fault stands.
-pub fn first_fault(alloc: Global, levels: u8, symbols: &[Terminal]) -> Result<Verdict, AllocError>
-    ensures { IfOk result (λ verdict. (ts : List Lexeme) → terminals ts ≡ symbols.now → IsVerdict levels ts verdict) }
+pub fn first_fault(
+    alloc: Global,
+    levels: u8,
+    symbols: &[Terminal],
+) -> Result<Recognition, AllocError>
+    ensures { IfOk result (λ verdict. (ts : List Lexeme) → terminals ts ≡ symbols.now → IsRecognition levels ts verdict) }
 {
     let grammar = document(alloc, levels as usize)?;
     let deeper = document(alloc, levels as usize + 1)?;
@@ -41,11 +45,11 @@ pub fn first_fault(alloc: Global, levels: u8, symbols: &[Terminal]) -> Result<Ve
 /// The same by the grammar of so many levels and that of one level more.
 fn judge(
     alloc: Global,
-    grammar: &Phrase,
-    deeper: &Phrase,
+    grammar: &PlainPhrase,
+    deeper: &PlainPhrase,
     symbols: &[Terminal],
-) -> Result<Verdict, AllocError>
-    ensures { IfOk result (λ verdict. (levels : ℕ) (ts : List Lexeme) → outline (document levels) ≡ outline_of grammar.now → outline (document (suc levels)) ≡ outline_of deeper.now → terminals ts ≡ symbols.now → IsVerdict levels ts verdict) }
+) -> Result<Recognition, AllocError>
+    ensures { IfOk result (λ verdict. (levels : ℕ) (ts : List Lexeme) → outline (document levels) ≡ outline_of grammar.now → outline (document (suc levels)) ≡ outline_of deeper.now → terminals ts ≡ symbols.now → IsRecognition levels ts verdict) }
 {
     let mut at = 0;
     'fronts: while at < symbols.len() {
@@ -53,15 +57,15 @@ fn judge(
         let further = goes_on(alloc, grammar, front)?;
         if !further {
             let too_deep = goes_on(alloc, deeper, front)?;
-            return Ok(Verdict::Fault { at, too_deep });
+            return Ok(Recognition::Fault { at, too_deep });
         }
         at += 1;
     }
     let whole = stands(alloc, grammar, symbols)?;
     if whole {
-        Ok(Verdict::Document)
+        Ok(Recognition::Document)
     } else {
-        Ok(Verdict::Fault {
+        Ok(Recognition::Fault {
             at: symbols.len(),
             too_deep: false,
         })
@@ -69,8 +73,8 @@ fn judge(
 }
 
 /// Whether all symbols are such a phrase.
-fn stands(alloc: Global, phrase: &Phrase, symbols: &[Terminal]) -> Result<bool, AllocError>
-    ensures { IfOk result (λ yes. (p : grammar.Phrase) (ts : List Lexeme) → outline p ≡ outline_of phrase.now → terminals ts ≡ symbols.now → IsTrue yes ↔ Stands p ts []) }
+fn stands(alloc: Global, phrase: &PlainPhrase, symbols: &[Terminal]) -> Result<bool, AllocError>
+    ensures { IfOk result (λ yes. (p : grammar.Phrase) (ts : List Lexeme) → outline p ≡ outline_of phrase.now → terminals ts ≡ symbols.now → IsTrue yes ↔ DerivesFront p ts []) }
 {
     let places = ends(alloc, phrase, symbols, 0)?;
     Ok(is_one_of(symbols.len(), places.as_slice()))

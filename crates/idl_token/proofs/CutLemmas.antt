@@ -2,18 +2,18 @@
 use Rattle.std.proofs.Common.{◌≡◌, ◌≢◌, Bool, true, cond, ℕ, zero, suc, ◌+◌, ◌<◌, ◌≤◌, List, [], ◌∷◌, ◌++◌, length, drop, refl, sym, ap, ◌∙◌, subst, arith}
 use mathlib.Core.List.{append-nil}
 use Rattle.std.proofs.lemmas.List.{length-drop}
-use Rattle.idl_token.specs.Pieces.{IsPiece}
-use Rattle.idl_token.specs.Places.{place_of}
-use Rattle.idl_token.specs.Tokens.{size_of, end_of, tokens_in, IsSound, Cuts, AreTokensOf, IsFirstFault}
+use Rattle.idl_token.specs.Pieces.{IsFrontPiece}
+use Rattle.idl_token.specs.Places.{line_and_column}
+use Rattle.idl_token.specs.Tokens.{size_of, end_of, tokens_in, IsFaultless, Cuts, AreTokensOf, IsFirstLexFault}
 use Rattle.idl_token.specs.declared.pieces.Piece.{Piece}
 use Rattle.idl_token.specs.declared.pieces.Piece.TheVariants.{Blank, Token as Tok, Fault}
 use Rattle.idl_token.specs.declared.Token.{Token}
 use Rattle.idl_token.specs.declared.LexFault.{LexFault}
 
 -- one more piece
-cuts_more : (text : List ℕ) (ps : List Piece) (p : Piece) (rest : List ℕ) → Cuts text ps rest → rest ≢ [] → IsSound p → IsPiece rest p → Cuts text (ps ++ p ∷ []) (drop (size_of p) rest)
+cuts_more : (text : List ℕ) (ps : List Piece) (p : Piece) (rest : List ℕ) → Cuts text ps rest → rest ≢ [] → IsFaultless p → IsFrontPiece rest p → Cuts text (ps ++ p ∷ []) (drop (size_of p) rest)
 cuts_more text [] p rest cut more is_sound piece =
-    (λ none. more (sym cut ∙ none), is_sound, subst (λ t. IsPiece t p) (sym cut) piece, ap (drop (size_of p)) cut)
+    (λ none. more (sym cut ∙ none), is_sound, subst (λ t. IsFrontPiece t p) (sym cut) piece, ap (drop (size_of p)) cut)
 cuts_more text (q ∷ ps) p rest cut more is_sound piece = (cut.0, cut.1, cut.2, cuts_more (drop (size_of q) text) ps p rest cut.3 more is_sound piece)
 
 end_more : (at : ℕ) (ps : List Piece) (p : Piece) → end_of at (ps ++ p ∷ []) ≡ end_of at ps + size_of p
@@ -58,7 +58,7 @@ none_left (b ∷ text) zero up_to down_to = absurd (omega arith)
 none_left (b ∷ text) (suc at) up_to down_to = none_left text at (omega arith) (omega arith)
 
 module _ (text : List ℕ) (at : ℕ) (ts : List Token) (so_far : CutUpTo text at ts) (left : at < length text) where
-  pub cut_blank : (n : ℕ) → IsPiece (drop at text) (Blank n) → n ≤ length (drop at text) → CutUpTo text (at + n) ts
+  pub cut_blank : (n : ℕ) → IsFrontPiece (drop at text) (Blank n) → n ≤ length (drop at text) → CutUpTo text (at + n) ts
   cut_blank n piece within = record {
     pieces = so_far.pieces ++ Blank n ∷ [];
     inside = omega (arith, length-drop at text);
@@ -75,7 +75,7 @@ module _ (text : List ℕ) (at : ℕ) (ts : List Token) (so_far : CutUpTo text a
       let behind : t.to ≡ end_of 0 so_far.pieces + n = to ∙ ap (λ k. k + n) (sym place) in
       λ i. record { kind = t.kind; from = first i; to = behind i }
 
-  pub cut_token : (t : Token) (n : ℕ) → IsPiece (drop at text) (Tok t.kind n) → n ≤ length (drop at text) → t.from ≡ at → t.to ≡ at + n → CutUpTo text (at + n) (ts ++ t ∷ [])
+  pub cut_token : (t : Token) (n : ℕ) → IsFrontPiece (drop at text) (Tok t.kind n) → n ≤ length (drop at text) → t.from ≡ at → t.to ≡ at + n → CutUpTo text (at + n) (ts ++ t ∷ [])
   cut_token t n piece within from to = record {
     pieces = so_far.pieces ++ Tok t.kind n ∷ [];
     inside = omega (arith, length-drop at text);
@@ -84,7 +84,7 @@ module _ (text : List ℕ) (at : ℕ) (ts : List Token) (so_far : CutUpTo text a
     are = (λ i. so_far.are i ++ token_is t n so_far.place from to i ∷ []) ∙ sym (tokens_more 0 so_far.pieces (Tok t.kind n));
   }
 
-  pub cut_fault : (f : LexFault) (inside : ℕ) → IsPiece (drop at text) (Fault f.kind inside) → f.at ≡ place_of text (at + inside) → IsFirstFault f text
+  pub cut_fault : (f : LexFault) (inside : ℕ) → IsFrontPiece (drop at text) (Fault f.kind inside) → f.at ≡ line_and_column text (at + inside) → IsFirstLexFault f text
   cut_fault f inside piece place = record {
     pieces = so_far.pieces;
     rest = drop at text;
@@ -92,7 +92,7 @@ module _ (text : List ℕ) (at : ℕ) (ts : List Token) (so_far : CutUpTo text a
     cut = so_far.cut;
     more = some_left text at left;
     fault = piece;
-    place = place ∙ ap (λ k. place_of text (k + inside)) (sym so_far.place);
+    place = place ∙ ap (λ k. line_and_column text (k + inside)) (sym so_far.place);
   }
 
 pub pushed : (b : Bool) (x y : List Token) → b ≡ true → cond b x y ≡ x

@@ -10,7 +10,7 @@ use Rattle.idl_token.specs.Classes.{is_run, is_word_start, is_word_byte, is_plus
 use Rattle.idl_token.specs.Words.{is_word, kind_of_word}
 use Rattle.idl_token.specs.Numbers.{digits_in, behind_digits, is_decimal, is_hexadecimal, is_int, is_exponent, is_fraction, is_unsigned_double, is_double, is_big_int, is_big_double}
 use Rattle.idl_token.specs.Literals.{is_closed, is_literal, bad_escape_in}
-use Rattle.idl_token.specs.Wholes.{other, sound, whole_of, number, literal, is_sign, signs, kind_of_sign}
+use Rattle.idl_token.specs.Wholes.{other, sound, whole_of, number_whole, literal_whole, is_sign, signs, kind_of_sign}
 use Rattle.idl_token.specs.declared.TokenKind.TheVariants.{Int, Double}
 use Rattle.idl_token.proofs.Fronts.{is_false, and_right}
 
@@ -105,8 +105,8 @@ word_stops w r b e =
 -- no shape at all
 other_of : (text : List ℕ) → is_word text ≡ false → is_int text ≡ false → is_double text ≡ false → is_literal text ≡ false → is_sign text ≡ false → whole_of text ≡ other
 other_of text p q r t u = λ i.
-    cond (p i) (sound (kind_of_word text)) (cond (q i) (number Int (is_big_int text)) (cond (r i) (number Double (is_big_double text))
-    (cond (t i) (literal (bad_escape_in text)) (cond (u i) (sound (kind_of_sign text)) other))))
+    cond (p i) (sound (kind_of_word text)) (cond (q i) (number_whole Int (is_big_int text)) (cond (r i) (number_whole Double (is_big_double text))
+    (cond (t i) (literal_whole (bad_escape_in text)) (cond (u i) (sound (kind_of_sign text)) other))))
 
 -- a literal is closed by its last byte
 closed_once : (quote : ℕ) (taken : Bool) (w r : List ℕ) (b : ℕ) → is_closed quote taken w ≡ true → is_closed quote taken (w ++ b ∷ r) ≡ false

@@ -2,7 +2,7 @@
 use Rattle.std.proofs.Common.{◌≡◌, Bool, true, false, cond, ◌==◌, ℕ, List, Option, Some, None, refl}
 use Rattle.std.specs.Prelude.{FitsSigned, slice_index}
 use Rattle.std.specs.Int.{w64}
-use Rattle.idl_token.specs.Words.{is_word, is_one_of, keywords, truth_words, is_refused, kind_of_word}
+use Rattle.idl_token.specs.Words.{is_word, is_keyword, is_truth_word, is_refused, kind_of_word}
 use Rattle.idl_token.specs.Numbers.{is_int, is_double, is_big_int, is_big_double, int_of}
 use Rattle.idl_token.specs.Literals.{is_literal, bad_escape_in}
 use Rattle.idl_token.specs.Wholes.{sound, is_sign, whole_of}
@@ -35,10 +35,10 @@ not_big false false false true s word big huge (Some at) refused no_word e = abs
 not_big false false false false true word big huge place refused no_word e = absurd (no_int_sign refused e)
 not_big false false false false false word big huge place refused no_word e = absurd (cc)
 
-pub small_token : (token : List ℕ) → whole_of token ≡ sound Int → is_one_of truth_words token ≡ false → FitsSigned w64 (int_of token)
+pub small_token : (token : List ℕ) → whole_of token ≡ sound Int → is_truth_word token ≡ false → FitsSigned w64 (int_of token)
 unfolding kind_of_word
 small_token token is untrue =
     (small_ints token).0
     (not_big (is_word token) (is_int token) (is_double token) (is_literal token) (is_sign token) (kind_of_word token) (is_big_int token) (is_big_double token)
     (bad_escape_in token) (slice_index token 0 == 38)
-    (λ e. no_int (is_one_of keywords token) (is_one_of truth_words token) (is_refused token) untrue e) is)
+    (λ e. no_int (is_keyword token) (is_truth_word token) (is_refused token) untrue e) is)

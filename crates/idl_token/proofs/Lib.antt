@@ -1,6 +1,5 @@
 pub mod Scans
 pub mod Values
-pub mod Longest
 pub mod Fronts
 pub mod Reaches
 pub mod PieceLemmas

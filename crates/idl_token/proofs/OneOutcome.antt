@@ -9,9 +9,9 @@ use Rattle.std.proofs.lemmas.List.Sums.{prefix_len-le-length}
 use Rattle.idl_token.specs.Classes.{is_white}
 use Rattle.idl_token.specs.Blanks.{blank_in, begins_line_comment, begins_comment, comment_end}
 use Rattle.idl_token.specs.Wholes.{sound, signs}
-use Rattle.idl_token.specs.Pieces.{IsPiece, LongestIn}
-use Rattle.idl_token.specs.Places.{place_of}
-use Rattle.idl_token.specs.Tokens.{size_of, end_of, tokens_in, IsSound, Cuts, AreTokensOf, IsFirstFault, StandBetween}
+use Rattle.idl_token.specs.Pieces.{IsFrontPiece, LongestIn}
+use Rattle.idl_token.specs.Places.{line_and_column}
+use Rattle.idl_token.specs.Tokens.{size_of, end_of, tokens_in, IsFaultless, Cuts, AreTokensOf, IsFirstLexFault, StandBetween}
 use Rattle.idl_token.specs.declared.pieces.Piece.{Piece}
 use Rattle.idl_token.specs.declared.pieces.Piece.TheVariants.{Blank, Token as Tok, Fault}
 use Rattle.idl_token.specs.declared.Token.{Token}
@@ -22,8 +22,8 @@ use Rattle.idl_token.proofs.Fronts.{and_right}
 use Rattle.idl_token.proofs.PieceLemmas.{one_piece}
 
 -- a fault is no blank and no token
-not_sound : (text : List ℕ) (p : Piece) (k : LexKind) (n : ℕ) → IsSound p → IsPiece text p → IsPiece text (Fault k n) → ⊥
-not_sound text p k n is_sound piece fault = subst IsSound (one_piece text p (Fault k n) piece fault) is_sound
+not_sound : (text : List ℕ) (p : Piece) (k : LexKind) (n : ℕ) → IsFaultless p → IsFrontPiece text p → IsFrontPiece text (Fault k n) → ⊥
+not_sound text p k n is_sound piece fault = subst IsFaultless (one_piece text p (Fault k n) piece fault) is_sound
 
 -- the rest of a text behind one piece or the same other
 move : (text : List ℕ) (p q : Piece) (qs : List Piece) (rest : List ℕ) → p ≡ q → Cuts (drop (size_of q) text) qs rest → Cuts (drop (size_of p) text) qs rest
@@ -41,14 +41,14 @@ one_cut text (p ∷ ps) (q ∷ qs) a b =
 pub one_token_list : (text : List ℕ) (ts us : List Token) → AreTokensOf ts text → AreTokensOf us text → ts ≡ us
 one_token_list text ts us a b = a.are ∙ ap (tokens_in 0) (one_cut text a.pieces b.pieces a.cut b.cut) ∙ sym b.are
 
-whole_or_stuck : (text rest : List ℕ) (ps qs : List Piece) (k : LexKind) (n : ℕ) → Cuts text ps [] → Cuts text qs rest → rest ≢ [] → IsPiece rest (Fault k n) → ⊥
+whole_or_stuck : (text rest : List ℕ) (ps qs : List Piece) (k : LexKind) (n : ℕ) → Cuts text ps [] → Cuts text qs rest → rest ≢ [] → IsFrontPiece rest (Fault k n) → ⊥
 whole_or_stuck text rest [] [] k n a b more fault = more (sym b ∙ a)
 whole_or_stuck text rest [] (q ∷ qs) k n a b more fault = b.0 a
-whole_or_stuck text rest (p ∷ ps) [] k n a b more fault = not_sound text p k n a.1 a.2 (subst (λ t. IsPiece t (Fault k n)) (sym b) fault)
+whole_or_stuck text rest (p ∷ ps) [] k n a b more fault = not_sound text p k n a.1 a.2 (subst (λ t. IsFrontPiece t (Fault k n)) (sym b) fault)
 whole_or_stuck text rest (p ∷ ps) (q ∷ qs) k n a b more fault =
     whole_or_stuck (drop (size_of p) text) rest ps qs k n a.3 (move text p q qs rest (one_piece text p q a.2 b.2) b.3) more fault
 
-pub tokens_or_fault : (text : List ℕ) (ts : List Token) (f : LexFault) → AreTokensOf ts text → IsFirstFault f text → ⊥
+pub tokens_or_fault : (text : List ℕ) (ts : List Token) (f : LexFault) → AreTokensOf ts text → IsFirstLexFault f text → ⊥
 tokens_or_fault text ts f a b = whole_or_stuck text b.rest a.pieces b.pieces f.kind b.inside a.cut b.cut b.more b.fault
 
 -- where the cut ends at a fault, it ends nowhere else
@@ -56,22 +56,22 @@ record SameEnd (ps qs : List Piece) (rest left : List ℕ) : Type 0 where
   pieces : ps ≡ qs
   ends : rest ≡ left
 
-one_end : (text rest left : List ℕ) (ps qs : List Piece) (k l : LexKind) (n m : ℕ) → Cuts text ps rest → IsPiece rest (Fault k n) → Cuts text qs left → IsPiece left (Fault l m) → SameEnd ps qs rest left
+one_end : (text rest left : List ℕ) (ps qs : List Piece) (k l : LexKind) (n m : ℕ) → Cuts text ps rest → IsFrontPiece rest (Fault k n) → Cuts text qs left → IsFrontPiece left (Fault l m) → SameEnd ps qs rest left
 one_end text rest left [] [] k l n m a x b y = record { pieces = refl; ends = sym a ∙ b }
-one_end text rest left [] (q ∷ qs) k l n m a x b y = absurd (not_sound text q k n b.1 b.2 (subst (λ t. IsPiece t (Fault k n)) (sym a) x))
-one_end text rest left (p ∷ ps) [] k l n m a x b y = absurd (not_sound text p l m a.1 a.2 (subst (λ t. IsPiece t (Fault l m)) (sym b) y))
+one_end text rest left [] (q ∷ qs) k l n m a x b y = absurd (not_sound text q k n b.1 b.2 (subst (λ t. IsFrontPiece t (Fault k n)) (sym a) x))
+one_end text rest left (p ∷ ps) [] k l n m a x b y = absurd (not_sound text p l m a.1 a.2 (subst (λ t. IsFrontPiece t (Fault l m)) (sym b) y))
 one_end text rest left (p ∷ ps) (q ∷ qs) k l n m a x b y =
     let same = one_piece text p q a.2 b.2 in
     let behind = one_end (drop (size_of p) text) rest left ps qs k l n m a.3 x (move text p q qs left same b.3) y in
     record { pieces = λ i. same i ∷ behind.pieces i; ends = behind.ends }
 
-pub one_first_fault : (text : List ℕ) (f g : LexFault) → IsFirstFault f text → IsFirstFault g text → f ≡ g
+pub one_first_fault : (text : List ℕ) (f g : LexFault) → IsFirstLexFault f text → IsFirstLexFault g text → f ≡ g
 one_first_fault text f g a b =
     let end = one_end text a.rest b.rest a.pieces b.pieces f.kind g.kind a.inside b.inside a.cut a.fault b.cut b.fault in
-    let same = one_piece b.rest (Fault f.kind a.inside) (Fault g.kind b.inside) (subst (λ t. IsPiece t (Fault f.kind a.inside)) end.ends a.fault) b.fault in
+    let same = one_piece b.rest (Fault f.kind a.inside) (Fault g.kind b.inside) (subst (λ t. IsFrontPiece t (Fault f.kind a.inside)) end.ends a.fault) b.fault in
     let kind : f.kind ≡ g.kind = cc in
     let inside : a.inside ≡ b.inside = cc in
-    let at : f.at ≡ g.at = a.place ∙ (λ i. place_of text (end_of 0 (end.pieces i) + inside i)) ∙ sym b.place in
+    let at : f.at ≡ g.at = a.place ∙ (λ i. line_and_column text (end_of 0 (end.pieces i) + inside i)) ∙ sym b.place in
     λ i. record { at = at i; kind = kind i }
 
 -- a token has a byte

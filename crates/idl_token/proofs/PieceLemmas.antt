@@ -7,9 +7,9 @@ use Rattle.idl_token.specs.Words.{is_word, kind_of_word}
 use Rattle.idl_token.specs.Numbers.{is_int, is_double, is_big_int, is_big_double}
 use Rattle.idl_token.specs.Literals.{is_literal, bad_escape_in}
 use Rattle.idl_token.specs.Blanks.{blank_in}
-use Rattle.idl_token.specs.Wholes.{Whole, other, sound, flawed, whole_of, number, literal, is_sign, signs, kind_of_sign}
-use Rattle.idl_token.specs.Pieces.{IsPiece, LongestIn, BeginsNone, opening_fault}
-use Rattle.idl_token.specs.Lengths.{word_len, int_len, double_len, literal_len, sign_len, token_len, token_piece, number_piece, literal_piece, piece_behind, piece_of}
+use Rattle.idl_token.specs.Wholes.{Whole, other, sound, flawed, whole_of, number_whole, literal_whole, is_sign, signs, kind_of_sign}
+use Rattle.idl_token.specs.Pieces.{IsFrontPiece, LongestIn, BeginsNone, opening_fault}
+use Rattle.idl_token.specs.Lengths.{word_len, int_len, double_len, literal_len, sign_len, token_len, token_piece, number_piece, literal_piece, piece_behind, front_piece}
 use Rattle.idl_token.specs.declared.pieces.Piece.{Piece}
 use Rattle.idl_token.specs.declared.pieces.Piece.TheVariants.{Blank, Token, Fault}
 use Rattle.idl_token.specs.declared.TokenKind.{TokenKind}
@@ -26,12 +26,12 @@ piece_by other n = Fault BadByte 0
 piece_by (sound kind) n = Token kind n
 piece_by (flawed kind place) n = Fault kind place
 
-number_by : (kind : TokenKind) (big : Bool) (n : ℕ) → number_piece kind big n ≡ piece_by (number kind big) n
+number_by : (kind : TokenKind) (big : Bool) (n : ℕ) → number_piece kind big n ≡ piece_by (number_whole kind big) n
 unfolding piece_by
 number_by kind true n = refl
 number_by kind false n = refl
 
-literal_by : (place : Option ℕ) (n : ℕ) → literal_piece place n ≡ piece_by (literal place) n
+literal_by : (place : Option ℕ) (n : ℕ) → literal_piece place n ≡ piece_by (literal_whole place) n
 unfolding piece_by
 literal_by None n = refl
 literal_by (Some place) n = refl
@@ -39,7 +39,7 @@ literal_by (Some place) n = refl
 -- the shapes by their lengths: the first that reaches as far
 abbrev pub chosen : Bool → Bool → Bool → Bool → Bool → TokenKind → Bool → Bool → Option ℕ → TokenKind → Whole
 chosen w i d l s word big_int big_double place sign =
-    cond w (sound word) (cond i (number Int big_int) (cond d (number Double big_double) (cond l (literal place) (cond s (sound sign) other))))
+    cond w (sound word) (cond i (number_whole Int big_int) (cond d (number_whole Double big_double) (cond l (literal_whole place) (cond s (sound sign) other))))
 
 chosen_by : (w i d l s : Bool) (word : TokenKind) (big_int big_double : Bool) (place : Option ℕ) (sign : TokenKind) (n : ℕ)
     → (w ≡ false → i ≡ false → d ≡ false → l ≡ false → s ≡ true)
@@ -53,11 +53,11 @@ chosen_by false false false true s word bi bd place sign n last = literal_by pla
 chosen_by false false false false true word bi bd place sign n last = refl
 chosen_by false false false false false word bi bd place sign n last = absurd (not_false (last refl refl refl refl) refl)
 
-number_token : (kind : TokenKind) (big : Bool) → number kind big ≡ other → ⊥
+number_token : (kind : TokenKind) (big : Bool) → number_whole kind big ≡ other → ⊥
 number_token kind true is = cc
 number_token kind false is = cc
 
-literal_token : (place : Option ℕ) → literal place ≡ other → ⊥
+literal_token : (place : Option ℕ) → literal_whole place ≡ other → ⊥
 literal_token None is = cc
 literal_token (Some place) is = cc
 
@@ -162,7 +162,7 @@ module _ (text : List ℕ) (n : ℕ) (are : AreLengths text n) where
       ∙ ap (λ whole. piece_by whole n) (sym (whole_by above))
 
 -- a token makes its piece
-from_whole : (text : List ℕ) (n : ℕ) (whole : Whole) → blank_in text ≡ None → LongestIn text n whole → IsPiece text (piece_by whole n)
+from_whole : (text : List ℕ) (n : ℕ) (whole : Whole) → blank_in text ≡ None → LongestIn text n whole → IsFrontPiece text (piece_by whole n)
 unfolding piece_by
 from_whole text n other blank longest = absurd (longest.token refl)
 from_whole text n (sound kind) blank longest = (blank, longest)
@@ -177,20 +177,20 @@ begins_none text n are none zero inside = whole_of_none
 begins_none text n are none (suc m) inside = longer_none text n are (suc m) (omega arith) inside
 
 behind_none : (text : List ℕ) → blank_in text ≡ None → (empty : Bool) → (token_len text == 0) ≡ empty
-    → IsPiece text (cond empty (Fault (opening_fault text) 0) (token_piece text (token_len text)))
+    → IsFrontPiece text (cond empty (Fault (opening_fault text) 0) (token_piece text (token_len text)))
 behind_none text blank true is = (blank, inr (begins_none text (token_len text) (lengths text) (eqb-true _ _ is), refl, refl))
 behind_none text blank false is =
     let above : 0 < token_len text = omega (arith, differs (token_len text) 0 is) in
-    subst (IsPiece text) (sym (piece_is text (token_len text) (lengths text) above))
+    subst (IsFrontPiece text) (sym (piece_is text (token_len text) (lengths text) above))
     (from_whole text (token_len text) _ blank (longest_token text (token_len text) (lengths text) above))
 
-behind_blank : (text : List ℕ) (blank : Option ℕ) → blank_in text ≡ blank → IsPiece text (piece_behind blank text)
+behind_blank : (text : List ℕ) (blank : Option ℕ) → blank_in text ≡ blank → IsFrontPiece text (piece_behind blank text)
 behind_blank text (Some n) is = is
 behind_blank text None is = behind_none text is (token_len text == 0) refl
 
 -- what is found in front stands there
-pub piece_stands : (text : List ℕ) → IsPiece text (piece_of text)
-unfolding piece_of
+pub piece_stands : (text : List ℕ) → IsFrontPiece text (front_piece text)
+unfolding front_piece
 piece_stands text = behind_blank text (blank_in text) refl
 
 -- the longest token is one
@@ -220,7 +220,7 @@ token_or_fault text kind n l b x (inl (m, y)) = let same : sound kind ≡ flawed
 token_or_fault text kind n l b x (inr y) = not_none text n _ x y.0
 
 -- one piece stands in front
-pub one_piece : (text : List ℕ) (p q : Piece) → IsPiece text p → IsPiece text q → p ≡ q
+pub one_piece : (text : List ℕ) (p q : Piece) → IsFrontPiece text p → IsFrontPiece text q → p ≡ q
 one_piece text (Blank n) (Blank m) x y = let same : Some n ≡ Some m = sym x ∙ y in cc
 one_piece text (Blank n) (Token k m) x y = let same : Some n ≡ None = sym x ∙ y.0 in absurd (cc)
 one_piece text (Blank n) (Fault k m) x y = let same : Some n ≡ None = sym x ∙ y.0 in absurd (cc)

@@ -164,6 +164,7 @@ digits_stand (suc m) text =
     (ap (nat_lt 0) (prefix_len-take is_ascii_digit (suc m) text) ∙ above_min m (digits_in text))
 
 unsigned_reach : (text : List ℕ) → Reach is_unsigned_double text (unsigned_double_len text)
+unfolding unsigned_double_len
 unsigned_reach text =
     let digits = nat_lt 0 (digits_in text) in
     let rest = behind_digits text in

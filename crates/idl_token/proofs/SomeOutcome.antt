@@ -9,11 +9,11 @@ use Rattle.idl_token.specs.Blanks.{blank_in, begins_line_comment, begins_comment
 use Rattle.idl_token.specs.Words.{is_word}
 use Rattle.idl_token.specs.Numbers.{is_int, is_double, is_big_int, is_big_double}
 use Rattle.idl_token.specs.Literals.{is_literal, bad_escape_in}
-use Rattle.idl_token.specs.Wholes.{Whole, other, sound, flawed, whole_of, number, literal, is_sign, kind_of_sign}
-use Rattle.idl_token.specs.Pieces.{IsPiece, LongestIn, BeginsNone, opening_fault}
-use Rattle.idl_token.specs.Places.{place_of}
-use Rattle.idl_token.specs.Tokens.{size_of, end_of, tokens_in, IsSound, Cuts, IsFirstFault, HasTokens, HasFirstFault}
-use Rattle.idl_token.specs.Lengths.{piece_of}
+use Rattle.idl_token.specs.Wholes.{Whole, other, sound, flawed, whole_of, number_whole, literal_whole, is_sign, kind_of_sign}
+use Rattle.idl_token.specs.Pieces.{IsFrontPiece, LongestIn, BeginsNone, opening_fault}
+use Rattle.idl_token.specs.Places.{line_and_column}
+use Rattle.idl_token.specs.Tokens.{size_of, end_of, tokens_in, IsFaultless, Cuts, IsFirstLexFault, HasTokens, HasFirstLexFault}
+use Rattle.idl_token.specs.Lengths.{front_piece}
 use Rattle.idl_token.specs.declared.pieces.Piece.{Piece}
 use Rattle.idl_token.specs.declared.pieces.Piece.TheVariants.{Blank, Token as Tok, Fault}
 use Rattle.idl_token.specs.declared.TokenKind.{TokenKind}
@@ -37,7 +37,7 @@ blank_bytes : (text : List ℕ) (n : ℕ) → blank_in text ≡ Some n → 0 < n
 unfolding blank_in
 blank_bytes text n is = blank_some text n (is_white (slice_index text 0)) (begins_line_comment text) (begins_comment text) is
 
-piece_bytes : (text : List ℕ) (p : Piece) → IsSound p → IsPiece text p → 0 < size_of p
+piece_bytes : (text : List ℕ) (p : Piece) → IsFaultless p → IsFrontPiece text p → 0 < size_of p
 piece_bytes text (Blank n) is_sound piece = blank_bytes text n piece
 piece_bytes text (Tok kind n) is_sound piece = some_bytes text kind n piece.1
 piece_bytes text (Fault kind place) is_sound piece = absurd is_sound
@@ -54,12 +54,12 @@ record CutToFault (text : List ℕ) : Type 0 where
   inside : ℕ
   cut : Cuts text pieces rest
   more : rest ≢ []
-  fault : IsPiece rest (Fault kind inside)
+  fault : IsFrontPiece rest (Fault kind inside)
 
 abbrev IsCut : List ℕ → Type 0
 IsCut text = CutWhole text ⊎ CutToFault text
 
-cut_on : (text : List ℕ) (p : Piece) → text ≢ [] → IsSound p → IsPiece text p → IsCut (drop (size_of p) text) → IsCut text
+cut_on : (text : List ℕ) (p : Piece) → text ≢ [] → IsFaultless p → IsFrontPiece text p → IsCut (drop (size_of p) text) → IsCut text
 cut_on text p some is_sound piece (inl behind) = inl (record { pieces = p ∷ behind.pieces; cut = (some, is_sound, piece, behind.cut) })
 cut_on text p some is_sound piece (inr behind) = inr (record {
   pieces = p ∷ behind.pieces;
@@ -71,7 +71,7 @@ cut_on text p some is_sound piece (inr behind) = inr (record {
   fault = behind.fault;
 })
 
-cut_next : (text : List ℕ) (p : Piece) → text ≢ [] → IsPiece text p → (IsSound p → IsCut (drop (size_of p) text)) → IsCut text
+cut_next : (text : List ℕ) (p : Piece) → text ≢ [] → IsFrontPiece text p → (IsFaultless p → IsCut (drop (size_of p) text)) → IsCut text
 cut_next text (Blank n) some piece behind = cut_on text (Blank n) some tt piece (behind tt)
 cut_next text (Tok kind n) some piece behind = cut_on text (Tok kind n) some tt piece (behind tt)
 cut_next text (Fault kind place) some piece behind =
@@ -84,19 +84,19 @@ cut_within : (most : ℕ) (text : List ℕ) → length text ≤ most → IsCut t
 cut_within most [] short = inl (record { pieces = []; cut = refl })
 cut_within zero (b ∷ text) short = absurd (omega arith)
 cut_within (suc most) (b ∷ text) short =
-    let p = piece_of (b ∷ text) in
+    let p = front_piece (b ∷ text) in
     cut_next (b ∷ text) p (some_text b text) (piece_stands (b ∷ text))
     (λ is_sound. cut_within most (drop (size_of p) (b ∷ text))
     (omega (arith, length-drop (size_of p) (b ∷ text), piece_bytes (b ∷ text) p is_sound (piece_stands (b ∷ text)))))
 
-found : (text : List ℕ) → IsCut text → HasTokens text ⊎ HasFirstFault text
+found : (text : List ℕ) → IsCut text → HasTokens text ⊎ HasFirstLexFault text
 found text (inl all) = inl (tokens_in 0 all.pieces, record { pieces = all.pieces; cut = all.cut; are = refl })
 found text (inr stuck) = inr (
-  record { at = place_of text (end_of 0 stuck.pieces + stuck.inside); kind = stuck.kind },
+  record { at = line_and_column text (end_of 0 stuck.pieces + stuck.inside); kind = stuck.kind },
   record { pieces = stuck.pieces; rest = stuck.rest; inside = stuck.inside; cut = stuck.cut; more = stuck.more; fault = stuck.fault; place = refl },
 )
 
-pub one_outcome : (text : List ℕ) → HasTokens text ⊎ HasFirstFault text
+pub one_outcome : (text : List ℕ) → HasTokens text ⊎ HasFirstLexFault text
 one_outcome text = found text (cut_within (length text) text (omega arith))
 
 -- no flaw is want of memory
@@ -105,11 +105,11 @@ NoWant other = Unit {0}
 NoWant (sound kind) = Unit {0}
 NoWant (flawed kind place) = kind ≢ NoMemory
 
-number_wants : (kind : TokenKind) (big : Bool) → NoWant (number kind big)
+number_wants : (kind : TokenKind) (big : Bool) → NoWant (number_whole kind big)
 number_wants kind true = λ e. cc
 number_wants kind false = tt
 
-literal_wants : (place : Option ℕ) → NoWant (literal place)
+literal_wants : (place : Option ℕ) → NoWant (literal_whole place)
 literal_wants None = tt
 literal_wants (Some place) = λ e. cc
 
@@ -135,5 +135,5 @@ fault_wants : (text : List ℕ) (kind : LexKind) (place : ℕ)
 fault_wants text kind place (inl (n, longest)) = subst NoWant longest.is (whole_wants (take n text))
 fault_wants text kind place (inr opened) = λ e. opening (is_quote (slice_index text 0)) (begins_comment text) (sym opened.1 ∙ e)
 
-pub no_want : (text : List ℕ) (f : LexFault) → IsFirstFault f text → f.kind ≢ NoMemory
+pub no_want : (text : List ℕ) (f : LexFault) → IsFirstLexFault f text → f.kind ≢ NoMemory
 no_want text f first = fault_wants first.rest f.kind first.inside first.fault.1

@@ -5,7 +5,7 @@ use Rattle.std.proofs.lemmas.List.{append_assoc}
 use Rattle.idl_token.specs.Classes.{is_white}
 use Rattle.idl_token.specs.Wholes.{sound, whole_of, signs}
 use Rattle.idl_token.specs.Tokens.{size_of, tokens_in, Cuts, AreTokensOf}
-use Rattle.idl_token.specs.Spellings.{Mark, marks_of, parted, any, marks_in, Spelling, Spelled, Spells}
+use Rattle.idl_token.specs.Spellings.{BareToken, bare_tokens, parted, any, bare_tokens_in, Spelling, Spelled, Spells}
 use Rattle.idl_token.specs.declared.Token.{Token}
 use Rattle.idl_token.specs.declared.TokenKind.{TokenKind}
 use Rattle.idl_token.specs.declared.TokenKind.TheVariants.{Sign}
@@ -18,14 +18,14 @@ cuts_on : (text : List ℕ) (ps qs : List Piece) (mid rest : List ℕ) → Cuts 
 cuts_on text [] qs mid rest cut more = subst (λ t. Cuts t qs rest) (sym cut) more
 cuts_on text (p ∷ ps) qs mid rest cut more = (cut.0, cut.1, cut.2, cuts_on (drop (size_of p) text) ps qs mid rest cut.3 more)
 
-marks_on : (text : List ℕ) (ps qs : List Piece) (mid : List ℕ) → Cuts text ps mid → marks_in text (ps ++ qs) ≡ marks_in text ps ++ marks_in mid qs
-marks_on text [] qs mid cut = ap (λ t. marks_in t qs) cut
+marks_on : (text : List ℕ) (ps qs : List Piece) (mid : List ℕ) → Cuts text ps mid → bare_tokens_in text (ps ++ qs) ≡ bare_tokens_in text ps ++ bare_tokens_in mid qs
+marks_on text [] qs mid cut = ap (λ t. bare_tokens_in t qs) cut
 marks_on text (Blank n ∷ ps) qs mid cut = marks_on (drop n text) ps qs mid cut.3
 marks_on text (Tok kind n ∷ ps) qs mid cut = ap (λ ms. record { kind = kind; bytes = take n text } ∷ ms) (marks_on (drop n text) ps qs mid cut.3)
 marks_on text (Fault kind place ∷ ps) qs mid cut = absurd cut.1
 
 -- one text and then another
-pub joined : (before test : List ℕ → Bool) (first second : List ℕ) (ms ns : List Mark) → Spells before first ms → Spells test second ns
+pub joined : (before test : List ℕ → Bool) (first second : List ℕ) (ms ns : List BareToken) → Spells before first ms → Spells test second ns
     → ((more : List ℕ) → test more ≡ true → before (second ++ more) ≡ true) → Spells test (first ++ second) (ms ++ ns)
 joined before test first second ms ns a b glue more q =
     let one = a (second ++ more) (glue more q) in
@@ -73,7 +73,7 @@ token_bytes whole text at n is = let size : at + n - at ≡ n = omega arith in �
 
 -- the tokens of a text are those among its pieces
 marks_are : (whole text : List ℕ) (at : ℕ) (ps : List Piece) (rest : List ℕ) → drop at whole ≡ text → Cuts text ps rest
-    → marks_of whole (tokens_in at ps) ≡ marks_in text ps
+    → bare_tokens whole (tokens_in at ps) ≡ bare_tokens_in text ps
 marks_are whole text at [] rest is cut = refl
 marks_are whole text at (Blank n ∷ ps) rest is cut = marks_are whole (drop n text) (at + n) ps rest (sym (drop_drop at n whole) ∙ ap (drop n) is) cut.3
 marks_are whole text at (Tok kind n ∷ ps) rest is cut =
@@ -83,6 +83,6 @@ marks_are whole text at (Tok kind n ∷ ps) rest is cut =
 marks_are whole text at (Fault kind place ∷ ps) rest is cut = absurd cut.1
 
 -- a text that spells tokens has these
-pub spelled_tokens : (text : List ℕ) (marks : List Mark) → Spelled text marks → (tokens : List Token) × AreTokensOf tokens text × (marks_of text tokens ≡ marks)
+pub spelled_tokens : (text : List ℕ) (marks : List BareToken) → Spelled text marks → (tokens : List Token) × AreTokensOf tokens text × (bare_tokens text tokens ≡ marks)
 spelled_tokens text marks s =
     (tokens_in 0 s.pieces, record { pieces = s.pieces; cut = s.cut; are = refl }, marks_are text text 0 s.pieces [] refl s.cut ∙ s.are)

@@ -8,18 +8,18 @@ use Rattle.std.proofs.Math.Seq.{take-append_seam}
 use Rattle.std.proofs.lemmas.Bool.{eqb-true, leb-true, le-leb, or_parts}
 use Rattle.std.proofs.lemmas.List.{length-append}
 use Rattle.idl_token.specs.Classes.{is_word_start, is_word_byte, is_plus_or_minus, is_quote, is_white}
-use Rattle.idl_token.specs.Words.{is_word, is_one_of, keywords, truth_words, is_refused, kind_of_word}
+use Rattle.idl_token.specs.Words.{is_word, is_keyword, is_truth_word, is_refused, kind_of_word}
 use Rattle.idl_token.specs.Numbers.{is_int, is_double, is_big_int, is_big_double}
 use Rattle.idl_token.specs.Literals.{is_closed, is_literal, bad_escape_in}
 use Rattle.idl_token.specs.Blanks.{blank_in}
-use Rattle.idl_token.specs.Wholes.{other, sound, whole_of, number, literal, is_sign, kind_of_sign, signs}
-use Rattle.idl_token.specs.Pieces.{IsPiece}
+use Rattle.idl_token.specs.Wholes.{other, sound, whole_of, number_whole, literal_whole, is_sign, kind_of_sign, signs}
+use Rattle.idl_token.specs.Pieces.{IsFrontPiece}
 use Rattle.idl_token.specs.declared.TokenKind.{TokenKind}
 use Rattle.idl_token.specs.declared.TokenKind.TheVariants.{Keyword, Identifier, Int, Double, Sign, Refused}
 use Rattle.idl_token.specs.declared.pieces.Piece.TheVariants.{Blank, Token}
 use Rattle.idl_token.proofs.Fronts.{is_false, not_false, both, and_left, and_right, either}
 use Rattle.idl_token.proofs.PieceLemmas.{chosen}
-use Rattle.idl_token.specs.Spellings.{ends, parted}
+use Rattle.idl_token.specs.Spellings.{is_delimiter, parted}
 use Rattle.idl_token.proofs.Gaps.{Ends, IsNoPart, neither_one, longer_is_other, opens_none, sign_stops, past}
 
 turned : (b : Bool) → not b ≡ true → b ≡ false
@@ -36,7 +36,7 @@ narrower low high most b within outside = is_false _ (λ inside.
     not_false (both _ _ (and_left (nat_le low b) (nat_le b high) inside) (le-leb b most (omega (arith, short)))) outside)
 
 -- a byte that stands in no word and is no plus or minus stands in no number either
-pub ends_by : (b : ℕ) → ends b ≡ true → Ends b
+pub ends_by : (b : ℕ) → is_delimiter b ≡ true → Ends b
 ends_by b h =
     let word = turned (is_word_byte b) (and_left _ _ h) in
     let dotted = or_parts (is_word_start b || is_ascii_digit b) (b == 46) word in
@@ -119,7 +119,7 @@ unfolding signs
 no_word kind h = cc
 
 -- a token in front of the end, or of a byte that ends each
-pub word_piece : (w : List ℕ) (kind : TokenKind) (more : List ℕ) → whole_of w ≡ sound kind → parted more ≡ true → IsPiece (w ++ more) (Token kind (length w))
+pub word_piece : (w : List ℕ) (kind : TokenKind) (more : List ℕ) → whole_of w ≡ sound kind → parted more ≡ true → IsFrontPiece (w ++ more) (Token kind (length w))
 word_piece [] kind more whole apart = absurd (no_word kind whole)
 word_piece (c ∷ w) kind [] whole apart = (
   begins_no_blank c w kind (w ++ []) whole,
@@ -151,9 +151,9 @@ among p s (k ∷ all) pass is = ⊎_elim
     (either (k == s) (list_any (λ k. k == s) all) is)
 
 -- the signs stand in no word and no number, and begin no literal
-sign_bytes : (s : ℕ) → list_any (λ sign. sign == s) signs ≡ true → (ends s && not (is_quote s)) ≡ true
+sign_bytes : (s : ℕ) → list_any (λ sign. sign == s) signs ≡ true → (is_delimiter s && not (is_quote s)) ≡ true
 unfolding signs
-sign_bytes s is = among (λ b. ends b && not (is_quote b)) s signs refl is
+sign_bytes s is = among (λ b. is_delimiter b && not (is_quote b)) s signs refl is
 
 word_no_sign : (a b c : Bool) → cond a Keyword (cond b Int (cond c Refused Identifier)) ≡ Sign → ⊥
 word_no_sign true b c e = cc
@@ -163,13 +163,13 @@ word_no_sign false false false e = cc
 
 kind_no_sign : (text : List ℕ) → kind_of_word text ≡ Sign → ⊥
 unfolding kind_of_word
-kind_no_sign text e = word_no_sign (is_one_of keywords text) (is_one_of truth_words text) (is_refused text) e
+kind_no_sign text e = word_no_sign (is_keyword text) (is_truth_word text) (is_refused text) e
 
-number_no_sign : (kind : TokenKind) (big : Bool) → kind ≢ Sign → number kind big ≢ sound Sign
+number_no_sign : (kind : TokenKind) (big : Bool) → kind ≢ Sign → number_whole kind big ≢ sound Sign
 number_no_sign kind true other_kind e = absurd (cc)
 number_no_sign kind false other_kind e = other_kind (let same : kind ≡ Sign = cc in same)
 
-literal_no_sign : (place : Option ℕ) → literal place ≢ sound Sign
+literal_no_sign : (place : Option ℕ) → literal_whole place ≢ sound Sign
 literal_no_sign None e = absurd (cc)
 literal_no_sign (Some place) e = absurd (cc)
 
@@ -183,7 +183,7 @@ by_sign false false false true g word big huge place kind no_sign e = absurd (li
 by_sign false false false false true word big huge place kind no_sign e = refl
 by_sign false false false false false word big huge place kind no_sign e = absurd (cc)
 
-sign_is : (s : ℕ) → whole_of (s ∷ []) ≡ sound Sign → (ends s && not (is_quote s)) ≡ true
+sign_is : (s : ℕ) → whole_of (s ∷ []) ≡ sound Sign → (is_delimiter s && not (is_quote s)) ≡ true
 sign_is s whole =
     let text = s ∷ [] in
     let is = by_sign (is_word text) (is_int text) (is_double text) (is_literal text) (is_sign text)
@@ -198,18 +198,18 @@ sign_alone s (d ∷ more) e no_quote (suc (suc m)) many inside =
     opens_none s (d ∷ take m more) e (ap (λ q. q && is_closed s false (d ∷ take m more)) no_quote) (sign_stops s [] (take m more) d)
 
 -- a sign in front of anything
-pub sign_piece : (s : ℕ) (more : List ℕ) → whole_of (s ∷ []) ≡ sound Sign → IsPiece (s ∷ more) (Token Sign 1)
+pub sign_piece : (s : ℕ) (more : List ℕ) → whole_of (s ∷ []) ≡ sound Sign → IsFrontPiece (s ∷ more) (Token Sign 1)
 sign_piece s more whole = (
   begins_no_blank s [] Sign more whole,
   record {
     within = omega arith;
     is = whole;
     token = λ e. sound_is_some Sign e;
-    longest = sign_alone s more (ends_by s (and_left _ _ (sign_is s whole))) (turned _ (and_right (ends s) (not (is_quote s)) (sign_is s whole)));
+    longest = sign_alone s more (ends_by s (and_left _ _ (sign_is s whole))) (turned _ (and_right (is_delimiter s) (not (is_quote s)) (sign_is s whole)));
   },
 )
 
 -- white space in front of anything
-pub white_piece : (b : ℕ) (more : List ℕ) → is_white b ≡ true → IsPiece (b ∷ more) (Blank 1)
+pub white_piece : (b : ℕ) (more : List ℕ) → is_white b ≡ true → IsFrontPiece (b ∷ more) (Blank 1)
 unfolding blank_in
 white_piece b more h = rw h refl

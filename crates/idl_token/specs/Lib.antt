@@ -1,3 +1,7 @@
+pub mod Bytes
+pub mod Limits
+pub mod Terminals
+pub mod Runs
 pub mod Classes
 pub mod Words
 pub mod Numbers
@@ -9,4 +13,3 @@ pub mod Places
 pub mod Tokens
 pub mod Lengths
 pub mod Spellings
-pub mod Plain

@@ -2,19 +2,22 @@
 use Rattle.std.specs.Prelude.{ℕ, ℤ, pos, neg_ℤ, ◌+◌, ◌-◌, ◌*◌, ◌^◌, ◌==◌, ◌&&◌, ◌||◌, not, nat_lt, nat_le, Bool, List, [], ◌∷◌, length, drop, slice_index, count_by, if◌then◌else◌}
 use Rattle.std.specs.Char.{is_ascii_digit, is_ascii_hexdigit}
 use Rattle.std.specs.List.{prefix_len}
+use Rattle.idl_token.specs.Bytes as byte
 use Rattle.idl_token.specs.Classes.{is_plus_or_minus, is_exponent_mark, is_run}
 
--- how many bytes of sign stand in front, and what stands behind them
+-- how many bytes of sign stand in front
 abbrev pub sign_in : List ℕ → ℕ
 sign_in text = if is_plus_or_minus (slice_index text 0) then 1 else 0
 
+-- what stands behind the sign
 abbrev pub behind_sign : List ℕ → List ℕ
 behind_sign text = drop (sign_in text) text
 
--- how many digits stand in front, and what stands behind them
+-- how many digits stand in front
 abbrev pub digits_in : List ℕ → ℕ
 digits_in text = prefix_len is_ascii_digit text
 
+-- what stands behind the digits
 abbrev pub behind_digits : List ℕ → List ℕ
 behind_digits text = drop (digits_in text) text
 
@@ -24,8 +27,9 @@ is_decimal text = is_run is_ascii_digit (behind_sign text)
 
 -- `0x` and hexadecimal digits
 abbrev pub is_hexadecimal : List ℕ → Bool
-is_hexadecimal text = slice_index text 0 == 48 && slice_index text 1 == 120 && is_run is_ascii_hexdigit (drop 2 text)
+is_hexadecimal text = slice_index text 0 == byte.digit_0 && slice_index text 1 == byte.lower_x && is_run is_ascii_hexdigit (drop 2 text)
 
+-- an integer (Thrift IDL, 'IntConstant')
 abbrev pub is_int : List ℕ → Bool
 is_int text = is_decimal text || is_hexadecimal text
 
@@ -36,19 +40,20 @@ is_exponent text = is_exponent_mark (slice_index text 0) && is_decimal (drop 1 t
 -- `.` and digits, and behind them an exponent or nothing
 abbrev pub is_fraction : List ℕ → Bool
 is_fraction text =
-    slice_index text 0 == 46 && nat_lt 0 (digits_in (drop 1 text))
+    slice_index text 0 == byte.dot && nat_lt 0 (digits_in (drop 1 text))
     && (length (behind_digits (drop 1 text)) == 0 || is_exponent (behind_digits (drop 1 text)))
 
 -- a sign or none, then digits and an exponent, or a fraction, which may have digits before it (Thrift IDL, 'DoubleConstant')
 abbrev pub is_unsigned_double : List ℕ → Bool
 is_unsigned_double text = (nat_lt 0 (digits_in text) && is_exponent (behind_digits text)) || is_fraction (behind_digits text)
 
+-- a double
 abbrev pub is_double : List ℕ → Bool
 is_double text = is_unsigned_double (behind_sign text)
 
 -- the value of a hexadecimal digit of either case
 abbrev pub digit_value : ℕ → ℕ
-digit_value b = if is_ascii_digit b then b - 48 else if nat_le 97 b then b - 87 else b - 55
+digit_value b = if is_ascii_digit b then b - byte.digit_0 else if nat_le byte.lower_a b then b - 87 else b - 55
 
 -- the number that digits write behind those of n
 abbrev pub value_behind : ℕ → ℕ → List ℕ → ℕ
@@ -61,11 +66,11 @@ magnitude text = if is_hexadecimal text then value_behind 16 0 (drop 2 text) els
 
 -- an integer outside -2 ^ 63 to 2 ^ 63 - 1
 unfoldable pub is_big_int : List ℕ → Bool
-is_big_int text = nat_lt (if slice_index text 0 == 45 then 2 ^ 63 else 2 ^ 63 - 1) (magnitude text)
+is_big_int text = nat_lt (if slice_index text 0 == byte.minus then 2 ^ 63 else 2 ^ 63 - 1) (magnitude text)
 
 -- the number of an integer
 abbrev pub int_of : List ℕ → ℤ
-int_of text = if slice_index text 0 == 45 then neg_ℤ (pos (magnitude text)) else pos (magnitude text)
+int_of text = if slice_index text 0 == byte.minus then neg_ℤ (pos (magnitude text)) else pos (magnitude text)
 
 -- what stands behind the first `e` or `E`; nothing where there is none
 abbrev pub behind_exponent_mark : List ℕ → List ℕ

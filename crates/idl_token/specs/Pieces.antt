@@ -27,10 +27,10 @@ opening_fault text =
     else BadByte
 
 -- what stands in front of a text that isn't empty: blanks, or else the longest token, or else a fault
-abbrev pub IsPiece : List ℕ → Piece → Type 0
-IsPiece text (Blank n) = blank_in text ≡ Some n
-IsPiece text (Token kind n) = (blank_in text ≡ None) × LongestIn text n (sound kind)
-IsPiece text (Fault kind place) = (blank_in text ≡ None) ×
+abbrev pub IsFrontPiece : List ℕ → Piece → Type 0
+IsFrontPiece text (Blank n) = blank_in text ≡ Some n
+IsFrontPiece text (Token kind n) = (blank_in text ≡ None) × LongestIn text n (sound kind)
+IsFrontPiece text (Fault kind place) = (blank_in text ≡ None) ×
     (((n : ℕ) × LongestIn text n (flawed kind place)) ⊎ (BeginsNone text × (kind ≡ opening_fault text) × (place ≡ 0)))
 
 -- a piece takes bytes of the text, one or more, and a fault stands at one of them

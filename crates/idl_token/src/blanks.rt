@@ -1,10 +1,12 @@
 //! White space and comments.
-ghost use Rattle.std.specs.Prelude.{◌≡◌, ◌≤◌, ◌<◌, ◌==◌, not, length, IfSome};
+ghost use Rattle.std.specs.Prelude.{◌≡◌, ◌≤◌, ◌<◌, length, IfSome};
 ghost use Rattle.std.specs.List.{prefix_len};
 ghost use Rattle.idl_token.specs.Blanks.{blank_in, comment_end, begins_line_comment, begins_comment};
 ghost use Rattle.idl_token.specs.Lengths.{comment_from};
+ghost use Rattle.idl_token.specs.Runs.{takes};
 
 use crate::classes::{byte_at, is_white};
+use crate::runs::{ByteRun, run_len};
 
 fn begins_line_comment(text: &[u8]) -> bool
     ensures { result ≡ begins_line_comment text.now }
@@ -32,15 +34,15 @@ fn comment_end(text: &[u8]) -> Option<usize>
 }
 
 fn line_in(text: &[u8]) -> usize
-    ensures value { result ≡ prefix_len (λ b. not (b == 10)) text.now }
+    ensures value { result ≡ prefix_len (takes ByteRun.Line) text.now }
     ensures within { result ≤ length text.now }
 {
-    text.iter().take_while(|byte| **byte != b'\n').count()
+    run_len(ByteRun::Line, text)
 }
 
-#[tactic(auto, using(crate::proofs::Scans::comment_from_front), unfolding(crate::specs::Blanks::blank_in))]
 /// The bytes of white space or comment in front, if there are any.
-pub(crate) fn blank_in(text: &[u8]) -> Option<usize>
+#[tactic(auto, using(crate::proofs::Scans::comment_from_front), unfolding(crate::specs::Blanks::blank_in))]
+pub fn blank_in(text: &[u8]) -> Option<usize>
     ensures value { result ≡ blank_in text.now }
     ensures above { IfSome result (λ n. 0 < n) }
     ensures within { IfSome result (λ n. n ≤ length text.now) }

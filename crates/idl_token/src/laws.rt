@@ -3,7 +3,7 @@ ghost use Rattle.std.specs.Prelude.{◌≡◌, ℕ, Bool, true, List, [], ◌∷
 ghost use Rattle.idl_token.specs.Classes.{is_white};
 ghost use Rattle.idl_token.specs.Wholes.{sound, whole_of};
 ghost use Rattle.idl_token.specs.Tokens.{AreTokensOf};
-ghost use Rattle.idl_token.specs.Spellings.{Mark, marks_of, parted, any, Spelled, Spells};
+ghost use Rattle.idl_token.specs.Spellings.{BareToken, bare_tokens, parted, any, Spelled, Spells};
 
 use crate::{Token, TokenKind};
 
@@ -24,11 +24,11 @@ pub fn white_space_spells_nothing()
 
 /// One text behind another spells the tokens of both.
 pub fn joined_texts_spell_the_tokens_of_both()
-    ensures { (before test : List ℕ → Bool) (first second : List ℕ) (ms ns : List Mark) → Spells before first ms → Spells test second ns
+    ensures { (before test : List ℕ → Bool) (first second : List ℕ) (ms ns : List BareToken) → Spells before first ms → Spells test second ns
         → ((more : List ℕ) → test more ≡ true → before (second ++ more) ≡ true) → Spells test (first ++ second) (ms ++ ns) }
 {}
 
 /// A text that spells tokens to its end has these.
 pub fn a_text_has_the_tokens_that_it_spells()
-    ensures { (text : List ℕ) (marks : List Mark) → Spelled text marks → (tokens : List Token) × AreTokensOf tokens text × (marks_of text tokens ≡ marks) }
+    ensures { (text : List ℕ) (marks : List BareToken) → Spelled text marks → (tokens : List Token) × AreTokensOf tokens text × (bare_tokens text tokens ≡ marks) }
 {}

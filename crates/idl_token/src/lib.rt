@@ -5,20 +5,35 @@
 //! and is the one call that finds faults; of a token `t` the bytes are `text[t.from..t.to]`, the number of
 //! an integer is its `int_value`, and the line and column of any byte are its `place_at`.
 //!
+//! ```
+//! for token in tokens(alloc, text)?.iter() {
+//!     let (_, rest) = text.split_at(token.from as usize);
+//!     let (bytes, _) = rest.split_at((token.to - token.from) as usize);
+//!     match token.kind {
+//!         TokenKind::Keyword => { .. keyword_of(bytes) .. }
+//!         TokenKind::Int => { .. int_value(bytes) .. }      // but for `true` and `false`
+//!         _ => { .. place_at(text, token.from as usize) .. }
+//!     }
+//! }
+//! ```
+//!
 //! The laws say that a text has one list of tokens or one first fault, and which tokens a text has that
-//! was put together of tokens and white space. `plain` is a second lexer with the same contract, for small texts.
+//! was put together of tokens and white space. What is public besides the above, kinds of bytes, words and
+//! numbers and what stands in front of a text, is for the plain lexer of `plain_lexer`.
 #![tactic(auto)]
 
 ghost use Rattle.std.specs.Prelude.{◌≡◌, ◌≢◌, ◌≤◌, ◌↔◌, ◌⊎◌, ℕ, false, FitsSigned, List, length, IfOk, IfErr};
 ghost use Rattle.std.specs.Int.{w64};
 ghost use Rattle.std.specs.List.{All};
-ghost use Rattle.idl_token.specs.Words.{is_one_of, truth_words};
+ghost use Rattle.idl_token.specs.Words.{is_truth_word};
 ghost use Rattle.idl_token.specs.Numbers.{is_big_int, int_of};
 ghost use Rattle.idl_token.specs.Wholes.{sound, whole_of};
-ghost use Rattle.idl_token.specs.Tokens.{AreTokensOf, IsFirstFault, HasTokens, HasFirstFault, IsOfItsKind, StandBetween};
+ghost use Rattle.idl_token.specs.Tokens.{AreTokensOf, IsFirstLexFault, HasTokens, HasFirstLexFault, IsOfItsKind, StandBetween};
 
-use crate::pieces::{Piece, next_piece};
-use std::alloc::Global;
+use crate::pieces::next_piece;
+use std::alloc::{AllocFailed, Global};
+use std::fmt;
+use thiserror::Error;
 
 mod blanks;
 mod classes;
@@ -27,15 +42,21 @@ mod literals;
 mod numbers;
 mod pieces;
 mod places;
-pub mod plain;
+mod runs;
+mod terminal;
 mod words;
 
+pub use blanks::blank_in;
+pub use classes::{byte_at, is_escape, is_exponent_mark, is_quote, is_word_start};
 pub use laws::{
     a_sign_spells_itself, a_text_has_the_tokens_that_it_spells, a_token_spells_itself,
     joined_texts_spell_the_tokens_of_both, white_space_spells_nothing,
 };
-pub use numbers::int_value;
+pub use numbers::{int_value, is_big_double, is_big_int, is_hexadecimal, sign_in};
+pub use pieces::{Piece, is_sign, kind_of_sign, opening_fault};
 pub use places::place_at;
+pub use terminal::{Terminal, same};
+pub use words::{keyword_of, keyword_text, kind_of_word};
 
 /// What a token is.
 #[derive(Clone, Copy, Debug, PartialEq, Eq)]
@@ -76,30 +97,56 @@ pub struct Place {
     pub column: u32,
 }
 
+impl fmt::Display for Place {
+    fn fmt<W: fmt::Write>(&self, f: &mut fmt::Formatter<W>) -> fmt::Result {
+        write!(f, "line {}, column {}", self.line, self.column)
+    }
+}
+
 /// What is wrong in a text.
-#[derive(Clone, Copy, Debug, PartialEq, Eq)]
+#[derive(Clone, Copy, Debug, PartialEq, Eq, Error)]
 pub enum LexKind {
     /// A byte with which no token begins.
+    #[error("no token begins with this byte")]
     BadByte,
     /// A literal without its closing quotation mark.
+    #[error("the literal isn't closed")]
     OpenLiteral,
     /// A comment without its `*/`.
+    #[error("the comment isn't closed")]
     OpenComment,
     /// A backslash in a literal with a byte behind it that makes no escape.
+    #[error("the backslash makes no escape with the byte behind it")]
     BadEscape,
     /// An integer outside 64 bits, or a double with too many digits or too large an exponent.
+    #[error("the number is too big")]
     BigNumber,
     /// The tokens found no room in memory.
+    #[error("out of memory")]
     NoMemory,
 }
 
 /// The first fault of a text.
-#[derive(Clone, Copy, Debug, PartialEq, Eq)]
+#[derive(Clone, Copy, Debug, PartialEq, Eq, Error)]
+#[error("{at}: {kind}")]
 pub struct LexFault {
     /// Where it stands: a literal, a comment or a number by its first byte.
     pub at: Place,
     /// What is wrong there.
     pub kind: LexKind,
+}
+
+impl From<AllocFailed<Token>> for LexFault {
+    ghost use Rattle.idl_token.specs.declared.LexKind.TheVariants.{NoMemory};
+
+    ghost from_gives = { λ _ fault. fault.kind ≡ NoMemory };
+
+    fn from(_failed: AllocFailed<Token>) -> Self {
+        LexFault {
+            at: Place { line: 1, column: 1 },
+            kind: LexKind::NoMemory,
+        }
+    }
 }
 
 /// The longest text that is taken, in bytes.
@@ -109,7 +156,7 @@ pub const MAX_TEXT: usize = 4_194_304;
 pub fn tokens(alloc: Global, text: &[u8]) -> Result<Vec<Token>, LexFault>
     requires { length text.now ≤ MAX_TEXT }
     ensures ok { IfOk result (λ tokens. AreTokensOf tokens.items text.now) }
-    ensures fault { IfErr result (λ fault. fault.kind ≢ LexKind.NoMemory → IsFirstFault fault text.now) }
+    ensures fault { IfErr result (λ fault. fault.kind ≢ LexKind.NoMemory → IsFirstLexFault fault text.now) }
 {
     let mut tokens = Vec::new(alloc);
     let mut at = 0;
@@ -118,17 +165,11 @@ pub fn tokens(alloc: Global, text: &[u8]) -> Result<Vec<Token>, LexFault>
         match next_piece(rest) {
             Piece::Blank(size) => at += size,
             Piece::Token(kind, size) => {
-                let token = Token {
+                tokens.push(Token {
                     kind,
                     from: at as u32,
                     to: (at + size) as u32,
-                };
-                if tokens.push(token).is_err() {
-                    return Err(LexFault {
-                        at: place_at(text, at),
-                        kind: LexKind::NoMemory,
-                    });
-                }
+                })?;
                 at += size;
             }
             Piece::Fault(kind, inside) => {
@@ -144,12 +185,12 @@ pub fn tokens(alloc: Global, text: &[u8]) -> Result<Vec<Token>, LexFault>
 
 /// Each text has tokens or a first fault.
 pub fn tokens_or_a_first_fault()
-    ensures { (text : List ℕ) → HasTokens text ⊎ HasFirstFault text }
+    ensures { (text : List ℕ) → HasTokens text ⊎ HasFirstLexFault text }
 {}
 
 /// A first fault is one of the text, never want of memory.
 pub fn a_first_fault_is_no_want_of_memory()
-    ensures { (text : List ℕ) (fault : LexFault) → IsFirstFault fault text → fault.kind ≢ LexKind.NoMemory }
+    ensures { (text : List ℕ) (fault : LexFault) → IsFirstLexFault fault text → fault.kind ≢ LexKind.NoMemory }
 {}
 
 /// A text has one list of tokens.
@@ -159,12 +200,12 @@ pub fn tokens_are_determined()
 
 /// A text with a list of tokens has no first fault.
 pub fn tokens_exclude_a_fault()
-    ensures { (text : List ℕ) (ts : List Token) (fault : LexFault) → AreTokensOf ts text → IsFirstFault fault text → ⊥ }
+    ensures { (text : List ℕ) (ts : List Token) (fault : LexFault) → AreTokensOf ts text → IsFirstLexFault fault text → ⊥ }
 {}
 
 /// A text has one first fault at most.
 pub fn the_fault_is_determined()
-    ensures { (text : List ℕ) (f g : LexFault) → IsFirstFault f text → IsFirstFault g text → f ≡ g }
+    ensures { (text : List ℕ) (f g : LexFault) → IsFirstLexFault f text → IsFirstLexFault g text → f ≡ g }
 {}
 
 /// Tokens stand in order within the text, and each has a byte or more.
@@ -184,7 +225,7 @@ pub fn big_integers_are_outside_64_bits()
 
 /// A token that is an integer, and none of the words for truth, has a number with a place in 64 bits.
 pub fn an_integer_has_a_place_in_64_bits()
-    ensures { (token : List ℕ) → whole_of token ≡ sound TokenKind.Int → is_one_of truth_words token ≡ false → FitsSigned w64 (int_of token) }
+    ensures { (token : List ℕ) → whole_of token ≡ sound TokenKind.Int → is_truth_word token ≡ false → FitsSigned w64 (int_of token) }
 {}
 
 #[cfg(test)]

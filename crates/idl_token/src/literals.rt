@@ -1,5 +1,6 @@
 //! Literals.
 ghost use Rattle.std.specs.Prelude.{◌≡◌, ◌≤◌, ◌==◌, ◌&&◌, not, false, length, IfSome};
+ghost use Rattle.idl_token.specs.Bytes as code;
 ghost use Rattle.idl_token.specs.Classes.{is_escape};
 ghost use Rattle.idl_token.specs.Lengths.{literal_len, bad_escape_from};
 
@@ -41,7 +42,7 @@ pub(crate) fn bad_escape_in(literal: &[u8]) -> Option<usize>
     None
 }
 
-pub(crate) fn closes(taken: bool, byte: u8, quote: u8) -> bool
+fn closes(taken: bool, byte: u8, quote: u8) -> bool
     ensures { result ≡ (not taken && byte == quote) }
 {
     !taken && byte == quote
@@ -54,8 +55,8 @@ fn is_bad_escape(taken: bool, byte: u8) -> bool
 }
 
 /// Whether a byte is a backslash that takes the byte behind it.
-pub(crate) fn takes_next(taken: bool, byte: u8) -> bool
-    ensures { result ≡ (not taken && byte == 92) }
+fn takes_next(taken: bool, byte: u8) -> bool
+    ensures { result ≡ (not taken && byte == code.backslash) }
 {
     !taken && byte == b'\\'
 }

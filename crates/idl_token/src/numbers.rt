@@ -8,8 +8,10 @@ ghost use Rattle.idl_token.specs.Classes.{is_exponent_mark};
 ghost use Rattle.idl_token.specs.Lengths.{decimal_len, hexadecimal_len, exponent_len, fraction_len, unsigned_double_len, double_len, int_len};
 
 use crate::classes::{byte_at, is_exponent_mark, is_plus_or_minus};
+use crate::runs::{ByteRun, run_len};
 
-pub(crate) fn sign_in(text: &[u8]) -> usize
+/// The bytes of a sign in front.
+pub fn sign_in(text: &[u8]) -> usize
     ensures value { result ≡ sign_in text.now }
     ensures within { result ≤ length text.now }
 {
@@ -20,11 +22,12 @@ pub(crate) fn sign_in(text: &[u8]) -> usize
     }
 }
 
+/// The digits in front.
 pub(crate) fn digits_in(text: &[u8]) -> usize
     ensures value { result ≡ digits_in text.now }
     ensures within { result ≤ length text.now }
 {
-    text.iter().take_while(|byte| byte.is_ascii_digit()).count()
+    run_len(ByteRun::Digits, text)
 }
 
 /// The bytes of the longest sign and digits in front.
@@ -42,9 +45,7 @@ fn hexadecimal_digits_in(text: &[u8]) -> usize
     ensures value { result ≡ prefix_len is_ascii_hexdigit text.now }
     ensures within { result ≤ length text.now }
 {
-    text.iter()
-        .take_while(|byte| byte.is_ascii_hexdigit())
-        .count()
+    run_len(ByteRun::HexDigits, text)
 }
 
 /// The bytes of the longest `0x` and digits in front.
@@ -88,6 +89,7 @@ fn fraction_len(text: &[u8]) -> usize
     1 + digits + exponent_len(behind)
 }
 
+#[tactic(auto, unfolding(crate::specs::Lengths::unsigned_double_len))]
 fn unsigned_double_len(text: &[u8]) -> usize
     ensures value { result ≡ unsigned_double_len text.now }
     ensures within { result ≤ length text.now }
@@ -126,9 +128,9 @@ fn digit_value(byte: u8) -> u8
     if byte.is_ascii_digit() {
         byte - b'0'
     } else if byte >= b'a' {
-        byte - 87
+        byte - b'a' + 10
     } else {
-        byte.saturating_sub(55)
+        byte.saturating_sub(b'A' - 10)
     }
 }
 
@@ -156,7 +158,7 @@ fn is_above(digits: &[u8], radix: u64, most: u64) -> bool
 
 /// Whether an integer lies outside 64 bits.
 #[tactic(auto, unfolding(crate::specs::Numbers::is_big_int))]
-pub(crate) fn is_big_int(int: &[u8]) -> bool
+pub fn is_big_int(int: &[u8]) -> bool
     ensures { result ≡ is_big_int int.now }
 {
     let most = if byte_at(int, 0) == b'-' {
@@ -173,7 +175,8 @@ pub(crate) fn is_big_int(int: &[u8]) -> bool
     }
 }
 
-pub(crate) fn is_hexadecimal(text: &[u8]) -> bool
+/// Whether a text is `0x` and hexadecimal digits.
+pub fn is_hexadecimal(text: &[u8]) -> bool
     ensures value { result ≡ is_hexadecimal text.now }
     ensures long { IsTrue result → 2 ≤ length text.now }
 {
@@ -230,7 +233,7 @@ fn signed(negative: bool, size: u64) -> i64
 
 /// Whether a double has too many digits or too large an exponent.
 #[tactic(auto, unfolding(crate::specs::Numbers::is_big_double))]
-pub(crate) fn is_big_double(double: &[u8]) -> bool
+pub fn is_big_double(double: &[u8]) -> bool
     ensures { result ≡ is_big_double double.now }
 {
     if all_digits_in(double) > 40 {
@@ -251,9 +254,7 @@ fn bytes_before_exponent_mark(text: &[u8]) -> usize
     ensures value { result ≡ prefix_len (λ b. not (is_exponent_mark b)) text.now }
     ensures within { result ≤ length text.now }
 {
-    text.iter()
-        .take_while(|byte| !is_exponent_mark(**byte))
-        .count()
+    run_len(ByteRun::Mantissa, text)
 }
 
 fn behind_exponent_mark(text: &[u8]) -> &[u8]

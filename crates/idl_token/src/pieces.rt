@@ -2,8 +2,8 @@
 ghost use Rattle.std.specs.Prelude.{◌≡◌, ◌<◌, ◌≤◌, ◌==◌, length};
 ghost use Rattle.std.specs.List.{list_any};
 ghost use Rattle.idl_token.specs.Wholes.{signs, kind_of_sign};
-ghost use Rattle.idl_token.specs.Pieces.{opening_fault, IsPiece, IsWithin};
-ghost use Rattle.idl_token.specs.Lengths.{token_len, sign_len, token_piece, piece_of};
+ghost use Rattle.idl_token.specs.Pieces.{opening_fault, IsFrontPiece, IsWithin};
+ghost use Rattle.idl_token.specs.Lengths.{token_len, sign_len, token_piece, front_piece};
 
 use crate::blanks::{begins_comment, blank_in};
 use crate::classes::{byte_at, is_quote};
@@ -14,7 +14,7 @@ use crate::{LexKind, TokenKind};
 
 /// What stands at the front of a text.
 #[derive(Clone, Copy)]
-pub(crate) enum Piece {
+pub enum Piece {
     /// White space or a comment of so many bytes.
     Blank(usize),
     /// A token of so many bytes.
@@ -26,15 +26,15 @@ pub(crate) enum Piece {
 /// The blank, the longest token or the fault at the front of a text.
 #[tactic(auto, using(crate::proofs::PieceLemmas::piece_stands))]
 pub(crate) fn next_piece(text: &[u8]) -> Piece
-    ensures stands { IsPiece text.now result }
+    ensures stands { IsFrontPiece text.now result }
     ensures within { IsWithin text.now result }
 {
     piece_in(text)
 }
 
-#[tactic(auto, unfolding(crate::specs::Lengths::piece_of))]
+#[tactic(auto, unfolding(crate::specs::Lengths::front_piece))]
 fn piece_in(text: &[u8]) -> Piece
-    ensures value { result ≡ piece_of text.now }
+    ensures value { result ≡ front_piece text.now }
     ensures within { IsWithin text.now result }
 {
     if let Some(size) = blank_in(text) {
@@ -72,14 +72,16 @@ fn sign_len(text: &[u8]) -> usize
     }
 }
 
+/// A byte that is a sign of the grammar, or `&`.
 #[tactic(auto, unfolding(crate::specs::Wholes::signs))]
-pub(crate) fn is_sign(byte: u8) -> bool
+pub fn is_sign(byte: u8) -> bool
     ensures { result ≡ list_any (λ sign. sign == byte) signs }
 {
     b"{}()[]<>,;:=*&".contains(&byte)
 }
 
-pub(crate) fn opening_fault(text: &[u8]) -> LexKind
+/// What is wrong where no blank and no token begins.
+pub fn opening_fault(text: &[u8]) -> LexKind
     ensures { result ≡ opening_fault text.now }
 {
     if is_quote(byte_at(text, 0)) {
@@ -122,7 +124,8 @@ fn token_piece(text: &[u8], size: usize) -> Piece
     }
 }
 
-pub(crate) fn kind_of_sign(text: &[u8]) -> TokenKind
+/// Whether a sign is one of the grammar, or left out by name.
+pub fn kind_of_sign(text: &[u8]) -> TokenKind
     ensures { result ≡ kind_of_sign text.now }
 {
     if byte_at(text, 0) == b'&' {

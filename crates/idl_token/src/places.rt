@@ -1,7 +1,8 @@
 //! Places in a text.
 ghost use Rattle.std.specs.Prelude.{◌≡◌, ◌≤◌, ◌==◌, not, length, count_by};
 ghost use Rattle.std.specs.List.{suffix_len};
-ghost use Rattle.idl_token.specs.Places.{place_of};
+ghost use Rattle.idl_token.specs.Bytes as byte;
+ghost use Rattle.idl_token.specs.Places.{line_and_column};
 
 use crate::{MAX_TEXT, Place};
 
@@ -9,7 +10,7 @@ use crate::{MAX_TEXT, Place};
 pub fn place_at(text: &[u8], at: usize) -> Place
     requires within { at ≤ length text.now }
     requires short { length text.now ≤ MAX_TEXT }
-    ensures { result ≡ place_of text.now at }
+    ensures { result ≡ line_and_column text.now at }
 {
     let (before, _) = text.split_at(at);
     Place {
@@ -19,14 +20,14 @@ pub fn place_at(text: &[u8], at: usize) -> Place
 }
 
 fn newlines_in(text: &[u8]) -> usize
-    ensures value { result ≡ count_by (λ b. b == 10) text.now }
+    ensures value { result ≡ count_by (λ b. b == byte.newline) text.now }
     ensures within { result ≤ length text.now }
 {
     text.iter().filter(|byte| **byte == b'\n').count()
 }
 
 fn bytes_behind_newline(text: &[u8]) -> usize
-    ensures value { result ≡ suffix_len (λ b. not (b == 10)) text.now }
+    ensures value { result ≡ suffix_len (λ b. not (b == byte.newline)) text.now }
     ensures within { result ≤ length text.now }
 {
     text.iter().rev().take_while(|byte| **byte != b'\n').count()

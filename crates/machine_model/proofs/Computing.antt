@@ -13,15 +13,15 @@ use Rattle.host_model.specs.declared.key.Key.{Key}
 use Rattle.host_model.specs.declared.cause.EndCause.{EndCause}
 use Rattle.host_model.specs.declared.cause.EndCause.TheVariants.{NoMemory, Stopped, ReadFault, WriteFault}
 use Rattle.host_model.specs.Frames.{frame, IsPartial, IsOutside}
-use Rattle.host_model.specs.Journal.{Rules, IsAnswered}
-use Rattle.host_model.specs.Desk.{Desk, Decision, Close, Silent, Reply, Invoke}
+use Rattle.host_model.specs.Journal.{ServiceRules, IsAnswered}
+use Rattle.host_model.specs.DeskRules.{DeskRules, DeskDecision, Close, Silent, Reply, Invoke}
 use Rattle.host_model.specs.World.{IsGivenUp, end_behind}
-use Rattle.machine_model.specs.Hall.{Job, Outcome}
-use Rattle.machine_model.specs.HallRule.{done, job, empty, is_closed, applied, no_memory, journal_fault, is_broken, outcome, entry_of}
-use Rattle.machine_model.specs.Loop.{Conn, Loop, with_cause, IsOpen, OwesNothing, Made, part, bad_size, whole, Makes, StaysInSize, changed, read_more, marks_read, Link, opens, reads, ends, fails_read, writes, fails_write, gives_up, Happens}
-use Rattle.machine_model.specs.Worker.{Hand, idle, holds, has_answer, has_none, made_of, key_held, IsSettled}
-use Rattle.machine_model.specs.Machine.{Cell, Event, on_link, submits, takes, applies, puts, collects, closes, Steps, Runs}
-use Rattle.machine_model.specs.Plain.{when, is_empty, are_same, has_none_yet, is_given_up, is_open, owes_nothing, is_size, is_whole, is_bad_size, made_behind, made_by, stays_in_size, Moved, ended_plain, made_plain, reads_plain, ends_plain, fails_read_plain, writes_plain, fails_write_plain, gives_up_plain, moved_plain, link_plain, with_loop, Fate, answers, lacks_for_call, lacks_for_answer, fails_journal, Told, goes, applies_so, puts_none, event_told, submit_plain, take_plain, fate_plain, broken_plain, call_plain, apply_plain, outcome_plain, put_plain, lack_plain, collect_plain, step_plain, told_plain, run_plain}
+use Rattle.machine_model.specs.HallState.{Job, JobOutcome}
+use Rattle.machine_model.specs.HallRule.{done, job, empty, is_closed, applied, no_memory, journal_fault, is_broken, outcome, entry_under}
+use Rattle.machine_model.specs.Loop.{LoopConn, Loop, with_cause, IsOpen, OwesNothing, FrameProgress, part, bad_size, whole, IsProgress, StaysInSize, changed, read_more, marks_read, ConnEvent, opens, reads, ends, fails_read, writes, fails_write, gives_up, Happens}
+use Rattle.machine_model.specs.Worker.{WorkerState, idle, holds, has_answer, has_none, settlement, key_held, SettlesAs}
+use Rattle.machine_model.specs.Machine.{Cell, MachineEvent, on_conn, submits, takes, applies, puts, collects, closes, Steps, EventsLead}
+use Rattle.machine_model.specs.Plain.{when, is_empty, are_same, has_none_yet, is_given_up, is_open, owes_nothing, is_size, is_whole, is_bad_size, progress_behind, progress_by, stays_in_size, Moved, ended_plain, progress_plain, reads_plain, ends_plain, fails_read_plain, writes_plain, fails_write_plain, gives_up_plain, moved_plain, conn_event_plain, with_loop, ApplyResult, answers, lacks_for_call, lacks_for_answer, fails_journal, Told, goes, applies_so, puts_none, event_told, submit_plain, take_plain, apply_result_plain, broken_plain, call_plain, apply_plain, outcome_plain, put_plain, lack_plain, collect_plain, step_plain, told_plain, run_plain}
 
 -- what a test says
 pub passed : {X : Type 0} (b : Bool) (x : Option X) (y : X) → when b x ≡ Some y → (b ≡ true) × (x ≡ Some y)
@@ -58,7 +58,7 @@ opened loop c e =
     let parts : (nat_lt c loop.count ≡ true) × (has_none_yet (loop.conns c).cause ≡ true) = and_parts (nat_lt c loop.count) (has_none_yet (loop.conns c).cause) e in
     (ltb-true c loop.count parts.0, no_cause (loop.conns c).cause parts.1)
 
-owes : (conn : Conn) → owes_nothing conn ≡ true → OwesNothing conn
+owes : (conn : LoopConn) → owes_nothing conn ≡ true → OwesNothing conn
 owes conn e =
     let parts : ((conn.collected == length conn.payloads) ≡ true) × (is_empty conn.left ≡ true) = and_parts (conn.collected == length conn.payloads) (is_empty conn.left) e in
     (eqb-true conn.collected (length conn.payloads) parts.0, no_bytes conn.left parts.1)
@@ -75,8 +75,8 @@ stays held bytes e l = go (nat_lt (length held) 4) refl e
 
 module _ (max : ℕ) (small : max < 2 ^ 31) (short : (bytes : List ℕ) → length bytes < 4 → IsPartial max bytes)
     (under_way : (size : ℕ) (bytes : List ℕ) → 1 ≤ size → size ≤ max → length bytes < size → IsPartial max (to_be_bytes w32 size ++ bytes)) where
-  made_whole : (bytes : List ℕ) → is_whole max bytes ≡ true → Makes max bytes (whole (drop 4 bytes))
-  made_whole bytes t =
+  progress_whole : (bytes : List ℕ) → is_whole max bytes ≡ true → IsProgress max bytes (whole (drop 4 bytes))
+  progress_whole bytes t =
       let p : List ℕ = drop 4 bytes in
       let a : (nat_le 1 (length p) ≡ true) × ((nat_le (length p) max && are_same bytes (frame p)) ≡ true) = and_parts (nat_le 1 (length p)) (nat_le (length p) max && are_same bytes (frame p)) t in
       let b : (nat_le (length p) max ≡ true) × (are_same bytes (frame p) ≡ true) = and_parts (nat_le (length p) max) (are_same bytes (frame p)) a.1 in
@@ -97,20 +97,20 @@ module _ (max : ℕ) (small : max < 2 ^ 31) (short : (bytes : List ℕ) → leng
       let signed : FitsSigned w32 (negsuc k) = subst (FitsSigned w32) is (sfits_to_z {w = w32} {n = n} (record { fits = fits })) in
       ((signed, inl (omega (arith, ints))), sym (of_z-to_z w32 n fits) ∙ ap (cast_unsigned w32) is)
 
-  made_bad : (size : ℕ) (bytes : List ℕ) (made : Made) → when (is_bad_size max size bytes) (Some (bad_size (cast_signed w32 size))) ≡ Some made → Makes max bytes made
-  made_bad size bytes made e =
-      let t : (is_bad_size max size bytes ≡ true) × (Some (bad_size (cast_signed w32 size)) ≡ Some made) = passed (is_bad_size max size bytes) (Some (bad_size (cast_signed w32 size))) made e in
+  progress_bad : (size : ℕ) (bytes : List ℕ) (progress : FrameProgress) → when (is_bad_size max size bytes) (Some (bad_size (cast_signed w32 size))) ≡ Some progress → IsProgress max bytes progress
+  progress_bad size bytes progress e =
+      let t : (is_bad_size max size bytes ≡ true) × (Some (bad_size (cast_signed w32 size)) ≡ Some progress) = passed (is_bad_size max size bytes) (Some (bad_size (cast_signed w32 size))) progress e in
       let a : ((size == 0 || nat_lt max size) ≡ true) × ((nat_lt size 4294967296 && are_same bytes (to_be_bytes w32 size)) ≡ true) =
       and_parts (size == 0 || nat_lt max size) (nat_lt size 4294967296 && are_same bytes (to_be_bytes w32 size)) t.0 in
       let b : (nat_lt size 4294967296 ≡ true) × (are_same bytes (to_be_bytes w32 size) ≡ true) = and_parts (nat_lt size 4294967296) (are_same bytes (to_be_bytes w32 size)) a.1 in
       let fits : size < 4294967296 = ltb-true size 4294967296 b.0 in
       let out : (size ≡ 0) ⊎ (max < size) = ⊎_elim (λ f. inl (eqb-true size 0 f)) (λ f. inr (ltb-true max size f)) (or_cases (size == 0) (nat_lt max size) a.0) in
       let s : IsOutside max (cast_signed w32 size) × (size ≡ cast_unsigned w32 (cast_signed w32 size)) = signed_outside size (cast_signed w32 size) (omega arith) out refl in
-      subst (Makes max bytes) (same_Some (bad_size (cast_signed w32 size)) made t.1)
+      subst (IsProgress max bytes) (same_Some (bad_size (cast_signed w32 size)) progress t.1)
       (s.0, same_lists bytes (to_be_bytes w32 size) b.1 ∙ ap (to_be_bytes w32) s.1)
 
-  made_part : (size : ℕ) (bytes : List ℕ) → (is_size max size bytes && nat_lt (length (drop 4 bytes)) size) ≡ true → IsPartial max bytes
-  made_part size bytes e =
+  progress_part : (size : ℕ) (bytes : List ℕ) → (is_size max size bytes && nat_lt (length (drop 4 bytes)) size) ≡ true → IsPartial max bytes
+  progress_part size bytes e =
       let p : List ℕ = drop 4 bytes in
       let t : (is_size max size bytes ≡ true) × (nat_lt (length p) size ≡ true) = and_parts (is_size max size bytes) (nat_lt (length p) size) e in
       let a : (nat_le 1 size ≡ true) × ((nat_le size max && are_same bytes (to_be_bytes w32 size ++ p)) ≡ true) =
@@ -118,31 +118,31 @@ module _ (max : ℕ) (small : max < 2 ^ 31) (short : (bytes : List ℕ) → leng
       let b : (nat_le size max ≡ true) × (are_same bytes (to_be_bytes w32 size ++ p) ≡ true) = and_parts (nat_le size max) (are_same bytes (to_be_bytes w32 size ++ p)) a.1 in
       subst (IsPartial max) (sym (same_lists bytes (to_be_bytes w32 size ++ p) b.1)) (under_way size p (leb-true 1 size a.0) (leb-true size max b.0) (ltb-true (length p) size t.1))
 
-  made_behind_is : (size : ℕ) (bytes : List ℕ) (made : Made) → made_behind max size bytes ≡ Some made → Makes max bytes made
-  made_behind_is size bytes made e = go (is_size max size bytes && nat_lt (length (drop 4 bytes)) size) refl e
+  progress_behind_is : (size : ℕ) (bytes : List ℕ) (progress : FrameProgress) → progress_behind max size bytes ≡ Some progress → IsProgress max bytes progress
+  progress_behind_is size bytes progress e = go (is_size max size bytes && nat_lt (length (drop 4 bytes)) size) refl e
     where
       rest : (b : Bool) → is_whole max bytes ≡ b
-          → (if b then Some (whole (drop 4 bytes)) else when (is_bad_size max size bytes) (Some (bad_size (cast_signed w32 size)))) ≡ Some made → Makes max bytes made
-      rest true s f = subst (Makes max bytes) (same_Some (whole (drop 4 bytes)) made f) (made_whole bytes s)
-      rest false s f = made_bad size bytes made f
+          → (if b then Some (whole (drop 4 bytes)) else when (is_bad_size max size bytes) (Some (bad_size (cast_signed w32 size)))) ≡ Some progress → IsProgress max bytes progress
+      rest true s f = subst (IsProgress max bytes) (same_Some (whole (drop 4 bytes)) progress f) (progress_whole bytes s)
+      rest false s f = progress_bad size bytes progress f
 
       go : (b : Bool) → (is_size max size bytes && nat_lt (length (drop 4 bytes)) size) ≡ b
-          → (if b then Some part else if is_whole max bytes then Some (whole (drop 4 bytes)) else when (is_bad_size max size bytes) (Some (bad_size (cast_signed w32 size)))) ≡ Some made
-          → Makes max bytes made
-      go true s f = subst (Makes max bytes) (same_Some part made f) (made_part size bytes s)
+          → (if b then Some part else if is_whole max bytes then Some (whole (drop 4 bytes)) else when (is_bad_size max size bytes) (Some (bad_size (cast_signed w32 size)))) ≡ Some progress
+          → IsProgress max bytes progress
+      go true s f = subst (IsProgress max bytes) (same_Some part progress f) (progress_part size bytes s)
       go false s f = rest (is_whole max bytes) refl f
 
-  made_is : (bytes : List ℕ) (made : Made) → made_by max bytes ≡ Some made → Makes max bytes made
-  made_is bytes made e = go (nat_lt (length bytes) 4) refl e
+  progress_is : (bytes : List ℕ) (progress : FrameProgress) → progress_by max bytes ≡ Some progress → IsProgress max bytes progress
+  progress_is bytes progress e = go (nat_lt (length bytes) 4) refl e
     where
-      go : (b : Bool) → nat_lt (length bytes) 4 ≡ b → (if b then Some part else made_behind max (from_be_bytes w32 (take 4 bytes)) bytes) ≡ Some made → Makes max bytes made
-      go true s f = subst (Makes max bytes) (same_Some part made f) (short bytes (ltb-true (length bytes) 4 s))
-      go false s f = made_behind_is (from_be_bytes w32 (take 4 bytes)) bytes made f
+      go : (b : Bool) → nat_lt (length bytes) 4 ≡ b → (if b then Some part else progress_behind max (from_be_bytes w32 (take 4 bytes)) bytes) ≡ Some progress → IsProgress max bytes progress
+      go true s f = subst (IsProgress max bytes) (same_Some part progress f) (short bytes (ltb-true (length bytes) 4 s))
+      go false s f = progress_behind_is (from_be_bytes w32 (take 4 bytes)) bytes progress f
 
   -- what a connection that is open does
   module _ (old : Loop) (c : ℕ) (new : Loop) (o : IsOpen old c) where
     -- it is this one then, with these marks
-    to : (conn : Conn) (marks : List Mark) → moved_plain old c (Some (conn, marks)) ≡ Some new → new ≡ changed old c conn marks
+    to : (conn : LoopConn) (marks : List Mark) → moved_plain old c (Some (conn, marks)) ≡ Some new → new ≡ changed old c conn marks
     to conn marks e = sym (same_Some (changed old c conn marks) new e)
 
     -- a test, and what it leaves
@@ -150,18 +150,18 @@ module _ (max : ℕ) (small : max < 2 ^ 31) (short : (bytes : List ℕ) → leng
     tested true moved e = (refl, e)
     tested false moved e = absurd (none-some new e)
 
-    reads_made : (bytes : List ℕ) → OwesNothing (old.conns c) → bytes ≢ [] → StaysInSize (old.conns c).held bytes → (made : Option Made)
-        → made_by max ((old.conns c).held ++ bytes) ≡ made → moved_plain old c (made_plain c (old.conns c) bytes made) ≡ Some new → Happens max old (reads c bytes) new
-    reads_made bytes w n s None m e = absurd (none-some new e)
-    reads_made bytes w n s (Some made) m e =
-        (made, o, w, n, s, made_is ((old.conns c).held ++ bytes) made m, to (read_more (old.conns c) bytes made) (marks_read c bytes made) e)
+    reads_progress : (bytes : List ℕ) → OwesNothing (old.conns c) → bytes ≢ [] → StaysInSize (old.conns c).held bytes → (progress : Option FrameProgress)
+        → progress_by max ((old.conns c).held ++ bytes) ≡ progress → moved_plain old c (progress_plain c (old.conns c) bytes progress) ≡ Some new → Happens max old (reads c bytes) new
+    reads_progress bytes w n s None m e = absurd (none-some new e)
+    reads_progress bytes w n s (Some progress) m e =
+        (progress, o, w, n, s, progress_is ((old.conns c).held ++ bytes) progress m, to (read_more (old.conns c) bytes progress) (marks_read c bytes progress) e)
 
     reads_is : (bytes : List ℕ) → moved_plain old c (reads_plain max c bytes (old.conns c)) ≡ Some new → Happens max old (reads c bytes) new
     reads_is bytes e =
-        let t : (_ ≡ true) × (_ ≡ Some new) = tested _ (made_plain c (old.conns c) bytes (made_by max ((old.conns c).held ++ bytes))) e in
+        let t : (_ ≡ true) × (_ ≡ Some new) = tested _ (progress_plain c (old.conns c) bytes (progress_by max ((old.conns c).held ++ bytes))) e in
         let a : (owes_nothing (old.conns c) ≡ true) × ((not (is_empty bytes) && stays_in_size (old.conns c).held bytes) ≡ true) = and_parts _ _ t.0 in
         let b : (not (is_empty bytes) ≡ true) × (stays_in_size (old.conns c).held bytes ≡ true) = and_parts _ _ a.1 in
-        reads_made bytes (owes (old.conns c) a.0) (some_bytes bytes b.0) (stays (old.conns c).held bytes b.1) (made_by max ((old.conns c).held ++ bytes)) refl t.1
+        reads_progress bytes (owes (old.conns c) a.0) (some_bytes bytes b.0) (stays (old.conns c).held bytes b.1) (progress_by max ((old.conns c).held ++ bytes)) refl t.1
 
     ends_is : moved_plain old c (ends_plain c (old.conns c)) ≡ Some new → Happens max old (ends c) new
     ends_is e =
@@ -195,22 +195,22 @@ module _ (max : ℕ) (small : max < 2 ^ 31) (short : (bytes : List ℕ) → leng
   on_open old c moved new e =
       let t : (is_open old c ≡ true) × (moved ≡ Some new) = passed (is_open old c) moved new e in (opened old c t.0, t.1)
 
-  pub link_is : (old : Loop) (link : Link) (new : Loop) → link_plain max old link ≡ Some new → Happens max old link new
-  link_is old opens new e =
+  pub conn_event_is : (old : Loop) (conn_event : ConnEvent) (new : Loop) → conn_event_plain max old conn_event ≡ Some new → Happens max old conn_event new
+  conn_event_is old opens new e =
       let t : (_ ≡ true) × (_ ≡ Some new) = passed _ _ new e in (ltb-true _ _ t.0, sym (same_Some _ new t.1))
-  link_is old (reads c bytes) new e = let t : IsOpen old c × (_ ≡ Some new) = on_open old c _ new e in reads_is old c new t.0 bytes t.1
-  link_is old (ends c) new e = let t : IsOpen old c × (_ ≡ Some new) = on_open old c _ new e in ends_is old c new t.0 t.1
-  link_is old (fails_read c) new e = let t : IsOpen old c × (_ ≡ Some new) = on_open old c _ new e in fails_read_is old c new t.0 t.1
-  link_is old (writes c count) new e = let t : IsOpen old c × (_ ≡ Some new) = on_open old c _ new e in writes_is old c new t.0 count t.1
-  link_is old (fails_write c) new e = let t : IsOpen old c × (_ ≡ Some new) = on_open old c _ new e in fails_write_is old c new t.0 t.1
-  link_is old (gives_up c cause) new e = let t : IsOpen old c × (_ ≡ Some new) = on_open old c _ new e in gives_up_is old c new t.0 cause t.1
+  conn_event_is old (reads c bytes) new e = let t : IsOpen old c × (_ ≡ Some new) = on_open old c _ new e in reads_is old c new t.0 bytes t.1
+  conn_event_is old (ends c) new e = let t : IsOpen old c × (_ ≡ Some new) = on_open old c _ new e in ends_is old c new t.0 t.1
+  conn_event_is old (fails_read c) new e = let t : IsOpen old c × (_ ≡ Some new) = on_open old c _ new e in fails_read_is old c new t.0 t.1
+  conn_event_is old (writes c count) new e = let t : IsOpen old c × (_ ≡ Some new) = on_open old c _ new e in writes_is old c new t.0 count t.1
+  conn_event_is old (fails_write c) new e = let t : IsOpen old c × (_ ≡ Some new) = on_open old c _ new e in fails_write_is old c new t.0 t.1
+  conn_event_is old (gives_up c cause) new e = let t : IsOpen old c × (_ ≡ Some new) = on_open old c _ new e in gives_up_is old c new t.0 cause t.1
 
-module _ {C A M : Type 0} (d : Desk C A) (r : Rules C A M) (small : d.max < 2 ^ 31) (short : (bytes : List ℕ) → length bytes < 4 → IsPartial d.max bytes)
+module _ {C A M : Type 0} (d : DeskRules C A) (r : ServiceRules C A M) (small : d.max < 2 ^ 31) (short : (bytes : List ℕ) → length bytes < 4 → IsPartial d.max bytes)
     (under_way : (size : ℕ) (bytes : List ℕ) → 1 ≤ size → size ≤ d.max → length bytes < size → IsPartial d.max (to_be_bytes w32 size ++ bytes)) where
-  loop_is : (old : Cell C A M) (link : Link) (new : Cell C A M) (loop : Option Loop) → link_plain d.max old.loop link ≡ loop → with_loop old loop ≡ Some new
-      → Steps d r old (on_link link) new
-  loop_is old link new None l e = absurd (none-some new e)
-  loop_is old link new (Some loop) l e = (loop, link_is d.max small short under_way old.loop link loop l, sym (same_Some _ new e))
+  loop_is : (old : Cell C A M) (conn_event : ConnEvent) (new : Cell C A M) (loop : Option Loop) → conn_event_plain d.max old.loop conn_event ≡ loop → with_loop old loop ≡ Some new
+      → Steps d r old (on_conn conn_event) new
+  loop_is old conn_event new None l e = absurd (none-some new e)
+  loop_is old conn_event new (Some loop) l e = (loop, conn_event_is d.max small short under_way old.loop conn_event loop l, sym (same_Some _ new e))
 
   submit_is : (old : Cell C A M) (c : ℕ) (new : Cell C A M) → c < old.loop.count → (closed : Bool) → old.hall.closed ≡ closed → (payload : Option (List ℕ))
       → slice_get (old.loop.conns c).payloads (old.loop.conns c).submitted ≡ payload → submit_plain old c closed payload ≡ Some new → Steps d r old (submits c) new
@@ -220,7 +220,7 @@ module _ {C A M : Type 0} (d : Desk C A) (r : Rules C A M) (small : d.max < 2 ^ 
   submit_is old c new l false k (Some payload) g e =
       ((old.loop.conns c).submitted, payload, (done, _, _, (l, refl, g, refl), (k, refl), sym (same_Some _ new e)))
 
-  take_is : (old : Cell C A M) (w : ℕ) (new : Cell C A M) (hand : Hand A) → old.hands w ≡ hand → (jobs : List Job) → old.hall.jobs ≡ jobs → take_plain old w hand jobs ≡ Some new
+  take_is : (old : Cell C A M) (w : ℕ) (new : Cell C A M) (worker : WorkerState A) → old.workers w ≡ worker → (jobs : List Job) → old.hall.jobs ≡ jobs → take_plain old w worker jobs ≡ Some new
       → Steps d r old (takes w) new
   take_is old w new idle h [] j e = by_closed old.hall.closed refl
     where
@@ -234,27 +234,27 @@ module _ {C A M : Type 0} (d : Desk C A) (r : Rules C A M) (small : d.max < 2 ^ 
   take_is old w new (has_none key payload) h jobs j e = absurd (none-some new e)
 
   -- an Apply that goes so, of a job in the hand whose call this is
-  module _ (old : Cell C A M) (w : ℕ) (new : Cell C A M) (key : Key) (payload : List ℕ) (call : C) (h : old.hands w ≡ holds key payload) (q : d.decide payload ≡ Invoke call) where
-    is_its_answer : (m : M) → slice_get old.hall.memories (r.slot call) ≡ Some m → IsAnswered r old.hall.memories (entry_of key call (r.rule call m).0)
+  module _ (old : Cell C A M) (w : ℕ) (new : Cell C A M) (key : Key) (payload : List ℕ) (call : C) (h : old.workers w ≡ holds key payload) (q : d.decide payload ≡ Invoke call) where
+    is_its_answer : (m : M) → slice_get old.hall.memories (r.slot call) ≡ Some m → IsAnswered r old.hall.memories (entry_under key call (r.rule call m).0)
     is_its_answer m g = subst (λ x. MatchOption x ⊥ (λ y. (r.rule call m).0 ≡ (r.rule call y).0)) (sym g) refl
 
-    fate_is : old.hall.broken ≡ false → (fate : Fate) (m : Option M) → slice_get old.hall.memories (r.slot call) ≡ m → fate_plain r old w key payload call fate m ≡ Some new
+    apply_result_is : old.hall.broken ≡ false → (apply_result : ApplyResult) (m : Option M) → slice_get old.hall.memories (r.slot call) ≡ m → apply_result_plain r old w key payload call apply_result m ≡ Some new
         → Steps d r old (applies w) new
-    fate_is b answers (Some m) g e = (
+    apply_result_is b answers (Some m) g e = (
       key,
       call,
       (applied (r.rule call m).0, _, _, (payload, h, q, refl), (old.hall.faults, omega arith, (b, (is_its_answer m g, refl))), sym (same_Some _ new e)),
     )
-    fate_is b lacks_for_answer (Some m) g e = (
+    apply_result_is b lacks_for_answer (Some m) g e = (
       key,
       call,
       (no_memory, _, _, (payload, h, q, refl), (old.hall.faults, omega arith, (b, inr ((r.rule call m).0, (is_its_answer m g, refl)))), sym (same_Some _ new e)),
     )
-    fate_is b answers None g e = absurd (none-some new e)
-    fate_is b lacks_for_answer None g e = absurd (none-some new e)
-    fate_is b lacks_for_call m g e =
+    apply_result_is b answers None g e = absurd (none-some new e)
+    apply_result_is b lacks_for_answer None g e = absurd (none-some new e)
+    apply_result_is b lacks_for_call m g e =
         (key, call, (no_memory, _, old.hall, (payload, h, q, refl), (old.hall.faults, omega arith, (b, inl refl)), sym (same_Some _ new e)))
-    fate_is b fails_journal m g e = (
+    apply_result_is b fails_journal m g e = (
       key,
       call,
       (
@@ -267,45 +267,45 @@ module _ {C A M : Type 0} (d : Desk C A) (r : Rules C A M) (small : d.max < 2 ^ 
       ),
     )
 
-    broken_is : old.hall.broken ≡ true → (fate : Fate) → broken_plain old w key payload fate ≡ Some new → Steps d r old (applies w) new
+    broken_is : old.hall.broken ≡ true → (apply_result : ApplyResult) → broken_plain old w key payload apply_result ≡ Some new → Steps d r old (applies w) new
     broken_is b answers e = (key, call, (is_broken, _, old.hall, (payload, h, q, refl), (old.hall.faults, omega arith, (b, refl)), sym (same_Some _ new e)))
     broken_is b lacks_for_call e = absurd (none-some new e)
     broken_is b lacks_for_answer e = absurd (none-some new e)
     broken_is b fails_journal e = absurd (none-some new e)
 
-    invoke_is : (fate : Fate) (b : Bool) → old.hall.broken ≡ b
-        → (if b then broken_plain old w key payload fate else fate_plain r old w key payload call fate (slice_get old.hall.memories (r.slot call))) ≡ Some new
+    invoke_is : (apply_result : ApplyResult) (b : Bool) → old.hall.broken ≡ b
+        → (if b then broken_plain old w key payload apply_result else apply_result_plain r old w key payload call apply_result (slice_get old.hall.memories (r.slot call))) ≡ Some new
         → Steps d r old (applies w) new
-    invoke_is fate true b e = broken_is b fate e
-    invoke_is fate false b e = fate_is b fate (slice_get old.hall.memories (r.slot call)) refl e
+    invoke_is apply_result true b e = broken_is b apply_result e
+    invoke_is apply_result false b e = apply_result_is b apply_result (slice_get old.hall.memories (r.slot call)) refl e
 
-  call_is : (old : Cell C A M) (w : ℕ) (new : Cell C A M) (key : Key) (payload : List ℕ) (fate : Fate) → old.hands w ≡ holds key payload → (decision : Decision C)
-      → d.decide payload ≡ decision → call_plain r old w key payload fate decision ≡ Some new → Steps d r old (applies w) new
-  call_is old w new key payload fate h (Invoke call) q e = invoke_is old w new key payload call h q fate old.hall.broken refl e
-  call_is old w new key payload fate h (Close fault) q e = absurd (none-some new e)
-  call_is old w new key payload fate h Silent q e = absurd (none-some new e)
-  call_is old w new key payload fate h (Reply reply) q e = absurd (none-some new e)
+  call_is : (old : Cell C A M) (w : ℕ) (new : Cell C A M) (key : Key) (payload : List ℕ) (apply_result : ApplyResult) → old.workers w ≡ holds key payload → (decision : DeskDecision C)
+      → d.decide payload ≡ decision → call_plain r old w key payload apply_result decision ≡ Some new → Steps d r old (applies w) new
+  call_is old w new key payload apply_result h (Invoke call) q e = invoke_is old w new key payload call h q apply_result old.hall.broken refl e
+  call_is old w new key payload apply_result h (Close fault) q e = absurd (none-some new e)
+  call_is old w new key payload apply_result h Silent q e = absurd (none-some new e)
+  call_is old w new key payload apply_result h (Reply reply) q e = absurd (none-some new e)
 
-  apply_is : (old : Cell C A M) (w : ℕ) (new : Cell C A M) (fate : Fate) (hand : Hand A) → old.hands w ≡ hand → apply_plain d r old w fate hand ≡ Some new → Steps d r old (applies w) new
-  apply_is old w new fate (holds key payload) h e = call_is old w new key payload fate h (d.decide payload) refl e
-  apply_is old w new fate idle h e = absurd (none-some new e)
-  apply_is old w new fate (has_answer key payload answer) h e = absurd (none-some new e)
-  apply_is old w new fate (has_none key payload) h e = absurd (none-some new e)
+  apply_is : (old : Cell C A M) (w : ℕ) (new : Cell C A M) (apply_result : ApplyResult) (worker : WorkerState A) → old.workers w ≡ worker → apply_plain d r old w apply_result worker ≡ Some new → Steps d r old (applies w) new
+  apply_is old w new apply_result (holds key payload) h e = call_is old w new key payload apply_result h (d.decide payload) refl e
+  apply_is old w new apply_result idle h e = absurd (none-some new e)
+  apply_is old w new apply_result (has_answer key payload answer) h e = absurd (none-some new e)
+  apply_is old w new apply_result (has_none key payload) h e = absurd (none-some new e)
 
-  outcome_is : (old : Cell C A M) (w : ℕ) (new : Cell C A M) (key : Key) → ((settled : Settled) → made_of d (old.hands w) ≡ Some settled → IsSettled d (old.hands w) key settled)
-      → (settled : Option Settled) → made_of d (old.hands w) ≡ settled → outcome_plain old w key settled ≡ Some new → Steps d r old (puts w) new
+  outcome_is : (old : Cell C A M) (w : ℕ) (new : Cell C A M) (key : Key) → ((settled : Settled) → settlement d (old.workers w) ≡ Some settled → SettlesAs d (old.workers w) key settled)
+      → (settled : Option Settled) → settlement d (old.workers w) ≡ settled → outcome_plain old w key settled ≡ Some new → Steps d r old (puts w) new
   outcome_is old w new key known None m e = absurd (none-some new e)
   outcome_is old w new key known (Some settled) m e = (key, settled, (done, idle, _, (known settled m, refl), refl, sym (same_Some _ new e)))
 
-  put_is : (old : Cell C A M) (w : ℕ) (new : Cell C A M) (hand : Hand A) → old.hands w ≡ hand → put_plain d old w hand ≡ Some new → Steps d r old (puts w) new
+  put_is : (old : Cell C A M) (w : ℕ) (new : Cell C A M) (worker : WorkerState A) → old.workers w ≡ worker → put_plain d old w worker ≡ Some new → Steps d r old (puts w) new
   put_is old w new idle h e = absurd (none-some new e)
   put_is old w new (holds key payload) h e =
-      outcome_is old w new key (λ settled m. (ap key_held h, inl m)) (made_of d (holds key payload)) (ap (made_of d) h) e
+      outcome_is old w new key (λ settled m. (ap key_held h, inl m)) (settlement d (holds key payload)) (ap (settlement d) h) e
   put_is old w new (has_answer key payload answer) h e =
-      outcome_is old w new key (λ settled m. (ap key_held h, inl m)) (made_of d (has_answer key payload answer)) (ap (made_of d) h) e
+      outcome_is old w new key (λ settled m. (ap key_held h, inl m)) (settlement d (has_answer key payload answer)) (ap (settlement d) h) e
   put_is old w new (has_none key payload) h e = absurd (none-some new e)
 
-  collect_is : (old new : Cell C A M) (outs : List Outcome) → old.hall.outcomes ≡ outs → collect_plain old outs ≡ Some new → Steps d r old collects new
+  collect_is : (old new : Cell C A M) (outs : List JobOutcome) → old.hall.outcomes ≡ outs → collect_plain old outs ≡ Some new → Steps d r old collects new
   collect_is old new [] o e = by_closed old.hall.closed refl
     where
       by_closed : (b : Bool) → old.hall.closed ≡ b → Steps d r old collects new
@@ -315,35 +315,35 @@ module _ {C A M : Type 0} (d : Desk C A) (r : Rules C A M) (small : d.max < 2 ^ 
       let t : (nat_lt first.key.c old.loop.count ≡ true) × (_ ≡ Some new) = passed _ _ new e in
       (outcome first.key first.settled, _, _, refl, (later, o, refl), sym (same_Some _ new t.1))
 
-  step_is : (old : Cell C A M) (event : Event) (new : Cell C A M) → step_plain d r old event ≡ Some new → Steps d r old event new
-  step_is old (on_link link) new e = loop_is old link new (link_plain d.max old.loop link) refl e
+  step_is : (old : Cell C A M) (event : MachineEvent) (new : Cell C A M) → step_plain d r old event ≡ Some new → Steps d r old event new
+  step_is old (on_conn conn_event) new e = loop_is old conn_event new (conn_event_plain d.max old.loop conn_event) refl e
   step_is old (submits c) new e =
       let t : (nat_lt c old.loop.count ≡ true) × (_ ≡ Some new) = passed _ _ new e in
       submit_is old c new (ltb-true c old.loop.count t.0) old.hall.closed refl (slice_get (old.loop.conns c).payloads (old.loop.conns c).submitted) refl t.1
-  step_is old (takes w) new e = take_is old w new (old.hands w) refl old.hall.jobs refl e
-  step_is old (applies w) new e = apply_is old w new answers (old.hands w) refl e
-  step_is old (puts w) new e = put_is old w new (old.hands w) refl e
+  step_is old (takes w) new e = take_is old w new (old.workers w) refl old.hall.jobs refl e
+  step_is old (applies w) new e = apply_is old w new answers (old.workers w) refl e
+  step_is old (puts w) new e = put_is old w new (old.workers w) refl e
   step_is old collects new e = collect_is old new old.hall.outcomes refl e
   step_is old closes new e = (done, old.loop, _, refl, refl, sym (same_Some _ new e))
 
-  lack_is : (old : Cell C A M) (w : ℕ) (new : Cell C A M) (key : Option Key) → key_held (old.hands w) ≡ key → lack_plain old w key ≡ Some new → Steps d r old (puts w) new
+  lack_is : (old : Cell C A M) (w : ℕ) (new : Cell C A M) (key : Option Key) → key_held (old.workers w) ≡ key → lack_plain old w key ≡ Some new → Steps d r old (puts w) new
   lack_is old w new None h e = absurd (none-some new e)
   lack_is old w new (Some key) h e = (key, Lack, (done, idle, _, ((h, inr refl), refl), refl, sym (same_Some _ new e)))
 
   told_is : (old : Cell C A M) (told : Told) (new : Cell C A M) → told_plain d r old told ≡ Some new → Steps d r old (event_told told) new
   told_is old (goes event) new e = step_is old event new e
-  told_is old (applies_so w fate) new e = apply_is old w new fate (old.hands w) refl e
-  told_is old (puts_none w) new e = lack_is old w new (key_held (old.hands w)) refl e
+  told_is old (applies_so w apply_result) new e = apply_is old w new apply_result (old.workers w) refl e
+  told_is old (puts_none w) new e = lack_is old w new (key_held (old.workers w)) refl e
 
   stuck : (told : List Told) (new : Cell C A M) → run_plain d r told None ≡ Some new → ⊥
   stuck [] new e = none-some new e
   stuck (one ∷ later) new e = none-some new e
 
-  pub run_is : (old : Cell C A M) (told : List Told) (new : Cell C A M) → run_plain d r told (Some old) ≡ Some new → Runs d r old (map event_told told) new
+  pub run_is : (old : Cell C A M) (told : List Told) (new : Cell C A M) → run_plain d r told (Some old) ≡ Some new → EventsLead d r old (map event_told told) new
   run_is old [] new e = sym (same_Some old new e)
   run_is old (told ∷ later) new e = go (told_plain d r old told) refl e (λ next. run_is next later new)
     where
       go : (x : Option (Cell C A M)) → told_plain d r old told ≡ x → run_plain d r later x ≡ Some new
-          → ((next : Cell C A M) → run_plain d r later (Some next) ≡ Some new → Runs d r next (map event_told later) new) → Runs d r old (map event_told (told ∷ later)) new
+          → ((next : Cell C A M) → run_plain d r later (Some next) ≡ Some new → EventsLead d r next (map event_told later) new) → EventsLead d r old (map event_told (told ∷ later)) new
       go None s f rec = absurd (stuck later new f)
       go (Some next) s f rec = (next, told_is old told next s, rec next f)

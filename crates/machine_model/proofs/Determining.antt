@@ -3,17 +3,17 @@ use Rattle.std.proofs.Common.{◌≡◌, ◌≢◌, ◌↔◌, ℕ, ◌<◌, ◌
 use Rattle.std.proofs.lemmas.Bool.{true≢false}
 use Rattle.outside.specs.declared.outcomes.Settled.{Settled}
 use Rattle.host_model.specs.declared.key.Key.{Key}
-use Rattle.host_model.specs.Journal.{Rules, after_call}
+use Rattle.host_model.specs.Journal.{ServiceRules, after_call}
 use Rattle.host_model.proofs.Lists.{nil-cons, cons_parts}
 use Rattle.machine_model.proofs.Lists.{get_within}
-use Rattle.machine_model.specs.Hall.{Job, Outcome, Hall, without}
-use Rattle.machine_model.specs.HallRule.{Op, submit, take_job, apply, put, collect, close, Answer, done, job, empty, is_closed, applied, no_memory, journal_fault, is_broken, outcome, job_of, outcome_of, entry_of, Submits, Takes, TakesEffect, Applies, Puts, Collects, Closes, Gives}
+use Rattle.machine_model.specs.HallState.{Job, JobOutcome, HallState, without}
+use Rattle.machine_model.specs.HallRule.{HallOperation, submit, take_job, apply, put, collect, close, HallAnswer, done, job, empty, is_closed, applied, no_memory, journal_fault, is_broken, outcome, job_of, outcome_of, entry_under, SubmitGives, TakeGives, TakesEffect, ApplyGives, PutGives, CollectGives, CloseGives, HallGives}
 use Rattle.machine_model.specs.Determined.{IsFree, IsApply, IsSameButFaults}
-use Rattle.machine_model.specs.OwnCalls.{Can}
+use Rattle.machine_model.specs.OwnCalls.{HallCan}
 
-module _ {C A M : Type 0} (r : Rules C A M) where
-  module _ (old new other : Hall C A M) where
-    submit_answer : (key : Key) (payload : List ℕ) (answer reply : Answer A) → Submits old key payload answer new → Submits old key payload reply other → answer ≡ reply
+module _ {C A M : Type 0} (r : ServiceRules C A M) where
+  module _ (old new other : HallState C A M) where
+    submit_answer : (key : Key) (payload : List ℕ) (answer reply : HallAnswer A) → SubmitGives old key payload answer new → SubmitGives old key payload reply other → answer ≡ reply
     submit_answer key payload done done a b = refl
     submit_answer key payload done is_closed a b = absurd (true≢false (sym b.0 ∙ a.0))
     submit_answer key payload is_closed done a b = absurd (true≢false (sym a.0 ∙ b.0))
@@ -29,7 +29,7 @@ module _ {C A M : Type 0} (r : Rules C A M) where
     no_job : (k : Key) (p : List ℕ) (later : List Job) → old.jobs ≡ job_of k p ∷ later → old.jobs ≡ [] → ⊥
     no_job k p later e f = nil-cons (job_of k p) later (sym f ∙ e)
 
-    take_answer : (answer reply : Answer A) → Takes old answer new → Takes old reply other → answer ≡ reply
+    take_answer : (answer reply : HallAnswer A) → TakeGives old answer new → TakeGives old reply other → answer ≡ reply
     take_answer (job k p) (job k' p') a b =
         let e : job_of k p ≡ job_of k' p' = (same_job k k' p p' a.0 b.0 a.1 b.1).0 in ap (λ (j : Job). job j.key j.payload) e
     take_answer (job k p) empty a b = absurd (no_job k p a.0 a.1 b.0)
@@ -45,16 +45,16 @@ module _ {C A M : Type 0} (r : Rules C A M) where
     take_answer is_closed _ a b = absurd b
     take_answer _ _ a b = absurd a
 
-    same_outcome : (k k' : Key) (s s' : Settled) (later later' : List Outcome) → old.outcomes ≡ outcome_of k s ∷ later → old.outcomes ≡ outcome_of k' s' ∷ later'
+    same_outcome : (k k' : Key) (s s' : Settled) (later later' : List JobOutcome) → old.outcomes ≡ outcome_of k s ∷ later → old.outcomes ≡ outcome_of k' s' ∷ later'
         → (outcome_of k s ≡ outcome_of k' s') × (later ≡ later')
     same_outcome k k' s s' later later' e f = cons_parts (outcome_of k s) (outcome_of k' s') later later' (sym e ∙ f)
 
-    no_outcome : (k : Key) (s : Settled) (later : List Outcome) → old.outcomes ≡ outcome_of k s ∷ later → old.outcomes ≡ [] → ⊥
+    no_outcome : (k : Key) (s : Settled) (later : List JobOutcome) → old.outcomes ≡ outcome_of k s ∷ later → old.outcomes ≡ [] → ⊥
     no_outcome k s later e f = nil-cons (outcome_of k s) later (sym f ∙ e)
 
-    collect_answer : (answer reply : Answer A) → Collects old answer new → Collects old reply other → answer ≡ reply
+    collect_answer : (answer reply : HallAnswer A) → CollectGives old answer new → CollectGives old reply other → answer ≡ reply
     collect_answer (outcome k s) (outcome k' s') a b =
-        let e : outcome_of k s ≡ outcome_of k' s' = (same_outcome k k' s s' a.0 b.0 a.1 b.1).0 in ap (λ (o : Outcome). outcome o.key o.settled) e
+        let e : outcome_of k s ≡ outcome_of k' s' = (same_outcome k k' s s' a.0 b.0 a.1 b.1).0 in ap (λ (o : JobOutcome). outcome o.key o.settled) e
     collect_answer (outcome k s) empty a b = absurd (no_outcome k s a.0 a.1 b.0)
     collect_answer (outcome k s) is_closed a b = absurd (no_outcome k s a.0 a.1 b.0)
     collect_answer empty (outcome k s) a b = absurd (no_outcome k s b.0 b.1 a.0)
@@ -68,12 +68,12 @@ module _ {C A M : Type 0} (r : Rules C A M) where
     collect_answer is_closed _ a b = absurd b
     collect_answer _ _ a b = absurd a
 
-    put_answer : (key : Key) (settled : Settled) (answer reply : Answer A) → Puts old key settled answer new → Puts old key settled reply other → answer ≡ reply
+    put_answer : (key : Key) (settled : Settled) (answer reply : HallAnswer A) → PutGives old key settled answer new → PutGives old key settled reply other → answer ≡ reply
     put_answer key settled done done a b = refl
     put_answer key settled done _ a b = absurd b
     put_answer key settled _ _ a b = absurd a
 
-    close_answer : (answer reply : Answer A) → Closes old answer new → Closes old reply other → answer ≡ reply
+    close_answer : (answer reply : HallAnswer A) → CloseGives old answer new → CloseGives old reply other → answer ≡ reply
     close_answer done done a b = refl
     close_answer done _ a b = absurd b
     close_answer _ _ a b = absurd a
@@ -83,7 +83,7 @@ module _ {C A M : Type 0} (r : Rules C A M) where
     one_reply call a b None e f = absurd e
     one_reply call a b (Some m) e f = e ∙ sym f
 
-    apply_answer : (key : Key) (call : C) (n k : ℕ) (answer reply : Answer A) → Applies r old key call n answer new → Applies r old key call k reply other
+    apply_answer : (key : Key) (call : C) (n k : ℕ) (answer reply : HallAnswer A) → ApplyGives r old key call n answer new → ApplyGives r old key call k reply other
         → (IsFree answer → ⊥) → (IsFree reply → ⊥) → answer ≡ reply
     apply_answer key call n k (applied x) (applied y) a b free free' =
         ap applied (one_reply call x y (slice_get old.memories (r.slot call)) a.1.0 b.1.0)
@@ -100,7 +100,7 @@ module _ {C A M : Type 0} (r : Rules C A M) where
     apply_answer key call n k is_broken _ a b free free' = absurd b
     apply_answer key call n k _ _ a b free free' = absurd a
 
-    pub same_answer : (op : Op C) (answer reply : Answer A) → Gives r old op answer new → Gives r old op reply other → (IsFree answer → ⊥) → (IsFree reply → ⊥)
+    pub same_answer : (op : HallOperation C) (answer reply : HallAnswer A) → HallGives r old op answer new → HallGives r old op reply other → (IsFree answer → ⊥) → (IsFree reply → ⊥)
         → answer ≡ reply
     same_answer (submit key payload) answer reply a b free free' = submit_answer key payload answer reply a b
     same_answer take_job answer reply a b free free' = take_answer answer reply a b
@@ -111,14 +111,14 @@ module _ {C A M : Type 0} (r : Rules C A M) where
 
     -- halls that are the same
     alike : new ≡ other → IsSameButFaults new other
-    alike e = ap (λ (h : Hall C A M). record h { faults = other.faults }) (sym e)
+    alike e = ap (λ (h : HallState C A M). record h { faults = other.faults }) (sym e)
 
-    submit_hall : (key : Key) (payload : List ℕ) (answer : Answer A) → Submits old key payload answer new → Submits old key payload answer other → new ≡ other
+    submit_hall : (key : Key) (payload : List ℕ) (answer : HallAnswer A) → SubmitGives old key payload answer new → SubmitGives old key payload answer other → new ≡ other
     submit_hall key payload done a b = a.1 ∙ sym b.1
     submit_hall key payload is_closed a b = a.1 ∙ sym b.1
     submit_hall key payload _ a b = absurd a
 
-    take_hall : (answer : Answer A) → Takes old answer new → Takes old answer other → new ≡ other
+    take_hall : (answer : HallAnswer A) → TakeGives old answer new → TakeGives old answer other → new ≡ other
     take_hall (job k p) a b =
         let e : a.0 ≡ b.0 = (same_job k k p p a.0 b.0 a.1 b.1).1 in
         a.2 ∙ ap (λ later. record old { jobs = later; taken = old.taken ++ k ∷ [] }) e ∙ sym b.2
@@ -126,11 +126,11 @@ module _ {C A M : Type 0} (r : Rules C A M) where
     take_hall is_closed a b = a.2 ∙ sym b.2
     take_hall _ a b = absurd a
 
-    put_hall : (key : Key) (settled : Settled) (answer : Answer A) → Puts old key settled answer new → Puts old key settled answer other → new ≡ other
+    put_hall : (key : Key) (settled : Settled) (answer : HallAnswer A) → PutGives old key settled answer new → PutGives old key settled answer other → new ≡ other
     put_hall key settled done a b = a ∙ sym b
     put_hall key settled _ a b = absurd a
 
-    collect_hall : (answer : Answer A) → Collects old answer new → Collects old answer other → new ≡ other
+    collect_hall : (answer : HallAnswer A) → CollectGives old answer new → CollectGives old answer other → new ≡ other
     collect_hall (outcome k s) a b =
         let e : a.0 ≡ b.0 = (same_outcome k k s s a.0 b.0 a.1 b.1).1 in
         a.2 ∙ ap (λ later. record old { outcomes = later }) e ∙ sym b.2
@@ -138,24 +138,24 @@ module _ {C A M : Type 0} (r : Rules C A M) where
     collect_hall is_closed a b = a.2 ∙ sym b.2
     collect_hall _ a b = absurd a
 
-    close_hall : (answer : Answer A) → Closes old answer new → Closes old answer other → new ≡ other
+    close_hall : (answer : HallAnswer A) → CloseGives old answer new → CloseGives old answer other → new ≡ other
     close_hall done a b = a ∙ sym b
     close_hall _ a b = absurd a
 
     -- halls that are this one with a count each
-    counted : (hall : Hall C A M) (n k : ℕ) → new ≡ record hall { faults = n } → other ≡ record hall { faults = k } → IsSameButFaults new other
+    counted : (hall : HallState C A M) (n k : ℕ) → new ≡ record hall { faults = n } → other ≡ record hall { faults = k } → IsSameButFaults new other
     counted hall n k a b = b ∙ (λ i. record (sym a i) { faults = (sym b i).faults })
 
-    apply_hall : (key : Key) (call : C) (n k : ℕ) (answer : Answer A) → Applies r old key call n answer new → Applies r old key call k answer other → answer ≢ no_memory
+    apply_hall : (key : Key) (call : C) (n k : ℕ) (answer : HallAnswer A) → ApplyGives r old key call n answer new → ApplyGives r old key call k answer other → answer ≢ no_memory
         → IsSameButFaults new other
     apply_hall key call n k (applied x) a b free =
-        counted (record old { journal = old.journal ++ entry_of key call x ∷ []; memories = after_call r old.memories call }) n k a.1.1 b.1.1
+        counted (record old { journal = old.journal ++ entry_under key call x ∷ []; memories = after_call r old.memories call }) n k a.1.1 b.1.1
     apply_hall key call n k journal_fault a b free = counted (record old { memories = after_call r old.memories call; broken = true }) n k a.2 b.2
     apply_hall key call n k is_broken a b free = counted old n k a.1 b.1
     apply_hall key call n k no_memory a b free = absurd (free refl)
     apply_hall key call n k _ a b free = absurd a
 
-    pub same_hall : (op : Op C) (answer : Answer A) → Gives r old op answer new → Gives r old op answer other → answer ≢ no_memory → IsSameButFaults new other
+    pub same_hall : (op : HallOperation C) (answer : HallAnswer A) → HallGives r old op answer new → HallGives r old op answer other → answer ≢ no_memory → IsSameButFaults new other
     same_hall (submit key payload) answer a b n = alike (submit_hall key payload answer a b)
     same_hall take_job answer a b n = alike (take_hall answer a b)
     same_hall (apply key call) answer a b n = apply_hall key call a.0 b.0 answer a.2 b.2 n
@@ -163,32 +163,32 @@ module _ {C A M : Type 0} (r : Rules C A M) where
     same_hall collect answer a b n = alike (collect_hall answer a b)
     same_hall close answer a b n = alike (close_hall answer a b)
 
-  module _ (old new : Hall C A M) where
-    pub wanting : (key : Key) (call : C) → Gives r old (apply key call) no_memory new → IsSameButFaults old new ⊎ ((answer : A) × Gives r old (apply key call) (applied answer) new)
+  module _ (old new : HallState C A M) where
+    pub wanting : (key : Key) (call : C) → HallGives r old (apply key call) no_memory new → IsSameButFaults old new ⊎ ((answer : A) × HallGives r old (apply key call) (applied answer) new)
     wanting key call t = go t.2.1
       where
         go : (new ≡ record old { faults = t.0 }) ⊎ ((answer : A) × TakesEffect r old key call answer t.0 new)
-            → IsSameButFaults old new ⊎ ((answer : A) × Gives r old (apply key call) (applied answer) new)
+            → IsSameButFaults old new ⊎ ((answer : A) × HallGives r old (apply key call) (applied answer) new)
         go (inl e) = inl (counted old old new old old.faults t.0 refl e)
         go (inr u) = inr (u.0, (t.0, t.1, (t.2.0, u.1)))
 
-    unbroken : (answer : Answer A) → old.broken ≡ false → answer ≢ is_broken → (old.broken ≡ true) ↔ (answer ≡ is_broken)
+    unbroken : (answer : HallAnswer A) → old.broken ≡ false → answer ≢ is_broken → (old.broken ≡ true) ↔ (answer ≡ is_broken)
     unbroken answer f n = (λ e. absurd (true≢false (sym e ∙ f)), λ e. absurd (n e))
 
-    broken_by : (key : Key) (call : C) (n : ℕ) (answer : Answer A) → Applies r old key call n answer new → (old.broken ≡ true) ↔ (answer ≡ is_broken)
+    broken_by : (key : Key) (call : C) (n : ℕ) (answer : HallAnswer A) → ApplyGives r old key call n answer new → (old.broken ≡ true) ↔ (answer ≡ is_broken)
     broken_by key call n (applied x) a = unbroken (applied x) a.0 (λ e. let f : ⊥ = cc in f)
     broken_by key call n no_memory a = unbroken no_memory a.0 (λ e. let f : ⊥ = cc in f)
     broken_by key call n journal_fault a = unbroken journal_fault a.0 (λ e. let f : ⊥ = cc in f)
     broken_by key call n is_broken a = (λ e. refl, λ e. a.0)
     broken_by key call n _ a = absurd a
 
-    pub broken_where : (key : Key) (call : C) (answer : Answer A) → Gives r old (apply key call) answer new → (old.broken ≡ true) ↔ (answer ≡ is_broken)
+    pub broken_where : (key : Key) (call : C) (answer : HallAnswer A) → HallGives r old (apply key call) answer new → (old.broken ≡ true) ↔ (answer ≡ is_broken)
     broken_where key call answer t = broken_by key call t.0 answer t.2
 
-    faults_of : (hall : Hall C A M) → new ≡ hall → hall.faults ≡ old.faults → new.faults ≡ old.faults
-    faults_of hall e f = ap (λ (h : Hall C A M). h.faults) e ∙ f
+    faults_of : (hall : HallState C A M) → new ≡ hall → hall.faults ≡ old.faults → new.faults ≡ old.faults
+    faults_of hall e f = ap (λ (h : HallState C A M). h.faults) e ∙ f
 
-    pub count_kept : (op : Op C) (answer : Answer A) → Gives r old op answer new → (IsApply op → ⊥) → new.faults ≡ old.faults
+    pub count_kept : (op : HallOperation C) (answer : HallAnswer A) → HallGives r old op answer new → (IsApply op → ⊥) → new.faults ≡ old.faults
     count_kept (submit key payload) done t n = faults_of (record old { jobs = old.jobs ++ job_of key payload ∷ [] }) t.1 refl
     count_kept (submit key payload) is_closed t n = faults_of old t.1 refl
     count_kept (submit key payload) _ t n = absurd t
@@ -206,9 +206,9 @@ module _ {C A M : Type 0} (r : Rules C A M) where
     count_kept close done t n = faults_of (record old { closed = true }) t refl
     count_kept close _ t n = absurd t
 
-  module _ (old : Hall C A M) where
-    abbrev IsAnsweredThen : Op C → Type 0
-    IsAnsweredThen op = (answer : Answer A) × (new : Hall C A M) × Gives r old op answer new
+  module _ (old : HallState C A M) where
+    abbrev IsAnsweredThen : HallOperation C → Type 0
+    IsAnsweredThen op = (answer : HallAnswer A) × (new : HallState C A M) × HallGives r old op answer new
 
     submits_some : (key : Key) (payload : List ℕ) (b : Bool) → old.closed ≡ b → IsAnsweredThen (submit key payload)
     submits_some key payload true e = (is_closed, old, (e, refl))
@@ -219,7 +219,7 @@ module _ {C A M : Type 0} (r : Rules C A M) where
     takes_some [] false j e = (empty, old, (j, e, refl))
     takes_some (x ∷ later) b j e = (job x.key x.payload, record old { jobs = later; taken = old.taken ++ x.key ∷ [] }, (later, j, refl))
 
-    collects_some : (outcomes : List Outcome) (b : Bool) → old.outcomes ≡ outcomes → old.closed ≡ b → IsAnsweredThen collect
+    collects_some : (outcomes : List JobOutcome) (b : Bool) → old.outcomes ≡ outcomes → old.closed ≡ b → IsAnsweredThen collect
     collects_some [] true j e = (is_closed, old, (j, e, refl))
     collects_some [] false j e = (empty, old, (j, e, refl))
     collects_some (x ∷ later) b j e = (outcome x.key x.settled, record old { outcomes = later }, (later, j, refl))
@@ -230,7 +230,7 @@ module _ {C A M : Type 0} (r : Rules C A M) where
         let t : (m : M) × (slice_get old.memories (r.slot call) ≡ Some m) = get_within old.memories (r.slot call) l in
         let a : A = (r.rule call t.0).0 in (
           applied a,
-          record old { journal = old.journal ++ entry_of key call a ∷ []; memories = after_call r old.memories call; faults = old.faults },
+          record old { journal = old.journal ++ entry_under key call a ∷ []; memories = after_call r old.memories call; faults = old.faults },
           (
             old.faults,
             omega arith,
@@ -238,7 +238,7 @@ module _ {C A M : Type 0} (r : Rules C A M) where
           ),
         )
 
-    pub there_is : (op : Op C) → Can r old op → IsAnsweredThen op
+    pub there_is : (op : HallOperation C) → HallCan r old op → IsAnsweredThen op
     there_is (submit key payload) can = submits_some key payload old.closed refl
     there_is take_job can = takes_some old.jobs old.closed refl refl
     there_is (apply key call) can = applies_some key call old.broken refl can.1

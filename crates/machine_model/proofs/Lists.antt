@@ -2,7 +2,7 @@
 use Rattle.std.proofs.Common.{◌≡◌, ℕ, zero, suc, ◌<◌, cond, ◌==◌, if◌then◌else◌, None, Some, List, [], ◌∷◌, ◌++◌, length, filter, slice_get, refl, ap, ◌∙◌, arith, append-nil, eq-eqb, ne_eqb}
 use Rattle.std.specs.List.{AllByRecursion}
 use Rattle.std.proofs.lemmas.List.Elements.{filter-append}
-use Rattle.host_model.specs.Journal.{Entry, Rules, after, after_call}
+use Rattle.host_model.specs.Journal.{JournalEntry, ServiceRules, after, after_call}
 use Rattle.host_model.specs.Conversation.{answer_at}
 
 -- a function that is changed at one number
@@ -43,18 +43,18 @@ get_within (x ∷ xs) (suc n) l = get_within xs n (omega arith)
 
 module _ {C A : Type 0} where
   -- entries of smaller numbers don't answer
-  pub answer_none : (n : ℕ) (es : List (Entry C A)) → AllByRecursion (λ (e : Entry C A). e.number < n) es → answer_at es n ≡ None
+  pub answer_none : (n : ℕ) (es : List (JournalEntry C A)) → AllByRecursion (λ (e : JournalEntry C A). e.key.i < n) es → answer_at es n ≡ None
   answer_none n [] a = refl
   answer_none n (e ∷ es) a =
-      ap (λ b. if b then Some e.answer else answer_at es n) (ne_eqb e.number n (λ q. let f : e.number < n = a.0 in omega arith)) ∙ answer_none n es a.1
+      ap (λ b. if b then Some e.answer else answer_at es n) (ne_eqb e.key.i n (λ q. let f : e.key.i < n = a.0 in omega arith)) ∙ answer_none n es a.1
 
-  pub answer_last : (n : ℕ) (es : List (Entry C A)) (e : Entry C A) → AllByRecursion (λ (e : Entry C A). e.number < n) es → e.number ≡ n → answer_at (es ++ e ∷ []) n ≡ Some e.answer
-  answer_last n [] e a is = ap (λ b. if b then Some e.answer else None) (eq-eqb e.number n is)
+  pub answer_last : (n : ℕ) (es : List (JournalEntry C A)) (e : JournalEntry C A) → AllByRecursion (λ (e : JournalEntry C A). e.key.i < n) es → e.key.i ≡ n → answer_at (es ++ e ∷ []) n ≡ Some e.answer
+  answer_last n [] e a is = ap (λ b. if b then Some e.answer else None) (eq-eqb e.key.i n is)
   answer_last n (x ∷ es) e a is =
-      ap (λ b. if b then Some x.answer else answer_at (es ++ e ∷ []) n) (ne_eqb x.number n (λ q. let f : x.number < n = a.0 in omega arith)) ∙ answer_last n es e a.1 is
+      ap (λ b. if b then Some x.answer else answer_at (es ++ e ∷ []) n) (ne_eqb x.key.i n (λ q. let f : x.key.i < n = a.0 in omega arith)) ∙ answer_last n es e a.1 is
 
   -- the memories after one more call
-  pub after_push : {M : Type 0} (r : Rules C A M) (memories : List M) (es : List (Entry C A)) (e : Entry C A)
+  pub after_push : {M : Type 0} (r : ServiceRules C A M) (memories : List M) (es : List (JournalEntry C A)) (e : JournalEntry C A)
       → after r memories (es ++ e ∷ []) ≡ after_call r (after r memories es) e.call
   after_push r memories [] e = refl
   after_push r memories (x ∷ es) e = after_push r (after_call r memories x.call) es e

@@ -4,22 +4,22 @@ use Rattle.std.proofs.lemmas.Bool.{cases_eq, cases_lt, lt-ltb, true≢false, fal
 use Rattle.std.proofs.lemmas.List.{length-map, length-set, map-set, get_or-set_same, get_or-set_other}
 use Rattle.host_model.specs.declared.cause.EndCause.{EndCause}
 use Rattle.machine_model.specs.declared.plain.conns.PlainConn.{PlainConn}
-use Rattle.machine_model.specs.Loop.{Conn, new_conn, open_one, open_among, with_conn, changed}
-use Rattle.machine_model.specs.Plain.{Moved, has_none_yet, moved_plain, answers, lacks_for_answer, Told, effect_plain, fate_plain, told_plain, run_plain}
-use Rattle.host_model.specs.Journal.{Rules}
-use Rattle.host_model.specs.Desk.{Desk}
+use Rattle.machine_model.specs.Loop.{LoopConn, new_conn, count_if_open, open_among, with_conn, changed}
+use Rattle.machine_model.specs.Plain.{Moved, has_none_yet, moved_plain, answers, lacks_for_answer, Told, effect_plain, apply_result_plain, told_plain, run_plain}
+use Rattle.host_model.specs.Journal.{ServiceRules}
+use Rattle.host_model.specs.DeskRules.{DeskRules}
 use Rattle.std.proofs.lemmas.Option.{none-some, same_Some}
-use Rattle.machine_model.specs.declared.plain.links.PlainLoop.{PlainLoop}
+use Rattle.machine_model.specs.declared.plain.conn_events.PlainLoop.{PlainLoop}
 use Rattle.outside.specs.declared.marks.Mark.{Mark}
 use Rattle.std.proofs.Math.Seq.{drop-length}
 use Rattle.host_model.specs.declared.key.Key.{Key}
 use Rattle.host_model.proofs.Fronting.{next_of}
-use Rattle.machine_model.specs.declared.plain.hands.PlainHand.{PlainHand}
-use Rattle.machine_model.specs.declared.plain.hands.PlainHand.TheVariants.{Idle}
-use Rattle.machine_model.specs.Hall.{is_same, without}
+use Rattle.machine_model.specs.declared.plain.workers.PlainWorkerState.{PlainWorkerState}
+use Rattle.machine_model.specs.declared.plain.workers.PlainWorkerState.TheVariants.{Idle}
+use Rattle.machine_model.specs.HallState.{is_same, without}
 use Rattle.machine_model.specs.Worker.{idle, has_answer, has_none}
-use Rattle.machine_model.specs.Machine.{Cell, with_hand}
-use Rattle.machine_model.specs.Seen.{conn_of, conns_of, loop_of, hand_of, hands_of}
+use Rattle.machine_model.specs.Machine.{Cell, with_worker}
+use Rattle.machine_model.specs.Seen.{conn_of, conns_of, loop_of, worker_of, workers_of}
 use Rattle.machine_model.proofs.Lists.{put_same, put_other}
 
 -- a function with this value in place of one
@@ -87,7 +87,7 @@ pub conns_more : (xs : List PlainConn) (x : PlainConn) → conns_of (xs ++ x ∷
 conns_more xs x = seen_more conn_of new_conn xs x
 
 -- a connection that is put twice is put the second time
-pub put_again : (conns : ℕ → Conn) (c : ℕ) (one other : Conn) → with_conn (with_conn conns c one) c other ≡ with_conn conns c other
+pub put_again : (conns : ℕ → LoopConn) (c : ℕ) (one other : LoopConn) → with_conn (with_conn conns c one) c other ≡ with_conn conns c other
 put_again conns c one other = λ k i. go i (cases_eq i c) k
   where
     go : (i : ℕ) → (i ≡ c) ⊎ (i ≡ c → ⊥) → with_conn (with_conn conns c one) c other i ≡ with_conn conns c other i
@@ -100,11 +100,11 @@ put_again conns c one other = λ k i. go i (cases_eq i c) k
 pub conn_seen : (xs : List PlainConn) (i : ℕ) (d : PlainConn) → i < length xs → conns_of xs i ≡ conn_of (get_or xs i d)
 conn_seen xs i d l = seen_at conn_of new_conn xs i d l
 
-one_open : (cause : Option EndCause) → has_none_yet cause ≡ true → open_one cause ≡ 1
+one_open : (cause : Option EndCause) → has_none_yet cause ≡ true → count_if_open cause ≡ 1
 one_open None e = refl
 one_open (Some cause) e = absurd (false≢true e)
 
-none_open : (cause : Option EndCause) → has_none_yet cause ≡ false → open_one cause ≡ 0
+none_open : (cause : Option EndCause) → has_none_yet cause ≡ false → count_if_open cause ≡ 0
 none_open None e = absurd (true≢false e)
 none_open (Some cause) e = refl
 
@@ -117,27 +117,27 @@ pub counts_open : (xs : List PlainConn) (i count next : ℕ) (x : PlainConn) →
     → next ≡ count + 1 → Counting xs (i + 1) next
 counts_open xs i count next x w l is open_ e =
     let n : i + 1 ≡ suc i = omega arith in
-    let o : open_one (conns_of xs i).cause ≡ 1 = ap (λ (y : Conn). open_one y.cause) (conn_seen xs i x l ∙ ap conn_of (sym is)) ∙ one_open x.cause open_ in
+    let o : count_if_open (conns_of xs i).cause ≡ 1 = ap (λ (y : LoopConn). count_if_open y.cause) (conn_seen xs i x l ∙ ap conn_of (sym is)) ∙ one_open x.cause open_ in
     let s : count ≡ open_among (conns_of xs) i = w.so_far in
     let m : count ≤ i = w.within in
-    let t : next ≡ open_one (conns_of xs i).cause + open_among (conns_of xs) i = omega arith in
+    let t : next ≡ count_if_open (conns_of xs i).cause + open_among (conns_of xs) i = omega arith in
     record { so_far = t ∙ ap (open_among (conns_of xs)) (sym n); within = omega arith }
 
 pub counts_ended : (xs : List PlainConn) (i count : ℕ) (x : PlainConn) → Counting xs i count → i < length xs → x ≡ get_or xs i x → has_none_yet x.cause ≡ false
     → Counting xs (i + 1) count
 counts_ended xs i count x w l is over =
     let n : i + 1 ≡ suc i = omega arith in
-    let o : open_one (conns_of xs i).cause ≡ 0 = ap (λ (y : Conn). open_one y.cause) (conn_seen xs i x l ∙ ap conn_of (sym is)) ∙ none_open x.cause over in
+    let o : count_if_open (conns_of xs i).cause ≡ 0 = ap (λ (y : LoopConn). count_if_open y.cause) (conn_seen xs i x l ∙ ap conn_of (sym is)) ∙ none_open x.cause over in
     let s : count ≡ open_among (conns_of xs) i = w.so_far in
     let m : count ≤ i = w.within in
-    let t : count ≡ open_one (conns_of xs i).cause + open_among (conns_of xs) i = omega arith in
+    let t : count ≡ count_if_open (conns_of xs i).cause + open_among (conns_of xs) i = omega arith in
     record { so_far = t ∙ ap (open_among (conns_of xs)) (sym n); within = omega arith }
 
 -- a connection that is there is open by its cause
 pub open_is : (xs : List PlainConn) (i : ℕ) (x : PlainConn) → i < length xs → x ≡ get_or xs i x
     → has_none_yet x.cause ≡ (nat_lt i (length xs) && has_none_yet (conns_of xs i).cause)
 open_is xs i x l is =
-    ap (λ (y : Conn). has_none_yet y.cause) (ap conn_of is ∙ sym (conn_seen xs i x l)) ∙ ap (λ b. b && has_none_yet (conns_of xs i).cause) (sym (lt-ltb i (length xs) l))
+    ap (λ (y : LoopConn). has_none_yet y.cause) (ap conn_of is ∙ sym (conn_seen xs i x l)) ∙ ap (λ b. b && has_none_yet (conns_of xs i).cause) (sym (lt-ltb i (length xs) l))
 
 -- the loop once one connection is changed, and once it is taken out
 pub loop_set : (old : PlainLoop) (c : ℕ) (x : PlainConn) (marks tape : List Mark) → c < length old.conns.items → tape ≡ old.tape.items ++ marks
@@ -145,7 +145,7 @@ pub loop_set : (old : PlainLoop) (c : ℕ) (x : PlainConn) (marks tape : List Ma
 loop_set old c x marks tape l e =
     (λ i. record { tape = e i; count = length-set old.conns.items c x i; conns = conns_set old.conns.items c x l i })
 
-pub changed_out : (old : PlainLoop) (c : ℕ) (x : PlainConn) (now : Conn) (marks : List Mark) → c < length old.conns.items
+pub changed_out : (old : PlainLoop) (c : ℕ) (x : PlainConn) (now : LoopConn) (marks : List Mark) → c < length old.conns.items
     → changed (record { tape = old.tape.items; count = length (slice_set old.conns.items c x); conns = conns_of (slice_set old.conns.items c x) }) c now marks ≡ changed (loop_of old) c now marks
 changed_out old c x now marks l =
     (λ i. record {
@@ -207,27 +207,27 @@ left_all key keys left is_out w =
 
 module _ {A : Type 0} where
   -- hands, once one is changed, and once there is room for one more
-  pub hands_set : (xs : List (PlainHand A)) (w : ℕ) (x : PlainHand A) → w < length xs → hands_of (slice_set xs w x) ≡ with_hand (hands_of xs) w (hand_of x)
-  hands_set xs w x l = seen_set hand_of idle xs w x l
+  pub workers_set : (xs : List (PlainWorkerState A)) (w : ℕ) (x : PlainWorkerState A) → w < length xs → workers_of (slice_set xs w x) ≡ with_worker (workers_of xs) w (worker_of x)
+  workers_set xs w x l = seen_set worker_of idle xs w x l
 
-  pub hand_seen : (xs : List (PlainHand A)) (w : ℕ) (x : PlainHand A) → w < length xs → x ≡ get_or xs w x → hand_of x ≡ hands_of xs w
-  hand_seen xs w x l is = ap hand_of is ∙ sym (seen_at hand_of idle xs w x l)
+  pub worker_seen : (xs : List (PlainWorkerState A)) (w : ℕ) (x : PlainWorkerState A) → w < length xs → x ≡ get_or xs w x → worker_of x ≡ workers_of xs w
+  worker_seen xs w x l is = ap worker_of is ∙ sym (seen_at worker_of idle xs w x l)
 
-  pub no_hand : (xs : List (PlainHand A)) (w : ℕ) → length xs ≤ w → idle ≡ hands_of xs w
-  no_hand xs w l = sym (seen_past hand_of idle xs w l)
+  pub no_worker : (xs : List (PlainWorkerState A)) (w : ℕ) → length xs ≤ w → idle ≡ workers_of xs w
+  no_worker xs w l = sym (seen_past worker_of idle xs w l)
 
-  pub record Room (first now : List (PlainHand A)) : Type 0 where
-    pub same : hands_of now ≡ hands_of first
+  pub record Room (first now : List (PlainWorkerState A)) : Type 0 where
+    pub same : workers_of now ≡ workers_of first
 
-  pub more_room : (first now next : List (PlainHand A)) → Room first now → next ≡ now ++ Idle ∷ [] → Room first next
+  pub more_room : (first now next : List (PlainWorkerState A)) → Room first now → next ≡ now ++ Idle ∷ [] → Room first next
   more_room first now next r e =
-      record { same = ap hands_of e ∙ (λ k i. go i (cases_eq i (length now)) k) ∙ r.same }
+      record { same = ap workers_of e ∙ (λ k i. go i (cases_eq i (length now)) k) ∙ r.same }
     where
-      go : (i : ℕ) → (i ≡ length now) ⊎ (i ≡ length now → ⊥) → hands_of (now ++ Idle ∷ []) i ≡ hands_of now i
+      go : (i : ℕ) → (i ≡ length now) ⊎ (i ≡ length now → ⊥) → workers_of (now ++ Idle ∷ []) i ≡ workers_of now i
       go i (inl q) =
-          (λ k. seen_more hand_of idle now Idle k i) ∙ subst (λ y. changed_at (hands_of now) (length now) idle y ≡ hands_of now y) (sym q)
-          (put_same (hands_of now) (length now) idle ∙ sym (seen_past hand_of idle now (length now) (omega arith)))
-      go i (inr n) = (λ k. seen_more hand_of idle now Idle k i) ∙ put_other (hands_of now) (length now) idle i n
+          (λ k. seen_more worker_of idle now Idle k i) ∙ subst (λ y. changed_at (workers_of now) (length now) idle y ≡ workers_of now y) (sym q)
+          (put_same (workers_of now) (length now) idle ∙ sym (seen_past worker_of idle now (length now) (omega arith)))
+      go i (inr n) = (λ k. seen_more worker_of idle now Idle k i) ∙ put_other (workers_of now) (length now) idle i n
 
 -- a memory at its slot
 pub memory_seen : {X Y : Type 0} (f : X → Y) (xs : List X) (i : ℕ) (x : X) → i < length xs → x ≡ get_or xs i x → Some (f x) ≡ option_map f (slice_get xs i)
@@ -240,41 +240,41 @@ no_memory_seen f [] i l = refl
 no_memory_seen f (y ∷ xs) zero l = absurd (let g : ⊥ = omega arith in g)
 no_memory_seen f (y ∷ xs) (suc i) l = no_memory_seen f xs i (omega arith)
 
-module _ {C A M : Type 0} (r : Rules C A M) where
+module _ {C A M : Type 0} (r : ServiceRules C A M) where
   -- an Apply that is answered, or lacks memory for the copy of its answer
-  pub fate_answers : (old new : Cell C A M) (w : ℕ) (key : Key) (payload : List ℕ) (call : C) (answer : A) (m : Option M) → Some answer ≡ option_map (λ m. (r.rule call m).0) m
-      → new ≡ record old { hall = effect_plain r old.hall key call answer; hands = with_hand old.hands w (has_answer key payload answer) }
-      → Some new ≡ fate_plain r old w key payload call answers m
-  fate_answers old new w key payload call answer None e is = absurd (none-some answer (sym e))
-  fate_answers old new w key payload call answer (Some m) e is =
-      ap Some is ∙ ap (λ a. Some (record old { hall = effect_plain r old.hall key call a; hands = with_hand old.hands w (has_answer key payload a) }))
+  pub apply_result_answers : (old new : Cell C A M) (w : ℕ) (key : Key) (payload : List ℕ) (call : C) (answer : A) (m : Option M) → Some answer ≡ option_map (λ m. (r.rule call m).0) m
+      → new ≡ record old { hall = effect_plain r old.hall key call answer; workers = with_worker old.workers w (has_answer key payload answer) }
+      → Some new ≡ apply_result_plain r old w key payload call answers m
+  apply_result_answers old new w key payload call answer None e is = absurd (none-some answer (sym e))
+  apply_result_answers old new w key payload call answer (Some m) e is =
+      ap Some is ∙ ap (λ a. Some (record old { hall = effect_plain r old.hall key call a; workers = with_worker old.workers w (has_answer key payload a) }))
       (same_Some answer (r.rule call m).0 e)
 
-  pub fate_lacks : (old new : Cell C A M) (w : ℕ) (key : Key) (payload : List ℕ) (call : C) (answer : A) (m : Option M) → Some answer ≡ option_map (λ m. (r.rule call m).0) m
-      → new ≡ record old { hall = effect_plain r old.hall key call answer; hands = with_hand old.hands w (has_none key payload) }
-      → Some new ≡ fate_plain r old w key payload call lacks_for_answer m
-  fate_lacks old new w key payload call answer None e is = absurd (none-some answer (sym e))
-  fate_lacks old new w key payload call answer (Some m) e is =
-      ap Some is ∙ ap (λ a. Some (record old { hall = effect_plain r old.hall key call a; hands = with_hand old.hands w (has_none key payload) }))
+  pub apply_result_lacks : (old new : Cell C A M) (w : ℕ) (key : Key) (payload : List ℕ) (call : C) (answer : A) (m : Option M) → Some answer ≡ option_map (λ m. (r.rule call m).0) m
+      → new ≡ record old { hall = effect_plain r old.hall key call answer; workers = with_worker old.workers w (has_none key payload) }
+      → Some new ≡ apply_result_plain r old w key payload call lacks_for_answer m
+  apply_result_lacks old new w key payload call answer None e is = absurd (none-some answer (sym e))
+  apply_result_lacks old new w key payload call answer (Some m) e is =
+      ap Some is ∙ ap (λ a. Some (record old { hall = effect_plain r old.hall key call a; workers = with_worker old.workers w (has_none key payload) }))
       (same_Some answer (r.rule call m).0 e)
 
-  pub fate_unanswered : (old : Cell C A M) (w : ℕ) (key : Key) (payload : List ℕ) (call : C) (m : Option M) → None ≡ option_map (λ m. (r.rule call m).0) m
-      → None ≡ fate_plain r old w key payload call answers m
-  fate_unanswered old w key payload call None e = refl
-  fate_unanswered old w key payload call (Some m) e = absurd (none-some (r.rule call m).0 e)
+  pub apply_result_unanswered : (old : Cell C A M) (w : ℕ) (key : Key) (payload : List ℕ) (call : C) (m : Option M) → None ≡ option_map (λ m. (r.rule call m).0) m
+      → None ≡ apply_result_plain r old w key payload call answers m
+  apply_result_unanswered old w key payload call None e = refl
+  apply_result_unanswered old w key payload call (Some m) e = absurd (none-some (r.rule call m).0 e)
 
-  pub fate_unanswered_too : (old : Cell C A M) (w : ℕ) (key : Key) (payload : List ℕ) (call : C) (m : Option M) → None ≡ option_map (λ m. (r.rule call m).0) m
-      → None ≡ fate_plain r old w key payload call lacks_for_answer m
-  fate_unanswered_too old w key payload call None e = refl
-  fate_unanswered_too old w key payload call (Some m) e = absurd (none-some (r.rule call m).0 e)
+  pub apply_result_unanswered_too : (old : Cell C A M) (w : ℕ) (key : Key) (payload : List ℕ) (call : C) (m : Option M) → None ≡ option_map (λ m. (r.rule call m).0) m
+      → None ≡ apply_result_plain r old w key payload call lacks_for_answer m
+  apply_result_unanswered_too old w key payload call None e = refl
+  apply_result_unanswered_too old w key payload call (Some m) e = absurd (none-some (r.rule call m).0 e)
 
-pub ruleset fates = (fate_answers, fate_lacks, fate_unanswered, fate_unanswered_too)
+pub ruleset apply_results = (apply_result_answers, apply_result_lacks, apply_result_unanswered, apply_result_unanswered_too)
 
 -- the events that are left, from here, lead to where all lead from the start
-pub record Going {C A M E : Type 0} (d : Desk C A) (r : Rules C A M) (told_by : E → Told) (first : Cell C A M) (events : List E) (i : ℕ) (now : Cell C A M) : Type 0 where
+pub record Going {C A M E : Type 0} (d : DeskRules C A) (r : ServiceRules C A M) (told_by : E → Told) (first : Cell C A M) (events : List E) (i : ℕ) (now : Cell C A M) : Type 0 where
   pub so_far : run_plain d r (map told_by (drop i events)) (Some now) ≡ run_plain d r (map told_by events) (Some first)
 
-module _ {C A M E : Type 0} (d : Desk C A) (r : Rules C A M) (told_by : E → Told) where
+module _ {C A M E : Type 0} (d : DeskRules C A) (r : ServiceRules C A M) (told_by : E → Told) where
   pub goes_on : (first now next : Cell C A M) (events : List E) (i : ℕ) (event : E) → Going d r told_by first events i now → i < length events → event ≡ get_or events i event
       → Some next ≡ told_plain d r now (told_by event) → Going d r told_by first events (i + 1) next
   goes_on first now next events i event g l is e =
@@ -310,4 +310,4 @@ no_payload f (y ∷ xs) (suc i) l = no_payload f xs i (omega arith)
 
 pub ruleset payloads = (payload_seen, no_payload)
 
-pub ruleset seeing = (conns_set, conns_more, conn_seen, put_again, counts_open, counts_ended, open_is, first_and_rest, takes_key_out, keeps_other_key, keeps_later_key, left_all, hands_set, hand_seen, no_hand, more_room)
+pub ruleset seeing = (conns_set, conns_more, conn_seen, put_again, counts_open, counts_ended, open_is, first_and_rest, takes_key_out, keeps_other_key, keeps_later_key, left_all, workers_set, worker_seen, no_worker, more_room)

@@ -4,9 +4,9 @@ use Rattle.std.proofs.lemmas.Bool.{true≢false}
 use Rattle.outside.specs.declared.outcomes.Settled.{Settled}
 use Rattle.outside.specs.declared.outcomes.Settled.TheVariants.{Reply as Replied, Nothing, NoMemory}
 use Rattle.host_model.specs.declared.key.Key.{Key}
-use Rattle.host_model.specs.Desk.{Decision, Invoke}
-use Rattle.machine_model.specs.Hall.{Job, Outcome}
-use Rattle.machine_model.specs.Worker.{Hand, idle, holds, has_answer, has_none}
+use Rattle.host_model.specs.DeskRules.{DeskDecision, Invoke}
+use Rattle.machine_model.specs.HallState.{Job, JobOutcome}
+use Rattle.machine_model.specs.Worker.{WorkerState, idle, holds, has_answer, has_none}
 
 -- numbers that differ
 pub differ : (m n : ℕ) → (m == n) ≡ false → m ≡ n → ⊥
@@ -27,25 +27,25 @@ abbrev pub first_job : List Job → ℕ
 first_job [] = 0
 first_job (j ∷ jobs) = j.key.c
 
-abbrev pub first_outcome : List Outcome → ℕ
+abbrev pub first_outcome : List JobOutcome → ℕ
 first_outcome [] = 0
 first_outcome (o ∷ outcomes) = o.key.c
 
 -- a hand's kind, and its payload
-abbrev pub kind_of : Hand ℕ → ℕ
+abbrev pub kind_of : WorkerState ℕ → ℕ
 kind_of idle = 0
 kind_of (holds key payload) = 1
 kind_of (has_answer key payload answer) = 2
 kind_of (has_none key payload) = 3
 
-abbrev pub payload_of : Hand ℕ → List ℕ
+abbrev pub payload_of : WorkerState ℕ → List ℕ
 payload_of idle = []
 payload_of (holds key payload) = payload
 payload_of (has_answer key payload answer) = payload
 payload_of (has_none key payload) = payload
 
 -- the call that a decision makes, or 0
-abbrev pub call_made : Decision ℕ → ℕ
+abbrev pub call_made : DeskDecision ℕ → ℕ
 call_made (Invoke call) = call
 call_made _ = 0
 

@@ -1,4 +1,4 @@
-pub mod Hall
+pub mod HallState
 pub mod HallRule
 pub mod Determined
 pub mod OwnCalls

@@ -3,22 +3,21 @@
 
 mod calls;
 mod cells;
+mod conn_events;
 mod conns;
 mod halls;
-mod hands;
 mod jobs;
-mod links;
-mod made;
+mod progress;
 mod rounds;
 mod runs;
+mod workers;
 
-pub use cells::{PlainCell, PlainEvent, PlainFate};
-pub use conns::{PlainConn, PlainMoved};
-pub use halls::{PlainHall, PlainJob, PlainOutcome};
-pub use hands::PlainHand;
-pub use links::{PlainLink, PlainLoop, link};
-pub use made::{PlainMade, made_by};
+pub use cells::{PlainApplyResult, PlainCell, PlainEvent};
+pub use conn_events::{PlainConnEvent, PlainLoop};
+pub use conns::PlainConn;
+pub use halls::{PlainHall, PlainJob, PlainJobOutcome};
 pub use runs::{run, start, step};
+pub use workers::PlainWorkerState;
 
 #[cfg(test)]
 mod tests;

@@ -2,12 +2,12 @@
 use Rattle.std.specs.Prelude.{ℕ, ◌+◌, ◌-◌, ◌^◌, ◌≤◌, min, Result, IsErr}
 
 -- one more fault than before; a count that stands at the end of its type stays there
-abbrev pub one_more : ℕ → ℕ
-one_more count = min (count + 1) (2 ^ 64 - 1)
+abbrev pub next_count : ℕ → ℕ
+next_count count = min (count + 1) (2 ^ 64 - 1)
 
 -- the count rose
 abbrev pub Rose : ℕ → ℕ → Type 0
-Rose before now = one_more before ≤ now
+Rose before now = next_count before ≤ now
 
 -- a call answered with a cause: the count of faults never falls, and an error comes only where it rose
 pub record HasCause {A E : Type 0} (before now : ℕ) (result : Result A E) : Type 0 where

@@ -4,19 +4,47 @@ ghost use Rattle.std.specs.Prelude.{◌≡◌, ℕ, List, Option};
 ghost use Rattle.std.specs.Vec.{vec_items};
 ghost use Rattle.outside.specs.Files.{File, IsWholeFile, HasFileCause};
 
-use std::alloc::Global;
+use std::alloc::{AllocError, Global};
+use std::io;
+use std::io::ErrorKind;
+use thiserror::Error;
 
-/// Why a file wasn't read.
-#[derive(Clone, Copy, Debug, PartialEq, Eq)]
+/// Why a file wasn't read. Where several hold, the first of them is answered.
+#[derive(Clone, Copy, Debug, PartialEq, Eq, Error)]
 pub enum FileFail {
     /// No file has this name.
+    #[error("there is no such file")]
     Absent,
     /// The file has more bytes than the limit.
+    #[error("the file is too long")]
     TooLong,
     /// The read failed, and the count of faults rose.
+    #[error("the file can't be read")]
     Failed,
     /// The file found no room in memory.
+    #[error("there is no memory for the file")]
     NoMemory,
+}
+
+impl From<AllocError> for FileFail {
+    ghost use Rattle.std.specs.Prelude.{◌≡◌};
+    ghost use Rattle.outside.specs.declared.files.FileFail.TheVariants.{NoMemory};
+
+    ghost from_gives = { λ _ fail. fail ≡ NoMemory };
+
+    fn from(_: AllocError) -> FileFail {
+        FileFail::NoMemory
+    }
+}
+
+impl From<io::Error> for FileFail {
+    fn from(error: io::Error) -> FileFail {
+        match error.kind() {
+            ErrorKind::NotFound => FileFail::Absent,
+            ErrorKind::OutOfMemory => FileFail::NoMemory,
+            _ => FileFail::Failed,
+        }
+    }
 }
 
 /// Files by their names.

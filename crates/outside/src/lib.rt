@@ -3,7 +3,19 @@
 //! adapters over the standard streams and the system's files that tell nothing. It decides nothing about their bytes.
 //!
 //! A layer above takes `S: Source`, `K: Sink` or `F: Files` and hands each `Failed` on with its cause: the count rose.
-//! `files.read_whole(alloc, "a.thrift", limit)` answers the file's bytes, or why it has none.
+//!
+//! ```rust
+//! fn copy<S: Source, K: Sink>(source: &mut S, sink: &mut K) -> Result<usize, Failed> {
+//!     let mut into = [0u8; 4096];
+//!     let count = source.read(&mut into)?;
+//!     sink.write(&into[..count])
+//! }
+//!
+//! let mut source = MemSource::in_pieces(content, fails, 2);
+//! let mut sink = MemSink::new(alloc, Vec::new(alloc));
+//! copy(&mut source, &mut sink)?;
+//! let text = files.read_whole(alloc, "a.thrift", limit)?;
+//! ```
 
 #![tactic(auto)]
 

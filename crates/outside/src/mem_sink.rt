@@ -29,9 +29,9 @@ pub struct MemSink {
 
 impl Model for MemSink {
     ghost use Rattle.std.specs.Prelude.{◌<◌};
-    ghost use Rattle.outside.specs.Memory.{Writing};
+    ghost use Rattle.outside.specs.Memory.{SinkState};
 
-    ghost Value = { Writing };
+    ghost Value = { SinkState };
 
     ghost view = { λ s. record {
       taken = s.content.items;

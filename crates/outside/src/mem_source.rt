@@ -27,9 +27,9 @@ pub struct MemSource {
 
 impl Model for MemSource {
     ghost use Rattle.std.specs.Prelude.{◌<◌, ◌≤◌, take, drop, length};
-    ghost use Rattle.outside.specs.Memory.{Reading};
+    ghost use Rattle.outside.specs.Memory.{SourceState};
 
-    ghost Value = { Reading };
+    ghost Value = { SourceState };
 
     ghost view = { λ s. record {
       given = take s.at s.content.items;

@@ -5,7 +5,7 @@ ghost use Rattle.std.specs.Prelude.{◌≡◌, ◌≤◌, length, IfOk};
 use super::files::{FileFail, Files};
 use std::alloc::Global;
 use std::fs;
-use std::io::{ErrorKind, Read};
+use std::io::Read;
 use std::marker::Model;
 
 /// The system's files, by their paths.
@@ -66,26 +66,12 @@ fn read_to_limit(
 ) -> Result<Vec<u8>, FileFail>
     ensures { IfOk result (λ bytes. length bytes.items ≤ limit) }
 {
-    let file = match fs::open(rt, name) {
-        Ok(file) => file,
-        Err(error) => return Err(fail_of(error.kind())),
-    };
+    let file = fs::open(rt, name)?;
     let mut bytes = Vec::new(alloc);
     let most = (limit as u64).saturating_add(1);
-    if let Err(error) = file.take(most).read_to_end(&mut bytes) {
-        return Err(fail_of(error.kind()));
-    }
+    file.take(most).read_to_end(&mut bytes)?;
     if bytes.len() > limit {
         return Err(FileFail::TooLong);
     }
     Ok(bytes)
-}
-
-/// What an error of the system is called.
-fn fail_of(kind: ErrorKind) -> FileFail {
-    match kind {
-        ErrorKind::NotFound => FileFail::Absent,
-        ErrorKind::OutOfMemory => FileFail::NoMemory,
-        _ => FileFail::Failed,
-    }
 }

@@ -4,8 +4,11 @@ ghost use Rattle.std.specs.Prelude.{◌≡◌, ℕ, List, Option, MatchResult, O
 ghost use Rattle.outside.specs.Cause.{HasCause};
 ghost use Rattle.outside.specs.Content.{HasRead, HasWritten};
 
+use thiserror::Error;
+
 /// The call failed, and the count of faults of the object rose.
-#[derive(Clone, Copy, Debug, PartialEq, Eq)]
+#[derive(Clone, Copy, Debug, PartialEq, Eq, Error)]
+#[error("the bytes can't be read or written")]
 pub struct Failed;
 
 /// Bytes that come in.

@@ -89,13 +89,13 @@ impl io::Write for Full {
     }
 }
 
-/// Files in memory: two of one name, and reads that fail.
+/// Files in memory: two of one name, and three calls that fail.
 fn some_files(alloc: Global) -> Result<MemFiles, AllocError> {
     let mut files = Vec::new(alloc);
     files.push((String::from_str(alloc, "a")?, b"first".to_vec(alloc)?))?;
     files.push((String::from_str(alloc, "b")?, Vec::new(alloc)))?;
     files.push((String::from_str(alloc, "a")?, b"last".to_vec(alloc)?))?;
-    Ok(MemFiles::new(files, [2].to_vec(alloc)?))
+    Ok(MemFiles::new(files, [2, 3, 4].to_vec(alloc)?))
 }
 
 #[test]
@@ -114,8 +114,12 @@ fn a_file_is_read_whole_or_not_at_all(rt: HostRuntime) -> Result<(), Fail> {
         fault(files.read_whole(rt.alloc(), "c", 5)),
         Some(FileFail::Absent)
     );
+    assert_eq!(rt;
+        fault(files.read_whole(rt.alloc(), "a", 4)),
+        Some(FileFail::TooLong)
+    );
     assert!(rt; holds(files.read_whole(rt.alloc(), "b", 0), b""));
-    assert_eq!(rt; files.faults(), 1);
+    assert_eq!(rt; files.faults(), 3);
     Ok(())
 }
 

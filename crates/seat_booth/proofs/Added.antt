@@ -2,15 +2,15 @@
 use Rattle.std.proofs.Common.{◌≡◌, ℕ, zero, suc, ◌+◌, ◌%◌, ◌^◌, ◌<◌, ◌≢◌, ◌⊎◌, Bool, cond, List, [], ◌∷◌, ◌++◌, sym, refl, ap, ◌∙◌, inl, inr, ⊎_elim, arith, eq-eqb, ne_eqb}
 use Rattle.std.specs.List.{AllByRecursion, Any}
 use Rattle.std.proofs.lemmas.List.Elements.{recursion_from_All}
-use Rattle.seat_booth.specs.declared.entry.Entry.{Entry}
+use Rattle.seat_booth.specs.declared.booth_call.BoothCall.{BoothCall}
 use Rattle.seat_booth.specs.History.{meaning_after, IsHistory}
 use Rattle.seat_booth.specs.Calls.{calls_by}
-use Rattle.seat_booth.specs.Place.{Stand, Place, Stands, Ends}
+use Rattle.seat_booth.specs.Seats.{BoothView, SeatView, SeatAgrees, EndsBooth}
 use Rattle.seat_booth.specs.Sums.{Adds, added}
 use Rattle.seat_booth.proofs.Weights.{total-append, each_of}
 
 abbrev E : Type 0
-E = Entry ℕ ℕ ℕ
+E = BoothCall ℕ ℕ ℕ
 
 pub added-push : (log : List E) (e : E) → added (log ++ e ∷ []) ≡ added log + e.op
 added-push log e = omega (arith, total-append (λ (x : E). x.op) log (e ∷ []))
@@ -34,9 +34,9 @@ of_two (e ∷ es) h = ⊎_elim
     (λ (is : e.seat ≡ 0). omega (arith, of_two es h.1, ap added (calls_by-hit 0 e es is), ap added (calls_by-miss 1 e es (λ not. let bad : zero ≡ suc zero = sym is ∙ not in omega arith))))
     (λ (is : e.seat ≡ 1). omega (arith, of_two es h.1, ap added (calls_by-hit 1 e es is), ap added (calls_by-miss 0 e es (λ not. let bad : suc zero ≡ zero = sym is ∙ not in omega arith)))) h.0
 
-one_of_two : (p q : Place ℕ ℕ ℕ) (n : ℕ) → p.number ≡ 0 → q.number ≡ 1 → Any (λ x. x.number ≡ n) (p ∷ q ∷ []) → (n ≡ 0) ⊎ (n ≡ 1)
-one_of_two p q n zeroth oneth (zero, x, low, is, num) = inl (sym num ∙ (ap (λ (y : Place ℕ ℕ ℕ). y.number) (sym is) ∙ zeroth))
-one_of_two p q n zeroth oneth (suc zero, x, low, is, num) = inr (sym num ∙ (ap (λ (y : Place ℕ ℕ ℕ). y.number) (sym is) ∙ oneth))
+one_of_two : (p q : SeatView ℕ ℕ ℕ) (n : ℕ) → p.number ≡ 0 → q.number ≡ 1 → Any (λ x. x.number ≡ n) (p ∷ q ∷ []) → (n ≡ 0) ⊎ (n ≡ 1)
+one_of_two p q n zeroth oneth (zero, x, low, is, num) = inl (sym num ∙ (ap (λ (y : SeatView ℕ ℕ ℕ). y.number) (sym is) ∙ zeroth))
+one_of_two p q n zeroth oneth (suc zero, x, low, is, num) = inr (sym num ∙ (ap (λ (y : SeatView ℕ ℕ ℕ). y.number) (sym is) ∙ oneth))
 one_of_two p q n zeroth oneth (suc (suc k), x, low, is, num) = absurd (omega arith)
 
 pub two_popped : {X : Type 0} (xs : List X) (m n f s : X) → m ∷ n ∷ [] ≡ (xs ++ f ∷ []) ++ s ∷ [] → (xs ≡ []) × (f ≡ m) × (s ≡ n)
@@ -49,12 +49,12 @@ two_popped (x ∷ y ∷ ys) m n f s e = absurd (let no : [] ≡ (ys ++ f ∷ [])
 
 module _ (may : ℕ → ℕ → List E → ℕ → Type 0) where
   -- at the end of a booth of two seats, the sum is what both added
-  pub sum_of_both : (s : Stand ℕ) (p q : Place ℕ ℕ ℕ) (sum a b : ℕ) → Ends Adds may s (p ∷ q ∷ []) sum → s.opening ≡ 0 → p.number ≡ 0 → q.number ≡ 1 → added p.mine ≡ a → added q.mine ≡ b → a + b < 2 ^ 64 → sum ≡ a + b
+  pub sum_of_both : (s : BoothView ℕ) (p q : SeatView ℕ ℕ ℕ) (sum a b : ℕ) → EndsBooth Adds may s (p ∷ q ∷ []) sum → s.opening ≡ 0 → p.number ≡ 0 → q.number ≡ 1 → added p.mine ≡ a → added q.mine ≡ b → a + b < 2 ^ 64 → sum ≡ a + b
   sum_of_both s p q sum a b ends opening zeroth oneth first second fits =
       let log : List E = ends.log in
-      let callers = recursion_from_All (λ (e : E). Any (λ (x : Place ℕ ℕ ℕ). x.number ≡ e.seat) (p ∷ q ∷ [])) log ends.only in
-      let two = of_two log (each_of (λ (e : E). Any (λ (x : Place ℕ ℕ ℕ). x.number ≡ e.seat) (p ∷ q ∷ [])) (λ (e : E). (e.seat ≡ 0) ⊎ (e.seat ≡ 1)) log (λ e any. one_of_two p q e.seat zeroth oneth any) callers) in
-      let stands = recursion_from_All (Stands log) (p ∷ q ∷ []) ends.each in
+      let callers = recursion_from_All (λ (e : E). Any (λ (x : SeatView ℕ ℕ ℕ). x.number ≡ e.seat) (p ∷ q ∷ [])) log ends.only in
+      let two = of_two log (each_of (λ (e : E). Any (λ (x : SeatView ℕ ℕ ℕ). x.number ≡ e.seat) (p ∷ q ∷ [])) (λ (e : E). (e.seat ≡ 0) ⊎ (e.seat ≡ 1)) log (λ e any. one_of_two p q e.seat zeroth oneth any) callers) in
+      let stands = recursion_from_All (SeatAgrees log) (p ∷ q ∷ []) ends.each in
       let first_own : calls_by p.number log ≡ p.mine = stands.0.own in
       let second_own : calls_by q.number log ≡ q.mine = stands.1.0.own in
       let mine : added (calls_by 0 log) ≡ a = ap (λ (n : ℕ). added (calls_by n log)) (sym zeroth) ∙ (ap added first_own ∙ first) in

@@ -2,20 +2,20 @@
 use Rattle.std.proofs.Common.{◌≡◌, ℕ, ◌^◌, ◌<◌, Option, Some, MatchOption, List, [], ◌∷◌, ◌++◌, length, get_or, sym, refl, ap, ◌∙◌, subst, arith, length-append}
 use Rattle.atomic_table.specs.Table.{Me}
 use Rattle.atomic_table.specs.Seated.{TableId}
-use Rattle.seat_booth.specs.declared.entry.Entry.{Entry}
+use Rattle.seat_booth.specs.declared.booth_call.BoothCall.{BoothCall}
 use Rattle.seat_booth.specs.declared.view.Past.{Past}
-use Rattle.seat_booth.specs.declared.view.Stage.TheVariants.{Idle, Turn}
-use Rattle.seat_booth.specs.declared.view.View.{View}
-use Rattle.seat_booth.specs.History.{entry, meaning_after, IsHistory}
+use Rattle.seat_booth.specs.declared.view.CallStage.TheVariants.{Idle, Turn}
+use Rattle.seat_booth.specs.declared.view.TokenView.{TokenView}
+use Rattle.seat_booth.specs.History.{booth_call, meaning_after, IsHistory}
 use Rattle.seat_booth.specs.Calls.{AllAllowed}
-use Rattle.seat_booth.specs.Place.{Makes}
-use Rattle.seat_booth.specs.Past.{past_of, place_of, seated}
-use Rattle.seat_booth.specs.Steps.{caught_up, with_call, HasTurn, IsReady, made_of}
+use Rattle.seat_booth.specs.Seats.{MakesCall}
+use Rattle.seat_booth.specs.Past.{past_of, seat_view, seated}
+use Rattle.seat_booth.specs.Steps.{caught_up, with_call, HasTurn, CallIsReady, call_in_reach}
 use Rattle.seat_booth.specs.Laws.{calls_by-own, IsHistory-push, AllAllowed-push}
 
-module _ {O Q A M : Type 0} (meaning : O → M) (gives : M → Q → A → M → Type 0) (may : M → ℕ → List (Entry Q A M) → Q → Type 0) where
+module _ {O Q A M : Type 0} (meaning : O → M) (gives : M → Q → A → M → Type 0) (may : M → ℕ → List (BoothCall Q A M) → Q → Type 0) where
   abbrev pub V : Type 0
-  V = View Q A M
+  V = TokenView Q A M
 
   -- the object in hand went from one value to another by this step
   abbrev pub Stepped : Me O V → Me O V → Q → A → O → O → Type 0
@@ -23,7 +23,7 @@ module _ {O Q A M : Type 0} (meaning : O → M) (gives : M → Q → A → M →
 
   -- the call was made, by a token that went from one state to the other
   abbrev pub Finished : Q → A → Me O V → Me O V → Type 0
-  Finished op reply m n = MatchOption (made_of meaning m op reply) (Unit {0}) (λ e. n ≡ (seated m.0.opening Idle (with_call e (past_of m.0)), []))
+  Finished op reply m n = MatchOption (call_in_reach meaning m op reply) (Unit {0}) (λ e. n ≡ (seated m.0.opening Idle (with_call e (past_of m.0)), []))
 
   module _ (first : M) (opened : Option M) (is : opened ≡ Some first) (ticket : ℕ) (p : Past Q A M) (n : Me O V) (h : HasTurn meaning gives may ticket opened p n) where
     same_first : h.first ≡ first
@@ -48,9 +48,9 @@ module _ {O Q A M : Type 0} (meaning : O → M) (gives : M → Q → A → M →
       in_hand : n' ≡ hand
       in_hand = let same = view_same ∙ ap (λ (m : Me O V). m.0) h.now in let held = stepped.1 in λ i. (same i, held i)
 
-      pub ready : IsReady meaning gives may first (made_of meaning n' op reply) n'
-      ready = subst (λ (m : Me O V). IsReady meaning gives may first (made_of meaning m op reply) m) (sym in_hand) record {
-        call = entry p.number op reply (meaning object');
+      pub ready : CallIsReady meaning gives may first (call_in_reach meaning n' op reply) n'
+      ready = subst (λ (m : Me O V). CallIsReady meaning gives may first (call_in_reach meaning m op reply) m) (sym in_hand) record {
+        call = booth_call p.number op reply (meaning object');
         ticket = ticket;
         object = object';
         named = refl;
@@ -62,16 +62,16 @@ module _ {O Q A M : Type 0} (meaning : O → M) (gives : M → Q → A → M →
         allowed = allowed;
       }
 
-      abbrev call : Entry Q A M
-      call = entry p.number op reply (meaning object')
+      abbrev call : BoothCall Q A M
+      call = booth_call p.number op reply (meaning object')
 
       after_call : (n'' : Me O V) → Finished op reply n' n'' → n'' ≡ (seated opened Idle (with_call call (caught_up h.log p)), [])
       after_call n'' done = subst (λ (m : Me O V). Finished op reply m n'') in_hand done
 
       pub makes : (booth id id' : TableId) (seats : ℕ) (n'' : Me O V) → Finished op reply n' n''
-          → Makes gives may (record { booth = booth; opening = first; seats = seats }) (record { booth = id; opening = opened; number = p.number; seen = p.seen; mine = p.mine }) op reply (place_of id' n''.0)
+          → MakesCall gives may (record { booth = booth; opening = first; seats = seats }) (record { booth = id; opening = opened; number = p.number; seen = p.seen; mine = p.mine }) op reply (seat_view id' n''.0)
       makes booth id id' seats n'' done =
-          subst (λ (m : Me O V). Makes gives may (record { booth = booth; opening = first; seats = seats }) (record { booth = id; opening = opened; number = p.number; seen = p.seen; mine = p.mine }) op reply (place_of id' m.0)) (sym (after_call n'' done)) (
+          subst (λ (m : Me O V). MakesCall gives may (record { booth = booth; opening = first; seats = seats }) (record { booth = id; opening = opened; number = p.number; seen = p.seen; mine = p.mine }) op reply (seat_view id' m.0)) (sym (after_call n'' done)) (
           let at : length h.log ≡ ticket = h.passed in
           let below_most : ticket < 2 ^ 62 = h.bounded in
           record {
@@ -81,6 +81,6 @@ module _ {O Q A M : Type 0} (meaning : O → M) (gives : M → Q → A → M →
             mine = refl;
             own = calls_by-own p.number h.log call refl ∙ ap (λ l. l ++ call ∷ []) h.own;
             history = IsHistory-push gives may first h.log call history_now given_now;
-            allowed = AllAllowed-push gives may first h.log call allowed_now (subst (λ (l : List (Entry Q A M)). may first p.number l op) (sym h.own) allowed);
+            allowed = AllAllowed-push gives may first h.log call allowed_now (subst (λ (l : List (BoothCall Q A M)). may first p.number l op) (sym h.own) allowed);
             few = omega (arith, length-append h.log (call ∷ []));
           })

@@ -8,17 +8,17 @@ use lib.ListN.{get_elem?}
 use lib.Seq.{set-get_or}
 use Rattle.atomic_table.specs.Table.{State, Me, step, keeps, takes, gives, stepped, Allows, Splits, Joins}
 use Rattle.atomic_table.proofs.Lists.{at_set, at_snoc, set_here, set_again}
-use Rattle.seat_booth.specs.declared.entry.Entry.{Entry}
+use Rattle.seat_booth.specs.declared.booth_call.BoothCall.{BoothCall}
 use Rattle.seat_booth.specs.declared.view.Past.{Past}
-use Rattle.seat_booth.specs.declared.view.Stage.{Stage}
-use Rattle.seat_booth.specs.declared.view.Stage.TheVariants.{Idle, Waits, Turn}
-use Rattle.seat_booth.specs.declared.view.View.{View}
+use Rattle.seat_booth.specs.declared.view.CallStage.{CallStage}
+use Rattle.seat_booth.specs.declared.view.CallStage.TheVariants.{Idle, Waits, Turn}
+use Rattle.seat_booth.specs.declared.view.TokenView.{TokenView}
 use Rattle.seat_booth.specs.History.{meaning_after}
 use Rattle.seat_booth.specs.Calls.{calls_by}
 use Rattle.seat_booth.specs.Weight.{total, below}
 use Rattle.seat_booth.specs.Past.{view, first_past, other_pasts, seated}
-use Rattle.seat_booth.specs.Turns.{one, waiting, turning, IsTurn, Fits, IsKnown, numbers, IsKept}
-use Rattle.seat_booth.specs.Steps.{kept, caught_up, with_call, drew, looked, entered}
+use Rattle.seat_booth.specs.Tickets.{weight_of_one, waiting, turning, IsTurn, Fits, IsKnown, numbers, IsKept}
+use Rattle.seat_booth.specs.Steps.{unchanged, caught_up, with_call, drew, looked, entered}
 use Rattle.seat_booth.proofs.Weights.{total-append, total-set, total-plus, term_le, terms_le, total_le, below-suc, below-one, total-one, only, but, only-same, but-same, but-other, below-only, none_of, each_both, each_append}
 use Rattle.seat_booth.specs.Laws.{meaning_after-push, calls_by-own, calls_by-other, IsHistory-push, AllAllowed-push, IsPrefix-push, IsPrefix-same}
 
@@ -31,12 +31,12 @@ cond_out : (b : Bool) (n : ℕ) → cond b n 0 ≤ n
 cond_out true n = omega arith
 cond_out false n = omega arith
 
-module _ {O Q A M : Type 0} (meaning : O → M) (gives_ : M → Q → A → M → Type 0) (may : M → ℕ → List (Entry Q A M) → Q → Type 0) (first : M) (seats : ℕ) where
+module _ {O Q A M : Type 0} (meaning : O → M) (gives_ : M → Q → A → M → Type 0) (may : M → ℕ → List (BoothCall Q A M) → Q → Type 0) (first : M) (seats : ℕ) where
   abbrev pub P : Type 0
   P = Past Q A M
 
   abbrev pub V : Type 0
-  V = View Q A M
+  V = TokenView Q A M
 
   abbrev pub St : Type 0
   St = State O V
@@ -51,18 +51,18 @@ module _ {O Q A M : Type 0} (meaning : O → M) (gives_ : M → Q → A → M �
   serving_of s = get_or s.words 16 0
 
   -- the views after one has changed
-  pub known_set : (log : List (Entry Q A M)) (vs : List V) (me : ℕ) (w : V) → IsKnown first log w → ((j : ℕ) (v : V) → j ≢ me → get_elem? vs j ≡ some v → IsKnown first log v)
+  pub known_set : (log : List (BoothCall Q A M)) (vs : List V) (me : ℕ) (w : V) → IsKnown first log w → ((j : ℕ) (v : V) → j ≢ me → get_elem? vs j ≡ some v → IsKnown first log v)
       → (j : ℕ) (v : V) → get_elem? (set vs me w) j ≡ some v → IsKnown first log v
   known_set log vs me w mine others j v e =
       ⊎_elim (λ (t : (j ≡ me) × (w ≡ v)). subst (IsKnown first log) t.1 mine) (λ (t : (j ≢ me) × (get_elem? vs j ≡ some v)). others j v t.0 t.1) (at_set vs me j w v e)
 
-  few_tickets : (s : St) → Rule s → total (λ v. waiting one v.stage) s.views + total (λ v. turning one v.stage) s.views ≤ seats
+  few_tickets : (s : St) → Rule s → total (λ v. waiting weight_of_one v.stage) s.views + total (λ v. turning weight_of_one v.stage) s.views ≤ seats
   few_tickets s k =
-      let more = total_le (λ v. waiting one v.stage + turning one v.stage) (numbers one) s.views (λ j v e. let few = (k.each j v e).few in omega (arith, total-one v.pasts)) in
-      omega (arith, more, total-plus (λ v. waiting one v.stage) (λ v. turning one v.stage) s.views, k.dealt one, below-one seats)
+      let more = total_le (λ v. waiting weight_of_one v.stage + turning weight_of_one v.stage) (numbers weight_of_one) s.views (λ j v e. let few = (k.each j v e).few in omega (arith, total-one v.pasts)) in
+      omega (arith, more, total-plus (λ v. waiting weight_of_one v.stage) (λ v. turning weight_of_one v.stage) s.views, k.dealt weight_of_one, below-one seats)
 
   ticket_fits : (s : St) → Rule s → ticket_of s + 1 < 2 ^ 64
-  ticket_fits s k = let room = k.room in let bounded = k.bounded in omega (arith, few_tickets s k, k.tickets one, below-one (length k.log), below-one (ticket_of s))
+  ticket_fits s k = let room = k.room in let bounded = k.bounded in omega (arith, few_tickets s k, k.tickets weight_of_one, below-one (length k.log), below-one (ticket_of s))
 
   pub draws : (slots id : ℕ) (opened : Option M) (p : P) → Allows Rule slots id (seated opened Idle p, []) 0 (λ n. (n + 1) % 2 ^ 64) (drew (step slots 0 1 0 none) (seated opened Idle p, []))
   draws slots id opened p s k wide at small =
@@ -194,18 +194,18 @@ module _ {O Q A M : Type 0} (meaning : O → M) (gives_ : M → Q → A → M �
         let none_here : but n n ≡ 0 = but-same n n refl in
         absurd (omega (arith, term_le (λ u. turning (but n) u.stage) s.views id v at, k.turn (but n), cond_out k.out (but n n)))),
     ⊎_elim (λ yes. yes) (λ (no : k.out ≡ false).
-        let weighed : turning one v.stage ≡ 1 = ap (turning one) is in
-        let nothing : cond k.out (one n) 0 ≡ 0 = ap (λ (b : Bool). cond b 1 0) no in
-        absurd (omega (arith, term_le (λ u. turning one u.stage) s.views id v at, k.turn one))) (true_or_false k.out),
+        let weighed : turning weight_of_one v.stage ≡ 1 = ap (turning weight_of_one) is in
+        let nothing : cond k.out (weight_of_one n) 0 ≡ 0 = ap (λ (b : Bool). cond b 1 0) no in
+        absurd (omega (arith, term_le (λ u. turning weight_of_one u.stage) s.views id v at, k.turn weight_of_one))) (true_or_false k.out),
   )
 
-  turn_weight : (stage : Stage) → IsTurn stage → turning one stage ≡ 1
+  turn_weight : (stage : CallStage) → IsTurn stage → turning weight_of_one stage ≡ 1
   turn_weight Idle h = absurd h
   turn_weight (Waits t) h = absurd h
   turn_weight (Turn t) h = refl
 
   -- what another token knows is still known once a seat has made its call
-  others_know : (s : St) (k : Rule s) (id : ℕ) (v : V) (ticket : ℕ) (p : P) (e : Entry Q A M) → get_elem? s.views id ≡ some v → v.stage ≡ Turn ticket → v.pasts ≡ p ∷ [] → e.seat ≡ p.number
+  others_know : (s : St) (k : Rule s) (id : ℕ) (v : V) (ticket : ℕ) (p : P) (e : BoothCall Q A M) → get_elem? s.views id ≡ some v → v.stage ≡ Turn ticket → v.pasts ≡ p ∷ [] → e.seat ≡ p.number
       → (j : ℕ) (u : V) → j ≢ id → get_elem? s.views j ≡ some u → IsKnown first (k.log ++ e ∷ []) u
   others_know s k id v ticket p e at is pasts seat j u other there =
       let n : ℕ = p.number in
@@ -218,15 +218,15 @@ module _ {O Q A M : Type 0} (meaning : O → M) (gives_ : M → Q → A → M �
             (λ q not h. (IsPrefix-push q.seen k.log e h.0, calls_by-other q.number k.log e (λ same. not (sym same ∙ seat)) ∙ h.1)) (none_of (λ (q : P). q.number) n u.pasts theirs) known.fits;
         opening = known.opening;
         few = known.few;
-        whole = λ turn. let one_turn : turning one v.stage ≡ 1 = ap (turning one) is in
-            absurd (omega (arith, terms_le (λ (x : V). turning one x.stage) s.views id j v u other at there, turn_weight u.stage turn, k.turn one, cond_out k.out (one (length k.log))));
+        whole = λ turn. let one_turn : turning weight_of_one v.stage ≡ 1 = ap (turning weight_of_one) is in
+            absurd (omega (arith, terms_le (λ (x : V). turning weight_of_one x.stage) s.views id j v u other at there, turn_weight u.stage turn, k.turn weight_of_one, cond_out k.out (weight_of_one (length k.log))));
       }
 
-  pub enters : (slots id : ℕ) (opened : Option M) (ticket : ℕ) (p : P) (object : O) (e : Entry Q A M) → 0 < slots → ticket < 2 ^ 62 → gives_ (meaning_after first p.seen) e.op e.reply e.after → meaning object ≡ e.after
+  pub enters : (slots id : ℕ) (opened : Option M) (ticket : ℕ) (p : P) (object : O) (e : BoothCall Q A M) → 0 < slots → ticket < 2 ^ 62 → gives_ (meaning_after first p.seen) e.op e.reply e.after → meaning object ≡ e.after
       → e.seat ≡ p.number → may first p.number p.mine e.op
       → Allows Rule slots id (seated opened (Turn ticket) p, (0, object) ∷ []) 16 (λ n. (n + 1) % 2 ^ 64) (entered (Some e) (step slots 16 1 0 none) (seated opened (Turn ticket) p, (0, object) ∷ []))
   enters slots id opened ticket p object e some_slot below_most given stands seat allowed s k homes at small =
-      let log : List (Entry Q A M) = k.log in
+      let log : List (BoothCall Q A M) = k.log in
       let v : V = seated opened (Turn ticket) p in
       let w : V = seated opened Idle (with_call e p) in
       let known = k.each id v at in
@@ -248,8 +248,8 @@ module _ {O Q A M : Type 0} (meaning : O → M) (gives_ : M → Q → A → M �
         record {
           log = log ++ e ∷ [];
           out = false;
-          history = IsHistory-push gives_ may first log e k.history (subst (λ (l : List (Entry Q A M)). gives_ (meaning_after first l) e.op e.reply e.after) whole given);
-          allowed = AllAllowed-push gives_ may first log e k.allowed (subst (λ (z : ℕ × List (Entry Q A M)). may first z.0 z.1 e.op) (λ i. (sym seat i, (sym own ∙ ap (λ m. calls_by m log) (sym seat)) i)) allowed);
+          history = IsHistory-push gives_ may first log e k.history (subst (λ (l : List (BoothCall Q A M)). gives_ (meaning_after first l) e.op e.reply e.after) whole given);
+          allowed = AllAllowed-push gives_ may first log e k.allowed (subst (λ (z : ℕ × List (BoothCall Q A M)). may first z.0 z.1 e.op) (λ i. (sym seat i, (sym own ∙ ap (λ m. calls_by m log) (sym seat)) i)) allowed);
           room = k.room;
           wide = omega (arith, length-set s.words 16 n);
           passed = get_or-set_same s.words 16 n 0 (omega arith) ∙ (next ∙ sym longer);
@@ -258,7 +258,7 @@ module _ {O Q A M : Type 0} (meaning : O → M) (gives_ : M → Q → A → M �
           turn = λ f. omega (arith, total-set (λ u. turning f u.stage) s.views id v w at, k.turn f, ap (λ (b : Bool). cond b (f (length log)) 0) turn.1, ap f is_ticket);
           home = λ _. (object, set_here s.homes 0 (some object) (omega arith), stands ∙ sym (meaning_after-push first log e));
           dealt = λ f. omega (arith, total-set (numbers f) s.views id v w at, k.dealt f);
-          callers = each_append (λ (x : Entry Q A M). x.seat < seats) log (e ∷ []) k.callers (omega arith, tt);
+          callers = each_append (λ (x : BoothCall Q A M). x.seat < seats) log (e ∷ []) k.callers (omega arith, tt);
           each = known_set (log ++ e ∷ []) s.views id w (record {
             fits = ((([], append-nil (p.seen ++ e ∷ []) ∙ ap (λ l. l ++ e ∷ []) whole), calls_by-own p.number log e seat ∙ ap (λ l. l ++ e ∷ []) own), tt);
             opening = known.opening;
@@ -269,7 +269,7 @@ module _ {O Q A M : Type 0} (meaning : O → M) (gives_ : M → Q → A → M �
         refl,
       )
 
-  pub keeps_all : (slots id i n : ℕ) (m : Me O V) → 32 ≤ i → Allows Rule slots id m i (λ _. n) (λ _. kept (step slots i n 0 none) m n)
+  pub keeps_all : (slots id i n : ℕ) (m : Me O V) → 32 ≤ i → Allows Rule slots id m i (λ _. n) (λ _. unchanged (step slots i n 0 none) m n)
   keeps_all slots id i n m far s k homes at small =
       (m.0, keeps, tt, unmoved s k i n id m.0 m.1 at (get_or-set_other s.words i 0 n 0 (λ e. omega arith)) (get_or-set_other s.words i 16 n 0 (λ e. omega arith)), refl)
 
@@ -329,9 +329,9 @@ module _ {O Q A M : Type 0} (meaning : O → M) (gives_ : M → Q → A → M �
             (λ i x _ y. known_set k.log s.views id both is_known (λ i' x' _ y'. k.each i' x' y') i x y);
       }
 
-  pub splits_at : (id : ℕ) (opened : Option M) (stage : Stage) (ps : List P) → stage ≡ Idle → 0 < length ps → Splits Rule id (view opened stage ps) (view opened stage (other_pasts ps)) (view opened Idle (first_past ps ∷ []))
+  pub splits_at : (id : ℕ) (opened : Option M) (stage : CallStage) (ps : List P) → stage ≡ Idle → 0 < length ps → Splits Rule id (view opened stage ps) (view opened stage (other_pasts ps)) (view opened Idle (first_past ps ∷ []))
   splits_at id opened stage [] is some_there = absurd (omega arith)
-  splits_at id opened stage (p ∷ ps) is some_there = subst (λ (st : Stage). Splits Rule id (view opened st (p ∷ ps)) (view opened st ps) (view opened Idle (p ∷ []))) (sym is) (splits id opened p ps)
+  splits_at id opened stage (p ∷ ps) is some_there = subst (λ (st : CallStage). Splits Rule id (view opened st (p ∷ ps)) (view opened st ps) (view opened Idle (p ∷ []))) (sym is) (splits id opened p ps)
 
   pub joins_at : (id other : ℕ) (v w : V) → v.stage ≡ Idle → w.stage ≡ Idle → v.opening ≡ Some first → Joins Rule id v other w (view v.opening v.stage (w.pasts ++ v.pasts)) (view None Idle [])
-  joins_at id other v w is is' opened = subst (λ (z : Stage × Stage). Joins Rule id (view v.opening z.0 v.pasts) other (view w.opening z.1 w.pasts) (view v.opening z.0 (w.pasts ++ v.pasts)) (view None Idle [])) (λ i. (sym is i, sym is' i)) (joins id v.opening v.pasts other w.opening w.pasts opened)
+  joins_at id other v w is is' opened = subst (λ (z : CallStage × CallStage). Joins Rule id (view v.opening z.0 v.pasts) other (view w.opening z.1 w.pasts) (view v.opening z.0 (w.pasts ++ v.pasts)) (view None Idle [])) (λ i. (sym is i, sym is' i)) (joins id v.opening v.pasts other w.opening w.pasts opened)

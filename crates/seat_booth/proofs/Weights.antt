@@ -6,7 +6,7 @@ use mathlib.Core.Option.{some, some-injective, some-ne-none}
 use native.Mathlib.Decide.{ℕ_discrete}
 use lib.ListN.{get_elem?}
 use Rattle.seat_booth.specs.Weight.{total, below}
-use Rattle.seat_booth.specs.Turns.{one}
+use Rattle.seat_booth.specs.Tickets.{weight_of_one}
 
 module _ {X : Type 0} where
   pub total-append : (g : X → ℕ) (l m : List X) → total g (l ++ m) ≡ total g l + total g m
@@ -46,7 +46,7 @@ module _ {X : Type 0} where
 pub below-suc : (f : ℕ → ℕ) (n : ℕ) → below f (n + 1) ≡ below f n + f n
 below-suc f n = let e : n + 1 ≡ suc n = omega arith in ap (below f) e
 
-pub below-one : (n : ℕ) → below one n ≡ n
+pub below-one : (n : ℕ) → below weight_of_one n ≡ n
 below-one zero = refl
 below-one (suc n) = omega (arith, below-one n)
 

@@ -2,17 +2,17 @@
 use Rattle.std.specs.Prelude.{◌≡◌, ℕ, List, [], ◌∷◌, ◌++◌, refl}
 use Rattle.std.proofs.Common.{sym, subst}
 use mathlib.Core.List.{append_assoc, append-nil}
-use Rattle.seat_booth.specs.declared.entry.Entry.{Entry}
+use Rattle.seat_booth.specs.declared.booth_call.BoothCall.{BoothCall}
 use Rattle.seat_booth.specs.History.{meaning_after, IsHistory}
 use Rattle.seat_booth.specs.Calls.{calls_by, AllAllowed}
 use Rattle.seat_booth.specs.Laws.{IsHistory-at}
 
-module _ {Q A M : Type 0} (gives : M → Q → A → M → Type 0) (may : M → ℕ → List (Entry Q A M) → Q → Type 0) (first : M) where
+module _ {Q A M : Type 0} (gives : M → Q → A → M → Type 0) (may : M → ℕ → List (BoothCall Q A M) → Q → Type 0) (first : M) where
   -- an allowed call of the object keeps the fact
-  abbrev pub Keeps : (List (Entry Q A M) → Type 0) → Type 0
-  Keeps P = (log : List (Entry Q A M)) (e : Entry Q A M) → P log → gives (meaning_after first log) e.op e.reply e.after → may first e.seat (calls_by e.seat log) e.op → P (log ++ e ∷ [])
+  abbrev pub CallKeeps : (List (BoothCall Q A M) → Type 0) → Type 0
+  CallKeeps P = (log : List (BoothCall Q A M)) (e : BoothCall Q A M) → P log → gives (meaning_after first log) e.op e.reply e.after → may first e.seat (calls_by e.seat log) e.op → P (log ++ e ∷ [])
 
-  longer : (P : List (Entry Q A M) → Type 0) → Keeps P → (front back : List (Entry Q A M)) → IsHistory gives first (front ++ back) → AllAllowed may first (front ++ back) → P front → P (front ++ back)
+  longer : (P : List (BoothCall Q A M) → Type 0) → CallKeeps P → (front back : List (BoothCall Q A M)) → IsHistory gives first (front ++ back) → AllAllowed may first (front ++ back) → P front → P (front ++ back)
   longer P keeps front [] history allowed p = subst P (sym (append-nil front)) p
   longer P keeps front (e ∷ es) history allowed p =
       let same : (front ++ e ∷ []) ++ es ≡ front ++ e ∷ es = append_assoc front (e ∷ []) es in
@@ -20,5 +20,5 @@ module _ {Q A M : Type 0} (gives : M → Q → A → M → Type 0) (may : M → 
       (keeps front e p (IsHistory-at gives may first front es e history) (allowed front es e refl)))
 
   -- what holds of the empty history, and is kept by each allowed call, holds of every history whose calls were allowed
-  pub every_history : (P : List (Entry Q A M) → Type 0) → P [] → Keeps P → (log : List (Entry Q A M)) → IsHistory gives first log → AllAllowed may first log → P log
+  pub every_history : (P : List (BoothCall Q A M) → Type 0) → P [] → CallKeeps P → (log : List (BoothCall Q A M)) → IsHistory gives first log → AllAllowed may first log → P log
   every_history P none keeps log history allowed = longer P keeps [] log history allowed none

@@ -2,53 +2,62 @@
 use Rattle.std.proofs.Common.{◌≡◌, ℕ, ◌≢◌, ◌⊎◌, inl, inr, ⊎_elim, Bool, cond, eqb, List, [], ◌∷◌, ◌++◌, sym, refl, ap, ◌∙◌, subst, eq-eqb, ne_eqb}
 use Rattle.std.proofs.lemmas.List.Elements.{filter-append}
 use mathlib.Core.List.{IsPrefix, append_assoc, append-nil}
-use Rattle.seat_booth.specs.declared.entry.Entry.{Entry}
+use Rattle.seat_booth.specs.declared.booth_call.BoothCall.{BoothCall}
 use Rattle.seat_booth.specs.History.{meaning_after, IsHistory}
 use Rattle.seat_booth.specs.Calls.{calls_by, AllAllowed}
 
 module _ {Q A M : Type 0} where
-  pub meaning_after-push : (first : M) (log : List (Entry Q A M)) (e : Entry Q A M) → meaning_after first (log ++ e ∷ []) ≡ e.after
+  -- behind one more call the object means what the call left
+  pub meaning_after-push : (first : M) (log : List (BoothCall Q A M)) (e : BoothCall Q A M) → meaning_after first (log ++ e ∷ []) ≡ e.after
   meaning_after-push first [] e = refl
   meaning_after-push first (x ∷ xs) e = meaning_after-push x.after xs e
 
-  pub calls_by-own : (seat : ℕ) (log : List (Entry Q A M)) (e : Entry Q A M) → e.seat ≡ seat → calls_by seat (log ++ e ∷ []) ≡ calls_by seat log ++ e ∷ []
-  calls_by-own seat log e is = filter-append (λ (x : Entry Q A M). eqb x.seat seat) log (e ∷ []) ∙ ap (λ (b : Bool). calls_by seat log ++ cond b (e ∷ []) []) (eq-eqb e.seat seat is)
+  -- one more call of a seat is the last of that seat's calls
+  pub calls_by-own : (seat : ℕ) (log : List (BoothCall Q A M)) (e : BoothCall Q A M) → e.seat ≡ seat → calls_by seat (log ++ e ∷ []) ≡ calls_by seat log ++ e ∷ []
+  calls_by-own seat log e is = filter-append (λ (x : BoothCall Q A M). eqb x.seat seat) log (e ∷ []) ∙ ap (λ (b : Bool). calls_by seat log ++ cond b (e ∷ []) []) (eq-eqb e.seat seat is)
 
-  pub calls_by-other : (seat : ℕ) (log : List (Entry Q A M)) (e : Entry Q A M) → e.seat ≢ seat → calls_by seat (log ++ e ∷ []) ≡ calls_by seat log
-  calls_by-other seat log e not = filter-append (λ (x : Entry Q A M). eqb x.seat seat) log (e ∷ []) ∙ (ap (λ (b : Bool). calls_by seat log ++ cond b (e ∷ []) []) (ne_eqb e.seat seat not) ∙ append-nil (calls_by seat log))
+  -- one more call of another seat leaves a seat's calls as they are
+  pub calls_by-other : (seat : ℕ) (log : List (BoothCall Q A M)) (e : BoothCall Q A M) → e.seat ≢ seat → calls_by seat (log ++ e ∷ []) ≡ calls_by seat log
+  calls_by-other seat log e not = filter-append (λ (x : BoothCall Q A M). eqb x.seat seat) log (e ∷ []) ∙ (ap (λ (b : Bool). calls_by seat log ++ cond b (e ∷ []) []) (ne_eqb e.seat seat not) ∙ append-nil (calls_by seat log))
 
   -- a call of a history with one more at the end is that one, or one of the others
-  pub last_or_earlier : (log front back : List (Entry Q A M)) (e x : Entry Q A M) → log ++ e ∷ [] ≡ front ++ x ∷ back → ((log ≡ front) × (e ≡ x)) ⊎ ((more : List (Entry Q A M)) × (log ≡ front ++ x ∷ more))
+  pub last_or_earlier : (log front back : List (BoothCall Q A M)) (e x : BoothCall Q A M) → log ++ e ∷ [] ≡ front ++ x ∷ back → ((log ≡ front) × (e ≡ x)) ⊎ ((more : List (BoothCall Q A M)) × (log ≡ front ++ x ∷ more))
   last_or_earlier [] [] back e x is = inl (refl, cc)
   last_or_earlier [] (y ∷ []) back e x is = absurd (let none : [] ≡ x ∷ back = cc in cc)
   last_or_earlier [] (y ∷ z ∷ ys) back e x is = absurd (let none : [] ≡ z ∷ (ys ++ x ∷ back) = cc in cc)
-  last_or_earlier (y ∷ ys) [] back e x is = inr (ys, ap (λ (z : Entry Q A M). z ∷ ys) cc)
+  last_or_earlier (y ∷ ys) [] back e x is = inr (ys, ap (λ (z : BoothCall Q A M). z ∷ ys) cc)
   last_or_earlier (y ∷ ys) (z ∷ zs) back e x is = let same : y ≡ z = cc in
       ⊎_elim (λ t. inl ((λ i. same i ∷ t.0 i), t.1)) (λ t. inr (t.0, λ i. same i ∷ t.1 i)) (last_or_earlier ys zs back e x cc)
 
-  module _ (gives : M → Q → A → M → Type 0) (may : M → ℕ → List (Entry Q A M) → Q → Type 0) where
-    pub IsHistory-push : (first : M) (log : List (Entry Q A M)) (e : Entry Q A M) → IsHistory gives first log → gives (meaning_after first log) e.op e.reply e.after → IsHistory gives first (log ++ e ∷ [])
+  module _ (gives : M → Q → A → M → Type 0) (may : M → ℕ → List (BoothCall Q A M) → Q → Type 0) where
+    -- a history goes on with what the object gives
+    pub IsHistory-push : (first : M) (log : List (BoothCall Q A M)) (e : BoothCall Q A M) → IsHistory gives first log → gives (meaning_after first log) e.op e.reply e.after → IsHistory gives first (log ++ e ∷ [])
     IsHistory-push first [] e h g = (g, tt)
     IsHistory-push first (x ∷ xs) e h g = (h.0, IsHistory-push x.after xs e h.1 g)
 
-    pub AllAllowed-push : (first : M) (log : List (Entry Q A M)) (e : Entry Q A M) → AllAllowed may first log → may first e.seat (calls_by e.seat log) e.op → AllAllowed may first (log ++ e ∷ [])
+    -- one more allowed call leaves all allowed
+    pub AllAllowed-push : (first : M) (log : List (BoothCall Q A M)) (e : BoothCall Q A M) → AllAllowed may first log → may first e.seat (calls_by e.seat log) e.op → AllAllowed may first (log ++ e ∷ [])
     AllAllowed-push first log e h m front back x is =
-        ⊎_elim (λ (t : (log ≡ front) × (e ≡ x)). subst (λ (z : List (Entry Q A M) × Entry Q A M). may first z.1.seat (calls_by z.1.seat z.0) z.1.op) (λ i. (t.0 i, t.1 i)) m) (λ (t : (more : List (Entry Q A M)) × (log ≡ front ++ x ∷ more)). h front t.0 x t.1) (last_or_earlier log front back e x is)
+        ⊎_elim (λ (t : (log ≡ front) × (e ≡ x)). subst (λ (z : List (BoothCall Q A M) × BoothCall Q A M). may first z.1.seat (calls_by z.1.seat z.0) z.1.op) (λ i. (t.0 i, t.1 i)) m) (λ (t : (more : List (BoothCall Q A M)) × (log ≡ front ++ x ∷ more)). h front t.0 x t.1) (last_or_earlier log front back e x is)
 
     -- each call of a history is what the object gives at the meaning before it
-    pub IsHistory-at : (first : M) (front back : List (Entry Q A M)) (e : Entry Q A M) → IsHistory gives first (front ++ e ∷ back) → gives (meaning_after first front) e.op e.reply e.after
+    pub IsHistory-at : (first : M) (front back : List (BoothCall Q A M)) (e : BoothCall Q A M) → IsHistory gives first (front ++ e ∷ back) → gives (meaning_after first front) e.op e.reply e.after
     IsHistory-at first [] back e h = h.0
     IsHistory-at first (x ∷ xs) back e h = IsHistory-at x.after xs back e h.1
 
-    pub IsHistory-front : (first : M) (front back : List (Entry Q A M)) → IsHistory gives first (front ++ back) → IsHistory gives first front
+    -- the front of a history is one
+    pub IsHistory-front : (first : M) (front back : List (BoothCall Q A M)) → IsHistory gives first (front ++ back) → IsHistory gives first front
     IsHistory-front first [] back h = tt
     IsHistory-front first (x ∷ xs) back h = (h.0, IsHistory-front x.after xs back h.1)
 
-    pub AllAllowed-front : (first : M) (front back : List (Entry Q A M)) → AllAllowed may first (front ++ back) → AllAllowed may first front
+    -- in the front of a history whose calls are allowed they are allowed
+    pub AllAllowed-front : (first : M) (front back : List (BoothCall Q A M)) → AllAllowed may first (front ++ back) → AllAllowed may first front
     AllAllowed-front first front back h xs ys e is = h xs (ys ++ back) e (ap (λ l. l ++ back) is ∙ append_assoc xs (e ∷ ys) back)
 
-  pub IsPrefix-push : (seen log : List (Entry Q A M)) (e : Entry Q A M) → IsPrefix seen log → IsPrefix seen (log ++ e ∷ [])
+  -- a beginning stays one behind one more call
+  pub IsPrefix-push : (seen log : List (BoothCall Q A M)) (e : BoothCall Q A M) → IsPrefix seen log → IsPrefix seen (log ++ e ∷ [])
   IsPrefix-push seen log e p = (p.0 ++ e ∷ [], sym (append_assoc seen p.0 (e ∷ [])) ∙ ap (λ l. l ++ e ∷ []) p.1)
 
-  pub IsPrefix-same : (log : List (Entry Q A M)) → IsPrefix log log
+  -- all of a history is a beginning of it
+  pub IsPrefix-same : (log : List (BoothCall Q A M)) → IsPrefix log log
   IsPrefix-same log = ([], append-nil log)

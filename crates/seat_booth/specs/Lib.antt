@@ -1,9 +1,10 @@
+pub mod Limits
 pub mod History
 pub mod Calls
-pub mod Place
+pub mod Seats
 pub mod Weight
 pub mod Past
-pub mod Turns
+pub mod Tickets
 pub mod Steps
 pub mod Sums
 pub mod Laws

@@ -3,7 +3,7 @@ use crate::object::Object;
 
 /// What a seat may ask for.
 #[derive(Drop)]
-pub enum Ask {
+pub enum BatonOp {
     /// To have the baton, where it is there. The reply says whether it was.
     Take,
     /// To put back the baton that this seat took.
@@ -18,9 +18,9 @@ pub struct Baton {
 }
 
 impl Object for Baton {
-    ghost use Rattle.seat_booth.specs.Baton.{Gives, Can, May, follows_for_baton};
+    ghost use Rattle.seat_booth.specs.Baton.{BatonGives, BatonCan, BatonMay, follows_for_baton};
 
-    type Op = Ask;
+    type Op = BatonOp;
 
     type Reply = bool;
 
@@ -28,20 +28,20 @@ impl Object for Baton {
 
     ghost meaning = { λ b. b.out };
 
-    ghost gives = { Gives };
+    ghost gives = { BatonGives };
 
-    ghost can = { Can };
+    ghost can = { BatonCan };
 
-    ghost may = { May };
+    ghost may = { BatonMay };
 
-    fn step(&mut self, op: Ask) -> bool {
+    fn step(&mut self, op: BatonOp) -> bool {
         match op {
-            Ask::Take => {
+            BatonOp::Take => {
                 let there = !self.out;
                 self.out = true;
                 there
             }
-            Ask::Put => {
+            BatonOp::Put => {
                 self.out = false;
                 false
             }

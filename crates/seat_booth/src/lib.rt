@@ -2,13 +2,24 @@
 //!
 //! `new_booth` gives a booth and its seats, a thread calls the object by `booth.call(rt, &mut seat, op)`, and
 //! `booth.close(seats)` gives the object back, as it is after the one history of all calls.
+//!
+//! ```rust
+//! let (booth, mut seats) = new_booth(alloc, RunningSum { sum: 0 }, 2)?;
+//! let (Some(mut second), Some(mut first)) = (seats.pop(), seats.pop()) else { unreachable!() };
+//! booth.call(rt, &mut first, 5);
+//! booth.call(rt, &mut second, 2);
+//! seats.push(first)?;
+//! seats.push(second)?;
+//! let sum = booth.close(seats).sum;
+//! ```
+//!
 //! Nothing is claimed of waiting: not that a call returns, nor of fairness, waking, deadlock or time.
 #![tactic(auto)]
 
 pub mod baton;
 mod booth;
+mod booth_call;
 mod crossing;
-mod entry;
 mod object;
 mod opening;
 mod plays;
@@ -20,6 +31,6 @@ mod view;
 mod waiting;
 
 pub use booth::{Booth, NoBooth, Seat, new_booth};
+pub use booth_call::BoothCall;
 pub use crossing::crosses;
-pub use entry::Entry;
 pub use object::Object;

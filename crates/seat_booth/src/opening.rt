@@ -1,11 +1,12 @@
 //! How a booth's table is made with the tokens of all seats, and how they come back.
 ghost use Rattle.std.specs.Prelude.{◌≡◌, ℕ, ◌+◌, ◌-◌, ◌<◌, ◌≤◌, [], ◌∷◌, ◌++◌, List, Option, Some, IfOk, IfErr, length, map, All, vec_len, vec_capacity};
-ghost use Rattle.seat_booth.specs.declared.view.Stage.TheVariants.{Idle};
-ghost use Rattle.seat_booth.specs.Past.{view, fresh};
+ghost use Rattle.seat_booth.specs.Limits.{word_count, most_seats};
+ghost use Rattle.seat_booth.specs.declared.view.CallStage.TheVariants.{Idle};
+ghost use Rattle.seat_booth.specs.Past.{view, new_pasts};
 
 use crate::booth::NoBooth;
 use crate::object::Object;
-use crate::table::{Opening, Token, TurnTable, WORDS};
+use crate::table::{Opening, SeatToken, TurnTable, WORDS};
 use atomic_table::{Refused, Table};
 use std::alloc::{AllocFailed, Global};
 use std::snapshot::Snapshot;
@@ -15,10 +16,10 @@ pub(crate) fn open<O: Object>(
     alloc: Global,
     object: O,
     seats: u32,
-) -> Result<(TurnTable<O>, Token<O>), NoBooth<O>>
-    requires { seats ≤ 64 }
-    ensures ok { IfOk result (λ made. (made.0.shared.table_id.words ≡ 96) × (made.0.shared.table_id.slots ≡ 1) × (made.0.shared.key.object.value ≡ object) × (made.0.shared.key.seats ≡ seats)) }
-    ensures token { IfOk result (λ made. (made.1.table_id ≡ made.0.shared.table_id) × (made.1.me ≡ (view (Some (O.meaning object)) Idle (fresh 0 seats), []))) }
+) -> Result<(TurnTable<O>, SeatToken<O>), NoBooth<O>>
+    requires { seats ≤ most_seats }
+    ensures ok { IfOk result (λ made. (made.0.shared.table_id.words ≡ word_count) × (made.0.shared.table_id.slots ≡ 1) × (made.0.shared.key.object.value ≡ object) × (made.0.shared.key.seats ≡ seats)) }
+    ensures token { IfOk result (λ made. (made.1.table_id ≡ made.0.shared.table_id) × (made.1.me ≡ (view (Some (O.meaning object)) Idle (new_pasts 0 seats), []))) }
     ensures err { IfErr result (λ no. no.0 ≡ object) }
 {
     let about = Opening {

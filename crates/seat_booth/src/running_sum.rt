@@ -1,6 +1,6 @@
 //! The smallest object: a running sum, and what two threads make of it.
 ghost use Rattle.std.specs.Prelude.{◌≡◌, ℕ, ◌+◌, ◌%◌, ◌^◌, ◌<◌, ◌≤◌, IfSome};
-ghost use Rattle.seat_booth.specs.Place.{IsSeatOf};
+ghost use Rattle.seat_booth.specs.Seats.{IsSeatOf};
 ghost use Rattle.seat_booth.specs.Sums.{Adds, added};
 
 use crate::booth::{Booth, NoBooth, Seat, new_booth};

@@ -2,15 +2,16 @@
 ghost use Rattle.std.specs.Prelude.{◌≡◌, ℕ, ◌+◌, ◌^◌, ◌<◌, ◌≤◌, [], ◌∷◌, ◌++◌, Option, Some, List, MatchBool, MatchOption, length};
 ghost use Rattle.atomic_table.specs.Seated.{TableId};
 ghost use Rattle.atomic_table.specs.Table.{Me};
-ghost use Rattle.seat_booth.specs.declared.entry.Entry.{Entry};
-ghost use Rattle.seat_booth.specs.declared.view.View.{View};
-ghost use Rattle.seat_booth.specs.declared.view.Stage.TheVariants.{Idle, Waits, Turn};
-ghost use Rattle.seat_booth.specs.History.{entry};
+ghost use Rattle.seat_booth.specs.Limits.{word_count};
+ghost use Rattle.seat_booth.specs.declared.booth_call.BoothCall.{BoothCall};
+ghost use Rattle.seat_booth.specs.declared.view.TokenView.{TokenView};
+ghost use Rattle.seat_booth.specs.declared.view.CallStage.TheVariants.{Idle, Waits, Turn};
+ghost use Rattle.seat_booth.specs.History.{booth_call};
 ghost use Rattle.seat_booth.specs.Past.{past_of, seated, view, without_first, only_first};
-ghost use Rattle.seat_booth.specs.Steps.{with_call, HasTurn, IsAt, IsReady, made_of};
+ghost use Rattle.seat_booth.specs.Steps.{with_call, HasTurn, TokenIsAt, CallIsReady, call_in_reach};
 
 use crate::object::Object;
-use crate::plays::{Deal, Draw, Enter, Look, Made, ViewOf};
+use crate::plays::{CallNamed, Deal, Draw, Enter, Look, ViewOf};
 use atomic_table::{Seat, Table, TableRule};
 use std::alloc::Global;
 use std::marker::{Brand, PhantomData};
@@ -25,6 +26,7 @@ pub(crate) const SERVING: usize = 16;
 /// The first of the 64 words that waiting threads sleep on. A ticket has the word of its remainder by 64.
 pub(crate) const SLEEPERS: usize = 32;
 
+/// How many words there are.
 pub(crate) const WORDS: usize = 96;
 
 /// The most tickets that get the turn.
@@ -47,32 +49,32 @@ impl<O> Drop for Opening<O> {
     }
 }
 
-/// The rule of the table, which `specs/Turns.antt` states.
-pub(crate) struct Turns<O> {
+/// The rule of the table, which `specs/Tickets.antt` states.
+pub(crate) struct TicketRule<O> {
     object: PhantomData<O>,
 }
 
-impl<O: Object> TableRule<O, ViewOf<O>, Opening<O>> for Turns<O> {
+impl<O: Object> TableRule<O, ViewOf<O>, Opening<O>> for TicketRule<O> {
     ghost use Rattle.std.specs.Prelude.{Some};
-    ghost use Rattle.seat_booth.specs.declared.view.Stage.TheVariants.{Idle};
-    ghost use Rattle.seat_booth.specs.Past.{view, fresh};
-    ghost use Rattle.seat_booth.specs.Turns.{IsKept};
+    ghost use Rattle.seat_booth.specs.declared.view.CallStage.TheVariants.{Idle};
+    ghost use Rattle.seat_booth.specs.Past.{view, new_pasts};
+    ghost use Rattle.seat_booth.specs.Tickets.{IsKept};
 
     ghost holds = { λ key. IsKept O.meaning O.gives O.may (O.meaning key.object.value) key.seats };
 
-    ghost first = { λ key. view (Some (O.meaning key.object.value)) Idle (fresh 0 key.seats) };
+    ghost first = { λ key. view (Some (O.meaning key.object.value)) Idle (new_pasts 0 key.seats) };
 }
 
-pub(crate) type Token<O> = Seat<O, ViewOf<O>>;
+pub(crate) type SeatToken<O> = Seat<O, ViewOf<O>>;
 
-pub(crate) type Shared<O> = atomic_table::Shared<O, ViewOf<O>, Opening<O>, Turns<O>>;
+pub(crate) type Shared<O> = atomic_table::Shared<O, ViewOf<O>, Opening<O>, TicketRule<O>>;
 
-pub(crate) type TurnTable<O> = Table<O, ViewOf<O>, Opening<O>, Turns<O>, Global>;
+pub(crate) type TurnTable<O> = Table<O, ViewOf<O>, Opening<O>, TicketRule<O>, Global>;
 
 /// Draws the next ticket.
-pub(crate) fn draw<O: Object>(shared: &Shared<O>, token: &mut Token<O>) -> u64
-    requires table { (token.old.table_id ≡ shared.now.table_id) × (shared.now.table_id.words ≡ 96) }
-    requires stage { IsAt Idle token.old.me }
+pub(crate) fn draw<O: Object>(shared: &Shared<O>, token: &mut SeatToken<O>) -> u64
+    requires table { (token.old.table_id ≡ shared.now.table_id) × (shared.now.table_id.words ≡ word_count) }
+    requires stage { TokenIsAt Idle token.old.me }
     ensures table { token.new.table_id ≡ token.old.table_id }
     ensures stage { token.new.me ≡ (seated token.old.me.0.opening (Waits result) (past_of token.old.me.0), []) }
 {
@@ -80,9 +82,9 @@ pub(crate) fn draw<O: Object>(shared: &Shared<O>, token: &mut Token<O>) -> u64
 }
 
 /// Looks whether the ticket has the turn.
-pub(crate) fn look<O: Object>(shared: &Shared<O>, token: &mut Token<O>, ticket: u64) -> bool
-    requires table { (token.old.table_id ≡ shared.now.table_id) × (shared.now.table_id.words ≡ 96) × (shared.now.table_id.slots ≡ 1) }
-    requires stage { IsAt (Waits ticket) token.old.me }
+pub(crate) fn look<O: Object>(shared: &Shared<O>, token: &mut SeatToken<O>, ticket: u64) -> bool
+    requires table { (token.old.table_id ≡ shared.now.table_id) × (shared.now.table_id.words ≡ word_count) × (shared.now.table_id.slots ≡ 1) }
+    requires stage { TokenIsAt (Waits ticket) token.old.me }
     ensures table { token.new.table_id ≡ token.old.table_id }
     ensures stage { MatchBool result (HasTurn O.meaning O.gives O.may ticket token.old.me.0.opening (past_of token.old.me.0) token.new.me) (token.new.me ≡ token.old.me) }
 {
@@ -91,7 +93,7 @@ pub(crate) fn look<O: Object>(shared: &Shared<O>, token: &mut Token<O>, ticket: 
 }
 
 /// Makes the step on the object, which the token holds.
-pub(crate) fn step<O: Object>(shared: &Shared<O>, token: &mut Token<O>, op: O::Op) -> O::Reply
+pub(crate) fn step<O: Object>(shared: &Shared<O>, token: &mut SeatToken<O>, op: O::Op) -> O::Reply
     requires table { token.old.table_id ≡ shared.now.table_id }
     requires held { (object : O) × (token.old.me.1 ≡ (0, object) ∷ []) × O.can (O.meaning object) op }
     ensures table { token.new.table_id ≡ token.old.table_id }
@@ -102,14 +104,14 @@ pub(crate) fn step<O: Object>(shared: &Shared<O>, token: &mut Token<O>, op: O::O
 }
 
 /// Makes the call that `E` names, which its caller picks by the operation and the reply, puts the object back and passes the turn on.
-fn enter<O: Object, E: Made<O::Op, O::Reply, O::Meaning>>(
+fn enter<O: Object, E: CallNamed<O::Op, O::Reply, O::Meaning>>(
     shared: &Shared<O>,
-    token: &mut Token<O>,
+    token: &mut SeatToken<O>,
     _op: &Snapshot<O::Op>,
     _reply: &O::Reply,
 )
-    requires table { (token.old.table_id ≡ shared.now.table_id) × (shared.now.table_id.words ≡ 96) × (shared.now.table_id.slots ≡ 1) }
-    requires ready { IsReady O.meaning O.gives O.may (O.meaning shared.now.key.object.value) E.made token.old.me }
+    requires table { (token.old.table_id ≡ shared.now.table_id) × (shared.now.table_id.words ≡ word_count) × (shared.now.table_id.slots ≡ 1) }
+    requires ready { CallIsReady O.meaning O.gives O.may (O.meaning shared.now.key.object.value) E.made token.old.me }
     ensures table { token.new.table_id ≡ token.old.table_id }
     ensures made { MatchOption E.made (Unit {0}) (λ e. token.new.me ≡ (seated token.old.me.0.opening Idle (with_call e (past_of token.old.me.0)), [])) }
 {
@@ -119,21 +121,21 @@ fn enter<O: Object, E: Made<O::Op, O::Reply, O::Meaning>>(
 /// Makes the call with this operation and reply on the object in hand.
 pub(crate) fn finish<O: Object>(
     shared: &Shared<O>,
-    token: &mut Token<O>,
+    token: &mut SeatToken<O>,
     op: &Snapshot<O::Op>,
     reply: &O::Reply,
 )
-    requires table { (token.old.table_id ≡ shared.now.table_id) × (shared.now.table_id.words ≡ 96) × (shared.now.table_id.slots ≡ 1) }
-    requires ready { IsReady O.meaning O.gives O.may (O.meaning shared.now.key.object.value) (made_of O.meaning token.old.me op.now.value reply.now) token.old.me }
+    requires table { (token.old.table_id ≡ shared.now.table_id) × (shared.now.table_id.words ≡ word_count) × (shared.now.table_id.slots ≡ 1) }
+    requires ready { CallIsReady O.meaning O.gives O.may (O.meaning shared.now.key.object.value) (call_in_reach O.meaning token.old.me op.now.value reply.now) token.old.me }
     ensures table { token.new.table_id ≡ token.old.table_id }
-    ensures made { MatchOption (made_of O.meaning token.old.me op.now.value reply.now) (Unit {0}) (λ e. token.new.me ≡ (seated token.old.me.0.opening Idle (with_call e (past_of token.old.me.0)), [])) }
+    ensures made { MatchOption (call_in_reach O.meaning token.old.me op.now.value reply.now) (Unit {0}) (λ e. token.new.me ≡ (seated token.old.me.0.opening Idle (with_call e (past_of token.old.me.0)), [])) }
 {
     enter::<O, Brand>(shared, token, op, reply);
 }
 
 /// Deals the first of the seats that the token has.
-pub(crate) fn deal<O: Object>(shared: &Shared<O>, token: &mut Token<O>) -> Token<O>
-    requires table { (token.old.table_id ≡ shared.now.table_id) × (shared.now.table_id.words ≡ 96) }
+pub(crate) fn deal<O: Object>(shared: &Shared<O>, token: &mut SeatToken<O>) -> SeatToken<O>
+    requires table { (token.old.table_id ≡ shared.now.table_id) × (shared.now.table_id.words ≡ word_count) }
     requires some { (token.old.me.0.stage ≡ Idle) × (0 < length token.old.me.0.pasts) }
     ensures table { (token.new.table_id ≡ token.old.table_id) × (result.table_id ≡ token.old.table_id) }
     ensures left { token.new.me ≡ (without_first token.old.me.0, token.old.me.1) }
@@ -143,8 +145,8 @@ pub(crate) fn deal<O: Object>(shared: &Shared<O>, token: &mut Token<O>) -> Token
 }
 
 /// Takes the seats of another token back, in front of its own.
-pub(crate) fn gather<O: Object>(shared: &Shared<O>, token: &mut Token<O>, other: Token<O>)
-    requires table { (token.old.table_id ≡ shared.now.table_id) × (other.table_id ≡ shared.now.table_id) × (shared.now.table_id.words ≡ 96) }
+pub(crate) fn gather<O: Object>(shared: &Shared<O>, token: &mut SeatToken<O>, other: SeatToken<O>)
+    requires table { (token.old.table_id ≡ shared.now.table_id) × (other.table_id ≡ shared.now.table_id) × (shared.now.table_id.words ≡ word_count) }
     requires idle { (token.old.me.0.stage ≡ Idle) × (other.me.0.stage ≡ Idle) × (other.me.1 ≡ []) }
     requires opening { token.old.me.0.opening ≡ Some (O.meaning shared.now.key.object.value) }
     ensures table { token.new.table_id ≡ token.old.table_id }

@@ -1,12 +1,13 @@
 //! How a thread waits for its turn: it looks for a short time, and then sleeps on its ticket's word until the one before wakes it.
 ghost use Rattle.std.specs.Prelude.{◌≡◌, ℕ, ◌+◌, ◌*◌, ◌%◌, ◌^◌, ◌<◌, ◌≤◌, [], MatchBool};
-ghost use Rattle.seat_booth.specs.declared.view.Stage.TheVariants.{Waits};
+ghost use Rattle.seat_booth.specs.Limits.{first_sleeper, word_count};
+ghost use Rattle.seat_booth.specs.declared.view.CallStage.TheVariants.{Waits};
 ghost use Rattle.seat_booth.specs.Past.{past_of};
-ghost use Rattle.seat_booth.specs.Steps.{HasTurn, IsAt};
+ghost use Rattle.seat_booth.specs.Steps.{HasTurn, TokenIsAt};
 
 use crate::object::Object;
 use crate::plays::Keep;
-use crate::table::{SERVING, SLEEPERS, Shared, TICKET, Token, look};
+use crate::table::{SERVING, SLEEPERS, SeatToken, Shared, TICKET, look};
 use std::hint::spin_loop;
 use std::sync::Wait;
 use std::thread::yield_now;
@@ -19,7 +20,7 @@ const PAUSES: u32 = 32;
 
 /// The word that a thread with this ticket sleeps on.
 fn sleeper_of(ticket: u64) -> usize
-    ensures { (32 ≤ result) × (result < 96) }
+    ensures { (first_sleeper ≤ result) × (result < word_count) }
 {
     SLEEPERS + (ticket % 64) as usize
 }
@@ -33,7 +34,7 @@ fn mark_of(ticket: u64) -> u32
 
 /// Lets other threads run for a short time while a call is under way. A thread that has drawn no ticket holds up nobody, so more threads than processors don't pass the turn from sleeper to sleeper.
 pub(crate) fn pause<O: Object>(shared: &Shared<O>)
-    requires { shared.now.table_id.words ≡ 96 }
+    requires { shared.now.table_id.words ≡ word_count }
 {
     for _ in 0..PAUSES {
         if shared.peek(TICKET) == shared.peek(SERVING) {
@@ -44,9 +45,9 @@ pub(crate) fn pause<O: Object>(shared: &Shared<O>)
 }
 
 /// Looks for the turn a few times.
-fn spin<O: Object>(shared: &Shared<O>, token: &mut Token<O>, ticket: u64) -> bool
-    requires table { (token.old.table_id ≡ shared.now.table_id) × (shared.now.table_id.words ≡ 96) × (shared.now.table_id.slots ≡ 1) }
-    requires stage { IsAt (Waits ticket) token.old.me }
+fn spin<O: Object>(shared: &Shared<O>, token: &mut SeatToken<O>, ticket: u64) -> bool
+    requires table { (token.old.table_id ≡ shared.now.table_id) × (shared.now.table_id.words ≡ word_count) × (shared.now.table_id.slots ≡ 1) }
+    requires stage { TokenIsAt (Waits ticket) token.old.me }
     ensures table { token.new.table_id ≡ token.old.table_id }
     ensures stage { MatchBool result (HasTurn O.meaning O.gives O.may ticket token.old.me.0.opening (past_of token.old.me.0) token.new.me) (token.new.me ≡ token.old.me) }
 {
@@ -60,9 +61,9 @@ fn spin<O: Object>(shared: &Shared<O>, token: &mut Token<O>, ticket: u64) -> boo
 }
 
 /// Writes a word that only puts threads to sleep.
-fn mark<O: Object>(shared: &Shared<O>, token: &mut Token<O>, at: usize, shown: u32)
-    requires table { (token.old.table_id ≡ shared.now.table_id) × (shared.now.table_id.words ≡ 96) }
-    requires word { (32 ≤ at) × (at < 96) }
+fn mark<O: Object>(shared: &Shared<O>, token: &mut SeatToken<O>, at: usize, shown: u32)
+    requires table { (token.old.table_id ≡ shared.now.table_id) × (shared.now.table_id.words ≡ word_count) }
+    requires word { (first_sleeper ≤ at) × (at < word_count) }
     ensures table { token.new.table_id ≡ token.old.table_id }
     ensures same { token.new.me ≡ token.old.me }
 {
@@ -73,11 +74,11 @@ fn mark<O: Object>(shared: &Shared<O>, token: &mut Token<O>, at: usize, shown: u
 pub(crate) fn wait<O: Object, R: Wait>(
     rt: &R,
     shared: &Shared<O>,
-    token: &mut Token<O>,
+    token: &mut SeatToken<O>,
     ticket: u64,
 )
-    requires table { (token.old.table_id ≡ shared.now.table_id) × (shared.now.table_id.words ≡ 96) × (shared.now.table_id.slots ≡ 1) }
-    requires stage { IsAt (Waits ticket) token.old.me }
+    requires table { (token.old.table_id ≡ shared.now.table_id) × (shared.now.table_id.words ≡ word_count) × (shared.now.table_id.slots ≡ 1) }
+    requires stage { TokenIsAt (Waits ticket) token.old.me }
     ensures table { token.new.table_id ≡ token.old.table_id }
     ensures turn { HasTurn O.meaning O.gives O.may ticket token.old.me.0.opening (past_of token.old.me.0) token.new.me }
 {
@@ -98,8 +99,8 @@ pub(crate) fn wait<O: Object, R: Wait>(
 }
 
 /// Wakes the thread that sleeps for this ticket, if one does.
-pub(crate) fn wake<O: Object>(shared: &Shared<O>, token: &mut Token<O>, ticket: u64)
-    requires table { (token.old.table_id ≡ shared.now.table_id) × (shared.now.table_id.words ≡ 96) }
+pub(crate) fn wake<O: Object>(shared: &Shared<O>, token: &mut SeatToken<O>, ticket: u64)
+    requires table { (token.old.table_id ≡ shared.now.table_id) × (shared.now.table_id.words ≡ word_count) }
     ensures table { token.new.table_id ≡ token.old.table_id }
     ensures same { token.new.me ≡ token.old.me }
 {

@@ -2,6 +2,15 @@
 //!
 //! A call appends exactly its text to a vector, or leaves the vector's bytes as they were. It doesn't
 //! print and knows no format: a caller puts its lines together from these pieces.
+//!
+//! ```
+//! decimal(&mut text, -7)?;                 // -7
+//! hex(&mut text, b"\x0fz")?;               // 0f7a
+//! quoted(&mut text, b"a \"b\"")?;          // "a \"b\""
+//! line(&mut text, b"end")?;                // end, and a newline
+//! let number = read_decimal(b"-7");        // Some(-7)
+//! let bytes = read_hex(alloc, b"0F7a")?;
+//! ```
 #![tactic(auto)]
 
 ghost use Rattle.std.specs.Prelude.{◌≡◌, ◌≢◌, ◌*◌, ℕ, ℤ, List, ◌++◌, length, OnOk, OnErr, IfOk, FitsSigned, None, Some, Err, take, vec_len, pos, Option, ◌^◌, ◌<◌};
@@ -15,16 +24,33 @@ ghost use Rattle.text_out.specs.Quoted.{quoted_byte, quoted_of};
 use hex::FromHexError;
 use itoa::Buffer;
 use std::alloc::{AllocError, Global};
+use thiserror::Error;
 
 const HEX_DIGITS: &[u8; 16] = b"0123456789abcdef";
 
 /// Why a text couldn't be read as hexadecimal.
-#[derive(Clone, Copy, Debug, PartialEq, Eq)]
+#[derive(Clone, Copy, Debug, PartialEq, Eq, Error)]
 pub enum HexFault {
     /// The text isn't pairs of hexadecimal digits.
+    #[error("the text isn't pairs of hexadecimal digits")]
     Bad,
     /// The bytes found no room in memory.
+    #[error("out of memory")]
     NoMemory,
+}
+
+impl From<FromHexError> for HexFault {
+    ghost use Rattle.hex.specs.declared.error.FromHexError.TheVariants.{OutOfMemory};
+    ghost use Rattle.text_out.specs.declared.HexFault.TheVariants.{Bad};
+
+    ghost from_gives = { λ error fault. fault ≡ Bad → error ≢ OutOfMemory };
+
+    fn from(error: FromHexError) -> Self {
+        match error {
+            FromHexError::OutOfMemory => HexFault::NoMemory,
+            _ => HexFault::Bad,
+        }
+    }
 }
 
 /// Appends a text and a newline.
@@ -79,19 +105,7 @@ pub fn read_hex(alloc: Global, text: &[u8]) -> Result<Vec<u8>, HexFault>
     ensures ok { IfOk result (λ bytes. unhex_of text.now ≡ Some bytes.items) }
     ensures bad { result ≡ Err HexFault.Bad → unhex_of text.now ≡ None }
 {
-    match hex::decode(alloc, text) {
-        Ok(bytes) => Ok(bytes),
-        Err(error) => Err(fault_of(error)),
-    }
-}
-
-fn fault_of(error: FromHexError) -> HexFault
-    ensures { result ≡ HexFault.Bad → error ≢ FromHexError.OutOfMemory }
-{
-    match error {
-        FromHexError::OutOfMemory => HexFault::NoMemory,
-        _ => HexFault::Bad,
-    }
+    Ok(hex::decode(alloc, text)?)
 }
 
 /// Appends bytes between quotation marks.

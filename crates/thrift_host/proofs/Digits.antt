@@ -8,7 +8,7 @@ use Rattle.hex.specs.declared.error.FromHexError.{FromHexError}
 use Rattle.hex.specs.Hex.{decode_sized, decode_of}
 use Rattle.text_out.specs.Hex.{unhex_of, pair_value}
 use Rattle.text_out.proofs.HexLemmas.{decoded}
-use Rattle.thrift_host.specs.Script.{piece_of, not_empty}
+use Rattle.thrift_host.specs.Script.{data_of, not_empty}
 
 -- room for half as many bytes is of the right size
 sized : (digits : List ℕ) (room : ℕ) → room ≡ length digits / 2 → decode_sized digits room ≡ decode_of digits
@@ -41,7 +41,7 @@ some_spelled (high ∷ low ∷ digits) some = with_first (pair_value high low) (
 
 -- the piece of a line is what its digits spell
 pub piece_spelled : (line digits : List ℕ) → starts_with nat_eq line (codes "data 0 ") ≡ true → digits ≡ drop 7 line → 0 < length digits
-    → piece_of line ≡ unhex_of digits
+    → data_of line ≡ unhex_of digits
 piece_spelled line digits starts is some =
     ap (λ t. if t then option_and_then not_empty (unhex_of (drop 7 line)) else None) starts
     ∙ ap (λ text. option_and_then not_empty (unhex_of text)) (sym is)
@@ -49,7 +49,7 @@ piece_spelled line digits starts is some =
 
 -- a line without digits has no piece
 pub no_digits : (line digits : List ℕ) → starts_with nat_eq line (codes "data 0 ") ≡ true → digits ≡ drop 7 line → length digits ≡ 0
-    → piece_of line ≡ None
+    → data_of line ≡ None
 no_digits line [] starts is none =
     ap (λ t. if t then option_and_then not_empty (unhex_of (drop 7 line)) else None) starts
     ∙ ap (λ text. option_and_then not_empty (unhex_of text)) (sym is)

@@ -1,58 +1,40 @@
 -- A run stays fed: marks by which nothing is read keep what each read took.
-use Rattle.std.proofs.Common.{◌≡◌, ℕ, zero, suc, ◌<◌, ◌≤◌, ◌⊎◌, inl, inr, List, [], ◌∷◌, ◌++◌, length, get_or, cond, nat_lt, Bool, true, false, true≢false, Result, Ok, Err, OnOk, refl, sym, ap, ◌∙◌, subst, arith, append_assoc, append-nil, lt-ltb, le-ltb}
-use Rattle.std.proofs.lemmas.List.{same_from_push}
+use Rattle.std.proofs.Common.{◌≡◌, ℕ, zero, suc, ◌<◌, ◌≤◌, List, [], ◌∷◌, ◌++◌, length, get_or, cond, nat_lt, Bool, true, false, true≢false, Result, Ok, Err, OnOk, refl, sym, ap, ◌∙◌, subst, arith, append_assoc, append-nil, lt-ltb, le-ltb}
 use Rattle.std.specs.List.{AllByRecursion, HoldsAt}
 use Rattle.outside.specs.declared.marks.Mark.{Mark}
 use Rattle.outside.specs.declared.marks.Mark.TheVariants.{Read, Opened, Closed}
 use Rattle.conn_state.specs.Phase.{Phase, sizing, held, framing, ready, waiting, writing, ended}
 use Rattle.host_model.specs.Marks.{marks_of, input, read_by}
 use Rattle.thrift_host.specs.declared.run.Run.{Run}
-use Rattle.thrift_host.specs.Script.{AreEnds}
-use Rattle.thrift_host.specs.Feeding.{AreFed, TakesItsPart, IsInPiece, IsNoRead, AddsNoRead, piece_end}
-use Rattle.thrift_host.specs.Run.{IsFed, StaysFed, closed_tape}
+use Rattle.thrift_host.specs.Steps.{AreEnds}
+use Rattle.thrift_host.specs.Office.{longest_frame}
+use Rattle.thrift_host.specs.Feeding.{EachReadTakesItsPart, TakesItsPart, piece_end}
+use Rattle.thrift_host.specs.Run.{IsInPiece, IsNoRead, AddsNoRead, IsFed, StaysFed, closed_tape}
+use Rattle.thrift_host.proofs.Each.{each_on}
 
--- a list ends here, or it has a last element
-abbrev EndsIn : {X : Type 0} → List X → Type 0
-EndsIn {X} xs = (xs ≡ []) ⊎ ((front : List X) × (last : X) × (xs ≡ front ++ last ∷ []))
-
-ends_behind : {X : Type 0} (x : X) (xs : List X) → EndsIn xs → EndsIn (x ∷ xs)
-ends_behind x xs (inl none) = inr ([], x, ap (λ r. x ∷ r) none)
-ends_behind x xs (inr some) = inr (x ∷ some.0, some.1, ap (λ r. x ∷ r) some.2)
-
-ends_in : {X : Type 0} (xs : List X) → EndsIn xs
-ends_in [] = inl refl
-ends_in (x ∷ xs) = ends_behind x xs (ends_in xs)
+-- what is said of each read, said of each mark
+abbrev FedAt : List ℕ → List Mark → Mark → Type 0
+FedAt ends front mark = (bytes : List ℕ) → mark ≡ Read 0 bytes → TakesItsPart longest_frame ends (input (marks_of 0 front)) bytes
 
 -- one mark more: a read of its own, or one of those before
-fed_at : (ends : List ℕ) (tape : List Mark) (mark : Mark) → AreFed ends tape
-    → ((bytes : List ℕ) → mark ≡ Read 0 bytes → TakesItsPart ends (input (marks_of 0 tape)) bytes)
-    → (front back : List Mark) (bytes : List ℕ) → tape ++ mark ∷ [] ≡ front ++ Read 0 bytes ∷ back → EndsIn back
-    → TakesItsPart ends (input (marks_of 0 front)) bytes
-fed_at ends tape mark fed here front back bytes e (inl nothing) =
-    let s = same_from_push tape front mark (Read 0 bytes) (e ∙ ap (λ r. front ++ Read 0 bytes ∷ r) nothing) in
-    subst (λ t. TakesItsPart ends (input (marks_of 0 t)) bytes) s.0 (here bytes s.1)
-fed_at ends tape mark fed here front back bytes e (inr some) =
-    fed front some.0 bytes
-    (same_from_push tape (front ++ Read 0 bytes ∷ some.0) mark some.1
-    (e ∙ ap (λ r. front ++ Read 0 bytes ∷ r) some.2 ∙ sym (append_assoc front (Read 0 bytes ∷ some.0) (some.1 ∷ [])))).0
-
-pub fed_on : (ends : List ℕ) (tape : List Mark) (mark : Mark) → AreFed ends tape
-    → ((bytes : List ℕ) → mark ≡ Read 0 bytes → TakesItsPart ends (input (marks_of 0 tape)) bytes)
-    → AreFed ends (tape ++ mark ∷ [])
-fed_on ends tape mark fed here front back bytes e = fed_at ends tape mark fed here front back bytes e (ends_in back)
+pub fed_on : (ends : List ℕ) (tape : List Mark) (mark : Mark) → EachReadTakesItsPart longest_frame 0 ends tape → FedAt ends tape mark
+    → EachReadTakesItsPart longest_frame 0 ends (tape ++ mark ∷ [])
+fed_on ends tape mark fed here front back bytes e =
+    each_on (FedAt ends) tape mark (λ front back other e bytes is. fed front back bytes (e ∙ ap (λ m. front ++ m ∷ back) is)) here
+    front back (Read 0 bytes) e bytes refl
 
 -- a mark by which nothing is read is no read
 reads_nothing : (mark : Mark) (bytes : List ℕ) → IsNoRead mark → mark ≡ Read 0 bytes → ⊥
 reads_nothing mark bytes none e = subst IsNoRead e none
 
-fed_more : (ends : List ℕ) (tape marks : List Mark) → AreFed ends tape → AllByRecursion IsNoRead marks → AreFed ends (tape ++ marks)
-fed_more ends tape [] fed none = subst (AreFed ends) (sym (append-nil tape)) fed
+fed_more : (ends : List ℕ) (tape marks : List Mark) → EachReadTakesItsPart longest_frame 0 ends tape → AllByRecursion IsNoRead marks → EachReadTakesItsPart longest_frame 0 ends (tape ++ marks)
+fed_more ends tape [] fed none = subst (EachReadTakesItsPart longest_frame 0 ends) (sym (append-nil tape)) fed
 fed_more ends tape (mark ∷ marks) fed none =
-    subst (AreFed ends) (append_assoc tape (mark ∷ []) marks)
+    subst (EachReadTakesItsPart longest_frame 0 ends) (append_assoc tape (mark ∷ []) marks)
     (fed_more ends (tape ++ mark ∷ []) marks (fed_on ends tape mark fed (λ bytes e. absurd (reads_nothing mark bytes none.0 e))) none.1)
 
-pub fed_all : (ends : List ℕ) (old new : List Mark) → AreFed ends old → AddsNoRead old new → AreFed ends new
-fed_all ends old new fed adds = subst (AreFed ends) (sym adds.1) (fed_more ends old adds.0 fed adds.2)
+pub fed_all : (ends : List ℕ) (old new : List Mark) → EachReadTakesItsPart longest_frame 0 ends old → AddsNoRead old new → EachReadTakesItsPart longest_frame 0 ends new
+fed_all ends old new fed adds = subst (EachReadTakesItsPart longest_frame 0 ends) (sym adds.1) (fed_more ends old adds.0 fed adds.2)
 
 -- two reads that are equal are of equal bytes
 pub read_parts : (bytes more : List ℕ) → Read 0 bytes ≡ Read 0 more → bytes ≡ more
@@ -83,7 +65,7 @@ adds_close (writing left) tape = adds_none tape
 pub fed_first : (ends : List ℕ) (size : ℕ) → AreEnds ends size → (run : Run) → run.tape.items ≡ Opened 0 ∷ [] → run.piece ≡ 0 → run.at ≡ 0 → IsFed ends run
 fed_first ends size are run tape piece at =
     record {
-      fed = subst (AreFed ends) (sym tape) (fed_more ends [] (Opened 0 ∷ []) (λ front back bytes e. absurd (no_read front back bytes e)) (tt, tt));
+      fed = subst (EachReadTakesItsPart longest_frame 0 ends) (sym tape) (fed_more ends [] (Opened 0 ∷ []) (λ front back bytes e. absurd (no_read front back bytes e)) (tt, tt));
       in_piece = record {
         passed = λ k less within. absurd (let f : ⊥ = omega (arith, piece, less) in f);
         ahead = λ within. let s : 0 < get_or ends 0 0 = are.some 0 (omega (arith, piece, within)) in

@@ -9,7 +9,8 @@ use Rattle.idl_parser.specs.Phrases.{Node, pair}
 use Rattle.idl_parser.specs.Trees.{include_node, includes_node, definitions_node, document_node}
 use Rattle.thrift_host.specs.declared.check.Checked.{Checked}
 use Rattle.thrift_host.specs.declared.check.Checked.TheVariants.{Accepted, HasInclude, Refused, FileFault, NoMemory}
-use Rattle.thrift_host.specs.Check.{Verdict, accepted, including, refused, has_include, IsJudged, IsJudgedWithin, IsJudgedAsHeld, IsCheckedIn, IsChecked, OnVerdict, is_tutorial, longest_idl}
+use Rattle.thrift_host.specs.Check.{Verdict, accepted, including, refused, has_include, IsJudged, IsJudgedWithin, IsJudgedAsHeld, IsCheckedIn, IsChecked, is_tutorial, longest_idl}
+use Rattle.thrift_host.specs.Steps.{OnVerdict}
 
 -- whether a row of includes has a first one
 row_included : (includes : List Include) (definitions : Node) (b : Bool) → eqb (length includes) 0 ≡ b

@@ -5,7 +5,8 @@ use Rattle.std.specs.List.{starts_with}
 use Rattle.std.specs.Option.{option_map}
 use Rattle.std.specs.Str.{bytes_eq}
 use Rattle.text_out.specs.Hex.{unhex_of}
-use Rattle.thrift_host.specs.Script.{piece_of, pieces_of, not_empty, joined, ends_from, written, AreEnds}
+use Rattle.thrift_host.specs.Script.{data_of, pieces_of, not_empty, bytes_of_pieces, ends_from}
+use Rattle.thrift_host.specs.Steps.{written, AreEnds}
 
 -- a piece in front of those that follow
 added : (bytes ends new_bytes new_ends : List ℕ) (piece : Option (List ℕ)) (more : Option (List (List ℕ)))
@@ -20,14 +21,14 @@ added bytes ends new_bytes new_ends (Some piece) (Some more) put end =
 
 -- the line of a piece, which is moved behind what was read
 pub piece_line : (bytes ends new_bytes new_ends line : List ℕ) (lines : List (List ℕ)) → bytes_eq line (codes "end 0") ≡ false
-    → option_map (λ p. bytes ++ p) (piece_of line) ≡ Some new_bytes → new_ends ≡ ends ++ length new_bytes ∷ []
+    → option_map (λ p. bytes ++ p) (data_of line) ≡ Some new_bytes → new_ends ≡ ends ++ length new_bytes ∷ []
     → written bytes ends (pieces_of (line ∷ lines)) ≡ written new_bytes new_ends (pieces_of lines)
 piece_line bytes ends new_bytes new_ends line [] other put end = rw other refl
 piece_line bytes ends new_bytes new_ends line (next ∷ lines) other put end =
-    added bytes ends new_bytes new_ends (piece_of line) (pieces_of (next ∷ lines)) put end
+    added bytes ends new_bytes new_ends (data_of line) (pieces_of (next ∷ lines)) put end
 
 -- a line that is neither a piece nor the end
-pub bad_line : (line : List ℕ) (lines : List (List ℕ)) → bytes_eq line (codes "end 0") ≡ false → piece_of line ≡ None
+pub bad_line : (line : List ℕ) (lines : List (List ℕ)) → bytes_eq line (codes "end 0") ≡ false → data_of line ≡ None
     → pieces_of (line ∷ lines) ≡ None
 bad_line line [] other bad = rw other refl
 bad_line line (next ∷ lines) other bad = rw bad refl
@@ -67,7 +68,7 @@ filled : (lines : List (List ℕ)) (pieces : List (List ℕ)) → pieces_of line
 filled [] pieces is = absurd (cc)
 filled (line ∷ []) pieces is = ended_filled (bytes_eq line (codes "end 0")) pieces is
 filled (line ∷ next ∷ lines) pieces is =
-    more_filled (piece_of line) (pieces_of (next ∷ lines)) pieces
+    more_filled (data_of line) (pieces_of (next ∷ lines)) pieces
     (λ p. piece_some (starts_with nat_eq line (codes "data 0 ")) (unhex_of (drop 7 line)) p) (filled (next ∷ lines)) is
 
 -- the ends rise
@@ -86,26 +87,26 @@ ends_rise at (piece ∷ pieces) j zero some below within = absurd (omega arith)
 ends_rise at (piece ∷ pieces) zero (suc k) some below within = ends_above (at + length piece) pieces k some.1 (omega arith)
 ends_rise at (piece ∷ pieces) (suc j) (suc k) some below within = ends_rise (at + length piece) pieces j k some.1 (omega arith) (omega arith)
 
-ends_within : (at : ℕ) (pieces : List (List ℕ)) (k : ℕ) → k < length (ends_from at pieces) → get_or (ends_from at pieces) k 0 ≤ at + length (joined pieces)
+ends_within : (at : ℕ) (pieces : List (List ℕ)) (k : ℕ) → k < length (ends_from at pieces) → get_or (ends_from at pieces) k 0 ≤ at + length (bytes_of_pieces pieces)
 ends_within at [] k within = absurd (omega arith)
-ends_within at (piece ∷ pieces) zero within = rw (length-append piece (joined pieces)) (omega arith)
+ends_within at (piece ∷ pieces) zero within = rw (length-append piece (bytes_of_pieces pieces)) (omega arith)
 ends_within at (piece ∷ pieces) (suc k) within =
-    rw (length-append piece (joined pieces)) (omega (arith, ends_within (at + length piece) pieces k (omega arith)))
+    rw (length-append piece (bytes_of_pieces pieces)) (omega (arith, ends_within (at + length piece) pieces k (omega arith)))
 
 -- the last one is where the bytes end
 ends_last : (at : ℕ) (pieces : List (List ℕ)) (k : ℕ) → suc k ≡ length (ends_from at pieces)
-    → get_or (ends_from at pieces) k 0 ≡ at + length (joined pieces)
+    → get_or (ends_from at pieces) k 0 ≡ at + length (bytes_of_pieces pieces)
 ends_last at [] k last = absurd (omega arith)
 ends_last at (piece ∷ []) zero last = rw (append-nil piece) refl
 ends_last at (piece ∷ next ∷ pieces) zero last = absurd (omega arith)
 ends_last at (piece ∷ pieces) (suc k) last =
-    rw (length-append piece (joined pieces)) (ends_last (at + length piece) pieces k (omega arith) ∙ omega arith)
+    rw (length-append piece (bytes_of_pieces pieces)) (ends_last (at + length piece) pieces k (omega arith) ∙ omega arith)
 
-ends_none : (pieces : List (List ℕ)) → length (ends_from 0 pieces) ≡ 0 → length (joined pieces) ≡ 0
+ends_none : (pieces : List (List ℕ)) → length (ends_from 0 pieces) ≡ 0 → length (bytes_of_pieces pieces) ≡ 0
 ends_none [] none = refl
 ends_none (piece ∷ pieces) none = absurd (omega arith)
 
-are_ends : (pieces : List (List ℕ)) → Filled pieces → AreEnds (ends_from 0 pieces) (length (joined pieces))
+are_ends : (pieces : List (List ℕ)) → Filled pieces → AreEnds (ends_from 0 pieces) (length (bytes_of_pieces pieces))
 are_ends pieces some = record {
   some = λ k within. ends_above 0 pieces k some within;
   within = λ k below. omega (arith, ends_within 0 pieces k below);
@@ -119,7 +120,7 @@ cut_pieces : (bytes ends : List ℕ) (pieces : Option (List (List ℕ))) → ((p
     → written [] [] pieces ≡ Some (bytes, ends) → AreEnds ends (length bytes)
 cut_pieces bytes ends None some is = absurd (cc)
 cut_pieces bytes ends (Some pieces) some is =
-    let whole : joined pieces ≡ bytes = ap (λ (o : Option (List ℕ × List ℕ)). elim o [ None ↦ [] | Some x ↦ x.0 ]) is in
+    let whole : bytes_of_pieces pieces ≡ bytes = ap (λ (o : Option (List ℕ × List ℕ)). elim o [ None ↦ [] | Some x ↦ x.0 ]) is in
     let cut : ends_from 0 pieces ≡ ends = ap (λ (o : Option (List ℕ × List ℕ)). elim o [ None ↦ [] | Some x ↦ x.1 ]) is in
     rw (← cut, ← whole) (are_ends pieces (some pieces refl))
 

@@ -6,21 +6,21 @@ use Rattle.outside.specs.declared.marks.Mark.{Mark}
 use Rattle.outside.specs.declared.marks.Mark.TheVariants.{Read}
 use Rattle.conn_state.specs.Phase.{Phase, sizing, held, framing, ready, waiting, writing, ended, bytes_held, missing, wanted, IsReading}
 use Rattle.conn_state.specs.Run.{taken, given}
-use Rattle.conn_state.specs.Split.{Splits, Stands as Splits_at}
+use Rattle.conn_state.specs.Split.{Splits, PhaseSays}
 use Rattle.host_model.specs.Frames.{Frames}
 use Rattle.host_model.specs.Marks.{marks_of, input}
 use Rattle.host_model.specs.World.{Moment}
 use Rattle.thrift_host.specs.declared.run.Run.{Run}
-use Rattle.thrift_host.specs.Office.{desk, rules, memories, longest_frame}
-use Rattle.thrift_host.specs.Script.{AreEnds}
-use Rattle.thrift_host.specs.Feeding.{Completes, TakesItsPart, AreFed, IsInPiece, AddsNoRead, piece_end}
-use Rattle.thrift_host.specs.Run.{IsUnderWay, IsFed, closed_tape}
+use Rattle.thrift_host.specs.Office.{calculator_desk, calculator_rules, calculator_memories, longest_frame}
+use Rattle.thrift_host.specs.Steps.{AreEnds}
+use Rattle.thrift_host.specs.Feeding.{Completes, TakesItsPart, EachReadTakesItsPart, piece_end}
+use Rattle.thrift_host.specs.Run.{IsInPiece, AddsNoRead, IsRunUnderWay, IsFed, closed_tape}
 use Rattle.thrift_host.proofs.Moves.{reads_at}
 use Rattle.thrift_host.proofs.Fed.{fed_on, fed_all, read_parts, adds_close, ends_there, some_piece, numbers_below}
 
 -- what is missing completes the size or the payload under way
 completes : (payloads : List (List ℕ)) (rest : List ℕ) (out : List (ℕ × List ℕ)) (phase : Phase) → IsReading phase
-    → Splits_at longest_frame payloads rest out phase → 0 < missing phase → Completes (bytes_held phase) (missing phase)
+    → PhaseSays longest_frame payloads rest out phase → 0 < missing phase → Completes longest_frame (bytes_held phase) (missing phase)
 completes payloads rest out (sizing bytes) h s some = (some, inl (let less : length bytes < 4 = s.2.0 in omega arith))
 completes payloads rest out (framing size bytes) h s some =
     (some, inr (record { size = size; bytes = bytes; same = refl; within = s.2.within; all = let less : length bytes < size = s.2.fewer in omega arith }))
@@ -31,21 +31,22 @@ completes payloads rest out (writing left) h s some = absurd h
 completes payloads rest out (ended cause) h s some = absurd h
 
 -- a read takes its part
-pub takes_part : (all ends : List ℕ) (run : Run) (bytes : List ℕ) (end : ℕ) → IsReading run.conn.phase → (u : IsUnderWay all run)
-    → Moment desk rules memories u.world → Splits longest_frame (taken u.events) (given u.events) run.conn
-    → 0 < missing run.conn.phase → end ≡ piece_end ends run.at → length bytes ≡ min (wanted run.conn.phase) (end - run.at)
-    → TakesItsPart ends (input (marks_of 0 run.tape.items)) bytes
-takes_part all ends run bytes end h u moment splits some end_is count =
-    let at_line = reads_at run.conn.phase (u.world.lines 0) h u.stands in
+pub takes_part : (all ends : List ℕ) (run : Run) (bytes : List ℕ) (end : ℕ) → IsReading run.conn.phase → (u : IsRunUnderWay all run)
+    → Moment calculator_desk calculator_rules calculator_memories u.world → Splits longest_frame (taken u.events) (given u.events) run.conn
+    → 0 < length bytes → 0 < missing run.conn.phase → end ≡ piece_end ends run.at → length bytes ≡ min (wanted run.conn.phase) (end - run.at)
+    → TakesItsPart longest_frame ends (input (marks_of 0 run.tape.items)) bytes
+takes_part all ends run bytes end h u moment splits some_bytes some end_is count =
+    let at_line = reads_at run.conn.phase (u.world.endpoints 0) h u.stands in
     let long : length (input (marks_of 0 run.tape.items)) ≡ run.at = ap length u.read ∙ length-take-le run.at all u.within in
     record {
-      payloads = (u.world.lines 0).payloads;
+      payloads = (u.world.endpoints 0).payloads;
       rest = bytes_held run.conn.phase;
       frames =
-          subst (λ t. Frames longest_frame (input (marks_of 0 t)) (u.world.lines 0).payloads (bytes_held run.conn.phase)) (sym u.same_tape)
-          (subst (λ r. Frames longest_frame (input (marks_of 0 u.world.tape)) (u.world.lines 0).payloads r) at_line.0 (moment.frames 0));
+          subst (λ t. Frames longest_frame (input (marks_of 0 t)) (u.world.endpoints 0).payloads (bytes_held run.conn.phase)) (sym u.same_tape)
+          (subst (λ r. Frames longest_frame (input (marks_of 0 u.world.tape)) (u.world.endpoints 0).payloads r) at_line.0 (moment.frames 0));
       missing = missing run.conn.phase;
       completes = completes splits.payloads splits.rest (given u.events) run.conn.phase h splits.stands some;
+      some = some_bytes;
       count = count ∙ ap (λ e. min (wanted run.conn.phase) (e - run.at)) end_is
           ∙ ap (λ n. min (wanted run.conn.phase) (piece_end ends n - n)) (sym long);
     }
@@ -84,7 +85,7 @@ pub record TakesBytes (all ends : List ℕ) (run new : Run) (bytes : List ℕ) (
 
 -- a run that reads stays fed
 pub reads_fed : (all ends : List ℕ) (run new : Run) (bytes : List ℕ) (end : ℕ) → TakesBytes all ends run new bytes end → run.at < length all → length all < 2 ^ 62
-    → AreEnds ends (length all) → (u : IsUnderWay all run) → Moment desk rules memories u.world
+    → AreEnds ends (length all) → (u : IsRunUnderWay all run) → Moment calculator_desk calculator_rules calculator_memories u.world
     → Splits longest_frame (taken u.events) (given u.events) run.conn → IsFed ends run → IsFed ends new
 reads_fed all ends run new bytes end t left small are u moment splits fed =
     elim (cases_lt run.piece (length ends)) [
@@ -95,14 +96,14 @@ reads_fed all ends run new bytes end t left small are u moment splits fed =
     read : Mark
     read = Read 0 bytes
 
-    takes : TakesItsPart ends (input (marks_of 0 run.tape.items)) bytes
-    takes = takes_part all ends run bytes end t.reading u moment splits (omega (arith, t.some, t.asked)) t.end_is t.asked
+    takes : TakesItsPart longest_frame ends (input (marks_of 0 run.tape.items)) bytes
+    takes = takes_part all ends run bytes end t.reading u moment splits t.some (omega (arith, t.some, t.asked)) t.end_is t.asked
 
     adds : AddsNoRead (run.tape.items ++ read ∷ []) new.tape.items
     adds = subst (AddsNoRead (run.tape.items ++ read ∷ [])) (sym t.tape_is) (adds_close new.conn.phase (run.tape.items ++ read ∷ []))
 
-    with_read : AreFed ends (run.tape.items ++ read ∷ [])
-    with_read = fed_on ends run.tape.items read fed.fed (λ more e. subst (TakesItsPart ends (input (marks_of 0 run.tape.items))) (read_parts bytes more e) takes)
+    with_read : EachReadTakesItsPart longest_frame 0 ends (run.tape.items ++ read ∷ [])
+    with_read = fed_on ends run.tape.items read fed.fed (λ more e. subst (TakesItsPart longest_frame ends (input (marks_of 0 run.tape.items))) (read_parts bytes more e) takes)
 
     go : run.piece < length ends → IsFed ends new
     go inside =

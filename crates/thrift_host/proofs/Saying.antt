@@ -9,7 +9,7 @@ use Rattle.thrift_host.specs.Top.{IsSaid}
 -- what a write of a whole line tells
 pub said : {A E : Type 0} (before now : Option (List ℕ)) (faults_before faults : ℕ) (text : List ℕ) (result : Result A E)
     → MatchResult result (λ _. now ≡ told_more before text) (λ _. IsTakenInPart before now text) → HasCause faults_before faults result
-    → IsSaid before now faults_before faults text
+    → IsSaid (record { taken_before = before; taken = now; faults_before = faults_before; faults = faults }) text
 said before now faults_before faults text (Ok x) told cause =
     record { front = length text; written = told ∙ ap (told_more before) (sym (take-length text)); whole = inl told }
 said before now faults_before faults text (Err e) told cause =

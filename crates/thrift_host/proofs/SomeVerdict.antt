@@ -1,25 +1,25 @@
 -- Each text has a verdict, and so has each IDL, where files are told.
 use Rattle.std.proofs.Common.{◌≡◌, ◌≢◌, ℕ, ◌⊎◌, Bool, true, false, cond, nat_le, List, [], ◌∷◌, length, Option, Some, None, refl, inl, inr}
-use Rattle.outside.specs.Files.{File, bytes_of}
+use Rattle.outside.specs.Files.{File, content_of}
 use Rattle.idl_token.specs.declared.Token.{Token}
 use Rattle.idl_token.specs.declared.LexKind.{LexKind}
 use Rattle.idl_token.specs.declared.LexKind.TheVariants as lex
-use Rattle.idl_token.specs.Places.{place_of}
-use Rattle.idl_token.specs.Tokens.{AreTokensOf, HasTokens, HasFirstFault as HasLexFault}
+use Rattle.idl_token.specs.Places.{line_and_column}
+use Rattle.idl_token.specs.Tokens.{AreTokensOf, HasTokens, HasFirstLexFault as HasLexFault}
 use Rattle.idl_token.proofs.SomeOutcome.{one_outcome, no_want}
 use Rattle.idl_parser.specs.declared.ParseKind.TheVariants as parse
-use Rattle.idl_parser.specs.declared.terminal.Terminal.{Terminal}
-use Rattle.idl_parser.specs.declared.terminal.Terminal.TheVariants as word
-use Rattle.idl_parser.specs.Terminals.{same}
+use Rattle.idl_token.specs.declared.terminal.Terminal.{Terminal}
+use Rattle.idl_token.specs.declared.terminal.Terminal.TheVariants as word
+use Rattle.idl_token.specs.Terminals.{same}
 use Rattle.idl_parser.specs.Phrases.{Lexeme, Node}
 use Rattle.idl_parser.specs.Documents.{deepest}
 use Rattle.idl_parser.specs.Symbols.{lexemes}
-use Rattle.idl_parser.specs.FirstFault.{IsDocument as AreDocument, HasFirstFault as HaveFirstFault}
+use Rattle.idl_parser.specs.FirstFault.{AreDocument, HasFirstSyntaxFault as HaveFirstFault}
 use Rattle.idl_parser.specs.Faults.{kind_at, fault_kind, next_place}
 use Rattle.idl_parser.proofs.OneFault.{either_of_both}
 use Rattle.thrift_host.specs.declared.refusal.IdlKind.{IdlKind}
 use Rattle.thrift_host.specs.declared.refusal.IdlKind.TheVariants as kinds
-use Rattle.thrift_host.specs.Check.{Verdict, accepted, including, refused, IsDocument, has_include, kind_of_lexer, kind_of_parser, IsJudged, whole_file, IsJudgedWithin, IsJudgedAsHeld, IsCheckedIn, IsChecked, is_tutorial, longest_idl}
+use Rattle.thrift_host.specs.Check.{Verdict, accepted, including, refused, HasDocument, has_include, kind_of_lexer, kind_of_parser, IsJudged, whole_file, IsJudgedWithin, IsJudgedAsHeld, IsCheckedIn, IsChecked, is_tutorial, longest_idl}
 use Rattle.thrift_host.specs.Tutorial.{tutorial_text}
 
 -- a fault of the lexer has a kind
@@ -45,7 +45,7 @@ of_parser deep [] = of_symbol deep word.Identifier
 of_parser deep (t ∷ rest) = of_symbol deep t.what
 
 -- the verdict on a document, on tokens, and on what the lexer makes of a text
-of_document : (text : List ℕ) (tree : Node) → IsDocument text tree → (b : Bool) → has_include tree ≡ b → (verdict : Verdict) × IsJudged text verdict
+of_document : (text : List ℕ) (tree : Node) → HasDocument text tree → (b : Bool) → has_include tree ≡ b → (verdict : Verdict) × IsJudged text verdict
 of_document text tree is false e = (accepted, (tree, is, e))
 of_document text tree is true e = (including, (tree, is, e))
 
@@ -55,7 +55,7 @@ of_tokens text tokens cut (inl (tree, document)) =
     of_document text tree (record { tokens = tokens; cut = cut; document = document }) (has_include tree) refl
 of_tokens text tokens cut (inr (rest, deep, first)) =
     let named = of_parser deep rest in
-    let at = next_place (place_of text (length text)) rest in (
+    let at = next_place (line_and_column text (length text)) rest in (
       refused at named.0,
       inr
           (record {
@@ -88,7 +88,7 @@ of_held (Some text) = of_limited (nat_le (length text) longest_idl) text
 
 of_idl : (tutorial : Bool) (files : List File) (idl : List ℕ) → (verdict : Verdict) × IsCheckedIn tutorial (Some files) idl verdict
 of_idl true files idl = some_verdict tutorial_text
-of_idl false files idl = of_held (bytes_of files idl)
+of_idl false files idl = of_held (content_of files idl)
 
 pub some_verdict_of_idl : (files : List File) (idl : List ℕ) → (verdict : Verdict) × IsChecked (Some files) idl verdict
 some_verdict_of_idl files idl = of_idl (is_tutorial idl) files idl

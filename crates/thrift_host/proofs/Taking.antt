@@ -5,7 +5,7 @@ use Rattle.std.specs.Result.{IsErr}
 use Rattle.outside.specs.Cause.{Rose}
 use Rattle.outside.specs.Content.{told_more}
 use Rattle.thrift_host.specs.declared.report.ReportError.{ReportError}
-use Rattle.thrift_host.specs.Pieces.{IsTakenBut, IsTakenInPart, Takes, HasSinkCause}
+use Rattle.thrift_host.specs.Pieces.{IsTakenBut, IsTakenInPart, TakesText, HasSinkCause}
 
 told_twice : (x : Option (List ℕ)) (a b : List ℕ) → told_more (told_more x a) b ≡ told_more x (a ++ b)
 told_twice None a b = refl
@@ -81,13 +81,13 @@ more_in_part x y text more f = but_in_part x y text f.lost more f.taken
 
 -- an error that is handed on
 pub err_takes : {A E : Type 0} (x y : Option (List ℕ)) (text left : List ℕ) (result : Result A E) → IsErr result → IsTakenInPart x y text
-    → Takes x y text left result
+    → TakesText x y text left result
 err_takes x y text left (Ok a) e f = absurd (let g : ⊥ = cc in g)
 err_takes x y text left (Err e) h f = f
 
 -- the last of a text
 pub last_takes : {A E : Type 0} (x y z : Option (List ℕ)) (text left rest : List ℕ) (result : Result A E) → IsTakenBut x y text left
-    → Takes y z left rest result → Takes x z text rest result
+    → TakesText y z left rest result → TakesText x z text rest result
 last_takes x y z text left rest (Ok a) f g = taken_on x y z text left rest f g
 last_takes x y z text left rest (Err e) f g = last_in_part x y z text left f g
 

@@ -1,6 +1,6 @@
 -- A text has one verdict, and so has an IDL.
 use Rattle.std.proofs.Common.{◌≡◌, ℕ, ◌⊎◌, Bool, true, false, nat_le, List, length, Option, Some, None, refl, sym, ap, ◌∙◌, subst, inl, inr}
-use Rattle.outside.specs.Files.{File, bytes_of}
+use Rattle.outside.specs.Files.{File, content_of}
 use Rattle.idl_token.specs.declared.Place.{Place}
 use Rattle.idl_token.proofs.OneOutcome.{one_token_list, tokens_or_fault, one_first_fault}
 use Rattle.idl_parser.specs.Phrases.{Node}
@@ -10,17 +10,17 @@ use Rattle.idl_parser.specs.Faults.{IsFaultOf}
 use Rattle.idl_parser.proofs.Faults.{one_document, no_fault}
 use Rattle.idl_parser.proofs.OneFault.{one_fault}
 use Rattle.thrift_host.specs.declared.refusal.IdlKind.{IdlKind}
-use Rattle.thrift_host.specs.Check.{Verdict, accepted, including, refused, IsDocument, has_include, kind_of_lexer, kind_of_parser, IsLexFlaw, IsParseFlaw, IsJudged, IsJudgedWithin, IsJudgedAsHeld, IsCheckedIn, IsChecked, is_tutorial, longest_idl}
+use Rattle.thrift_host.specs.Check.{Verdict, accepted, including, refused, HasDocument, has_include, kind_of_lexer, kind_of_parser, IsLexFlaw, IsParseFlaw, IsJudged, IsJudgedWithin, IsJudgedAsHeld, IsCheckedIn, IsChecked, is_tutorial, longest_idl}
 use Rattle.thrift_host.specs.Tutorial.{tutorial_text}
 
 -- a text is one document
-document_once : (text : List ℕ) (d e : Node) → IsDocument text d → IsDocument text e → d ≡ e
+document_once : (text : List ℕ) (d e : Node) → HasDocument text d → HasDocument text e → d ≡ e
 document_once text d e a b =
     let same = one_token_list text a.tokens b.tokens a.cut b.cut in
     one_document deepest (lexemes text b.tokens) d e (subst (λ ts. DocumentIn deepest (lexemes text ts) d) same a.document) b.document
 
 -- a document has no fault
-no_flaw : (text : List ℕ) (d : Node) (at : Place) (is : IdlKind) → IsDocument text d → IsLexFlaw text at is ⊎ IsParseFlaw text at is → ⊥
+no_flaw : (text : List ℕ) (d : Node) (at : Place) (is : IdlKind) → HasDocument text d → IsLexFlaw text at is ⊎ IsParseFlaw text at is → ⊥
 no_flaw text d at is a (inl f) = tokens_or_fault text a.tokens f.fault a.cut f.first
 no_flaw text d at is a (inr f) =
     let same = one_token_list text a.tokens f.tokens a.cut f.cut in
@@ -43,7 +43,7 @@ one_flaw text at place is other (inr f) (inr g) =
     (f.place ∙ ap (λ fault. fault.at) same ∙ sym g.place, cc)
 
 -- a document has an include or has none
-apart : (text : List ℕ) (d e : Node) → IsDocument text d → has_include d ≡ false → IsDocument text e → has_include e ≡ true → ⊥
+apart : (text : List ℕ) (d e : Node) → HasDocument text d → has_include d ≡ false → HasDocument text e → has_include e ≡ true → ⊥
 apart text d e a without b with_one = let same = ap has_include (document_once text d e a b) in cc
 
 -- a text has one verdict
@@ -72,7 +72,7 @@ held_once (Some text) a b ja jb = within_once (nat_le (length text) longest_idl)
 checked_once : (tutorial : Bool) (files : List File) (idl : List ℕ) (a b : Verdict)
     → IsCheckedIn tutorial (Some files) idl a → IsCheckedIn tutorial (Some files) idl b → a ≡ b
 checked_once true files idl a b ca cb = one_verdict tutorial_text a b ca cb
-checked_once false files idl a b ca cb = held_once (bytes_of files idl) a b ca cb
+checked_once false files idl a b ca cb = held_once (content_of files idl) a b ca cb
 
 pub one_verdict_of_idl : (files : List File) (idl : List ℕ) (a b : Verdict)
     → IsChecked (Some files) idl a → IsChecked (Some files) idl b → a ≡ b

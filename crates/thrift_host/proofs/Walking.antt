@@ -7,7 +7,7 @@ use Rattle.std.proofs.lemmas.Option.{slice_get_within}
 use Rattle.host_model.specs.Frames.{Frames, frame, IsPayload, ArePayloads, IsRest}
 use Rattle.thrift_host.specs.Message.{message_of}
 use Rattle.thrift_host.specs.Office.{longest_frame}
-use Rattle.thrift_host.specs.Rehearsal.{AreBuilt, IsUnbuilt}
+use Rattle.thrift_host.specs.Unbuilt.{AreBuilt, IsUnbuilt}
 
 abbrev pub IsKnown : List ℕ → Type 0
 IsKnown payload = message_of payload ≢ None

@@ -1,15 +1,13 @@
 -- What becomes of an IDL that is checked.
-use Rattle.std.specs.Prelude.{◌≡◌, ℕ, ◌⊎◌, Bool, true, false, nat_le, List, length, codes, Option, Some, None, ⊤}
+use Rattle.std.specs.Prelude.{◌≡◌, ℕ, ◌⊎◌, Bool, true, false, nat_le, List, length, codes, Option, Some, None}
 use Rattle.std.specs.Str.{bytes_eq}
-use Rattle.outside.specs.Files.{File, OnTold}
-use Rattle.outside.specs.declared.files.FileFail.{FileFail}
-use Rattle.outside.specs.declared.files.FileFail.TheVariants as fail
+use Rattle.outside.specs.Files.{File, OnTold, fits}
 use Rattle.idl_token.specs.declared.Place.{Place}
 use Rattle.idl_token.specs.declared.Token.{Token}
 use Rattle.idl_token.specs.declared.LexFault.{LexFault}
 use Rattle.idl_token.specs.declared.LexKind.{LexKind}
 use Rattle.idl_token.specs.declared.LexKind.TheVariants as lex
-use Rattle.idl_token.specs.Tokens.{AreTokensOf, IsFirstFault}
+use Rattle.idl_token.specs.Tokens.{AreTokensOf, IsFirstLexFault}
 use Rattle.idl_parser.specs.declared.ParseFault.{ParseFault}
 use Rattle.idl_parser.specs.declared.ParseKind.{ParseKind}
 use Rattle.idl_parser.specs.declared.ParseKind.TheVariants as parse
@@ -19,8 +17,6 @@ use Rattle.idl_parser.specs.Documents.{deepest, DocumentIn}
 use Rattle.idl_parser.specs.Faults.{IsFaultOf}
 use Rattle.thrift_host.specs.declared.refusal.IdlKind.{IdlKind}
 use Rattle.thrift_host.specs.declared.refusal.IdlKind.TheVariants as kinds
-use Rattle.thrift_host.specs.declared.check.Checked.{Checked}
-use Rattle.thrift_host.specs.declared.check.Checked.TheVariants.{Accepted, HasInclude, Refused, FileFault, NoMemory}
 use Rattle.thrift_host.specs.Tutorial.{tutorial_text}
 
 -- The verdict on an IDL: a document without an include, a document with one, or refused at a place for a kind of fault.
@@ -34,7 +30,7 @@ abbrev pub longest_idl : ℕ
 longest_idl = 4194304
 
 -- the text is a document, and this is its tree (Thrift IDL, 'Document')
-pub record IsDocument (text : List ℕ) (tree : Node) : Type 0 where
+pub record HasDocument (text : List ℕ) (tree : Node) : Type 0 where
   pub tokens : List Token
   pub cut : AreTokensOf tokens text
   pub document : DocumentIn deepest (lexemes text tokens) tree
@@ -63,7 +59,7 @@ kind_of_parser parse.NoMemory = None
 -- the first fault that the lexer finds in the text has this place and kind
 pub record IsLexFlaw (text : List ℕ) (at : Place) (is : IdlKind) : Type 0 where
   pub fault : LexFault
-  pub first : IsFirstFault fault text
+  pub first : IsFirstLexFault fault text
   pub place : at ≡ fault.at
   pub named : kind_of_lexer fault.kind ≡ Some is
 
@@ -78,8 +74,8 @@ pub record IsParseFlaw (text : List ℕ) (at : Place) (is : IdlKind) : Type 0 wh
 
 -- The verdict on a text.
 abbrev pub IsJudged : List ℕ → Verdict → Type 0
-IsJudged text accepted = (tree : Node) × IsDocument text tree × (has_include tree ≡ false)
-IsJudged text including = (tree : Node) × IsDocument text tree × (has_include tree ≡ true)
+IsJudged text accepted = (tree : Node) × HasDocument text tree × (has_include tree ≡ false)
+IsJudged text including = (tree : Node) × HasDocument text tree × (has_include tree ≡ true)
 IsJudged text (refused at is) = IsLexFlaw text at is ⊎ IsParseFlaw text at is
 
 -- the place 0:0, of a file as a whole
@@ -100,6 +96,7 @@ IsJudgedAsHeld (Some text) verdict = IsJudgedWithin (nat_le (length text) longes
 abbrev pub is_tutorial : List ℕ → Bool
 is_tutorial idl = bytes_eq idl (codes "@tutorial")
 
+-- the verdict on the tutorial's text, or on what the file of this name holds
 abbrev pub IsCheckedIn : Bool → Option (List File) → List ℕ → Verdict → Type 0
 IsCheckedIn true files idl verdict = IsJudged tutorial_text verdict
 IsCheckedIn false files idl verdict = OnTold files idl (λ held. IsJudgedAsHeld held verdict)
@@ -108,17 +105,6 @@ IsCheckedIn false files idl verdict = OnTold files idl (λ held. IsJudgedAsHeld 
 abbrev pub IsChecked : Option (List File) → List ℕ → Verdict → Type 0
 IsChecked files idl verdict = IsCheckedIn (is_tutorial idl) files idl verdict
 
--- this holds of the verdict; a fault of the file and want of memory are none
-abbrev pub OnVerdict : Checked → (Verdict → Type 0) → Type 0
-OnVerdict Accepted P = P accepted
-OnVerdict HasInclude P = P including
-OnVerdict (Refused refusal) P = P (refused refusal.at refusal.kind)
-OnVerdict FileFault P = ⊤
-OnVerdict NoMemory P = ⊤
-
--- what becomes of an IDL that isn't read
-abbrev pub unread : FileFail → Checked
-unread fail.Absent = Refused (record { at = whole_file; kind = kinds.Absent })
-unread fail.TooLong = Refused (record { at = whole_file; kind = kinds.TooLong })
-unread fail.Failed = FileFault
-unread fail.NoMemory = NoMemory
+-- The IDL is a file that is there and within the limit, where files are told, and not the tutorial: the only one that can fail to be read.
+abbrev pub IsReadable : Option (List File) → List ℕ → Type 0
+IsReadable files idl = (is_tutorial idl ≡ false) × OnTold files idl (λ held. fits longest_idl held ≡ true)

@@ -3,8 +3,8 @@ use Rattle.std.specs.Prelude.{ℕ, false, List, [], ◌∷◌, ◌++◌, Option,
 use Rattle.std.specs.Int.{w32, int_wrapping_add}
 use Rattle.wire_num.specs.Fixed.{signed_bytes}
 use Rattle.host_model.specs.Frames.{frame}
-use Rattle.host_model.specs.Desk.{Desk, Decision, Silent, Invoke}
-use Rattle.host_model.specs.Journal.{Rules}
+use Rattle.host_model.specs.DeskRules.{DeskRules, DeskDecision, Silent, Invoke}
+use Rattle.host_model.specs.Journal.{ServiceRules}
 use Rattle.thrift_host.specs.declared.message.Call.{Call}
 use Rattle.thrift_host.specs.declared.message.Call.TheVariants.{Ping, Add}
 use Rattle.thrift_host.specs.declared.message.Answer.{Answer}
@@ -17,7 +17,7 @@ abbrev pub longest_frame : ℕ
 longest_frame = 16384000
 
 -- a message is called; a payload that is none asks for nothing (no run comes to one: a script that has one is refused)
-abbrev pub decided : Option Message → Decision Call
+abbrev pub decided : Option Message → DeskDecision Call
 decided None = Silent
 decided (Some message) = Invoke message.call
 
@@ -41,13 +41,14 @@ abbrev pub reply_payload : Message → Answer → List ℕ
 reply_payload message answer =
     0x80 ∷ 1 ∷ 0 ∷ 2 ∷ name_bytes message.call ++ signed_bytes w32 message.id ++ result_bytes answer
 
+-- the whole frame that goes back for a message
 abbrev pub reply_to : Option Message → Answer → List ℕ
 reply_to None answer = []
 reply_to (Some message) answer = frame (reply_payload message answer)
 
 -- the desk, at which no call is silent
-abbrev pub desk : Desk Call Answer
-desk = record {
+abbrev pub calculator_desk : DeskRules Call Answer
+calculator_desk = record {
   max = longest_frame;
   decide = λ payload. decided (message_of payload);
   silent = λ call. false;
@@ -55,8 +56,9 @@ desk = record {
 }
 
 -- the one service, which stands in slot 0 and has nothing to remember
-abbrev pub rules : Rules Call Answer (Unit {0})
-rules = record { slot = λ call. 0; rule = λ call memory. (answered call, memory) }
+abbrev pub calculator_rules : ServiceRules Call Answer (Unit {0})
+calculator_rules = record { slot = λ call. 0; rule = λ call memory. (answered call, memory) }
 
-abbrev pub memories : List (Unit {0})
-memories = tt ∷ []
+-- its memory at the beginning
+abbrev pub calculator_memories : List (Unit {0})
+calculator_memories = tt ∷ []

@@ -17,8 +17,8 @@ pub record IsTakenInPart (before now : Option (List ℕ)) (text : List ℕ) : Ty
   pub taken : IsTakenBut before now text lost
 
 -- a call hands this text to a sink and keeps what is left of it; where it fails, the sink took a beginning
-abbrev pub Takes : {A E : Type 0} → (before now : Option (List ℕ)) (text left : List ℕ) → Result A E → Type 0
-Takes before now text left result = MatchResult result (λ _. IsTakenBut before now text left) (λ _. IsTakenInPart before now text)
+abbrev pub TakesText : {A E : Type 0} → (before now : Option (List ℕ)) (text left : List ℕ) → Result A E → Type 0
+TakesText before now text left result = MatchResult result (λ _. IsTakenBut before now text left) (λ _. IsTakenInPart before now text)
 
 -- the count of faults never falls, and the sink is said to have failed only where it rose
 pub record HasSinkCause {A : Type 0} (before now : ℕ) (result : Result A ReportError) : Type 0 where

@@ -1,5 +1,5 @@
 -- A script of one recorded connection: `open`, pieces of its bytes, and `end 0`.
-use Rattle.std.specs.Prelude.{◌≡◌, ℕ, ◌+◌, ◌-◌, ◌<◌, ◌≤◌, ◌==◌, Bool, true, not, nat_eq, nat_lt, List, [], ◌∷◌, ◌++◌, length, drop, codes, filter, slice_index, Option, Some, None, if◌then◌else◌, option_and_then}
+use Rattle.std.specs.Prelude.{ℕ, ◌+◌, ◌==◌, Bool, true, not, nat_eq, nat_lt, List, [], ◌∷◌, length, drop, codes, filter, Option, Some, None, if◌then◌else◌, option_and_then}
 use Rattle.std.specs.List.{starts_with, flat_map}
 use Rattle.std.specs.Option.{option_map}
 use Rattle.std.specs.Str.{bytes_eq}
@@ -38,15 +38,15 @@ not_empty [] = None
 not_empty (b ∷ bytes) = Some (b ∷ bytes)
 
 -- the bytes of a line `data 0 HEX`
-abbrev pub piece_of : List ℕ → Option (List ℕ)
-piece_of line =
+abbrev pub data_of : List ℕ → Option (List ℕ)
+data_of line =
     if starts_with nat_eq line (codes "data 0 ") then option_and_then not_empty (unhex_of (drop 7 line)) else None
 
 -- the pieces of the lines behind `open`, the last of which is `end 0`
 abbrev pub pieces_of : List (List ℕ) → Option (List (List ℕ))
 pieces_of [] = None
 pieces_of (line ∷ []) = if bytes_eq line (codes "end 0") then Some [] else None
-pieces_of (line ∷ next ∷ lines) = option_and_then (λ piece. option_map (λ pieces. piece ∷ pieces) (pieces_of (next ∷ lines))) (piece_of line)
+pieces_of (line ∷ next ∷ lines) = option_and_then (λ piece. option_map (λ pieces. piece ∷ pieces) (pieces_of (next ∷ lines))) (data_of line)
 
 -- the pieces of a script's lines, those that say nothing left out
 abbrev pub script_of_lines : List (List ℕ) → Option (List (List ℕ))
@@ -60,29 +60,10 @@ script_of text =
     else script_of_lines (said_lines text)
 
 -- the pieces, one behind the other
-abbrev pub joined : List (List ℕ) → List ℕ
-joined pieces = flat_map (λ piece. piece) pieces
+abbrev pub bytes_of_pieces : List (List ℕ) → List ℕ
+bytes_of_pieces pieces = flat_map (λ piece. piece) pieces
 
 -- where each piece ends among all bytes, the first of which is number `at`
 abbrev pub ends_from : ℕ → List (List ℕ) → List ℕ
 ends_from at [] = []
 ends_from at (piece ∷ pieces) = (at + length piece) ∷ ends_from (at + length piece) pieces
-
--- the bytes and ends once these pieces were added to those
-abbrev pub written : List ℕ → List ℕ → Option (List (List ℕ)) → Option (List ℕ × List ℕ)
-written bytes ends pieces = option_map (λ more. (bytes ++ joined more, ends ++ ends_from (length bytes) more)) pieces
-
--- these bytes and ends are those of the script that this text is
-pub record IsScript (text bytes ends : List ℕ) : Type 0 where
-  pub pieces : List (List ℕ)
-  pub spelled : script_of text ≡ Some pieces
-  pub whole : bytes ≡ joined pieces
-  pub cut : ends ≡ ends_from 0 pieces
-
--- ends that cut so many bytes into pieces, none of them empty: they rise from above 0, and the last one is where the bytes end
-pub record AreEnds (ends : List ℕ) (size : ℕ) : Type 0 where
-  pub some : (k : ℕ) → k < length ends → 0 < slice_index ends k
-  pub within : (k : ℕ) → k < length ends → slice_index ends k ≤ size
-  pub rising : (j k : ℕ) → j < k → k < length ends → slice_index ends j < slice_index ends k
-  pub last : 0 < length ends → slice_index ends (length ends - 1) ≡ size
-  pub none : length ends ≡ 0 → size ≡ 0

@@ -1,5 +1,5 @@
 -- What the top call promises of its status, its input, its output and its errors' line.
-use Rattle.std.specs.Prelude.{◌≡◌, ℕ, ◌⊎◌, false, List, [], Option, Some, None, take, codes, MatchOption, ⊤}
+use Rattle.std.specs.Prelude.{◌≡◌, ℕ, ◌⊎◌, false, List, [], Option, Some, None, take, codes, MatchOption}
 use Rattle.outside.specs.Cause.{Rose}
 use Rattle.outside.specs.Content.{told_before, told_more, IsSpent}
 use Rattle.outside.specs.Files.{File}
@@ -9,70 +9,86 @@ use Rattle.host_model.specs.Report.{numbered}
 use Rattle.thrift_host.specs.declared.status.Status.{Status}
 use Rattle.thrift_host.specs.declared.status.Status.TheVariants.{Done, Usage, IdlRefused, ScriptRefused, FileFault, ReadFault, WriteFault, NoMemory, Unbuilt}
 use Rattle.thrift_host.specs.declared.refusal.IdlKind.{IdlKind}
-use Rattle.thrift_host.specs.declared.refusal.Refusal.{Refusal}
-use Rattle.thrift_host.specs.Check.{accepted, including, refused, IsChecked, is_tutorial}
+use Rattle.thrift_host.specs.Words.{Command, no_command, checks, rehearses}
+use Rattle.thrift_host.specs.Check.{accepted, including, refused, IsChecked, IsReadable}
 use Rattle.thrift_host.specs.Refusals.{refusal_text}
-use Rattle.thrift_host.specs.Script.{script_of, joined, ends_from}
-use Rattle.thrift_host.specs.Rehearsal.{Reports, IsUnbuilt, AreBuilt}
+use Rattle.thrift_host.specs.Script.{script_of, bytes_of_pieces}
+use Rattle.thrift_host.specs.Office.{calculator_desk, calculator_rules, calculator_memories}
+use Rattle.thrift_host.specs.Lines.{entry_line, is_scripted}
+use Rattle.thrift_host.specs.Unbuilt.{IsUnbuilt, AreBuilt}
+use Rattle.thrift_host.specs.Rehearsal.{Arrival, IsReportOfOneConnection, arrival_of}
 
--- An input that was a script, read to its end, with messages alone that the host knows, and the report of a run of it.
-pub record IsRun (left_before left : Option (List ℕ)) (report : List ℕ) : Type 0 where
+-- What a call did to its input and its output: what was left to read before and after it, and what had been taken.
+pub record Streams : Type 0 where
+  pub left_before : Option (List ℕ)
+  pub left : Option (List ℕ)
+  pub taken_before : Option (List ℕ)
+  pub taken : Option (List ℕ)
+
+-- What a call did to its errors: what they had taken before and after it, and how often they had failed.
+pub record Errors : Type 0 where
+  pub taken_before : Option (List ℕ)
+  pub taken : Option (List ℕ)
+  pub faults_before : ℕ
+  pub faults : ℕ
+
+-- nothing was read, and nothing written
+abbrev pub AreUntouched : Streams → Type 0
+AreUntouched s = (s.left ≡ s.left_before) × (s.taken ≡ s.taken_before)
+
+-- nothing was written
+abbrev pub IsUnwritten : Streams → Type 0
+IsUnwritten s = s.taken ≡ s.taken_before
+
+-- the text is the report of the calculator's run on what arrived
+abbrev pub ReportsCalculator : Arrival → List ℕ → Type 0
+ReportsCalculator arrival text = IsReportOfOneConnection calculator_desk calculator_rules calculator_memories is_scripted entry_line arrival text
+
+-- The input was a script, read to its end, with messages alone that the host knows, and this is the report of a run of it.
+pub record IsReportOf (s : Streams) (report : List ℕ) : Type 0 where
   pub text : List ℕ
   pub pieces : List (List ℕ)
-  pub read : left_before ≡ told_before text left
-  pub to_its_end : IsSpent left
+  pub read : s.left_before ≡ told_before text s.left
+  pub to_its_end : IsSpent s.left
   pub script : script_of text ≡ Some pieces
-  pub built : AreBuilt (joined pieces)
-  pub reports : Reports pieces report
+  pub built : AreBuilt (bytes_of_pieces pieces)
+  pub reports : ReportsCalculator (arrival_of pieces) report
 
--- the report of a run was added to the output
-pub record IsReported (left_before left taken_before taken : Option (List ℕ)) : Type 0 where
-  pub report : List ℕ
-  pub run : IsRun left_before left report
-  pub written : taken ≡ told_more taken_before report
+-- a report was written whole
+abbrev pub IsReported : Streams → Type 0
+IsReported s = (report : List ℕ) × IsReportOf s report × (s.taken ≡ told_more s.taken_before report)
 
--- a beginning of the report of a run was added to the output
-pub record IsReportedInPart (left_before left taken_before taken : Option (List ℕ)) : Type 0 where
-  pub report : List ℕ
-  pub run : IsRun left_before left report
-  pub front : ℕ
-  pub written : taken ≡ told_more taken_before (take front report)
+-- a beginning of a report was written
+abbrev pub IsReportedInPart : Streams → Type 0
+IsReportedInPart s = (report : List ℕ) × (front : ℕ) × IsReportOf s report × (s.taken ≡ told_more s.taken_before (take front report))
 
 -- the input is no script
-abbrev pub IsRefused : Option (List ℕ) → Type 0
-IsRefused left_before = (all : List ℕ) → left_before ≡ Some all → script_of all ≡ None
+abbrev pub IsNoScript : Option (List ℕ) → Type 0
+IsNoScript left_before = (all : List ℕ) → left_before ≡ Some all → script_of all ≡ None
 
 -- the input is a script whose payload number i is the first that is no message that the host knows
 abbrev pub IsUnbuiltAt : Option (List ℕ) → ℕ → Type 0
 IsUnbuiltAt left_before i =
-    (all : List ℕ) → left_before ≡ Some all → (pieces : List (List ℕ)) × (script_of all ≡ Some pieces) × IsUnbuilt (joined pieces) i
+    (all : List ℕ) → left_before ≡ Some all → (pieces : List (List ℕ)) × (script_of all ≡ Some pieces) × IsUnbuilt (bytes_of_pieces pieces) i
 
--- What a status of a rehearsal says of the input and of the output: nothing is added to the output but with Done, WriteFault and NoMemory.
-abbrev pub Means : Status → (left_before left taken_before taken : Option (List ℕ)) → Type 0
-Means Done left_before left taken_before taken = IsReported left_before left taken_before taken
-Means Usage left_before left taken_before taken = (left ≡ left_before) × (taken ≡ taken_before)
-Means ScriptRefused left_before left taken_before taken = IsRefused left_before × (taken ≡ taken_before)
-Means ReadFault left_before left taken_before taken = taken ≡ taken_before
-Means IdlRefused left_before left taken_before taken = ⊥
-Means FileFault left_before left taken_before taken = ⊥
-Means WriteFault left_before left taken_before taken = IsReportedInPart left_before left taken_before taken
-Means NoMemory left_before left taken_before taken = (taken ≡ taken_before) ⊎ IsReportedInPart left_before left taken_before taken
-Means Unbuilt left_before left taken_before taken = ((i : ℕ) × IsUnbuiltAt left_before i) × (taken ≡ taken_before)
-
--- What a status says of the IDL that is checked.
-abbrev pub MeansOfIdl : Option (List File) → List ℕ → Status → Type 0
-MeansOfIdl files idl Done = IsChecked files idl accepted
-MeansOfIdl files idl IdlRefused = (at : Place) × (kind : IdlKind) × IsChecked files idl (refused at kind)
-MeansOfIdl files idl FileFault = is_tutorial idl ≡ false
-MeansOfIdl files idl NoMemory = ⊤
-MeansOfIdl files idl Unbuilt = IsChecked files idl including
-MeansOfIdl files idl _ = ⊥
-
--- What a status says of the command: where it checks an IDL, nothing is read of the input, and nothing is added to the output.
-abbrev pub MeansOf : Option (List ℕ) → Option (List File) → Status → (left_before left taken_before taken : Option (List ℕ)) → Type 0
-MeansOf None files status left_before left taken_before taken = Means status left_before left taken_before taken
-MeansOf (Some idl) files status left_before left taken_before taken =
-    MeansOfIdl files idl status × (left ≡ left_before) × (taken ≡ taken_before)
+-- What a status says of the command's files, input and output. A command that checks an IDL touches neither stream; a rehearsal writes nothing but with Done,
+-- WriteFault and NoMemory.
+abbrev pub Means : Command → Option (List File) → Status → Streams → Type 0
+Means no_command files Usage s = AreUntouched s
+Means no_command files _ s = ⊥
+Means (checks idl) files Done s = IsChecked files idl accepted × AreUntouched s
+Means (checks idl) files IdlRefused s = ((at : Place) × (kind : IdlKind) × IsChecked files idl (refused at kind)) × AreUntouched s
+Means (checks idl) files FileFault s = IsReadable files idl × AreUntouched s
+Means (checks idl) files NoMemory s = AreUntouched s
+Means (checks idl) files Unbuilt s = IsChecked files idl including × AreUntouched s
+Means (checks idl) files _ s = ⊥
+Means rehearses files Done s = IsReported s
+Means rehearses files ScriptRefused s = IsNoScript s.left_before × IsUnwritten s
+Means rehearses files ReadFault s = IsUnwritten s
+Means rehearses files WriteFault s = IsReportedInPart s
+Means rehearses files NoMemory s = IsUnwritten s ⊎ IsReportedInPart s
+Means rehearses files Unbuilt s = ((i : ℕ) × IsUnbuiltAt s.left_before i) × IsUnwritten s
+Means rehearses files _ s = ⊥
 
 -- the errors' line of a status, where it has one fixed line; Done has none to write
 abbrev pub error_text : Status → Option (List ℕ)
@@ -86,79 +102,28 @@ error_text WriteFault = Some (line_of (codes "thriftd: write fault"))
 error_text NoMemory = Some (line_of (codes "thriftd: no memory"))
 error_text Unbuilt = None
 
-abbrev pub unbuilt_text : ℕ → List ℕ
-unbuilt_text i = line_of (numbered (codes "thriftd: unbuilt frame") i)
+-- the errors' line of a frame that isn't built
+abbrev pub unbuilt_frame_text : ℕ → List ℕ
+unbuilt_frame_text i = line_of (numbered (codes "thriftd: unbuilt frame") i)
 
-abbrev pub include_text : List ℕ
-include_text = line_of (codes "thriftd: unbuilt include")
+-- the errors' line of an `include` header
+abbrev pub unbuilt_include_text : List ℕ
+unbuilt_include_text = line_of (codes "thriftd: unbuilt include")
 
 -- the text was added to the errors, or a beginning of it where a write failed
-pub record IsSaid (before now : Option (List ℕ)) (faults_before faults : ℕ) (text : List ℕ) : Type 0 where
+pub record IsSaid (e : Errors) (text : List ℕ) : Type 0 where
   pub front : ℕ
-  pub written : now ≡ told_more before (take front text)
-  pub whole : (now ≡ told_more before text) ⊎ Rose faults_before faults
+  pub written : e.taken ≡ told_more e.taken_before (take front text)
+  pub whole : (e.taken ≡ told_more e.taken_before text) ⊎ Rose e.faults_before e.faults
 
 -- the one fixed line of a status was added to the errors
-abbrev pub IsLineSaid : Status → (before now : Option (List ℕ)) (faults_before faults : ℕ) → Type 0
-IsLineSaid status before now faults_before faults = MatchOption (error_text status) ⊥ (λ text. IsSaid before now faults_before faults text)
+abbrev pub IsLineSaid : Status → Errors → Type 0
+IsLineSaid status e = MatchOption (error_text status) ⊥ (λ text. IsSaid e text)
 
--- the line of a status was added to the errors; an unbuilt frame's has its number
-abbrev pub Says : Status → Option (List ℕ) → (before now : Option (List ℕ)) (faults_before faults : ℕ) → Type 0
-Says Unbuilt left_before before now faults_before faults =
-    (i : ℕ) × IsUnbuiltAt left_before i × IsSaid before now faults_before faults (unbuilt_text i)
-Says status left_before before now faults_before faults = IsLineSaid status before now faults_before faults
-
--- the line of a status was added to the errors where an IDL is checked; a refused one's has the file, the place and the kind
-abbrev pub SaysOfIdl : Option (List File) → List ℕ → Status → (before now : Option (List ℕ)) (faults_before faults : ℕ) → Type 0
-SaysOfIdl files idl IdlRefused before now faults_before faults =
-    (at : Place) × (kind : IdlKind) × IsChecked files idl (refused at kind) × IsSaid before now faults_before faults (refusal_text idl at kind)
-SaysOfIdl files idl Unbuilt before now faults_before faults = IsSaid before now faults_before faults include_text
-SaysOfIdl files idl status before now faults_before faults = IsLineSaid status before now faults_before faults
-
-abbrev pub SaysOf : Option (List ℕ) → Option (List File) → Status → Option (List ℕ) → (before now : Option (List ℕ)) (faults_before faults : ℕ) → Type 0
-SaysOf None files status left_before before now faults_before faults = Says status left_before before now faults_before faults
-SaysOf (Some idl) files status left_before before now faults_before faults = SaysOfIdl files idl status before now faults_before faults
-
--- the input was read to its end, and is a script of these bytes, whose pieces end here
-pub record IsRead (left_before left : Option (List ℕ)) (bytes ends : List ℕ) : Type 0 where
-  pub text : List ℕ
-  pub pieces : List (List ℕ)
-  pub read : left_before ≡ told_before text left
-  pub to_its_end : IsSpent left
-  pub script : script_of text ≡ Some pieces
-  pub whole : bytes ≡ joined pieces
-  pub cut : ends ≡ ends_from 0 pieces
-
--- a status that ends the command at its input
-abbrev pub EndsInput : Status → Option (List ℕ) → Type 0
-EndsInput ScriptRefused left_before = IsRefused left_before
-EndsInput ReadFault left_before = Unit {0}
-EndsInput NoMemory left_before = Unit {0}
-EndsInput _ left_before = ⊥
-
--- the text is the report of a run on these bytes, whose pieces end here
-abbrev pub IsReportOn : (bytes ends report : List ℕ) → Type 0
-IsReportOn bytes ends report = (pieces : List (List ℕ)) → bytes ≡ joined pieces → ends ≡ ends_from 0 pieces → Reports pieces report
-
--- What a status says of the output of a run on these bytes, whose pieces end here.
-abbrev pub Reported : Status → (bytes ends : List ℕ) → (taken_before taken : Option (List ℕ)) → Type 0
-Reported Done bytes ends taken_before taken =
-    (report : List ℕ) × IsReportOn bytes ends report × (taken ≡ told_more taken_before report)
-Reported WriteFault bytes ends taken_before taken =
-    (report : List ℕ) × (front : ℕ) × IsReportOn bytes ends report × (taken ≡ told_more taken_before (take front report))
-Reported NoMemory bytes ends taken_before taken =
-    (taken ≡ taken_before) ⊎ ((report : List ℕ) × (front : ℕ) × IsReportOn bytes ends report × (taken ≡ told_more taken_before (take front report)))
-Reported _ bytes ends taken_before taken = ⊥
-
--- What a status says of the errors where frame `number` isn't built.
-abbrev pub EndsUnbuilt : Status → ℕ → (before now : Option (List ℕ)) (faults_before faults : ℕ) → Type 0
-EndsUnbuilt Unbuilt number before now faults_before faults = IsSaid before now faults_before faults (unbuilt_text number)
-EndsUnbuilt NoMemory number before now faults_before faults = IsLineSaid NoMemory before now faults_before faults
-EndsUnbuilt _ number before now faults_before faults = ⊥
-
--- What a status says of the errors where an IDL is refused.
-abbrev pub EndsRefused : Status → List ℕ → Refusal → (before now : Option (List ℕ)) (faults_before faults : ℕ) → Type 0
-EndsRefused IdlRefused idl refusal before now faults_before faults =
-    IsSaid before now faults_before faults (refusal_text idl refusal.at refusal.kind)
-EndsRefused NoMemory idl refusal before now faults_before faults = IsLineSaid NoMemory before now faults_before faults
-EndsRefused _ idl refusal before now faults_before faults = ⊥
+-- The line of a status was added to the errors. A refused IDL's has the file, the place and the kind, and an unbuilt frame's has its number.
+abbrev pub Says : Command → Option (List File) → Option (List ℕ) → Status → Errors → Type 0
+Says (checks idl) files left_before IdlRefused e =
+    (at : Place) × (kind : IdlKind) × IsChecked files idl (refused at kind) × IsSaid e (refusal_text idl at kind)
+Says (checks idl) files left_before Unbuilt e = IsSaid e unbuilt_include_text
+Says rehearses files left_before Unbuilt e = (i : ℕ) × IsUnbuiltAt left_before i × IsSaid e (unbuilt_frame_text i)
+Says any files left_before status e = IsLineSaid status e

@@ -2,10 +2,11 @@
 
 ghost use Rattle.std.specs.Prelude.{◌≡◌, ◌≢◌, ◌≤◌, ℕ, false, List, Option, Some, length, MatchOption};
 ghost use Rattle.outside.specs.Cause.{Rose};
-ghost use Rattle.idl_token.specs.Tokens.{AreTokensOf, IsFirstFault};
+ghost use Rattle.idl_token.specs.Tokens.{AreTokensOf, IsFirstLexFault};
 ghost use Rattle.idl_parser.specs.Faults.{IsFaultOf};
 ghost use Rattle.idl_parser.specs.Trees.{document_node};
-ghost use Rattle.thrift_host.specs.Check.{IsChecked, IsDocument, IsJudged, OnVerdict, is_tutorial, kind_of_lexer, kind_of_parser, longest_idl, unread, whole_file};
+ghost use Rattle.thrift_host.specs.Check.{HasDocument, IsChecked, IsJudged, IsReadable, kind_of_lexer, kind_of_parser, longest_idl, whole_file};
+ghost use Rattle.thrift_host.specs.Steps.{OnVerdict, unread};
 
 use crate::refusal::{IdlKind, Refusal};
 use crate::tutorial::tutorial;
@@ -33,7 +34,7 @@ pub(crate) enum Checked {
 pub(crate) fn check<F: Files>(alloc: Global, files: &mut F, idl: &str) -> Checked
     ensures checked { OnVerdict result (λ verdict. IsChecked (F.files files.old) idl.now verdict) }
     ensures same { F.files files.new ≡ F.files files.old }
-    ensures of_a_file { result ≡ Checked.FileFault → is_tutorial idl.now ≡ false }
+    ensures of_a_file { result ≡ Checked.FileFault → IsReadable (F.files files.old) idl.now }
     ensures fault { result ≡ Checked.FileFault → Rose (F.faults files.old) (F.faults files.new) }
 {
     if idl == "@tutorial" {
@@ -92,7 +93,7 @@ fn judge_tokens(alloc: Global, text: &[u8], tokens: &[Token]) -> Checked
 
 /// What becomes of a text with this document.
 fn judge_document(document: &Document) -> Checked
-    ensures judged { (text : List ℕ) → IsDocument text (document_node document.now) → OnVerdict result (λ verdict. IsJudged text verdict) }
+    ensures judged { (text : List ℕ) → HasDocument text (document_node document.now) → OnVerdict result (λ verdict. IsJudged text verdict) }
     ensures no_file { result ≢ Checked.FileFault }
 {
     if document.includes.is_empty() {
@@ -104,7 +105,7 @@ fn judge_document(document: &Document) -> Checked
 
 /// What becomes of a text with this fault of the lexer.
 fn lex_refusal(fault: LexFault) -> Checked
-    ensures judged { (text : List ℕ) → (fault.kind ≢ LexKind.NoMemory → IsFirstFault fault text) → OnVerdict result (λ verdict. IsJudged text verdict) }
+    ensures judged { (text : List ℕ) → (fault.kind ≢ LexKind.NoMemory → IsFirstLexFault fault text) → OnVerdict result (λ verdict. IsJudged text verdict) }
     ensures no_file { result ≢ Checked.FileFault }
 {
     match lexer_kind(fault.kind) {

@@ -1,23 +1,23 @@
 //! The top call.
 
-ghost use Rattle.std.specs.Prelude.{◌≡◌, ◌↔◌, ◌<◌, ◌^◌, false, List, Option, Some, None, length, map, string_bytes, MatchOption, MatchResult, IfOk, IfSome};
+ghost use Rattle.std.specs.Prelude.{◌≡◌, ◌≢◌, ◌↔◌, ℕ, ◌<◌, ◌^◌, false, List, Option, Some, None, length, map, string_bytes, MatchOption, MatchResult, IfOk, IfSome};
 ghost use Rattle.outside.specs.Cause.{Rose};
 ghost use Rattle.outside.specs.Files.{File};
-ghost use Rattle.thrift_host.specs.Words.{AreNoCommand, checked_idl};
-ghost use Rattle.thrift_host.specs.Script.{AreEnds};
-ghost use Rattle.thrift_host.specs.Check.{IsChecked, OnVerdict, is_tutorial};
-ghost use Rattle.thrift_host.specs.Top.{MeansOf, MeansOfIdl, SaysOf, SaysOfIdl, IsSaid, IsRead, EndsInput, EndsUnbuilt, EndsRefused, Reported, error_text, include_text};
+ghost use Rattle.thrift_host.specs.Words.{checks, command_of, no_command, rehearses};
+ghost use Rattle.thrift_host.specs.Check.{IsChecked, IsReadable};
+ghost use Rattle.thrift_host.specs.Top.{Means, Says, Streams, AreUntouched, IsSaid, error_text, unbuilt_include_text};
+ghost use Rattle.thrift_host.specs.Steps.{AreEnds, OnVerdict, IsInput, EndsInput, EndsUnbuilt, EndsRefused, WritesReport};
 
 use crate::check::{Checked, check};
-use crate::input::{InputError, read_whole};
+use crate::input::read_whole;
 use crate::lines::put_unbuilt;
 use crate::office::first_unbuilt;
 use crate::refusal::{Refusal, put_refusal};
-use crate::report::{ReportError, write_all, write_report};
+use crate::report::{write_all, write_report};
 use crate::run::rehearse;
-use crate::script::{Script, ScriptError, read_script};
+use crate::script::{Script, read_script};
 use crate::status::Status;
-use crate::words::{checked_idl, is_rehearse};
+use crate::words::{Asked, read_words};
 use outside::{Files, Sink, Source};
 use std::alloc::Global;
 
@@ -34,26 +34,45 @@ pub fn host<R, F: Files, S: Source, K: Sink, E: Sink>(
 ) -> Status
     // An IDL is checked: Done, IdlRefused and Unbuilt come exactly by the text of its file, since each text has one verdict; nothing is read of the
     // input, and nothing is written.
-    // Else Done: the input is a script, read to its end, and the bytes added to the output are the report of a run of it,
-    // whose tape, journal and cause meet the headline. ScriptRefused and Unbuilt come exactly by the input, since no
+    // A connection is answered: Done says that the input is a script, read to its end, and that the bytes added to the output are the report of a run of
+    // it, whose tape, journal and cause meet the headline. ScriptRefused and Unbuilt come exactly by the input, since no
     // input is two of no script, a script with an unbuilt frame, and one without.
-    ensures means { MeansOf (checked_idl (map string_bytes words.now)) (F.files files.old) result
-        (S.left input.old) (S.left input.new) (K.taken output.old) (K.taken output.new) }
-    ensures usage { (result ≡ Status.Usage) ↔ AreNoCommand (map string_bytes words.now) }
+    ensures means { Means (command_of (map string_bytes words.now)) (F.files files.old) result
+        (record { left_before = S.left input.old; left = S.left input.new; taken_before = K.taken output.old; taken = K.taken output.new }) }
+    ensures usage { (result ≡ Status.Usage) ↔ (command_of (map string_bytes words.now) ≡ no_command) }
     ensures files { F.files files.new ≡ F.files files.old }
     ensures file_fault { result ≡ Status.FileFault → Rose (F.faults files.old) (F.faults files.new) }
     ensures read_fault { result ≡ Status.ReadFault → Rose (S.faults input.old) (S.faults input.new) }
     ensures write_fault { result ≡ Status.WriteFault → Rose (K.faults output.old) (K.faults output.new) }
-    ensures errors { SaysOf (checked_idl (map string_bytes words.now)) (F.files files.old) result
-        (S.left input.old) (E.taken errors.old) (E.taken errors.new) (E.faults errors.old) (E.faults errors.new) }
+    ensures errors { Says (command_of (map string_bytes words.now)) (F.files files.old) (S.left input.old) result
+        (record { taken_before = E.taken errors.old; taken = E.taken errors.new; faults_before = E.faults errors.old; faults = E.faults errors.new }) }
 {
-    if let Some(idl) = checked_idl(words) {
-        let checked = check(alloc, files, idl);
-        return end_check(alloc, errors, idl, checked);
+    match read_words(words) {
+        None => end(errors, Status::Usage),
+        Some(Asked::Check(idl)) => {
+            let checked = check(alloc, files, idl);
+            end_check(alloc, errors, idl, checked)
+        }
+        Some(Asked::Rehearse) => answer_recorded(alloc, input, output, errors),
     }
-    if !is_rehearse(words) {
-        return end(errors, Status::Usage);
-    }
+}
+
+/// Answers the recorded connection that the input is.
+fn answer_recorded<S: Source, K: Sink, E: Sink>(
+    alloc: Global,
+    input: &mut S,
+    output: &mut K,
+    errors: &mut E,
+) -> Status
+    ensures means { (files : Option (List File)) → Means rehearses files result
+        (record { left_before = S.left input.old; left = S.left input.new; taken_before = K.taken output.old; taken = K.taken output.new }) }
+    ensures no_usage { result ≢ Status.Usage }
+    ensures no_file { result ≢ Status.FileFault }
+    ensures read_fault { result ≡ Status.ReadFault → Rose (S.faults input.old) (S.faults input.new) }
+    ensures write_fault { result ≡ Status.WriteFault → Rose (K.faults output.old) (K.faults output.new) }
+    ensures errors { (files : Option (List File)) → Says rehearses files (S.left input.old) result
+        (record { taken_before = E.taken errors.old; taken = E.taken errors.new; faults_before = E.faults errors.old; faults = E.faults errors.new }) }
+{
     let script = match read_input(alloc, input) {
         Ok(script) => script,
         Err(status) => return end(errors, status),
@@ -61,60 +80,54 @@ pub fn host<R, F: Files, S: Source, K: Sink, E: Sink>(
     if let Some(number) = first_unbuilt(&script.bytes) {
         return end_unbuilt(alloc, errors, number);
     }
-    let status = run(alloc, &script, output);
-    end(errors, status)
+    match run(alloc, &script, output) {
+        Ok(()) => end(errors, Status::Done),
+        Err(status) => end(errors, status),
+    }
 }
 
 /// The script that the input is, or the status that it ends the command with.
 fn read_input<S: Source>(alloc: Global, input: &mut S) -> Result<Script, Status>
     ensures input { MatchResult result
-        (λ script. IsRead (S.left input.old) (S.left input.new) script.bytes.items script.ends.items)
+        (λ script. IsInput (S.left input.old) (S.left input.new) script.bytes.items script.ends.items)
         (λ status. EndsInput status (S.left input.old)) }
     ensures small { IfOk result (λ script. length script.bytes.items < 2 ^ 62) }
     ensures ends { IfOk result (λ script. AreEnds script.ends.items (length script.bytes.items)) }
     ensures fault { result ≡ Err Status.ReadFault → Rose (S.faults input.old) (S.faults input.new) }
 {
-    let text = match read_whole(alloc, input) {
-        Ok(text) => text,
-        Err(InputError::Failed) => return Err(Status::ReadFault),
-        Err(InputError::NoMemory) => return Err(Status::NoMemory),
-    };
-    match read_script(alloc, &text) {
-        Ok(script) => Ok(script),
-        Err(ScriptError::Refused) => Err(Status::ScriptRefused),
-        Err(ScriptError::NoMemory) => Err(Status::NoMemory),
-    }
+    let text = read_whole(alloc, input)?;
+    let script = read_script(alloc, &text)?;
+    Ok(script)
 }
 
 /// Runs a script and writes its report.
-fn run<K: Sink>(alloc: Global, script: &Script, output: &mut K) -> Status
+fn run<K: Sink>(alloc: Global, script: &Script, output: &mut K) -> Result<(), Status>
     requires small { length script.now.bytes.items < 2 ^ 62 }
     requires ends { AreEnds script.now.ends.items (length script.now.bytes.items) }
-    ensures written { Reported result script.now.bytes.items script.now.ends.items (K.taken output.old) (K.taken output.new) }
-    ensures fault { result ≡ Status.WriteFault → Rose (K.faults output.old) (K.faults output.new) }
+    ensures written { MatchResult result
+        (λ _. WritesReport Status.Done (record { bytes = script.now.bytes.items; ends = script.now.ends.items }) (K.taken output.old) (K.taken output.new))
+        (λ status. WritesReport status (record { bytes = script.now.bytes.items; ends = script.now.ends.items }) (K.taken output.old) (K.taken output.new)) }
+    ensures not_done { result ≢ Err Status.Done }
+    ensures fault { result ≡ Err Status.WriteFault → Rose (K.faults output.old) (K.faults output.new) }
 {
-    let Ok(run) = rehearse(alloc, script) else {
-        return Status::NoMemory;
-    };
-    match write_report(
+    let run = rehearse(alloc, script)?;
+    write_report(
         alloc,
         output,
         &run.tape,
         &run.journal,
         run.cause,
         &run.written,
-    ) {
-        Ok(()) => Status::Done,
-        Err(ReportError::Failed) => Status::WriteFault,
-        Err(ReportError::NoMemory) => Status::NoMemory,
-    }
+    )?;
+    Ok(())
 }
 
 /// Ends the command with a status, whose fixed line goes to the errors.
 fn end<E: Sink>(errors: &mut E, status: Status) -> Status
     ensures same { result ≡ status }
     ensures said { IfSome (error_text status)
-        (λ text. IsSaid (E.taken errors.old) (E.taken errors.new) (E.faults errors.old) (E.faults errors.new) text) }
+        (λ text. IsSaid
+        (record { taken_before = E.taken errors.old; taken = E.taken errors.new; faults_before = E.faults errors.old; faults = E.faults errors.new }) text) }
 {
     if let Some(line) = error_line(status) {
         say(errors, line.as_bytes());
@@ -124,10 +137,13 @@ fn end<E: Sink>(errors: &mut E, status: Status) -> Status
 
 /// Ends the command with what became of its IDL.
 fn end_check<E: Sink>(alloc: Global, errors: &mut E, idl: &str, checked: Checked) -> Status
-    ensures means { (files : Option (List File)) → OnVerdict checked (λ verdict. IsChecked files idl.now verdict)
-        → (checked ≡ Checked.FileFault → is_tutorial idl.now ≡ false) → MeansOfIdl files idl.now result }
-    ensures said { (files : Option (List File)) → OnVerdict checked (λ verdict. IsChecked files idl.now verdict) → SaysOfIdl files idl.now result
-        (E.taken errors.old) (E.taken errors.new) (E.faults errors.old) (E.faults errors.new) }
+    ensures means { (files : Option (List File)) (s : Streams) → OnVerdict checked (λ verdict. IsChecked files idl.now verdict)
+        → (checked ≡ Checked.FileFault → IsReadable files idl.now) → AreUntouched s → Means (checks idl.now) files result s }
+    ensures said { (files : Option (List File)) (left : Option (List ℕ)) → OnVerdict checked (λ verdict. IsChecked files idl.now verdict)
+        → Says (checks idl.now) files left result
+        (record { taken_before = E.taken errors.old; taken = E.taken errors.new; faults_before = E.faults errors.old; faults = E.faults errors.new }) }
+    ensures no_usage { result ≢ Status.Usage }
+    ensures no_input { (result ≢ Status.ReadFault) × (result ≢ Status.WriteFault) }
     ensures fault { result ≡ Status.FileFault → checked ≡ Checked.FileFault }
 {
     match checked {
@@ -142,7 +158,8 @@ fn end_check<E: Sink>(alloc: Global, errors: &mut E, idl: &str, checked: Checked
 /// Ends the command at an `include` header, which isn't built.
 fn end_include<E: Sink>(errors: &mut E) -> Status
     ensures same { result ≡ Status.Unbuilt }
-    ensures said { IsSaid (E.taken errors.old) (E.taken errors.new) (E.faults errors.old) (E.faults errors.new) include_text }
+    ensures said { IsSaid
+        (record { taken_before = E.taken errors.old; taken = E.taken errors.new; faults_before = E.faults errors.old; faults = E.faults errors.new }) unbuilt_include_text }
 {
     say(errors, b"thriftd: unbuilt include\n");
     Status::Unbuilt
@@ -150,7 +167,8 @@ fn end_include<E: Sink>(errors: &mut E) -> Status
 
 /// Ends the command at an IDL that is refused; without memory for its line with NoMemory.
 fn end_refused<E: Sink>(alloc: Global, errors: &mut E, idl: &str, refusal: Refusal) -> Status
-    ensures { EndsRefused result idl.now refusal (E.taken errors.old) (E.taken errors.new) (E.faults errors.old) (E.faults errors.new) }
+    ensures { EndsRefused result idl.now refusal
+        (record { taken_before = E.taken errors.old; taken = E.taken errors.new; faults_before = E.faults errors.old; faults = E.faults errors.new }) }
 {
     let mut line = Vec::new(alloc);
     if put_refusal(&mut line, idl, refusal).is_err() {
@@ -162,7 +180,8 @@ fn end_refused<E: Sink>(alloc: Global, errors: &mut E, idl: &str, refusal: Refus
 
 /// Ends the command at a frame that isn't built; without memory for its line with NoMemory.
 fn end_unbuilt<E: Sink>(alloc: Global, errors: &mut E, number: u64) -> Status
-    ensures { EndsUnbuilt result number (E.taken errors.old) (E.taken errors.new) (E.faults errors.old) (E.faults errors.new) }
+    ensures { EndsUnbuilt result number
+        (record { taken_before = E.taken errors.old; taken = E.taken errors.new; faults_before = E.faults errors.old; faults = E.faults errors.new }) }
 {
     let mut line = Vec::new(alloc);
     if put_unbuilt(&mut line, number).is_err() {
@@ -174,7 +193,8 @@ fn end_unbuilt<E: Sink>(alloc: Global, errors: &mut E, number: u64) -> Status
 
 /// Hands a line to the errors, as far as they take it.
 fn say<E: Sink>(errors: &mut E, line: &[u8])
-    ensures { IsSaid (E.taken errors.old) (E.taken errors.new) (E.faults errors.old) (E.faults errors.new) line.now }
+    ensures { IsSaid
+        (record { taken_before = E.taken errors.old; taken = E.taken errors.new; faults_before = E.faults errors.old; faults = E.faults errors.new }) line.now }
 {
     let _ = write_all(errors, line);
 }

@@ -5,7 +5,7 @@ use host_model::Key;
 
 /// A call that took effect, with its answer.
 #[derive(Clone, Copy, Debug, PartialEq, Eq)]
-pub struct Entry {
+pub(crate) struct KeptEntry {
     /// The call's connection and frame.
     pub key: Key,
     pub call: Call,

@@ -8,10 +8,12 @@ mod check;
 mod command;
 mod entry;
 mod input;
-mod laws;
+pub mod laws;
 mod lines;
 mod message;
 mod office;
+#[cfg(test)]
+mod plain_tests;
 mod refusal;
 mod report;
 mod run;
@@ -25,10 +27,4 @@ mod tutorial;
 mod words;
 
 pub use command::host;
-pub use entry::Entry;
-pub use laws::{
-    a_text_has_a_verdict, a_text_has_one_verdict, an_idl_has_a_verdict, an_idl_has_one_verdict,
-};
-pub use message::{Answer, Call, Message};
-pub use script::Script;
 pub use status::Status;

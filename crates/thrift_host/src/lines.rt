@@ -4,10 +4,11 @@ ghost use Rattle.std.specs.Prelude.{◌≡◌, ◌∷◌, [], ◌++◌, codes, l
 ghost use Rattle.text_out.specs.Decimal.{decimal_of, natural_of};
 ghost use Rattle.text_out.specs.Line.{line_of};
 ghost use Rattle.host_model.specs.Report.{cause_text, fault_text, mark_text, numbered};
-ghost use Rattle.thrift_host.specs.Rehearsal.{answer_text, call_text, entry_of, entry_text};
-ghost use Rattle.thrift_host.specs.Top.{unbuilt_text};
+ghost use Rattle.thrift_host.specs.Lines.{answer_text, call_text, entry_line};
+ghost use Rattle.thrift_host.specs.Run.{journal_entry};
+ghost use Rattle.thrift_host.specs.Top.{unbuilt_frame_text};
 
-use crate::entry::Entry;
+use crate::entry::KeptEntry;
 use crate::message::{Answer, Call};
 use host_model::EndCause;
 use outside::{EnvelopeFault, Mark};
@@ -63,8 +64,8 @@ fn put_integer(into: &mut Vec<u8>, n: i32) -> Result<(), AllocError>
 }
 
 /// Appends the line of an entry.
-pub(crate) fn put_entry(into: &mut Vec<u8>, entry: &Entry) -> Result<(), AllocError>
-    ensures { OnOk result (into.new.items ≡ into.old.items ++ line_of (entry_text (entry_of entry.now))) }
+pub(crate) fn put_entry(into: &mut Vec<u8>, entry: &KeptEntry) -> Result<(), AllocError>
+    ensures { OnOk result (into.new.items ≡ into.old.items ++ line_of (entry_line (journal_entry entry.now))) }
 {
     put_numbered(into, b"call", u64::from(entry.key.c))?;
     put_next(into, entry.key.i)?;
@@ -166,7 +167,7 @@ pub(crate) fn put_count(into: &mut Vec<u8>, count: usize) -> Result<(), AllocErr
 
 /// Appends the errors' line of a frame that isn't built.
 pub(crate) fn put_unbuilt(into: &mut Vec<u8>, number: u64) -> Result<(), AllocError>
-    ensures { OnOk result (into.new.items ≡ into.old.items ++ unbuilt_text number) }
+    ensures { OnOk result (into.new.items ≡ into.old.items ++ unbuilt_frame_text number) }
 {
     put_numbered(into, b"thriftd: unbuilt frame", number)?;
     into.push(b'\n')?;

@@ -1,13 +1,13 @@
 //! The calls that the host knows.
 
 ghost use Rattle.std.specs.Prelude.{◌≡◌, ◌∷◌, [], MatchOption, None, Some};
-ghost use Rattle.thrift_host.specs.Message.{add_of, behind, behind_byte, call_head, message_of, number_at, number_field, ping_of};
+ghost use Rattle.thrift_host.specs.Message.{add_of, behind_any, behind_text, call_head, message_of, number_at, number_field, ping_of};
 
 use wire_num::i32_at;
 
 /// A call of the tutorial's calculator.
 #[derive(Clone, Copy, Debug, PartialEq, Eq)]
-pub enum Call {
+pub(crate) enum Call {
     /// Does nothing.
     Ping,
     /// Adds two numbers, wrapping at 32 bits.
@@ -16,7 +16,7 @@ pub enum Call {
 
 /// What a call answers.
 #[derive(Clone, Copy, Debug, PartialEq, Eq)]
-pub enum Answer {
+pub(crate) enum Answer {
     /// It is done, and has no result.
     Empty,
     /// The sum.
@@ -25,9 +25,9 @@ pub enum Answer {
 
 /// A message that the host knows: a call, and the sequence id that its reply carries.
 #[derive(Clone, Copy, Debug, PartialEq, Eq)]
-pub struct Message {
-    pub id: i32,
-    pub call: Call,
+pub(crate) struct Message {
+    pub(crate) id: i32,
+    pub(crate) call: Call,
 }
 
 impl Message {
@@ -96,16 +96,14 @@ fn read_field(id: u8, bytes: &[u8]) -> Option<(i32, &[u8])>
 fn read_number(bytes: &[u8]) -> Option<(i32, &[u8])>
     ensures { MatchOption result (number_at bytes.now ≡ None) (λ r. number_at bytes.now ≡ Some (r.0, r.1.now)) }
 {
-    let Ok((number, end)) = i32_at(bytes, 0) else {
-        return None;
-    };
+    let (number, end) = i32_at(bytes, 0).ok()?;
     let (_, rest) = bytes.split_at(end);
     Some((number, rest))
 }
 
 /// What stands behind one byte, whatever it is.
 fn read_byte(bytes: &[u8]) -> Option<&[u8]>
-    ensures { MatchOption result (behind_byte bytes.now ≡ None) (λ r. behind_byte bytes.now ≡ Some r.now) }
+    ensures { MatchOption result (behind_any bytes.now ≡ None) (λ r. behind_any bytes.now ≡ Some r.now) }
 {
     match bytes {
         [_, rest @ ..] => Some(rest),
@@ -115,7 +113,7 @@ fn read_byte(bytes: &[u8]) -> Option<&[u8]>
 
 /// What stands behind a text.
 fn read_text<'a>(text: &[u8], bytes: &'a [u8]) -> Option<&'a [u8]>
-    ensures { MatchOption result (behind text.now bytes.now ≡ None) (λ r. behind text.now bytes.now ≡ Some r.now) }
+    ensures { MatchOption result (behind_text text.now bytes.now ≡ None) (λ r. behind_text text.now bytes.now ≡ Some r.now) }
 {
     if bytes.starts_with(text) {
         let (_, rest) = bytes.split_at(text.len());

@@ -3,7 +3,7 @@
 ghost use Rattle.std.specs.Prelude.{◌≡◌, ◌<◌, ◌++◌, length, IfOk, OnOk, MatchOption, Some};
 ghost use Rattle.host_model.specs.Frames.{frame, IsPayload, IsRest};
 ghost use Rattle.thrift_host.specs.Office.{answered, longest_frame, name_bytes, reply_payload, reply_to, result_bytes};
-ghost use Rattle.thrift_host.specs.Rehearsal.{AreBuilt, IsUnbuilt};
+ghost use Rattle.thrift_host.specs.Unbuilt.{AreBuilt, IsUnbuilt};
 
 use crate::message::{Answer, Call, Message};
 use host_model::laws::one_split;
@@ -11,7 +11,7 @@ use std::alloc::{AllocError, Global};
 use wire_num::put_i32;
 
 /// The longest payload, in bytes.
-const LONGEST_FRAME: usize = 16_384_000;
+pub(crate) const LONGEST_FRAME: u32 = 16_384_000;
 
 /// What a call answers.
 pub(crate) fn answer(call: Call) -> Answer
@@ -109,11 +109,11 @@ fn first_frame(bytes: &[u8]) -> Option<(&[u8], &[u8])>
         (λ r. IsPayload longest_frame r.0.now × (bytes.now ≡ frame r.0.now ++ r.1.now)) }
 {
     let (size, rest) = bytes.split_first_chunk::<4>()?;
-    let size = u32::from_be_bytes(*size) as usize;
-    if size == 0 || LONGEST_FRAME < size || rest.len() < size {
+    let size = u32::from_be_bytes(*size);
+    if size == 0 || LONGEST_FRAME < size || rest.len() < size as usize {
         return None;
     }
-    Some(rest.split_at(size))
+    Some(rest.split_at(size as usize))
 }
 
 #[cfg(test)]

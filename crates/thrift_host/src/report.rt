@@ -7,15 +7,18 @@ ghost use Rattle.text_out.specs.Hex.{hex_of};
 ghost use Rattle.text_out.specs.Line.{line_of};
 ghost use Rattle.host_model.specs.Marks.{marks_of, output};
 ghost use Rattle.host_model.specs.Report.{end_text, hex_or_dash, journal_lines, mark_text, numbered, report, tape_lines};
-ghost use Rattle.thrift_host.specs.Rehearsal.{entry_of, entry_text};
-ghost use Rattle.thrift_host.specs.Pieces.{HasSinkCause, IsTakenInPart, Takes};
+ghost use Rattle.thrift_host.specs.Lines.{entry_line};
+ghost use Rattle.thrift_host.specs.Run.{journal_entry};
+ghost use Rattle.thrift_host.specs.Pieces.{HasSinkCause, IsTakenInPart, TakesText};
+ghost use Rattle.thrift_host.specs.declared.report.ReportError.TheVariants.{Failed as SinkFailed, NoMemory};
 
-use crate::entry::Entry;
+use crate::entry::KeptEntry;
 use crate::lines::{put_count, put_end, put_entry, put_mark};
 use host_model::EndCause;
 use outside::{Failed, Mark, Sink};
-use std::alloc::Global;
+use std::alloc::{AllocError, AllocFailed, Global};
 use text_out::hex;
+use thiserror::Error;
 
 /// How many bytes are pending at most before they are handed to the sink, a line aside.
 const PIECE: usize = 65_536;
@@ -24,12 +27,38 @@ const PIECE: usize = 65_536;
 const CHUNK: usize = 32_768;
 
 /// Why a report wasn't written whole.
-#[derive(Clone, Copy, Debug, PartialEq, Eq)]
+#[derive(Clone, Copy, Debug, PartialEq, Eq, Error)]
 pub(crate) enum ReportError {
     /// The sink failed.
+    #[error("the sink failed")]
     Failed,
     /// The lines that were pending found no room in memory.
+    #[error("out of memory")]
     NoMemory,
+}
+
+impl From<Failed> for ReportError {
+    ghost from_gives = { λ _ e. e ≡ SinkFailed };
+
+    fn from(_: Failed) -> ReportError {
+        ReportError::Failed
+    }
+}
+
+impl From<AllocError> for ReportError {
+    ghost from_gives = { λ _ e. e ≡ NoMemory };
+
+    fn from(_: AllocError) -> ReportError {
+        ReportError::NoMemory
+    }
+}
+
+impl From<AllocFailed<u8>> for ReportError {
+    ghost from_gives = { λ _ e. e ≡ NoMemory };
+
+    fn from(_: AllocFailed<u8>) -> ReportError {
+        ReportError::NoMemory
+    }
 }
 
 /// Writes the report of a run of one connection: its tape, its journal, and what connection 0 ended by and was sent.
@@ -38,15 +67,15 @@ pub(crate) fn write_report<K: Sink>(
     alloc: Global,
     out: &mut K,
     tape: &[Mark],
-    journal: &[Entry],
+    journal: &[KeptEntry],
     cause: EndCause,
     written: &[u8],
 ) -> Result<(), ReportError>
     requires { written.now ≡ output (marks_of 0 tape.now) }
     ensures told { MatchResult result
-        (λ _. K.taken out.new ≡ told_more (K.taken out.old) (report entry_text tape.now (map entry_of journal.now) (cause ∷ [])))
+        (λ _. K.taken out.new ≡ told_more (K.taken out.old) (report entry_line tape.now (map journal_entry journal.now) (cause ∷ [])))
         (λ _. (n : ℕ) × (K.taken out.new ≡
-        told_more (K.taken out.old) (take n (report entry_text tape.now (map entry_of journal.now) (cause ∷ []))))) }
+        told_more (K.taken out.old) (take n (report entry_line tape.now (map journal_entry journal.now) (cause ∷ []))))) }
     ensures cause { HasSinkCause (K.faults out.old) (K.faults out.new) result }
 {
     let mut pending = Vec::new(alloc);
@@ -60,13 +89,13 @@ fn write_lines<K: Sink>(
     out: &mut K,
     pending: &mut Vec<u8>,
     tape: &[Mark],
-    journal: &[Entry],
+    journal: &[KeptEntry],
     cause: EndCause,
     written: &[u8],
 ) -> Result<(), ReportError>
     requires { written.now ≡ output (marks_of 0 tape.now) }
-    ensures told { Takes (K.taken out.old) (K.taken out.new)
-        (pending.old.items ++ (report entry_text tape.now (map entry_of journal.now) (cause ∷ []))) pending.new.items result }
+    ensures told { TakesText (K.taken out.old) (K.taken out.new)
+        (pending.old.items ++ (report entry_line tape.now (map journal_entry journal.now) (cause ∷ []))) pending.new.items result }
     ensures cause { HasSinkCause (K.faults out.old) (K.faults out.new) result }
 {
     write_tape(out, pending, tape)?;
@@ -78,7 +107,7 @@ fn write_lines<K: Sink>(
 /// Writes the lines of the tape.
 #[tactic(auto, using(crate::proofs::Taking::taking))]
 fn write_tape<K: Sink>(out: &mut K, pending: &mut Vec<u8>, tape: &[Mark]) -> Result<(), ReportError>
-    ensures told { Takes (K.taken out.old) (K.taken out.new)
+    ensures told { TakesText (K.taken out.old) (K.taken out.new)
         (pending.old.items ++ (tape_lines tape.now)) pending.new.items result }
     ensures cause { HasSinkCause (K.faults out.old) (K.faults out.new) result }
 {
@@ -91,15 +120,13 @@ fn write_tape<K: Sink>(out: &mut K, pending: &mut Vec<u8>, tape: &[Mark]) -> Res
 /// Writes the line of a mark.
 #[tactic(auto, using(crate::proofs::Taking::taking))]
 fn write_mark<K: Sink>(out: &mut K, pending: &mut Vec<u8>, mark: &Mark) -> Result<(), ReportError>
-    ensures told { Takes (K.taken out.old) (K.taken out.new)
+    ensures told { TakesText (K.taken out.old) (K.taken out.new)
         (pending.old.items ++ (line_of (mark_text mark.now))) pending.new.items result }
     ensures few { OnOk result (length pending.new.items < PIECE) }
     ensures cause { HasSinkCause (K.faults out.old) (K.faults out.new) result }
 {
-    match put_mark(pending, mark) {
-        Ok(()) => settle(out, pending),
-        Err(_) => Err(ReportError::NoMemory),
-    }
+    put_mark(pending, mark)?;
+    settle(out, pending)
 }
 
 /// Writes the lines of the journal.
@@ -107,10 +134,10 @@ fn write_mark<K: Sink>(out: &mut K, pending: &mut Vec<u8>, mark: &Mark) -> Resul
 fn write_journal<K: Sink>(
     out: &mut K,
     pending: &mut Vec<u8>,
-    journal: &[Entry],
+    journal: &[KeptEntry],
 ) -> Result<(), ReportError>
-    ensures told { Takes (K.taken out.old) (K.taken out.new)
-        (pending.old.items ++ (journal_lines entry_text (map entry_of journal.now))) pending.new.items result }
+    ensures told { TakesText (K.taken out.old) (K.taken out.new)
+        (pending.old.items ++ (journal_lines entry_line (map journal_entry journal.now))) pending.new.items result }
     ensures cause { HasSinkCause (K.faults out.old) (K.faults out.new) result }
 {
     for entry in journal {
@@ -124,17 +151,15 @@ fn write_journal<K: Sink>(
 fn write_entry<K: Sink>(
     out: &mut K,
     pending: &mut Vec<u8>,
-    entry: &Entry,
+    entry: &KeptEntry,
 ) -> Result<(), ReportError>
-    ensures told { Takes (K.taken out.old) (K.taken out.new)
-        (pending.old.items ++ (line_of (entry_text (entry_of entry.now)))) pending.new.items result }
+    ensures told { TakesText (K.taken out.old) (K.taken out.new)
+        (pending.old.items ++ (line_of (entry_line (journal_entry entry.now)))) pending.new.items result }
     ensures few { OnOk result (length pending.new.items < PIECE) }
     ensures cause { HasSinkCause (K.faults out.old) (K.faults out.new) result }
 {
-    match put_entry(pending, entry) {
-        Ok(()) => settle(out, pending),
-        Err(_) => Err(ReportError::NoMemory),
-    }
+    put_entry(pending, entry)?;
+    settle(out, pending)
 }
 
 /// Writes the line of connection 0: what it ended by, and all bytes that were written to it.
@@ -145,50 +170,44 @@ fn write_end<K: Sink>(
     cause: EndCause,
     written: &[u8],
 ) -> Result<(), ReportError>
-    ensures told { Takes (K.taken out.old) (K.taken out.new)
+    ensures told { TakesText (K.taken out.old) (K.taken out.new)
         (pending.old.items ++ line_of (end_text 0 cause written.now)) pending.new.items result }
     ensures cause { HasSinkCause (K.faults out.old) (K.faults out.new) result }
 {
-    match put_end(pending, cause) {
-        Ok(()) => write_sent(out, pending, written),
-        Err(_) => Err(ReportError::NoMemory),
-    }
+    put_end(pending, cause)?;
+    write_sent(out, pending, written)
 }
 
 /// Writes bytes in hexadecimal, or a dash where there are none, and a newline.
 #[tactic(auto, using(crate::proofs::Taking::taking))]
 fn write_sent<K: Sink>(out: &mut K, pending: &mut Vec<u8>, bytes: &[u8]) -> Result<(), ReportError>
-    ensures told { Takes (K.taken out.old) (K.taken out.new)
+    ensures told { TakesText (K.taken out.old) (K.taken out.new)
         (pending.old.items ++ line_of (hex_or_dash bytes.now)) pending.new.items result }
     ensures cause { HasSinkCause (K.faults out.old) (K.faults out.new) result }
 {
     write_bytes(out, pending, bytes)?;
-    match pending.push(b'\n') {
-        Ok(()) => Ok(()),
-        Err(_) => Err(ReportError::NoMemory),
-    }
+    pending.push(b'\n')?;
+    Ok(())
 }
 
 /// Writes bytes in hexadecimal, or a dash where there are none.
 #[tactic(auto, using(crate::proofs::Taking::taking))]
 fn write_bytes<K: Sink>(out: &mut K, pending: &mut Vec<u8>, bytes: &[u8]) -> Result<(), ReportError>
-    ensures told { Takes (K.taken out.old) (K.taken out.new)
+    ensures told { TakesText (K.taken out.old) (K.taken out.new)
         (pending.old.items ++ (hex_or_dash bytes.now)) pending.new.items result }
     ensures cause { HasSinkCause (K.faults out.old) (K.faults out.new) result }
 {
     if !bytes.is_empty() {
         return write_hex(out, pending, bytes);
     }
-    match pending.push(b'-') {
-        Ok(()) => Ok(()),
-        Err(_) => Err(ReportError::NoMemory),
-    }
+    pending.push(b'-')?;
+    Ok(())
 }
 
 /// Writes bytes in hexadecimal, a chunk at a time.
 #[tactic(auto, using(crate::proofs::Taking::taking))]
 fn write_hex<K: Sink>(out: &mut K, pending: &mut Vec<u8>, bytes: &[u8]) -> Result<(), ReportError>
-    ensures told { Takes (K.taken out.old) (K.taken out.new)
+    ensures told { TakesText (K.taken out.old) (K.taken out.new)
         (pending.old.items ++ (hex_of bytes.now)) pending.new.items result }
     ensures cause { HasSinkCause (K.faults out.old) (K.faults out.new) result }
 {
@@ -204,35 +223,31 @@ fn write_hex<K: Sink>(out: &mut K, pending: &mut Vec<u8>, bytes: &[u8]) -> Resul
 /// Writes a chunk of bytes in hexadecimal.
 #[tactic(auto, using(crate::proofs::Taking::taking))]
 fn write_chunk<K: Sink>(out: &mut K, pending: &mut Vec<u8>, chunk: &[u8]) -> Result<(), ReportError>
-    ensures told { Takes (K.taken out.old) (K.taken out.new)
+    ensures told { TakesText (K.taken out.old) (K.taken out.new)
         (pending.old.items ++ (hex_of chunk.now)) pending.new.items result }
     ensures few { OnOk result (length pending.new.items < PIECE) }
     ensures cause { HasSinkCause (K.faults out.old) (K.faults out.new) result }
 {
-    match hex(pending, chunk) {
-        Ok(()) => settle(out, pending),
-        Err(_) => Err(ReportError::NoMemory),
-    }
+    hex(pending, chunk)?;
+    settle(out, pending)
 }
 
 /// Writes the line of the number of calls.
 #[tactic(auto, using(crate::proofs::Taking::taking))]
 fn write_count<K: Sink>(out: &mut K, pending: &mut Vec<u8>, count: usize) -> Result<(), ReportError>
-    ensures told { Takes (K.taken out.old) (K.taken out.new)
+    ensures told { TakesText (K.taken out.old) (K.taken out.new)
         (pending.old.items ++ (line_of (numbered (codes "calls") count))) pending.new.items result }
     ensures few { OnOk result (length pending.new.items < PIECE) }
     ensures cause { HasSinkCause (K.faults out.old) (K.faults out.new) result }
 {
-    match put_count(pending, count) {
-        Ok(()) => settle(out, pending),
-        Err(_) => Err(ReportError::NoMemory),
-    }
+    put_count(pending, count)?;
+    settle(out, pending)
 }
 
 /// Hands what is pending to the sink where it is a piece or more.
 #[tactic(auto, using(crate::proofs::Taking::taking))]
 fn settle<K: Sink>(out: &mut K, pending: &mut Vec<u8>) -> Result<(), ReportError>
-    ensures told { Takes (K.taken out.old) (K.taken out.new) pending.old.items pending.new.items result }
+    ensures told { TakesText (K.taken out.old) (K.taken out.new) pending.old.items pending.new.items result }
     ensures few { OnOk result (length pending.new.items < PIECE) }
     ensures cause { HasSinkCause (K.faults out.old) (K.faults out.new) result }
 {
@@ -246,17 +261,13 @@ fn settle<K: Sink>(out: &mut K, pending: &mut Vec<u8>) -> Result<(), ReportError
 /// Hands all that is pending to the sink.
 #[tactic(auto, using(crate::proofs::Taking::taking))]
 fn flush<K: Sink>(out: &mut K, pending: &mut Vec<u8>) -> Result<(), ReportError>
-    ensures told { Takes (K.taken out.old) (K.taken out.new) pending.old.items [] result }
+    ensures told { TakesText (K.taken out.old) (K.taken out.new) pending.old.items [] result }
     ensures empty { OnOk result (pending.new.items ≡ []) }
     ensures cause { HasSinkCause (K.faults out.old) (K.faults out.new) result }
 {
-    match write_all(out, pending.as_slice()) {
-        Ok(()) => {
-            pending.clear();
-            Ok(())
-        }
-        Err(_) => Err(ReportError::Failed),
-    }
+    write_all(out, pending.as_slice())?;
+    pending.clear();
+    Ok(())
 }
 
 /// Hands bytes to the sink until it took them all.

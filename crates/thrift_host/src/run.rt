@@ -2,13 +2,13 @@
 
 ghost use Rattle.std.specs.Prelude.{◌≡◌, ℕ, suc, if◌then◌else◌, ◌+◌, ◌<◌, ◌≤◌, ◌^◌, List, length, take, drop, OnOk, IfOk, None};
 ghost use Rattle.conn_state.specs.Phase.{left_to_write, cause_of, IsReading, IsHeld, IsReady};
-ghost use Rattle.thrift_host.specs.Feeding.{IsInPiece, piece_end};
-ghost use Rattle.thrift_host.specs.Script.{AreEnds};
-ghost use Rattle.thrift_host.specs.Run.{IsSettled, IsUnderWay, IsFed, StaysFed, MovesOn, closed_tape, IsRehearsed};
+ghost use Rattle.thrift_host.specs.Feeding.{piece_end};
+ghost use Rattle.thrift_host.specs.Steps.{AreEnds};
+ghost use Rattle.thrift_host.specs.Run.{ComesOf, IsInPiece, IsRunUnderWay, IsFed, StaysFed, MovesOn, closed_tape, IsRehearsed};
 
-use crate::entry::Entry;
+use crate::entry::KeptEntry;
 use crate::message::{Answer, Call, Message};
-use crate::office::{answer, reply};
+use crate::office::{LONGEST_FRAME, answer, reply};
 use crate::script::Script;
 use conn_state::Conn;
 use conn_state::laws::{every_piece_stays_within, every_run_splits};
@@ -16,9 +16,6 @@ use host_model::laws::{every_moment_stands, every_run_meets};
 use host_model::{EndCause, Key};
 use outside::{Bytes, Mark, Settled};
 use std::alloc::{AllocError, Global};
-
-/// The longest payload, in bytes.
-pub(crate) const LONGEST_FRAME: u32 = 16_384_000;
 
 /// What a run has come to.
 #[derive(Drop)]
@@ -28,7 +25,7 @@ pub(crate) struct Run {
     /// What the connection was seen to do, in order.
     pub tape: Vec<Mark>,
     /// The calls, in the order in which they took effect.
-    pub journal: Vec<Entry>,
+    pub journal: Vec<KeptEntry>,
     /// All bytes that were written to the connection.
     pub written: Vec<u8>,
     /// How many of the script's bytes were read.
@@ -40,7 +37,7 @@ pub(crate) struct Run {
 impl Run {
     /// A run whose connection is open, and of which nothing is read.
     fn open(alloc: Global) -> Result<Run, AllocError>
-        ensures under_way { IfOk result (λ run. (all : List ℕ) → IsUnderWay all run) }
+        ensures under_way { IfOk result (λ run. (all : List ℕ) → IsRunUnderWay all run) }
         ensures fed { IfOk result (λ run. (ends : List ℕ) (size : ℕ) → AreEnds ends size → IsFed ends run) }
     {
         let mut tape = Vec::new(alloc);
@@ -57,7 +54,7 @@ impl Run {
 
     /// One move of the connection.
     fn move_on(&mut self, alloc: Global, script: &Script) -> Result<(), AllocError>
-        requires under_way { IsUnderWay script.now.bytes.items self.old }
+        requires under_way { IsRunUnderWay script.now.bytes.items self.old }
         requires open { cause_of self.old.conn.phase ≡ None }
         requires small { length script.now.bytes.items < 2 ^ 62 }
         ensures moved { OnOk result (MovesOn script.now.bytes.items self.old self.new) }
@@ -84,7 +81,7 @@ impl Run {
     /// Takes room for the frame whose size is whole. Without it the connection ends.
     fn admit(&mut self, alloc: Global) -> Result<(), AllocError>
         requires { IsHeld self.old.conn.phase }
-        ensures moved { OnOk result ((all : List ℕ) → IsUnderWay all self.old → MovesOn all self.old self.new) }
+        ensures moved { OnOk result ((all : List ℕ) → IsRunUnderWay all self.old → MovesOn all self.old self.new) }
         ensures still { OnOk result (StaysFed self.old self.new) }
     {
         if self.conn.admit(alloc).is_err() {
@@ -100,8 +97,8 @@ impl Run {
         requires some { self.old.at < length script.now.bytes.items }
         requires few { self.old.conn.frames < 2 ^ 62 }
         requires small { length script.now.bytes.items < 2 ^ 62 }
-        ensures moved { OnOk result (IsUnderWay script.now.bytes.items self.old → MovesOn script.now.bytes.items self.old self.new) }
-        ensures fed { OnOk result (AreEnds script.now.ends.items (length script.now.bytes.items) → IsUnderWay script.now.bytes.items self.old →
+        ensures moved { OnOk result (IsRunUnderWay script.now.bytes.items self.old → MovesOn script.now.bytes.items self.old self.new) }
+        ensures fed { OnOk result (AreEnds script.now.ends.items (length script.now.bytes.items) → IsRunUnderWay script.now.bytes.items self.old →
             IsFed script.now.ends.items self.old → IsFed script.now.ends.items self.new) }
     {
         every_piece_stays_within();
@@ -137,7 +134,7 @@ impl Run {
     /// Ends the connection behind all bytes of the script.
     fn find_end(&mut self) -> Result<(), AllocError>
         requires { IsReading self.old.conn.phase }
-        ensures moved { OnOk result ((all : List ℕ) → self.old.at ≡ length all → IsUnderWay all self.old → MovesOn all self.old self.new) }
+        ensures moved { OnOk result ((all : List ℕ) → self.old.at ≡ length all → IsRunUnderWay all self.old → MovesOn all self.old self.new) }
         ensures still { OnOk result (StaysFed self.old self.new) }
     {
         self.conn.end_of_input();
@@ -149,7 +146,7 @@ impl Run {
     /// Makes the call of the frame that is ready. Without memory for the reply the connection ends.
     fn call(&mut self, alloc: Global) -> Result<(), AllocError>
         requires { IsReady self.old.conn.phase }
-        ensures moved { OnOk result ((all : List ℕ) → IsUnderWay all self.old → MovesOn all self.old self.new) }
+        ensures moved { OnOk result ((all : List ℕ) → IsRunUnderWay all self.old → MovesOn all self.old self.new) }
         ensures still { OnOk result (StaysFed self.old self.new) }
     {
         every_moment_stands::<Call, Answer, ()>();
@@ -163,9 +160,10 @@ impl Run {
     /// Writes the whole reply.
     fn write(&mut self, alloc: Global) -> Result<(), AllocError>
         requires { 0 < length (left_to_write self.old.conn.phase) }
-        ensures moved { OnOk result ((all : List ℕ) → IsUnderWay all self.old → MovesOn all self.old self.new) }
+        ensures moved { OnOk result ((all : List ℕ) → IsRunUnderWay all self.old → MovesOn all self.old self.new) }
         ensures still { OnOk result (StaysFed self.old self.new) }
     {
+        every_moment_stands::<Call, Answer, ()>();
         let reply = Vec::from_slice(alloc, self.conn.pending())?;
         let count = reply.len();
         self.written.extend_from_slice(&reply)?;
@@ -178,17 +176,17 @@ impl Run {
 /// Makes the call that a payload asks for, if it is a message, and enters it. What comes of it is the reply, or want of memory for it.
 fn settle(
     alloc: Global,
-    journal: &mut Vec<Entry>,
+    journal: &mut Vec<KeptEntry>,
     number: u64,
     payload: &[u8],
 ) -> Result<Settled, AllocError>
-    ensures { IfOk result (λ settled. IsSettled journal.old.items number payload.now journal.new.items settled) }
+    ensures { IfOk result (λ settled. ComesOf journal.old.items number payload.now journal.new.items settled) }
 {
     let Some(message) = Message::read(payload) else {
         return Ok(Settled::Nothing);
     };
     let answer = answer(message.call);
-    journal.push(Entry {
+    journal.push(KeptEntry {
         key: Key { c: 0, i: number },
         call: message.call,
         answer,
@@ -234,7 +232,7 @@ fn part_of(bytes: &[u8], at: usize, count: usize) -> &[u8]
 #[derive(Drop)]
 pub(crate) struct Rehearsed {
     pub tape: Vec<Mark>,
-    pub journal: Vec<Entry>,
+    pub journal: Vec<KeptEntry>,
     pub written: Vec<u8>,
     pub cause: EndCause,
 }

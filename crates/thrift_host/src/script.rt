@@ -3,17 +3,19 @@
 ghost use Rattle.std.specs.Prelude.{◌≡◌, ℕ, ◌+◌, ◌/◌, ◌<◌, ◌≤◌, [], ◌∷◌, ◌++◌, List, false, length, position, IfOk, OnErr, OnOk, MatchOption, MatchResult, Some, None, if◌then◌else◌};
 ghost use Rattle.std.specs.Option.{option_map};
 ghost use Rattle.text_out.specs.Hex.{unhex_of};
-ghost use Rattle.thrift_host.specs.Script.{lines_of, said_lines, is_ignored, piece_of, pieces_of, script_of, written, is_newline, IsScript, AreEnds};
+ghost use Rattle.thrift_host.specs.Script.{lines_of, said_lines, is_ignored, data_of, pieces_of, script_of, is_newline};
+ghost use Rattle.thrift_host.specs.Steps.{AreEnds, IsScript, written};
 ghost use Rattle.thrift_host.specs.declared.script.ScriptError.TheVariants.{Refused, NoMemory};
 
 use std::alloc::{AllocError, AllocFailed, Global};
+use thiserror::Error;
 
 /// The longest script, in bytes.
 pub(crate) const LONGEST_SCRIPT: usize = 67_108_864;
 
 /// A script: the bytes that arrive on its one connection, cut into pieces.
 #[derive(Debug, Drop)]
-pub struct Script {
+pub(crate) struct Script {
     /// The bytes of all pieces, one behind the other.
     pub bytes: Vec<u8>,
     /// Where each piece ends among all bytes, in order; the last one ends where the bytes do.
@@ -21,11 +23,13 @@ pub struct Script {
 }
 
 /// Why a text couldn't be read as a script.
-#[derive(Clone, Copy, Debug, PartialEq, Eq)]
+#[derive(Clone, Copy, Debug, PartialEq, Eq, Error)]
 pub(crate) enum ScriptError {
     /// The text is no script.
+    #[error("no script")]
     Refused,
     /// The script found no room in memory.
+    #[error("out of memory")]
     NoMemory,
 }
 
@@ -100,9 +104,9 @@ fn ended(script: Script, rest: &[u8]) -> Result<Script, ScriptError>
 
 /// Adds the piece of a line.
 fn put_piece(script: &mut Script, line: &[u8]) -> Result<(), ScriptError>
-    ensures put { OnOk result (option_map (λ piece. script.old.bytes.items ++ piece) (piece_of line.now) ≡ Some script.new.bytes.items) }
+    ensures put { OnOk result (option_map (λ piece. script.old.bytes.items ++ piece) (data_of line.now) ≡ Some script.new.bytes.items) }
     ensures end { OnOk result (script.new.ends.items ≡ script.old.ends.items ++ length script.new.bytes.items ∷ []) }
-    ensures refused { result ≡ Err ScriptError.Refused → piece_of line.now ≡ None }
+    ensures refused { result ≡ Err ScriptError.Refused → data_of line.now ≡ None }
     ensures within { OnOk result (length script.new.bytes.items ≤ length script.old.bytes.items + length line.now) }
 {
     if !line.starts_with(b"data 0 ") {

@@ -1,19 +1,42 @@
 //! The program's words.
 
-ghost use Rattle.std.specs.Prelude.{◌≡◌, ◌↔◌, IsTrue, map, string_bytes, MatchOption, Some, None};
-ghost use Rattle.thrift_host.specs.Words.{rehearse_words, checked_idl, is_check, is_file_name};
+ghost use Rattle.std.specs.Prelude.{◌≡◌, false, true, map, string_bytes, MatchOption};
+ghost use Rattle.std.specs.Str.{bytes_eq};
+ghost use Rattle.thrift_host.specs.Words.{checks, command_of, is_check, is_file_name, is_rehearse, no_command, rehearses};
+ghost use Rattle.thrift_host.specs.Steps.{command_asked};
 
-/// The file that the words `check IDL` name.
-pub(crate) fn checked_idl(words: &[String]) -> Option<&str>
-    ensures { MatchOption result (checked_idl (map string_bytes words.now) ≡ None) (λ idl. checked_idl (map string_bytes words.now) ≡ Some idl.now) }
+/// What the words ask for.
+#[derive(Clone, Copy, Debug, PartialEq, Eq)]
+pub(crate) enum Asked<'a> {
+    /// The IDL of this name is checked.
+    Check(&'a str),
+    /// A recorded connection is answered.
+    Rehearse,
+}
+
+/// What the words ask for, or nothing where they are no command.
+pub(crate) fn read_words(words: &[String]) -> Option<Asked<'_>>
+    ensures { MatchOption result (command_of (map string_bytes words.now) ≡ no_command)
+        (λ asked. command_of (map string_bytes words.now) ≡ command_asked asked) }
 {
-    let [command, idl] = words else {
-        return None;
-    };
+    match words {
+        [command, idl] => asked_check(command, idl),
+        [command, idl, protocol, workers, service] => {
+            asked_rehearse(command, idl, protocol, workers, service)
+        }
+        _ => None,
+    }
+}
+
+/// What two words ask for.
+fn asked_check<'a>(command: &String, idl: &'a String) -> Option<Asked<'a>>
+    ensures { MatchOption result (is_check (string_bytes command.now) (string_bytes idl.now) ≡ false)
+        (λ asked. (is_check (string_bytes command.now) (string_bytes idl.now) ≡ true) × (command_asked asked ≡ checks (string_bytes idl.now))) }
+{
     if !is_check(command, idl) {
         return None;
     }
-    Some(idl.as_str())
+    Some(Asked::Check(idl.as_str()))
 }
 
 /// Whether two words check an IDL.
@@ -36,22 +59,34 @@ fn is_file_name(word: &String) -> bool
     }
 }
 
-/// Whether these words are those of a rehearsal.
-pub(crate) fn is_rehearse(words: &[String]) -> bool
-    ensures { IsTrue result ↔ (map string_bytes words.now ≡ rehearse_words) }
+/// What five words ask for.
+fn asked_rehearse<'a>(
+    command: &String,
+    idl: &String,
+    protocol: &String,
+    workers: &String,
+    service: &String,
+) -> Option<Asked<'a>>
+    ensures { MatchOption result
+        (is_rehearse (string_bytes command.now) (string_bytes idl.now) (string_bytes protocol.now) (string_bytes workers.now) (string_bytes service.now) ≡ false)
+        (λ asked. (is_rehearse (string_bytes command.now) (string_bytes idl.now) (string_bytes protocol.now) (string_bytes workers.now)
+        (string_bytes service.now) ≡ true) × (command_asked asked ≡ rehearses)) }
 {
-    let [command, instance, protocol, workers, service] = words else {
-        return false;
-    };
-    is_word(command, "rehearse")
-        && is_word(instance, "@tutorial")
+    if is_word(command, "rehearse")
+        && is_word(idl, "@tutorial")
         && is_word(protocol, "binary")
         && is_word(workers, "0")
         && is_word(service, "Calculator=calculator")
+    {
+        Some(Asked::Rehearse)
+    } else {
+        None
+    }
 }
 
+/// Whether a word is this text.
 fn is_word(word: &String, text: &str) -> bool
-    ensures { IsTrue result ↔ (string_bytes word.now ≡ text.now) }
+    ensures { result ≡ bytes_eq (string_bytes word.now) text.now }
 {
     word.as_str() == text
 }

@@ -6,3 +6,5 @@ pub mod Tags
 pub mod Tidy
 pub mod Tree
 pub mod TreeOf
+pub mod Faults
+pub mod Sizes

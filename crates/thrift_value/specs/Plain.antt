@@ -17,14 +17,17 @@ abbrev mutual
   plain (of_list element items) = of_list element (plain_items items)
   plain value = value
 
+  -- each field with its value in plain form
   pub plain_fields : FieldTrees → FieldTrees
   plain_fields no_fields = no_fields
   plain_fields (field id value more) = field id (plain value) (plain_fields more)
 
+  -- each element in plain form
   pub plain_items : ItemTrees → ItemTrees
   plain_items no_items = no_items
   plain_items (item value more) = item (plain value) (plain_items more)
 
+  -- each key and each value in plain form
   pub plain_pairs : PairTrees → PairTrees
   plain_pairs no_pairs = no_pairs
   plain_pairs (pair key value more) = pair (plain key) (plain value) (plain_pairs more)

@@ -18,14 +18,17 @@ abbrev mutual
   IsInRange (of_set _ items) = AreItemsInRange items
   IsInRange (of_list _ items) = AreItemsInRange items
 
+  -- the same of each field, its id included
   pub AreFieldsInRange : FieldTrees → Type 0
   AreFieldsInRange no_fields = ⊤
   AreFieldsInRange (field id value more) = FitsSigned w16 id × IsInRange value × AreFieldsInRange more
 
+  -- the same of each element
   pub AreItemsInRange : ItemTrees → Type 0
   AreItemsInRange no_items = ⊤
   AreItemsInRange (item value more) = IsInRange value × AreItemsInRange more
 
+  -- the same of each key and each value
   pub ArePairsInRange : PairTrees → Type 0
   ArePairsInRange no_pairs = ⊤
   ArePairsInRange (pair key value more) = IsInRange key × IsInRange value × ArePairsInRange more

@@ -15,15 +15,18 @@ abbrev mutual
   IsWellTagged (of_list element items) = AreWellTaggedItems element items
   IsWellTagged _ = ⊤
 
+  -- the value of each field is well tagged
   pub AreWellTaggedFields : FieldTrees → Type 0
   AreWellTaggedFields no_fields = ⊤
   AreWellTaggedFields (field _ value more) = IsWellTagged value × AreWellTaggedFields more
 
+  -- each element has this tag and is well tagged
   pub AreWellTaggedItems : Tag → ItemTrees → Type 0
   AreWellTaggedItems element no_items = ⊤
   AreWellTaggedItems element (item value more) =
       (tag_of value ≡ element) × IsWellTagged value × AreWellTaggedItems element more
 
+  -- each key and each value has its tag and is well tagged
   pub AreWellTaggedPairs : Tag → Tag → PairTrees → Type 0
   AreWellTaggedPairs key value no_pairs = ⊤
   AreWellTaggedPairs key value (pair k v more) =
@@ -68,14 +71,17 @@ abbrev mutual
   IsInOrder (of_list _ items) = AreItemsInOrder items
   IsInOrder _ = ⊤
 
+  -- the value of each field is in order
   pub AreFieldsInOrder : FieldTrees → Type 0
   AreFieldsInOrder no_fields = ⊤
   AreFieldsInOrder (field _ value more) = IsInOrder value × AreFieldsInOrder more
 
+  -- each element is in order
   pub AreItemsInOrder : ItemTrees → Type 0
   AreItemsInOrder no_items = ⊤
   AreItemsInOrder (item value more) = IsInOrder value × AreItemsInOrder more
 
+  -- each key and each value is in order
   pub ArePairsInOrder : PairTrees → Type 0
   ArePairsInOrder no_pairs = ⊤
   ArePairsInOrder (pair key value more) = IsInOrder key × IsInOrder value × ArePairsInOrder more

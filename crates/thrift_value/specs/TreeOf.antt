@@ -9,25 +9,29 @@ use Rattle.thrift_value.specs.declared.value.Value.TheOpen as layer
 use Rattle.thrift_value.specs.declared.value.Value.TheFolds.{fold-Value}
 use Rattle.thrift_value.specs.Tree.{Tree, of_bool, of_i8, of_i16, of_i32, of_i64, of_double, of_bytes, of_struct, of_map, of_set, of_list, FieldTrees, no_fields, field, ItemTrees, no_items, item, PairTrees, no_pairs, pair}
 
--- the list that a type of this crate keeps
+-- the fields of a struct
 abbrev pub fields_of : Fields → List (ℤ × Value)
 fields_of fields = fields.list.items
 
+-- the elements of a set or a list
 abbrev pub items_of : Items → List Value
 items_of items = items.list.items
 
+-- the pairs of a map
 abbrev pub pairs_of : Pairs → List (Value × Value)
 pairs_of pairs = pairs.list.items
 
--- lists of trees, each as the tree's own kind of list
+-- fields as the kind of list that a tree has
 abbrev pub field_trees : List (ℤ × Tree) → FieldTrees
 field_trees [] = no_fields
 field_trees (f ∷ fs) = field f.0 f.1 (field_trees fs)
 
+-- elements as the kind of list that a tree has
 abbrev pub item_trees : List Tree → ItemTrees
 item_trees [] = no_items
 item_trees (x ∷ xs) = item x (item_trees xs)
 
+-- pairs as the kind of list that a tree has
 abbrev pub pair_trees : List (Tree × Tree) → PairTrees
 pair_trees [] = no_pairs
 pair_trees (p ∷ ps) = pair p.0 p.1 (pair_trees ps)
@@ -54,10 +58,11 @@ tree_of =
     (λ items. item_trees items.list.items)
     (λ pairs. pair_trees pairs.list.items)
 
--- a field and a pair, each with trees in place of values
+-- a field, with a tree in place of its value
 abbrev pub field_tree : ℤ × Value → ℤ × Tree
 field_tree f = (f.0, tree_of f.1)
 
+-- a pair, with trees in place of values
 abbrev pub pair_tree : Value × Value → Tree × Tree
 pair_tree p = (tree_of p.0, tree_of p.1)
 

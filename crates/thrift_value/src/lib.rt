@@ -5,6 +5,15 @@
 //! parts (`Value::Struct(Fields::new(fields))`), take it apart by `match` and `as_slice`, and ask
 //! it for its order, size, depth and tidiness.
 //!
+//! ```
+//! let numbers = Items::new(vec![in alloc; Value::I8(1), Value::I8(2)]?);
+//! let value = Value::Struct(Fields::new(vec![in alloc; (1i16, Value::List(Tag::I8, numbers))]?));
+//! assert!(rt; value.is_tidy() && value.has_small_sizes());
+//! assert_eq!(rt; (value.count(), value.depth()), (4, 2));
+//! let copy = value.try_clone(alloc)?;
+//! assert!(rt; value.compare(&copy).is_eq());
+//! ```
+//!
 //! Not here: bytes on a wire, types of an IDL, and texts of values. Each call recurses once for
 //! each level of its value, and loops over what stands beside one another. What is read from
 //! outside has at most 64 levels; who builds deeper values by hand answers for the stack, also
@@ -17,7 +26,7 @@ mod copy;
 mod fn_shapes;
 mod laws;
 mod measure;
-mod numbers;
+mod sizes;
 mod tag;
 #[cfg(test)]
 mod tests;

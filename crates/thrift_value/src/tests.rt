@@ -37,7 +37,7 @@ fn worked_value(rt: HostRuntime) -> Result<(), Fail> {
     assert_eq!(rt; value.count(), 10);
     assert_eq!(rt; value.depth(), 2);
     assert!(rt; value.is_tidy());
-    value.numbers_fit();
+    assert!(rt; value.has_small_sizes());
     let copy = value.try_clone(rt.alloc())?;
     assert_eq!(rt; value.compare(&copy), Ordering::Equal);
     assert_eq!(rt; copy.count(), 10);

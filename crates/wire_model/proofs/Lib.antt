@@ -3,4 +3,7 @@ pub mod Taking
 pub mod Giving
 pub mod Places
 pub mod Raws
-pub mod Writing
+pub mod Encoding
+pub mod Staying
+pub mod Uncounted
+pub mod Mending

@@ -10,10 +10,11 @@ use Rattle.thrift_value.specs.Plain.{plain, plain_fields, plain_items, plain_pai
 use Rattle.thrift_value.specs.Ranges.{IsInRange, AreFieldsInRange, AreItemsInRange, ArePairsInRange}
 use Rattle.thrift_value.specs.Tidy.{IsWellTagged, AreWellTaggedFields, AreWellTaggedItems, AreWellTaggedPairs}
 use Rattle.wire_model.specs.Wire.{Wire}
-use Rattle.wire_model.specs.Format.{Format, IsField, items_len, pairs_len, Spells, SpellsFields, SpellsItems, SpellsPairs}
+use Rattle.wire_model.specs.Format.{Format, IsField, Spells, SpellsFields, SpellsItems, SpellsPairs}
+use Rattle.thrift_value.specs.Sizes.{items_len, pairs_len}
 use Rattle.wire_model.specs.Protocol.{IsProtocol}
-use Rattle.wire_model.specs.Writing.{Writing}
-use Rattle.wire_model.specs.Sizes.{HasSmallSizes, HaveFieldsSmallSizes, HaveItemsSmallSizes, HavePairsSmallSizes}
+use Rattle.wire_model.specs.Encoder.{Encoder}
+use Rattle.thrift_value.specs.Sizes.{HasSmallSizes, HaveFieldsSmallSizes, HaveItemsSmallSizes, HavePairsSmallSizes}
 
 abbrev pub IsRaw : Tree → Type 0
 IsRaw x = IsWellTagged x × IsInRange x × HasSmallSizes x × (plain x ≡ x)
@@ -27,16 +28,16 @@ AreRawItems t xs = AreWellTaggedItems t xs × AreItemsInRange xs × HaveItemsSma
 abbrev AreRawPairs : Tag → Tag → PairTrees → Type 0
 AreRawPairs t u ps = AreWellTaggedPairs t u ps × ArePairsInRange ps × HavePairsSmallSizes ps × (plain_pairs ps ≡ ps)
 
-raw_field : (wire : Wire) (format : Format) (writing : Writing) (p : IsProtocol wire format writing) (last id : ℤ) (x : Tree) (text : List ℕ)
+raw_field : (wire : Wire) (format : Format) (encoder : Encoder) (p : IsProtocol wire format encoder) (last id : ℤ) (x : Tree) (text : List ℕ)
     → ((back : List ℕ) → Spells format x back → IsRaw x) → IsField format last id x (Spells format x) text → FitsSigned w16 id × IsRaw x
-raw_field wire format writing p last id x text raw (inl k) = (p.id last id (tag_of x) k.front k.first, raw k.back k.second)
-raw_field wire format writing p last id x text raw (inr k) =
+raw_field wire format encoder p last id x text raw (inl k) = (p.id last id (tag_of x) k.front k.first, raw k.back k.second)
+raw_field wire format encoder p last id x text raw (inr k) =
     (p.flagged_id last id k.flag text k.header, subst IsRaw (sym k.is_bool) (tt, tt, tt, refl))
 
 same_pair : (k l x y : Tree) (ps qs : PairTrees) → k ≡ l → x ≡ y → ps ≡ qs → pair k x ps ≡ pair l y qs
 same_pair k l x y ps qs a b c = ap (λ (z : Tree). pair z x ps) a ∙ ap (λ (z : Tree). pair l z ps) b ∙ ap (λ (z : PairTrees). pair l y z) c
 
-module _ (wire : Wire) (format : Format) (writing : Writing) (p : IsProtocol wire format writing) where
+module _ (wire : Wire) (format : Format) (encoder : Encoder) (p : IsProtocol wire format encoder) where
   mutual
     pub raw_value : (x : Tree) (text : List ℕ) → Spells format x text → IsRaw x
     raw_value (of_bytes bytes) text h = let r = p.span_range bytes text h in (tt, r.1, r.0, refl)
@@ -65,7 +66,7 @@ module _ (wire : Wire) (format : Format) (writing : Writing) (p : IsProtocol wir
     raw_fields : (fs : FieldTrees) (last : ℤ) (text : List ℕ) → SpellsFields format last fs text → AreRawFields fs
     raw_fields no_fields last text h = (tt, tt, tt, refl)
     raw_fields (field id x xs) last text j =
-        let a = raw_field wire format writing p last id x j.front (λ back h. raw_value x back h) j.first in
+        let a = raw_field wire format encoder p last id x j.front (λ back h. raw_value x back h) j.first in
         let r = raw_fields xs id j.back j.second in
         ((a.1.0, r.0), (a.0, a.1.1, r.1), (a.1.2, r.2), ap (λ (z : Tree). field id z (plain_fields xs)) a.1.3 ∙ ap (λ (z : FieldTrees). field id x z) r.3)
 

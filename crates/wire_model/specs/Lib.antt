@@ -1,9 +1,8 @@
-pub mod Reader
+pub mod Decoder
 pub mod Wire
 pub mod Reading
 pub mod Format
-pub mod Writing
-pub mod Sizes
+pub mod Encoder
 pub mod Place
-pub mod Gives
+pub mod Answering
 pub mod Protocol

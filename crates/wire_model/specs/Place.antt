@@ -6,20 +6,21 @@ use Rattle.thrift_value.specs.declared.tag.Tag.TheVariants.{Struct}
 use Rattle.thrift_value.specs.Tree.{Tree}
 use Rattle.thrift_value.specs.Tags.{tag_of}
 use Rattle.thrift_value.specs.Measures.{depth_of, count_of}
-use Rattle.wire_model.specs.Reader.{Rest}
+use Rattle.wire_model.specs.Decoder.{Unread}
 use Rattle.wire_model.specs.Wire.{Wire}
 use Rattle.wire_model.specs.Reading.{value}
 use Rattle.wire_model.specs.Format.{Format, Spells}
 
--- how many levels a value that is read may have, and how many values it may be
+-- how many levels a value that is read may have, by own choice
 abbrev pub max_levels : ℕ
 max_levels = 64
 
+-- how many values it may be, by own choice, itself included
 abbrev pub max_values : ℕ
 max_values = 4000000
 
 -- what was read, with the place behind it in bytes of this length
-abbrev pub placed : ℕ → Result (Tree × Rest) WireFault → Result (Tree × ℕ) WireFault
+abbrev pub placed : ℕ → Result (Tree × Unread) WireFault → Result (Tree × ℕ) WireFault
 placed size (Ok x) = Ok (x.0, size - length x.1.bytes)
 placed size (Err fault) = Err fault
 
@@ -30,7 +31,7 @@ found_struct x behind = Ok (x, behind)
 -- the struct at a place and the place behind it, or the fault that comes first
 abbrev pub struct_at : Wire → List ℕ → ℕ → Result (Tree × ℕ) WireFault
 struct_at wire bytes at =
-    placed (length bytes) (value wire max_levels Struct (record { bytes = drop at bytes; left = max_values }))
+    placed (length bytes) (value wire max_levels Struct (record { bytes = drop at bytes; budget = max_values }))
 
 -- a struct that may be read
 pub record IsWithinBounds (x : Tree) : Type 0 where
@@ -39,7 +40,7 @@ pub record IsWithinBounds (x : Tree) : Type 0 where
   pub count : count_of x ≤ max_values
 
 -- a spelling of the value stands at a place, up to the place behind it
-pub record StandsAt (format : Format) (bytes : List ℕ) (at : ℕ) (x : Tree) (behind : ℕ) : Type 0 where
+pub record IsEncodedAt (format : Format) (bytes : List ℕ) (at : ℕ) (x : Tree) (behind : ℕ) : Type 0 where
   pub text : List ℕ
   pub more : List ℕ
   pub within : at ≤ length bytes
@@ -49,11 +50,11 @@ pub record StandsAt (format : Format) (bytes : List ℕ) (at : ℕ) (x : Tree) (
 
 -- What reading a value of a tag took: the bytes that spell it, and its number of values of those that may still come. It
 -- has no more levels than may be opened, and no more values than bytes.
-pub record Taken (format : Format) (levels : ℕ) (tag : Tag) (x : Tree) (before after : Rest) : Type 0 where
+pub record Taken (format : Format) (levels : ℕ) (tag : Tag) (x : Tree) (before after : Unread) : Type 0 where
   pub text : List ℕ
   pub whole : before.bytes ≡ text ++ after.bytes
   pub spells : Spells format x text
   pub kind : tag_of x ≡ tag
   pub depth : depth_of x ≤ levels
-  pub count : count_of x + after.left ≡ before.left
+  pub count : count_of x + after.budget ≡ before.budget
   pub bytes : count_of x ≤ length text

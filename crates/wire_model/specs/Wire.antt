@@ -3,22 +3,22 @@ use Rattle.std.specs.Prelude.{⊤, ℕ, ℤ, Bool, List}
 use Rattle.thrift_value.specs.declared.tag.Tag.{Tag}
 use Rattle.thrift_value.specs.declared.tag.Tag.TheVariants as tags
 use Rattle.thrift_value.specs.Tree.{Tree}
-use Rattle.wire_model.specs.Reader.{Reader}
+use Rattle.wire_model.specs.Decoder.{Decoder}
 
 -- what stands before a field of a struct: the end of the struct, the id and the tag of a field whose value follows, or
 -- the id and the value of a bool field that has its value in the header (the flagged header: Thrift compact protocol, 'Struct')
 pub data FieldHeader : Type 0 where
   stop : FieldHeader
-  head : ℤ → Tag → FieldHeader
+  typed : ℤ → Tag → FieldHeader
   flagged : ℤ → Bool → FieldHeader
 
 -- the readers of a protocol; field takes the id of the field before, 0 at the first
 pub record Wire : Type 0 where
-  pub field : ℤ → Reader FieldHeader
-  pub scalar : Tag → Reader Tree
-  pub span : Reader (List ℕ)
-  pub items : Reader (Tag × ℕ)
-  pub pairs : Reader (Tag × Tag × ℕ)
+  pub field : ℤ → Decoder FieldHeader
+  pub scalar : Tag → Decoder Tree
+  pub span : Decoder (List ℕ)
+  pub items : Decoder (Tag × ℕ)
+  pub pairs : Decoder (Tag × Tag × ℕ)
 
 -- the kinds of values that are neither bytes nor hold other values
 abbrev pub IsScalar : Tag → Type 0

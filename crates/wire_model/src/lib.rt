@@ -1,13 +1,26 @@
-//! Values on the wire, by definitions and laws alone: what it means to read a value from bytes, to spell it, and to write
+//! Values on the wire, by definitions and laws alone: what it means to decode a value from bytes, to spell it, and to encode
 //! it, for Thrift's binary and compact protocol at once. It is for crates that read and write; no byte of either protocol
-//! is known here, and nothing runs. A crate that reads says in its contract that it gives `struct_at binary bytes.now at`, and
-//! gets the rest by citing a law in the body of its function, `struct_read_is_spelled::<Binary>();` beside
-//! `binary_leaves_agree();`, and then `c.struct_read_is_spelled.ensures c.binary_leaves_agree.ensures` in the answer.
+//! is known here, and nothing runs.
 //!
-//! A protocol has readers of its own for field headers, numbers, texts and container headers, the spellings of these, and
-//! what it writes of them ([`WireProtocol`]). From these parts the files of `specs/` make the reading of a whole value with
-//! its first fault, the spellings of a value, and the bytes that are written for it. A protocol proves of its parts alone
-//! that they agree (`IsProtocol`); the laws then say it of every value.
+//! A protocol has decoders of its own for field headers, numbers, texts and container headers, the spellings of these with
+//! their first faults, and what it writes of them ([`WireProtocol`]). From these parts the files of `specs/` make the reading
+//! of a whole value with its first fault, the spellings of a value, and the bytes that are written for it. A protocol proves
+//! of its parts alone that they agree (`IsProtocol`); the laws then say it of every value.
+//!
+//! A crate that reads says in its contract what it answers, and gets the rest by citing a law:
+//!
+//! ```
+//! fn read(alloc: Global, bytes: &[u8], at: usize) -> Result<(Raw, usize), WireFault>
+//!     requires { at ≤ length bytes.now }
+//!     ensures exact { AnswersOrNoMemory (λ x. (tree_of x.0, x.1)) result (struct_at binary bytes.now at) }
+//!     ensures found { IfOk result (λ x. IsEncodedAt binary_format bytes.now at (tree_of x.0) x.1) }
+//! {
+//!     // In the answer: c.struct_read_is_spelled.ensures c.binary_leaves_agree.ensures
+//!     struct_read_is_spelled::<Binary>();
+//!     binary_leaves_agree();
+//!     ..
+//! }
+//! ```
 #![tactic(auto)]
 
 pub mod laws;

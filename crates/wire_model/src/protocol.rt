@@ -1,7 +1,7 @@
 //! A protocol, by its definitions alone.
 
 ghost use Rattle.wire_model.specs.Format.{Format};
-ghost use Rattle.wire_model.specs.Writing.{Writing};
+ghost use Rattle.wire_model.specs.Encoder.{Encoder};
 ghost use Rattle.wire_model.specs.Wire.{Wire};
 
 /// A protocol: how it reads, how it spells, and what it writes.
@@ -13,5 +13,5 @@ pub trait WireProtocol {
     ghost format: { Format };
 
     // Which of these bytes are written.
-    ghost writing: { Writing };
+    ghost encoder: { Encoder };
 }

@@ -1,8 +1,6 @@
--- Numbers of a fixed width: their bytes, and what a read at a place gives (Thrift binary protocol, 'Integer encoding').
-use Rattle.std.specs.Prelude.{ℕ, ◌+◌, ℤ, List, length, take, drop, nat_le, Result, Ok, Err, if◌then◌else◌}
-use Rattle.std.specs.Int.{Width, to_be_bytes, from_be_bytes, cast_signed, cast_unsigned}
-use Rattle.wire_num.specs.declared.fault.NumFault.{NumFault}
-use Rattle.wire_num.specs.declared.fault.NumFault.TheVariants.{Short}
+-- Numbers of a fixed width and their bytes, the highest byte first (Thrift binary protocol, 'Integer encoding').
+use Rattle.std.specs.Prelude.{◌≡◌, ◌<◌, ◌*◌, ◌^◌, ℕ, ℤ, List, [], ◌∷◌, FitsSigned}
+use Rattle.std.specs.Int.{Width, byte_len, to_be_bytes, from_be_bytes, cast_signed, cast_unsigned}
 
 -- the number that these bytes spell, the highest byte first
 abbrev pub unsigned_of : Width → List ℕ → ℕ
@@ -20,8 +18,14 @@ unsigned_bytes width number = to_be_bytes width number
 abbrev pub signed_bytes : Width → ℤ → List ℕ
 signed_bytes width number = to_be_bytes width (cast_unsigned width number)
 
--- reading `size` bytes at a place: the number that they spell and the place behind them, or Short where the bytes
--- end before
-abbrev pub fixed_at : {A : Type 0} → ℕ → (List ℕ → A) → List ℕ → ℕ → Result (A × ℕ) NumFault
-fixed_at size spelled bytes at =
-    if nat_le (at + size) (length bytes) then Ok (spelled (take size (drop at bytes)), at + size) else Err Short
+-- these bytes are the encoding of a byte
+abbrev pub IsByte : ℕ → List ℕ → Type 0
+IsByte number bytes = (number < 256) × (bytes ≡ number ∷ [])
+
+-- these bytes are the encoding of a number that fits its width
+abbrev pub IsUnsigned : Width → ℕ → List ℕ → Type 0
+IsUnsigned width number bytes = (number < 2 ^ (8 * byte_len width)) × (bytes ≡ unsigned_bytes width number)
+
+-- the same as two's complement
+abbrev pub IsSigned : Width → ℤ → List ℕ → Type 0
+IsSigned width number bytes = FitsSigned width number × (bytes ≡ signed_bytes width number)

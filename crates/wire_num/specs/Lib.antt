@@ -1,1 +1,3 @@
 pub mod Fixed
+pub mod Decoding
+pub mod Encoded

@@ -3,12 +3,12 @@
 ghost use Rattle.std.specs.Prelude.{◌≡◌, length, pos, suc, ◌+◌, ◌<◌, ◌++◌, ◌∷◌, [], MatchResult, IfOk, OnOk};
 ghost use Rattle.thrift_value.specs.Tree.{of_bytes};
 ghost use Rattle.thrift_value.specs.TreeOf.{tree_of, fields_tree, items_tree, pairs_tree};
-ghost use Rattle.wire_model.specs.Gives.{Gives};
+ghost use Rattle.wire_model.specs.Answering.{AnswersOrNoMemory};
 ghost use Rattle.wire_model.specs.Reading.{value, field_list, item_list, pair_list};
 
 use crate::codec::Codec;
 use crate::header::Header;
-use crate::rest::Rest;
+use crate::input::Input;
 use std::alloc::{AllocError, Global};
 use thrift_value::{ByteText, Fields, Items, Pairs, Tag, Value, WireFault};
 
@@ -16,19 +16,17 @@ use thrift_value::{ByteText, Fields, Items, Pairs, Tag, Value, WireFault};
 #[cycle(reading)]
 pub fn read<'a, C: Codec>(
     alloc: Global,
-    rest: Rest<'a>,
+    rest: Input<'a>,
     levels: u32,
     tag: Tag,
-) -> Result<(Value, Rest<'a>), WireFault>
-    ensures { Gives (λ r. (tree_of r.0, r.1)) result (value C.wire levels tag rest.entry) }
+) -> Result<(Value, Input<'a>), WireFault>
+    ensures { AnswersOrNoMemory (λ r. (tree_of r.0, r.1)) result (value C.wire levels tag rest.entry) }
 {
-    let rest = rest.one_more()?;
+    let rest = rest.count_value()?;
     match tag {
         Tag::Bytes => {
             let (text, rest) = C::span(rest)?;
-            let Ok(value) = kept_text(alloc, text) else {
-                return Err(WireFault::NoMemory);
-            };
+            let value = kept_text(alloc, text)?;
             Ok((value, rest))
         }
         Tag::Struct => {
@@ -76,13 +74,11 @@ fn kept_text(alloc: Global, text: &[u8]) -> Result<Value, AllocError>
     Ok(Value::Bytes(ByteText::new(text.to_vec(alloc)?)))
 }
 
-/// One more at the end of a list.
+/// One more at the end of a list: a function of its own, so that a proof meets the dropping of what wasn't kept only here.
 fn keep<T: Drop>(list: &mut Vec<T>, item: T) -> Result<(), AllocError>
     ensures { OnOk result (list.new.items ≡ list.old.items ++ item ∷ []) }
 {
-    if list.push(item).is_err() {
-        return Err(AllocError);
-    }
+    list.push(item)?;
     Ok(())
 }
 
@@ -90,33 +86,31 @@ fn keep<T: Drop>(list: &mut Vec<T>, item: T) -> Result<(), AllocError>
 #[cycle(reading)]
 fn read_fields<'a, C: Codec>(
     alloc: Global,
-    rest: Rest<'a>,
+    rest: Input<'a>,
     levels: u32,
-) -> Result<(Fields, Rest<'a>), WireFault>
-    ensures { Gives (λ r. (fields_tree r.0, r.1)) result
+) -> Result<(Fields, Input<'a>), WireFault>
+    ensures { AnswersOrNoMemory (λ r. (fields_tree r.0, r.1)) result
         (field_list C.wire (value C.wire levels) (length rest.entry.bytes) (pos 0) rest.entry) }
 {
     let mut fields = Vec::new(alloc);
     let mut last = 0;
     let mut rest = rest;
+    // Each header takes a byte at least. The count shows that the loop ends, and each arm goes on by itself, so that a proof has
+    // no two arms to join.
     for step in 0..rest.bytes().len() {
         let (header, behind) = C::field(last, rest)?;
         match header {
             Header::Stop => return Ok((Fields::new(fields), behind)),
             Header::Field(id, tag) => {
                 let (value, behind) = read::<C>(alloc, behind, levels, tag)?;
-                let Ok(()) = keep(&mut fields, (id, value)) else {
-                    return Err(WireFault::NoMemory);
-                };
+                keep(&mut fields, (id, value))?;
                 last = id;
                 rest = behind;
                 continue;
             }
             Header::Flag(id, flag) => {
-                let behind = behind.one_more()?;
-                let Ok(()) = keep(&mut fields, (id, Value::Bool(flag))) else {
-                    return Err(WireFault::NoMemory);
-                };
+                let behind = behind.count_value()?;
+                keep(&mut fields, (id, Value::Bool(flag)))?;
                 last = id;
                 rest = behind;
                 continue;
@@ -130,20 +124,18 @@ fn read_fields<'a, C: Codec>(
 #[cycle(reading)]
 fn read_items<'a, C: Codec>(
     alloc: Global,
-    rest: Rest<'a>,
+    rest: Input<'a>,
     levels: u32,
     tag: Tag,
     count: usize,
-) -> Result<(Items, Rest<'a>), WireFault>
-    ensures { Gives (λ r. (items_tree r.0, r.1)) result (item_list (value C.wire levels) tag count rest.entry) }
+) -> Result<(Items, Input<'a>), WireFault>
+    ensures { AnswersOrNoMemory (λ r. (items_tree r.0, r.1)) result (item_list (value C.wire levels) tag count rest.entry) }
 {
     let mut items = Vec::new(alloc);
     let mut rest = rest;
     for step in 0..count {
         let (value, behind) = read::<C>(alloc, rest, levels, tag)?;
-        let Ok(()) = keep(&mut items, value) else {
-            return Err(WireFault::NoMemory);
-        };
+        keep(&mut items, value)?;
         rest = behind;
     }
     Ok((Items::new(items), rest))
@@ -153,13 +145,13 @@ fn read_items<'a, C: Codec>(
 #[cycle(reading)]
 fn read_pairs<'a, C: Codec>(
     alloc: Global,
-    rest: Rest<'a>,
+    rest: Input<'a>,
     levels: u32,
     key_tag: Tag,
     value_tag: Tag,
     count: usize,
-) -> Result<(Pairs, Rest<'a>), WireFault>
-    ensures { Gives (λ r. (pairs_tree r.0, r.1)) result
+) -> Result<(Pairs, Input<'a>), WireFault>
+    ensures { AnswersOrNoMemory (λ r. (pairs_tree r.0, r.1)) result
         (pair_list (value C.wire levels) key_tag value_tag count rest.entry) }
 {
     let mut pairs = Vec::new(alloc);
@@ -167,9 +159,7 @@ fn read_pairs<'a, C: Codec>(
     for step in 0..count {
         let (key, behind) = read::<C>(alloc, rest, levels, key_tag)?;
         let (value, behind) = read::<C>(alloc, behind, levels, value_tag)?;
-        let Ok(()) = keep(&mut pairs, (key, value)) else {
-            return Err(WireFault::NoMemory);
-        };
+        keep(&mut pairs, (key, value))?;
         rest = behind;
     }
     Ok((Pairs::new(pairs), rest))

@@ -1,25 +1,33 @@
-//! Writing a value: level by level, from left to right.
+//! Encoder a value: level by level, from left to right.
 
 ghost use Rattle.std.specs.Prelude.{◌≡◌, ◌++◌, map, pos, OnOk, OnErr};
+ghost use Rattle.thrift_value.specs.Ranges.{IsInRange, AreFieldsInRange, AreItemsInRange, ArePairsInRange};
+ghost use Rattle.thrift_value.specs.Tags.{tag_of};
 ghost use Rattle.thrift_value.specs.TreeOf.{tree_of, field_tree, pair_tree, field_trees, item_trees, pair_trees};
-ghost use Rattle.wire_model.specs.Writing.{text, fields_text, items_text, pairs_text, heading, behind_heading};
-ghost use Rattle.wire_model.specs.Sizes.{HasSmallSizes, HaveFieldsSmallSizes, HaveItemsSmallSizes, HavePairsSmallSizes};
-ghost use Rattle.wire_walk.specs.Steps.{head_of, Grows};
+ghost use Rattle.wire_model.specs.Encoder.{text, fields_text, items_text, pairs_text, heading, behind_heading};
+ghost use Rattle.thrift_value.specs.Sizes.{HasSmallSizes, HaveFieldsSmallSizes, HaveItemsSmallSizes, HavePairsSmallSizes};
+ghost use Rattle.wire_model.specs.Wire.{IsScalar};
+ghost use Rattle.wire_walk.specs.Steps.{field_header_of, Grows, OnBehind};
 
 use crate::codec::Codec;
 use crate::header::Header;
 use std::alloc::AllocError;
 use thrift_value::{Tag, Value};
 
-/// Appends a value. It recurses once a level. Where memory runs out, a part of it may have been appended.
+/// Appends a value, and tells that each number in it fits its type. It recurses once a level. Where memory runs out, a part of it
+/// may have been appended.
 #[cycle(writing)]
 pub fn put<C: Codec>(value: &Value, into: &mut Vec<u8>) -> Result<(), AllocError>
     requires { HasSmallSizes (tree_of value.now) }
-    ensures ok { OnOk result (into.new.items ≡ into.old.items ++ text C.writing (tree_of value.now)) }
+    ensures ok { OnOk result (into.new.items ≡ into.old.items ++ text C.encoder (tree_of value.now)) }
+    ensures in_range { OnOk result (IsInRange (tree_of value.now)) }
     ensures err { OnErr result (Grows into.old.items into.new.items) }
 {
     match value {
-        Value::Bytes(text) => C::put_span(text.as_slice(), into),
+        Value::Bytes(text) => {
+            text.numbers_fit();
+            C::put_span(text.as_slice(), into)
+        }
         Value::Struct(fields) => put_fields::<C>(fields.as_slice(), into),
         Value::Map(key, value, pairs) => {
             C::put_pairs(*key, *value, pairs.as_slice().len(), into)?;
@@ -33,7 +41,42 @@ pub fn put<C: Codec>(value: &Value, into: &mut Vec<u8>) -> Result<(), AllocError
             C::put_items(*element, items.as_slice().len(), into)?;
             put_items::<C>(items.as_slice(), into)
         }
-        _ => C::put_scalar(value, into),
+        Value::Bool(_)
+        | Value::I8(_)
+        | Value::I16(_)
+        | Value::I32(_)
+        | Value::I64(_)
+        | Value::Double(_) => {
+            number_fits(value);
+            C::put_scalar(value, into)
+        }
+    }
+}
+
+/// Makes it known to a proof that the number which this value is fits its type: each is read once, which tells its range.
+#[tactic(auto, using(thrift_value::proofs::Trees::tree_equations))]
+fn number_fits(value: &Value)
+    requires { IsScalar (tag_of (tree_of value.now)) }
+    ensures { IsInRange (tree_of value.now) }
+{
+    match value {
+        Value::I8(n) => {
+            let _number = *n;
+        }
+        Value::I16(n) => {
+            let _number = *n;
+        }
+        Value::I32(n) => {
+            let _number = *n;
+        }
+        Value::I64(n) => {
+            let _number = *n;
+        }
+        Value::Double(bits) => {
+            let _number = *bits;
+        }
+        Value::Bool(_) | Value::Bytes(_) | Value::Struct(_) | Value::Map(_, _, _) => {}
+        Value::Set(_, _) | Value::List(_, _) => {}
     }
 }
 
@@ -42,7 +85,8 @@ pub fn put<C: Codec>(value: &Value, into: &mut Vec<u8>) -> Result<(), AllocError
 fn put_fields<C: Codec>(fields: &[(i16, Value)], into: &mut Vec<u8>) -> Result<(), AllocError>
     requires { HaveFieldsSmallSizes (field_trees (map field_tree fields.now)) }
     ensures ok { OnOk result
-        (into.new.items ≡ into.old.items ++ fields_text C.writing (pos 0) (field_trees (map field_tree fields.now))) }
+        (into.new.items ≡ into.old.items ++ fields_text C.encoder (pos 0) (field_trees (map field_tree fields.now))) }
+    ensures in_range { OnOk result (AreFieldsInRange (field_trees (map field_tree fields.now))) }
     ensures err { OnErr result (Grows into.old.items into.new.items) }
 {
     let mut last = 0;
@@ -57,7 +101,7 @@ fn put_fields<C: Codec>(fields: &[(i16, Value)], into: &mut Vec<u8>) -> Result<(
 
 /// The header of a field.
 fn header_of<C: Codec>(id: i16, value: &Value) -> Header
-    ensures { head_of result ≡ heading C.writing.flags id (tree_of value.now) }
+    ensures { field_header_of result ≡ heading C.encoder.flags id (tree_of value.now) }
 {
     match value {
         Value::Bool(flag) => {
@@ -76,13 +120,13 @@ fn header_of<C: Codec>(id: i16, value: &Value) -> Header
 fn put_behind<C: Codec>(header: Header, value: &Value, into: &mut Vec<u8>) -> Result<(), AllocError>
     requires { HasSmallSizes (tree_of value.now) }
     ensures ok { OnOk result
-        (into.new.items ≡ into.old.items ++ behind_heading (head_of header) (text C.writing (tree_of value.now))) }
+        (into.new.items ≡ into.old.items ++ behind_heading (field_header_of header) (text C.encoder (tree_of value.now))) }
+    ensures in_range { OnOk result (OnBehind (field_header_of header) (IsInRange (tree_of value.now))) }
     ensures err { OnErr result (Grows into.old.items into.new.items) }
 {
     match header {
         Header::Field(_, _) => put::<C>(value, into),
-        Header::Flag(_, _) => Ok(()),
-        Header::Stop => Ok(()),
+        Header::Flag(_, _) | Header::Stop => Ok(()),
     }
 }
 
@@ -91,7 +135,8 @@ fn put_behind<C: Codec>(header: Header, value: &Value, into: &mut Vec<u8>) -> Re
 fn put_items<C: Codec>(items: &[Value], into: &mut Vec<u8>) -> Result<(), AllocError>
     requires { HaveItemsSmallSizes (item_trees (map tree_of items.now)) }
     ensures ok { OnOk result
-        (into.new.items ≡ into.old.items ++ items_text C.writing (item_trees (map tree_of items.now))) }
+        (into.new.items ≡ into.old.items ++ items_text C.encoder (item_trees (map tree_of items.now))) }
+    ensures in_range { OnOk result (AreItemsInRange (item_trees (map tree_of items.now))) }
     ensures err { OnErr result (Grows into.old.items into.new.items) }
 {
     for value in items {
@@ -105,7 +150,8 @@ fn put_items<C: Codec>(items: &[Value], into: &mut Vec<u8>) -> Result<(), AllocE
 fn put_pairs<C: Codec>(pairs: &[(Value, Value)], into: &mut Vec<u8>) -> Result<(), AllocError>
     requires { HavePairsSmallSizes (pair_trees (map pair_tree pairs.now)) }
     ensures ok { OnOk result
-        (into.new.items ≡ into.old.items ++ pairs_text C.writing (pair_trees (map pair_tree pairs.now))) }
+        (into.new.items ≡ into.old.items ++ pairs_text C.encoder (pair_trees (map pair_tree pairs.now))) }
+    ensures in_range { OnOk result (ArePairsInRange (pair_trees (map pair_tree pairs.now))) }
     ensures err { OnErr result (Grows into.old.items into.new.items) }
 {
     for (key, value) in pairs {

@@ -1,4 +1,4 @@
-use Rattle.seat_booth.specs.Place.{IsSeatOf}
+use Rattle.seat_booth.specs.Seats.{IsSeatOf}
 use Rattle.booth_bench.proofs.call_booth.Given as goal
 
 abbrev pub invariant-loop : goal.invariant-loop

@@ -1,9 +1,9 @@
 //! What a desk calls and sends.
 
 ghost use Rattle.std.specs.Prelude.{◌≡◌, map, IfOk};
-ghost use Rattle.host_model.specs.Desk.{Desk};
+ghost use Rattle.host_model.specs.DeskRules.{DeskRules};
 ghost use Rattle.host_model.specs.Conversation.{answer_at, called, reply_for, sent};
-ghost use Rattle.host_model.specs.Plain.{decision_of, journal_of};
+ghost use Rattle.host_model.specs.Plain.{decision_seen, journal_seen};
 
 use super::journals::PlainEntry;
 use outside::{Bytes, EnvelopeFault};
@@ -28,11 +28,11 @@ pub trait PlainDesk {
 
     type Answer: Copy;
 
-    ghost desk: { Self → Desk Self.Call Self.Answer };
+    ghost desk: { Self → DeskRules Self.Call Self.Answer };
 
     /// What is decided on a payload.
     fn decide(&self, alloc: Global, payload: &[u8]) -> Result<Decided<Self::Call>, AllocError>
-        ensures { IfOk result (λ decided. decision_of decided ≡ (desk self.now).decide payload.now) };
+        ensures { IfOk result (λ decided. decision_seen decided ≡ (desk self.now).decide payload.now) };
 
     /// Whether a call gets no reply.
     fn is_silent(&self, call: Self::Call) -> bool
@@ -74,7 +74,7 @@ pub fn sent<D: PlainDesk>(
     entries: &[PlainEntry<D::Call, D::Answer>],
     payloads: &[Vec<u8>],
 ) -> Result<Vec<u8>, AllocError>
-    ensures { IfOk result (λ out. out.items ≡ sent (D.desk desk.now) (journal_of entries.now) 0 (map (λ p. p.items) payloads.now)) }
+    ensures { IfOk result (λ out. out.items ≡ sent (D.desk desk.now) (journal_seen entries.now) 0 (map (λ p. p.items) payloads.now)) }
 {
     let mut out = Vec::new(alloc);
     for (number, payload) in payloads.iter().enumerate() {
@@ -92,10 +92,10 @@ pub fn sent<D: PlainDesk>(
 /// The answer to the call of the frame of this number, where an entry has it.
 #[tactic(auto, using(crate::proofs::Plainly::plainly))]
 fn answer_at<C: Copy, A: Copy>(entries: &[PlainEntry<C, A>], number: u64) -> Option<A>
-    ensures { result ≡ answer_at (journal_of entries.now) number }
+    ensures { result ≡ answer_at (journal_seen entries.now) number }
 {
     for entry in entries {
-        if entry.number == number {
+        if entry.key.i == number {
             return Some(entry.answer);
         }
     }

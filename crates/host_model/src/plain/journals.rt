@@ -1,18 +1,17 @@
 //! What a journal leaves in the services' memories, and whether it is a legal history.
 
 ghost use Rattle.std.specs.Prelude.{◌≡◌, ◌↔◌, IfOk, IsTrue};
-ghost use Rattle.host_model.specs.Journal.{Rules, entries_of, after, after_call, IsAnswered, Legal};
-ghost use Rattle.host_model.specs.Plain.{entry_of, journal_of};
+ghost use Rattle.host_model.specs.Journal.{ServiceRules, entries_of, after, after_call, IsAnswered, Legal};
+ghost use Rattle.host_model.specs.Plain.{entry_seen, journal_seen};
 
+use crate::Key;
 use std::alloc::{AllocError, Global};
 
 /// A call with its answer.
 #[derive(Clone, Copy, Debug)]
 pub struct PlainEntry<C, A> {
-    /// The number of the call's connection.
-    pub connection: u32,
-    /// Which of the connection's frames asked for it, counted from 0.
-    pub number: u64,
+    /// The frame that asked for the call.
+    pub key: Key,
     pub call: C,
     pub answer: A,
 }
@@ -24,11 +23,11 @@ pub fn entries_of<C: Copy, A: Copy>(
     c: u32,
     journal: &[PlainEntry<C, A>],
 ) -> Result<Vec<PlainEntry<C, A>>, AllocError>
-    ensures { IfOk result (λ own. journal_of own.items ≡ entries_of c (journal_of journal.now)) }
+    ensures { IfOk result (λ own. journal_seen own.items ≡ entries_of c (journal_seen journal.now)) }
 {
     let mut own = Vec::new(alloc);
     for entry in journal {
-        if entry.connection == c {
+        if entry.key.c == c {
             own.push(*entry)?;
         }
     }
@@ -43,7 +42,7 @@ pub trait PlainServices {
 
     type Memory: Copy;
 
-    ghost rules: { Self → Rules Self.Call Self.Answer Self.Memory };
+    ghost rules: { Self → ServiceRules Self.Call Self.Answer Self.Memory };
 
     /// The slot of the service that a call is for.
     fn slot(&self, call: Self::Call) -> usize
@@ -65,7 +64,7 @@ pub fn after<S: PlainServices>(
     memories: &mut [S::Memory],
     journal: &[PlainEntry<S::Call, S::Answer>],
 )
-    ensures { memories.new ≡ after (S.rules services.now) memories.old (journal_of journal.now) }
+    ensures { memories.new ≡ after (S.rules services.now) memories.old (journal_seen journal.now) }
 {
     for done in journal {
         after_call(services, memories, done.call);
@@ -79,7 +78,7 @@ pub fn is_legal<S: PlainServices>(
     memories: &[S::Memory],
     journal: &[PlainEntry<S::Call, S::Answer>],
 ) -> Result<bool, AllocError>
-    ensures { IfOk result (λ legal. IsTrue legal ↔ Legal (S.rules services.now) memories.now (journal_of journal.now)) }
+    ensures { IfOk result (λ legal. IsTrue legal ↔ Legal (S.rules services.now) memories.now (journal_seen journal.now)) }
 {
     let mut memories = Vec::from_slice(alloc, memories)?;
     Ok(goes_on(services, memories.as_mut_slice(), journal))
@@ -92,7 +91,7 @@ fn goes_on<S: PlainServices>(
     memories: &mut [S::Memory],
     journal: &[PlainEntry<S::Call, S::Answer>],
 ) -> bool
-    ensures { IsTrue result ↔ Legal (S.rules services.now) memories.old (journal_of journal.now) }
+    ensures { IsTrue result ↔ Legal (S.rules services.now) memories.old (journal_seen journal.now) }
 {
     for entry in journal {
         if !is_answered(services, memories, entry) {
@@ -120,7 +119,7 @@ fn is_answered<S: PlainServices>(
     memories: &[S::Memory],
     entry: &PlainEntry<S::Call, S::Answer>,
 ) -> bool
-    ensures { IsTrue result ↔ IsAnswered (S.rules services.now) memories.now (entry_of entry.now) }
+    ensures { IsTrue result ↔ IsAnswered (S.rules services.now) memories.now (entry_seen entry.now) }
 {
     let slot = services.slot(entry.call);
     if slot < memories.len() {

@@ -1,6 +1,7 @@
 //! A table of small examples, whose expected values are worked out by hand.
 
 use super::*;
+use crate::Key;
 use outside::{Bytes, EnvelopeFault, Mark};
 use std::alloc::{AllocError, Global};
 use std::process::Abort;
@@ -10,13 +11,13 @@ use std::test::Fail;
 struct Tiny;
 
 impl PlainDesk for Tiny {
-    ghost use Rattle.host_model.specs.TinyDesk.{desk};
+    ghost use Rattle.host_model.specs.TinyDesk.{tiny_desk};
 
     type Call = u8;
 
     type Answer = u8;
 
-    ghost desk = { λ _. desk };
+    ghost desk = { λ _. tiny_desk };
 
     fn decide(&self, alloc: Global, payload: &[u8]) -> Result<Decided<u8>, AllocError> {
         match payload {
@@ -139,8 +140,7 @@ fn calls_and_replies<R: Abort>(rt: &R, alloc: Global) -> Result<(), Fail> {
 /// An entry of connection 0.
 fn entry(number: u64, call: u8, answer: u8) -> PlainEntry<u8, u8> {
     PlainEntry {
-        connection: 0,
-        number,
+        key: Key { c: 0, i: number },
         call,
         answer,
     }

@@ -2,13 +2,13 @@
 
 ghost use Rattle.std.specs.Prelude.{◌≡◌, IfOk, option_map, slice_get};
 ghost use Rattle.host_model.specs.Journal.{after_call};
-ghost use Rattle.machine_model.specs.Plain.{effect_plain, fault_plain, fate_plain, broken_plain, apply_plain};
-ghost use Rattle.machine_model.specs.Seen.{hall_of, cell_of, fate_of};
+ghost use Rattle.machine_model.specs.Plain.{effect_plain, fault_plain, apply_result_plain, broken_plain, apply_plain};
+ghost use Rattle.machine_model.specs.Seen.{hall_of, cell_of, apply_result_of};
 
-use super::cells::{PlainCell, PlainFate, with_hand_of};
+use super::cells::{PlainApplyResult, PlainCell, with_worker_of};
 use super::halls::PlainHall;
-use super::hands::{PlainHand, hand_at};
 use super::rounds::one_more;
+use super::workers::{PlainWorkerState, state_at};
 use host_model::Key;
 use host_model::plain::{Decided, PlainDesk, PlainEntry, PlainServices};
 use std::alloc::{AllocError, Global};
@@ -20,21 +20,21 @@ pub fn applies<D: PlainDesk, S: PlainServices<Call = D::Call, Answer = D::Answer
     services: &S,
     cell: PlainCell<D::Call, D::Answer, S::Memory>,
     w: u32,
-    fate: PlainFate,
+    apply_result: PlainApplyResult,
 ) -> Result<Option<PlainCell<D::Call, D::Answer, S::Memory>>, AllocError>
     ensures { IfOk result (λ next. option_map cell_of next
-        ≡ apply_plain (D.desk desk.now) (S.rules services.now) (cell_of cell) w (fate_of fate) ((cell_of cell).hands w)) }
+        ≡ apply_plain (D.desk desk.now) (S.rules services.now) (cell_of cell) w (apply_result_of apply_result) ((cell_of cell).workers w)) }
 {
-    let PlainHand::Holds(key, payload) = hand_at(alloc, cell.hands.as_slice(), w)? else {
+    let PlainWorkerState::Holds(key, payload) = state_at(alloc, cell.workers.as_slice(), w)? else {
         return Ok(None);
     };
     let Decided::Called(call) = desk.decide(alloc, payload.as_slice())? else {
         return Ok(None);
     };
     if cell.hall.broken {
-        return broken(cell, w, key, payload, fate);
+        return broken(cell, w, key, payload, apply_result);
     }
-    called(services, cell, w, key, payload, call, fate)
+    called(services, cell, w, key, payload, call, apply_result)
 }
 
 /// Once the journal has failed, an Apply says so.
@@ -43,14 +43,14 @@ fn broken<C: Copy, A: Copy, M: Copy>(
     w: u32,
     key: Key,
     payload: Vec<u8>,
-    fate: PlainFate,
+    apply_result: PlainApplyResult,
 ) -> Result<Option<PlainCell<C, A, M>>, AllocError>
-    ensures { IfOk result (λ next. option_map cell_of next ≡ broken_plain (cell_of cell) w key payload.items (fate_of fate)) }
+    ensures { IfOk result (λ next. option_map cell_of next ≡ broken_plain (cell_of cell) w key payload.items (apply_result_of apply_result)) }
 {
-    let PlainFate::Answers = fate else {
+    let PlainApplyResult::Answers = apply_result else {
         return Ok(None);
     };
-    Ok(Some(with_hand_of(cell, w, PlainHand::HasNone(key, payload))?))
+    Ok(Some(with_worker_of(cell, w, PlainWorkerState::HasNone(key, payload))?))
 }
 
 /// A service's answer to a call at these memories, where the service is there.
@@ -93,12 +93,7 @@ fn entered<S: PlainServices>(
 {
     let mut hall = hall;
     moves_on(services, hall.memories.as_mut_slice(), call);
-    hall.journal.push(PlainEntry {
-        connection: key.c,
-        number: key.i,
-        call,
-        answer,
-    })?;
+    hall.journal.push(PlainEntry { key, call, answer })?;
     Ok(hall)
 }
 
@@ -117,8 +112,52 @@ fn failed<S: PlainServices>(
     Ok(hall)
 }
 
+/// The machine once a call has taken effect with this answer.
+fn cell_entered<S: PlainServices>(
+    services: &S,
+    cell: PlainCell<S::Call, S::Answer, S::Memory>,
+    key: Key,
+    call: S::Call,
+    answer: S::Answer,
+) -> Result<PlainCell<S::Call, S::Answer, S::Memory>, AllocError>
+    ensures { IfOk result (λ next. cell_of next ≡ record (cell_of cell) { hall = effect_plain (S.rules services.now) (cell_of cell).hall key call answer }) }
+{
+    let PlainCell {
+        loop_part,
+        hall,
+        workers,
+    } = cell;
+    let hall = entered(services, hall, key, call, answer)?;
+    Ok(PlainCell {
+        loop_part,
+        hall,
+        workers,
+    })
+}
+
+/// The machine once a call was answered and the journal has failed behind it.
+fn cell_failed<S: PlainServices>(
+    services: &S,
+    cell: PlainCell<S::Call, S::Answer, S::Memory>,
+    call: S::Call,
+) -> Result<PlainCell<S::Call, S::Answer, S::Memory>, AllocError>
+    ensures { IfOk result (λ next. cell_of next ≡ record (cell_of cell) { hall = fault_plain (S.rules services.now) (cell_of cell).hall call }) }
+{
+    let PlainCell {
+        loop_part,
+        hall,
+        workers,
+    } = cell;
+    let hall = failed(services, hall, call)?;
+    Ok(PlainCell {
+        loop_part,
+        hall,
+        workers,
+    })
+}
+
 /// A call goes so.
-#[tactic(auto, using(crate::proofs::Seeing::fates))]
+#[tactic(auto, using(crate::proofs::Seeing::apply_results))]
 fn called<S: PlainServices>(
     services: &S,
     cell: PlainCell<S::Call, S::Answer, S::Memory>,
@@ -126,39 +165,34 @@ fn called<S: PlainServices>(
     key: Key,
     payload: Vec<u8>,
     call: S::Call,
-    fate: PlainFate,
+    apply_result: PlainApplyResult,
 ) -> Result<Option<PlainCell<S::Call, S::Answer, S::Memory>>, AllocError>
-    ensures { IfOk result (λ next. option_map cell_of next ≡ fate_plain (S.rules services.now) (cell_of cell) w key payload.items call (fate_of fate)
+    ensures { IfOk result (λ next. option_map cell_of next ≡ apply_result_plain (S.rules services.now) (cell_of cell) w key payload.items call (apply_result_of apply_result)
         (slice_get (cell_of cell).hall.memories ((S.rules services.now).slot call))) }
 {
     let answer = answer_of(services, cell.hall.memories.as_slice(), call);
-    let PlainCell { line, hall, hands } = cell;
-    match fate {
-        PlainFate::LacksForCall => {
-            let cell = PlainCell { line, hall, hands };
-            Ok(Some(with_hand_of(cell, w, PlainHand::HasNone(key, payload))?))
+    match apply_result {
+        PlainApplyResult::LacksForCall => {
+            Ok(Some(with_worker_of(cell, w, PlainWorkerState::HasNone(key, payload))?))
         }
-        PlainFate::FailsJournal => {
-            let hall = failed(services, hall, call)?;
-            let cell = PlainCell { line, hall, hands };
-            Ok(Some(with_hand_of(cell, w, PlainHand::HasNone(key, payload))?))
+        PlainApplyResult::FailsJournal => {
+            let cell = cell_failed(services, cell, call)?;
+            Ok(Some(with_worker_of(cell, w, PlainWorkerState::HasNone(key, payload))?))
         }
-        PlainFate::Answers => {
+        PlainApplyResult::Answers => {
             let Some(answer) = answer else {
                 return Ok(None);
             };
-            let hall = entered(services, hall, key, call, answer)?;
-            let cell = PlainCell { line, hall, hands };
-            let hand = PlainHand::HasAnswer(key, payload, answer);
-            Ok(Some(with_hand_of(cell, w, hand)?))
+            let cell = cell_entered(services, cell, key, call, answer)?;
+            let worker = PlainWorkerState::HasAnswer(key, payload, answer);
+            Ok(Some(with_worker_of(cell, w, worker)?))
         }
-        PlainFate::LacksForAnswer => {
+        PlainApplyResult::LacksForAnswer => {
             let Some(answer) = answer else {
                 return Ok(None);
             };
-            let hall = entered(services, hall, key, call, answer)?;
-            let cell = PlainCell { line, hall, hands };
-            Ok(Some(with_hand_of(cell, w, PlainHand::HasNone(key, payload))?))
+            let cell = cell_entered(services, cell, key, call, answer)?;
+            Ok(Some(with_worker_of(cell, w, PlainWorkerState::HasNone(key, payload))?))
         }
     }
 }

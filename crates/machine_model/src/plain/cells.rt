@@ -1,17 +1,17 @@
-//! The machine: the loop's part, the hall and the workers' hands, and its events.
+//! The machine: the loop's part, the hall and the workers, and its events.
 
 ghost use Rattle.std.specs.Prelude.{◌≡◌, IfOk};
-ghost use Rattle.machine_model.specs.Machine.{with_hand};
-ghost use Rattle.machine_model.specs.Seen.{hand_of, cell_of};
+ghost use Rattle.machine_model.specs.Machine.{with_worker};
+ghost use Rattle.machine_model.specs.Seen.{worker_of, cell_of};
 
+use super::conn_events::{PlainConnEvent, PlainLoop};
 use super::halls::PlainHall;
-use super::hands::{PlainHand, with_hand};
-use super::links::{PlainLink, PlainLoop};
+use super::workers::{PlainWorkerState, with_worker};
 use std::alloc::AllocError;
 
 /// How an Apply goes.
 #[derive(Clone, Copy, Debug)]
-pub enum PlainFate {
+pub enum PlainApplyResult {
     /// It is answered.
     Answers,
     /// Memory runs out before its call.
@@ -26,13 +26,13 @@ pub enum PlainFate {
 #[derive(Debug, Drop)]
 pub enum PlainEvent {
     /// Something on a connection.
-    Happens(PlainLink),
+    Happens(PlainConnEvent),
     /// The first payload of a connection that isn't submitted is.
     Submits(u32),
     /// A worker takes a job.
     Takes(u32),
     /// A worker applies its job's call, which goes so.
-    Applies(u32, PlainFate),
+    Applies(u32, PlainApplyResult),
     /// A worker puts its job's outcome.
     Puts(u32),
     /// A worker puts want of memory.
@@ -46,20 +46,28 @@ pub enum PlainEvent {
 /// The machine.
 #[derive(Debug, Drop)]
 pub struct PlainCell<C, A, M> {
-    pub line: PlainLoop,
+    pub loop_part: PlainLoop,
     pub hall: PlainHall<C, A, M>,
-    pub hands: Vec<PlainHand<A>>,
+    pub workers: Vec<PlainWorkerState<A>>,
 }
 
-/// The machine with this hand in place of worker w's.
-pub fn with_hand_of<C: Copy, A: Copy, M: Copy>(
+/// The machine with this worker in place of worker w's.
+pub fn with_worker_of<C: Copy, A: Copy, M: Copy>(
     cell: PlainCell<C, A, M>,
     w: u32,
-    hand: PlainHand<A>,
+    worker: PlainWorkerState<A>,
 ) -> Result<PlainCell<C, A, M>, AllocError>
-    ensures { IfOk result (λ next. cell_of next ≡ record (cell_of cell) { hands = with_hand (cell_of cell).hands w (hand_of hand) }) }
+    ensures { IfOk result (λ next. cell_of next ≡ record (cell_of cell) { workers = with_worker (cell_of cell).workers w (worker_of worker) }) }
 {
-    let PlainCell { line, hall, hands } = cell;
-    let hands = with_hand(hands, w, hand)?;
-    Ok(PlainCell { line, hall, hands })
+    let PlainCell {
+        loop_part,
+        hall,
+        workers,
+    } = cell;
+    let workers = with_worker(workers, w, worker)?;
+    Ok(PlainCell {
+        loop_part,
+        hall,
+        workers,
+    })
 }

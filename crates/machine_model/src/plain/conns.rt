@@ -4,10 +4,10 @@ ghost use Rattle.std.specs.Prelude.{◌≡◌, ◌++◌, ◌∷◌, [], IfOk, op
 ghost use Rattle.outside.specs.declared.marks.Mark.TheVariants.{Closed};
 ghost use Rattle.host_model.specs.World.{end_behind};
 ghost use Rattle.machine_model.specs.Loop.{new_conn, with_cause};
-ghost use Rattle.machine_model.specs.Plain.{owes_nothing, stays_in_size, is_given_up, reads_plain, ends_plain, fails_read_plain, writes_plain, fails_write_plain, gives_up_plain, made_plain};
-ghost use Rattle.machine_model.specs.Seen.{conn_of, moved_of, seen_made};
+ghost use Rattle.machine_model.specs.Plain.{owes_nothing, stays_in_size, is_given_up, reads_plain, ends_plain, fails_read_plain, writes_plain, fails_write_plain, gives_up_plain, progress_plain};
+ghost use Rattle.machine_model.specs.Seen.{conn_of, moved_of, seen_progress};
 
-use super::made::{PlainMade, made_by};
+use super::progress::{PlainProgress, progress_by};
 use host_model::EndCause;
 use outside::{Bytes, Mark};
 use std::alloc::{AllocError, Global};
@@ -110,9 +110,9 @@ pub fn reads(
     }
     let mut held = Vec::from_slice(alloc, conn.held.as_slice())?;
     held.extend_from_slice(bytes)?;
-    match made_by(alloc, max, held.as_slice())? {
+    match progress_by(alloc, max, held.as_slice())? {
         None => Ok(None),
-        Some(made) => Ok(Some(read_more(alloc, c, conn, bytes, made)?)),
+        Some(progress) => Ok(Some(read_more(alloc, c, conn, bytes, progress)?)),
     }
 }
 
@@ -122,21 +122,21 @@ fn read_more(
     c: u32,
     conn: PlainConn,
     bytes: &[u8],
-    made: PlainMade,
+    progress: PlainProgress,
 ) -> Result<PlainMoved, AllocError>
-    ensures { IfOk result (λ moved. Some (moved_of moved) ≡ made_plain c (conn_of conn) bytes.now (Some (seen_made made))) }
+    ensures { IfOk result (λ moved. Some (moved_of moved) ≡ progress_plain c (conn_of conn) bytes.now (Some (seen_progress progress))) }
 {
     let mut conn = conn;
     let mut marks = Vec::new(alloc);
     marks.push(Mark::Read(c, Bytes::new(Vec::from_slice(alloc, bytes)?)))?;
-    match made {
-        PlainMade::Part => conn.held.extend_from_slice(bytes)?,
-        PlainMade::BadSize(size) => {
+    match progress {
+        PlainProgress::Part => conn.held.extend_from_slice(bytes)?,
+        PlainProgress::BadSize(size) => {
             conn.held.extend_from_slice(bytes)?;
             conn.cause = Some(EndCause::SizeFault(size));
             marks.push(Mark::Closed(c))?;
         }
-        PlainMade::Whole(payload) => {
+        PlainProgress::Whole(payload) => {
             conn.payloads.push(payload)?;
             conn.held = Vec::new(alloc);
         }

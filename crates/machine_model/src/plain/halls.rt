@@ -1,7 +1,7 @@
 //! The hall: jobs, outcomes, services' memories and the journal.
 
 ghost use Rattle.std.specs.Prelude.{◌≡◌, ◌∷◌, [], IfNone, IfOk, MatchOption};
-ghost use Rattle.machine_model.specs.Hall.{is_same, without};
+ghost use Rattle.machine_model.specs.HallState.{is_same, without};
 
 use host_model::Key;
 use host_model::plain::PlainEntry;
@@ -17,7 +17,7 @@ pub struct PlainJob {
 
 /// What a payload came to.
 #[derive(Debug, Drop)]
-pub struct PlainOutcome {
+pub struct PlainJobOutcome {
     pub key: Key,
     pub settled: Settled,
 }
@@ -30,7 +30,7 @@ pub struct PlainHall<C, A, M> {
     /// The keys of jobs that workers have taken.
     pub taken: Vec<Key>,
     /// The outcomes that they have put, the oldest first.
-    pub outcomes: Vec<PlainOutcome>,
+    pub outcomes: Vec<PlainJobOutcome>,
     /// The services' memories, one a slot.
     pub memories: Vec<M>,
     pub journal: Vec<PlainEntry<C, A>>,

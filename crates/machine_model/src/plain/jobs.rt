@@ -1,14 +1,14 @@
 //! A worker's jobs: taken, and put with their outcomes.
 
 ghost use Rattle.std.specs.Prelude.{◌≡◌, IfOk, option_map};
-ghost use Rattle.host_model.specs.Plain.{decision_of};
+ghost use Rattle.host_model.specs.Plain.{decision_seen};
 ghost use Rattle.machine_model.specs.Worker.{settled_by, settled_with, key_held};
 ghost use Rattle.machine_model.specs.Plain.{take_plain, outcome_plain, put_plain, lack_plain};
-ghost use Rattle.machine_model.specs.Seen.{cell_of, hand_of};
+ghost use Rattle.machine_model.specs.Seen.{cell_of, worker_of};
 
-use super::cells::{PlainCell, with_hand_of};
-use super::halls::{PlainOutcome, take_first, without};
-use super::hands::{PlainHand, hand_at};
+use super::cells::{PlainCell, with_worker_of};
+use super::halls::{PlainJobOutcome, take_first, without};
+use super::workers::{PlainWorkerState, state_at};
 use host_model::Key;
 use host_model::plain::{Decided, PlainDesk};
 use outside::{Bytes, Settled};
@@ -20,24 +20,24 @@ pub fn takes<C: Copy, A: Copy, M: Copy>(
     cell: PlainCell<C, A, M>,
     w: u32,
 ) -> Result<Option<PlainCell<C, A, M>>, AllocError>
-    ensures { IfOk result (λ next. option_map cell_of next ≡ take_plain (cell_of cell) w ((cell_of cell).hands w) (cell_of cell).hall.jobs) }
+    ensures { IfOk result (λ next. option_map cell_of next ≡ take_plain (cell_of cell) w ((cell_of cell).workers w) (cell_of cell).hall.jobs) }
 {
     let mut cell = cell;
-    let PlainHand::Idle = hand_at(alloc, cell.hands.as_slice(), w)? else {
+    let PlainWorkerState::Idle = state_at(alloc, cell.workers.as_slice(), w)? else {
         return Ok(None);
     };
     match take_first(&mut cell.hall.jobs) {
-        None => Ok(Some(with_hand_of(cell, w, PlainHand::Idle)?)),
+        None => Ok(Some(with_worker_of(cell, w, PlainWorkerState::Idle)?)),
         Some(job) => {
             cell.hall.taken.push(job.key)?;
-            Ok(Some(with_hand_of(cell, w, PlainHand::Holds(job.key, job.payload))?))
+            Ok(Some(with_worker_of(cell, w, PlainWorkerState::Holds(job.key, job.payload))?))
         }
     }
 }
 
 /// What a payload comes to without a call.
 fn settled_by<C: Copy>(decided: Decided<C>) -> Option<Settled>
-    ensures { result ≡ settled_by (decision_of decided) }
+    ensures { result ≡ settled_by (decision_seen decided) }
 {
     match decided {
         Decided::Refused(fault) => Some(Settled::Close(fault)),
@@ -81,8 +81,8 @@ fn puts_outcome<C: Copy, A: Copy, M: Copy>(
     let mut cell = cell;
     let taken = without(alloc, key, cell.hall.taken.as_slice())?;
     cell.hall.taken = taken;
-    cell.hall.outcomes.push(PlainOutcome { key, settled })?;
-    Ok(Some(with_hand_of(cell, w, PlainHand::Idle)?))
+    cell.hall.outcomes.push(PlainJobOutcome { key, settled })?;
+    Ok(Some(with_worker_of(cell, w, PlainWorkerState::Idle)?))
 }
 
 /// A worker puts its job's outcome, where it is settled.
@@ -92,31 +92,31 @@ pub fn puts<D: PlainDesk, M: Copy>(
     cell: PlainCell<D::Call, D::Answer, M>,
     w: u32,
 ) -> Result<Option<PlainCell<D::Call, D::Answer, M>>, AllocError>
-    ensures { IfOk result (λ next. option_map cell_of next ≡ put_plain (D.desk desk.now) (cell_of cell) w ((cell_of cell).hands w)) }
+    ensures { IfOk result (λ next. option_map cell_of next ≡ put_plain (D.desk desk.now) (cell_of cell) w ((cell_of cell).workers w)) }
 {
-    match hand_at(alloc, cell.hands.as_slice(), w)? {
-        PlainHand::Idle => Ok(None),
-        PlainHand::Holds(key, payload) => {
+    match state_at(alloc, cell.workers.as_slice(), w)? {
+        PlainWorkerState::Idle => Ok(None),
+        PlainWorkerState::Holds(key, payload) => {
             let settled = settled_by(desk.decide(alloc, payload.as_slice())?);
             puts_outcome(alloc, cell, w, key, settled)
         }
-        PlainHand::HasAnswer(key, payload, answer) => {
+        PlainWorkerState::HasAnswer(key, payload, answer) => {
             let settled = settled_with(alloc, desk, payload.as_slice(), answer)?;
             puts_outcome(alloc, cell, w, key, settled)
         }
-        PlainHand::HasNone(_, _) => Ok(None),
+        PlainWorkerState::HasNone(_, _) => Ok(None),
     }
 }
 
 /// The key of the job that a worker holds.
-fn key_held<A: Copy>(hand: PlainHand<A>) -> Option<Key>
-    ensures { result ≡ key_held (hand_of hand) }
+fn key_held<A: Copy>(worker: PlainWorkerState<A>) -> Option<Key>
+    ensures { result ≡ key_held (worker_of worker) }
 {
-    match hand {
-        PlainHand::Idle => None,
-        PlainHand::Holds(key, _) => Some(key),
-        PlainHand::HasAnswer(key, _, _) => Some(key),
-        PlainHand::HasNone(key, _) => Some(key),
+    match worker {
+        PlainWorkerState::Idle => None,
+        PlainWorkerState::Holds(key, _) => Some(key),
+        PlainWorkerState::HasAnswer(key, _, _) => Some(key),
+        PlainWorkerState::HasNone(key, _) => Some(key),
     }
 }
 
@@ -126,9 +126,9 @@ pub fn puts_none<C: Copy, A: Copy, M: Copy>(
     cell: PlainCell<C, A, M>,
     w: u32,
 ) -> Result<Option<PlainCell<C, A, M>>, AllocError>
-    ensures { IfOk result (λ next. option_map cell_of next ≡ lack_plain (cell_of cell) w (key_held ((cell_of cell).hands w))) }
+    ensures { IfOk result (λ next. option_map cell_of next ≡ lack_plain (cell_of cell) w (key_held ((cell_of cell).workers w))) }
 {
-    match key_held(hand_at(alloc, cell.hands.as_slice(), w)?) {
+    match key_held(state_at(alloc, cell.workers.as_slice(), w)?) {
         None => Ok(None),
         Some(key) => puts_outcome(alloc, cell, w, key, Some(Settled::NoMemory)),
     }

@@ -1,15 +1,15 @@
 //! Runs of the machine.
 
 ghost use Rattle.std.specs.Prelude.{◌≡◌, ◌<◌, ◌^◌, Some, map, IfOk, IfSome, option_map};
-ghost use Rattle.machine_model.specs.Machine.{IsFirst, Runs};
-ghost use Rattle.machine_model.specs.Plain.{event_told, told_plain, run_plain, with_loop, link_plain};
-ghost use Rattle.machine_model.specs.Seen.{cell_of, link_of, told_of};
+ghost use Rattle.machine_model.specs.Machine.{IsFirst, EventsLead};
+ghost use Rattle.machine_model.specs.Plain.{event_told, told_plain, run_plain, with_loop, conn_event_plain};
+ghost use Rattle.machine_model.specs.Seen.{cell_of, conn_event_of, told_of};
 
 use super::calls::applies;
 use super::cells::{PlainCell, PlainEvent};
+use super::conn_events::{PlainConnEvent, PlainLoop, conn_event};
 use super::halls::PlainHall;
 use super::jobs::{puts, puts_none, takes};
-use super::links::{PlainLink, PlainLoop, link};
 use super::rounds::{collects, submits};
 use crate::laws::plain_machine_runs;
 use host_model::plain::{PlainDesk, PlainServices};
@@ -20,7 +20,7 @@ pub fn start<C: Copy, A: Copy, M: Copy>(alloc: Global, memories: Vec<M>) -> Plai
     ensures { IsFirst memories.items (cell_of result) }
 {
     PlainCell {
-        line: PlainLoop {
+        loop_part: PlainLoop {
             tape: Vec::new(alloc),
             conns: Vec::new(alloc),
         },
@@ -34,7 +34,7 @@ pub fn start<C: Copy, A: Copy, M: Copy>(alloc: Global, memories: Vec<M>) -> Plai
             closed: false,
             broken: false,
         },
-        hands: Vec::new(alloc),
+        workers: Vec::new(alloc),
     }
 }
 
@@ -43,15 +43,23 @@ fn happens<C: Copy, A: Copy, M: Copy>(
     alloc: Global,
     max: u32,
     cell: PlainCell<C, A, M>,
-    event: &PlainLink,
+    event: &PlainConnEvent,
 ) -> Result<Option<PlainCell<C, A, M>>, AllocError>
-    ensures { IfOk result (λ next. option_map cell_of next ≡ with_loop (cell_of cell) (link_plain max (cell_of cell).loop (link_of event.now))) }
+    ensures { IfOk result (λ next. option_map cell_of next ≡ with_loop (cell_of cell) (conn_event_plain max (cell_of cell).loop (conn_event_of event.now))) }
 {
-    let PlainCell { line, hall, hands } = cell;
-    let Some(line) = link(alloc, max, line, event)? else {
+    let PlainCell {
+        loop_part,
+        hall,
+        workers,
+    } = cell;
+    let Some(loop_part) = conn_event(alloc, max, loop_part, event)? else {
         return Ok(None);
     };
-    Ok(Some(PlainCell { line, hall, hands }))
+    Ok(Some(PlainCell {
+        loop_part,
+        hall,
+        workers,
+    }))
 }
 
 /// The machine after an event, where it can be; payloads of this desk have at most `max` bytes.
@@ -70,7 +78,14 @@ pub fn step<D: PlainDesk, S: PlainServices<Call = D::Call, Answer = D::Answer>>(
         PlainEvent::Happens(event) => happens(alloc, max, cell, event),
         PlainEvent::Submits(c) => submits(alloc, cell, *c),
         PlainEvent::Takes(w) => takes(alloc, cell, *w),
-        PlainEvent::Applies(w, fate) => applies(alloc, desk, services, cell, *w, *fate),
+        PlainEvent::Applies(w, apply_result) => applies(
+            alloc,
+            desk,
+            services,
+            cell,
+            *w,
+            *apply_result,
+        ),
         PlainEvent::Puts(w) => puts(alloc, desk, cell, *w),
         PlainEvent::PutsNone(w) => puts_none(alloc, cell, *w),
         PlainEvent::Collects => collects(alloc, cell),
@@ -97,7 +112,7 @@ pub fn run<D: PlainDesk, S: PlainServices<Call = D::Call, Answer = D::Answer>>(
     ensures plainly { IfOk result (λ next. option_map cell_of next
         ≡ run_plain (D.desk desk.now) (S.rules services.now) (map told_of events.now) (Some (cell_of cell))) }
     ensures runs { IfOk result (λ next. IfSome next (λ last.
-        Runs (D.desk desk.now) (S.rules services.now) (cell_of cell) (map event_told (map told_of events.now)) (cell_of last))) }
+        EventsLead (D.desk desk.now) (S.rules services.now) (cell_of cell) (map event_told (map told_of events.now)) (cell_of last))) }
 {
     plain_machine_runs::<D::Call, D::Answer, S::Memory>();
     let mut now = cell;

@@ -66,7 +66,7 @@ impl Tutorial {
 
 impl PlainDesk for Tutorial {
     ghost use Rattle.std.specs.Prelude.{◌==◌, if◌then◌else◌, length, false};
-    ghost use Rattle.host_model.specs.Desk.{Silent, Invoke};
+    ghost use Rattle.host_model.specs.DeskRules.{Silent, Invoke};
 
     type Call = u8;
 
@@ -179,7 +179,7 @@ impl Script {
 
     fn opens(&mut self, count: u32) -> Result<(), AllocError> {
         for _ in 0..count {
-            self.event(PlainEvent::Happens(PlainLink::Opens))?;
+            self.event(PlainEvent::Happens(PlainConnEvent::Opens))?;
         }
         Ok(())
     }
@@ -187,7 +187,7 @@ impl Script {
     /// Connection c reads bytes.
     fn reads(&mut self, c: u32, bytes: &[u8]) -> Result<(), AllocError> {
         let bytes = Bytes::new(Vec::from_slice(self.alloc, bytes)?);
-        self.event(PlainEvent::Happens(PlainLink::Reads(c, bytes)))
+        self.event(PlainEvent::Happens(PlainConnEvent::Reads(c, bytes)))
     }
 
     /// Connection c reads the size of a payload.
@@ -198,7 +198,7 @@ impl Script {
     /// Worker w takes a job, applies its call and puts its outcome.
     fn works(&mut self, w: u32) -> Result<(), AllocError> {
         self.event(PlainEvent::Takes(w))?;
-        self.event(PlainEvent::Applies(w, PlainFate::Answers))?;
+        self.event(PlainEvent::Applies(w, PlainApplyResult::Answers))?;
         self.event(PlainEvent::Puts(w))
     }
 
@@ -210,11 +210,11 @@ impl Script {
     }
 
     fn writes(&mut self, c: u32, count: usize) -> Result<(), AllocError> {
-        self.event(PlainEvent::Happens(PlainLink::Writes(c, count)))
+        self.event(PlainEvent::Happens(PlainConnEvent::Writes(c, count)))
     }
 
     fn ends(&mut self, c: u32) -> Result<(), AllocError> {
-        self.event(PlainEvent::Happens(PlainLink::Ends(c)))
+        self.event(PlainEvent::Happens(PlainConnEvent::Ends(c)))
     }
 }
 
@@ -264,14 +264,14 @@ fn tells<R: Abort>(
 ) -> Result<(), Fail> {
     assert_eq!(rt; cell.hall.journal.len(), calls.len());
     for (entry, expected) in cell.hall.journal.iter().zip(calls) {
-        let found = (entry.connection, entry.number, entry.call, entry.answer);
+        let found = (entry.key.c, entry.key.i, entry.call, entry.answer);
         assert_eq!(rt; found, *expected);
     }
-    assert_eq!(rt; cell.line.conns.len(), ends.len());
+    assert_eq!(rt; cell.loop_part.conns.len(), ends.len());
     let mut c = 0;
-    for (conn, (cause, sent)) in cell.line.conns.iter().zip(ends) {
+    for (conn, (cause, sent)) in cell.loop_part.conns.iter().zip(ends) {
         assert_eq!(rt; conn.cause, *cause);
-        let own = marks_of(alloc, c, cell.line.tape.as_slice())?;
+        let own = marks_of(alloc, c, cell.loop_part.tape.as_slice())?;
         assert_eq!(rt; output(alloc, own.as_slice())?.as_slice(), *sent);
         c = c.wrapping_add(1);
     }
@@ -342,8 +342,8 @@ fn held_back<R: Abort>(rt: &R, alloc: Global) -> Result<(), Fail> {
         ('e', 1, 0),
         ('c', 1, 0),
     ];
-    assert_eq!(rt; last.line.tape.len(), tape.len());
-    for (mark, expected) in last.line.tape.iter().zip(&tape) {
+    assert_eq!(rt; last.loop_part.tape.len(), tape.len());
+    for (mark, expected) in last.loop_part.tape.iter().zip(&tape) {
         assert_eq!(rt; short(mark), *expected);
     }
     Ok(())
@@ -357,7 +357,7 @@ fn write_fails<R: Abort>(rt: &R, alloc: Global) -> Result<(), Fail> {
     script.reads(0, PING)?;
     script.calls(0)?;
     script.writes(0, 3)?;
-    script.event(PlainEvent::Happens(PlainLink::FailsWrite(0)))?;
+    script.event(PlainEvent::Happens(PlainConnEvent::FailsWrite(0)))?;
     let last = after(alloc, 16_384_000, &script)?.expect(rt, "a run");
     let ends = [(Some(EndCause::WriteFault), b"\0\0\0".as_slice())];
     tells(rt, alloc, &last, &[(0, 0, 1, 0)], &ends)
@@ -375,8 +375,8 @@ fn two_workers<R: Abort>(rt: &R, alloc: Global) -> Result<(), Fail> {
     script.event(PlainEvent::Submits(1))?;
     script.event(PlainEvent::Takes(0))?;
     script.event(PlainEvent::Takes(1))?;
-    script.event(PlainEvent::Applies(1, PlainFate::Answers))?;
-    script.event(PlainEvent::Applies(0, PlainFate::Answers))?;
+    script.event(PlainEvent::Applies(1, PlainApplyResult::Answers))?;
+    script.event(PlainEvent::Applies(0, PlainApplyResult::Answers))?;
     script.event(PlainEvent::Puts(0))?;
     script.event(PlainEvent::Puts(1))?;
     script.event(PlainEvent::Collects)?;
@@ -406,12 +406,12 @@ fn journal_fails<R: Abort>(rt: &R, alloc: Global) -> Result<(), Fail> {
         script.event(PlainEvent::Submits(c))?;
         script.event(PlainEvent::Takes(c))?;
     }
-    script.event(PlainEvent::Applies(0, PlainFate::LacksForAnswer))?;
+    script.event(PlainEvent::Applies(0, PlainApplyResult::LacksForAnswer))?;
     script.event(PlainEvent::PutsNone(0))?;
     script.event(PlainEvent::Collects)?;
-    script.event(PlainEvent::Applies(1, PlainFate::FailsJournal))?;
+    script.event(PlainEvent::Applies(1, PlainApplyResult::FailsJournal))?;
     script.event(PlainEvent::Closes)?;
-    let stopped = PlainLink::GivesUp(1, EndCause::Stopped);
+    let stopped = PlainConnEvent::GivesUp(1, EndCause::Stopped);
     script.event(PlainEvent::Happens(stopped))?;
     let last = after(alloc, 16_384_000, &script)?.expect(rt, "a run");
     let ends = [
@@ -448,16 +448,41 @@ fn bad_sizes<R: Abort>(rt: &R, alloc: Global) -> Result<(), Fail> {
 fn wrong_steps<R: Abort>(rt: &R, alloc: Global) -> Result<(), Fail> {
     refuses(rt, alloc, 0, PlainEvent::Submits(0))?;
     refuses(rt, alloc, 1, PlainEvent::Submits(0))?;
-    refuses(rt, alloc, 1, PlainEvent::Happens(PlainLink::Ends(0)))?;
+    refuses(rt, alloc, 1, PlainEvent::Happens(PlainConnEvent::Ends(0)))?;
     refuses(rt, alloc, 2, PlainEvent::Takes(0))?;
     refuses(rt, alloc, 2, PlainEvent::Puts(0))?;
-    refuses(rt, alloc, 2, PlainEvent::Applies(1, PlainFate::Answers))?;
-    refuses(rt, alloc, 3, PlainEvent::Applies(0, PlainFate::Answers))?;
+    refuses(
+        rt,
+        alloc,
+        2,
+        PlainEvent::Applies(1, PlainApplyResult::Answers),
+    )?;
+    refuses(
+        rt,
+        alloc,
+        3,
+        PlainEvent::Applies(0, PlainApplyResult::Answers),
+    )?;
     refuses(rt, alloc, 4, PlainEvent::Puts(0))?;
-    refuses(rt, alloc, 5, PlainEvent::Happens(PlainLink::Ends(0)))?;
-    refuses(rt, alloc, 5, PlainEvent::Happens(PlainLink::Writes(0, 22)))?;
-    refuses(rt, alloc, 6, PlainEvent::Happens(PlainLink::Writes(0, 1)))?;
-    refuses(rt, alloc, 6, PlainEvent::Happens(PlainLink::FailsWrite(0)))
+    refuses(rt, alloc, 5, PlainEvent::Happens(PlainConnEvent::Ends(0)))?;
+    refuses(
+        rt,
+        alloc,
+        5,
+        PlainEvent::Happens(PlainConnEvent::Writes(0, 22)),
+    )?;
+    refuses(
+        rt,
+        alloc,
+        6,
+        PlainEvent::Happens(PlainConnEvent::Writes(0, 1)),
+    )?;
+    refuses(
+        rt,
+        alloc,
+        6,
+        PlainEvent::Happens(PlainConnEvent::FailsWrite(0)),
+    )
 }
 
 /// After so many events of a connection's run behind its first payload, this one can't be.
@@ -473,7 +498,7 @@ fn refuses<R: Abort>(rt: &R, alloc: Global, count: usize, event: PlainEvent) -> 
         script.event(PlainEvent::Takes(0))?;
     }
     if 2 < count {
-        script.event(PlainEvent::Applies(0, PlainFate::Answers))?;
+        script.event(PlainEvent::Applies(0, PlainApplyResult::Answers))?;
     }
     if 3 < count {
         script.event(PlainEvent::Puts(0))?;

@@ -98,46 +98,57 @@ fn texts_have_a_longest(rt: HostRuntime) -> Result<(), Fail> {
     Ok(())
 }
 
-/// No file is there; the second part of a row has the numbers of the reads that fail.
+/// Runs the program where one file is there, `held.thrift`, and the reads with these numbers fail.
+fn run_beside_a_file<R>(
+    rt: &R,
+    alloc: Global,
+    words: &[&str],
+    fails: &[u64],
+) -> Result<Ended, AllocError> {
+    let mut files = Vec::new(alloc);
+    files.push((String::from_str(alloc, "held.thrift")?, Vec::new(alloc)))?;
+    let mut given = Given::empty(alloc);
+    given.files = MemFiles::new(files, fails.to_vec(alloc)?);
+    given.run(rt, alloc, words)
+}
+
+/// The second part of a row has the numbers of the reads that fail. An absent file is absent also where its read is to fail.
 #[test]
 fn files_are_named_by_the_words(rt: HostRuntime) -> Result<(), Fail> {
     let alloc = rt.alloc();
-    let rows: [(&[&str], &[u64], Status, &[u8]); 8] = [
-        (
-            &["check", "b.thrift"],
-            &[],
-            Status::IdlRefused,
-            b"thriftd: idl b.thrift 0:0 Absent\n",
-        ),
-        (
-            &["check", "b.thrift"],
-            &[0],
-            Status::FileFault,
-            b"thriftd: file fault\n",
-        ),
-        (
-            &["check", "@tutorial"],
-            &[0],
-            Status::Unbuilt,
-            b"thriftd: unbuilt include\n",
-        ),
-        (&["check"], &[], Status::Usage, b"thriftd: usage\n"),
-        (&["check", ""], &[], Status::Usage, b"thriftd: usage\n"),
-        (&["check", "-x"], &[], Status::Usage, b"thriftd: usage\n"),
-        (
-            &["check", "b.thrift", "c.thrift"],
-            &[],
-            Status::Usage,
-            b"thriftd: usage\n",
-        ),
-        (&[], &[], Status::Usage, b"thriftd: usage\n"),
+    let absent = b"thriftd: idl b.thrift 0:0 Absent\n".as_slice();
+    let fault = b"thriftd: file fault\n".as_slice();
+    let unbuilt = b"thriftd: unbuilt include\n".as_slice();
+    let rows: [(&str, &[u64], Status, &[u8]); 4] = [
+        ("b.thrift", &[], Status::IdlRefused, absent),
+        ("b.thrift", &[0], Status::IdlRefused, absent),
+        ("held.thrift", &[0], Status::FileFault, fault),
+        ("@tutorial", &[0], Status::Unbuilt, unbuilt),
     ];
-    for (words, fails, status, line) in &rows {
-        let mut given = Given::empty(alloc);
-        given.files = MemFiles::new(Vec::new(alloc), fails.to_vec(alloc)?);
-        let ended = given.run(&rt, alloc, words)?;
+    for (file, fails, status, line) in &rows {
+        let ended = run_beside_a_file(&rt, alloc, &["check", file], fails)?;
         assert_eq!(rt; ended.status, *status);
         assert_eq!(rt; ended.errors.as_slice(), *line);
+        assert!(rt; ended.output.is_empty());
+    }
+    Ok(())
+}
+
+/// Words that are no command.
+#[test]
+fn other_words_are_refused(rt: HostRuntime) -> Result<(), Fail> {
+    let alloc = rt.alloc();
+    let rows: [&[&str]; 5] = [
+        &["check"],
+        &["check", ""],
+        &["check", "-x"],
+        &["check", "b.thrift", "c.thrift"],
+        &[],
+    ];
+    for words in &rows {
+        let ended = run_beside_a_file(&rt, alloc, words, &[])?;
+        assert_eq!(rt; ended.status, Status::Usage);
+        assert_eq!(rt; ended.errors.as_slice(), b"thriftd: usage\n".as_slice());
         assert!(rt; ended.output.is_empty());
     }
     Ok(())

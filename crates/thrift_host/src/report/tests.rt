@@ -20,7 +20,7 @@ fn a_report_is_written_a_byte_at_a_time(rt: HostRuntime) -> Result<(), Fail> {
         Mark::Ended(0),
         Mark::Closed(0),
     ]?;
-    let journal = [Entry {
+    let journal = [KeptEntry {
         key: Key { c: 0, i: 0 },
         call: Call::Ping,
         answer: Answer::Empty,

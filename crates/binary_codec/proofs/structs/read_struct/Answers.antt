@@ -3,10 +3,10 @@ use Rattle.thrift_value.specs.declared.wire_fault.WireFault.{WireFault}
 use Rattle.thrift_value.specs.Measures.{count_of}
 use Rattle.thrift_value.specs.TreeOf.{tree_of}
 use Rattle.thrift_value.specs.Tidy.{IsWellTagged}
-use Rattle.wire_model.specs.Sizes.{HasSmallSizes}
-use Rattle.wire_model.specs.Gives.{Gives}
+use Rattle.thrift_value.specs.Sizes.{HasSmallSizes}
+use Rattle.wire_model.specs.Answering.{AnswersOrNoMemory}
 use Rattle.thrift_value.specs.Tree.{Tree}
-use Rattle.wire_model.specs.Place.{struct_at, StandsAt, IsWithinBounds}
+use Rattle.wire_model.specs.Place.{struct_at, IsEncodedAt, IsWithinBounds}
 use Rattle.binary_codec.specs.Reading.{binary}
 use Rattle.binary_codec.specs.Spelling.{binary_format}
 use Rattle.binary_codec.proofs.Placing.{bytes_fit, holds_of_read}
@@ -15,7 +15,7 @@ use Rattle.binary_codec.proofs.structs.read_struct.Goals as goal
 pub returns-clause-found : goal.returns-clause-found
 returns-clause-found c =
     let law = c.struct_read_is_spelled.ensures c.binary_leaves_agree.ensures c.args.bytes.now c.args.at in
-    holds_of_read (λ x behind. StandsAt binary_format c.args.bytes.now c.args.at x behind) (struct_at binary c.args.bytes.now c.args.at)
+    holds_of_read (λ x behind. IsEncodedAt binary_format c.args.bytes.now c.args.at x behind) (struct_at binary c.args.bytes.now c.args.at)
     (λ x behind e. (law x behind (bytes_fit c.args.bytes.now c.type_inv.bytes) c.requires e).0) c.struct_in.result c.struct_in.ensures
 
 pub returns-clause-bounds : goal.returns-clause-bounds
@@ -52,5 +52,5 @@ returns-clause-count c =
 
 pub returns-clause-only : goal.returns-clause-only
 returns-clause-only c x behind stands bounds =
-    subst (λ (q : Result (Tree × ℕ) WireFault). Gives (λ y. (tree_of y.0, y.1)) c.struct_in.result q)
+    subst (λ (q : Result (Tree × ℕ) WireFault). AnswersOrNoMemory (λ y. (tree_of y.0, y.1)) c.struct_in.result q)
     (c.struct_spelled_is_read.ensures c.binary_leaves_agree.ensures c.args.bytes.now c.args.at x behind stands bounds) c.struct_in.ensures

@@ -3,4 +3,4 @@ use Rattle.envelope.proofs.Heads.{no_more}
 use Rattle.envelope.proofs.read.head_of.Goals as goal
 
 pub overflow_sub-behind : goal.overflow_sub-behind
-overflow_sub-behind c = no_more Binary c.args.payload.now _ (λ i. (c.type_inv.payload i).fits) c.in-Ok.ensures
+overflow_sub-behind c = no_more Binary c.args.payload.now _ (λ i. (c.type_inv.payload i).fits) c.in_ok-front.ensures

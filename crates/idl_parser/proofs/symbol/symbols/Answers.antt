@@ -1,8 +1,9 @@
 use Rattle.std.proofs.Common.{◌≡◌, ◌∙◌, ◌+◌, ◌≤◌, ◌<◌, ◌∷◌, List, suc, drop, take, length, get_or, sym, ap, subst, arith, drop-cons}
+use Rattle.idl_token.specs.Limits.{longest_text}
 use Rattle.idl_token.specs.declared.Token.{Token}
 use Rattle.idl_token.specs.declared.TokenKind.TheVariants.{Keyword}
 use Rattle.idl_token.specs.Tokens.{StandBetween}
-use Rattle.idl_parser.specs.Spots.{start, behind}
+use Rattle.idl_parser.specs.ReaderCalls.{start, place_behind}
 use Rattle.idl_parser.proofs.Places.{earlier, bounded, made_on}
 use Rattle.idl_parser.proofs.symbol.symbols.Goals as goal
 
@@ -16,7 +17,7 @@ pub placed-symbol-requires-clause-short : goal.placed-symbol-requires-clause-sho
 placed-symbol-requires-clause-short c =
     let order = subst (StandBetween c.tokens.at (length c.args.text.now)) (next_is c.args.tokens.now c.tokens.token-index c.tokens-test.true) c.tokens.invariant.order in
     let h = bounded c.tokens.at (length c.args.text.now) (get_or c.args.tokens.now c.tokens.token-index no_token) (drop (c.tokens.token-index + 1) c.args.tokens.now) order in
-    let s : length c.args.text.now ≤ 4194304 = c.requires.short in
+    let s : length c.args.text.now ≤ longest_text = c.requires.short in
     omega arith
 
 pub tokens-preserved : goal.tokens-preserved
@@ -33,7 +34,7 @@ tokens-preserved c =
       order = earlier c.placed-symbol.result.from t.to (length c.args.text.now) rest (omega arith) order.2;
       line = omega arith;
       column = omega arith;
-      place = c.placed-symbol.ensures.place ∙ ap (λ n. behind start (take n c.args.text.now)) (sym from);
+      place = c.placed-symbol.ensures.place ∙ ap (λ n. place_behind start (take n c.args.text.now)) (sym from);
       made = made_on c.args.text.now c.tokens.all.items c.push.new.self.items c.placed-symbol.result t (drop c.tokens.token-index c.args.tokens.now) rest c.args.tokens.now
           c.tokens.invariant.made split c.in_ok-push.ensures.items c.placed-symbol.ensures.is;
     }

@@ -1,6 +1,6 @@
 use Rattle.std.proofs.Common.{◌≡◌, ◌++◌, map, drop}
 use Rattle.std.specs.List.{flat_map}
-use Rattle.idl_parser.specs.Printed.{behind_comma, entry_behind_comma, value_text, both_texts}
+use Rattle.idl_parser.specs.Printed.{behind_comma, pair_behind_comma, value_text, both_texts}
 use Rattle.idl_parser.proofs.value_printer.+value_printer.Given as goal
 
 -- what was written, and the text of what is left, is the text of all
@@ -10,4 +10,4 @@ invariant-put_values-loop-value l =
 
 abbrev pub invariant-put_pairs-loop-key : goal.invariant-put_pairs-loop-key
 invariant-put_pairs-loop-key l =
-    l.into.items ++ flat_map entry_behind_comma (map both_texts (drop l.key-index l.more)) ≡ l.initial.into.items ++ flat_map entry_behind_comma (map both_texts l.more)
+    l.into.items ++ flat_map pair_behind_comma (map both_texts (drop l.key-index l.more)) ≡ l.initial.into.items ++ flat_map pair_behind_comma (map both_texts l.more)

@@ -1,7 +1,7 @@
 use Rattle.std.proofs.Common.{◌≡◌, refl, ℕ, ◌≤◌, length, ap, arith}
 use Rattle.std.proofs.lemmas.Bool.{true≢false, false≢true}
-use Rattle.outside.specs.Cause.{one_more}
-use Rattle.machine_model.specs.Hall.{Hall}
+use Rattle.outside.specs.Cause.{next_count}
+use Rattle.machine_model.specs.HallState.{HallState}
 use Rattle.machine_model.proofs.WrongSteps.{differ, first_job, first_outcome}
 use Rattle.machine_model.proofs.examples.wrong_answers_of_the_hall.Goals as goal
 
@@ -33,7 +33,7 @@ pub returns-clause-called_after_a_fault : goal.returns-clause-called_after_a_fau
 returns-clause-called_after_a_fault c = λ new t. true≢false t.2.0
 
 pub returns-clause-fault_without_a_cause : goal.returns-clause-fault_without_a_cause
-returns-clause-fault_without_a_cause c = λ t. let f : one_more 0 ≤ t.0 = t.2.1 in let e : 0 ≡ t.0 = ap (λ (h : Hall ℕ ℕ ℕ). h.faults) t.2.2 in let g : ⊥ = omega arith in g
+returns-clause-fault_without_a_cause c = λ t. let f : next_count 0 ≤ t.0 = t.2.1 in let e : 0 ≡ t.0 = ap (λ (h : HallState ℕ ℕ ℕ). h.faults) t.2.2 in let g : ⊥ = omega arith in g
 
 pub returns-clause-fault_forgotten : goal.returns-clause-fault_forgotten
 returns-clause-fault_forgotten c = λ new t. true≢false t.2.0

@@ -16,5 +16,5 @@ returns-clause-asked_by_loop g c d r memories first cell events op answer loop s
     loop_can d r memories (λ acts world reached. c.every_moment_stands.ensures d r memories acts world less reached) less first cell events is_first runs op answer loop small behind asks
 
 pub returns-clause-asked_by_worker : goal.returns-clause-asked_by_worker
-returns-clause-asked_by_worker g c d r memories first cell events w op answer hand small is_first runs services asks =
-    worker_can d r memories (λ acts world reached. c.every_moment_stands.ensures d r memories acts world small reached) small first cell events is_first runs w op answer hand services asks
+returns-clause-asked_by_worker g c d r memories first cell events w op answer worker small is_first runs services asks =
+    worker_can d r memories (λ acts world reached. c.every_moment_stands.ensures d r memories acts world small reached) small first cell events is_first runs w op answer worker services asks

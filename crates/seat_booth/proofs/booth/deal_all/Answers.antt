@@ -1,15 +1,15 @@
 use Rattle.std.proofs.Common.{rules, ◌+◌, ◌∙◌, List, subst, sym, arith}
-use Rattle.seat_booth.specs.Place.{Stand, Place, stand}
+use Rattle.seat_booth.specs.Seats.{BoothView, SeatView, booth_view}
 use Rattle.seat_booth.proofs.Dealt.{IsDealt, more_dealt, all_dealt, every_newcomer}
 use Rattle.seat_booth.proofs.booth.deal_all.Goals as goal
 
 pub loop-number-preserved : goal.loop-number-preserved
 loop-number-preserved g c =
-    let s : Stand g.row.O-Meaning.Denot = stand c.args.shared.now.table_id (g.O.Object.meaning c.args.shared.now.key.object.value) c.args.shared.now.key.seats in
+    let s : BoothView g.row.O-Meaning.Denot = booth_view c.args.shared.now.table_id (g.O.Object.meaning c.args.shared.now.key.object.value) c.args.shared.now.key.seats in
     let i = c.loop-number.invariant in
     record {
       table = search rules;
-      dealt = subst (λ (l : List (Place g.row.O-Op.Denot g.row.O-Reply.Denot g.row.O-Meaning.Denot)). IsDealt s c.args.seats (c.loop-number.number + 1) c.deal-dealt.new.token.me l) (sym c.push_reserved.ensures.items)
+      dealt = subst (λ (l : List (SeatView g.row.O-Op.Denot g.row.O-Reply.Denot g.row.O-Meaning.Denot)). IsDealt s c.args.seats (c.loop-number.number + 1) c.deal-dealt.new.token.me l) (sym c.push_reserved.ensures.items)
           (more_dealt s c.args.seats c.loop-number.number c.loop-number.token.me c.deal-dealt.new.token.me c.deal-dealt.result.me c.loop-number.list.items c.deal-dealt.result.table_id i.dealt (omega arith) (c.deal-dealt.ensures.table.1 ∙ i.table) c.deal-dealt.ensures.left c.deal-dealt.ensures.dealt);
       long = search rules;
       room = search rules;
@@ -17,7 +17,7 @@ loop-number-preserved g c =
 
 abbrev all_there : goal.returns-clause-seats
 all_there g c =
-    let s : Stand g.row.O-Meaning.Denot = stand c.args.shared.now.table_id (g.O.Object.meaning c.args.shared.now.key.object.value) c.args.shared.now.key.seats in
+    let s : BoothView g.row.O-Meaning.Denot = booth_view c.args.shared.now.table_id (g.O.Object.meaning c.args.shared.now.key.object.value) c.args.shared.now.key.seats in
     let i = c.loop-number.invariant in
     c.push_reserved-2.ensures.items ∙ all_dealt s c.args.seats c.loop-number.number c.loop-number.token.me c.loop-number.list.items c.loop-number.token.table_id i.dealt (omega arith) i.table
 
@@ -25,4 +25,4 @@ pub returns-clause-seats : goal.returns-clause-seats
 returns-clause-seats g c = all_there g c
 
 pub returns-clause-every : goal.returns-clause-every
-returns-clause-every g c = every_newcomer _ _ _ (stand c.args.shared.now.table_id (g.O.Object.meaning c.args.shared.now.key.object.value) c.args.shared.now.key.seats) c.args.seats _ (all_there g c)
+returns-clause-every g c = every_newcomer _ _ _ (booth_view c.args.shared.now.table_id (g.O.Object.meaning c.args.shared.now.key.object.value) c.args.shared.now.key.seats) c.args.seats _ (all_there g c)

@@ -1,5 +1,6 @@
 use Rattle.std.proofs.Common.{sym, ◌∙◌, subst}
-use Rattle.thrift_host.specs.Check.{IsJudged, OnVerdict}
+use Rattle.thrift_host.specs.Check.{IsJudged}
+use Rattle.thrift_host.specs.Steps.{OnVerdict}
 use Rattle.thrift_host.proofs.Judging.{read_and_judged}
 use Rattle.thrift_host.proofs.check.check.Goals as goal
 

@@ -3,26 +3,27 @@ use Rattle.std.specs.List.{flat_map}
 use Rattle.std.proofs.lemmas.List.Folds.{flat_map-map}
 use Rattle.std.proofs.Math.ListN.{drop_of_length-le}
 use Rattle.text_out.specs.Line.{line_of}
-use Rattle.thrift_host.specs.declared.entry.Entry.{Entry}
+use Rattle.thrift_host.specs.declared.entry.KeptEntry.{KeptEntry}
 use Rattle.thrift_host.specs.declared.message.Call.TheVariants.{Ping}
 use Rattle.thrift_host.specs.declared.message.Answer.TheVariants.{Empty}
-use Rattle.thrift_host.specs.Rehearsal.{entry_of, entry_text}
+use Rattle.thrift_host.specs.Lines.{entry_line}
+use Rattle.thrift_host.specs.Run.{journal_entry}
 use Rattle.thrift_host.specs.Pieces.{IsTakenBut, IsTakenInPart}
 use Rattle.thrift_host.proofs.Taking.{line_taken, line_in_part, err_takes}
 use Rattle.thrift_host.proofs.report.write_journal.Goals as goal
 
-abbrev line : Entry → List ℕ
-line e = line_of (entry_text (entry_of e))
+abbrev line : KeptEntry → List ℕ
+line e = line_of (entry_line (journal_entry e))
 
 -- what stands past the end of the journal
-abbrev past : Entry
+abbrev past : KeptEntry
 past = record { key = record { c = 0; i = 0 }; call = Ping; answer = Empty }
 
 pub returns-in_err-write_entry-clause-told : goal.returns-in_err-write_entry-clause-told
 returns-in_err-write_entry-clause-told g c =
     err_takes _ _ _ _ c.from_residual.result c.from_residual.ensures.0
     (subst (λ t. IsTakenInPart (g.K.Sink.taken c.args.out.now) (g.K.Sink.taken c.write_entry.new.out) (c.args.pending.now.items ++ t))
-    (sym (flat_map-map (λ e. line_of (entry_text e)) entry_of c.args.journal.now))
+    (sym (flat_map-map (λ e. line_of (entry_line e)) journal_entry c.args.journal.now))
     (line_in_part line c.args.journal.now c.loop-entry.entry-index past (get_or c.args.journal.now c.loop-entry.entry-index past)
     _ (g.K.Sink.taken c.loop-entry.out) _ _ c.loop-entry.pending.items (omega arith) refl c.loop-entry.invariant.told
     (c.in_err-write_entry.ensures {u = tt}).told))
@@ -48,4 +49,4 @@ returns-clause-told g c =
     (ap (λ r. c.loop-entry.pending.items ++ flat_map line r) (drop_of_length-le c.args.journal.now past_end) ∙ append-nil c.loop-entry.pending.items)
     c.loop-entry.invariant.told in
     subst (λ t. IsTakenBut (g.K.Sink.taken c.args.out.now) (g.K.Sink.taken c.loop-entry.out) (c.args.pending.now.items ++ t) c.loop-entry.pending.items)
-    (sym (flat_map-map (λ e. line_of (entry_text e)) entry_of c.args.journal.now)) told
+    (sym (flat_map-map (λ e. line_of (entry_line e)) journal_entry c.args.journal.now)) told

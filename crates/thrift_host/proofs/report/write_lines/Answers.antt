@@ -5,37 +5,38 @@ use Rattle.text_out.specs.Line.{line_of}
 use Rattle.host_model.specs.declared.cause.EndCause.{EndCause}
 use Rattle.host_model.specs.Marks.{marks_of, output}
 use Rattle.host_model.specs.Report.{end_text, journal_lines, numbered, report, tape_lines}
-use Rattle.thrift_host.specs.declared.entry.Entry.{Entry}
-use Rattle.thrift_host.specs.Rehearsal.{entry_of, entry_text}
+use Rattle.thrift_host.specs.declared.entry.KeptEntry.{KeptEntry}
+use Rattle.thrift_host.specs.Lines.{entry_line}
+use Rattle.thrift_host.specs.Run.{journal_entry}
 use Rattle.thrift_host.specs.Pieces.{IsTakenBut}
 use Rattle.thrift_host.proofs.Taking.{none_taken, next_taken, next_in_part, last_takes, err_takes}
 use Rattle.thrift_host.proofs.report.write_lines.Goals as goal
 
-abbrev journal_text : List Entry → List ℕ
-journal_text journal = journal_lines entry_text (map entry_of journal)
+abbrev journal_text : List KeptEntry → List ℕ
+journal_text journal = journal_lines entry_line (map journal_entry journal)
 
 abbrev last_lines : EndCause → List ℕ → ℕ → List ℕ
 last_lines cause written n = line_of (end_text 0 cause written) ++ line_of (numbered (codes "calls") n)
 
-abbrev whole : List Mark → List Entry → EndCause → List ℕ
-whole tape journal cause = report entry_text tape (map entry_of journal) (cause ∷ [])
+abbrev whole : List Mark → List KeptEntry → EndCause → List ℕ
+whole tape journal cause = report entry_line tape (map journal_entry journal) (cause ∷ [])
 
 -- the report's four parts
-report_parts : (tape : List Mark) (journal : List Entry) (cause : EndCause) (written : List ℕ) → written ≡ output (marks_of 0 tape)
+report_parts : (tape : List Mark) (journal : List KeptEntry) (cause : EndCause) (written : List ℕ) → written ≡ output (marks_of 0 tape)
     → whole tape journal cause ≡ tape_lines tape ++ (journal_text journal ++ last_lines cause written (length journal))
 report_parts tape journal cause written e =
     let ends : List ℕ = line_of (end_text 0 cause (output (marks_of 0 tape))) in
-    let count : List ℕ = line_of (numbered (codes "calls") (length (map entry_of journal))) in
+    let count : List ℕ = line_of (numbered (codes "calls") (length (map journal_entry journal))) in
     append_assoc (tape_lines tape ++ journal_text journal) (ends ++ []) count
     ∙ append_assoc (tape_lines tape) (journal_text journal) ((ends ++ []) ++ count)
     ∙ ap (λ t. tape_lines tape ++ (journal_text journal ++ (t ++ count)))
     (append-nil ends ∙ ap (λ w. line_of (end_text 0 cause w)) (sym e))
     ∙ ap
     (λ n. tape_lines tape ++ (journal_text journal ++ (line_of (end_text 0 cause written) ++ line_of (numbered (codes "calls") n))))
-    (length-map journal entry_of)
+    (length-map journal journal_entry)
 
 -- nothing was taken yet of what is pending and the report
-at_first : (x : Option (List ℕ)) (pending : List ℕ) (tape : List Mark) (journal : List Entry) (cause : EndCause) (written : List ℕ)
+at_first : (x : Option (List ℕ)) (pending : List ℕ) (tape : List Mark) (journal : List KeptEntry) (cause : EndCause) (written : List ℕ)
     → written ≡ output (marks_of 0 tape)
     → IsTakenBut x x (pending ++ whole tape journal cause)
     (pending ++ (tape_lines tape ++ (journal_text journal ++ last_lines cause written (length journal))))
@@ -44,7 +45,7 @@ at_first x pending tape journal cause written e =
     (none_taken x (pending ++ whole tape journal cause))
 
 -- the tape was taken
-after_tape : (x y : Option (List ℕ)) (pending left : List ℕ) (tape : List Mark) (journal : List Entry) (cause : EndCause) (written : List ℕ)
+after_tape : (x y : Option (List ℕ)) (pending left : List ℕ) (tape : List Mark) (journal : List KeptEntry) (cause : EndCause) (written : List ℕ)
     → written ≡ output (marks_of 0 tape) → IsTakenBut x y (pending ++ tape_lines tape) left
     → IsTakenBut x y (pending ++ whole tape journal cause) (left ++ (journal_text journal ++ last_lines cause written (length journal)))
 after_tape x y pending left tape journal cause written e f =
@@ -52,7 +53,7 @@ after_tape x y pending left tape journal cause written e f =
     (at_first x pending tape journal cause written e) f
 
 -- and the journal
-after_journal : (x y z : Option (List ℕ)) (pending left rest : List ℕ) (tape : List Mark) (journal : List Entry) (cause : EndCause) (written : List ℕ)
+after_journal : (x y z : Option (List ℕ)) (pending left rest : List ℕ) (tape : List Mark) (journal : List KeptEntry) (cause : EndCause) (written : List ℕ)
     → written ≡ output (marks_of 0 tape) → IsTakenBut x y (pending ++ tape_lines tape) left → IsTakenBut y z (left ++ journal_text journal) rest
     → IsTakenBut x z (pending ++ whole tape journal cause) (rest ++ last_lines cause written (length journal))
 after_journal x y z pending left rest tape journal cause written e f h =

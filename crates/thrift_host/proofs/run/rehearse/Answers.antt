@@ -1,5 +1,5 @@
 use Rattle.std.proofs.Common.{[], ◌∷◌, sym, arith}
-use Rattle.thrift_host.specs.Office.{desk, rules, memories}
+use Rattle.thrift_host.specs.Office.{calculator_desk, calculator_rules, calculator_memories}
 use Rattle.thrift_host.proofs.Ends.{rehearsed}
 use Rattle.thrift_host.proofs.run.rehearse.Goals as goal
 
@@ -7,4 +7,4 @@ pub returns-in-Some : goal.returns-in-Some
 returns-in-Some c =
     let u = c.run.invariant.0 in
     rehearsed c.args.script.now.bytes.items c.args.script.now.ends.items c.run.run c.in-Some.cause (sym c.in-Some.ensures.cause) u c.run.invariant.1
-    (λ ends. c.every_run_meets.ensures desk rules memories u.acts u.world (c.in-Some.cause ∷ []) (omega arith) u.reached ends)
+    (λ ends. c.every_run_meets.ensures calculator_desk calculator_rules calculator_memories u.acts u.world (c.in-Some.cause ∷ []) (omega arith) u.reached ends)

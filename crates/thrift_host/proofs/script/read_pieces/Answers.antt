@@ -1,6 +1,7 @@
 use Rattle.std.proofs.Common.{◌≡◌, ◌∷◌, false, codes, rules, ap, ◌∙◌, arith}
 use Rattle.std.specs.Str.{bytes_eq}
-use Rattle.thrift_host.specs.Script.{said_lines, written, pieces_of}
+use Rattle.thrift_host.specs.Script.{said_lines, pieces_of}
+use Rattle.thrift_host.specs.Steps.{written}
 use Rattle.thrift_host.proofs.Pieces.{piece_line}
 use Rattle.thrift_host.proofs.script.read_pieces.Goals as goal
 

@@ -1,5 +1,6 @@
 use Rattle.std.proofs.Common.{◌≡◌, ◌+◌, ◌≤◌, [], length}
-use Rattle.thrift_host.specs.Script.{said_lines, pieces_of, written}
+use Rattle.thrift_host.specs.Script.{said_lines, pieces_of}
+use Rattle.thrift_host.specs.Steps.{written}
 use Rattle.thrift_host.proofs.script.read_pieces.Given as goal
 
 -- what was read, in front of what is left, is what the whole text gives; a byte takes two of the text

@@ -1,10 +1,10 @@
 use Rattle.thrift_value.specs.Plain.{plain}
-use Rattle.wire_model.specs.Writing.{text}
+use Rattle.wire_model.specs.Encoder.{text}
 use Rattle.wire_model.proofs.Places.{place_written}
-use Rattle.wire_model.proofs.Writing.{value_written}
+use Rattle.wire_model.proofs.Encoding.{value_written}
 use Rattle.wire_model.proofs.laws.written_is_read.Goals as goal
 
 pub returns : goal.returns
 returns g c p x front more tagged range sizes bounds =
-    place_written g.P.WireProtocol.wire g.P.WireProtocol.format g.P.WireProtocol.writing p x (plain x) (c.plain_value_is_alike.ensures.measures x) (text g.P.WireProtocol.writing x) front more
-    (value_written g.P.WireProtocol.wire g.P.WireProtocol.format g.P.WireProtocol.writing p c.plain_value_is_alike.ensures.measures x tagged range sizes) bounds
+    place_written g.P.WireProtocol.wire g.P.WireProtocol.format g.P.WireProtocol.encoder p x (plain x) (c.plain_value_is_alike.ensures.measures x) (text g.P.WireProtocol.encoder x) front more
+    (value_written g.P.WireProtocol.wire g.P.WireProtocol.format g.P.WireProtocol.encoder p c.plain_value_is_alike.ensures.measures x tagged range sizes) bounds

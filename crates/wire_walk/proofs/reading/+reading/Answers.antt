@@ -5,8 +5,8 @@ use Rattle.std.proofs.lemmas.Result.{err_from_is_err_and}
 use Rattle.thrift_value.specs.TreeOf.{tree_of, fields_tree, items_tree, pairs_tree}
 use Rattle.thrift_value.proofs.Trees.{tree_of-Struct, tree_of-Map, tree_of-Set, tree_of-List, tree_of-Bool}
 use Rattle.thrift_value.specs.declared.value.Value.TheVariants.{Bool}
-use Rattle.wire_model.specs.Wire.{head, flagged}
-use Rattle.wire_walk.specs.Steps.{head_of}
+use Rattle.wire_model.specs.Wire.{typed, flagged}
+use Rattle.wire_walk.specs.Steps.{field_header_of}
 use Rattle.wire_walk.proofs.Faults.{fails_on, fails_same, fails_told, gives_same, gives_told, too_deep, on_ok}
 use Rattle.wire_walk.proofs.Opened.{not_counted, bytes_is, struct_too_deep, map_too_deep, set_too_deep, list_too_deep, struct_is, map_is, set_is, list_is, scalar_is}
 use Rattle.wire_walk.proofs.Lists.{items_begin, items_fail, items_step, items_end, pairs_begin, pairs_fail, pairs_fail_later, pairs_step, pairs_end, fields_begin, fields_fail, field_value_fails, flag_fails, field_step, flag_step, fields_end, fields_run_out}
@@ -25,11 +25,11 @@ read-returns-in_err-text-in-Bytes g t c =
     (fails_same c.in_err-text-in-Bytes.field-0.0 _ _ (sym (bytes_is g.C.WireProtocol.wire c.args.levels c.args.tag c.args.rest c.in_ok-rest.rest c.in_ok-rest.ensures c.in-Bytes.is))
     (fails_on c.in_err-text-in-Bytes.field-0.0 (g.C.WireProtocol.wire.span c.in_ok-rest.rest) _ (fails_told _ _ c.in_err-text-in-Bytes.ensures)))
 
-pub read-returns-in-Ok : goal.read-returns-in-Ok
-read-returns-in-Ok g t c =
+pub read-returns-in_ok-value-in-Bytes : goal.read-returns-in_ok-value-in-Bytes
+read-returns-in_ok-value-in-Bytes g t c =
     bytes_is g.C.WireProtocol.wire c.args.levels c.args.tag c.args.rest c.in_ok-rest.rest c.in_ok-rest.ensures c.in-Bytes.is
     ∙ on_ok (g.C.WireProtocol.wire.span c.in_ok-rest.rest) _ c.in_ok-text-in-Bytes.text.now c.in_ok-text-in-Bytes.rest c.in_ok-text-in-Bytes.ensures
-    ∙ ap (λ x. Ok (x, c.in_ok-text-in-Bytes.rest)) (sym c.in-Ok.ensures)
+    ∙ ap (λ x. Ok (x, c.in_ok-text-in-Bytes.rest)) (sym c.in_ok-value-in-Bytes.ensures)
 
 pub read-returns-in_err-levels-in-Struct : goal.read-returns-in_err-levels-in-Struct
 read-returns-in_err-levels-in-Struct g t c =
@@ -154,7 +154,7 @@ read_items-returns-in_err-value g t c =
 pub read_items-loop-step-preserved : goal.read_items-loop-step-preserved
 read_items-loop-step-preserved g t c =
     items_step g.C.WireProtocol.wire c.args.levels c.args.tag c.loop-step.items.items _ c.in_ok-value.value (c.args.count - c.loop-step.step) (c.args.count - (c.loop-step.step + 1)) c.loop-step.rest c.in_ok-value.behind c.args.count c.args.rest
-    (let more : c.args.count - c.loop-step.step ≡ suc (c.args.count - (c.loop-step.step + 1)) = omega arith in more) c.loop-step.invariant c.in_ok-value.ensures c.in-Ok.ensures
+    (let more : c.args.count - c.loop-step.step ≡ suc (c.args.count - (c.loop-step.step + 1)) = omega arith in more) c.loop-step.invariant c.in_ok-value.ensures c.in_ok-keep.ensures
 
 pub read_items-returns : goal.read_items-returns
 read_items-returns g t c =
@@ -181,7 +181,7 @@ read_pairs-returns-in_err-value g t c =
 pub read_pairs-loop-step-preserved : goal.read_pairs-loop-step-preserved
 read_pairs-loop-step-preserved g t c =
     pairs_step g.C.WireProtocol.wire c.args.levels c.args.key_tag c.args.value_tag c.loop-step.pairs.items _ (c.in_ok-key.key, c.in_ok-value.value) (c.args.count - c.loop-step.step) (c.args.count - (c.loop-step.step + 1)) c.loop-step.rest c.in_ok-key.behind c.in_ok-value.behind c.args.count c.args.rest
-    (let more : c.args.count - c.loop-step.step ≡ suc (c.args.count - (c.loop-step.step + 1)) = omega arith in more) c.loop-step.invariant c.in_ok-key.ensures c.in_ok-value.ensures c.in-Ok.ensures
+    (let more : c.args.count - c.loop-step.step ≡ suc (c.args.count - (c.loop-step.step + 1)) = omega arith in more) c.loop-step.invariant c.in_ok-key.ensures c.in_ok-value.ensures c.in_ok-keep.ensures
 
 pub read_pairs-returns : goal.read_pairs-returns
 read_pairs-returns g t c =
@@ -199,13 +199,13 @@ read_fields-returns-in_err-header g t c =
 
 pub read_fields-returns-in-Stop : goal.read_fields-returns-in-Stop
 read_fields-returns-in-Stop g t c =
-    fields_end g.C.WireProtocol.wire c.args.levels c.loop-step.fields.items c.new.result (length c.bytes-step-end.result.now - c.loop-step.step) (length c.bytes-step-end.result.now - (c.loop-step.step + 1)) (to_z w16 c.loop-step.last-bits) c.loop-step.rest c.in_ok-header.behind c.args.rest (let more : length c.bytes-step-end.result.now - c.loop-step.step ≡ suc (length c.bytes-step-end.result.now - (c.loop-step.step + 1)) = omega arith in more) c.loop-step.invariant (c.in_ok-header.ensures ∙ ap (λ h. Ok (head_of h, c.in_ok-header.behind)) c.in-Stop.is) c.new.ensures
+    fields_end g.C.WireProtocol.wire c.args.levels c.loop-step.fields.items c.new.result (length c.bytes-step-end.result.now - c.loop-step.step) (length c.bytes-step-end.result.now - (c.loop-step.step + 1)) (to_z w16 c.loop-step.last-bits) c.loop-step.rest c.in_ok-header.behind c.args.rest (let more : length c.bytes-step-end.result.now - c.loop-step.step ≡ suc (length c.bytes-step-end.result.now - (c.loop-step.step + 1)) = omega arith in more) c.loop-step.invariant (c.in_ok-header.ensures ∙ ap (λ h. Ok (field_header_of h, c.in_ok-header.behind)) c.in-Stop.is) c.new.ensures
 
 pub read_fields-returns-in_err-value-in-Field : goal.read_fields-returns-in_err-value-in-Field
 read_fields-returns-in_err-value-in-Field g t c =
     let p = err_from_is_err_and c.from_residual-in_err-value-in-Field.result c.from_residual-in_err-value-in-Field.ensures.1 in
     rw (p.1, p.2)
-    (field_value_fails g.C.WireProtocol.wire c.args.levels c.loop-step.fields.items (length c.bytes-step-end.result.now - c.loop-step.step) (length c.bytes-step-end.result.now - (c.loop-step.step + 1)) (to_z w16 c.loop-step.last-bits) c.loop-step.rest c.in_ok-header.behind c.args.rest c.in-Field.id c.in-Field.tag c.in_err-value-in-Field.field-0.0 (let more : length c.bytes-step-end.result.now - c.loop-step.step ≡ suc (length c.bytes-step-end.result.now - (c.loop-step.step + 1)) = omega arith in more) c.loop-step.invariant (c.in_ok-header.ensures ∙ ap (λ h. Ok (head_of h, c.in_ok-header.behind)) c.in-Field.is) c.in_err-value-in-Field.ensures)
+    (field_value_fails g.C.WireProtocol.wire c.args.levels c.loop-step.fields.items (length c.bytes-step-end.result.now - c.loop-step.step) (length c.bytes-step-end.result.now - (c.loop-step.step + 1)) (to_z w16 c.loop-step.last-bits) c.loop-step.rest c.in_ok-header.behind c.args.rest c.in-Field.id c.in-Field.tag c.in_err-value-in-Field.field-0.0 (let more : length c.bytes-step-end.result.now - c.loop-step.step ≡ suc (length c.bytes-step-end.result.now - (c.loop-step.step + 1)) = omega arith in more) c.loop-step.invariant (c.in_ok-header.ensures ∙ ap (λ h. Ok (field_header_of h, c.in_ok-header.behind)) c.in-Field.is) c.in_err-value-in-Field.ensures)
 
 pub read_fields-loop-step-preserved-in-Field : goal.read_fields-loop-step-preserved-in-Field
 read_fields-loop-step-preserved-in-Field g t c =
@@ -215,14 +215,14 @@ read_fields-loop-step-preserved-in-Field g t c =
     field_step g.C.WireProtocol.wire c.args.levels c.loop-step.fields.items _ (length c.bytes-step-end.result.now - c.loop-step.step) (length c.bytes-step-end.result.now - (c.loop-step.step + 1)) (to_z w16 c.loop-step.last-bits) c.loop-step.rest c.in_ok-header.behind c.in_ok-value-in-Field.behind c.args.rest id c.in-Field.tag c.in_ok-value-in-Field.value
     (let more : length c.bytes-step-end.result.now - c.loop-step.step ≡ suc (length c.bytes-step-end.result.now - (c.loop-step.step + 1)) = omega arith in more)
     c.loop-step.invariant
-    (c.in_ok-header.ensures ∙ ap (λ h. Ok (head_of h, c.in_ok-header.behind)) c.in-Field.is ∙ ap (λ z. Ok (head z c.in-Field.tag, c.in_ok-header.behind)) same)
-    c.in_ok-value-in-Field.ensures c.in-Ok.ensures
+    (c.in_ok-header.ensures ∙ ap (λ h. Ok (field_header_of h, c.in_ok-header.behind)) c.in-Field.is ∙ ap (λ z. Ok (typed z c.in-Field.tag, c.in_ok-header.behind)) same)
+    c.in_ok-value-in-Field.ensures c.in_ok-keep-in-Field.ensures
 
 pub read_fields-returns-in_err-behind-in-Flag : goal.read_fields-returns-in_err-behind-in-Flag
 read_fields-returns-in_err-behind-in-Flag g t c =
     let p = err_from_is_err_and c.from_residual-in_err-behind-in-Flag.result c.from_residual-in_err-behind-in-Flag.ensures.1 in
     rw (p.1, p.2)
-    (flag_fails g.C.WireProtocol.wire c.args.levels c.loop-step.fields.items (length c.bytes-step-end.result.now - c.loop-step.step) (length c.bytes-step-end.result.now - (c.loop-step.step + 1)) (to_z w16 c.loop-step.last-bits) c.loop-step.rest c.in_ok-header.behind c.args.rest c.in-Flag.id c.in-Flag.flag c.in_err-behind-in-Flag.field-0.0 (let more : length c.bytes-step-end.result.now - c.loop-step.step ≡ suc (length c.bytes-step-end.result.now - (c.loop-step.step + 1)) = omega arith in more) c.loop-step.invariant (c.in_ok-header.ensures ∙ ap (λ h. Ok (head_of h, c.in_ok-header.behind)) c.in-Flag.is) (fails_told _ _ c.in_err-behind-in-Flag.ensures))
+    (flag_fails g.C.WireProtocol.wire c.args.levels c.loop-step.fields.items (length c.bytes-step-end.result.now - c.loop-step.step) (length c.bytes-step-end.result.now - (c.loop-step.step + 1)) (to_z w16 c.loop-step.last-bits) c.loop-step.rest c.in_ok-header.behind c.args.rest c.in-Flag.id c.in-Flag.flag c.in_err-behind-in-Flag.field-0.0 (let more : length c.bytes-step-end.result.now - c.loop-step.step ≡ suc (length c.bytes-step-end.result.now - (c.loop-step.step + 1)) = omega arith in more) c.loop-step.invariant (c.in_ok-header.ensures ∙ ap (λ h. Ok (field_header_of h, c.in_ok-header.behind)) c.in-Flag.is) (fails_told _ _ c.in_err-behind-in-Flag.ensures))
 
 pub read_fields-loop-step-preserved : goal.read_fields-loop-step-preserved
 read_fields-loop-step-preserved g t c =
@@ -232,8 +232,8 @@ read_fields-loop-step-preserved g t c =
     flag_step g.C.WireProtocol.wire c.args.levels c.loop-step.fields.items _ (length c.bytes-step-end.result.now - c.loop-step.step) (length c.bytes-step-end.result.now - (c.loop-step.step + 1)) (to_z w16 c.loop-step.last-bits) c.loop-step.rest c.in_ok-header.behind c.in_ok-behind-in-Flag.behind c.args.rest id c.in-Flag.flag (Bool c.in-Flag.flag)
     (let more : length c.bytes-step-end.result.now - c.loop-step.step ≡ suc (length c.bytes-step-end.result.now - (c.loop-step.step + 1)) = omega arith in more)
     c.loop-step.invariant
-    (c.in_ok-header.ensures ∙ ap (λ h. Ok (head_of h, c.in_ok-header.behind)) c.in-Flag.is ∙ ap (λ z. Ok (flagged z c.in-Flag.flag, c.in_ok-header.behind)) same)
-    c.in_ok-behind-in-Flag.ensures (tree_of-Bool c.in-Flag.flag) c.in-Ok-keep.ensures
+    (c.in_ok-header.ensures ∙ ap (λ h. Ok (field_header_of h, c.in_ok-header.behind)) c.in-Flag.is ∙ ap (λ z. Ok (flagged z c.in-Flag.flag, c.in_ok-header.behind)) same)
+    c.in_ok-behind-in-Flag.ensures (tree_of-Bool c.in-Flag.flag) c.in_ok-keep-in-Flag.ensures
 
 pub read_fields-returns : goal.read_fields-returns
 read_fields-returns g t c =

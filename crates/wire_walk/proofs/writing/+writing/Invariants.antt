@@ -22,10 +22,10 @@ decreases-put_pairs g l = 3 * pairs_depth (pair_trees (map pair_tree l.pairs.now
 
 -- what was written, and the text of what is left, is the text of all
 abbrev pub invariant-put_fields-loop-id : goal.invariant-put_fields-loop-id
-invariant-put_fields-loop-id g l = AreFieldsWritten g.C.WireProtocol.writing l.last (drop l.id-index l.fields) l.fields l.fn.into.items l.into.items
+invariant-put_fields-loop-id g l = AreFieldsWritten g.C.WireProtocol.encoder l.last (drop l.id-index l.fields) l.fields l.fn.into.items l.into.items
 
 abbrev pub invariant-put_items-loop-value : goal.invariant-put_items-loop-value
-invariant-put_items-loop-value g l = AreItemsWritten g.C.WireProtocol.writing (drop l.value-index l.items) l.items l.fn.into.items l.into.items
+invariant-put_items-loop-value g l = AreItemsWritten g.C.WireProtocol.encoder (drop l.value-index l.items) l.items l.fn.into.items l.into.items
 
 abbrev pub invariant-put_pairs-loop-key : goal.invariant-put_pairs-loop-key
-invariant-put_pairs-loop-key g l = ArePairsWritten g.C.WireProtocol.writing (drop l.key-index l.pairs) l.pairs l.fn.into.items l.into.items
+invariant-put_pairs-loop-key g l = ArePairsWritten g.C.WireProtocol.encoder (drop l.key-index l.pairs) l.pairs l.fn.into.items l.into.items

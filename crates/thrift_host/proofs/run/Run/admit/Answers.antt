@@ -1,5 +1,5 @@
 use Rattle.std.proofs.Common.{[], ◌∷◌, refl, sym, ap, ◌∙◌}
-use Rattle.conn_state.specs.Phase.{View, ended}
+use Rattle.conn_state.specs.Phase.{ConnView, ended}
 use Rattle.outside.specs.declared.marks.Mark.TheVariants.{Closed}
 use Rattle.host_model.specs.declared.cause.EndCause.TheVariants.{NoMemory}
 use Rattle.thrift_host.proofs.Results.{on_ok, on_err}
@@ -12,7 +12,7 @@ returns-in_ok-push-clause-moved c = λ all u.
     let same = on_err c.admit.result (sym c.if-is_err.ensures.value) c.admit.ensures.err in
     refuses all c.args.self.now _ c.requires
     (record {
-      conn_is = c.end.ensures ∙ ap (λ (v : View). record v { phase = ended NoMemory }) same;
+      conn_is = c.end.ensures ∙ ap (λ (v : ConnView). record v { phase = ended NoMemory }) same;
       tape_is = c.in_ok-push.ensures.items;
       same_journal = refl;
       same_written = refl;

@@ -5,7 +5,7 @@ use Rattle.conn_state.specs.Phase.{wanted}
 use Rattle.thrift_host.specs.Office.{longest_frame}
 use Rattle.thrift_host.specs.Run.{closed_tape}
 use Rattle.thrift_host.proofs.Moves.{reads_bytes}
-use Rattle.thrift_host.specs.Office.{desk, rules, memories}
+use Rattle.thrift_host.specs.Office.{calculator_desk, calculator_rules, calculator_memories}
 use Rattle.thrift_host.proofs.Reading.{reads_fed}
 use Rattle.thrift_host.proofs.run.Run.read.Goals as goal
 
@@ -30,7 +30,7 @@ returns-clause-fed c = λ are u fed.
     let run = c.args.self.now in
     let all = c.args.script.now.bytes.items in
     let bytes = c.part_of-bytes.result.now in
-    let moment = c.every_moment_stands.ensures desk rules memories u.acts u.world (omega arith) u.reached in
+    let moment = c.every_moment_stands.ensures calculator_desk calculator_rules calculator_memories u.acts u.world (omega arith) u.reached in
     let is_part = c.part_of-bytes.ensures ∙ ap (λ xs. take c.min-count.result (drop run.at xs)) c.deref.ensures.value in
     let room : c.min-count.result ≤ length (drop run.at all) =
     omega (arith, length-drop run.at all, c.min-count.ensures, c.end_of_piece-end.ensures.within, c.end_of_piece-end.ensures.some) in

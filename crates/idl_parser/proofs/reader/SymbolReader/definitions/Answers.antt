@@ -1,0 +1,23 @@
+use Rattle.std.proofs.Common.{◌∙◌, sym}
+use Rattle.idl_parser.proofs.Rows.{finished, ended, handed_on, below, all_read, put_on}
+use Rattle.idl_parser.specs.Documents.{deepest}
+use Rattle.idl_parser.specs.Trees.{definition_node, definitions_node}
+use Rattle.idl_parser.proofs.Firsts.{first_of_definition}
+use Rattle.idl_parser.proofs.reader.SymbolReader.definitions.Goals as goal
+
+pub returns-then-not-begins_definition : goal.returns-then-not-begins_definition
+returns-then-not-begins_definition c =
+    finished (first_of_definition deepest) c.row.invariant (sym c.begins_definition.ensures ∙ c.if-not-begins_definition.true)
+
+pub returns-in_err-item : goal.returns-in_err-item
+returns-in_err-item c =
+    handed_on (λ definitions. definitions_node definitions.items) c.in_err-item.field-0.0 c.definition.new.self c.from_residual.result c.from_residual.ensures.1 (first_of_definition deepest) c.row.invariant (below c.row._round c.row-test.true)
+    (sym c.begins_definition.ensures ∙ c.if-not-begins_definition.false) c.in_err-item.ensures
+
+pub row-preserved : goal.row-preserved
+row-preserved c =
+    put_on definition_node c.row.all.items c.put.new.all.items c.in_ok-item.item c.definition.new.self c.row.invariant (below c.row._round c.row-test.true)
+    (sym c.begins_definition.ensures ∙ c.if-not-begins_definition.false) c.in_ok-item.ensures c.in_ok-put.ensures
+
+pub returns : goal.returns
+returns c = ended (first_of_definition deepest) c.row.invariant (all_read c.row._round c.row-test.false)
