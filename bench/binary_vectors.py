@@ -1,10 +1,10 @@
 #!/usr/bin/env python3
-"""Prints crates/binary_codec/src/vectors.rt (structs), or crates/envelope/src/vectors.rt (heads).
+"""Prints crates/wire_tests/src/struct_vectors.rt (structs), or crates/wire_tests/src/head_vectors.rt (heads).
 
 Each row is made by Apache Thrift's own Python library (Debian package python3-thrift, 0.17.0): a value or a head is
 written by its TBinaryProtocol, and the bytes are printed as a Rust byte string. Beside the bytes of a struct stands its
 tree as text, made from the value that was written; the script ends with a failure where Apache's own reading of the
-bytes gives another text. Run: bench/binary_vectors.py structs > crates/binary_codec/src/vectors.rt, or with heads into
+bytes gives another text. Run: bench/binary_vectors.py structs > crates/wire_tests/src/struct_vectors.rt, or with heads into
 the other file, and then rt fmt in the crate.
 
 The text of a tree: its values in the order of the wire, with a blank between them. A number is its kind, a colon and its

@@ -16,15 +16,9 @@ mod codec;
 mod codes;
 pub mod examples;
 pub mod laws;
-#[cfg(test)]
-mod notation;
 mod numbers;
 mod protocol;
 mod structs;
-#[cfg(test)]
-mod tests;
-#[cfg(test)]
-mod vectors;
 mod writing;
 
 pub use protocol::Binary;

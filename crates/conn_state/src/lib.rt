@@ -23,8 +23,6 @@
 pub mod laws;
 mod machine;
 mod size_bytes;
-#[cfg(test)]
-mod tests;
 
 pub use host_model::EndCause;
 pub use machine::Conn;

@@ -16,10 +16,6 @@
 mod head;
 mod laws;
 mod read;
-#[cfg(test)]
-mod tests;
-#[cfg(test)]
-mod vectors;
 mod write;
 
 pub use head::{Head, HeadFault, Protocol};

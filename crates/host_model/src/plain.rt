@@ -17,5 +17,3 @@ pub use frames::split;
 pub use journals::{PlainEntry, PlainServices, after, entries_of, is_legal};
 pub use tape::{input, marks_of, output};
 
-#[cfg(test)]
-mod tests;

@@ -6,7 +6,7 @@ ghost use Rattle.idl_parser.specs.Leaves.{escaped, unescaped, literal_bytes, int
 use crate::reader::Stop;
 use idl_token::int_value;
 use std::alloc::Global;
-use thrift_value::ByteText;
+use byte_text::ByteText;
 
 fn escaped(byte: u8) -> u8
     ensures { result ≡ escaped byte }

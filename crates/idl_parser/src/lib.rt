@@ -46,8 +46,6 @@ mod printer;
 mod reader;
 mod small_reader;
 mod symbol;
-#[cfg(test)]
-mod tests;
 mod tree;
 mod type_printer;
 mod type_reader;

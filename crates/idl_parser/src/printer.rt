@@ -72,5 +72,3 @@ pub fn a_printed_document_is_parsed_to_itself()
         → DocumentIn deepest (lexemes (printed d) tokens) (document_node parsed) → without_places (document_node parsed) ≡ without_places (document_node d) }
 {}
 
-#[cfg(test)]
-mod tests;

@@ -18,7 +18,7 @@ use crate::tree::{Double, Int, Literal, Name};
 use idl_token::{MAX_TEXT, Place, Terminal, same};
 use std::alloc::{AllocError, AllocFailed, Global};
 use std::marker::Model;
-use thrift_value::ByteText;
+use byte_text::ByteText;
 
 /// No text has more symbols than bytes. A row is read by so many rounds at most, since a loop has to have an end.
 pub(crate) const MAX_SYMBOLS: usize = MAX_TEXT;

@@ -1,7 +1,7 @@
 //! Documents as trees.
 
 use idl_token::Place;
-use thrift_value::ByteText;
+use byte_text::ByteText;
 
 /// An identifier.
 #[derive(Drop)]

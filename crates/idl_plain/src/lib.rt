@@ -16,8 +16,6 @@ mod fields;
 mod parts;
 mod phrase;
 mod services;
-#[cfg(test)]
-mod tests;
 mod types;
 mod values;
 mod verdicts;

@@ -228,5 +228,3 @@ pub fn an_integer_has_a_place_in_64_bits()
     ensures { (token : List ℕ) → whole_of token ≡ sound TokenKind.Int → is_truth_word token ≡ false → FitsSigned w64 (int_of token) }
 {}
 
-#[cfg(test)]
-mod tests;

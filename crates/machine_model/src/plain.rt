@@ -19,5 +19,3 @@ pub use halls::{PlainHall, PlainJob, PlainJobOutcome};
 pub use runs::{run, start, step};
 pub use workers::PlainWorkerState;
 
-#[cfg(test)]
-mod tests;

@@ -41,5 +41,3 @@ pub use real::{RealIn, RealOut};
 pub use real_files::RealFiles;
 pub use streams::{Failed, Sink, Source};
 
-#[cfg(test)]
-mod tests;

@@ -12,8 +12,6 @@ use idl_token::{LexFault, LexKind, MAX_TEXT, Piece, Token, place_at};
 use std::alloc::Global;
 
 mod fronts;
-#[cfg(test)]
-mod tests;
 mod wholes;
 
 /// The tokens of a small text in order, or its first fault.

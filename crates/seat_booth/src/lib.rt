@@ -25,8 +25,6 @@ mod opening;
 mod plays;
 pub mod running_sum;
 mod table;
-#[cfg(test)]
-mod tests;
 mod view;
 mod waiting;
 

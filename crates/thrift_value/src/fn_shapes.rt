@@ -1,6 +1,6 @@
 ghost use Rattle.std.specs.Prelude.{◌≡◌};
 
-use crate::byte_text::ByteText;
+use byte_text::ByteText;
 use std::marker::Model;
 
 /// The shapes of a service's functions, a line each.

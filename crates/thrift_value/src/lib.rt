@@ -20,7 +20,6 @@
 //! when they are dropped.
 #![tactic(auto)]
 
-mod byte_text;
 mod compare;
 mod copy;
 mod fn_shapes;
@@ -28,8 +27,6 @@ mod laws;
 mod measure;
 mod sizes;
 mod tag;
-#[cfg(test)]
-mod tests;
 mod tidiness;
 mod value;
 mod wire_fault;

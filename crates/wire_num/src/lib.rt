@@ -26,5 +26,3 @@ pub use fault::NumFault;
 pub use laws::fixed_numbers_are_decoded;
 pub use put::{put_be64, put_i16, put_i32, put_i64, put_u8};
 
-#[cfg(test)]
-mod tests;

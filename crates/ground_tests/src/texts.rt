@@ -1,5 +1,5 @@
-use super::*;
 use std::test::Fail;
+use text_out::{HexFault, decimal, hex, line, quoted, read_decimal, read_hex};
 
 #[test]
 fn a_line_ends_with_a_newline(rt: HostRuntime) -> Result<(), Fail> {

@@ -3,7 +3,8 @@
 ghost use Rattle.std.specs.Prelude.{◌<◌, ◌≤◌, ◌^◌, length, IfOk};
 ghost use Rattle.conn_state.specs.Phase.{wanted, IsWaiting};
 
-use super::*;
+use conn_state::Conn;
+use host_model::EndCause;
 use host_model::plain::split;
 use outside::{Bytes, EnvelopeFault, Settled};
 use std::alloc::{AllocError, Global};

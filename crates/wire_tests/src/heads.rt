@@ -1,7 +1,7 @@
 //! Heads read and written, and each fault at its place.
 
-use crate::vectors::MESSAGES;
-use crate::{Head, HeadFault, Protocol, read_head, write_head};
+use crate::head_vectors::MESSAGES;
+use envelope::{Head, HeadFault, Protocol, read_head, write_head};
 use outside::EnvelopeFault;
 use outside::EnvelopeFault::{MessageType, NameSize, Short, Version};
 use std::alloc::{AllocError, Global};

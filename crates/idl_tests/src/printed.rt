@@ -1,9 +1,9 @@
 //! Texts as they are printed.
 ghost use Rattle.std.specs.Prelude.{◌≤◌, length};
 
-use super::*;
-use crate::parse;
+use idl_parser::{parse, print};
 use idl_token::{MAX_TEXT, tokens};
+use std::alloc::Global;
 
 const TUTORIAL: &[u8] = b"include \"shared.thrift\"
 namespace cpp tutorial

@@ -1,8 +1,8 @@
 //! Structs read and written, and each fault at its place.
 
 use crate::notation::notation;
-use crate::vectors::{DIFFERENCES, Row, tables};
-use crate::{Binary, read_struct, write_struct};
+use crate::struct_vectors::{DIFFERENCES, Row, tables};
+use binary_codec::{Binary, read_struct, write_struct};
 use std::alloc::{AllocError, Global};
 use std::test::Fail;
 use thrift_value::WireFault::{BadSize, BadType, Short, TooDeep, TooMany};

@@ -1,7 +1,7 @@
-use crate::{ByteText, Fields, FnShapes, Items, Pairs, Tag, Value};
 use std::alloc::{AllocError, Global};
 use std::cmp::Ordering;
 use std::test::Fail;
+use thrift_value::{ByteText, Fields, FnShapes, Items, Pairs, Tag, Value};
 
 fn text(alloc: Global, bytes: &[u8]) -> Result<Value, AllocError> {
     Ok(Value::Bytes(ByteText::new(bytes.to_vec(alloc)?)))

@@ -1,5 +1,9 @@
 //! Texts with their tokens, at the crate's own calls. The table of texts stands in `plain_lexer`, and runs through both lexers.
-use super::*;
+
+use idl_token::{
+    LexFault, LexKind, MAX_TEXT, Place, TokenKind, int_value, keyword_of, keyword_text, place_at,
+    tokens,
+};
 
 #[test]
 fn a_text_has_its_tokens(rt: HostRuntime) {

@@ -1,8 +1,11 @@
 //! Tables of texts with their document or their fault.
 
-use super::*;
+use idl_parser::{
+    Const, ConstTree, Definition, Literal, Name, Need, ParseKind, Service, Struct, StructKind,
+    TypeTree, parse,
+};
 use idl_token::{MAX_TEXT, tokens};
-use std::alloc::AllocError;
+use std::alloc::{AllocError, Global};
 use std::process::Abort;
 use std::test::Fail;
 

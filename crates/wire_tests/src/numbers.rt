@@ -1,7 +1,9 @@
 //! Each read and write once, on the bytes of the protocol's own examples of numbers.
 
-use super::*;
 use std::test::Fail;
+use wire_num::{
+    NumFault, be64_at, i16_at, i32_at, i64_at, put_be64, put_i16, put_i32, put_i64, put_u8, u8_at,
+};
 
 #[test]
 fn writes_are_big_endian(rt: HostRuntime) -> Result<(), Fail> {

@@ -1,6 +1,9 @@
 //! Each public call once, with ample memory.
 
-use super::*;
+use outside::{
+    Bytes, Failed, FileFail, Files, Mark, MemFiles, MemSink, MemSource, RealFiles, RealIn, RealOut,
+    Sink, Source, Tape,
+};
 use std::alloc::{AllocError, Global};
 use std::io;
 use std::test::Fail;

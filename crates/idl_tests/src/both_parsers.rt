@@ -1,8 +1,8 @@
 //! A table of texts with their document or their first fault, worked out by hand, for the parser and the recognizer.
 
-use super::*;
 use idl_parser::ParseKind::{Found, Refused, TooDeep};
 use idl_parser::{ParseFault, ParseKind, parse};
+use idl_plain::fault_of;
 use idl_token::{MAX_TEXT, tokens};
 use std::alloc::Global;
 use std::process::Abort;

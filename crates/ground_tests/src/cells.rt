@@ -2,9 +2,9 @@
 
 ghost use Rattle.std.specs.Prelude.{◌≡◌, ◌<◌, ◌^◌, IfOk};
 
-use super::*;
 use host_model::EndCause;
 use host_model::plain::{Decided, PlainDesk, PlainServices, marks_of, output};
+use machine_model::plain::{PlainApplyResult, PlainCell, PlainConnEvent, PlainEvent, run, start};
 use outside::{Bytes, Mark};
 use std::alloc::{AllocError, Global};
 use std::process::Abort;

@@ -1,5 +1,7 @@
-use crate::new_booth;
-use crate::running_sum::{RunningSum, add_both};
+//! One seat after another, and two threads, add to one sum.
+
+use seat_booth::new_booth;
+use seat_booth::running_sum::{RunningSum, add_both};
 use std::test::Fail;
 
 #[test]

@@ -1,0 +1,5 @@
+//! Tests of the booth.
+#![tactic(auto)]
+
+#[cfg(test)]
+mod sums;

@@ -1,0 +1,13 @@
+//! Tests of the ground's crates: streams and files in memory, texts, worked worlds and cells of the definitions, and a connection's whole path.
+#![tactic(auto)]
+
+#[cfg(test)]
+mod cells;
+#[cfg(test)]
+mod connections;
+#[cfg(test)]
+mod streams;
+#[cfg(test)]
+mod texts;
+#[cfg(test)]
+mod worlds;

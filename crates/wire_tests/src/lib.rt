@@ -1,0 +1,17 @@
+//! Tests of the wire's crates: numbers, values, structs and heads, with tables of what Apache Thrift's own library writes.
+#![tactic(auto)]
+
+#[cfg(test)]
+mod head_vectors;
+#[cfg(test)]
+mod heads;
+#[cfg(test)]
+mod notation;
+#[cfg(test)]
+mod numbers;
+#[cfg(test)]
+mod struct_vectors;
+#[cfg(test)]
+mod structs;
+#[cfg(test)]
+mod values;
