@@ -1,3 +1,7 @@
 pub mod Widths
 pub mod Fronts
 pub mod Numbers
+pub mod Mapped
+pub mod Groups
+pub mod Varints
+pub mod Counted

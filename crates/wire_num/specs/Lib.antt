@@ -1,3 +1,6 @@
 pub mod Fixed
 pub mod Decoding
+pub mod LowFirst
+pub mod Varint
+pub mod Zigzag
 pub mod Encoded

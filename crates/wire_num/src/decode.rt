@@ -3,9 +3,10 @@
 ghost use Rattle.std.specs.Prelude.{◌≡◌, ◌≤◌, length, Ok, Err, MatchResult, IfOk};
 ghost use Rattle.std.specs.Int.{w8, w16, w32, w64};
 ghost use Rattle.wire_num.specs.Decoding.{decode_bytes, decode_byte, decode_unsigned, decode_signed};
+ghost use Rattle.wire_num.specs.LowFirst.{decode_low_first};
 
 use super::fault::NumFault;
-use byteorder::{BigEndian, ByteOrder};
+use byteorder::{BigEndian, ByteOrder, LittleEndian};
 
 /// The first bytes, so many, and those behind them.
 pub fn decode_bytes(bytes: &[u8], size: usize) -> Result<(&[u8], &[u8]), NumFault>
@@ -85,4 +86,15 @@ pub fn decode_be64(bytes: &[u8]) -> Result<(u64, &[u8]), NumFault>
 {
     let (front, behind) = decode_bytes(bytes, 8)?;
     Ok((BigEndian::read_u64(front), behind))
+}
+
+/// Sixty-four bits as an unsigned number, the lowest byte first, and the bytes behind it.
+pub fn decode_le64(bytes: &[u8]) -> Result<(u64, &[u8]), NumFault>
+    ensures read { MatchResult result
+        (λ r. decode_low_first w64 bytes.now ≡ Ok (r.0, r.1.now))
+        (λ fault. decode_low_first w64 bytes.now ≡ Err fault) }
+    ensures behind { IfOk result (λ r. length r.1.now ≤ length bytes.now) }
+{
+    let (front, behind) = decode_bytes(bytes, 8)?;
+    Ok((LittleEndian::read_u64(front), behind))
 }

@@ -4,8 +4,9 @@
 ghost use Rattle.std.specs.Prelude.{◌≡◌, ◌∷◌, [], ◌++◌, OnErr, OnOk};
 ghost use Rattle.std.specs.Int.{w16, w32, w64};
 ghost use Rattle.wire_num.specs.Fixed.{unsigned_bytes, signed_bytes};
+ghost use Rattle.wire_num.specs.LowFirst.{low_first_bytes};
 
-use byteorder::{BigEndian, ByteOrder};
+use byteorder::{BigEndian, ByteOrder, LittleEndian};
 use std::alloc::AllocError;
 
 /// Appends one byte.
@@ -54,5 +55,15 @@ pub fn put_be64(into: &mut Vec<u8>, number: u64) -> Result<(), AllocError>
 {
     let mut bytes = [0u8; 8];
     BigEndian::write_u64(&mut bytes, number);
+    into.extend_from_slice(&bytes)
+}
+
+/// Appends the 8 bytes of an unsigned number, the lowest byte first (Thrift compact protocol, 'Double encoding').
+pub fn put_le64(into: &mut Vec<u8>, number: u64) -> Result<(), AllocError>
+    ensures ok { OnOk result (into.new.items ≡ into.old.items ++ low_first_bytes w64 number) }
+    ensures err { OnErr result (into.new.items ≡ into.old.items) }
+{
+    let mut bytes = [0u8; 8];
+    LittleEndian::write_u64(&mut bytes, number);
     into.extend_from_slice(&bytes)
 }

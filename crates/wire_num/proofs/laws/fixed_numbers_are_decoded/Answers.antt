@@ -1,5 +1,5 @@
 use Rattle.std.specs.Int.{w8, w16, w32, w64}
-use Rattle.wire_num.proofs.Numbers.{byte_decodes, unsigned_decodes, signed_decodes}
+use Rattle.wire_num.proofs.Numbers.{byte_decodes, unsigned_decodes, signed_decodes, low_first_decodes_64}
 use Rattle.wire_num.proofs.Widths.{wide_8, wide_16, wide_32, wide_64}
 use Rattle.wire_num.proofs.laws.fixed_numbers_are_decoded.Goals as goal
 
@@ -20,3 +20,6 @@ returns-clause-i64 c = signed_decodes w64 wide_64
 
 pub returns-clause-be64 : goal.returns-clause-be64
 returns-clause-be64 c = unsigned_decodes w64 wide_64
+
+pub returns-clause-le64 : goal.returns-clause-le64
+returns-clause-le64 c = low_first_decodes_64
