@@ -2,15 +2,5 @@ pub mod Words
 pub mod Tutorial
 pub mod Check
 pub mod Refusals
-pub mod Script
-pub mod Message
-pub mod Office
-pub mod Lines
-pub mod Unbuilt
-pub mod Feeding
-pub mod Sending
-pub mod Rehearsal
 pub mod Top
-pub mod Run
-pub mod Pieces
 pub mod Steps

@@ -1,29 +1,18 @@
 -- What the top call promises of its status, its input, its output and its errors' line.
-use Rattle.std.specs.Prelude.{◌≡◌, ℕ, ◌⊎◌, false, List, [], Option, Some, None, take, codes, MatchOption}
+use Rattle.std.specs.Prelude.{◌≡◌, ℕ, ◌⊎◌, List, [], Option, Some, None, take, codes, MatchOption}
 use Rattle.outside.specs.Cause.{Rose}
-use Rattle.outside.specs.Content.{told_before, told_more, IsSpent}
+use Rattle.outside.specs.Content.{told_more}
 use Rattle.outside.specs.Files.{File}
 use Rattle.text_out.specs.Line.{line_of}
 use Rattle.idl_token.specs.declared.Place.{Place}
 use Rattle.host_model.specs.Report.{numbered}
+use Rattle.recording.specs.Recorded.{Streams, IsUnwritten, IsReported, IsReportedInPart, IsNoScript, IsUnbuiltAt}
 use Rattle.thrift_host.specs.declared.status.Status.{Status}
 use Rattle.thrift_host.specs.declared.status.Status.TheVariants.{Done, Usage, IdlRefused, ScriptRefused, FileFault, ReadFault, WriteFault, NoMemory, Unbuilt}
 use Rattle.thrift_host.specs.declared.refusal.IdlKind.{IdlKind}
 use Rattle.thrift_host.specs.Words.{Command, no_command, checks, rehearses}
 use Rattle.thrift_host.specs.Check.{accepted, including, refused, IsChecked, IsReadable}
 use Rattle.thrift_host.specs.Refusals.{refusal_text}
-use Rattle.thrift_host.specs.Script.{script_of, bytes_of_pieces}
-use Rattle.thrift_host.specs.Office.{calculator_desk, calculator_rules, calculator_memories}
-use Rattle.thrift_host.specs.Lines.{entry_line, is_scripted}
-use Rattle.thrift_host.specs.Unbuilt.{IsUnbuilt, AreBuilt}
-use Rattle.thrift_host.specs.Rehearsal.{Arrival, IsReportOfOneConnection, arrival_of}
-
--- What a call did to its input and its output: what was left to read before and after it, and what had been taken.
-pub record Streams : Type 0 where
-  pub left_before : Option (List ℕ)
-  pub left : Option (List ℕ)
-  pub taken_before : Option (List ℕ)
-  pub taken : Option (List ℕ)
 
 -- What a call did to its errors: what they had taken before and after it, and how often they had failed.
 pub record Errors : Type 0 where
@@ -35,41 +24,6 @@ pub record Errors : Type 0 where
 -- nothing was read, and nothing written
 abbrev pub AreUntouched : Streams → Type 0
 AreUntouched s = (s.left ≡ s.left_before) × (s.taken ≡ s.taken_before)
-
--- nothing was written
-abbrev pub IsUnwritten : Streams → Type 0
-IsUnwritten s = s.taken ≡ s.taken_before
-
--- the text is the report of the calculator's run on what arrived
-abbrev pub ReportsCalculator : Arrival → List ℕ → Type 0
-ReportsCalculator arrival text = IsReportOfOneConnection calculator_desk calculator_rules calculator_memories is_scripted entry_line arrival text
-
--- The input was a script, read to its end, with messages alone that the host knows, and this is the report of a run of it.
-pub record IsReportOf (s : Streams) (report : List ℕ) : Type 0 where
-  pub text : List ℕ
-  pub pieces : List (List ℕ)
-  pub read : s.left_before ≡ told_before text s.left
-  pub to_its_end : IsSpent s.left
-  pub script : script_of text ≡ Some pieces
-  pub built : AreBuilt (bytes_of_pieces pieces)
-  pub reports : ReportsCalculator (arrival_of pieces) report
-
--- a report was written whole
-abbrev pub IsReported : Streams → Type 0
-IsReported s = (report : List ℕ) × IsReportOf s report × (s.taken ≡ told_more s.taken_before report)
-
--- a beginning of a report was written
-abbrev pub IsReportedInPart : Streams → Type 0
-IsReportedInPart s = (report : List ℕ) × (front : ℕ) × IsReportOf s report × (s.taken ≡ told_more s.taken_before (take front report))
-
--- the input is no script
-abbrev pub IsNoScript : Option (List ℕ) → Type 0
-IsNoScript left_before = (all : List ℕ) → left_before ≡ Some all → script_of all ≡ None
-
--- the input is a script whose payload number i is the first that is no message that the host knows
-abbrev pub IsUnbuiltAt : Option (List ℕ) → ℕ → Type 0
-IsUnbuiltAt left_before i =
-    (all : List ℕ) → left_before ≡ Some all → (pieces : List (List ℕ)) × (script_of all ≡ Some pieces) × IsUnbuilt (bytes_of_pieces pieces) i
 
 -- What a status says of the command's files, input and output. A command that checks an IDL touches neither stream; a rehearsal writes nothing but with Done,
 -- WriteFault and NoMemory.

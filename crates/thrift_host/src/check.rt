@@ -151,6 +151,3 @@ fn parser_kind(kind: ParseKind) -> Option<IdlKind>
         ParseKind::NoMemory => None,
     }
 }
-
-#[cfg(test)]
-mod tests;

@@ -1,25 +1,22 @@
 //! The top call.
 
-ghost use Rattle.std.specs.Prelude.{◌≡◌, ◌≢◌, ◌↔◌, ℕ, ◌<◌, ◌^◌, false, List, Option, Some, None, length, map, string_bytes, MatchOption, MatchResult, IfOk, IfSome};
+ghost use Rattle.std.specs.Prelude.{◌≡◌, ◌≢◌, ◌↔◌, ◌++◌, List, Option, Some, None, map, string_bytes, MatchOption, IfSome, OnOk};
 ghost use Rattle.outside.specs.Cause.{Rose};
 ghost use Rattle.outside.specs.Files.{File};
+ghost use Rattle.recording.specs.Recorded.{MeansRecorded, Streams};
 ghost use Rattle.thrift_host.specs.Words.{checks, command_of, no_command, rehearses};
 ghost use Rattle.thrift_host.specs.Check.{IsChecked, IsReadable};
-ghost use Rattle.thrift_host.specs.Top.{Means, Says, Streams, AreUntouched, IsSaid, error_text, unbuilt_include_text};
-ghost use Rattle.thrift_host.specs.Steps.{AreEnds, OnVerdict, IsInput, EndsInput, EndsUnbuilt, EndsRefused, WritesReport};
+ghost use Rattle.thrift_host.specs.Top.{Means, Says, AreUntouched, IsSaid, error_text, unbuilt_frame_text, unbuilt_include_text};
+ghost use Rattle.thrift_host.specs.Steps.{OnVerdict, EndsUnbuilt, EndsRefused};
 
 use crate::check::{Checked, check};
-use crate::input::read_whole;
-use crate::lines::put_unbuilt;
-use crate::office::first_unbuilt;
 use crate::refusal::{Refusal, put_refusal};
-use crate::report::{write_all, write_report};
-use crate::run::rehearse;
-use crate::script::{Script, read_script};
 use crate::status::Status;
 use crate::words::{Asked, read_words};
 use outside::{Files, Sink, Source};
-use std::alloc::Global;
+use recording::{RecordingFault, answer_recorded, write_all};
+use std::alloc::{AllocError, Global};
+use text_out::decimal;
 
 /// Runs the command of these words, which leave the program's name out: it checks an IDL, or it reads its input and writes its report to the
 /// output. Where it isn't done it says why on the errors, in one line. A write of that line that fails changes nothing.
@@ -53,73 +50,11 @@ pub fn host<R, F: Files, S: Source, K: Sink, E: Sink>(
             let checked = check(alloc, files, idl);
             end_check(alloc, errors, idl, checked)
         }
-        Some(Asked::Rehearse) => answer_recorded(alloc, input, output, errors),
+        Some(Asked::Rehearse) => {
+            let answered = answer_recorded(alloc, input, output);
+            end_recorded(alloc, errors, answered)
+        }
     }
-}
-
-/// Answers the recorded connection that the input is.
-fn answer_recorded<S: Source, K: Sink, E: Sink>(
-    alloc: Global,
-    input: &mut S,
-    output: &mut K,
-    errors: &mut E,
-) -> Status
-    ensures means { (files : Option (List File)) → Means rehearses files result
-        (record { left_before = S.left input.old; left = S.left input.new; taken_before = K.taken output.old; taken = K.taken output.new }) }
-    ensures no_usage { result ≢ Status.Usage }
-    ensures no_file { result ≢ Status.FileFault }
-    ensures read_fault { result ≡ Status.ReadFault → Rose (S.faults input.old) (S.faults input.new) }
-    ensures write_fault { result ≡ Status.WriteFault → Rose (K.faults output.old) (K.faults output.new) }
-    ensures errors { (files : Option (List File)) → Says rehearses files (S.left input.old) result
-        (record { taken_before = E.taken errors.old; taken = E.taken errors.new; faults_before = E.faults errors.old; faults = E.faults errors.new }) }
-{
-    let script = match read_input(alloc, input) {
-        Ok(script) => script,
-        Err(status) => return end(errors, status),
-    };
-    if let Some(number) = first_unbuilt(&script.bytes) {
-        return end_unbuilt(alloc, errors, number);
-    }
-    match run(alloc, &script, output) {
-        Ok(()) => end(errors, Status::Done),
-        Err(status) => end(errors, status),
-    }
-}
-
-/// The script that the input is, or the status that it ends the command with.
-fn read_input<S: Source>(alloc: Global, input: &mut S) -> Result<Script, Status>
-    ensures input { MatchResult result
-        (λ script. IsInput (S.left input.old) (S.left input.new) script.bytes.items script.ends.items)
-        (λ status. EndsInput status (S.left input.old)) }
-    ensures small { IfOk result (λ script. length script.bytes.items < 2 ^ 62) }
-    ensures ends { IfOk result (λ script. AreEnds script.ends.items (length script.bytes.items)) }
-    ensures fault { result ≡ Err Status.ReadFault → Rose (S.faults input.old) (S.faults input.new) }
-{
-    let text = read_whole(alloc, input)?;
-    let script = read_script(alloc, &text)?;
-    Ok(script)
-}
-
-/// Runs a script and writes its report.
-fn run<K: Sink>(alloc: Global, script: &Script, output: &mut K) -> Result<(), Status>
-    requires small { length script.now.bytes.items < 2 ^ 62 }
-    requires ends { AreEnds script.now.ends.items (length script.now.bytes.items) }
-    ensures written { MatchResult result
-        (λ _. WritesReport Status.Done (record { bytes = script.now.bytes.items; ends = script.now.ends.items }) (K.taken output.old) (K.taken output.new))
-        (λ status. WritesReport status (record { bytes = script.now.bytes.items; ends = script.now.ends.items }) (K.taken output.old) (K.taken output.new)) }
-    ensures not_done { result ≢ Err Status.Done }
-    ensures fault { result ≡ Err Status.WriteFault → Rose (K.faults output.old) (K.faults output.new) }
-{
-    let run = rehearse(alloc, script)?;
-    write_report(
-        alloc,
-        output,
-        &run.tape,
-        &run.journal,
-        run.cause,
-        &run.written,
-    )?;
-    Ok(())
 }
 
 /// Ends the command with a status, whose fixed line goes to the errors.
@@ -178,6 +113,30 @@ fn end_refused<E: Sink>(alloc: Global, errors: &mut E, idl: &str, refusal: Refus
     Status::IdlRefused
 }
 
+/// Ends the command with what became of its recorded connection.
+fn end_recorded<E: Sink>(
+    alloc: Global,
+    errors: &mut E,
+    answered: Result<(), RecordingFault>,
+) -> Status
+    ensures means { (files : Option (List File)) (s : Streams) → MeansRecorded answered s → Means rehearses files result s }
+    ensures said { (files : Option (List File)) (s : Streams) → MeansRecorded answered s → Says rehearses files s.left_before result
+        (record { taken_before = E.taken errors.old; taken = E.taken errors.new; faults_before = E.faults errors.old; faults = E.faults errors.new }) }
+    ensures no_usage { result ≢ Status.Usage }
+    ensures no_file { result ≢ Status.FileFault }
+    ensures read_fault { result ≡ Status.ReadFault → answered ≡ Err RecordingFault.ReadFault }
+    ensures write_fault { result ≡ Status.WriteFault → answered ≡ Err RecordingFault.WriteFault }
+{
+    match answered {
+        Ok(()) => end(errors, Status::Done),
+        Err(RecordingFault::NoScript) => end(errors, Status::ScriptRefused),
+        Err(RecordingFault::Unbuilt(number)) => end_unbuilt(alloc, errors, number),
+        Err(RecordingFault::ReadFault) => end(errors, Status::ReadFault),
+        Err(RecordingFault::WriteFault) => end(errors, Status::WriteFault),
+        Err(RecordingFault::NoMemory) => end(errors, Status::NoMemory),
+    }
+}
+
 /// Ends the command at a frame that isn't built; without memory for its line with NoMemory.
 fn end_unbuilt<E: Sink>(alloc: Global, errors: &mut E, number: u64) -> Status
     ensures { EndsUnbuilt result number
@@ -189,6 +148,16 @@ fn end_unbuilt<E: Sink>(alloc: Global, errors: &mut E, number: u64) -> Status
     }
     say(errors, &line);
     Status::Unbuilt
+}
+
+/// Appends the errors' line of a frame that isn't built.
+fn put_unbuilt(into: &mut Vec<u8>, number: u64) -> Result<(), AllocError>
+    ensures { OnOk result (into.new.items ≡ into.old.items ++ unbuilt_frame_text number) }
+{
+    into.extend_from_slice(b"thriftd: unbuilt frame ")?;
+    decimal(into, i128::from(number))?;
+    into.push(b'\n')?;
+    Ok(())
 }
 
 /// Hands a line to the errors, as far as they take it.

@@ -1,0 +1,14 @@
+//! Tests of the program through its top call, and nothing else: recorded connections with their reports and refusals, texts that are scripts or
+//! none, IDLs that are accepted or refused, and runs at size.
+#![tactic(auto)]
+
+#[cfg(test)]
+mod given;
+#[cfg(test)]
+mod idls;
+#[cfg(test)]
+mod recordings;
+#[cfg(test)]
+mod scripts;
+#[cfg(test)]
+mod sizes;

@@ -1,0 +1,86 @@
+//! Texts that are scripts, with the pieces that are read of them, and texts that are none.
+
+use outside::{MemSink, MemSource};
+use recording::{RecordingFault, answer_recorded};
+use std::alloc::{AllocError, Global};
+use std::process::Abort;
+use std::test::Fail;
+
+/// Scripts with the beginnings of their reports, which have a read for each piece.
+const SCRIPTS: [(&[u8], &[u8]); 6] = [
+    (b"open\nend 0\n", b"tape open 0\ntape end 0\n"),
+    (b"open\nend 0", b"tape open 0\ntape end 0\n"),
+    (
+        b"open\ndata 0 00fF\nend 0\n",
+        b"tape open 0\ntape read 0 2\ntape end 0\n",
+    ),
+    (
+        b"open\ndata 0 41\ndata 0 4243\nend 0",
+        b"tape open 0\ntape read 0 1\ntape read 0 2\ntape end 0\n",
+    ),
+    (
+        b"# one\n\nopen\n\n#\ndata 0 6a\nend 0\n# two\n\n",
+        b"tape open 0\ntape read 0 1\ntape end 0\n",
+    ),
+    (b"\n\nopen\nend 0\n#", b"tape open 0\ntape end 0\n"),
+];
+
+/// Texts that are no scripts.
+const NO_SCRIPTS: [&[u8]; 24] = [
+    b"",
+    b"\n",
+    b"open",
+    b"open\n",
+    b"open\ndata 0 41\n",
+    b"end 0\n",
+    b"end 0\nopen\n",
+    b"data 0 41\nopen\nend 0\n",
+    b"open\nend 0\ndata 0 41\n",
+    b"open\nend 0\nend 0\n",
+    b"open\nopen\nend 0\n",
+    b"open\ndata 0 4\nend 0\n",
+    b"open\ndata 0 4g\nend 0\n",
+    b"open\ndata 0 \nend 0\n",
+    b"open\ndata 0\nend 0\n",
+    b"open\ndata 00 41\nend 0\n",
+    b"open\ndata 1 41\nend 0\n",
+    b"open\ndata 0  41\nend 0\n",
+    b"open\ndata 0 41 \nend 0\n",
+    b"open\r\nend 0\n",
+    b"open\nend 0\r\n",
+    b"open\nend 00\n",
+    b"open\n end 0\n",
+    b"Open\nend 0\n",
+];
+
+/// Answers the recording that a text is; what is written goes to `output`.
+fn answer(
+    alloc: Global,
+    text: &[u8],
+    output: &mut MemSink,
+) -> Result<Result<(), RecordingFault>, AllocError> {
+    let mut input = MemSource::new(text.to_vec(alloc)?, Vec::new(alloc));
+    Ok(answer_recorded(alloc, &mut input, output))
+}
+
+#[test]
+fn scripts_are_read_in_pieces(rt: HostRuntime) -> Result<(), Fail> {
+    let alloc = rt.alloc();
+    for (text, front) in &SCRIPTS {
+        let mut output = MemSink::new(alloc, Vec::new(alloc));
+        assert_eq!(rt; answer(alloc, text, &mut output)?, Ok(()));
+        assert!(rt; output.bytes().starts_with(front), "{text:?}");
+    }
+    Ok(())
+}
+
+#[test]
+fn other_texts_are_refused(rt: HostRuntime) -> Result<(), Fail> {
+    let alloc = rt.alloc();
+    for text in NO_SCRIPTS {
+        let mut output = MemSink::new(alloc, Vec::new(alloc));
+        assert_eq!(rt; answer(alloc, text, &mut output)?, Err(RecordingFault::NoScript));
+        assert!(rt; output.bytes().is_empty(), "{text:?}");
+    }
+    Ok(())
+}

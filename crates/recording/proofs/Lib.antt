@@ -1,0 +1,16 @@
+pub mod Acts
+pub mod CallLines
+pub mod Calls
+pub mod Cuts
+pub mod Digits
+pub mod Each
+pub mod Ends
+pub mod Fed
+pub mod Fronts
+pub mod Moves
+pub mod Pieces
+pub mod Reading
+pub mod Results
+pub mod Taking
+pub mod Walking
+pub mod Writes

@@ -1,0 +1,17 @@
+use Rattle.std.proofs.Common.{◌≡◌, List, ℕ, ◌++◌, ◌≤◌, take, ap, sym, ◌∙◌, take-append-drop, arith}
+use Rattle.recording.specs.Pieces.{IsTakenBut}
+use Rattle.recording.proofs.Taking.{taken_on}
+use Rattle.recording.proofs.report.write_all.Goals as goal
+
+pub pieces-preserved : goal.pieces-preserved
+pieces-preserved g c =
+    let w = c.in_ok-count.ensures {u = tt} in
+    let rest : List ℕ = c.pieces.rest.now in
+    let behind : List ℕ = c.split_at.result.1.now in
+    let parts : rest ≡ take c.in_ok-count.count rest ++ behind =
+    sym (take-append-drop c.in_ok-count.count rest) ∙ ap (λ t. take c.in_ok-count.count rest ++ t) (sym c.split_at.ensures.back) in
+    let one : IsTakenBut (g.K.Sink.taken c.pieces.out) (g.K.Sink.taken c.write.new.self) rest behind =
+    record { front = take c.in_ok-count.count rest; taken = w.told.told; whole = parts } in
+    let later : g.K.Sink.faults c.pieces.out ≤ g.K.Sink.faults c.write.new.self = w.cause.later in
+    let before : g.K.Sink.faults c.args.out.now ≤ g.K.Sink.faults c.pieces.out = c.pieces.invariant.later in
+    record { told = taken_on _ _ _ _ _ _ c.pieces.invariant.told one; later = omega arith }

@@ -1,0 +1,12 @@
+use Rattle.std.proofs.Common.{◌≤◌, length}
+use Rattle.recording.specs.Pieces.{IsTakenBut}
+use Rattle.recording.proofs.report.write_all.Given as goal
+
+abbrev pub invariant-pieces : goal.invariant-pieces
+invariant-pieces g l = record {
+  told : IsTakenBut (g.K.Sink.taken l.fn.out) (g.K.Sink.taken l.out) l.fn.bytes l.rest;
+  later : g.K.Sink.faults l.fn.out ≤ g.K.Sink.faults l.out;
+}
+
+abbrev pub decreases-pieces : goal.decreases-pieces
+decreases-pieces g l = length l.rest

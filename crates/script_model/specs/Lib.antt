@@ -1,0 +1,4 @@
+pub mod Arrival
+pub mod Feeding
+pub mod Sending
+pub mod Rehearsal
