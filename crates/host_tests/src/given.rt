@@ -69,3 +69,19 @@ impl Given {
         })
     }
 }
+
+/// Runs the command on a script, over streams that never fail.
+pub(crate) fn run_script<R>(rt: &R, alloc: Global, script: Vec<u8>) -> Result<Ended, AllocError> {
+    let mut given = Given::empty(alloc);
+    given.input = MemSource::new(script, Vec::new(alloc));
+    given.run(rt, alloc, &REHEARSE)
+}
+
+/// Checks `a.thrift`, which holds this text.
+pub(crate) fn check_text<R>(rt: &R, alloc: Global, text: Vec<u8>) -> Result<Ended, AllocError> {
+    let mut files = Vec::new(alloc);
+    files.push((String::from_str(alloc, "a.thrift")?, text))?;
+    let mut given = Given::empty(alloc);
+    given.files = MemFiles::new(files, Vec::new(alloc));
+    given.run(rt, alloc, &["check", "a.thrift"])
+}

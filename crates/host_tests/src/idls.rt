@@ -1,20 +1,11 @@
 //! IDLs through the top call: what is accepted, and what is refused where.
 
-use crate::given::{Ended, Given};
+use crate::given::{Ended, Given, check_text};
 use outside::MemFiles;
 use std::alloc::{AllocError, Global};
 use std::process::Abort;
 use std::test::Fail;
 use thrift_host::Status;
-
-/// Checks `a.thrift`, which holds this text.
-fn check_text<R>(rt: &R, alloc: Global, text: Vec<u8>) -> Result<Ended, AllocError> {
-    let mut files = Vec::new(alloc);
-    files.push((String::from_str(alloc, "a.thrift")?, text))?;
-    let mut given = Given::empty(alloc);
-    given.files = MemFiles::new(files, Vec::new(alloc));
-    given.run(rt, alloc, &["check", "a.thrift"])
-}
 
 /// Texts with their status and the errors' line.
 const TEXTS: [(&[u8], Status, &[u8]); 12] = [

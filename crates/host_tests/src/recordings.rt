@@ -1,6 +1,6 @@
 //! Recorded connections through the top call: what is written, and what is refused.
 
-use crate::given::{Ended, Given, REHEARSE};
+use crate::given::{Ended, Given, REHEARSE, run_script};
 use outside::{MemSink, MemSource};
 use std::alloc::{AllocError, Global};
 use std::process::Abort;
@@ -9,13 +9,6 @@ use thrift_host::Status;
 
 /// The longest script, in bytes.
 const LONGEST_SCRIPT: usize = 67_108_864;
-
-/// Runs the command on a script, over streams that never fail.
-fn run<R>(rt: &R, alloc: Global, script: Vec<u8>) -> Result<Ended, AllocError> {
-    let mut given = Given::empty(alloc);
-    given.input = MemSource::new(script, Vec::new(alloc));
-    given.run(rt, alloc, &REHEARSE)
-}
 
 /// Runs the command on `PING`, given and taken a byte at a time, with these numbers of the reads and writes that fail.
 fn run_ping<R>(
@@ -55,7 +48,7 @@ const REPORTS: [(&[u8], &[u8]); 9] = [
     ),
     (b"open\nend 0\n", b"conn 0 End -\ncalls 0\n"),
     (
-        b"open\ndata 0 00000000\nend 0\n",
+        b"open\ndata 0 0000000080\nend 0\n",
         b"conn 0 SizeFault 0 -\ncalls 0\n",
     ),
     (
@@ -74,7 +67,7 @@ const REPORTS: [(&[u8], &[u8]); 9] = [
 
 #[test]
 fn ping_is_reported_whole(rt: HostRuntime) -> Result<(), Fail> {
-    let ended = run(&rt, rt.alloc(), PING.to_vec(rt.alloc())?)?;
+    let ended = run_script(&rt, rt.alloc(), PING.to_vec(rt.alloc())?)?;
     assert_eq!(rt; ended.status, Status::Done);
     assert_eq!(rt; ended.output.as_slice(), PING_REPORT);
     assert_eq!(rt; ended.errors.as_slice(), b"".as_slice());
@@ -84,7 +77,7 @@ fn ping_is_reported_whole(rt: HostRuntime) -> Result<(), Fail> {
 #[test]
 fn connections_end_as_recorded(rt: HostRuntime) -> Result<(), Fail> {
     for (script, end) in &REPORTS {
-        let ended = run(&rt, rt.alloc(), script.to_vec(rt.alloc())?)?;
+        let ended = run_script(&rt, rt.alloc(), script.to_vec(rt.alloc())?)?;
         assert_eq!(rt; ended.status, Status::Done);
         assert!(rt; ended.output.as_slice().ends_with(end));
     }
@@ -109,7 +102,7 @@ fn bytes_may_come_one_by_one(rt: HostRuntime) -> Result<(), Fail> {
     report.extend_from_slice(
         b"conn 0 End 000000178001000200000003616464000000010800000000000200\ncalls 1\n",
     )?;
-    let ended = run(&rt, alloc, script)?;
+    let ended = run_script(&rt, alloc, script)?;
     assert_eq!(rt; ended.status, Status::Done);
     assert_eq!(rt; ended.output.as_slice(), report.as_slice());
     Ok(())
@@ -123,12 +116,12 @@ fn refusals_are_named(rt: HostRuntime) -> Result<(), Fail> {
         b"open\ndata 0 0\nend 0\n",
         b"data 0 00\nend 0\n",
     ] {
-        let ended = run(&rt, alloc, script.to_vec(alloc)?)?;
+        let ended = run_script(&rt, alloc, script.to_vec(alloc)?)?;
         assert_eq!(rt; ended.status, Status::ScriptRefused);
         assert_eq!(rt; ended.errors.as_slice(), b"thriftd: script\n".as_slice());
         assert_eq!(rt; ended.output.as_slice(), b"".as_slice());
     }
-    let ended = run(
+    let ended = run_script(
         &rt,
         alloc,
         b"open\ndata 0 00000011800100010000000470696e6700000000000000000100\nend 0\n".to_vec(
@@ -200,11 +193,11 @@ fn scripts_have_a_longest(rt: HostRuntime) -> Result<(), Fail> {
     let said = b"\nopen\nend 0\n";
     let mut longest = vec![in alloc; b'#'; LONGEST_SCRIPT - 12]?;
     longest.extend_from_slice(said)?;
-    let ended = run(&rt, alloc, longest)?;
+    let ended = run_script(&rt, alloc, longest)?;
     assert_eq!(rt; ended.status, Status::Done);
     let mut longer = vec![in alloc; b'#'; LONGEST_SCRIPT - 11]?;
     longer.extend_from_slice(said)?;
-    let ended = run(&rt, alloc, longer)?;
+    let ended = run_script(&rt, alloc, longer)?;
     assert_eq!(rt; ended.status, Status::ScriptRefused);
     assert_eq!(rt; ended.errors.as_slice(), b"thriftd: script\n".as_slice());
     Ok(())
