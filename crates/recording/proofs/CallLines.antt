@@ -1,9 +1,8 @@
 -- Each call of the calculator has a line of its own.
-use Rattle.std.proofs.Common.{◌≡◌, ℕ, ℤ, pos, negsuc, suc, List, [], ◌∷◌, ◌++◌, codes, refl, sym, ap, ◌∙◌, arith, append_assoc}
+use Rattle.std.proofs.Common.{ℕ, ℤ, pos, negsuc, suc, List, ◌∷◌, ◌++◌, codes, refl, arith}
 use Rattle.text_out.specs.Decimal.{natural_of, decimal_of}
 use Rattle.host_model.specs.Journal.{JournalEntry}
 use Rattle.host_model.specs.Report.{numbered}
-use Rattle.host_model.specs.Conversation.{IsPrefix}
 use Rattle.host_model.proofs.Lists.{all-append}
 use Rattle.recording.specs.declared.message.Call.{Call}
 use Rattle.recording.specs.declared.message.Call.TheVariants.{Ping, Add}

@@ -1,9 +1,9 @@
 -- Each write of a run is the rest of what is to be sent, and stays it when the journal grows.
-use Rattle.std.proofs.Common.{◌≡◌, ◌≢◌, ℕ, suc, ◌+◌, ◌<◌, ◌≤◌, ◌==◌, cond, Option, None, Some, List, [], ◌∷◌, ◌++◌, length, refl, sym, ap, ◌∙◌, subst, arith, append-nil, append_assoc, ne_eqb}
+use Rattle.std.proofs.Common.{◌≡◌, ◌≢◌, ℕ, suc, ◌+◌, ◌≤◌, ◌==◌, cond, None, Some, List, [], ◌∷◌, ◌++◌, length, refl, sym, ap, ◌∙◌, subst, arith, append-nil, append_assoc, ne_eqb}
 use Rattle.std.proofs.lemmas.List.Elements.{filter-append}
 use Rattle.outside.specs.declared.marks.Mark.{Mark}
 use Rattle.outside.specs.declared.marks.Mark.TheVariants.{Opened, Read, Ended, Wrote, ReadFailed, WriteFailed, Closed}
-use Rattle.host_model.specs.Marks.{marks_of, input, output, written_by}
+use Rattle.host_model.specs.Marks.{marks_of, written_by}
 use Rattle.host_model.specs.Journal.{JournalEntry, entries_of}
 use Rattle.host_model.specs.DeskRules.{DeskRules}
 use Rattle.host_model.specs.Conversation.{sent, answer_at, reply_for}
@@ -11,7 +11,6 @@ use Rattle.host_model.specs.World.{Move, opens, reads, reads_frame, reads_bad_si
 use Rattle.recording.specs.declared.message.Call.{Call}
 use Rattle.recording.specs.declared.message.Answer.{Answer}
 use Rattle.recording.specs.Office.{calculator_desk}
-use Rattle.script_model.specs.Sending.{WritesTheRest}
 use Rattle.recording.specs.Run.{WritesFor, AreWrittenFor}
 use Rattle.recording.proofs.Each.{each_on}
 

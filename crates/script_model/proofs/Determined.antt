@@ -1,25 +1,23 @@
 -- Two runs on the same bytes, whose marks are of the same kinds and whose journals are of one length, are one run.
-use Rattle.std.proofs.Common.{◌≡◌, ◌≢◌, ℕ, zero, suc, ◌+◌, ◌-◌, ◌<◌, ◌≤◌, ◌^◌, ◌⊎◌, inl, inr, min, ◌==◌, Option, None, Some, MatchOption, List, [], ◌∷◌, ◌++◌, length, map, slice_get, refl, sym, ap, ◌∙◌, subst, arith, true, true≢false, append_assoc, append-nil, length-append}
+use Rattle.std.proofs.Common.{◌≡◌, ℕ, suc, ◌+◌, ◌-◌, ◌<◌, ◌≤◌, ◌^◌, ◌⊎◌, inl, inr, min, Option, None, Some, MatchOption, List, [], ◌∷◌, ◌++◌, length, map, slice_get, refl, sym, ap, ◌∙◌, subst, arith, true, true≢false, append_assoc, append-nil, length-append}
 use Rattle.std.specs.Int.{w32, to_be_bytes, from_be_bytes}
 use Rattle.std.specs.List.{AllByRecursion}
 use Rattle.std.proofs.lemmas.List.{length-map}
 use Rattle.std.proofs.lemmas.Nat.{from_be_bytes-to_be_bytes_4}
 use Rattle.outside.specs.declared.marks.Mark.{Mark}
 use Rattle.outside.specs.declared.marks.Mark.TheVariants.{Read, Wrote}
-use Rattle.host_model.specs.declared.key.Key.{Key}
 use Rattle.host_model.specs.declared.cause.EndCause.{EndCause}
 use Rattle.host_model.specs.declared.cause.EndCause.TheVariants.{End, Cut, SizeFault, Envelope, ReadFault, WriteFault, NoMemory, Stopped}
 use Rattle.host_model.specs.Frames.{Frames}
-use Rattle.host_model.specs.Marks.{connection_of, marks_of, read_by, written_by}
+use Rattle.host_model.specs.Marks.{connection_of, read_by, written_by}
 use Rattle.host_model.specs.Journal.{JournalEntry, ServiceRules, Legal, IsAnswered, after_call, entries_of}
 use Rattle.host_model.specs.DeskRules.{DeskRules}
-use Rattle.host_model.specs.Conversation.{Talk, Done, EndsBy, but_last, called, called_by, sent}
+use Rattle.host_model.specs.Conversation.{Done, EndsBy, but_last, called, called_by, sent}
 use Rattle.host_model.proofs.Framing.{only_split}
 use Rattle.host_model.proofs.Lists.{append_parts, cons_parts, nil-cons}
-use Rattle.script_model.specs.Feeding.{Completes, IsInPayload, TakesItsPart, piece_end}
-use Rattle.script_model.specs.Sending.{WritesTheRest}
+use Rattle.script_model.specs.Feeding.{Completes, TakesItsPart, piece_end}
 use Rattle.script_model.specs.Arrival.{Arrival}
-use Rattle.script_model.specs.Rehearsal.{FollowsArrival, IsRunOn, is_scripted}
+use Rattle.script_model.specs.Rehearsal.{IsRunOn, is_scripted}
 use Rattle.script_model.proofs.Marked.{kind_of, same_mark, same_read, same_written, read_of, wrote_of, read_append, read_first, all_own, own_filter}
 
 -- a run of one connection on these bytes

@@ -1,5 +1,5 @@
 -- A report over one script is of one run.
-use Rattle.std.proofs.Common.{◌≡◌, ℕ, ◌<◌, ◌^◌, List, [], map, length, refl, sym, ap, ◌∙◌, subst, ◌∷◌}
+use Rattle.std.proofs.Common.{◌≡◌, ℕ, ◌<◌, ◌^◌, List, [], map, length, refl, sym, ap, ◌∙◌, subst}
 use Rattle.outside.specs.declared.marks.Mark.{Mark}
 use Rattle.host_model.specs.declared.cause.EndCause.{EndCause}
 use Rattle.host_model.specs.Marks.{marks_of, ending}

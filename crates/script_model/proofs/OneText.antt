@@ -1,5 +1,5 @@
 -- One script has one report, where no connection ended for want of memory.
-use Rattle.std.proofs.Common.{◌≡◌, ◌≢◌, ℕ, suc, ℤ, pos, negsuc, ◌+◌, ◌<◌, ◌≤◌, ◌^◌, ◌⊎◌, inl, inr, true, true≢false, List, [], ◌∷◌, ◌++◌, length, refl, sym, ap, ◌∙◌, subst, arith, append_assoc, append-nil, length-append}
+use Rattle.std.proofs.Common.{◌≡◌, ◌≢◌, ℕ, ℤ, pos, negsuc, ◌+◌, ◌<◌, ◌≤◌, ◌^◌, inl, inr, true, true≢false, List, [], ◌∷◌, ◌++◌, length, refl, sym, ap, ◌∙◌, subst, arith, append_assoc, append-nil, length-append}
 use Rattle.std.specs.Int.{w32, to_be_bytes, from_be_bytes, cast_unsigned}
 use Rattle.std.specs.List.{AllByRecursion, flat_map}
 use Rattle.std.proofs.lemmas.Int.{ints}
@@ -18,11 +18,11 @@ use Rattle.host_model.specs.Report.{report}
 use Rattle.host_model.proofs.Framing.{only_split, frames_read}
 use Rattle.host_model.proofs.Filters.{marks_append}
 use Rattle.host_model.proofs.Lists.{append_parts, nil-cons}
-use Rattle.script_model.specs.Feeding.{Completes, TakesItsPart}
+use Rattle.script_model.specs.Feeding.{Completes}
 use Rattle.script_model.specs.Sending.{WritesTheRest}
 use Rattle.script_model.specs.Arrival.{Arrival}
 use Rattle.script_model.specs.Rehearsal.{IsReadToItsEnd, IsReportOfOneConnection, is_scripted}
-use Rattle.script_model.proofs.Marked.{read_of, wrote_of, read_append, wrote_append, read_first, own_filter}
+use Rattle.script_model.proofs.Marked.{read_of, wrote_of, read_append, wrote_append, own_filter}
 use Rattle.script_model.proofs.Determined.{RunOf, own_marks, own_entries, calls_of, two_reads, two_writes, same_split, same_journal}
 use Rattle.script_model.proofs.Causes.{one_size, unsigned_small}
 

@@ -1,6 +1,6 @@
 -- The lines of a report are told: how many marks of which kind it has, and how many entries.
-use Rattle.std.proofs.Common.{◌≡◌, ◌≢◌, ℕ, zero, suc, ◌+◌, ◌/◌, ◌%◌, ◌<◌, ◌==◌, nat_lt, ◌&&◌, not, Bool, true, false, cond, if◌then◌else◌, List, [], ◌∷◌, ◌++◌, length, map, codes, get_or, refl, sym, ap, ◌∙◌, subst, arith, append_assoc}
-use Rattle.std.specs.Fmt.{digits, digits_onto, digit_glyph, decimal}
+use Rattle.std.proofs.Common.{◌≡◌, ◌≢◌, ℕ, zero, suc, ◌+◌, ◌/◌, ◌%◌, ◌==◌, nat_lt, ◌&&◌, not, Bool, true, false, cond, if◌then◌else◌, List, [], ◌∷◌, ◌++◌, length, map, codes, get_or, refl, sym, ap, ◌∙◌, arith, append_assoc}
+use Rattle.std.specs.Fmt.{digits, digits_onto, digit_glyph}
 use Rattle.std.specs.List.{AllByRecursion, list_all}
 use Rattle.std.proofs.lemmas.Bool.{eqb-false, true≢false}
 use Rattle.outside.specs.declared.marks.Mark.{Mark}
@@ -10,7 +10,7 @@ use Rattle.text_out.specs.Line.{line_of}
 use Rattle.host_model.specs.declared.cause.EndCause.{EndCause}
 use Rattle.host_model.specs.Journal.{JournalEntry}
 use Rattle.host_model.specs.Report.{numbered, mark_text, tape_lines, journal_lines, end_lines, report}
-use Rattle.host_model.proofs.Lists.{cons_parts, nil-cons, all-append}
+use Rattle.host_model.proofs.Lists.{cons_parts, all-append}
 use Rattle.script_model.specs.Rehearsal.{IsCallLine}
 use Rattle.script_model.proofs.Marked.{kind_of}
 

@@ -1,6 +1,6 @@
 //! The top call.
 
-ghost use Rattle.std.specs.Prelude.{◌≡◌, ◌≢◌, ◌↔◌, ◌++◌, List, Option, Some, None, map, string_bytes, MatchOption, IfSome, OnOk};
+ghost use Rattle.std.specs.Prelude.{◌≡◌, ◌≢◌, ◌↔◌, ℕ, ◌++◌, List, Option, Some, None, map, string_bytes, MatchOption, IfSome, OnOk};
 ghost use Rattle.outside.specs.Cause.{Rose};
 ghost use Rattle.outside.specs.Files.{File};
 ghost use Rattle.recording.specs.Recorded.{MeansRecorded, Streams};
