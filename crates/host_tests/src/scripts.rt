@@ -79,7 +79,10 @@ fn other_texts_are_refused(rt: HostRuntime) -> Result<(), Fail> {
     let alloc = rt.alloc();
     for text in NO_SCRIPTS {
         let mut output = MemSink::new(alloc, Vec::new(alloc));
-        assert_eq!(rt; answer(alloc, text, &mut output)?, Err(RecordingFault::NoScript));
+        assert_eq!(rt;
+            answer(alloc, text, &mut output)?,
+            Err(RecordingFault::NoScript)
+        );
         assert!(rt; output.bytes().is_empty(), "{text:?}");
     }
     Ok(())
