@@ -6,7 +6,8 @@ use Rattle.thrift_value.specs.declared.tag.Tag.TheVariants as tags
 use Rattle.wire_model.specs.Decoder.{Unread}
 use Rattle.wire_model.proofs.Steps.{ok_is}
 use Rattle.binary_codec.specs.Codes.{code_of, tag_of_code}
-use Rattle.binary_codec.specs.Reading.{tag_or_fault, tag_coded}
+use Rattle.wire_model.specs.Pieces.{tag_or_fault}
+use Rattle.binary_codec.specs.Reading.{tag_coded}
 
 abbrev some_tag : Tag → Option Tag
 some_tag t = Some t

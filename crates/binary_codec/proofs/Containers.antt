@@ -10,12 +10,13 @@ use Rattle.wire_num.specs.Encoded.{AreByteSized}
 use Rattle.wire_model.specs.Protocol.{IsInFront, plain_tag}
 use Rattle.wire_model.proofs.Steps.{went_on, goes_on, ok_is}
 use Rattle.binary_codec.specs.Codes.{code_of}
-use Rattle.binary_codec.specs.Reading.{byte, tag_coded, binary_size, items_coded, pairs_coded, binary_items, binary_pairs}
+use Rattle.wire_model.specs.Pieces.{byte}
+use Rattle.wire_model.proofs.Pieces.{after_byte, byte_found, byte_given}
+use Rattle.binary_codec.specs.Reading.{tag_coded, binary_size, items_coded, pairs_coded, binary_items, binary_pairs}
 use Rattle.binary_codec.specs.Spelling.{IsElementCode, IsItems, IsPairs}
 use Rattle.binary_codec.specs.Written.{items_header, pairs_header}
-use Rattle.binary_codec.proofs.FixedNumbers.{byte_found, byte_given}
 use Rattle.binary_codec.proofs.CodeLaws.{code_small, tag_found, tag_given}
-use Rattle.binary_codec.proofs.Leaves.{after_byte, size_found, size_given}
+use Rattle.binary_codec.proofs.Leaves.{size_found, size_given}
 
 abbrev rest : List ℕ → ℕ → Unread
 rest bytes left = record { bytes = bytes; budget = left }

@@ -1,7 +1,7 @@
 -- Each part has the first fault that the table tells of the bytes that are left, and no other.
-use Rattle.std.specs.Prelude.{ℤ, pos, negsuc, slice_index}
+use Rattle.std.specs.Prelude.{ℤ, pos, negsuc}
 use Rattle.std.specs.Int.{w8, w16, w32, w64}
-use Rattle.std.proofs.Common.{◌≡◌, ◌⊎◌, inl, inr, ℕ, suc, ◌^◌, ◌<◌, ◌≤◌, Bool, true, false, cond, eqb, leb, List, [], ◌∷◌, ◌++◌, length, Option, Some, None, Result, Ok, Err, refl, sym, ap, subst, ◌∙◌, arith}
+use Rattle.std.proofs.Common.{◌≡◌, inl, inr, ℕ, suc, ◌^◌, ◌<◌, ◌≤◌, Bool, true, false, cond, eqb, leb, List, [], ◌∷◌, ◌++◌, length, Option, Some, None, Result, Ok, Err, refl, sym, ap, subst, ◌∙◌, arith}
 use Rattle.std.proofs.lemmas.Bool.{eqb-false, ne_eqb, leb-true, leb-false, lt-leb}
 use Rattle.std.proofs.lemmas.Int.{fits_signed_from_abs}
 use Rattle.wire_num.specs.Decoding.{decode_bytes}
@@ -19,26 +19,19 @@ use Rattle.wire_model.specs.Wire.{FieldHeader, stop, typed, IsScalar}
 use Rattle.wire_model.proofs.Steps.{went_on, goes_on, failed, fails, ok_is}
 use Rattle.wire_model.proofs.Uncounted.{uncounted_fault}
 use Rattle.binary_codec.specs.Codes.{code_of, tag_of_code}
-use Rattle.binary_codec.specs.Faults.{Begins, IsNoCode, HasHeaderFault, scalar_len, HasScalarFault, HasSizeFault, HasItemsFault, HasPairsFault}
-use Rattle.binary_codec.specs.Reading.{byte, unsigned, signed, some_bytes, tag_or_fault, tag_coded, header_coded, binary_field, binary_scalar, unsigned_size, within_room, binary_size, binary_span, items_coded, pairs_coded, binary_items, binary_pairs}
+use Rattle.wire_model.specs.Pieces.{Begins}
+use Rattle.binary_codec.specs.Faults.{IsNoCode, HasHeaderFault, scalar_len, HasScalarFault, HasSizeFault, HasItemsFault, HasPairsFault}
+use Rattle.wire_model.specs.Pieces.{byte, some_bytes, tag_or_fault, within_room}
+use Rattle.wire_model.proofs.Pieces.{ByteFront, after_byte, byte_fault, byte_found, byte_given, byte_short, fixed_fault, fixed_short, given_no_fault, none_is, sized}
+use Rattle.binary_codec.specs.Reading.{unsigned, signed, tag_coded, header_coded, binary_field, binary_scalar, unsigned_size, binary_size, binary_span, items_coded, pairs_coded, binary_items, binary_pairs}
 use Rattle.binary_codec.proofs.CodeLaws.{code_is, tag_is, code_small, tag_found, tag_given}
-use Rattle.binary_codec.proofs.FixedNumbers.{SignedFront, signed_found, signed_given, ByteFront, byte_found, byte_given, fixed_fault, fixed_short}
-use Rattle.binary_codec.proofs.Leaves.{after_byte, SizeFront, size_found, size_given}
+use Rattle.binary_codec.proofs.FixedNumbers.{SignedFront, signed_found, signed_given}
+use Rattle.binary_codec.proofs.Leaves.{SizeFront, size_found, size_given}
 
 abbrev rest : List ℕ → ℕ → Unread
 rest bytes left = record { bytes = bytes; budget = left }
 
 -- ---- a byte, and codes
-
-none_is : (bytes : List ℕ) → length bytes < 1 → bytes ≡ []
-none_is [] less = refl
-none_is (b ∷ bytes) less = absurd (let f : ⊥ = omega arith in f)
-
-byte_fault : (unread : Unread) (fault : WireFault) → byte unread ≡ Err fault → (fault ≡ Short) × (length unread.bytes < 1)
-byte_fault unread fault e = fixed_fault 1 (λ front. slice_index front 0) unread fault e
-
-byte_short : (unread : Unread) → length unread.bytes < 1 → byte unread ≡ Err Short
-byte_short unread less = fixed_short 1 (λ front. slice_index front 0) unread less
 
 some_tag : (code : ℕ) (tag : Tag) → tag_of_code code ≡ None → code ≡ code_of tag → ⊥
 some_tag code tag none is = let same : Some tag ≡ None = sym (tag_is tag) ∙ ap tag_of_code (sym is) ∙ none in cc
@@ -120,10 +113,6 @@ field_fault_only last unread fault h = absurd h
 scalar_fault_is : (tag : Tag) (fault : WireFault) (bytes : List ℕ) → fault ≡ Short → length bytes < scalar_len tag → HasScalarFault tag fault bytes
 scalar_fault_is tag fault bytes is less = subst (λ (d : WireFault). HasScalarFault tag d bytes) (sym is) less
 
-given_no_fault : {A B : Type 0} (r : Result (A × Unread) WireFault) (f : A → B) (fault : WireFault) → ((r ≡ Err fault) ⊎ ((x : A × Unread) × (r ≡ Ok x) × (give (f x.0) x.1 ≡ Err fault))) → r ≡ Err fault
-given_no_fault r f fault (inl e) = e
-given_no_fault r f fault (inr on) = absurd (let x = on.2 in cc)
-
 pub scalar_fault_found : (tag : Tag) → IsScalar tag → (unread : Unread) (fault : WireFault) → AreByteSized unread.bytes → binary_scalar tag unread ≡ Err fault → HasScalarFault tag fault unread.bytes
 unfolding binary_scalar
 scalar_fault_found tags.Bool is unread fault fits e =
@@ -165,9 +154,6 @@ scalar_fault_only tag is unread Short h = scalar_short tag is unread h
 scalar_fault_only tag is unread fault h = absurd h
 
 -- ---- lengths and sizes
-
-abbrev sized : ℕ × Unread → Result (ℕ × Unread) WireFault
-sized x = Ok x
 
 room_fault : (b : Bool) (size : ℕ) (unread middle : Unread) (fault : WireFault) → SignedFront w32 (pos size) unread middle → leb size (length middle.bytes) ≡ b
     → cond b (sized (size, middle)) (Err Short) ≡ Err fault → HasSizeFault fault unread.bytes

@@ -1,12 +1,11 @@
 -- The protocol's own parts, one by one.
 use Rattle.std.specs.Prelude.{ℤ, pos, negsuc}
 use Rattle.std.specs.Int.{w16, w32}
-use Rattle.std.proofs.Common.{◌≡◌, ℕ, ◌^◌, ◌<◌, ◌≤◌, Bool, true, false, cond, eqb, leb, List, [], ◌∷◌, ◌++◌, length, Result, Ok, Err, refl, sym, ap, subst, ◌∙◌, append_assoc, arith}
+use Rattle.std.proofs.Common.{◌≡◌, ℕ, ◌^◌, ◌<◌, ◌≤◌, Bool, true, false, cond, eqb, leb, List, [], ◌∷◌, ◌++◌, length, Ok, Err, refl, sym, ap, subst, ◌∙◌, append_assoc, arith}
 use Rattle.std.proofs.lemmas.Bool.{eqb-true, ne_eqb, le-leb}
 use Rattle.std.proofs.lemmas.List.{length-append}
 use Rattle.std.proofs.lemmas.Int.{fits_signed_from_abs}
 use Rattle.wire_num.specs.Fixed.{unsigned_bytes, signed_bytes}
-use Rattle.thrift_value.specs.declared.wire_fault.WireFault.{WireFault}
 use Rattle.thrift_value.specs.declared.wire_fault.WireFault.TheVariants.{Short}
 use Rattle.wire_model.specs.Decoder.{Unread, ◌>>=◌, give}
 use Rattle.wire_model.specs.Wire.{FieldHeader, stop, typed, flagged}
@@ -14,18 +13,16 @@ use Rattle.wire_num.specs.Encoded.{AreByteSized}
 use Rattle.wire_model.specs.Protocol.{IsInFront}
 use Rattle.wire_model.proofs.Steps.{went_on, goes_on, ok_is, bytes_behind}
 use Rattle.binary_codec.specs.Codes.{code_of}
-use Rattle.binary_codec.specs.Reading.{byte, signed, tag_coded, header_coded, binary_field, unsigned_size, within_room, binary_size, binary_span, some_bytes}
+use Rattle.wire_model.specs.Pieces.{byte, within_room, some_bytes}
+use Rattle.wire_model.proofs.Pieces.{ByteFront, after_byte, byte_found, byte_given, piece_found, piece_given, room_found, sized}
+use Rattle.binary_codec.specs.Reading.{signed, tag_coded, header_coded, binary_field, unsigned_size, binary_size, binary_span}
 use Rattle.binary_codec.specs.Spelling.{IsHeader, IsSpan}
 use Rattle.wire_num.proofs.Widths.{wide_16, wide_32}
-use Rattle.binary_codec.proofs.FixedNumbers.{piece_found, piece_given, SignedFront, signed_found, signed_given, ByteFront, byte_found, byte_given}
+use Rattle.binary_codec.proofs.FixedNumbers.{SignedFront, signed_found, signed_given}
 use Rattle.binary_codec.proofs.CodeLaws.{code_small, tag_found, tag_given}
 
 abbrev rest : List ℕ → ℕ → Unread
 rest bytes left = record { bytes = bytes; budget = left }
-
--- the bytes behind a byte are bytes
-pub after_byte : (b : ℕ) (before after : Unread) → ByteFront b before after → AreByteSized before.bytes → AreByteSized after.bytes
-after_byte b before after f fits = bytes_behind (b ∷ []) after.bytes (subst AreByteSized f.whole fits)
 
 -- ---- headers of fields
 
@@ -84,13 +81,6 @@ pub record SizeFront (n : ℕ) (before after : Unread) : Type 0 where
   pub whole : before.bytes ≡ unsigned_bytes w32 n ++ after.bytes
   pub small : n < 2 ^ 31
   pub budget : after.budget ≡ before.budget
-
-abbrev sized : ℕ × Unread → Result (ℕ × Unread) WireFault
-sized x = Ok x
-
-room_found : (b : Bool) (size n : ℕ) (middle after : Unread) → leb size (length middle.bytes) ≡ b → cond b (sized (size, middle)) (Err Short) ≡ Ok (n, after) → ◌≡◌ {A = ℕ × Unread} (size, middle) (n, after)
-room_found true size n middle after t e = ok_is (size, middle) (n, after) e
-room_found false size n middle after t e = absurd cc
 
 size_signed : (z : ℤ) (n : ℕ) (before middle after : Unread) → SignedFront w32 z before middle → (unsigned_size z >>= λ size. within_room size) middle ≡ Ok (n, after) → SizeFront n before after
 size_signed (pos k) n before middle after s e =

@@ -7,5 +7,3 @@ pub mod FaultTable
 pub mod PartsStay
 pub mod ShortParts
 pub mod Agree
-pub mod Placing
-pub mod ReadBack

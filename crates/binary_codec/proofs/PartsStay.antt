@@ -1,30 +1,22 @@
 -- A part that isn't Short stays, whatever follows the bytes.
 use Rattle.std.specs.Prelude.{ℤ, pos, negsuc}
 use Rattle.std.specs.Int.{w8, w16, w32, w64}
-use Rattle.std.proofs.Common.{◌≡◌, ◌⊎◌, inl, inr, ℕ, Bool, true, false, cond, eqb, leb, List, ◌++◌, length, Option, Some, None, Result, Ok, Err, refl, ap, ◌∙◌, append_assoc, arith}
-use Rattle.std.proofs.lemmas.Bool.{leb-true, le-leb}
-use Rattle.std.proofs.lemmas.List.{length-append}
-use Rattle.wire_num.specs.declared.fault.NumFault.{NumFault}
-use Rattle.wire_num.specs.Decoding.{decode_bytes}
-use Rattle.wire_num.proofs.Fronts.{front_found, front_only, front_fault}
+use Rattle.std.proofs.Common.{ℕ, Bool, true, false, cond, eqb, Result}
 use Rattle.wire_num.proofs.Widths.{wide_8, wide_16, wide_32, wide_64}
-use Rattle.thrift_value.specs.Faults.{wire_fault_of}
 use Rattle.thrift_value.specs.declared.tag.Tag.{Tag}
 use Rattle.thrift_value.specs.declared.tag.Tag.TheVariants as tags
 use Rattle.thrift_value.specs.declared.wire_fault.WireFault.{WireFault}
-use Rattle.thrift_value.specs.declared.wire_fault.WireFault.TheVariants.{Short, BadType, BadSize}
+use Rattle.thrift_value.specs.declared.wire_fault.WireFault.TheVariants.{BadSize}
 use Rattle.thrift_value.specs.Tree.{of_bool, of_i8, of_i16, of_i32, of_i64, of_double}
-use Rattle.wire_model.specs.Decoder.{Unread, ◌>>=◌, give, uncounted_result}
+use Rattle.wire_model.specs.Decoder.{Unread, ◌>>=◌, give}
 use Rattle.wire_model.specs.Wire.{FieldHeader, stop, typed, IsScalar}
-use Rattle.wire_model.specs.Protocol.{StaysAs, ArePartsStable, and_more, with_more}
+use Rattle.wire_model.specs.Protocol.{StaysAs, ArePartsStable}
 use Rattle.wire_model.proofs.Staying.{then_stays, give_stays, fail_stays}
 use Rattle.binary_codec.specs.Codes.{tag_of_code}
-use Rattle.binary_codec.specs.Reading.{byte, unsigned, signed, some_bytes, tag_or_fault, tag_coded, header_coded, binary_field, binary_scalar, unsigned_size, within_room, binary_size, binary_span, items_coded, pairs_coded, binary_items, binary_pairs, binary}
-use Rattle.binary_codec.proofs.FixedNumbers.{byte_stays, signed_stays, unsigned_stays}
-
-tag_stays_if : (code : ℕ) (o : Option Tag) → StaysAs (tag_or_fault code o) (tag_or_fault code o)
-tag_stays_if code None = fail_stays (BadType code)
-tag_stays_if code (Some tag) = give_stays tag
+use Rattle.wire_model.specs.Pieces.{byte, some_bytes, within_room}
+use Rattle.wire_model.proofs.Pieces.{byte_stays, room_stays, some_stay, tag_stays_if}
+use Rattle.binary_codec.specs.Reading.{unsigned, signed, tag_coded, header_coded, binary_field, binary_scalar, unsigned_size, binary_size, binary_span, items_coded, pairs_coded, binary_items, binary_pairs, binary}
+use Rattle.binary_codec.proofs.FixedNumbers.{signed_stays, unsigned_stays}
 
 tag_stays : (code : ℕ) → StaysAs (tag_coded code) (tag_coded code)
 unfolding tag_coded
@@ -59,19 +51,6 @@ scalar_stays tag is = absurd is
 
 -- ---- lengths and sizes
 
-abbrev sized : ℕ × Unread → Result (ℕ × Unread) WireFault
-sized x = Ok x
-
-room_stays_if : (b : Bool) (size : ℕ) (unread : Unread) (more : List ℕ) → leb size (length unread.bytes) ≡ b
-    → (cond b (sized (size, unread)) (Err Short) ≡ Err Short) ⊎ (within_room size (and_more more unread) ≡ with_more more (cond b (sized (size, unread)) (Err Short)))
-room_stays_if false size unread more test = inl refl
-room_stays_if true size unread more test =
-    let enough = leb-true size (length unread.bytes) test in
-    inr (ap (λ (z : Bool). cond z (sized (size, and_more more unread)) (Err Short)) (le-leb size (length (unread.bytes ++ more)) (omega (arith, length-append unread.bytes more))))
-
-room_stays : (size : ℕ) → StaysAs (within_room size) (within_room size)
-room_stays size = λ unread more. room_stays_if (leb size (length unread.bytes)) size unread more refl
-
 unsigned_size_stays : (z : ℤ) → StaysAs (unsigned_size z) (unsigned_size z)
 unsigned_size_stays (pos n) = give_stays n
 unsigned_size_stays (negsuc n) = fail_stays BadSize
@@ -82,17 +61,6 @@ size_stays =
     let room : ℤ → Unread → Result (ℕ × Unread) WireFault = λ z. unsigned_size z >>= λ size. within_room size in
     then_stays (signed w32) (signed w32) room room (signed_stays w32 wide_32) (λ z.
     then_stays (unsigned_size z) (unsigned_size z) (λ size. within_room size) (λ size. within_room size) (unsigned_size_stays z) (λ size. room_stays size))
-
-some_stay_if : (size : ℕ) (r : Result (List ℕ × List ℕ) NumFault) (unread : Unread) (more : List ℕ) → decode_bytes size unread.bytes ≡ r
-    → (uncounted_result unread.budget r ≡ Err Short) ⊎ (some_bytes size (and_more more unread) ≡ with_more more (uncounted_result unread.budget r))
-some_stay_if size (Ok x) unread more e =
-    let f = front_found size unread.bytes x.0 x.1 e in
-    inr (ap (λ (t : List ℕ). uncounted_result unread.budget (decode_bytes size t)) (ap (λ (t : List ℕ). t ++ more) f.whole ∙ append_assoc x.0 x.1 more)
-    ∙ ap (uncounted_result unread.budget) (front_only size x.0 (x.1 ++ more) f.len))
-some_stay_if size (Err fault) unread more e = inl (ap (λ (f : NumFault). Err (wire_fault_of f)) (front_fault size unread.bytes fault e).0)
-
-some_stay : (size : ℕ) → StaysAs (some_bytes size) (some_bytes size)
-some_stay size = λ unread more. some_stay_if size (decode_bytes size unread.bytes) unread more refl
 
 span_stays : StaysAs binary_span binary_span
 unfolding binary_span

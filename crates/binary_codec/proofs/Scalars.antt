@@ -14,11 +14,13 @@ use Rattle.wire_model.specs.Wire.{IsScalar}
 use Rattle.wire_num.specs.Encoded.{AreByteSized}
 use Rattle.wire_model.specs.Protocol.{IsInFront}
 use Rattle.wire_model.proofs.Steps.{went_on, goes_on, ok_is}
-use Rattle.binary_codec.specs.Reading.{byte, unsigned, signed, binary_scalar}
+use Rattle.wire_model.specs.Pieces.{byte}
+use Rattle.wire_model.proofs.Pieces.{byte_found, byte_given}
+use Rattle.binary_codec.specs.Reading.{unsigned, signed, binary_scalar}
 use Rattle.binary_codec.specs.Spelling.{IsScalarText}
 use Rattle.binary_codec.specs.Written.{scalar_text}
 use Rattle.wire_num.proofs.Widths.{IsWide, wide_8, wide_16, wide_32, wide_64}
-use Rattle.binary_codec.proofs.FixedNumbers.{unsigned_found, unsigned_given, signed_found, signed_given, byte_found, byte_given}
+use Rattle.binary_codec.proofs.FixedNumbers.{unsigned_found, unsigned_given, signed_found, signed_given}
 
 abbrev rest : List ℕ → ℕ → Unread
 rest bytes left = record { bytes = bytes; budget = left }

@@ -1,5 +1,5 @@
 -- The first faults of the parts of a value in the binary protocol: which bytes, of all that are left, have which.
-use Rattle.std.specs.Prelude.{⊤, ◌≡◌, ◌<◌, ◌≤◌, ◌^◌, ◌⊎◌, ℕ, negsuc, List, [], ◌∷◌, ◌++◌, length, FitsSigned}
+use Rattle.std.specs.Prelude.{⊤, ◌≡◌, ◌<◌, ◌≤◌, ◌^◌, ◌⊎◌, ℕ, negsuc, List, [], ◌∷◌, length, FitsSigned}
 use Rattle.std.specs.Int.{w32}
 use Rattle.wire_num.specs.Fixed.{unsigned_bytes, signed_bytes}
 use Rattle.thrift_value.specs.declared.tag.Tag.{Tag}
@@ -7,13 +7,8 @@ use Rattle.thrift_value.specs.declared.tag.Tag.TheVariants as tags
 use Rattle.thrift_value.specs.declared.wire_fault.WireFault.{WireFault}
 use Rattle.thrift_value.specs.declared.wire_fault.WireFault.TheVariants.{Short, BadType, BadSize}
 use Rattle.wire_model.specs.Format.{FaultTable}
+use Rattle.wire_model.specs.Pieces.{Begins}
 use Rattle.binary_codec.specs.Codes.{code_of}
-
--- these bytes stand in front, and what stands behind them is such
-pub record Begins (front : List ℕ) (IsSuch : List ℕ → Type 0) (bytes : List ℕ) : Type 0 where
-  pub behind : List ℕ
-  pub whole : bytes ≡ front ++ behind
-  pub such : IsSuch behind
 
 -- the code of no tag
 abbrev pub IsNoCode : ℕ → Type 0

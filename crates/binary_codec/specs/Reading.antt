@@ -1,35 +1,23 @@
 -- How the binary protocol reads the parts of a value that hold no other values.
-use Rattle.std.specs.Prelude.{ℕ, ℤ, pos, negsuc, List, length, Option, Some, None, Ok, Err, ◌==◌, nat_le, if◌then◌else◌}
+use Rattle.std.specs.Prelude.{ℕ, ℤ, pos, negsuc, List, ◌==◌, if◌then◌else◌}
 use Rattle.std.specs.Int.{Width, w8, w16, w32, w64}
-use Rattle.wire_num.specs.Decoding.{decode_bytes, decode_byte, decode_unsigned, decode_signed}
+use Rattle.wire_num.specs.Decoding.{decode_unsigned, decode_signed}
 use Rattle.thrift_value.specs.declared.tag.Tag.{Tag}
 use Rattle.thrift_value.specs.declared.tag.Tag.TheVariants as tags
-use Rattle.thrift_value.specs.declared.wire_fault.WireFault.TheVariants.{Short, BadType, BadSize}
+use Rattle.thrift_value.specs.declared.wire_fault.WireFault.TheVariants.{Short, BadSize}
 use Rattle.thrift_value.specs.Tree.{Tree, of_bool, of_i8, of_i16, of_i32, of_i64, of_double}
 use Rattle.wire_model.specs.Decoder.{Decoder, ◌>>=◌, give, fail, uncounted}
+use Rattle.wire_model.specs.Pieces.{byte, some_bytes, tag_or_fault, within_room}
 use Rattle.wire_model.specs.Wire.{FieldHeader, stop, typed, Wire}
 use Rattle.binary_codec.specs.Codes.{tag_of_code}
 
--- a byte; it is no value of its own
-abbrev pub byte : Decoder ℕ
-byte unread = uncounted decode_byte unread
-
--- a number of a width
+-- a number of a width; it is no value of its own
 abbrev pub unsigned : Width → Decoder ℕ
 unsigned width unread = uncounted (decode_unsigned width) unread
 
 -- the same as two's complement
 abbrev pub signed : Width → Decoder ℤ
 signed width unread = uncounted (decode_signed width) unread
-
--- so many bytes
-abbrev pub some_bytes : ℕ → Decoder (List ℕ)
-some_bytes size unread = uncounted (decode_bytes size) unread
-
--- the tag of a code, or BadType
-abbrev pub tag_or_fault : ℕ → Option Tag → Decoder Tag
-tag_or_fault code (Some tag) = give tag
-tag_or_fault code None = fail (BadType code)
 
 -- the tag of a code that was read
 unfoldable pub tag_coded : ℕ → Decoder Tag
@@ -77,10 +65,6 @@ binary_scalar tag = fail Short
 abbrev pub unsigned_size : ℤ → Decoder ℕ
 unsigned_size (pos n) = give n
 unsigned_size (negsuc n) = fail BadSize
-
--- no more than the bytes that are left, or Short
-abbrev pub within_room : ℕ → Decoder ℕ
-within_room n rest = if nat_le n (length rest.bytes) then Ok (n, rest) else Err Short
 
 -- a length or size. Own choice: BadSize comes before Short, and no more is announced than the bytes that are left
 unfoldable pub binary_size : Decoder ℕ

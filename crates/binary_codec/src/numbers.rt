@@ -2,7 +2,8 @@
 
 ghost use Rattle.std.specs.Int.{w8, w16, w32, w64};
 ghost use Rattle.wire_model.specs.Answering.{AnswersExactly};
-ghost use Rattle.binary_codec.specs.Reading.{byte, unsigned, signed, binary_size};
+ghost use Rattle.wire_model.specs.Pieces.{byte};
+ghost use Rattle.binary_codec.specs.Reading.{unsigned, signed, binary_size};
 
 use thrift_value::WireFault;
 use wire_num::{decode_be64, decode_i8, decode_i16, decode_i32, decode_i64, decode_u8};

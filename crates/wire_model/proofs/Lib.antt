@@ -7,3 +7,5 @@ pub mod Encoding
 pub mod Staying
 pub mod Uncounted
 pub mod Mending
+pub mod Pieces
+pub mod Answered

@@ -1,4 +1,5 @@
 pub mod Decoder
+pub mod Pieces
 pub mod Wire
 pub mod Reading
 pub mod Format

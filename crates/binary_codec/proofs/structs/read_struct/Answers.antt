@@ -9,7 +9,7 @@ use Rattle.thrift_value.specs.Tree.{Tree}
 use Rattle.wire_model.specs.Place.{struct_at, IsEncodedAt, IsWithinBounds}
 use Rattle.binary_codec.specs.Reading.{binary}
 use Rattle.binary_codec.specs.Spelling.{binary_format}
-use Rattle.binary_codec.proofs.Placing.{bytes_fit, holds_of_read}
+use Rattle.wire_model.proofs.Answered.{bytes_fit, holds_of_read}
 use Rattle.binary_codec.proofs.structs.read_struct.Goals as goal
 
 pub returns-clause-found : goal.returns-clause-found

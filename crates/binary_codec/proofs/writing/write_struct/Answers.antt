@@ -1,7 +1,8 @@
 use Rattle.thrift_value.specs.TreeOf.{tree_of}
 use Rattle.wire_model.specs.Encoder.{text}
 use Rattle.binary_codec.specs.Written.{binary_encoder}
-use Rattle.binary_codec.proofs.ReadBack.{on_ok_by, read_back_by}
+use Rattle.wire_model.proofs.Answered.{on_ok_by, read_back_by}
+use Rattle.binary_codec.specs.Reading.{binary}
 use Rattle.binary_codec.proofs.writing.write_struct.Goals as goal
 
 pub returns-clause-spelled : goal.returns-clause-spelled
@@ -11,7 +12,7 @@ returns-clause-spelled c =
 pub returns-clause-read_back : goal.returns-clause-read_back
 returns-clause-read_back c =
     let x = tree_of c.args.value.now in
-    read_back_by c.append.result x c.args.into.now.items c.append.new.into.items (text binary_encoder x) c.append.ensures.ok
+    read_back_by binary c.append.result x c.args.into.now.items c.append.new.into.items (text binary_encoder x) c.append.ensures.ok
     (on_ok_by c.append.result
     (λ ranged few more. c.written_struct_is_read.ensures.read x c.args.into.now.items more c.requires.tidy ranged c.requires.sizes
     (record { is_struct = c.requires.is_struct; depth = c.requires.depth; count = few }))
