@@ -1,29 +1,42 @@
 //! Definitions.
 ghost use Rattle.std.specs.Prelude.{◌≡◌};
-ghost use Rattle.idl_parser.specs.Phrases.{none, pair, many, word};
+ghost use Rattle.idl_parser.specs.Phrases.{none, pair, chain, many, word};
+ghost use Rattle.idl_parser.specs.Leaves.{sign, left_tree, right_tree};
+ghost use Rattle.idl_parser.specs.Parts.{identifier};
+ghost use Rattle.idl_parser.specs.Fields.{fields, field_ending};
+ghost use Rattle.idl_parser.specs.Constants.{value_of};
 ghost use Rattle.idl_parser.specs.Shapes.{starts_in, first};
 ghost use Rattle.idl_parser.specs.Starts.{entry_starts, function_starts};
 ghost use Rattle.idl_parser.specs.Definitions.{constant, typedef, enum_number, enum_value, closing, enumeration, struct_word, structure, fields_in_parentheses, oneway, result_type, throws, function, parent, service, bare_definition, definition};
-ghost use Rattle.idl_parser.specs.Trees.{maybe_node, int_node, name_node, fields_node, oneway_node, result_node, function_node, functions_node, const_node, typedef_node, enum_value_node, enum_values_node, enum_node, struct_word_of, struct_node, service_node, definition_node};
+ghost use Rattle.idl_parser.specs.Trees.{maybe_node, int_node, name_node, value_node, fields_node, oneway_node, result_node, function_node, functions_node, const_node, typedef_node, enum_value_node, enum_values_node, enum_node, struct_word_of, struct_node, service_node, definition_node};
 ghost use Rattle.idl_parser.specs.ReaderCalls.{Parses};
 ghost use Rattle.idl_parser.specs.Documents.{deepest};
 
-use crate::reader::{MAX_SYMBOLS, Stop, SymbolReader, deepest, kept, put};
+use crate::reader::{MAX_SYMBOLS, Stop, SymbolReader, deepest, joined, kept, put};
 use crate::tree::{
-    Const, Definition, Enum, EnumValue, Field, Function, Int, Name, Service, Struct, StructKind,
+    Const, ConstTree, Definition, Enum, EnumValue, Field, Function, Int, Name, Service, Struct, StructKind,
     TypeTree, Typedef,
 };
 use idl_token::{Place, Terminal};
 
 impl<'a> SymbolReader<'a> {
+    /// A name, `=` and a value.
+    fn named_value(&mut self) -> Result<(Name, ConstTree), Stop>
+        ensures { Parses (chain pair identifier (chain right_tree (sign Terminal.Equals) (value_of deepest))) (λ p. pair (name_node p.0) (value_node p.1)) self.old self.new result }
+    {
+        let name = self.name()?;
+        let value = self.assigned();
+        joined(name, value)
+    }
+
     #[tactic(auto, unfolding(crate::specs::Definitions::constant_rest, crate::specs::Trees::const_node))]
     fn constant(&mut self) -> Result<Const, Stop>
         ensures { Parses (constant deepest) const_node self.old self.new result }
     {
         let at = self.word(Terminal::Const)?;
         let kind = self.type_tree(deepest())?;
-        let name = self.name()?;
-        let value = self.assigned()?;
+        let behind = self.named_value();
+        let (kind, (name, value)) = joined(kind, behind)?;
         Ok(Const {
             at,
             kind,
@@ -94,16 +107,25 @@ impl<'a> SymbolReader<'a> {
         self.annotation()
     }
 
+    /// The values of an enum in braces, and what stands behind them.
+    fn enum_body(&mut self) -> Result<Vec<EnumValue>, Stop>
+        ensures { Parses (chain right_tree (sign Terminal.OpenBrace) (chain left_tree (many pair enum_value) closing)) (λ v. enum_values_node v.items) self.old self.new result }
+    {
+        self.sign(Terminal::OpenBrace)?;
+        let values = self.enum_values()?;
+        let behind = self.closing();
+        kept(values, behind)
+    }
+
     #[tactic(auto, unfolding(crate::specs::Definitions::enum_rest, crate::specs::Trees::enum_node))]
     fn enumeration(&mut self) -> Result<Enum, Stop>
         ensures { Parses enumeration enum_node self.old self.new result }
     {
         let at = self.word(Terminal::Enum)?;
         let name = self.name()?;
-        self.sign(Terminal::OpenBrace)?;
-        let values = self.enum_values()?;
-        let behind = self.closing();
-        kept(Enum { at, name, values }, behind)
+        let behind = self.enum_body();
+        let (name, values) = joined(name, behind)?;
+        Ok(Enum { at, name, values })
     }
 
     #[tactic(auto, unfolding(crate::specs::Definitions::struct_word))]
@@ -119,22 +141,30 @@ impl<'a> SymbolReader<'a> {
         Ok((self.word(Terminal::Exception)?, StructKind::Exception))
     }
 
+    /// The fields of a struct in braces, and what stands behind them.
+    fn struct_body(&mut self) -> Result<Vec<Field>, Stop>
+        ensures { Parses (chain right_tree (sign Terminal.OpenBrace) (chain left_tree (fields deepest) closing)) (λ v. fields_node v.items) self.old self.new result }
+    {
+        self.sign(Terminal::OpenBrace)?;
+        let fields = self.fields()?;
+        let behind = self.closing();
+        kept(fields, behind)
+    }
+
     #[tactic(auto, unfolding(crate::specs::Definitions::struct_rest, crate::specs::Trees::struct_node))]
     fn structure(&mut self) -> Result<Struct, Stop>
         ensures { Parses (structure deepest) struct_node self.old self.new result }
     {
         let (at, kind) = self.struct_word()?;
         let name = self.name()?;
-        self.sign(Terminal::OpenBrace)?;
-        let fields = self.fields()?;
-        let structure = Struct {
+        let behind = self.struct_body();
+        let (name, fields) = joined(name, behind)?;
+        Ok(Struct {
             at,
             kind,
             name,
             fields,
-        };
-        let behind = self.closing();
-        kept(structure, behind)
+        })
     }
 
     #[tactic(auto, unfolding(crate::specs::Definitions::fields_in_parentheses))]
@@ -182,6 +212,33 @@ impl<'a> SymbolReader<'a> {
         Ok(None)
     }
 
+    /// What a function throws, and what stands behind it.
+    fn ending(&mut self) -> Result<Option<Vec<Field>>, Stop>
+        ensures { Parses (chain left_tree (throws deepest) field_ending) (maybe_node (λ v. fields_node v.items)) self.old self.new result }
+    {
+        let throws = self.throws()?;
+        let behind = self.field_ending();
+        kept(throws, behind)
+    }
+
+    /// What a function takes, and what it throws.
+    fn arguments(&mut self) -> Result<(Vec<Field>, Option<Vec<Field>>), Stop>
+        ensures { Parses (chain pair (fields_in_parentheses deepest) (chain left_tree (throws deepest) field_ending)) (λ p. pair (fields_node p.0.items) (maybe_node (λ v. fields_node v.items) p.1)) self.old self.new result }
+    {
+        let arguments = self.fields_in_parentheses()?;
+        let behind = self.ending();
+        joined(arguments, behind)
+    }
+
+    /// A function's name, and what stands behind it.
+    fn signature(&mut self) -> Result<(Name, (Vec<Field>, Option<Vec<Field>>)), Stop>
+        ensures { Parses (chain pair identifier (chain pair (fields_in_parentheses deepest) (chain left_tree (throws deepest) field_ending))) (λ p. pair (name_node p.0) (pair (fields_node p.1.0.items) (maybe_node (λ v. fields_node v.items) p.1.1))) self.old self.new result }
+    {
+        let name = self.name()?;
+        let behind = self.arguments();
+        joined(name, behind)
+    }
+
     #[tactic(auto, unfolding(crate::specs::Definitions::function, crate::specs::Trees::function_node))]
     fn function(&mut self) -> Result<Function, Stop>
         ensures { Parses (function deepest) function_node self.old self.new result }
@@ -189,19 +246,16 @@ impl<'a> SymbolReader<'a> {
         let at = self.place();
         let oneway = self.oneway()?;
         let result = self.result_type()?;
-        let name = self.name()?;
-        let arguments = self.fields_in_parentheses()?;
-        let throws = self.throws()?;
-        let function = Function {
+        let behind = self.signature();
+        let (result, (name, (arguments, throws))) = joined(result, behind)?;
+        Ok(Function {
             at,
             oneway,
             result,
             name,
             arguments,
             throws,
-        };
-        let behind = self.field_ending();
-        kept(function, behind)
+        })
     }
 
     fn begins_function(&self) -> bool
@@ -252,23 +306,39 @@ impl<'a> SymbolReader<'a> {
         Ok(None)
     }
 
+    /// The functions of a service in braces, and what stands behind them.
+    fn service_body(&mut self) -> Result<Vec<Function>, Stop>
+        ensures { Parses (chain right_tree (sign Terminal.OpenBrace) (chain left_tree (many pair (function deepest)) closing)) (λ v. functions_node v.items) self.old self.new result }
+    {
+        self.sign(Terminal::OpenBrace)?;
+        let functions = self.functions()?;
+        let behind = self.closing();
+        kept(functions, behind)
+    }
+
+    /// A service's parent or none, and its functions.
+    fn inherited(&mut self) -> Result<(Option<Name>, Vec<Function>), Stop>
+        ensures { Parses (chain pair parent (chain right_tree (sign Terminal.OpenBrace) (chain left_tree (many pair (function deepest)) closing))) (λ p. pair (maybe_node name_node p.0) (functions_node p.1.items)) self.old self.new result }
+    {
+        let parent = self.parent()?;
+        let behind = self.service_body();
+        joined(parent, behind)
+    }
+
     #[tactic(auto, unfolding(crate::specs::Definitions::service_rest, crate::specs::Trees::service_node))]
     fn service(&mut self) -> Result<Service, Stop>
         ensures { Parses (service deepest) service_node self.old self.new result }
     {
         let at = self.word(Terminal::Service)?;
         let name = self.name()?;
-        let parent = self.parent()?;
-        self.sign(Terminal::OpenBrace)?;
-        let functions = self.functions()?;
-        let service = Service {
+        let behind = self.inherited();
+        let (name, (parent, functions)) = joined(name, behind)?;
+        Ok(Service {
             at,
             name,
             parent,
             functions,
-        };
-        let behind = self.closing();
-        kept(service, behind)
+        })
     }
 
     #[tactic(auto, unfolding(crate::specs::Definitions::struct_word))]

@@ -2,13 +2,16 @@
 ghost use Rattle.std.specs.Prelude.{◌≡◌};
 ghost use Rattle.idl_parser.specs.Shapes.{starts_in};
 ghost use Rattle.idl_parser.specs.Starts.{field_starts};
-ghost use Rattle.idl_parser.specs.Fields.{field_id, field_need, field_default, field, fields};
-ghost use Rattle.idl_parser.specs.Trees.{maybe_node, int_node, need_node, value_node, field_node, fields_node};
+ghost use Rattle.idl_parser.specs.Fields.{field_id, field_need, field_default, field_ending, field, fields};
+ghost use Rattle.idl_parser.specs.Phrases.{pair, chain};
+ghost use Rattle.idl_parser.specs.Leaves.{left_tree};
+ghost use Rattle.idl_parser.specs.Parts.{identifier};
+ghost use Rattle.idl_parser.specs.Trees.{maybe_node, int_node, name_node, need_node, value_node, field_node, fields_node};
 ghost use Rattle.idl_parser.specs.ReaderCalls.{Parses};
 ghost use Rattle.idl_parser.specs.Documents.{deepest};
 
-use crate::reader::{MAX_SYMBOLS, Stop, SymbolReader, deepest, kept, put};
-use crate::tree::{ConstTree, Field, Int, Need};
+use crate::reader::{MAX_SYMBOLS, Stop, SymbolReader, deepest, joined, kept, put};
+use crate::tree::{ConstTree, Field, Int, Name, Need};
 use idl_token::Terminal;
 
 impl<'a> SymbolReader<'a> {
@@ -40,12 +43,12 @@ impl<'a> SymbolReader<'a> {
     fn field_id(&mut self) -> Result<Option<Int>, Stop>
         ensures { Parses field_id (maybe_node int_node) self.old self.new result }
     {
-        if self.starts(&[Terminal::Int]) {
-            let id = self.int()?;
-            self.sign(Terminal::Colon)?;
-            return Ok(Some(id));
+        if !self.starts(&[Terminal::Int]) {
+            return Ok(None);
         }
-        Ok(None)
+        let id = self.int()?;
+        let behind = self.sign(Terminal::Colon);
+        kept(Some(id), behind)
     }
 
     #[tactic(auto, unfolding(crate::specs::Fields::field_need))]
@@ -73,6 +76,24 @@ impl<'a> SymbolReader<'a> {
         Ok(None)
     }
 
+    /// A default or none, and what stands behind a field.
+    fn ended_default(&mut self) -> Result<Option<ConstTree>, Stop>
+        ensures { Parses (chain left_tree (field_default deepest) field_ending) (maybe_node value_node) self.old self.new result }
+    {
+        let default = self.field_default()?;
+        let behind = self.field_ending();
+        kept(default, behind)
+    }
+
+    /// A field's name, and its default or none.
+    fn named_field(&mut self) -> Result<(Name, Option<ConstTree>), Stop>
+        ensures { Parses (chain pair identifier (chain left_tree (field_default deepest) field_ending)) (λ p. pair (name_node p.0) (maybe_node value_node p.1)) self.old self.new result }
+    {
+        let name = self.name()?;
+        let behind = self.ended_default();
+        joined(name, behind)
+    }
+
     #[tactic(auto, unfolding(crate::specs::Fields::field, crate::specs::Trees::field_node))]
     fn field(&mut self) -> Result<Field, Stop>
         ensures { Parses (field deepest) field_node self.old self.new result }
@@ -81,18 +102,16 @@ impl<'a> SymbolReader<'a> {
         let id = self.field_id()?;
         let need = self.field_need()?;
         let kind = self.type_tree(deepest())?;
-        let name = self.name()?;
-        let default = self.field_default()?;
-        let field = Field {
+        let behind = self.named_field();
+        let (kind, (name, default)) = joined(kind, behind)?;
+        Ok(Field {
             at,
             id,
             need,
             kind,
             name,
             default,
-        };
-        let behind = self.field_ending();
-        kept(field, behind)
+        })
     }
 
     /// Fields, up to a symbol with which none begins.

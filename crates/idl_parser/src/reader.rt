@@ -276,6 +276,16 @@ pub(crate) fn kept<T: Drop>(item: T, behind: Result<(), Stop>) -> Result<T, Stop
     }
 }
 
+/// What was read, beside what stands behind it where that was read too.
+pub(crate) fn joined<A: Drop, B: Drop>(item: A, behind: Result<B, Stop>) -> Result<(A, B), Stop>
+    ensures { MatchResult behind (λ other. result ≡ Result.Ok (item, other)) (λ stop. result ≡ Result.Err stop) }
+{
+    match behind {
+        Ok(other) => Ok((item, other)),
+        Err(stop) => Err(stop),
+    }
+}
+
 fn kind_at(stop: Stop, what: Terminal) -> ParseKind
     ensures { result ≡ kind_at (is_deep stop) what }
 {
