@@ -1,14 +1,14 @@
 //! Types.
 ghost use Rattle.std.specs.Prelude.{◌≡◌, MatchResult};
-ghost use Rattle.idl_parser.specs.Phrases.{none, word, chain};
-ghost use Rattle.idl_parser.specs.Leaves.{sign, kept_word, neither, left_tree};
+ghost use Rattle.idl_parser.specs.Phrases.{none, word, pair, chain};
+ghost use Rattle.idl_parser.specs.Leaves.{sign, kept_word, neither, left_tree, right_tree};
 ghost use Rattle.idl_parser.specs.Shapes.{starts_in, first};
 ghost use Rattle.idl_parser.specs.Reading.{read};
 ghost use Rattle.idl_parser.specs.Types.{base, cpp_type, map_type, set_type, list_type, no_container, container, inner_type, bare_type, type_of};
 ghost use Rattle.idl_parser.specs.Trees.{base_word, type_node};
 ghost use Rattle.idl_parser.specs.ReaderCalls.{Parses, StopsAt, most};
 
-use crate::reader::{Stop, SymbolReader, kept};
+use crate::reader::{Stop, SymbolReader, joined, kept};
 use crate::tree::{Base, TypeTree};
 use crate::type_printer::base_terminal;
 use idl_token::{Place, Terminal};
@@ -18,6 +18,29 @@ fn boxed(alloc: Global, tree: TypeTree) -> Result<Box<TypeTree>, Stop>
     ensures { MatchResult result (λ b. b.value ≡ tree) (λ e. e ≡ Stop.NoMemory) }
 {
     Ok(Box::new(alloc, tree)?)
+}
+
+/// A map of these types.
+fn map_of(alloc: Global, at: Place, key: TypeTree, value: TypeTree) -> Result<TypeTree, Stop>
+    ensures { MatchResult result (λ t. type_node t ≡ pair (word Terminal.Map at) (pair (type_node key) (type_node value))) (λ e. e ≡ Stop.NoMemory) }
+{
+    let key = boxed(alloc, key)?;
+    let value = boxed(alloc, value)?;
+    Ok(TypeTree::Map(at, key, value))
+}
+
+/// A set of this type.
+fn set_of(alloc: Global, at: Place, member: TypeTree) -> Result<TypeTree, Stop>
+    ensures { MatchResult result (λ t. type_node t ≡ pair (word Terminal.Set at) (type_node member)) (λ e. e ≡ Stop.NoMemory) }
+{
+    Ok(TypeTree::Set(at, boxed(alloc, member)?))
+}
+
+/// A list of this type.
+fn list_of(alloc: Global, at: Place, element: TypeTree) -> Result<TypeTree, Stop>
+    ensures { MatchResult result (λ t. type_node t ≡ pair (word Terminal.List at) (type_node element)) (λ e. e ≡ Stop.NoMemory) }
+{
+    Ok(TypeTree::List(at, boxed(alloc, element)?))
 }
 
 impl<'a> SymbolReader<'a> {
@@ -160,12 +183,21 @@ impl<'a> SymbolReader<'a> {
 
     /// A type and a sign behind it.
     #[cycle(type_reader)]
-    fn type_before(&mut self, levels: usize, behind: Terminal) -> Result<Box<TypeTree>, Stop>
-        ensures { Parses (chain left_tree (type_of levels) (sign behind)) (λ b. type_node b.value) self.old self.new result }
+    fn type_before(&mut self, levels: usize, behind: Terminal) -> Result<TypeTree, Stop>
+        ensures { Parses (chain left_tree (type_of levels) (sign behind)) type_node self.old self.new result }
     {
         let tree = self.type_tree(levels)?;
         let passed = self.sign(behind);
-        boxed(self.alloc(), kept(tree, passed)?)
+        kept(tree, passed)
+    }
+
+    /// A comma, a map's value and the `>` behind it.
+    #[cycle(type_reader)]
+    fn map_end(&mut self, levels: usize) -> Result<TypeTree, Stop>
+        ensures { Parses (chain right_tree (sign Terminal.Comma) (chain left_tree (type_of levels) (sign Terminal.Greater))) type_node self.old self.new result }
+    {
+        self.sign(Terminal::Comma)?;
+        self.type_before(levels, Terminal::Greater)
     }
 
     #[cycle(type_reader)]
@@ -177,9 +209,9 @@ impl<'a> SymbolReader<'a> {
         self.cpp_type()?;
         self.sign(Terminal::Less)?;
         let key = self.type_tree(levels)?;
-        self.sign(Terminal::Comma)?;
-        let value = self.type_before(levels, Terminal::Greater)?;
-        Ok(TypeTree::Map(at, boxed(self.alloc(), key)?, value))
+        let behind = self.map_end(levels);
+        let (key, value) = joined(key, behind)?;
+        map_of(self.alloc(), at, key, value)
     }
 
     #[cycle(type_reader)]
@@ -190,7 +222,8 @@ impl<'a> SymbolReader<'a> {
         let at = self.word(Terminal::Set)?;
         self.cpp_type()?;
         self.sign(Terminal::Less)?;
-        Ok(TypeTree::Set(at, self.type_before(levels, Terminal::Greater)?))
+        let member = self.type_before(levels, Terminal::Greater)?;
+        set_of(self.alloc(), at, member)
     }
 
     #[cycle(type_reader)]
@@ -204,6 +237,6 @@ impl<'a> SymbolReader<'a> {
         let element = self.type_tree(levels)?;
         let behind = self.list_end();
         let element = kept(element, behind)?;
-        Ok(TypeTree::List(at, boxed(self.alloc(), element)?))
+        list_of(self.alloc(), at, element)
     }
 }

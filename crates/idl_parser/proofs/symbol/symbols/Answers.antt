@@ -1,9 +1,11 @@
-use Rattle.std.proofs.Common.{◌≡◌, ◌∙◌, ◌+◌, ◌≤◌, ◌<◌, ◌∷◌, List, suc, drop, take, length, get_or, sym, ap, subst, arith, drop-cons}
+use Rattle.std.proofs.Common.{◌≡◌, ◌∙◌, ◌+◌, ◌≤◌, ◌<◌, ◌∷◌, ◌++◌, List, map, append-nil, suc, drop, take, length, get_or, sym, ap, subst, arith, drop-cons}
 use Rattle.idl_token.specs.Limits.{longest_text}
 use Rattle.idl_token.specs.declared.Token.{Token}
 use Rattle.idl_token.specs.declared.TokenKind.TheVariants.{Keyword}
 use Rattle.idl_token.specs.Tokens.{StandBetween}
-use Rattle.idl_parser.specs.ReaderCalls.{start, place_behind}
+use Rattle.idl_parser.specs.ReaderCalls.{start, place_behind, lexeme_of}
+use Rattle.idl_parser.specs.Symbols.{lexemes}
+use Rattle.std.proofs.lemmas.List.{drop_all}
 use Rattle.idl_parser.proofs.Places.{earlier, bounded, made_on}
 use Rattle.idl_parser.proofs.symbol.symbols.Goals as goal
 
@@ -38,3 +40,23 @@ tokens-preserved c =
       made = made_on c.args.text.now c.tokens.all.items c.push.new.self.items c.placed-symbol.result t (drop c.tokens.token-index c.args.tokens.now) rest c.args.tokens.now
           c.tokens.invariant.made split c.in_ok-push.ensures.items c.placed-symbol.ensures.is;
     }
+
+pub placed-symbol-requires-clause-before : goal.placed-symbol-requires-clause-before
+placed-symbol-requires-clause-before c =
+    let order = subst (StandBetween c.tokens.at (length c.args.text.now)) (next_is c.args.tokens.now c.tokens.token-index c.tokens-test.true) c.tokens.invariant.order in
+    order.0
+
+pub placed-symbol-requires-clause-line : goal.placed-symbol-requires-clause-line
+placed-symbol-requires-clause-line c = c.tokens.invariant.line
+
+pub placed-symbol-requires-clause-column : goal.placed-symbol-requires-clause-column
+placed-symbol-requires-clause-column c = c.tokens.invariant.column
+
+pub placed-symbol-requires-clause-place : goal.placed-symbol-requires-clause-place
+placed-symbol-requires-clause-place c = c.tokens.invariant.place
+
+pub returns : goal.returns
+returns c =
+    sym (append-nil (map (lexeme_of c.args.text.now) c.tokens.all.items))
+    ∙ ap (λ ts. map (lexeme_of c.args.text.now) c.tokens.all.items ++ lexemes c.args.text.now ts) (sym (drop_all c.tokens.token-index c.args.tokens.now c.tokens-test.false))
+    ∙ c.tokens.invariant.made
