@@ -1,7 +1,8 @@
 //! Constant values.
 ghost use Rattle.std.specs.Prelude.{◌≡◌};
 ghost use Rattle.idl_parser.specs.Phrases.{chain, pair, many};
-ghost use Rattle.idl_parser.specs.Leaves.{sign, right_tree};
+ghost use Rattle.idl_parser.specs.Leaves.{sign, left_tree, right_tree};
+ghost use Rattle.idl_parser.specs.Parts.{separator};
 ghost use Rattle.idl_parser.specs.Documents.{deepest};
 ghost use Rattle.idl_parser.specs.Shapes.{starts_in};
 ghost use Rattle.idl_parser.specs.Starts.{value_starts};
@@ -10,7 +11,7 @@ ghost use Rattle.idl_parser.specs.Constants.{list_item, list_value, map_entry, m
 ghost use Rattle.idl_parser.specs.Trees.{value_node, values_node, entry_node, pairs_node};
 ghost use Rattle.idl_parser.specs.ReaderCalls.{Parses, StopsAt, most};
 
-use crate::reader::{MAX_SYMBOLS, Stop, SymbolReader, deepest, kept, put};
+use crate::reader::{MAX_SYMBOLS, Stop, SymbolReader, deepest, joined, kept, put};
 use crate::tree::ConstTree;
 use idl_token::Terminal;
 
@@ -94,7 +95,8 @@ impl<'a> SymbolReader<'a> {
     {
         let at = self.word(Terminal::OpenBracket)?;
         let items = self.list_items(levels)?;
-        self.sign(Terminal::CloseBracket)?;
+        let behind = self.sign(Terminal::CloseBracket);
+        let items = kept(items, behind)?;
         Ok(ConstTree::List(at, items))
     }
 
@@ -131,19 +133,29 @@ impl<'a> SymbolReader<'a> {
     {
         let at = self.word(Terminal::OpenBrace)?;
         let pairs = self.map_entries(levels)?;
-        self.sign(Terminal::CloseBrace)?;
+        let behind = self.sign(Terminal::CloseBrace);
+        let pairs = kept(pairs, behind)?;
         Ok(ConstTree::Map(at, pairs))
     }
 
+    /// A colon, a value, and a separator or none.
     #[cycle(value_reader)]
-    #[tactic(auto, unfolding(crate::specs::Constants::map_entry, crate::specs::Constants::list_item))]
+    #[tactic(auto, unfolding(crate::specs::Constants::list_item))]
+    fn entry_end(&mut self, levels: usize) -> Result<ConstTree, Stop>
+        ensures { Parses (chain right_tree (sign Terminal.Colon) (chain left_tree (value_of levels) separator)) value_node self.old self.new result }
+    {
+        self.sign(Terminal::Colon)?;
+        self.list_item(levels)
+    }
+
+    #[cycle(value_reader)]
+    #[tactic(auto, unfolding(crate::specs::Constants::map_entry))]
     fn map_entry(&mut self, levels: usize) -> Result<(ConstTree, ConstTree), Stop>
         ensures { Parses (map_entry (value_of levels)) entry_node self.old self.new result }
     {
         let key = self.value(levels)?;
-        self.sign(Terminal::Colon)?;
-        let value = self.list_item(levels)?;
-        Ok((key, value))
+        let behind = self.entry_end(levels);
+        joined(key, behind)
     }
 
     #[cycle(value_reader)]

@@ -14,28 +14,31 @@ abbrev pub invariant-map_entries-row : goal.invariant-map_entries-row
 invariant-map_entries-row l = SoFar most l._round pair (map_entry (value_of l.levels)) value_starts l.fn.self l.self (map entry_node l.all.items)
 
 abbrev pub decreases-value : goal.decreases-value
-decreases-value l = 9 * l.levels + 1
+decreases-value l = 10 * l.levels + 1
 
 abbrev pub decreases-inner_value : goal.decreases-inner_value
-decreases-inner_value l = 9 * l.levels
+decreases-inner_value l = 10 * l.levels
 
 abbrev pub decreases-collection : goal.decreases-collection
-decreases-collection l = 9 * l.levels + 8
+decreases-collection l = 10 * l.levels + 9
 
 abbrev pub decreases-list_value : goal.decreases-list_value
-decreases-list_value l = 9 * l.levels + 6
+decreases-list_value l = 10 * l.levels + 6
 
 abbrev pub decreases-list_items : goal.decreases-list_items
-decreases-list_items l = 9 * l.levels + 5
+decreases-list_items l = 10 * l.levels + 5
 
 abbrev pub decreases-list_item : goal.decreases-list_item
-decreases-list_item l = 9 * l.levels + 4
+decreases-list_item l = 10 * l.levels + 4
 
 abbrev pub decreases-map_value : goal.decreases-map_value
-decreases-map_value l = 9 * l.levels + 7
+decreases-map_value l = 10 * l.levels + 8
 
 abbrev pub decreases-map_entries : goal.decreases-map_entries
-decreases-map_entries l = 9 * l.levels + 6
+decreases-map_entries l = 10 * l.levels + 7
 
 abbrev pub decreases-map_entry : goal.decreases-map_entry
-decreases-map_entry l = 9 * l.levels + 5
+decreases-map_entry l = 10 * l.levels + 6
+
+abbrev pub decreases-entry_end : goal.decreases-entry_end
+decreases-entry_end l = 10 * l.levels + 5
