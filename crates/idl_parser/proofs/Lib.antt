@@ -22,6 +22,7 @@ pub mod PrintedWords
 pub mod PrintedNumbers
 pub mod PrintedLiterals
 pub mod PrintedLeaves
+pub mod TypeTexts
 pub mod ValueTexts
 pub mod PrintedTypes
 pub mod PrintedValues
