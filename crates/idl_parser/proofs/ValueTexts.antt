@@ -42,3 +42,10 @@ pub walked : {A B : Type 0} (text : B → List ℕ) (view : A → B) (xs : List 
 walked text view xs i x old new whole low here put kept =
     let front : drop i xs ≡ x ∷ drop (i + 1) xs = drop_more xs i x low ∙ ap (λ y. y ∷ drop (i + 1) xs) (sym here) in
     put_behind new old (text (view x)) (flat_map text (map view (drop (i + 1) xs))) put ∙ ap (λ ys. old ++ flat_map text (map view ys)) (sym front) ∙ kept
+
+-- the same of a walk that puts a line for each item
+pub lined : {A : Type 0} (line : A → List ℕ) (xs : List A) (i : ℕ) (x : A) (old new whole : List ℕ) → i < length xs → x ≡ get_or xs i x
+    → new ≡ old ++ line x → old ++ flat_map line (drop i xs) ≡ whole → new ++ flat_map line (drop (i + 1) xs) ≡ whole
+lined line xs i x old new whole low here put kept =
+    let front : drop i xs ≡ x ∷ drop (i + 1) xs = drop_more xs i x low ∙ ap (λ y. y ∷ drop (i + 1) xs) (sym here) in
+    put_behind new old (line x) (flat_map line (drop (i + 1) xs)) put ∙ ap (λ ys. old ++ flat_map line ys) (sym front) ∙ kept

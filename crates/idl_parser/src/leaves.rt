@@ -26,12 +26,13 @@ fn unescaped(alloc: Global, bytes: &[u8]) -> Result<ByteText, Stop>
     let mut all = Vec::new(alloc);
     let mut taken = false;
     for byte in bytes {
-        if !taken && *byte == b'\\' {
+        if taken {
+            all.push(escaped(*byte))?;
+            taken = false;
+        } else if *byte == b'\\' {
             taken = true;
         } else {
-            let next = if taken { escaped(*byte) } else { *byte };
-            all.push(next)?;
-            taken = false;
+            all.push(*byte)?;
         }
     }
     Ok(ByteText::new(all))
