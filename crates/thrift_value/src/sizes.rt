@@ -1,6 +1,6 @@
 //! Whether the lengths and sizes in a value have an encoding.
-ghost use Rattle.std.specs.Prelude.{◌↔◌, IsTrue};
-ghost use Rattle.thrift_value.specs.Sizes.{HasSmallSizes, HaveFieldsSmallSizes, HaveItemsSmallSizes, HavePairsSmallSizes};
+ghost use Rattle.std.specs.Prelude.{◌↔◌, ◌<◌, ◌^◌, IsTrue};
+ghost use Rattle.thrift_value.specs.Sizes.{items_len, pairs_len, HasSmallSizes, HaveFieldsSmallSizes, HaveItemsSmallSizes, HavePairsSmallSizes};
 ghost use Rattle.thrift_value.specs.TreeOf.{tree_of, fields_tree, items_tree, pairs_tree};
 
 use crate::value::{Fields, Items, Pairs, Value};
@@ -9,7 +9,7 @@ use crate::value::{Fields, Items, Pairs, Value};
 /// protocol, 'List and Set').
 const MAX_SIZE: usize = 0x7fff_ffff;
 
-#[tactic(auto, using(crate::proofs::Trees::tree_equations, crate::proofs::Lengths::tree_lengths))]
+#[tactic(auto, using(crate::proofs::Trees::tree_equations))]
 impl Value {
     /// Whether no text has more bytes, and no container more elements, than a length or size can
     /// say.
@@ -26,9 +26,24 @@ impl Value {
             | Value::Double(_) => true,
             Value::Bytes(text) => text.as_slice().len() <= MAX_SIZE,
             Value::Struct(fields) => fields.have_small_sizes(),
-            Value::Map(_, _, pairs) => pairs.list.len() <= MAX_SIZE && pairs.have_small_sizes(),
-            Value::Set(_, items) => items.list.len() <= MAX_SIZE && items.have_small_sizes(),
-            Value::List(_, items) => items.list.len() <= MAX_SIZE && items.have_small_sizes(),
+            Value::Map(_, _, pairs) => {
+                if !pairs.is_short() {
+                    return false;
+                }
+                pairs.have_small_sizes()
+            }
+            Value::Set(_, items) => {
+                if !items.is_short() {
+                    return false;
+                }
+                items.have_small_sizes()
+            }
+            Value::List(_, items) => {
+                if !items.is_short() {
+                    return false;
+                }
+                items.have_small_sizes()
+            }
         }
     }
 }
@@ -49,6 +64,14 @@ impl Fields {
 }
 
 impl Items {
+    /// Whether a size can say how many items there are.
+    #[tactic(auto, using(crate::proofs::Lengths::tree_lengths))]
+    fn is_short(&self) -> bool
+        ensures { IsTrue result ↔ (items_len (items_tree self.now) < 2 ^ 31) }
+    {
+        self.list.len() <= MAX_SIZE
+    }
+
     /// Whether each item has small sizes.
     #[cycle(sizes)]
     pub(crate) fn have_small_sizes(&self) -> bool
@@ -64,13 +87,24 @@ impl Items {
 }
 
 impl Pairs {
+    /// Whether a size can say how many pairs there are.
+    #[tactic(auto, using(crate::proofs::Lengths::tree_lengths))]
+    fn is_short(&self) -> bool
+        ensures { IsTrue result ↔ (pairs_len (pairs_tree self.now) < 2 ^ 31) }
+    {
+        self.list.len() <= MAX_SIZE
+    }
+
     /// Whether each key and each value has small sizes.
     #[cycle(sizes)]
     pub(crate) fn have_small_sizes(&self) -> bool
         ensures { IsTrue result ↔ HavePairsSmallSizes (pairs_tree self.now) }
     {
         for (key, value) in &self.list {
-            if !key.has_small_sizes() || !value.has_small_sizes() {
+            if !key.has_small_sizes() {
+                return false;
+            }
+            if !value.has_small_sizes() {
                 return false;
             }
         }
