@@ -1,7 +1,8 @@
 -- Where a loop over a list stands at its end.
-use Rattle.std.proofs.Common.{◌≡◌, ℕ, ◌+◌, ◌-◌, ◌≤◌, List, [], ◌∷◌, length, drop, min, max, Ordering, Less, Equal, Greater, nat_cmp, arith, ◌∙◌, length-drop}
+use Rattle.std.proofs.Common.{◌≡◌, ℕ, ◌+◌, ◌-◌, ◌≤◌, ◌<◌, true, false, true≢false, List, [], ◌∷◌, length, drop, get_or, min, max, Ordering, Less, Equal, Greater, nat_cmp, arith, refl, sym, ap, subst, ◌∙◌, length-drop}
 use Rattle.std.proofs.lemmas.Bool.Decides.{nat_tests}
-use Rattle.std.proofs.lemmas.List.{at_drop_all}
+use Rattle.std.proofs.lemmas.List.{at_drop_all, drop_more}
+use Rattle.std.specs.Prelude.{◌↔◌, IsTrue}
 
 -- a sum that is kept below a limit, when nothing is left
 pub summed : {A : Type 0} (F : List A → ℕ) (xs : List A) (i n whole limit : ℕ) → F [] ≡ 0 → length xs ≤ i
@@ -31,3 +32,33 @@ pub levelled : {A : Type 0} (G : List A → List A → Ordering) → IsByLength 
     → length xs ≡ m → length ys ≡ n → i ≤ min m n → min m n ≤ i → G (drop i xs) (drop i ys) ≡ nat_cmp m n
 levelled G is xs ys i m n p q low high =
     by_length G is (drop i xs) (drop i ys) i m n (omega (arith, length-drop i xs)) (omega (arith, length-drop i ys)) (omega arith) (omega arith) high
+
+-- F holds of a list where Q holds of each item
+pub record IsOfEach {A : Type 0} (Q : A → Type 0) (F : List A → Type 0) : Type 0 where
+  pub none : F []
+  pub more : (x : A) (xs : List A) → Q x → F xs → F (x ∷ xs)
+  pub head : (x : A) (xs : List A) → F (x ∷ xs) → Q x
+  pub tail : (x : A) (xs : List A) → F (x ∷ xs) → F xs
+
+module _ {A : Type 0} {Q : A → Type 0} {F : List A → Type 0} (is : IsOfEach Q F) (W : Type 0) where
+  in_front : (xs : List A) (i : ℕ) (x : A) → i < length xs → x ≡ get_or xs i x → drop i xs ≡ x ∷ drop (i + 1) xs
+  in_front xs i x low here = drop_more xs i x low ∙ ap (λ y. y ∷ drop (i + 1) xs) (sym here)
+
+  -- one item further
+  pub passed : (xs : List A) (i : ℕ) (x : A) → i < length xs → x ≡ get_or xs i x → Q x → F (drop i xs) ↔ W → F (drop (i + 1) xs) ↔ W
+  passed xs i x low here q kept =
+      let all : drop i xs ≡ x ∷ drop (i + 1) xs = in_front xs i x low here in (
+        λ rest. kept.0 (subst F (sym all) (is.more x (drop (i + 1) xs) q rest)),
+        λ w. is.tail x (drop (i + 1) xs) (subst F all (kept.1 w)),
+      )
+
+  -- an item of which Q doesn't hold
+  pub stopped : (xs : List A) (i : ℕ) (x : A) → i < length xs → x ≡ get_or xs i x → (Q x → false ≡ true) → F (drop i xs) ↔ W → IsTrue false ↔ W
+  stopped xs i x low here not kept = (
+    λ no. absurd (true≢false (sym no)),
+    λ w. not (is.head x (drop (i + 1) xs) (subst F (in_front xs i x low here) (kept.1 w))),
+  )
+
+  -- no item is left
+  pub all_passed : (xs : List A) (i : ℕ) → length xs ≤ i → F (drop i xs) ↔ W → IsTrue true ↔ W
+  all_passed xs i end kept = (λ _. kept.0 (subst F (sym (at_drop_all (λ ys. ys) xs i end)) is.none), λ _. refl)

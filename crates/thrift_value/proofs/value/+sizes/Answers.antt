@@ -1,0 +1,37 @@
+use Rattle.std.proofs.Common.{◌∷◌, map, refl}
+use Rattle.thrift_value.specs.Sizes.{HasSmallSizes, HaveFieldsSmallSizes, HaveItemsSmallSizes, HavePairsSmallSizes}
+use Rattle.thrift_value.specs.TreeOf.{tree_of, field_tree, pair_tree, field_trees, item_trees, pair_trees, fields_tree, items_tree, pairs_tree}
+use Rattle.thrift_value.specs.declared.value.Value.{Value}
+use Rattle.std.proofs.Common.{ℤ, List}
+use Rattle.thrift_value.proofs.Walks.{IsOfEach, passed, stopped, all_passed}
+use Rattle.thrift_value.proofs.value.+sizes.Goals as goal
+
+small_fields : IsOfEach (λ (f : ℤ × Value). HasSmallSizes (tree_of f.1)) (λ fs. HaveFieldsSmallSizes (field_trees (map field_tree fs)))
+small_fields = record { none = tt; more = λ _ _ q rest. (q, rest); head = λ _ _ all. all.0; tail = λ _ _ all. all.1 }
+
+small_items : IsOfEach (λ x. HasSmallSizes (tree_of x)) (λ xs. HaveItemsSmallSizes (item_trees (map tree_of xs)))
+small_items = record { none = tt; more = λ _ _ q rest. (q, rest); head = λ _ _ all. all.0; tail = λ _ _ all. all.1 }
+
+pub Fields::have_small_sizes-loop-value-preserved : goal.Fields::have_small_sizes-loop-value-preserved
+Fields::have_small_sizes-loop-value-preserved t c =
+    passed small_fields (HaveFieldsSmallSizes (fields_tree c.args.self.now)) c.deref-value-items.result.now c.loop-value.value-index c.loop-value-item.result c.loop-value-test.true c.loop-value-item.is (c.if-not-has_small_sizes.ensures.0 refl) c.loop-value.invariant
+
+pub Items::have_small_sizes-loop-value-preserved : goal.Items::have_small_sizes-loop-value-preserved
+Items::have_small_sizes-loop-value-preserved t c =
+    passed small_items (HaveItemsSmallSizes (items_tree c.args.self.now)) c.deref-value-items.result.now c.loop-value.value-index c.value-item.result c.loop-value-test.true c.value-item.is (c.if-not-has_small_sizes.ensures.0 refl) c.loop-value.invariant
+
+pub Fields::have_small_sizes-returns : goal.Fields::have_small_sizes-returns
+Fields::have_small_sizes-returns t c =
+    all_passed small_fields (HaveFieldsSmallSizes (fields_tree c.args.self.now)) c.deref-value-items.result.now c.loop-value.value-index c.loop-value-test.false c.loop-value.invariant
+
+pub Items::have_small_sizes-returns : goal.Items::have_small_sizes-returns
+Items::have_small_sizes-returns t c =
+    all_passed small_items (HaveItemsSmallSizes (items_tree c.args.self.now)) c.deref-value-items.result.now c.loop-value.value-index c.loop-value-test.false c.loop-value.invariant
+
+pub Fields::have_small_sizes-returns-then-not-has_small_sizes : goal.Fields::have_small_sizes-returns-then-not-has_small_sizes
+Fields::have_small_sizes-returns-then-not-has_small_sizes t c =
+    stopped small_fields (HaveFieldsSmallSizes (fields_tree c.args.self.now)) c.deref-value-items.result.now c.loop-value.value-index c.loop-value-item.result c.loop-value-test.true c.loop-value-item.is c.if-not-has_small_sizes.ensures.1 c.loop-value.invariant
+
+pub Items::have_small_sizes-returns-then-not-has_small_sizes : goal.Items::have_small_sizes-returns-then-not-has_small_sizes
+Items::have_small_sizes-returns-then-not-has_small_sizes t c =
+    stopped small_items (HaveItemsSmallSizes (items_tree c.args.self.now)) c.deref-value-items.result.now c.loop-value.value-index c.value-item.result c.loop-value-test.true c.value-item.is c.if-not-has_small_sizes.ensures.1 c.loop-value.invariant
