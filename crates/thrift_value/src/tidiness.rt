@@ -22,9 +22,24 @@ impl Value {
             | Value::I64(_)
             | Value::Double(_)
             | Value::Bytes(_) => true,
-            Value::Struct(fields) => fields.rise() && fields.are_tidy(),
-            Value::Map(key, value, pairs) => pairs.are_tidy(*key, *value) && pairs.rise(),
-            Value::Set(element, items) => items.are_tidy(*element) && items.rise(),
+            Value::Struct(fields) => {
+                if !fields.rise() {
+                    return false;
+                }
+                fields.are_tidy()
+            }
+            Value::Map(key, value, pairs) => {
+                if !pairs.rise() {
+                    return false;
+                }
+                pairs.are_tidy(*key, *value)
+            }
+            Value::Set(element, items) => {
+                if !items.rise() {
+                    return false;
+                }
+                items.are_tidy(*element)
+            }
             Value::List(element, items) => items.are_tidy(*element),
         }
     }
@@ -76,7 +91,10 @@ impl Items {
         ensures { IsTrue result ↔ AreTidyItems element (items_tree self.now) }
     {
         for value in &self.list {
-            if value.tag() != element || !value.is_tidy() {
+            if value.tag() != element {
+                return false;
+            }
+            if !value.is_tidy() {
                 return false;
             }
         }
@@ -103,7 +121,16 @@ impl Pairs {
         ensures { IsTrue result ↔ AreTidyPairs key value (pairs_tree self.now) }
     {
         for (k, v) in &self.list {
-            if k.tag() != key || v.tag() != value || !k.is_tidy() || !v.is_tidy() {
+            if k.tag() != key {
+                return false;
+            }
+            if v.tag() != value {
+                return false;
+            }
+            if !k.is_tidy() {
+                return false;
+            }
+            if !v.is_tidy() {
                 return false;
             }
         }

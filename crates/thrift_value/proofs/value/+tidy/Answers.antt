@@ -1,23 +1,71 @@
-use Rattle.std.proofs.Common.{◌≡◌, ◌+◌, ◌∷◌, drop, map, sym, ap, ◌∙◌, subst, refl, rules}
-use Rattle.std.specs.Prelude.{◌↔◌}
-use Rattle.std.proofs.lemmas.List.{drop_more}
+use Rattle.std.proofs.Common.{◌≡◌, ℤ, ◌∷◌, map, refl, rules}
+use Rattle.thrift_value.specs.declared.tag.Tag.{Tag}
+use Rattle.thrift_value.specs.declared.value.Value.{Value}
 use Rattle.thrift_value.specs.Tags.{tag_of}
-use Rattle.thrift_value.specs.Tidy.{IsTidy, AreTidyPairs}
-use Rattle.thrift_value.specs.TreeOf.{tree_of, pair_tree, pair_trees, pairs_tree}
-use Rattle.thrift_value.proofs.TidyLaws.{tidied_pair}
+use Rattle.thrift_value.specs.Tidy.{IsTidy, AreTidyFields, AreTidyItems, AreTidyPairs}
+use Rattle.thrift_value.specs.TreeOf.{tree_of, field_tree, pair_tree, field_trees, item_trees, pair_trees, fields_tree, items_tree, pairs_tree}
+use Rattle.thrift_value.proofs.Walks.{IsOfEach, passed, stopped, all_passed}
 use Rattle.thrift_value.proofs.value.+tidy.Goals as goal
+
+tidy_fields : IsOfEach (λ (f : ℤ × Value). IsTidy (tree_of f.1)) (λ fs. AreTidyFields (field_trees (map field_tree fs)))
+tidy_fields = record {
+  none = (tt, tt);
+  more = λ _ _ q rest. ((q.tagged, rest.0), (q.in_order, rest.1));
+  head = λ _ _ all. record { tagged = all.0.0; in_order = all.1.0 };
+  tail = λ _ _ all. (all.0.1, all.1.1);
+}
+
+tidy_items : (element : Tag) → IsOfEach (λ x. (tag_of (tree_of x) ≡ element) × IsTidy (tree_of x)) (λ xs. AreTidyItems element (item_trees (map tree_of xs)))
+tidy_items element = record {
+  none = (tt, tt);
+  more = λ _ _ q rest. ((q.0, q.1.tagged, rest.0), (q.1.in_order, rest.1));
+  head = λ _ _ all. (all.0.0, record { tagged = all.0.1; in_order = all.1.0 });
+  tail = λ _ _ all. (all.0.2, all.1.1);
+}
+
+tidy_pairs : (key value : Tag)
+    → IsOfEach (λ (p : Value × Value). (tag_of (tree_of p.0) ≡ key) × (tag_of (tree_of p.1) ≡ value) × IsTidy (tree_of p.0) × IsTidy (tree_of p.1))
+    (λ ps. AreTidyPairs key value (pair_trees (map pair_tree ps)))
+tidy_pairs key value = record {
+  none = (tt, tt);
+  more = λ _ _ q rest. ((q.0, q.1, q.2.tagged, q.3.tagged, rest.0), (q.2.in_order, q.3.in_order, rest.1));
+  head = λ _ _ all. (all.0.0, all.0.1, record { tagged = all.0.2; in_order = all.1.0 }, record { tagged = all.0.3; in_order = all.1.1 });
+  tail = λ _ _ all. (all.0.4, all.1.2);
+}
+
+pub Fields::are_tidy-loop-value-preserved : goal.Fields::are_tidy-loop-value-preserved
+Fields::are_tidy-loop-value-preserved t c =
+    passed tidy_fields (AreTidyFields (fields_tree c.args.self.now)) c.deref-value-items.result.now c.loop-value.value-index c.loop-value-item.result c.loop-value-test.true c.loop-value-item.is (c.if-not-is_tidy.ensures.0 refl) c.loop-value.invariant
+
+pub Fields::are_tidy-returns : goal.Fields::are_tidy-returns
+Fields::are_tidy-returns t c =
+    all_passed tidy_fields (AreTidyFields (fields_tree c.args.self.now)) c.deref-value-items.result.now c.loop-value.value-index c.loop-value-test.false c.loop-value.invariant
+
+pub Fields::are_tidy-returns-then-not-is_tidy : goal.Fields::are_tidy-returns-then-not-is_tidy
+Fields::are_tidy-returns-then-not-is_tidy t c =
+    stopped tidy_fields (AreTidyFields (fields_tree c.args.self.now)) c.deref-value-items.result.now c.loop-value.value-index c.loop-value-item.result c.loop-value-test.true c.loop-value-item.is c.if-not-is_tidy.ensures.1 c.loop-value.invariant
+
+pub Items::are_tidy-loop-value-preserved : goal.Items::are_tidy-loop-value-preserved
+Items::are_tidy-loop-value-preserved t c =
+    let tag : tag_of (tree_of c.value-item.result) ≡ c.args.element = search rules in
+    passed (tidy_items c.args.element) (AreTidyItems c.args.element (items_tree c.args.self.now)) c.deref-value-items.result.now c.loop-value.value-index c.value-item.result c.loop-value-test.true c.value-item.is (tag, c.if-not-is_tidy.ensures.0 refl) c.loop-value.invariant
+
+pub Items::are_tidy-returns : goal.Items::are_tidy-returns
+Items::are_tidy-returns t c =
+    all_passed (tidy_items c.args.element) (AreTidyItems c.args.element (items_tree c.args.self.now)) c.deref-value-items.result.now c.loop-value.value-index c.loop-value-test.false c.loop-value.invariant
+
+pub Items::are_tidy-returns-then-not-is_tidy : goal.Items::are_tidy-returns-then-not-is_tidy
+Items::are_tidy-returns-then-not-is_tidy t c =
+    stopped (tidy_items c.args.element) (AreTidyItems c.args.element (items_tree c.args.self.now)) c.deref-value-items.result.now c.loop-value.value-index c.value-item.result c.loop-value-test.true c.value-item.is (λ q. c.if-not-is_tidy.ensures.1 q.1) c.loop-value.invariant
 
 pub Pairs::are_tidy-loop-k-preserved : goal.Pairs::are_tidy-loop-k-preserved
 Pairs::are_tidy-loop-k-preserved t c =
     let p = c.loop-k-item.result in
-    let ps = c.deref-k-items.result.now in
-    let i = c.loop-k.k-index in
     let tk : tag_of (tree_of p.0) ≡ c.args.key = search rules in
     let tv : tag_of (tree_of p.1) ≡ c.args.value = search rules in
-    let a : IsTidy (tree_of p.0) = c.if-not-is_tidy.ensures.0 refl in
-    let b : IsTidy (tree_of p.1) = c.if-not-is_tidy-2.ensures.0 refl in
-    let all : drop i ps ≡ p ∷ drop (i + 1) ps = drop_more ps i p c.loop-k-test.true ∙ ap (λ q. q ∷ drop (i + 1) ps) (sym c.loop-k-item.is) in
-    let W : Type 0 = AreTidyPairs c.args.key c.args.value (pairs_tree c.args.self.now) in
-    let kept : AreTidyPairs c.args.key c.args.value (pair_trees (map pair_tree (p ∷ drop (i + 1) ps))) ↔ W =
-    subst (λ qs. AreTidyPairs c.args.key c.args.value (pair_trees (map pair_tree qs)) ↔ W) all c.loop-k.invariant in
-    tidied_pair c.args.key c.args.value (tree_of p.0) (tree_of p.1) (pair_trees (map pair_tree (drop (i + 1) ps))) W tk tv a b kept
+    passed (tidy_pairs c.args.key c.args.value) (AreTidyPairs c.args.key c.args.value (pairs_tree c.args.self.now)) c.deref-k-items.result.now c.loop-k.k-index p c.loop-k-test.true c.loop-k-item.is
+    (tk, tv, c.if-not-is_tidy.ensures.0 refl, c.if-not-is_tidy-2.ensures.0 refl) c.loop-k.invariant
+
+pub Pairs::are_tidy-returns : goal.Pairs::are_tidy-returns
+Pairs::are_tidy-returns t c =
+    all_passed (tidy_pairs c.args.key c.args.value) (AreTidyPairs c.args.key c.args.value (pairs_tree c.args.self.now)) c.deref-k-items.result.now c.loop-k.k-index c.loop-k-test.false c.loop-k.invariant
