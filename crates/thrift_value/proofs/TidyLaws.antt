@@ -1,13 +1,13 @@
 -- Steps of the loops that test whether a value is tidy.
-use Rattle.std.specs.Prelude.{◌↔◌}
-use Rattle.std.proofs.Common.{◌≡◌, ℕ, ℤ, ◌+◌, ◌-◌, ◌≤◌, ◌<◌, ◌<ℤ◌, List, [], ◌∷◌, length, drop, get_or, map, Less, sym, ap, ◌∙◌, subst, arith, length-drop}
+use Rattle.std.specs.Prelude.{◌↔◌, IsTrue}
+use Rattle.std.proofs.Common.{◌≡◌, ℕ, ℤ, Bool, true, false, true≢false, ◌+◌, ◌-◌, ◌≤◌, ◌<◌, ◌<ℤ◌, List, [], ◌∷◌, length, drop, get_or, map, Less, sym, ap, ◌∙◌, subst, arith, length-drop}
 use Rattle.std.proofs.lemmas.Int.{ints}
 use Rattle.std.proofs.lemmas.List.{drop_more}
 use Rattle.thrift_value.specs.declared.tag.Tag.{Tag}
-use Rattle.thrift_value.specs.Tree.{Tree, of_map, FieldTrees, no_fields, field, ItemTrees, no_items, item, PairTrees, no_pairs, pair}
+use Rattle.thrift_value.specs.Tree.{Tree, of_struct, of_map, of_set, FieldTrees, no_fields, field, ItemTrees, no_items, item, PairTrees, no_pairs, pair}
 use Rattle.thrift_value.specs.Tags.{tag_of}
 use Rattle.thrift_value.specs.Order.{tree_cmp}
-use Rattle.thrift_value.specs.Tidy.{IsTidy, AreTidyPairs, IsBelowIds, IsBelowItems, IsBelowKeys, AreRisingFields, AreRisingItems, AreRisingPairs}
+use Rattle.thrift_value.specs.Tidy.{IsTidy, AreTidyFields, AreTidyItems, AreTidyPairs, IsBelowIds, IsBelowItems, IsBelowKeys, AreRisingFields, AreRisingItems, AreRisingPairs}
 use Rattle.thrift_value.specs.TreeOf.{tree_of, field_tree, pair_tree, field_trees, item_trees, pair_trees}
 use Rattle.thrift_value.proofs.TotalOrder.{tree_cmp_total}
 
@@ -80,12 +80,17 @@ module _ {A : Type 0} {R : A → A → Type 0} {P : List A → Type 0} (is : IsC
   pub chained_all : (xs : List A) (i : ℕ) → 1 ≤ i → length xs ≤ i → P (drop (i - 1) xs) ↔ W → W
   chained_all xs i low high kept = kept.0 (short (drop (i - 1) xs) (omega (arith, length-drop (i - 1) xs)))
 
--- one pair further
-pub tidied_pair : (key value : Tag) (k v : Tree) (more : PairTrees) (W : Type 0) → tag_of k ≡ key → tag_of v ≡ value → IsTidy k → IsTidy v
-    → AreTidyPairs key value (pair k v more) ↔ W → AreTidyPairs key value more ↔ W
-tidied_pair key value k v more W tk tv a b kept = (
-  λ rest. kept.0 ((tk, tv, a.tagged, b.tagged, rest.0), (a.in_order, b.in_order, rest.1)),
-  λ w. let all = kept.1 w in (all.0.4, all.1.2),
+-- a tidy struct, and a tidy set
+pub tidy_struct : (x : Tree) (fields : FieldTrees) → x ≡ of_struct fields → IsTidy x ↔ (AreTidyFields fields × AreRisingFields fields)
+tidy_struct x _ is = (
+  λ tidy. let at = subst IsTidy is tidy in ((at.tagged, at.in_order.1), at.in_order.0),
+  λ h. subst IsTidy (sym is) (record { tagged = h.0.0; in_order = (h.1, h.0.1) }),
+)
+
+pub tidy_set : (x : Tree) (element : Tag) (items : ItemTrees) → x ≡ of_set element items → IsTidy x ↔ (AreTidyItems element items × AreRisingItems items)
+tidy_set x element items is = (
+  λ tidy. let at = subst IsTidy is tidy in ((at.tagged, at.in_order.1), at.in_order.0),
+  λ h. subst IsTidy (sym is) (record { tagged = h.0.0; in_order = (h.1, h.0.1) }),
 )
 
 -- a tidy map
@@ -94,3 +99,12 @@ tidy_map x key value pairs is = (
   λ tidy. let at = subst IsTidy is tidy in ((at.tagged, at.in_order.1), at.in_order.0),
   λ h. subst IsTidy (sym is) (record { tagged = h.0.0; in_order = (h.1, h.0.1) }),
 )
+
+module _ {R T W : Type 0} (both : W ↔ (T × R)) where
+  -- of two tests the first has failed
+  pub first_failed : (R → false ≡ true) → IsTrue false ↔ W
+  first_failed not = (λ no. absurd (true≢false (sym no)), λ w. not (both.0 w).1)
+
+  -- the first has passed, so the second decides
+  pub second_decides : (b : Bool) → R → IsTrue b ↔ T → IsTrue b ↔ W
+  second_decides b r decides = (λ yes. both.1 (decides.0 yes, r), λ w. decides.1 (both.0 w).0)

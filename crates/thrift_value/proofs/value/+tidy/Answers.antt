@@ -4,6 +4,8 @@ use Rattle.thrift_value.specs.declared.value.Value.{Value}
 use Rattle.thrift_value.specs.Tags.{tag_of}
 use Rattle.thrift_value.specs.Tidy.{IsTidy, AreTidyFields, AreTidyItems, AreTidyPairs}
 use Rattle.thrift_value.specs.TreeOf.{tree_of, field_tree, pair_tree, field_trees, item_trees, pair_trees, fields_tree, items_tree, pairs_tree}
+use Rattle.thrift_value.proofs.Trees.{tree_of-is_Struct, tree_of-is_Map, tree_of-is_Set}
+use Rattle.thrift_value.proofs.TidyLaws.{tidy_struct, tidy_map, tidy_set, first_failed, second_decides}
 use Rattle.thrift_value.proofs.Walks.{IsOfEach, passed, stopped, all_passed}
 use Rattle.thrift_value.proofs.value.+tidy.Goals as goal
 
@@ -69,3 +71,37 @@ Pairs::are_tidy-loop-k-preserved t c =
 pub Pairs::are_tidy-returns : goal.Pairs::are_tidy-returns
 Pairs::are_tidy-returns t c =
     all_passed (tidy_pairs c.args.key c.args.value) (AreTidyPairs c.args.key c.args.value (pairs_tree c.args.self.now)) c.deref-k-items.result.now c.loop-k.k-index c.loop-k-test.false c.loop-k.invariant
+
+pub Pairs::are_tidy-returns-then-not-is_tidy : goal.Pairs::are_tidy-returns-then-not-is_tidy
+Pairs::are_tidy-returns-then-not-is_tidy t c =
+    stopped (tidy_pairs c.args.key c.args.value) (AreTidyPairs c.args.key c.args.value (pairs_tree c.args.self.now)) c.deref-k-items.result.now c.loop-k.k-index c.loop-k-item.result c.loop-k-test.true c.loop-k-item.is
+    (λ q. c.if-not-is_tidy.ensures.1 q.2) c.loop-k.invariant
+
+pub Pairs::are_tidy-returns-then-not-is_tidy-2 : goal.Pairs::are_tidy-returns-then-not-is_tidy-2
+Pairs::are_tidy-returns-then-not-is_tidy-2 t c =
+    stopped (tidy_pairs c.args.key c.args.value) (AreTidyPairs c.args.key c.args.value (pairs_tree c.args.self.now)) c.deref-k-items.result.now c.loop-k.k-index c.loop-k-item.result c.loop-k-test.true c.loop-k-item.is
+    (λ q. c.if-not-is_tidy-2.ensures.1 q.3) c.loop-k.invariant
+
+pub Value::is_tidy-returns-then-not-rise : goal.Value::is_tidy-returns-then-not-rise
+Value::is_tidy-returns-then-not-rise t c =
+    first_failed (tidy_struct _ _ (tree_of-is_Struct _ c.in-Struct.fields c.in-Struct.is)) c.if-not-rise.ensures.1
+
+pub Value::is_tidy-returns-else-not-rise : goal.Value::is_tidy-returns-else-not-rise
+Value::is_tidy-returns-else-not-rise t c =
+    second_decides (tidy_struct _ _ (tree_of-is_Struct _ c.in-Struct.fields c.in-Struct.is)) c.are_tidy.result (c.if-not-rise.ensures.0 refl) c.are_tidy.ensures
+
+pub Value::is_tidy-returns-then-not-rise-2 : goal.Value::is_tidy-returns-then-not-rise-2
+Value::is_tidy-returns-then-not-rise-2 t c =
+    first_failed (tidy_map _ _ _ _ (tree_of-is_Map _ c.in-Map.key c.in-Map.value c.in-Map.pairs c.in-Map.is)) c.if-not-rise-2.ensures.1
+
+pub Value::is_tidy-returns-else-not-rise-2 : goal.Value::is_tidy-returns-else-not-rise-2
+Value::is_tidy-returns-else-not-rise-2 t c =
+    second_decides (tidy_map _ _ _ _ (tree_of-is_Map _ c.in-Map.key c.in-Map.value c.in-Map.pairs c.in-Map.is)) c.are_tidy-in-Map.result (c.if-not-rise-2.ensures.0 refl) c.are_tidy-in-Map.ensures
+
+pub Value::is_tidy-returns-then-not-rise-3 : goal.Value::is_tidy-returns-then-not-rise-3
+Value::is_tidy-returns-then-not-rise-3 t c =
+    first_failed (tidy_set _ _ _ (tree_of-is_Set _ c.in-Set.element c.in-Set.items c.in-Set.is)) c.if-not-rise-3.ensures.1
+
+pub Value::is_tidy-returns-else-not-rise-3 : goal.Value::is_tidy-returns-else-not-rise-3
+Value::is_tidy-returns-else-not-rise-3 t c =
+    second_decides (tidy_set _ _ _ (tree_of-is_Set _ c.in-Set.element c.in-Set.items c.in-Set.is)) c.are_tidy-in-Set.result (c.if-not-rise-3.ensures.0 refl) c.are_tidy-in-Set.ensures
