@@ -1,8 +1,9 @@
 -- Where a loop over a list stands at its end.
-use Rattle.std.proofs.Common.{◌≡◌, ℕ, ◌+◌, ◌-◌, ◌≤◌, ◌<◌, true, false, true≢false, List, [], ◌∷◌, length, drop, get_or, min, max, Ordering, Less, Equal, Greater, nat_cmp, arith, refl, sym, ap, subst, ◌∙◌, length-drop}
+use Rattle.std.proofs.Common.{◌≡◌, ℕ, ◌+◌, ◌-◌, ◌≤◌, ◌<◌, true, false, true≢false, List, [], ◌∷◌, length, drop, get_or, min, max, Ordering, Less, Equal, Greater, nat_cmp, arith, refl, sym, ap, ap₂, subst, ◌∙◌, length-drop}
 use Rattle.std.proofs.lemmas.Bool.Decides.{nat_tests}
 use Rattle.std.proofs.lemmas.List.{at_drop_all, drop_more}
 use Rattle.std.specs.Prelude.{◌↔◌, IsTrue}
+use Rattle.std.specs.Ordering.{is_ne, ordering_then}
 
 -- a sum that is kept below a limit, when nothing is left
 pub summed : {A : Type 0} (F : List A → ℕ) (xs : List A) (i n whole limit : ℕ) → F [] ≡ 0 → length xs ≤ i
@@ -62,3 +63,28 @@ module _ {A : Type 0} {Q : A → Type 0} {F : List A → Type 0} (is : IsOfEach 
   -- no item is left
   pub all_passed : (xs : List A) (i : ℕ) → length xs ≤ i → F (drop i xs) ↔ W → IsTrue true ↔ W
   all_passed xs i end kept = (λ _. kept.0 (subst F (sym (at_drop_all (λ ys. ys) xs i end)) is.none), λ _. refl)
+
+-- where an ordering doesn't decide it is equality
+undecided : (o : Ordering) → false ≡ is_ne o → o ≡ Equal
+undecided Less e = absurd (true≢false (sym e))
+undecided Equal e = refl
+undecided Greater e = absurd (true≢false (sym e))
+
+-- the first of three orderings that decides, however they are grouped
+pub then_grouped : (a b c : Ordering) → ordering_then a (ordering_then b c) ≡ ordering_then (ordering_then a b) c
+then_grouped Less b c = refl
+then_grouped Equal b c = refl
+then_grouped Greater b c = refl
+
+-- G orders lists item by item, and two items are alike
+pub alike : {A : Type 0} (C : A → A → Ordering) (G : List A → List A → Ordering)
+    → ((x y : A) (xs ys : List A) → G (x ∷ xs) (y ∷ ys) ≡ ordering_then (C x y) (G xs ys))
+    → (xs ys : List A) (i : ℕ) (x y : A) (o whole : Ordering) → i < length xs → i < length ys → x ≡ get_or xs i x → y ≡ get_or ys i y
+    → o ≡ C x y → false ≡ is_ne o → G (drop i xs) (drop i ys) ≡ whole → G (drop (i + 1) xs) (drop (i + 1) ys) ≡ whole
+alike C G step xs ys i x y o whole low below here there is same kept =
+    let front : drop i xs ≡ x ∷ drop (i + 1) xs = drop_more xs i x low ∙ ap (λ z. z ∷ drop (i + 1) xs) (sym here) in
+    let other : drop i ys ≡ y ∷ drop (i + 1) ys = drop_more ys i y below ∙ ap (λ z. z ∷ drop (i + 1) ys) (sym there) in
+    let rest = G (drop (i + 1) xs) (drop (i + 1) ys) in
+    let all : G (drop i xs) (drop i ys) ≡ ordering_then (C x y) rest = ap₂ G front other ∙ step x y (drop (i + 1) xs) (drop (i + 1) ys) in
+    let equal : C x y ≡ Equal = sym is ∙ undecided o same in
+    sym (all ∙ ap (λ z. ordering_then z rest) equal) ∙ kept
