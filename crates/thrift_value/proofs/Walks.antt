@@ -1,8 +1,8 @@
 -- Where a loop over a list stands at its end.
-use Rattle.std.proofs.Common.{◌≡◌, ℕ, ◌+◌, ◌-◌, ◌≤◌, ◌<◌, true, false, true≢false, List, [], ◌∷◌, length, drop, get_or, min, max, Ordering, Less, Equal, Greater, nat_cmp, arith, refl, sym, ap, ap₂, subst, ◌∙◌, length-drop}
+use Rattle.std.proofs.Common.{◌≡◌, ℕ, ◌+◌, ◌-◌, ◌≤◌, ◌<◌, true, false, true≢false, List, [], ◌∷◌, ◌++◌, length, map, take, drop, get_or, Result, Ok, Err, min, max, Ordering, Less, Equal, Greater, nat_cmp, arith, refl, sym, ap, ap₂, subst, ◌∙◌, length-drop}
 use Rattle.std.proofs.lemmas.Bool.Decides.{nat_tests}
-use Rattle.std.proofs.lemmas.List.{at_drop_all, drop_more}
-use Rattle.std.specs.Prelude.{◌↔◌, IsTrue}
+use Rattle.std.proofs.lemmas.List.{at_drop_all, drop_more, take_more, map-append}
+use Rattle.std.specs.Prelude.{◌↔◌, IsTrue, IfOk, MatchResult}
 use Rattle.std.specs.Ordering.{is_ne, ordering_then}
 
 -- a sum that is kept below a limit, when nothing is left
@@ -88,3 +88,13 @@ alike C G step xs ys i x y o whole low below here there is same kept =
     let all : G (drop i xs) (drop i ys) ≡ ordering_then (C x y) rest = ap₂ G front other ∙ step x y (drop (i + 1) xs) (drop (i + 1) ys) in
     let equal : C x y ≡ Equal = sym is ∙ undecided o same in
     sym (all ∙ ap (λ z. ordering_then z rest) equal) ∙ kept
+
+-- one more copy, or what it is part of, behind those of the front
+pub copied : {A E Y B T : Type 0} (view : A → B) (tree : Y → T) (part : Y → A) (v : Y) (xs : List A) (i : ℕ) (x : A) (old new : List A) (made : Result Y E)
+    → i < length xs → x ≡ get_or xs i x → ((y : Y) → tree y ≡ tree v → view (part y) ≡ view x)
+    → IfOk made (λ y. tree y ≡ tree v) → MatchResult made (λ y. new ≡ old ++ part y ∷ []) (λ _. false ≡ true)
+    → map view old ≡ map view (take i xs) → map view new ≡ map view (take (i + 1) xs)
+copied view tree part v xs i x old new (Ok y) low here alike same put kept =
+    ap (map view) put ∙ map-append view old (part y ∷ []) ∙ (λ k. kept k ++ alike y same k ∷ []) ∙ sym (map-append view (take i xs) (x ∷ []))
+    ∙ ap (map view) (sym (take_more xs i x low ∙ ap (λ z. take i xs ++ z ∷ []) (sym here)))
+copied view tree part v xs i x old new (Err e) low here alike same put kept = absurd (true≢false (sym put))

@@ -1,9 +1,29 @@
 //! Copies of values.
-ghost use Rattle.std.specs.Prelude.{◌≡◌, IfOk};
+ghost use Rattle.std.specs.Prelude.{◌≡◌, ◌++◌, ◌∷◌, [], IfOk, OnOk, IsErr, MatchResult};
 ghost use Rattle.thrift_value.specs.TreeOf.{tree_of, fields_tree, items_tree, pairs_tree};
 
 use crate::value::{Fields, Items, Pairs, Value};
 use std::alloc::{AllocError, Global};
+
+/// Adds a copy that was made, where there is memory.
+fn put<T: Drop>(copies: &mut Vec<T>, copy: Result<T, AllocError>) -> Result<(), AllocError>
+    ensures { MatchResult copy (λ made. OnOk result (copies.new.items ≡ copies.old.items ++ made ∷ [])) (λ _. IsErr result) }
+{
+    match copy {
+        Ok(made) => Ok(copies.push(made)?),
+        Err(error) => Err(error),
+    }
+}
+
+/// Adds a copy that was made behind something else, where there is memory.
+fn put_beside<A: Drop, B: Drop>(copies: &mut Vec<(A, B)>, first: A, copy: Result<B, AllocError>) -> Result<(), AllocError>
+    ensures { MatchResult copy (λ made. OnOk result (copies.new.items ≡ copies.old.items ++ (first, made) ∷ [])) (λ _. IsErr result) }
+{
+    match copy {
+        Ok(made) => Ok(copies.push((first, made))?),
+        Err(error) => Err(error),
+    }
+}
 
 #[tactic(auto, using(crate::proofs::Trees::tree_equations))]
 impl Value {
@@ -36,7 +56,7 @@ impl Fields {
     {
         let mut copies = Vec::with_capacity(alloc, self.list.len())?;
         for (id, value) in &self.list {
-            copies.push((*id, value.try_clone(alloc)?))?;
+            put_beside(&mut copies, *id, value.try_clone(alloc))?;
         }
         Ok(Fields::new(copies))
     }
@@ -50,7 +70,7 @@ impl Items {
     {
         let mut copies = Vec::with_capacity(alloc, self.list.len())?;
         for value in &self.list {
-            copies.push(value.try_clone(alloc)?)?;
+            put(&mut copies, value.try_clone(alloc))?;
         }
         Ok(Items::new(copies))
     }
@@ -64,7 +84,8 @@ impl Pairs {
     {
         let mut copies = Vec::with_capacity(alloc, self.list.len())?;
         for (key, value) in &self.list {
-            copies.push((key.try_clone(alloc)?, value.try_clone(alloc)?))?;
+            let key = key.try_clone(alloc)?;
+            put_beside(&mut copies, key, value.try_clone(alloc))?;
         }
         Ok(Pairs::new(copies))
     }
