@@ -1,13 +1,13 @@
 //! The text of definitions.
-ghost use Rattle.std.specs.Prelude.{◌≡◌, ◌++◌, OnOk};
+ghost use Rattle.std.specs.Prelude.{◌≡◌, ◌++◌, codes, OnOk};
 ghost use Rattle.std.specs.List.{flat_map};
 ghost use Rattle.std.specs.Option.{option_copied};
-ghost use Rattle.idl_parser.specs.Printed.{maybe_text, oneway_text, result_text, throws_text, signature_text, function_text, function_line, const_text, typedef_text, number_text, enum_value_text, enum_value_line, enum_text, struct_word_text, struct_text, parent_text, service_text, definition_text, opening_line, closing_line};
+ghost use Rattle.idl_parser.specs.Printed.{line_end, value_text, maybe_text, oneway_text, result_text, throws_text, signature_text, function_text, function_line, const_text, typedef_text, number_text, enum_value_text, enum_value_line, enum_text, struct_word_text, struct_text, parent_text, service_text, definition_text, opening_line, closing_line};
 
 use crate::field_printer::{put_arguments, put_field_lines};
 use crate::tree::{
-    Const, Definition, Enum, EnumValue, Field, Function, Int, Name, Service, Struct, StructKind,
-    TypeTree, Typedef,
+    Const, ConstTree, Definition, Enum, EnumValue, Field, Function, Int, Name, Service, Struct,
+    StructKind, TypeTree, Typedef,
 };
 use crate::type_printer::{put_spaced_word, put_type, put_word};
 use crate::value_printer::{put_int, put_value};
@@ -32,6 +32,15 @@ fn put_name(into: &mut Vec<u8>, name: &Name) -> Result<(), AllocError>
     into.extend_from_slice(name.text.as_slice())
 }
 
+/// Appends the sign of equality, a value and a line's end.
+fn put_assigned(into: &mut Vec<u8>, value: &ConstTree) -> Result<(), AllocError>
+    ensures { OnOk result (into.new.items ≡ into.old.items ++ (codes " = " ++ (value_text value.now ++ line_end))) }
+{
+    into.extend_from_slice(b" = ")?;
+    put_value(into, value)?;
+    into.extend_from_slice(b"\n")
+}
+
 #[tactic(auto, unfolding(crate::specs::Printed::const_text))]
 fn put_const(into: &mut Vec<u8>, constant: &Const) -> Result<(), AllocError>
     ensures { OnOk result (into.new.items ≡ into.old.items ++ const_text constant.now) }
@@ -40,9 +49,7 @@ fn put_const(into: &mut Vec<u8>, constant: &Const) -> Result<(), AllocError>
     put_type(into, &constant.kind)?;
     into.extend_from_slice(b" ")?;
     put_name(into, &constant.name)?;
-    into.extend_from_slice(b" = ")?;
-    put_value(into, &constant.value)?;
-    into.extend_from_slice(b"\n")
+    put_assigned(into, &constant.value)
 }
 
 #[tactic(auto, unfolding(crate::specs::Printed::typedef_text))]

@@ -14,8 +14,8 @@ ghost use Rattle.idl_parser.specs.Documents.{deepest};
 
 use crate::reader::{MAX_SYMBOLS, Stop, SymbolReader, deepest, joined, kept, put};
 use crate::tree::{
-    Const, ConstTree, Definition, Enum, EnumValue, Field, Function, Int, Name, Service, Struct, StructKind,
-    TypeTree, Typedef,
+    Const, ConstTree, Definition, Enum, EnumValue, Field, Function, Int, Name, Service, Struct,
+    StructKind, TypeTree, Typedef,
 };
 use idl_token::{Place, Terminal};
 

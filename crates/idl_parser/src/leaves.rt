@@ -4,9 +4,9 @@ ghost use Rattle.std.specs.Int.{w64};
 ghost use Rattle.idl_parser.specs.Leaves.{escaped, unescaped, literal_bytes, int_number};
 
 use crate::reader::Stop;
+use byte_text::ByteText;
 use idl_token::int_value;
 use std::alloc::Global;
-use byte_text::ByteText;
 
 fn escaped(byte: u8) -> u8
     ensures { result ≡ escaped byte }

@@ -71,4 +71,3 @@ pub fn a_printed_document_is_parsed_to_itself()
     ensures { (d parsed : Document) (tokens : List Token) → IsParsed d → AreTokensOf tokens (printed d)
         → DocumentIn deepest (lexemes (printed d) tokens) (document_node parsed) → without_places (document_node parsed) ≡ without_places (document_node d) }
 {}
-

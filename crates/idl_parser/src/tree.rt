@@ -1,7 +1,7 @@
 //! Documents as trees.
 
-use idl_token::Place;
 use byte_text::ByteText;
+use idl_token::Place;
 
 /// An identifier.
 #[derive(Drop)]
