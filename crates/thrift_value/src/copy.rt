@@ -16,7 +16,11 @@ fn put<T: Drop>(copies: &mut Vec<T>, copy: Result<T, AllocError>) -> Result<(), 
 }
 
 /// Adds a copy that was made behind something else, where there is memory.
-fn put_beside<A: Drop, B: Drop>(copies: &mut Vec<(A, B)>, first: A, copy: Result<B, AllocError>) -> Result<(), AllocError>
+fn put_beside<A: Drop, B: Drop>(
+    copies: &mut Vec<(A, B)>,
+    first: A,
+    copy: Result<B, AllocError>,
+) -> Result<(), AllocError>
     ensures { MatchResult copy (λ made. OnOk result (copies.new.items ≡ copies.old.items ++ (first, made) ∷ [])) (λ _. IsErr result) }
 {
     match copy {
