@@ -5,7 +5,6 @@ use Rattle.std.proofs.lemmas.Int.{ints}
 use Rattle.std.proofs.lemmas.List.{drop_more}
 use Rattle.thrift_value.specs.declared.tag.Tag.{Tag}
 use Rattle.thrift_value.specs.Tree.{Tree, of_struct, of_map, of_set, FieldTrees, no_fields, field, ItemTrees, no_items, item, PairTrees, no_pairs, pair}
-use Rattle.thrift_value.specs.Tags.{tag_of}
 use Rattle.thrift_value.specs.Order.{tree_cmp}
 use Rattle.thrift_value.specs.Tidy.{IsTidy, AreTidyFields, AreTidyItems, AreTidyPairs, IsBelowIds, IsBelowItems, IsBelowKeys, AreRisingFields, AreRisingItems, AreRisingPairs}
 use Rattle.thrift_value.specs.TreeOf.{tree_of, field_tree, pair_tree, field_trees, item_trees, pair_trees}

@@ -34,6 +34,24 @@ pub levelled : {A : Type 0} (G : List A → List A → Ordering) → IsByLength 
 levelled G is xs ys i m n p q low high =
     by_length G is (drop i xs) (drop i ys) i m n (omega (arith, length-drop i xs)) (omega (arith, length-drop i ys)) (omega arith) (omega arith) high
 
+-- one item further, where the greatest so far is kept below a limit
+pub topped_on : {A : Type 0} (F : List A → ℕ) (xs : List A) (i : ℕ) (x : A) (n next mine most whole limit : ℕ) → i < length xs → x ≡ get_or xs i x
+    → F (x ∷ drop (i + 1) xs) ≡ max mine (F (drop (i + 1) xs)) → most ≡ min mine limit → next ≡ max most n
+    → (n ≤ limit) × (min (max n (F (drop i xs))) limit ≡ min whole limit)
+    → (next ≤ limit) × (min (max next (F (drop (i + 1) xs))) limit ≡ min whole limit)
+topped_on F xs i x n next mine most whole limit low here step is now kept =
+    let front : F (drop i xs) ≡ max mine (F (drop (i + 1) xs)) = ap F (drop_more xs i x low ∙ ap (λ y. y ∷ drop (i + 1) xs) (sym here)) ∙ step in
+    (omega (arith, is, now, kept.0), omega (arith, front, is, now, kept.0, kept.1))
+
+-- the same of a sum
+pub summed_on : {A : Type 0} (F : List A → ℕ) (xs : List A) (i : ℕ) (x : A) (n next mine most whole limit : ℕ) → i < length xs → x ≡ get_or xs i x
+    → F (x ∷ drop (i + 1) xs) ≡ mine + F (drop (i + 1) xs) → most ≡ min mine limit → next ≡ min (n + most) limit
+    → (n ≤ limit) × (min (n + F (drop i xs)) limit ≡ min whole limit)
+    → (next ≤ limit) × (min (next + F (drop (i + 1) xs)) limit ≡ min whole limit)
+summed_on F xs i x n next mine most whole limit low here step is now kept =
+    let front : F (drop i xs) ≡ mine + F (drop (i + 1) xs) = ap F (drop_more xs i x low ∙ ap (λ y. y ∷ drop (i + 1) xs) (sym here)) ∙ step in
+    (omega (arith, is, now, kept.0), omega (arith, front, is, now, kept.0, kept.1))
+
 -- F holds of a list where Q holds of each item
 pub record IsOfEach {A : Type 0} (Q : A → Type 0) (F : List A → Type 0) : Type 0 where
   pub none : F []

@@ -1,4 +1,4 @@
-use Rattle.std.proofs.Common.{◌≡◌, ◌++◌, ◌∷◌, [], ℤ, false, true, MatchResult, map, rules}
+use Rattle.std.proofs.Common.{◌≡◌, ◌++◌, ◌∷◌, [], ℤ, false, true, MatchResult, rules}
 use Rattle.thrift_value.specs.declared.value.Value.{Value}
 use Rattle.thrift_value.specs.TreeOf.{tree_of, field_tree, pair_tree}
 use Rattle.thrift_value.proofs.Walks.{copied}

@@ -1,8 +1,8 @@
-use Rattle.std.proofs.Common.{◌∷◌, map, refl}
-use Rattle.thrift_value.specs.Sizes.{HasSmallSizes, HaveFieldsSmallSizes, HaveItemsSmallSizes, HavePairsSmallSizes}
-use Rattle.thrift_value.specs.TreeOf.{tree_of, field_tree, pair_tree, field_trees, item_trees, pair_trees, fields_tree, items_tree, pairs_tree}
+use Rattle.std.proofs.Common.{map, refl}
+use Rattle.thrift_value.specs.Sizes.{HasSmallSizes, HaveFieldsSmallSizes, HaveItemsSmallSizes}
+use Rattle.thrift_value.specs.TreeOf.{tree_of, field_tree, field_trees, item_trees, fields_tree, items_tree}
 use Rattle.thrift_value.specs.declared.value.Value.{Value}
-use Rattle.std.proofs.Common.{ℤ, List}
+use Rattle.std.proofs.Common.{ℤ}
 use Rattle.thrift_value.proofs.Walks.{IsOfEach, passed, stopped, all_passed}
 use Rattle.thrift_value.proofs.value.+sizes.Goals as goal
 

@@ -1,4 +1,4 @@
-use Rattle.std.proofs.Common.{◌≡◌, ℤ, ◌∷◌, map, refl, rules}
+use Rattle.std.proofs.Common.{◌≡◌, ℤ, map, refl, rules}
 use Rattle.thrift_value.specs.declared.tag.Tag.{Tag}
 use Rattle.thrift_value.specs.declared.value.Value.{Value}
 use Rattle.thrift_value.specs.Tags.{tag_of}
