@@ -116,6 +116,12 @@ bounded a end t ts s =
     let g : t.from < t.to = s.1 in
     let n = few t.to end ts s.2 in omega arith
 
+-- what is taken is no more than what was asked for
+pub few_taken : (n : ℕ) (xs : List ℕ) → length (take n xs) ≤ n
+few_taken zero xs = omega arith
+few_taken (suc n) [] = omega arith
+few_taken (suc n) (x ∷ xs) = let h : length (take n xs) ≤ n = few_taken n xs in omega arith
+
 -- one symbol more
 pub made_on : (text : List ℕ) (all more : List Symbol) (s : Symbol) (t : Token) (left rest tokens : List Token)
     → map (lexeme_of text) all ++ lexemes text left ≡ lexemes text tokens → left ≡ t ∷ rest → more ≡ all ++ s ∷ [] → lexeme_of text s ≡ lexeme_at text t

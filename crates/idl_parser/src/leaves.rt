@@ -26,13 +26,12 @@ fn unescaped(alloc: Global, bytes: &[u8]) -> Result<ByteText, Stop>
     let mut all = Vec::new(alloc);
     let mut taken = false;
     for byte in bytes {
-        if taken {
-            all.push(escaped(*byte))?;
-            taken = false;
-        } else if *byte == b'\\' {
+        if !taken && *byte == b'\\' {
             taken = true;
         } else {
-            all.push(*byte)?;
+            let next = if taken { escaped(*byte) } else { *byte };
+            all.push(next)?;
+            taken = false;
         }
     }
     Ok(ByteText::new(all))
