@@ -1,4 +1,3 @@
-use Rattle.std.proofs.Common.{◌≡◌}
 use Rattle.idl_parser.specs.Printed.{behind_comma, field_text}
 use Rattle.idl_parser.proofs.ValueTexts.{walked}
 use Rattle.idl_parser.proofs.field_printer.put_separated.Goals as goal
