@@ -22,6 +22,7 @@ pub mod PrintedWords
 pub mod PrintedNumbers
 pub mod PrintedLiterals
 pub mod PrintedLeaves
+pub mod Appends
 pub mod TypeTexts
 pub mod ValueTexts
 pub mod PrintedTypes

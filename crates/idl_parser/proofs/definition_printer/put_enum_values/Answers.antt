@@ -1,5 +1,5 @@
 use Rattle.idl_parser.specs.Printed.{enum_value_line}
-use Rattle.idl_parser.proofs.ValueTexts.{lined}
+use Rattle.idl_parser.proofs.Appends.{lined}
 use Rattle.idl_parser.proofs.definition_printer.put_enum_values.Goals as goal
 
 pub loop-value-preserved : goal.loop-value-preserved

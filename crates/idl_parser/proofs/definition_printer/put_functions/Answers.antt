@@ -1,5 +1,5 @@
 use Rattle.idl_parser.specs.Printed.{function_line}
-use Rattle.idl_parser.proofs.ValueTexts.{lined}
+use Rattle.idl_parser.proofs.Appends.{lined}
 use Rattle.idl_parser.proofs.definition_printer.put_functions.Goals as goal
 
 pub loop-function-preserved : goal.loop-function-preserved

@@ -1,5 +1,5 @@
 use Rattle.idl_parser.specs.Printed.{field_line}
-use Rattle.idl_parser.proofs.ValueTexts.{lined}
+use Rattle.idl_parser.proofs.Appends.{lined}
 use Rattle.idl_parser.proofs.field_printer.put_field_lines.Goals as goal
 
 pub loop-field-preserved : goal.loop-field-preserved

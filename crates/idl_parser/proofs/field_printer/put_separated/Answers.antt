@@ -1,5 +1,5 @@
 use Rattle.idl_parser.specs.Printed.{behind_comma, field_text}
-use Rattle.idl_parser.proofs.ValueTexts.{walked}
+use Rattle.idl_parser.proofs.Appends.{walked}
 use Rattle.idl_parser.proofs.field_printer.put_separated.Goals as goal
 
 pub loop-field-preserved : goal.loop-field-preserved

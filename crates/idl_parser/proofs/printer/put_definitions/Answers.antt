@@ -1,5 +1,5 @@
 use Rattle.idl_parser.specs.Printed.{definition_text}
-use Rattle.idl_parser.proofs.ValueTexts.{lined}
+use Rattle.idl_parser.proofs.Appends.{lined}
 use Rattle.idl_parser.proofs.printer.put_definitions.Goals as goal
 
 pub loop-definition-preserved : goal.loop-definition-preserved

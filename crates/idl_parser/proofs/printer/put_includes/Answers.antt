@@ -1,5 +1,5 @@
 use Rattle.idl_parser.specs.Printed.{include_line}
-use Rattle.idl_parser.proofs.ValueTexts.{lined}
+use Rattle.idl_parser.proofs.Appends.{lined}
 use Rattle.idl_parser.proofs.printer.put_includes.Goals as goal
 
 pub loop-include-preserved : goal.loop-include-preserved

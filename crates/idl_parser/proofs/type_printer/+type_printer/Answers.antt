@@ -2,7 +2,8 @@ use Rattle.std.proofs.Common.{◌≡◌, ◌++◌, codes, OnOk, List, ℕ, sym, 
 use Rattle.idl_token.specs.declared.terminal.Terminal.TheVariants as word
 use Rattle.idl_token.specs.Words.{keyword_text}
 use Rattle.idl_parser.specs.Printed.{type_text}
-use Rattle.idl_parser.proofs.TypeTexts.{text_of_map_type, text_of_set_type, text_of_list_type, put_four, put_six}
+use Rattle.idl_parser.proofs.TypeTexts.{text_of_map_type, text_of_set_type, text_of_list_type}
+use Rattle.idl_parser.proofs.Appends.{put_four, put_six}
 use Rattle.idl_parser.proofs.type_printer.+type_printer.Goals as goal
 
 pub returns-in_ok-put_type-in-Map-2 : goal.returns-in_ok-put_type-in-Map-2

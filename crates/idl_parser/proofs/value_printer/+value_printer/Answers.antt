@@ -1,7 +1,8 @@
 use Rattle.std.proofs.Common.{◌≡◌, ◌++◌, codes, OnOk, List, ℕ, sym, subst, ap, ◌∙◌}
 use Rattle.idl_parser.specs.Printed.{behind_comma, pair_behind_comma, value_text, values_text, both_texts, pairs_text}
 use Rattle.idl_parser.specs.declared.tree.ConstTree.{ConstTree}
-use Rattle.idl_parser.proofs.ValueTexts.{text_of_map, text_of_list, put_all, put_behind, walked}
+use Rattle.idl_parser.proofs.ValueTexts.{text_of_map, text_of_list}
+use Rattle.idl_parser.proofs.Appends.{put_all, put_behind, walked}
 use Rattle.idl_parser.proofs.value_printer.+value_printer.Goals as goal
 
 pub put_value-returns-in_ok-put_pairs-in-Map : goal.put_value-returns-in_ok-put_pairs-in-Map
