@@ -1,0 +1,9 @@
+pub mod ZigzagNumbers
+pub mod CodeLaws
+pub mod Scalars
+pub mod Sizes
+pub mod FieldHeaders
+pub mod Containers
+pub mod FaultTable
+pub mod ShortParts
+pub mod Agree

@@ -1,0 +1,27 @@
+//! Structs in Thrift's compact protocol: read from bytes at a place, and written to the end of a vector. It reads what
+//! anyone sent, so it takes memory only for what is there, and names the fault that comes first. It knows no message
+//! head, no IDL and no types but the eleven kinds of the wire; what it reads is raw, in wire order and with repeats.
+//!
+//! ```
+//! // The struct behind a message's head.
+//! let (arguments, behind) = read_struct(alloc, payload, head.behind)?;
+//! // A struct that was made here is tested before it is written.
+//! if result.tag() == Tag::Struct && result.is_tidy() && result.has_small_sizes() && result.depth() <= 64 {
+//!     write_struct(&result, &mut reply)?;
+//! }
+//! ```
+#![tactic(auto)]
+
+mod codec;
+mod codes;
+pub mod examples;
+mod headers;
+pub mod laws;
+mod numbers;
+mod protocol;
+mod structs;
+mod writing;
+
+pub use protocol::Compact;
+pub use structs::read_struct;
+pub use writing::write_struct;
