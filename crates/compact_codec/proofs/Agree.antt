@@ -1,7 +1,7 @@
 -- The parts together.
 use Rattle.std.specs.Prelude.{ℤ, FitsSigned}
 use Rattle.std.specs.Int.{w16}
-use Rattle.std.proofs.Common.{◌≡◌, true, false, ◌++◌, Ok, refl, subst}
+use Rattle.std.proofs.Common.{◌≡◌, ◌++◌, Ok, refl, subst}
 use Rattle.thrift_value.specs.declared.tag.Tag.{Tag}
 use Rattle.thrift_value.specs.Tags.{tag_of}
 use Rattle.thrift_value.specs.Tree.{Tree, of_bool}

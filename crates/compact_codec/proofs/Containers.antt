@@ -1,7 +1,7 @@
 -- The headers of containers.
 use Rattle.std.specs.Int.{w32}
-use Rattle.std.proofs.Common.{◌≡◌, ◌⊎◌, inl, inr, ℕ, zero, suc, ◌+◌, ◌*◌, ◌/◌, ◌%◌, ◌^◌, ◌<◌, ◌≤◌, Bool, true, false, cond, eqb, ltb, List, [], ◌∷◌, ◌++◌, length, Result, Ok, Err, refl, sym, ap, subst, ◌∙◌, append_assoc, arith}
-use Rattle.std.proofs.lemmas.Bool.{eqb-true, eqb-false, ne_eqb, ltb-true, ltb-false}
+use Rattle.std.proofs.Common.{◌≡◌, inl, inr, ℕ, zero, suc, ◌+◌, ◌*◌, ◌/◌, ◌%◌, ◌^◌, ◌<◌, ◌≤◌, Bool, true, false, cond, eqb, ltb, List, [], ◌∷◌, ◌++◌, length, Result, Ok, refl, sym, ap, subst, ◌∙◌, append_assoc, arith}
+use Rattle.std.proofs.lemmas.Bool.{eqb-true, eqb-false, ne_eqb, ltb-true}
 use Rattle.std.proofs.lemmas.List.{length-append}
 use Rattle.wire_num.specs.Encoded.{AreByteSized}
 use Rattle.wire_num.specs.Varint.{varint_bytes, IsVarint}
@@ -12,7 +12,7 @@ use Rattle.thrift_value.specs.declared.wire_fault.WireFault.{WireFault}
 use Rattle.wire_model.specs.Decoder.{Unread, ◌>>=◌, give}
 use Rattle.wire_model.specs.Pieces.{byte, within_room}
 use Rattle.wire_model.specs.Protocol.{IsInFront, StaysAs, plain_tag}
-use Rattle.wire_model.proofs.Pieces.{ByteFront, after_byte, byte_found, byte_given, byte_stays, room_stays}
+use Rattle.wire_model.proofs.Pieces.{after_byte, byte_found, byte_given, byte_stays, room_stays}
 use Rattle.wire_model.proofs.Staying.{then_stays, give_stays}
 use Rattle.wire_model.proofs.Steps.{went_on, goes_on, ok_is, bytes_behind}
 use Rattle.compact_codec.specs.Codes.{compact_code, IsCompactCode}

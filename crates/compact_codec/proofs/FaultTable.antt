@@ -1,28 +1,26 @@
 -- Each part has the first fault that the table tells of the bytes that are left, and no other: numbers, and headers of containers.
-use Rattle.std.specs.Prelude.{slice_index}
 use Rattle.std.specs.Int.{w8, w32, w64}
-use Rattle.std.proofs.Common.{◌≡◌, ◌⊎◌, inl, inr, ℕ, suc, ◌+◌, ◌*◌, ◌/◌, ◌%◌, ◌^◌, ◌<◌, ◌≤◌, Bool, true, false, cond, eqb, List, [], ◌∷◌, ◌++◌, length, Result, Ok, Err, refl, sym, ap, subst, ◌∙◌, append_assoc, arith}
+use Rattle.std.proofs.Common.{◌≡◌, inl, inr, ℕ, ◌+◌, ◌*◌, ◌/◌, ◌%◌, ◌<◌, ◌≤◌, Bool, true, false, cond, eqb, List, [], ◌∷◌, length, Err, refl, sym, ap, subst, ◌∙◌, arith}
 use Rattle.std.proofs.lemmas.Bool.{eqb-true, eqb-false, ne_eqb}
 use Rattle.wire_num.specs.Decoding.{decode_byte, decode_signed}
 use Rattle.wire_num.specs.Encoded.{AreByteSized}
 use Rattle.wire_num.specs.Fixed.{signed_of}
 use Rattle.wire_num.specs.LowFirst.{low_first_of, decode_low_first}
-use Rattle.wire_num.specs.Varint.{IsVarint}
 use Rattle.thrift_value.specs.declared.tag.Tag.{Tag}
 use Rattle.thrift_value.specs.declared.tag.Tag.TheVariants as tags
 use Rattle.thrift_value.specs.declared.wire_fault.WireFault.{WireFault}
-use Rattle.thrift_value.specs.declared.wire_fault.WireFault.TheVariants.{Short, BadType, BadSize, LongVarint}
+use Rattle.thrift_value.specs.declared.wire_fault.WireFault.TheVariants.{Short, BadType}
 use Rattle.thrift_value.specs.Tree.{of_i8, of_i16, of_i32, of_i64, of_double}
-use Rattle.wire_model.specs.Decoder.{Unread, ◌>>=◌, give}
+use Rattle.wire_model.specs.Decoder.{Unread}
 use Rattle.wire_model.specs.Pieces.{byte, Begins, within_room}
 use Rattle.wire_model.specs.Wire.{IsScalar}
-use Rattle.wire_model.proofs.Pieces.{ByteFront, after_byte, byte_fault, byte_found, byte_given, byte_short, fixed_fault, fixed_short, given_no_fault, none_is}
+use Rattle.wire_model.proofs.Pieces.{ByteFront, after_byte, byte_fault, byte_found, byte_short, fixed_fault, fixed_short, given_no_fault, none_is}
 use Rattle.wire_model.proofs.Steps.{goes_on, failed, fails, bytes_behind}
-use Rattle.compact_codec.specs.Faults.{IsFreeCode, IsTakenCode, HasVarintFault, HasNumberFault, BeginsWithSize, HasLengthFault, IsSizedHeader, HasListFault, HasFreeCode, HasMapFault}
+use Rattle.compact_codec.specs.Faults.{HasNumberFault, HasLengthFault, IsSizedHeader, HasListFault, HasFreeCode, HasMapFault}
 use Rattle.compact_codec.specs.Numbers.{decode_zigzag, decode_short}
 use Rattle.compact_codec.specs.Reading.{tag_in_half, compact_size, items_size, items_in_half, items_in_byte, compact_items, pairs_in_byte, pairs_of_size, compact_pairs, compact_scalar}
 use Rattle.compact_codec.proofs.CodeLaws.{tag_found, taken_given, tag_refused, tag_fault, free_half}
-use Rattle.compact_codec.proofs.Containers.{HalfFront, half_found, items_of_tag, items_by, by_size, in_item_halves, in_15, short_half, header_given, pairs_of_tags, pairs_of_key, pairs_by, in_pair_halves, map_size_given}
+use Rattle.compact_codec.proofs.Containers.{HalfFront, half_found, items_of_tag, items_by, in_item_halves, in_15, short_half, header_given, pairs_of_tags, pairs_of_key, pairs_by, in_pair_halves, map_size_given}
 use Rattle.compact_codec.proofs.FieldHeaders.{halves}
 use Rattle.compact_codec.proofs.ZigzagNumbers.{zigzag_faults, short_faults, varint_fault_found, varint_fault_only, making_fault, making_fails}
 use Rattle.compact_codec.proofs.Scalars.{as_bool}
@@ -95,10 +93,17 @@ type_fault_if true x size unread middle third fault f s test e = absurd cc
 type_fault_if false x size unread middle third fault f s test e =
     let t = tag_fault (x % 16) third fault (omega arith) (given_no_fault (tag_in_half (x % 16) third) (λ tag. (tag, size)) fault (failed (tag_in_half (x % 16) third) (items_of_tag size) fault e)) in
     let some = eqb-false size 0 test in
-    subst (λ (d : WireFault). HasListFault d unread.bytes) (sym t.0)
-    (t.1, size, omega arith, s.small,
-    (x ∷ s.text, subst (λ (k : ℕ). IsSizedHeader (x % 16) size (k ∷ s.text)) (sym (halves x)) (s.sized (x % 16)),
-    record { behind = third.bytes; whole = f.whole ∙ ap (λ (t : List ℕ). x ∷ t) s.whole; such = s.enough }))
+    subst (λ (d : WireFault). HasListFault d unread.bytes) (sym t.0) (
+      t.1,
+      size,
+      omega arith,
+      s.small,
+      (
+        x ∷ s.text,
+        subst (λ (k : ℕ). IsSizedHeader (x % 16) size (k ∷ s.text)) (sym (halves x)) (s.sized (x % 16)),
+        record { behind = third.bytes; whole = f.whole ∙ ap (λ (t : List ℕ). x ∷ t) s.whole; such = s.enough },
+      ),
+    )
 
 pub items_fault_found : (unread : Unread) (fault : WireFault) → AreByteSized unread.bytes → compact_items unread ≡ Err fault → HasListFault fault unread.bytes
 unfolding compact_items
@@ -184,9 +189,14 @@ map_fault_if false size unread middle fault fits s test e =
       | inr on ↦
           let f = byte_found middle on.0.1 on.0.0 (bytes_behind s.text middle.bytes (subst AreByteSized s.whole fits)) on.1 in
           let c = codes_fault size on.0.0 on.0.1 fault f.small on.2 in
-          subst (λ (d : WireFault). HasMapFault d unread.bytes) (sym c.is)
-          (size, on.0.0, some, s.small, c.free,
-          record { text = s.text; sized = s.varint; begins = record { behind = middle.bytes; whole = s.whole; such = (s.enough, record { behind = on.0.1.bytes; whole = f.whole; such = tt }) } })
+          subst (λ (d : WireFault). HasMapFault d unread.bytes) (sym c.is) (
+            size,
+            on.0.0,
+            some,
+            s.small,
+            c.free,
+            record { text = s.text; sized = s.varint; begins = record { behind = middle.bytes; whole = s.whole; such = (s.enough, record { behind = on.0.1.bytes; whole = f.whole; such = tt }) } },
+          )
     ]
 
 pub pairs_fault_found : (unread : Unread) (fault : WireFault) → AreByteSized unread.bytes → compact_pairs unread ≡ Err fault → HasMapFault fault unread.bytes

@@ -1,7 +1,7 @@
 -- Headers of fields.
 use Rattle.std.specs.Prelude.{ℤ, pos, negsuc, FitsSigned, ◌+ℤ◌, ◌-ℤ◌, ◌≤ℤ◌}
 use Rattle.std.specs.Int.{w16, w32}
-use Rattle.std.proofs.Common.{◌≡◌, ◌⊎◌, inl, inr, ℕ, zero, suc, ◌+◌, ◌*◌, ◌/◌, ◌%◌, ◌^◌, ◌<◌, ◌≤◌, Bool, true, false, cond, eqb, ltb, List, [], ◌∷◌, ◌++◌, length, Result, Ok, Err, refl, sym, ap, subst, ◌∙◌, arith}
+use Rattle.std.proofs.Common.{◌≡◌, inl, inr, ℕ, zero, suc, ◌+◌, ◌*◌, ◌/◌, ◌%◌, ◌^◌, ◌<◌, ◌≤◌, Bool, true, false, cond, eqb, ltb, List, [], ◌∷◌, ◌++◌, length, Result, Ok, Err, refl, sym, ap, subst, ◌∙◌, arith}
 use Rattle.std.proofs.lemmas.Bool.{eqb-true, eqb-false, ne_eqb, ltb-true, ltb-false, lt-ltb, le-ltb}
 use Rattle.std.proofs.lemmas.Int.{ints}
 use Rattle.wire_num.specs.Encoded.{AreByteSized}
@@ -21,11 +21,11 @@ use Rattle.wire_model.proofs.Staying.{then_stays, give_stays, fail_stays}
 use Rattle.wire_model.proofs.Steps.{went_on, goes_on, failed, fails, ok_is}
 use Rattle.wire_model.proofs.Uncounted.{uncounted_found, uncounted_only, uncounted_stays}
 use Rattle.compact_codec.specs.Codes.{flag_code, compact_code, IsCompactCode}
-use Rattle.compact_codec.specs.Faults.{IsFreeCode, IsTakenCode, HasVarintFault, HasFieldFault}
+use Rattle.compact_codec.specs.Faults.{IsTakenCode, HasVarintFault, HasFieldFault}
 use Rattle.compact_codec.specs.Numbers.{decode_short, IsShort}
 use Rattle.compact_codec.specs.Reading.{compact_i16, tag_in_half, id_in_range, id_behind, header_by, header_in_byte, compact_field}
 use Rattle.compact_codec.specs.Spelling.{IsIdBy, IsHeading, IsCompactHeader}
-use Rattle.compact_codec.specs.Written.{short_delta, heading_with, heading_bytes, compact_header}
+use Rattle.compact_codec.specs.Written.{short_delta, heading_with, heading_bytes}
 use Rattle.compact_codec.proofs.CodeLaws.{tag_found, tag_given, taken_given, tag_refused, tag_fault, tag_stays, code_half, free_half}
 use Rattle.compact_codec.proofs.ZigzagNumbers.{short_decodes, low_fits, low_is, short_small, short_faults, varint_fault_found, varint_fault_only}
 
@@ -269,20 +269,10 @@ by_distance (negsuc n) last id code fits e = alone last id code fits
 pub heading_written : (last id : ℤ) (code : ℕ) → FitsSigned w16 id → IsHeading last id code (heading_bytes code last id)
 heading_written last id code fits = by_distance (id -ℤ last) last id code fits refl
 
--- the two forms, as the code tells them apart
-pub heading_far : (z last id : ℤ) (code : ℕ) → z ≡ id -ℤ last → ((n : ℕ) → z ≡ pos (suc n) → 15 < suc n) → heading_bytes code last id ≡ code ∷ varint_bytes w32 (zigzag id)
-heading_far z last id code e far = ap (λ (y : ℤ). heading_with code id (short_delta y)) (sym e) ∙ far_by z far
-  where
-    far_by : (z : ℤ) → ((n : ℕ) → z ≡ pos (suc n) → 15 < suc n) → heading_with code id (short_delta z) ≡ code ∷ varint_bytes w32 (zigzag id)
-    far_by (pos zero) far = refl
-    far_by (pos (suc n)) far = ap (λ (b : Bool). heading_with code id (cond b (suc n) 0)) (le-ltb (suc n) 16 (let l = far n refl in omega arith))
-    far_by (negsuc n) far = refl
-
-pub heading_near : (n : ℕ) (last id : ℤ) (code : ℕ) → pos n ≡ id -ℤ last → 0 < n → n < 16 → heading_bytes code last id ≡ (16 * n + code) ∷ []
-heading_near n last id code e some small =
-    ap (λ (y : ℤ). heading_with code id (short_delta y)) (sym e)
-    ∙ ap (λ (b : Bool). heading_with code id (cond b n 0)) (lt-ltb n 16 small)
-    ∙ ap (λ (b : Bool). cond b (code ∷ varint_bytes w32 (zigzag id)) ((16 * n + code) ∷ [])) (ne_eqb n 0 (omega arith))
+-- a header with no delta has the id behind it
+pub no_delta : (last id : ℤ) (code n z : ℕ) → n ≡ short_delta (id -ℤ last) → n ≡ 0 → z ≡ zigzag id → code ∷ varint_bytes w32 z ≡ heading_bytes code last id
+no_delta last id code n z is none same =
+    ap (λ (k : ℕ). code ∷ varint_bytes w32 k) same ∙ ap (heading_with code id) (let e : 0 ≡ short_delta (id -ℤ last) = sym none ∙ is in e)
 
 -- ---- the first fault
 

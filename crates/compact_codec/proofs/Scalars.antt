@@ -1,10 +1,10 @@
 -- Numbers and bools.
-use Rattle.std.specs.Prelude.{ℤ, FitsSigned, slice_index}
+use Rattle.std.specs.Prelude.{FitsSigned}
 use Rattle.std.specs.Int.{w8, w16, w32, w64}
 use Rattle.std.proofs.Common.{◌≡◌, ℕ, ◌<◌, ◌≤◌, Bool, true, false, eqb, List, [], ◌∷◌, ◌++◌, length, Ok, refl, sym, ap, subst, ◌∙◌, arith}
 use Rattle.std.proofs.lemmas.Bool.{eqb-true, eqb-false, ne_eqb}
 use Rattle.wire_num.specs.Decoding.{decode_byte, decode_signed}
-use Rattle.wire_num.specs.Encoded.{AreByteSized, Decodes}
+use Rattle.wire_num.specs.Encoded.{AreByteSized}
 use Rattle.wire_num.specs.Fixed.{IsByte, IsSigned, signed_bytes}
 use Rattle.wire_num.specs.LowFirst.{decode_low_first, IsLowFirst, low_first_bytes}
 use Rattle.wire_num.proofs.Numbers.{byte_decodes, signed_decodes, low_first_decodes_64}

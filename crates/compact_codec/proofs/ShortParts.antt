@@ -1,6 +1,6 @@
 -- Only so few bytes are Short, so that more bytes mend them.
 use Rattle.std.specs.Prelude.{ℤ}
-use Rattle.std.proofs.Common.{◌≡◌, ◌⊎◌, inl, inr, ℕ, suc, ◌+◌, ◌^◌, ◌<◌, List, length, Err, ap, arith}
+use Rattle.std.proofs.Common.{◌≡◌, inl, inr, ℕ, suc, ◌+◌, ◌^◌, ◌<◌, List, length, Err, ap, arith}
 use Rattle.wire_num.specs.Encoded.{AreByteSized}
 use Rattle.thrift_value.specs.declared.tag.Tag.{Tag}
 use Rattle.thrift_value.specs.declared.tag.Tag.TheVariants as tags
@@ -9,7 +9,7 @@ use Rattle.wire_model.specs.Decoder.{Unread}
 use Rattle.wire_model.specs.Protocol.{and_more}
 use Rattle.wire_model.specs.Wire.{IsScalar}
 use Rattle.wire_model.proofs.Mending.{mended}
-use Rattle.compact_codec.specs.Faults.{HasFieldFault, HasNumberFault, HasLengthFault, HasListFault}
+use Rattle.compact_codec.specs.Faults.{HasFieldFault, HasNumberFault, HasListFault}
 use Rattle.compact_codec.specs.Reading.{compact_field, compact_scalar, compact_span, compact_items, compact_pairs}
 use Rattle.compact_codec.proofs.FaultTable.{scalar_fault_found, items_fault_found, pairs_fault_found}
 use Rattle.compact_codec.proofs.FieldHeaders.{field_fault_found}

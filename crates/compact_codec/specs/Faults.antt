@@ -1,5 +1,5 @@
 -- The first faults of the parts of a value in the compact protocol: which bytes, of all that are left, have which.
-use Rattle.std.specs.Prelude.{⊤, ◌≡◌, ◌<◌, ◌≤◌, ◌+◌, ◌*◌, ◌^◌, ◌⊎◌, ◌+ℤ◌, ◌≤ℤ◌, ℕ, zero, suc, ℤ, pos, List, [], ◌∷◌, ◌++◌, length, take}
+use Rattle.std.specs.Prelude.{⊤, ◌≡◌, ◌<◌, ◌≤◌, ◌+◌, ◌*◌, ◌^◌, ◌⊎◌, ◌+ℤ◌, ◌≤ℤ◌, ℕ, ℤ, pos, List, [], ◌∷◌, length, take}
 use Rattle.std.specs.Int.{w32}
 use Rattle.wire_num.specs.Varint.{IsVarint, HaveNoLast}
 use Rattle.thrift_value.specs.declared.tag.Tag.{Tag}

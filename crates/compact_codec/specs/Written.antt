@@ -1,5 +1,5 @@
 -- What is written of the parts of a value in the compact protocol: varints in their shortest form.
-use Rattle.std.specs.Prelude.{◌+◌, ◌*◌, ◌-ℤ◌, ℕ, zero, suc, ℤ, pos, negsuc, true, false, List, [], ◌∷◌, ◌++◌, length, ◌==◌, nat_lt, if◌then◌else◌}
+use Rattle.std.specs.Prelude.{◌+◌, ◌*◌, ◌-ℤ◌, ℕ, ℤ, pos, negsuc, true, List, [], ◌∷◌, ◌++◌, length, ◌==◌, nat_lt, if◌then◌else◌}
 use Rattle.std.specs.Int.{w8, w32, w64}
 use Rattle.wire_num.specs.Fixed.{signed_bytes}
 use Rattle.wire_num.specs.LowFirst.{low_first_bytes}

@@ -9,7 +9,9 @@ ghost use Rattle.compact_codec.specs.Numbers.{low_16};
 ghost use Rattle.compact_codec.specs.Reading.{compact_i8, compact_i16, compact_signed, compact_double, compact_unsigned, compact_size};
 
 use thrift_value::WireFault;
-use wire_num::{decode_i8, decode_le64, decode_u8, decode_varint32, decode_varint64, unzigzag32, unzigzag64};
+use wire_num::{
+    decode_i8, decode_le64, decode_u8, decode_varint32, decode_varint64, unzigzag32, unzigzag64,
+};
 use wire_walk::Input;
 
 /// A byte.
