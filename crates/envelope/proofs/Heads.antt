@@ -10,22 +10,14 @@ use Rattle.wire_num.specs.Fixed.{signed_of, signed_bytes, unsigned_of}
 use Rattle.outside.specs.declared.outcomes.EnvelopeFault.{EnvelopeFault}
 use Rattle.outside.specs.declared.outcomes.EnvelopeFault.TheVariants.{Version, MessageType}
 use Rattle.envelope.specs.declared.head.Protocol.{Protocol}
-use Rattle.envelope.specs.declared.head.Protocol.TheVariants.{Binary}
+use Rattle.envelope.specs.declared.head.Protocol.TheVariants.{Binary, Compact}
 use Rattle.envelope.specs.declared.head.Head.{Head}
 use Rattle.envelope.specs.Said.{Said, IsInRange, IsCall}
-use Rattle.envelope.specs.Spelling.{name_text, strict_text, old_text, IsBinarySpelling, IsSpelling, head_text}
-use Rattle.envelope.specs.Readout.{◌>>=◌, head_bytes, head_byte, head_i32, name_of, version, strict_head, old_head, either_head, whole_head, call_type, head_at, IsHeadOrNoMemory, IsEncodedIn}
+use Rattle.envelope.specs.Spelling.{name_text, strict_text, old_text, IsSpelling, head_text}
+use Rattle.envelope.specs.Readout.{◌>>=◌, head_bytes, head_byte, head_i32, name_of, version, strict_head, old_head, either_head, compact_head, whole_head, call_type, head_at, IsHeadOrNoMemory, IsEncodedIn}
 use Rattle.envelope.specs.declared.head.HeadFault.{HeadFault}
-use Rattle.envelope.proofs.Pieces.{AreBytes, ok, fail, bind_found, bind_only, same_ok, piece_found, piece_only, IsByteFront, byte_found, byte_only, IsNumber, number_found, number_only, read_number, IsName, name_found, name_only, spelled_number}
-
--- a head stands in front, of any type
-pub record Found (bytes : List ℕ) (said : Said) (rest : List ℕ) : Type 0 where
-  pub text : List ℕ
-  pub whole : bytes ≡ text ++ rest
-  pub spells : IsBinarySpelling said text
-
-same_found : (bytes : List ℕ) (found r : Said × List ℕ) → ok found ≡ ok r → Found bytes found.0 found.1 → Found bytes r.0 r.1
-same_found bytes found r e is = subst (λ (q : Said × List ℕ). Found bytes q.0 q.1) (same_ok found r e) is
+use Rattle.envelope.proofs.Pieces.{AreBytes, ok, fail, bind_found, bind_only, same_ok, piece_found, piece_only, IsByteFront, byte_found, byte_only, IsNumber, number_found, number_only, read_number, IsName, name_found, name_only, spelled_number, Found, same_found}
+use Rattle.envelope.proofs.CompactHeads.{compact_found, compact_only, compact_written}
 
 -- the version that is accepted
 version_by : (b : Bool) (first : List ℕ) (n : ℕ) → (get_or first 0 0 == 128 && get_or first 1 0 == 1) ≡ b
@@ -51,7 +43,7 @@ four_bytes (a ∷ b ∷ c ∷ d ∷ e ∷ more) size = absurd (omega arith)
 strict_in : (first bytes named more rest name : List ℕ) (size id : ℤ) → length first ≡ 4 → AreBytes first
     → (get_or first 0 0 ≡ 128) × (get_or first 1 0 ≡ 1)
     → IsNumber bytes size named → IsName size named name more → IsNumber more id rest
-    → Found (first ++ bytes) (record { name = name; kind = get_or first 3 0; id = id }) rest
+    → Found Binary (first ++ bytes) (record { name = name; kind = get_or first 3 0; id = id }) rest
 strict_in first bytes named more rest name size id four are versioned sized is_name last =
     let said : Said = record { name = name; kind = get_or first 3 0; id = id } in
     let b : length name < 2 ^ 31 = omega (arith, ints, is_name.size, sized.fits.sfits) in
@@ -71,7 +63,7 @@ strict_in first bytes named more rest name size id four are versioned sized is_n
     }
 
 strict_found : (first bytes : List ℕ) (r : Said × List ℕ) → length first ≡ 4 → AreBytes first → AreBytes bytes → strict_head first bytes ≡ Ok r
-    → Found (first ++ bytes) r.0 r.1
+    → Found Binary (first ++ bytes) r.0 r.1
 unfolding strict_head
 strict_found first bytes r four are are_behind e =
     let v = bind_found (version first) _ r e in
@@ -81,12 +73,12 @@ strict_found first bytes r four are are_behind e =
     let named = name_found size.0.0 size.0.1 name.0 sized.rest_bytes name.1 in
     let id = bind_found (head_i32 name.0.1) _ r name.2 in
     let last = number_found name.0.1 id.0 named.rest_bytes id.1 in
-    same_found (first ++ bytes) (record { name = name.0.0; kind = get_or first 3 0; id = id.0.0 }, id.0.1) r id.2
+    same_found Binary (first ++ bytes) (record { name = name.0.0; kind = get_or first 3 0; id = id.0.0 }, id.0.1) r id.2
     (strict_in first bytes size.0.1 name.0.1 id.0.1 name.0.0 size.0.0 id.0.0 four are (version_found first v.0 v.1) sized named last)
 
 old_in : (first bytes named : List ℕ) (kind : ℕ) (more rest name : List ℕ) (size id : ℤ) → signed_bytes w32 size ≡ first → FitsSigned w32 size
     → IsName size bytes name named → IsByteFront named kind more → IsNumber more id rest
-    → Found (first ++ bytes) (record { name = name; kind = kind; id = id }) rest
+    → Found Binary (first ++ bytes) (record { name = name; kind = kind; id = id }) rest
 old_in first bytes named kind more rest name size id spelled fits is_name typed last =
     let said : Said = record { name = name; kind = kind; id = id } in
     let b : length name < 2 ^ 31 = omega (arith, ints, is_name.size, fits.sfits) in
@@ -104,7 +96,7 @@ old_in first bytes named kind more rest name size id spelled fits is_name typed 
     }
 
 old_found : (first bytes : List ℕ) (size : ℤ) (r : Said × List ℕ) → signed_bytes w32 size ≡ first → FitsSigned w32 size → AreBytes bytes
-    → old_head size bytes ≡ Ok r → Found (first ++ bytes) r.0 r.1
+    → old_head size bytes ≡ Ok r → Found Binary (first ++ bytes) r.0 r.1
 unfolding old_head
 old_found first bytes size r spelled fits are e =
     let name = bind_found (name_of size bytes) _ r e in
@@ -113,27 +105,28 @@ old_found first bytes size r spelled fits are e =
     let typed = byte_found name.0.1 kind.0 named.rest_bytes kind.1 in
     let id = bind_found (head_i32 kind.0.1) _ r kind.2 in
     let last = number_found kind.0.1 id.0 typed.rest_bytes id.1 in
-    same_found (first ++ bytes) (record { name = name.0.0; kind = kind.0.0; id = id.0.0 }, id.0.1) r id.2
+    same_found Binary (first ++ bytes) (record { name = name.0.0; kind = kind.0.0; id = id.0.0 }, id.0.1) r id.2
     (old_in first bytes name.0.1 kind.0.0 kind.0.1 id.0.1 name.0.0 size id.0.0 spelled fits named typed last)
 
 either_found : (first bytes : List ℕ) (size : ℤ) (r : Said × List ℕ) → length first ≡ 4 → AreBytes first → AreBytes bytes
-    → signed_bytes w32 size ≡ first → FitsSigned w32 size → either_head size first bytes ≡ Ok r → Found (first ++ bytes) r.0 r.1
+    → signed_bytes w32 size ≡ first → FitsSigned w32 size → either_head size first bytes ≡ Ok r → Found Binary (first ++ bytes) r.0 r.1
 unfolding either_head
 either_found first bytes (pos n) r four are are_behind spelled fits e = old_found first bytes (pos n) r spelled fits are_behind e
 either_found first bytes (negsuc n) r four are are_behind spelled fits e = strict_found first bytes r four are are_behind e
 
 -- a whole head that is read stands in front
-pub whole_found : (p : Protocol) (bytes : List ℕ) (r : Said × List ℕ) → AreBytes bytes → whole_head p bytes ≡ Ok r → Found bytes r.0 r.1
+pub whole_found : (p : Protocol) (bytes : List ℕ) (r : Said × List ℕ) → AreBytes bytes → whole_head p bytes ≡ Ok r → Found p bytes r.0 r.1
 unfolding whole_head
 whole_found Binary bytes r are e =
     let front = bind_found (head_bytes 4 bytes) _ r e in
     let p = piece_found 4 bytes front.0 front.1 in
     let s = spelled_number front.0.0 p.size (p.front_bytes are) in
-    subst (λ b. Found b r.0 r.1) (sym p.whole)
+    subst (λ b. Found Binary b r.0 r.1) (sym p.whole)
     (either_found front.0.0 front.0.1 (signed_of w32 front.0.0) r p.size (p.front_bytes are) (p.rest_bytes are) s.0 s.1 front.2)
+whole_found Compact bytes r are e = compact_found bytes r are e
 
 -- a strict head behind its first four bytes
-strict_only : (unused : ℕ) (said : Said) (more : List ℕ) → IsInRange said
+strict_only : (unused : ℕ) (said : Said) (more : List ℕ) → IsInRange Binary said
     → strict_head (128 ∷ 1 ∷ unused ∷ said.kind ∷ []) ((name_text said.name ++ signed_bytes w32 said.id) ++ more) ≡ Ok (said, more)
 unfolding strict_head version
 strict_only unused said more range =
@@ -147,7 +140,7 @@ strict_only unused said more range =
     ∙ bind_only (head_i32 (signed_bytes w32 said.id ++ more)) _ (said.id, more) (number_only said.id more range.id))
 
 -- an old head behind the length of its name
-old_only : (said : Said) (more : List ℕ) → IsInRange said
+old_only : (said : Said) (more : List ℕ) → IsInRange Binary said
     → old_head (pos (length said.name)) ((said.name ++ (said.kind ∷ signed_bytes w32 said.id)) ++ more) ≡ Ok (said, more)
 unfolding old_head
 old_only said more range =
@@ -169,7 +162,7 @@ strict_is_negative unused kind u k (pos n) is bytes first =
     absurd (omega (arith, ints, fits.sfits, same))
 strict_is_negative unused kind u k (negsuc n) is bytes first = refl
 
-strict_whole : (unused : ℕ) (said : Said) (more : List ℕ) → unused < 256 → IsInRange said → whole_head Binary (strict_text unused said ++ more) ≡ Ok (said, more)
+strict_whole : (unused : ℕ) (said : Said) (more : List ℕ) → unused < 256 → IsInRange Binary said → whole_head Binary (strict_text unused said ++ more) ≡ Ok (said, more)
 unfolding whole_head
 strict_whole unused said more byte range =
     let first : List ℕ = 128 ∷ 1 ∷ unused ∷ said.kind ∷ [] in
@@ -178,7 +171,7 @@ strict_whole unused said more byte range =
     ∙ strict_is_negative unused said.kind byte range.kind (signed_of w32 first) refl behind first
     ∙ strict_only unused said more range
 
-old_whole : (said : Said) (more : List ℕ) → IsInRange said → whole_head Binary (old_text said ++ more) ≡ Ok (said, more)
+old_whole : (said : Said) (more : List ℕ) → IsInRange Binary said → whole_head Binary (old_text said ++ more) ≡ Ok (said, more)
 unfolding whole_head either_head
 old_whole said more range =
     let size : FitsSigned w32 (pos (length said.name)) = record { sfits = omega (arith, ints, range.name) } in
@@ -190,6 +183,10 @@ old_whole said more range =
     ∙ ap (λ z. either_head z first behind) (read_number (pos (length said.name)) size)
     ∙ old_only said more range
 
+compact_whole : (bytes : List ℕ) → whole_head Compact bytes ≡ compact_head bytes
+unfolding whole_head
+compact_whole bytes = refl
+
 -- a whole head that is spelled in front is read
 pub whole_only : (p : Protocol) (said : Said) (text more : List ℕ) → IsSpelling p said text → whole_head p (text ++ more) ≡ Ok (said, more)
 whole_only Binary said text more spells =
@@ -197,6 +194,7 @@ whole_only Binary said text more spells =
       | inl strict ↦ ap (λ t. whole_head Binary (t ++ more)) strict.is ∙ strict_whole strict.unused said more strict.byte spells.range
       | inr old ↦ ap (λ t. whole_head Binary (t ++ more)) old ∙ old_whole said more spells.range
     ]
+whole_only Compact said text more spells = compact_whole (text ++ more) ∙ compact_only said text more spells
 
 -- the types of calls
 type_by : (b : Bool) (kind : ℕ) → (kind == 1 || kind == 4) ≡ b → (if b then ok tt else fail ⊤ (MessageType kind)) ≡ ok tt → IsCall kind
@@ -218,11 +216,11 @@ placed text more = omega (arith, length-append text more)
 -- the head that is read stands in front
 pub head_found : (p : Protocol) (bytes : List ℕ) (head : Head) → AreBytes bytes → head_at p bytes ≡ Ok head → IsEncodedIn p bytes head
 unfolding head_at
-head_found Binary bytes head are e =
-    let whole = bind_found (whole_head Binary bytes) _ head e in
+head_found p bytes head are e =
+    let whole = bind_found (whole_head p bytes) _ head e in
     let typed = bind_found (call_type whole.0.0.kind) _ head whole.2 in
-    let found = whole_found Binary bytes whole.0 are whole.1 in
-    subst (λ (h : Head). IsEncodedIn Binary bytes h) (same_ok _ head typed.2)
+    let found = whole_found p bytes whole.0 are whole.1 in
+    subst (λ (h : Head). IsEncodedIn p bytes h) (same_ok _ head typed.2)
     (record {
       text = found.text;
       rest = whole.0.1;
@@ -243,10 +241,11 @@ head_only p bytes said text rest is spells call =
     ∙ ap (λ n. ok (let h : Head = record { name = said.name; kind = said.kind; id = said.id; behind = n } in h)) (placed text rest)
 
 -- what is written is spelled
-pub written_is_spelled : (p : Protocol) (said : Said) → IsInRange said → IsSpelling p said (head_text p said)
+pub written_is_spelled : (p : Protocol) (said : Said) → IsInRange p said → IsSpelling p said (head_text p said)
 written_is_spelled Binary said range = record { range = range; form = inl (record { unused = 0; byte = omega arith; is = refl }) }
+written_is_spelled Compact said range = compact_written said range
 
-pub read_back : (p : Protocol) (said : Said) (more : List ℕ) → IsInRange said → IsCall said.kind
+pub read_back : (p : Protocol) (said : Said) (more : List ℕ) → IsInRange p said → IsCall said.kind
     → head_at p (head_text p said ++ more) ≡ Ok (record { name = said.name; kind = said.kind; id = said.id; behind = length (head_text p said) })
 read_back p said more range call = head_only p (head_text p said ++ more) said (head_text p said) more refl (written_is_spelled p said range) call
 

@@ -13,6 +13,9 @@ use Rattle.wire_num.proofs.Fronts.{front_found, front_only}
 use Rattle.wire_num.proofs.Numbers.{byte_decodes, signed_decodes}
 use Rattle.wire_num.proofs.Widths.{byte_at, wide_32}
 use Rattle.outside.specs.declared.outcomes.EnvelopeFault.{EnvelopeFault}
+use Rattle.envelope.specs.declared.head.Protocol.{Protocol}
+use Rattle.envelope.specs.Said.{Said}
+use Rattle.envelope.specs.Spelling.{IsSpelling}
 use Rattle.envelope.specs.Readout.{◌>>=◌, in_head, head_bytes, head_byte, head_i32, name_of}
 
 -- each is a byte
@@ -43,14 +46,14 @@ pub decoded_in_head : {A : Type 0} (r : Result A NumFault) (x : A) → in_head r
 decoded_in_head (Ok y) x e = ap (λ z. Ok z) (same_ok y x e)
 decoded_in_head (Err fault) x e = absurd cc
 
-all_bytes : (bytes : List ℕ) → AreBytes bytes → AreByteSized bytes
+pub all_bytes : (bytes : List ℕ) → AreBytes bytes → AreByteSized bytes
 all_bytes bytes are = All-from_get_or (λ b. b < 256) bytes 0 (λ i h. are i)
 
 bytes_before : (bytes front rest : List ℕ) → bytes ≡ front ++ rest → AreBytes bytes → AreBytes front
 bytes_before bytes front rest whole are =
     byte_at front (subst AreByteSized (take_at front rest (length front) refl) (All-take (λ b. b < 256) (length front) (front ++ rest) (subst AreByteSized whole (all_bytes bytes are))))
 
-bytes_behind : (bytes front rest : List ℕ) → bytes ≡ front ++ rest → AreBytes bytes → AreBytes rest
+pub bytes_behind : (bytes front rest : List ℕ) → bytes ≡ front ++ rest → AreBytes bytes → AreBytes rest
 bytes_behind bytes front rest whole are =
     byte_at rest (subst AreByteSized (drop_at front rest (length front) refl) (All-drop (λ b. b < 256) (length front) (front ++ rest) (subst AreByteSized whole (all_bytes bytes are))))
 
@@ -130,3 +133,12 @@ name_found (negsuc n) bytes r are e = absurd (cc)
 pub name_only : (name rest : List ℕ) → name_of (pos (length name)) (name ++ rest) ≡ Ok (name, rest)
 unfolding name_of
 name_only name rest = piece_only (length name) name rest refl
+
+-- a head stands in front, of any type
+pub record Found (p : Protocol) (bytes : List ℕ) (said : Said) (rest : List ℕ) : Type 0 where
+  pub text : List ℕ
+  pub whole : bytes ≡ text ++ rest
+  pub spells : IsSpelling p said text
+
+pub same_found : (p : Protocol) (bytes : List ℕ) (found r : Said × List ℕ) → ok found ≡ ok r → Found p bytes found.0 found.1 → Found p bytes r.0 r.1
+same_found p bytes found r e is = subst (λ (q : Said × List ℕ). Found p bytes q.0 q.1) (same_ok found r e) is

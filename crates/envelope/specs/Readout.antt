@@ -1,19 +1,20 @@
--- Reading a head: what it says, or the first fault in reading order (Thrift binary protocol, 'Message').
-use Rattle.std.specs.Prelude.{◌≡◌, ⊤, ◌-◌, ◌==◌, ◌&&◌, ◌||◌, ℕ, ℤ, pos, negsuc, List, ◌++◌, length, slice_index, Result, Ok, Err, if◌then◌else◌}
-use Rattle.std.specs.Int.{w32}
+-- Reading a head: what it says, or the first fault in reading order (Thrift binary and compact protocol, 'Message').
+use Rattle.std.specs.Prelude.{◌≡◌, ⊤, ◌-◌, ◌/◌, ◌%◌, ◌^◌, ◌==◌, ◌&&◌, ◌||◌, ℕ, ℤ, pos, negsuc, Bool, List, ◌++◌, length, slice_index, nat_lt, Result, Ok, Err, if◌then◌else◌}
+use Rattle.std.specs.Int.{w32, cast_signed}
 use Rattle.outside.specs.declared.outcomes.EnvelopeFault.{EnvelopeFault}
 use Rattle.outside.specs.declared.outcomes.EnvelopeFault.TheVariants.{Short, Version, NameSize, LongVarint, MessageType}
 use Rattle.wire_num.specs.declared.fault.NumFault.{NumFault}
 use Rattle.wire_num.specs.declared.fault.NumFault.TheVariants as number
 use Rattle.wire_num.specs.Decoding.{decode_bytes, decode_byte, decode_signed}
 use Rattle.wire_num.specs.Fixed.{unsigned_of, signed_of}
+use Rattle.wire_num.specs.Varint.{decode_varint}
 use Rattle.envelope.specs.declared.head.Protocol.{Protocol}
-use Rattle.envelope.specs.declared.head.Protocol.TheVariants.{Binary}
+use Rattle.envelope.specs.declared.head.Protocol.TheVariants.{Binary, Compact}
 use Rattle.envelope.specs.declared.head.Head.{Head}
 use Rattle.envelope.specs.declared.head.HeadFault.{HeadFault}
 use Rattle.envelope.specs.declared.head.HeadFault.TheVariants.{Envelope, NoMemory}
 use Rattle.envelope.specs.Said.{Said, call, call_without_reply, IsCall}
-use Rattle.envelope.specs.Spelling.{strict_mark, strict_version, IsSpelling}
+use Rattle.envelope.specs.Spelling.{strict_mark, strict_version, compact_mark, compact_version, IsSpelling}
 
 -- one step of a reading and then the next, unless the first is at fault
 infixl 10 ◌>>=◌
@@ -75,11 +76,41 @@ unfoldable pub either_head : ℤ → List ℕ → List ℕ → Result (Said × L
 either_head (pos size) first bytes = old_head (pos size) bytes
 either_head (negsuc _) first bytes = strict_head first bytes
 
+-- a varint of 32 bits, and the bytes behind it
+abbrev pub head_varint : List ℕ → Result (ℕ × List ℕ) EnvelopeFault
+head_varint bytes = in_head (decode_varint w32 bytes)
+
+-- a byte is accepted, or another version
+abbrev pub accepted : Bool → ℕ → Result ⊤ EnvelopeFault
+accepted test b = if test then Ok tt else Err (Version b)
+
+-- a name of this length, which has 31 bits, and the bytes behind it
+unfoldable pub sized_name : ℕ → List ℕ → Result (List ℕ × List ℕ) EnvelopeFault
+sized_name size bytes = if nat_lt size (2 ^ 31) then head_bytes size bytes else Err NameSize
+
+-- what stands behind the first two bytes of a compact head of this type
+unfoldable pub compact_rest : ℕ → List ℕ → Result (Said × List ℕ) EnvelopeFault
+compact_rest kind bytes = do
+  id ← head_varint bytes
+  size ← head_varint id.1
+  name ← sized_name size.0 size.1
+  Ok (record { name = name.0; kind = kind; id = cast_signed w32 id.0 }, name.1)
+
+-- a compact head: each of its first two bytes is judged before the next one is read
+unfoldable pub compact_head : List ℕ → Result (Said × List ℕ) EnvelopeFault
+compact_head bytes = do
+  mark ← head_byte bytes
+  _ ← accepted (mark.0 == compact_mark) mark.0
+  typed ← head_byte mark.1
+  _ ← accepted (typed.0 % 32 == compact_version) typed.0
+  compact_rest (typed.0 / 32) typed.1
+
 -- a whole head of any type, and the bytes behind it
 unfoldable pub whole_head : Protocol → List ℕ → Result (Said × List ℕ) EnvelopeFault
 whole_head Binary bytes = do
   front ← head_bytes 4 bytes
   either_head (signed_of w32 front.0) front.0 front.1
+whole_head Compact bytes = compact_head bytes
 
 -- the type has to be one that a host takes
 unfoldable pub call_type : ℕ → Result ⊤ EnvelopeFault

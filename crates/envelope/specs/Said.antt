@@ -1,6 +1,8 @@
--- What a message's head says (Thrift binary protocol, 'Message').
+-- What a message's head says (Thrift binary and compact protocol, 'Message').
 use Rattle.std.specs.Prelude.{◌≡◌, ◌<◌, ◌^◌, ◌⊎◌, ℕ, ℤ, List, All, length, FitsSigned}
 use Rattle.std.specs.Int.{w32}
+use Rattle.envelope.specs.declared.head.Protocol.{Protocol}
+use Rattle.envelope.specs.declared.head.Protocol.TheVariants.{Binary, Compact}
 
 -- the method's name, the message's type, and the sequence id
 pub record Said : Type 0 where
@@ -8,11 +10,16 @@ pub record Said : Type 0 where
   pub kind : ℕ
   pub id : ℤ
 
--- each number fits its place: the name has a length of 31 bits, the type is a byte, the sequence id has 32 bits
-pub record IsInRange (said : Said) : Type 0 where
+-- how many types a head has room for: a byte of them, or three bits
+abbrev pub type_limit : Protocol → ℕ
+type_limit Binary = 256
+type_limit Compact = 8
+
+-- each number fits its place: the name has a length of 31 bits, the sequence id has 32 bits, and the head has room for the type
+pub record IsInRange (protocol : Protocol) (said : Said) : Type 0 where
   pub name : length said.name < 2 ^ 31
   pub bytes : All (λ b. b < 256) said.name
-  pub kind : said.kind < 256
+  pub kind : said.kind < type_limit protocol
   pub id : FitsSigned w32 said.id
 
 -- the type of a call

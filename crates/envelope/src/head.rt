@@ -6,6 +6,12 @@ use thiserror::Error;
 use thrift_value::ByteText;
 use wire_num::NumFault;
 
+/// The first byte of a compact head (Thrift compact protocol, 'Message').
+pub(crate) const COMPACT_MARK: u8 = 0x82;
+
+/// The version of a compact head, five bits of its second byte.
+pub(crate) const COMPACT_VERSION: u8 = 1;
+
 /// The first two bytes of a strict head (Thrift binary protocol, 'Message').
 pub(crate) const STRICT_VERSION: [u8; 2] = [0x80, 0x01];
 
@@ -14,9 +20,11 @@ pub(crate) const STRICT_VERSION: [u8; 2] = [0x80, 0x01];
 pub enum Protocol {
     /// The Thrift binary protocol.
     Binary,
+    /// The Thrift compact protocol.
+    Compact,
 }
 
-/// The head of a call, as it was read (Thrift binary protocol, 'Message').
+/// The head of a call, as it was read (Thrift binary and compact protocol, 'Message').
 #[derive(Debug, Drop)]
 pub struct Head {
     /// The method's name, with the service's in front where several share a connection.
@@ -45,7 +53,7 @@ fn fault_text(fault: &EnvelopeFault) -> &'static str {
     match fault {
         EnvelopeFault::Short => "the bytes end inside it",
         EnvelopeFault::Version(_) => "it has another version",
-        EnvelopeFault::NameSize => "the length of its name is below 0",
+        EnvelopeFault::NameSize => "the length of its name is out of range",
         EnvelopeFault::LongVarint => "a number has more bytes than its longest form",
         EnvelopeFault::MessageType(_) => "it is the head of no call",
     }

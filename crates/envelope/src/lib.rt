@@ -1,6 +1,6 @@
-//! Message heads: name, type and sequence id in front of a message's struct (Thrift binary protocol, 'Message'). It
-//! reads both forms of a head, strict and old, and writes the strict one. It reads no struct, knows no service, and
-//! judges a message's type only so far that a host takes calls alone.
+//! Message heads: name, type and sequence id in front of a message's struct (Thrift binary and compact protocol, 'Message'). Of
+//! the binary protocol it reads both forms of a head, strict and old, and writes the strict one. It reads no struct, knows no
+//! service, and judges a message's type only so far that a host takes calls alone.
 //!
 //! ```
 //! // The head, and the place behind it, where the arguments begin.

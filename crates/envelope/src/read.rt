@@ -5,16 +5,16 @@ ghost use Rattle.std.specs.Int.{w32};
 ghost use Rattle.wire_num.specs.Fixed.{unsigned_of};
 ghost use Rattle.envelope.specs.Said.{Said, IsCall};
 ghost use Rattle.envelope.specs.Spelling.{IsSpelling};
-ghost use Rattle.envelope.specs.Readout.{name_of, strict_head, old_head, whole_head, head_at, MeansOrNoMemory, IsHeadOrNoMemory, IsEncodedIn};
+ghost use Rattle.envelope.specs.Readout.{name_of, strict_head, old_head, sized_name, compact_rest, compact_head, whole_head, head_at, MeansOrNoMemory, IsHeadOrNoMemory, IsEncodedIn};
 
-use super::head::{Head, HeadFault, Protocol, STRICT_VERSION};
+use super::head::{COMPACT_MARK, COMPACT_VERSION, Head, HeadFault, Protocol, STRICT_VERSION};
 use outside::EnvelopeFault;
 use std::alloc::Global;
 use thrift_value::ByteText;
-use wire_num::{decode_bytes, decode_i32, decode_u8};
+use wire_num::{decode_bytes, decode_i32, decode_u8, decode_varint32};
 
-/// The head in front of a payload: strict or old, of a call or a call without a reply (Thrift binary protocol,
-/// 'Message').
+/// The head in front of a payload, of a call or a call without a reply: strict or old in the binary protocol, or compact (Thrift
+/// binary and compact protocol, 'Message').
 pub fn read_head(alloc: Global, protocol: Protocol, payload: &[u8]) -> Result<Head, HeadFault>
     ensures found { IfOk result (λ head. IsEncodedIn protocol payload.now head) }
     ensures only { (said : Said) (text rest : List ℕ) → payload.now ≡ text ++ rest → IsSpelling protocol said text
@@ -32,9 +32,7 @@ pub fn read_head(alloc: Global, protocol: Protocol, payload: &[u8]) -> Result<He
 fn head_of(alloc: Global, protocol: Protocol, payload: &[u8]) -> Result<Head, HeadFault>
     ensures { IsHeadOrNoMemory result (head_at protocol payload.now) }
 {
-    let front = match protocol {
-        Protocol::Binary => binary_head(payload)?,
-    };
+    let front = whole_head(protocol, payload)?;
     if front.kind != CALL && front.kind != ONEWAY {
         return Err(HeadFault::Envelope(EnvelopeFault::MessageType(front.kind)));
     }
@@ -64,6 +62,19 @@ struct Front<'a> {
 }
 
 /// A whole head of any type.
+#[tactic(auto, unfolding(crate::specs::Readout::whole_head))]
+fn whole_head(protocol: Protocol, payload: &[u8]) -> Result<Front<'_>, HeadFault>
+    ensures { MeansOrNoMemory
+        (λ f. (record { name = f.name.now; kind = f.kind; id = f.id }, f.rest.now))
+        result (whole_head protocol payload.now) }
+{
+    match protocol {
+        Protocol::Binary => binary_head(payload),
+        Protocol::Compact => compact_head(payload),
+    }
+}
+
+/// A strict or an old head.
 #[tactic(auto, unfolding(crate::specs::Readout::whole_head, crate::specs::Readout::either_head))]
 fn binary_head(payload: &[u8]) -> Result<Front<'_>, HeadFault>
     ensures { MeansOrNoMemory
@@ -141,4 +152,52 @@ fn next_name(size: i32, bytes: &[u8]) -> Result<(&[u8], &[u8]), HeadFault>
     }
     let (name, behind) = decode_bytes(bytes, size as usize)?;
     Ok((name, behind))
+}
+
+/// A compact head.
+#[tactic(auto, unfolding(crate::specs::Readout::compact_head))]
+fn compact_head(payload: &[u8]) -> Result<Front<'_>, HeadFault>
+    ensures { MeansOrNoMemory
+        (λ f. (record { name = f.name.now; kind = f.kind; id = f.id }, f.rest.now))
+        result (compact_head payload.now) }
+{
+    let (mark, rest) = decode_u8(payload)?;
+    if mark != COMPACT_MARK {
+        return Err(HeadFault::Envelope(EnvelopeFault::Version(u32::from(mark))));
+    }
+    let (typed, rest) = decode_u8(rest)?;
+    if typed % 32 != COMPACT_VERSION {
+        return Err(HeadFault::Envelope(EnvelopeFault::Version(u32::from(typed))));
+    }
+    compact_rest(typed / 32, rest)
+}
+
+/// A compact head of this type, of which the first two bytes were read.
+#[tactic(auto, unfolding(crate::specs::Readout::compact_rest))]
+fn compact_rest(kind: u8, rest: &[u8]) -> Result<Front<'_>, HeadFault>
+    ensures { MeansOrNoMemory
+        (λ f. (record { name = f.name.now; kind = f.kind; id = f.id }, f.rest.now))
+        result (compact_rest kind rest.now) }
+{
+    let (id, rest) = decode_varint32(rest)?;
+    let (size, rest) = decode_varint32(rest)?;
+    let (name, rest) = sized_name(size, rest)?;
+    Ok(Front {
+        name,
+        kind,
+        id: i32::from_be_bytes(id.to_be_bytes()),
+        rest,
+    })
+}
+
+/// The name of this length, which has 31 bits, and the bytes behind it.
+#[tactic(auto, unfolding(crate::specs::Readout::sized_name))]
+fn sized_name(size: u32, bytes: &[u8]) -> Result<(&[u8], &[u8]), HeadFault>
+    ensures { MeansOrNoMemory (λ r. (r.0.now, r.1.now)) result (sized_name size bytes.now) }
+{
+    if size >= 1 << 31 {
+        return Err(HeadFault::from(EnvelopeFault::NameSize));
+    }
+    let (name, rest) = decode_bytes(bytes, size as usize)?;
+    Ok((name, rest))
 }

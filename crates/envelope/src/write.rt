@@ -1,13 +1,14 @@
 //! Writing a head.
 
 ghost use Rattle.std.specs.Prelude.{◌≡◌, ◌<◌, ◌^◌, ◌++◌, OnOk, OnErr, length, take, vec_len};
-ghost use Rattle.envelope.specs.Spelling.{head_text};
+ghost use Rattle.envelope.specs.Spelling.{compact_id, compact_name, head_text};
 
-use super::head::{Protocol, STRICT_VERSION};
+use super::head::{COMPACT_MARK, COMPACT_VERSION, Protocol, STRICT_VERSION};
 use std::alloc::AllocError;
-use wire_num::{put_i32, put_u8};
+use wire_num::{put_i32, put_varint32};
 
-/// Appends a head, strict in the binary protocol.
+/// Appends a head, strict in the binary protocol; the compact protocol has room for types up to 7, and of others it gets the
+/// lowest three bits.
 pub fn write_head(
     protocol: Protocol,
     name: &[u8],
@@ -23,6 +24,7 @@ pub fn write_head(
     let start = into.len();
     let done = match protocol {
         Protocol::Binary => write_strict(name, kind, id, into),
+        Protocol::Compact => write_compact(name, kind, id, into),
     };
     if done.is_err() {
         into.truncate(start);
@@ -43,4 +45,37 @@ fn write_strict(name: &[u8], kind: u8, id: i32, into: &mut Vec<u8>) -> Result<()
     put_i32(into, name.len() as i32)?;
     into.extend_from_slice(name)?;
     put_i32(into, id)
+}
+
+/// `write_head` in the compact protocol, which leaves a part of the head where memory runs out.
+fn write_compact(name: &[u8], kind: u8, id: i32, into: &mut Vec<u8>) -> Result<(), AllocError>
+    requires { length name.now < 2 ^ 31 }
+    ensures ok { OnOk result
+        (into.new.items
+        ≡ into.old.items ++ head_text Protocol.Compact (record { name = name.now; kind = kind; id = id })) }
+    ensures err { OnErr result (take (vec_len into.old) into.new.items ≡ into.old.items) }
+{
+    into.extend_from_slice(&[COMPACT_MARK, kind % 8 * 32 + COMPACT_VERSION])?;
+    put_id(id, into)?;
+    put_name(name, into)
+}
+
+/// Appends a sequence id as a varint.
+#[tactic(auto, unfolding(crate::specs::Spelling::compact_id))]
+fn put_id(id: i32, into: &mut Vec<u8>) -> Result<(), AllocError>
+    ensures ok { OnOk result (into.new.items ≡ into.old.items ++ compact_id id) }
+    ensures err { OnErr result (into.new.items ≡ into.old.items) }
+{
+    put_varint32(into, u32::from_be_bytes(id.to_be_bytes()))
+}
+
+/// Appends the length of a name as a varint, and the name.
+#[tactic(auto, unfolding(crate::specs::Spelling::compact_name))]
+fn put_name(name: &[u8], into: &mut Vec<u8>) -> Result<(), AllocError>
+    requires { length name.now < 2 ^ 31 }
+    ensures ok { OnOk result (into.new.items ≡ into.old.items ++ compact_name name.now) }
+    ensures err { OnErr result (take (vec_len into.old) into.new.items ≡ into.old.items) }
+{
+    put_varint32(into, name.len() as u32)?;
+    into.extend_from_slice(name)
 }
