@@ -23,7 +23,7 @@ HasVarintFault most Short bytes = (length bytes < most) × HaveNoLast bytes
 HasVarintFault most LongVarint bytes = (most ≤ length bytes) × HaveNoLast (take most bytes)
 HasVarintFault most _ bytes = ⊥
 
--- A header: nothing is there; its byte has a code that isn't in the table, or, a code and a delta, by which the id is above
+-- a header: nothing is there; its byte has a code that isn't in the table, or, a code and a delta, by which the id is above
 -- 32767; or a code alone, and the id behind it is at fault (Thrift compact protocol, 'Struct')
 abbrev pub HasFieldFault : ℤ → WireFault → List ℕ → Type 0
 HasFieldFault last (BadType code) bytes =
@@ -73,7 +73,7 @@ HasListFault (BadType code) bytes =
     × ((text : List ℕ) × IsSizedHeader code size text × Begins text (λ behind. size ≤ length behind) bytes)
 HasListFault fault bytes = (code : ℕ) × (code < 16) × Begins ((240 + code) ∷ []) (HasLengthFault fault) bytes
 
--- Codes of no tag in a byte of two, the key's before the value's
+-- in a byte of two codes this is the first that no tag has: the key's, or the value's behind a key's that a tag has
 abbrev pub HasFreeCode : ℕ → ℕ → Type 0
 HasFreeCode code b = IsFreeCode code × (((value : ℕ) × (value < 16) × (b ≡ 16 * code + value)) ⊎ ((key : ℕ) × IsTakenCode key × (b ≡ 16 * key + code)))
 

@@ -66,13 +66,10 @@ fn short_delta(last: i16, id: i16) -> u8
     ensures half { result < 16 }
 {
     let delta = i32::from(id) - i32::from(last);
-    if delta < 1 {
-        return 0;
+    match delta {
+        1..=15 => delta as u8,
+        _ => 0,
     }
-    if delta > 15 {
-        return 0;
-    }
-    delta as u8
 }
 
 /// The size that a header's byte has, or, where that is 15, the number behind it.
