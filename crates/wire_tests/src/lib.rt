@@ -2,6 +2,16 @@
 #![tactic(auto)]
 
 #[cfg(test)]
+mod apache;
+#[cfg(test)]
+mod compact_head_vectors;
+#[cfg(test)]
+mod compact_heads;
+#[cfg(test)]
+mod compact_struct_vectors;
+#[cfg(test)]
+mod compact_structs;
+#[cfg(test)]
 mod head_vectors;
 #[cfg(test)]
 mod heads;

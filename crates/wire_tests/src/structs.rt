@@ -1,54 +1,20 @@
 //! Structs read and written, and each fault at its place.
 
+use crate::apache::{holding, written_again};
 use crate::notation::notation;
-use crate::struct_vectors::{DIFFERENCES, Row, tables};
-use binary_codec::{Binary, read_struct, write_struct};
+use crate::struct_vectors::{DIFFERENCES, tables};
+use binary_codec::{Binary, read_struct};
+use envelope::Protocol;
 use std::alloc::{AllocError, Global};
 use std::test::Fail;
 use thrift_value::WireFault::{BadSize, BadType, Short, TooDeep, TooMany};
 use thrift_value::{Raw, Tag, Value, WireFault};
 use wire_walk::{Input, read};
 
-// What is written of the struct in front, and the place behind it; nothing where it isn't tidy.
-fn written_again(alloc: Global, bytes: &[u8]) -> Result<Option<(Raw, usize, Vec<u8>)>, WireFault> {
-    let (value, behind) = read_struct(alloc, bytes, 0)?;
-    if !value.is_tidy() {
-        return Ok(None);
-    }
-    let mut written = Vec::new(alloc);
-    write_struct(&value, &mut written)?;
-    Ok(Some((value, behind, written)))
-}
-
-// Whether a struct of Apache's is read as its tree, and written again byte for byte.
-fn holds(alloc: Global, row: &Row) -> Result<bool, AllocError> {
-    let (bytes, count, depth, tree) = row;
-    match written_again(alloc, bytes) {
-        Ok(Some((value, behind, written))) => {
-            let found = notation(alloc, &value)?;
-            let is_whole = behind == bytes.len() && written.as_slice() == *bytes;
-            let is_measured = value.count() == *count && value.depth() == *depth;
-            Ok(found.as_bytes() == *tree && is_whole && is_measured)
-        }
-        _ => Ok(false),
-    }
-}
-
-// How many of them are.
-fn holding(alloc: Global, rows: &[Row]) -> Result<usize, AllocError> {
-    let mut holding: usize = 0;
-    for row in rows {
-        if holds(alloc, row)? {
-            holding = holding.saturating_add(1);
-        }
-    }
-    Ok(holding)
-}
-
 #[test]
 fn structs_of_apache_are_read_and_written_again(rt: HostRuntime) -> Result<(), Fail> {
     for rows in tables() {
-        assert_eq!(rt; holding(rt.alloc(), rows)?, rows.len());
+        assert_eq!(rt; holding(Protocol::Binary, rt.alloc(), rows)?, rows.len());
     }
     Ok(())
 }
@@ -256,7 +222,7 @@ fn long_list(alloc: Global, count: u32) -> Result<Vec<u8>, AllocError> {
 #[test]
 fn a_struct_of_a_hundred_thousand_values_is_read(rt: HostRuntime) -> Result<(), Fail> {
     let bytes = long_list(rt.alloc(), 99_998)?;
-    match written_again(rt.alloc(), &bytes) {
+    match written_again(Protocol::Binary, rt.alloc(), &bytes) {
         Ok(Some((value, behind, written))) => {
             assert_eq!(rt; value.count(), 100_000);
             assert_eq!(rt; behind, bytes.len());
