@@ -1,0 +1,3 @@
+pub mod PlainKind
+pub mod PlainSchema
+pub mod SchemaOf

@@ -1,0 +1,12 @@
+//! The schema of a program of IDL files: what it defines, with names resolved to numbers.
+#![tactic(auto)]
+
+mod list;
+mod types;
+
+pub use list::Listed;
+pub use types::{
+    AliasDesc, ConstDesc, DefList, DefRef, EnumDesc, EnumList, FieldDesc, FieldList,
+    FieldNeed as Need, FieldsKind as StructKind, FileDesc, FnDesc, FnList, NumberList, Schema,
+    ServiceDesc, StructDesc, TypeDesc,
+};
