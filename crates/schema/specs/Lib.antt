@@ -1,3 +1,9 @@
 pub mod PlainKind
 pub mod PlainSchema
 pub mod SchemaOf
+pub mod WrittenAs
+pub mod Inherited
+pub mod LookUp
+pub mod Sound
+pub mod Shapes
+pub mod SchemaText
