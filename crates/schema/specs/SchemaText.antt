@@ -58,10 +58,13 @@ abbrev pub default_part : Option Tree → List ℕ
 default_part None = []
 default_part (Some value) = codes " = " ++ tree_text value
 
+-- a field's id and what is said of its presence
+abbrev pub front_part : PlainField → List ℕ
+front_part f = decimal_of f.id ++ (codes " " ++ (need_word f.need ++ codes " "))
+
 -- a field
 unfoldable pub field_in_text : PlainSchema → PlainField → List ℕ
-field_in_text s f =
-    decimal_of f.id ++ (codes " " ++ (need_word f.need ++ (codes " " ++ (kind_name s f.kind ++ (codes " " ++ (f.name ++ default_part f.default))))))
+field_in_text s f = front_part f ++ (kind_name s f.kind ++ (codes " " ++ (f.name ++ default_part f.default)))
 
 -- a text on an indented line
 abbrev pub indented_line : List ℕ → List ℕ

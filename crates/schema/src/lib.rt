@@ -1,8 +1,10 @@
 //! The schema of a program of IDL files: what it defines, with names resolved to numbers.
 #![tactic(auto)]
 
+mod fields_text;
 mod list;
 mod types;
+mod types_text;
 
 pub use list::Listed;
 pub use types::{
