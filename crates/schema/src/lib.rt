@@ -3,6 +3,8 @@
 
 mod fields_text;
 mod list;
+mod services_text;
+mod text;
 mod types;
 mod types_text;
 
