@@ -1,6 +1,6 @@
 -- What a name or a number stands for in a schema.
-use Rattle.std.specs.Prelude.{ℕ, ℤ, ◌==◌, ◌&&◌, ◌||◌, Bool, List, [], ◌++◌, codes, Option, position, unwrap_or}
-use Rattle.std.specs.List.{slice_get, find, list_any}
+use Rattle.std.specs.Prelude.{ℕ, ℤ, ◌==◌, ◌&&◌, ◌||◌, Bool, List, [], ◌++◌, codes, Option, unwrap_or}
+use Rattle.std.specs.List.{slice_get, find, list_any, position_from}
 use Rattle.std.specs.Option.{option_map}
 use Rattle.std.specs.Str.{bytes_eq}
 use Rattle.schema.specs.Inherited.{functions_of}
@@ -27,15 +27,22 @@ is_included s file = list_any (λ n. n == file) (unwrap_or (option_map (λ (f : 
 abbrev pub dotted : List ℕ → List ℕ → List ℕ
 dotted base name = base ++ (codes "." ++ name)
 
--- the main file knows the service by this name: its own by their names, those of included files by base name and name
-abbrev pub is_service_name : PlainSchema → List ℕ → PlainService → Bool
-is_service_name s name v =
-    (v.file == 0 && bytes_eq name v.name) || (bytes_eq name (dotted (base_at s v.file) v.name) && is_included s v.file)
+-- the main file knows the service of an included file by this name: base name, dot and name
+abbrev pub is_included_name : PlainSchema → List ℕ → PlainService → Bool
+is_included_name s name v = bytes_eq name (dotted (base_at s v.file) v.name) && is_included s v.file
 
--- the number of the service that the main file knows by this name
+-- the main file knows the service by this name: its own by their names, and those of included files
+abbrev pub is_service_name : PlainSchema → List ℕ → PlainService → Bool
+is_service_name s name v = (v.file == 0 && bytes_eq name v.name) || is_included_name s name v
+
+-- the number of the first service that the main file knows by this name
 abbrev pub service_named : PlainSchema → List ℕ → Option ℕ
-service_named s name = position (is_service_name s name) s.services
+service_named s name = position_from (is_service_name s name) 0 s.services
+
+-- a function has this name
+abbrev pub is_named : List ℕ → PlainFunction → Bool
+is_named name f = bytes_eq f.name name
 
 -- the function with this name of the service at a number, inherited ones included
 abbrev pub function_named : PlainSchema → ℕ → List ℕ → Option PlainFunction
-function_named s which name = find (λ (f : PlainFunction). bytes_eq f.name name) (functions_of s.services which)
+function_named s which name = find (is_named name) (functions_of s.services which)

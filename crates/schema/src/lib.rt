@@ -3,6 +3,7 @@
 
 mod fields_text;
 mod list;
+mod look_up;
 mod services_text;
 mod text;
 mod types;

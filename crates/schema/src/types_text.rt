@@ -13,11 +13,18 @@ use std::alloc::AllocError;
 /// The most levels of a type that have a text.
 pub(crate) const MAX_LEVELS: u32 = 1_000;
 
-/// What stands at a number.
+/// The item at a place.
+pub(crate) fn item<T>(items: &[T], place: usize) -> Option<&T>
+    ensures { option_copied result ≡ slice_get items.now place }
+{
+    items.get(place)
+}
+
+/// The item at a number.
 pub(crate) fn at<T>(items: &[T], number: u32) -> Option<&T>
     ensures { option_copied result ≡ slice_get items.now number }
 {
-    items.get(number as usize)
+    item(items, number as usize)
 }
 
 /// Appends the base name of a file, a dot and a name.

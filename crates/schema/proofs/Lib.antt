@@ -1,0 +1,2 @@
+pub mod FindById
+pub mod Names
