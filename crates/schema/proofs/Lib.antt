@@ -1,2 +1,3 @@
 pub mod FindById
+pub mod Lines
 pub mod Names

@@ -3,7 +3,8 @@ ghost use Rattle.std.specs.Prelude.{◌≡◌, ◌<ℤ◌, ◌++◌, codes, map,
 ghost use Rattle.std.specs.List.{find};
 ghost use Rattle.std.specs.Option.{option_map, option_copied};
 ghost use Rattle.std.specs.Str.{bytes_eq};
-ghost use Rattle.schema.specs.LookUp.{dotted, field_at, function_named, is_included, is_included_name, is_named, is_service_name, service_named};
+ghost use Rattle.schema.specs.Inherited.{own_functions, parent_of};
+ghost use Rattle.schema.specs.LookUp.{dotted, field_at, fields_at, function_named, is_included, is_included_name, is_named, is_service_name, service_named};
 ghost use Rattle.schema.specs.PlainSchema.{PlainField, PlainFunction};
 ghost use Rattle.schema.specs.SchemaOf.{schema_of, plain_field, plain_function, plain_service};
 ghost use Rattle.schema.specs.Sound.{IsSound};
@@ -88,16 +89,35 @@ fn is_service_name(schema: &Schema, name: &[u8], service: &ServiceDesc) -> bool
     (service.file == 0 && name == service.name.as_slice()) || is_included_name(schema, name, service)
 }
 
+/// The fields of the struct at a number.
+fn fields_at(schema: &Schema, which: u32) -> &[FieldDesc]
+    ensures { map plain_field result.now ≡ fields_at (schema_of schema.now) which }
+{
+    match at(schema.structs.as_slice(), which) {
+        Some(found) => found.fields.as_slice(),
+        None => &[],
+    }
+}
+
+/// The own functions of the service at a number, and the number of the service that it extends.
+pub(crate) fn own_part(schema: &Schema, which: u32) -> (&[FnDesc], Option<u32>)
+    ensures functions { map plain_function result.0.now ≡ own_functions (schema_of schema.now).services which }
+    ensures parent { result.1 ≡ parent_of (schema_of schema.now).services which }
+{
+    match at(schema.services.as_slice(), which) {
+        Some(found) => (found.functions.as_slice(), found.parent),
+        None => (&[], None),
+    }
+}
+
 impl Schema {
     /// The field with an id of the struct at a number; none where that struct has none, or there is no such struct.
     pub fn field(&self, which: u32, id: i16) -> Option<&FieldDesc>
         requires sound { IsSound (schema_of self.now) }
         ensures { option_map plain_field (option_copied result) ≡ field_at (schema_of self.now) which id }
     {
-        match at(self.structs.as_slice(), which) {
-            Some(found) => field_with_id(found.fields.as_slice(), id),
-            None => None,
-        }
+        let fields = fields_at(self, which);
+        field_with_id(fields, id)
     }
 
     /// The number of the service that the main file knows by a name: one of its own by its name, and one of a file that it
@@ -125,13 +145,11 @@ impl Schema {
             let Some(which) = next else {
                 return None;
             };
-            let Some(found) = at(self.services.as_slice(), which) else {
-                return None;
-            };
-            if let Some(function) = own_function(found.functions.as_slice(), name) {
+            let (functions, parent) = own_part(self, which);
+            if let Some(function) = own_function(functions, name) {
                 return Some(function);
             }
-            next = found.parent;
+            next = parent;
         }
         None
     }
