@@ -1,3 +1,4 @@
 pub mod FindById
 pub mod Lines
 pub mod Names
+pub mod ShapeLines

@@ -3,6 +3,7 @@ use Rattle.std.proofs.Common.{◌≡◌, ℕ, zero, suc, ◌+◌, ◌-◌, ◌<�
 use Rattle.std.specs.Prelude.{flat_map, unwrap_or}
 use Rattle.std.specs.List.{find}
 use Rattle.std.specs.Option.{option_map}
+use Rattle.std.proofs.lemmas.List.{append_assoc}
 use Rattle.std.proofs.lemmas.Option.{none-some}
 use Rattle.schema.specs.Inherited.{parent_of, lineage, own_functions}
 use Rattle.schema.specs.PlainSchema.{PlainFunction, PlainService}
@@ -71,3 +72,16 @@ module _ (test : PlainFunction → Bool) (services : List PlainService) (n i whi
   goes_on_with parent is_parent missed =
       ap (λ p. find test (functions_from (n - (i + 1)) services p)) is_parent
       ∙ sym (found_inherited test (n - (i + 1)) services which (sym (ap (find test) is_own) ∙ missed)) ∙ at_which
+
+module _ (services : List PlainService) (n i which : ℕ) (next parent : Option ℕ) (so_far own longer all : List PlainFunction)
+    (low : i < n) (is_next : next ≡ Some which) (is_own : own ≡ own_functions services which) (is_parent : parent ≡ parent_of services which)
+    (is_longer : longer ≡ so_far ++ own) (kept : so_far ++ functions_from (n - i) services next ≡ all) where
+  -- the functions of one service more were gathered
+  pub gathers_on : longer ++ functions_from (n - (i + 1)) services parent ≡ all
+  gathers_on =
+      let count : n - i ≡ suc (n - (i + 1)) = omega arith in
+      let same : functions_from (n - i) services next ≡ functions_from (suc (n - (i + 1))) services (Some which) = λ k. functions_from (count k) services (is_next k) in
+      let left : longer ++ functions_from (n - (i + 1)) services parent ≡ (so_far ++ own_functions services which) ++ functions_from (n - (i + 1)) services (parent_of services which) =
+      (λ k. is_longer k ++ functions_from (n - (i + 1)) services (is_parent k)) ∙ ap (λ o. (so_far ++ o) ++ functions_from (n - (i + 1)) services (parent_of services which)) is_own in
+      left ∙ append_assoc so_far (own_functions services which) _
+      ∙ ap (λ f. so_far ++ f) (sym (own_and_inherited (n - (i + 1)) services which) ∙ sym same) ∙ kept

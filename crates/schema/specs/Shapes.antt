@@ -1,9 +1,12 @@
 -- The shapes of functions: what a handler has to know of the services that it serves, a line each.
 use Rattle.std.specs.Prelude.{◌≡◌, ℕ, Bool, true, false, List, [], ◌∷◌, ◌++◌, codes, map, flat_map, Option, Some, None, IsPermutation}
+use Rattle.std.specs.Borrow.{Bor}
 use Rattle.std.specs.List.Sorted.{IsSortedBy}
 use Rattle.std.specs.Ordering.{nat_cmp, is_lt}
 use Rattle.std.specs.Cmp.Lexicographic.{slice_cmp}
 use Rattle.text_out.specs.Decimal.{decimal_of}
+use Rattle.schema.specs.declared.types.FnDesc.{FnDesc}
+use Rattle.schema.specs.SchemaOf.{plain_function}
 use Rattle.schema.specs.Inherited.{functions_of}
 use Rattle.schema.specs.LookUp.{fields_at}
 use Rattle.schema.specs.PlainKind.{PlainKind, kind_bool, kind_i8, kind_i16, kind_i32, kind_i64, kind_double, kind_text, kind_binary, kind_enum, kind_struct, kind_map, kind_set, kind_list}
@@ -61,6 +64,14 @@ shape_line s f =
 -- one function stands before another by its name's bytes
 abbrev pub is_named_before : PlainFunction → PlainFunction → Bool
 is_named_before f g = is_lt (slice_cmp nat_cmp f.name g.name)
+
+-- a function that is lent
+abbrev pub shown_function : Bor FnDesc → PlainFunction
+shown_function f = plain_function f.now
+
+-- the same of functions that are lent
+abbrev pub is_shown_before : Bor FnDesc → Bor FnDesc → Bool
+is_shown_before f g = is_named_before (shown_function f) (shown_function g)
 
 -- the shapes of a service: of all its functions, inherited ones included, by their names
 pub record AreShapesOf (s : PlainSchema) (which : ℕ) (lines : List (List ℕ)) : Type 0 where

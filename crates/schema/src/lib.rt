@@ -5,6 +5,7 @@ mod fields_text;
 mod list;
 mod look_up;
 mod services_text;
+mod shapes;
 mod text;
 mod types;
 mod types_text;

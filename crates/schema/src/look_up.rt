@@ -90,7 +90,7 @@ fn is_service_name(schema: &Schema, name: &[u8], service: &ServiceDesc) -> bool
 }
 
 /// The fields of the struct at a number.
-fn fields_at(schema: &Schema, which: u32) -> &[FieldDesc]
+pub(crate) fn fields_at(schema: &Schema, which: u32) -> &[FieldDesc]
     ensures { map plain_field result.now ≡ fields_at (schema_of schema.now) which }
 {
     match at(schema.structs.as_slice(), which) {
