@@ -2,3 +2,4 @@ pub mod FindById
 pub mod Lines
 pub mod Names
 pub mod ShapeLines
+pub mod WholeLines

@@ -1,5 +1,5 @@
 -- The functions of a service, inherited ones included (Thrift IDL, 'Service').
-use Rattle.std.specs.Prelude.{ℕ, zero, suc, List, [], ◌∷◌, length, flat_map, Option, option_and_then, unwrap_or}
+use Rattle.std.specs.Prelude.{◌≡◌, ℕ, zero, suc, MatchOption, List, [], ◌∷◌, length, flat_map, Option, option_and_then, unwrap_or}
 use Rattle.std.specs.List.{slice_get}
 use Rattle.std.specs.Option.{option_map}
 use Rattle.schema.specs.PlainSchema.{PlainFunction, PlainService}
@@ -24,3 +24,9 @@ own_functions services which = unwrap_or (option_map (λ (s : PlainService). s.f
 -- its own functions in order, then those that it inherits, the nearest first
 abbrev pub functions_of : List PlainService → ℕ → List PlainFunction
 functions_of services which = flat_map (own_functions services) (line_of services which)
+
+-- the line of a service, with no bound: itself, and then the line of the service that it extends, where it extends one
+abbrev pub IsLine : List PlainService → ℕ → List ℕ → Type 0
+IsLine services which [] = ⊥
+IsLine services which (first ∷ more) =
+    (first ≡ which) × MatchOption (parent_of services which) (more ≡ []) (λ parent. IsLine services parent more)

@@ -2,6 +2,7 @@
 #![tactic(auto)]
 
 mod fields_text;
+mod laws;
 mod list;
 mod look_up;
 mod services_text;
@@ -10,6 +11,7 @@ mod text;
 mod types;
 mod types_text;
 
+pub use laws::a_line_is_whole;
 pub use list::Listed;
 pub use types::{
     AliasDesc, ConstDesc, DefList, DefRef, EnumDesc, EnumList, FieldDesc, FieldList,
