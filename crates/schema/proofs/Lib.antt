@@ -1,3 +1,4 @@
+pub mod ExampleIsSound
 pub mod FindById
 pub mod Lines
 pub mod Names

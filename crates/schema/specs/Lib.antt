@@ -7,3 +7,4 @@ pub mod LookUp
 pub mod Sound
 pub mod Shapes
 pub mod SchemaText
+pub mod Example

@@ -1,11 +1,29 @@
 //! What holds of all sound schemas.
+ghost use Rattle.std.specs.Prelude.{◌≡◌, ℕ, ◌∷◌, [], codes, pos, Some, None};
+ghost use Rattle.schema.specs.Example.{example_field, example_function, example_schema};
 ghost use Rattle.schema.specs.Inherited.{line_of, IsLine};
+ghost use Rattle.schema.specs.LookUp.{field_at, function_named, service_named};
 ghost use Rattle.schema.specs.PlainSchema.{PlainSchema};
+ghost use Rattle.schema.specs.SchemaText.{schema_text};
+ghost use Rattle.schema.specs.Shapes.{AreShapesOf};
 ghost use Rattle.schema.specs.Sound.{IsPlaceIn, IsSound};
-ghost use Rattle.std.specs.Prelude.{ℕ};
+
 
 /// The line of a service of a sound schema is whole: it ends at a service that extends none.
 pub fn a_line_is_whole()
     ensures { (s : PlainSchema) (which : ℕ) → IsSound s → IsPlaceIn s.services which
         → IsLine s.services which (line_of s.services which) }
+{}
+
+/// What the example is: sound, with these look-ups, this text and this shape.
+pub fn the_example_is_sound()
+    ensures sound { IsSound example_schema }
+    ensures field { field_at example_schema 0 (pos 1) ≡ Some example_field }
+    ensures no_field { field_at example_schema 0 (pos 2) ≡ None }
+    ensures service { service_named example_schema (codes "V") ≡ Some 0 }
+    ensures dotted { service_named example_schema (codes "t.V") ≡ None }
+    ensures function { function_named example_schema 0 (codes "f") ≡ Some example_function }
+    ensures shapes { AreShapesOf example_schema 0 (codes "f():list<struct>" ∷ []) }
+    ensures text { schema_text example_schema
+        ≡ codes "file t\nstruct S\n  1 default bool a = true\nservice V\n  list<t.S> f()\n" }
 {}
