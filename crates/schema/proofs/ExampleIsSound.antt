@@ -1,16 +1,21 @@
 -- The example is a sound schema.
-use Rattle.std.proofs.Common.{◌≡◌, ℕ, zero, suc, ◌+◌, ◌<◌, Bool, true, false, List, [], ◌∷◌, ◌++◌, length, map, get_or, Option, Some, None, codes, refl, sym, ap, ◌∙◌, arith}
+use Rattle.std.proofs.Common.{◌≡◌, ℕ, zero, suc, pos, ◌+◌, ◌<◌, Bool, true, false, List, [], ◌∷◌, ◌++◌, length, map, get_or, Option, Some, None, codes, refl, sym, ap, ◌∙◌, arith}
 use Rattle.std.specs.Prelude.{◌≢◌, ◌<ℤ◌, IsTrue, unwrap_or, All, AllPairs, IsPermutation}
 use Rattle.std.specs.Fmt.{decimal}
 use Rattle.std.proofs.lemmas.Fmt.{decimal_digit}
 use Rattle.std.proofs.lemmas.List.Sorted.{IsPermutation-refl}
 use Rattle.std.proofs.lemmas.Option.{none-some}
-use Rattle.schema.specs.Example.{example_field, example_struct, example_args, example_function, example_service, example_file, example_schema}
-use Rattle.schema.specs.PlainSchema.{PlainField}
+use Rattle.thrift_value.specs.declared.tag.Tag.TheVariants.{Bool as BoolTag}
+use Rattle.thrift_value.specs.Tree.{of_bool, of_i8, of_list, of_struct, field, no_fields, item, no_items}
+use Rattle.schema.specs.declared.types.FieldNeed.TheVariants.{Required}
+use Rattle.schema.specs.PlainKind.{kind_bool, kind_list, kind_struct}
+use Rattle.schema.specs.WrittenAs.{HasFieldTree, IsWrittenAs}
+use Rattle.schema.specs.Example.{example_first, example_second, example_union, example_required, example_needy, example_field, example_struct, example_args, example_function, example_service, example_file, example_schema}
+use Rattle.schema.specs.PlainSchema.{PlainField, PlainFile}
 use Rattle.schema.specs.SchemaText.{schema_text, field_in_text, struct_in_text, service_in_text, function_in_text, file_in_text}
 use Rattle.schema.specs.Shapes.{AreShapesOf}
 use Rattle.schema.specs.declared.types.DefRef.TheVariants as definition
-use Rattle.schema.specs.Sound.{def_name, is_name_byte, Extends, HasNoServiceLoop, HaveDifferentFunctions, IsDefIn, IsException, IsPlaceIn, IsSound, IsSoundAlias, IsSoundConstant, IsSoundEnum, IsSoundField, IsSoundFile, IsSoundFunction, IsSoundService, IsSoundStruct}
+use Rattle.schema.specs.Sound.{def_name, is_name_byte, AreSoundDefs, Extends, HasNoServiceLoop, HaveDifferentFunctions, IsDefIn, IsException, IsPlaceIn, IsSound, IsSoundAlias, IsSoundConstant, IsSoundEnum, IsSoundField, IsSoundFile, IsSoundFunction, IsSoundService, IsSoundStruct}
 
 -- what holds of each of no, one and two items
 all_none : {A : Type 0} (P : A → Type 0) → All P []
@@ -37,7 +42,6 @@ pairs_two R x y is zero zero d low within = absurd (omega arith)
 pairs_two R x y is zero (suc zero) d low within = is
 pairs_two R x y is zero (suc (suc j)) d low within = absurd (omega arith)
 pairs_two R x y is (suc i) j d low within = absurd (omega arith)
-
 
 -- the tests of a name's bytes, of ids and of names
 abbrev IsLetter : ℕ → Type 0
@@ -91,12 +95,14 @@ sound_service = record {
   functions = all_one (IsSoundFunction example_schema) example_function sound_function;
 }
 
-sound_file : IsSoundFile example_schema example_file
-sound_file = record {
-  includes = all_none (IsPlaceIn example_schema.files);
-  defs = all_two (IsDefIn example_schema) (definition.Struct 0) (definition.Service 0) (omega arith) (omega arith);
+sound_defs : AreSoundDefs example_schema (definition.Struct 0 ∷ definition.Service 0 ∷ [])
+sound_defs = record {
+  places = all_two (IsDefIn example_schema) (definition.Struct 0) (definition.Service 0) (omega arith) (omega arith);
   names = pairs_two (λ a b. def_name example_schema a ≢ def_name example_schema b) (definition.Struct 0) (definition.Service 0) (λ same. different_names same);
 }
+
+sound_file : IsSoundFile example_schema example_file
+sound_file = record { includes = all_none (IsPlaceIn example_schema.files); defs = sound_defs }
 
 -- it extends no service
 no_parent : (which parent : ℕ) → Extends (example_service ∷ []) which [] parent → ⊥
@@ -125,6 +131,7 @@ example_sound = record {
     functions = different;
   };
   constants = all_none (IsSoundConstant example_schema);
+  defs = all_one (λ (f : PlainFile). AreSoundDefs example_schema f.defs) example_file sound_defs;
 }
 
 -- its one shape
@@ -140,3 +147,26 @@ example_shapes = record {
 pub example_text : schema_text example_schema ≡ codes "file t\nstruct S\n  1 default bool a = true\nservice V\n  list<t.S> f()\n"
 unfolding field_in_text struct_in_text function_in_text service_in_text file_in_text
 example_text = let one : decimal 1 ≡ 49 ∷ [] = decimal_digit 1 (omega arith) in rw one
+
+-- values that may not be written: a union of two fields, a struct without a field that has to be there, one with a field that it hasn't
+pub two_of_a_union : IsWrittenAs (example_union ∷ []) (kind_struct 0) (of_struct (field (pos 1) (of_bool true) (field (pos 2) (of_bool true) no_fields))) → ⊥
+two_of_a_union written = written.0.of_union refl
+
+pub none_of_a_union : IsWrittenAs (example_union ∷ []) (kind_struct 0) (of_struct no_fields) → ⊥
+none_of_a_union written = written.0.of_union refl
+
+pub required_is_missing : IsWrittenAs (example_needy ∷ []) (kind_struct 0) (of_struct no_fields) → ⊥
+required_is_missing written = written.0.required 0 example_required (omega arith) refl
+
+pub undeclared_id : IsWrittenAs (example_struct ∷ []) (kind_struct 0) (of_struct (field (pos 2) (of_bool true) no_fields)) → ⊥
+undeclared_id written = written.1.0
+
+pub another_type : IsWrittenAs (example_struct ∷ []) (kind_list kind_bool) (of_list BoolTag (item (of_bool true) (item (of_i8 (pos 1)) no_items))) → ⊥
+another_type written = written.1.0
+
+-- and one that may
+pub one_of_a_union : IsWrittenAs (example_union ∷ []) (kind_struct 0) (of_struct (field (pos 2) (of_bool true) no_fields))
+one_of_a_union = (record { required = all_two Needs example_first example_second (λ need. absurd (cc)) (λ need. absurd (cc)); of_union = λ kind. tt }, (tt, tt))
+  where
+    Needs : PlainField → Type 0
+    Needs f = f.need ≡ Required → HasFieldTree f.id (field (pos 2) (of_bool true) no_fields)

@@ -1,5 +1,5 @@
 -- What holds of the schema of every program of IDL files that has no fault.
-use Rattle.std.specs.Prelude.{◌≡◌, ◌≢◌, ◌<◌, ◌≤◌, ◌<ℤ◌, ◌^◌, ⊤, ℕ, ℤ, IsTrue, ◌&&◌, ◌||◌, ◌==◌, nat_le, Bool, List, [], ◌∷◌, length, map, All, AllPairs, Option, Some, MatchOption}
+use Rattle.std.specs.Prelude.{◌≡◌, ◌≢◌, ◌<◌, ◌≤◌, ◌<ℤ◌, ◌^◌, ⊤, ℕ, ℤ, IsTrue, ◌&&◌, ◌||◌, ◌==◌, nat_le, Bool, true, false, filter, List, [], ◌∷◌, length, map, All, AllPairs, Option, Some, MatchOption}
 use Rattle.std.specs.List.{slice_get}
 use Rattle.std.specs.Option.{option_map}
 use Rattle.thrift_value.specs.Measures.{depth_of}
@@ -128,11 +128,20 @@ def_name s (Enum n) = option_map (λ (e : PlainEnum). e.name) (slice_get s.enums
 def_name s (Struct n) = option_map (λ (d : PlainStruct). d.name) (slice_get s.structs n)
 def_name s (Service n) = option_map (λ (v : PlainService). v.name) (slice_get s.services n)
 
--- a file: the definitions of one file have different names
+-- definitions of one file: each number is a place, and their names are different
+pub record AreSoundDefs (s : PlainSchema) (defs : List DefRef) : Type 0 where
+  pub places : All (IsDefIn s) defs
+  pub names : AllPairs (λ a b. def_name s a ≢ def_name s b) defs
+
+-- a definition is no constant
+abbrev pub is_no_constant : DefRef → Bool
+is_no_constant (Constant _) = false
+is_no_constant _ = true
+
+-- a file but for its constants
 pub record IsSoundFile (s : PlainSchema) (f : PlainFile) : Type 0 where
   pub includes : All (IsPlaceIn s.files) f.includes
-  pub defs : All (IsDefIn s) f.defs
-  pub names : AllPairs (λ a b. def_name s a ≢ def_name s b) f.defs
+  pub defs : AreSoundDefs s (filter is_no_constant f.defs)
 
 -- one service extends another through those between, in order
 abbrev pub Extends : List PlainService → ℕ → List ℕ → ℕ → Type 0
@@ -157,7 +166,7 @@ pub record HasShortLists (s : PlainSchema) : Type 0 where
   pub aliases : HasNumbers s.aliases
   pub constants : HasNumbers s.constants
 
--- a schema but for its constants
+-- a schema but for its constants, which may not stand in its list yet
 pub record IsSoundButConstants (s : PlainSchema) : Type 0 where
   pub short : HasShortLists s
   pub files : All (IsSoundFile s) s.files
@@ -173,3 +182,4 @@ pub record IsSoundButConstants (s : PlainSchema) : Type 0 where
 pub record IsSound (s : PlainSchema) : Type 0 where
   pub all_else : IsSoundButConstants s
   pub constants : All (IsSoundConstant s) s.constants
+  pub defs : All (λ (f : PlainFile). AreSoundDefs s f.defs) s.files

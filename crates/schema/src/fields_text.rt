@@ -68,7 +68,11 @@ fn put_field_line(into: &mut Vec<u8>, schema: &Schema, field: &FieldDesc) -> Res
 }
 
 /// Appends fields, each on a line of its own.
-pub(crate) fn put_field_lines(into: &mut Vec<u8>, schema: &Schema, fields: &[FieldDesc]) -> Result<(), AllocError>
+pub(crate) fn put_field_lines(
+    into: &mut Vec<u8>,
+    schema: &Schema,
+    fields: &[FieldDesc],
+) -> Result<(), AllocError>
     ensures { OnOk result (into.new.items ≡ into.old.items
         ++ flat_map (field_line_of (schema_of schema.now)) (map plain_field fields.now)) }
 {
@@ -78,14 +82,22 @@ pub(crate) fn put_field_lines(into: &mut Vec<u8>, schema: &Schema, fields: &[Fie
     Ok(())
 }
 
-fn put_behind_comma(into: &mut Vec<u8>, schema: &Schema, field: &FieldDesc) -> Result<(), AllocError>
+fn put_behind_comma(
+    into: &mut Vec<u8>,
+    schema: &Schema,
+    field: &FieldDesc,
+) -> Result<(), AllocError>
     ensures { OnOk result (into.new.items ≡ into.old.items ++ (codes ", " ++ field_in_text (schema_of schema.now) (plain_field field.now))) }
 {
     into.extend_from_slice(b", ")?;
     put_field(into, schema, field)
 }
 
-fn put_separated(into: &mut Vec<u8>, schema: &Schema, fields: &[FieldDesc]) -> Result<(), AllocError>
+fn put_separated(
+    into: &mut Vec<u8>,
+    schema: &Schema,
+    fields: &[FieldDesc],
+) -> Result<(), AllocError>
     ensures { OnOk result (into.new.items ≡ into.old.items
         ++ joined (codes ", ") (map (field_in_text (schema_of schema.now)) (map plain_field fields.now))) }
 {
@@ -100,7 +112,11 @@ fn put_separated(into: &mut Vec<u8>, schema: &Schema, fields: &[FieldDesc]) -> R
 }
 
 /// Appends fields in parentheses.
-pub(crate) fn put_fields(into: &mut Vec<u8>, schema: &Schema, fields: &[FieldDesc]) -> Result<(), AllocError>
+pub(crate) fn put_fields(
+    into: &mut Vec<u8>,
+    schema: &Schema,
+    fields: &[FieldDesc],
+) -> Result<(), AllocError>
     ensures { OnOk result (into.new.items ≡ into.old.items ++ fields_in_text (schema_of schema.now) (map plain_field fields.now)) }
 {
     into.extend_from_slice(b"(")?;

@@ -86,7 +86,8 @@ fn is_included_name(schema: &Schema, name: &[u8], service: &ServiceDesc) -> bool
 fn is_service_name(schema: &Schema, name: &[u8], service: &ServiceDesc) -> bool
     ensures { result ≡ is_service_name (schema_of schema.now) name.now (plain_service service.now) }
 {
-    (service.file == 0 && name == service.name.as_slice()) || is_included_name(schema, name, service)
+    (service.file == 0 && name == service.name.as_slice())
+        || is_included_name(schema, name, service)
 }
 
 /// The fields of the struct at a number.

@@ -24,7 +24,11 @@ pub(crate) fn put_oneway(into: &mut Vec<u8>, oneway: bool) -> Result<(), AllocEr
     }
 }
 
-fn put_result(into: &mut Vec<u8>, schema: &Schema, kind: Option<&TypeDesc>) -> Result<(), AllocError>
+fn put_result(
+    into: &mut Vec<u8>,
+    schema: &Schema,
+    kind: Option<&TypeDesc>,
+) -> Result<(), AllocError>
     ensures { OnOk result (into.new.items ≡ into.old.items
         ++ result_name (schema_of schema.now) (option_map kind_of (option_copied kind.entry))) }
 {
@@ -68,7 +72,11 @@ fn put_function(into: &mut Vec<u8>, schema: &Schema, function: &FnDesc) -> Resul
     put_throws(into, schema, function.throws.as_slice())
 }
 
-fn put_function_line(into: &mut Vec<u8>, schema: &Schema, function: &FnDesc) -> Result<(), AllocError>
+fn put_function_line(
+    into: &mut Vec<u8>,
+    schema: &Schema,
+    function: &FnDesc,
+) -> Result<(), AllocError>
     ensures { OnOk result (into.new.items ≡ into.old.items ++ function_line_of (schema_of schema.now) (plain_function function.now)) }
 {
     into.extend_from_slice(b"  ")?;
@@ -76,7 +84,11 @@ fn put_function_line(into: &mut Vec<u8>, schema: &Schema, function: &FnDesc) -> 
     into.extend_from_slice(b"\n")
 }
 
-fn put_function_lines(into: &mut Vec<u8>, schema: &Schema, functions: &[FnDesc]) -> Result<(), AllocError>
+fn put_function_lines(
+    into: &mut Vec<u8>,
+    schema: &Schema,
+    functions: &[FnDesc],
+) -> Result<(), AllocError>
     ensures { OnOk result (into.new.items ≡ into.old.items
         ++ flat_map (function_line_of (schema_of schema.now)) (map plain_function functions.now)) }
 {
@@ -100,7 +112,11 @@ fn put_parent(into: &mut Vec<u8>, schema: &Schema, parent: Option<u32>) -> Resul
 
 /// Appends a service.
 #[tactic(auto, unfolding(crate::specs::SchemaText::service_in_text))]
-pub(crate) fn put_service(into: &mut Vec<u8>, schema: &Schema, service: &ServiceDesc) -> Result<(), AllocError>
+pub(crate) fn put_service(
+    into: &mut Vec<u8>,
+    schema: &Schema,
+    service: &ServiceDesc,
+) -> Result<(), AllocError>
     ensures { OnOk result (into.new.items ≡ into.old.items ++ service_in_text (schema_of schema.now) (plain_service service.now)) }
 {
     into.extend_from_slice(b"service ")?;

@@ -17,7 +17,7 @@ use std::alloc::{AllocError, Global};
 use text_out::decimal;
 use thrift_value::{ByteText, FnShapes};
 
-/// Appends the tags of a type of at most so many levels, a base type being one. It recurses once a level.
+/// Appends the tags of a type of at most so many levels, of which what stands in the innermost container is one. It recurses once a level.
 #[cycle(shapes)]
 fn put_tags(into: &mut Vec<u8>, kind: &TypeDesc, levels: u32) -> Result<(), AllocError>
     ensures { OnOk result (into.new.items ≡ into.old.items ++ kind_tags (kind_of kind.now)) }
@@ -175,7 +175,11 @@ fn sort_by_name(all: &mut Vec<&FnDesc>) -> Result<(), AllocError>
 }
 
 /// The shapes of functions.
-fn lines_of(alloc: Global, schema: &Schema, functions: &[&FnDesc]) -> Result<Vec<ByteText>, AllocError>
+fn lines_of(
+    alloc: Global,
+    schema: &Schema,
+    functions: &[&FnDesc],
+) -> Result<Vec<ByteText>, AllocError>
     ensures { IfOk result (λ lines. lines.items ≡ map (shape_line (schema_of schema.now)) (map shown_function functions.now)) }
 {
     let mut lines = Vec::with_capacity(alloc, functions.len())?;
@@ -187,7 +191,7 @@ fn lines_of(alloc: Global, schema: &Schema, functions: &[&FnDesc]) -> Result<Vec
 
 impl Schema {
     /// The shapes of the functions of the service at a number, inherited ones included, by their names. A type of more than 1,000
-    /// levels is want of memory.
+    /// containers in one another is want of memory.
     pub fn shapes(&self, alloc: Global, service: u32) -> Result<FnShapes, AllocError>
         requires sound { IsSound (schema_of self.now) }
         requires place { service < length (schema_of self.now).services }

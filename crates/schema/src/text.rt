@@ -146,7 +146,7 @@ fn put_files(into: &mut Vec<u8>, schema: &Schema, files: &[FileDesc]) -> Result<
 
 impl Schema {
     /// The schema's text: a line for each file and each definition in order, and one for each field and each function. A type of
-    /// more than 1,000 levels is want of memory.
+    /// more than 1,000 containers in one another is want of memory.
     pub fn text(&self, alloc: Global) -> Result<Vec<u8>, AllocError>
         requires sound { IsSound (schema_of self.now) }
         ensures { IfOk result (λ text. text.items ≡ schema_text (schema_of self.now)) }

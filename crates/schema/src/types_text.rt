@@ -10,8 +10,8 @@ ghost use Rattle.schema.specs.SchemaText.{text_at, enum_name, struct_name, servi
 use crate::types::{Schema, TypeDesc};
 use std::alloc::AllocError;
 
-/// The most levels of a type that have a text.
-pub(crate) const MAX_LEVELS: u32 = 1_000;
+/// The most levels of a type that have a text: 1,000 containers in one another, and what stands in the innermost.
+pub(crate) const MAX_LEVELS: u32 = 1_001;
 
 /// The item at a place.
 pub(crate) fn item<T>(items: &[T], place: usize) -> Option<&T>
@@ -69,7 +69,11 @@ fn put_struct_name(into: &mut Vec<u8>, schema: &Schema, which: u32) -> Result<()
 }
 
 /// Appends the name of a service.
-pub(crate) fn put_service_name(into: &mut Vec<u8>, schema: &Schema, which: u32) -> Result<(), AllocError>
+pub(crate) fn put_service_name(
+    into: &mut Vec<u8>,
+    schema: &Schema,
+    which: u32,
+) -> Result<(), AllocError>
     ensures { OnOk result (into.new.items ≡ into.old.items
         ++ text_at (service_name (schema_of schema.now)) (schema_of schema.now).services which) }
 {
@@ -79,9 +83,14 @@ pub(crate) fn put_service_name(into: &mut Vec<u8>, schema: &Schema, which: u32) 
     }
 }
 
-/// Appends a type of at most so many levels, a base type being one. It recurses once a level.
+/// Appends a type of at most so many levels, of which what stands in the innermost container is one. It recurses once a level.
 #[cycle(types_text)]
-pub(crate) fn put_kind(into: &mut Vec<u8>, schema: &Schema, kind: &TypeDesc, levels: u32) -> Result<(), AllocError>
+pub(crate) fn put_kind(
+    into: &mut Vec<u8>,
+    schema: &Schema,
+    kind: &TypeDesc,
+    levels: u32,
+) -> Result<(), AllocError>
     ensures { OnOk result (into.new.items ≡ into.old.items ++ kind_name (schema_of schema.now) (kind_of kind.now)) }
 {
     if levels == 0 {
