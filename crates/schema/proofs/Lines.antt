@@ -5,16 +5,16 @@ use Rattle.std.specs.List.{find}
 use Rattle.std.specs.Option.{option_map}
 use Rattle.std.proofs.lemmas.List.{append_assoc}
 use Rattle.std.proofs.lemmas.Option.{none-some}
-use Rattle.schema.specs.Inherited.{parent_of, lineage, own_functions}
+use Rattle.schema.specs.Inherited.{parent_of, lineage_within, own_functions}
 use Rattle.schema.specs.PlainSchema.{PlainFunction, PlainService}
 
 -- the functions of a service, if there is one, and of at most so many in its line
 abbrev pub functions_from : ℕ → List PlainService → Option ℕ → List PlainFunction
-functions_from most services next = unwrap_or (option_map (λ which. flat_map (own_functions services) (lineage most services which)) next) []
+functions_from most services next = unwrap_or (option_map (λ which. flat_map (own_functions services) (lineage_within most services which)) next) []
 
 -- the line of a service, if there is one, as functions
 line_functions : (most : ℕ) (services : List PlainService) (next : Option ℕ)
-    → flat_map (own_functions services) (unwrap_or (option_map (lineage most services) next) []) ≡ functions_from most services next
+    → flat_map (own_functions services) (unwrap_or (option_map (lineage_within most services) next) []) ≡ functions_from most services next
 line_functions most services None = refl
 line_functions most services (Some which) = refl
 

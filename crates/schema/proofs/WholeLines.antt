@@ -6,7 +6,7 @@ use Rattle.std.specs.Option.{option_map}
 use Rattle.std.proofs.lemmas.Bool.{eqb-true}
 use Rattle.std.proofs.lemmas.Map.Steps.{length-le_from_distinct_below}
 use Rattle.std.proofs.lemmas.Option.{none-some, slice_get_within, get_or_from_slice_get}
-use Rattle.schema.specs.Inherited.{parent_of, lineage, line_of, IsLine}
+use Rattle.schema.specs.Inherited.{parent_of, lineage_within, lineage, IsLineage}
 use Rattle.schema.specs.PlainSchema.{PlainService, PlainSchema}
 use Rattle.schema.specs.Sound.{Extends, HasNoServiceLoop, IsPlaceIn, IsSound, IsSoundService}
 
@@ -58,19 +58,19 @@ module _ (services : List PlainService) (no_loop : HasNoServiceLoop services)
 
   -- the line from a service on, behind those that reach it
   line_from : (most : ℕ) (before : List ℕ) (which : ℕ) → length before + most ≡ length services → IsDistinct eqb (which ∷ before) → AllPlaces (which ∷ before)
-      → AllReach before which → IsLine services which (lineage most services which)
+      → AllReach before which → IsLineage services which (lineage_within most services which)
   unfolding IsDistinct
   line_from zero before which count different within reach =
       absurd (omega (arith, count, length-le_from_distinct_below (which ∷ before) (length services) different (below_all (which ∷ before) within)))
   line_from (suc most) before which count different within reach =
-      let again : (parent : ℕ) → parent_of services which ≡ Some parent → IsLine services parent (lineage most services parent) =
+      let again : (parent : ℕ) → parent_of services which ≡ Some parent → IsLineage services parent (lineage_within most services parent) =
       λ parent next.
       let all : AllReach (which ∷ before) parent = (([], next), reach_on before which parent next reach) in
       line_from most (which ∷ before) parent (omega (arith, count)) (none_is (which ∷ before) parent all, different) (places which parent next, within) all in
       (refl, by_parent (parent_of services which) again)
     where
-      by_parent : (o : Option ℕ) → ((parent : ℕ) → o ≡ Some parent → IsLine services parent (lineage most services parent))
-          → MatchOption o (unwrap_or (option_map (lineage most services) o) [] ≡ []) (λ parent. IsLine services parent (unwrap_or (option_map (lineage most services) o) []))
+      by_parent : (o : Option ℕ) → ((parent : ℕ) → o ≡ Some parent → IsLineage services parent (lineage_within most services parent))
+          → MatchOption o (unwrap_or (option_map (lineage_within most services) o) [] ≡ []) (λ parent. IsLineage services parent (unwrap_or (option_map (lineage_within most services) o) []))
       by_parent None again = refl
       by_parent (Some parent) again = again parent refl
 
@@ -84,7 +84,7 @@ parent_is_place s sound which parent next = by_service (slice_get s.services whi
         let sound_v : IsSoundService s v = subst (IsSoundService s) (get_or_from_slice_get s.services which v v at) (sound.all_else.services which v (slice_get_within s.services which v at)) in
         subst (λ (o : Option ℕ). MatchOption o ⊤ (IsPlaceIn s.services)) is sound_v.parent
 
-pub whole_line : (s : PlainSchema) (which : ℕ) → IsSound s → IsPlaceIn s.services which → IsLine s.services which (line_of s.services which)
+pub whole_lineage : (s : PlainSchema) (which : ℕ) → IsSound s → IsPlaceIn s.services which → IsLineage s.services which (lineage s.services which)
 unfolding IsDistinct
-whole_line s which sound place =
+whole_lineage s which sound place =
     line_from s.services sound.all_else.no_loop (parent_is_place s sound) (length s.services) [] which (omega arith) (tt, tt) (place, tt) tt

@@ -3,7 +3,7 @@ ghost use Rattle.std.specs.Prelude.{◌≡◌, ℕ, ◌∷◌, [], codes, pos, t
 ghost use Rattle.thrift_value.specs.declared.tag.Tag.TheVariants.{Bool as BoolTag};
 ghost use Rattle.thrift_value.specs.Tree.{of_bool, of_i8, of_list, of_struct, field, no_fields, item, no_items};
 ghost use Rattle.schema.specs.Example.{example_field, example_function, example_needy, example_schema, example_struct, example_union};
-ghost use Rattle.schema.specs.Inherited.{line_of, IsLine};
+ghost use Rattle.schema.specs.Inherited.{lineage, IsLineage};
 ghost use Rattle.schema.specs.LookUp.{field_at, function_named, service_named};
 ghost use Rattle.schema.specs.PlainKind.{kind_bool, kind_list, kind_struct};
 ghost use Rattle.schema.specs.PlainSchema.{PlainSchema};
@@ -12,10 +12,10 @@ ghost use Rattle.schema.specs.Shapes.{AreShapesOf};
 ghost use Rattle.schema.specs.Sound.{IsPlaceIn, IsSound};
 ghost use Rattle.schema.specs.WrittenAs.{IsWrittenAs};
 
-/// The line of a service of a sound schema is whole: it ends at a service that extends none.
-pub fn a_line_is_whole()
+/// The lineage of a service of a sound schema is whole: it ends at a service that extends none.
+pub fn a_lineage_is_whole()
     ensures { (s : PlainSchema) (which : ℕ) → IsSound s → IsPlaceIn s.services which
-        → IsLine s.services which (line_of s.services which) }
+        → IsLineage s.services which (lineage s.services which) }
 {}
 
 /// What the example is: sound, with these look-ups, this text and this shape.
