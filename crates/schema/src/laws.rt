@@ -1,5 +1,5 @@
 //! What holds of all sound schemas.
-ghost use Rattle.std.specs.Prelude.{◌≡◌, ℕ, ◌∷◌, [], codes, pos, true, Some, None};
+ghost use Rattle.std.specs.Prelude.{◌≡◌, ℕ, List, ◌∷◌, [], codes, pos, true, Some, None};
 ghost use Rattle.thrift_value.specs.declared.tag.Tag.TheVariants.{Bool as BoolTag};
 ghost use Rattle.thrift_value.specs.Tree.{of_bool, of_i8, of_list, of_struct, field, no_fields, item, no_items};
 ghost use Rattle.schema.specs.Example.{example_field, example_function, example_needy, example_schema, example_struct, example_union};
@@ -16,6 +16,12 @@ ghost use Rattle.schema.specs.WrittenAs.{IsWrittenAs};
 pub fn a_lineage_is_whole()
     ensures { (s : PlainSchema) (which : ℕ) → IsSound s → IsPlaceIn s.services which
         → IsLineage s.services which (lineage s.services which) }
+{}
+
+/// A service of a sound schema has one list of shapes.
+pub fn the_shapes_are_determined()
+    ensures { (s : PlainSchema) (which : ℕ) (lines others : List (List ℕ)) → IsSound s → IsPlaceIn s.services which
+        → AreShapesOf s which lines → AreShapesOf s which others → lines ≡ others }
 {}
 
 /// What the example is: sound, with these look-ups, this text and this shape.

@@ -30,7 +30,9 @@ mod text;
 mod types;
 mod types_text;
 
-pub use laws::{a_lineage_is_whole, the_example_is_sound, values_as_written};
+pub use laws::{
+    a_lineage_is_whole, the_example_is_sound, the_shapes_are_determined, values_as_written,
+};
 pub use list::Listed;
 pub use types::{
     AliasDesc, ConstDesc, DefList, DefRef, EnumDesc, EnumList, FieldDesc, FieldList,
