@@ -6,5 +6,6 @@ pub mod Tags
 pub mod Tidy
 pub mod Tree
 pub mod TreeOf
+pub mod Codes
 pub mod Faults
 pub mod Sizes

@@ -2,6 +2,7 @@
 ghost use Rattle.std.specs.Cmp.{IsTotalOrder};
 ghost use Rattle.std.specs.declared.cmp.Ordering.TheVariants.{Equal};
 ghost use Rattle.std.specs.Prelude.{◌≡◌, ◌≤◌, ◌↔◌};
+ghost use Rattle.thrift_value.specs.Codes.{tree_code};
 ghost use Rattle.thrift_value.specs.Measures.{count_of};
 ghost use Rattle.thrift_value.specs.Order.{tree_cmp};
 ghost use Rattle.thrift_value.specs.Plain.{plain, HasMeasuresOf};
@@ -65,4 +66,10 @@ pub fn tidy_value_is_well_tagged()
 /// Each value counts.
 pub fn count_is_one_or_more()
     ensures { (x : Tree) → 1 ≤ count_of x }
+{}
+
+/// Trees with one code are the same. So a struct whose model denotes a tree may stand as the type argument of a law: its
+/// `ghost coded` is made with this code.
+pub fn code_tells_the_tree()
+    ensures { (one other : Tree) → tree_code.code one ≡ tree_code.code other → one ≡ other }
 {}
