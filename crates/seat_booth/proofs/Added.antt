@@ -2,15 +2,15 @@
 use Rattle.std.proofs.Common.{◌≡◌, ℕ, zero, suc, ◌+◌, ◌%◌, ◌^◌, ◌<◌, ◌≢◌, ◌⊎◌, Bool, cond, List, [], ◌∷◌, ◌++◌, sym, refl, ap, ◌∙◌, inl, inr, ⊎_elim, arith, eq-eqb, ne_eqb}
 use Rattle.std.specs.List.{AllByRecursion, Any}
 use Rattle.std.proofs.lemmas.List.Elements.{recursion_from_All}
-use Rattle.seat_booth.specs.declared.booth_call.BoothCall.{BoothCall}
-use Rattle.seat_booth.specs.History.{meaning_after, IsHistory}
-use Rattle.seat_booth.specs.Calls.{calls_by}
+use Rattle.call_history.specs.declared.seat_call.SeatCall.{SeatCall}
+use Rattle.call_history.specs.History.{meaning_after, IsHistory}
+use Rattle.call_history.specs.Calls.{calls_by}
 use Rattle.seat_booth.specs.Seats.{BoothView, SeatView, SeatAgrees, EndsBooth}
 use Rattle.seat_booth.specs.Sums.{Adds, added}
 use Rattle.seat_booth.proofs.Weights.{total-append, each_of}
 
 abbrev E : Type 0
-E = BoothCall ℕ ℕ ℕ
+E = SeatCall ℕ ℕ ℕ
 
 pub added-push : (log : List E) (e : E) → added (log ++ e ∷ []) ≡ added log + e.op
 added-push log e = omega (arith, total-append (λ (x : E). x.op) log (e ∷ []))

@@ -9,7 +9,7 @@ use lib.ListN.{get_elem?}
 use Rattle.atomic_table.specs.Table.{State, Final, Seen}
 use Rattle.atomic_table.specs.Seated.{TableId}
 use Rattle.atomic_table.proofs.Lists.{at_set}
-use Rattle.seat_booth.specs.declared.booth_call.BoothCall.{BoothCall}
+use Rattle.call_history.specs.declared.seat_call.SeatCall.{SeatCall}
 use Rattle.seat_booth.specs.declared.view.Past.{Past}
 use Rattle.seat_booth.specs.declared.view.CallStage.TheVariants.{Idle}
 use Rattle.seat_booth.specs.declared.view.TokenView.{TokenView}
@@ -34,7 +34,7 @@ module _ {Q A M : Type 0} where
       (λ is. (0, x, omega arith, refl, is))
       (λ not. let none_here = only-other n x.number not in let there = any_numbered n xs (omega arith) in (suc there.0, there.1, omega (arith, there.2), there.3, there.4))
 
-  pub stand_all : (log : List (BoothCall Q A M)) (seat_views : List (SeatView Q A M)) → AllByRecursion (Fits log) (map past_of_seat seat_views) → AllByRecursion (SeatAgrees log) seat_views
+  pub stand_all : (log : List (SeatCall Q A M)) (seat_views : List (SeatView Q A M)) → AllByRecursion (Fits log) (map past_of_seat seat_views) → AllByRecursion (SeatAgrees log) seat_views
   stand_all log [] h = tt
   stand_all log (x ∷ xs) h = (record { begins = h.0.0; own = h.0.1 }, stand_all log xs h.1)
 
@@ -45,7 +45,7 @@ module _ {Q A M : Type 0} where
   only_numbers : (n : ℕ) (v : TokenView Q A M) → numbers (only n) v ≤ length v.pasts
   only_numbers n v = omega (arith, total_le (λ (p : Past Q A M). only n p.number) (λ _. 1) v.pasts (λ j p e. only_le n p.number), total-one v.pasts)
 
-  module _ {O : Type 0} (meaning : O → M) (gives : M → Q → A → M → Type 0) (may : M → ℕ → List (BoothCall Q A M) → Q → Type 0) (first : M) (seats : ℕ) where
+  module _ {O : Type 0} (meaning : O → M) (gives : M → Q → A → M → Type 0) (may : M → ℕ → List (SeatCall Q A M) → Q → Type 0) (first : M) (seats : ℕ) where
     -- where one token has all seats, no other has one
     module _ (t : State O (TokenView Q A M)) (k : IsKept meaning gives may first seats t) (id : ℕ) (v : TokenView Q A M) (at : get_elem? t.views id ≡ some v) (idle : v.stage ≡ Idle) (every : length v.pasts ≡ seats) where
       abbrev spent : TokenView Q A M
@@ -91,8 +91,8 @@ module _ {Q A M : Type 0} where
             allowed = k.allowed;
             last = sym home.2;
             each = All-from_recursion (SeatAgrees k.log) seat_views (stand_all k.log seat_views known.fits);
-            only = All-from_recursion (λ (e : BoothCall Q A M). Any (λ (p : SeatView Q A M). p.number ≡ e.seat) seat_views) k.log
-                (each_of (λ (e : BoothCall Q A M). e.seat < seats) (λ (e : BoothCall Q A M). Any (λ (p : SeatView Q A M). p.number ≡ e.seat) seat_views) k.log (λ e low. any_numbered e.seat seat_views (numbered t k id v at refl all_there e.seat low)) k.callers);
+            only = All-from_recursion (λ (e : SeatCall Q A M). Any (λ (p : SeatView Q A M). p.number ≡ e.seat) seat_views) k.log
+                (each_of (λ (e : SeatCall Q A M). e.seat < seats) (λ (e : SeatCall Q A M). Any (λ (p : SeatView Q A M). p.number ≡ e.seat) seat_views) k.log (λ e low. any_numbered e.seat seat_views (numbered t k id v at refl all_there e.seat low)) k.callers);
             few = k.bounded;
           },
         )

@@ -2,18 +2,18 @@
 use Rattle.std.proofs.Common.{◌≡◌, ℕ, ◌^◌, ◌<◌, Option, Some, MatchOption, List, [], ◌∷◌, ◌++◌, length, get_or, sym, refl, ap, ◌∙◌, subst, arith, length-append}
 use Rattle.atomic_table.specs.Table.{Me}
 use Rattle.atomic_table.specs.Seated.{TableId}
-use Rattle.seat_booth.specs.declared.booth_call.BoothCall.{BoothCall}
+use Rattle.call_history.specs.declared.seat_call.SeatCall.{SeatCall}
 use Rattle.seat_booth.specs.declared.view.Past.{Past}
 use Rattle.seat_booth.specs.declared.view.CallStage.TheVariants.{Idle, Turn}
 use Rattle.seat_booth.specs.declared.view.TokenView.{TokenView}
-use Rattle.seat_booth.specs.History.{booth_call, meaning_after, IsHistory}
-use Rattle.seat_booth.specs.Calls.{AllAllowed}
+use Rattle.call_history.specs.History.{seat_call, meaning_after, IsHistory}
+use Rattle.call_history.specs.Calls.{AllAllowed}
 use Rattle.seat_booth.specs.Seats.{MakesCall}
 use Rattle.seat_booth.specs.Past.{past_of, seat_view, seated}
 use Rattle.seat_booth.specs.Steps.{caught_up, with_call, HasTurn, CallIsReady, call_in_reach}
-use Rattle.seat_booth.specs.Laws.{calls_by-own, IsHistory-push, AllAllowed-push}
+use Rattle.call_history.specs.Laws.{calls_by-own, IsHistory-push, AllAllowed-push}
 
-module _ {O Q A M : Type 0} (meaning : O → M) (gives : M → Q → A → M → Type 0) (may : M → ℕ → List (BoothCall Q A M) → Q → Type 0) where
+module _ {O Q A M : Type 0} (meaning : O → M) (gives : M → Q → A → M → Type 0) (may : M → ℕ → List (SeatCall Q A M) → Q → Type 0) where
   abbrev pub V : Type 0
   V = TokenView Q A M
 
@@ -50,7 +50,7 @@ module _ {O Q A M : Type 0} (meaning : O → M) (gives : M → Q → A → M →
 
       pub ready : CallIsReady meaning gives may first (call_in_reach meaning n' op reply) n'
       ready = subst (λ (m : Me O V). CallIsReady meaning gives may first (call_in_reach meaning m op reply) m) (sym in_hand) record {
-        call = booth_call p.number op reply (meaning object');
+        call = seat_call p.number op reply (meaning object');
         ticket = ticket;
         object = object';
         named = refl;
@@ -62,8 +62,8 @@ module _ {O Q A M : Type 0} (meaning : O → M) (gives : M → Q → A → M →
         allowed = allowed;
       }
 
-      abbrev call : BoothCall Q A M
-      call = booth_call p.number op reply (meaning object')
+      abbrev call : SeatCall Q A M
+      call = seat_call p.number op reply (meaning object')
 
       after_call : (n'' : Me O V) → Finished op reply n' n'' → n'' ≡ (seated opened Idle (with_call call (caught_up h.log p)), [])
       after_call n'' done = subst (λ (m : Me O V). Finished op reply m n'') in_hand done
@@ -80,7 +80,7 @@ module _ {O Q A M : Type 0} (meaning : O → M) (gives : M → Q → A → M →
             seen = ap (λ l. l ++ call ∷ []) (sym h.begins.1);
             mine = refl;
             own = calls_by-own p.number h.log call refl ∙ ap (λ l. l ++ call ∷ []) h.own;
-            history = IsHistory-push gives may first h.log call history_now given_now;
-            allowed = AllAllowed-push gives may first h.log call allowed_now (subst (λ (l : List (BoothCall Q A M)). may first p.number l op) (sym h.own) allowed);
+            history = IsHistory-push gives first h.log call history_now given_now;
+            allowed = AllAllowed-push may first h.log call allowed_now (subst (λ (l : List (SeatCall Q A M)). may first p.number l op) (sym h.own) allowed);
             few = omega (arith, length-append h.log (call ∷ []));
           })

@@ -8,19 +8,19 @@ use lib.ListN.{get_elem?}
 use lib.Seq.{set-get_or}
 use Rattle.atomic_table.specs.Table.{State, Me, step, keeps, takes, gives, stepped, Allows, Splits, Joins}
 use Rattle.atomic_table.proofs.Lists.{at_set, at_snoc, set_here, set_again}
-use Rattle.seat_booth.specs.declared.booth_call.BoothCall.{BoothCall}
+use Rattle.call_history.specs.declared.seat_call.SeatCall.{SeatCall}
 use Rattle.seat_booth.specs.declared.view.Past.{Past}
 use Rattle.seat_booth.specs.declared.view.CallStage.{CallStage}
 use Rattle.seat_booth.specs.declared.view.CallStage.TheVariants.{Idle, Waits, Turn}
 use Rattle.seat_booth.specs.declared.view.TokenView.{TokenView}
-use Rattle.seat_booth.specs.History.{meaning_after}
-use Rattle.seat_booth.specs.Calls.{calls_by}
+use Rattle.call_history.specs.History.{meaning_after}
+use Rattle.call_history.specs.Calls.{calls_by}
 use Rattle.seat_booth.specs.Weight.{total, below}
 use Rattle.seat_booth.specs.Past.{view, first_past, other_pasts, seated}
 use Rattle.seat_booth.specs.Tickets.{weight_of_one, waiting, turning, IsTurn, Fits, IsKnown, numbers, IsKept}
 use Rattle.seat_booth.specs.Steps.{unchanged, caught_up, with_call, drew, looked, entered}
 use Rattle.seat_booth.proofs.Weights.{total-append, total-set, total-plus, term_le, terms_le, total_le, below-suc, below-one, total-one, only, but, only-same, but-same, but-other, below-only, none_of, each_both, each_append}
-use Rattle.seat_booth.specs.Laws.{meaning_after-push, calls_by-own, calls_by-other, IsHistory-push, AllAllowed-push, IsPrefix-push, IsPrefix-same}
+use Rattle.call_history.specs.Laws.{meaning_after-push, calls_by-own, calls_by-other, IsHistory-push, AllAllowed-push, IsPrefix-push, IsPrefix-same}
 
 true_or_false : (b : Bool) → (b ≡ true) ⊎ (b ≡ false)
 true_or_false true = inl refl
@@ -31,7 +31,7 @@ cond_out : (b : Bool) (n : ℕ) → cond b n 0 ≤ n
 cond_out true n = omega arith
 cond_out false n = omega arith
 
-module _ {O Q A M : Type 0} (meaning : O → M) (gives_ : M → Q → A → M → Type 0) (may : M → ℕ → List (BoothCall Q A M) → Q → Type 0) (first : M) (seats : ℕ) where
+module _ {O Q A M : Type 0} (meaning : O → M) (gives_ : M → Q → A → M → Type 0) (may : M → ℕ → List (SeatCall Q A M) → Q → Type 0) (first : M) (seats : ℕ) where
   abbrev pub P : Type 0
   P = Past Q A M
 
@@ -51,7 +51,7 @@ module _ {O Q A M : Type 0} (meaning : O → M) (gives_ : M → Q → A → M �
   serving_of s = get_or s.words 16 0
 
   -- the views after one has changed
-  pub known_set : (log : List (BoothCall Q A M)) (vs : List V) (me : ℕ) (w : V) → IsKnown first log w → ((j : ℕ) (v : V) → j ≢ me → get_elem? vs j ≡ some v → IsKnown first log v)
+  pub known_set : (log : List (SeatCall Q A M)) (vs : List V) (me : ℕ) (w : V) → IsKnown first log w → ((j : ℕ) (v : V) → j ≢ me → get_elem? vs j ≡ some v → IsKnown first log v)
       → (j : ℕ) (v : V) → get_elem? (set vs me w) j ≡ some v → IsKnown first log v
   known_set log vs me w mine others j v e =
       ⊎_elim (λ (t : (j ≡ me) × (w ≡ v)). subst (IsKnown first log) t.1 mine) (λ (t : (j ≢ me) × (get_elem? vs j ≡ some v)). others j v t.0 t.1) (at_set vs me j w v e)
@@ -205,7 +205,7 @@ module _ {O Q A M : Type 0} (meaning : O → M) (gives_ : M → Q → A → M �
   turn_weight (Turn t) h = refl
 
   -- what another token knows is still known once a seat has made its call
-  others_know : (s : St) (k : Rule s) (id : ℕ) (v : V) (ticket : ℕ) (p : P) (e : BoothCall Q A M) → get_elem? s.views id ≡ some v → v.stage ≡ Turn ticket → v.pasts ≡ p ∷ [] → e.seat ≡ p.number
+  others_know : (s : St) (k : Rule s) (id : ℕ) (v : V) (ticket : ℕ) (p : P) (e : SeatCall Q A M) → get_elem? s.views id ≡ some v → v.stage ≡ Turn ticket → v.pasts ≡ p ∷ [] → e.seat ≡ p.number
       → (j : ℕ) (u : V) → j ≢ id → get_elem? s.views j ≡ some u → IsKnown first (k.log ++ e ∷ []) u
   others_know s k id v ticket p e at is pasts seat j u other there =
       let n : ℕ = p.number in
@@ -222,11 +222,11 @@ module _ {O Q A M : Type 0} (meaning : O → M) (gives_ : M → Q → A → M �
             absurd (omega (arith, terms_le (λ (x : V). turning weight_of_one x.stage) s.views id j v u other at there, turn_weight u.stage turn, k.turn weight_of_one, cond_out k.out (weight_of_one (length k.log))));
       }
 
-  pub enters : (slots id : ℕ) (opened : Option M) (ticket : ℕ) (p : P) (object : O) (e : BoothCall Q A M) → 0 < slots → ticket < 2 ^ 62 → gives_ (meaning_after first p.seen) e.op e.reply e.after → meaning object ≡ e.after
+  pub enters : (slots id : ℕ) (opened : Option M) (ticket : ℕ) (p : P) (object : O) (e : SeatCall Q A M) → 0 < slots → ticket < 2 ^ 62 → gives_ (meaning_after first p.seen) e.op e.reply e.after → meaning object ≡ e.after
       → e.seat ≡ p.number → may first p.number p.mine e.op
       → Allows Rule slots id (seated opened (Turn ticket) p, (0, object) ∷ []) 16 (λ n. (n + 1) % 2 ^ 64) (entered (Some e) (step slots 16 1 0 none) (seated opened (Turn ticket) p, (0, object) ∷ []))
   enters slots id opened ticket p object e some_slot below_most given stands seat allowed s k homes at small =
-      let log : List (BoothCall Q A M) = k.log in
+      let log : List (SeatCall Q A M) = k.log in
       let v : V = seated opened (Turn ticket) p in
       let w : V = seated opened Idle (with_call e p) in
       let known = k.each id v at in
@@ -248,8 +248,8 @@ module _ {O Q A M : Type 0} (meaning : O → M) (gives_ : M → Q → A → M �
         record {
           log = log ++ e ∷ [];
           out = false;
-          history = IsHistory-push gives_ may first log e k.history (subst (λ (l : List (BoothCall Q A M)). gives_ (meaning_after first l) e.op e.reply e.after) whole given);
-          allowed = AllAllowed-push gives_ may first log e k.allowed (subst (λ (z : ℕ × List (BoothCall Q A M)). may first z.0 z.1 e.op) (λ i. (sym seat i, (sym own ∙ ap (λ m. calls_by m log) (sym seat)) i)) allowed);
+          history = IsHistory-push gives_ first log e k.history (subst (λ (l : List (SeatCall Q A M)). gives_ (meaning_after first l) e.op e.reply e.after) whole given);
+          allowed = AllAllowed-push may first log e k.allowed (subst (λ (z : ℕ × List (SeatCall Q A M)). may first z.0 z.1 e.op) (λ i. (sym seat i, (sym own ∙ ap (λ m. calls_by m log) (sym seat)) i)) allowed);
           room = k.room;
           wide = omega (arith, length-set s.words 16 n);
           passed = get_or-set_same s.words 16 n 0 (omega arith) ∙ (next ∙ sym longer);
@@ -258,7 +258,7 @@ module _ {O Q A M : Type 0} (meaning : O → M) (gives_ : M → Q → A → M �
           turn = λ f. omega (arith, total-set (λ u. turning f u.stage) s.views id v w at, k.turn f, ap (λ (b : Bool). cond b (f (length log)) 0) turn.1, ap f is_ticket);
           home = λ _. (object, set_here s.homes 0 (some object) (omega arith), stands ∙ sym (meaning_after-push first log e));
           dealt = λ f. omega (arith, total-set (numbers f) s.views id v w at, k.dealt f);
-          callers = each_append (λ (x : BoothCall Q A M). x.seat < seats) log (e ∷ []) k.callers (omega arith, tt);
+          callers = each_append (λ (x : SeatCall Q A M). x.seat < seats) log (e ∷ []) k.callers (omega arith, tt);
           each = known_set (log ++ e ∷ []) s.views id w (record {
             fits = ((([], append-nil (p.seen ++ e ∷ []) ∙ ap (λ l. l ++ e ∷ []) whole), calls_by-own p.number log e seat ∙ ap (λ l. l ++ e ∷ []) own), tt);
             opening = known.opening;

@@ -4,11 +4,11 @@ use Rattle.std.specs.List.{AllByRecursion}
 use mathlib.Core.Option.{some, some-injective, some-ne-none}
 use lib.ListN.{get_elem?}
 use Rattle.atomic_table.specs.Table.{opening}
-use Rattle.seat_booth.specs.declared.booth_call.BoothCall.{BoothCall}
+use Rattle.call_history.specs.declared.seat_call.SeatCall.{SeatCall}
 use Rattle.seat_booth.specs.declared.view.Past.{Past}
 use Rattle.seat_booth.specs.declared.view.CallStage.TheVariants.{Idle}
 use Rattle.seat_booth.specs.declared.view.TokenView.{TokenView}
-use Rattle.seat_booth.specs.Calls.{AllAllowed}
+use Rattle.call_history.specs.Calls.{AllAllowed}
 use Rattle.seat_booth.specs.Weight.{total, below}
 use Rattle.seat_booth.specs.Past.{view, new_pasts}
 use Rattle.seat_booth.specs.Tickets.{Fits, IsKnown, IsKept}
@@ -23,11 +23,11 @@ module _ (Q A M : Type 0) where
   fresh_fits k (suc n) = ((([], refl), refl), fresh_fits (suc k) n)
 
 module _ {Q A M : Type 0} where
-  AllAllowed-nil : (may : M → ℕ → List (BoothCall Q A M) → Q → Type 0) (first : M) → AllAllowed may first []
+  AllAllowed-nil : (may : M → ℕ → List (SeatCall Q A M) → Q → Type 0) (first : M) → AllAllowed may first []
   AllAllowed-nil may first [] back e is = absurd (let same : [] ≡ e ∷ back = is in cc)
   AllAllowed-nil may first (x ∷ xs) back e is = absurd (let same : [] ≡ x ∷ (xs ++ e ∷ back) = is in cc)
 
-  module _ {O : Type 0} (meaning : O → M) (gives : M → Q → A → M → Type 0) (may : M → ℕ → List (BoothCall Q A M) → Q → Type 0) where
+  module _ {O : Type 0} (meaning : O → M) (gives : M → Q → A → M → Type 0) (may : M → ℕ → List (SeatCall Q A M) → Q → Type 0) where
     one_known : (first : M) (v w : TokenView Q A M) → IsKnown first [] w → (j : ℕ) → get_elem? (w ∷ []) j ≡ some v → IsKnown first [] v
     one_known first v w known zero e = subst (IsKnown first []) (some-injective w v e) known
     one_known first v w known (suc j) e = absurd (some-ne-none v (sym e))

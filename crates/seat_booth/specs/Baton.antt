@@ -4,17 +4,17 @@ use Rattle.std.proofs.Common.{sym, ap, ◌∙◌}
 use Rattle.std.proofs.lemmas.Bool.{true≢false, false≢true}
 use mathlib.Core.Logic.{dite}
 use native.Mathlib.Decide.{ℕ_discrete}
-use Rattle.seat_booth.specs.declared.booth_call.BoothCall.{BoothCall}
+use Rattle.call_history.specs.declared.seat_call.SeatCall.{SeatCall}
 use Rattle.seat_booth.specs.declared.baton.BatonOp.{BatonOp}
 use Rattle.seat_booth.specs.declared.baton.BatonOp.TheVariants.{Take, Put}
-use Rattle.seat_booth.specs.History.{booth_call, meaning_after, IsHistory}
-use Rattle.seat_booth.specs.Calls.{calls_by, AllAllowed}
-use Rattle.seat_booth.specs.Induction.{every_history}
-use Rattle.seat_booth.specs.Laws.{meaning_after-push, calls_by-own, calls_by-other}
+use Rattle.call_history.specs.History.{seat_call, meaning_after, IsHistory}
+use Rattle.call_history.specs.Calls.{calls_by, AllAllowed}
+use Rattle.call_history.specs.Induction.{every_history}
+use Rattle.call_history.specs.Laws.{meaning_after-push, calls_by-own, calls_by-other}
 
 -- a call of a seat: what it asked, whether it got the baton, and whether the baton is out after it
 abbrev pub BatonCall : Type 0
-BatonCall = BoothCall BatonOp Bool Bool
+BatonCall = SeatCall BatonOp Bool Bool
 
 -- Take answers whether the baton was there, and it is out after it; Put brings it back
 abbrev pub BatonGives : Bool → BatonOp → Bool → Bool → Type 0
@@ -65,18 +65,18 @@ module _ (first : Bool) where
   holds_other : (log : List BatonCall) (e : BatonCall) (seat : ℕ) → e.seat ≢ seat → holds_baton (calls_by seat (log ++ e ∷ [])) ≡ holds_baton (calls_by seat log)
   holds_other log e seat not = ap holds_baton (calls_by-other seat log e not)
 
-  once_more : (log : List BatonCall) (by : ℕ) (op : BatonOp) (reply after : Bool) → IsHeldOnce log → BatonGives (meaning_after first log) op reply after → BatonMay first by (calls_by by log) op → IsHeldOnce (log ++ booth_call by op reply after ∷ [])
+  once_more : (log : List BatonCall) (by : ℕ) (op : BatonOp) (reply after : Bool) → IsHeldOnce log → BatonGives (meaning_after first log) op reply after → BatonMay first by (calls_by by log) op → IsHeldOnce (log ++ seat_call by op reply after ∷ [])
   once_more log by Take true after once given may =
-      let e : BatonCall = booth_call by Take true after in
+      let e : BatonCall = seat_call by Take true after in
       let nobody : (seat : ℕ) → holds_baton (calls_by seat log) ≡ true → ⊥ = λ seat h. not_out (meaning_after first log) given.0 (once seat h).0 in
       let only_by : (seat : ℕ) → holds_baton (calls_by seat (log ++ e ∷ [])) ≡ true → seat ≡ by = λ seat h. dite (ℕ_discrete by seat) (λ is. sym is) (λ not. absurd (nobody seat (sym (holds_other log e seat not) ∙ h))) in
       λ seat h. (meaning_after-push first log e ∙ given.1, λ other h'. only_by other h' ∙ sym (only_by seat h))
   once_more log by Take false after once given may =
-      let e : BatonCall = booth_call by Take false after in
+      let e : BatonCall = seat_call by Take false after in
       let as_before : (seat : ℕ) → holds_baton (calls_by seat (log ++ e ∷ [])) ≡ holds_baton (calls_by seat log) = λ seat. dite (ℕ_discrete by seat) (λ is. holds_own log e seat is) (λ not. holds_other log e seat not) in
       λ seat h. (meaning_after-push first log e ∙ given.1, λ other h'. (once seat (sym (as_before seat) ∙ h)).1 other (sym (as_before other) ∙ h'))
   once_more log by Put reply after once given may =
-      let e : BatonCall = booth_call by Put reply after in
+      let e : BatonCall = seat_call by Put reply after in
       λ seat h. dite (ℕ_discrete by seat) (λ is. absurd (false≢true (sym (holds_own log e seat is) ∙ h)))
       (λ not. absurd (not (sym ((once by may).1 seat (sym (holds_other log e seat not) ∙ h)))))
 

@@ -1,12 +1,8 @@
 pub mod Limits
-pub mod History
-pub mod Calls
 pub mod Seats
 pub mod Weight
 pub mod Past
 pub mod Tickets
 pub mod Steps
 pub mod Sums
-pub mod Laws
-pub mod Induction
 pub mod Baton

@@ -2,7 +2,7 @@
 use Rattle.std.specs.Prelude.{ℕ, zero, suc, List, [], ◌∷◌, Option}
 use Rattle.atomic_table.specs.Seated.{TableId}
 use Rattle.seat_booth.specs.Seats.{SeatView}
-use Rattle.seat_booth.specs.declared.booth_call.BoothCall.{BoothCall}
+use Rattle.call_history.specs.declared.seat_call.SeatCall.{SeatCall}
 use Rattle.seat_booth.specs.declared.view.Past.{Past}
 use Rattle.seat_booth.specs.declared.view.CallStage.{CallStage}
 use Rattle.seat_booth.specs.declared.view.CallStage.TheVariants.{Idle}
@@ -10,7 +10,7 @@ use Rattle.seat_booth.specs.declared.view.TokenView.{TokenView}
 
 module _ {Q A M : Type 0} where
   -- the past of the seat of this number, with what it has seen and its own calls
-  abbrev pub past : ℕ → List (BoothCall Q A M) → List (BoothCall Q A M) → Past Q A M
+  abbrev pub past : ℕ → List (SeatCall Q A M) → List (SeatCall Q A M) → Past Q A M
   past number seen mine = record { number = number; seen = seen; mine = mine }
 
   -- the view of a token with these seats

@@ -2,10 +2,10 @@
 use Rattle.std.specs.Prelude.{◌≡◌, ℕ, zero, suc, ◌≤◌, List, [], ◌∷◌, ◌++◌, Option, Some, length, All, Any}
 use mathlib.Core.List.{IsPrefix}
 use Rattle.atomic_table.specs.Seated.{TableId}
-use Rattle.seat_booth.specs.declared.booth_call.BoothCall.{BoothCall}
+use Rattle.call_history.specs.declared.seat_call.SeatCall.{SeatCall}
 use Rattle.seat_booth.specs.Limits.{most_calls}
-use Rattle.seat_booth.specs.History.{booth_call, meaning_after, IsHistory}
-use Rattle.seat_booth.specs.Calls.{calls_by, AllAllowed}
+use Rattle.call_history.specs.History.{seat_call, meaning_after, IsHistory}
+use Rattle.call_history.specs.Calls.{calls_by, AllAllowed}
 
 -- a booth: which one it is, what its object meant when it was opened, and how many seats it has
 pub record BoothView (M : Type 0) : Type 0 where
@@ -22,8 +22,8 @@ pub record SeatView (Q A M : Type 0) : Type 0 where
   pub booth : TableId
   pub opening : Option M
   pub number : ℕ
-  pub seen : List (BoothCall Q A M)
-  pub mine : List (BoothCall Q A M)
+  pub seen : List (SeatCall Q A M)
+  pub mine : List (SeatCall Q A M)
 
 module _ {Q A M : Type 0} where
   -- the seat of this number, before its first call
@@ -41,18 +41,18 @@ module _ {Q A M : Type 0} where
     pub opening : seat.opening ≡ Some s.opening
 
   -- the seat has seen a beginning of the history, and its calls are those of its number
-  pub record SeatAgrees (log : List (BoothCall Q A M)) (seat : SeatView Q A M) : Type 0 where
+  pub record SeatAgrees (log : List (SeatCall Q A M)) (seat : SeatView Q A M) : Type 0 where
     pub begins : IsPrefix seat.seen log
     pub own : calls_by seat.number log ≡ seat.mine
 
-  module _ (gives : M → Q → A → M → Type 0) (may : M → ℕ → List (BoothCall Q A M) → Q → Type 0) where
+  module _ (gives : M → Q → A → M → Type 0) (may : M → ℕ → List (SeatCall Q A M) → Q → Type 0) where
     -- The seat has made this call, and has seen the one history up to it.
     -- That history begins with all that the seat had seen, and ends with the call; of the seat's own calls it has those that the seat made, each once
     pub record MakesCall (s : BoothView M) (old : SeatView Q A M) (op : Q) (reply : A) (new : SeatView Q A M) : Type 0 where
-      pub between : List (BoothCall Q A M)
+      pub between : List (SeatCall Q A M)
       pub after : M
-      pub seen : new.seen ≡ (old.seen ++ between) ++ booth_call old.number op reply after ∷ []
-      pub mine : new.mine ≡ old.mine ++ booth_call old.number op reply after ∷ []
+      pub seen : new.seen ≡ (old.seen ++ between) ++ seat_call old.number op reply after ∷ []
+      pub mine : new.mine ≡ old.mine ++ seat_call old.number op reply after ∷ []
       pub own : calls_by old.number new.seen ≡ new.mine
       pub history : IsHistory gives s.opening new.seen
       pub allowed : AllAllowed may s.opening new.seen
@@ -60,7 +60,7 @@ module _ {Q A M : Type 0} where
 
     -- one history of all calls: it leaves this meaning, each seat has seen a beginning of it, and its calls are those of the seats, each once
     pub record EndsBooth (s : BoothView M) (seat_views : List (SeatView Q A M)) (meaning : M) : Type 0 where
-      pub log : List (BoothCall Q A M)
+      pub log : List (SeatCall Q A M)
       pub history : IsHistory gives s.opening log
       pub allowed : AllAllowed may s.opening log
       pub last : meaning_after s.opening log ≡ meaning

@@ -5,14 +5,14 @@ use mathlib.Core.Option.{some}
 use mathlib.Core.List.{IsPrefix}
 use lib.ListN.{get_elem?}
 use Rattle.atomic_table.specs.Table.{State}
-use Rattle.seat_booth.specs.declared.booth_call.BoothCall.{BoothCall}
+use Rattle.call_history.specs.declared.seat_call.SeatCall.{SeatCall}
 use Rattle.seat_booth.specs.declared.view.Past.{Past}
 use Rattle.seat_booth.specs.declared.view.CallStage.{CallStage}
 use Rattle.seat_booth.specs.declared.view.CallStage.TheVariants.{Waits, Turn}
 use Rattle.seat_booth.specs.declared.view.TokenView.{TokenView}
 use Rattle.seat_booth.specs.Limits.{ticket_word, serving_word, first_sleeper, most_seats, most_calls}
-use Rattle.seat_booth.specs.History.{meaning_after, IsHistory}
-use Rattle.seat_booth.specs.Calls.{calls_by, AllAllowed}
+use Rattle.call_history.specs.History.{meaning_after, IsHistory}
+use Rattle.call_history.specs.Calls.{calls_by, AllAllowed}
 use Rattle.seat_booth.specs.Weight.{total, below}
 
 -- the weight of the ticket that a token waits with
@@ -36,11 +36,11 @@ IsTurn _ = ⊥
 
 module _ {Q A M : Type 0} where
   -- the history begins with what the seat has seen, and its own calls are all that the history has of it
-  abbrev pub Fits : List (BoothCall Q A M) → Past Q A M → Type 0
+  abbrev pub Fits : List (SeatCall Q A M) → Past Q A M → Type 0
   Fits log p = IsPrefix p.seen log × (calls_by p.number log ≡ p.mine)
 
   -- a token's pasts fit the history; a token with a ticket has a past; and what the token with the turn has seen is the whole history
-  pub record IsKnown (first : M) (log : List (BoothCall Q A M)) (v : TokenView Q A M) : Type 0 where
+  pub record IsKnown (first : M) (log : List (SeatCall Q A M)) (v : TokenView Q A M) : Type 0 where
     pub fits : AllByRecursion (Fits log) v.pasts
     pub opening : 0 < length v.pasts → v.opening ≡ Some first
     pub few : waiting weight_of_one v.stage + turning weight_of_one v.stage ≤ length v.pasts
@@ -50,10 +50,10 @@ module _ {Q A M : Type 0} where
   abbrev pub numbers : (ℕ → ℕ) → TokenView Q A M → ℕ
   numbers f v = total (λ (p : Past Q A M). f p.number) v.pasts
 
-  module _ {O : Type 0} (meaning : O → M) (gives : M → Q → A → M → Type 0) (may : M → ℕ → List (BoothCall Q A M) → Q → Type 0) (first : M) (seats : ℕ) where
+  module _ {O : Type 0} (meaning : O → M) (gives : M → Q → A → M → Type 0) (may : M → ℕ → List (SeatCall Q A M) → Q → Type 0) (first : M) (seats : ℕ) where
     -- the rule: what holds of the words, the slot and the views at each moment
     pub record IsKept (s : State O (TokenView Q A M)) : Type 0 where
-      pub log : List (BoothCall Q A M)
+      pub log : List (SeatCall Q A M)
       pub out : Bool
       pub history : IsHistory gives first log
       pub allowed : AllAllowed may first log
@@ -69,5 +69,5 @@ module _ {Q A M : Type 0} where
       pub home : out ≡ false → (x : O) × (get_elem? s.homes 0 ≡ some (some x)) × (meaning x ≡ meaning_after first log)
       -- the seats' numbers are those below the number of seats, each once, and no other seat has called
       pub dealt : (f : ℕ → ℕ) → total (numbers f) s.views ≡ below f seats
-      pub callers : AllByRecursion (λ (e : BoothCall Q A M). e.seat < seats) log
+      pub callers : AllByRecursion (λ (e : SeatCall Q A M). e.seat < seats) log
       pub each : (j : ℕ) (v : TokenView Q A M) → get_elem? s.views j ≡ some v → IsKnown first log v

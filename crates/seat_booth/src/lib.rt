@@ -18,7 +18,6 @@
 
 pub mod baton;
 mod booth;
-mod booth_call;
 mod crossing;
 mod object;
 mod opening;
@@ -29,6 +28,6 @@ mod view;
 mod waiting;
 
 pub use booth::{Booth, NoBooth, Seat, new_booth};
-pub use booth_call::BoothCall;
+pub use call_history::SeatCall;
 pub use crossing::crosses;
 pub use object::Object;

@@ -1,6 +1,6 @@
 //! What each step on the table tells. These types are for the proofs alone.
 ghost use Rattle.std.specs.Prelude.{[], ◌++◌, ◌∷◌, Option, None};
-ghost use Rattle.seat_booth.specs.declared.booth_call.BoothCall.{BoothCall};
+ghost use Rattle.call_history.specs.declared.seat_call.SeatCall.{SeatCall};
 ghost use Rattle.seat_booth.specs.declared.view.CallStage.TheVariants.{Idle};
 ghost use Rattle.seat_booth.specs.Past.{view, without_first, only_first};
 ghost use Rattle.seat_booth.specs.Steps.{drew, unchanged, looked, entered};
@@ -19,7 +19,7 @@ pub(crate) type ViewOf<O> = TokenView<
 
 /// Names the call that `enter` makes. Each call of `enter` picks it.
 pub(crate) trait CallNamed<Q, A, M> {
-    ghost made: { Option (BoothCall Q A M) };
+    ghost made: { Option (SeatCall Q A M) };
 }
 
 impl<Q, A, M> CallNamed<Q, A, M> for Brand {

@@ -3,10 +3,10 @@ ghost use Rattle.std.specs.Prelude.{◌≡◌, ℕ, ◌+◌, ◌^◌, ◌<◌, �
 ghost use Rattle.atomic_table.specs.Seated.{TableId};
 ghost use Rattle.atomic_table.specs.Table.{Me};
 ghost use Rattle.seat_booth.specs.Limits.{word_count};
-ghost use Rattle.seat_booth.specs.declared.booth_call.BoothCall.{BoothCall};
+ghost use Rattle.call_history.specs.declared.seat_call.SeatCall.{SeatCall};
 ghost use Rattle.seat_booth.specs.declared.view.TokenView.{TokenView};
 ghost use Rattle.seat_booth.specs.declared.view.CallStage.TheVariants.{Idle, Waits, Turn};
-ghost use Rattle.seat_booth.specs.History.{booth_call};
+ghost use Rattle.call_history.specs.History.{seat_call};
 ghost use Rattle.seat_booth.specs.Past.{past_of, seated, view, without_first, only_first};
 ghost use Rattle.seat_booth.specs.Steps.{with_call, HasTurn, TokenIsAt, CallIsReady, call_in_reach};
 

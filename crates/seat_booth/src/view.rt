@@ -1,5 +1,5 @@
 //! What a token of the booth knows. No value of these types is made.
-use crate::booth_call::BoothCall;
+use call_history::SeatCall;
 use std::collections::LinkedList;
 
 /// How far a seat is with its call.
@@ -16,9 +16,9 @@ pub(crate) struct Past<Q, A, M> {
     /// Below the booth's number of seats, and no other seat's.
     pub number: u32,
     /// A beginning of the history; all of it while the seat has the turn.
-    pub seen: LinkedList<BoothCall<Q, A, M>>,
+    pub seen: LinkedList<SeatCall<Q, A, M>>,
     /// The history's calls of this number.
-    pub mine: LinkedList<BoothCall<Q, A, M>>,
+    pub mine: LinkedList<SeatCall<Q, A, M>>,
 }
 
 /// One token: a seat's has one past. Before the seats are dealt one token has them all, and while they come back it has several.

@@ -1,6 +1,6 @@
 //! One call of a history. No value of it is made: contracts speak of it.
 /// The call that a seat made, the object's reply, and what the object meant after it.
-pub struct BoothCall<Q, A, M> {
+pub struct SeatCall<Q, A, M> {
     /// The number of the seat that called.
     pub seat: u32,
     /// What it asked.

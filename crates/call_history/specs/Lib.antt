@@ -1,0 +1,4 @@
+pub mod History
+pub mod Calls
+pub mod Laws
+pub mod Induction
