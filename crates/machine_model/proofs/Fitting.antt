@@ -501,7 +501,7 @@ module _ {C A M : Type 0} (d : DeskRules C A) (r : ServiceRules C A M) (opening 
 
   first_fits : (first : Cell C A M) → IsFirst opening first → Fit first
   first_fits first f =
-      let none : keys_in first.hall ≡ [] = (λ i. map (λ (j : Job). j.key) (f.hall.jobs i) ++ (f.hall.taken i ++ map (λ (o : JobOutcome). o.key) (f.hall.outcomes i))) in
+      let none : keys_in first.hall ≡ [] = (λ i. map (λ (j : Job). j.key) (f.hall.opened.jobs i) ++ (f.hall.opened.taken i ++ map (λ (o : JobOutcome). o.key) (f.hall.opened.outcomes i))) in
       let e : length (keys_in first.hall) ≡ 0 = ap length none in
       let o : open_among first.loop.conns first.loop.count ≡ 0 = ap (open_among first.loop.conns) f.count in
       let a : all_submitted first.loop ≡ 0 = ap (sum_among submitted_of first.loop.conns) f.count in

@@ -8,6 +8,8 @@ pub mod Running
 pub mod Merging
 pub mod Keys
 pub mod Owning
+pub mod Singling
+pub mod Filling
 pub mod Determining
 pub mod Summing
 pub mod Fitting

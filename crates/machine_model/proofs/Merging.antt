@@ -1,5 +1,5 @@
 -- One history of the hall and the loop's weave, step by step, are a run.
-use Rattle.std.proofs.Common.{◌≡◌, ◌≢◌, ℕ, ◌⊎◌, cond, ◌==◌, if◌then◌else◌, List, [], ◌∷◌, ◌++◌, map, refl, sym, ap, ◌∙◌, subst, inl, inr, eq-eqb, ne_eqb}
+use Rattle.std.proofs.Common.{◌≡◌, ◌≢◌, ℕ, ◌⊎◌, ◌==◌, if◌then◌else◌, List, [], ◌∷◌, ◌++◌, map, refl, sym, ap, ◌∙◌, subst, inl, inr, eq-eqb, ne_eqb}
 use Rattle.std.specs.List.{flat_map}
 use Rattle.std.proofs.lemmas.Bool.{cases_eq}
 use Rattle.host_model.specs.declared.cause.EndCause.{EndCause}
@@ -9,11 +9,14 @@ use Rattle.host_model.specs.DeskRules.{DeskRules}
 use Rattle.host_model.proofs.Lists.{nil-cons, cons_parts}
 use Rattle.machine_model.specs.HallState.{HallState, IsNew}
 use Rattle.machine_model.specs.HallRule.{HallOperation, submit, take_job, apply, put, collect, close, HallAnswer, empty, is_closed, HallGives}
-use Rattle.machine_model.specs.OwnCalls.{HallCall, IsHallHistory, hall_after, hall_calls_by}
+use Rattle.call_history.specs.History.{meaning_after, IsHistory}
+use Rattle.call_history.specs.Calls.{calls_by, ask_of, asks_of}
+use Rattle.call_history.specs.Laws.{calls_by-first, calls_by-first-other}
+use Rattle.machine_model.specs.OwnCalls.{HallCall, HallAsk}
 use Rattle.machine_model.specs.Loop.{Loop, LoopAsks}
 use Rattle.machine_model.specs.Worker.{WorkerState, idle, holds, tried, WorkerAsks}
 use Rattle.machine_model.specs.Machine.{Cell, with_worker, MachineEvent, Steps, EventsLead, IsFirst, HaveAllEnded}
-use Rattle.machine_model.specs.Merge.{LoopItem, handles, calls, WorkerTurn, worked, worked_by_call, found_none, stopped, asked, AreTurns, event_by, ask_of, OfTurns, calls_in, Weaves, up_to_call, behind_call, threaded, merge, event_of, IsOneHistory, cell_at_first}
+use Rattle.machine_model.specs.Merge.{LoopItem, handles, calls, WorkerTurn, worked, worked_by_call, found_none, stopped, asked, AreTurns, event_by, op_with_answer, OfTurns, calls_in, Weaves, up_to_call, behind_call, threaded, merge, event_of, IsOneHistory, cell_at_first}
 use Rattle.machine_model.proofs.Lists.{put_same, put_other}
 
 module _ {C A : Type 0} (d : DeskRules C A) where
@@ -41,19 +44,19 @@ module _ {C A : Type 0} (d : DeskRules C A) where
     ),
   )
 
-module _ {C A M : Type 0} where
+module _ {C A : Type 0} where
   -- what a weave has from its first call on
-  abbrev from_call : List (LoopItem C A M) → List (LoopItem C A M)
+  abbrev from_call : List (LoopItem C A) → List (LoopItem C A)
   from_call [] = []
   from_call (handles conn_event ∷ items) = from_call items
   from_call (calls e ∷ items) = calls e ∷ items
 
-  no_call : (items : List (LoopItem C A M)) → [] ≡ calls_in items → from_call items ≡ []
+  no_call : (items : List (LoopItem C A)) → [] ≡ calls_in items → from_call items ≡ []
   no_call [] e = refl
   no_call (handles conn_event ∷ items) e = no_call items e
   no_call (calls x ∷ items) e = absurd (nil-cons x (calls_in items) e)
 
-  first_call : (items : List (LoopItem C A M)) (x : HallCall C A M) (log : List (HallCall C A M)) → x ∷ log ≡ calls_in items
+  first_call : (items : List (LoopItem C A)) (x : HallAsk C A) (log : List (HallAsk C A)) → x ∷ log ≡ calls_in items
       → (from_call items ≡ calls x ∷ behind_call items) × (log ≡ calls_in (behind_call items))
   first_call [] x log e = absurd (nil-cons x log (sym e))
   first_call (handles conn_event ∷ items) x log e = first_call items x log e
@@ -61,15 +64,9 @@ module _ {C A M : Type 0} where
       let parts : (x ≡ y) × (log ≡ calls_in items) = cons_parts x y log (calls_in items) e in
       (ap (λ z. calls z ∷ items) (sym parts.0), parts.1)
 
-  map_event-append : (xs ys : List (LoopItem C A M)) → map event_of (xs ++ ys) ≡ map event_of xs ++ map event_of ys
+  map_event-append : (xs ys : List (LoopItem C A)) → map event_of (xs ++ ys) ≡ map event_of xs ++ map event_of ys
   map_event-append [] ys = refl
   map_event-append (x ∷ xs) ys = ap (λ r. event_of x ∷ r) (map_event-append xs ys)
-
-  own_call : (seat : ℕ) (e : HallCall C A M) (log : List (HallCall C A M)) → e.seat ≡ seat → hall_calls_by seat (e ∷ log) ≡ e ∷ hall_calls_by seat log
-  own_call seat e log is = ap (λ b. cond b (e ∷ hall_calls_by seat log) (hall_calls_by seat log)) (eq-eqb e.seat seat is)
-
-  pub other_call : (seat : ℕ) (e : HallCall C A M) (log : List (HallCall C A M)) → (e.seat ≡ seat → ⊥) → hall_calls_by seat (e ∷ log) ≡ hall_calls_by seat log
-  other_call seat e log n = ap (λ b. cond b (e ∷ hall_calls_by seat log) (hall_calls_by seat log)) (ne_eqb e.seat seat n)
 
 module _ {C A M : Type 0} (d : DeskRules C A) (r : ServiceRules C A M) where
   runs-append : (old mid new : Cell C A M) (xs ys : List MachineEvent) → EventsLead d r old xs mid → EventsLead d r mid ys new → EventsLead d r old (xs ++ ys) new
@@ -104,7 +101,7 @@ module _ {C A M : Type 0} (d : DeskRules C A) (r : ServiceRules C A M) where
       (answer, cell.loop, hall, refl, g, ap (λ hs. record cell { hall = hall; workers = hs }) (same_workers cell.workers seat worker asks))
 
   -- what the loop does before its first call
-  lead_runs : (items : List (LoopItem C A M)) (cell : Cell C A M) (loop : Loop) → Weaves d.max cell.loop items loop
+  lead_runs : (items : List (LoopItem C A)) (cell : Cell C A M) (loop : Loop) → Weaves d.max cell.loop items loop
       → (mid : Loop) × EventsLead d r cell (map event_of (up_to_call items)) (record cell { loop = mid }) × Weaves d.max mid (from_call items) loop
   lead_runs [] cell loop t = (cell.loop, refl, t)
   lead_runs (handles conn_event ∷ items) cell loop t =
@@ -114,84 +111,84 @@ module _ {C A M : Type 0} (d : DeskRules C A) (r : ServiceRules C A M) where
   lead_runs (calls e ∷ items) cell loop t = (cell.loop, refl, t)
 
   -- where a run of these ends
-  abbrev EndsAt : Cell C A M → List (LoopItem C A M) → Loop → HallState C A M → Type 0
+  abbrev EndsAt : Cell C A M → List (LoopItem C A) → Loop → HallState C A M → Type 0
   EndsAt cell items loop hall = (new : Cell C A M) × EventsLead d r cell (map event_of items) new × (new.loop ≡ loop) × (new.hall ≡ hall)
 
   -- a history and a weave, of which what stands before the first call is done, run on
   abbrev Threads : List (HallCall C A M) → Type 0
   Threads log =
-      (weave : List (LoopItem C A M)) (cell : Cell C A M) (loop : Loop) → IsHallHistory r cell.hall log → hall_calls_by 0 log ≡ calls_in weave
-      → Weaves d.max cell.loop (from_call weave) loop → ((v : ℕ) → v ≢ 0 → Works d (cell.workers v) (map ask_of (hall_calls_by v log)))
-      → EndsAt cell (threaded log (behind_call weave)) loop (hall_after cell.hall log)
+      (weave : List (LoopItem C A)) (cell : Cell C A M) (loop : Loop) → IsHistory (HallGives r) cell.hall log → calls_by 0 (asks_of log) ≡ calls_in weave
+      → Weaves d.max cell.loop (from_call weave) loop → ((v : ℕ) → v ≢ 0 → Works d (cell.workers v) (map op_with_answer (calls_by v (asks_of log))))
+      → EndsAt cell (threaded (asks_of log) (behind_call weave)) loop (meaning_after cell.hall log)
 
   one_more : (e : HallCall C A M) (log : List (HallCall C A M)) → Threads log → Threads (e ∷ log)
   one_more e log threads weave cell loop h same t work = go (cases_eq e.seat 0)
     where
-      go : (e.seat ≡ 0) ⊎ (e.seat ≡ 0 → ⊥) → EndsAt cell (threaded (e ∷ log) (behind_call weave)) loop (hall_after e.after log)
+      go : (e.seat ≡ 0) ⊎ (e.seat ≡ 0 → ⊥) → EndsAt cell (threaded (asks_of (e ∷ log)) (behind_call weave)) loop (meaning_after e.after log)
       go (inl zero) =
-          let parts : (from_call weave ≡ calls e ∷ behind_call weave) × (hall_calls_by 0 log ≡ calls_in (behind_call weave)) =
-          first_call weave e (hall_calls_by 0 log) (sym (own_call 0 e log zero) ∙ same) in
-          let u : (next : Loop) × LoopAsks cell.loop e.op e.answer next × Weaves d.max next (behind_call weave) loop = subst (λ w. Weaves d.max cell.loop w loop) parts.0 t in
+          let parts : (from_call weave ≡ calls (ask_of e) ∷ behind_call weave) × (calls_by 0 (asks_of log) ≡ calls_in (behind_call weave)) =
+          first_call weave (ask_of e) (calls_by 0 (asks_of log)) (sym (calls_by-first 0 (ask_of e) (asks_of log) zero) ∙ same) in
+          let u : (next : Loop) × LoopAsks cell.loop e.op e.reply next × Weaves d.max next (behind_call weave) loop = subst (λ w. Weaves d.max cell.loop w loop) parts.0 t in
           let next : Cell C A M = record cell { loop = u.0; hall = e.after } in
           let l : (mid : Loop) × EventsLead d r next (map event_of (up_to_call (behind_call weave))) (record next { loop = mid }) × Weaves d.max mid (from_call (behind_call weave)) loop =
           lead_runs (behind_call weave) next loop u.2 in
-          let later : EndsAt (record next { loop = l.0 }) (threaded log (behind_call (behind_call weave))) loop (hall_after e.after log) =
+          let later : EndsAt (record next { loop = l.0 }) (threaded (asks_of log) (behind_call (behind_call weave))) loop (meaning_after e.after log) =
           threads (behind_call weave) (record next { loop = l.0 }) loop h.1 parts.1 l.2
-          (λ v n. subst (λ own. Works d (cell.workers v) (map ask_of own)) (other_call v e log (λ q. n (sym q ∙ zero))) (work v n)) in
-          let items : List (LoopItem C A M) = behind_call weave in
-          let events : List MachineEvent = map event_of (up_to_call items) ++ map event_of (threaded log (behind_call items)) in
-          let chosen : map event_of (if e.seat == 0 then up_to_call items ++ threaded log (behind_call items) else threaded log items) ≡ events =
-          ap (λ b. map event_of (if b then up_to_call items ++ threaded log (behind_call items) else threaded log items)) (eq-eqb e.seat 0 zero)
-          ∙ map_event-append (up_to_call items) (threaded log (behind_call items)) in (
+          (λ v n. subst (λ own. Works d (cell.workers v) (map op_with_answer own)) (calls_by-first-other v (ask_of e) (asks_of log) (λ q. n (sym q ∙ zero))) (work v n)) in
+          let items : List (LoopItem C A) = behind_call weave in
+          let events : List MachineEvent = map event_of (up_to_call items) ++ map event_of (threaded (asks_of log) (behind_call items)) in
+          let chosen : map event_of (if e.seat == 0 then up_to_call items ++ threaded (asks_of log) (behind_call items) else threaded (asks_of log) items) ≡ events =
+          ap (λ b. map event_of (if b then up_to_call items ++ threaded (asks_of log) (behind_call items) else threaded (asks_of log) items)) (eq-eqb e.seat 0 zero)
+          ∙ map_event-append (up_to_call items) (threaded (asks_of log) (behind_call items)) in (
             later.0,
             (
               next,
-              step_by_loop cell e.seat e.op e.answer u.0 e.after u.1 h.0,
+              step_by_loop cell e.seat e.op e.reply u.0 e.after u.1 h.0,
               subst (λ es. EventsLead d r next es later.0) (sym chosen)
-                  (runs-append next (record next { loop = l.0 }) later.0 (map event_of (up_to_call items)) (map event_of (threaded log (behind_call items))) l.1 later.1),
+                  (runs-append next (record next { loop = l.0 }) later.0 (map event_of (up_to_call items)) (map event_of (threaded (asks_of log) (behind_call items))) l.1 later.1),
             ),
             later.2,
             later.3,
           )
       go (inr n) =
-          let w : (worker : WorkerState A) × WorkerAsks d (cell.workers e.seat) e.op e.answer worker × Works d worker (map ask_of (hall_calls_by e.seat log)) =
-          subst (λ own. Works d (cell.workers e.seat) (map ask_of own)) (own_call e.seat e log refl) (work e.seat n) in
+          let w : (worker : WorkerState A) × WorkerAsks d (cell.workers e.seat) e.op e.reply worker × Works d worker (map op_with_answer (calls_by e.seat (asks_of log))) =
+          subst (λ own. Works d (cell.workers e.seat) (map op_with_answer own)) (calls_by-first e.seat (ask_of e) (asks_of log) refl) (work e.seat n) in
           let next : Cell C A M = record cell { hall = e.after; workers = with_worker cell.workers e.seat w.0 } in
-          let later : EndsAt next (threaded log (behind_call weave)) loop (hall_after e.after log) =
-          threads weave next loop h.1 (sym (other_call 0 e log n) ∙ same) t (λ v m. works v m w.0 w.2 (cases_eq v e.seat)) in
-          let items : List (LoopItem C A M) = behind_call weave in
-          let chosen : map event_of (if e.seat == 0 then up_to_call items ++ threaded log (behind_call items) else threaded log items) ≡ map event_of (threaded log items) =
-          ap (λ b. map event_of (if b then up_to_call items ++ threaded log (behind_call items) else threaded log items)) (ne_eqb e.seat 0 n) in (
+          let later : EndsAt next (threaded (asks_of log) (behind_call weave)) loop (meaning_after e.after log) =
+          threads weave next loop h.1 (sym (calls_by-first-other 0 (ask_of e) (asks_of log) n) ∙ same) t (λ v m. works v m w.0 w.2 (cases_eq v e.seat)) in
+          let items : List (LoopItem C A) = behind_call weave in
+          let chosen : map event_of (if e.seat == 0 then up_to_call items ++ threaded (asks_of log) (behind_call items) else threaded (asks_of log) items) ≡ map event_of (threaded (asks_of log) items) =
+          ap (λ b. map event_of (if b then up_to_call items ++ threaded (asks_of log) (behind_call items) else threaded (asks_of log) items)) (ne_eqb e.seat 0 n) in (
             later.0,
-            (next, step_by_worker cell e.seat e.op e.answer w.0 e.after w.1 h.0, subst (λ es. EventsLead d r next es later.0) (sym chosen) later.1),
+            (next, step_by_worker cell e.seat e.op e.reply w.0 e.after w.1 h.0, subst (λ es. EventsLead d r next es later.0) (sym chosen) later.1),
             later.2,
             later.3,
           )
         where
-          works : (v : ℕ) → v ≢ 0 → (worker : WorkerState A) → Works d worker (map ask_of (hall_calls_by e.seat log)) → (v ≡ e.seat) ⊎ (v ≡ e.seat → ⊥)
-              → Works d (with_worker cell.workers e.seat worker v) (map ask_of (hall_calls_by v log))
+          works : (v : ℕ) → v ≢ 0 → (worker : WorkerState A) → Works d worker (map op_with_answer (calls_by e.seat (asks_of log))) → (v ≡ e.seat) ⊎ (v ≡ e.seat → ⊥)
+              → Works d (with_worker cell.workers e.seat worker v) (map op_with_answer (calls_by v (asks_of log)))
           works v m worker w (inl same) =
-              subst (λ x. Works d (with_worker cell.workers e.seat worker x) (map ask_of (hall_calls_by x log))) (sym same)
-              (subst (λ x. Works d x (map ask_of (hall_calls_by e.seat log))) (sym (put_same cell.workers e.seat worker)) w)
+              subst (λ x. Works d (with_worker cell.workers e.seat worker x) (map op_with_answer (calls_by x (asks_of log)))) (sym same)
+              (subst (λ x. Works d x (map op_with_answer (calls_by e.seat (asks_of log)))) (sym (put_same cell.workers e.seat worker)) w)
           works v m worker w (inr other) =
-              subst (λ x. Works d x (map ask_of (hall_calls_by v log))) (sym (put_other cell.workers e.seat worker v other))
-              (subst (λ own. Works d (cell.workers v) (map ask_of own)) (other_call v e log (λ q. other (sym q))) (work v m))
+              subst (λ x. Works d x (map op_with_answer (calls_by v (asks_of log)))) (sym (put_other cell.workers e.seat worker v other))
+              (subst (λ own. Works d (cell.workers v) (map op_with_answer own)) (calls_by-first-other v (ask_of e) (asks_of log) (λ q. other (sym q))) (work v m))
 
   threaded_runs : (log : List (HallCall C A M)) → Threads log
   threaded_runs [] weave cell loop h same t work = (cell, refl, sym (subst (λ w. Weaves d.max cell.loop w loop) (no_call weave same) t), refl)
   threaded_runs (e ∷ log) weave cell loop h same t work = one_more e log (threaded_runs log) weave cell loop h same t work
 
-  pub merged : (memories : List M) (opening : HallState C A M) (log : List (HallCall C A M)) (weave : List (LoopItem C A M)) (loop : Loop) → IsOneHistory d r memories opening log weave loop
-      → EndsAt (cell_at_first opening) (merge log weave) loop (hall_after opening log)
+  pub merged : (memories : List M) (opening : HallState C A M) (log : List (HallCall C A M)) (weave : List (LoopItem C A)) (loop : Loop) → IsOneHistory d r memories opening log weave loop
+      → EndsAt (cell_at_first opening) (merge (asks_of log) weave) loop (meaning_after opening log)
   merged memories opening log weave loop o =
       let first : Cell C A M = cell_at_first opening in
       let l : (mid : Loop) × EventsLead d r first (map event_of (up_to_call weave)) (record first { loop = mid }) × Weaves d.max mid (from_call weave) loop = lead_runs weave first loop o.woven in
-      let later : EndsAt (record first { loop = l.0 }) (threaded log (behind_call weave)) loop (hall_after opening log) =
+      let later : EndsAt (record first { loop = l.0 }) (threaded (asks_of log) (behind_call weave)) loop (meaning_after opening log) =
       threaded_runs log weave (record first { loop = l.0 }) loop o.history o.same l.2
-      (λ v n. let t : OfTurns d (hall_calls_by v log) = o.turns v n in subst (Works d idle) (sym t.2) (turns_work d t.0 t.1)) in (
+      (λ v n. let t : OfTurns d (calls_by v (asks_of log)) = o.turns v n in subst (Works d idle) (sym t.2) (turns_work d t.0 t.1)) in (
         later.0,
-        subst (λ es. EventsLead d r first es later.0) (sym (map_event-append (up_to_call weave) (threaded log (behind_call weave))))
-            (runs-append first (record first { loop = l.0 }) later.0 (map event_of (up_to_call weave)) (map event_of (threaded log (behind_call weave))) l.1 later.1),
+        subst (λ es. EventsLead d r first es later.0) (sym (map_event-append (up_to_call weave) (threaded (asks_of log) (behind_call weave))))
+            (runs-append first (record first { loop = l.0 }) later.0 (map event_of (up_to_call weave)) (map event_of (threaded (asks_of log) (behind_call weave))) l.1 later.1),
         later.2,
         later.3,
       )
@@ -200,11 +197,11 @@ module _ {C A M : Type 0} (d : DeskRules C A) (r : ServiceRules C A M) where
   first_is memories opening n = record { tape = refl; count = refl; hall = n; workers = λ w. refl }
 
   -- and so it meets what every run meets
-  pub merged_meets : (memories : List M) (opening : HallState C A M) (log : List (HallCall C A M)) (weave : List (LoopItem C A M)) (loop : Loop) (causes : List EndCause)
+  pub merged_meets : (memories : List M) (opening : HallState C A M) (log : List (HallCall C A M)) (weave : List (LoopItem C A)) (loop : Loop) (causes : List EndCause)
       → ((cell : Cell C A M) (events : List MachineEvent) → EventsLead d r (cell_at_first opening) events cell → HaveAllEnded cell.loop causes
       → Headline d r memories cell.loop.tape cell.hall.journal causes)
-      → IsOneHistory d r memories opening log weave loop → HaveAllEnded loop causes → Headline d r memories loop.tape (hall_after opening log).journal causes
+      → IsOneHistory d r memories opening log weave loop → HaveAllEnded loop causes → Headline d r memories loop.tape (meaning_after opening log).journal causes
   merged_meets memories opening log weave loop causes law o ended =
-      let m : EndsAt (cell_at_first opening) (merge log weave) loop (hall_after opening log) = merged memories opening log weave loop o in
+      let m : EndsAt (cell_at_first opening) (merge (asks_of log) weave) loop (meaning_after opening log) = merged memories opening log weave loop o in
       subst (λ (t : Loop × HallState C A M). Headline d r memories t.0.tape t.1.journal causes) (λ i. (m.2 i, m.3 i))
-      (law m.0 (map event_of (merge log weave)) m.1 (subst (λ l. HaveAllEnded l causes) (sym m.2) ended))
+      (law m.0 (map event_of (merge (asks_of log) weave)) m.1 (subst (λ l. HaveAllEnded l causes) (sym m.2) ended))

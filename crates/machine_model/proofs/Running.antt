@@ -66,7 +66,7 @@ module _ {C A M : Type 0} (d : DeskRules C A) (r : ServiceRules C A M) (opening 
         at = λ c l. absurd (let e : first.loop.count ≡ 0 = f.count in let g : ⊥ = omega arith in g);
         endpoint = λ c l. absurd (let e : first.loop.count ≡ 0 = f.count in let g : ⊥ = omega arith in g);
         workers = λ w key h. absurd (none-some key (sym (ap key_held (f.workers w)) ∙ h));
-        nobody = λ c l. (ap (jobs_of c) f.hall.jobs, ap (outcomes_of c) f.hall.outcomes, refl);
+        nobody = λ c l. (ap (jobs_of c) f.hall.opened.jobs, ap (outcomes_of c) f.hall.opened.outcomes, refl);
       }
 
   pub reaches : (first cell : Cell C A M) (events : List MachineEvent) → IsFirst opening first → EventsLead d r first events cell → Sim d r opening cell

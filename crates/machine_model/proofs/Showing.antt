@@ -15,7 +15,7 @@ use Rattle.machine_model.specs.Merge.{cell_at_first}
 use Rattle.machine_model.specs.Tiny.{tiny_hall, causes_from, shown, LeadTo}
 
 pub tiny_is_new : IsNew (5 ∷ []) tiny_hall
-tiny_is_new = record { jobs = refl; taken = refl; outcomes = refl; memories = refl; journal = refl; closed = refl; broken = refl }
+tiny_is_new = record { opened = record { jobs = refl; taken = refl; outcomes = refl; closed = refl; broken = refl }; memories = refl; journal = refl }
 
 pub tiny_is_first : IsFirst (5 ∷ []) (cell_at_first tiny_hall)
 tiny_is_first = record { tape = refl; count = refl; hall = tiny_is_new; workers = λ w. refl }

@@ -8,16 +8,18 @@ use Rattle.host_model.specs.declared.key.Key.{Key}
 use Rattle.host_model.specs.Frames.{IsPartial}
 use Rattle.host_model.specs.TinyDesk.{tiny_desk, counting}
 use Rattle.machine_model.specs.HallState.{key_of}
-use Rattle.machine_model.specs.HallRule.{HallOperation, submit, take_job, apply, put, collect, close, HallAnswer, is_closed, applied}
-use Rattle.machine_model.specs.OwnCalls.{HallCall, IsHallHistory, hall_calls_by}
+use Rattle.machine_model.specs.HallRule.{HallOperation, submit, take_job, apply, put, collect, close, HallAnswer, is_closed, applied, HallGives}
+use Rattle.call_history.specs.History.{IsHistory}
+use Rattle.call_history.specs.Calls.{calls_by}
+use Rattle.call_history.specs.Laws.{calls_by-first-other}
+use Rattle.machine_model.specs.OwnCalls.{HallAsk}
 use Rattle.machine_model.specs.Loop.{Loop, LoopAsks, after_submit, after_collect}
 use Rattle.machine_model.specs.Merge.{LoopItem, handles, calls, worked_by_call, found_none, no_loop, OfTurns, Weaves, IsOneHistory}
 use Rattle.machine_model.specs.Plain.{when, are_same, conn_event_plain}
 use Rattle.machine_model.specs.Tiny.{tiny_hall}
-use Rattle.machine_model.specs.TinyThreads.{small_history, small_weave}
+use Rattle.machine_model.specs.TinyThreads.{small_asks, small_history, small_weave}
 use Rattle.machine_model.proofs.Computing.{passed, same_lists, conn_event_is}
 use Rattle.machine_model.proofs.Showing.{tiny_is_new}
-use Rattle.machine_model.proofs.Merging.{other_call}
 
 -- the loop after what it asks the hall, where it may
 abbrev ask_payload : Loop → Key → List ℕ → Loop → Option (List ℕ) → Option Loop
@@ -33,11 +35,11 @@ ask_plain old close answer = Some old
 ask_plain old _ answer = None
 
 -- the loop after items
-abbrev pub weave_plain : ℕ → List (LoopItem ℕ ℕ ℕ) → Option Loop → Option Loop
+abbrev pub weave_plain : ℕ → List (LoopItem ℕ ℕ) → Option Loop → Option Loop
 weave_plain max items None = None
 weave_plain max [] (Some loop) = Some loop
 weave_plain max (handles conn_event ∷ items) (Some loop) = weave_plain max items (conn_event_plain max loop conn_event)
-weave_plain max (calls e ∷ items) (Some loop) = weave_plain max items (ask_plain loop e.op e.answer)
+weave_plain max (calls e ∷ items) (Some loop) = weave_plain max items (ask_plain loop e.op e.reply)
 
 ask_is : (old : Loop) (op : HallOperation ℕ) (answer : HallAnswer ℕ) (new : Loop) → ask_plain old op answer ≡ Some new → LoopAsks {C = ℕ} old op answer new
 ask_is old (submit key payload) answer new e =
@@ -59,11 +61,11 @@ ask_is old (put key settled) answer new e = absurd (none-some new e)
 
 module _ (max : ℕ) (small : max < 2 ^ 31) (short : (bytes : List ℕ) → length bytes < 4 → IsPartial max bytes)
     (under_way : (size : ℕ) (bytes : List ℕ) → 1 ≤ size → size ≤ max → length bytes < size → IsPartial max (to_be_bytes w32 size ++ bytes)) where
-  stuck : (items : List (LoopItem ℕ ℕ ℕ)) (new : Loop) → weave_plain max items None ≡ Some new → ⊥
+  stuck : (items : List (LoopItem ℕ ℕ)) (new : Loop) → weave_plain max items None ≡ Some new → ⊥
   stuck [] new e = none-some new e
   stuck (item ∷ items) new e = none-some new e
 
-  pub weave_is : (items : List (LoopItem ℕ ℕ ℕ)) (old new : Loop) → weave_plain max items (Some old) ≡ Some new → Weaves max old items new
+  pub weave_is : (items : List (LoopItem ℕ ℕ)) (old new : Loop) → weave_plain max items (Some old) ≡ Some new → Weaves max old items new
   weave_is [] old new e = sym (same_Some old new e)
   weave_is (handles conn_event ∷ items) old new e = go (conn_event_plain max old conn_event) refl e (λ next. weave_is items next new)
     where
@@ -71,12 +73,12 @@ module _ (max : ℕ) (small : max < 2 ^ 31) (short : (bytes : List ℕ) → leng
           → Weaves max old (handles conn_event ∷ items) new
       go None s f rec = absurd (stuck items new f)
       go (Some next) s f rec = (next, conn_event_is max small short under_way old conn_event next s, rec next f)
-  weave_is (calls e ∷ items) old new h = go (ask_plain old e.op e.answer) refl h (λ next. weave_is items next new)
+  weave_is (calls e ∷ items) old new h = go (ask_plain old e.op e.reply) refl h (λ next. weave_is items next new)
     where
-      go : (x : Option Loop) → ask_plain old e.op e.answer ≡ x → weave_plain max items x ≡ Some new → ((next : Loop) → weave_plain max items (Some next) ≡ Some new → Weaves max next items new)
+      go : (x : Option Loop) → ask_plain old e.op e.reply ≡ x → weave_plain max items x ≡ Some new → ((next : Loop) → weave_plain max items (Some next) ≡ Some new → Weaves max next items new)
           → Weaves max old (calls e ∷ items) new
       go None s f rec = absurd (stuck items new f)
-      go (Some next) s f rec = (next, ask_is old e.op e.answer next s, rec next f)
+      go (Some next) s f rec = (next, ask_is old e.op e.reply next s, rec next f)
 
 -- the loop that the small weave leads to
 abbrev loop_in : Option Loop → Loop
@@ -86,34 +88,34 @@ loop_in (Some loop) = loop
 abbrev pub small_loop : Loop
 small_loop = loop_in (weave_plain 2 small_weave (Some no_loop))
 
-small_is_history : IsHallHistory counting tiny_hall small_history
+small_is_history : IsHistory (HallGives counting) tiny_hall small_history
 small_is_history =
     ((refl, refl), (([], refl, refl), ((refl, refl), (([], refl, refl), ((0, omega arith, (refl, (refl, refl))), ((0, omega arith, (refl, (refl, refl))), (refl, (([], refl, refl), (refl, (([], refl, refl), (refl, ((refl, refl, refl), ((refl, refl, refl), tt)))))))))))))
 
 -- no seat from this number on has called
-abbrev all_below : ℕ → List (HallCall ℕ ℕ ℕ) → Bool
+abbrev all_below : ℕ → List (HallAsk ℕ ℕ) → Bool
 all_below n [] = true
 all_below n (e ∷ log) = nat_lt e.seat n && all_below n log
 
-calls_past : (n seat : ℕ) (log : List (HallCall ℕ ℕ ℕ)) → all_below n log ≡ true → n ≤ seat → hall_calls_by seat log ≡ []
+calls_past : (n seat : ℕ) (log : List (HallAsk ℕ ℕ)) → all_below n log ≡ true → n ≤ seat → calls_by seat log ≡ []
 calls_past n seat [] e l = refl
 calls_past n seat (x ∷ log) e l =
     let t : (nat_lt x.seat n ≡ true) × (all_below n log ≡ true) = and_parts (nat_lt x.seat n) (all_below n log) e in
     let s : x.seat < n = ltb-true x.seat n t.0 in
-    other_call seat x log (λ q. let g : ⊥ = omega arith in g) ∙ calls_past n seat log t.1 l
+    calls_by-first-other seat x log (λ q. let g : ⊥ = omega arith in g) ∙ calls_past n seat log t.1 l
 
-small_turns : (seat : ℕ) → seat ≢ 0 → OfTurns tiny_desk (hall_calls_by seat small_history)
+small_turns : (seat : ℕ) → seat ≢ 0 → OfTurns tiny_desk (calls_by seat small_asks)
 small_turns seat n = go (cases_eq seat 1) (cases_eq seat 2)
   where
-    go : (seat ≡ 1) ⊎ (seat ≡ 1 → ⊥) → (seat ≡ 2) ⊎ (seat ≡ 2 → ⊥) → OfTurns tiny_desk (hall_calls_by seat small_history)
+    go : (seat ≡ 1) ⊎ (seat ≡ 1 → ⊥) → (seat ≡ 2) ⊎ (seat ≡ 2 → ⊥) → OfTurns tiny_desk (calls_by seat small_asks)
     go (inl e) t =
-        subst (λ s. OfTurns tiny_desk (hall_calls_by s small_history)) (sym e)
+        subst (λ s. OfTurns tiny_desk (calls_by s small_asks)) (sym e)
         (worked_by_call (key_of 0 0) (1 ∷ []) 10 (applied 6) (Reply (6 ∷ 6 ∷ [])) ∷ found_none is_closed ∷ [], (refl, tt, (refl, inl refl), (tt, tt)), refl)
     go (inr m) (inl e) =
-        subst (λ s. OfTurns tiny_desk (hall_calls_by s small_history)) (sym e)
+        subst (λ s. OfTurns tiny_desk (calls_by s small_asks)) (sym e)
         (worked_by_call (key_of 1 0) (1 ∷ []) 10 (applied 5) (Reply (5 ∷ 5 ∷ [])) ∷ found_none is_closed ∷ [], (refl, tt, (refl, inl refl), (tt, tt)), refl)
     go (inr m) (inr k) =
-        subst (OfTurns tiny_desk) (sym (calls_past 3 seat small_history refl (omega arith))) ([], tt, refl)
+        subst (OfTurns tiny_desk) (sym (calls_past 3 seat small_asks refl (omega arith))) ([], tt, refl)
 
 pub small_is_one : ((bytes : List ℕ) → length bytes < 4 → IsPartial 2 bytes)
     → ((size : ℕ) (bytes : List ℕ) → 1 ≤ size → size ≤ 2 → length bytes < size → IsPartial 2 (to_be_bytes w32 size ++ bytes))

@@ -34,15 +34,19 @@ pub record HallState (C A M : Type 0) : Type 0 where
   pub closed : Bool
   pub broken : Bool
 
--- a newly opened hall whose journal has no entries and whose services have these memories
-pub record IsNew {C A M : Type 0} (opening : List M) (hall : HallState C A M) : Type 0 where
+-- a newly opened hall: nothing is submitted, and it is neither closed nor broken
+pub record IsNewlyOpened {C A M : Type 0} (hall : HallState C A M) : Type 0 where
   pub jobs : hall.jobs ≡ []
   pub taken : hall.taken ≡ []
   pub outcomes : hall.outcomes ≡ []
-  pub memories : hall.memories ≡ opening
-  pub journal : hall.journal ≡ []
   pub closed : hall.closed ≡ false
   pub broken : hall.broken ≡ false
+
+-- one whose journal has no entries, and whose services have these memories
+pub record IsNew {C A M : Type 0} (opening : List M) (hall : HallState C A M) : Type 0 where
+  pub opened : IsNewlyOpened hall
+  pub memories : hall.memories ≡ opening
+  pub journal : hall.journal ≡ []
 
 -- a key stands in a list of keys
 abbrev pub has_key : Key → List Key → Bool

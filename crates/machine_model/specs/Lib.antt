@@ -2,6 +2,8 @@ pub mod HallState
 pub mod HallRule
 pub mod Determined
 pub mod OwnCalls
+pub mod SingleKeys
+pub mod SeenHall
 pub mod Loop
 pub mod Worker
 pub mod Machine

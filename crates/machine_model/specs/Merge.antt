@@ -5,17 +5,19 @@ use Rattle.outside.specs.declared.outcomes.Settled.{Settled}
 use Rattle.host_model.specs.declared.key.Key.{Key}
 use Rattle.host_model.specs.Journal.{ServiceRules}
 use Rattle.host_model.specs.DeskRules.{DeskRules, Invoke}
+use Rattle.call_history.specs.History.{IsHistory}
+use Rattle.call_history.specs.Calls.{calls_by, asks_of}
 use Rattle.machine_model.specs.HallState.{HallState, IsNew}
-use Rattle.machine_model.specs.HallRule.{HallOperation, submit, take_job, apply, put, collect, close, HallAnswer, done, job, empty, is_closed, applied, no_memory, journal_fault, is_broken}
-use Rattle.machine_model.specs.OwnCalls.{HallCall, IsHallHistory, hall_calls_by}
+use Rattle.machine_model.specs.HallRule.{HallOperation, submit, take_job, apply, put, collect, close, HallAnswer, done, job, empty, is_closed, applied, no_memory, journal_fault, is_broken, HallGives}
+use Rattle.machine_model.specs.OwnCalls.{HallCall, HallAsk}
 use Rattle.machine_model.specs.Loop.{Loop, ConnEvent, Happens, LoopAsks, new_conn}
 use Rattle.machine_model.specs.Worker.{idle, holds, tried, SettlesAs}
 use Rattle.machine_model.specs.Machine.{Cell, MachineEvent, on_conn, submits, takes, applies, puts, collects, closes}
 
 -- what the loop did: something on a connection, or a call of the hall
-pub data LoopItem (C A M : Type 0) : Type 0 where
-  handles : (conn_event : ConnEvent) → LoopItem C A M
-  calls : (call : HallCall C A M) → LoopItem C A M
+pub data LoopItem (C A : Type 0) : Type 0 where
+  handles : (conn_event : ConnEvent) → LoopItem C A
+  calls : (ask : HallAsk C A) → LoopItem C A
 
 -- what a worker did in one turn
 pub data WorkerTurn (C A : Type 0) : Type 0 where
@@ -74,62 +76,63 @@ event_by seat (put key settled) = puts seat
 event_by seat collect = collects
 event_by seat close = closes
 
-module _ {C A M : Type 0} where
-  -- what a call asked, and the answer
-  abbrev pub ask_of : HallCall C A M → HallOperation C × HallAnswer A
-  ask_of e = (e.op, e.answer)
+module _ {C A : Type 0} where
+  -- what was asked, with the answer
+  abbrev pub op_with_answer : HallAsk C A → HallOperation C × HallAnswer A
+  op_with_answer e = (e.op, e.reply)
 
-  -- these are the calls of a worker's turns
-  abbrev pub OfTurns : DeskRules C A → List (HallCall C A M) → Type 0
-  OfTurns d own = (turns : List (WorkerTurn C A)) × AreTurns d turns × (map ask_of own ≡ flat_map asked turns)
+  -- these are the asks of a worker's turns
+  abbrev pub OfTurns : DeskRules C A → List (HallAsk C A) → Type 0
+  OfTurns d own = (turns : List (WorkerTurn C A)) × AreTurns d turns × (map op_with_answer own ≡ flat_map asked turns)
 
   -- the calls among items
-  abbrev pub calls_in : List (LoopItem C A M) → List (HallCall C A M)
+  abbrev pub calls_in : List (LoopItem C A) → List (HallAsk C A)
   calls_in [] = []
   calls_in (handles conn_event ∷ items) = calls_in items
   calls_in (calls e ∷ items) = e ∷ calls_in items
 
   -- Each of these items is one that the machine allows the loop after those before it.
-  abbrev pub Weaves : ℕ → Loop → List (LoopItem C A M) → Loop → Type 0
+  abbrev pub Weaves : ℕ → Loop → List (LoopItem C A) → Loop → Type 0
   Weaves max old [] new = new ≡ old
   Weaves max old (handles conn_event ∷ items) new = (next : Loop) × Happens max old conn_event next × Weaves max next items new
-  Weaves max old (calls e ∷ items) new = (next : Loop) × LoopAsks old e.op e.answer next × Weaves max next items new
+  Weaves max old (calls e ∷ items) new = (next : Loop) × LoopAsks old e.op e.reply next × Weaves max next items new
 
   -- what items have before their first call
-  abbrev pub up_to_call : List (LoopItem C A M) → List (LoopItem C A M)
+  abbrev pub up_to_call : List (LoopItem C A) → List (LoopItem C A)
   up_to_call [] = []
   up_to_call (handles conn_event ∷ items) = handles conn_event ∷ up_to_call items
   up_to_call (calls e ∷ items) = []
 
   -- what they have behind it
-  abbrev pub behind_call : List (LoopItem C A M) → List (LoopItem C A M)
+  abbrev pub behind_call : List (LoopItem C A) → List (LoopItem C A)
   behind_call [] = []
   behind_call (handles conn_event ∷ items) = behind_call items
   behind_call (calls e ∷ items) = items
 
-  -- a history's calls, and behind each call of seat 0 what the loop did up to its next one
-  abbrev pub threaded : List (HallCall C A M) → List (LoopItem C A M) → List (LoopItem C A M)
+  -- a history's asks, and behind each ask of seat 0 what the loop did up to its next one
+  abbrev pub threaded : List (HallAsk C A) → List (LoopItem C A) → List (LoopItem C A)
   threaded [] items = []
   threaded (e ∷ log) items = calls e ∷ (if e.seat == 0 then up_to_call items ++ threaded log (behind_call items) else threaded log items)
 
   -- the history and the weave as one list: in front stands what the loop did before its first call
-  abbrev pub merge : List (HallCall C A M) → List (LoopItem C A M) → List (LoopItem C A M)
+  abbrev pub merge : List (HallAsk C A) → List (LoopItem C A) → List (LoopItem C A)
   merge log weave = up_to_call weave ++ threaded log (behind_call weave)
 
   -- the event that an item is
-  abbrev pub event_of : LoopItem C A M → MachineEvent
+  abbrev pub event_of : LoopItem C A → MachineEvent
   event_of (handles conn_event) = on_conn conn_event
   event_of (calls e) = event_by e.seat e.op
 
-  -- One history of a newly opened hall, and a weave that leads the loop from nothing to this: the calls of seat 0 are those of the weave, and each other
-  -- seat's calls are those of a worker's turns.
-  pub record IsOneHistory (d : DeskRules C A) (r : ServiceRules C A M) (memories : List M) (opening : HallState C A M) (log : List (HallCall C A M)) (weave : List (LoopItem C A M))
+module _ {C A M : Type 0} where
+  -- One history of a newly opened hall, and a weave that leads the loop from nothing to this: the asks of seat 0 are those of the weave, and each other
+  -- seat's asks are those of a worker's turns.
+  pub record IsOneHistory (d : DeskRules C A) (r : ServiceRules C A M) (memories : List M) (opening : HallState C A M) (log : List (HallCall C A M)) (weave : List (LoopItem C A))
       (loop : Loop) : Type 0 where
     pub opened : IsNew memories opening
-    pub history : IsHallHistory r opening log
-    pub same : hall_calls_by 0 log ≡ calls_in weave
+    pub history : IsHistory (HallGives r) opening log
+    pub same : calls_by 0 (asks_of log) ≡ calls_in weave
     pub woven : Weaves d.max no_loop weave loop
-    pub turns : (seat : ℕ) → seat ≢ 0 → OfTurns d (hall_calls_by seat log)
+    pub turns : (seat : ℕ) → seat ≢ 0 → OfTurns d (calls_by seat (asks_of log))
 
   -- the machine before it has done anything
   abbrev pub cell_at_first : HallState C A M → Cell C A M

@@ -1,16 +1,19 @@
 -- What may be asked of a hall: the condition of each operation, and the condition on a seat's own calls that implies it.
-use Rattle.std.specs.Prelude.{◌≡◌, ℕ, ◌+◌, ◌<◌, ◌≤◌, Bool, true, false, ◌||◌, ◌==◌, if◌then◌else◌, List, [], ◌∷◌, ◌++◌, length, filter}
+use Rattle.std.specs.Prelude.{◌≡◌, ℕ, ◌+◌, ◌<◌, ◌≤◌, Bool, true, false, ◌||◌, if◌then◌else◌, List, [], ◌∷◌, length}
 use Rattle.host_model.specs.declared.key.Key.{Key}
 use Rattle.host_model.specs.Journal.{ServiceRules}
-use Rattle.machine_model.specs.HallState.{HallState, is_same, has_key, keys_in}
-use Rattle.machine_model.specs.HallRule.{HallOperation, submit, take_job, apply, put, collect, HallAnswer, done, job, outcome, HallGives}
+use Rattle.call_history.specs.declared.seat_call.SeatCall.{SeatCall}
+use Rattle.call_history.specs.Calls.{SeatAsk}
+use Rattle.machine_model.specs.HallState.{HallState, IsNewlyOpened, is_same, has_key, keys_in}
+use Rattle.machine_model.specs.HallRule.{HallOperation, submit, take_job, apply, put, collect, HallAnswer, done, job, outcome}
 
 -- a call of the hall: who made it, what was asked and answered, and the hall after it
-pub record HallCall (C A M : Type 0) : Type 0 where
-  pub seat : ℕ
-  pub op : HallOperation C
-  pub answer : HallAnswer A
-  pub after : HallState C A M
+abbrev pub HallCall : Type 0 → Type 0 → Type 0 → Type 0
+HallCall C A M = SeatCall (HallOperation C) (HallAnswer A) (HallState C A M)
+
+-- an ask of the hall: the same, but for the hall after it
+abbrev pub HallAsk : Type 0 → Type 0 → Type 0
+HallAsk C A = SeatAsk (HallOperation C) (HallAnswer A)
 
 -- the most keys that are submitted and not collected
 abbrev pub most_keys : ℕ
@@ -47,20 +50,6 @@ held_after key held (put k settled) answer = if is_same k key then false else he
 held_after key held _ _ = held
 
 module _ {C A M : Type 0} where
-  -- From its opening on, the hall gives each call's answer and the hall after it.
-  abbrev pub IsHallHistory : ServiceRules C A M → HallState C A M → List (HallCall C A M) → Type 0
-  IsHallHistory r first [] = Unit {0}
-  IsHallHistory r first (e ∷ log) = HallGives r first e.op e.answer e.after × IsHallHistory r e.after log
-
-  -- the hall after all calls of a history
-  abbrev pub hall_after : HallState C A M → List (HallCall C A M) → HallState C A M
-  hall_after first [] = first
-  hall_after first (e ∷ log) = hall_after e.after log
-
-  -- the calls of one seat, in order
-  abbrev pub hall_calls_by : ℕ → List (HallCall C A M) → List (HallCall C A M)
-  hall_calls_by seat log = filter (λ e. e.seat == seat) log
-
   -- The condition of an operation on the hall. What is asked of a call alone, as that its arguments are plain, stands beside it.
   abbrev pub HallCan : ServiceRules C A M → HallState C A M → HallOperation C → Type 0
   HallCan r hall (submit key payload) = (length (keys_in hall) < most_keys) × (has_key key (keys_in hall) ≡ false) × (length payload ≤ most_bytes)
@@ -68,36 +57,37 @@ module _ {C A M : Type 0} where
   HallCan r hall (put key settled) = has_key key hall.taken ≡ true
   HallCan r hall _ = Unit {0}
 
+module _ {C A : Type 0} where
   -- some call of these did it
-  abbrev pub any_of : (HallOperation C → Bool) → List (HallCall C A M) → Bool
+  abbrev pub any_of : (HallOperation C → Bool) → List (HallAsk C A) → Bool
   any_of test [] = false
   any_of test (e ∷ own) = test e.op || any_of test own
 
   -- how many calls of these did so
-  abbrev pub count_of : (HallOperation C → HallAnswer A → ℕ) → List (HallCall C A M) → ℕ
+  abbrev pub count_of : (HallOperation C → HallAnswer A → ℕ) → List (HallAsk C A) → ℕ
   count_of count [] = 0
-  count_of count (e ∷ own) = count e.op e.answer + count_of count own
+  count_of count (e ∷ own) = count e.op e.reply + count_of count own
 
   -- whether a seat holds the key after more of its own calls
-  abbrev pub holds_from : Key → Bool → List (HallCall C A M) → Bool
+  abbrev pub holds_from : Key → Bool → List (HallAsk C A) → Bool
   holds_from key held [] = held
-  holds_from key held (e ∷ own) = holds_from key (held_after key held e.op e.answer) own
+  holds_from key held (e ∷ own) = holds_from key (held_after key held e.op e.reply) own
 
   -- a seat holds a key: an own Take answered its job, and no own Put of it came since
-  abbrev pub holds_key : Key → List (HallCall C A M) → Bool
+  abbrev pub holds_key : Key → List (HallAsk C A) → Bool
   holds_key key own = holds_from key false own
 
-  -- What a seat may ask, of the hall as it was opened, its own number and its own earlier calls. Seat 0 alone submits: keys that it hasn't submitted before,
+module _ {C A M : Type 0} where
+  -- What a seat's own earlier asks allow it, of the hall as it was opened and the seat's number. Seat 0 alone submits: keys that it hasn't submitted before,
   -- and at most so many that it hasn't collected. A key is applied once, and applied and put only by the seat that took it.
-  abbrev pub HallMay : ServiceRules C A M → HallState C A M → ℕ → List (HallCall C A M) → HallOperation C → Type 0
-  HallMay r first seat own (submit key payload) =
+  abbrev pub OwnAsksAllow : ServiceRules C A M → HallState C A M → ℕ → List (HallAsk C A) → HallOperation C → Type 0
+  OwnAsksAllow r first seat own (submit key payload) =
       (seat ≡ 0) × (count_of adds_key own < most_keys + count_of frees_key own) × (any_of (submits_key key) own ≡ false) × (length payload ≤ most_bytes)
-  HallMay r first seat own (apply key call) =
+  OwnAsksAllow r first seat own (apply key call) =
       (holds_key key own ≡ true) × (any_of (applies_key key) own ≡ false) × (r.slot call < length first.memories)
-  HallMay r first seat own (put key settled) = holds_key key own ≡ true
-  HallMay r first seat own _ = Unit {0}
+  OwnAsksAllow r first seat own (put key settled) = holds_key key own ≡ true
+  OwnAsksAllow r first seat own _ = Unit {0}
 
-  -- each call of a history met it
-  abbrev pub AllHallCallsAllowed : ServiceRules C A M → HallState C A M → List (HallCall C A M) → Type 0
-  AllHallCallsAllowed r first log =
-      (front back : List (HallCall C A M)) (e : HallCall C A M) → log ≡ front ++ e ∷ back → HallMay r first e.seat (hall_calls_by e.seat front) e.op
+  -- what a seat may ask: the hall was newly opened, and the seat's own earlier asks allow it
+  abbrev pub HallMay : ServiceRules C A M → HallState C A M → ℕ → List (HallAsk C A) → HallOperation C → Type 0
+  HallMay r first seat own op = IsNewlyOpened first × OwnAsksAllow r first seat own op

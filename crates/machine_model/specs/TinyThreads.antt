@@ -7,20 +7,16 @@ use Rattle.host_model.specs.Journal.{after_call}
 use Rattle.host_model.specs.TinyDesk.{counting, size_of_one}
 use Rattle.machine_model.specs.HallState.{key_of, HallState, without}
 use Rattle.machine_model.specs.HallRule.{HallOperation, submit, take_job, apply, put, collect, close, HallAnswer, done, job, is_closed, applied, outcome, job_of, outcome_of, entry_under}
-use Rattle.machine_model.specs.OwnCalls.{HallCall}
+use Rattle.call_history.specs.History.{seat_call}
+use Rattle.call_history.specs.Calls.{seat_ask}
+use Rattle.machine_model.specs.OwnCalls.{HallCall, HallAsk}
 use Rattle.machine_model.specs.Loop.{opens, reads, ends, writes}
 use Rattle.machine_model.specs.Merge.{LoopItem, handles, calls}
 use Rattle.machine_model.specs.Tiny.{tiny_hall}
 
--- who asked what, and the answer
-pub record SeatAsk : Type 0 where
-  pub seat : ℕ
-  pub op : HallOperation ℕ
-  pub answer : HallAnswer ℕ
-
 -- a seat asked this and had this answer
-abbrev pub by : ℕ → HallOperation ℕ → HallAnswer ℕ → SeatAsk
-by seat op answer = record { seat = seat; op = op; answer = answer }
+abbrev pub by : ℕ → HallOperation ℕ → HallAnswer ℕ → HallAsk ℕ ℕ
+by seat op answer = seat_ask seat op answer
 
 -- the hall after an operation that was answered so
 abbrev pub hall_then : HallState ℕ ℕ ℕ → HallOperation ℕ → HallAnswer ℕ → HallState ℕ ℕ ℕ
@@ -35,13 +31,13 @@ hall_then hall close answer = record hall { closed = true }
 hall_then hall _ _ = hall
 
 -- the history that these make from a hall on
-abbrev pub history_of : HallState ℕ ℕ ℕ → List SeatAsk → List (HallCall ℕ ℕ ℕ)
+abbrev pub history_of : HallState ℕ ℕ ℕ → List (HallAsk ℕ ℕ) → List (HallCall ℕ ℕ ℕ)
 history_of hall [] = []
 history_of hall (a ∷ asks) =
-    record { seat = a.seat; op = a.op; answer = a.answer; after = hall_then hall a.op a.answer } ∷ history_of (hall_then hall a.op a.answer) asks
+    seat_call a.seat a.op a.reply (hall_then hall a.op a.reply) ∷ history_of (hall_then hall a.op a.reply) asks
 
 -- both connections' payloads are submitted, the second worker's call takes effect first, and the hall is closed at the end
-abbrev pub small_asks : List SeatAsk
+abbrev pub small_asks : List (HallAsk ℕ ℕ)
 small_asks =
     by 0 (submit (key_of 0 0) (1 ∷ [])) done ∷ by 1 take_job (job (key_of 0 0) (1 ∷ [])) ∷ by 0 (submit (key_of 1 0) (1 ∷ [])) done
     ∷ by 2 take_job (job (key_of 1 0) (1 ∷ [])) ∷ by 2 (apply (key_of 1 0) 10) (applied 5) ∷ by 1 (apply (key_of 0 0) 10) (applied 6)
@@ -53,17 +49,17 @@ small_asks =
 abbrev pub small_history : List (HallCall ℕ ℕ ℕ)
 small_history = history_of tiny_hall small_asks
 
--- the loop's own calls, by the place of each in the history
-abbrev pub call_at : List (HallCall ℕ ℕ ℕ) → ℕ → List (LoopItem ℕ ℕ ℕ)
-call_at log n = elim (slice_get log n) [ None ↦ [] | Some e ↦ calls e ∷ [] ]
+-- the loop's own calls, by the place of each among all asks
+abbrev pub call_at : List (HallAsk ℕ ℕ) → ℕ → List (LoopItem ℕ ℕ)
+call_at asks n = elim (slice_get asks n) [ None ↦ [] | Some e ↦ calls e ∷ [] ]
 
 -- the first payload comes in three pieces, its reply goes out in two writes, and both inputs end
-abbrev pub small_weave : List (LoopItem ℕ ℕ ℕ)
+abbrev pub small_weave : List (LoopItem ℕ ℕ)
 small_weave =
-    handles opens ∷ handles opens ∷ handles (reads 0 (0 ∷ 0 ∷ [])) ∷ handles (reads 0 (0 ∷ 1 ∷ [])) ∷ handles (reads 0 (1 ∷ [])) ∷ call_at small_history 0
-    ++ handles (reads 1 size_of_one) ∷ handles (reads 1 (1 ∷ [])) ∷ call_at small_history 2
-    ++ call_at small_history 7 ++ handles (writes 0 1) ∷ handles (writes 0 1) ∷ call_at small_history 9
-    ++ handles (writes 1 2) ∷ handles (ends 0) ∷ handles (ends 1) ∷ call_at small_history 10
+    handles opens ∷ handles opens ∷ handles (reads 0 (0 ∷ 0 ∷ [])) ∷ handles (reads 0 (0 ∷ 1 ∷ [])) ∷ handles (reads 0 (1 ∷ [])) ∷ call_at small_asks 0
+    ++ handles (reads 1 size_of_one) ∷ handles (reads 1 (1 ∷ [])) ∷ call_at small_asks 2
+    ++ call_at small_asks 7 ++ handles (writes 0 1) ∷ handles (writes 0 1) ∷ call_at small_asks 9
+    ++ handles (writes 1 2) ∷ handles (ends 0) ∷ handles (ends 1) ∷ call_at small_asks 10
 
 -- the loop's tape then
 abbrev pub small_tape : List Mark

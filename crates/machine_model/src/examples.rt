@@ -15,7 +15,7 @@ ghost use Rattle.machine_model.specs.HallRule.{take_job, submit, apply, put, col
 ghost use Rattle.machine_model.specs.Loop.{Loop, new_conn, opens, reads, ends, writes, fails_write, gives_up, with_cause, changed, Happens, LoopAsks};
 ghost use Rattle.machine_model.specs.Worker.{WorkerState, holds, has_answer, has_none, WorkerAsks};
 ghost use Rattle.machine_model.specs.Machine.{MachineEvent, HaveAllEnded, on_conn, submits, takes, applies, puts, collects};
-ghost use Rattle.machine_model.specs.OwnCalls.{hall_after};
+ghost use Rattle.call_history.specs.History.{meaning_after};
 ghost use Rattle.machine_model.specs.Merge.{IsOneHistory};
 ghost use Rattle.machine_model.specs.TinyThreads.{small_history, small_weave, small_tape};
 ghost use Rattle.machine_model.specs.Tiny.{tiny_hall, opens_one, sends_size, sends, works, calls, gets, leaves, LeadTo, loop_like, with_payload, two_jobs, two_outcomes};
@@ -75,7 +75,7 @@ pub fn shown_runs_meet()
 pub fn one_history()
     ensures is_one { (loop : Loop) × IsOneHistory tiny_desk counting (5 ∷ []) tiny_hall small_history small_weave loop × (loop.tape ≡ small_tape)
         × HaveAllEnded loop (End ∷ End ∷ []) }
-    ensures journal { (hall_after tiny_hall small_history).journal ≡ tiny_entry 1 5 ∷ tiny_entry 0 6 ∷ [] }
+    ensures journal { (meaning_after tiny_hall small_history).journal ≡ tiny_entry 1 5 ∷ tiny_entry 0 6 ∷ [] }
     ensures meets { IsTinyRun small_tape (tiny_entry 1 5 ∷ tiny_entry 0 6 ∷ []) (End ∷ End ∷ []) }
 {
     less_than_a_frame();

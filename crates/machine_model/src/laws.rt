@@ -1,16 +1,21 @@
 //! Laws of the machine, each the contract of a function that does nothing. A size is a signed number of four bytes, hence the
 //! bound on the longest payload.
 
-ghost use Rattle.std.specs.Prelude.{◌≡◌, ◌≢◌, ◌↔◌, ℕ, ◌+◌, ◌<◌, ◌≤◌, ◌^◌, ◌⊎◌, true, List, length, map, Some};
+ghost use Rattle.std.specs.Prelude.{◌≡◌, ◌≢◌, ◌↔◌, ℕ, ◌+◌, ◌<◌, ◌≤◌, ◌^◌, ◌⊎◌, true, List, [], ◌∷◌, ◌++◌, length, map, Some};
+ghost use Rattle.outside.specs.declared.outcomes.Settled.{Settled};
 ghost use Rattle.host_model.specs.declared.cause.EndCause.{EndCause};
 ghost use Rattle.host_model.specs.declared.key.Key.{Key};
-ghost use Rattle.host_model.specs.Journal.{ServiceRules};
+ghost use Rattle.host_model.specs.Journal.{JournalEntry, ServiceRules};
 ghost use Rattle.host_model.specs.DeskRules.{DeskRules};
 ghost use Rattle.host_model.specs.Headline.{Headline};
-ghost use Rattle.machine_model.specs.HallState.{HallState, IsNew, keys_in};
-ghost use Rattle.machine_model.specs.HallRule.{HallOperation, apply, HallAnswer, applied, no_memory, is_broken, HallGives};
+ghost use Rattle.machine_model.specs.HallState.{HallState, keys_in};
+ghost use Rattle.machine_model.specs.HallRule.{HallOperation, take_job, apply, collect, HallAnswer, job, applied, no_memory, is_broken, outcome, HallGives};
 ghost use Rattle.machine_model.specs.Determined.{IsFree, IsApply, IsSameButFaults};
-ghost use Rattle.machine_model.specs.OwnCalls.{HallCall, IsHallHistory, AllHallCallsAllowed, HallMay, HallCan, hall_calls_by, hall_after, most_bytes};
+ghost use Rattle.call_history.specs.History.{meaning_after, IsHistory};
+ghost use Rattle.call_history.specs.Calls.{seat_ask, calls_by, asks_of, AllAllowed};
+ghost use Rattle.machine_model.specs.OwnCalls.{HallCall, HallAsk, HallMay, HallCan, count_of, most_bytes};
+ghost use Rattle.machine_model.specs.SeenHall.{SeenHall, MayHave, filled, SeenCall, SeenGives, SeenCan, SeenMay};
+ghost use Rattle.machine_model.specs.SingleKeys.{adds_this_key, frees_this_key};
 ghost use Rattle.machine_model.specs.Loop.{Loop, open_among, most_open, LoopAsks};
 ghost use Rattle.machine_model.specs.Worker.{WorkerState, WorkerAsks};
 ghost use Rattle.machine_model.specs.Machine.{Cell, MachineEvent, EventsLead, IsFirst, HaveAllEnded};
@@ -44,9 +49,34 @@ pub fn one_answer<C, A, M>()
 
 /// In a history whose calls each seat was allowed to make, what a seat may ask next is what the hall can do.
 pub fn own_calls_suffice<C, A, M>()
-    ensures { (r : ServiceRules C A M) (memories : List M) (opening : HallState C A M) (seat : ℕ) (log : List (HallCall C A M)) (op : HallOperation C) →
-        IsNew memories opening → IsHallHistory r opening log → AllHallCallsAllowed r opening log → HallMay r opening seat (hall_calls_by seat log) op →
-        HallCan r (hall_after opening log) op }
+    ensures { (r : ServiceRules C A M) (opening : HallState C A M) (seat : ℕ) (log : List (HallCall C A M)) (op : HallOperation C) →
+        IsHistory (HallGives r) opening log → AllAllowed (HallMay r) opening (asks_of log) → HallMay r opening seat (calls_by seat (asks_of log)) op →
+        HallCan r (meaning_after opening log) op }
+{}
+
+/// Keys are single: a job that Take answered may be applied by the seat that took it, since no seat has applied it; and the key of an outcome that Collect
+/// answers was submitted once, by seat 0, and no seat has collected it before.
+pub fn single_keys<C, A, M>()
+    ensures taken { (r : ServiceRules C A M) (opening : HallState C A M) (log : List (HallCall C A M)) (front : List (HallAsk C A)) (seat : ℕ) (key : Key) (payload : List ℕ) (call : C) →
+        IsHistory (HallGives r) opening log → AllAllowed (HallMay r) opening (asks_of log) → asks_of log ≡ front ++ seat_ask seat take_job (job key payload) ∷ [] →
+        r.slot call < length opening.memories → HallMay r opening seat (calls_by seat (asks_of log)) (apply key call) }
+    ensures collected { (r : ServiceRules C A M) (opening : HallState C A M) (log : List (HallCall C A M)) (front : List (HallAsk C A)) (seat : ℕ) (key : Key) (settled : Settled) →
+        IsHistory (HallGives r) opening log → AllAllowed (HallMay r) opening (asks_of log) → asks_of log ≡ front ++ seat_ask seat collect (outcome key settled) ∷ [] →
+        (count_of (adds_this_key key) (calls_by 0 front) ≡ 1) × ((other : ℕ) → count_of (frees_this_key key) (calls_by other front) ≡ 0) }
+{}
+
+/// A hall whose journal may tell nothing: its history is one of a hall whose journal is known, with the same asks and the same end; so what a seat may ask
+/// next is what it can do.
+pub fn seen_halls<C, A, M>()
+    ensures filled { (r : ServiceRules C A M) (opening : SeenHall C A M) (entries : List (JournalEntry C A)) (log : List (SeenCall C A M)) →
+        MayHave opening.told entries → IsHistory (SeenGives r) opening log →
+        (full : List (HallCall C A M)) × (last : List (JournalEntry C A)) × IsHistory (HallGives r) (filled opening entries) full × (asks_of full ≡ asks_of log)
+        × MayHave (meaning_after opening log).told last × (meaning_after (filled opening entries) full ≡ filled (meaning_after opening log) last) }
+    ensures allowed { (r : ServiceRules C A M) (opening : SeenHall C A M) (asks : List (HallAsk C A)) →
+        AllAllowed (SeenMay r) opening asks → AllAllowed (HallMay r) (filled opening []) asks }
+    ensures suffices { (r : ServiceRules C A M) (opening : SeenHall C A M) (seat : ℕ) (log : List (SeenCall C A M)) (op : HallOperation C) →
+        IsHistory (SeenGives r) opening log → AllAllowed (SeenMay r) opening (asks_of log) → SeenMay r opening seat (calls_by seat (asks_of log)) op →
+        SeenCan r (meaning_after opening log) op }
 {}
 
 /// What holds of every cell that a run reaches: among others, the last payload of each connection is at exactly one place.
@@ -90,13 +120,13 @@ pub fn every_run_meets<C, A, M>()
 
 /// One history of the hall, and the loop's own order, are a run of the machine, and so meet what every run meets.
 pub fn one_history_runs<C, A, M>()
-    ensures run { (d : DeskRules C A) (r : ServiceRules C A M) (memories : List M) (opening : HallState C A M) (log : List (HallCall C A M)) (weave : List (LoopItem C A M)) (loop : Loop) →
+    ensures run { (d : DeskRules C A) (r : ServiceRules C A M) (memories : List M) (opening : HallState C A M) (log : List (HallCall C A M)) (weave : List (LoopItem C A)) (loop : Loop) →
         IsOneHistory d r memories opening log weave loop →
-        (cell : Cell C A M) × EventsLead d r (cell_at_first opening) (map event_of (merge log weave)) cell × (cell.loop ≡ loop) × (cell.hall ≡ hall_after opening log) }
-    ensures headline { (d : DeskRules C A) (r : ServiceRules C A M) (memories : List M) (opening : HallState C A M) (log : List (HallCall C A M)) (weave : List (LoopItem C A M))
+        (cell : Cell C A M) × EventsLead d r (cell_at_first opening) (map event_of (merge (asks_of log) weave)) cell × (cell.loop ≡ loop) × (cell.hall ≡ meaning_after opening log) }
+    ensures headline { (d : DeskRules C A) (r : ServiceRules C A M) (memories : List M) (opening : HallState C A M) (log : List (HallCall C A M)) (weave : List (LoopItem C A))
         (loop : Loop) (causes : List EndCause) →
         d.max < 2 ^ 31 → IsOneHistory d r memories opening log weave loop → HaveAllEnded loop causes →
-        Headline d r memories loop.tape (hall_after opening log).journal causes }
+        Headline d r memories loop.tape (meaning_after opening log).journal causes }
 {
     every_run_meets::<C, A, M>();
 }

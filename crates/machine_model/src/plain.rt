@@ -18,4 +18,3 @@ pub use conns::PlainConn;
 pub use halls::{PlainHall, PlainJob, PlainJobOutcome};
 pub use runs::{run, start, step};
 pub use workers::PlainWorkerState;
-
