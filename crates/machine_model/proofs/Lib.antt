@@ -10,6 +10,9 @@ pub mod Keys
 pub mod Owning
 pub mod Singling
 pub mod Filling
+pub mod Minding
+pub mod Extending
+pub mod Breaking
 pub mod Determining
 pub mod Summing
 pub mod Fitting

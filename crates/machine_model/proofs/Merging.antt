@@ -69,7 +69,7 @@ module _ {C A : Type 0} where
   map_event-append (x ∷ xs) ys = ap (λ r. event_of x ∷ r) (map_event-append xs ys)
 
 module _ {C A M : Type 0} (d : DeskRules C A) (r : ServiceRules C A M) where
-  runs-append : (old mid new : Cell C A M) (xs ys : List MachineEvent) → EventsLead d r old xs mid → EventsLead d r mid ys new → EventsLead d r old (xs ++ ys) new
+  pub runs-append : (old mid new : Cell C A M) (xs ys : List MachineEvent) → EventsLead d r old xs mid → EventsLead d r mid ys new → EventsLead d r old (xs ++ ys) new
   runs-append old mid new [] ys a b = subst (λ x. EventsLead d r x ys new) a b
   runs-append old mid new (x ∷ xs) ys a b = (a.0, a.1, runs-append a.0 mid new xs ys a.2 b)
 

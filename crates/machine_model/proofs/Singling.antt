@@ -17,7 +17,7 @@ use Rattle.machine_model.proofs.Keys.{same_key, is_same_self, has_either, has_on
 use Rattle.machine_model.proofs.Owning.{number_push, any_left, any_last, holds_push, Owned, after_op, owned_first}
 
 -- how often a key stands in a list
-abbrev one_if : Bool → ℕ
+abbrev pub one_if : Bool → ℕ
 one_if b = if b then 1 else 0
 
 abbrev times : Key → List Key → ℕ
@@ -66,7 +66,7 @@ module _ {C A : Type 0} where
       (or_cases (test x.op) (any_of test (asks ++ e ∷ [])) h)
 
   -- what seat 0 has asked before, it has asked
-  by_first_later : (test : HallOperation C → Bool) (asks : List (HallAsk C A)) (e : HallAsk C A) → any_of test (calls_by 0 asks) ≡ true → any_of test (calls_by 0 (asks ++ e ∷ [])) ≡ true
+  pub by_first_later : (test : HallOperation C → Bool) (asks : List (HallAsk C A)) (e : HallAsk C A) → any_of test (calls_by 0 asks) ≡ true → any_of test (calls_by 0 (asks ++ e ∷ [])) ≡ true
   by_first_later test asks e h = go (cases_eq e.seat 0)
     where
       go : (e.seat ≡ 0) ⊎ (e.seat ≡ 0 → ⊥) → any_of test (calls_by 0 (asks ++ e ∷ [])) ≡ true

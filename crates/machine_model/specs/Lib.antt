@@ -4,6 +4,8 @@ pub mod Determined
 pub mod OwnCalls
 pub mod SingleKeys
 pub mod SeenHall
+pub mod OwnLoop
+pub mod Trouble
 pub mod Loop
 pub mod Worker
 pub mod Machine

@@ -1,19 +1,22 @@
 //! Laws of the machine, each the contract of a function that does nothing. A size is a signed number of four bytes, hence the
 //! bound on the longest payload.
 
-ghost use Rattle.std.specs.Prelude.{◌≡◌, ◌≢◌, ◌↔◌, ℕ, ◌+◌, ◌<◌, ◌≤◌, ◌^◌, ◌⊎◌, true, List, [], ◌∷◌, ◌++◌, length, map, Some};
+ghost use Rattle.std.specs.Prelude.{◌≡◌, ◌≢◌, ◌↔◌, ℕ, suc, ◌+◌, ◌<◌, ◌≤◌, ◌^◌, ◌⊎◌, true, List, [], ◌∷◌, ◌++◌, length, map, Some};
 ghost use Rattle.outside.specs.declared.outcomes.Settled.{Settled};
+ghost use Rattle.outside.specs.Cause.{Rose};
 ghost use Rattle.host_model.specs.declared.cause.EndCause.{EndCause};
 ghost use Rattle.host_model.specs.declared.key.Key.{Key};
 ghost use Rattle.host_model.specs.Journal.{JournalEntry, ServiceRules};
 ghost use Rattle.host_model.specs.DeskRules.{DeskRules};
 ghost use Rattle.host_model.specs.Headline.{Headline};
-ghost use Rattle.machine_model.specs.HallState.{HallState, keys_in};
-ghost use Rattle.machine_model.specs.HallRule.{HallOperation, take_job, apply, collect, HallAnswer, job, applied, no_memory, is_broken, outcome, HallGives};
+ghost use Rattle.machine_model.specs.HallState.{HallState, IsNewlyOpened, keys_in};
+ghost use Rattle.machine_model.specs.HallRule.{HallOperation, submit, take_job, apply, collect, HallAnswer, job, applied, no_memory, is_broken, outcome, HallGives};
 ghost use Rattle.machine_model.specs.Determined.{IsFree, IsApply, IsSameButFaults};
 ghost use Rattle.call_history.specs.History.{meaning_after, IsHistory};
 ghost use Rattle.call_history.specs.Calls.{seat_ask, calls_by, asks_of, AllAllowed};
-ghost use Rattle.machine_model.specs.OwnCalls.{HallCall, HallAsk, HallMay, HallCan, count_of, most_bytes};
+ghost use Rattle.machine_model.specs.OwnCalls.{HallCall, HallAsk, OwnAsksAllow, HallMay, HallCan, any_of, adds_key, frees_key, count_of, most_bytes};
+ghost use Rattle.machine_model.specs.Trouble.{is_close, any_fault_told, ClosesWhereTold};
+ghost use Rattle.machine_model.specs.OwnLoop.{adds_of_conn, frees_of_conn, refuses_job, CollectsItsOwn};
 ghost use Rattle.machine_model.specs.SeenHall.{SeenHall, MayHave, filled, SeenCall, SeenGives, SeenCan, SeenMay};
 ghost use Rattle.machine_model.specs.SingleKeys.{adds_this_key, frees_this_key};
 ghost use Rattle.machine_model.specs.Loop.{Loop, open_among, most_open, LoopAsks};
@@ -22,7 +25,7 @@ ghost use Rattle.machine_model.specs.Machine.{Cell, MachineEvent, EventsLead, Is
 ghost use Rattle.machine_model.specs.Bounds.{all_submitted, all_collected, NoneIsLeftBehind, HasItsService};
 ghost use Rattle.machine_model.specs.Places.{CellKeeps};
 ghost use Rattle.machine_model.specs.Plain.{Told, event_told, run_plain};
-ghost use Rattle.machine_model.specs.Merge.{LoopItem, IsOneHistory, merge, event_of, cell_at_first};
+ghost use Rattle.machine_model.specs.Merge.{LoopItem, no_loop, calls_in, Weaves, IsOneHistory, merge, event_of, cell_at_first};
 
 use host_model::laws::{
     every_moment_stands as every_world_stands, every_run_meets as every_world_meets,
@@ -77,6 +80,47 @@ pub fn seen_halls<C, A, M>()
     ensures suffices { (r : ServiceRules C A M) (opening : SeenHall C A M) (seat : ℕ) (log : List (SeenCall C A M)) (op : HallOperation C) →
         IsHistory (SeenGives r) opening log → AllAllowed (SeenMay r) opening (asks_of log) → SeenMay r opening seat (calls_by seat (asks_of log)) op →
         SeenCan r (meaning_after opening log) op }
+{}
+
+/// What the loop knows of its own calls alone, in mid-run. Where they were allowed in one history it collects what it submitted, once (`own`). So of each
+/// connection its calls count what was submitted and collected (`numbers`), and all together, where no two of either are one call (`all`); it may submit the
+/// next payload, as long as the hall took each job and no connection was given up while its payload was under way (`may`); and an outcome that it collects
+/// next is that of a connection's last payload, the one that is under way (`answered`).
+pub fn own_calls_tell_the_loop<C, A, M>()
+    ensures own { (r : ServiceRules C A M) (opening : HallState C A M) (log : List (HallCall C A M)) →
+        IsHistory (HallGives r) opening log → AllAllowed (HallMay r) opening (asks_of log) → CollectsItsOwn (calls_by 0 (asks_of log)) }
+    ensures numbers { (max : ℕ) (weave : List (LoopItem C A)) (loop : Loop) → Weaves max no_loop weave loop → CollectsItsOwn (calls_in weave) → (c : ℕ) →
+        (count_of (adds_of_conn c) (calls_in weave) ≡ (loop.conns c).submitted) × (count_of (frees_of_conn c) (calls_in weave) ≡ (loop.conns c).collected) }
+    ensures all { (max : ℕ) (weave : List (LoopItem C A)) (loop : Loop) → Weaves max no_loop weave loop → CollectsItsOwn (calls_in weave) →
+        (count_of adds_key (calls_in weave) ≡ all_submitted loop) × (count_of frees_key (calls_in weave) ≡ all_collected loop)
+        × (all_submitted loop + all_collected loop ≤ length (calls_in weave)) }
+    ensures may { (max : ℕ) (r : ServiceRules C A M) (opening : HallState C A M) (weave : List (LoopItem C A)) (loop next : Loop) (key : Key) (payload : List ℕ) (answer : HallAnswer A) →
+        Weaves max no_loop weave loop → CollectsItsOwn (calls_in weave) → max ≤ most_bytes → NoneIsLeftBehind loop → count_of refuses_job (calls_in weave) ≡ 0 →
+        LoopAsks {C = C} loop (submit key payload) answer next → OwnAsksAllow r opening 0 (calls_in weave) (submit key payload) }
+    ensures answered { (max : ℕ) (weave : List (LoopItem C A)) (loop : Loop) (key : Key) (settled : Settled) →
+        Weaves max no_loop weave loop → CollectsItsOwn (calls_in weave ++ seat_ask 0 collect (outcome key settled) ∷ []) →
+        (key.c < loop.count) × (key.i ≡ (loop.conns key.c).collected) × ((loop.conns key.c).submitted ≡ suc key.i) × (length (loop.conns key.c).payloads ≡ suc key.i) }
+{}
+
+/// A newly opened hall is broken, or tells of a failed journal, only where its journal's count rose; and, where no other seat closes it without having been
+/// told so, it is closed only where seat 0 has closed it or the count rose.
+pub fn trouble_shows<C, A, M>()
+    ensures broken { (r : ServiceRules C A M) (opening : HallState C A M) (log : List (HallCall C A M)) → IsNewlyOpened opening → IsHistory (HallGives r) opening log →
+        (meaning_after opening log).broken ≡ true → Rose opening.faults (meaning_after opening log).faults }
+    ensures told { (r : ServiceRules C A M) (opening : HallState C A M) (log : List (HallCall C A M)) → IsNewlyOpened opening → IsHistory (HallGives r) opening log →
+        any_fault_told (asks_of log) ≡ true → Rose opening.faults (meaning_after opening log).faults }
+    ensures closed { (r : ServiceRules C A M) (opening : HallState C A M) (log : List (HallCall C A M)) → IsNewlyOpened opening → IsHistory (HallGives r) opening log →
+        ClosesWhereTold (asks_of log) → (meaning_after opening log).closed ≡ true →
+        (any_of is_close (calls_by 0 (asks_of log)) ≡ true) ⊎ Rose opening.faults (meaning_after opening log).faults }
+{}
+
+/// Runs and weaves go on at their end.
+pub fn runs_go_on<C, A, M>()
+    ensures run { (d : DeskRules C A) (r : ServiceRules C A M) (old mid new : Cell C A M) (events more : List MachineEvent) →
+        EventsLead d r old events mid → EventsLead d r mid more new → EventsLead d r old (events ++ more) new }
+    ensures weave { (max : ℕ) (old mid new : Loop) (items more : List (LoopItem C A)) →
+        Weaves max old items mid → Weaves max mid more new → Weaves max old (items ++ more) new }
+    ensures calls { (items more : List (LoopItem C A)) → calls_in (items ++ more) ≡ calls_in items ++ calls_in more }
 {}
 
 /// What holds of every cell that a run reaches: among others, the last payload of each connection is at exactly one place.

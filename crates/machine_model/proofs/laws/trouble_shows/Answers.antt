@@ -1,0 +1,11 @@
+use Rattle.machine_model.proofs.Breaking.{broken_rose, told_rose, closed_rose}
+use Rattle.machine_model.proofs.laws.trouble_shows.Goals as goal
+
+pub returns-clause-broken : goal.returns-clause-broken
+returns-clause-broken g c r opening log opened history broken = broken_rose r opening log opened history broken
+
+pub returns-clause-told : goal.returns-clause-told
+returns-clause-told g c r opening log opened history told = told_rose r opening log opened history told
+
+pub returns-clause-closed : goal.returns-clause-closed
+returns-clause-closed g c r opening log opened history rule closed = closed_rose r opening log opened history rule closed
