@@ -13,6 +13,8 @@ pub mod Filling
 pub mod Minding
 pub mod Extending
 pub mod Breaking
+pub mod Telling
+pub mod Fronts
 pub mod Determining
 pub mod Summing
 pub mod Fitting

@@ -10,6 +10,7 @@ pub mod Loop
 pub mod Worker
 pub mod Machine
 pub mod Bounds
+pub mod OpenAtFronts
 pub mod Places
 pub mod Merge
 pub mod Plain

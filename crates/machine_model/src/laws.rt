@@ -3,6 +3,7 @@
 
 ghost use Rattle.std.specs.Prelude.{◌≡◌, ◌≢◌, ◌↔◌, ℕ, suc, ◌+◌, ◌<◌, ◌≤◌, ◌^◌, ◌⊎◌, true, List, [], ◌∷◌, ◌++◌, length, map, Some};
 ghost use Rattle.outside.specs.declared.outcomes.Settled.{Settled};
+ghost use Rattle.outside.specs.declared.marks.Mark.{Mark};
 ghost use Rattle.outside.specs.Cause.{Rose};
 ghost use Rattle.host_model.specs.declared.cause.EndCause.{EndCause};
 ghost use Rattle.host_model.specs.declared.key.Key.{Key};
@@ -15,6 +16,7 @@ ghost use Rattle.machine_model.specs.Determined.{IsFree, IsApply, IsSameButFault
 ghost use Rattle.call_history.specs.History.{meaning_after, IsHistory};
 ghost use Rattle.call_history.specs.Calls.{seat_ask, calls_by, asks_of, AllAllowed};
 ghost use Rattle.machine_model.specs.OwnCalls.{HallCall, HallAsk, OwnAsksAllow, HallMay, HallCan, any_of, adds_key, frees_key, count_of, most_bytes};
+ghost use Rattle.machine_model.specs.OpenAtFronts.{IsWithinMost};
 ghost use Rattle.machine_model.specs.Trouble.{is_close, any_fault_told, ClosesWhereTold};
 ghost use Rattle.machine_model.specs.OwnLoop.{adds_of_conn, frees_of_conn, refuses_job, CollectsItsOwn};
 ghost use Rattle.machine_model.specs.SeenHall.{SeenHall, MayHave, filled, SeenCall, SeenGives, SeenCan, SeenMay};
@@ -25,7 +27,7 @@ ghost use Rattle.machine_model.specs.Machine.{Cell, MachineEvent, EventsLead, Is
 ghost use Rattle.machine_model.specs.Bounds.{all_submitted, all_collected, NoneIsLeftBehind, HasItsService};
 ghost use Rattle.machine_model.specs.Places.{CellKeeps};
 ghost use Rattle.machine_model.specs.Plain.{Told, event_told, run_plain};
-ghost use Rattle.machine_model.specs.Merge.{LoopItem, no_loop, calls_in, Weaves, IsOneHistory, merge, event_of, cell_at_first};
+ghost use Rattle.machine_model.specs.Merge.{LoopItem, no_loop, OfTurns, calls_in, Weaves, IsOneHistory, merge, event_of, cell_at_first};
 
 use host_model::laws::{
     every_moment_stands as every_world_stands, every_run_meets as every_world_meets,
@@ -112,6 +114,14 @@ pub fn trouble_shows<C, A, M>()
     ensures closed { (r : ServiceRules C A M) (opening : HallState C A M) (log : List (HallCall C A M)) → IsNewlyOpened opening → IsHistory (HallGives r) opening log →
         ClosesWhereTold (asks_of log) → (meaning_after opening log).closed ≡ true →
         (any_of is_close (calls_by 0 (asks_of log)) ≡ true) ⊎ Rose opening.faults (meaning_after opening log).faults }
+    ensures turns { (d : DeskRules C A) (asks : List (HallAsk C A)) → ((seat : ℕ) → seat ≢ 0 → OfTurns d (calls_by seat asks)) → ClosesWhereTold asks }
+{}
+
+/// At each front of the tape at most 1,024 connections are open, whatever the loop's own order is woven with.
+pub fn open_at_fronts<C, A, M>()
+    ensures run { (d : DeskRules C A) (r : ServiceRules C A M) (memories : List M) (first cell : Cell C A M) (events : List MachineEvent) →
+        IsFirst memories first → EventsLead d r first events cell → (front back : List Mark) → cell.loop.tape ≡ front ++ back → IsWithinMost front }
+    ensures weave { (max : ℕ) (weave : List (LoopItem C A)) (loop : Loop) → Weaves max no_loop weave loop → (front back : List Mark) → loop.tape ≡ front ++ back → IsWithinMost front }
 {}
 
 /// Runs and weaves go on at their end.

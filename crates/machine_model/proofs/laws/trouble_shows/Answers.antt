@@ -1,4 +1,5 @@
 use Rattle.machine_model.proofs.Breaking.{broken_rose, told_rose, closed_rose}
+use Rattle.machine_model.proofs.Telling.{turns_close}
 use Rattle.machine_model.proofs.laws.trouble_shows.Goals as goal
 
 pub returns-clause-broken : goal.returns-clause-broken
@@ -9,3 +10,6 @@ returns-clause-told g c r opening log opened history told = told_rose r opening 
 
 pub returns-clause-closed : goal.returns-clause-closed
 returns-clause-closed g c r opening log opened history rule closed = closed_rose r opening log opened history rule closed
+
+pub returns-clause-turns : goal.returns-clause-turns
+returns-clause-turns g c d asks turns = turns_close d asks turns
