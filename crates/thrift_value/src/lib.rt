@@ -34,8 +34,8 @@ mod wire_fault;
 pub use byte_text::ByteText;
 pub use fn_shapes::FnShapes;
 pub use laws::{
-    alike_values_are_the_same, copies_measure_alike, count_is_one_or_more, order_is_total,
-    plain_value_is_alike, tidy_value_is_well_tagged, trees_of_values,
+    alike_values_are_the_same, code_tells_the_tree, copies_measure_alike, count_is_one_or_more,
+    order_is_total, plain_value_is_alike, tidy_value_is_well_tagged, trees_of_values,
 };
 pub use tag::Tag;
 pub use value::{Fields, Items, Pairs, Raw, Value};
