@@ -1,3 +1,6 @@
+use Rattle.std.specs.Prelude.{◌↔◌, IsTrue}
+use Rattle.std.proofs.Common.{true}
+use Rattle.thrift_value.proofs.Leaves.{IsOfLeaves, of_number}
 use Rattle.std.proofs.Common.{map, refl}
 use Rattle.thrift_value.specs.Sizes.{HasSmallSizes, HaveFieldsSmallSizes, HaveItemsSmallSizes}
 use Rattle.thrift_value.specs.TreeOf.{tree_of, field_tree, field_trees, item_trees, fields_tree, items_tree}
@@ -35,3 +38,31 @@ Fields::have_small_sizes-returns-then-not-has_small_sizes t c =
 pub Items::have_small_sizes-returns-then-not-has_small_sizes : goal.Items::have_small_sizes-returns-then-not-has_small_sizes
 Items::have_small_sizes-returns-then-not-has_small_sizes t c =
     stopped small_items (HaveItemsSmallSizes (items_tree c.args.self.now)) c.deref-value-items.result.now c.loop-value.value-index c.value-item.result c.loop-value-test.true c.value-item.is c.if-not-has_small_sizes.ensures.1 c.loop-value.invariant
+
+small_leaves : IsOfLeaves (λ x. IsTrue true ↔ HasSmallSizes x)
+small_leaves = record {
+  bool = λ _. (λ _. tt, λ _. refl);
+  i8 = λ _. (λ _. tt, λ _. refl);
+  i16 = λ _. (λ _. tt, λ _. refl);
+  i32 = λ _. (λ _. tt, λ _. refl);
+  i64 = λ _. (λ _. tt, λ _. refl);
+  double = λ _. (λ _. tt, λ _. refl);
+}
+
+pub Value::has_small_sizes-returns-in-Bool : goal.Value::has_small_sizes-returns-in-Bool
+Value::has_small_sizes-returns-in-Bool t c = of_number (λ x. IsTrue true ↔ HasSmallSizes x) small_leaves c.args.self.now c.in-Bool.is
+
+pub Value::has_small_sizes-returns-in-Bool-2 : goal.Value::has_small_sizes-returns-in-Bool-2
+Value::has_small_sizes-returns-in-Bool-2 t c = of_number (λ x. IsTrue true ↔ HasSmallSizes x) small_leaves c.args.self.now c.in-Bool.is
+
+pub Value::has_small_sizes-returns-in-Bool-3 : goal.Value::has_small_sizes-returns-in-Bool-3
+Value::has_small_sizes-returns-in-Bool-3 t c = of_number (λ x. IsTrue true ↔ HasSmallSizes x) small_leaves c.args.self.now c.in-Bool.is
+
+pub Value::has_small_sizes-returns-in-Bool-4 : goal.Value::has_small_sizes-returns-in-Bool-4
+Value::has_small_sizes-returns-in-Bool-4 t c = of_number (λ x. IsTrue true ↔ HasSmallSizes x) small_leaves c.args.self.now c.in-Bool.is
+
+pub Value::has_small_sizes-returns-in-Bool-5 : goal.Value::has_small_sizes-returns-in-Bool-5
+Value::has_small_sizes-returns-in-Bool-5 t c = of_number (λ x. IsTrue true ↔ HasSmallSizes x) small_leaves c.args.self.now c.in-Bool.is
+
+pub Value::has_small_sizes-returns-in-Bool-6 : goal.Value::has_small_sizes-returns-in-Bool-6
+Value::has_small_sizes-returns-in-Bool-6 t c = of_number (λ x. IsTrue true ↔ HasSmallSizes x) small_leaves c.args.self.now c.in-Bool.is
