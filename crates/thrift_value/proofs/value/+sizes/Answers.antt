@@ -1,3 +1,9 @@
+use Rattle.std.proofs.Common.{◌≡◌, ◌<◌, ◌^◌, sym, subst}
+use Rattle.thrift_value.specs.Sizes.{items_len, pairs_len, HavePairsSmallSizes}
+use Rattle.thrift_value.specs.declared.tag.Tag.{Tag}
+use Rattle.thrift_value.specs.Tree.{Tree, of_map, of_set, of_list, ItemTrees, PairTrees}
+use Rattle.thrift_value.proofs.Trees.{tree_of-is_Struct, tree_of-is_Map, tree_of-is_Set, tree_of-is_List}
+use Rattle.thrift_value.proofs.TidyLaws.{first_failed, second_decides}
 use Rattle.std.specs.Prelude.{◌↔◌, IsTrue}
 use Rattle.std.proofs.Common.{true}
 use Rattle.thrift_value.proofs.Leaves.{IsOfLeaves, of_number}
@@ -66,3 +72,40 @@ Value::has_small_sizes-returns-in-Bool-5 t c = of_number (λ x. IsTrue true ↔ 
 
 pub Value::has_small_sizes-returns-in-Bool-6 : goal.Value::has_small_sizes-returns-in-Bool-6
 Value::has_small_sizes-returns-in-Bool-6 t c = of_number (λ x. IsTrue true ↔ HasSmallSizes x) small_leaves c.args.self.now c.in-Bool.is
+
+small_map : (x : Tree) (key value : Tag) (pairs : PairTrees) → x ≡ of_map key value pairs → HasSmallSizes x ↔ (HavePairsSmallSizes pairs × (pairs_len pairs < 2 ^ 31))
+small_map x key value pairs is = (λ w. let at = subst HasSmallSizes is w in (at.1, at.0), λ h. subst HasSmallSizes (sym is) (h.1, h.0))
+
+small_set : (x : Tree) (element : Tag) (items : ItemTrees) → x ≡ of_set element items → HasSmallSizes x ↔ (HaveItemsSmallSizes items × (items_len items < 2 ^ 31))
+small_set x element items is = (λ w. let at = subst HasSmallSizes is w in (at.1, at.0), λ h. subst HasSmallSizes (sym is) (h.1, h.0))
+
+small_list : (x : Tree) (element : Tag) (items : ItemTrees) → x ≡ of_list element items → HasSmallSizes x ↔ (HaveItemsSmallSizes items × (items_len items < 2 ^ 31))
+small_list x element items is = (λ w. let at = subst HasSmallSizes is w in (at.1, at.0), λ h. subst HasSmallSizes (sym is) (h.1, h.0))
+
+pub Value::has_small_sizes-returns-in-Struct : goal.Value::has_small_sizes-returns-in-Struct
+Value::has_small_sizes-returns-in-Struct t c =
+    subst (λ x. IsTrue c.have_small_sizes.result ↔ HasSmallSizes x) (sym (tree_of-is_Struct _ c.in-Struct.fields c.in-Struct.is)) c.have_small_sizes.ensures
+
+pub Value::has_small_sizes-returns-then-not-is_short : goal.Value::has_small_sizes-returns-then-not-is_short
+Value::has_small_sizes-returns-then-not-is_short t c =
+    first_failed (small_map _ _ _ _ (tree_of-is_Map _ c.in-Map.field-0 c.in-Map.field-1 c.in-Map.pairs c.in-Map.is)) c.if-not-is_short.ensures.1
+
+pub Value::has_small_sizes-returns-else-not-is_short : goal.Value::has_small_sizes-returns-else-not-is_short
+Value::has_small_sizes-returns-else-not-is_short t c =
+    second_decides (small_map _ _ _ _ (tree_of-is_Map _ c.in-Map.field-0 c.in-Map.field-1 c.in-Map.pairs c.in-Map.is)) c.have_small_sizes-in-Map.result (c.if-not-is_short.ensures.0 refl) c.have_small_sizes-in-Map.ensures
+
+pub Value::has_small_sizes-returns-then-not-is_short-2 : goal.Value::has_small_sizes-returns-then-not-is_short-2
+Value::has_small_sizes-returns-then-not-is_short-2 t c =
+    first_failed (small_set _ _ _ (tree_of-is_Set _ c.in-Set.field-0 c.in-Set.items c.in-Set.is)) c.if-not-is_short-2.ensures.1
+
+pub Value::has_small_sizes-returns-else-not-is_short-2 : goal.Value::has_small_sizes-returns-else-not-is_short-2
+Value::has_small_sizes-returns-else-not-is_short-2 t c =
+    second_decides (small_set _ _ _ (tree_of-is_Set _ c.in-Set.field-0 c.in-Set.items c.in-Set.is)) c.have_small_sizes-in-Set.result (c.if-not-is_short-2.ensures.0 refl) c.have_small_sizes-in-Set.ensures
+
+pub Value::has_small_sizes-returns-then-not-is_short-3 : goal.Value::has_small_sizes-returns-then-not-is_short-3
+Value::has_small_sizes-returns-then-not-is_short-3 t c =
+    first_failed (small_list _ _ _ (tree_of-is_List _ c.in-List.field-0 c.in-List.items c.in-List.is)) c.if-not-is_short-3.ensures.1
+
+pub Value::has_small_sizes-returns-else-not-is_short-3 : goal.Value::has_small_sizes-returns-else-not-is_short-3
+Value::has_small_sizes-returns-else-not-is_short-3 t c =
+    second_decides (small_list _ _ _ (tree_of-is_List _ c.in-List.field-0 c.in-List.items c.in-List.is)) c.have_small_sizes-in-List.result (c.if-not-is_short-3.ensures.0 refl) c.have_small_sizes-in-List.ensures
