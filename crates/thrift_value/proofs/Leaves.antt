@@ -36,3 +36,26 @@ module _ (Q : Tree → Type 0) (is : IsOfLeaves Q) (v : Value) where
       ]
     ]
   ]
+
+  -- of a number, a bool or a text
+  pub of_leaf : ((text : List ℕ) → Q (of_bytes text)) → ((b : Bool) × (v ≡ value.Bool b)) ⊎ (((n : ℤ) × (v ≡ value.I8 n)) ⊎ (((n : ℤ) × (v ≡ value.I16 n)) ⊎ (((n : ℤ) × (v ≡ value.I32 n))
+      ⊎ (((n : ℤ) × (v ≡ value.I64 n)) ⊎ (((n : ℕ) × (v ≡ value.Double n)) ⊎ ((text : List ℕ) × (v ≡ value.Bytes text))))))) → Q (tree_of v)
+  of_leaf bytes h = elim h [
+    | inl a ↦ of_number (inl a)
+    | inr h1 ↦ elim h1 [
+      | inl a ↦ of_number (inr (inl a))
+      | inr h2 ↦ elim h2 [
+        | inl a ↦ of_number (inr (inr (inl a)))
+        | inr h3 ↦ elim h3 [
+          | inl a ↦ of_number (inr (inr (inr (inl a))))
+          | inr h4 ↦ elim h4 [
+            | inl a ↦ of_number (inr (inr (inr (inr (inl a)))))
+            | inr h5 ↦ elim h5 [
+              | inl a ↦ of_number (inr (inr (inr (inr (inr a)))))
+              | inr a ↦ subst Q (sym (ap tree_of a.1 ∙ tree_of-Bytes a.0)) (bytes a.0)
+            ]
+          ]
+        ]
+      ]
+    ]
+  ]

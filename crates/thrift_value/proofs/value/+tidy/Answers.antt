@@ -1,3 +1,6 @@
+use Rattle.std.specs.Prelude.{◌↔◌, IsTrue}
+use Rattle.std.proofs.Common.{true}
+use Rattle.thrift_value.proofs.Leaves.{IsOfLeaves, of_leaf}
 use Rattle.std.proofs.Common.{◌≡◌, ℤ, map, refl, rules}
 use Rattle.thrift_value.specs.declared.tag.Tag.{Tag}
 use Rattle.thrift_value.specs.declared.value.Value.{Value}
@@ -105,3 +108,34 @@ Value::is_tidy-returns-then-not-rise-3 t c =
 pub Value::is_tidy-returns-else-not-rise-3 : goal.Value::is_tidy-returns-else-not-rise-3
 Value::is_tidy-returns-else-not-rise-3 t c =
     second_decides (tidy_set _ _ _ (tree_of-is_Set _ c.in-Set.element c.in-Set.items c.in-Set.is)) c.are_tidy-in-Set.result (c.if-not-rise-3.ensures.0 refl) c.are_tidy-in-Set.ensures
+
+tidy_leaves : IsOfLeaves (λ x. IsTrue true ↔ IsTidy x)
+tidy_leaves = record {
+  bool = λ _. (λ _. record { tagged = tt; in_order = tt }, λ _. refl);
+  i8 = λ _. (λ _. record { tagged = tt; in_order = tt }, λ _. refl);
+  i16 = λ _. (λ _. record { tagged = tt; in_order = tt }, λ _. refl);
+  i32 = λ _. (λ _. record { tagged = tt; in_order = tt }, λ _. refl);
+  i64 = λ _. (λ _. record { tagged = tt; in_order = tt }, λ _. refl);
+  double = λ _. (λ _. record { tagged = tt; in_order = tt }, λ _. refl);
+}
+
+pub Value::is_tidy-returns-in-Bool : goal.Value::is_tidy-returns-in-Bool
+Value::is_tidy-returns-in-Bool t c = of_leaf (λ x. IsTrue true ↔ IsTidy x) tidy_leaves c.args.self.now (λ _. (λ _. record { tagged = tt; in_order = tt }, λ _. refl)) c.in-Bool.is
+
+pub Value::is_tidy-returns-in-Bool-2 : goal.Value::is_tidy-returns-in-Bool-2
+Value::is_tidy-returns-in-Bool-2 t c = of_leaf (λ x. IsTrue true ↔ IsTidy x) tidy_leaves c.args.self.now (λ _. (λ _. record { tagged = tt; in_order = tt }, λ _. refl)) c.in-Bool.is
+
+pub Value::is_tidy-returns-in-Bool-3 : goal.Value::is_tidy-returns-in-Bool-3
+Value::is_tidy-returns-in-Bool-3 t c = of_leaf (λ x. IsTrue true ↔ IsTidy x) tidy_leaves c.args.self.now (λ _. (λ _. record { tagged = tt; in_order = tt }, λ _. refl)) c.in-Bool.is
+
+pub Value::is_tidy-returns-in-Bool-4 : goal.Value::is_tidy-returns-in-Bool-4
+Value::is_tidy-returns-in-Bool-4 t c = of_leaf (λ x. IsTrue true ↔ IsTidy x) tidy_leaves c.args.self.now (λ _. (λ _. record { tagged = tt; in_order = tt }, λ _. refl)) c.in-Bool.is
+
+pub Value::is_tidy-returns-in-Bool-5 : goal.Value::is_tidy-returns-in-Bool-5
+Value::is_tidy-returns-in-Bool-5 t c = of_leaf (λ x. IsTrue true ↔ IsTidy x) tidy_leaves c.args.self.now (λ _. (λ _. record { tagged = tt; in_order = tt }, λ _. refl)) c.in-Bool.is
+
+pub Value::is_tidy-returns-in-Bool-6 : goal.Value::is_tidy-returns-in-Bool-6
+Value::is_tidy-returns-in-Bool-6 t c = of_leaf (λ x. IsTrue true ↔ IsTidy x) tidy_leaves c.args.self.now (λ _. (λ _. record { tagged = tt; in_order = tt }, λ _. refl)) c.in-Bool.is
+
+pub Value::is_tidy-returns-in-Bool-7 : goal.Value::is_tidy-returns-in-Bool-7
+Value::is_tidy-returns-in-Bool-7 t c = of_leaf (λ x. IsTrue true ↔ IsTidy x) tidy_leaves c.args.self.now (λ _. (λ _. record { tagged = tt; in_order = tt }, λ _. refl)) c.in-Bool.is
