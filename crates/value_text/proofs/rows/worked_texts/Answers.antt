@@ -1,4 +1,4 @@
-use Rattle.std.proofs.Common.{List, ℕ, refl, pos, negsuc, true, ◌∷◌, [], ◌++◌, codes, ap, arith}
+use Rattle.std.proofs.Common.{List, ℕ, ◌∷◌, ◌++◌, codes, ap, arith}
 use Rattle.std.proofs.lemmas.Fmt.{decimal_digit}
 use Rattle.value_text.proofs.rows.worked_texts.Goals as goal
 
