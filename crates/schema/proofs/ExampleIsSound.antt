@@ -1,6 +1,6 @@
 -- The example is a sound schema.
-use Rattle.std.proofs.Common.{◌≡◌, ℕ, zero, suc, pos, ◌+◌, ◌<◌, Bool, true, false, List, [], ◌∷◌, ◌++◌, length, map, get_or, Option, Some, None, codes, refl, sym, ap, ◌∙◌, arith}
-use Rattle.std.specs.Prelude.{◌≢◌, ◌<ℤ◌, IsTrue, unwrap_or, All, AllPairs, IsPermutation}
+use Rattle.std.proofs.Common.{◌≡◌, ℕ, zero, suc, pos, true, List, [], ◌∷◌, get_or, Option, Some, codes, refl, ap, arith}
+use Rattle.std.specs.Prelude.{◌≢◌, ◌<ℤ◌, IsTrue, unwrap_or, All, AllPairs}
 use Rattle.std.specs.Fmt.{decimal}
 use Rattle.std.proofs.lemmas.Fmt.{decimal_digit}
 use Rattle.std.proofs.lemmas.List.Sorted.{IsPermutation-refl}

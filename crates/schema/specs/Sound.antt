@@ -10,7 +10,7 @@ use Rattle.schema.specs.declared.types.FieldsKind.TheVariants.{Exception, Args}
 use Rattle.schema.specs.declared.types.DefRef.{DefRef}
 use Rattle.schema.specs.declared.types.DefRef.TheVariants.{Alias, Constant, Enum, Struct, Service}
 use Rattle.schema.specs.Inherited.{parent_of, functions_of}
-use Rattle.schema.specs.PlainKind.{PlainKind, kind_bool, kind_i8, kind_i16, kind_i32, kind_i64, kind_double, kind_text, kind_binary, kind_enum, kind_struct, kind_map, kind_set, kind_list}
+use Rattle.schema.specs.PlainKind.{PlainKind, kind_enum, kind_struct, kind_map, kind_set, kind_list}
 use Rattle.schema.specs.PlainSchema.{PlainField, PlainStruct, PlainEnum, PlainFunction, PlainService, PlainAlias, PlainConstant, PlainFile, PlainSchema}
 use Rattle.schema.specs.WrittenAs.{MayBeWrittenAs}
 

@@ -1,4 +1,4 @@
-use Rattle.std.proofs.Common.{ℤ, sym, rules, to_z, of_z}
+use Rattle.std.proofs.Common.{sym, rules, to_z, of_z}
 use Rattle.std.specs.Int.{w16}
 use Rattle.std.proofs.lemmas.Int.{to_z-of_z}
 use Rattle.std.proofs.lemmas.List.Sorted.{answers_always}

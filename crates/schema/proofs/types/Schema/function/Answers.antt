@@ -1,5 +1,4 @@
-use Rattle.std.proofs.Common.{ap, sym, ◌∙◌, length, map, arith}
-use Rattle.std.specs.Option.{option_map, option_copied}
+use Rattle.std.proofs.Common.{ap, sym, length, map, arith}
 use Rattle.schema.specs.LookUp.{is_named}
 use Rattle.schema.specs.SchemaOf.{schema_of, plain_function}
 use Rattle.schema.proofs.Lines.{ends_here, goes_on_with}

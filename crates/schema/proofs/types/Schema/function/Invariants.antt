@@ -1,4 +1,4 @@
-use Rattle.std.proofs.Common.{◌≡◌, ◌-◌, length, map}
+use Rattle.std.proofs.Common.{◌≡◌, ◌-◌, length}
 use Rattle.std.specs.List.{find}
 use Rattle.schema.specs.LookUp.{function_named, is_named}
 use Rattle.schema.specs.SchemaOf.{schema_of}

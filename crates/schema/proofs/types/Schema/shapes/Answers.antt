@@ -1,4 +1,4 @@
-use Rattle.std.proofs.Common.{sym, ◌∙◌, ap, map}
+use Rattle.std.proofs.Common.{◌∙◌, ap, map}
 use Rattle.schema.specs.SchemaOf.{schema_of}
 use Rattle.schema.specs.Shapes.{shape_line, shown_function}
 use Rattle.schema.proofs.ShapeLines.{shapes_of}
