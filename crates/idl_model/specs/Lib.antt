@@ -1,0 +1,16 @@
+pub mod Written
+pub mod TypeExpr
+pub mod ConstExpr
+pub mod Declarations
+pub mod Decoded
+pub mod FileNames
+pub mod Program
+pub mod Readings
+pub mod Loading
+pub mod Numbering
+pub mod Names
+pub mod FieldIds
+pub mod EnumNumbers
+pub mod Cycles
+pub mod WholeDoubles
+pub mod TidyRows

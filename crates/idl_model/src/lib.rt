@@ -1,0 +1,9 @@
+//! A program of IDL files, by definitions and laws alone.
+#![tactic(auto)]
+
+ghost use Rattle.std.specs.Prelude.{◌≡◌, ℕ};
+
+/// A place holder while the definitions are typed.
+pub fn typed()
+    ensures { (n : ℕ) → n ≡ n }
+{}
