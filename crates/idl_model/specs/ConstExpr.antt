@@ -29,12 +29,12 @@ mutual
 
 -- the place where a value begins
 abbrev pub place_of_const : ConstExpr → Place
-place_of_const (int_const number at) = at
+place_of_const (int_const _ at) = at
 place_of_const (double_const digits) = digits.at
 place_of_const (literal_const literal) = literal.at
 place_of_const (name_const name) = name.at
-place_of_const (list_const at items) = at
-place_of_const (map_const at entries) = at
+place_of_const (list_const at _) = at
+place_of_const (map_const at _) = at
 
 -- how many keys with their values there are
 abbrev pub entry_count : ConstEntries → ℕ

@@ -12,5 +12,5 @@ pub mod Names
 pub mod FieldIds
 pub mod EnumNumbers
 pub mod Cycles
-pub mod WholeDoubles
-pub mod TidyRows
+pub mod Spots
+pub mod ConstNames

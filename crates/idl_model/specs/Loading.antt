@@ -51,11 +51,11 @@ abbrev pub begun_or : Option ℕ → IncludeCase → IncludeCase
 begun_or (Some number) other = loaded_before number
 begun_or None other = other
 
--- an include of the file of this name, while the files of the `open` names are being loaded
+-- an include of the file of this name, while the files of the names `above` are being loaded
 unfoldable pub include_case : List (List ℕ) → Program → List ℕ → List ℕ → IncludeCase
-include_case open files literal name =
+include_case above files literal name =
     if not (is_utf8 literal) then refused_include bad_name
-    else if is_among name open then refused_include includes_itself
+    else if is_among name above then refused_include includes_itself
     else begun_or (position_from (λ file. bytes_eq file.name name) 0 files) (new_include files name)
 
 -- one more number among those of a file's includes
@@ -76,31 +76,31 @@ load_include enter flaw of new_file files = and_then (enter files) (λ more. loa
 
 -- the includes of the file of number `of`, one after another; `enter` loads a new file of some name
 abbrev pub load_includes : (List ℕ → Program → Loaded) → List (List ℕ) → List ℕ → ℕ → List Written → Program → Loaded
-load_includes enter open file of [] files = loaded files
-load_includes enter open file of (literal ∷ more) files =
+load_includes enter above file of [] files = loaded files
+load_includes enter above file of (literal ∷ more) files =
     let name = included_name file literal.text in
     let flaw : LoadFlaw = record { file = file; at = literal.at; kind = too_many } in
-    and_then (load_include (enter name) flaw of (include_case open files literal.text name) files)
-      (λ next. load_includes enter open file of more next)
+    and_then (load_include (enter name) flaw of (include_case above files literal.text name) files)
+      (λ next. load_includes enter above file of more next)
 
 -- one more file, and its includes
 abbrev pub load_read : (List ℕ → Program → Loaded) → List (List ℕ) → List ℕ → FileReading → Program → Loaded
-load_read enter open name (unread at kind) files = stopped (record { file = name; at = at; kind = kind })
-load_read enter open name (read_as tree) files =
-    load_includes enter open name (length files) (includes_of tree)
+load_read enter above name (unread at kind) files = stopped (record { file = name; at = at; kind = kind })
+load_read enter above name (read_as tree) files =
+    load_includes enter above name (length files) (includes_of tree)
       (files ++ record { name = name; declarations = declarations_of tree; includes = [] } ∷ [])
 
 -- a file, where there is room for one more, or not
 abbrev pub load_within : Bool → (List ℕ → Program → Loaded) → List (List ℕ) → List ℕ → FileReading → Program → Loaded
-load_within false enter open name reading files = stopped (record { file = name; at = nowhere; kind = too_many })
-load_within true enter open name reading files = load_read enter open name reading files
+load_within false enter above name reading files = stopped (record { file = name; at = nowhere; kind = too_many })
+load_within true enter above name reading files = load_read enter above name reading files
 
--- a file and what it includes, at most so many levels deep, while the files of the `open` names are being loaded. There are no
+-- a file and what it includes, at most so many levels deep, while the files of the names `above` are being loaded. There are no
 -- more levels than files, so these don't run out first.
 unfoldable pub load_file : (List ℕ → FileReading) → ℕ → List (List ℕ) → List ℕ → Program → Loaded
-load_file reader zero open name files = stopped (record { file = name; at = nowhere; kind = too_many })
-load_file reader (suc left) open name files =
-    load_within (nat_le (suc (length files)) most_files) (load_file reader left (name ∷ open)) (name ∷ open) name (reader name) files
+load_file reader zero above name files = stopped (record { file = name; at = nowhere; kind = too_many })
+load_file reader (suc left) above name files =
+    load_within (nat_le (suc (length files)) most_files) (load_file reader left (name ∷ above)) (name ∷ above) name (reader name) files
 
 -- The program of a main file, or its first fault, where each file is read as the reader says.
 unfoldable pub program_of : (List ℕ → FileReading) → List ℕ → Loaded

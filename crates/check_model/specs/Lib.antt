@@ -1,0 +1,12 @@
+pub mod Resolved
+pub mod FieldLists
+pub mod FiniteValues
+pub mod WholeDoubles
+pub mod TidyRows
+pub mod Worths
+pub mod Scalars
+pub mod Evaluation
+pub mod SchemaParts
+pub mod Passes
+pub mod FirstFlaw
+pub mod ProgramSchema
