@@ -14,3 +14,4 @@ pub mod EnumNumbers
 pub mod Cycles
 pub mod Spots
 pub mod ConstNames
+pub mod SmallPrograms
