@@ -10,3 +10,4 @@ pub mod SchemaParts
 pub mod Passes
 pub mod FirstFlaw
 pub mod ProgramSchema
+pub mod SmallSchemas

@@ -61,10 +61,13 @@ crossed = one_file (of_const (record { name = written (codes "A") 11; type = bas
     ∷ of_const (record { name = written (codes "B") 33; type = list_expr (base_expr base.I32);
       value = list_const (column 37) (const_item (name_const (written (codes "A") 38)) no_consts) }) ∷ [])
 
+-- `[A]` at column 21
+abbrev pub list_of_a : ConstExpr
+list_of_a = list_const (column 21) (const_item (name_const (written (codes "A") 22)) no_consts)
+
 -- `const list<i32> A = [A]`
 abbrev pub lists_itself : Program
-lists_itself = one_file (of_const (record { name = written (codes "A") 17; type = list_expr (base_expr base.I32);
-    value = list_const (column 21) (const_item (name_const (written (codes "A") 22)) no_consts) }) ∷ [])
+lists_itself = one_file (of_const (record { name = written (codes "A") 17; type = list_expr (base_expr base.I32); value = list_of_a }) ∷ [])
 
 -- `enum E { X = 4, Y } const E C = E.Y`
 abbrev pub named_number : Program
