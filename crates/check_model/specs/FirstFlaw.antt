@@ -1,5 +1,6 @@
 -- The first fault of a program.
-use Rattle.std.specs.Prelude.{◌≡◌, ⊤, ℕ, List, [], ◌∷◌, ◌++◌}
+use Rattle.std.specs.Prelude.{◌≡◌, ℕ, List, [], ◌∷◌, ◌++◌}
+use Rattle.std.specs.List.{AllByRecursion}
 use Rattle.idl_token.specs.declared.Place.{Place}
 use Rattle.idl_model.specs.Program.{Program}
 use Rattle.idl_model.specs.Spots.{GivenValue, Spotted, value_spot, Spot, spots_of}
@@ -33,15 +34,9 @@ IsAtFault pass program spot flaw =
 abbrev pub IsClearAt : Program → Pass → Spot → Type 0
 IsClearAt program pass spot = (flaw : ProgramFlaw) → IsAtFault pass program spot flaw → ⊥
 
--- a pass finds nothing at any of these spots
-abbrev pub AreClearAt : Program → Pass → List Spot → Type 0
-AreClearAt program pass [] = ⊤
-AreClearAt program pass (spot ∷ more) = IsClearAt program pass spot × AreClearAt program pass more
-
--- each of these passes finds nothing in a program
-abbrev pub FindNothing : Program → List Pass → Type 0
-FindNothing program [] = ⊤
-FindNothing program (pass ∷ more) = AreClearAt program pass (spots_of program) × FindNothing program more
+-- a pass finds nothing in a program
+abbrev pub FindsNothing : Program → Pass → Type 0
+FindsNothing program pass = AllByRecursion (IsClearAt program pass) (spots_of program)
 
 -- the first fault that a pass finds in a program
 pub record IsFirstOf (program : Program) (pass : Pass) (flaw : ProgramFlaw) : Type 0 where
@@ -49,7 +44,7 @@ pub record IsFirstOf (program : Program) (pass : Pass) (flaw : ProgramFlaw) : Ty
   pub spot : Spot
   pub after : List Spot
   pub split : spots_of program ≡ before ++ spot ∷ after
-  pub clear : AreClearAt program pass before
+  pub clear : AllByRecursion (IsClearAt program pass) before
   pub here : IsAtFault pass program spot flaw
 
 -- The first fault of a program: the first that the first pass finds that finds any.
@@ -58,9 +53,9 @@ pub record IsFirstFlaw (program : Program) (flaw : ProgramFlaw) : Type 0 where
   pub pass : Pass
   pub later : List Pass
   pub split : passes ≡ earlier ++ pass ∷ later
-  pub clear : FindNothing program earlier
+  pub clear : AllByRecursion (FindsNothing program) earlier
   pub first : IsFirstOf program pass flaw
 
 -- No pass finds a fault.
 abbrev pub HasNoFlaw : Program → Type 0
-HasNoFlaw program = FindNothing program passes
+HasNoFlaw program = AllByRecursion (FindsNothing program) passes

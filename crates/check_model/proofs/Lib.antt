@@ -1,0 +1,4 @@
+pub mod FirstOnes
+pub mod Meanings
+pub mod OneSchema
+pub mod OneVerdict

@@ -1,0 +1,32 @@
+//! What holds of schemas and of first faults.
+
+ghost use Rattle.std.specs.Prelude.{◌≡◌, ℕ};
+ghost use Rattle.idl_model.specs.TypeExpr.{TypeExpr};
+ghost use Rattle.idl_model.specs.Program.{Program};
+ghost use Rattle.schema.specs.PlainKind.{PlainKind};
+ghost use Rattle.schema.specs.PlainSchema.{PlainSchema};
+ghost use Rattle.check_model.specs.Resolved.{Means};
+ghost use Rattle.check_model.specs.SchemaParts.{IsPartialSchema};
+ghost use Rattle.check_model.specs.FirstFlaw.{ProgramFlaw, IsFirstFlaw};
+ghost use Rattle.check_model.specs.ProgramSchema.{IsSchemaOf};
+
+/// A type means one kind at most.
+pub fn a_type_has_one_meaning()
+    ensures { (program : Program) (file : ℕ) (type : TypeExpr) (j k : PlainKind) → Means program file type j → Means program file type k → j ≡ k }
+{}
+
+/// A program has one schema at most, with its defaults and constants and without.
+pub fn the_schema_is_determined()
+    ensures partial { (program : Program) (a b : PlainSchema) → IsPartialSchema program a → IsPartialSchema program b → a ≡ b }
+    ensures whole { (program : Program) (a b : PlainSchema) → IsSchemaOf program a → IsSchemaOf program b → a ≡ b }
+{}
+
+/// A program has one first fault at most.
+pub fn the_first_flaw_is_determined()
+    ensures { (program : Program) (f g : ProgramFlaw) → IsFirstFlaw program f → IsFirstFlaw program g → f ≡ g }
+{}
+
+/// A program that has a schema has no first fault.
+pub fn a_schema_excludes_a_flaw()
+    ensures { (program : Program) (schema : PlainSchema) (flaw : ProgramFlaw) → IsSchemaOf program schema → IsFirstFlaw program flaw → ⊥ }
+{}
