@@ -1,0 +1,37 @@
+//! What holds of the loading of a program.
+
+ghost use Rattle.std.specs.Prelude.{◌≡◌, ℕ, List};
+ghost use Rattle.outside.specs.Files.{File};
+ghost use Rattle.idl_model.specs.Readings.{FileReading, IsReaderOf};
+ghost use Rattle.idl_model.specs.Loading.{program_of};
+
+use idl_parser::{
+    a_document_has_no_fault, a_document_or_a_first_fault, the_document_is_determined,
+    the_first_fault_is_determined,
+};
+use idl_token::{
+    the_fault_is_determined, tokens_are_determined,
+    tokens_exclude_a_fault, tokens_or_a_first_fault,
+};
+
+/// Each file is read as something, and as one thing alone.
+pub fn each_file_is_read_as_one_thing()
+    ensures some { (files : List File) → (reader : List ℕ → FileReading) × IsReaderOf files reader }
+    ensures one { (files : List File) (r s : List ℕ → FileReading) → IsReaderOf files r → IsReaderOf files s → (name : List ℕ) → r name ≡ s name }
+{
+    tokens_or_a_first_fault();
+    tokens_are_determined();
+    tokens_exclude_a_fault();
+    the_fault_is_determined();
+    a_document_or_a_first_fault();
+    the_document_is_determined();
+    a_document_has_no_fault();
+    the_first_fault_is_determined();
+}
+
+/// A main file has one program among files, or one first fault.
+pub fn the_program_is_determined()
+    ensures { (files : List File) (main : List ℕ) (r s : List ℕ → FileReading) → IsReaderOf files r → IsReaderOf files s → program_of r main ≡ program_of s main }
+{
+    each_file_is_read_as_one_thing();
+}
