@@ -11,10 +11,11 @@ use Rattle.check_model.specs.Worths.{ConstFlaw, Worth, valued, flawed}
 use Rattle.check_model.specs.Evaluation.{given_worth}
 use Rattle.check_model.specs.Passes.{Pass, dotted_name, duplicate_name, unknown_type, typedef_cycle, field_id, duplicate_id, enum_number, service_cycle, duplicate_function, oneway_not_void, oneway_throws, not_exception, struct_loop, bad_constant, passes, HasConstFlaw}
 use Rattle.check_model.specs.FirstFlaw.{FlawKind, of_value, ProgramFlaw, IsValueFlaw, IsAtFault, IsClearAt, FindsNothing, IsFirstOf, IsFirstFlaw, HasNoFlaw}
-use Rattle.check_model.specs.ProgramSchema.{IsSchemaOf}
+use Rattle.idl_model.specs.Loading.{Loaded, loaded, stopped}
+use Rattle.check_model.specs.ProgramSchema.{IsSchemaOf, ProgramVerdict, accepted_as, not_loaded, at_fault, IsVerdictOn}
 use Rattle.check_model.proofs.FirstOnes.{somes, first_is_one, holds_at_split}
 use Rattle.check_model.proofs.Meanings.{one_meaning}
-use Rattle.check_model.proofs.OneSchema.{one_partial}
+use Rattle.check_model.proofs.OneSchema.{one_partial, one_schema}
 
 -- the place of a fault, if there is one
 place_or : {A : Type 0} → Place → Worth A → Place
@@ -101,3 +102,18 @@ pub no_flaw_beside : (program : Program) (f : ProgramFlaw) → HasNoFlaw program
 no_flaw_beside program f none p =
     let P : List Pass → Type 0 = λ ps. AllByRecursion (FindsNothing program) ps in
     nothing_first program p.pass f (holds_at_split (FindsNothing program) p.earlier p.pass p.later (subst P p.split none)) p.first
+
+-- what loading comes to has one verdict at most
+pub one_verdict_on : (l : Loaded) (v w : ProgramVerdict) → IsVerdictOn l v → IsVerdictOn l w → v ≡ w
+one_verdict_on (loaded program) (accepted_as a) (accepted_as b) p q = ap accepted_as (one_schema program a b p q)
+one_verdict_on (loaded program) (accepted_as a) (at_fault g) p q = absurd (no_flaw_beside program g p.faultless q)
+one_verdict_on (loaded program) (accepted_as a) (not_loaded g) p q = absurd q
+one_verdict_on (loaded program) (at_fault f) (accepted_as b) p q = absurd (no_flaw_beside program f q.faultless p)
+one_verdict_on (loaded program) (at_fault f) (at_fault g) p q = ap at_fault (one_flaw program f g p q)
+one_verdict_on (loaded program) (at_fault f) (not_loaded g) p q = absurd q
+one_verdict_on (loaded program) (not_loaded f) w p q = absurd p
+one_verdict_on (stopped flaw) (not_loaded f) (not_loaded g) p q = ap not_loaded (p ∙ sym q)
+one_verdict_on (stopped flaw) (not_loaded f) (accepted_as b) p q = absurd q
+one_verdict_on (stopped flaw) (not_loaded f) (at_fault g) p q = absurd q
+one_verdict_on (stopped flaw) (accepted_as a) w p q = absurd p
+one_verdict_on (stopped flaw) (at_fault f) w p q = absurd p

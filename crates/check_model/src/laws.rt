@@ -1,6 +1,7 @@
 //! What holds of schemas and of first faults.
 
-ghost use Rattle.std.specs.Prelude.{◌≡◌, ℕ};
+ghost use Rattle.std.specs.Prelude.{◌≡◌, ℕ, List};
+ghost use Rattle.outside.specs.Files.{File};
 ghost use Rattle.idl_model.specs.TypeExpr.{TypeExpr};
 ghost use Rattle.idl_model.specs.Program.{Program};
 ghost use Rattle.schema.specs.PlainKind.{PlainKind};
@@ -8,7 +9,9 @@ ghost use Rattle.schema.specs.PlainSchema.{PlainSchema};
 ghost use Rattle.check_model.specs.Resolved.{Means};
 ghost use Rattle.check_model.specs.SchemaParts.{IsPartialSchema};
 ghost use Rattle.check_model.specs.FirstFlaw.{ProgramFlaw, IsFirstFlaw};
-ghost use Rattle.check_model.specs.ProgramSchema.{IsSchemaOf};
+ghost use Rattle.check_model.specs.ProgramSchema.{IsSchemaOf, ProgramVerdict, IsProgramVerdict};
+
+use idl_model::laws::the_program_is_determined;
 
 /// A type means one kind at most.
 pub fn a_type_has_one_meaning()
@@ -30,3 +33,10 @@ pub fn the_first_flaw_is_determined()
 pub fn a_schema_excludes_a_flaw()
     ensures { (program : Program) (schema : PlainSchema) (flaw : ProgramFlaw) → IsSchemaOf program schema → IsFirstFlaw program flaw → ⊥ }
 {}
+
+/// The program of a main file among files has one verdict at most.
+pub fn the_verdict_is_determined()
+    ensures { (files : List File) (main : List ℕ) (v w : ProgramVerdict) → IsProgramVerdict files main v → IsProgramVerdict files main w → v ≡ w }
+{
+    the_program_is_determined();
+}
