@@ -14,4 +14,5 @@ pub mod EnumNumbers
 pub mod Cycles
 pub mod Spots
 pub mod ConstNames
+pub mod DeclaredIn
 pub mod SmallPrograms

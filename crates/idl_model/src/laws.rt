@@ -2,11 +2,14 @@
 
 ghost use Rattle.std.specs.Prelude.{◌≡◌, ℕ, List};
 ghost use Rattle.outside.specs.Files.{File};
+ghost use Rattle.idl_parser.specs.Trees.{document_node};
+ghost use Rattle.idl_model.specs.Decoded.{declarations_of, includes_of};
+ghost use Rattle.idl_model.specs.DeclaredIn.{definitions_in, includes_of_document};
 ghost use Rattle.idl_model.specs.Readings.{FileReading, IsReaderOf};
 ghost use Rattle.idl_model.specs.Loading.{program_of};
 
 use idl_parser::{
-    a_document_has_no_fault, a_document_or_a_first_fault, the_document_is_determined,
+    Document, a_document_has_no_fault, a_document_or_a_first_fault, the_document_is_determined,
     the_first_fault_is_determined,
 };
 use idl_token::{
@@ -35,3 +38,9 @@ pub fn the_program_is_determined()
 {
     each_file_is_read_as_one_thing();
 }
+
+/// A document in memory declares what its tree declares, and includes what its tree includes.
+pub fn a_document_declares_what_its_tree_does()
+    ensures declarations { (d : Document) → declarations_of (document_node d) ≡ definitions_in d }
+    ensures includes { (d : Document) → includes_of (document_node d) ≡ includes_of_document d }
+{}
