@@ -13,7 +13,10 @@ ghost use Rattle.check_model.specs.Resolved.{Means};
 ghost use Rattle.check_model.specs.Worths.{valued, flawed, wrong_kind, out_of_range, const_cycle, unknown_field, missing_field};
 ghost use Rattle.check_model.specs.Evaluation.{evaluated};
 ghost use Rattle.check_model.specs.FiniteValues.{has_value_within};
-ghost use Rattle.check_model.specs.SmallSchemas.{no_schema, itself_schema, needs_itself, worth_in};
+ghost use Rattle.check_model.specs.Passes.{duplicate_id};
+ghost use Rattle.check_model.specs.FirstFlaw.{found_by, ProgramFlaw, IsFirstFlaw};
+ghost use Rattle.check_model.specs.ProgramSchema.{IsSchemaOf};
+ghost use Rattle.check_model.specs.SmallSchemas.{named_schema, named_constant, no_schema, itself_schema, needs_itself, worth_in};
 
 /// Doubles of constants are whole numbers; members and pairs are put in order, of equal ones the last.
 pub fn values()
@@ -54,4 +57,10 @@ pub fn types()
     ensures name { Means takes_itself 0 (name_expr (written (codes "S") 15)) (kind_struct 0) }
     ensures finite { has_value_within itself_schema 1 0 ≡ true }
     ensures loops { has_value_within needs_itself 5 0 ≡ false }
+{}
+
+/// A program that has a schema, and one that has a first fault.
+pub fn verdicts()
+    ensures accepted { IsSchemaOf named_number (named_schema (named_constant ∷ [])) }
+    ensures repeated_id { IsFirstFlaw doubled_id (record { file = 0; at = column 21; kind = found_by duplicate_id }) }
 {}
