@@ -1,2 +1,3 @@
 pub mod Falling
 pub mod Rows
+pub mod Deciding
