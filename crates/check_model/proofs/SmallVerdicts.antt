@@ -1,8 +1,11 @@
 -- Small programs with their verdicts.
-use Rattle.std.proofs.Common.{◌≡◌, ℕ, Bool, true, false, List, [], ◌∷◌, ◌++◌, codes, pos, take, drop, get_or, Option, None, Some, refl, ap, sym, subst, ◌∙◌}
+use Rattle.std.proofs.Common.{◌≡◌, ℕ, Bool, true, false, List, [], ◌∷◌, ◌++◌, codes, pos, take, drop, get_or, Option, None, Some, slice_get, refl, ap, sym, subst, ◌∙◌}
 use Rattle.std.specs.List.{AllByRecursion}
 use Rattle.idl_token.specs.declared.Place.{Place}
 use Rattle.thrift_value.specs.Tree.{Tree, of_i32}
+use Rattle.idl_parser.specs.declared.tree.StructKind.{StructKind}
+use Rattle.idl_parser.specs.declared.tree.StructKind.TheVariants as kind
+use Rattle.idl_model.specs.Declarations.{StructDecl}
 use Rattle.idl_model.specs.TypeExpr.{name_expr}
 use Rattle.idl_model.specs.ConstExpr.{name_const}
 use Rattle.idl_model.specs.FileNames.{base_name}
@@ -13,15 +16,15 @@ use Rattle.idl_model.specs.FieldIds.{field_ids}
 use Rattle.idl_model.specs.EnumNumbers.{enum_numbers}
 use Rattle.idl_model.specs.Spots.{GivenValue, given_name, struct_spot, field_spot, Spot, spots_of, spots_in_declaration, spots_in_field, values_of}
 use Rattle.idl_model.specs.ConstNames.{value_number, const_meaning}
-use Rattle.idl_model.specs.SmallPrograms.{column, written, one_file, small_field, small_struct, named_number, doubled_id}
-use Rattle.schema.specs.PlainKind.{PlainKind, kind_enum}
+use Rattle.idl_model.specs.SmallPrograms.{column, written, one_file, small_field, small_struct, named_number, doubled_id, named_kinds}
+use Rattle.schema.specs.PlainKind.{PlainKind, kind_enum, kind_struct}
 use Rattle.schema.specs.PlainSchema.{PlainConstant, PlainSchema}
 use Rattle.check_model.specs.Resolved.{alias_kind, Means}
 use Rattle.check_model.specs.FieldLists.{field_lists}
 use Rattle.check_model.specs.Worths.{ConstFlaw, Worth, valued, flawed, most_values, most_levels}
 use Rattle.check_model.specs.Evaluation.{Setting, named_worth, given_worth}
 use Rattle.check_model.specs.SchemaParts.{DefaultRule, NoDefault, IsSchemaWith, IsPartialSchema, files_of}
-use Rattle.check_model.specs.Passes.{Pass, dotted_name, duplicate_name, unknown_type, typedef_cycle, field_id, duplicate_id, enum_number, service_cycle, duplicate_function, oneway_not_void, oneway_throws, not_exception, struct_loop, bad_constant, passes, HasConstFlaw}
+use Rattle.check_model.specs.Passes.{Pass, dotted_name, duplicate_name, unknown_type, typedef_cycle, field_id, duplicate_id, enum_number, service_cycle, duplicate_function, oneway_not_void, oneway_throws, not_exception, struct_loop, bad_constant, passes, IsException, HasConstFlaw}
 use Rattle.check_model.specs.FirstFlaw.{ProgramFlaw, found_by, IsClearAt, FindsNothing, IsFirstOf, IsFirstFlaw, HasNoFlaw}
 use Rattle.check_model.specs.ProgramSchema.{HasWorth, DefaultIn, IsConstantOf, IsSchemaOf}
 use Rattle.check_model.specs.SmallSchemas.{named_schema, named_constant}
@@ -195,3 +198,31 @@ repeated_id = record {
     here = (refl, refl);
   };
 }
+
+-- an exception that is named by a typedef, and a struct that is thrown
+pub thrown_exception : IsException named_kinds 0 (name_expr (written (codes "U") 1))
+unfolding alias_kind type_named sought typedefs_of enums_of structs_of
+thrown_exception = (1, (1, refl), record { file = 0; item = record { name = written (codes "X") 35; kind = kind.Exception; fields = [] } }, refl, refl)
+
+t_means : Means named_kinds 0 (name_expr (written (codes "T") 1)) (kind_struct 0)
+unfolding type_named sought typedefs_of enums_of structs_of
+t_means = (0, refl)
+
+-- the number of a struct
+number_or : ℕ → PlainKind → ℕ
+number_or d (kind_struct n) = n
+number_or d _ = d
+
+-- whether a struct is an exception
+is_exception : StructKind → Bool
+is_exception kind.Exception = true
+is_exception _ = false
+
+pub thrown_struct : IsException named_kinds 0 (name_expr (written (codes "T") 1)) → ⊥
+unfolding number_or is_exception structs_of
+thrown_struct (k, means, s, at, is) =
+    let zero_is : 0 ≡ k = ap (number_or 0) (one_meaning named_kinds 0 (name_expr (written (codes "T") 1)) (kind_struct 0) (kind_struct k) t_means means) in
+    let t : Filed StructDecl = record { file = 0; item = record { name = written (codes "T") 20; kind = kind.Struct; fields = [] } } in
+    let P : ℕ → Type 0 = λ n. slice_get (structs_of named_kinds) n ≡ Some s in
+    let same = somes t s (subst P (sym zero_is) at) in
+    off (ap (λ (d : Filed StructDecl). is_exception d.item.kind) same ∙ ap is_exception is)

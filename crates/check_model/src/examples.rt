@@ -5,7 +5,8 @@ ghost use Rattle.thrift_value.specs.Tree.{of_bool, of_i32, of_double, of_struct,
 ghost use Rattle.idl_parser.specs.declared.tree.Base.TheVariants as base;
 ghost use Rattle.idl_model.specs.TypeExpr.{base_expr, name_expr, list_expr};
 ghost use Rattle.idl_model.specs.ConstExpr.{int_const, literal_const, map_const, const_entry, no_entries};
-ghost use Rattle.idl_model.specs.SmallPrograms.{column, written, list_of_a, narrow, doubled_id, takes_itself, crossed, lists_itself, named_number};
+ghost use Rattle.idl_model.specs.Spots.{given_name, type_use, typedef_spot, field_spot, enum_value_spot, service_spot, function_spot, thrown_spot};
+ghost use Rattle.idl_model.specs.SmallPrograms.{column, with_number, small_field, small_function, aliases_itself, extends_itself, inherits_twice, named_kinds, written, list_of_a, narrow, doubled_id, takes_itself, crossed, lists_itself, named_number};
 ghost use Rattle.schema.specs.PlainKind.{kind_i8, kind_i32, kind_enum, kind_struct, kind_list};
 ghost use Rattle.check_model.specs.WholeDoubles.{double_number, double_bits, int_as_double};
 ghost use Rattle.check_model.specs.TidyRows.{tidy_members, tidy_pairs};
@@ -13,7 +14,7 @@ ghost use Rattle.check_model.specs.Resolved.{Means};
 ghost use Rattle.check_model.specs.Worths.{valued, flawed, wrong_kind, out_of_range, const_cycle, unknown_field, missing_field};
 ghost use Rattle.check_model.specs.Evaluation.{evaluated};
 ghost use Rattle.check_model.specs.FiniteValues.{has_value_within};
-ghost use Rattle.check_model.specs.Passes.{duplicate_id};
+ghost use Rattle.check_model.specs.Passes.{dotted_name, duplicate_name, unknown_type, typedef_cycle, field_id, duplicate_id, enum_number, service_cycle, duplicate_function, not_exception, FindsFault};
 ghost use Rattle.check_model.specs.FirstFlaw.{found_by, ProgramFlaw, IsFirstFlaw};
 ghost use Rattle.check_model.specs.ProgramSchema.{IsSchemaOf};
 ghost use Rattle.check_model.specs.SmallSchemas.{named_schema, named_constant, no_schema, itself_schema, needs_itself, worth_in};
@@ -63,4 +64,18 @@ pub fn types()
 pub fn verdicts()
     ensures accepted { IsSchemaOf named_number (named_schema (named_constant ∷ [])) }
     ensures repeated_id { IsFirstFlaw doubled_id (record { file = 0; at = column 21; kind = found_by duplicate_id }) }
+{}
+
+/// What passes find at a spot, and what not.
+pub fn faults()
+    ensures dotted { FindsFault dotted_name narrow 0 (given_name [] (written (codes "a.b") 1)) }
+    ensures third_is_second { FindsFault duplicate_name narrow 0 (given_name (written (codes "a") 1 ∷ []) (written (codes "a") 3)) }
+    ensures unknown { FindsFault unknown_type crossed 0 (type_use (written (codes "A") 1)) }
+    ensures typedef_itself { FindsFault typedef_cycle aliases_itself 0 (typedef_spot (written (codes "T") 17)) }
+    ensures id_zero { FindsFault field_id narrow 0 (field_spot [] (small_field 12 0 (base_expr base.I8) (written (codes "a") 18) None)) }
+    ensures past_the_last { FindsFault enum_number narrow 0 (enum_value_spot (with_number (Some (pos 2147483647)) ∷ []) (with_number None)) }
+    ensures service_itself { FindsFault service_cycle extends_itself 0 (service_spot (written (codes "A") 9)) }
+    ensures inherited { FindsFault duplicate_function inherits_twice 0 (function_spot (written (codes "B") 32) [] (small_function (codes "f") 46)) }
+    ensures exception_by_typedef { FindsFault not_exception named_kinds 0 (thrown_spot (small_field 1 1 (name_expr (written (codes "U") 1)) (written (codes "e") 1) None)) → ⊥ }
+    ensures struct_thrown { FindsFault not_exception named_kinds 0 (thrown_spot (small_field 1 1 (name_expr (written (codes "T") 1)) (written (codes "e") 1) None)) }
 {}

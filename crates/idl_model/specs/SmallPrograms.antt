@@ -1,5 +1,5 @@
 -- Small documents, files and programs, for examples. Each stands on one line, so a place is a column.
-use Rattle.std.specs.Prelude.{ℕ, ℤ, pos, Bool, true, codes, List, [], ◌∷◌, map, Option, Some, None, if◌then◌else◌}
+use Rattle.std.specs.Prelude.{ℕ, ℤ, pos, ◌+◌, Bool, true, false, codes, List, [], ◌∷◌, map, Option, Some, None, if◌then◌else◌}
 use Rattle.std.specs.Str.{bytes_eq}
 use Rattle.idl_token.specs.declared.Place.{Place}
 use Rattle.idl_token.specs.declared.terminal.Terminal.TheVariants as word
@@ -11,7 +11,7 @@ use Rattle.idl_model.specs.Written.{Written}
 use Rattle.idl_model.specs.Decoded.{nowhere}
 use Rattle.idl_model.specs.TypeExpr.{TypeExpr, base_expr, name_expr, list_expr}
 use Rattle.idl_model.specs.ConstExpr.{ConstExpr, int_const, name_const, list_const, map_const, no_consts, const_item, no_entries}
-use Rattle.idl_model.specs.Declarations.{FieldDecl, EnumValueDecl, Declaration, of_const, of_enum, of_struct_decl}
+use Rattle.idl_model.specs.Declarations.{FieldDecl, FunctionDecl, EnumValueDecl, Declaration, of_const, of_typedef, of_enum, of_struct_decl, of_service}
 use Rattle.idl_model.specs.Program.{SourceFile, Program}
 use Rattle.idl_model.specs.Readings.{FileReading, read_as, unread, absent}
 
@@ -96,3 +96,30 @@ with_number n = record { name = written (codes "v") 1; number = n }
 -- each literal is a name
 abbrev pub any_name : List ℕ → Bool
 any_name literal = true
+
+-- `typedef list<T> T`
+abbrev pub aliases_itself : Program
+aliases_itself = one_file (of_typedef (record { name = written (codes "T") 17; type = list_expr (name_expr (written (codes "T") 14)) }) ∷ [])
+
+-- a function without arguments and result
+abbrev pub small_function : List ℕ → ℕ → FunctionDecl
+small_function name at = record { at = column at; oneway = false; result = None; name = written name (at + 5); arguments = []; throws = [] }
+
+-- `service A { void f() } service B extends A { void f() }`
+abbrev pub inherits_twice : Program
+inherits_twice = one_file (of_service (record { name = written (codes "A") 9; parent = None; functions = small_function (codes "f") 13 ∷ [] })
+    ∷ of_service (record { name = written (codes "B") 32; parent = Some (written (codes "A") 42); functions = small_function (codes "f") 46 ∷ [] }) ∷ [])
+
+-- `service A extends A {}`
+abbrev pub extends_itself : Program
+extends_itself = one_file (of_service (record { name = written (codes "A") 9; parent = Some (written (codes "A") 19); functions = [] }) ∷ [])
+
+-- `struct S { 1: required S s }`
+abbrev pub holds_itself : Program
+holds_itself = one_file (small_struct (record { at = column 12; id = Some (pos 1); need = need.Required; type = name_expr (written (codes "S") 24); name = written (codes "s") 26; default = None } ∷ []) ∷ [])
+
+-- `typedef X U struct T {} exception X {}`
+abbrev pub named_kinds : Program
+named_kinds = one_file (of_typedef (record { name = written (codes "U") 11; type = name_expr (written (codes "X") 9) })
+    ∷ of_struct_decl (record { name = written (codes "T") 20; kind = kind.Struct; fields = [] })
+    ∷ of_struct_decl (record { name = written (codes "X") 35; kind = kind.Exception; fields = [] }) ∷ [])
