@@ -48,12 +48,12 @@ one_value_flaw program file (value_spot v) f g p q =
 one_value_flaw program file (given_name _ _) f g p q = absurd p
 one_value_flaw program file (type_use _) f g p q = absurd p
 one_value_flaw program file (parent_use _) f g p q = absurd p
-one_value_flaw program file (typedef_spot _) f g p q = absurd p
+one_value_flaw program file (typedef_spot _ _) f g p q = absurd p
 one_value_flaw program file (field_spot _ _) f g p q = absurd p
 one_value_flaw program file (thrown_spot _) f g p q = absurd p
 one_value_flaw program file (enum_value_spot _ _) f g p q = absurd p
-one_value_flaw program file (struct_spot _) f g p q = absurd p
-one_value_flaw program file (service_spot _) f g p q = absurd p
+one_value_flaw program file (struct_spot _ _) f g p q = absurd p
+one_value_flaw program file (service_spot _ _) f g p q = absurd p
 one_value_flaw program file (function_spot _ _ _) f g p q = absurd p
 
 -- at a spot a pass finds one fault at most

@@ -54,10 +54,6 @@ passes =
 abbrev pub is_repeated : List Written → Written → Bool
 is_repeated before name = is_among name.text (map (λ (other : Written). other.text) before)
 
--- a definition of some name in some file has a number of which this holds
-abbrev pub OfNumber : Option ℕ → (ℕ → Type 0) → Type 0
-OfNumber number P = (k : ℕ) × (number ≡ Some k) × P k
-
 -- a written number outside 1 to 32767, or a field without one behind 32768 of them
 abbrev pub is_bad_id : List FieldDecl → Option ℤ → Bool
 is_bad_id before (Some id) = not (int_le (pos 1) id && int_le id (pos 32767))
@@ -72,10 +68,8 @@ abbrev pub number_behind : List EnumValueDecl → EnumValueDecl → ℤ
 number_behind before value = number_or (next_number (pos 0) before) value.number
 
 -- an earlier function of the service has this name, or one that the service inherits
-abbrev pub IsRepeatedFunction : Program → ℕ → Written → List FunctionDecl → List ℕ → Type 0
-IsRepeatedFunction program file service before name =
-    HasFunction before name
-    ⊎ OfNumber (number_named (λ (s : ServiceDecl). s.name) (services_of program) file service.text) (λ k. Inherits program k name)
+abbrev pub IsRepeatedFunction : Program → ℕ → List FunctionDecl → List ℕ → Type 0
+IsRepeatedFunction program service before name = HasFunction before name ⊎ Inherits program service name
 
 -- the type means an exception
 abbrev pub IsException : Program → ℕ → TypeExpr → Type 0
@@ -97,19 +91,16 @@ FindsFault dotted_name program file (given_name before name) = is_dotted name.te
 FindsFault duplicate_name program file (given_name before name) = is_repeated before name ≡ true
 FindsFault unknown_type program file (type_use name) = type_named program file name.text ≡ None
 FindsFault unknown_type program file (parent_use name) = service_named program file name.text ≡ None
-FindsFault typedef_cycle program file (typedef_spot name) =
-    OfNumber (number_named (λ (t : TypedefDecl). t.name) (typedefs_of program) file name.text) (OnCycle (alias_graph program))
+FindsFault typedef_cycle program file (typedef_spot number name) = OnCycle (alias_graph program) number
 FindsFault field_id program file (field_spot before field) = is_bad_id before field.id ≡ true
 FindsFault duplicate_id program file (field_spot before field) = is_id_repeated before field ≡ true
 FindsFault enum_number program file (enum_value_spot before value) = has_bits 32 (number_behind before value) ≡ false
-FindsFault service_cycle program file (service_spot name) =
-    OfNumber (number_named (λ (s : ServiceDecl). s.name) (services_of program) file name.text) (OnCycle (parent_graph program))
-FindsFault duplicate_function program file (function_spot service before f) = IsRepeatedFunction program file service before f.name.text
+FindsFault service_cycle program file (service_spot number name) = OnCycle (parent_graph program) number
+FindsFault duplicate_function program file (function_spot service before f) = IsRepeatedFunction program service before f.name.text
 FindsFault oneway_not_void program file (function_spot service before f) = (f.oneway ≡ true) × (is_some f.result ≡ true)
 FindsFault oneway_throws program file (function_spot service before f) = (f.oneway ≡ true) × (is_empty f.throws ≡ false)
 FindsFault not_exception program file (thrown_spot field) = IsException program file field.type → ⊥
-FindsFault struct_loop program file (struct_spot s) =
-    NeedsFiniteValue s.kind × OfNumber (number_named (λ (t : StructDecl). t.name) (structs_of program) file s.name.text) (HasNoFiniteValue program)
+FindsFault struct_loop program file (struct_spot number s) = NeedsFiniteValue s.kind × HasNoFiniteValue program number
 FindsFault _ program file _ = ⊥
 
 -- the place of what is spotted
@@ -117,12 +108,12 @@ abbrev pub place_shown : Spotted → Place
 place_shown (given_name before name) = name.at
 place_shown (type_use name) = name.at
 place_shown (parent_use name) = name.at
-place_shown (typedef_spot name) = name.at
+place_shown (typedef_spot number name) = name.at
 place_shown (field_spot before field) = field.at
 place_shown (thrown_spot field) = field.at
 place_shown (enum_value_spot before value) = value.name.at
-place_shown (struct_spot s) = s.name.at
-place_shown (service_spot name) = name.at
+place_shown (struct_spot number s) = s.name.at
+place_shown (service_spot number name) = name.at
 place_shown (function_spot service before f) = f.at
 place_shown (value_spot v) = v.owner
 

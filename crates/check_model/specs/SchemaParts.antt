@@ -6,7 +6,7 @@ use Rattle.idl_model.specs.Written.{Written}
 use Rattle.idl_model.specs.TypeExpr.{TypeExpr}
 use Rattle.idl_model.specs.Declarations.{FieldDecl, FunctionDecl, TypedefDecl, EnumValueDecl, EnumDecl, StructDecl, ServiceDecl, Declaration, of_const, of_typedef, of_enum, of_struct_decl, of_service}
 use Rattle.idl_model.specs.Program.{SourceFile, Program, base_of_file}
-use Rattle.idl_model.specs.Numbering.{Filed, typedefs_of, enums_of, structs_of, services_of}
+use Rattle.idl_model.specs.Numbering.{Filed, Counts, none_counted, counted, all_counted, typedefs_of, enums_of, structs_of, services_of}
 use Rattle.idl_model.specs.EnumNumbers.{enum_numbers}
 use Rattle.idl_model.specs.Cycles.{parent_of}
 use Rattle.schema.specs.declared.types.FieldsKind.{FieldsKind}
@@ -17,27 +17,6 @@ use Rattle.schema.specs.PlainKind.{PlainKind}
 use Rattle.schema.specs.PlainSchema.{PlainField, PlainStruct, PlainEnum, PlainFunction, PlainService, PlainAlias, PlainFile, PlainSchema}
 use Rattle.check_model.specs.Resolved.{Means}
 use Rattle.check_model.specs.FieldLists.{NumberedField, FieldsDecl, need_in, fields_by_id, field_lists}
-
--- how many definitions of each kind there are
-pub record Counts : Type 0 where
-  pub aliases : ℕ
-  pub constants : ℕ
-  pub enums : ℕ
-  pub structs : ℕ
-  pub services : ℕ
-
--- one definition more
-abbrev pub counted : Counts → Declaration → Counts
-counted n (of_const c) = record n { constants = suc n.constants }
-counted n (of_typedef t) = record n { aliases = suc n.aliases }
-counted n (of_enum e) = record n { enums = suc n.enums }
-counted n (of_struct_decl s) = record n { structs = suc n.structs }
-counted n (of_service s) = record n { services = suc n.services }
-
--- definitions more
-abbrev pub all_counted : Counts → List Declaration → Counts
-all_counted n [] = n
-all_counted n (d ∷ more) = all_counted (counted n d) more
 
 -- a definition by its kind and its number, behind so many
 abbrev pub ref_behind : Counts → Declaration → DefRef
@@ -61,7 +40,7 @@ files_behind n (file ∷ files) =
 
 -- the files of a program's schema
 unfoldable pub files_of : Program → List PlainFile
-files_of program = files_behind (record { aliases = 0; constants = 0; enums = 0; structs = 0; services = 0 }) program
+files_of program = files_behind none_counted program
 
 -- the names of an enum's values with their numbers
 abbrev pub named_numbers : List EnumValueDecl → List ℤ → List (List ℕ × ℤ)

@@ -71,11 +71,11 @@ pub fn faults()
     ensures dotted { FindsFault dotted_name narrow 0 (given_name [] (written (codes "a.b") 1)) }
     ensures third_is_second { FindsFault duplicate_name narrow 0 (given_name (written (codes "a") 1 ∷ []) (written (codes "a") 3)) }
     ensures unknown { FindsFault unknown_type crossed 0 (type_use (written (codes "A") 1)) }
-    ensures typedef_itself { FindsFault typedef_cycle aliases_itself 0 (typedef_spot (written (codes "T") 17)) }
+    ensures typedef_itself { FindsFault typedef_cycle aliases_itself 0 (typedef_spot 0 (written (codes "T") 17)) }
     ensures id_zero { FindsFault field_id narrow 0 (field_spot [] (small_field 12 0 (base_expr base.I8) (written (codes "a") 18) None)) }
     ensures past_the_last { FindsFault enum_number narrow 0 (enum_value_spot (with_number (Some (pos 2147483647)) ∷ []) (with_number None)) }
-    ensures service_itself { FindsFault service_cycle extends_itself 0 (service_spot (written (codes "A") 9)) }
-    ensures inherited { FindsFault duplicate_function inherits_twice 0 (function_spot (written (codes "B") 32) [] (small_function (codes "f") 46)) }
+    ensures service_itself { FindsFault service_cycle extends_itself 0 (service_spot 0 (written (codes "A") 9)) }
+    ensures inherited { FindsFault duplicate_function inherits_twice 0 (function_spot 1 [] (small_function (codes "f") 46)) }
     ensures exception_by_typedef { FindsFault not_exception named_kinds 0 (thrown_spot (small_field 1 1 (name_expr (written (codes "U") 1)) (written (codes "e") 1) None)) → ⊥ }
     ensures struct_thrown { FindsFault not_exception named_kinds 0 (thrown_spot (small_field 1 1 (name_expr (written (codes "T") 1)) (written (codes "e") 1) None)) }
 {}

@@ -80,3 +80,28 @@ is_named name_in file name x = (x.file == file) && bytes_eq (name_in x.item).tex
 -- the number of the first definition of some name in some file
 abbrev pub number_named : {A : Type 0} → (A → Written) → List (Filed A) → ℕ → List ℕ → Option ℕ
 number_named name_in items file name = position_from (is_named name_in file name) 0 items
+
+-- how many definitions of each kind there are
+pub record Counts : Type 0 where
+  pub aliases : ℕ
+  pub constants : ℕ
+  pub enums : ℕ
+  pub structs : ℕ
+  pub services : ℕ
+
+-- no definition
+abbrev pub none_counted : Counts
+none_counted = record { aliases = 0; constants = 0; enums = 0; structs = 0; services = 0 }
+
+-- one definition more
+abbrev pub counted : Counts → Declaration → Counts
+counted n (of_const c) = record n { constants = suc n.constants }
+counted n (of_typedef t) = record n { aliases = suc n.aliases }
+counted n (of_enum e) = record n { enums = suc n.enums }
+counted n (of_struct_decl s) = record n { structs = suc n.structs }
+counted n (of_service s) = record n { services = suc n.services }
+
+-- definitions more
+abbrev pub all_counted : Counts → List Declaration → Counts
+all_counted n [] = n
+all_counted n (d ∷ more) = all_counted (counted n d) more

@@ -7,7 +7,7 @@ use Rattle.idl_model.specs.TypeExpr.{TypeExpr, names_in_type}
 use Rattle.idl_model.specs.ConstExpr.{ConstExpr}
 use Rattle.idl_model.specs.Declarations.{FieldDecl, FunctionDecl, EnumValueDecl, EnumDecl, StructDecl, ServiceDecl, Declaration, of_const, of_typedef, of_enum, of_struct_decl, of_service, name_of}
 use Rattle.idl_model.specs.Program.{SourceFile, Program}
-use Rattle.idl_model.specs.Numbering.{Filed}
+use Rattle.idl_model.specs.Numbering.{Filed, Counts, none_counted, counted, all_counted}
 
 -- a value that a program gives: of a constant, with the place of its name, or the default of a field, with the place of the field
 pub record GivenValue : Type 0 where
@@ -22,20 +22,20 @@ pub data Spotted : Type 0 where
   -- the name of a type, and of a service that is extended
   type_use : Written → Spotted
   parent_use : Written → Spotted
-  -- a typedef, by its name
-  typedef_spot : Written → Spotted
+  -- a typedef, by its number and its name
+  typedef_spot : ℕ → Written → Spotted
   -- a field, and those before it in its list
   field_spot : List FieldDecl → FieldDecl → Spotted
   -- a field of a list of exceptions that a function throws
   thrown_spot : FieldDecl → Spotted
   -- a value of an enum, and those before it
   enum_value_spot : List EnumValueDecl → EnumValueDecl → Spotted
-  -- a struct, union or exception
-  struct_spot : StructDecl → Spotted
-  -- a service, by its name
-  service_spot : Written → Spotted
-  -- a function of the service of some name, and those before it
-  function_spot : Written → List FunctionDecl → FunctionDecl → Spotted
+  -- a struct, union or exception, with its number
+  struct_spot : ℕ → StructDecl → Spotted
+  -- a service, by its number and its name
+  service_spot : ℕ → Written → Spotted
+  -- a function of the service of some number, and those before it
+  function_spot : ℕ → List FunctionDecl → FunctionDecl → Spotted
   -- a value
   value_spot : GivenValue → Spotted
 
@@ -75,15 +75,15 @@ abbrev pub result_spots : Option TypeExpr → List Spotted
 result_spots None = []
 result_spots (Some type) = type_spots type
 
--- a function of the service of some name, behind others. That it gives a name matters to no other name here: two functions
+-- a function of the service of some number, behind others. That it gives a name matters to no other name here: two functions
 -- of one name are looked for among all functions of a service.
-unfoldable pub spots_in_function : Written → List FunctionDecl → FunctionDecl → List Spotted
+unfoldable pub spots_in_function : ℕ → List FunctionDecl → FunctionDecl → List Spotted
 spots_in_function service before function =
     function_spot service before function ∷ (result_spots function.result ++ given_name [] function.name
     ∷ (spots_in_fields [] function.arguments ++ spots_in_throws [] function.throws))
 
--- functions of the service of some name, behind others
-abbrev pub spots_in_functions : Written → List FunctionDecl → List FunctionDecl → List Spotted
+-- functions of the service of some number, behind others
+abbrev pub spots_in_functions : ℕ → List FunctionDecl → List FunctionDecl → List Spotted
 spots_in_functions service before [] = []
 spots_in_functions service before (function ∷ more) =
     spots_in_function service before function ++ spots_in_functions service (before ++ function ∷ []) more
@@ -100,33 +100,35 @@ abbrev pub parent_spots : Option Written → List Spotted
 parent_spots None = []
 parent_spots (Some name) = parent_use name ∷ []
 
--- a definition behind others whose names are given
-unfoldable pub spots_in_declaration : List Written → Declaration → List Spotted
-spots_in_declaration before (of_const c) =
+-- a definition behind others in its file, whose names are given, and behind so many definitions of the program
+unfoldable pub spots_in_declaration : List Written → Counts → Declaration → List Spotted
+spots_in_declaration before n (of_const c) =
     type_spots c.type ++ given_name before c.name ∷ value_spot (record { owner = c.name.at; type = c.type; tree = c.value }) ∷ []
-spots_in_declaration before (of_typedef t) = type_spots t.type ++ given_name before t.name ∷ typedef_spot t.name ∷ []
-spots_in_declaration before (of_enum e) = given_name before e.name ∷ spots_in_enum [] e.values
-spots_in_declaration before (of_struct_decl s) = given_name before s.name ∷ struct_spot s ∷ spots_in_fields [] s.fields
-spots_in_declaration before (of_service s) =
-    given_name before s.name ∷ service_spot s.name ∷ (parent_spots s.parent ++ spots_in_functions s.name [] s.functions)
+spots_in_declaration before n (of_typedef t) = type_spots t.type ++ given_name before t.name ∷ typedef_spot n.aliases t.name ∷ []
+spots_in_declaration before n (of_enum e) = given_name before e.name ∷ spots_in_enum [] e.values
+spots_in_declaration before n (of_struct_decl s) = given_name before s.name ∷ struct_spot n.structs s ∷ spots_in_fields [] s.fields
+spots_in_declaration before n (of_service s) =
+    given_name before s.name ∷ service_spot n.services s.name ∷ (parent_spots s.parent ++ spots_in_functions n.services [] s.functions)
 
--- definitions behind others whose names are given
-abbrev pub spots_in_declarations : List Written → List Declaration → List Spotted
-spots_in_declarations before [] = []
-spots_in_declarations before (d ∷ more) = spots_in_declaration before d ++ spots_in_declarations (before ++ name_of d ∷ []) more
+-- definitions behind others
+abbrev pub spots_in_declarations : List Written → Counts → List Declaration → List Spotted
+spots_in_declarations before n [] = []
+spots_in_declarations before n (d ∷ more) =
+    spots_in_declaration before n d ++ spots_in_declarations (before ++ name_of d ∷ []) (counted n d) more
 
 -- spots of the file of some number
 abbrev pub in_file : ℕ → List Spotted → List Spot
 in_file number shown = map (λ x. record { file = number; shows = x }) shown
 
--- the spots of files, the first of which has this number
-abbrev pub spots_from : ℕ → Program → List Spot
-spots_from number [] = []
-spots_from number (file ∷ files) = in_file number (spots_in_declarations [] file.declarations) ++ spots_from (suc number) files
+-- the spots of files, the first of which has this number, behind so many definitions
+abbrev pub spots_from : ℕ → Counts → Program → List Spot
+spots_from number n [] = []
+spots_from number n (file ∷ files) =
+    in_file number (spots_in_declarations [] n file.declarations) ++ spots_from (suc number) (all_counted n file.declarations) files
 
 -- The spots of a program, in reading order.
 unfoldable pub spots_of : Program → List Spot
-spots_of program = spots_from 0 program
+spots_of program = spots_from 0 none_counted program
 
 -- a spot's value, with the number of its file, if it shows one
 abbrev pub value_at : ℕ → Spotted → Option (Filed GivenValue)

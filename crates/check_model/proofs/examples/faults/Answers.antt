@@ -20,7 +20,7 @@ returns-clause-unknown c = refl
 
 pub returns-clause-typedef_itself : goal.returns-clause-typedef_itself
 unfolding alias_graph type_named sought typedefs_of enums_of structs_of
-returns-clause-typedef_itself c = (0, refl, ([], (0, omega arith, refl)))
+returns-clause-typedef_itself c = ([], (0, omega arith, refl))
 
 pub returns-clause-id_zero : goal.returns-clause-id_zero
 returns-clause-id_zero c = refl
@@ -30,11 +30,11 @@ returns-clause-past_the_last c = refl
 
 pub returns-clause-service_itself : goal.returns-clause-service_itself
 unfolding parent_graph service_named sought services_of
-returns-clause-service_itself c = (0, refl, ([], (0, omega arith, refl)))
+returns-clause-service_itself c = ([], (0, omega arith, refl))
 
 pub returns-clause-inherited : goal.returns-clause-inherited
 unfolding parent_graph service_named sought services_of
-returns-clause-inherited c = inr (1, refl, (0, ([], (0, omega arith, refl)), refl))
+returns-clause-inherited c = inr (0, ([], (0, omega arith, refl)), refl)
 
 pub returns-clause-exception_by_typedef : goal.returns-clause-exception_by_typedef
 returns-clause-exception_by_typedef c = λ h. h thrown_exception
