@@ -40,3 +40,8 @@ pub fn the_verdict_is_determined()
 {
     the_program_is_determined();
 }
+
+/// Temporary.
+pub fn shown()
+    ensures { (n : ℕ) → n ≡ n }
+{}
