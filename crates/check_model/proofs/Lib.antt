@@ -5,3 +5,5 @@ pub mod OneVerdict
 pub mod SmallVerdicts
 pub mod Shown
 pub mod Resolving
+pub mod Building
+pub mod Finite
