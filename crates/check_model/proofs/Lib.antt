@@ -7,3 +7,4 @@ pub mod Shown
 pub mod Resolving
 pub mod Building
 pub mod Finite
+pub mod Existing

@@ -167,7 +167,7 @@ alias_of_sought program (Some s) k e =
       (number_named (λ (t : StructDecl). t.name) (structs_of program) s.file s.name) k
       (λ j f. let l = found_within (is_named (λ (t : TypedefDecl). t.name) s.file s.name) 0 (typedefs_of program) j f in omega arith) e
 
-alias_within : (program : Program) (file : ℕ) (name : List ℕ) (k : ℕ) → type_named program file name ≡ Some (an_alias k) → k < length (typedefs_of program)
+pub alias_within : (program : Program) (file : ℕ) (name : List ℕ) (k : ℕ) → type_named program file name ≡ Some (an_alias k) → k < length (typedefs_of program)
 unfolding type_named
 alias_within program file name k e = alias_of_sought program (sought program file name) k e
 
@@ -177,7 +177,7 @@ row_at f [] a l = absurd (let h : ⊥ = omega arith in h)
 row_at f (x ∷ xs) zero l = (x, refl, refl)
 row_at f (x ∷ xs) (suc a) l = row_at f xs a (omega arith)
 
-from_at : {A : Type 0} (Q : ℕ → A → Type 0) (n : ℕ) (xs : List A) → AllFrom Q n xs → (a : ℕ) (x : A) → slice_get xs a ≡ Some x → Q (n + a) x
+pub from_at : {A : Type 0} (Q : ℕ → A → Type 0) (n : ℕ) (xs : List A) → AllFrom Q n xs → (a : ℕ) (x : A) → slice_get xs a ≡ Some x → Q (n + a) x
 from_at {A} Q n [] h a x e = absurd (none_some x e)
 from_at {A} Q n (y ∷ ys) h zero x e =
     let P : ℕ → Type 0 = λ k. Q k x in
@@ -191,7 +191,7 @@ from_at {A} Q n (y ∷ ys) h (suc a) x e =
 abbrev pub NamesKnown : Program → ℕ → TypeExpr → Type 0
 NamesKnown program file t = AllByRecursion (λ (name : Written). type_named program file name.text ≡ None → ⊥) (names_in_type t)
 
-zip_all : {A : Type 0} (Q R S : A → Type 0) → ((x : A) → Q x → R x → S x) → (xs : List A) → AllByRecursion Q xs → AllByRecursion R xs → AllByRecursion S xs
+pub zip_all : {A : Type 0} (Q R S : A → Type 0) → ((x : A) → Q x → R x → S x) → (xs : List A) → AllByRecursion Q xs → AllByRecursion R xs → AllByRecursion S xs
 zip_all Q R S by [] h k = tt
 zip_all Q R S by (x ∷ xs) h k = (by x h.0 k.0, zip_all Q R S by xs h.1 k.1)
 
@@ -260,7 +260,7 @@ module _ (program : Program)
             (names_in_type t.item.type) (from_at (λ k t. NamesKnown program t.file t.item.type) 0 (typedefs_of program) typedefs a t at)
             (picked_in g (names_in_type t.item.type))))
 
-  each_alias : (c : ℕ) → c < length (typedefs_of program) → Known (alias_kind program (length (typedefs_of program)) c)
+  pub each_alias : (c : ℕ) → c < length (typedefs_of program) → Known (alias_kind program (length (typedefs_of program)) c)
   each_alias c within =
       alias_known (length (typedefs_of program)) (λ v. true) c (let all = at_most_all (length (typedefs_of program)) in omega arith) within refl
         (λ v l e. absurd (let f : true ≡ false = e in cc))

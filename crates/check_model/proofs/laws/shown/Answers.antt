@@ -3,6 +3,7 @@ use Rattle.check_model.proofs.Shown.{consts_shown, structs_shown, services_shown
 use Rattle.check_model.proofs.Resolving.{type_means}
 use Rattle.check_model.proofs.Building.{schema_made}
 use Rattle.check_model.proofs.Finite.{has_or_not}
+use Rattle.check_model.proofs.Existing.{searched}
 use Rattle.check_model.proofs.laws.shown.Goals as goal
 
 pub returns : goal.returns
