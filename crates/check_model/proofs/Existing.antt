@@ -37,27 +37,27 @@ use Rattle.check_model.proofs.Building.{TypeMade, FieldMade, ResultMade, Functio
 use Rattle.check_model.proofs.Finite.{has_or_not}
 
 -- it is so, or it isn't
-abbrev Told : Type 0 → Type 0
+abbrev pub Told : Type 0 → Type 0
 Told A = A ⊎ (A → ⊥)
 
-bool_told : (b : Bool) → Told (b ≡ true)
+pub bool_told : (b : Bool) → Told (b ≡ true)
 bool_told true = inl refl
 bool_told false = inr (λ e. cc)
 
-not_told : (b : Bool) → Told (b ≡ false)
+pub not_told : (b : Bool) → Told (b ≡ false)
 not_told false = inl refl
 not_told true = inr (λ e. cc)
 
-none_told : {A : Type 0} (o : Option A) → Told (o ≡ None)
+pub none_told : {A : Type 0} (o : Option A) → Told (o ≡ None)
 none_told None = inl refl
 none_told (Some x) = inr (λ e. none_some x (sym e))
 
-both_told : {A B : Type 0} → Told A → Told B → Told (A × B)
+pub both_told : {A B : Type 0} → Told A → Told B → Told (A × B)
 both_told (inl a) (inl b) = inl (a, b)
 both_told (inl a) (inr b) = inr (λ h. b h.1)
 both_told (inr a) b = inr (λ h. a h.0)
 
-one_told : {A B : Type 0} → Told A → Told B → Told (A ⊎ B)
+pub one_told : {A B : Type 0} → Told A → Told B → Told (A ⊎ B)
 one_told (inl a) b = inl (inl a)
 one_told (inr a) (inl b) = inl (inr b)
 one_told {A} {B} (inr a) (inr b) = inr neither
@@ -66,7 +66,7 @@ one_told {A} {B} (inr a) (inr b) = inr neither
     neither (inl x) = a x
     neither (inr x) = b x
 
-none_is_told : {A : Type 0} → Told A → Told (A → ⊥)
+pub none_is_told : {A : Type 0} → Told A → Told (A → ⊥)
 none_is_told (inl a) = inr (λ n. n a)
 none_is_told (inr n) = inl n
 
@@ -93,7 +93,7 @@ some_below zero Q told = inr (λ k l q. let h : ⊥ = omega arith in h)
 some_below (suc n) Q told = last_or n Q (told n) (some_below n Q told)
 
 -- what a pass finds at a spot, made of what it finds there
-found_or_clear : {F : Type 0} (g : ProgramFlaw) → Told F → ((flaw : ProgramFlaw) × (F × (flaw ≡ g))) ⊎ ((flaw : ProgramFlaw) → F × (flaw ≡ g) → ⊥)
+pub found_or_clear : {F : Type 0} (g : ProgramFlaw) → Told F → ((flaw : ProgramFlaw) × (F × (flaw ≡ g))) ⊎ ((flaw : ProgramFlaw) → F × (flaw ≡ g) → ⊥)
 found_or_clear g (inl f) = inl (g, (f, refl))
 found_or_clear g (inr n) = inr (λ flaw h. n h.0)
 
@@ -125,46 +125,46 @@ module _ (program : Program) where
   searched pass judge = searched_by pass (first_in pass judge (spots_of program))
 
   -- the passes that need no other
-  dotted_told : (file : ℕ) (x : Spotted) → Told (FindsFault dotted_name program file x)
+  pub dotted_told : (file : ℕ) (x : Spotted) → Told (FindsFault dotted_name program file x)
   dotted_told file (given_name before name) = bool_told (is_dotted name.text)
   dotted_told file _ = inr (λ h. h)
 
-  duplicate_told : (file : ℕ) (x : Spotted) → Told (FindsFault duplicate_name program file x)
+  pub duplicate_told : (file : ℕ) (x : Spotted) → Told (FindsFault duplicate_name program file x)
   duplicate_told file (given_name before name) = bool_told (is_repeated before name)
   duplicate_told file _ = inr (λ h. h)
 
-  unknown_told : (file : ℕ) (x : Spotted) → Told (FindsFault unknown_type program file x)
+  pub unknown_told : (file : ℕ) (x : Spotted) → Told (FindsFault unknown_type program file x)
   unknown_told file (type_use name) = none_told (type_named program file name.text)
   unknown_told file (parent_use name) = none_told (service_named program file name.text)
   unknown_told file _ = inr (λ h. h)
 
-  field_id_told : (file : ℕ) (x : Spotted) → Told (FindsFault field_id program file x)
+  pub field_id_told : (file : ℕ) (x : Spotted) → Told (FindsFault field_id program file x)
   field_id_told file (field_spot before f) = bool_told (is_bad_id before f.id)
   field_id_told file _ = inr (λ h. h)
 
-  duplicate_id_told : (file : ℕ) (x : Spotted) → Told (FindsFault duplicate_id program file x)
+  pub duplicate_id_told : (file : ℕ) (x : Spotted) → Told (FindsFault duplicate_id program file x)
   duplicate_id_told file (field_spot before f) = bool_told (is_id_repeated before f)
   duplicate_id_told file _ = inr (λ h. h)
 
-  enum_number_told : (file : ℕ) (x : Spotted) → Told (FindsFault enum_number program file x)
+  pub enum_number_told : (file : ℕ) (x : Spotted) → Told (FindsFault enum_number program file x)
   enum_number_told file (enum_value_spot before v) = not_told (has_bits 32 (number_behind before v))
   enum_number_told file _ = inr (λ h. h)
 
-  oneway_not_void_told : (file : ℕ) (x : Spotted) → Told (FindsFault oneway_not_void program file x)
+  pub oneway_not_void_told : (file : ℕ) (x : Spotted) → Told (FindsFault oneway_not_void program file x)
   oneway_not_void_told file (function_spot service before f) = both_told (bool_told f.oneway) (bool_told (is_some f.result))
   oneway_not_void_told file _ = inr (λ h. h)
 
-  oneway_throws_told : (file : ℕ) (x : Spotted) → Told (FindsFault oneway_throws program file x)
+  pub oneway_throws_told : (file : ℕ) (x : Spotted) → Told (FindsFault oneway_throws program file x)
   oneway_throws_told file (function_spot service before f) = both_told (bool_told f.oneway) (not_told (is_empty f.throws))
   oneway_throws_told file _ = inr (λ h. h)
 
   -- those that look for cycles
   module _ (leads : (graph : Graph) (a b : ℕ) → Told (LeadsTo graph a b)) where
-    typedef_cycle_told : (file : ℕ) (x : Spotted) → Told (FindsFault typedef_cycle program file x)
+    pub typedef_cycle_told : (file : ℕ) (x : Spotted) → Told (FindsFault typedef_cycle program file x)
     typedef_cycle_told file (typedef_spot k name) = leads (alias_graph program) k k
     typedef_cycle_told file _ = inr (λ h. h)
 
-    service_cycle_told : (file : ℕ) (x : Spotted) → Told (FindsFault service_cycle program file x)
+    pub service_cycle_told : (file : ℕ) (x : Spotted) → Told (FindsFault service_cycle program file x)
     service_cycle_told file (service_spot k name) = leads (parent_graph program) k k
     service_cycle_told file _ = inr (λ h. h)
 
@@ -193,7 +193,7 @@ module _ (program : Program) where
     has_told : (fs : List FunctionDecl) (name : List ℕ) → Told (HasFunction fs name)
     has_told fs name = bool_told _
 
-    duplicate_function_told : (file : ℕ) (x : Spotted) → Told (FindsFault duplicate_function program file x)
+    pub duplicate_function_told : (file : ℕ) (x : Spotted) → Told (FindsFault duplicate_function program file x)
     duplicate_function_told file (function_spot service before f) =
         one_told (has_told before f.name.text)
           (inherits_by service f.name.text (some_below (length (services_of program))

@@ -8,3 +8,4 @@ pub mod Resolving
 pub mod Building
 pub mod Finite
 pub mod Existing
+pub mod EachProgram
