@@ -68,7 +68,7 @@ later_found : {A : Type 0} (o : Option A) (xs : List A) (test : A → Bool) → 
 later_found None xs test h i = h i
 later_found (Some x) xs test h i = test_found (test x) test i xs (h (i + 1))
 
-picked_found : {A B : Type 0} (g : A → Option B) (xs : List A)
+pub picked_found : {A B : Type 0} (g : A → Option B) (xs : List A)
     → AllByRecursion (λ x. (y : B) (test : B → Bool) → g x ≡ Some y → test y ≡ true → (i : ℕ) → (k : ℕ) × (position_from test i (filter_map g xs) ≡ Some k)) xs
 picked_found g [] = tt
 picked_found {A} {B} g (x ∷ xs) = (λ y test e t i. first_found (g x) (filter_map g xs) y test i e t,
@@ -76,7 +76,7 @@ picked_found {A} {B} g (x ∷ xs) = (λ y test e t i. first_found (g x) (filter_
       (λ z. (y : B) (test : B → Bool) → g z ≡ Some y → test y ≡ true → (i : ℕ) → (k : ℕ) × (position_from test i (cons_option (g x) (filter_map g xs)) ≡ Some k))
       (λ z h y test e t i. later_found (g x) (filter_map g xs) test (h y test e t) i) xs (picked_found g xs))
 
-same_itself : (file : ℕ) (at : Place) → ((file == file) && same_place at at) ≡ true
+pub same_itself : (file : ℕ) (at : Place) → ((file == file) && same_place at at) ≡ true
 same_itself file at = λ i. eq-eqb file file refl i && (eq-eqb at.line at.line refl i && eq-eqb at.column at.column refl i)
 
 -- what stands behind a kind that is known
@@ -129,13 +129,13 @@ module _ (program : Program) (leads : (graph : Graph) (a b : ℕ) → Told (Lead
     (unknown : FindsNothing program unknown_type) (cycles : FindsNothing program typedef_cycle) where
 
   -- no name of a type is unknown
-  abbrev Pu : ℕ → Spotted → Type 0
+  abbrev pub Pu : ℕ → Spotted → Type 0
   Pu file x = IsClearAt program unknown_type (record { file = file; shows = x })
 
   abbrev Pc : ℕ → Spotted → Type 0
   Pc file x = IsClearAt program typedef_cycle (record { file = file; shows = x })
 
-  known_of : (file : ℕ) (t : TypeExpr) → TypeShown Pu file t → NamesKnown program file t
+  pub known_of : (file : ℕ) (t : TypeExpr) → TypeShown Pu file t → NamesKnown program file t
   known_of file t h =
       weaker (λ (name : Written). Pu file (type_use name)) (λ (name : Written). type_named program file name.text ≡ None → ⊥)
         (λ name clear e. clear (record { file = file; at = name.at; kind = found_by unknown_type }) (e, refl)) (names_in_type t)
@@ -167,7 +167,7 @@ module _ (program : Program) (leads : (graph : Graph) (a b : ℕ) → Told (Lead
   acyclic : (a : ℕ) → OnCycle (alias_graph program) a → ⊥
   acyclic a c = off_cycle a (slice_get (typedefs_of program) a) refl (first_edge a c.0 c.1) c
 
-  means : (file : ℕ) (t : TypeExpr) → NamesKnown program file t → (kind : PlainKind) × Means program file t kind
+  pub means : (file : ℕ) (t : TypeExpr) → NamesKnown program file t → (kind : PlainKind) × Means program file t kind
   means file t h = type_means program typedefs_known acyclic (on (alias_graph program)) file t h
 
   -- a type means something where it does with all typedefs followed
@@ -191,7 +191,7 @@ module _ (program : Program) (leads : (graph : Graph) (a b : ℕ) → Told (Lead
       let part = wrapped_part kind_list (kind_by (alias_kind program n) program file element) k e in
       let h = again n file element part.0 part.1 in (kind_list h.0, ap (option_map kind_list) h.1)
 
-  means_told : (file : ℕ) (t : TypeExpr) → Told ((kind : PlainKind) × Means program file t kind)
+  pub means_told : (file : ℕ) (t : TypeExpr) → Told ((kind : PlainKind) × Means program file t kind)
   means_told file t = by (known_or_not (kind_by (alias_kind program (length (typedefs_of program))) program file t))
     where
       by : Told (Known (kind_by (alias_kind program (length (typedefs_of program))) program file t)) → Told ((kind : PlainKind) × Means program file t kind)

@@ -9,3 +9,4 @@ pub mod Building
 pub mod Finite
 pub mod Existing
 pub mod EachProgram
+pub mod SchemaOrFlaw

@@ -1,6 +1,6 @@
 //! What holds of schemas and of first faults.
 
-ghost use Rattle.std.specs.Prelude.{◌≡◌, ℕ, List};
+ghost use Rattle.std.specs.Prelude.{◌≡◌, ◌⊎◌, ℕ, List};
 ghost use Rattle.outside.specs.Files.{File};
 ghost use Rattle.idl_model.specs.TypeExpr.{TypeExpr};
 ghost use Rattle.idl_model.specs.Program.{Program};
@@ -11,6 +11,7 @@ ghost use Rattle.check_model.specs.SchemaParts.{IsPartialSchema};
 ghost use Rattle.check_model.specs.FirstFlaw.{ProgramFlaw, IsFirstFlaw};
 ghost use Rattle.check_model.specs.ProgramSchema.{IsSchemaOf, ProgramVerdict, IsProgramVerdict};
 
+use graph_walk::laws::a_node_leads_to_another_or_not;
 use idl_model::laws::the_program_is_determined;
 
 /// A type means one kind at most.
@@ -41,7 +42,9 @@ pub fn the_verdict_is_determined()
     the_program_is_determined();
 }
 
-/// Temporary.
-pub fn shown()
-    ensures { (n : ℕ) → n ≡ n }
-{}
+/// A program has a schema or a first fault.
+pub fn a_schema_or_a_first_flaw()
+    ensures { (program : Program) → ((schema : PlainSchema) × IsSchemaOf program schema) ⊎ ((flaw : ProgramFlaw) × IsFirstFlaw program flaw) }
+{
+    a_node_leads_to_another_or_not();
+}
