@@ -13,6 +13,7 @@ use Rattle.idl_model.specs.ConstExpr.{ConstExpr}
 use Rattle.idl_model.specs.Declarations.{FieldDecl, FunctionDecl, ConstDecl, TypedefDecl, StructDecl, ServiceDecl}
 use Rattle.idl_model.specs.Program.{Program}
 use Rattle.idl_model.specs.Numbering.{Filed, constants_of, typedefs_of, structs_of, services_of}
+use Rattle.idl_model.specs.Loading.{Loaded, loaded, stopped}
 use Rattle.idl_model.specs.Names.{NamedType, an_alias, an_enum, a_struct, is_dotted, type_named, service_named}
 use Rattle.idl_model.specs.Cycles.{alias_graph, parent_graph, own_functions, HasFunction, Inherits}
 use Rattle.idl_model.specs.ConstNames.{same_place, value_number}
@@ -27,7 +28,7 @@ use Rattle.check_model.specs.Evaluation.{Setting, given_worth}
 use Rattle.check_model.specs.SchemaParts.{DefaultRule, NoDefault, IsSchemaWith, IsPartialSchema}
 use Rattle.check_model.specs.Passes.{Pass, dotted_name, duplicate_name, unknown_type, typedef_cycle, field_id, duplicate_id, enum_number, service_cycle, duplicate_function, oneway_not_void, oneway_throws, not_exception, struct_loop, bad_constant, passes, is_repeated, is_bad_id, is_id_repeated, number_behind, IsException, HasNoFiniteValue, NeedsFiniteValue, FindsFault, place_shown, HasConstFlaw}
 use Rattle.check_model.specs.FirstFlaw.{FlawKind, found_by, of_value, ProgramFlaw, IsValueFlaw, IsAtFault, IsClearAt, FindsNothing, IsFirstOf, IsFirstFlaw, HasNoFlaw}
-use Rattle.check_model.specs.ProgramSchema.{HasWorth, IsDefault, DefaultIn, IsConstantOf, IsSchemaOf}
+use Rattle.check_model.specs.ProgramSchema.{HasWorth, IsDefault, DefaultIn, IsConstantOf, IsSchemaOf, ProgramVerdict, accepted_as, not_loaded, at_fault, IsVerdictOn}
 use Rattle.check_model.proofs.FirstOnes.{somes, none_some}
 use Rattle.check_model.proofs.Meanings.{one_meaning}
 use Rattle.check_model.proofs.OneSchema.{one_partial}
@@ -191,3 +192,13 @@ schema_or_flaw leads on program =
     pass_by program (dotted_name ∷ duplicate_name ∷ unknown_type ∷ typedef_cycle ∷ field_id ∷ duplicate_id ∷ enum_number ∷ service_cycle ∷ duplicate_function ∷ oneway_not_void ∷ oneway_throws ∷ not_exception ∷ []) struct_loop (bad_constant ∷ []) refl (n0, (n1, (n2, (n3, (n4, (n5, (n6, (n7, (n8, (n9, (n10, (n11, tt)))))))))))) (searched program struct_loop (λ s. found_or_clear (record { file = s.file; at = place_shown s.shows; kind = found_by struct_loop }) (struct_loop_told program leads on n2 n3 s.file s.shows))) (λ n12.
     pass_by program (dotted_name ∷ duplicate_name ∷ unknown_type ∷ typedef_cycle ∷ field_id ∷ duplicate_id ∷ enum_number ∷ service_cycle ∷ duplicate_function ∷ oneway_not_void ∷ oneway_throws ∷ not_exception ∷ struct_loop ∷ []) bad_constant ([]) refl (n0, (n1, (n2, (n3, (n4, (n5, (n6, (n7, (n8, (n9, (n10, (n11, (n12, tt))))))))))))) (searched program bad_constant (λ s. value_judged program leads on n2 n3 s.file s.shows)) (λ n13.
     inl (whole_schema program leads on n2 n3 n13 (n0, (n1, (n2, (n3, (n4, (n5, (n6, (n7, (n8, (n9, (n10, (n11, (n12, (n13, tt)))))))))))))))))))))))))))))
+
+verdict_by : (program : Program) → Schemed program ⊎ Flawed program → (v : ProgramVerdict) × IsVerdictOn (loaded program) v
+verdict_by program (inl h) = (accepted_as h.0, h.1)
+verdict_by program (inr h) = (at_fault h.0, h.1)
+
+-- what loading comes to has a verdict
+pub some_verdict : (leads : (graph : Graph) (a b : ℕ) → Told (LeadsTo graph a b))
+    (on : (graph : Graph) (a m b : ℕ) → LeadsTo graph a m → LeadsTo graph m b → LeadsTo graph a b) (l : Loaded) → (v : ProgramVerdict) × IsVerdictOn l v
+some_verdict leads on (loaded program) = verdict_by program (schema_or_flaw leads on program)
+some_verdict leads on (stopped flaw) = (not_loaded flaw, refl)

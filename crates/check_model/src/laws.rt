@@ -12,7 +12,7 @@ ghost use Rattle.check_model.specs.FirstFlaw.{ProgramFlaw, IsFirstFlaw};
 ghost use Rattle.check_model.specs.ProgramSchema.{IsSchemaOf, ProgramVerdict, IsProgramVerdict};
 
 use graph_walk::laws::a_node_leads_to_another_or_not;
-use idl_model::laws::the_program_is_determined;
+use idl_model::laws::{each_file_is_read_as_one_thing, the_program_is_determined};
 
 /// A type means one kind at most.
 pub fn a_type_has_one_meaning()
@@ -35,11 +35,14 @@ pub fn a_schema_excludes_a_flaw()
     ensures { (program : Program) (schema : PlainSchema) (flaw : ProgramFlaw) → IsSchemaOf program schema → IsFirstFlaw program flaw → ⊥ }
 {}
 
-/// The program of a main file among files has one verdict at most.
+/// The program of a main file among files has a verdict, and one alone.
 pub fn the_verdict_is_determined()
-    ensures { (files : List File) (main : List ℕ) (v w : ProgramVerdict) → IsProgramVerdict files main v → IsProgramVerdict files main w → v ≡ w }
+    ensures some { (files : List File) (main : List ℕ) → (v : ProgramVerdict) × IsProgramVerdict files main v }
+    ensures one { (files : List File) (main : List ℕ) (v w : ProgramVerdict) → IsProgramVerdict files main v → IsProgramVerdict files main w → v ≡ w }
 {
+    each_file_is_read_as_one_thing();
     the_program_is_determined();
+    a_node_leads_to_another_or_not();
 }
 
 /// A program has a schema or a first fault.
