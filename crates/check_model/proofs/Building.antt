@@ -1,20 +1,20 @@
 -- A schema is built where each type means something and each default is said.
-use Rattle.std.proofs.Common.{◌≡◌, ℕ, suc, ◌+◌, Bool, true, false, List, [], ◌∷◌, ◌++◌, map, length, Option, None, Some, refl, int_le, if◌then◌else◌}
+use Rattle.std.proofs.Common.{◌≡◌, ℕ, suc, ◌+◌, Bool, true, false, List, [], ◌∷◌, map, length, Option, None, Some, refl, int_le, if◌then◌else◌}
 use Rattle.std.specs.List.{AllByRecursion, AllZip, flat_map}
 use Rattle.thrift_value.specs.Tree.{Tree}
 use Rattle.idl_model.specs.TypeExpr.{TypeExpr}
 use Rattle.idl_model.specs.Declarations.{FieldDecl, FunctionDecl, TypedefDecl, StructDecl, ServiceDecl}
 use Rattle.idl_model.specs.Program.{Program}
 use Rattle.idl_model.specs.Numbering.{Filed, filed, typedefs_of, enums_of, structs_of, services_of, functions_in, functions_of}
-use Rattle.idl_model.specs.FieldIds.{id_behind, one_more_unnumbered}
+use Rattle.idl_model.specs.FieldIds.{one_more_unnumbered}
 use Rattle.idl_model.specs.Cycles.{parent_of}
 use Rattle.schema.specs.declared.types.FieldsKind.{FieldsKind}
 use Rattle.schema.specs.declared.types.FieldsKind.TheVariants as fields
 use Rattle.schema.specs.PlainKind.{PlainKind}
 use Rattle.schema.specs.PlainSchema.{PlainField, PlainStruct, PlainFunction, PlainService, PlainAlias, PlainConstant, PlainSchema}
-use Rattle.check_model.specs.Resolved.{Means}
+use Rattle.check_model.specs.Resolved.{TypeMeans}
 use Rattle.check_model.specs.FieldLists.{NumberedField, FieldsDecl, need_in, numbered_behind, put_by_id, put_all_by_id, fields_by_id, fields_of_struct, args_of_function, field_lists}
-use Rattle.check_model.specs.SchemaParts.{IsAliasOf, DefaultRule, IsFieldOf, AreFieldsOf, IsStructOf, ResultMeans, IsFunctionOf, AreFunctionsOf, IsServiceOf, AreServicesOf, IsSchemaWith, enum_made, files_of}
+use Rattle.check_model.specs.SchemaParts.{IsAliasOf, DefaultRule, IsFieldOf, AreFieldsOf, IsStructOf, ResultMeans, IsFunctionOf, AreFunctionsOf, AreServicesOf, IsSchemaWith, enum_made, files_of}
 use Rattle.check_model.proofs.Shown.{both_all, mapped, weaker}
 
 -- what is there for each element is there for a list
@@ -53,10 +53,10 @@ flat_all Q f (x ∷ xs) h = both_all Q (f x) (flat_map f xs) h.0 (flat_all Q f x
 module _ (D : DefaultRule) (program : Program) where
   -- a type that stands in a file means something, and a field has a type and a default or none
   abbrev pub TypeMade : ℕ → TypeExpr → Type 0
-  TypeMade file t = (kind : PlainKind) × Means program file t kind
+  TypeMade file t = (kind : PlainKind) × TypeMeans program file t kind
 
   abbrev pub FieldMade : ℕ → FieldDecl → Type 0
-  FieldMade file f = (kind : PlainKind) × Means program file f.type kind × (default : Option Tree) × D file f kind default
+  FieldMade file f = (kind : PlainKind) × TypeMeans program file f.type kind × (default : Option Tree) × D file f kind default
 
   abbrev pub ResultMade : ℕ → Option TypeExpr → Type 0
   ResultMade file None = Unit {0}

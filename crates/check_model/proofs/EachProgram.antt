@@ -1,42 +1,37 @@
 -- Each program has a schema or a first fault: what the later passes find, and what is built where none finds anything.
-use Rattle.std.proofs.Common.{◌≡◌, ◌⊎◌, inl, inr, ℕ, zero, suc, ◌+◌, ◌<◌, ◌≤◌, ◌==◌, ◌&&◌, Bool, true, false, cond, eqb, eq-eqb, List, [], ◌∷◌, ◌++◌, map, Option, None, Some, is_some, length, slice_get, slice_index_or, refl, ap, sym, subst, ◌∙◌, arith}
-use Rattle.std.specs.Option.{option_and_then, option_map, option_map_or}
-use Rattle.std.specs.List.{AllByRecursion, AllZip, Contains, cons_option, filter_map, position_from}
+use Rattle.std.proofs.Common.{◌≡◌, inl, inr, ℕ, zero, suc, ◌+◌, ◌<◌, ◌==◌, ◌&&◌, Bool, true, false, cond, eq-eqb, List, [], ◌∷◌, map, Option, None, Some, length, slice_get, slice_index_or, refl, ap, sym, subst, ◌∙◌, arith}
+use Rattle.std.specs.Option.{option_and_then, option_map}
+use Rattle.std.specs.List.{AllByRecursion, Contains, cons_option, filter_map, position_from}
 use Rattle.idl_token.specs.declared.Place.{Place}
 use Rattle.idl_parser.specs.declared.tree.StructKind.{StructKind}
 use Rattle.idl_parser.specs.declared.tree.StructKind.TheVariants as kind
 use Rattle.thrift_value.specs.Tree.{Tree}
-use Rattle.graph_walk.specs.Walks.{Graph, IsEdge, Walk, LeadsTo, OnCycle}
+use Rattle.graph_walk.specs.Walks.{Graph, Walk, LeadsTo, OnCycle}
 use Rattle.idl_model.specs.Written.{Written}
 use Rattle.idl_model.specs.TypeExpr.{TypeExpr, base_expr, name_expr, map_expr, set_expr, list_expr, names_in_type}
-use Rattle.idl_model.specs.ConstExpr.{ConstExpr}
-use Rattle.idl_model.specs.Declarations.{FieldDecl, FunctionDecl, ConstDecl, TypedefDecl, StructDecl, ServiceDecl}
+use Rattle.idl_model.specs.Declarations.{FieldDecl, FunctionDecl, TypedefDecl, StructDecl, ServiceDecl}
 use Rattle.idl_model.specs.Program.{Program}
-use Rattle.idl_model.specs.Numbering.{Filed, constants_of, typedefs_of, structs_of, services_of}
-use Rattle.idl_model.specs.Names.{NamedType, an_alias, an_enum, a_struct, is_dotted, type_named, service_named}
-use Rattle.idl_model.specs.Cycles.{alias_graph, parent_graph, own_functions, HasFunction, Inherits}
-use Rattle.idl_model.specs.ConstNames.{same_place, value_number}
-use Rattle.idl_model.specs.Spots.{GivenValue, Spotted, given_name, type_use, parent_use, typedef_spot, field_spot, thrown_spot, enum_value_spot, struct_spot, service_spot, function_spot, value_spot, Spot, spots_of, values_of, value_at, type_spots, default_spots, result_spots}
+use Rattle.idl_model.specs.Numbering.{Filed, typedefs_of, structs_of, services_of}
+use Rattle.idl_model.specs.Names.{NamedType, an_alias, an_enum, a_struct, type_named}
+use Rattle.idl_model.specs.Cycles.{alias_graph}
+use Rattle.idl_model.specs.ConstNames.{same_place}
+use Rattle.idl_model.specs.Spots.{Spotted, type_use, thrown_spot, struct_spot, Spot, spots_of, default_spots, result_spots}
 use Rattle.schema.specs.PlainKind.{PlainKind, kind_bool, kind_i8, kind_i16, kind_i32, kind_i64, kind_double, kind_text, kind_binary, kind_enum, kind_struct, kind_map, kind_set, kind_list}
 use Rattle.schema.specs.PlainSchema.{PlainConstant, PlainSchema}
-use Rattle.check_model.specs.Resolved.{map_kind, named_kind, kind_by, alias_kind, Means}
-use Rattle.check_model.specs.Scalars.{has_bits}
-use Rattle.check_model.specs.FiniteValues.{is_empty, HasFiniteValue}
-use Rattle.check_model.specs.Worths.{ConstFlaw, Worth, valued, flawed}
-use Rattle.check_model.specs.Evaluation.{Setting, given_worth}
+use Rattle.check_model.specs.Resolved.{map_kind, named_kind, kind_by, alias_kind, TypeMeans}
+use Rattle.check_model.specs.FiniteValues.{HasFiniteValue}
 use Rattle.check_model.specs.SchemaParts.{DefaultRule, NoDefault, IsSchemaWith, IsPartialSchema}
-use Rattle.check_model.specs.Passes.{Pass, dotted_name, duplicate_name, unknown_type, typedef_cycle, field_id, duplicate_id, enum_number, service_cycle, duplicate_function, oneway_not_void, oneway_throws, not_exception, struct_loop, bad_constant, passes, is_repeated, is_bad_id, is_id_repeated, number_behind, IsException, HasNoFiniteValue, NeedsFiniteValue, FindsFault, place_shown, HasConstFlaw}
-use Rattle.check_model.specs.FirstFlaw.{FlawKind, found_by, of_value, ProgramFlaw, IsValueFlaw, IsAtFault, IsClearAt, FindsNothing, IsFirstOf, IsFirstFlaw, HasNoFlaw}
-use Rattle.check_model.specs.ProgramSchema.{HasWorth, IsDefault, DefaultIn, IsConstantOf, IsSchemaOf}
+use Rattle.check_model.specs.Passes.{unknown_type, typedef_cycle, not_exception, struct_loop, IsException, HasNoFiniteValue, NeedsFiniteValue, FindsFault}
+use Rattle.check_model.specs.FirstFlaw.{found_by, IsClearAt, FindsNothing}
 use Rattle.check_model.proofs.FirstOnes.{somes, none_some}
 use Rattle.check_model.proofs.Meanings.{one_meaning}
 use Rattle.check_model.proofs.OneSchema.{one_partial}
-use Rattle.check_model.proofs.Shown.{weaker, unmapped, AllFrom, TypeShown, FieldShown, FunctionShown, ConstShown, TypedefShown, StructShown, ServiceShown, consts_shown, structs_shown, services_shown, typedefs_shown}
+use Rattle.check_model.proofs.Shown.{weaker, unmapped, AllFrom, TypeShown, FieldShown, FunctionShown, TypedefShown, StructShown, ServiceShown, structs_shown, services_shown, typedefs_shown}
 use Rattle.check_model.proofs.Resolving.{Known, NamesKnown, type_means, each_alias, alias_within, from_at, zip_all}
-use Rattle.check_model.proofs.Building.{TypeMade, FieldMade, ResultMade, FunctionMade, zip_made, schema_made}
+use Rattle.check_model.proofs.Building.{TypeMade, FieldMade, ResultMade, FunctionMade, schema_made}
 use Rattle.check_model.proofs.Finite.{has_or_not}
 
-use Rattle.check_model.proofs.Existing.{Told, bool_told, both_told, none_is_told, found_or_clear, Judged, searched, dotted_told, duplicate_told, unknown_told, field_id_told, duplicate_id_told, enum_number_told, oneway_not_void_told, oneway_throws_told, typedef_cycle_told, service_cycle_told, duplicate_function_told}
+use Rattle.check_model.proofs.Existing.{Told, both_told, none_is_told}
 
 -- a row past the last is empty
 row_within : {A : Type 0} (f : A → List ℕ) (xs : List A) (a b : ℕ) → Contains (slice_index_or (map f xs) a []) b → a < length xs
@@ -167,7 +162,7 @@ module _ (program : Program) (leads : (graph : Graph) (a b : ℕ) → Told (Lead
   acyclic : (a : ℕ) → OnCycle (alias_graph program) a → ⊥
   acyclic a c = off_cycle a (slice_get (typedefs_of program) a) refl (first_edge a c.0 c.1) c
 
-  pub means : (file : ℕ) (t : TypeExpr) → NamesKnown program file t → (kind : PlainKind) × Means program file t kind
+  pub means : (file : ℕ) (t : TypeExpr) → NamesKnown program file t → (kind : PlainKind) × TypeMeans program file t kind
   means file t h = type_means program typedefs_known acyclic (on (alias_graph program)) file t h
 
   -- a type means something where it does with all typedefs followed
@@ -191,16 +186,16 @@ module _ (program : Program) (leads : (graph : Graph) (a b : ℕ) → Told (Lead
       let part = wrapped_part kind_list (kind_by (alias_kind program n) program file element) k e in
       let h = again n file element part.0 part.1 in (kind_list h.0, ap (option_map kind_list) h.1)
 
-  pub means_told : (file : ℕ) (t : TypeExpr) → Told ((kind : PlainKind) × Means program file t kind)
+  pub means_told : (file : ℕ) (t : TypeExpr) → Told ((kind : PlainKind) × TypeMeans program file t kind)
   means_told file t = by (known_or_not (kind_by (alias_kind program (length (typedefs_of program))) program file t))
     where
-      by : Told (Known (kind_by (alias_kind program (length (typedefs_of program))) program file t)) → Told ((kind : PlainKind) × Means program file t kind)
+      by : Told (Known (kind_by (alias_kind program (length (typedefs_of program))) program file t)) → Told ((kind : PlainKind) × TypeMeans program file t kind)
       by (inl h) = inl (h.0, (length (typedefs_of program), h.1))
       by (inr n) = inr (λ h. n (again h.1.0 file t h.0 h.1.1))
 
   -- a schema, where more holds at each spot, and that says what defaults are
   module _ (D : DefaultRule) (Pv : ℕ → Spotted → Type 0)
-      (says : (file : ℕ) (f : FieldDecl) (kind : PlainKind) → Means program file f.type kind → AllByRecursion (Pv file) (default_spots f f.default) → (default : Option Tree) × D file f kind default)
+      (says : (file : ℕ) (f : FieldDecl) (kind : PlainKind) → TypeMeans program file f.type kind → AllByRecursion (Pv file) (default_spots f f.default) → (default : Option Tree) × D file f kind default)
       (more : AllByRecursion (λ (s : Spot). Pv s.file s.shows) (spots_of program)) where
     field_said : (file : ℕ) (f : FieldDecl) → FieldShown Pu file f → FieldShown Pv file f → FieldMade D program file f
     field_said file f h g =
@@ -249,19 +244,19 @@ module _ (program : Program) (leads : (graph : Graph) (a b : ℕ) → Told (Lead
       by (inl e) = inl (s, refl, e)
       by (inr n) = inr (λ h. n (ap (λ (t : Filed StructDecl). t.item.kind) (somes s h.0 h.1) ∙ h.2))
 
-  is_exception_told : (file : ℕ) (t : TypeExpr) → Told ((kind : PlainKind) × Means program file t kind) → Told (IsException program file t)
+  is_exception_told : (file : ℕ) (t : TypeExpr) → Told ((kind : PlainKind) × TypeMeans program file t kind) → Told (IsException program file t)
   is_exception_told file t (inr n) = inr (λ h. n (kind_struct h.0, h.1))
   is_exception_told file t (inl (k, m)) = by k m
     where
-      by_struct : (n : ℕ) → Means program file t (kind_struct n) → Told ((s : Filed StructDecl) × (slice_get (structs_of program) n ≡ Some s) × (s.item.kind ≡ kind.Exception)) → Told (IsException program file t)
+      by_struct : (n : ℕ) → TypeMeans program file t (kind_struct n) → Told ((s : Filed StructDecl) × (slice_get (structs_of program) n ≡ Some s) × (s.item.kind ≡ kind.Exception)) → Told (IsException program file t)
       by_struct n m (inl h) = inl (n, m, h.0, h.1, h.2)
       by_struct n m (inr none) = inr (λ h.
           let same : h.0 ≡ n = ap (struct_number 0) (one_meaning program file t (kind_struct h.0) (kind_struct n) h.1 m) in
           let P : ℕ → Type 0 = λ j. slice_get (structs_of program) j ≡ Some h.2 in
           none (h.2, subst P same h.3, h.4))
-      no_struct : (k : PlainKind) → Means program file t k → is_struct k ≡ false → Told (IsException program file t)
+      no_struct : (k : PlainKind) → TypeMeans program file t k → is_struct k ≡ false → Told (IsException program file t)
       no_struct k m e = inr (λ h. let f : true ≡ false = ap is_struct (one_meaning program file t (kind_struct h.0) k h.1 m) ∙ e in cc)
-      by : (k : PlainKind) → Means program file t k → Told (IsException program file t)
+      by : (k : PlainKind) → TypeMeans program file t k → Told (IsException program file t)
       by (kind_struct n) m = by_struct n m (exception_of (slice_get (structs_of program) n))
       by kind_bool m = no_struct kind_bool m refl
       by kind_i8 m = no_struct kind_i8 m refl

@@ -1,40 +1,19 @@
 -- Each program has a schema or a first fault.
-use Rattle.std.proofs.Common.{◌≡◌, ◌⊎◌, inl, inr, ℕ, zero, suc, ◌+◌, ◌<◌, ◌≤◌, ◌==◌, ◌&&◌, Bool, true, false, cond, eqb, eq-eqb, List, [], ◌∷◌, ◌++◌, map, Option, None, Some, is_some, length, slice_get, slice_index_or, refl, ap, sym, subst, ◌∙◌, arith}
-use Rattle.std.specs.Option.{option_and_then, option_map, option_map_or}
-use Rattle.std.specs.List.{AllByRecursion, AllZip, Contains, cons_option, filter_map, position_from}
-use Rattle.idl_token.specs.declared.Place.{Place}
-use Rattle.idl_parser.specs.declared.tree.StructKind.{StructKind}
-use Rattle.idl_parser.specs.declared.tree.StructKind.TheVariants as kind
-use Rattle.thrift_value.specs.Tree.{Tree}
-use Rattle.graph_walk.specs.Walks.{Graph, IsEdge, Walk, LeadsTo, OnCycle}
-use Rattle.idl_model.specs.Written.{Written}
-use Rattle.idl_model.specs.TypeExpr.{TypeExpr, base_expr, name_expr, map_expr, set_expr, list_expr, names_in_type}
-use Rattle.idl_model.specs.ConstExpr.{ConstExpr}
-use Rattle.idl_model.specs.Declarations.{FieldDecl, FunctionDecl, ConstDecl, TypedefDecl, StructDecl, ServiceDecl}
+use Rattle.std.proofs.Common.{◌≡◌, ◌⊎◌, inl, inr, ℕ, zero, suc, ◌<◌, ◌≤◌, Bool, true, false, List, [], ◌∷◌, ◌++◌, Option, None, Some, is_some, length, slice_get, refl, ap, sym, subst, arith}
+use Rattle.std.specs.Option.{option_map_or}
+use Rattle.std.specs.List.{AllByRecursion}
+use Rattle.graph_walk.specs.Walks.{Graph, LeadsTo}
+use Rattle.idl_model.specs.Declarations.{FunctionDecl, ServiceDecl}
 use Rattle.idl_model.specs.Program.{Program}
-use Rattle.idl_model.specs.Numbering.{Filed, constants_of, typedefs_of, structs_of, services_of}
-use Rattle.idl_model.specs.Names.{NamedType, an_alias, an_enum, a_struct, is_dotted, type_named, service_named}
+use Rattle.idl_model.specs.Numbering.{Filed, services_of}
+use Rattle.idl_model.specs.Names.{is_dotted, type_named, service_named}
 use Rattle.idl_model.specs.Cycles.{alias_graph, parent_graph, own_functions, HasFunction, Inherits}
-use Rattle.idl_model.specs.ConstNames.{same_place, value_number}
-use Rattle.idl_model.specs.Spots.{GivenValue, Spotted, given_name, type_use, parent_use, typedef_spot, field_spot, thrown_spot, enum_value_spot, struct_spot, service_spot, function_spot, value_spot, Spot, spots_of, values_of, value_at, type_spots, default_spots, result_spots}
-use Rattle.schema.specs.PlainKind.{PlainKind, kind_bool, kind_i8, kind_i16, kind_i32, kind_i64, kind_double, kind_text, kind_binary, kind_enum, kind_struct, kind_map, kind_set, kind_list}
-use Rattle.schema.specs.PlainSchema.{PlainConstant, PlainSchema}
-use Rattle.check_model.specs.Resolved.{map_kind, named_kind, kind_by, alias_kind, Means}
+use Rattle.idl_model.specs.Spots.{Spotted, given_name, type_use, parent_use, typedef_spot, field_spot, enum_value_spot, service_spot, function_spot, Spot, spots_of}
 use Rattle.check_model.specs.Scalars.{has_bits}
-use Rattle.check_model.specs.FiniteValues.{is_empty, HasFiniteValue}
-use Rattle.check_model.specs.Worths.{ConstFlaw, Worth, valued, flawed}
-use Rattle.check_model.specs.Evaluation.{Setting, given_worth}
-use Rattle.check_model.specs.SchemaParts.{DefaultRule, NoDefault, IsSchemaWith, IsPartialSchema}
-use Rattle.check_model.specs.Passes.{Pass, dotted_name, duplicate_name, unknown_type, typedef_cycle, field_id, duplicate_id, enum_number, service_cycle, duplicate_function, oneway_not_void, oneway_throws, not_exception, struct_loop, bad_constant, passes, is_repeated, is_bad_id, is_id_repeated, number_behind, IsException, HasNoFiniteValue, NeedsFiniteValue, FindsFault, place_shown, HasConstFlaw}
-use Rattle.check_model.specs.FirstFlaw.{FlawKind, found_by, of_value, ProgramFlaw, IsValueFlaw, IsAtFault, IsClearAt, FindsNothing, IsFirstOf, IsFirstFlaw, HasNoFlaw}
-use Rattle.check_model.specs.ProgramSchema.{HasWorth, IsDefault, DefaultIn, IsConstantOf, IsSchemaOf}
-use Rattle.check_model.proofs.FirstOnes.{somes, none_some}
-use Rattle.check_model.proofs.Meanings.{one_meaning}
-use Rattle.check_model.proofs.OneSchema.{one_partial}
-use Rattle.check_model.proofs.Shown.{weaker, unmapped, AllFrom, TypeShown, FieldShown, FunctionShown, ConstShown, TypedefShown, StructShown, ServiceShown, consts_shown, structs_shown, services_shown, typedefs_shown}
-use Rattle.check_model.proofs.Resolving.{Known, NamesKnown, type_means, each_alias, alias_within, from_at, zip_all}
-use Rattle.check_model.proofs.Building.{TypeMade, FieldMade, ResultMade, FunctionMade, zip_made, schema_made}
-use Rattle.check_model.proofs.Finite.{has_or_not}
+use Rattle.check_model.specs.FiniteValues.{has_no_items}
+use Rattle.check_model.specs.Passes.{Pass, dotted_name, duplicate_name, unknown_type, typedef_cycle, field_id, duplicate_id, enum_number, service_cycle, duplicate_function, oneway_not_void, oneway_throws, is_repeated, is_bad_id, is_id_repeated, number_behind, FindsFault}
+use Rattle.check_model.specs.FirstFlaw.{ProgramFlaw, IsAtFault, IsClearAt, FindsNothing, IsFirstOf}
+use Rattle.check_model.proofs.FirstOnes.{none_some}
 
 -- it is so, or it isn't
 abbrev pub Told : Type 0 → Type 0
@@ -155,7 +134,7 @@ module _ (program : Program) where
   oneway_not_void_told file _ = inr (λ h. h)
 
   pub oneway_throws_told : (file : ℕ) (x : Spotted) → Told (FindsFault oneway_throws program file x)
-  oneway_throws_told file (function_spot service before f) = both_told (bool_told f.oneway) (not_told (is_empty f.throws))
+  oneway_throws_told file (function_spot service before f) = both_told (bool_told f.oneway) (not_told (has_no_items f.throws))
   oneway_throws_told file _ = inr (λ h. h)
 
   -- those that look for cycles

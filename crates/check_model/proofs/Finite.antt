@@ -8,7 +8,7 @@ use Rattle.schema.specs.declared.types.FieldsKind.{FieldsKind}
 use Rattle.schema.specs.declared.types.FieldsKind.TheVariants as fields
 use Rattle.schema.specs.PlainKind.{PlainKind, kind_bool, kind_i8, kind_i16, kind_i32, kind_i64, kind_double, kind_text, kind_binary, kind_enum, kind_struct, kind_map, kind_set, kind_list}
 use Rattle.schema.specs.PlainSchema.{PlainField, PlainStruct, PlainSchema}
-use Rattle.check_model.specs.FiniteValues.{kind_has, field_allows, is_empty, fields_have, has_value_within, HasFiniteValue}
+use Rattle.check_model.specs.FiniteValues.{kind_has, field_allows, has_no_items, fields_have, has_value_within, HasFiniteValue}
 
 -- what the one says, the other says too
 abbrev Below : (ℕ → Bool) → (ℕ → Bool) → Type 0
@@ -62,7 +62,7 @@ any_below f g below (x ∷ xs) e =
 
 fields_below : (f g : ℕ → Bool) → Below f g → (k : FieldsKind) (xs : List PlainField) → fields_have f k xs ≡ true → fields_have g k xs ≡ true
 fields_below f g below fields.Union xs e =
-    or_below (is_empty xs) (list_any (λ (x : PlainField). kind_has f x.kind) xs) (is_empty xs) (list_any (λ (x : PlainField). kind_has g x.kind) xs)
+    or_below (has_no_items xs) (list_any (λ (x : PlainField). kind_has f x.kind) xs) (has_no_items xs) (list_any (λ (x : PlainField). kind_has g x.kind) xs)
       (λ h. h) (any_below f g below xs) e
 fields_below f g below fields.Struct xs e = all_below f g below xs e
 fields_below f g below fields.Exception xs e = all_below f g below xs e

@@ -7,7 +7,7 @@ use Rattle.idl_model.specs.Program.{Program}
 use Rattle.idl_model.specs.Numbering.{Filed, typedefs_of}
 use Rattle.idl_model.specs.Names.{NamedType, an_alias, an_enum, a_struct, type_named}
 use Rattle.schema.specs.PlainKind.{PlainKind, kind_enum, kind_struct, kind_map, kind_set, kind_list}
-use Rattle.check_model.specs.Resolved.{base_kind, named_kind, map_kind, kind_by, alias_kind, Means}
+use Rattle.check_model.specs.Resolved.{base_kind, named_kind, map_kind, kind_by, alias_kind, TypeMeans}
 use Rattle.check_model.proofs.FirstOnes.{somes, none_some}
 
 -- where both are there, they are the same
@@ -65,6 +65,6 @@ aliases_agree program (suc m) (suc n) number j k e f =
       (λ t. kinds_agree (alias_kind program m) (alias_kind program n) (aliases_agree program m n) program t.file t.item.type)
       (slice_get (typedefs_of program) number) j k e f
 
-pub one_meaning : (program : Program) (file : ℕ) (t : TypeExpr) (j k : PlainKind) → Means program file t j → Means program file t k → j ≡ k
+pub one_meaning : (program : Program) (file : ℕ) (t : TypeExpr) (j k : PlainKind) → TypeMeans program file t j → TypeMeans program file t k → j ≡ k
 one_meaning program file t j k p q =
     kinds_agree (alias_kind program p.0) (alias_kind program q.0) (aliases_agree program p.0 q.0) program file t j k p.1 q.1

@@ -1,9 +1,9 @@
 -- Where each name of a type is known and no typedef leads to itself, each type means something.
-use Rattle.std.proofs.Common.{◌≡◌, ◌≢◌, ◌⊎◌, cond, eqb, eq-eqb, ne_eqb, ◌==◌, if◌then◌else◌, inl, inr, ℕ, zero, suc, ◌+◌, ◌<◌, ◌≤◌, Bool, true, false, List, [], ◌∷◌, ◌++◌, map, Option, None, Some, length, slice_get, slice_index_or, slice_set, count_by, refl, ap, sym, subst, ◌∙◌, arith}
+use Rattle.std.proofs.Common.{◌≡◌, ◌≢◌, ◌⊎◌, cond, eqb, eq-eqb, ne_eqb, ◌==◌, if◌then◌else◌, inl, inr, ℕ, zero, suc, ◌+◌, ◌<◌, ◌≤◌, Bool, true, false, List, [], ◌∷◌, map, Option, None, Some, length, slice_get, slice_index_or, refl, ap, sym, subst, ◌∙◌, arith}
 use Rattle.std.specs.Option.{option_and_then, option_map, option_or}
 use Rattle.std.specs.List.{AllByRecursion, Contains, filter_map, cons_option, position_from}
 use Rattle.std.proofs.lemmas.Bool.Decides.{eqb_tells}
-use Rattle.graph_walk.specs.Walks.{Graph, IsEdge, LeadsTo, OnCycle}
+use Rattle.graph_walk.specs.Walks.{LeadsTo, OnCycle}
 use Rattle.idl_model.specs.Written.{Written}
 use Rattle.idl_model.specs.TypeExpr.{TypeExpr, base_expr, name_expr, map_expr, set_expr, list_expr, names_in_type}
 use Rattle.idl_model.specs.Program.{Program}
@@ -12,7 +12,7 @@ use Rattle.idl_model.specs.Numbering.{Filed, typedefs_of, enums_of, structs_of, 
 use Rattle.idl_model.specs.Names.{Sought, sought, NamedType, an_alias, an_enum, a_struct, type_defined, type_named}
 use Rattle.idl_model.specs.Cycles.{alias_in, aliases_below, alias_graph}
 use Rattle.schema.specs.PlainKind.{PlainKind, kind_enum, kind_struct, kind_map, kind_set, kind_list}
-use Rattle.check_model.specs.Resolved.{base_kind, named_kind, map_kind, kind_by, alias_kind, Means}
+use Rattle.check_model.specs.Resolved.{base_kind, named_kind, map_kind, kind_by, alias_kind, TypeMeans}
 use Rattle.check_model.proofs.FirstOnes.{somes, none_some}
 use Rattle.check_model.proofs.Shown.{front_all, back_all, weaker, AllFrom}
 
@@ -266,7 +266,7 @@ module _ (program : Program)
         (λ v l e. absurd (let f : true ≡ false = e in cc))
 
   -- so a type each name of which is known means something
-  pub type_means : (file : ℕ) (t : TypeExpr) → NamesKnown program file t → (kind : PlainKind) × Means program file t kind
+  pub type_means : (file : ℕ) (t : TypeExpr) → NamesKnown program file t → (kind : PlainKind) × TypeMeans program file t kind
   type_means file t known =
       let alias = alias_kind program (length (typedefs_of program)) in
       let h = type_known alias program file t

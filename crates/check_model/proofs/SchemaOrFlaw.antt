@@ -1,43 +1,33 @@
 -- Each program has a schema or a first fault.
-use Rattle.std.proofs.Common.{◌≡◌, ◌⊎◌, inl, inr, ℕ, zero, suc, ◌+◌, ◌<◌, ◌≤◌, ◌==◌, ◌&&◌, Bool, true, false, cond, eqb, eq-eqb, List, [], ◌∷◌, ◌++◌, map, Option, None, Some, is_some, length, slice_get, slice_index_or, refl, ap, sym, subst, ◌∙◌, arith}
-use Rattle.std.specs.Option.{option_and_then, option_map, option_map_or}
-use Rattle.std.specs.List.{AllByRecursion, AllZip, Contains, cons_option, filter_map, position_from}
+use Rattle.std.proofs.Common.{◌≡◌, ◌⊎◌, inl, inr, ℕ, ◌==◌, ◌&&◌, Bool, true, false, List, [], ◌∷◌, ◌++◌, Option, None, Some, refl, ap, sym, subst, ◌∙◌}
+use Rattle.std.specs.List.{AllByRecursion, AllZip, filter_map, position_from}
 use Rattle.idl_token.specs.declared.Place.{Place}
-use Rattle.idl_parser.specs.declared.tree.StructKind.{StructKind}
-use Rattle.idl_parser.specs.declared.tree.StructKind.TheVariants as kind
 use Rattle.thrift_value.specs.Tree.{Tree}
-use Rattle.graph_walk.specs.Walks.{Graph, IsEdge, Walk, LeadsTo, OnCycle}
-use Rattle.idl_model.specs.Written.{Written}
-use Rattle.idl_model.specs.TypeExpr.{TypeExpr, base_expr, name_expr, map_expr, set_expr, list_expr, names_in_type}
+use Rattle.graph_walk.specs.Walks.{Graph, LeadsTo}
 use Rattle.idl_model.specs.ConstExpr.{ConstExpr}
-use Rattle.idl_model.specs.Declarations.{FieldDecl, FunctionDecl, ConstDecl, TypedefDecl, StructDecl, ServiceDecl}
+use Rattle.idl_model.specs.Declarations.{FieldDecl, ConstDecl}
 use Rattle.idl_model.specs.Program.{Program}
-use Rattle.idl_model.specs.Numbering.{Filed, constants_of, typedefs_of, structs_of, services_of}
+use Rattle.idl_model.specs.Numbering.{Filed, constants_of}
 use Rattle.idl_model.specs.Loading.{Loaded, loaded, stopped}
-use Rattle.idl_model.specs.Names.{NamedType, an_alias, an_enum, a_struct, is_dotted, type_named, service_named}
-use Rattle.idl_model.specs.Cycles.{alias_graph, parent_graph, own_functions, HasFunction, Inherits}
 use Rattle.idl_model.specs.ConstNames.{same_place, value_number}
-use Rattle.idl_model.specs.Spots.{GivenValue, Spotted, given_name, type_use, parent_use, typedef_spot, field_spot, thrown_spot, enum_value_spot, struct_spot, service_spot, function_spot, value_spot, Spot, spots_of, values_of, value_at, type_spots, default_spots, result_spots}
-use Rattle.schema.specs.PlainKind.{PlainKind, kind_bool, kind_i8, kind_i16, kind_i32, kind_i64, kind_double, kind_text, kind_binary, kind_enum, kind_struct, kind_map, kind_set, kind_list}
+use Rattle.idl_model.specs.Spots.{GivenValue, Spotted, given_name, type_use, parent_use, typedef_spot, field_spot, thrown_spot, enum_value_spot, struct_spot, service_spot, function_spot, value_spot, Spot, spots_of, values_of, value_at, default_spots}
+use Rattle.schema.specs.PlainKind.{PlainKind}
 use Rattle.schema.specs.PlainSchema.{PlainConstant, PlainSchema}
-use Rattle.check_model.specs.Resolved.{map_kind, named_kind, kind_by, alias_kind, Means}
-use Rattle.check_model.specs.Scalars.{has_bits}
-use Rattle.check_model.specs.FiniteValues.{is_empty, HasFiniteValue}
+use Rattle.check_model.specs.Resolved.{TypeMeans}
 use Rattle.check_model.specs.Worths.{ConstFlaw, Worth, valued, flawed}
 use Rattle.check_model.specs.Evaluation.{Setting, given_worth}
-use Rattle.check_model.specs.SchemaParts.{DefaultRule, NoDefault, IsSchemaWith, IsPartialSchema}
-use Rattle.check_model.specs.Passes.{Pass, dotted_name, duplicate_name, unknown_type, typedef_cycle, field_id, duplicate_id, enum_number, service_cycle, duplicate_function, oneway_not_void, oneway_throws, not_exception, struct_loop, bad_constant, passes, is_repeated, is_bad_id, is_id_repeated, number_behind, IsException, HasNoFiniteValue, NeedsFiniteValue, FindsFault, place_shown, HasConstFlaw}
-use Rattle.check_model.specs.FirstFlaw.{FlawKind, found_by, of_value, ProgramFlaw, IsValueFlaw, IsAtFault, IsClearAt, FindsNothing, IsFirstOf, IsFirstFlaw, HasNoFlaw}
+use Rattle.check_model.specs.SchemaParts.{IsPartialSchema}
+use Rattle.check_model.specs.Passes.{Pass, dotted_name, duplicate_name, unknown_type, typedef_cycle, field_id, duplicate_id, enum_number, service_cycle, duplicate_function, oneway_not_void, oneway_throws, not_exception, struct_loop, bad_constant, passes, place_shown}
+use Rattle.check_model.specs.FirstFlaw.{found_by, of_value, ProgramFlaw, IsValueFlaw, IsClearAt, FindsNothing, IsFirstOf, IsFirstFlaw, HasNoFlaw}
 use Rattle.check_model.specs.ProgramSchema.{HasWorth, IsDefault, DefaultIn, IsConstantOf, IsSchemaOf, ProgramVerdict, accepted_as, not_loaded, at_fault, IsVerdictOn}
 use Rattle.check_model.proofs.FirstOnes.{somes, none_some}
 use Rattle.check_model.proofs.Meanings.{one_meaning}
 use Rattle.check_model.proofs.OneSchema.{one_partial}
-use Rattle.check_model.proofs.Shown.{weaker, unmapped, AllFrom, TypeShown, FieldShown, FunctionShown, ConstShown, TypedefShown, StructShown, ServiceShown, consts_shown, structs_shown, services_shown, typedefs_shown}
-use Rattle.check_model.proofs.Resolving.{Known, NamesKnown, type_means, each_alias, alias_within, from_at, zip_all}
-use Rattle.check_model.proofs.Building.{TypeMade, FieldMade, ResultMade, FunctionMade, zip_made, schema_made}
-use Rattle.check_model.proofs.Finite.{has_or_not}
+use Rattle.check_model.proofs.Shown.{weaker, ConstShown, consts_shown}
+use Rattle.check_model.proofs.Resolving.{zip_all}
+use Rattle.check_model.proofs.Building.{zip_made}
 
-use Rattle.check_model.proofs.Existing.{Told, bool_told, both_told, none_is_told, found_or_clear, Judged, searched, dotted_told, duplicate_told, unknown_told, field_id_told, duplicate_id_told, enum_number_told, oneway_not_void_told, oneway_throws_told, typedef_cycle_told, service_cycle_told, duplicate_function_told}
+use Rattle.check_model.proofs.Existing.{Told, found_or_clear, searched, dotted_told, duplicate_told, unknown_told, field_id_told, duplicate_id_told, enum_number_told, oneway_not_void_told, oneway_throws_told, typedef_cycle_told, service_cycle_told, duplicate_function_told}
 
 use Rattle.check_model.proofs.EachProgram.{picked_found, same_itself, Pu, known_of, means, means_told, built, some_partial, not_exception_told, struct_loop_told}
 
@@ -63,7 +53,7 @@ module _ (program : Program) (leads : (graph : Graph) (a b : ℕ) → Told (Lead
   abbrev ValueJudged : ℕ → Spotted → Type 0
   ValueJudged file x = ((flaw : ProgramFlaw) × IsValueFlaw program file x flaw) ⊎ ((flaw : ProgramFlaw) → IsValueFlaw program file x flaw → ⊥)
 
-  by_worth : (file : ℕ) (v : GivenValue) (w : ℕ) → value_number program file v.owner ≡ Some w → (k : PlainKind) → Means program file v.type k → (x : Worth Tree)
+  by_worth : (file : ℕ) (v : GivenValue) (w : ℕ) → value_number program file v.owner ≡ Some w → (k : PlainKind) → TypeMeans program file v.type k → (x : Worth Tree)
       → given_worth setting w k (record { file = file; item = v }) ≡ x → ValueJudged file (value_spot v)
   unfolding setting
   by_worth file v w number k m (flawed at flaw) e = inl (record { file = file; at = at; kind = of_value flaw },
@@ -75,7 +65,7 @@ module _ (program : Program) (leads : (graph : Graph) (a b : ℕ) → Told (Lead
           (one_meaning program file v.type k h.2.kind m h.2.means i) (record { file = file; item = v }))
       ∙ h.2.worth))
 
-  by_kind : (file : ℕ) (v : GivenValue) (w : ℕ) → value_number program file v.owner ≡ Some w → Told ((kind : PlainKind) × Means program file v.type kind) → ValueJudged file (value_spot v)
+  by_kind : (file : ℕ) (v : GivenValue) (w : ℕ) → value_number program file v.owner ≡ Some w → Told ((kind : PlainKind) × TypeMeans program file v.type kind) → ValueJudged file (value_spot v)
   by_kind file v w number (inl (k, m)) = by_worth file v w number k m (given_worth setting w k (record { file = file; item = v })) refl
   by_kind file v w number (inr n) = inr (λ flaw h. n (h.2.kind, h.2.means))
 
@@ -125,7 +115,7 @@ module _ (program : Program) (leads : (graph : Graph) (a b : ℕ) → Told (Lead
     all_sound : AllByRecursion (λ (s : Spot). Pv s.file s.shows) (spots_of program)
     all_sound = zip_all (IsClearAt program bad_constant) (λ (s : Spot). Pn s.file s.shows) (λ (s : Spot). Pv s.file s.shows) (λ s h g. (h, g)) (spots_of program) sound numbers
 
-    worth_by_case : (file : ℕ) (v : GivenValue) (k : PlainKind) → Means program file v.type k → Pv file (value_spot v) → (w : ℕ) → value_number program file v.owner ≡ Some w → (x : Worth Tree)
+    worth_by_case : (file : ℕ) (v : GivenValue) (k : PlainKind) → TypeMeans program file v.type k → Pv file (value_spot v) → (w : ℕ) → value_number program file v.owner ≡ Some w → (x : Worth Tree)
         → given_worth setting w k (record { file = file; item = v }) ≡ x → (value : Tree) × HasWorth setting (record { file = file; item = v }) k value
     unfolding setting
     worth_by_case file v k m h w number (valued y n) e = (y, record { which = w; number = number; count = n; worth = e })
@@ -133,10 +123,10 @@ module _ (program : Program) (leads : (graph : Graph) (a b : ℕ) → Told (Lead
         absurd (h.0 (record { file = file; at = at; kind = of_value flaw })
           (at, flaw, record { schema = partial.0; made = partial.1; kind = k; means = m; which = w; number = number; worth = e }, refl))
 
-    value_worth : (file : ℕ) (v : GivenValue) (k : PlainKind) → Means program file v.type k → Pv file (value_spot v) → (value : Tree) × HasWorth setting (record { file = file; item = v }) k value
+    value_worth : (file : ℕ) (v : GivenValue) (k : PlainKind) → TypeMeans program file v.type k → Pv file (value_spot v) → (value : Tree) × HasWorth setting (record { file = file; item = v }) k value
     value_worth file v k m h = worth_by_case file v k m h h.1.0 h.1.1 (given_worth setting h.1.0 k (record { file = file; item = v })) refl
 
-    default_by : (file : ℕ) (f : FieldDecl) (k : PlainKind) → Means program file f.type k → (o : Option ConstExpr) → AllByRecursion (Pv file) (default_spots f o)
+    default_by : (file : ℕ) (f : FieldDecl) (k : PlainKind) → TypeMeans program file f.type k → (o : Option ConstExpr) → AllByRecursion (Pv file) (default_spots f o)
         → (default : Option Tree) × IsDefault setting file f k o default
     default_by file f k m None h = (None, refl)
     default_by file f k m (Some tree) h =

@@ -1,13 +1,12 @@
 -- What holds at each spot of a program holds of the parts of its definitions.
-use Rattle.std.proofs.Common.{◌≡◌, ℕ, suc, List, [], ◌∷◌, ◌++◌, map, Option, None, Some, length, refl, ap, sym, subst, ◌∙◌}
-use Rattle.std.specs.List.{AllByRecursion, filter_map, flat_map}
+use Rattle.std.proofs.Common.{ℕ, suc, List, [], ◌∷◌, ◌++◌, map}
+use Rattle.std.specs.List.{AllByRecursion, filter_map}
 use Rattle.idl_model.specs.Written.{Written}
-use Rattle.idl_model.specs.TypeExpr.{TypeExpr, names_in_type}
-use Rattle.idl_model.specs.ConstExpr.{ConstExpr}
-use Rattle.idl_model.specs.Declarations.{FieldDecl, FunctionDecl, ConstDecl, TypedefDecl, EnumDecl, StructDecl, ServiceDecl, Declaration, of_const, of_typedef, of_enum, of_struct_decl, of_service, name_of}
+use Rattle.idl_model.specs.TypeExpr.{TypeExpr}
+use Rattle.idl_model.specs.Declarations.{FieldDecl, FunctionDecl, ConstDecl, TypedefDecl, StructDecl, ServiceDecl, Declaration, of_const, of_typedef, of_enum, of_struct_decl, of_service, declared_name}
 use Rattle.idl_model.specs.Program.{SourceFile, Program}
-use Rattle.idl_model.specs.Numbering.{Filed, filed, Counts, none_counted, counted, all_counted, picked_from, const_in, typedef_in, struct_in, service_in, constants_of, typedefs_of, structs_of, services_of, functions_of, functions_in}
-use Rattle.idl_model.specs.Spots.{GivenValue, Spotted, type_use, typedef_spot, value_spot, Spot, type_spots, default_spots, spots_in_field, spots_in_fields, spots_in_throws, result_spots, spots_in_function, spots_in_functions, parent_spots, spots_in_enum, spots_in_declaration, spots_in_declarations, in_file, spots_from, spots_of}
+use Rattle.idl_model.specs.Numbering.{Filed, filed, Counts, none_counted, counted, all_counted, picked_from, const_in, typedef_in, struct_in, service_in, constants_of, typedefs_of, structs_of, services_of}
+use Rattle.idl_model.specs.Spots.{Spotted, typedef_spot, value_spot, Spot, type_spots, default_spots, spots_in_field, spots_in_fields, spots_in_throws, result_spots, spots_in_function, spots_in_functions, parent_spots, spots_in_declaration, spots_in_declarations, in_file, spots_from, spots_of}
 
 pub front_all : {A : Type 0} (Q : A → Type 0) (xs ys : List A) → AllByRecursion Q (xs ++ ys) → AllByRecursion Q xs
 front_all Q [] ys h = tt
@@ -100,7 +99,7 @@ module _ (P : ℕ → Spotted → Type 0) where
   unfolding spots_in_declaration
   consts_of_file file before n [] more h k = k
   consts_of_file file before n (d ∷ ds) more h k = by d (front_all (P file) (spots_in_declaration before n d) _ h)
-      (consts_of_file file (before ++ name_of d ∷ []) (counted n d) ds more (back_all (P file) (spots_in_declaration before n d) _ h) k)
+      (consts_of_file file (before ++ declared_name d ∷ []) (counted n d) ds more (back_all (P file) (spots_in_declaration before n d) _ h) k)
     where
       by : (d : Declaration) → AllByRecursion (P file) (spots_in_declaration before n d) → AllByRecursion ConstShown (filed file (filter_map const_in ds) ++ more)
           → AllByRecursion ConstShown (filed file (filter_map const_in (d ∷ ds)) ++ more)
@@ -115,7 +114,7 @@ module _ (P : ℕ → Spotted → Type 0) where
   unfolding spots_in_declaration
   structs_of_file file before n [] more h k = k
   structs_of_file file before n (d ∷ ds) more h k = by d (front_all (P file) (spots_in_declaration before n d) _ h)
-      (structs_of_file file (before ++ name_of d ∷ []) (counted n d) ds more (back_all (P file) (spots_in_declaration before n d) _ h) k)
+      (structs_of_file file (before ++ declared_name d ∷ []) (counted n d) ds more (back_all (P file) (spots_in_declaration before n d) _ h) k)
     where
       by : (d : Declaration) → AllByRecursion (P file) (spots_in_declaration before n d) → AllByRecursion StructShown (filed file (filter_map struct_in ds) ++ more)
           → AllByRecursion StructShown (filed file (filter_map struct_in (d ∷ ds)) ++ more)
@@ -130,7 +129,7 @@ module _ (P : ℕ → Spotted → Type 0) where
   unfolding spots_in_declaration
   services_of_file file before n [] more h k = k
   services_of_file file before n (d ∷ ds) more h k = by d (front_all (P file) (spots_in_declaration before n d) _ h)
-      (services_of_file file (before ++ name_of d ∷ []) (counted n d) ds more (back_all (P file) (spots_in_declaration before n d) _ h) k)
+      (services_of_file file (before ++ declared_name d ∷ []) (counted n d) ds more (back_all (P file) (spots_in_declaration before n d) _ h) k)
     where
       by : (d : Declaration) → AllByRecursion (P file) (spots_in_declaration before n d) → AllByRecursion ServiceShown (filed file (filter_map service_in ds) ++ more)
           → AllByRecursion ServiceShown (filed file (filter_map service_in (d ∷ ds)) ++ more)
@@ -145,7 +144,7 @@ module _ (P : ℕ → Spotted → Type 0) where
   unfolding spots_in_declaration
   typedefs_of_file file before n [] more h k = k
   typedefs_of_file file before n (d ∷ ds) more h k = by d (front_all (P file) (spots_in_declaration before n d) _ h)
-      (typedefs_of_file file (before ++ name_of d ∷ []) (counted n d) ds more (back_all (P file) (spots_in_declaration before n d) _ h) k)
+      (typedefs_of_file file (before ++ declared_name d ∷ []) (counted n d) ds more (back_all (P file) (spots_in_declaration before n d) _ h) k)
     where
       by : (d : Declaration) → AllByRecursion (P file) (spots_in_declaration before n d) → AllFrom TypedefShown (counted n d).aliases (filed file (filter_map typedef_in ds) ++ more)
           → AllFrom TypedefShown n.aliases (filed file (filter_map typedef_in (d ∷ ds)) ++ more)

@@ -1,32 +1,30 @@
 -- Small programs with their verdicts.
-use Rattle.std.proofs.Common.{◌≡◌, ℕ, Bool, true, false, List, [], ◌∷◌, ◌++◌, codes, pos, take, drop, get_or, Option, None, Some, slice_get, refl, ap, sym, subst, ◌∙◌}
-use Rattle.std.specs.List.{AllByRecursion}
+use Rattle.std.proofs.Common.{◌≡◌, ℕ, Bool, true, false, List, [], ◌∷◌, codes, pos, take, drop, get_or, None, Some, slice_get, refl, ap, sym, subst, ◌∙◌}
 use Rattle.idl_token.specs.declared.Place.{Place}
-use Rattle.thrift_value.specs.Tree.{Tree, of_i32}
+use Rattle.thrift_value.specs.Tree.{of_i32}
 use Rattle.idl_parser.specs.declared.tree.StructKind.{StructKind}
 use Rattle.idl_parser.specs.declared.tree.StructKind.TheVariants as kind
 use Rattle.idl_model.specs.Declarations.{StructDecl}
 use Rattle.idl_model.specs.TypeExpr.{name_expr}
 use Rattle.idl_model.specs.ConstExpr.{name_const}
 use Rattle.idl_model.specs.FileNames.{base_name}
-use Rattle.idl_model.specs.Program.{Program}
 use Rattle.idl_model.specs.Numbering.{Filed, constants_of, typedefs_of, enums_of, structs_of, services_of, functions_of}
 use Rattle.idl_model.specs.Names.{an_enum, sought, type_named}
 use Rattle.idl_model.specs.FieldIds.{field_ids}
 use Rattle.idl_model.specs.EnumNumbers.{enum_numbers}
-use Rattle.idl_model.specs.Spots.{GivenValue, given_name, struct_spot, field_spot, Spot, spots_of, spots_in_declaration, spots_in_field, values_of}
+use Rattle.idl_model.specs.Spots.{GivenValue, given_name, Spot, spots_of, spots_in_declaration, spots_in_field, values_of}
 use Rattle.idl_model.specs.ConstNames.{value_number, const_meaning}
-use Rattle.idl_model.specs.SmallPrograms.{column, written, one_file, small_field, small_struct, named_number, doubled_id, named_kinds}
+use Rattle.idl_model.specs.SmallPrograms.{column, written_at, named_number, doubled_id, named_kinds}
 use Rattle.schema.specs.PlainKind.{PlainKind, kind_enum, kind_struct}
-use Rattle.schema.specs.PlainSchema.{PlainConstant, PlainSchema}
-use Rattle.check_model.specs.Resolved.{alias_kind, Means}
+use Rattle.schema.specs.PlainSchema.{PlainConstant}
+use Rattle.check_model.specs.Resolved.{alias_kind, TypeMeans}
 use Rattle.check_model.specs.FieldLists.{field_lists}
 use Rattle.check_model.specs.Worths.{ConstFlaw, Worth, valued, flawed, most_values, most_levels}
-use Rattle.check_model.specs.Evaluation.{Setting, named_worth, given_worth}
+use Rattle.check_model.specs.Evaluation.{named_worth, given_worth}
 use Rattle.check_model.specs.SchemaParts.{DefaultRule, NoDefault, IsSchemaWith, IsPartialSchema, files_of}
-use Rattle.check_model.specs.Passes.{Pass, dotted_name, duplicate_name, unknown_type, typedef_cycle, field_id, duplicate_id, enum_number, service_cycle, duplicate_function, oneway_not_void, oneway_throws, not_exception, struct_loop, bad_constant, passes, IsException, HasConstFlaw}
-use Rattle.check_model.specs.FirstFlaw.{ProgramFlaw, found_by, IsClearAt, FindsNothing, IsFirstOf, IsFirstFlaw, HasNoFlaw}
-use Rattle.check_model.specs.ProgramSchema.{HasWorth, DefaultIn, IsConstantOf, IsSchemaOf}
+use Rattle.check_model.specs.Passes.{dotted_name, duplicate_name, unknown_type, typedef_cycle, field_id, duplicate_id, enum_number, service_cycle, duplicate_function, oneway_not_void, oneway_throws, not_exception, struct_loop, bad_constant, IsException, HasConstFlaw}
+use Rattle.check_model.specs.FirstFlaw.{found_by, FindsNothing, IsFirstFlaw, HasNoFlaw}
+use Rattle.check_model.specs.ProgramSchema.{DefaultIn, IsConstantOf, IsSchemaOf}
 use Rattle.check_model.specs.SmallSchemas.{named_schema, named_constant}
 use Rattle.check_model.proofs.FirstOnes.{somes}
 use Rattle.check_model.proofs.Meanings.{one_meaning}
@@ -60,9 +58,9 @@ partial = record { made = schema_with NoDefault []; constants = refl }
 
 -- the value that C gives
 c_value : GivenValue
-c_value = record { owner = column 29; type = name_expr (written (codes "E") 27); tree = name_const (written (codes "E.Y") 33) }
+c_value = record { owner = column 29; type = name_expr (written_at (codes "E") 27); tree = name_const (written_at (codes "E.Y") 33) }
 
-c_means : Means named_number 0 (name_expr (written (codes "E") 27)) (kind_enum 0)
+c_means : TypeMeans named_number 0 (name_expr (written_at (codes "E") 27)) (kind_enum 0)
 unfolding type_named sought typedefs_of enums_of structs_of
 c_means = (0, refl)
 
@@ -142,7 +140,7 @@ named_bad_constant = ((λ f h. h), ((λ f h. h), ((λ f h. h), ((λ f h. h), ((�
 no_flaw : HasNoFlaw named_number
 no_flaw = (named_dotted_name, (named_duplicate_name, (named_unknown_type, (named_typedef_cycle, (named_field_id, (named_duplicate_id, (named_enum_number, (named_service_cycle, (named_duplicate_function, (named_oneway_not_void, (named_oneway_throws, (named_not_exception, (named_struct_loop, (named_bad_constant, tt))))))))))))))
 
-c_constant : IsConstantOf (record { program = named_number; schema = named_schema [] }) (record { file = 0; item = record { name = written (codes "C") 29; type = name_expr (written (codes "E") 27); value = name_const (written (codes "E.Y") 33) } }) named_constant
+c_constant : IsConstantOf (record { program = named_number; schema = named_schema [] }) (record { file = 0; item = record { name = written_at (codes "C") 29; type = name_expr (written_at (codes "E") 27); value = name_const (written_at (codes "E.Y") 33) } }) named_constant
 unfolding c_value
 c_constant = record { file = refl; name = refl; kind = c_means; value = record { which = 0; number = c_number; count = 1; worth = c_worth } }
 
@@ -191,7 +189,7 @@ repeated_id = record {
   clear = (doubled_dotted_name, (doubled_duplicate_name, (doubled_unknown_type, (doubled_typedef_cycle, (doubled_field_id, tt)))));
   first = record {
     before = before;
-    spot = get_or (spots_of doubled_id) 4 (record { file = 0; shows = given_name [] (written [] 0) });
+    spot = get_or (spots_of doubled_id) 4 (record { file = 0; shows = given_name [] (written_at [] 0) });
     after = drop 5 (spots_of doubled_id);
     split = refl;
     clear = ((λ f h. h.0), ((λ f h. h.0), ((λ f h. off h.0), ((λ f h. h.0), tt))));
@@ -200,11 +198,11 @@ repeated_id = record {
 }
 
 -- an exception that is named by a typedef, and a struct that is thrown
-pub thrown_exception : IsException named_kinds 0 (name_expr (written (codes "U") 1))
+pub thrown_exception : IsException named_kinds 0 (name_expr (written_at (codes "U") 1))
 unfolding alias_kind type_named sought typedefs_of enums_of structs_of
-thrown_exception = (1, (1, refl), record { file = 0; item = record { name = written (codes "X") 35; kind = kind.Exception; fields = [] } }, refl, refl)
+thrown_exception = (1, (1, refl), record { file = 0; item = record { name = written_at (codes "X") 35; kind = kind.Exception; fields = [] } }, refl, refl)
 
-t_means : Means named_kinds 0 (name_expr (written (codes "T") 1)) (kind_struct 0)
+t_means : TypeMeans named_kinds 0 (name_expr (written_at (codes "T") 1)) (kind_struct 0)
 unfolding type_named sought typedefs_of enums_of structs_of
 t_means = (0, refl)
 
@@ -218,11 +216,11 @@ is_exception : StructKind → Bool
 is_exception kind.Exception = true
 is_exception _ = false
 
-pub thrown_struct : IsException named_kinds 0 (name_expr (written (codes "T") 1)) → ⊥
+pub thrown_struct : IsException named_kinds 0 (name_expr (written_at (codes "T") 1)) → ⊥
 unfolding number_or is_exception structs_of
 thrown_struct (k, means, s, at, is) =
-    let zero_is : 0 ≡ k = ap (number_or 0) (one_meaning named_kinds 0 (name_expr (written (codes "T") 1)) (kind_struct 0) (kind_struct k) t_means means) in
-    let t : Filed StructDecl = record { file = 0; item = record { name = written (codes "T") 20; kind = kind.Struct; fields = [] } } in
+    let zero_is : 0 ≡ k = ap (number_or 0) (one_meaning named_kinds 0 (name_expr (written_at (codes "T") 1)) (kind_struct 0) (kind_struct k) t_means means) in
+    let t : Filed StructDecl = record { file = 0; item = record { name = written_at (codes "T") 20; kind = kind.Struct; fields = [] } } in
     let P : ℕ → Type 0 = λ n. slice_get (structs_of named_kinds) n ≡ Some s in
     let same = somes t s (subst P (sym zero_is) at) in
     off (ap (λ (d : Filed StructDecl). is_exception d.item.kind) same ∙ ap is_exception is)

@@ -1,6 +1,6 @@
 -- What a constant value is worth against a type: a function of the values that aren't under evaluation, in reading order, with
 -- the first fault (Thrift IDL, 'Constant Values').
-use Rattle.std.specs.Prelude.{ℕ, zero, suc, ℤ, ◌==◌, Bool, true, false, List, [], ◌∷◌, map, replicate, length, slice_get, slice_index_or, slice_set, Option, Some, None, Ok, Err, if◌then◌else◌}
+use Rattle.std.specs.Prelude.{ℕ, zero, suc, ℤ, Bool, true, false, List, [], ◌∷◌, map, length, slice_get, slice_index_or, slice_set, Option, Some, None, Ok, Err, if◌then◌else◌}
 use Rattle.std.specs.Ordering.{int_eq}
 use Rattle.std.specs.Option.{option_or, option_and_then, option_map_or}
 use Rattle.std.specs.List.{find}
@@ -9,8 +9,7 @@ use Rattle.idl_token.specs.declared.Place.{Place}
 use Rattle.thrift_value.specs.declared.tag.Tag.{Tag}
 use Rattle.thrift_value.specs.declared.tag.Tag.TheVariants as tag
 use Rattle.thrift_value.specs.Tree.{Tree, of_struct, of_map, of_set, of_list, FieldTrees, no_fields, field, ItemTrees, no_items, item, PairTrees, no_pairs, pair}
-use Rattle.idl_model.specs.Written.{Written}
-use Rattle.idl_model.specs.ConstExpr.{ConstExpr, int_const, double_const, literal_const, name_const, list_const, map_const, ConstItems, no_consts, const_item, ConstEntries, no_entries, const_entry, place_of_const, entry_count}
+use Rattle.idl_model.specs.ConstExpr.{ConstExpr, int_const, double_const, literal_const, name_const, list_const, map_const, ConstItems, no_consts, const_item, ConstEntries, no_entries, const_entry, place_of_const}
 use Rattle.idl_model.specs.Program.{Program}
 use Rattle.idl_model.specs.Numbering.{Filed}
 use Rattle.idl_model.specs.Spots.{GivenValue, values_of}
@@ -23,7 +22,7 @@ use Rattle.schema.specs.PlainKind.{PlainKind, kind_bool, kind_i8, kind_i16, kind
 use Rattle.schema.specs.PlainSchema.{PlainField, PlainStruct, PlainSchema}
 use Rattle.check_model.specs.FieldLists.{NumberedField, FieldsDecl, fields_by_id, field_lists}
 use Rattle.check_model.specs.TidyRows.{tidy_members, tidy_pairs}
-use Rattle.check_model.specs.Worths.{ConstFlaw, wrong_kind, unknown_name, const_cycle, unknown_field, missing_field, Worth, valued, flawed, and_next, seen_at, only_if, one_more, one_level, most_levels}
+use Rattle.check_model.specs.Worths.{wrong_kind, unknown_name, const_cycle, unknown_field, missing_field, Worth, valued, flawed, and_next, seen_at, only_if, one_more, one_level, most_levels}
 use Rattle.check_model.specs.Scalars.{OneWorth, int_worth, double_worth, literal_worth, enum_worth}
 
 -- what constants are evaluated in: the program, and its schema, of which neither defaults nor constants count here
@@ -158,8 +157,8 @@ made_fields named default at levels fields.Union items given count = union_worth
 made_fields named default at levels _ items given count = fields_worth named default given at levels count items
 
 -- the struct of some number, or one without fields
-abbrev pub struct_at : PlainSchema → ℕ → PlainStruct
-struct_at schema which = slice_index_or schema.structs which (record { file = 0; name = []; kind = fields.Struct; fields = [] })
+abbrev pub struct_numbered : PlainSchema → ℕ → PlainStruct
+struct_numbered schema which = slice_index_or schema.structs which (record { file = 0; name = []; kind = fields.Struct; fields = [] })
 
 -- what stands in braces, by the type: pairs of a map, or fields of a struct
 abbrev pub braced : PlainKind → (PlainKind → PlainKind → Worth PairTrees) → (ℕ → Worth FieldTrees) → Worth Tree
@@ -179,8 +178,8 @@ abbrev mutual
       and_next (items_by s named file (element_kind kind) left n items) (λ made m. valued (row_tree kind made) m))
   worth_by s named file kind levels count (map_const at entries) = opened at (takes_braces kind) levels count (λ left n.
       braced kind (λ key value. pairs_by s named file key value left n entries) (λ which.
-      and_next (given_by s named file (struct_at s.schema which).fields left n entries) (λ given m.
-      made_fields named (default_of s.program which) at left (struct_at s.schema which).kind (struct_at s.schema which).fields given m)))
+      and_next (given_by s named file (struct_numbered s.schema which).fields left n entries) (λ given m.
+      made_fields named (default_of s.program which) at left (struct_numbered s.schema which).kind (struct_numbered s.schema which).fields given m)))
 
   -- the values of a list, each against one type
   pub items_by : Setting → NamedWorth → ℕ → PlainKind → ℕ → ℕ → ConstItems → Worth ItemTrees
@@ -210,15 +209,15 @@ abbrev pub is_free : List Bool → ℕ → Bool
 is_free free which = slice_index_or free which false
 
 -- a value by its number, with what the others are worth
-abbrev pub entered : Setting → NamedWorth → Bool → Option (Filed GivenValue) → PlainKind → ℕ → ℕ → Worth Tree
-entered s named true (Some v) kind levels count = worth_by s named v.file kind levels count v.item.tree
-entered s named _ _ kind levels count = flawed (record { line = 0; column = 0 }) const_cycle
+abbrev pub on_entering : Setting → NamedWorth → Bool → Option (Filed GivenValue) → PlainKind → ℕ → ℕ → Worth Tree
+on_entering s named true (Some v) kind levels count = worth_by s named v.file kind levels count v.item.tree
+on_entering s named _ _ kind levels count = flawed (record { line = 0; column = 0 }) const_cycle
 
 -- what given values are worth of which so many are free, at most: one that isn't free needs itself
 unfoldable pub named_worth : Setting → ℕ → List Bool → NamedWorth
 named_worth s zero free which kind levels count = flawed (record { line = 0; column = 0 }) const_cycle
 named_worth s (suc left) free which kind levels count =
-    entered s (named_worth s left (slice_set free which false)) (is_free free which) (slice_get (values_of s.program) which) kind levels count
+    on_entering s (named_worth s left (slice_set free which false)) (is_free free which) (slice_get (values_of s.program) which) kind levels count
 
 -- all given values are free
 abbrev pub all_free : Program → List Bool

@@ -1,5 +1,5 @@
 -- Which structs have a finite value: one that doesn't need a value of its own kind inside it.
-use Rattle.std.specs.Prelude.{◌≡◌, ℕ, zero, suc, Bool, true, false, ◌&&◌, ◌||◌, List, [], ◌∷◌, slice_get, Option, Some, None}
+use Rattle.std.specs.Prelude.{◌≡◌, ℕ, zero, suc, Bool, true, false, ◌||◌, List, [], ◌∷◌, slice_get}
 use Rattle.std.specs.Option.{option_map_or}
 use Rattle.std.specs.List.{list_any, list_all}
 use Rattle.schema.specs.declared.types.FieldNeed.{FieldNeed}
@@ -20,13 +20,13 @@ field_allows has wanted.Required kind = kind_has has kind
 field_allows has _ kind = true
 
 -- there is nothing in the list
-abbrev pub is_empty : {A : Type 0} → List A → Bool
-is_empty [] = true
-is_empty (x ∷ xs) = false
+abbrev pub has_no_items : {A : Type 0} → List A → Bool
+has_no_items [] = true
+has_no_items (x ∷ xs) = false
 
 -- a struct has a value where each required field has one; a union where some field has one, or there is none
 abbrev pub fields_have : (ℕ → Bool) → FieldsKind → List PlainField → Bool
-fields_have has fields.Union items = is_empty items || list_any (λ (f : PlainField). kind_has has f.kind) items
+fields_have has fields.Union items = has_no_items items || list_any (λ (f : PlainField). kind_has has f.kind) items
 fields_have has _ items = list_all (λ (f : PlainField). field_allows has f.need f.kind) items
 
 -- a struct has a value in which structs stand in one another at most so many deep

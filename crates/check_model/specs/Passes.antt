@@ -8,23 +8,23 @@ use Rattle.idl_parser.specs.declared.tree.StructKind.TheVariants as kind
 use Rattle.graph_walk.specs.Walks.{OnCycle}
 use Rattle.idl_model.specs.Written.{Written}
 use Rattle.idl_model.specs.TypeExpr.{TypeExpr}
-use Rattle.idl_model.specs.Declarations.{FieldDecl, FunctionDecl, TypedefDecl, EnumValueDecl, StructDecl, ServiceDecl}
+use Rattle.idl_model.specs.Declarations.{FieldDecl, FunctionDecl, EnumValueDecl, StructDecl}
 use Rattle.idl_model.specs.Loading.{is_among}
 use Rattle.idl_model.specs.Program.{Program}
-use Rattle.idl_model.specs.Numbering.{Filed, typedefs_of, structs_of, services_of, number_named}
+use Rattle.idl_model.specs.Numbering.{Filed, structs_of}
 use Rattle.idl_model.specs.Names.{is_dotted, type_named, service_named}
 use Rattle.idl_model.specs.FieldIds.{id_behind, unnumbered_in, field_ids}
 use Rattle.idl_model.specs.EnumNumbers.{number_or, next_number}
 use Rattle.idl_model.specs.Cycles.{alias_graph, parent_graph, HasFunction, Inherits}
-use Rattle.idl_model.specs.Spots.{GivenValue, Spotted, given_name, type_use, parent_use, typedef_spot, field_spot, thrown_spot, enum_value_spot, struct_spot, service_spot, function_spot, value_spot, Spot}
+use Rattle.idl_model.specs.Spots.{GivenValue, Spotted, given_name, type_use, parent_use, typedef_spot, field_spot, thrown_spot, enum_value_spot, struct_spot, service_spot, function_spot, value_spot}
 use Rattle.idl_model.specs.ConstNames.{value_number}
 use Rattle.schema.specs.PlainKind.{PlainKind, kind_struct}
 use Rattle.schema.specs.PlainSchema.{PlainSchema}
-use Rattle.check_model.specs.Resolved.{Means}
-use Rattle.check_model.specs.FiniteValues.{is_empty, HasFiniteValue}
+use Rattle.check_model.specs.Resolved.{TypeMeans}
+use Rattle.check_model.specs.FiniteValues.{has_no_items, HasFiniteValue}
 use Rattle.check_model.specs.Scalars.{has_bits}
-use Rattle.check_model.specs.Worths.{ConstFlaw, Worth, flawed}
-use Rattle.check_model.specs.Evaluation.{Setting, given_worth}
+use Rattle.check_model.specs.Worths.{ConstFlaw, flawed}
+use Rattle.check_model.specs.Evaluation.{given_worth}
 use Rattle.check_model.specs.SchemaParts.{IsPartialSchema}
 
 -- the passes, each named for what it finds
@@ -74,7 +74,7 @@ IsRepeatedFunction program service before name = HasFunction before name ⊎ Inh
 -- the type means an exception
 abbrev pub IsException : Program → ℕ → TypeExpr → Type 0
 IsException program file type =
-    (k : ℕ) × Means program file type (kind_struct k) × (s : Filed StructDecl) × (slice_get (structs_of program) k ≡ Some s) × (s.item.kind ≡ kind.Exception)
+    (k : ℕ) × TypeMeans program file type (kind_struct k) × (s : Filed StructDecl) × (slice_get (structs_of program) k ≡ Some s) × (s.item.kind ≡ kind.Exception)
 
 -- a struct of this number has no finite value
 abbrev pub HasNoFiniteValue : Program → ℕ → Type 0
@@ -98,7 +98,7 @@ FindsFault enum_number program file (enum_value_spot before value) = has_bits 32
 FindsFault service_cycle program file (service_spot number name) = OnCycle (parent_graph program) number
 FindsFault duplicate_function program file (function_spot service before f) = IsRepeatedFunction program service before f.name.text
 FindsFault oneway_not_void program file (function_spot service before f) = (f.oneway ≡ true) × (is_some f.result ≡ true)
-FindsFault oneway_throws program file (function_spot service before f) = (f.oneway ≡ true) × (is_empty f.throws ≡ false)
+FindsFault oneway_throws program file (function_spot service before f) = (f.oneway ≡ true) × (has_no_items f.throws ≡ false)
 FindsFault not_exception program file (thrown_spot field) = IsException program file field.type → ⊥
 FindsFault struct_loop program file (struct_spot number s) = NeedsFiniteValue s.kind × HasNoFiniteValue program number
 FindsFault _ program file _ = ⊥
@@ -122,7 +122,7 @@ pub record HasConstFlaw (program : Program) (file : ℕ) (v : GivenValue) (at : 
   pub schema : PlainSchema
   pub made : IsPartialSchema program schema
   pub kind : PlainKind
-  pub means : Means program file v.type kind
+  pub means : TypeMeans program file v.type kind
   pub which : ℕ
   pub number : value_number program file v.owner ≡ Some which
   pub worth : given_worth (record { program = program; schema = schema }) which kind (record { file = file; item = v }) ≡ flawed at flaw

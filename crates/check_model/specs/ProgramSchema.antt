@@ -13,8 +13,8 @@ use Rattle.idl_model.specs.Readings.{FileReading, IsReaderOf}
 use Rattle.idl_model.specs.Loading.{LoadFlaw, Loaded, loaded, stopped, program_of}
 use Rattle.schema.specs.PlainKind.{PlainKind}
 use Rattle.schema.specs.PlainSchema.{PlainConstant, PlainSchema}
-use Rattle.check_model.specs.Resolved.{Means}
-use Rattle.check_model.specs.Worths.{Worth, valued}
+use Rattle.check_model.specs.Resolved.{TypeMeans}
+use Rattle.check_model.specs.Worths.{valued}
 use Rattle.check_model.specs.Evaluation.{Setting, given_worth}
 use Rattle.check_model.specs.SchemaParts.{DefaultRule, IsSchemaWith, IsPartialSchema}
 use Rattle.check_model.specs.FirstFlaw.{ProgramFlaw, IsFirstFlaw, HasNoFlaw}
@@ -41,7 +41,7 @@ DefaultIn s file field kind default = IsDefault s file field kind field.default 
 pub record IsConstantOf (s : Setting) (c : Filed ConstDecl) (p : PlainConstant) : Type 0 where
   pub file : p.file ≡ c.file
   pub name : p.name ≡ c.item.name.text
-  pub kind : Means s.program c.file c.item.type p.kind
+  pub kind : TypeMeans s.program c.file c.item.type p.kind
   pub value : HasWorth s (record { file = c.file; item = record { owner = c.item.name.at; type = c.item.type; tree = c.item.value } }) p.kind p.value
 
 -- The schema of a program, of which each pass finds nothing.

@@ -3,7 +3,6 @@ use Rattle.std.specs.Prelude.{◌≡◌, ℕ, zero, suc, slice_get, Option, Some
 use Rattle.std.specs.Option.{option_and_then, option_map}
 use Rattle.idl_parser.specs.declared.tree.Base.{Base}
 use Rattle.idl_parser.specs.declared.tree.Base.TheVariants as base
-use Rattle.idl_model.specs.Written.{Written}
 use Rattle.idl_model.specs.TypeExpr.{TypeExpr, base_expr, name_expr, map_expr, set_expr, list_expr}
 use Rattle.idl_model.specs.Declarations.{TypedefDecl}
 use Rattle.idl_model.specs.Program.{Program}
@@ -49,5 +48,5 @@ alias_kind program (suc deep) number =
     option_and_then (λ (t : Filed TypedefDecl). kind_by (alias_kind program deep) program t.file t.item.type) (slice_get (typedefs_of program) number)
 
 -- A type that stands in a file means this kind.
-abbrev pub Means : Program → ℕ → TypeExpr → PlainKind → Type 0
-Means program file type kind = (deep : ℕ) × (kind_by (alias_kind program deep) program file type ≡ Some kind)
+abbrev pub TypeMeans : Program → ℕ → TypeExpr → PlainKind → Type 0
+TypeMeans program file type kind = (deep : ℕ) × (kind_by (alias_kind program deep) program file type ≡ Some kind)

@@ -1,5 +1,5 @@
 -- Constants of one value: integers, doubles, literals and values of enums, against a type (Thrift IDL, 'Constant Values').
-use Rattle.std.specs.Prelude.{ℕ, ℤ, pos, negsuc, ◌≤ℤ◌, ◌==◌, ◌&&◌, ◌-◌, ◌^◌, int_le, neg_ℤ, nat_eq, Bool, true, false, List, Option, Some, None, Result, Ok, Err, if◌then◌else◌}
+use Rattle.std.specs.Prelude.{ℕ, ℤ, pos, negsuc, ◌&&◌, ◌-◌, ◌^◌, int_le, neg_ℤ, nat_eq, Bool, true, false, List, Option, Some, None, Result, Ok, Err, if◌then◌else◌}
 use Rattle.thrift_value.specs.Tree.{Tree, of_bool, of_i8, of_i16, of_i32, of_i64, of_double, of_bytes}
 use Rattle.schema.specs.PlainKind.{PlainKind, kind_bool, kind_i8, kind_i16, kind_i32, kind_i64, kind_double, kind_text, kind_binary, kind_enum}
 use Rattle.check_model.specs.Worths.{ConstFlaw, wrong_kind, out_of_range, double_constant}

@@ -1,11 +1,10 @@
 -- The schema of a program, part by part. What is said of a field's default is left open: a schema is made twice, first without defaults.
-use Rattle.std.specs.Prelude.{◌≡◌, ◌⊎◌, ⊤, ℕ, suc, ℤ, ◌+◌, List, [], ◌∷◌, map, length, Option, Some, None}
+use Rattle.std.specs.Prelude.{◌≡◌, ⊤, ℕ, suc, ℤ, ◌+◌, List, [], ◌∷◌, map, length, Option, Some, None}
 use Rattle.std.specs.List.{AllZip}
 use Rattle.thrift_value.specs.Tree.{Tree}
-use Rattle.idl_model.specs.Written.{Written}
 use Rattle.idl_model.specs.TypeExpr.{TypeExpr}
-use Rattle.idl_model.specs.Declarations.{FieldDecl, FunctionDecl, TypedefDecl, EnumValueDecl, EnumDecl, StructDecl, ServiceDecl, Declaration, of_const, of_typedef, of_enum, of_struct_decl, of_service}
-use Rattle.idl_model.specs.Program.{SourceFile, Program, base_of_file}
+use Rattle.idl_model.specs.Declarations.{FieldDecl, FunctionDecl, TypedefDecl, EnumValueDecl, EnumDecl, ServiceDecl, Declaration, of_const, of_typedef, of_enum, of_struct_decl, of_service}
+use Rattle.idl_model.specs.Program.{Program, base_of_file}
 use Rattle.idl_model.specs.Numbering.{Filed, Counts, none_counted, counted, all_counted, typedefs_of, enums_of, structs_of, services_of}
 use Rattle.idl_model.specs.EnumNumbers.{enum_numbers}
 use Rattle.idl_model.specs.Cycles.{parent_of}
@@ -15,7 +14,7 @@ use Rattle.schema.specs.declared.types.DefRef.{DefRef}
 use Rattle.schema.specs.declared.types.DefRef.TheVariants as ref
 use Rattle.schema.specs.PlainKind.{PlainKind}
 use Rattle.schema.specs.PlainSchema.{PlainField, PlainStruct, PlainEnum, PlainFunction, PlainService, PlainAlias, PlainFile, PlainSchema}
-use Rattle.check_model.specs.Resolved.{Means}
+use Rattle.check_model.specs.Resolved.{TypeMeans}
 use Rattle.check_model.specs.FieldLists.{NumberedField, FieldsDecl, need_in, fields_by_id, field_lists}
 
 -- a definition by its kind and its number, behind so many
@@ -55,7 +54,7 @@ enum_made e = record { file = e.file; name = e.item.name.text; values = named_nu
 pub record IsAliasOf (program : Program) (t : Filed TypedefDecl) (a : PlainAlias) : Type 0 where
   pub file : a.file ≡ t.file
   pub name : a.name ≡ t.item.name.text
-  pub kind : Means program t.file t.item.type a.kind
+  pub kind : TypeMeans program t.file t.item.type a.kind
 
 -- what is said of a default: of a field that stands in a file and has a type
 abbrev pub DefaultRule : Type 1
@@ -65,7 +64,7 @@ DefaultRule = ℕ → FieldDecl → PlainKind → Option Tree → Type 0
 pub record IsFieldOf (Default : DefaultRule) (program : Program) (file : ℕ) (list : FieldsKind) (f : NumberedField) (p : PlainField) : Type 0 where
   pub id : p.id ≡ f.id
   pub need : p.need ≡ need_in list f.decl.need
-  pub kind : Means program file f.decl.type p.kind
+  pub kind : TypeMeans program file f.decl.type p.kind
   pub name : p.name ≡ f.decl.name.text
   pub default : Default file f.decl p.kind p.default
 
@@ -83,7 +82,7 @@ pub record IsStructOf (Default : DefaultRule) (program : Program) (d : FieldsDec
 -- a result: a type or none
 abbrev pub ResultMeans : Program → ℕ → Option TypeExpr → Option PlainKind → Type 0
 ResultMeans program file None None = ⊤
-ResultMeans program file (Some type) (Some kind) = Means program file type kind
+ResultMeans program file (Some type) (Some kind) = TypeMeans program file type kind
 ResultMeans program file _ _ = ⊥
 
 -- a function that stands in a file, with the number of its arguments' struct

@@ -3,7 +3,7 @@ use Rattle.std.specs.Prelude.{ℕ, pos, codes, List, [], ◌∷◌, slice_get, O
 use Rattle.thrift_value.specs.Tree.{Tree, of_i32}
 use Rattle.idl_model.specs.Program.{Program}
 use Rattle.idl_model.specs.Numbering.{Filed}
-use Rattle.idl_model.specs.Decoded.{nowhere}
+use Rattle.idl_parser.specs.Unplaced.{nowhere}
 use Rattle.idl_model.specs.Spots.{GivenValue, values_of}
 use Rattle.schema.specs.declared.types.FieldNeed.TheVariants as wanted
 use Rattle.schema.specs.declared.types.FieldsKind.TheVariants as fields

@@ -1,5 +1,5 @@
 -- Doubles that are whole numbers: which a constant stands for, exactly, and their 64 bits.
-use Rattle.std.specs.Prelude.{ℕ, zero, suc, ℤ, pos, negsuc, neg_ℤ, nat_abs, ◌+◌, ◌-◌, ◌*◌, ◌/◌, ◌%◌, ◌^◌, ◌==◌, nat_le, Bool, List, [], ◌∷◌, ◌++◌, length, take, drop, slice_index, Option, Some, None, if◌then◌else◌}
+use Rattle.std.specs.Prelude.{ℕ, zero, suc, ℤ, pos, negsuc, neg_ℤ, ◌+◌, ◌-◌, ◌*◌, ◌/◌, ◌%◌, ◌^◌, ◌==◌, nat_le, Bool, List, [], ◌++◌, length, take, drop, slice_index, Option, Some, None, if◌then◌else◌}
 use Rattle.idl_token.specs.Bytes as byte
 use Rattle.idl_token.specs.Numbers.{behind_sign, digits_in, behind_digits, value_behind, behind_exponent_mark, int_of}
 
@@ -28,8 +28,8 @@ places_down (pos n) = 0
 places_down (negsuc n) = suc n
 
 -- the parts of a double without its sign: digits, and behind them a fraction or nothing, an exponent or nothing
-abbrev pub decimal_of : List ℕ → Decimal
-decimal_of text =
+abbrev pub decimal_in : List ℕ → Decimal
+decimal_in text =
     let fraction = fraction_digits (behind_digits text) in
     let exponent = int_of (behind_exponent_mark text) in
     record {
@@ -54,7 +54,7 @@ signed_within negative (Some n) = within_doubles negative n
 
 -- the whole number that a double's bytes write, where it is one within plus or minus 2 ^ 53
 unfoldable pub double_number : List ℕ → Option ℤ
-double_number text = signed_within (slice_index text 0 == byte.minus) (whole_number (decimal_of (behind_sign text)))
+double_number text = signed_within (slice_index text 0 == byte.minus) (whole_number (decimal_in (behind_sign text)))
 
 -- an integer, where it is within plus or minus 2 ^ 53
 unfoldable pub int_as_double : ℤ → Option ℤ

@@ -6,11 +6,11 @@ ghost use Rattle.idl_parser.specs.declared.tree.Base.TheVariants as base;
 ghost use Rattle.idl_model.specs.TypeExpr.{base_expr, name_expr, list_expr};
 ghost use Rattle.idl_model.specs.ConstExpr.{int_const, literal_const, map_const, const_entry, no_entries};
 ghost use Rattle.idl_model.specs.Spots.{given_name, type_use, typedef_spot, field_spot, enum_value_spot, service_spot, function_spot, thrown_spot};
-ghost use Rattle.idl_model.specs.SmallPrograms.{column, with_number, small_field, small_function, aliases_itself, extends_itself, inherits_twice, named_kinds, written, list_of_a, narrow, doubled_id, takes_itself, crossed, lists_itself, named_number};
+ghost use Rattle.idl_model.specs.SmallPrograms.{column, with_number, small_field, small_function, aliases_itself, extends_itself, inherits_twice, named_kinds, written_at, list_of_a, narrow, doubled_id, takes_itself, crossed, lists_itself, named_number};
 ghost use Rattle.schema.specs.PlainKind.{kind_i8, kind_i32, kind_enum, kind_struct, kind_list};
 ghost use Rattle.check_model.specs.WholeDoubles.{double_number, double_bits, int_as_double};
 ghost use Rattle.check_model.specs.TidyRows.{tidy_members, tidy_pairs};
-ghost use Rattle.check_model.specs.Resolved.{Means};
+ghost use Rattle.check_model.specs.Resolved.{TypeMeans};
 ghost use Rattle.check_model.specs.Worths.{valued, flawed, wrong_kind, out_of_range, const_cycle, unknown_field, missing_field};
 ghost use Rattle.check_model.specs.Evaluation.{evaluated};
 ghost use Rattle.check_model.specs.FiniteValues.{has_value_within};
@@ -45,17 +45,17 @@ pub fn constants()
     ensures number { worth_in named_number no_schema 0 (kind_enum 0) ≡ valued (of_i32 (pos 5)) 1 }
     ensures other_enum { worth_in named_number no_schema 0 (kind_enum 1) ≡ flawed (column 33) wrong_kind }
     ensures given { evaluated (record { program = crossed; schema = needs_itself }) 0 (kind_struct 0)
-        (map_const (column 1) (const_entry (literal_const (written (codes "n") 2)) (int_const (pos 7) (column 4)) no_entries))
+        (map_const (column 1) (const_entry (literal_const (written_at (codes "n") 2)) (int_const (pos 7) (column 4)) no_entries))
         ≡ flawed (column 1) missing_field }
     ensures no_field { evaluated (record { program = crossed; schema = needs_itself }) 0 (kind_struct 0)
-        (map_const (column 1) (const_entry (literal_const (written (codes "m") 2)) (int_const (pos 7) (column 4)) no_entries))
+        (map_const (column 1) (const_entry (literal_const (written_at (codes "m") 2)) (int_const (pos 7) (column 4)) no_entries))
         ≡ flawed (column 2) unknown_field }
 {}
 
 /// Types with typedefs resolved, and structs with and without a finite value.
 pub fn types()
-    ensures list { Means crossed 0 (list_expr (base_expr base.I32)) (kind_list kind_i32) }
-    ensures name { Means takes_itself 0 (name_expr (written (codes "S") 15)) (kind_struct 0) }
+    ensures list { TypeMeans crossed 0 (list_expr (base_expr base.I32)) (kind_list kind_i32) }
+    ensures name { TypeMeans takes_itself 0 (name_expr (written_at (codes "S") 15)) (kind_struct 0) }
     ensures finite { has_value_within itself_schema 1 0 ≡ true }
     ensures loops { has_value_within needs_itself 5 0 ≡ false }
 {}
@@ -68,14 +68,14 @@ pub fn verdicts()
 
 /// What passes find at a spot, and what not.
 pub fn faults()
-    ensures dotted { FindsFault dotted_name narrow 0 (given_name [] (written (codes "a.b") 1)) }
-    ensures third_is_second { FindsFault duplicate_name narrow 0 (given_name (written (codes "a") 1 ∷ []) (written (codes "a") 3)) }
-    ensures unknown { FindsFault unknown_type crossed 0 (type_use (written (codes "A") 1)) }
-    ensures typedef_itself { FindsFault typedef_cycle aliases_itself 0 (typedef_spot 0 (written (codes "T") 17)) }
-    ensures id_zero { FindsFault field_id narrow 0 (field_spot [] (small_field 12 0 (base_expr base.I8) (written (codes "a") 18) None)) }
+    ensures dotted { FindsFault dotted_name narrow 0 (given_name [] (written_at (codes "a.b") 1)) }
+    ensures third_is_second { FindsFault duplicate_name narrow 0 (given_name (written_at (codes "a") 1 ∷ []) (written_at (codes "a") 3)) }
+    ensures unknown { FindsFault unknown_type crossed 0 (type_use (written_at (codes "A") 1)) }
+    ensures typedef_itself { FindsFault typedef_cycle aliases_itself 0 (typedef_spot 0 (written_at (codes "T") 17)) }
+    ensures id_zero { FindsFault field_id narrow 0 (field_spot [] (small_field 12 0 (base_expr base.I8) (written_at (codes "a") 18) None)) }
     ensures past_the_last { FindsFault enum_number narrow 0 (enum_value_spot (with_number (Some (pos 2147483647)) ∷ []) (with_number None)) }
-    ensures service_itself { FindsFault service_cycle extends_itself 0 (service_spot 0 (written (codes "A") 9)) }
+    ensures service_itself { FindsFault service_cycle extends_itself 0 (service_spot 0 (written_at (codes "A") 9)) }
     ensures inherited { FindsFault duplicate_function inherits_twice 0 (function_spot 1 [] (small_function (codes "f") 46)) }
-    ensures exception_by_typedef { FindsFault not_exception named_kinds 0 (thrown_spot (small_field 1 1 (name_expr (written (codes "U") 1)) (written (codes "e") 1) None)) → ⊥ }
-    ensures struct_thrown { FindsFault not_exception named_kinds 0 (thrown_spot (small_field 1 1 (name_expr (written (codes "T") 1)) (written (codes "e") 1) None)) }
+    ensures exception_by_typedef { FindsFault not_exception named_kinds 0 (thrown_spot (small_field 1 1 (name_expr (written_at (codes "U") 1)) (written_at (codes "e") 1) None)) → ⊥ }
+    ensures struct_thrown { FindsFault not_exception named_kinds 0 (thrown_spot (small_field 1 1 (name_expr (written_at (codes "T") 1)) (written_at (codes "e") 1) None)) }
 {}

@@ -6,7 +6,7 @@ ghost use Rattle.idl_model.specs.TypeExpr.{TypeExpr};
 ghost use Rattle.idl_model.specs.Program.{Program};
 ghost use Rattle.schema.specs.PlainKind.{PlainKind};
 ghost use Rattle.schema.specs.PlainSchema.{PlainSchema};
-ghost use Rattle.check_model.specs.Resolved.{Means};
+ghost use Rattle.check_model.specs.Resolved.{TypeMeans};
 ghost use Rattle.check_model.specs.SchemaParts.{IsPartialSchema};
 ghost use Rattle.check_model.specs.FirstFlaw.{ProgramFlaw, IsFirstFlaw};
 ghost use Rattle.check_model.specs.ProgramSchema.{IsSchemaOf, ProgramVerdict, IsProgramVerdict};
@@ -16,7 +16,7 @@ use idl_model::laws::{each_file_is_read_as_one_thing, the_program_is_determined}
 
 /// A type means one kind at most.
 pub fn a_type_has_one_meaning()
-    ensures { (program : Program) (file : ℕ) (type : TypeExpr) (j k : PlainKind) → Means program file type j → Means program file type k → j ≡ k }
+    ensures { (program : Program) (file : ℕ) (type : TypeExpr) (j k : PlainKind) → TypeMeans program file type j → TypeMeans program file type k → j ≡ k }
 {}
 
 /// A program has one schema at most, with its defaults and constants and without.

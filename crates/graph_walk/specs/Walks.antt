@@ -24,6 +24,6 @@ abbrev pub OnCycle : Graph → ℕ → Type 0
 OnCycle graph node = LeadsTo graph node node
 
 -- the least number of which P holds, or that there is none
-abbrev pub IsFirst : (ℕ → Type 0) → Option ℕ → Type 0
-IsFirst P None = (k : ℕ) → P k → ⊥
-IsFirst P (Some k) = P k × ((j : ℕ) → j < k → P j → ⊥)
+abbrev pub IsLowest : (ℕ → Type 0) → Option ℕ → Type 0
+IsLowest P None = (k : ℕ) → P k → ⊥
+IsLowest P (Some k) = P k × ((j : ℕ) → j < k → P j → ⊥)

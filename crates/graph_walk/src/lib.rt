@@ -8,7 +8,7 @@
 #![tactic(auto)]
 
 ghost use Rattle.std.specs.Prelude.{◌≡◌, map, IfOk};
-ghost use Rattle.graph_walk.specs.Walks.{OnCycle, IsFirst};
+ghost use Rattle.graph_walk.specs.Walks.{OnCycle, IsLowest};
 
 use std::alloc::{AllocError, Global};
 
@@ -23,7 +23,7 @@ use labels::labels;
 
 /// The first node, by number, that lies on a cycle.
 pub fn first_on_cycle(alloc: Global, graph: &[Vec<u32>]) -> Result<Option<u32>, AllocError>
-    ensures { IfOk result (λ found. IsFirst (OnCycle (map (λ row. row.items) graph.now)) found) }
+    ensures { IfOk result (λ found. IsLowest (OnCycle (map (λ row. row.items) graph.now)) found) }
 {
     let labels = labels(alloc, graph)?;
     if !rises_nowhere(graph, labels.as_slice()) {

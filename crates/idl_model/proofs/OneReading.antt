@@ -15,7 +15,7 @@ use Rattle.idl_parser.specs.Symbols.{lexemes}
 use Rattle.idl_parser.specs.Documents.{deepest, DocumentIn}
 use Rattle.idl_parser.specs.FirstFault.{IsFirstSyntaxFault, AreDocument, HasFirstSyntaxFault}
 use Rattle.idl_parser.specs.Faults.{next_place, fault_kind, IsFaultOf}
-use Rattle.idl_model.specs.Decoded.{nowhere}
+use Rattle.idl_parser.specs.Unplaced.{nowhere}
 use Rattle.idl_model.specs.Readings.{absent, too_long, bad_name, lexed_badly, parsed_badly, includes_itself, same_base, too_many, FileReading, read_as, unread, IsTreeOf, IsParseFaultIn, IsTextReadAs, IsReadWithin, IsHeldReadAs, IsReaderOf}
 
 -- what is known of the lexer and of the parser

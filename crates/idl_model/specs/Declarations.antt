@@ -67,9 +67,9 @@ pub data Declaration : Type 0 where
   of_service : ServiceDecl → Declaration
 
 -- the name that a definition gives
-abbrev pub name_of : Declaration → Written
-name_of (of_const c) = c.name
-name_of (of_typedef t) = t.name
-name_of (of_enum e) = e.name
-name_of (of_struct_decl s) = s.name
-name_of (of_service s) = s.name
+abbrev pub declared_name : Declaration → Written
+declared_name (of_const c) = c.name
+declared_name (of_typedef t) = t.name
+declared_name (of_enum e) = e.name
+declared_name (of_struct_decl s) = s.name
+declared_name (of_service s) = s.name

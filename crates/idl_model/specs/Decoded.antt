@@ -10,14 +10,11 @@ use Rattle.idl_parser.specs.declared.tree.Need.TheVariants as need
 use Rattle.idl_parser.specs.declared.tree.StructKind.{StructKind}
 use Rattle.idl_parser.specs.declared.tree.StructKind.TheVariants as kind
 use Rattle.idl_parser.specs.Phrases.{Node, none, word as word_node, flag, text, number, given, pair, placed}
+use Rattle.idl_parser.specs.Unplaced.{nowhere}
 use Rattle.idl_model.specs.Written.{Written}
 use Rattle.idl_model.specs.TypeExpr.{TypeExpr, base_expr, name_expr, map_expr, set_expr, list_expr}
 use Rattle.idl_model.specs.ConstExpr.{ConstExpr, int_const, double_const, literal_const, name_const, list_const, map_const, ConstItems, no_consts, const_item, ConstEntries, no_entries, const_entry}
 use Rattle.idl_model.specs.Declarations.{FieldDecl, FunctionDecl, ConstDecl, TypedefDecl, EnumValueDecl, EnumDecl, StructDecl, ServiceDecl, Declaration, of_const, of_typedef, of_enum, of_struct_decl, of_service}
-
--- the place 0:0, which no token has
-abbrev pub nowhere : Place
-nowhere = record { line = 0; column = 0 }
 
 -- the trees of a row
 abbrev pub nodes_of : Node → List Node

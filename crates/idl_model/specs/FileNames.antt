@@ -1,15 +1,12 @@
 -- Names of files: how an include's name is made of the including file's name and the literal, and what a file's base name is.
 use Rattle.std.specs.Prelude.{ℕ, ◌==◌, ◌||◌, Bool, true, false, List, [], ◌∷◌, ◌++◌, reverse, take, drop, length, ◌-◌, codes, nat_eq, if◌then◌else◌}
 use Rattle.std.specs.Str.{bytes_eq}
+use Rattle.idl_token.specs.Bytes as byte
 use Rattle.std.specs.List.{after_last, slice_split, ends_with, join_with_byte}
-
--- `/`
-abbrev pub slash : ℕ
-slash = 47
 
 -- the byte is `/`
 abbrev pub is_slash : ℕ → Bool
-is_slash b = b == slash
+is_slash b = b == byte.slash
 
 -- a file's last segment: what stands behind the last `/`
 abbrev pub last_segment : List ℕ → List ℕ
@@ -50,7 +47,7 @@ with_segments before (segment ∷ more) = with_segments (with_segment before seg
 
 -- a name without `.` segments and without pairs `x/..`
 unfoldable pub cleaned : List ℕ → List ℕ
-cleaned name = join_with_byte slash (reverse (with_segments [] (slice_split is_slash name)))
+cleaned name = join_with_byte byte.slash (reverse (with_segments [] (slice_split is_slash name)))
 
 -- the name begins with `/`
 abbrev pub is_absolute : List ℕ → Bool

@@ -5,7 +5,8 @@ use Rattle.std.specs.List.{list_any, position_from}
 use Rattle.idl_token.specs.declared.Place.{Place}
 use Rattle.idl_parser.specs.Phrases.{Node}
 use Rattle.idl_model.specs.Written.{Written}
-use Rattle.idl_model.specs.Decoded.{nowhere, declarations_of, includes_of}
+use Rattle.idl_parser.specs.Unplaced.{nowhere}
+use Rattle.idl_model.specs.Decoded.{declarations_of, includes_of}
 use Rattle.idl_model.specs.FileNames.{base_name, included_name}
 use Rattle.idl_model.specs.Program.{SourceFile, Program, base_of_file}
 use Rattle.idl_model.specs.Readings.{LoadFlawKind, bad_name, includes_itself, same_base, too_many, FileReading, read_as, unread}

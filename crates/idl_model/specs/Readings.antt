@@ -13,7 +13,7 @@ use Rattle.idl_parser.specs.Phrases.{Node}
 use Rattle.idl_parser.specs.Symbols.{lexemes}
 use Rattle.idl_parser.specs.Documents.{deepest, DocumentIn}
 use Rattle.idl_parser.specs.Faults.{IsFaultOf}
-use Rattle.idl_model.specs.Decoded.{nowhere}
+use Rattle.idl_parser.specs.Unplaced.{nowhere}
 
 -- why a program can't be loaded
 pub data LoadFlawKind : Type 0 where

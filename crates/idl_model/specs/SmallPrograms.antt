@@ -8,7 +8,7 @@ use Rattle.idl_parser.specs.declared.tree.Need.TheVariants as need
 use Rattle.idl_parser.specs.declared.tree.StructKind.TheVariants as kind
 use Rattle.idl_parser.specs.Phrases.{Node, none, word as word_node, text, number, given, pair, placed}
 use Rattle.idl_model.specs.Written.{Written}
-use Rattle.idl_model.specs.Decoded.{nowhere}
+use Rattle.idl_parser.specs.Unplaced.{nowhere}
 use Rattle.idl_model.specs.TypeExpr.{TypeExpr, base_expr, name_expr, list_expr}
 use Rattle.idl_model.specs.ConstExpr.{ConstExpr, int_const, name_const, list_const, map_const, no_consts, const_item, no_entries}
 use Rattle.idl_model.specs.Declarations.{FieldDecl, FunctionDecl, EnumValueDecl, Declaration, of_const, of_typedef, of_enum, of_struct_decl, of_service}
@@ -20,8 +20,8 @@ abbrev pub column : ℕ → Place
 column n = record { line = 1; column = n }
 
 -- a name at a column
-abbrev pub written : List ℕ → ℕ → Written
-written name n = record { text = name; at = column n }
+abbrev pub written_at : List ℕ → ℕ → Written
+written_at name n = record { text = name; at = column n }
 
 -- the tree of `struct S { 1: i8 a = 200 }`
 abbrev pub struct_tree : Node
@@ -36,7 +36,7 @@ small_field at id type name default = record { at = column at; id = Some (pos id
 
 -- a struct of these fields
 abbrev pub small_struct : List FieldDecl → Declaration
-small_struct fields = of_struct_decl (record { name = written (codes "S") 8; kind = kind.Struct; fields = fields })
+small_struct fields = of_struct_decl (record { name = written_at (codes "S") 8; kind = kind.Struct; fields = fields })
 
 -- a program of one file
 abbrev pub one_file : List Declaration → Program
@@ -44,35 +44,35 @@ one_file declarations = record { name = codes "a.thrift"; declarations = declara
 
 -- `struct S { 1: i8 a = 200 }`
 abbrev pub narrow : Program
-narrow = one_file (small_struct (small_field 12 1 (base_expr base.I8) (written (codes "a") 18) (Some (int_const (pos 200) (column 22))) ∷ []) ∷ [])
+narrow = one_file (small_struct (small_field 12 1 (base_expr base.I8) (written_at (codes "a") 18) (Some (int_const (pos 200) (column 22))) ∷ []) ∷ [])
 
 -- `struct S { 1: i32 a 1: i32 b }`
 abbrev pub doubled_id : Program
 doubled_id =
-    one_file (small_struct (small_field 12 1 (base_expr base.I32) (written (codes "a") 19) None ∷ small_field 21 1 (base_expr base.I32) (written (codes "b") 28) None ∷ []) ∷ [])
+    one_file (small_struct (small_field 12 1 (base_expr base.I32) (written_at (codes "a") 19) None ∷ small_field 21 1 (base_expr base.I32) (written_at (codes "b") 28) None ∷ []) ∷ [])
 
 -- `struct S { 1: S s = {} }`
 abbrev pub takes_itself : Program
-takes_itself = one_file (small_struct (small_field 12 1 (name_expr (written (codes "S") 15)) (written (codes "s") 17) (Some (map_const (column 21) no_entries)) ∷ []) ∷ [])
+takes_itself = one_file (small_struct (small_field 12 1 (name_expr (written_at (codes "S") 15)) (written_at (codes "s") 17) (Some (map_const (column 21) no_entries)) ∷ []) ∷ [])
 
 -- `const i32 A = B const list<i32> B = [A]`
 abbrev pub crossed : Program
-crossed = one_file (of_const (record { name = written (codes "A") 11; type = base_expr base.I32; value = name_const (written (codes "B") 15) })
-    ∷ of_const (record { name = written (codes "B") 33; type = list_expr (base_expr base.I32);
-      value = list_const (column 37) (const_item (name_const (written (codes "A") 38)) no_consts) }) ∷ [])
+crossed = one_file (of_const (record { name = written_at (codes "A") 11; type = base_expr base.I32; value = name_const (written_at (codes "B") 15) })
+    ∷ of_const (record { name = written_at (codes "B") 33; type = list_expr (base_expr base.I32);
+      value = list_const (column 37) (const_item (name_const (written_at (codes "A") 38)) no_consts) }) ∷ [])
 
 -- `[A]` at column 21
 abbrev pub list_of_a : ConstExpr
-list_of_a = list_const (column 21) (const_item (name_const (written (codes "A") 22)) no_consts)
+list_of_a = list_const (column 21) (const_item (name_const (written_at (codes "A") 22)) no_consts)
 
 -- `const list<i32> A = [A]`
 abbrev pub lists_itself : Program
-lists_itself = one_file (of_const (record { name = written (codes "A") 17; type = list_expr (base_expr base.I32); value = list_of_a }) ∷ [])
+lists_itself = one_file (of_const (record { name = written_at (codes "A") 17; type = list_expr (base_expr base.I32); value = list_of_a }) ∷ [])
 
 -- `enum E { X = 4, Y } const E C = E.Y`
 abbrev pub named_number : Program
-named_number = one_file (of_enum (record { name = written (codes "E") 6; values = record { name = written (codes "X") 10; number = Some (pos 4) } ∷ record { name = written (codes "Y") 17; number = None } ∷ [] })
-    ∷ of_const (record { name = written (codes "C") 29; type = name_expr (written (codes "E") 27); value = name_const (written (codes "E.Y") 33) }) ∷ [])
+named_number = one_file (of_enum (record { name = written_at (codes "E") 6; values = record { name = written_at (codes "X") 10; number = Some (pos 4) } ∷ record { name = written_at (codes "Y") 17; number = None } ∷ [] })
+    ∷ of_const (record { name = written_at (codes "C") 29; type = name_expr (written_at (codes "E") 27); value = name_const (written_at (codes "E.Y") 33) }) ∷ [])
 
 -- the tree of a document of one include
 abbrev pub including : List ℕ → Node
@@ -87,11 +87,11 @@ two_files a b name =
 
 -- a field with this number, or none
 abbrev pub with_id : Option ℤ → FieldDecl
-with_id id = record { at = nowhere; id = id; need = need.Default; type = base_expr base.Bool; name = written (codes "f") 1; default = None }
+with_id id = record { at = nowhere; id = id; need = need.Default; type = base_expr base.Bool; name = written_at (codes "f") 1; default = None }
 
 -- a value of an enum with this number, or none
 abbrev pub with_number : Option ℤ → EnumValueDecl
-with_number n = record { name = written (codes "v") 1; number = n }
+with_number n = record { name = written_at (codes "v") 1; number = n }
 
 -- each literal is a name
 abbrev pub any_name : List ℕ → Bool
@@ -99,27 +99,27 @@ any_name literal = true
 
 -- `typedef list<T> T`
 abbrev pub aliases_itself : Program
-aliases_itself = one_file (of_typedef (record { name = written (codes "T") 17; type = list_expr (name_expr (written (codes "T") 14)) }) ∷ [])
+aliases_itself = one_file (of_typedef (record { name = written_at (codes "T") 17; type = list_expr (name_expr (written_at (codes "T") 14)) }) ∷ [])
 
 -- a function without arguments and result
 abbrev pub small_function : List ℕ → ℕ → FunctionDecl
-small_function name at = record { at = column at; oneway = false; result = None; name = written name (at + 5); arguments = []; throws = [] }
+small_function name at = record { at = column at; oneway = false; result = None; name = written_at name (at + 5); arguments = []; throws = [] }
 
 -- `service A { void f() } service B extends A { void f() }`
 abbrev pub inherits_twice : Program
-inherits_twice = one_file (of_service (record { name = written (codes "A") 9; parent = None; functions = small_function (codes "f") 13 ∷ [] })
-    ∷ of_service (record { name = written (codes "B") 32; parent = Some (written (codes "A") 42); functions = small_function (codes "f") 46 ∷ [] }) ∷ [])
+inherits_twice = one_file (of_service (record { name = written_at (codes "A") 9; parent = None; functions = small_function (codes "f") 13 ∷ [] })
+    ∷ of_service (record { name = written_at (codes "B") 32; parent = Some (written_at (codes "A") 42); functions = small_function (codes "f") 46 ∷ [] }) ∷ [])
 
 -- `service A extends A {}`
 abbrev pub extends_itself : Program
-extends_itself = one_file (of_service (record { name = written (codes "A") 9; parent = Some (written (codes "A") 19); functions = [] }) ∷ [])
+extends_itself = one_file (of_service (record { name = written_at (codes "A") 9; parent = Some (written_at (codes "A") 19); functions = [] }) ∷ [])
 
 -- `struct S { 1: required S s }`
 abbrev pub holds_itself : Program
-holds_itself = one_file (small_struct (record { at = column 12; id = Some (pos 1); need = need.Required; type = name_expr (written (codes "S") 24); name = written (codes "s") 26; default = None } ∷ []) ∷ [])
+holds_itself = one_file (small_struct (record { at = column 12; id = Some (pos 1); need = need.Required; type = name_expr (written_at (codes "S") 24); name = written_at (codes "s") 26; default = None } ∷ []) ∷ [])
 
 -- `typedef X U struct T {} exception X {}`
 abbrev pub named_kinds : Program
-named_kinds = one_file (of_typedef (record { name = written (codes "U") 11; type = name_expr (written (codes "X") 9) })
-    ∷ of_struct_decl (record { name = written (codes "T") 20; kind = kind.Struct; fields = [] })
-    ∷ of_struct_decl (record { name = written (codes "X") 35; kind = kind.Exception; fields = [] }) ∷ [])
+named_kinds = one_file (of_typedef (record { name = written_at (codes "U") 11; type = name_expr (written_at (codes "X") 9) })
+    ∷ of_struct_decl (record { name = written_at (codes "T") 20; kind = kind.Struct; fields = [] })
+    ∷ of_struct_decl (record { name = written_at (codes "X") 35; kind = kind.Exception; fields = [] }) ∷ [])

@@ -5,7 +5,7 @@ use Rattle.idl_token.specs.declared.Place.{Place}
 use Rattle.idl_model.specs.Written.{Written}
 use Rattle.idl_model.specs.TypeExpr.{TypeExpr, names_in_type}
 use Rattle.idl_model.specs.ConstExpr.{ConstExpr}
-use Rattle.idl_model.specs.Declarations.{FieldDecl, FunctionDecl, EnumValueDecl, EnumDecl, StructDecl, ServiceDecl, Declaration, of_const, of_typedef, of_enum, of_struct_decl, of_service, name_of}
+use Rattle.idl_model.specs.Declarations.{FieldDecl, FunctionDecl, EnumValueDecl, EnumDecl, StructDecl, ServiceDecl, Declaration, of_const, of_typedef, of_enum, of_struct_decl, of_service, declared_name}
 use Rattle.idl_model.specs.Program.{SourceFile, Program}
 use Rattle.idl_model.specs.Numbering.{Filed, Counts, none_counted, counted, all_counted}
 
@@ -114,7 +114,7 @@ spots_in_declaration before n (of_service s) =
 abbrev pub spots_in_declarations : List Written → Counts → List Declaration → List Spotted
 spots_in_declarations before n [] = []
 spots_in_declarations before n (d ∷ more) =
-    spots_in_declaration before n d ++ spots_in_declarations (before ++ name_of d ∷ []) (counted n d) more
+    spots_in_declaration before n d ++ spots_in_declarations (before ++ declared_name d ∷ []) (counted n d) more
 
 -- spots of the file of some number
 abbrev pub in_file : ℕ → List Spotted → List Spot

@@ -4,7 +4,8 @@ ghost use Rattle.std.specs.Prelude.{◌≡◌, pos, negsuc, codes, None, Some, [
 ghost use Rattle.idl_parser.specs.Phrases.{none};
 ghost use Rattle.idl_model.specs.FileNames.{included_name, base_name};
 ghost use Rattle.idl_model.specs.Program.{SourceFile, Program};
-ghost use Rattle.idl_model.specs.Decoded.{nowhere, declarations_of, includes_of};
+ghost use Rattle.idl_parser.specs.Unplaced.{nowhere};
+ghost use Rattle.idl_model.specs.Decoded.{declarations_of, includes_of};
 ghost use Rattle.idl_model.specs.Readings.{includes_itself, same_base, absent};
 ghost use Rattle.idl_model.specs.Loading.{Loaded, loaded, stopped, LoadFlaw, program_by};
 ghost use Rattle.idl_model.specs.FieldIds.{field_ids};

@@ -1,10 +1,7 @@
-use Rattle.std.proofs.Common.{◌≡◌, [], ◌∷◌, refl, arith, inl, inr, codes, Some, sym, ◌∙◌, ap, ℕ, subst}
-use Rattle.idl_parser.specs.declared.tree.StructKind.{StructKind}
-use Rattle.idl_parser.specs.declared.tree.StructKind.TheVariants as kind
+use Rattle.std.proofs.Common.{[], refl, arith, inr}
 use Rattle.idl_model.specs.Numbering.{typedefs_of, enums_of, structs_of, services_of}
 use Rattle.idl_model.specs.Names.{type_named, service_named, sought}
 use Rattle.idl_model.specs.Cycles.{alias_graph, parent_graph}
-use Rattle.check_model.specs.Resolved.{alias_kind}
 use Rattle.check_model.proofs.SmallVerdicts.{thrown_exception, thrown_struct}
 use Rattle.check_model.proofs.examples.faults.Goals as goal
 
