@@ -74,8 +74,8 @@ module _ (D : DefaultRule) (program : Program) where
   fields_made : (file : ℕ) (list : FieldsKind) (fs : List FieldDecl) → AllByRecursion (FieldMade file) fs → (ps : List PlainField) × AreFieldsOf D program file list fs ps
   fields_made file list fs h =
       zip_made (IsFieldOf D program file list) (fields_by_id fs)
-        (weaker (λ (f : NumberedField). FieldMade file f.decl) (λ f. (p : PlainField) × IsFieldOf D program file list f p) (field_made file list)
-          (fields_by_id fs) (by_id_all (FieldMade file) fs h))
+      (weaker (λ (f : NumberedField). FieldMade file f.decl) (λ f. (p : PlainField) × IsFieldOf D program file list f p) (field_made file list)
+      (fields_by_id fs) (by_id_all (FieldMade file) fs h))
 
   struct_made : (d : FieldsDecl) → AllByRecursion (FieldMade d.file) d.fields → (p : PlainStruct) × IsStructOf D program d p
   struct_made d h =
@@ -89,9 +89,10 @@ module _ (D : DefaultRule) (program : Program) where
   function_made : (file number : ℕ) (f : FunctionDecl) → FunctionMade file f → (p : PlainFunction) × IsFunctionOf D program file number f p
   function_made file number f (result, arguments, throws) =
       let (r, means) = result_made file f.result result in
-      let (ts, are) = fields_made file fields.Args f.throws throws in
-      (record { name = f.name.text; oneway = f.oneway; args = number; result = r; throws = ts },
-      record { name = refl; oneway = refl; args = refl; result = means; throws = are })
+      let (ts, are) = fields_made file fields.Args f.throws throws in (
+        record { name = f.name.text; oneway = f.oneway; args = number; result = r; throws = ts },
+        record { name = refl; oneway = refl; args = refl; result = means; throws = are },
+      )
 
   functions_made : (file number : ℕ) (fs : List FunctionDecl) → AllByRecursion (FunctionMade file) fs → (ps : List PlainFunction) × AreFunctionsOf D program file number fs ps
   functions_made file number [] h = ([], tt)
@@ -105,9 +106,10 @@ module _ (D : DefaultRule) (program : Program) where
   services_made number [] h = ([], tt)
   services_made number (s ∷ ss) h =
       let (fs, made) = functions_made s.file number s.item.functions h.0 in
-      let (ps, are) = services_made (number + length s.item.functions) ss h.1 in
-      (record { file = s.file; name = s.item.name.text; parent = parent_of program s; functions = fs } ∷ ps,
-      (record { file = refl; name = refl; parent = refl; functions = made }, are))
+      let (ps, are) = services_made (number + length s.item.functions) ss h.1 in (
+        record { file = s.file; name = s.item.name.text; parent = parent_of program s; functions = fs } ∷ ps,
+        (record { file = refl; name = refl; parent = refl; functions = made }, are),
+      )
 
   alias_made : (t : Filed TypedefDecl) → TypeMade t.file t.item.type → (a : PlainAlias) × IsAliasOf program t a
   alias_made t (kind, means) = (record { file = t.file; name = t.item.name.text; kind = kind }, record { file = refl; name = refl; kind = means })
@@ -125,11 +127,11 @@ module _ (D : DefaultRule) (program : Program) where
       let Q : FieldsDecl → Type 0 = λ d. AllByRecursion (FieldMade d.file) d.fields in
       let R : Filed FunctionDecl → Type 0 = λ f. AllByRecursion (FieldMade f.file) f.item.arguments in
       both_all Q (map fields_of_struct (structs_of program)) (map args_of_function (flat_map functions_in (services_of program)))
-        (mapped Q fields_of_struct (structs_of program) structs)
-        (mapped Q args_of_function (flat_map functions_in (services_of program))
-          (flat_all R functions_in (services_of program)
-            (weaker (λ (s : Filed ServiceDecl). AllByRecursion (FunctionMade s.file) s.item.functions) (λ s. AllByRecursion R (functions_in s))
-              (λ s h. args_all s.file s.item.functions h) (services_of program) services)))
+      (mapped Q fields_of_struct (structs_of program) structs)
+      (mapped Q args_of_function (flat_map functions_in (services_of program))
+      (flat_all R functions_in (services_of program)
+      (weaker (λ (s : Filed ServiceDecl). AllByRecursion (FunctionMade s.file) s.item.functions) (λ s. AllByRecursion R (functions_in s))
+      (λ s h. args_all s.file s.item.functions h) (services_of program) services)))
 
   pub schema_made : AllByRecursion (λ (t : Filed TypedefDecl). TypeMade t.file t.item.type) (typedefs_of program)
       → AllByRecursion (λ (s : Filed StructDecl). AllByRecursion (FieldMade s.file) s.item.fields) (structs_of program)
@@ -137,11 +139,12 @@ module _ (D : DefaultRule) (program : Program) where
       → (constants : List PlainConstant) → (schema : PlainSchema) × IsSchemaWith D program schema × (schema.constants ≡ constants)
   schema_made typedefs structs services constants =
       let (aliases, a) = zip_made (IsAliasOf program) (typedefs_of program)
-            (weaker (λ (t : Filed TypedefDecl). TypeMade t.file t.item.type) (λ t. (a : PlainAlias) × IsAliasOf program t a) alias_made (typedefs_of program) typedefs) in
+      (weaker (λ (t : Filed TypedefDecl). TypeMade t.file t.item.type) (λ t. (a : PlainAlias) × IsAliasOf program t a) alias_made (typedefs_of program) typedefs) in
       let (lists, l) = zip_made (IsStructOf D program) (field_lists program)
-            (weaker (λ (d : FieldsDecl). AllByRecursion (FieldMade d.file) d.fields) (λ d. (p : PlainStruct) × IsStructOf D program d p) struct_made
-              (field_lists program) (lists_all structs services)) in
-      let (ss, s) = services_made (length (structs_of program)) (services_of program) services in
-      (record { files = files_of program; structs = lists; enums = map enum_made (enums_of program); services = ss; aliases = aliases; constants = constants },
-      record { files = refl; aliases = a; enums = refl; structs = l; services = s },
-      refl)
+      (weaker (λ (d : FieldsDecl). AllByRecursion (FieldMade d.file) d.fields) (λ d. (p : PlainStruct) × IsStructOf D program d p) struct_made
+      (field_lists program) (lists_all structs services)) in
+      let (ss, s) = services_made (length (structs_of program)) (services_of program) services in (
+        record { files = files_of program; structs = lists; enums = map enum_made (enums_of program); services = ss; aliases = aliases; constants = constants },
+        record { files = refl; aliases = a; enums = refl; structs = l; services = s },
+        refl,
+      )

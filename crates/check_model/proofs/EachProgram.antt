@@ -30,7 +30,6 @@ use Rattle.check_model.proofs.Shown.{weaker, unmapped, AllFrom, TypeShown, Field
 use Rattle.check_model.proofs.Resolving.{Known, NamesKnown, type_means, each_alias, alias_within, from_at, zip_all}
 use Rattle.check_model.proofs.Building.{TypeMade, FieldMade, ResultMade, FunctionMade, schema_made}
 use Rattle.check_model.proofs.Finite.{has_or_not}
-
 use Rattle.check_model.proofs.Existing.{Told, both_told, none_is_told}
 
 -- a row past the last is empty
@@ -66,10 +65,12 @@ later_found (Some x) xs test h i = test_found (test x) test i xs (h (i + 1))
 pub picked_found : {A B : Type 0} (g : A → Option B) (xs : List A)
     → AllByRecursion (λ x. (y : B) (test : B → Bool) → g x ≡ Some y → test y ≡ true → (i : ℕ) → (k : ℕ) × (position_from test i (filter_map g xs) ≡ Some k)) xs
 picked_found g [] = tt
-picked_found {A} {B} g (x ∷ xs) = (λ y test e t i. first_found (g x) (filter_map g xs) y test i e t,
-    weaker (λ z. (y : B) (test : B → Bool) → g z ≡ Some y → test y ≡ true → (i : ℕ) → (k : ℕ) × (position_from test i (filter_map g xs) ≡ Some k))
+picked_found {A} {B} g (x ∷ xs) = (
+  λ y test e t i. first_found (g x) (filter_map g xs) y test i e t,
+  weaker (λ z. (y : B) (test : B → Bool) → g z ≡ Some y → test y ≡ true → (i : ℕ) → (k : ℕ) × (position_from test i (filter_map g xs) ≡ Some k))
       (λ z. (y : B) (test : B → Bool) → g z ≡ Some y → test y ≡ true → (i : ℕ) → (k : ℕ) × (position_from test i (cons_option (g x) (filter_map g xs)) ≡ Some k))
-      (λ z h y test e t i. later_found (g x) (filter_map g xs) test (h y test e t) i) xs (picked_found g xs))
+      (λ z h y test e t i. later_found (g x) (filter_map g xs) test (h y test e t) i) xs (picked_found g xs),
+)
 
 pub same_itself : (file : ℕ) (at : Place) → ((file == file) && same_place at at) ≡ true
 same_itself file at = λ i. eq-eqb file file refl i && (eq-eqb at.line at.line refl i && eq-eqb at.column at.column refl i)
@@ -122,7 +123,6 @@ is_struct _ = false
 module _ (program : Program) (leads : (graph : Graph) (a b : ℕ) → Told (LeadsTo graph a b))
     (on : (graph : Graph) (a m b : ℕ) → LeadsTo graph a m → LeadsTo graph m b → LeadsTo graph a b)
     (unknown : FindsNothing program unknown_type) (cycles : FindsNothing program typedef_cycle) where
-
   -- no name of a type is unknown
   abbrev pub Pu : ℕ → Spotted → Type 0
   Pu file x = IsClearAt program unknown_type (record { file = file; shows = x })
@@ -133,13 +133,13 @@ module _ (program : Program) (leads : (graph : Graph) (a b : ℕ) → Told (Lead
   pub known_of : (file : ℕ) (t : TypeExpr) → TypeShown Pu file t → NamesKnown program file t
   known_of file t h =
       weaker (λ (name : Written). Pu file (type_use name)) (λ (name : Written). type_named program file name.text ≡ None → ⊥)
-        (λ name clear e. clear (record { file = file; at = name.at; kind = found_by unknown_type }) (e, refl)) (names_in_type t)
-        (unmapped (Pu file) type_use (names_in_type t) h)
+      (λ name clear e. clear (record { file = file; at = name.at; kind = found_by unknown_type }) (e, refl)) (names_in_type t)
+      (unmapped (Pu file) type_use (names_in_type t) h)
 
   typedefs_known : AllFrom (λ (k : ℕ) (t : Filed TypedefDecl). NamesKnown program t.file t.item.type) 0 (typedefs_of program)
   typedefs_known =
       weaker_from (TypedefShown Pu) (λ (k : ℕ) (t : Filed TypedefDecl). NamesKnown program t.file t.item.type)
-        (λ k t h. known_of t.file t.item.type h.0) 0 (typedefs_of program) (typedefs_shown Pu program unknown)
+      (λ k t h. known_of t.file t.item.type h.0) 0 (typedefs_of program) (typedefs_shown Pu program unknown)
 
   off_cycle : (a : ℕ) (x : Option (Filed TypedefDecl)) → slice_get (typedefs_of program) a ≡ x → a < length (typedefs_of program) → OnCycle (alias_graph program) a → ⊥
   off_cycle a (Some t) at l c =
@@ -174,11 +174,11 @@ module _ (program : Program) (leads : (graph : Graph) (a b : ℕ) → Told (Lead
   again n file (base_expr b) k e = (k, e)
   again n file (name_expr name) k e =
       name_again (alias_kind program n) (alias_kind program (length (typedefs_of program))) (type_named program file name.text) k
-        (λ c is. each_alias program typedefs_known acyclic (on (alias_graph program)) c (alias_within program file name.text c is)) e
+      (λ c is. each_alias program typedefs_known acyclic (on (alias_graph program)) c (alias_within program file name.text c is)) e
   again n file (map_expr key value) k e =
       let parts = map_parts (kind_by (alias_kind program n) program file key) (kind_by (alias_kind program n) program file value) k e in
       map_both (kind_by (alias_kind program (length (typedefs_of program))) program file key) (kind_by (alias_kind program (length (typedefs_of program))) program file value)
-        (again n file key parts.0.0 parts.0.1) (again n file value parts.1.0 parts.1.1)
+      (again n file key parts.0.0 parts.0.1) (again n file value parts.1.0 parts.1.1)
   again n file (set_expr member) k e =
       let part = wrapped_part kind_set (kind_by (alias_kind program n) program file member) k e in
       let h = again n file member part.0 part.1 in (kind_set h.0, ap (option_map kind_set) h.1)
@@ -216,15 +216,15 @@ module _ (program : Program) (leads : (graph : Graph) (a b : ℕ) → Told (Lead
     pub built : (constants : List PlainConstant) → (schema : PlainSchema) × IsSchemaWith D program schema × (schema.constants ≡ constants)
     built constants =
         schema_made D program
-          (un_numbered (λ (t : Filed TypedefDecl). TypeMade D program t.file t.item.type) 0 (typedefs_of program)
-            (weaker_from (λ (k : ℕ) (t : Filed TypedefDecl). NamesKnown program t.file t.item.type) (λ (k : ℕ) (t : Filed TypedefDecl). TypeMade D program t.file t.item.type)
-              (λ k t h. means t.file t.item.type h) 0 (typedefs_of program) typedefs_known))
-          (zip_all (StructShown Pu) (StructShown Pv) (λ (s : Filed StructDecl). AllByRecursion (FieldMade D program s.file) s.item.fields)
-            (λ s h g. fields_said s.file s.item.fields h g) (structs_of program) (structs_shown Pu program unknown) (structs_shown Pv program more))
-          (zip_all (ServiceShown Pu) (ServiceShown Pv) (λ (s : Filed ServiceDecl). AllByRecursion (FunctionMade D program s.file) s.item.functions)
-            (λ s h g. zip_all (FunctionShown Pu s.file) (FunctionShown Pv s.file) (FunctionMade D program s.file) (function_said s.file) s.item.functions h g)
-            (services_of program) (services_shown Pu program unknown) (services_shown Pv program more))
-          constants
+        (un_numbered (λ (t : Filed TypedefDecl). TypeMade D program t.file t.item.type) 0 (typedefs_of program)
+        (weaker_from (λ (k : ℕ) (t : Filed TypedefDecl). NamesKnown program t.file t.item.type) (λ (k : ℕ) (t : Filed TypedefDecl). TypeMade D program t.file t.item.type)
+        (λ k t h. means t.file t.item.type h) 0 (typedefs_of program) typedefs_known))
+        (zip_all (StructShown Pu) (StructShown Pv) (λ (s : Filed StructDecl). AllByRecursion (FieldMade D program s.file) s.item.fields)
+        (λ s h g. fields_said s.file s.item.fields h g) (structs_of program) (structs_shown Pu program unknown) (structs_shown Pv program more))
+        (zip_all (ServiceShown Pu) (ServiceShown Pv) (λ (s : Filed ServiceDecl). AllByRecursion (FunctionMade D program s.file) s.item.functions)
+        (λ s h g. zip_all (FunctionShown Pu s.file) (FunctionShown Pv s.file) (FunctionMade D program s.file) (function_said s.file) s.item.functions h g)
+        (services_of program) (services_shown Pu program unknown) (services_shown Pv program more))
+        constants
 
   nothing_more : (spots : List Spot) → AllByRecursion (λ (s : Spot). Unit {0}) spots
   nothing_more [] = tt
@@ -254,8 +254,10 @@ module _ (program : Program) (leads : (graph : Graph) (a b : ℕ) → Told (Lead
           let same : h.0 ≡ n = ap (struct_number 0) (one_meaning program file t (kind_struct h.0) (kind_struct n) h.1 m) in
           let P : ℕ → Type 0 = λ j. slice_get (structs_of program) j ≡ Some h.2 in
           none (h.2, subst P same h.3, h.4))
+
       no_struct : (k : PlainKind) → TypeMeans program file t k → is_struct k ≡ false → Told (IsException program file t)
       no_struct k m e = inr (λ h. let f : true ≡ false = ap is_struct (one_meaning program file t (kind_struct h.0) k h.1 m) ∙ e in cc)
+
       by : (k : PlainKind) → TypeMeans program file t k → Told (IsException program file t)
       by (kind_struct n) m = by_struct n m (exception_of (slice_get (structs_of program) n))
       by kind_bool m = no_struct kind_bool m refl

@@ -63,6 +63,7 @@ last_or n Q (inr no_q) (inr none) = inr (λ k l q. by k l q (places n k l))
     places zero (suc k) l = absurd (let h : ⊥ = omega arith in h)
     places (suc n) zero l = inr (omega arith)
     places (suc n) (suc k) l = elim (places n k (omega arith)) as (λ h. (suc k ≡ suc n) ⊎ (suc k < suc n)) [ inl e ↦ inl (ap suc e) | inr h ↦ inr (omega arith) ]
+
     by : (k : ℕ) → k < suc n → Q k → (k ≡ n) ⊎ (k < n) → ⊥
     by k l q (inl e) = no_q (subst Q e q)
     by k l q (inr h) = none k h q
@@ -175,7 +176,7 @@ module _ (program : Program) where
     pub duplicate_function_told : (file : ℕ) (x : Spotted) → Told (FindsFault duplicate_function program file x)
     duplicate_function_told file (function_spot service before f) =
         one_told (has_told before f.name.text)
-          (inherits_by service f.name.text (some_below (length (services_of program))
-            (λ a. LeadsTo (parent_graph program) service a × HasFunction (own_functions program a) f.name.text)
-            (λ a. both_told (leads (parent_graph program) service a) (has_told (own_functions program a) f.name.text))))
+        (inherits_by service f.name.text (some_below (length (services_of program))
+        (λ a. LeadsTo (parent_graph program) service a × HasFunction (own_functions program a) f.name.text)
+        (λ a. both_told (leads (parent_graph program) service a) (has_told (own_functions program a) f.name.text))))
     duplicate_function_told file _ = inr (λ h. h)

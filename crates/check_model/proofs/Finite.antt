@@ -51,19 +51,19 @@ all_below : (f g : ℕ → Bool) → Below f g → (xs : List PlainField) → li
 all_below f g below [] e = refl
 all_below f g below (x ∷ xs) e =
     and_below (field_allows f x.need x.kind) (list_all (λ (x : PlainField). field_allows f x.need x.kind) xs) (field_allows g x.need x.kind)
-      (list_all (λ (x : PlainField). field_allows g x.need x.kind) xs) (field_below f g below x.need x.kind) (all_below f g below xs) e
+    (list_all (λ (x : PlainField). field_allows g x.need x.kind) xs) (field_below f g below x.need x.kind) (all_below f g below xs) e
 
 any_below : (f g : ℕ → Bool) → Below f g → (xs : List PlainField) → list_any (λ (x : PlainField). kind_has f x.kind) xs ≡ true
     → list_any (λ (x : PlainField). kind_has g x.kind) xs ≡ true
 any_below f g below [] e = absurd (never e)
 any_below f g below (x ∷ xs) e =
     or_below (kind_has f x.kind) (list_any (λ (x : PlainField). kind_has f x.kind) xs) (kind_has g x.kind)
-      (list_any (λ (x : PlainField). kind_has g x.kind) xs) (kind_below f g below x.kind) (any_below f g below xs) e
+    (list_any (λ (x : PlainField). kind_has g x.kind) xs) (kind_below f g below x.kind) (any_below f g below xs) e
 
 fields_below : (f g : ℕ → Bool) → Below f g → (k : FieldsKind) (xs : List PlainField) → fields_have f k xs ≡ true → fields_have g k xs ≡ true
 fields_below f g below fields.Union xs e =
     or_below (has_no_items xs) (list_any (λ (x : PlainField). kind_has f x.kind) xs) (has_no_items xs) (list_any (λ (x : PlainField). kind_has g x.kind) xs)
-      (λ h. h) (any_below f g below xs) e
+    (λ h. h) (any_below f g below xs) e
 fields_below f g below fields.Struct xs e = all_below f g below xs e
 fields_below f g below fields.Exception xs e = all_below f g below xs e
 fields_below f g below fields.Args xs e = all_below f g below xs e
@@ -224,6 +224,7 @@ has_or_not schema k = by (has_value_within schema m k) refl
   where
     m : ℕ
     m = (some_settled schema).0
+
     by : (b : Bool) → has_value_within schema m k ≡ b → HasFiniteValue schema k ⊎ (HasFiniteValue schema k → ⊥)
     by true e = inl (m, e)
     by false e = inr (λ h.

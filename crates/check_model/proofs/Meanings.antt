@@ -45,7 +45,7 @@ kinds_agree a b p program file (base_expr base) = same_agrees (Some (base_kind b
 kinds_agree a b p program file (name_expr name) = names_agree a b p (type_named program file name.text)
 kinds_agree a b p program file (map_expr key value) =
     maps_agree (kind_by a program file key) (kind_by a program file value) (kind_by b program file key) (kind_by b program file value)
-      (kinds_agree a b p program file key) (kinds_agree a b p program file value)
+    (kinds_agree a b p program file key) (kinds_agree a b p program file value)
 kinds_agree a b p program file (set_expr member) =
     wrapped_agree kind_set (kind_by a program file member) (kind_by b program file member) (kinds_agree a b p program file member)
 kinds_agree a b p program file (list_expr element) =
@@ -62,8 +62,8 @@ aliases_agree program zero n number j k e f = absurd (none_some j e)
 aliases_agree program (suc m) zero number j k e f = absurd (none_some k f)
 aliases_agree program (suc m) (suc n) number j k e f =
     found_agree (λ t. kind_by (alias_kind program m) program t.file t.item.type) (λ t. kind_by (alias_kind program n) program t.file t.item.type)
-      (λ t. kinds_agree (alias_kind program m) (alias_kind program n) (aliases_agree program m n) program t.file t.item.type)
-      (slice_get (typedefs_of program) number) j k e f
+    (λ t. kinds_agree (alias_kind program m) (alias_kind program n) (aliases_agree program m n) program t.file t.item.type)
+    (slice_get (typedefs_of program) number) j k e f
 
 pub one_meaning : (program : Program) (file : ℕ) (t : TypeExpr) (j k : PlainKind) → TypeMeans program file t j → TypeMeans program file t k → j ≡ k
 one_meaning program file t j k p q =

@@ -167,5 +167,5 @@ one_schema program a b p q =
     let P : PlainSchema → Type 0 = λ schema. IsSchemaWith (DefaultIn (setting schema)) program b in
     let Q : PlainSchema → Type 0 = λ schema. AllZip (IsConstantOf (setting schema)) (constants_of program) b.constants in
     one_schema_over (setting p.partial) a b p.whole (subst P partial q.whole)
-      (zip_is_one (IsConstantOf (setting p.partial)) (one_constant (setting p.partial)) (constants_of program) a.constants b.constants
-        p.constants (subst Q partial q.constants))
+    (zip_is_one (IsConstantOf (setting p.partial)) (one_constant (setting p.partial)) (constants_of program) a.constants b.constants
+    p.constants (subst Q partial q.constants))

@@ -31,8 +31,8 @@ module _ (program : Program) (file : ℕ) (v : GivenValue) (at in_other : Place)
   same_worth =
       sym p.worth
       ∙ (λ i. given_worth (record { program = program; schema = one_partial program p.schema q.schema p.made q.made i })
-          (somes p.which q.which (sym p.number ∙ q.number) i)
-          (one_meaning program file v.type p.kind q.kind p.means q.means i) (record { file = file; item = v }))
+      (somes p.which q.which (sym p.number ∙ q.number) i)
+      (one_meaning program file v.type p.kind q.kind p.means q.means i) (record { file = file; item = v }))
       ∙ q.worth
 
   same_const_flaw : (at ≡ in_other) × (flaw ≡ other)
@@ -76,7 +76,7 @@ one_first : (program : Program) (pass : Pass) (f g : ProgramFlaw) → IsFirstOf 
 one_first program pass f g p q =
     let R : Spot → Type 0 = λ spot. (flaw : ProgramFlaw) × IsAtFault pass program spot flaw in
     let same = first_is_one (IsClearAt program pass) R (λ spot clear fault. clear fault.0 fault.1)
-                 p.before p.spot p.after q.before q.spot q.after (sym p.split ∙ q.split) p.clear (f, p.here) q.clear (g, q.here) in
+    p.before p.spot p.after q.before q.spot q.after (sym p.split ∙ q.split) p.clear (f, p.here) q.clear (g, q.here) in
     let P : Spot → Type 0 = λ spot. IsAtFault pass program spot f in
     one_fault pass program q.spot f g (subst P same p.here) q.here
 
@@ -91,7 +91,7 @@ pub one_flaw : (program : Program) (f g : ProgramFlaw) → IsFirstFlaw program f
 one_flaw program f g p q =
     let R : Pass → Type 0 = λ pass. (flaw : ProgramFlaw) × IsFirstOf program pass flaw in
     let same = first_is_one (FindsNothing program) R (λ pass nothing fault. nothing_first program pass fault.0 nothing fault.1)
-                 p.earlier p.pass p.later q.earlier q.pass q.later (sym p.split ∙ q.split) p.clear (f, p.first) q.clear (g, q.first) in
+    p.earlier p.pass p.later q.earlier q.pass q.later (sym p.split ∙ q.split) p.clear (f, p.first) q.clear (g, q.first) in
     let P : Pass → Type 0 = λ pass. IsFirstOf program pass f in
     one_first program q.pass f g (subst P same p.first) q.first
 

@@ -46,8 +46,8 @@ type_known alias program file (name_expr name) h = name_known alias (type_named 
 type_known alias program file (map_expr key value) h =
     let Q : Written → Type 0 = λ name. NameMeans alias (type_named program file name.text) in
     map_known (kind_by alias program file key) (kind_by alias program file value)
-      (type_known alias program file key (front_all Q (names_in_type key) (names_in_type value) h))
-      (type_known alias program file value (back_all Q (names_in_type key) (names_in_type value) h))
+    (type_known alias program file key (front_all Q (names_in_type key) (names_in_type value) h))
+    (type_known alias program file value (back_all Q (names_in_type key) (names_in_type value) h))
 type_known alias program file (set_expr member) h = wrapped_known kind_set (kind_by alias program file member) (type_known alias program file member h)
 type_known alias program file (list_expr element) h = wrapped_known kind_list (kind_by alias program file element) (type_known alias program file element h)
 
@@ -128,9 +128,11 @@ first_picked (Some x) xs c e = (0, omega arith, somes x c e)
 
 picked_in : {A : Type 0} (g : A → Option ℕ) (xs : List A) → AllByRecursion (λ x. (c : ℕ) → g x ≡ Some c → Contains (filter_map g xs) c) xs
 picked_in g [] = tt
-picked_in g (x ∷ xs) = (λ c e. first_picked (g x) (filter_map g xs) c e,
-    weaker (λ y. (c : ℕ) → g y ≡ Some c → Contains (filter_map g xs) c) (λ y. (c : ℕ) → g y ≡ Some c → Contains (cons_option (g x) (filter_map g xs)) c)
-      (λ y h c e. further (g x) (filter_map g xs) c (h c e)) xs (picked_in g xs))
+picked_in g (x ∷ xs) = (
+  λ c e. first_picked (g x) (filter_map g xs) c e,
+  weaker (λ y. (c : ℕ) → g y ≡ Some c → Contains (filter_map g xs) c) (λ y. (c : ℕ) → g y ≡ Some c → Contains (cons_option (g x) (filter_map g xs)) c)
+      (λ y h c e. further (g x) (filter_map g xs) c (h c e)) xs (picked_in g xs),
+)
 
 -- what is found stands in the list
 found_by : {A : Type 0} (test : A → Bool) (i : ℕ) (b : Bool) (xs : List A) (k : ℕ) → ((k : ℕ) → position_from test (i + 1) xs ≡ Some k → k < (i + 1) + length xs)
@@ -163,9 +165,9 @@ alias_of_sought : (program : Program) (o : Option Sought) (k : ℕ) → option_a
 alias_of_sought program None k e = absurd (none_some (an_alias k) e)
 alias_of_sought program (Some s) k e =
     alias_of_three (length (typedefs_of program)) (number_named (λ (t : TypedefDecl). t.name) (typedefs_of program) s.file s.name)
-      (number_named (λ (t : EnumDecl). t.name) (enums_of program) s.file s.name)
-      (number_named (λ (t : StructDecl). t.name) (structs_of program) s.file s.name) k
-      (λ j f. let l = found_within (is_named (λ (t : TypedefDecl). t.name) s.file s.name) 0 (typedefs_of program) j f in omega arith) e
+    (number_named (λ (t : EnumDecl). t.name) (enums_of program) s.file s.name)
+    (number_named (λ (t : StructDecl). t.name) (structs_of program) s.file s.name) k
+    (λ j f. let l = found_within (is_named (λ (t : TypedefDecl). t.name) s.file s.name) 0 (typedefs_of program) j f in omega arith) e
 
 pub alias_within : (program : Program) (file : ℕ) (name : List ℕ) (k : ℕ) → type_named program file name ≡ Some (an_alias k) → k < length (typedefs_of program)
 unfolding type_named
@@ -199,7 +201,6 @@ module _ (program : Program)
     (typedefs : AllFrom (λ (k : ℕ) (t : Filed TypedefDecl). NamesKnown program t.file t.item.type) 0 (typedefs_of program))
     (acyclic : (a : ℕ) → OnCycle (alias_graph program) a → ⊥)
     (on : (a m b : ℕ) → LeadsTo (alias_graph program) a m → LeadsTo (alias_graph program) m b → LeadsTo (alias_graph program) a b) where
-
   -- the typedefs that aren't free lead to this one
   abbrev Behind : (ℕ → Bool) → ℕ → Type 0
   Behind free a = (v : ℕ) → v < length (typedefs_of program) → free v ≡ false → LeadsTo (alias_graph program) v a
@@ -248,29 +249,29 @@ module _ (program : Program)
       let K : Written → Type 0 = λ name. type_named program t.file name.text ≡ None → ⊥ in
       let S : Written → Type 0 = λ name. NameMeans (alias_kind program m) (type_named program t.file name.text) in
       let edge : (c : ℕ) → Contains (filter_map g (names_in_type t.item.type)) c → LeadsTo (alias_graph program) a c =
-        λ c h. ([], subst (λ xs. Contains xs c) (sym row) h) in
+      λ c h. ([], subst (λ xs. Contains xs c) (sym row) h) in
       at_typedef (slice_get (typedefs_of program) a) t (λ (t : Filed TypedefDecl). kind_by (alias_kind program m) program t.file t.item.type) at
-        (type_known (alias_kind program m) program t.file t.item.type
-          (zip_all K R S (λ name known in_row. name_means (alias_kind program m) (type_named program t.file name.text) known (λ c is.
-              let way = edge c (in_row c (found_alias (type_named program t.file name.text) c is)) in
-              let inside = alias_within program t.file name.text c is in
-              alias_known m (without a free) c (omega arith) inside
-                (next_free free a c behind way inside (free_cases (free c)) (same_or_not c a))
-                (λ v l f. next_behind free a c behind way v l f (same_or_not v a))))
-            (names_in_type t.item.type) (from_at (λ k t. NamesKnown program t.file t.item.type) 0 (typedefs_of program) typedefs a t at)
-            (picked_in g (names_in_type t.item.type))))
+      (type_known (alias_kind program m) program t.file t.item.type
+      (zip_all K R S (λ name known in_row. name_means (alias_kind program m) (type_named program t.file name.text) known (λ c is.
+      let way = edge c (in_row c (found_alias (type_named program t.file name.text) c is)) in
+      let inside = alias_within program t.file name.text c is in
+      alias_known m (without a free) c (omega arith) inside
+      (next_free free a c behind way inside (free_cases (free c)) (same_or_not c a))
+      (λ v l f. next_behind free a c behind way v l f (same_or_not v a))))
+      (names_in_type t.item.type) (from_at (λ k t. NamesKnown program t.file t.item.type) 0 (typedefs_of program) typedefs a t at)
+      (picked_in g (names_in_type t.item.type))))
 
   pub each_alias : (c : ℕ) → c < length (typedefs_of program) → Known (alias_kind program (length (typedefs_of program)) c)
   each_alias c within =
       alias_known (length (typedefs_of program)) (λ v. true) c (let all = at_most_all (length (typedefs_of program)) in omega arith) within refl
-        (λ v l e. absurd (let f : true ≡ false = e in cc))
+      (λ v l e. absurd (let f : true ≡ false = e in cc))
 
   -- so a type each name of which is known means something
   pub type_means : (file : ℕ) (t : TypeExpr) → NamesKnown program file t → (kind : PlainKind) × TypeMeans program file t kind
   type_means file t known =
       let alias = alias_kind program (length (typedefs_of program)) in
       let h = type_known alias program file t
-        (weaker (λ (name : Written). type_named program file name.text ≡ None → ⊥) (λ (name : Written). NameMeans alias (type_named program file name.text))
-          (λ name k. name_means alias (type_named program file name.text) k (λ c is. each_alias c (alias_within program file name.text c is)))
-          (names_in_type t) known) in
+      (weaker (λ (name : Written). type_named program file name.text ≡ None → ⊥) (λ (name : Written). NameMeans alias (type_named program file name.text))
+      (λ name k. name_means alias (type_named program file name.text) k (λ c is. each_alias c (alias_within program file name.text c is)))
+      (names_in_type t) known) in
       (h.0, (length (typedefs_of program), h.1))

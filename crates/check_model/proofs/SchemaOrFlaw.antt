@@ -26,9 +26,7 @@ use Rattle.check_model.proofs.OneSchema.{one_partial}
 use Rattle.check_model.proofs.Shown.{weaker, ConstShown, consts_shown}
 use Rattle.check_model.proofs.Resolving.{zip_all}
 use Rattle.check_model.proofs.Building.{zip_made}
-
 use Rattle.check_model.proofs.Existing.{Told, found_or_clear, searched, dotted_told, duplicate_told, unknown_told, field_id_told, duplicate_id_told, enum_number_told, oneway_not_void_told, oneway_throws_told, typedef_cycle_told, service_cycle_told, duplicate_function_told}
-
 use Rattle.check_model.proofs.EachProgram.{picked_found, same_itself, Pu, known_of, means, means_told, built, some_partial, not_exception_told, struct_loop_told}
 
 -- whether something was made
@@ -42,7 +40,6 @@ valued_flawed x n at flaw e = let f : true ≡ false = ap was_made e in cc
 module _ (program : Program) (leads : (graph : Graph) (a b : ℕ) → Told (LeadsTo graph a b))
     (on : (graph : Graph) (a m b : ℕ) → LeadsTo graph a m → LeadsTo graph m b → LeadsTo graph a b)
     (unknown : FindsNothing program unknown_type) (cycles : FindsNothing program typedef_cycle) where
-
   partial : (schema : PlainSchema) × IsPartialSchema program schema
   partial = some_partial program leads on unknown cycles
 
@@ -56,13 +53,15 @@ module _ (program : Program) (leads : (graph : Graph) (a b : ℕ) → Told (Lead
   by_worth : (file : ℕ) (v : GivenValue) (w : ℕ) → value_number program file v.owner ≡ Some w → (k : PlainKind) → TypeMeans program file v.type k → (x : Worth Tree)
       → given_worth setting w k (record { file = file; item = v }) ≡ x → ValueJudged file (value_spot v)
   unfolding setting
-  by_worth file v w number k m (flawed at flaw) e = inl (record { file = file; at = at; kind = of_value flaw },
-      (at, flaw, record { schema = partial.0; made = partial.1; kind = k; means = m; which = w; number = number; worth = e }, refl))
+  by_worth file v w number k m (flawed at flaw) e = inl (
+    record { file = file; at = at; kind = of_value flaw },
+    (at, flaw, record { schema = partial.0; made = partial.1; kind = k; means = m; which = w; number = number; worth = e }, refl),
+  )
   by_worth file v w number k m (valued y n) e = inr (λ flaw h. valued_flawed y n h.0 h.1 (
       sym e
       ∙ (λ i. given_worth (record { program = program; schema = one_partial program partial.0 h.2.schema partial.1 h.2.made i })
-          (somes w h.2.which (sym number ∙ h.2.number) i)
-          (one_meaning program file v.type k h.2.kind m h.2.means i) (record { file = file; item = v }))
+      (somes w h.2.which (sym number ∙ h.2.number) i)
+      (one_meaning program file v.type k h.2.kind m h.2.means i) (record { file = file; item = v }))
       ∙ h.2.worth))
 
   by_kind : (file : ℕ) (v : GivenValue) (w : ℕ) → value_number program file v.owner ≡ Some w → Told ((kind : PlainKind) × TypeMeans program file v.type kind) → ValueJudged file (value_spot v)
@@ -93,7 +92,7 @@ module _ (program : Program) (leads : (graph : Graph) (a b : ℕ) → Told (Lead
 
   number_at : (file : ℕ) (x : Spotted)
       → ((y : Filed GivenValue) (test : Filed GivenValue → Bool) → value_at file x ≡ Some y → test y ≡ true → (i : ℕ)
-        → (k : ℕ) × (position_from test i (filter_map (λ (s : Spot). value_at s.file s.shows) (spots_of program)) ≡ Some k))
+      → (k : ℕ) × (position_from test i (filter_map (λ (s : Spot). value_at s.file s.shows) (spots_of program)) ≡ Some k))
       → Pn file x
   unfolding value_number values_of
   number_at file (value_spot v) h =
@@ -103,9 +102,9 @@ module _ (program : Program) (leads : (graph : Graph) (a b : ℕ) → Told (Lead
   numbers : AllByRecursion (λ (s : Spot). Pn s.file s.shows) (spots_of program)
   numbers =
       weaker (λ (s : Spot). (y : Filed GivenValue) (test : Filed GivenValue → Bool) → value_at s.file s.shows ≡ Some y → test y ≡ true → (i : ℕ)
-          → (k : ℕ) × (position_from test i (filter_map (λ (s : Spot). value_at s.file s.shows) (spots_of program)) ≡ Some k))
-        (λ (s : Spot). Pn s.file s.shows) (λ s h. number_at s.file s.shows h) (spots_of program)
-        (picked_found (λ (s : Spot). value_at s.file s.shows) (spots_of program))
+      → (k : ℕ) × (position_from test i (filter_map (λ (s : Spot). value_at s.file s.shows) (spots_of program)) ≡ Some k))
+      (λ (s : Spot). Pn s.file s.shows) (λ s h. number_at s.file s.shows h) (spots_of program)
+      (picked_found (λ (s : Spot). value_at s.file s.shows) (spots_of program))
 
   -- where no value is at fault, each has a worth
   module _ (sound : FindsNothing program bad_constant) where
@@ -121,7 +120,7 @@ module _ (program : Program) (leads : (graph : Graph) (a b : ℕ) → Told (Lead
     worth_by_case file v k m h w number (valued y n) e = (y, record { which = w; number = number; count = n; worth = e })
     worth_by_case file v k m h w number (flawed at flaw) e =
         absurd (h.0 (record { file = file; at = at; kind = of_value flaw })
-          (at, flaw, record { schema = partial.0; made = partial.1; kind = k; means = m; which = w; number = number; worth = e }, refl))
+        (at, flaw, record { schema = partial.0; made = partial.1; kind = k; means = m; which = w; number = number; worth = e }, refl))
 
     value_worth : (file : ℕ) (v : GivenValue) (k : PlainKind) → TypeMeans program file v.type k → Pv file (value_spot v) → (value : Tree) × HasWorth setting (record { file = file; item = v }) k value
     value_worth file v k m h = worth_by_case file v k m h h.1.0 h.1.1 (given_worth setting h.1.0 k (record { file = file; item = v })) refl
@@ -144,8 +143,8 @@ module _ (program : Program) (leads : (graph : Graph) (a b : ℕ) → Told (Lead
     unfolding setting
     whole_schema faultless =
         let (cs, are) = zip_made (IsConstantOf setting) (constants_of program)
-              (zip_all (ConstShown (Pu program leads on unknown cycles)) (ConstShown Pv) (λ c. (p : PlainConstant) × IsConstantOf setting c p) constant_made
-                (constants_of program) (consts_shown (Pu program leads on unknown cycles) program unknown) (consts_shown Pv program all_sound)) in
+        (zip_all (ConstShown (Pu program leads on unknown cycles)) (ConstShown Pv) (λ c. (p : PlainConstant) × IsConstantOf setting c p) constant_made
+        (constants_of program) (consts_shown (Pu program leads on unknown cycles) program unknown) (consts_shown Pv program all_sound)) in
         let b = built program leads on unknown cycles (DefaultIn setting) Pv (λ file f kind m h. default_by file f kind m f.default h) all_sound cs in
         let P : List PlainConstant → Type 0 = λ xs. AllZip (IsConstantOf setting) (constants_of program) xs in
         (b.0, record { faultless = faultless; partial = partial.0; made = partial.1; whole = b.1; constants = subst P (sym b.2) are })

@@ -69,29 +69,33 @@ module _ (P : ℕ → Spotted → Type 0) where
 
   fields_shown : (file : ℕ) (before fs : List FieldDecl) → AllByRecursion (P file) (spots_in_fields before fs) → AllByRecursion (FieldShown file) fs
   fields_shown file before [] h = tt
-  fields_shown file before (f ∷ fs) h =
-      (field_shown file before f (front_all (P file) (spots_in_field before f) _ h),
-      fields_shown file (before ++ f ∷ []) fs (back_all (P file) (spots_in_field before f) _ h))
+  fields_shown file before (f ∷ fs) h = (
+    field_shown file before f (front_all (P file) (spots_in_field before f) _ h),
+    fields_shown file (before ++ f ∷ []) fs (back_all (P file) (spots_in_field before f) _ h),
+  )
 
   throws_shown : (file : ℕ) (before fs : List FieldDecl) → AllByRecursion (P file) (spots_in_throws before fs) → AllByRecursion (FieldShown file) fs
   throws_shown file before [] h = tt
-  throws_shown file before (f ∷ fs) h =
-      (field_shown file before f (front_all (P file) (spots_in_field before f) _ h.1),
-      throws_shown file (before ++ f ∷ []) fs (back_all (P file) (spots_in_field before f) _ h.1))
+  throws_shown file before (f ∷ fs) h = (
+    field_shown file before f (front_all (P file) (spots_in_field before f) _ h.1),
+    throws_shown file (before ++ f ∷ []) fs (back_all (P file) (spots_in_field before f) _ h.1),
+  )
 
   function_shown : (file service : ℕ) (before : List FunctionDecl) (f : FunctionDecl) → AllByRecursion (P file) (spots_in_function service before f) → FunctionShown file f
   unfolding spots_in_function
   function_shown file service before f h =
-      let rest = (back_all (P file) (result_spots f.result) _ h.1).1 in
-      (front_all (P file) (result_spots f.result) _ h.1,
-      fields_shown file [] f.arguments (front_all (P file) (spots_in_fields [] f.arguments) _ rest),
-      throws_shown file [] f.throws (back_all (P file) (spots_in_fields [] f.arguments) _ rest))
+      let rest = (back_all (P file) (result_spots f.result) _ h.1).1 in (
+        front_all (P file) (result_spots f.result) _ h.1,
+        fields_shown file [] f.arguments (front_all (P file) (spots_in_fields [] f.arguments) _ rest),
+        throws_shown file [] f.throws (back_all (P file) (spots_in_fields [] f.arguments) _ rest),
+      )
 
   functions_shown : (file service : ℕ) (before fs : List FunctionDecl) → AllByRecursion (P file) (spots_in_functions service before fs) → AllByRecursion (FunctionShown file) fs
   functions_shown file service before [] h = tt
-  functions_shown file service before (f ∷ fs) h =
-      (function_shown file service before f (front_all (P file) (spots_in_function service before f) _ h),
-      functions_shown file service (before ++ f ∷ []) fs (back_all (P file) (spots_in_function service before f) _ h))
+  functions_shown file service before (f ∷ fs) h = (
+    function_shown file service before f (front_all (P file) (spots_in_function service before f) _ h),
+    functions_shown file service (before ++ f ∷ []) fs (back_all (P file) (spots_in_function service before f) _ h),
+  )
 
   -- the definitions of one kind, of one file and of those behind it
   consts_of_file : (file : ℕ) (before : List Written) (n : Counts) (ds : List Declaration) (more : List (Filed ConstDecl)) → AllByRecursion (P file) (spots_in_declarations before n ds)
@@ -172,28 +176,28 @@ module _ (P : ℕ → Spotted → Type 0) where
   consts_from file n [] h = tt
   consts_from file n (f ∷ fs) h =
       consts_of_file file [] n f.declarations (picked_from const_in (suc file) fs) (here file n f fs h)
-        (consts_from (suc file) (all_counted n f.declarations) fs (behind file n f fs h))
+      (consts_from (suc file) (all_counted n f.declarations) fs (behind file n f fs h))
 
   structs_from : (file : ℕ) (n : Counts) (files : Program) → AllByRecursion (λ (s : Spot). P s.file s.shows) (spots_from file n files)
       → AllByRecursion StructShown (picked_from struct_in file files)
   structs_from file n [] h = tt
   structs_from file n (f ∷ fs) h =
       structs_of_file file [] n f.declarations (picked_from struct_in (suc file) fs) (here file n f fs h)
-        (structs_from (suc file) (all_counted n f.declarations) fs (behind file n f fs h))
+      (structs_from (suc file) (all_counted n f.declarations) fs (behind file n f fs h))
 
   services_from : (file : ℕ) (n : Counts) (files : Program) → AllByRecursion (λ (s : Spot). P s.file s.shows) (spots_from file n files)
       → AllByRecursion ServiceShown (picked_from service_in file files)
   services_from file n [] h = tt
   services_from file n (f ∷ fs) h =
       services_of_file file [] n f.declarations (picked_from service_in (suc file) fs) (here file n f fs h)
-        (services_from (suc file) (all_counted n f.declarations) fs (behind file n f fs h))
+      (services_from (suc file) (all_counted n f.declarations) fs (behind file n f fs h))
 
   typedefs_from : (file : ℕ) (n : Counts) (files : Program) → AllByRecursion (λ (s : Spot). P s.file s.shows) (spots_from file n files)
       → AllFrom TypedefShown n.aliases (picked_from typedef_in file files)
   typedefs_from file n [] h = tt
   typedefs_from file n (f ∷ fs) h =
       typedefs_of_file file [] n f.declarations (picked_from typedef_in (suc file) fs) (here file n f fs h)
-        (typedefs_from (suc file) (all_counted n f.declarations) fs (behind file n f fs h))
+      (typedefs_from (suc file) (all_counted n f.declarations) fs (behind file n f fs h))
 
   module _ (program : Program) (h : AllByRecursion (λ (s : Spot). P s.file s.shows) (spots_of program)) where
     pub consts_shown : AllByRecursion ConstShown (constants_of program)

@@ -77,8 +77,8 @@ unfolding c_value
 not_flawed at flaw p = valued_flawed (of_i32 (pos 5)) 1 at flaw (
     sym c_worth
     ∙ (λ i. given_worth (record { program = named_number; schema = one_partial named_number (named_schema []) p.schema partial p.made i })
-        (somes 0 p.which (sym c_number ∙ p.number) i)
-        (one_meaning named_number 0 c_value.type (kind_enum 0) p.kind c_means p.means i) (record { file = 0; item = c_value }))
+    (somes 0 p.which (sym c_number ∙ p.number) i)
+    (one_meaning named_number 0 c_value.type (kind_enum 0) p.kind c_means p.means i) (record { file = 0; item = c_value }))
     ∙ p.worth)
 
 named_dotted_name : FindsNothing named_number dotted_name

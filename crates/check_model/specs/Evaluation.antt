@@ -145,7 +145,7 @@ union_worth _ at count = flawed at wrong_kind
 abbrev pub default_in : Program → FieldsDecl → ℤ → Option ℕ
 default_in program list id =
     option_and_then (λ (f : NumberedField). option_and_then (λ (tree : ConstExpr). value_number program list.file f.decl.at) f.decl.default)
-      (find (λ (f : NumberedField). int_eq f.id id) (fields_by_id list.fields))
+    (find (λ (f : NumberedField). int_eq f.id id) (fields_by_id list.fields))
 
 -- the same of a field of the struct of some number
 unfoldable pub default_of : Program → ℕ → ℤ → Option ℕ

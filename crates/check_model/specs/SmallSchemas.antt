@@ -16,7 +16,11 @@ use Rattle.check_model.specs.Evaluation.{given_worth}
 -- a schema of one struct, with these fields
 abbrev pub one_struct : List PlainField → PlainSchema
 one_struct items = record {
-  files = []; enums = []; services = []; aliases = []; constants = [];
+  files = [];
+  enums = [];
+  services = [];
+  aliases = [];
+  constants = [];
   structs = record { file = 0; name = codes "S"; kind = fields.Struct; fields = items } ∷ [];
 }
 

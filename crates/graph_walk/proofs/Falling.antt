@@ -1,11 +1,11 @@
 -- Labels that rise along no edge, and what they show.
-use Rattle.std.proofs.Common.{◌≡◌, ℕ, suc, ◌<◌, ◌≤◌, ◌+◌, Bool, true, nat_le, nat_lt, List, [], ◌∷◌, ◌++◌, length, drop, slice_index, slice_index_or, refl, ap, sym, subst, ◌∙◌, arith}
+use Rattle.std.proofs.Common.{◌≡◌, ℕ, suc, ◌<◌, ◌≤◌, ◌+◌, Bool, true, nat_le, nat_lt, List, [], ◌∷◌, length, drop, slice_index, slice_index_or, ap, sym, subst, ◌∙◌, arith}
 use Rattle.std.specs.List.{list_all, Contains}
 use Rattle.std.proofs.lemmas.List.Sums.{AllPass-from_list_all}
 use Rattle.std.proofs.lemmas.Bool.{leb-true, ltb-true}
 use Rattle.std.proofs.Math.Seq.{drop-cons}
-use Rattle.graph_walk.specs.Walks.{Graph, IsEdge, Walk, LeadsTo, OnCycle}
-use Rattle.graph_walk.specs.Certified.{LeadsNoHigher, LeadsLower, RisesNowhere, FallsBefore}
+use Rattle.graph_walk.specs.Walks.{Graph, IsEdge, Walk, OnCycle}
+use Rattle.graph_walk.specs.Certified.{RisesNowhere, FallsBefore}
 
 -- a test that each element passes is passed by one of them
 passes : (p : ℕ → Bool) (xs : List ℕ) (x : ℕ) → list_all p xs ≡ true → Contains xs x → p x ≡ true
@@ -15,7 +15,7 @@ passes p xs x all has = ap p (sym has.2) ∙ AllPass-from_list_all p xs all has.
 no_higher : (graph : Graph) (labels : List ℕ) → RisesNowhere graph labels → (a b : ℕ) → IsEdge graph a b → slice_index labels b ≤ slice_index labels a
 no_higher graph labels rises a b edge =
     leb-true (slice_index labels b) (slice_index labels a)
-      (passes (λ node. nat_le (slice_index labels node) (slice_index labels a)) (slice_index_or graph a []) b (rises a) edge)
+    (passes (λ node. nat_le (slice_index labels node) (slice_index labels a)) (slice_index_or graph a []) b (rises a) edge)
 
 -- nor is that at the end of a walk
 walk_no_higher : (graph : Graph) (labels : List ℕ) → RisesNowhere graph labels → (a : ℕ) (between : List ℕ) (b : ℕ) → Walk graph a between b
@@ -31,7 +31,7 @@ lower : (graph : Graph) (labels : List ℕ) (count : ℕ) → FallsBefore graph 
     → slice_index labels b < slice_index labels a
 lower graph labels count falls a b within edge =
     ltb-true (slice_index labels b) (slice_index labels a)
-      (passes (λ node. nat_lt (slice_index labels node) (slice_index labels a)) (slice_index_or graph a []) b (falls a within) edge)
+    (passes (λ node. nat_lt (slice_index labels node) (slice_index labels a)) (slice_index_or graph a []) b (falls a within) edge)
 
 -- so no walk leads back to one of them
 pub no_cycle : (graph : Graph) (labels : List ℕ) (count : ℕ) → RisesNowhere graph labels → FallsBefore graph labels count → (a : ℕ) → a < count → OnCycle graph a → ⊥
@@ -51,7 +51,7 @@ pub goes_on : (graph : Graph) (between : List ℕ) (i last start end : ℕ) → 
 goes_on graph between i last start end within edge so_far walk =
     let P : List ℕ → Type 0 = λ rest. Walk graph last rest end in
     so_far (subst P (sym (drop-cons between i 0 within ∙ ap (λ n. slice_index between i ∷ drop n between) (let e : suc i ≡ i + 1 = omega arith in e)))
-      (edge, walk))
+    (edge, walk))
 
 -- the same of labels that were read twice
 pub no_cycle_of_same : (graph : Graph) (labels again : List ℕ) → labels ≡ again → (count : ℕ) → RisesNowhere graph labels → FallsBefore graph again count

@@ -1,5 +1,5 @@
 -- What holds of each row of a graph.
-use Rattle.std.proofs.Common.{◌≡◌, ℕ, zero, suc, ◌<◌, List, [], ◌∷◌, length, map, slice_index_or, refl, arith}
+use Rattle.std.proofs.Common.{ℕ, zero, suc, ◌<◌, List, [], ◌∷◌, length, map, slice_index_or, arith}
 
 -- what holds of the rows that there are, and of an empty row, holds of the row of each node
 pub of_each_row : {X : Type 0} (f : X → List ℕ) (P : ℕ → List ℕ → Type 0) → ((a : ℕ) → P a []) → (xs : List X)

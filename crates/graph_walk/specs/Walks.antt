@@ -1,5 +1,5 @@
 -- Walks in a directed graph, and the first node that lies on a cycle.
-use Rattle.std.specs.Prelude.{◌≡◌, ℕ, ◌<◌, List, [], ◌∷◌, Option, Some, None, slice_index_or}
+use Rattle.std.specs.Prelude.{ℕ, ◌<◌, List, [], ◌∷◌, Option, Some, None, slice_index_or}
 use Rattle.std.specs.List.{Contains}
 
 -- a graph: for each node, by number, the nodes to which its edges lead

@@ -11,13 +11,22 @@ fn parent_of(parents: &[u32], node: u32) -> u32 {
 }
 
 // Each node of the label that a row leads to, and that wasn't met before, is met from this one. Whether one leads to `goal`.
-fn spread(row: &[u32], labels: &[u32], node: u32, goal: u32, parents: &mut [u32], queue: &mut Vec<u32>) -> Result<bool, AllocError> {
+fn spread(
+    row: &[u32],
+    labels: &[u32],
+    node: u32,
+    goal: u32,
+    parents: &mut [u32],
+    queue: &mut Vec<u32>,
+) -> Result<bool, AllocError> {
     for next in row.iter() {
         let next = *next;
         if next == goal {
             return Ok(true);
         }
-        if labels.get(next as usize) == labels.get(goal as usize) && parent_of(parents, next) == u32::MAX {
+        if labels.get(next as usize) == labels.get(goal as usize)
+            && parent_of(parents, next) == u32::MAX
+        {
             if let Some(parent) = parents.get_mut(next as usize) {
                 *parent = node;
             }
@@ -43,7 +52,12 @@ fn unwound(alloc: Global, parents: &[u32], goal: u32, last: u32) -> Result<Vec<u
 }
 
 /// The nodes over which edges lead from a node back to it, as far as they are found.
-pub(crate) fn way_back(alloc: Global, graph: &[Vec<u32>], labels: &[u32], goal: u32) -> Result<Vec<u32>, AllocError> {
+pub(crate) fn way_back(
+    alloc: Global,
+    graph: &[Vec<u32>],
+    labels: &[u32],
+    goal: u32,
+) -> Result<Vec<u32>, AllocError> {
     let mut parents = vec![in alloc; u32::MAX; graph.len()]?;
     let mut queue = Vec::new(alloc);
     queue.push(goal)?;
@@ -52,7 +66,14 @@ pub(crate) fn way_back(alloc: Global, graph: &[Vec<u32>], labels: &[u32], goal: 
             None => return Ok(Vec::new(alloc)),
             Some(node) => {
                 if let Some(row) = graph.get(node as usize) {
-                    if spread(row.as_slice(), labels, node, goal, parents.as_mut_slice(), &mut queue)? {
+                    if spread(
+                        row.as_slice(),
+                        labels,
+                        node,
+                        goal,
+                        parents.as_mut_slice(),
+                        &mut queue,
+                    )? {
                         return unwound(alloc, parents.as_slice(), goal, node);
                     }
                 }

@@ -1,5 +1,5 @@
 -- The tree of a document in memory declares what the document does.
-use Rattle.std.proofs.Common.{Vec, Global, ◌≡◌, ℕ, Bool, true, false, List, [], ◌∷◌, map, Option, Some, None, refl, sym, ap, ◌∙◌, subst}
+use Rattle.std.proofs.Common.{Vec, Global, ◌≡◌, Bool, true, false, List, [], ◌∷◌, map, Option, Some, None, refl, sym, ap, ◌∙◌, subst}
 use Rattle.std.specs.Option.{option_map}
 use Rattle.idl_parser.specs.declared.tree.Base.{Base}
 use Rattle.idl_parser.specs.declared.tree.Base.TheVariants as base
@@ -23,12 +23,11 @@ use Rattle.idl_parser.specs.declared.tree.Definition.TheVariants as definition
 use Rattle.idl_parser.specs.declared.tree.Include.{Include}
 use Rattle.idl_parser.specs.declared.tree.Document.{Document}
 use Rattle.idl_parser.specs.Phrases.{Node}
-use Rattle.idl_parser.specs.Trees.{row, pair_row, both_nodes, maybe_node, int_node, name_node, base_word, type_step, type_node, value_step, value_node, need_node, field_node, oneway_node, result_node, fields_node, function_node, const_node, typedef_node, enum_value_node, enum_node, struct_word_of, struct_node, service_node, definition_node, include_node, document_node}
-use Rattle.idl_model.specs.Written.{Written}
-use Rattle.idl_model.specs.TypeExpr.{TypeExpr, base_expr, name_expr, map_expr, set_expr, list_expr}
-use Rattle.idl_model.specs.ConstExpr.{ConstExpr, list_const, map_const, ConstItems, const_item, ConstEntries, const_entry}
-use Rattle.idl_model.specs.Declarations.{FieldDecl, FunctionDecl, Declaration, of_const, of_typedef, of_enum, of_struct_decl, of_service}
-use Rattle.idl_model.specs.Decoded.{nodes_of, behind, written_of, given_of, number_of, base_of, type_expr, const_expr, const_items, const_entries, need_of, field_decl, given_fields, is_oneway, result_of, function_decl, enum_value_decl, struct_kind_of, declaration, declarations_of, includes_of}
+use Rattle.idl_parser.specs.Trees.{row, pair_row, both_nodes, maybe_node, int_node, name_node, base_word, type_step, type_node, value_step, value_node, need_node, field_node, oneway_node, result_node, fields_node, function_node, const_node, typedef_node, enum_value_node, enum_node, struct_node, service_node, definition_node, include_node, document_node}
+use Rattle.idl_model.specs.TypeExpr.{TypeExpr, base_expr, map_expr, set_expr, list_expr}
+use Rattle.idl_model.specs.ConstExpr.{ConstExpr, list_const, map_const, const_item, const_entry}
+use Rattle.idl_model.specs.Declarations.{of_const, of_typedef, of_enum, of_struct_decl, of_service}
+use Rattle.idl_model.specs.Decoded.{nodes_of, behind, written_of, given_of, number_of, base_of, type_expr, const_expr, const_items, const_entries, need_of, field_decl, given_fields, is_oneway, result_of, function_decl, enum_value_decl, declaration, declarations_of, includes_of}
 use Rattle.idl_model.specs.DeclaredIn.{name_in, literal_in, type_level, type_in, items_in, entries_in, const_level, value_in, number_in, field_in, throws_in, function_in, enum_value_in, definition_in, definitions_in, includes_of_document}
 
 rows_are : {A B : Type 0} (tree : A → Node) (read : Node → B) (of : A → B) → ((x : A) → read (tree x) ≡ of x) → (xs : List A)

@@ -60,7 +60,7 @@ module _ (k : Known) where
   tree_or_fault text tree at kind p q =
       let P : List Token → Type 0 = λ ts. DocumentIn deepest (lexemes text ts) tree in
       k.no_fault deepest (lexemes text q.tokens) q.first.rest tree q.first.too_deep
-        (subst P (k.tokens text p.tokens q.tokens p.cut q.cut) p.document) q.first.first
+      (subst P (k.tokens text p.tokens q.tokens p.cut q.cut) p.document) q.first.first
 
   one_parse : (text : List ℕ) (at in_other : Place) (kind other : ParseKind) → IsParseFaultIn text at kind → IsParseFaultIn text in_other other
       → unread at (parsed_badly kind) ≡ unread in_other (parsed_badly other)
@@ -69,7 +69,7 @@ module _ (k : Known) where
       let g : ParseFault = record { at = in_other; kind = other } in
       let P : List Token → Type 0 = λ ts. IsFaultOf text ts f in
       ap (λ (x : ParseFault). unread x.at (parsed_badly x.kind))
-        (k.parse_fault text q.tokens f g (subst P (k.tokens text p.tokens q.tokens p.cut q.cut) p.first) q.first)
+      (k.parse_fault text q.tokens f g (subst P (k.tokens text p.tokens q.tokens p.cut q.cut) p.first) q.first)
 
   one_lex : (text : List ℕ) (at in_other : Place) (kind other : LexKind)
       → IsFirstLexFault (record { at = at; kind = kind }) text → IsFirstLexFault (record { at = in_other; kind = other }) text

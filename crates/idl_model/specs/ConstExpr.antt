@@ -1,5 +1,5 @@
 -- Constant values as they are written (Thrift IDL, 'Constant Values').
-use Rattle.std.specs.Prelude.{ℕ, zero, suc, ◌+◌, ℤ, List}
+use Rattle.std.specs.Prelude.{ℕ, suc, ℤ}
 use Rattle.idl_token.specs.declared.Place.{Place}
 use Rattle.idl_model.specs.Written.{Written}
 

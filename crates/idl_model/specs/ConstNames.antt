@@ -1,6 +1,6 @@
 -- What a name stands for in a constant value: `Enum.VALUE` or `f.Enum.VALUE` is a value of an enum, `NAME` or `f.NAME` a constant.
 -- What is both is the value of the enum.
-use Rattle.std.specs.Prelude.{ℕ, ℤ, ◌==◌, ◌&&◌, Bool, List, [], ◌∷◌, slice_get, Option, Some, None, if◌then◌else◌}
+use Rattle.std.specs.Prelude.{ℕ, ℤ, ◌==◌, ◌&&◌, Bool, List, ◌∷◌, slice_get, Option, Some, None, if◌then◌else◌}
 use Rattle.std.specs.Option.{option_map, option_or, option_and_then}
 use Rattle.std.specs.List.{find, position_from}
 use Rattle.std.specs.Str.{bytes_eq}
@@ -36,7 +36,7 @@ number_of_value _ _ name = None
 abbrev pub value_of_enum : Program → List ℕ → ℕ → Option ConstMeaning
 value_of_enum program name number =
     option_and_then (λ (e : Filed EnumDecl). option_map (enum_value number) (number_of_value e.item.values (enum_numbers e.item.values) name))
-      (slice_get (enums_of program) number)
+    (slice_get (enums_of program) number)
 
 -- the value of this name of an enum that is defined somewhere
 abbrev pub enum_value_at : Program → List ℕ → Sought → Option ConstMeaning
@@ -52,7 +52,7 @@ enum_value_named program file name =
 abbrev pub constant_at : Program → Sought → Option ConstMeaning
 constant_at program s =
     option_and_then (λ (c : Filed ConstDecl). option_map given_value (value_number program c.file c.item.name.at))
-      (find (is_named (λ (c : ConstDecl). c.name) s.file s.name) (constants_of program))
+    (find (is_named (λ (c : ConstDecl). c.name) s.file s.name) (constants_of program))
 
 -- What a name in a constant value that stands in a file stands for.
 unfoldable pub const_meaning : Program → ℕ → List ℕ → Option ConstMeaning

@@ -3,13 +3,13 @@ use Rattle.std.specs.Prelude.{◌≡◌, ℕ, List, [], ◌∷◌, map, true, sl
 use Rattle.std.specs.Option.{option_and_then, option_map_or}
 use Rattle.std.specs.List.{filter_map, list_any}
 use Rattle.std.specs.Str.{bytes_eq}
-use Rattle.graph_walk.specs.Walks.{Graph, LeadsTo, OnCycle}
+use Rattle.graph_walk.specs.Walks.{Graph, LeadsTo}
 use Rattle.idl_model.specs.Written.{Written}
 use Rattle.idl_model.specs.TypeExpr.{names_in_type}
 use Rattle.idl_model.specs.Declarations.{FunctionDecl, TypedefDecl, ServiceDecl}
 use Rattle.idl_model.specs.Program.{Program}
 use Rattle.idl_model.specs.Numbering.{Filed, typedefs_of, services_of}
-use Rattle.idl_model.specs.Names.{NamedType, an_alias, an_enum, a_struct, type_named, service_named}
+use Rattle.idl_model.specs.Names.{NamedType, an_alias, type_named, service_named}
 
 -- the typedef that a name stands for, if it is one
 abbrev pub alias_in : NamedType → Option ℕ

@@ -1,5 +1,5 @@
 -- What a document in memory declares, part by part. It is what the document's tree declares.
-use Rattle.std.specs.Prelude.{ℕ, ℤ, List, [], ◌∷◌, map, Option, Some, None}
+use Rattle.std.specs.Prelude.{ℤ, List, [], ◌∷◌, map, Option, Some, None}
 use Rattle.std.specs.Option.{option_map}
 use Rattle.idl_parser.specs.declared.tree.Name.{Name}
 use Rattle.idl_parser.specs.declared.tree.Literal.{Literal}
@@ -14,12 +14,7 @@ use Rattle.idl_parser.specs.declared.tree.ConstTree.TheOpen as of_value
 use Rattle.idl_parser.specs.declared.tree.ConstTree.TheFolds.{fold-ConstTree}
 use Rattle.idl_parser.specs.declared.tree.Field.{Field}
 use Rattle.idl_parser.specs.declared.tree.Function.{Function}
-use Rattle.idl_parser.specs.declared.tree.Const.{Const}
-use Rattle.idl_parser.specs.declared.tree.Typedef.{Typedef}
 use Rattle.idl_parser.specs.declared.tree.EnumValue.{EnumValue}
-use Rattle.idl_parser.specs.declared.tree.Enum.{Enum}
-use Rattle.idl_parser.specs.declared.tree.Struct.{Struct}
-use Rattle.idl_parser.specs.declared.tree.Service.{Service}
 use Rattle.idl_parser.specs.declared.tree.Definition.{Definition}
 use Rattle.idl_parser.specs.declared.tree.Definition.TheVariants as definition
 use Rattle.idl_parser.specs.declared.tree.Include.{Include}
@@ -27,7 +22,7 @@ use Rattle.idl_parser.specs.declared.tree.Document.{Document}
 use Rattle.idl_model.specs.Written.{Written}
 use Rattle.idl_model.specs.TypeExpr.{TypeExpr, base_expr, name_expr, map_expr, set_expr, list_expr}
 use Rattle.idl_model.specs.ConstExpr.{ConstExpr, int_const, double_const, literal_const, name_const, list_const, map_const, ConstItems, no_consts, const_item, ConstEntries, no_entries, const_entry}
-use Rattle.idl_model.specs.Declarations.{FieldDecl, FunctionDecl, ConstDecl, TypedefDecl, EnumValueDecl, EnumDecl, StructDecl, ServiceDecl, Declaration, of_const, of_typedef, of_enum, of_struct_decl, of_service}
+use Rattle.idl_model.specs.Declarations.{FieldDecl, FunctionDecl, EnumValueDecl, Declaration, of_const, of_typedef, of_enum, of_struct_decl, of_service}
 
 -- a name
 abbrev pub name_in : Name → Written
@@ -79,7 +74,12 @@ number_in int = int.value
 -- a field
 unfoldable pub field_in : Field → FieldDecl
 field_in f = record {
-  at = f.at; id = option_map number_in f.id; need = f.need; type = type_in f.kind; name = name_in f.name; default = option_map value_in f.default;
+  at = f.at;
+  id = option_map number_in f.id;
+  need = f.need;
+  type = type_in f.kind;
+  name = name_in f.name;
+  default = option_map value_in f.default;
 }
 
 -- the exceptions that a function throws; none where nothing is said of them
@@ -90,8 +90,12 @@ throws_in (Some fields) = map field_in fields
 -- a function
 unfoldable pub function_in : Function → FunctionDecl
 function_in f = record {
-  at = f.at; oneway = f.oneway; result = option_map type_in f.result; name = name_in f.name;
-  arguments = map field_in f.arguments.items; throws = throws_in (option_map (λ v. v.items) f.throws);
+  at = f.at;
+  oneway = f.oneway;
+  result = option_map type_in f.result;
+  name = name_in f.name;
+  arguments = map field_in f.arguments.items;
+  throws = throws_in (option_map (λ v. v.items) f.throws);
 }
 
 -- a value of an enum

@@ -9,7 +9,7 @@ use Rattle.idl_parser.specs.declared.tree.Need.{Need}
 use Rattle.idl_parser.specs.declared.tree.Need.TheVariants as need
 use Rattle.idl_parser.specs.declared.tree.StructKind.{StructKind}
 use Rattle.idl_parser.specs.declared.tree.StructKind.TheVariants as kind
-use Rattle.idl_parser.specs.Phrases.{Node, none, word as word_node, flag, text, number, given, pair, placed}
+use Rattle.idl_parser.specs.Phrases.{Node, word as word_node, flag, text, number, given, pair, placed}
 use Rattle.idl_parser.specs.Unplaced.{nowhere}
 use Rattle.idl_model.specs.Written.{Written}
 use Rattle.idl_model.specs.TypeExpr.{TypeExpr, base_expr, name_expr, map_expr, set_expr, list_expr}

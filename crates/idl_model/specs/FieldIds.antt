@@ -1,5 +1,5 @@
 -- The ids of the fields of a list: the number that is written, or else -1, -2 and so on, in order.
-use Rattle.std.specs.Prelude.{ℕ, suc, ℤ, pos, neg_ℤ, ◌-ℤ◌, List, [], ◌∷◌, Option, Some, None}
+use Rattle.std.specs.Prelude.{ℕ, suc, ℤ, pos, neg_ℤ, List, [], ◌∷◌, Option, Some, None}
 use Rattle.idl_model.specs.Declarations.{FieldDecl}
 
 -- the id of a field behind so many without a written number

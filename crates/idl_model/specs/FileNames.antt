@@ -1,5 +1,5 @@
 -- Names of files: how an include's name is made of the including file's name and the literal, and what a file's base name is.
-use Rattle.std.specs.Prelude.{ℕ, ◌==◌, ◌||◌, Bool, true, false, List, [], ◌∷◌, ◌++◌, reverse, take, drop, length, ◌-◌, codes, nat_eq, if◌then◌else◌}
+use Rattle.std.specs.Prelude.{ℕ, ◌==◌, ◌||◌, Bool, false, List, [], ◌∷◌, ◌++◌, reverse, take, length, ◌-◌, codes, nat_eq, if◌then◌else◌}
 use Rattle.std.specs.Str.{bytes_eq}
 use Rattle.idl_token.specs.Bytes as byte
 use Rattle.std.specs.List.{after_last, slice_split, ends_with, join_with_byte}

@@ -1,9 +1,8 @@
 -- How a program is loaded: depth first, the main file, then each include in order, each file once.
-use Rattle.std.specs.Prelude.{ℕ, zero, suc, Bool, true, false, nat_le, List, [], ◌∷◌, ◌++◌, length, slice_set, slice_get, Option, Some, None, if◌then◌else◌}
+use Rattle.std.specs.Prelude.{ℕ, zero, suc, Bool, true, false, nat_le, List, [], ◌∷◌, ◌++◌, length, Option, Some, None, if◌then◌else◌}
 use Rattle.std.specs.Str.{bytes_eq, is_utf8}
 use Rattle.std.specs.List.{list_any, position_from}
 use Rattle.idl_token.specs.declared.Place.{Place}
-use Rattle.idl_parser.specs.Phrases.{Node}
 use Rattle.idl_model.specs.Written.{Written}
 use Rattle.idl_parser.specs.Unplaced.{nowhere}
 use Rattle.idl_model.specs.Decoded.{declarations_of, includes_of}
@@ -82,14 +81,14 @@ load_includes is_name enter above file of (literal ∷ more) files =
     let name = included_name file literal.text in
     let flaw : LoadFlaw = record { file = file; at = literal.at; kind = too_many } in
     and_then (load_include (enter name) flaw of (include_case (is_name literal.text) above files name) files)
-      (λ next. load_includes is_name enter above file of more next)
+    (λ next. load_includes is_name enter above file of more next)
 
 -- one more file, and its includes
 abbrev pub load_read : (List ℕ → Bool) → (List ℕ → Program → Loaded) → List (List ℕ) → List ℕ → FileReading → Program → Loaded
 load_read is_name enter above name (unread at kind) files = stopped (record { file = name; at = at; kind = kind })
 load_read is_name enter above name (read_as tree) files =
     load_includes is_name enter above name (length files) (includes_of tree)
-      (files ++ record { name = name; declarations = declarations_of tree; includes = [] } ∷ [])
+    (files ++ record { name = name; declarations = declarations_of tree; includes = [] } ∷ [])
 
 -- a file, where there is room for one more, or not
 abbrev pub load_within : Bool → (List ℕ → Bool) → (List ℕ → Program → Loaded) → List (List ℕ) → List ℕ → FileReading → Program → Loaded

@@ -1,9 +1,8 @@
 -- What a name stands for in a file: `A` is a definition of the same file, and `f.A` the definition A of the included file with base name f.
-use Rattle.std.specs.Prelude.{ℕ, ◌==◌, Bool, false, List, [], ◌∷◌, map, slice_get, Option, Some, None, if◌then◌else◌}
+use Rattle.std.specs.Prelude.{ℕ, ◌==◌, Bool, false, List, [], slice_get, Option, Some, if◌then◌else◌}
 use Rattle.std.specs.Str.{bytes_eq}
 use Rattle.std.specs.Option.{option_map, option_or, option_and_then, option_map_or}
 use Rattle.std.specs.List.{list_any, find, before_last, after_last}
-use Rattle.idl_model.specs.Written.{Written}
 use Rattle.idl_model.specs.Declarations.{TypedefDecl, EnumDecl, StructDecl, ServiceDecl}
 use Rattle.idl_model.specs.Program.{SourceFile, Program, base_of_file}
 use Rattle.idl_model.specs.Numbering.{number_named, typedefs_of, enums_of, structs_of, services_of}

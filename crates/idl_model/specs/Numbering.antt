@@ -4,7 +4,7 @@ use Rattle.std.specs.Str.{bytes_eq}
 use Rattle.std.specs.List.{filter_map, flat_map, position_from}
 use Rattle.idl_model.specs.Written.{Written}
 use Rattle.idl_model.specs.Declarations.{FunctionDecl, ConstDecl, TypedefDecl, EnumDecl, StructDecl, ServiceDecl, Declaration, of_const, of_typedef, of_enum, of_struct_decl, of_service}
-use Rattle.idl_model.specs.Program.{SourceFile, Program}
+use Rattle.idl_model.specs.Program.{Program}
 
 -- a definition, with the number of its file
 pub record Filed (A : Type 0) : Type 0 where

@@ -1,6 +1,5 @@
 -- A program: the files that its main file includes, directly or not, each with what it declares.
 use Rattle.std.specs.Prelude.{ℕ, List}
-use Rattle.idl_model.specs.Written.{Written}
 use Rattle.idl_model.specs.Declarations.{Declaration}
 use Rattle.idl_model.specs.FileNames.{base_name}
 

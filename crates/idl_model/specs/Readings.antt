@@ -3,11 +3,9 @@ use Rattle.std.specs.Prelude.{◌≡◌, ℕ, Bool, true, false, nat_le, List, l
 use Rattle.outside.specs.Files.{File, content_of}
 use Rattle.idl_token.specs.declared.Place.{Place}
 use Rattle.idl_token.specs.declared.Token.{Token}
-use Rattle.idl_token.specs.declared.LexFault.{LexFault}
 use Rattle.idl_token.specs.declared.LexKind.{LexKind}
 use Rattle.idl_token.specs.Limits.{longest_text}
 use Rattle.idl_token.specs.Tokens.{AreTokensOf, IsFirstLexFault}
-use Rattle.idl_parser.specs.declared.ParseFault.{ParseFault}
 use Rattle.idl_parser.specs.declared.ParseKind.{ParseKind}
 use Rattle.idl_parser.specs.Phrases.{Node}
 use Rattle.idl_parser.specs.Symbols.{lexemes}

@@ -1,5 +1,5 @@
 -- Small documents, files and programs, for examples. Each stands on one line, so a place is a column.
-use Rattle.std.specs.Prelude.{ℕ, ℤ, pos, ◌+◌, Bool, true, false, codes, List, [], ◌∷◌, map, Option, Some, None, if◌then◌else◌}
+use Rattle.std.specs.Prelude.{ℕ, ℤ, pos, ◌+◌, Bool, true, false, codes, List, [], ◌∷◌, Option, Some, None, if◌then◌else◌}
 use Rattle.std.specs.Str.{bytes_eq}
 use Rattle.idl_token.specs.declared.Place.{Place}
 use Rattle.idl_token.specs.declared.terminal.Terminal.TheVariants as word
@@ -12,7 +12,7 @@ use Rattle.idl_parser.specs.Unplaced.{nowhere}
 use Rattle.idl_model.specs.TypeExpr.{TypeExpr, base_expr, name_expr, list_expr}
 use Rattle.idl_model.specs.ConstExpr.{ConstExpr, int_const, name_const, list_const, map_const, no_consts, const_item, no_entries}
 use Rattle.idl_model.specs.Declarations.{FieldDecl, FunctionDecl, EnumValueDecl, Declaration, of_const, of_typedef, of_enum, of_struct_decl, of_service}
-use Rattle.idl_model.specs.Program.{SourceFile, Program}
+use Rattle.idl_model.specs.Program.{Program}
 use Rattle.idl_model.specs.Readings.{FileReading, read_as, unread, absent}
 
 -- a column of the one line
@@ -27,8 +27,8 @@ written_at name n = record { text = name; at = column n }
 abbrev pub struct_tree : Node
 struct_tree =
     pair none (pair (pair (word_node word.Struct (column 1)) (pair (text word.Identifier (codes "S") (column 8)) (pair
-      (placed (column 12) (pair (given (number (pos 1) (column 12))) (pair none (pair (word_node word.I8 (column 15))
-      (pair (text word.Identifier (codes "a") (column 18)) (given (number (pos 200) (column 22)))))))) none))) none)
+    (placed (column 12) (pair (given (number (pos 1) (column 12))) (pair none (pair (word_node word.I8 (column 15))
+    (pair (text word.Identifier (codes "a") (column 18)) (given (number (pos 200) (column 22)))))))) none))) none)
 
 -- a field without a word about its presence
 abbrev pub small_field : ℕ → ℕ → TypeExpr → Written → Option ConstExpr → FieldDecl
@@ -58,8 +58,11 @@ takes_itself = one_file (small_struct (small_field 12 1 (name_expr (written_at (
 -- `const i32 A = B const list<i32> B = [A]`
 abbrev pub crossed : Program
 crossed = one_file (of_const (record { name = written_at (codes "A") 11; type = base_expr base.I32; value = name_const (written_at (codes "B") 15) })
-    ∷ of_const (record { name = written_at (codes "B") 33; type = list_expr (base_expr base.I32);
-      value = list_const (column 37) (const_item (name_const (written_at (codes "A") 38)) no_consts) }) ∷ [])
+    ∷ of_const (record {
+      name = written_at (codes "B") 33;
+      type = list_expr (base_expr base.I32);
+      value = list_const (column 37) (const_item (name_const (written_at (codes "A") 38)) no_consts);
+    }) ∷ [])
 
 -- `[A]` at column 21
 abbrev pub list_of_a : ConstExpr

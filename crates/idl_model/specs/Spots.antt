@@ -5,8 +5,8 @@ use Rattle.idl_token.specs.declared.Place.{Place}
 use Rattle.idl_model.specs.Written.{Written}
 use Rattle.idl_model.specs.TypeExpr.{TypeExpr, names_in_type}
 use Rattle.idl_model.specs.ConstExpr.{ConstExpr}
-use Rattle.idl_model.specs.Declarations.{FieldDecl, FunctionDecl, EnumValueDecl, EnumDecl, StructDecl, ServiceDecl, Declaration, of_const, of_typedef, of_enum, of_struct_decl, of_service, declared_name}
-use Rattle.idl_model.specs.Program.{SourceFile, Program}
+use Rattle.idl_model.specs.Declarations.{FieldDecl, FunctionDecl, EnumValueDecl, StructDecl, Declaration, of_const, of_typedef, of_enum, of_struct_decl, of_service, declared_name}
+use Rattle.idl_model.specs.Program.{Program}
 use Rattle.idl_model.specs.Numbering.{Filed, Counts, none_counted, counted, all_counted}
 
 -- a value that a program gives: of a constant, with the place of its name, or the default of a field, with the place of the field

@@ -13,8 +13,7 @@ use idl_parser::{
     the_first_fault_is_determined,
 };
 use idl_token::{
-    the_fault_is_determined, tokens_are_determined,
-    tokens_exclude_a_fault, tokens_or_a_first_fault,
+    the_fault_is_determined, tokens_are_determined, tokens_exclude_a_fault, tokens_or_a_first_fault,
 };
 
 /// Each file is read as something, and as one thing alone.

@@ -6,7 +6,7 @@ use Rattle.graph_walk.proofs.checks.first_level.Goals as goal
 pub returns-then-not-leads_lower : goal.returns-then-not-leads_lower
 returns-then-not-leads_lower c =
     of_first_rows (λ row. row.items) (λ a row. LeadsLower c.args.labels.now (slice_index c.args.labels.now a) row) (λ a. refl) c.args.graph.now c.loop-node.node
-      (λ k d l m. c.loop-node.invariant k d m)
+    (λ k d l m. c.loop-node.invariant k d m)
 
 pub returns : goal.returns
 returns c = λ count. of_first_rows (λ row. row.items) (λ a row. LeadsLower c.args.labels.now (slice_index c.args.labels.now a) row) (λ a. refl) c.args.graph.now count

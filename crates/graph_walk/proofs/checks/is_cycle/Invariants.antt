@@ -1,5 +1,5 @@
 use Rattle.std.proofs.Common.{drop, map}
-use Rattle.graph_walk.specs.Walks.{Graph, Walk}
+use Rattle.graph_walk.specs.Walks.{Walk}
 use Rattle.graph_walk.proofs.checks.is_cycle.Given as goal
 
 abbrev pub invariant-loop-next : goal.invariant-loop-next

@@ -1,4 +1,4 @@
-use Rattle.idl_model.proofs.OneReading.{Known, some_reader, one_reader}
+use Rattle.idl_model.proofs.OneReading.{some_reader, one_reader}
 use Rattle.idl_model.proofs.laws.each_file_is_read_as_one_thing.Goals as goal
 
 pub returns-clause-some : goal.returns-clause-some
