@@ -5,16 +5,16 @@ use Rattle.thrift_value.specs.Tree.{Tree}
 use Rattle.idl_model.specs.TypeExpr.{TypeExpr}
 use Rattle.idl_model.specs.Declarations.{FieldDecl, FunctionDecl, TypedefDecl, StructDecl, ServiceDecl}
 use Rattle.idl_model.specs.Program.{Program}
-use Rattle.idl_model.specs.Numbering.{Filed, filed, typedefs_of, enums_of, structs_of, services_of, functions_in, functions_of}
+use Rattle.idl_model.specs.Numbering.{Filed, filed, typedefs_of, enums_of, structs_of, services_of, functions_in, all_functions}
 use Rattle.idl_model.specs.FieldIds.{one_more_unnumbered}
-use Rattle.idl_model.specs.Cycles.{parent_of}
+use Rattle.idl_model.specs.Cycles.{parent_named}
 use Rattle.schema.specs.declared.types.FieldsKind.{FieldsKind}
 use Rattle.schema.specs.declared.types.FieldsKind.TheVariants as fields
 use Rattle.schema.specs.PlainKind.{PlainKind}
 use Rattle.schema.specs.PlainSchema.{PlainField, PlainStruct, PlainFunction, PlainService, PlainAlias, PlainConstant, PlainSchema}
 use Rattle.check_model.specs.Resolved.{TypeMeans}
 use Rattle.check_model.specs.FieldLists.{NumberedField, FieldsDecl, need_in, numbered_behind, put_by_id, put_all_by_id, fields_by_id, fields_of_struct, args_of_function, field_lists}
-use Rattle.check_model.specs.SchemaParts.{IsAliasOf, DefaultRule, IsFieldOf, AreFieldsOf, IsStructOf, ResultMeans, IsFunctionOf, AreFunctionsOf, AreServicesOf, IsSchemaWith, enum_made, files_of}
+use Rattle.check_model.specs.SchemaParts.{IsAliasOf, DefaultRule, IsFieldOf, AreFieldsOf, IsStructFrom, ResultMeans, IsFunctionOf, AreFunctionsOf, AreServicesOf, IsSchemaWith, enum_made, files_of}
 use Rattle.check_model.proofs.Shown.{both_all, mapped, weaker}
 
 -- what is there for each element is there for a list
@@ -77,7 +77,7 @@ module _ (D : DefaultRule) (program : Program) where
       (weaker (λ (f : NumberedField). FieldMade file f.decl) (λ f. (p : PlainField) × IsFieldOf D program file list f p) (field_made file list)
       (fields_by_id fs) (by_id_all (FieldMade file) fs h))
 
-  struct_made : (d : FieldsDecl) → AllByRecursion (FieldMade d.file) d.fields → (p : PlainStruct) × IsStructOf D program d p
+  struct_made : (d : FieldsDecl) → AllByRecursion (FieldMade d.file) d.fields → (p : PlainStruct) × IsStructFrom D program d p
   struct_made d h =
       let (ps, are) = fields_made d.file d.kind d.fields h in
       (record { file = d.file; name = d.name; kind = d.kind; fields = ps }, record { file = refl; name = refl; kind = refl; fields = are })
@@ -107,7 +107,7 @@ module _ (D : DefaultRule) (program : Program) where
   services_made number (s ∷ ss) h =
       let (fs, made) = functions_made s.file number s.item.functions h.0 in
       let (ps, are) = services_made (number + length s.item.functions) ss h.1 in (
-        record { file = s.file; name = s.item.name.text; parent = parent_of program s; functions = fs } ∷ ps,
+        record { file = s.file; name = s.item.name.text; parent = parent_named program s; functions = fs } ∷ ps,
         (record { file = refl; name = refl; parent = refl; functions = made }, are),
       )
 
@@ -122,7 +122,7 @@ module _ (D : DefaultRule) (program : Program) where
   lists_all : AllByRecursion (λ (s : Filed StructDecl). AllByRecursion (FieldMade s.file) s.item.fields) (structs_of program)
       → AllByRecursion (λ (s : Filed ServiceDecl). AllByRecursion (FunctionMade s.file) s.item.functions) (services_of program)
       → AllByRecursion (λ (d : FieldsDecl). AllByRecursion (FieldMade d.file) d.fields) (field_lists program)
-  unfolding field_lists functions_of
+  unfolding field_lists all_functions
   lists_all structs services =
       let Q : FieldsDecl → Type 0 = λ d. AllByRecursion (FieldMade d.file) d.fields in
       let R : Filed FunctionDecl → Type 0 = λ f. AllByRecursion (FieldMade f.file) f.item.arguments in
@@ -140,8 +140,8 @@ module _ (D : DefaultRule) (program : Program) where
   schema_made typedefs structs services constants =
       let (aliases, a) = zip_made (IsAliasOf program) (typedefs_of program)
       (weaker (λ (t : Filed TypedefDecl). TypeMade t.file t.item.type) (λ t. (a : PlainAlias) × IsAliasOf program t a) alias_made (typedefs_of program) typedefs) in
-      let (lists, l) = zip_made (IsStructOf D program) (field_lists program)
-      (weaker (λ (d : FieldsDecl). AllByRecursion (FieldMade d.file) d.fields) (λ d. (p : PlainStruct) × IsStructOf D program d p) struct_made
+      let (lists, l) = zip_made (IsStructFrom D program) (field_lists program)
+      (weaker (λ (d : FieldsDecl). AllByRecursion (FieldMade d.file) d.fields) (λ d. (p : PlainStruct) × IsStructFrom D program d p) struct_made
       (field_lists program) (lists_all structs services)) in
       let (ss, s) = services_made (length (structs_of program)) (services_of program) services in (
         record { files = files_of program; structs = lists; enums = map enum_made (enums_of program); services = ss; aliases = aliases; constants = constants },

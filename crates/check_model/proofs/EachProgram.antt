@@ -21,7 +21,7 @@ use Rattle.schema.specs.PlainSchema.{PlainConstant, PlainSchema}
 use Rattle.check_model.specs.Resolved.{map_kind, named_kind, kind_by, alias_kind, TypeMeans}
 use Rattle.check_model.specs.FiniteValues.{HasFiniteValue}
 use Rattle.check_model.specs.SchemaParts.{DefaultRule, NoDefault, IsSchemaWith, IsPartialSchema}
-use Rattle.check_model.specs.Passes.{unknown_type, typedef_cycle, not_exception, struct_loop, IsException, HasNoFiniteValue, NeedsFiniteValue, FindsFault}
+use Rattle.check_model.specs.Passes.{unknown_type, typedef_cycle, not_exception, struct_loop, MeansException, HasNoFiniteValue, NeedsFiniteValue, FindsFault}
 use Rattle.check_model.specs.FirstFlaw.{found_by, IsClearAt, FindsNothing}
 use Rattle.check_model.proofs.FirstOnes.{somes, none_some}
 use Rattle.check_model.proofs.Meanings.{one_meaning}
@@ -244,21 +244,21 @@ module _ (program : Program) (leads : (graph : Graph) (a b : ℕ) → Told (Lead
       by (inl e) = inl (s, refl, e)
       by (inr n) = inr (λ h. n (ap (λ (t : Filed StructDecl). t.item.kind) (somes s h.0 h.1) ∙ h.2))
 
-  is_exception_told : (file : ℕ) (t : TypeExpr) → Told ((kind : PlainKind) × TypeMeans program file t kind) → Told (IsException program file t)
+  is_exception_told : (file : ℕ) (t : TypeExpr) → Told ((kind : PlainKind) × TypeMeans program file t kind) → Told (MeansException program file t)
   is_exception_told file t (inr n) = inr (λ h. n (kind_struct h.0, h.1))
   is_exception_told file t (inl (k, m)) = by k m
     where
-      by_struct : (n : ℕ) → TypeMeans program file t (kind_struct n) → Told ((s : Filed StructDecl) × (slice_get (structs_of program) n ≡ Some s) × (s.item.kind ≡ kind.Exception)) → Told (IsException program file t)
+      by_struct : (n : ℕ) → TypeMeans program file t (kind_struct n) → Told ((s : Filed StructDecl) × (slice_get (structs_of program) n ≡ Some s) × (s.item.kind ≡ kind.Exception)) → Told (MeansException program file t)
       by_struct n m (inl h) = inl (n, m, h.0, h.1, h.2)
       by_struct n m (inr none) = inr (λ h.
           let same : h.0 ≡ n = ap (struct_number 0) (one_meaning program file t (kind_struct h.0) (kind_struct n) h.1 m) in
           let P : ℕ → Type 0 = λ j. slice_get (structs_of program) j ≡ Some h.2 in
           none (h.2, subst P same h.3, h.4))
 
-      no_struct : (k : PlainKind) → TypeMeans program file t k → is_struct k ≡ false → Told (IsException program file t)
+      no_struct : (k : PlainKind) → TypeMeans program file t k → is_struct k ≡ false → Told (MeansException program file t)
       no_struct k m e = inr (λ h. let f : true ≡ false = ap is_struct (one_meaning program file t (kind_struct h.0) k h.1 m) ∙ e in cc)
 
-      by : (k : PlainKind) → TypeMeans program file t k → Told (IsException program file t)
+      by : (k : PlainKind) → TypeMeans program file t k → Told (MeansException program file t)
       by (kind_struct n) m = by_struct n m (exception_of (slice_get (structs_of program) n))
       by kind_bool m = no_struct kind_bool m refl
       by kind_i8 m = no_struct kind_i8 m refl

@@ -6,8 +6,8 @@ use Rattle.graph_walk.specs.Walks.{Graph, LeadsTo}
 use Rattle.idl_model.specs.Declarations.{FunctionDecl, ServiceDecl}
 use Rattle.idl_model.specs.Program.{Program}
 use Rattle.idl_model.specs.Numbering.{Filed, services_of}
-use Rattle.idl_model.specs.Names.{is_dotted, type_named, service_named}
-use Rattle.idl_model.specs.Cycles.{alias_graph, parent_graph, own_functions, HasFunction, Inherits}
+use Rattle.idl_model.specs.Names.{is_dotted, type_named, service_for_name}
+use Rattle.idl_model.specs.Cycles.{alias_graph, parent_graph, functions_by_number, HasFunction, Inherits}
 use Rattle.idl_model.specs.Spots.{Spotted, given_name, type_use, parent_use, typedef_spot, field_spot, enum_value_spot, service_spot, function_spot, Spot, spots_of}
 use Rattle.check_model.specs.Scalars.{has_bits}
 use Rattle.check_model.specs.FiniteValues.{has_no_items}
@@ -115,7 +115,7 @@ module _ (program : Program) where
 
   pub unknown_told : (file : ℕ) (x : Spotted) → Told (FindsFault unknown_type program file x)
   unknown_told file (type_use name) = none_told (type_named program file name.text)
-  unknown_told file (parent_use name) = none_told (service_named program file name.text)
+  unknown_told file (parent_use name) = none_told (service_for_name program file name.text)
   unknown_told file _ = inr (λ h. h)
 
   pub field_id_told : (file : ℕ) (x : Spotted) → Told (FindsFault field_id program file x)
@@ -160,12 +160,12 @@ module _ (program : Program) where
     place_of (suc n) zero = inl (omega arith)
     place_of (suc n) (suc k) = elim (place_of n k) as (λ h. (suc k < suc n) ⊎ (suc n ≤ suc k)) [ inl l ↦ inl (omega arith) | inr l ↦ inr (omega arith) ]
 
-    inherits_by : (service : ℕ) (name : List ℕ) → SomeBelow (length (services_of program)) (λ a. LeadsTo (parent_graph program) service a × HasFunction (own_functions program a) name)
+    inherits_by : (service : ℕ) (name : List ℕ) → SomeBelow (length (services_of program)) (λ a. LeadsTo (parent_graph program) service a × HasFunction (functions_by_number program a) name)
         → Told (Inherits program service name)
     inherits_by service name (inl h) = inl (h.0, h.1.0, h.1.1)
     inherits_by service name (inr none) = inr (λ h. by h.0 h.1 h.2 (place_of (length (services_of program)) h.0))
       where
-        by : (a : ℕ) → LeadsTo (parent_graph program) service a → HasFunction (own_functions program a) name
+        by : (a : ℕ) → LeadsTo (parent_graph program) service a → HasFunction (functions_by_number program a) name
             → (a < length (services_of program)) ⊎ (length (services_of program) ≤ a) → ⊥
         by a way has (inl l) = none a l (way, has)
         by a way has (inr l) = no_functions (services_of program) a name l has
@@ -177,6 +177,6 @@ module _ (program : Program) where
     duplicate_function_told file (function_spot service before f) =
         one_told (has_told before f.name.text)
         (inherits_by service f.name.text (some_below (length (services_of program))
-        (λ a. LeadsTo (parent_graph program) service a × HasFunction (own_functions program a) f.name.text)
-        (λ a. both_told (leads (parent_graph program) service a) (has_told (own_functions program a) f.name.text))))
+        (λ a. LeadsTo (parent_graph program) service a × HasFunction (functions_by_number program a) f.name.text)
+        (λ a. both_told (leads (parent_graph program) service a) (has_told (functions_by_number program a) f.name.text))))
     duplicate_function_told file _ = inr (λ h. h)

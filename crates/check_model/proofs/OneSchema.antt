@@ -15,7 +15,7 @@ use Rattle.schema.specs.PlainSchema.{PlainField, PlainStruct, PlainFunction, Pla
 use Rattle.check_model.specs.FieldLists.{NumberedField, FieldsDecl, fields_by_id, field_lists}
 use Rattle.check_model.specs.Worths.{Worth, valued, flawed}
 use Rattle.check_model.specs.Evaluation.{Setting, given_worth}
-use Rattle.check_model.specs.SchemaParts.{IsAliasOf, DefaultRule, IsFieldOf, AreFieldsOf, IsStructOf, ResultMeans, IsFunctionOf, AreFunctionsOf, IsServiceOf, AreServicesOf, IsSchemaWith, NoDefault, IsPartialSchema}
+use Rattle.check_model.specs.SchemaParts.{IsAliasOf, DefaultRule, IsFieldOf, AreFieldsOf, IsStructFrom, ResultMeans, IsFunctionOf, AreFunctionsOf, IsServiceOf, AreServicesOf, IsSchemaWith, NoDefault, IsPartialSchema}
 use Rattle.check_model.specs.ProgramSchema.{HasWorth, IsDefault, DefaultIn, IsConstantOf, IsSchemaOf}
 use Rattle.check_model.proofs.FirstOnes.{zip_is_one, somes}
 use Rattle.check_model.proofs.Meanings.{one_meaning}
@@ -50,7 +50,7 @@ module _ (D : DefaultRule) (one : IsOne D) (program : Program) where
   fields_are_one file list decls xs ys p q =
       zip_is_one (IsFieldOf D program file list) (one_field D one program file list) (fields_by_id decls) xs ys p q
 
-  one_struct : (d : FieldsDecl) (a b : PlainStruct) → IsStructOf D program d a → IsStructOf D program d b → a ≡ b
+  one_struct : (d : FieldsDecl) (a b : PlainStruct) → IsStructFrom D program d a → IsStructFrom D program d b → a ≡ b
   one_struct d a b p q = λ i. record {
     file = (p.file ∙ sym q.file) i;
     name = (p.name ∙ sym q.name) i;
@@ -107,7 +107,7 @@ module _ (D : DefaultRule) (one : IsOne D) (program : Program) where
   pub one_schema_with : (a b : PlainSchema) → IsSchemaWith D program a → IsSchemaWith D program b → a.constants ≡ b.constants → a ≡ b
   one_schema_with a b p q constants = λ i. record {
     files = (p.files ∙ sym q.files) i;
-    structs = zip_is_one (IsStructOf D program) one_struct (field_lists program) a.structs b.structs p.structs q.structs i;
+    structs = zip_is_one (IsStructFrom D program) one_struct (field_lists program) a.structs b.structs p.structs q.structs i;
     enums = (p.enums ∙ sym q.enums) i;
     services = services_are_one (length (structs_of program)) (services_of program) a.services b.services p.services q.services i;
     aliases = zip_is_one (IsAliasOf program) (one_alias program) (typedefs_of program) a.aliases b.aliases p.aliases q.aliases i;

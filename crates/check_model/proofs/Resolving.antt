@@ -8,7 +8,7 @@ use Rattle.idl_model.specs.Written.{Written}
 use Rattle.idl_model.specs.TypeExpr.{TypeExpr, base_expr, name_expr, map_expr, set_expr, list_expr, names_in_type}
 use Rattle.idl_model.specs.Program.{Program}
 use Rattle.idl_model.specs.Declarations.{TypedefDecl, EnumDecl, StructDecl}
-use Rattle.idl_model.specs.Numbering.{Filed, typedefs_of, enums_of, structs_of, is_named, number_named}
+use Rattle.idl_model.specs.Numbering.{Filed, typedefs_of, enums_of, structs_of, is_filed_as, number_named}
 use Rattle.idl_model.specs.Names.{Sought, sought, NamedType, an_alias, an_enum, a_struct, type_defined, type_named}
 use Rattle.idl_model.specs.Cycles.{alias_in, aliases_below, alias_graph}
 use Rattle.schema.specs.PlainKind.{PlainKind, kind_enum, kind_struct, kind_map, kind_set, kind_list}
@@ -167,7 +167,7 @@ alias_of_sought program (Some s) k e =
     alias_of_three (length (typedefs_of program)) (number_named (λ (t : TypedefDecl). t.name) (typedefs_of program) s.file s.name)
     (number_named (λ (t : EnumDecl). t.name) (enums_of program) s.file s.name)
     (number_named (λ (t : StructDecl). t.name) (structs_of program) s.file s.name) k
-    (λ j f. let l = found_within (is_named (λ (t : TypedefDecl). t.name) s.file s.name) 0 (typedefs_of program) j f in omega arith) e
+    (λ j f. let l = found_within (is_filed_as (λ (t : TypedefDecl). t.name) s.file s.name) 0 (typedefs_of program) j f in omega arith) e
 
 pub alias_within : (program : Program) (file : ℕ) (name : List ℕ) (k : ℕ) → type_named program file name ≡ Some (an_alias k) → k < length (typedefs_of program)
 unfolding type_named

@@ -8,7 +8,7 @@ use Rattle.idl_model.specs.Declarations.{StructDecl}
 use Rattle.idl_model.specs.TypeExpr.{name_expr}
 use Rattle.idl_model.specs.ConstExpr.{name_const}
 use Rattle.idl_model.specs.FileNames.{base_name}
-use Rattle.idl_model.specs.Numbering.{Filed, constants_of, typedefs_of, enums_of, structs_of, services_of, functions_of}
+use Rattle.idl_model.specs.Numbering.{Filed, constants_of, typedefs_of, enums_of, structs_of, services_of, all_functions}
 use Rattle.idl_model.specs.Names.{an_enum, sought, type_named}
 use Rattle.idl_model.specs.FieldIds.{field_ids}
 use Rattle.idl_model.specs.EnumNumbers.{enum_numbers}
@@ -22,7 +22,7 @@ use Rattle.check_model.specs.FieldLists.{field_lists}
 use Rattle.check_model.specs.Worths.{ConstFlaw, Worth, valued, flawed, most_values, most_levels}
 use Rattle.check_model.specs.Evaluation.{named_worth, given_worth}
 use Rattle.check_model.specs.SchemaParts.{DefaultRule, NoDefault, IsSchemaWith, IsPartialSchema, files_of}
-use Rattle.check_model.specs.Passes.{dotted_name, duplicate_name, unknown_type, typedef_cycle, field_id, duplicate_id, enum_number, service_cycle, duplicate_function, oneway_not_void, oneway_throws, not_exception, struct_loop, bad_constant, IsException, HasConstFlaw}
+use Rattle.check_model.specs.Passes.{dotted_name, duplicate_name, unknown_type, typedef_cycle, field_id, duplicate_id, enum_number, service_cycle, duplicate_function, oneway_not_void, oneway_throws, not_exception, struct_loop, bad_constant, MeansException, HasConstFlaw}
 use Rattle.check_model.specs.FirstFlaw.{found_by, FindsNothing, IsFirstFlaw, HasNoFlaw}
 use Rattle.check_model.specs.ProgramSchema.{DefaultIn, IsConstantOf, IsSchemaOf}
 use Rattle.check_model.specs.SmallSchemas.{named_schema, named_constant}
@@ -50,7 +50,7 @@ valued_flawed x n at flaw e = on (ap made e)
 
 -- `enum E { X = 4, Y } const E C = E.Y`
 schema_with : (D : DefaultRule) (constants : List PlainConstant) → IsSchemaWith D named_number (named_schema constants)
-unfolding files_of base_name typedefs_of enums_of enum_numbers field_lists structs_of functions_of services_of
+unfolding files_of base_name typedefs_of enums_of enum_numbers field_lists structs_of all_functions services_of
 schema_with D constants = record { files = refl; aliases = tt; enums = refl; structs = tt; services = tt }
 
 partial : IsPartialSchema named_number (named_schema [])
@@ -198,7 +198,7 @@ repeated_id = record {
 }
 
 -- an exception that is named by a typedef, and a struct that is thrown
-pub thrown_exception : IsException named_kinds 0 (name_expr (written_at (codes "U") 1))
+pub thrown_exception : MeansException named_kinds 0 (name_expr (written_at (codes "U") 1))
 unfolding alias_kind type_named sought typedefs_of enums_of structs_of
 thrown_exception = (1, (1, refl), record { file = 0; item = record { name = written_at (codes "X") 35; kind = kind.Exception; fields = [] } }, refl, refl)
 
@@ -216,7 +216,7 @@ is_exception : StructKind → Bool
 is_exception kind.Exception = true
 is_exception _ = false
 
-pub thrown_struct : IsException named_kinds 0 (name_expr (written_at (codes "T") 1)) → ⊥
+pub thrown_struct : MeansException named_kinds 0 (name_expr (written_at (codes "T") 1)) → ⊥
 unfolding number_or is_exception structs_of
 thrown_struct (k, means, s, at, is) =
     let zero_is : 0 ≡ k = ap (number_or 0) (one_meaning named_kinds 0 (name_expr (written_at (codes "T") 1)) (kind_struct 0) (kind_struct k) t_means means) in

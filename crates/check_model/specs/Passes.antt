@@ -12,7 +12,7 @@ use Rattle.idl_model.specs.Declarations.{FieldDecl, FunctionDecl, EnumValueDecl,
 use Rattle.idl_model.specs.Loading.{is_among}
 use Rattle.idl_model.specs.Program.{Program}
 use Rattle.idl_model.specs.Numbering.{Filed, structs_of}
-use Rattle.idl_model.specs.Names.{is_dotted, type_named, service_named}
+use Rattle.idl_model.specs.Names.{is_dotted, type_named, service_for_name}
 use Rattle.idl_model.specs.FieldIds.{id_behind, unnumbered_in, field_ids}
 use Rattle.idl_model.specs.EnumNumbers.{number_or, next_number}
 use Rattle.idl_model.specs.Cycles.{alias_graph, parent_graph, HasFunction, Inherits}
@@ -72,8 +72,8 @@ abbrev pub IsRepeatedFunction : Program → ℕ → List FunctionDecl → List �
 IsRepeatedFunction program service before name = HasFunction before name ⊎ Inherits program service name
 
 -- the type means an exception
-abbrev pub IsException : Program → ℕ → TypeExpr → Type 0
-IsException program file type =
+abbrev pub MeansException : Program → ℕ → TypeExpr → Type 0
+MeansException program file type =
     (k : ℕ) × TypeMeans program file type (kind_struct k) × (s : Filed StructDecl) × (slice_get (structs_of program) k ≡ Some s) × (s.item.kind ≡ kind.Exception)
 
 -- a struct of this number has no finite value
@@ -90,7 +90,7 @@ abbrev pub FindsFault : Pass → Program → ℕ → Spotted → Type 0
 FindsFault dotted_name program file (given_name before name) = is_dotted name.text ≡ true
 FindsFault duplicate_name program file (given_name before name) = is_repeated before name ≡ true
 FindsFault unknown_type program file (type_use name) = type_named program file name.text ≡ None
-FindsFault unknown_type program file (parent_use name) = service_named program file name.text ≡ None
+FindsFault unknown_type program file (parent_use name) = service_for_name program file name.text ≡ None
 FindsFault typedef_cycle program file (typedef_spot number name) = OnCycle (alias_graph program) number
 FindsFault field_id program file (field_spot before field) = is_bad_id before field.id ≡ true
 FindsFault duplicate_id program file (field_spot before field) = is_id_repeated before field ≡ true
@@ -99,7 +99,7 @@ FindsFault service_cycle program file (service_spot number name) = OnCycle (pare
 FindsFault duplicate_function program file (function_spot service before f) = IsRepeatedFunction program service before f.name.text
 FindsFault oneway_not_void program file (function_spot service before f) = (f.oneway ≡ true) × (is_some f.result ≡ true)
 FindsFault oneway_throws program file (function_spot service before f) = (f.oneway ≡ true) × (has_no_items f.throws ≡ false)
-FindsFault not_exception program file (thrown_spot field) = IsException program file field.type → ⊥
+FindsFault not_exception program file (thrown_spot field) = MeansException program file field.type → ⊥
 FindsFault struct_loop program file (struct_spot number s) = NeedsFiniteValue s.kind × HasNoFiniteValue program number
 FindsFault _ program file _ = ⊥
 

@@ -7,7 +7,7 @@ use Rattle.idl_model.specs.Declarations.{FieldDecl, FunctionDecl, TypedefDecl, E
 use Rattle.idl_model.specs.Program.{Program, base_of_file}
 use Rattle.idl_model.specs.Numbering.{Filed, Counts, none_counted, counted, all_counted, typedefs_of, enums_of, structs_of, services_of}
 use Rattle.idl_model.specs.EnumNumbers.{enum_numbers}
-use Rattle.idl_model.specs.Cycles.{parent_of}
+use Rattle.idl_model.specs.Cycles.{parent_named}
 use Rattle.schema.specs.declared.types.FieldsKind.{FieldsKind}
 use Rattle.schema.specs.declared.types.FieldsKind.TheVariants as fields
 use Rattle.schema.specs.declared.types.DefRef.{DefRef}
@@ -73,7 +73,7 @@ abbrev pub AreFieldsOf : DefaultRule → Program → ℕ → FieldsKind → List
 AreFieldsOf Default program file list decls plain = AllZip (IsFieldOf Default program file list) (fields_by_id decls) plain
 
 -- a struct, a union, an exception, or the arguments of a function
-pub record IsStructOf (Default : DefaultRule) (program : Program) (d : FieldsDecl) (p : PlainStruct) : Type 0 where
+pub record IsStructFrom (Default : DefaultRule) (program : Program) (d : FieldsDecl) (p : PlainStruct) : Type 0 where
   pub file : p.file ≡ d.file
   pub name : p.name ≡ d.name
   pub kind : p.kind ≡ d.kind
@@ -104,7 +104,7 @@ AreFunctionsOf Default program file args _ _ = ⊥
 pub record IsServiceOf (Default : DefaultRule) (program : Program) (args : ℕ) (s : Filed ServiceDecl) (p : PlainService) : Type 0 where
   pub file : p.file ≡ s.file
   pub name : p.name ≡ s.item.name.text
-  pub parent : p.parent ≡ parent_of program s
+  pub parent : p.parent ≡ parent_named program s
   pub functions : AreFunctionsOf Default program s.file args s.item.functions p.functions
 
 -- services in order, the first function of which has the struct of this number
@@ -119,7 +119,7 @@ pub record IsSchemaWith (Default : DefaultRule) (program : Program) (schema : Pl
   pub files : schema.files ≡ files_of program
   pub aliases : AllZip (IsAliasOf program) (typedefs_of program) schema.aliases
   pub enums : schema.enums ≡ map enum_made (enums_of program)
-  pub structs : AllZip (IsStructOf Default program) (field_lists program) schema.structs
+  pub structs : AllZip (IsStructFrom Default program) (field_lists program) schema.structs
   pub services : AreServicesOf Default program (length (structs_of program)) (services_of program) schema.services
 
 -- no default is there yet

@@ -7,7 +7,7 @@ use Rattle.std.specs.Str.{bytes_eq}
 use Rattle.idl_token.specs.declared.Place.{Place}
 use Rattle.idl_model.specs.Declarations.{ConstDecl, EnumDecl, EnumValueDecl}
 use Rattle.idl_model.specs.Program.{Program}
-use Rattle.idl_model.specs.Numbering.{Filed, constants_of, enums_of, is_named, number_named}
+use Rattle.idl_model.specs.Numbering.{Filed, constants_of, enums_of, is_filed_as, number_named}
 use Rattle.idl_model.specs.Names.{Sought, sought, is_dotted, qualifier, bare_name}
 use Rattle.idl_model.specs.EnumNumbers.{enum_numbers}
 use Rattle.idl_model.specs.Spots.{GivenValue, values_of}
@@ -52,7 +52,7 @@ enum_value_named program file name =
 abbrev pub constant_at : Program → Sought → Option ConstMeaning
 constant_at program s =
     option_and_then (λ (c : Filed ConstDecl). option_map given_value (value_number program c.file c.item.name.at))
-    (find (is_named (λ (c : ConstDecl). c.name) s.file s.name) (constants_of program))
+    (find (is_filed_as (λ (c : ConstDecl). c.name) s.file s.name) (constants_of program))
 
 -- What a name in a constant value that stands in a file stands for.
 unfoldable pub const_meaning : Program → ℕ → List ℕ → Option ConstMeaning

@@ -9,7 +9,7 @@ use Rattle.idl_model.specs.TypeExpr.{names_in_type}
 use Rattle.idl_model.specs.Declarations.{FunctionDecl, TypedefDecl, ServiceDecl}
 use Rattle.idl_model.specs.Program.{Program}
 use Rattle.idl_model.specs.Numbering.{Filed, typedefs_of, services_of}
-use Rattle.idl_model.specs.Names.{NamedType, an_alias, type_named, service_named}
+use Rattle.idl_model.specs.Names.{NamedType, an_alias, type_named, service_for_name}
 
 -- the typedef that a name stands for, if it is one
 abbrev pub alias_in : NamedType → Option ℕ
@@ -25,8 +25,8 @@ unfoldable pub alias_graph : Program → Graph
 alias_graph program = map (aliases_below program) (typedefs_of program)
 
 -- the service's parent, if it has one
-abbrev pub parent_of : Program → Filed ServiceDecl → Option ℕ
-parent_of program s = option_and_then (λ (name : Written). service_named program s.file name.text) s.item.parent
+abbrev pub parent_named : Program → Filed ServiceDecl → Option ℕ
+parent_named program s = option_and_then (λ (name : Written). service_for_name program s.file name.text) s.item.parent
 
 -- what is there, as a list
 abbrev pub listed : Option ℕ → List ℕ
@@ -35,11 +35,11 @@ listed (Some x) = x ∷ []
 
 -- each service with its parent
 unfoldable pub parent_graph : Program → Graph
-parent_graph program = map (λ s. listed (parent_of program s)) (services_of program)
+parent_graph program = map (λ s. listed (parent_named program s)) (services_of program)
 
 -- a service's own functions
-abbrev pub own_functions : Program → ℕ → List FunctionDecl
-own_functions program service = option_map_or (λ (s : Filed ServiceDecl). s.item.functions) (slice_get (services_of program) service) []
+abbrev pub functions_by_number : Program → ℕ → List FunctionDecl
+functions_by_number program service = option_map_or (λ (s : Filed ServiceDecl). s.item.functions) (slice_get (services_of program) service) []
 
 -- one of the functions has this name
 abbrev pub HasFunction : List FunctionDecl → List ℕ → Type 0
@@ -48,4 +48,4 @@ HasFunction functions name = list_any (λ (f : FunctionDecl). bytes_eq f.name.te
 -- some service that this one extends, directly or not, has a function of this name
 abbrev pub Inherits : Program → ℕ → List ℕ → Type 0
 Inherits program service name =
-    (ancestor : ℕ) × LeadsTo (parent_graph program) service ancestor × HasFunction (own_functions program ancestor) name
+    (ancestor : ℕ) × LeadsTo (parent_graph program) service ancestor × HasFunction (functions_by_number program ancestor) name

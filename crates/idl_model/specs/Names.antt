@@ -68,5 +68,5 @@ unfoldable pub type_named : Program → ℕ → List ℕ → Option NamedType
 type_named program file name = option_and_then (type_defined program) (sought program file name)
 
 -- The service that a name in a file stands for.
-unfoldable pub service_named : Program → ℕ → List ℕ → Option ℕ
-service_named program file name = option_and_then (service_defined program) (sought program file name)
+unfoldable pub service_for_name : Program → ℕ → List ℕ → Option ℕ
+service_for_name program file name = option_and_then (service_defined program) (sought program file name)

@@ -70,16 +70,16 @@ abbrev pub functions_in : Filed ServiceDecl → List (Filed FunctionDecl)
 functions_in service = filed service.file service.item.functions
 
 -- the functions of a program: by service, and in a service in order
-unfoldable pub functions_of : Program → List (Filed FunctionDecl)
-functions_of program = flat_map functions_in (services_of program)
+unfoldable pub all_functions : Program → List (Filed FunctionDecl)
+all_functions program = flat_map functions_in (services_of program)
 
 -- the definition is that of some name in some file
-abbrev pub is_named : {A : Type 0} → (A → Written) → ℕ → List ℕ → Filed A → Bool
-is_named name_in file name x = (x.file == file) && bytes_eq (name_in x.item).text name
+abbrev pub is_filed_as : {A : Type 0} → (A → Written) → ℕ → List ℕ → Filed A → Bool
+is_filed_as name_in file name x = (x.file == file) && bytes_eq (name_in x.item).text name
 
 -- the number of the first definition of some name in some file
 abbrev pub number_named : {A : Type 0} → (A → Written) → List (Filed A) → ℕ → List ℕ → Option ℕ
-number_named name_in items file name = position_from (is_named name_in file name) 0 items
+number_named name_in items file name = position_from (is_filed_as name_in file name) 0 items
 
 -- how many definitions of each kind there are
 pub record Counts : Type 0 where

@@ -1,6 +1,6 @@
 use Rattle.std.proofs.Common.{[], refl, arith, inr}
 use Rattle.idl_model.specs.Numbering.{typedefs_of, enums_of, structs_of, services_of}
-use Rattle.idl_model.specs.Names.{type_named, service_named, sought}
+use Rattle.idl_model.specs.Names.{type_named, service_for_name, sought}
 use Rattle.idl_model.specs.Cycles.{alias_graph, parent_graph}
 use Rattle.check_model.proofs.SmallVerdicts.{thrown_exception, thrown_struct}
 use Rattle.check_model.proofs.examples.faults.Goals as goal
@@ -26,11 +26,11 @@ pub returns-clause-past_the_last : goal.returns-clause-past_the_last
 returns-clause-past_the_last c = refl
 
 pub returns-clause-service_itself : goal.returns-clause-service_itself
-unfolding parent_graph service_named sought services_of
+unfolding parent_graph service_for_name sought services_of
 returns-clause-service_itself c = ([], (0, omega arith, refl))
 
 pub returns-clause-inherited : goal.returns-clause-inherited
-unfolding parent_graph service_named sought services_of
+unfolding parent_graph service_for_name sought services_of
 returns-clause-inherited c = inr (0, ([], (0, omega arith, refl)), refl)
 
 pub returns-clause-exception_by_typedef : goal.returns-clause-exception_by_typedef
