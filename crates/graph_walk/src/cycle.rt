@@ -10,6 +10,14 @@ fn parent_of(parents: &[u32], node: u32) -> u32 {
     }
 }
 
+// The row of a node; empty where it has none.
+fn row_of(graph: &[Vec<u32>], node: u32) -> &[u32] {
+    match graph.get(node as usize) {
+        Some(row) => row.as_slice(),
+        None => &[],
+    }
+}
+
 // Each node of the label that a row leads to, and that wasn't met before, is met from this one. Whether one leads to `goal`.
 fn spread(
     row: &[u32],
@@ -65,17 +73,9 @@ pub(crate) fn way_back(
         match queue.as_slice().get(at).copied() {
             None => return Ok(Vec::new(alloc)),
             Some(node) => {
-                if let Some(row) = graph.get(node as usize) {
-                    if spread(
-                        row.as_slice(),
-                        labels,
-                        node,
-                        goal,
-                        parents.as_mut_slice(),
-                        &mut queue,
-                    )? {
-                        return unwound(alloc, parents.as_slice(), goal, node);
-                    }
+                let row = row_of(graph, node);
+                if spread(row, labels, node, goal, parents.as_mut_slice(), &mut queue)? {
+                    return unwound(alloc, parents.as_slice(), goal, node);
                 }
             }
         }

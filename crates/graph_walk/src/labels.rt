@@ -115,6 +115,16 @@ impl Parts {
             }
         }
     }
+
+    // Steps until no node is being looked at.
+    fn finish(&mut self, graph: &[Vec<u32>]) -> Result<(), AllocError> {
+        for _ in 0..u64::MAX {
+            if !self.step(graph)? {
+                break;
+            }
+        }
+        Ok(())
+    }
 }
 
 // Where the edge of this number leads.
@@ -142,11 +152,7 @@ pub(crate) fn labels(alloc: Global, graph: &[Vec<u32>]) -> Result<Vec<u32>, Allo
         };
         if at(parts.order.as_slice(), root) == 0 {
             parts.meet(root)?;
-            for _ in 0..u64::MAX {
-                if !parts.step(graph)? {
-                    break;
-                }
-            }
+            parts.finish(graph)?;
         }
     }
     Ok(parts.label)
