@@ -23,7 +23,7 @@ use Rattle.wire_model.proofs.Uncounted.{uncounted_found, uncounted_only, uncount
 use Rattle.compact_codec.specs.Codes.{flag_code, compact_code, IsCompactCode}
 use Rattle.compact_codec.specs.Faults.{IsTakenCode, HasVarintFault, HasFieldFault}
 use Rattle.compact_codec.specs.Numbers.{decode_short, IsShort}
-use Rattle.compact_codec.specs.Reading.{compact_i16, tag_in_half, id_in_range, id_behind, header_by, header_in_byte, compact_field}
+use Rattle.compact_codec.specs.Reading.{compact_i16, tag_in_half, id_in_range, id_by_delta, header_by, header_in_byte, compact_field}
 use Rattle.compact_codec.specs.Spelling.{IsIdBy, IsHeading, IsCompactHeader}
 use Rattle.compact_codec.specs.Written.{short_delta, heading_with, heading_bytes}
 use Rattle.compact_codec.proofs.CodeLaws.{tag_found, tag_given, taken_given, tag_refused, tag_fault, tag_stays, code_half, free_half}
@@ -90,10 +90,10 @@ range_given : (id : ℤ) (r : Unread) → FitsSigned w16 id → id_in_range id r
 range_given (pos n) r fits = ap (λ (b : Bool). cond b (give (pos n)) (fail FieldRange) r) (lt-ltb n (2 ^ 15) fits.sfits)
 range_given (negsuc n) r fits = refl
 
-id_given : (last id : ℤ) (delta : ℕ) (behind more : List ℕ) (left : ℕ) → IsIdBy last id delta behind → id_behind last delta (rest (behind ++ more) left) ≡ Ok (id, rest more left)
+id_given : (last id : ℤ) (delta : ℕ) (behind more : List ℕ) (left : ℕ) → IsIdBy last id delta behind → id_by_delta last delta (rest (behind ++ more) left) ≡ Ok (id, rest more left)
 id_given last id zero behind more left is = uncounted_only decode_short IsShort short_decodes id behind more left is
 id_given last id (suc n) behind more left (small, above, fits, none) =
-    ap (λ (t : List ℕ). id_behind last (suc n) (rest (t ++ more) left)) none
+    ap (λ (t : List ℕ). id_by_delta last (suc n) (rest (t ++ more) left)) none
     ∙ ap (λ (b : Bool). cond b compact_i16 (id_in_range (last +ℤ pos (suc n))) (rest more left)) (ne_eqb (suc n) 0 (omega arith))
     ∙ ap (λ (z : ℤ). id_in_range z (rest more left)) (sym above)
     ∙ range_given id (rest more left) fits
@@ -113,7 +113,7 @@ abbrev with_id : ℕ → Tag → ℤ → Unread → Result (FieldHeader × Unrea
 with_id code tag id = give (header_by code tag id)
 
 abbrev with_tag : ℤ → ℕ → ℕ → Tag → Unread → Result (FieldHeader × Unread) WireFault
-with_tag last code delta tag = id_behind last delta >>= with_id code tag
+with_tag last code delta tag = id_by_delta last delta >>= with_id code tag
 
 abbrev by_halves : ℤ → ℕ → ℕ → Unread → Result (FieldHeader × Unread) WireFault
 by_halves last code delta = tag_in_half code >>= with_tag last code delta
@@ -152,7 +152,7 @@ head_found_if false last x before middle after h last_fits fits f test e =
     let tag = one.0.0 in
     let third = one.0.1 in
     let t = tag_found code middle third tag one.1 in
-    let two = went_on (id_behind last delta third) (with_id code tag) (h, after) one.2 in
+    let two = went_on (id_by_delta last delta third) (with_id code tag) (h, after) one.2 in
     let id = two.0.0 in
     let small = f.small in
     let third_fits : AreByteSized third.bytes = subst (λ (r : Unread). AreByteSized r.bytes) (sym t.1) (after_byte x before middle f fits) in
@@ -190,7 +190,7 @@ heading_only last id code tag text more left coded h =
     ap (λ (t : List ℕ). compact_field last (rest (t ++ more) left)) h.whole
     ∙ in_halves last code h.delta (h.behind ++ more) left half.1 (omega (arith, half.0))
     ∙ goes_on (tag_in_half code here) (with_tag last code h.delta) tag here _ (tag_given tag code here coded)
-    (goes_on (id_behind last h.delta here) (with_id code tag) id (rest more left) _ (id_given last id h.delta h.behind more left h.id_by) refl)
+    (goes_on (id_by_delta last h.delta here) (with_id code tag) id (rest more left) _ (id_given last id h.delta h.behind more left h.id_by) refl)
 
 stop_only : (last : ℤ) (text more : List ℕ) (left : ℕ) → text ≡ 0 ∷ [] → compact_field last (rest (text ++ more) left) ≡ Ok (stop, rest more left)
 unfolding compact_field
@@ -318,7 +318,7 @@ head_fault_if false last x unread middle fault f test e =
           (t.1, (x / 16, omega arith, omega arith, record { behind = middle.bytes; whole = f.whole ∙ ap (λ (k : ℕ). k ∷ middle.bytes) (halves x); such = tt }))
       | inr on ↦
           let t = tag_found (x % 16) middle on.0.1 on.0.0 on.1 in
-          let id_bad = given_no_fault (id_behind last (x / 16) on.0.1) (header_by (x % 16) on.0.0) fault (failed (id_behind last (x / 16) on.0.1) (with_id (x % 16) on.0.0) fault on.2) in
+          let id_bad = given_no_fault (id_by_delta last (x / 16) on.0.1) (header_by (x % 16) on.0.0) fault (failed (id_by_delta last (x / 16) on.0.1) (with_id (x % 16) on.0.0) fault on.2) in
           id_fault_if (eqb (x / 16) 0) last x unread on.0.1 fault (f.whole ∙ ap (λ (r : Unread). x ∷ r.bytes) (sym t.1)) small t.0.1 refl id_bad
     ]
 
@@ -342,7 +342,7 @@ id_fails last unread fault code taken b =
     ap (λ (x : List ℕ). compact_field last (rest x unread.budget)) whole
     ∙ in_halves last code 0 b.behind unread.budget (let l = taken.1 in omega arith) (let l = taken.0 in omega arith)
     ∙ goes_on (tag_in_half code here) (with_tag last code 0) t.0 here _ t.1
-    (fails (id_behind last 0 here) (with_id code t.0) fault (varint_fault_only decode_short 5 short_faults here fault b.such))
+    (fails (id_by_delta last 0 here) (with_id code t.0) fault (varint_fault_only decode_short 5 short_faults here fault b.such))
 
 pub field_fault_only : (last : ℤ) (unread : Unread) (fault : WireFault) → HasFieldFault last fault unread.bytes → compact_field last unread ≡ Err fault
 field_fault_only last unread Short (inl none) = nothing_fails last unread none
@@ -358,7 +358,7 @@ field_fault_only last unread FieldRange (delta, code, some, small, taken, large,
     ap (λ (x : List ℕ). compact_field last (rest x unread.budget)) b.whole
     ∙ in_halves last code delta b.behind unread.budget (let l = taken.1 in omega arith) (omega arith)
     ∙ goes_on (tag_in_half code here) (with_tag last code delta) t.0 here _ t.1
-    (fails (id_behind last delta here) (with_id code t.0) FieldRange
+    (fails (id_by_delta last delta here) (with_id code t.0) FieldRange
     (ap (λ (z : Bool). cond z compact_i16 (id_in_range (last +ℤ pos delta)) here) (ne_eqb delta 0 (omega arith)) ∙ range_fails (last +ℤ pos delta) here large))
 field_fault_only last unread LongVarint (code, taken, b) = id_fails last unread LongVarint code taken b
 field_fault_only last unread fault h = absurd h.2.such
@@ -369,7 +369,7 @@ header_stays : (b : Bool) (last : ℤ) (code delta : ℕ) → StaysAs (cond b (g
 header_stays true last code delta = give_stays stop
 header_stays false last code delta =
     then_stays (tag_in_half code) (tag_in_half code) (with_tag last code delta) (with_tag last code delta) (tag_stays code) (λ tag.
-    then_stays (id_behind last delta) (id_behind last delta) (with_id code tag) (with_id code tag) (id_stays (eqb delta 0) (last +ℤ pos delta)) (λ id. give_stays (header_by code tag id)))
+    then_stays (id_by_delta last delta) (id_by_delta last delta) (with_id code tag) (with_id code tag) (id_stays (eqb delta 0) (last +ℤ pos delta)) (λ id. give_stays (header_by code tag id)))
 
 pub field_stays : (last : ℤ) → StaysAs (compact_field last) (compact_field last)
 unfolding compact_field

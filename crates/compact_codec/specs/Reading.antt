@@ -44,8 +44,8 @@ id_in_range (pos n) = if nat_lt n (2 ^ 15) then give (pos n) else fail FieldRang
 id_in_range (negsuc n) = give (negsuc n)
 
 -- the id of a field: so much above that of the field before, or, where this is 0, a number of its own
-abbrev pub id_behind : ℤ → ℕ → Decoder ℤ
-id_behind last delta = if delta == 0 then compact_i16 else id_in_range (last +ℤ pos delta)
+abbrev pub id_by_delta : ℤ → ℕ → Decoder ℤ
+id_by_delta last delta = if delta == 0 then compact_i16 else id_in_range (last +ℤ pos delta)
 
 -- a header of this code: a bool has its value in it
 abbrev pub header_by : ℕ → Tag → ℤ → FieldHeader
@@ -58,7 +58,7 @@ header_in_byte last b =
     if b == 0 then give stop
     else do
       tag ← tag_in_half (b % 16)
-      id ← id_behind last (b / 16)
+      id ← id_by_delta last (b / 16)
       give (header_by (b % 16) tag id)
 
 -- a header behind the field `last` (Thrift compact protocol, 'Struct')

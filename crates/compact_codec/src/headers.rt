@@ -3,7 +3,7 @@
 ghost use Rattle.std.specs.Prelude.{◌≡◌, ◌++◌, ◌<◌, ◌-ℤ◌, OnOk, OnErr};
 ghost use Rattle.wire_model.specs.Answering.{AnswersExactly};
 ghost use Rattle.wire_walk.specs.Steps.{field_header_of, Grows};
-ghost use Rattle.compact_codec.specs.Reading.{id_behind, header_by, items_size, items_in_half, pairs_in_byte};
+ghost use Rattle.compact_codec.specs.Reading.{id_by_delta, header_by, items_size, items_in_half, pairs_in_byte};
 ghost use Rattle.compact_codec.specs.Written.{heading_bytes, short_delta};
 
 use crate::codes::tag_coded;
@@ -14,12 +14,12 @@ use wire_num::{put_u8, put_varint32, zigzag32};
 use wire_walk::{Header, Input};
 
 /// The id of a field: so much above that of the field before, or, where this is 0, a number of its own.
-pub(crate) fn id_behind(
+pub(crate) fn id_by_delta(
     last: i16,
     delta: u8,
     rest: Input<'_>,
 ) -> Result<(i16, Input<'_>), WireFault>
-    ensures { AnswersExactly (λ r. (r.0, r.1)) result (id_behind last delta rest.entry) }
+    ensures { AnswersExactly (λ r. (r.0, r.1)) result (id_by_delta last delta rest.entry) }
 {
     if delta == 0 {
         return i16_in(rest);
