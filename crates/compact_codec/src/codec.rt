@@ -7,7 +7,9 @@ ghost use Rattle.compact_codec.specs.Reading.{compact_field, compact_scalar, com
 ghost use Rattle.compact_codec.specs.Written.{compact_header, compact_scalar_text, compact_span_text, compact_items_header, compact_pairs_header};
 
 use crate::codes::{code_of, code_of_flag, tag_coded};
-use crate::headers::{header_by, id_by_delta, items_in_half, items_size, pairs_in_byte, put_heading};
+use crate::headers::{
+    header_by, id_by_delta, items_in_half, items_size, pairs_in_byte, put_heading,
+};
 use crate::numbers::{double_in, i8_in, i16_in, i32_in, i64_in, size_in, u8_in};
 use crate::protocol::Compact;
 use std::alloc::AllocError;

@@ -16,4 +16,3 @@ pub use desks::{Decided, PlainDesk, called, sent};
 pub use frames::split;
 pub use journals::{PlainEntry, PlainServices, after, entries_of, is_legal};
 pub use tape::{input, marks_of, output};
-

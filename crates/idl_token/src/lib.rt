@@ -227,4 +227,3 @@ pub fn big_integers_are_outside_64_bits()
 pub fn an_integer_has_a_place_in_64_bits()
     ensures { (token : List ℕ) → whole_of token ≡ sound TokenKind.Int → is_truth_word token ≡ false → FitsSigned w64 (int_of token) }
 {}
-

@@ -40,4 +40,3 @@ pub use outcomes::{EnvelopeFault, Settled};
 pub use real::{RealIn, RealOut};
 pub use real_files::RealFiles;
 pub use streams::{Failed, Sink, Source};
-

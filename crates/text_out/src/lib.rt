@@ -187,4 +187,3 @@ pub fn decimal_has_one_spelling()
 pub fn decimal_is_plain()
     ensures { (n : ℕ) → n < 2 ^ 128 → IsPlainNumeral n (natural_of n) × (decimal_of (pos n) ≡ natural_of n) }
 {}
-

@@ -37,4 +37,3 @@ pub use laws::{
 pub use put::{put_be64, put_i16, put_i32, put_i64, put_le64, put_u8};
 pub use varint::{decode_varint32, decode_varint64, put_varint32, put_varint64};
 pub use zigzag::{unzigzag32, unzigzag64, zigzag32, zigzag64};
-
