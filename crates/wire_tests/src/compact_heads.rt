@@ -1,7 +1,8 @@
 //! Heads of the compact protocol, read and written, and each fault at its place.
 
 use crate::compact_head_vectors::MESSAGES;
-use envelope::{HeadFault, Protocol, read_head, write_head};
+use crate::heads::written;
+use envelope::{HeadFault, Protocol, read_head};
 use outside::EnvelopeFault;
 use outside::EnvelopeFault::{LongVarint, MessageType, NameSize, Short, Version};
 use std::test::Fail;
@@ -21,9 +22,8 @@ fn heads_of_apache(rt: HostRuntime) -> Result<(), Fail> {
             }
             Err(HeadFault::NoMemory) => panic!(rt; "there was no memory for a short name"),
         }
-        let mut written = Vec::new(rt.alloc());
-        write_head(Protocol::Compact, name, *kind, *id, &mut written)?;
-        assert!(rt; written.as_slice() == payload.split_at(*behind).0);
+        let head = written(Protocol::Compact, rt.alloc(), name, *kind, *id)?;
+        assert_eq!(rt; Some(head.as_slice()), payload.get(..*behind));
     }
     Ok(())
 }

@@ -82,11 +82,17 @@ fn heads_of_apache(rt: HostRuntime) -> Result<(), Fail> {
     Ok(())
 }
 
-// What is written of a head; nothing where the name is long.
-fn written(alloc: Global, name: &[u8], kind: u8, id: i32) -> Result<Vec<u8>, AllocError> {
+/// What is written of a head; nothing where the name is long.
+pub(crate) fn written(
+    protocol: Protocol,
+    alloc: Global,
+    name: &[u8],
+    kind: u8,
+    id: i32,
+) -> Result<Vec<u8>, AllocError> {
     let mut into = Vec::new(alloc);
-    if name.len() < 100 {
-        write_head(Protocol::Binary, name, kind, id, &mut into)?;
+    if name.len() < 1000 {
+        write_head(protocol, name, kind, id, &mut into)?;
     }
     Ok(into)
 }
@@ -95,7 +101,7 @@ fn written(alloc: Global, name: &[u8], kind: u8, id: i32) -> Result<Vec<u8>, All
 fn strict_heads_of_apache_are_written(rt: HostRuntime) -> Result<(), Fail> {
     for (payload, name, kind, id, behind) in &MESSAGES {
         if payload.first() == Some(&0x80) {
-            let head = written(rt.alloc(), name, *kind, *id)?;
+            let head = written(Protocol::Binary, rt.alloc(), name, *kind, *id)?;
             assert_eq!(rt; Some(head.as_slice()), payload.get(..*behind));
         }
     }
