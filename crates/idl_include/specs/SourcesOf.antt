@@ -1,0 +1,43 @@
+-- The files of a program in memory, as the program that they are.
+use Rattle.std.specs.Prelude.{◌≡◌, ◌<◌, ◌≤◌, ℕ, false, List, [], ◌∷◌, All, length, map, ⊤}
+use Rattle.idl_parser.specs.declared.tree.Document.{Document}
+use Rattle.idl_parser.specs.Trees.{document_node}
+use Rattle.idl_token.specs.Limits.{longest_text}
+use Rattle.idl_model.specs.Program.{SourceFile, Program}
+use Rattle.idl_model.specs.FileNames.{base_name}
+use Rattle.idl_model.specs.Loading.{most_files, is_among}
+use Rattle.idl_model.specs.DeclaredIn.{definitions_in}
+use Rattle.idl_model.specs.Readings.{IsTreeOf}
+use Rattle.idl_include.specs.declared.sources.Source.{Source}
+
+-- a file: its name, what its document declares, and the numbers of the files that it includes
+abbrev pub file_in : Source → SourceFile
+file_in source = record { name = source.name; declarations = definitions_in source.document; includes = source.includes.items }
+
+-- the program of these files
+abbrev pub program_in : List Source → Program
+program_in = map file_in
+
+-- the document is that of some text within the limit (Thrift IDL, 'Document')
+pub record IsOfSomeText (document : Document) : Type 0 where
+  pub text : List ℕ
+  pub short : length text ≤ longest_text
+  pub tree : IsTreeOf text (document_node document)
+
+-- a file is sound among so many: its base name is that of its name, its document is one, and its numbers are of files
+pub record IsFile (count : ℕ) (source : Source) : Type 0 where
+  pub base : source.base ≡ base_name source.name
+  pub document : IsOfSomeText source.document
+  pub includes : All (λ number. number < count) source.includes.items
+
+-- files with these base names so far, and more: each with a base name of its own
+abbrev pub HaveOwnBases : List (List ℕ) → List Source → Type 0
+HaveOwnBases before [] = ⊤
+HaveOwnBases before (source ∷ more) = (is_among source.base before ≡ false) × HaveOwnBases (source.base ∷ before) more
+
+-- Files of a program: 1 to 256 of them, with different base names, and each is sound.
+pub record AreFiles (sources : List Source) : Type 0 where
+  pub some : 1 ≤ length sources
+  pub most : length sources ≤ most_files
+  pub bases : HaveOwnBases [] sources
+  pub each : All (IsFile (length sources)) sources

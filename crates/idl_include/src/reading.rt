@@ -1,0 +1,92 @@
+//! One file: its bytes, its tokens, its document.
+
+ghost use Rattle.std.specs.Prelude.{◌≡◌, ◌≢◌, ◌≤◌, ℕ, List, true, false, length, IfOk, IfErr};
+ghost use Rattle.outside.specs.Cause.{Rose};
+ghost use Rattle.idl_token.specs.Limits.{longest_text};
+ghost use Rattle.idl_token.specs.Tokens.{AreTokensOf, IsFirstLexFault};
+ghost use Rattle.idl_parser.specs.Faults.{IsFaultOf};
+ghost use Rattle.idl_model.specs.Readings.{FileReading};
+ghost use Rattle.idl_include.specs.SourcesOf.{IsOfSomeText};
+ghost use Rattle.idl_include.specs.Loads.{Tells, IsRead, IsTextRead, IsUnread, is_unread, is_wrong_want};
+
+use crate::faults::{LoadKind, NOWHERE, Stop, stop_at};
+use idl_model::laws::each_file_is_read_as_one_thing;
+use idl_parser::{Document, ParseFault, ParseKind, parse};
+use idl_token::{LexFault, LexKind, MAX_TEXT, Token, tokens};
+use outside::{FileFail, Files};
+use std::alloc::Global;
+
+/// The document of the file of this name.
+pub(crate) fn read_file<F: Files>(alloc: Global, files: &mut F, name: &str) -> Result<Document, Stop>
+    ensures told { (reader : List ℕ → FileReading) → Tells (F.files files.old) reader → IsRead name.now (reader name.now) result }
+    ensures text { IfOk result IsOfSomeText }
+    ensures same { F.files files.new ≡ F.files files.old }
+    ensures later { F.faults files.old ≤ F.faults files.new }
+    ensures rose { IfErr result (λ stop. is_unread stop ≡ true → Rose (F.faults files.old) (F.faults files.new)) }
+    ensures outer { IfErr result (λ stop. is_wrong_want stop ≡ false) }
+{
+    each_file_is_read_as_one_thing();
+    match files.read_whole(alloc, name, MAX_TEXT) {
+        Ok(text) => document_of(alloc, name, text.as_slice()),
+        Err(fail) => Err(unread(alloc, name, fail)),
+    }
+}
+
+/// How loading ends at a file that isn't read.
+fn unread(alloc: Global, name: &str, fail: FileFail) -> Stop
+    ensures { IsUnread name.now fail result }
+{
+    match fail {
+        FileFail::Absent => stop_at(alloc, name, NOWHERE, LoadKind::Absent),
+        FileFail::TooLong => stop_at(alloc, name, NOWHERE, LoadKind::TooLong),
+        FileFail::Failed => stop_at(alloc, name, NOWHERE, LoadKind::File),
+        FileFail::NoMemory => Stop::NoMemory,
+    }
+}
+
+/// The document of a text, which the file of this name holds.
+fn document_of(alloc: Global, name: &str, text: &[u8]) -> Result<Document, Stop>
+    requires { length text.now ≤ longest_text }
+    ensures read { IsTextRead name.now text.now result }
+    ensures outer { IfErr result (λ stop. (is_wrong_want stop ≡ false) × (is_unread stop ≡ false)) }
+{
+    match tokens(alloc, text) {
+        Ok(tokens) => document_in(alloc, name, text, tokens.as_slice()),
+        Err(fault) => Err(lexed_badly(alloc, name, fault)),
+    }
+}
+
+/// The same of its tokens.
+fn document_in(alloc: Global, name: &str, text: &[u8], tokens: &[Token]) -> Result<Document, Stop>
+    requires short { length text.now ≤ longest_text }
+    requires tokens { AreTokensOf tokens.now text.now }
+    ensures read { IsTextRead name.now text.now result }
+    ensures outer { IfErr result (λ stop. (is_wrong_want stop ≡ false) × (is_unread stop ≡ false)) }
+{
+    match parse(alloc, text, tokens) {
+        Ok(document) => Ok(document),
+        Err(fault) => Err(parsed_badly(alloc, name, fault)),
+    }
+}
+
+/// How loading ends at a fault of the lexer.
+fn lexed_badly(alloc: Global, name: &str, fault: LexFault) -> Stop
+    ensures read { (text : List ℕ) → (fault.kind ≢ LexKind.NoMemory → IsFirstLexFault fault text) → IsTextRead name.now text (Err result) }
+    ensures outer { (is_wrong_want result ≡ false) × (is_unread result ≡ false) }
+{
+    match fault.kind {
+        LexKind::NoMemory => Stop::NoMemory,
+        kind => stop_at(alloc, name, fault.at, LoadKind::Lex(kind)),
+    }
+}
+
+/// How loading ends at a fault of the parser.
+fn parsed_badly(alloc: Global, name: &str, fault: ParseFault) -> Stop
+    ensures read { (text : List ℕ) (tokens : List Token) → AreTokensOf tokens text → (fault.kind ≢ ParseKind.NoMemory → IsFaultOf text tokens fault) → IsTextRead name.now text (Err result) }
+    ensures outer { (is_wrong_want result ≡ false) × (is_unread result ≡ false) }
+{
+    match fault.kind {
+        ParseKind::NoMemory => Stop::NoMemory,
+        kind => stop_at(alloc, name, fault.at, LoadKind::Parse(kind)),
+    }
+}

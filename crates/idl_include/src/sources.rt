@@ -1,0 +1,60 @@
+//! The files of a program in memory.
+
+ghost use Rattle.std.specs.Prelude.{◌≡◌};
+ghost use Rattle.idl_include.specs.SourcesOf.{AreFiles};
+
+use byte_text::ByteText;
+use idl_parser::Document;
+use std::marker::Model;
+
+/// A file of a program.
+#[derive(Drop)]
+pub struct Source {
+    /// Its name.
+    pub name: ByteText,
+    /// Its base name: the last segment of its name without `.thrift`.
+    pub base: ByteText,
+    /// Its document.
+    pub document: Document,
+    /// The numbers of the files that its includes mean, one for each include, in order.
+    pub includes: Vec<u32>,
+}
+
+/// The files of a program: the main file is number 0, and each has the number at which its loading began. There are 1 to 256
+/// of them, with different base names; each document is that of some text of at most 4,194,304 bytes, and each number
+/// of an include is a place of the list.
+#[derive(Drop)]
+pub struct Sources {
+    // The files by number.
+    files: Vec<Source>,
+}
+
+impl Model for Sources {
+    ghost use Rattle.std.specs.Prelude.{List};
+    ghost use Rattle.idl_include.specs.declared.sources.Source.{Source};
+    ghost use Rattle.idl_include.specs.SourcesOf.{AreFiles};
+
+    ghost Value = { List Source };
+
+    ghost view = { λ sources. sources.files.items };
+
+    ghost invariant = { λ sources. AreFiles sources.files.items };
+}
+
+impl Sources {
+    /// The files by number.
+    pub fn files(&self) -> &[Source]
+        ensures same { result.now ≡ self.now }
+        ensures sound { AreFiles self.now }
+    {
+        self.files.as_slice()
+    }
+
+    /// The program of these files.
+    pub(crate) fn new(files: Vec<Source>) -> Self
+        requires { AreFiles files.items }
+        ensures { result ≡ files.items }
+    {
+        Sources { files }
+    }
+}
