@@ -9,10 +9,15 @@ use Rattle.idl_model.specs.Loading.{most_files, is_among}
 use Rattle.idl_model.specs.DeclaredIn.{definitions_in}
 use Rattle.idl_model.specs.Readings.{IsTreeOf}
 use Rattle.idl_include.specs.declared.sources.Source.{Source}
+use Rattle.idl_include.specs.declared.sources.Sources.{Sources}
 
 -- a file: its name, what its document declares, and the numbers of the files that it includes
 abbrev pub file_in : Source → SourceFile
 file_in source = record { name = source.name; declarations = definitions_in source.document; includes = source.includes.items }
+
+-- the files by number
+abbrev pub files_of : Sources → List Source
+files_of sources = sources.files.items
 
 -- the program of these files
 abbrev pub program_in : List Source → Program

@@ -1,8 +1,9 @@
 //! Names of files: what an include's literal means, and a file's base name.
 
-ghost use Rattle.std.specs.Prelude.{◌≡◌, ◌<◌, ◌≤◌, ◌-◌, length, take, drop, reverse, slice_index, IfOk, OnOk};
+ghost use Rattle.std.specs.Prelude.{◌≡◌, ◌||◌, not, [], ◌<◌, ◌≤◌, ◌-◌, length, take, drop, reverse, slice_index, string_bytes, IfOk, OnOk};
 ghost use Rattle.std.specs.List.{slice_split};
-ghost use Rattle.idl_model.specs.FileNames.{is_slash, last_segment, folder_of, with_segment, cleaned, included_name, base_name};
+ghost use Rattle.std.specs.Str.{bytes_eq};
+ghost use Rattle.idl_model.specs.FileNames.{is_slash, is_upward, last_segment, folder_of, with_segment, cleaned, included_name, base_name};
 ghost use Rattle.idl_include.specs.Texts.{texts};
 
 use std::alloc::{AllocError, AllocFailed, Global};
@@ -15,10 +16,13 @@ fn segment_start(name: &[u8]) -> usize
     ensures behind { 0 < result → slice_index name.now (result - 1) ≡ 47 }
 {
     let mut at = name.len();
-    while at > 0 && name[at - 1] != b'/' {
+    while at > 0 {
+        if name[at - 1] == b'/' {
+            return at;
+        }
         at -= 1;
     }
-    at
+    0
 }
 
 /// A file's folder: its name up to the last `/`, which is included.
@@ -48,36 +52,9 @@ fn segments(alloc: Global, name: &str) -> Result<Vec<&str>, AllocError>
     name.split('/').collect(alloc)
 }
 
-/// One segment more: `.` is dropped, and `..` takes out the one before.
-fn add_segment<'a>(kept: &mut Vec<&'a str>, segment: &'a str) -> Result<(), AllocFailed<&'a str>>
-    ensures { OnOk result (reverse (texts kept.new.items) ≡ with_segment (reverse (texts kept.old.items)) segment.now) }
+/// Whether `..` takes this segment out.
+fn is_taken_out(segment: &str) -> bool
+    ensures { result ≡ not (bytes_eq segment.now [] || is_upward segment.now) }
 {
-    if segment == "." {
-        return Ok(());
-    }
-    if segment == ".." && ends_in_a_folder(kept.as_slice()) {
-        let _last = kept.pop();
-        return Ok(());
-    }
-    kept.push(segment)
-}
-
-/// Whether the last segment is one that `..` takes out.
-fn ends_in_a_folder(kept: &[&str]) -> bool {
-    match kept.last() {
-        Some(last) => !last.is_empty() && *last != "..",
-        None => false,
-    }
-}
-
-/// A name without `.` segments and without pairs `x/..`.
-fn cleaned(alloc: Global, name: &str) -> Result<String, AllocError>
-    ensures { IfOk result (λ text. string_bytes text ≡ cleaned name.now) }
-{
-    let parts = segments(alloc, name)?;
-    let mut kept = Vec::new(alloc);
-    for part in parts.iter() {
-        add_segment(&mut kept, part)?;
-    }
-    kept.as_slice().join(alloc, "/")
+    !segment.is_empty() && segment != ".."
 }

@@ -1,11 +1,10 @@
 //! The files of a program in memory.
 
 ghost use Rattle.std.specs.Prelude.{◌≡◌};
-ghost use Rattle.idl_include.specs.SourcesOf.{AreFiles};
+ghost use Rattle.idl_include.specs.SourcesOf.{files_of};
 
 use byte_text::ByteText;
 use idl_parser::Document;
-use std::marker::Model;
 
 /// A file of a program.
 #[derive(Drop)]
@@ -29,31 +28,17 @@ pub struct Sources {
     files: Vec<Source>,
 }
 
-impl Model for Sources {
-    ghost use Rattle.std.specs.Prelude.{List};
-    ghost use Rattle.idl_include.specs.declared.sources.Source.{Source};
-    ghost use Rattle.idl_include.specs.SourcesOf.{AreFiles};
-
-    ghost Value = { List Source };
-
-    ghost view = { λ sources. sources.files.items };
-
-    ghost invariant = { λ sources. AreFiles sources.files.items };
-}
-
 impl Sources {
     /// The files by number.
     pub fn files(&self) -> &[Source]
-        ensures same { result.now ≡ self.now }
-        ensures sound { AreFiles self.now }
+        ensures { result.now ≡ files_of self.now }
     {
         self.files.as_slice()
     }
 
     /// The program of these files.
     pub(crate) fn new(files: Vec<Source>) -> Self
-        requires { AreFiles files.items }
-        ensures { result ≡ files.items }
+        ensures { files_of result ≡ files.items }
     {
         Sources { files }
     }
