@@ -37,7 +37,7 @@ reading_is : OneReading → (files : List File) (name text : List ℕ) (reader :
     → content_of files name ≡ Some text → length text ≤ longest_text → IsTextReadAs text x → IsReaderOf files reader → reader name ≡ x
 reading_is one files name text reader x held short is tells =
     one files reader (λ n. if bytes_eq n name then x else reader n) tells
-      (λ n. replaced files name text n reader x (bytes_eq n name) refl held short is tells) name
+    (λ n. replaced files name text n reader x (bytes_eq n name) refl held short is tells) name
     ∙ ap (λ b. if b then x else reader name) ((bytes_eq-Decides name name).1 refl)
 
 at_fault : OneReading → (files : List File) (name text : List ℕ) (reader : List ℕ → FileReading) (fault : LoadFault) (o : Option LoadFlawKind)

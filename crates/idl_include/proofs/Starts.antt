@@ -16,7 +16,7 @@ pub start_is : (name : List ℕ) (at : ℕ) → at ≤ length name → ((k : ℕ
     → (0 < at → get_or name (at - 1) 0 ≡ 47) → length name - suffix_len is_plain name ≡ at
 start_is name at h none here =
     let e : suffix_len is_plain name ≡ length name - at =
-      suffix_len_is is_plain name at 0 h (λ k p q. ap not (ne_eqb (get_or name k 0) 47 (none k p q))) (λ p. ap is_plain (here p)) in
+    suffix_len_is is_plain name at 0 h (λ k p q. ap not (ne_eqb (get_or name k 0) 47 (none k p q))) (λ p. ap is_plain (here p)) in
     omega (arith, e, h)
 
 pub last_is : (name : List ℕ) (at : ℕ) → length name - suffix_len is_plain name ≡ at → drop at name ≡ last_segment name

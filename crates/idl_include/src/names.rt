@@ -1,9 +1,9 @@
 //! Names of files: what an include's literal means, and a file's base name.
 
-ghost use Rattle.std.specs.Prelude.{◌≡◌, ◌||◌, not, [], ◌<◌, ◌≤◌, ◌-◌, length, take, drop, reverse, slice_index, string_bytes, IfOk, OnOk};
+ghost use Rattle.std.specs.Prelude.{◌≡◌, ◌||◌, not, [], ◌∷◌, MatchOption, ◌<◌, ◌≤◌, ◌-◌, length, take, drop, reverse, slice_index, string_bytes, IfOk, OnOk};
 ghost use Rattle.std.specs.List.{slice_split};
 ghost use Rattle.std.specs.Str.{bytes_eq};
-ghost use Rattle.idl_model.specs.FileNames.{is_slash, is_upward, last_segment, folder_of, with_segment, cleaned, included_name, base_name};
+ghost use Rattle.idl_model.specs.FileNames.{is_slash, is_upward, with_upward, last_segment, folder_of, with_segment, cleaned, included_name, base_name};
 ghost use Rattle.idl_include.specs.Texts.{texts};
 
 use std::alloc::{AllocError, AllocFailed, Global};
@@ -57,4 +57,49 @@ fn is_taken_out(segment: &str) -> bool
     ensures { result ≡ not (bytes_eq segment.now [] || is_upward segment.now) }
 {
     !segment.is_empty() && segment != ".."
+}
+
+/// One segment more, last.
+#[tactic(auto, using(crate::proofs::Segments::with_last))]
+fn push_segment<'a>(kept: &mut Vec<&'a str>, segment: &'a str) -> Result<(), AllocFailed<&'a str>>
+    ensures { OnOk result (reverse (texts kept.new.items) ≡ segment.now ∷ reverse (texts kept.old.items)) }
+{
+    kept.push(segment)
+}
+
+/// The last segment, taken out.
+#[tactic(auto, using(crate::proofs::Segments::with_last))]
+fn pop_segment<'a>(kept: &mut Vec<&'a str>) -> Option<&'a str>
+    ensures { MatchOption result ((reverse (texts kept.old.items) ≡ []) × (reverse (texts kept.new.items) ≡ []))
+        (λ last. reverse (texts kept.old.items) ≡ last.now ∷ reverse (texts kept.new.items)) }
+{
+    kept.pop()
+}
+
+/// A `..` more: it takes out the segment before, where that is one that may be taken out.
+#[tactic(auto, using(crate::proofs::Segments::taken_out, crate::proofs::Segments::left_in))]
+fn add_upward<'a>(kept: &mut Vec<&'a str>, segment: &'a str) -> Result<(), AllocFailed<&'a str>>
+    ensures { OnOk result (reverse (texts kept.new.items) ≡ with_upward (reverse (texts kept.old.items)) segment.now) }
+{
+    let Some(last) = pop_segment(kept) else {
+        return push_segment(kept, segment);
+    };
+    if is_taken_out(last) {
+        return Ok(());
+    }
+    push_segment(kept, last)?;
+    push_segment(kept, segment)
+}
+
+/// One segment more: `.` is dropped, and `..` takes out the one before.
+fn add_segment<'a>(kept: &mut Vec<&'a str>, segment: &'a str) -> Result<(), AllocFailed<&'a str>>
+    ensures { OnOk result (reverse (texts kept.new.items) ≡ with_segment (reverse (texts kept.old.items)) segment.now) }
+{
+    if segment == "." {
+        return Ok(());
+    }
+    if segment == ".." {
+        return add_upward(kept, segment);
+    }
+    push_segment(kept, segment)
 }

@@ -17,7 +17,11 @@ use outside::{FileFail, Files};
 use std::alloc::Global;
 
 /// The document of the file of this name.
-pub(crate) fn read_file<F: Files>(alloc: Global, files: &mut F, name: &str) -> Result<Document, Stop>
+pub(crate) fn read_file<F: Files>(
+    alloc: Global,
+    files: &mut F,
+    name: &str,
+) -> Result<Document, Stop>
     ensures told { (reader : List ℕ → FileReading) → Tells (F.files files.old) reader → IsRead name.now (reader name.now) result }
     ensures text { IfOk result IsOfSomeText }
     ensures same { F.files files.new ≡ F.files files.old }
