@@ -1,3 +1,4 @@
+pub mod Joined
 pub mod OneFile
 pub mod Segments
 pub mod Starts

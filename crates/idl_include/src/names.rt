@@ -3,7 +3,7 @@
 ghost use Rattle.std.specs.Prelude.{◌≡◌, ◌||◌, not, [], ◌∷◌, MatchOption, ◌<◌, ◌≤◌, ◌-◌, length, take, drop, reverse, slice_index, string_bytes, IfOk, OnOk};
 ghost use Rattle.std.specs.List.{slice_split};
 ghost use Rattle.std.specs.Str.{bytes_eq};
-ghost use Rattle.idl_model.specs.FileNames.{is_slash, is_upward, with_upward, last_segment, folder_of, with_segment, cleaned, included_name, base_name};
+ghost use Rattle.idl_model.specs.FileNames.{is_absolute, with_segments, is_slash, is_upward, with_upward, last_segment, folder_of, with_segment, cleaned, included_name, base_name};
 ghost use Rattle.idl_include.specs.Texts.{texts};
 
 use std::alloc::{AllocError, AllocFailed, Global};
@@ -102,4 +102,48 @@ fn add_segment<'a>(kept: &mut Vec<&'a str>, segment: &'a str) -> Result<(), Allo
         return add_upward(kept, segment);
     }
     push_segment(kept, segment)
+}
+
+/// The segments that are left of a name.
+fn kept_segments<'a>(alloc: Global, name: &'a str) -> Result<Vec<&'a str>, AllocError>
+    ensures { IfOk result (λ kept. reverse (texts kept.items) ≡ with_segments [] (slice_split is_slash name.now)) }
+{
+    let parts = segments(alloc, name)?;
+    let mut kept = Vec::new(alloc);
+    for part in parts.iter() {
+        add_segment(&mut kept, *part)?;
+    }
+    Ok(kept)
+}
+
+/// A name without `.` segments and without pairs `x/..`.
+#[tactic(auto, using(crate::proofs::Joined::joined_is), unfolding(idl_model::specs::FileNames::cleaned))]
+fn cleaned(alloc: Global, name: &str) -> Result<String, AllocError>
+    ensures { IfOk result (λ text. string_bytes text ≡ cleaned name.now) }
+{
+    let kept = kept_segments(alloc, name)?;
+    kept.as_slice().join(alloc, "/")
+}
+
+/// The name of the file that a literal means in a file of this name.
+#[tactic(auto, unfolding(idl_model::specs::FileNames::included_name))]
+pub(crate) fn included_name(alloc: Global, file: &str, literal: &str) -> Result<String, AllocError>
+    ensures { IfOk result (λ name. string_bytes name ≡ included_name file.now literal.now) }
+{
+    if begins_at_the_root(literal.as_bytes()) {
+        return String::from_str(alloc, literal);
+    }
+    let mut name = String::from_str(alloc, folder(file))?;
+    name.push_str(literal)?;
+    cleaned(alloc, name.as_str())
+}
+
+/// Whether a name begins with `/`.
+fn begins_at_the_root(name: &[u8]) -> bool
+    ensures { result ≡ is_absolute name.now }
+{
+    match name {
+        [first, ..] => *first == b'/',
+        [] => false,
+    }
 }
