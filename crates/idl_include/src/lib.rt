@@ -1,14 +1,5 @@
-//! The files of a program: the main file and what it includes, directly or not, each read and parsed once.
-//!
-//! `load(alloc, &mut files, "a.thrift")` gives the sources by number, the main file first, or the first fault with its file
-//! and place. Whether their names are defined and their constants fit is the checker's matter.
-//!
-//! ```
-//! let sources = load(alloc, &mut files, "a.thrift")?;
-//! for source in sources.files().iter() {
-//!     source.base, source.document.definitions, source.includes
-//! }
-//! ```
+//! One file of a program: what an include's literal means, and the document of a file or its first fault. The walk over all
+//! files of a program stands on these; whether names are defined and constants fit is the checker's matter.
 #![tactic(auto)]
 
 mod faults;

@@ -19,9 +19,7 @@ pub struct Source {
     pub includes: Vec<u32>,
 }
 
-/// The files of a program: the main file is number 0, and each has the number at which its loading began. There are 1 to 256
-/// of them, with different base names; each document is that of some text of at most 4,194,304 bytes, and each number
-/// of an include is a place of the list.
+/// The files of a program: the main file is number 0, and each has the number at which its loading began.
 #[derive(Drop)]
 pub struct Sources {
     // The files by number.
