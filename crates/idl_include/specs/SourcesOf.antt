@@ -16,8 +16,8 @@ abbrev pub file_in : Source → SourceFile
 file_in source = record { name = source.name; declarations = definitions_in source.document; includes = source.includes.items }
 
 -- the files by number
-abbrev pub files_of : Sources → List Source
-files_of sources = sources.files.items
+abbrev pub sources_in : Sources → List Source
+sources_in sources = sources.files.items
 
 -- the program of these files
 abbrev pub program_in : List Source → Program

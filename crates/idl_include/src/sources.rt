@@ -1,7 +1,7 @@
 //! The files of a program in memory.
 
 ghost use Rattle.std.specs.Prelude.{◌≡◌};
-ghost use Rattle.idl_include.specs.SourcesOf.{files_of};
+ghost use Rattle.idl_include.specs.SourcesOf.{sources_in};
 
 use byte_text::ByteText;
 use idl_parser::Document;
@@ -29,14 +29,14 @@ pub struct Sources {
 impl Sources {
     /// The files by number.
     pub fn files(&self) -> &[Source]
-        ensures { result.now ≡ files_of self.now }
+        ensures { result.now ≡ sources_in self.now }
     {
         self.files.as_slice()
     }
 
     /// The program of these files.
     pub(crate) fn new(files: Vec<Source>) -> Self
-        ensures { files_of result ≡ files.items }
+        ensures { sources_in result ≡ files.items }
     {
         Sources { files }
     }
