@@ -10,8 +10,8 @@ use Rattle.idl_parser.specs.declared.tree.Document.{Document}
 use Rattle.idl_parser.specs.Trees.{document_node}
 use Rattle.idl_model.specs.Readings.{LoadFlawKind, FileReading, read_as, unread, IsTextReadAs, IsReadWithin, IsHeldReadAs, IsReaderOf}
 use Rattle.idl_include.specs.declared.faults.LoadFault.{LoadFault}
-use Rattle.idl_include.specs.declared.faults.Stop.{Stop}
-use Rattle.idl_include.specs.declared.faults.Stop.TheVariants as stops
+use Rattle.idl_include.specs.declared.faults.LoadStop.{LoadStop}
+use Rattle.idl_include.specs.declared.faults.LoadStop.TheVariants as stops
 use Rattle.idl_include.specs.Loads.{flaw_kind, Tells, IsRead, IsTextRead}
 
 -- each file is read as one thing
@@ -48,7 +48,7 @@ at_fault one files name text reader fault None held short is tells = absurd is
 at_fault one files name text reader fault (Some kind) held short is tells =
     (is.0, reading_is one files name text reader (unread fault.at kind) held short is.1 tells)
 
-pub read_is : OneReading → (told : Option (List File)) (name text : List ℕ) (result : Result Document Stop)
+pub read_is : OneReading → (told : Option (List File)) (name text : List ℕ) (result : Result Document LoadStop)
     → OnTold told name (λ held. held ≡ Some text) → length text ≤ longest_text → IsTextRead name text result
     → (reader : List ℕ → FileReading) → Tells told reader → IsRead name (reader name) result
 read_is one None name text result held short is reader tells = absurd tells

@@ -14,9 +14,9 @@ use Rattle.idl_model.specs.Loading.{Loaded, loaded, stopped}
 use Rattle.idl_include.specs.declared.faults.LoadKind.{LoadKind}
 use Rattle.idl_include.specs.declared.faults.LoadKind.TheVariants as kinds
 use Rattle.idl_include.specs.declared.faults.LoadFault.{LoadFault}
-use Rattle.idl_include.specs.declared.faults.Stop.{Stop}
-use Rattle.idl_include.specs.declared.faults.Stop.TheVariants as stops
-use Rattle.idl_include.specs.declared.sources.Source.{Source}
+use Rattle.idl_include.specs.declared.faults.LoadStop.{LoadStop}
+use Rattle.idl_include.specs.declared.faults.LoadStop.TheVariants as stops
+use Rattle.idl_include.specs.declared.sources.IdlFile.{IdlFile}
 use Rattle.idl_include.specs.SourcesOf.{program_in}
 
 -- the flaw of a program that a kind of fault tells; that a file couldn't be read, and that memory ran out, tell none
@@ -53,54 +53,54 @@ abbrev pub IsFlawOf : Loaded → LoadFault → Type 0
 IsFlawOf come fault = MatchOption (flaw_kind fault.kind) ⊤ (λ kind. come ≡ stopped (record { file = fault.file; at = fault.at; kind = kind }))
 
 -- What loading answers: the files of the program, or the flaw at which it stops.
-abbrev pub IsLoaded : {A : Type 0} → (A → List Source) → Loaded → Result A LoadFault → Type 0
+abbrev pub IsLoaded : {A : Type 0} → (A → List IdlFile) → Loaded → Result A LoadFault → Type 0
 IsLoaded files come (Ok sources) = come ≡ loaded (program_in (files sources))
 IsLoaded files come (Err fault) = IsFlawOf come fault
 
 -- the same of a step, which may end for want of memory
-abbrev pub StopsAt : Loaded → Stop → Type 0
-StopsAt come stops.NoMemory = ⊤
-StopsAt come (stops.At fault) = IsFlawOf come fault
+abbrev pub LoadStopsAt : Loaded → LoadStop → Type 0
+LoadStopsAt come stops.NoMemory = ⊤
+LoadStopsAt come (stops.At fault) = IsFlawOf come fault
 
 -- what a step of loading comes to, where these are the files that were begun behind it
-abbrev pub ComesTo : {A : Type 0} → Loaded → List Source → Result A Stop → Type 0
+abbrev pub ComesTo : {A : Type 0} → Loaded → List IdlFile → Result A LoadStop → Type 0
 ComesTo come files (Ok done) = come ≡ loaded (program_in files)
-ComesTo come files (Err stop) = StopsAt come stop
+ComesTo come files (Err stop) = LoadStopsAt come stop
 
 -- a file that can't be read has this flaw
 abbrev pub IsFlawOfFile : List ℕ → FileReading → LoadFault → Type 0
 IsFlawOfFile name reading fault = MatchOption (flaw_kind fault.kind) ⊤ (λ kind. (fault.file ≡ name) × (reading ≡ unread fault.at kind))
 
 -- what a file is read as, or why not
-abbrev pub IsRead : List ℕ → FileReading → Result Document Stop → Type 0
+abbrev pub IsRead : List ℕ → FileReading → Result Document LoadStop → Type 0
 IsRead name reading (Ok document) = reading ≡ read_as (document_node document)
 IsRead name reading (Err stops.NoMemory) = ⊤
 IsRead name reading (Err (stops.At fault)) = IsFlawOfFile name reading fault
 
 -- what a text is read as, or why not
-abbrev pub IsTextRead : List ℕ → List ℕ → Result Document Stop → Type 0
+abbrev pub IsTextRead : List ℕ → List ℕ → Result Document LoadStop → Type 0
 IsTextRead name text (Ok document) = IsTreeOf text (document_node document)
 IsTextRead name text (Err stops.NoMemory) = ⊤
 IsTextRead name text (Err (stops.At fault)) = MatchOption (flaw_kind fault.kind) ⊥ (λ kind. (fault.file ≡ name) × IsTextReadAs text (unread fault.at kind))
 
 -- a stop is at this fault, or for want of memory
-abbrev pub StopsWith : List ℕ → Place → LoadKind → Stop → Type 0
+abbrev pub StopsWith : List ℕ → Place → LoadKind → LoadStop → Type 0
 StopsWith file at kind stops.NoMemory = ⊤
 StopsWith file at kind (stops.At fault) = (fault.file ≡ file) × (fault.at ≡ at) × (fault.kind ≡ kind)
 
 -- how loading ends at a file that isn't read
-abbrev pub IsUnread : List ℕ → FileFail → Stop → Type 0
+abbrev pub IsUnread : List ℕ → FileFail → LoadStop → Type 0
 IsUnread name fails.Absent stop = StopsWith name nowhere kinds.Absent stop
 IsUnread name fails.TooLong stop = StopsWith name nowhere kinds.TooLong stop
 IsUnread name fails.Failed stop = StopsWith name nowhere kinds.File stop
 IsUnread name fails.NoMemory stop = stop ≡ stops.NoMemory
 
 -- a step ended for a file that couldn't be read
-abbrev pub is_unread : Stop → Bool
+abbrev pub is_unread : LoadStop → Bool
 is_unread (stops.At fault) = is_file fault.kind
 is_unread stops.NoMemory = false
 
 -- a step ended for want of memory of the lexer or the parser
-abbrev pub is_wrong_want : Stop → Bool
+abbrev pub is_wrong_want : LoadStop → Bool
 is_wrong_want (stops.At fault) = is_inner_want fault.kind
 is_wrong_want stops.NoMemory = false

@@ -8,19 +8,19 @@ use Rattle.idl_model.specs.FileNames.{base_name}
 use Rattle.idl_model.specs.Loading.{most_files, is_among}
 use Rattle.idl_model.specs.DeclaredIn.{definitions_in}
 use Rattle.idl_model.specs.Readings.{IsTreeOf}
-use Rattle.idl_include.specs.declared.sources.Source.{Source}
+use Rattle.idl_include.specs.declared.sources.IdlFile.{IdlFile}
 use Rattle.idl_include.specs.declared.sources.Sources.{Sources}
 
 -- a file: its name, what its document declares, and the numbers of the files that it includes
-abbrev pub file_in : Source → SourceFile
+abbrev pub file_in : IdlFile → SourceFile
 file_in source = record { name = source.name; declarations = definitions_in source.document; includes = source.includes.items }
 
 -- the files by number
-abbrev pub sources_in : Sources → List Source
+abbrev pub sources_in : Sources → List IdlFile
 sources_in sources = sources.files.items
 
 -- the program of these files
-abbrev pub program_in : List Source → Program
+abbrev pub program_in : List IdlFile → Program
 program_in = map file_in
 
 -- the document is that of some text within the limit (Thrift IDL, 'Document')
@@ -30,18 +30,18 @@ pub record IsOfSomeText (document : Document) : Type 0 where
   pub tree : IsTreeOf text (document_node document)
 
 -- a file is sound among so many: its base name is that of its name, its document is one, and its numbers are of files
-pub record IsFile (count : ℕ) (source : Source) : Type 0 where
+pub record IsFile (count : ℕ) (source : IdlFile) : Type 0 where
   pub base : source.base ≡ base_name source.name
   pub document : IsOfSomeText source.document
   pub includes : All (λ number. number < count) source.includes.items
 
 -- files with these base names so far, and more: each with a base name of its own
-abbrev pub HaveOwnBases : List (List ℕ) → List Source → Type 0
+abbrev pub HaveOwnBases : List (List ℕ) → List IdlFile → Type 0
 HaveOwnBases before [] = ⊤
 HaveOwnBases before (source ∷ more) = (is_among source.base before ≡ false) × HaveOwnBases (source.base ∷ before) more
 
 -- Files of a program: 1 to 256 of them, with different base names, and each is sound.
-pub record AreFiles (sources : List Source) : Type 0 where
+pub record AreFiles (sources : List IdlFile) : Type 0 where
   pub some : 1 ≤ length sources
   pub most : length sources ≤ most_files
   pub bases : HaveOwnBases [] sources

@@ -58,32 +58,32 @@ pub struct LoadFault {
 
 /// How loading ends before its end.
 #[derive(Drop)]
-pub(crate) enum Stop {
+pub(crate) enum LoadStop {
     /// There was no room in memory.
     NoMemory,
     /// The program has a fault, or a file couldn't be read.
     At(LoadFault),
 }
 
-impl From<AllocError> for Stop {
+impl From<AllocError> for LoadStop {
     ghost use Rattle.std.specs.Prelude.{◌≡◌};
-    ghost use Rattle.idl_include.specs.declared.faults.Stop.TheVariants.{NoMemory};
+    ghost use Rattle.idl_include.specs.declared.faults.LoadStop.TheVariants.{NoMemory};
 
     ghost from_gives = { λ _ stop. stop ≡ NoMemory };
 
     fn from(_error: AllocError) -> Self {
-        Stop::NoMemory
+        LoadStop::NoMemory
     }
 }
 
-impl<T: Drop> From<AllocFailed<T>> for Stop {
+impl<T: Drop> From<AllocFailed<T>> for LoadStop {
     ghost use Rattle.std.specs.Prelude.{◌≡◌};
-    ghost use Rattle.idl_include.specs.declared.faults.Stop.TheVariants.{NoMemory};
+    ghost use Rattle.idl_include.specs.declared.faults.LoadStop.TheVariants.{NoMemory};
 
     ghost from_gives = { λ _ stop. stop ≡ NoMemory };
 
     fn from(_failed: AllocFailed<T>) -> Self {
-        Stop::NoMemory
+        LoadStop::NoMemory
     }
 }
 
@@ -102,15 +102,15 @@ pub(crate) fn no_memory(alloc: Global) -> LoadFault
 }
 
 /// A fault in the file of this name, or want of memory.
-pub(crate) fn stop_at(alloc: Global, file: &str, at: Place, kind: LoadKind) -> Stop
+pub(crate) fn stop_at(alloc: Global, file: &str, at: Place, kind: LoadKind) -> LoadStop
     ensures { StopsWith file.now at kind result }
 {
     match file.as_bytes().to_vec(alloc) {
-        Ok(name) => Stop::At(LoadFault {
+        Ok(name) => LoadStop::At(LoadFault {
             file: ByteText::new(name),
             at,
             kind,
         }),
-        Err(_) => Stop::NoMemory,
+        Err(_) => LoadStop::NoMemory,
     }
 }

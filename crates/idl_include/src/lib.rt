@@ -8,4 +8,4 @@ mod reading;
 mod sources;
 
 pub use faults::{LoadFault, LoadKind};
-pub use sources::{Source, Sources};
+pub use sources::{IdlFile, Sources};

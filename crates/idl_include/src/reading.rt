@@ -9,7 +9,7 @@ ghost use Rattle.idl_model.specs.Readings.{FileReading};
 ghost use Rattle.idl_include.specs.SourcesOf.{IsOfSomeText};
 ghost use Rattle.idl_include.specs.Loads.{Tells, IsRead, IsTextRead, IsUnread, is_unread, is_wrong_want};
 
-use crate::faults::{LoadKind, NOWHERE, Stop, stop_at};
+use crate::faults::{LoadKind, NOWHERE, LoadStop, stop_at};
 use idl_model::laws::each_file_is_read_as_one_thing;
 use idl_parser::{Document, ParseFault, ParseKind, parse};
 use idl_token::{LexFault, LexKind, MAX_TEXT, Token, tokens};
@@ -21,7 +21,7 @@ pub(crate) fn read_file<F: Files>(
     alloc: Global,
     files: &mut F,
     name: &str,
-) -> Result<Document, Stop>
+) -> Result<Document, LoadStop>
     ensures told { (reader : List ℕ → FileReading) → Tells (F.files files.old) reader → IsRead name.now (reader name.now) result }
     ensures text { IfOk result IsOfSomeText }
     ensures same { F.files files.new ≡ F.files files.old }
@@ -37,19 +37,19 @@ pub(crate) fn read_file<F: Files>(
 }
 
 /// How loading ends at a file that isn't read.
-fn unread(alloc: Global, name: &str, fail: FileFail) -> Stop
+fn unread(alloc: Global, name: &str, fail: FileFail) -> LoadStop
     ensures { IsUnread name.now fail result }
 {
     match fail {
         FileFail::Absent => stop_at(alloc, name, NOWHERE, LoadKind::Absent),
         FileFail::TooLong => stop_at(alloc, name, NOWHERE, LoadKind::TooLong),
         FileFail::Failed => stop_at(alloc, name, NOWHERE, LoadKind::File),
-        FileFail::NoMemory => Stop::NoMemory,
+        FileFail::NoMemory => LoadStop::NoMemory,
     }
 }
 
 /// The document of a text, which the file of this name holds.
-fn document_of(alloc: Global, name: &str, text: &[u8]) -> Result<Document, Stop>
+fn document_of(alloc: Global, name: &str, text: &[u8]) -> Result<Document, LoadStop>
     requires { length text.now ≤ longest_text }
     ensures read { IsTextRead name.now text.now result }
     ensures outer { IfErr result (λ stop. (is_wrong_want stop ≡ false) × (is_unread stop ≡ false)) }
@@ -61,7 +61,7 @@ fn document_of(alloc: Global, name: &str, text: &[u8]) -> Result<Document, Stop>
 }
 
 /// The same of its tokens.
-fn document_in(alloc: Global, name: &str, text: &[u8], tokens: &[Token]) -> Result<Document, Stop>
+fn document_in(alloc: Global, name: &str, text: &[u8], tokens: &[Token]) -> Result<Document, LoadStop>
     requires short { length text.now ≤ longest_text }
     requires tokens { AreTokensOf tokens.now text.now }
     ensures read { IsTextRead name.now text.now result }
@@ -74,23 +74,23 @@ fn document_in(alloc: Global, name: &str, text: &[u8], tokens: &[Token]) -> Resu
 }
 
 /// How loading ends at a fault of the lexer.
-fn lexed_badly(alloc: Global, name: &str, fault: LexFault) -> Stop
+fn lexed_badly(alloc: Global, name: &str, fault: LexFault) -> LoadStop
     ensures read { (text : List ℕ) → (fault.kind ≢ LexKind.NoMemory → IsFirstLexFault fault text) → IsTextRead name.now text (Err result) }
     ensures outer { (is_wrong_want result ≡ false) × (is_unread result ≡ false) }
 {
     match fault.kind {
-        LexKind::NoMemory => Stop::NoMemory,
+        LexKind::NoMemory => LoadStop::NoMemory,
         kind => stop_at(alloc, name, fault.at, LoadKind::Lex(kind)),
     }
 }
 
 /// How loading ends at a fault of the parser.
-fn parsed_badly(alloc: Global, name: &str, fault: ParseFault) -> Stop
+fn parsed_badly(alloc: Global, name: &str, fault: ParseFault) -> LoadStop
     ensures read { (text : List ℕ) (tokens : List Token) → AreTokensOf tokens text → (fault.kind ≢ ParseKind.NoMemory → IsFaultOf text tokens fault) → IsTextRead name.now text (Err result) }
     ensures outer { (is_wrong_want result ≡ false) × (is_unread result ≡ false) }
 {
     match fault.kind {
-        ParseKind::NoMemory => Stop::NoMemory,
+        ParseKind::NoMemory => LoadStop::NoMemory,
         kind => stop_at(alloc, name, fault.at, LoadKind::Parse(kind)),
     }
 }

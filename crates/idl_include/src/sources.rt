@@ -8,7 +8,7 @@ use idl_parser::Document;
 
 /// A file of a program.
 #[derive(Drop)]
-pub struct Source {
+pub struct IdlFile {
     /// Its name.
     pub name: ByteText,
     /// Its base name: the last segment of its name without `.thrift`.
@@ -23,19 +23,19 @@ pub struct Source {
 #[derive(Drop)]
 pub struct Sources {
     // The files by number.
-    files: Vec<Source>,
+    files: Vec<IdlFile>,
 }
 
 impl Sources {
     /// The files by number.
-    pub fn files(&self) -> &[Source]
+    pub fn files(&self) -> &[IdlFile]
         ensures { result.now ≡ sources_in self.now }
     {
         self.files.as_slice()
     }
 
     /// The program of these files.
-    pub(crate) fn new(files: Vec<Source>) -> Self
+    pub(crate) fn new(files: Vec<IdlFile>) -> Self
         ensures { sources_in result ≡ files.items }
     {
         Sources { files }
