@@ -1,4 +1,11 @@
+pub mod Answered
+pub mod Begins
+pub mod Failed
+pub mod Followed
+pub mod Included
 pub mod Joined
+pub mod Linked
 pub mod OneFile
 pub mod Segments
+pub mod Stages
 pub mod Starts

@@ -40,9 +40,13 @@ abbrev pub HaveOwnBases : List (List ℕ) → List IdlFile → Type 0
 HaveOwnBases before [] = ⊤
 HaveOwnBases before (source ∷ more) = (is_among source.base before ≡ false) × HaveOwnBases (source.base ∷ before) more
 
--- Files of a program: 1 to 256 of them, with different base names, and each is sound.
+-- Files of a program that were begun by some point: at most 256, with different base names, and each is sound.
+pub record AreBegun (files : List IdlFile) : Type 0 where
+  pub most : length files ≤ most_files
+  pub bases : HaveOwnBases [] files
+  pub each : All (IsFile (length files)) files
+
+-- Files of a program: at least one, and as they were begun.
 pub record AreFiles (sources : List IdlFile) : Type 0 where
   pub some : 1 ≤ length sources
-  pub most : length sources ≤ most_files
-  pub bases : HaveOwnBases [] sources
-  pub each : All (IsFile (length sources)) sources
+  pub begun : AreBegun sources

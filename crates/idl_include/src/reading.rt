@@ -7,9 +7,9 @@ ghost use Rattle.idl_token.specs.Tokens.{AreTokensOf, IsFirstLexFault};
 ghost use Rattle.idl_parser.specs.Faults.{IsFaultOf};
 ghost use Rattle.idl_model.specs.Readings.{FileReading};
 ghost use Rattle.idl_include.specs.SourcesOf.{IsOfSomeText};
-ghost use Rattle.idl_include.specs.Loads.{Tells, IsRead, IsTextRead, IsUnread, is_unread, is_wrong_want};
+ghost use Rattle.idl_include.specs.Loads.{Tells, IsRead, IsTextRead, IsUnread, IsUnreadAt, is_unread, is_wrong_want};
 
-use crate::faults::{LoadKind, NOWHERE, LoadStop, stop_at};
+use crate::faults::{LoadKind, LoadStop, NOWHERE, stop_at};
 use idl_model::laws::each_file_is_read_as_one_thing;
 use idl_parser::{Document, ParseFault, ParseKind, parse};
 use idl_token::{LexFault, LexKind, MAX_TEXT, Token, tokens};
@@ -23,6 +23,7 @@ pub(crate) fn read_file<F: Files>(
     name: &str,
 ) -> Result<Document, LoadStop>
     ensures told { (reader : List ℕ → FileReading) → Tells (F.files files.old) reader → IsRead name.now (reader name.now) result }
+    ensures failed { IfErr result (IsUnreadAt (F.files files.old) name.now) }
     ensures text { IfOk result IsOfSomeText }
     ensures same { F.files files.new ≡ F.files files.old }
     ensures later { F.faults files.old ≤ F.faults files.new }
@@ -61,7 +62,12 @@ fn document_of(alloc: Global, name: &str, text: &[u8]) -> Result<Document, LoadS
 }
 
 /// The same of its tokens.
-fn document_in(alloc: Global, name: &str, text: &[u8], tokens: &[Token]) -> Result<Document, LoadStop>
+fn document_in(
+    alloc: Global,
+    name: &str,
+    text: &[u8],
+    tokens: &[Token],
+) -> Result<Document, LoadStop>
     requires short { length text.now ≤ longest_text }
     requires tokens { AreTokensOf tokens.now text.now }
     ensures read { IsTextRead name.now text.now result }

@@ -1,6 +1,7 @@
-use Rattle.std.proofs.Common.{ℕ, List, subst}
+use Rattle.std.proofs.Common.{ℕ, List, refl, subst}
 use Rattle.idl_include.specs.Loads.{IsTextRead}
 use Rattle.idl_include.proofs.OneFile.{read_is}
+use Rattle.idl_include.proofs.Failed.{failed_is, read_otherwise}
 use Rattle.idl_include.proofs.reading.read_file.Goals as goal
 
 pub returns-in-Ok-clause-told : goal.returns-in-Ok-clause-told
@@ -8,3 +9,9 @@ returns-in-Ok-clause-told g c =
     let P : List ℕ → Type 0 = λ text. IsTextRead c.args.name.now text c.document_of.result in
     read_is c.each_file_is_read_as_one_thing.ensures.one (g.F.Files.files c.args.files.now) c.args.name.now c.in-Ok.text.items c.document_of.result
     c.in-Ok.ensures.read.read c.in-Ok.ensures.read.within (subst P c.as_slice.ensures.value c.document_of.ensures.read)
+
+pub returns-in-Ok-clause-failed : goal.returns-in-Ok-clause-failed
+returns-in-Ok-clause-failed g c = read_otherwise (g.F.Files.files c.args.files.now) c.args.name.now c.document_of.result c.document_of.ensures.outer
+
+pub returns-in-Err-clause-failed : goal.returns-in-Err-clause-failed
+returns-in-Err-clause-failed g c = failed_is (g.F.Files.files c.args.files.now) c.args.name.now _ c.in-Err.fail _ c.unread.result c.in-Err.ensures.read refl c.unread.ensures
