@@ -64,6 +64,15 @@ pub(crate) fn put_value(into: &mut Vec<u8>, value: &ConstTree) -> Result<(), All
     }
 }
 
+/// Appends a comma and a value.
+#[cycle(value_printer)]
+fn put_value_behind_comma(into: &mut Vec<u8>, value: &ConstTree) -> Result<(), AllocError>
+    ensures { OnOk result (into.new.items ≡ into.old.items ++ behind_comma (value_text value.now)) }
+{
+    into.extend_from_slice(b", ")?;
+    put_value(into, value)
+}
+
 /// Appends values with commas between them.
 #[cycle(value_printer)]
 fn put_values(into: &mut Vec<u8>, values: &[ConstTree]) -> Result<(), AllocError>
@@ -74,10 +83,18 @@ fn put_values(into: &mut Vec<u8>, values: &[ConstTree]) -> Result<(), AllocError
     };
     put_value(into, first)?;
     for value in more {
-        into.extend_from_slice(b", ")?;
-        put_value(into, value)?;
+        put_value_behind_comma(into, value)?;
     }
     Ok(())
+}
+
+/// Appends a colon and a value.
+#[cycle(value_printer)]
+fn put_value_behind_colon(into: &mut Vec<u8>, value: &ConstTree) -> Result<(), AllocError>
+    ensures { OnOk result (into.new.items ≡ into.old.items ++ (codes ": " ++ value_text value.now)) }
+{
+    into.extend_from_slice(b": ")?;
+    put_value(into, value)
 }
 
 /// Appends pairs with commas between them.
@@ -90,13 +107,10 @@ fn put_pairs(into: &mut Vec<u8>, pairs: &[(ConstTree, ConstTree)]) -> Result<(),
     };
     let (key, value) = first;
     put_value(into, key)?;
-    into.extend_from_slice(b": ")?;
-    put_value(into, value)?;
+    put_value_behind_colon(into, value)?;
     for (key, value) in more {
-        into.extend_from_slice(b", ")?;
-        put_value(into, key)?;
-        into.extend_from_slice(b": ")?;
-        put_value(into, value)?;
+        put_value_behind_comma(into, key)?;
+        put_value_behind_colon(into, value)?;
     }
     Ok(())
 }
