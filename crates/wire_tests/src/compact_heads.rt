@@ -1,8 +1,8 @@
 //! Heads of the compact protocol, read and written, and each fault at its place.
 
 use crate::compact_head_vectors::MESSAGES;
-use crate::heads::written;
-use envelope::{HeadFault, Protocol, read_head};
+use crate::heads::{is_fault, is_read_or_refused, is_written};
+use envelope::{Protocol, read_head};
 use outside::EnvelopeFault;
 use outside::EnvelopeFault::{LongVarint, MessageType, NameSize, Short, Version};
 use std::test::Fail;
@@ -10,20 +10,28 @@ use std::test::Fail;
 #[test]
 fn heads_of_apache(rt: HostRuntime) -> Result<(), Fail> {
     for (payload, name, kind, id, behind) in &MESSAGES {
-        match read_head(rt.alloc(), Protocol::Compact, payload) {
-            Ok(head) => {
-                assert!(rt; *kind == 1 || *kind == 4);
-                assert_eq!(rt; head.name.as_slice(), *name);
-                assert_eq!(rt; (head.kind, head.id, head.behind), (*kind, *id, *behind));
-            }
-            Err(HeadFault::Envelope(fault)) => {
-                assert!(rt; *kind == 2 || *kind == 3);
-                assert_eq!(rt; fault, MessageType(*kind));
-            }
-            Err(HeadFault::NoMemory) => panic!(rt; "there was no memory for a short name"),
-        }
-        let head = written(Protocol::Compact, rt.alloc(), name, *kind, *id)?;
-        assert_eq!(rt; Some(head.as_slice()), payload.get(..*behind));
+        assert!(rt;
+            is_read_or_refused(
+                Protocol::Compact,
+                rt.alloc(),
+                payload,
+                name,
+                *kind,
+                *id,
+                *behind
+            )
+        );
+        assert!(rt;
+            is_written(
+                Protocol::Compact,
+                rt.alloc(),
+                payload,
+                name,
+                *kind,
+                *id,
+                *behind
+            )?
+        );
     }
     Ok(())
 }
@@ -45,12 +53,8 @@ const FAULTS: [(&[u8], EnvelopeFault); 12] = [
 ];
 
 #[test]
-fn faults_in_reading_order(rt: HostRuntime) -> Result<(), Fail> {
+fn faults_in_reading_order(rt: HostRuntime) {
     for (payload, fault) in &FAULTS {
-        match read_head(rt.alloc(), Protocol::Compact, payload) {
-            Ok(_) => panic!(rt; "a head at fault was read"),
-            Err(found) => assert_eq!(rt; found, HeadFault::Envelope(*fault)),
-        }
+        assert!(rt; is_fault(read_head(rt.alloc(), Protocol::Compact, payload), *fault));
     }
-    Ok(())
 }

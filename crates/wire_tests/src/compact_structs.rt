@@ -1,8 +1,7 @@
 //! Structs of the compact protocol, read and written, and each fault at its place.
 
-use crate::apache::holding;
+use crate::apache::{holding, is_fault, is_read_as};
 use crate::compact_struct_vectors::{DIFFERENCES, tables};
-use crate::notation::notation;
 use compact_codec::read_struct;
 use envelope::Protocol;
 use std::test::Fail;
@@ -20,15 +19,9 @@ fn structs_of_apache_are_read_and_written_again(rt: HostRuntime) -> Result<(), F
 #[test]
 fn structs_are_read_otherwise_by_own_choice(rt: HostRuntime) -> Result<(), Fail> {
     for (bytes, apache, here) in &DIFFERENCES {
-        match read_struct(rt.alloc(), bytes, 0) {
-            Ok((value, behind)) => {
-                let found = notation(rt.alloc(), &value)?;
-                assert_eq!(rt; found.as_bytes(), *here);
-                assert_ne!(rt; found.as_bytes(), *apache);
-                assert_eq!(rt; behind, bytes.len());
-            }
-            Err(_) => panic!(rt; "a struct was refused"),
-        }
+        let read = read_struct(rt.alloc(), bytes, 0);
+        assert!(rt; is_read_as(rt.alloc(), read, here, bytes.len())?);
+        assert!(rt; *here != *apache);
     }
     Ok(())
 }
@@ -60,12 +53,8 @@ const FAULTS: [(&[u8], WireFault); 22] = [
 ];
 
 #[test]
-fn faults_in_reading_order(rt: HostRuntime) -> Result<(), Fail> {
+fn faults_in_reading_order(rt: HostRuntime) {
     for (bytes, fault) in &FAULTS {
-        match read_struct(rt.alloc(), bytes, 0) {
-            Ok(_) => panic!(rt; "a struct at fault was read"),
-            Err(found) => assert_eq!(rt; found, *fault),
-        }
+        assert!(rt; is_fault(read_struct(rt.alloc(), bytes, 0), *fault));
     }
-    Ok(())
 }

@@ -89,23 +89,38 @@ fn ids(alloc: Global, fields: &Fields) -> Result<String, AllocError> {
 // The values that a value holds, the last one first, since the last that waits is the next to be taken.
 fn wait_for_held<'a>(value: &'a Value, waiting: &mut Vec<&'a Value>) -> Result<(), AllocError> {
     match value {
-        Value::Struct(fields) => {
-            for (_, held) in fields.as_slice().iter().rev() {
-                waiting.push(held)?;
-            }
-        }
-        Value::Map(_, _, pairs) => {
-            for (key, held) in pairs.as_slice().iter().rev() {
-                waiting.push(held)?;
-                waiting.push(key)?;
-            }
-        }
-        Value::Set(_, items) | Value::List(_, items) => {
-            for held in items.as_slice().iter().rev() {
-                waiting.push(held)?;
-            }
-        }
-        _ => {}
+        Value::Struct(fields) => wait_for_fields(fields.as_slice(), waiting),
+        Value::Map(_, _, pairs) => wait_for_pairs(pairs.as_slice(), waiting),
+        Value::Set(_, items) => wait_for_items(items.as_slice(), waiting),
+        Value::List(_, items) => wait_for_items(items.as_slice(), waiting),
+        _ => Ok(()),
+    }
+}
+
+fn wait_for_fields<'a>(
+    fields: &'a [(i16, Value)],
+    waiting: &mut Vec<&'a Value>,
+) -> Result<(), AllocError> {
+    for (_, held) in fields.iter().rev() {
+        waiting.push(held)?;
+    }
+    Ok(())
+}
+
+fn wait_for_pairs<'a>(
+    pairs: &'a [(Value, Value)],
+    waiting: &mut Vec<&'a Value>,
+) -> Result<(), AllocError> {
+    for (key, held) in pairs.iter().rev() {
+        waiting.push(held)?;
+        waiting.push(key)?;
+    }
+    Ok(())
+}
+
+fn wait_for_items<'a>(items: &'a [Value], waiting: &mut Vec<&'a Value>) -> Result<(), AllocError> {
+    for held in items.iter().rev() {
+        waiting.push(held)?;
     }
     Ok(())
 }

@@ -1,7 +1,6 @@
 //! Structs read and written, and each fault at its place.
 
-use crate::apache::{holding, written_again};
-use crate::notation::notation;
+use crate::apache::{holding, is_fault, is_read_as, written_again};
 use crate::struct_vectors::{DIFFERENCES, tables};
 use binary_codec::{Binary, read_struct};
 use envelope::Protocol;
@@ -22,15 +21,9 @@ fn structs_of_apache_are_read_and_written_again(rt: HostRuntime) -> Result<(), F
 #[test]
 fn structs_are_read_otherwise_by_own_choice(rt: HostRuntime) -> Result<(), Fail> {
     for (bytes, apache, here) in &DIFFERENCES {
-        match read_struct(rt.alloc(), bytes, 0) {
-            Ok((value, behind)) => {
-                let found = notation(rt.alloc(), &value)?;
-                assert_eq!(rt; found.as_bytes(), *here);
-                assert_ne!(rt; found.as_bytes(), *apache);
-                assert_eq!(rt; behind, bytes.len());
-            }
-            Err(_) => panic!(rt; "a struct was refused"),
-        }
+        let read = read_struct(rt.alloc(), bytes, 0);
+        assert!(rt; is_read_as(rt.alloc(), read, here, bytes.len())?);
+        assert!(rt; *here != *apache);
     }
     Ok(())
 }
@@ -38,18 +31,9 @@ fn structs_are_read_otherwise_by_own_choice(rt: HostRuntime) -> Result<(), Fail>
 #[test]
 fn fields_come_as_they_stand(rt: HostRuntime) -> Result<(), Fail> {
     // Repeats too, with bytes in front and behind.
-    match read_struct(
-        rt.alloc(),
-        b"..\x03\0\x02\x05\x03\0\x01\x06\x03\0\x02\x05\0..",
-        2,
-    ) {
-        Ok((value, behind)) => {
-            let found = notation(rt.alloc(), &value)?;
-            assert_eq!(rt; found.as_str(), "struct:2,1,2 i8:5 i8:6 i8:5");
-            assert_eq!(rt; behind, 15);
-        }
-        Err(_) => panic!(rt; "a struct with a repeated field was refused"),
-    }
+    let bytes = b"..\x03\0\x02\x05\x03\0\x01\x06\x03\0\x02\x05\0..";
+    let read = read_struct(rt.alloc(), bytes, 2);
+    assert!(rt; is_read_as(rt.alloc(), read, b"struct:2,1,2 i8:5 i8:6 i8:5", 15)?);
     Ok(())
 }
 
@@ -76,16 +60,18 @@ const EMPTY: [(&[u8], usize); 6] = [
     (b"\x0d\0\x01\x62\x63\0\0\0\0\0.", 10),
 ];
 
+// Whether such a container was read up to this place.
+fn is_none_of_bool(read: Result<(Raw, usize), WireFault>, place: usize) -> bool {
+    match read {
+        Ok((found, behind)) => holds_none_of_bool(&found) && behind == place,
+        Err(_) => false,
+    }
+}
+
 #[test]
 fn empty_containers_name_bool(rt: HostRuntime) {
     for (bytes, place) in &EMPTY {
-        match read_struct(rt.alloc(), bytes, 0) {
-            Ok((found, behind)) => {
-                assert!(rt; holds_none_of_bool(&found));
-                assert_eq!(rt; behind, *place);
-            }
-            Err(_) => panic!(rt; "an empty container was refused"),
-        }
+        assert!(rt; is_none_of_bool(read_struct(rt.alloc(), bytes, 0), *place));
     }
 }
 
@@ -154,14 +140,10 @@ const FAULTS: [(&[u8], WireFault); 48] = [
 ];
 
 #[test]
-fn faults_in_reading_order(rt: HostRuntime) -> Result<(), Fail> {
+fn faults_in_reading_order(rt: HostRuntime) {
     for (bytes, fault) in &FAULTS {
-        match read_struct(rt.alloc(), bytes, 0) {
-            Ok(_) => panic!(rt; "a struct at fault was read"),
-            Err(found) => assert_eq!(rt; found, *fault),
-        }
+        assert!(rt; is_fault(read_struct(rt.alloc(), bytes, 0), *fault));
     }
-    Ok(())
 }
 
 // A struct with a list of one bool in field 1, and in field 2 so many lists in one another.
@@ -186,23 +168,41 @@ const BOUNDS: [(u32, u32, Result<u64, WireFault>); 6] = [
     (64, 66, Err(TooMany)),
 ];
 
+// What reading these bytes answers, where so many values may come.
+fn read_within(alloc: Global, bytes: &[u8], values: u32) -> Result<u64, WireFault> {
+    match read::<Binary>(alloc, Input::new(bytes, values), 64, Tag::Struct) {
+        Ok((value, _)) => Ok(value.count()),
+        Err(fault) => Err(fault),
+    }
+}
+
+// What reading these bytes as a struct answers.
+fn read_whole(alloc: Global, bytes: &[u8]) -> Result<u64, WireFault> {
+    match read_struct(alloc, bytes, 0) {
+        Ok((value, _)) => Ok(value.count()),
+        Err(fault) => Err(fault),
+    }
+}
+
+// Whether reading so many lists in one another is bounded so.
+fn is_bounded(
+    alloc: Global,
+    lists: u32,
+    values: u32,
+    wanted: Result<u64, WireFault>,
+) -> Result<bool, AllocError> {
+    let bytes = nested(alloc, lists)?;
+    let found = read_within(alloc, bytes.as_slice(), values);
+    if values == 4_000_000 && read_whole(alloc, bytes.as_slice()) != wanted {
+        return Ok(false);
+    }
+    Ok(found == wanted)
+}
+
 #[test]
 fn levels_and_values_are_bounded(rt: HostRuntime) -> Result<(), Fail> {
     for (lists, values, wanted) in &BOUNDS {
-        let bytes = nested(rt.alloc(), *lists)?;
-        let rest = Input::new(bytes.as_slice(), *values);
-        let found = match read::<Binary>(rt.alloc(), rest, 64, Tag::Struct) {
-            Ok((value, _)) => Ok(value.count()),
-            Err(fault) => Err(fault),
-        };
-        assert_eq!(rt; found, *wanted);
-        if *values == 4_000_000 {
-            let whole = match read_struct(rt.alloc(), bytes.as_slice(), 0) {
-                Ok((value, _)) => Ok(value.count()),
-                Err(fault) => Err(fault),
-            };
-            assert_eq!(rt; whole, *wanted);
-        }
+        assert!(rt; is_bounded(rt.alloc(), *lists, *values, *wanted)?);
     }
     Ok(())
 }
@@ -219,16 +219,19 @@ fn long_list(alloc: Global, count: u32) -> Result<Vec<u8>, AllocError> {
     Ok(bytes)
 }
 
+// Whether a struct of so many values is read to its end and written again.
+fn is_written_again(alloc: Global, bytes: &[u8], count: u64) -> bool {
+    match written_again(Protocol::Binary, alloc, bytes) {
+        Ok(Some((value, behind, written))) => {
+            value.count() == count && behind == bytes.len() && written.as_slice() == bytes
+        }
+        _ => false,
+    }
+}
+
 #[test]
 fn a_struct_of_a_hundred_thousand_values_is_read(rt: HostRuntime) -> Result<(), Fail> {
     let bytes = long_list(rt.alloc(), 99_998)?;
-    match written_again(Protocol::Binary, rt.alloc(), &bytes) {
-        Ok(Some((value, behind, written))) => {
-            assert_eq!(rt; value.count(), 100_000);
-            assert_eq!(rt; behind, bytes.len());
-            assert!(rt; written.as_slice() == bytes.as_slice());
-        }
-        _ => panic!(rt; "a long struct was refused"),
-    }
+    assert!(rt; is_written_again(rt.alloc(), bytes.as_slice(), 100_000));
     Ok(())
 }

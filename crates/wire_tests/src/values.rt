@@ -16,32 +16,41 @@ fn numbers(alloc: Global, numbers: &[i32]) -> Result<Vec<Value>, AllocError> {
     Ok(items)
 }
 
+// list<i32> of these numbers.
+fn listed(alloc: Global, items: &[i32]) -> Result<Value, AllocError> {
+    Ok(Value::List(Tag::I32, Items::new(numbers(alloc, items)?)))
+}
+
+// map<bytes, bool>{"a": true, "b": false}
+fn mapped(alloc: Global) -> Result<Value, AllocError> {
+    let mut pairs = Vec::new(alloc);
+    pairs.push((text(alloc, b"a")?, Value::Bool(true)))?;
+    pairs.push((text(alloc, b"b")?, Value::Bool(false)))?;
+    Ok(Value::Map(Tag::Bytes, Tag::Bool, Pairs::new(pairs)))
+}
+
 // {1: list<i32>[1, -1], 3: map<bytes, bool>{"a": true, "b": false}, 4: set<i64>{}}
 fn worked(alloc: Global) -> Result<Value, AllocError> {
-    let listed = Value::List(Tag::I32, Items::new(numbers(alloc, &[1, -1])?));
-    let first = (text(alloc, b"a")?, Value::Bool(true));
-    let second = (text(alloc, b"b")?, Value::Bool(false));
-    let map = Value::Map(
-        Tag::Bytes,
-        Tag::Bool,
-        Pairs::new(vec![in alloc; first, second]?),
-    );
-    let set = Value::Set(Tag::I64, Items::new(Vec::new(alloc)));
-    Ok(Value::Struct(Fields::new(vec![in alloc; (1i16, listed), (3i16, map), (4i16, set)]?)))
+    let mut fields = Vec::new(alloc);
+    fields.push((1i16, listed(alloc, &[1, -1])?))?;
+    fields.push((3i16, mapped(alloc)?))?;
+    fields.push((4i16, Value::Set(Tag::I64, Items::new(Vec::new(alloc)))))?;
+    Ok(Value::Struct(Fields::new(fields)))
+}
+
+// Whether a value is as its copy, which has as many values and is tidy.
+fn is_as_its_copy(alloc: Global, value: &Value) -> Result<bool, AllocError> {
+    let copy = value.try_clone(alloc)?;
+    let is_same = value.compare(&copy) == Ordering::Equal;
+    Ok(is_same && copy.count() == value.count() && copy.is_tidy())
 }
 
 #[test]
 fn worked_value(rt: HostRuntime) -> Result<(), Fail> {
     let value = worked(rt.alloc())?;
-    assert_eq!(rt; value.tag(), Tag::Struct);
-    assert_eq!(rt; value.count(), 10);
-    assert_eq!(rt; value.depth(), 2);
-    assert!(rt; value.is_tidy());
-    assert!(rt; value.has_small_sizes());
-    let copy = value.try_clone(rt.alloc())?;
-    assert_eq!(rt; value.compare(&copy), Ordering::Equal);
-    assert_eq!(rt; copy.count(), 10);
-    assert!(rt; copy.is_tidy());
+    assert!(rt; value.tag() == Tag::Struct && value.count() == 10 && value.depth() == 2);
+    assert!(rt; value.is_tidy() && value.has_small_sizes());
+    assert!(rt; is_as_its_copy(rt.alloc(), &value)?);
     Ok(())
 }
 
@@ -61,52 +70,75 @@ fn scalars(alloc: Global) -> Result<Vec<Value>, AllocError> {
 }
 
 fn texts(alloc: Global) -> Result<Vec<Value>, AllocError> {
-    let first = text(alloc, b"")?;
-    let second = text(alloc, b"ab")?;
-    let third = text(alloc, b"ab\0")?;
-    let fourth = text(alloc, b"b")?;
-    Ok(vec![in alloc; first, second, third, fourth]?)
+    let mut texts = Vec::new(alloc);
+    for bytes in [b"".as_slice(), b"ab", b"ab\0", b"b"] {
+        texts.push(text(alloc, bytes)?)?;
+    }
+    Ok(texts)
+}
+
+fn lists_of_numbers(alloc: Global) -> Result<Vec<Value>, AllocError> {
+    let mut lists = Vec::new(alloc);
+    for items in [[-2, 9].as_slice(), &[1], &[1, 1]] {
+        lists.push(listed(alloc, items)?)?;
+    }
+    Ok(lists)
 }
 
 fn containers(alloc: Global) -> Result<Vec<Value>, AllocError> {
-    let empty = Value::Struct(Fields::new(Vec::new(alloc)));
-    let filled = worked(alloc)?;
-    let map = Value::Map(Tag::I8, Tag::I8, Pairs::new(Vec::new(alloc)));
-    let set = Value::Set(Tag::I32, Items::new(numbers(alloc, &[7])?));
-    let first = Value::List(Tag::I32, Items::new(numbers(alloc, &[-2, 9])?));
-    let second = Value::List(Tag::I32, Items::new(numbers(alloc, &[1])?));
-    let third = Value::List(Tag::I32, Items::new(numbers(alloc, &[1, 1])?));
-    Ok(vec![in alloc; empty, filled, map, set, first, second, third]?)
+    let mut values = Vec::new(alloc);
+    values.push(Value::Struct(Fields::new(Vec::new(alloc))))?;
+    values.push(worked(alloc)?)?;
+    values.push(Value::Map(Tag::I8, Tag::I8, Pairs::new(Vec::new(alloc))))?;
+    values.push(Value::Set(Tag::I32, Items::new(numbers(alloc, &[7])?)))?;
+    values.append(&mut lists_of_numbers(alloc)?)?;
+    Ok(values)
+}
+
+// All of them.
+fn in_order(alloc: Global) -> Result<Vec<Value>, AllocError> {
+    let mut values = scalars(alloc)?;
+    values.append(&mut texts(alloc)?)?;
+    values.append(&mut containers(alloc)?)?;
+    Ok(values)
+}
+
+// Whether values are ordered as their places.
+fn are_ordered(values: &[Value]) -> bool {
+    for (i, x) in values.iter().enumerate() {
+        for (j, y) in values.iter().enumerate() {
+            if x.compare(y) != i.cmp(&j) {
+                return false;
+            }
+        }
+    }
+    true
 }
 
 #[test]
 fn order(rt: HostRuntime) -> Result<(), Fail> {
-    let mut values = scalars(rt.alloc())?;
-    values.append(&mut texts(rt.alloc())?)?;
-    values.append(&mut containers(rt.alloc())?)?;
-    for (i, x) in values.iter().enumerate() {
-        for (j, y) in values.iter().enumerate() {
-            assert_eq!(rt; x.compare(y), i.cmp(&j));
-        }
-    }
+    let values = in_order(rt.alloc())?;
+    assert!(rt; values.len() == 20 && are_ordered(values.as_slice()));
     let bools = Value::List(Tag::Bool, Items::new(Vec::new(rt.alloc())));
     let texts = Value::List(Tag::Bytes, Items::new(Vec::new(rt.alloc())));
-    assert_eq!(rt; bools.compare(&texts), Ordering::Equal);
+    assert!(rt; bools.compare(&texts) == Ordering::Equal);
     Ok(())
+}
+
+// Two fields whose numbers fall.
+fn falling(alloc: Global) -> Result<Value, AllocError> {
+    let fields = vec![in alloc; (2i16, Value::Bool(true)), (1i16, Value::Bool(true))]?;
+    Ok(Value::Struct(Fields::new(fields)))
 }
 
 #[test]
 fn untidy_values(rt: HostRuntime) -> Result<(), Fail> {
-    let alloc = rt.alloc();
-    let twice = Value::Set(Tag::I32, Items::new(numbers(alloc, &[4, 4])?));
+    let twice = Value::Set(Tag::I32, Items::new(numbers(rt.alloc(), &[4, 4])?));
     assert!(rt; !twice.is_tidy());
-    let listed_twice = Value::List(Tag::I32, Items::new(numbers(alloc, &[4, 4])?));
-    assert!(rt; listed_twice.is_tidy());
-    let other_tag = Value::List(Tag::I64, Items::new(numbers(alloc, &[4])?));
+    assert!(rt; listed(rt.alloc(), &[4, 4])?.is_tidy());
+    let other_tag = Value::List(Tag::I64, Items::new(numbers(rt.alloc(), &[4])?));
     assert!(rt; !other_tag.is_tidy());
-    let fields = vec![in alloc; (2i16, Value::Bool(true)), (1i16, Value::Bool(true))]?;
-    let falling = Value::Struct(Fields::new(fields));
-    assert!(rt; !falling.is_tidy());
+    assert!(rt; !falling(rt.alloc())?.is_tidy());
     Ok(())
 }
 
@@ -132,12 +164,8 @@ fn largest(alloc: Global) -> Result<Value, AllocError> {
 #[test]
 fn deep_and_wide(rt: HostRuntime) -> Result<(), Fail> {
     let value = largest(rt.alloc())?;
-    assert_eq!(rt; value.depth(), 64);
-    assert_eq!(rt; value.count(), 4_000_000);
-    assert!(rt; value.is_tidy());
-    let copy = value.try_clone(rt.alloc())?;
-    assert_eq!(rt; value.compare(&copy), Ordering::Equal);
-    drop(copy);
+    assert!(rt; value.depth() == 64 && value.count() == 4_000_000 && value.is_tidy());
+    assert!(rt; is_as_its_copy(rt.alloc(), &value)?);
     Ok(())
 }
 
