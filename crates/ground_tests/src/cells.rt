@@ -1,13 +1,14 @@
 //! Runs of the tutorial's service, as lists of events, whose outcome is worked out by hand.
 
-ghost use Rattle.std.specs.Prelude.{◌≡◌, ◌<◌, ◌^◌, IfOk};
+ghost use Rattle.std.specs.Prelude.{◌≡◌, ◌<◌, ◌^◌, ◌==◌, if◌then◌else◌};
 
 use host_model::EndCause;
-use host_model::plain::{Decided, PlainDesk, PlainServices, marks_of, output};
-use machine_model::plain::{PlainApplyResult, PlainCell, PlainConnEvent, PlainEvent, run, start};
+use host_model::plain::{Decided, PlainDesk, PlainEntry, PlainServices, marks_of, output};
+use machine_model::plain::{
+    PlainApplyResult, PlainCell, PlainConnEvent, PlainEvent, PlainLoop, run, start,
+};
 use outside::{Bytes, Mark};
 use std::alloc::{AllocError, Global};
-use std::process::Abort;
 use std::test::Fail;
 
 /// The message that calls `ping`.
@@ -42,25 +43,45 @@ const NOTHING: &[u8] =
 #[derive(Drop)]
 struct Tutorial {
     max: u32,
-    pong: Vec<u8>,
-    two: Vec<u8>,
-    forty_two: Vec<u8>,
-    found: Vec<u8>,
-    nothing: Vec<u8>,
+    pong: &'static [u8],
+    two: &'static [u8],
+    forty_two: &'static [u8],
+    found: &'static [u8],
+    nothing: &'static [u8],
 }
 
 impl Tutorial {
-    fn new(alloc: Global, max: u32) -> Result<Self, AllocError>
-        ensures { IfOk result (λ t. t.max ≡ max) }
+    fn new(max: u32) -> Self
+        ensures { result.max ≡ max }
     {
-        Ok(Tutorial {
+        Tutorial {
             max,
-            pong: Vec::from_slice(alloc, PONG)?,
-            two: Vec::from_slice(alloc, TWO)?,
-            forty_two: Vec::from_slice(alloc, FORTY_TWO)?,
-            found: Vec::from_slice(alloc, FOUND)?,
-            nothing: Vec::from_slice(alloc, NOTHING)?,
-        })
+            pong: PONG,
+            two: TWO,
+            forty_two: FORTY_TWO,
+            found: FOUND,
+            nothing: NOTHING,
+        }
+    }
+
+    /// The reply to a message of this length.
+    fn reply_to(&self, size: usize, answer: u8) -> &'static [u8]
+        ensures { result.now ≡ (if size == 17 then self.now.pong.now else if size == 30 then self.now.two.now
+            else if size == 54 then self.now.forty_two.now else if answer == 0 then self.now.nothing.now else self.now.found.now) }
+    {
+        if size == 17 {
+            return self.pong;
+        }
+        if size == 30 {
+            return self.two;
+        }
+        if size == 54 {
+            return self.forty_two;
+        }
+        if answer == 0 {
+            return self.nothing;
+        }
+        self.found
     }
 }
 
@@ -77,8 +98,8 @@ impl PlainDesk for Tutorial {
       decide = λ payload. if length payload == 17 then Invoke 1 else if length payload == 30 then Invoke 2
           else if length payload == 54 then Invoke 3 else if length payload == 29 then Invoke 4 else Silent;
       silent = λ call. false;
-      reply = λ payload answer. if length payload == 17 then t.pong.items else if length payload == 30 then t.two.items
-          else if length payload == 54 then t.forty_two.items else if answer == 0 then t.nothing.items else t.found.items;
+      reply = λ payload answer. if length payload == 17 then t.pong.now else if length payload == 30 then t.two.now
+          else if length payload == 54 then t.forty_two.now else if answer == 0 then t.nothing.now else t.found.now;
     } };
 
     fn decide(&self, _alloc: Global, payload: &[u8]) -> Result<Decided<u8>, AllocError> {
@@ -102,19 +123,7 @@ impl PlainDesk for Tutorial {
     }
 
     fn reply(&self, alloc: Global, payload: &[u8], answer: u8) -> Result<Vec<u8>, AllocError> {
-        if payload.len() == 17 {
-            return Vec::from_slice(alloc, self.pong.as_slice());
-        }
-        if payload.len() == 30 {
-            return Vec::from_slice(alloc, self.two.as_slice());
-        }
-        if payload.len() == 54 {
-            return Vec::from_slice(alloc, self.forty_two.as_slice());
-        }
-        if answer == 0 {
-            return Vec::from_slice(alloc, self.nothing.as_slice());
-        }
-        Vec::from_slice(alloc, self.found.as_slice())
+        Vec::from_slice(alloc, self.reply_to(payload.len(), answer))
     }
 }
 
@@ -157,87 +166,91 @@ impl PlainServices for Calculator {
     }
 }
 
-/// A list of events.
-#[derive(Drop)]
-struct Script {
-    alloc: Global,
-    events: Vec<PlainEvent>,
+/// What happens in a run, in short; connections and workers have numbers, from 0.
+#[derive(Clone, Copy)]
+enum Act {
+    /// A connection opens.
+    Opens,
+    /// A connection reads bytes.
+    Reads(u32, &'static [u8]),
+    /// A connection writes so many bytes.
+    Writes(u32, usize),
+    /// A connection's input has ended.
+    Ends(u32),
+    /// A connection's write fails.
+    FailsWrite(u32),
+    /// A connection is given up with the cause Stopped.
+    Stops(u32),
+    /// A connection's payload is submitted.
+    Submits(u32),
+    /// A worker takes a job.
+    Takes(u32),
+    /// A worker applies its job's call, which goes so.
+    Applies(u32, PlainApplyResult),
+    /// A worker puts its job's outcome.
+    Puts(u32),
+    /// A worker puts want of memory.
+    PutsNone(u32),
+    /// An outcome is collected.
+    Collects,
+    /// The hall is closed.
+    Closes,
 }
 
-impl Script {
-    fn new(alloc: Global) -> Self {
-        Script {
-            alloc,
-            events: Vec::new(alloc),
-        }
-    }
-
-    fn event(&mut self, event: PlainEvent) -> Result<(), AllocError> {
-        self.events.push(event)?;
-        Ok(())
-    }
-
-    fn opens(&mut self, count: u32) -> Result<(), AllocError> {
-        for _ in 0..count {
-            self.event(PlainEvent::Happens(PlainConnEvent::Opens))?;
-        }
-        Ok(())
-    }
-
-    /// Connection c reads bytes.
-    fn reads(&mut self, c: u32, bytes: &[u8]) -> Result<(), AllocError> {
-        let bytes = Bytes::new(Vec::from_slice(self.alloc, bytes)?);
-        self.event(PlainEvent::Happens(PlainConnEvent::Reads(c, bytes)))
-    }
-
-    /// Connection c reads the size of a payload.
-    fn reads_size(&mut self, c: u32, size: u32) -> Result<(), AllocError> {
-        self.reads(c, &size.to_be_bytes())
-    }
-
-    /// Worker w takes a job, applies its call and puts its outcome.
-    fn works(&mut self, w: u32) -> Result<(), AllocError> {
-        self.event(PlainEvent::Takes(w))?;
-        self.event(PlainEvent::Applies(w, PlainApplyResult::Answers))?;
-        self.event(PlainEvent::Puts(w))
-    }
-
-    /// Connection c's payload is submitted, called and collected.
-    fn calls(&mut self, c: u32) -> Result<(), AllocError> {
-        self.event(PlainEvent::Submits(c))?;
-        self.works(0)?;
-        self.event(PlainEvent::Collects)
-    }
-
-    fn writes(&mut self, c: u32, count: usize) -> Result<(), AllocError> {
-        self.event(PlainEvent::Happens(PlainConnEvent::Writes(c, count)))
-    }
-
-    fn ends(&mut self, c: u32) -> Result<(), AllocError> {
-        self.event(PlainEvent::Happens(PlainConnEvent::Ends(c)))
-    }
+/// The event of a connection that reads these bytes.
+fn reads(alloc: Global, c: u32, bytes: &[u8]) -> Result<PlainEvent, AllocError> {
+    let bytes = Bytes::new(Vec::from_slice(alloc, bytes)?);
+    Ok(PlainEvent::Happens(PlainConnEvent::Reads(c, bytes)))
 }
 
-/// What these events leave.
-fn after(
+/// The event that an act is.
+fn event_of(alloc: Global, act: Act) -> Result<PlainEvent, AllocError> {
+    let event = match act {
+        Act::Reads(c, bytes) => return reads(alloc, c, bytes),
+        Act::Opens => PlainEvent::Happens(PlainConnEvent::Opens),
+        Act::Writes(c, count) => PlainEvent::Happens(PlainConnEvent::Writes(c, count)),
+        Act::Ends(c) => PlainEvent::Happens(PlainConnEvent::Ends(c)),
+        Act::FailsWrite(c) => PlainEvent::Happens(PlainConnEvent::FailsWrite(c)),
+        Act::Stops(c) => PlainEvent::Happens(PlainConnEvent::GivesUp(c, EndCause::Stopped)),
+        Act::Submits(c) => PlainEvent::Submits(c),
+        Act::Takes(w) => PlainEvent::Takes(w),
+        Act::Applies(w, apply_result) => PlainEvent::Applies(w, apply_result),
+        Act::Puts(w) => PlainEvent::Puts(w),
+        Act::PutsNone(w) => PlainEvent::PutsNone(w),
+        Act::Collects => PlainEvent::Collects,
+        Act::Closes => PlainEvent::Closes,
+    };
+    Ok(event)
+}
+
+/// The events that these acts are.
+fn events_of(alloc: Global, acts: &[Act]) -> Result<Vec<PlainEvent>, AllocError> {
+    let mut events = Vec::new(alloc);
+    for act in acts {
+        events.push(event_of(alloc, *act)?)?;
+    }
+    Ok(events)
+}
+
+/// What these events leave, where each can be.
+fn after_events(
     alloc: Global,
     max: u32,
-    script: &Script,
+    events: &[PlainEvent],
 ) -> Result<Option<PlainCell<u8, u8, u8>>, AllocError>
     requires { max < 2 ^ 31 }
 {
-    let mut memories = Vec::new(alloc);
-    memories.push(0)?;
-    let desk = Tutorial::new(alloc, max)?;
-    let first = start(alloc, memories);
-    run(
-        alloc,
-        max,
-        &desk,
-        &Calculator,
-        first,
-        script.events.as_slice(),
-    )
+    let desk = Tutorial::new(max);
+    let first = start(alloc, vec![in alloc; 0]?);
+    run(alloc, max, &desk, &Calculator, first, events)
+}
+
+/// What these acts leave, where each can be.
+fn after(alloc: Global, max: u32, acts: &[Act]) -> Result<Option<PlainCell<u8, u8, u8>>, AllocError>
+    requires { max < 2 ^ 31 }
+{
+    let events = events_of(alloc, acts)?;
+    after_events(alloc, max, events.as_slice())
 }
 
 /// A mark in short: what it is, its connection, and how many bytes it has.
@@ -253,264 +266,340 @@ fn short(mark: &Mark) -> (char, u32, usize) {
     }
 }
 
-/// The conversations are these: each call with its answer, in the journal's order, and of each connection its cause and what it
-/// was sent.
-fn tells<R: Abort>(
-    rt: &R,
-    alloc: Global,
-    cell: &PlainCell<u8, u8, u8>,
-    calls: &[(u32, u64, u8, u8)],
-    ends: &[(Option<EndCause>, &[u8])],
-) -> Result<(), Fail> {
-    assert_eq!(rt; cell.hall.journal.len(), calls.len());
-    for (entry, expected) in cell.hall.journal.iter().zip(calls) {
-        let found = (entry.key.c, entry.key.i, entry.call, entry.answer);
-        assert_eq!(rt; found, *expected);
+/// A call with its answer: its key, the call and the answer.
+type Answered = (u32, u64, u8, u8);
+
+/// How a connection ended, and what it was sent.
+type Parted = (Option<EndCause>, &'static [u8]);
+
+/// Whether the journal has these calls, in order.
+fn has_calls(journal: &[PlainEntry<u8, u8>], calls: &[Answered]) -> bool {
+    if journal.len() != calls.len() {
+        return false;
     }
-    assert_eq!(rt; cell.loop_part.conns.len(), ends.len());
-    let mut c = 0;
-    for (conn, (cause, sent)) in cell.loop_part.conns.iter().zip(ends) {
-        assert_eq!(rt; conn.cause, *cause);
-        let own = marks_of(alloc, c, cell.loop_part.tape.as_slice())?;
-        assert_eq!(rt; output(alloc, own.as_slice())?.as_slice(), *sent);
-        c = c.wrapping_add(1);
+    for (entry, (c, i, call, answer)) in journal.iter().zip(calls) {
+        if entry.key.c != *c
+            || entry.key.i != *i
+            || entry.call != *call
+            || entry.answer != *answer
+        {
+            return false;
+        }
     }
-    Ok(())
+    true
 }
 
-#[test]
-fn runs_of_the_tutorial(rt: HostRuntime) -> Result<(), Fail> {
-    let alloc = rt.alloc();
-    read_back(&rt, alloc)?;
-    held_back(&rt, alloc)?;
-    write_fails(&rt, alloc)?;
-    two_workers(&rt, alloc)?;
-    journal_fails(&rt, alloc)?;
-    bad_sizes(&rt, alloc)?;
-    wrong_steps(&rt, alloc)
+/// Whether a connection was sent these bytes.
+fn was_sent(alloc: Global, c: u32, tape: &[Mark], bytes: &[u8]) -> Result<bool, AllocError> {
+    let own = marks_of(alloc, c, tape)?;
+    let sent = output(alloc, own.as_slice())?;
+    Ok(sent.as_slice() == bytes)
 }
+
+/// Whether the connections have parted so.
+fn has_parted(alloc: Global, loop_part: &PlainLoop, ends: &[Parted]) -> Result<bool, AllocError> {
+    if loop_part.conns.len() != ends.len() {
+        return Ok(false);
+    }
+    let mut c = 0;
+    for (conn, (cause, sent)) in loop_part.conns.iter().zip(ends) {
+        if conn.cause != *cause || !was_sent(alloc, c, loop_part.tape.as_slice(), sent)? {
+            return Ok(false);
+        }
+        c = c.wrapping_add(1);
+    }
+    Ok(true)
+}
+
+/// Whether the conversations are these: each call with its answer, in the journal's order, and of each connection its cause and
+/// what it was sent.
+fn tells(
+    alloc: Global,
+    cell: &PlainCell<u8, u8, u8>,
+    calls: &[Answered],
+    ends: &[Parted],
+) -> Result<bool, AllocError> {
+    Ok(has_calls(cell.hall.journal.as_slice(), calls) && has_parted(alloc, &cell.loop_part, ends)?)
+}
+
+/// Whether these acts leave these conversations; no payload has more bytes than the program's own default.
+fn leaves(
+    alloc: Global,
+    acts: &[Act],
+    calls: &[Answered],
+    ends: &[Parted],
+) -> Result<bool, AllocError> {
+    match after(alloc, MOST, acts)? {
+        Some(cell) => tells(alloc, &cell, calls, ends),
+        None => Ok(false),
+    }
+}
+
+const MOST: u32 = 16_384_000;
 
 const END: Option<EndCause> = Some(EndCause::End);
 
+const ANSWERS: PlainApplyResult = PlainApplyResult::Answers;
+
 /// A second connection reads back what the first one's call has left.
-fn read_back<R: Abort>(rt: &R, alloc: Global) -> Result<(), Fail> {
-    let mut script = Script::new(alloc);
-    script.opens(2)?;
-    script.reads_size(0, 54)?;
-    script.reads(0, CALCULATE)?;
-    script.calls(0)?;
-    script.writes(0, 33)?;
-    script.reads_size(1, 29)?;
-    script.reads(1, GET)?;
-    script.calls(1)?;
-    script.writes(1, 46)?;
-    script.ends(0)?;
-    script.ends(1)?;
-    let last = after(alloc, 16_384_000, &script)?.expect(rt, "a run");
+const READ_BACK: [Act; 20] = [
+    Act::Opens,
+    Act::Opens,
+    Act::Reads(0, b"\0\0\0\x36"),
+    Act::Reads(0, CALCULATE),
+    Act::Submits(0),
+    Act::Takes(0),
+    Act::Applies(0, ANSWERS),
+    Act::Puts(0),
+    Act::Collects,
+    Act::Writes(0, 33),
+    Act::Reads(1, b"\0\0\0\x1d"),
+    Act::Reads(1, GET),
+    Act::Submits(1),
+    Act::Takes(0),
+    Act::Applies(0, ANSWERS),
+    Act::Puts(0),
+    Act::Collects,
+    Act::Writes(1, 46),
+    Act::Ends(0),
+    Act::Ends(1),
+];
+
+#[test]
+fn a_kept_number_is_read_back(rt: HostRuntime) -> Result<(), Fail> {
     let calls = [(0, 0, 3, 42), (1, 0, 4, 42)];
-    tells(rt, alloc, &last, &calls, &[(END, FORTY_TWO), (END, FOUND)])
+    let ends = [(END, FORTY_TWO), (END, FOUND)];
+    assert!(rt; leaves(rt.alloc(), &READ_BACK, &calls, &ends)?);
+    Ok(())
 }
 
 /// A connection is held back until the other one is answered.
-fn held_back<R: Abort>(rt: &R, alloc: Global) -> Result<(), Fail> {
-    let mut script = Script::new(alloc);
-    script.opens(2)?;
-    script.reads_size(0, 30)?;
-    script.reads(0, ADD)?;
-    script.reads_size(1, 30)?;
-    script.calls(0)?;
-    script.writes(0, 27)?;
-    script.ends(0)?;
-    script.reads(1, ADD)?;
-    script.calls(1)?;
-    script.writes(1, 27)?;
-    script.ends(1)?;
-    let last = after(alloc, 30, &script)?.expect(rt, "a run");
+const HELD_BACK: [Act; 20] = [
+    Act::Opens,
+    Act::Opens,
+    Act::Reads(0, b"\0\0\0\x1e"),
+    Act::Reads(0, ADD),
+    Act::Reads(1, b"\0\0\0\x1e"),
+    Act::Submits(0),
+    Act::Takes(0),
+    Act::Applies(0, ANSWERS),
+    Act::Puts(0),
+    Act::Collects,
+    Act::Writes(0, 27),
+    Act::Ends(0),
+    Act::Reads(1, ADD),
+    Act::Submits(1),
+    Act::Takes(0),
+    Act::Applies(0, ANSWERS),
+    Act::Puts(0),
+    Act::Collects,
+    Act::Writes(1, 27),
+    Act::Ends(1),
+];
+
+/// The marks of that run, in short.
+const HELD_BACK_TAPE: [(char, u32, usize); 12] = [
+    ('o', 0, 0),
+    ('o', 1, 0),
+    ('r', 0, 4),
+    ('r', 0, 30),
+    ('r', 1, 4),
+    ('w', 0, 27),
+    ('e', 0, 0),
+    ('c', 0, 0),
+    ('r', 1, 30),
+    ('w', 1, 27),
+    ('e', 1, 0),
+    ('c', 1, 0),
+];
+
+/// Whether a tape has these marks.
+fn has_marks(tape: &[Mark], marks: &[(char, u32, usize)]) -> bool {
+    if tape.len() != marks.len() {
+        return false;
+    }
+    for (mark, (kind, c, count)) in tape.iter().zip(marks) {
+        let (found, conn, size) = short(mark);
+        if found != *kind || conn != *c || size != *count {
+            return false;
+        }
+    }
+    true
+}
+
+#[test]
+fn a_connection_is_held_back(rt: HostRuntime) -> Result<(), Fail> {
     let calls = [(0, 0, 2, 2), (1, 0, 2, 2)];
-    tells(rt, alloc, &last, &calls, &[(END, TWO), (END, TWO)])?;
-    let tape = [
-        ('o', 0, 0),
-        ('o', 1, 0),
-        ('r', 0, 4),
-        ('r', 0, 30),
-        ('r', 1, 4),
-        ('w', 0, 27),
-        ('e', 0, 0),
-        ('c', 0, 0),
-        ('r', 1, 30),
-        ('w', 1, 27),
-        ('e', 1, 0),
-        ('c', 1, 0),
-    ];
-    assert_eq!(rt; last.loop_part.tape.len(), tape.len());
-    for (mark, expected) in last.loop_part.tape.iter().zip(&tape) {
-        assert_eq!(rt; short(mark), *expected);
+    let ends = [(END, TWO), (END, TWO)];
+    match after(rt.alloc(), 30, &HELD_BACK)? {
+        Some(cell) => {
+            assert!(rt; tells(rt.alloc(), &cell, &calls, &ends)?);
+            assert!(rt; has_marks(cell.loop_part.tape.as_slice(), &HELD_BACK_TAPE));
+        }
+        None => panic!(rt; "no run"),
     }
     Ok(())
 }
 
 /// A write takes three bytes of a reply, and the next one fails.
-fn write_fails<R: Abort>(rt: &R, alloc: Global) -> Result<(), Fail> {
-    let mut script = Script::new(alloc);
-    script.opens(1)?;
-    script.reads_size(0, 17)?;
-    script.reads(0, PING)?;
-    script.calls(0)?;
-    script.writes(0, 3)?;
-    script.event(PlainEvent::Happens(PlainConnEvent::FailsWrite(0)))?;
-    let last = after(alloc, 16_384_000, &script)?.expect(rt, "a run");
+const FAILED_WRITE: [Act; 10] = [
+    Act::Opens,
+    Act::Reads(0, b"\0\0\0\x11"),
+    Act::Reads(0, PING),
+    Act::Submits(0),
+    Act::Takes(0),
+    Act::Applies(0, ANSWERS),
+    Act::Puts(0),
+    Act::Collects,
+    Act::Writes(0, 3),
+    Act::FailsWrite(0),
+];
+
+#[test]
+fn a_write_fails(rt: HostRuntime) -> Result<(), Fail> {
     let ends = [(Some(EndCause::WriteFault), b"\0\0\0".as_slice())];
-    tells(rt, alloc, &last, &[(0, 0, 1, 0)], &ends)
+    assert!(rt; leaves(rt.alloc(), &FAILED_WRITE, &[(0, 0, 1, 0)], &ends)?);
+    Ok(())
 }
 
 /// Two workers take two jobs, and the second one's call takes effect first.
-fn two_workers<R: Abort>(rt: &R, alloc: Global) -> Result<(), Fail> {
-    let mut script = Script::new(alloc);
-    script.opens(2)?;
-    script.reads_size(0, 54)?;
-    script.reads(0, CALCULATE)?;
-    script.event(PlainEvent::Submits(0))?;
-    script.reads_size(1, 29)?;
-    script.reads(1, GET)?;
-    script.event(PlainEvent::Submits(1))?;
-    script.event(PlainEvent::Takes(0))?;
-    script.event(PlainEvent::Takes(1))?;
-    script.event(PlainEvent::Applies(1, PlainApplyResult::Answers))?;
-    script.event(PlainEvent::Applies(0, PlainApplyResult::Answers))?;
-    script.event(PlainEvent::Puts(0))?;
-    script.event(PlainEvent::Puts(1))?;
-    script.event(PlainEvent::Collects)?;
-    script.event(PlainEvent::Collects)?;
-    script.writes(0, 33)?;
-    script.ends(0)?;
-    script.writes(1, 26)?;
-    script.ends(1)?;
-    let last = after(alloc, 16_384_000, &script)?.expect(rt, "a run");
+const TWO_WORKERS: [Act; 20] = [
+    Act::Opens,
+    Act::Opens,
+    Act::Reads(0, b"\0\0\0\x36"),
+    Act::Reads(0, CALCULATE),
+    Act::Submits(0),
+    Act::Reads(1, b"\0\0\0\x1d"),
+    Act::Reads(1, GET),
+    Act::Submits(1),
+    Act::Takes(0),
+    Act::Takes(1),
+    Act::Applies(1, ANSWERS),
+    Act::Applies(0, ANSWERS),
+    Act::Puts(0),
+    Act::Puts(1),
+    Act::Collects,
+    Act::Collects,
+    Act::Writes(0, 33),
+    Act::Ends(0),
+    Act::Writes(1, 26),
+    Act::Ends(1),
+];
+
+#[test]
+fn the_second_worker_is_first(rt: HostRuntime) -> Result<(), Fail> {
     let calls = [(1, 0, 4, 0), (0, 0, 3, 42)];
-    tells(
-        rt,
-        alloc,
-        &last,
-        &calls,
-        &[(END, FORTY_TWO), (END, NOTHING)],
-    )
+    let ends = [(END, FORTY_TWO), (END, NOTHING)];
+    assert!(rt; leaves(rt.alloc(), &TWO_WORKERS, &calls, &ends)?);
+    Ok(())
 }
 
 /// Memory runs out for an answer, which stands in the journal; the journal fails behind the next call, and the calls end there.
-fn journal_fails<R: Abort>(rt: &R, alloc: Global) -> Result<(), Fail> {
-    let mut script = Script::new(alloc);
-    script.opens(2)?;
-    for c in 0..2 {
-        script.reads_size(c, 54)?;
-        script.reads(c, CALCULATE)?;
-        script.event(PlainEvent::Submits(c))?;
-        script.event(PlainEvent::Takes(c))?;
-    }
-    script.event(PlainEvent::Applies(0, PlainApplyResult::LacksForAnswer))?;
-    script.event(PlainEvent::PutsNone(0))?;
-    script.event(PlainEvent::Collects)?;
-    script.event(PlainEvent::Applies(1, PlainApplyResult::FailsJournal))?;
-    script.event(PlainEvent::Closes)?;
-    let stopped = PlainConnEvent::GivesUp(1, EndCause::Stopped);
-    script.event(PlainEvent::Happens(stopped))?;
-    let last = after(alloc, 16_384_000, &script)?.expect(rt, "a run");
+const BROKEN: [Act; 16] = [
+    Act::Opens,
+    Act::Opens,
+    Act::Reads(0, b"\0\0\0\x36"),
+    Act::Reads(0, CALCULATE),
+    Act::Submits(0),
+    Act::Takes(0),
+    Act::Reads(1, b"\0\0\0\x36"),
+    Act::Reads(1, CALCULATE),
+    Act::Submits(1),
+    Act::Takes(1),
+    Act::Applies(0, PlainApplyResult::LacksForAnswer),
+    Act::PutsNone(0),
+    Act::Collects,
+    Act::Applies(1, PlainApplyResult::FailsJournal),
+    Act::Closes,
+    Act::Stops(1),
+];
+
+#[test]
+fn the_journal_fails(rt: HostRuntime) -> Result<(), Fail> {
+    let none = b"".as_slice();
     let ends = [
-        (Some(EndCause::NoMemory), b"".as_slice()),
-        (Some(EndCause::Stopped), b""),
+        (Some(EndCause::NoMemory), none),
+        (Some(EndCause::Stopped), none),
     ];
-    assert_eq!(rt;
-        (last.hall.faults, last.hall.broken, last.hall.closed),
-        (1, true, true)
-    );
-    tells(rt, alloc, &last, &[(0, 0, 3, 42)], &ends)
+    match after(rt.alloc(), MOST, &BROKEN)? {
+        Some(cell) => {
+            assert!(rt; tells(rt.alloc(), &cell, &[(0, 0, 3, 42)], &ends)?);
+            assert!(rt; cell.hall.faults == 1 && cell.hall.broken && cell.hall.closed);
+        }
+        None => panic!(rt; "no run"),
+    }
+    Ok(())
 }
 
 /// Sizes that no frame has, and one that a frame has.
-fn bad_sizes<R: Abort>(rt: &R, alloc: Global) -> Result<(), Fail> {
-    let mut script = Script::new(alloc);
-    script.opens(4)?;
-    script.reads(0, &[0, 0, 0, 0])?;
-    script.reads(1, &[255, 255, 255, 255])?;
-    script.reads(2, &[0, 250, 0, 1])?;
-    script.reads(3, &[0, 250, 0, 0])?;
-    script.ends(3)?;
-    let last = after(alloc, 16_384_000, &script)?.expect(rt, "a run");
+const BAD_SIZES: [Act; 9] = [
+    Act::Opens,
+    Act::Opens,
+    Act::Opens,
+    Act::Opens,
+    Act::Reads(0, b"\0\0\0\0"),
+    Act::Reads(1, b"\xff\xff\xff\xff"),
+    Act::Reads(2, b"\0\xfa\0\x01"),
+    Act::Reads(3, b"\0\xfa\0\0"),
+    Act::Ends(3),
+];
+
+#[test]
+fn sizes_are_judged(rt: HostRuntime) -> Result<(), Fail> {
+    let none = b"".as_slice();
     let ends = [
-        (Some(EndCause::SizeFault(0)), b"".as_slice()),
-        (Some(EndCause::SizeFault(-1)), b""),
-        (Some(EndCause::SizeFault(16_384_001)), b""),
-        (Some(EndCause::Cut), b""),
+        (Some(EndCause::SizeFault(0)), none),
+        (Some(EndCause::SizeFault(-1)), none),
+        (Some(EndCause::SizeFault(16_384_001)), none),
+        (Some(EndCause::Cut), none),
     ];
-    tells(rt, alloc, &last, &[], &ends)
+    assert!(rt; leaves(rt.alloc(), &BAD_SIZES, &[], &ends)?);
+    Ok(())
 }
 
-/// Each of these can't be the next event of a run that has come so far.
-fn wrong_steps<R: Abort>(rt: &R, alloc: Global) -> Result<(), Fail> {
-    refuses(rt, alloc, 0, PlainEvent::Submits(0))?;
-    refuses(rt, alloc, 1, PlainEvent::Submits(0))?;
-    refuses(rt, alloc, 1, PlainEvent::Happens(PlainConnEvent::Ends(0)))?;
-    refuses(rt, alloc, 2, PlainEvent::Takes(0))?;
-    refuses(rt, alloc, 2, PlainEvent::Puts(0))?;
-    refuses(
-        rt,
-        alloc,
-        2,
-        PlainEvent::Applies(1, PlainApplyResult::Answers),
-    )?;
-    refuses(
-        rt,
-        alloc,
-        3,
-        PlainEvent::Applies(0, PlainApplyResult::Answers),
-    )?;
-    refuses(rt, alloc, 4, PlainEvent::Puts(0))?;
-    refuses(rt, alloc, 5, PlainEvent::Happens(PlainConnEvent::Ends(0)))?;
-    refuses(
-        rt,
-        alloc,
-        5,
-        PlainEvent::Happens(PlainConnEvent::Writes(0, 22)),
-    )?;
-    refuses(
-        rt,
-        alloc,
-        6,
-        PlainEvent::Happens(PlainConnEvent::Writes(0, 1)),
-    )?;
-    refuses(
-        rt,
-        alloc,
-        6,
-        PlainEvent::Happens(PlainConnEvent::FailsWrite(0)),
-    )
+/// A connection's run to the last byte of its reply.
+const ONE_CALL: [Act; 9] = [
+    Act::Opens,
+    Act::Reads(0, b"\0\0\0\x11"),
+    Act::Reads(0, PING),
+    Act::Submits(0),
+    Act::Takes(0),
+    Act::Applies(0, ANSWERS),
+    Act::Puts(0),
+    Act::Collects,
+    Act::Writes(0, 21),
+];
+
+/// How many of these acts a run has had, and an act that can't be the next one.
+const WRONG: [(usize, Act); 12] = [
+    (2, Act::Submits(0)),
+    (4, Act::Submits(0)),
+    (4, Act::Ends(0)),
+    (5, Act::Takes(0)),
+    (5, Act::Puts(0)),
+    (5, Act::Applies(1, ANSWERS)),
+    (6, Act::Applies(0, ANSWERS)),
+    (7, Act::Puts(0)),
+    (8, Act::Ends(0)),
+    (8, Act::Writes(0, 22)),
+    (9, Act::Writes(0, 1)),
+    (9, Act::FailsWrite(0)),
+];
+
+/// Whether a run of these acts can be, and none that has this one behind them.
+fn can_be_all(alloc: Global, acts: &[Act], next: Act) -> Result<bool, AllocError> {
+    let mut events = events_of(alloc, acts)?;
+    let can_be = after_events(alloc, MOST, events.as_slice())?.is_some();
+    events.push(event_of(alloc, next)?)?;
+    let goes_on = after_events(alloc, MOST, events.as_slice())?.is_some();
+    Ok(can_be && !goes_on)
 }
 
-/// After so many events of a connection's run behind its first payload, this one can't be.
-fn refuses<R: Abort>(rt: &R, alloc: Global, count: usize, event: PlainEvent) -> Result<(), Fail> {
-    let mut script = Script::new(alloc);
-    script.opens(1)?;
-    script.reads_size(0, 17)?;
-    if 0 < count {
-        script.reads(0, PING)?;
-        script.event(PlainEvent::Submits(0))?;
+#[test]
+fn other_acts_cannot_be_next(rt: HostRuntime) -> Result<(), Fail> {
+    for (count, next) in &WRONG {
+        let acts = ONE_CALL.split_at((*count).min(ONE_CALL.len())).0;
+        assert!(rt; can_be_all(rt.alloc(), acts, *next)?);
     }
-    if 1 < count {
-        script.event(PlainEvent::Takes(0))?;
-    }
-    if 2 < count {
-        script.event(PlainEvent::Applies(0, PlainApplyResult::Answers))?;
-    }
-    if 3 < count {
-        script.event(PlainEvent::Puts(0))?;
-    }
-    if 4 < count {
-        script.event(PlainEvent::Collects)?;
-    }
-    if 5 < count {
-        script.writes(0, 21)?;
-    }
-    assert!(rt; after(alloc, 16_384_000, &script)?.is_some());
-    script.event(event)?;
-    assert!(rt; after(alloc, 16_384_000, &script)?.is_none());
     Ok(())
 }

@@ -24,48 +24,42 @@ fn sized(bytes: &[u8; 4]) -> Conn {
 #[test]
 fn a_frame_goes_in_by_pieces_and_its_reply_goes_out_by_pieces(rt: HostRuntime) -> Result<(), Fail> {
     let mut conn = Conn::new();
-    assert_eq!(rt; conn.want(), 4);
+    assert!(rt; conn.want() == 4);
     conn.took(b"\0\0\0", MOST);
-    assert_eq!(rt; conn.want(), 1);
+    assert!(rt; conn.want() == 1);
     conn.took(b"\x03", MOST);
-    assert_eq!(rt; conn.want(), 0);
-    assert_eq!(rt; conn.asks(), Some(3));
+    assert!(rt; conn.want() == 0);
+    assert!(rt; conn.asks() == Some(3));
     conn.admit(rt.alloc())?;
-    assert_eq!(rt; conn.asks(), None);
-    assert_eq!(rt; conn.want(), 3);
+    assert!(rt; conn.asks() == None);
+    assert!(rt; conn.want() == 3);
     conn.took(b"ab", MOST);
-    assert_eq!(rt; conn.want(), 1);
-    assert_eq!(rt; conn.frames(), 0);
+    assert!(rt; conn.want() == 1);
+    assert!(rt; conn.frames() == 0);
     conn.took(b"c", MOST);
-    assert_eq!(rt; conn.frames(), 1);
+    assert!(rt; conn.frames() == 1);
     let (number, payload) = conn.give();
-    assert_eq!(rt; number, 0);
-    assert_eq!(rt; payload.as_slice(), b"abc".as_slice());
+    assert!(rt; number == 0);
+    assert!(rt; payload.as_slice() == b"abc".as_slice());
     conn.answered(Settled::Reply(Bytes::new(b"\0\0\0\x01x".to_vec(rt.alloc())?)));
-    assert_eq!(rt; conn.pending(), b"\0\0\0\x01x".as_slice());
+    assert!(rt; conn.pending() == b"\0\0\0\x01x".as_slice());
     conn.wrote(4);
-    assert_eq!(rt; conn.pending(), b"x".as_slice());
+    assert!(rt; conn.pending() == b"x".as_slice());
     conn.wrote(1);
-    assert_eq!(rt; conn.pending().len(), 0);
-    assert_eq!(rt; conn.want(), 4);
+    assert!(rt; conn.pending().len() == 0);
+    assert!(rt; conn.want() == 4);
     conn.end_of_input();
-    assert_eq!(rt; conn.cause(), Some(EndCause::End));
+    assert!(rt; conn.cause() == Some(EndCause::End));
     Ok(())
 }
 
 #[test]
 fn a_size_that_no_frame_has_ends_the_connection(rt: HostRuntime) {
-    assert_eq!(rt; sized(b"\0\0\0\0").cause(), Some(EndCause::SizeFault(0)));
-    assert_eq!(rt;
-        sized(b"\xff\xff\xff\xff").cause(),
-        Some(EndCause::SizeFault(-1))
-    );
-    assert_eq!(rt;
-        sized(b"\x00\xfa\x00\x01").cause(),
-        Some(EndCause::SizeFault(16_384_001))
-    );
-    assert_eq!(rt; sized(b"\x00\xfa\x00\x00").asks(), Some(16_384_000));
-    assert_eq!(rt; sized(b"\0\0\0\x01").asks(), Some(1));
+    assert!(rt; sized(b"\0\0\0\0").cause() == Some(EndCause::SizeFault(0)));
+    assert!(rt; sized(b"\xff\xff\xff\xff").cause() == Some(EndCause::SizeFault(-1)));
+    assert!(rt; sized(b"\x00\xfa\x00\x01").cause() == Some(EndCause::SizeFault(16_384_001)));
+    assert!(rt; sized(b"\x00\xfa\x00\x00").asks() == Some(16_384_000));
+    assert!(rt; sized(b"\0\0\0\x01").asks() == Some(1));
 }
 
 #[test]
@@ -73,15 +67,15 @@ fn an_input_that_ends_inside_a_size_is_cut(rt: HostRuntime) {
     let mut conn = Conn::new();
     conn.took(b"\0", MOST);
     conn.end_of_input();
-    assert_eq!(rt; conn.cause(), Some(EndCause::Cut));
+    assert!(rt; conn.cause() == Some(EndCause::Cut));
 }
 
 #[test]
 fn a_connection_is_ended_from_outside(rt: HostRuntime) {
     let mut conn = Conn::new();
-    assert_eq!(rt; conn.cause(), None);
+    assert!(rt; conn.cause() == None);
     conn.end(EndCause::Stopped);
-    assert_eq!(rt; conn.cause(), Some(EndCause::Stopped));
+    assert!(rt; conn.cause() == Some(EndCause::Stopped));
 }
 
 /// A connection whose first frame is handed out.
@@ -100,16 +94,13 @@ fn handed_out(alloc: Global) -> Result<Conn, AllocError>
 fn an_outcome_may_end_the_connection_or_have_no_reply(rt: HostRuntime) -> Result<(), Fail> {
     let mut refused = handed_out(rt.alloc())?;
     refused.answered(Settled::Close(EnvelopeFault::Short));
-    assert_eq!(rt;
-        refused.cause(),
-        Some(EndCause::Envelope(EnvelopeFault::Short))
-    );
+    assert!(rt; refused.cause() == Some(EndCause::Envelope(EnvelopeFault::Short)));
     let mut unsettled = handed_out(rt.alloc())?;
     unsettled.answered(Settled::NoMemory);
-    assert_eq!(rt; unsettled.cause(), Some(EndCause::NoMemory));
+    assert!(rt; unsettled.cause() == Some(EndCause::NoMemory));
     let mut silent = handed_out(rt.alloc())?;
     silent.answered(Settled::Nothing);
-    assert_eq!(rt; silent.want(), 4);
+    assert!(rt; silent.want() == 4);
     Ok(())
 }
 
@@ -174,10 +165,10 @@ fn splits_as_plain<R: Abort>(
     let (payloads, _) = split(alloc, SMALL, stream)?;
     for cut in [1, 2, 3, 64] {
         let (found, ended) = payloads_of(alloc, stream, cut)?;
-        assert_eq!(rt; ended, cause);
-        assert_eq!(rt; found.len(), payloads.len());
+        assert!(rt; ended == cause);
+        assert!(rt; found.len() == payloads.len());
         for (one, other) in found.iter().zip(payloads.iter()) {
-            assert_eq!(rt; one.as_slice(), other.as_slice());
+            assert!(rt; one.as_slice() == other.as_slice());
         }
     }
     Ok(())

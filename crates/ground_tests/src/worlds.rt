@@ -82,9 +82,9 @@ fn a_table_of_small_examples(rt: HostRuntime) -> Result<(), Fail> {
             (3, b"c", b"yx"),
             (0, b"", b""),
         ][c as usize];
-        assert_eq!(rt; own.len(), count);
-        assert_eq!(rt; input(alloc, own.as_slice())?.as_slice(), read);
-        assert_eq!(rt; output(alloc, own.as_slice())?.as_slice(), written);
+        assert!(rt; own.len() == count);
+        assert!(rt; input(alloc, own.as_slice())?.as_slice() == read);
+        assert!(rt; output(alloc, own.as_slice())?.as_slice() == written);
     }
     Ok(())
 }
@@ -113,10 +113,10 @@ fn splits<R: Abort>(
     at: usize,
 ) -> Result<(), Fail> {
     let (found, rest) = split(alloc, 2, bytes)?;
-    assert_eq!(rt; rest, at);
-    assert_eq!(rt; found.len(), payloads.len());
+    assert!(rt; rest == at);
+    assert!(rt; found.len() == payloads.len());
     for (payload, expected) in found.iter().zip(payloads) {
-        assert_eq!(rt; payload.as_slice(), *expected);
+        assert!(rt; payload.as_slice() == *expected);
     }
     Ok(())
 }
@@ -125,17 +125,17 @@ fn calls_and_replies<R: Abort>(rt: &R, alloc: Global) -> Result<(), Fail> {
     let bytes = b"\0\0\0\x01\x01\0\0\0\x01\x02\0\0\0\x01\x03\0\0\0\x01\x05\0\0\0\x01\x01";
     let payloads = split(alloc, 2, bytes)?.0;
     let calls = called(alloc, &Tiny, payloads.as_slice())?;
-    assert_eq!(rt; calls.as_slice(), [(0, 10), (3, 11), (4, 10)].as_slice());
+    assert!(rt; calls.as_slice() == [(0, 10), (3, 11), (4, 10)].as_slice());
     let entries = [entry(0, 10, 5), entry(3, 11, 6), entry(4, 10, 7)];
-    assert_eq!(rt; entries_of(alloc, 0, &entries)?.len(), 3);
-    assert_eq!(rt; entries_of(alloc, 1, &entries)?.len(), 0);
-    assert_eq!(rt;
-        sent(alloc, &Tiny, &entries[..2], payloads.as_slice())?.as_slice(),
-        [5, 5, 20, 21].as_slice()
+    assert!(rt; entries_of(alloc, 0, &entries)?.len() == 3);
+    assert!(rt; entries_of(alloc, 1, &entries)?.len() == 0);
+    assert!(rt;
+        sent(alloc, &Tiny, &entries[..2], payloads.as_slice())?.as_slice()
+            == [5, 5, 20, 21].as_slice()
     );
-    assert_eq!(rt;
-        sent(alloc, &Tiny, &entries, payloads.as_slice())?.as_slice(),
-        [5, 5, 20, 21, 7, 7].as_slice()
+    assert!(rt;
+        sent(alloc, &Tiny, &entries, payloads.as_slice())?.as_slice()
+            == [5, 5, 20, 21, 7, 7].as_slice()
     );
     Ok(())
 }
@@ -182,9 +182,9 @@ fn leaves<R: Abort>(
     memories: &[u8],
 ) -> Result<(), Fail> {
     let mut now = [5, 255];
-    assert_eq!(rt; is_legal(alloc, &Counting, &now, journal)?, legal);
+    assert!(rt; is_legal(alloc, &Counting, &now, journal)? == legal);
     after(&Counting, &mut now, journal);
-    assert_eq!(rt; now.as_slice(), memories);
+    assert!(rt; now.as_slice() == memories);
     Ok(())
 }
 
