@@ -21,6 +21,18 @@ pub(crate) struct Ended {
     pub(crate) errors: Vec<u8>,
 }
 
+impl Ended {
+    /// Whether it ended with this status and this line of errors, and wrote nothing else.
+    pub(crate) fn is_refused(&self, status: Status, line: &[u8]) -> bool {
+        self.status == status && self.errors.as_slice() == line && self.output.is_empty()
+    }
+
+    /// Whether it was done, and what it wrote ends so.
+    pub(crate) fn is_done_with(&self, end: &[u8]) -> bool {
+        self.status == Status::Done && self.output.as_slice().ends_with(end)
+    }
+}
+
 /// The files and streams that a command is given.
 #[derive(Drop)]
 pub(crate) struct Given {
@@ -43,10 +55,11 @@ impl Given {
 
     /// Runs the command of these words.
     pub(crate) fn run<R>(self, rt: &R, alloc: Global, words: &[&str]) -> Result<Ended, AllocError> {
-        let mut all = Vec::new(alloc);
-        for word in words {
-            all.push(String::from_str(alloc, word)?)?;
-        }
+        let words = owned(alloc, words)?;
+        Ok(self.run_owned(rt, alloc, words.as_slice()))
+    }
+
+    fn run_owned<R>(self, rt: &R, alloc: Global, words: &[String]) -> Ended {
         let Given {
             mut files,
             mut input,
@@ -56,18 +69,38 @@ impl Given {
         let status = host(
             rt,
             alloc,
-            &all,
+            words,
             &mut files,
             &mut input,
             &mut output,
             &mut errors,
         );
-        Ok(Ended {
+        Ended {
             status,
             output: output.into_bytes(),
             errors: errors.into_bytes(),
-        })
+        }
     }
+}
+
+fn owned(alloc: Global, words: &[&str]) -> Result<Vec<String>, AllocError> {
+    let mut all = Vec::new(alloc);
+    for word in words {
+        all.push(String::from_str(alloc, word)?)?;
+    }
+    Ok(all)
+}
+
+/// Files of which one has this name and holds this text; the calls with these numbers fail.
+pub(crate) fn one_file(
+    alloc: Global,
+    name: &str,
+    text: Vec<u8>,
+    fails: &[u64],
+) -> Result<MemFiles, AllocError> {
+    let file = (String::from_str(alloc, name)?, text);
+    let files = vec![in alloc; file]?;
+    Ok(MemFiles::new(files, fails.to_vec(alloc)?))
 }
 
 /// Runs the command on a script, over streams that never fail.
@@ -79,9 +112,8 @@ pub(crate) fn run_script<R>(rt: &R, alloc: Global, script: Vec<u8>) -> Result<En
 
 /// Checks `a.thrift`, which holds this text.
 pub(crate) fn check_text<R>(rt: &R, alloc: Global, text: Vec<u8>) -> Result<Ended, AllocError> {
-    let mut files = Vec::new(alloc);
-    files.push((String::from_str(alloc, "a.thrift")?, text))?;
+    let files = one_file(alloc, "a.thrift", text, &[])?;
     let mut given = Given::empty(alloc);
-    given.files = MemFiles::new(files, Vec::new(alloc));
+    given.files = files;
     given.run(rt, alloc, &["check", "a.thrift"])
 }

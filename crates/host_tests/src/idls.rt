@@ -1,7 +1,6 @@
 //! IDLs through the top call: what is accepted, and what is refused where.
 
-use crate::given::{Ended, Given, check_text};
-use outside::MemFiles;
+use crate::given::{Ended, Given, check_text, one_file};
 use std::alloc::{AllocError, Global};
 use std::process::Abort;
 use std::test::Fail;
@@ -67,25 +66,23 @@ const TEXTS: [(&[u8], Status, &[u8]); 12] = [
 fn texts_are_judged(rt: HostRuntime) -> Result<(), Fail> {
     let alloc = rt.alloc();
     for (text, status, line) in &TEXTS {
-        let ended = check_text(&rt, alloc, text.to_vec(alloc)?)?;
-        assert_eq!(rt; ended.status, *status);
-        assert_eq!(rt; ended.errors.as_slice(), *line);
-        assert!(rt; ended.output.is_empty());
+        assert!(rt; check_text(&rt, alloc, text.to_vec(alloc)?)?.is_refused(*status, line));
     }
     Ok(())
 }
 
+/// What a text of so many blanks comes to.
+fn check_blanks<R>(rt: &R, alloc: Global, count: usize) -> Result<Ended, AllocError> {
+    check_text(rt, alloc, vec![in alloc; b' '; count]?)
+}
+
 #[test]
 fn texts_have_a_longest(rt: HostRuntime) -> Result<(), Fail> {
-    let alloc = rt.alloc();
-    let longest = check_text(&rt, alloc, vec![in alloc; b' '; 4_194_304]?)?;
-    assert_eq!(rt; longest.status, Status::Done);
-    let longer = check_text(&rt, alloc, vec![in alloc; b' '; 4_194_305]?)?;
-    assert_eq!(rt; longer.status, Status::IdlRefused);
-    assert_eq!(rt;
-        longer.errors.as_slice(),
-        b"thriftd: idl a.thrift 0:0 TooLong\n".as_slice()
-    );
+    let longest = check_blanks(&rt, rt.alloc(), 4_194_304)?;
+    assert!(rt; longest.status == Status::Done);
+    let longer = check_blanks(&rt, rt.alloc(), 4_194_305)?;
+    let line = b"thriftd: idl a.thrift 0:0 TooLong\n";
+    assert!(rt; longer.is_refused(Status::IdlRefused, line));
     Ok(())
 }
 
@@ -96,51 +93,55 @@ fn run_beside_a_file<R>(
     words: &[&str],
     fails: &[u64],
 ) -> Result<Ended, AllocError> {
-    let mut files = Vec::new(alloc);
-    files.push((String::from_str(alloc, "held.thrift")?, Vec::new(alloc)))?;
+    let files = one_file(alloc, "held.thrift", Vec::new(alloc), fails)?;
     let mut given = Given::empty(alloc);
-    given.files = MemFiles::new(files, fails.to_vec(alloc)?);
+    given.files = files;
     given.run(rt, alloc, words)
 }
 
-/// The second part of a row has the numbers of the reads that fail. An absent file is absent also where its read is to fail.
+const ABSENT: &[u8] = b"thriftd: idl b.thrift 0:0 Absent\n";
+
+/// Files, the numbers of the reads that fail, and the refusals. An absent file is absent also where its read is to fail.
+const FILES: [(&str, &[u64], Status, &[u8]); 4] = [
+    ("b.thrift", &[], Status::IdlRefused, ABSENT),
+    ("b.thrift", &[0], Status::IdlRefused, ABSENT),
+    (
+        "held.thrift",
+        &[0],
+        Status::FileFault,
+        b"thriftd: file fault\n",
+    ),
+    (
+        "@tutorial",
+        &[0],
+        Status::Unbuilt,
+        b"thriftd: unbuilt include\n",
+    ),
+];
+
 #[test]
 fn files_are_named_by_the_words(rt: HostRuntime) -> Result<(), Fail> {
-    let alloc = rt.alloc();
-    let absent = b"thriftd: idl b.thrift 0:0 Absent\n".as_slice();
-    let fault = b"thriftd: file fault\n".as_slice();
-    let unbuilt = b"thriftd: unbuilt include\n".as_slice();
-    let rows: [(&str, &[u64], Status, &[u8]); 4] = [
-        ("b.thrift", &[], Status::IdlRefused, absent),
-        ("b.thrift", &[0], Status::IdlRefused, absent),
-        ("held.thrift", &[0], Status::FileFault, fault),
-        ("@tutorial", &[0], Status::Unbuilt, unbuilt),
-    ];
-    for (file, fails, status, line) in &rows {
-        let ended = run_beside_a_file(&rt, alloc, &["check", file], fails)?;
-        assert_eq!(rt; ended.status, *status);
-        assert_eq!(rt; ended.errors.as_slice(), *line);
-        assert!(rt; ended.output.is_empty());
+    for (file, fails, status, line) in &FILES {
+        let ended = run_beside_a_file(&rt, rt.alloc(), &["check", file], fails)?;
+        assert!(rt; ended.is_refused(*status, line));
     }
     Ok(())
 }
 
 /// Words that are no command.
+const WORDS: [&[&str]; 5] = [
+    &["check"],
+    &["check", ""],
+    &["check", "-x"],
+    &["check", "b.thrift", "c.thrift"],
+    &[],
+];
+
 #[test]
 fn other_words_are_refused(rt: HostRuntime) -> Result<(), Fail> {
-    let alloc = rt.alloc();
-    let rows: [&[&str]; 5] = [
-        &["check"],
-        &["check", ""],
-        &["check", "-x"],
-        &["check", "b.thrift", "c.thrift"],
-        &[],
-    ];
-    for words in &rows {
-        let ended = run_beside_a_file(&rt, alloc, words, &[])?;
-        assert_eq!(rt; ended.status, Status::Usage);
-        assert_eq!(rt; ended.errors.as_slice(), b"thriftd: usage\n".as_slice());
-        assert!(rt; ended.output.is_empty());
+    for words in &WORDS {
+        let ended = run_beside_a_file(&rt, rt.alloc(), words, &[])?;
+        assert!(rt; ended.is_refused(Status::Usage, b"thriftd: usage\n"));
     }
     Ok(())
 }

@@ -11,16 +11,16 @@ use thrift_host::Status;
 const LONGEST_SCRIPT: usize = 67_108_864;
 
 /// Runs the command on `PING`, given and taken a byte at a time, with these numbers of the reads and writes that fail.
-fn run_ping<R>(
-    rt: &R,
-    alloc: Global,
-    reads: Vec<u64>,
-    writes: Vec<u64>,
-) -> Result<Ended, AllocError> {
+fn run_ping<R>(rt: &R, alloc: Global, reads: &[u64], writes: &[u64]) -> Result<Ended, AllocError> {
     let mut given = Given::empty(alloc);
-    given.input = MemSource::in_pieces(PING.to_vec(alloc)?, reads, 1);
-    given.output = MemSink::in_pieces(alloc, writes, 1);
+    given.input = ping_in_bytes(alloc, reads)?;
+    given.output = MemSink::in_pieces(alloc, writes.to_vec(alloc)?, 1);
     given.run(rt, alloc, &REHEARSE)
+}
+
+fn ping_in_bytes(alloc: Global, reads: &[u64]) -> Result<MemSource, AllocError> {
+    let script = PING.to_vec(alloc)?;
+    Ok(MemSource::in_pieces(script, reads.to_vec(alloc)?, 1))
 }
 
 const PING: &[u8] = b"open\ndata 0 00000011800100010000000470696e670000000000\nend 0\n";
@@ -68,137 +68,139 @@ const REPORTS: [(&[u8], &[u8]); 9] = [
 #[test]
 fn ping_is_reported_whole(rt: HostRuntime) -> Result<(), Fail> {
     let ended = run_script(&rt, rt.alloc(), PING.to_vec(rt.alloc())?)?;
-    assert_eq!(rt; ended.status, Status::Done);
-    assert_eq!(rt; ended.output.as_slice(), PING_REPORT);
-    assert_eq!(rt; ended.errors.as_slice(), b"".as_slice());
+    assert!(rt; ended.status == Status::Done && ended.errors.is_empty());
+    assert!(rt; ended.output.as_slice() == PING_REPORT);
     Ok(())
 }
 
 #[test]
 fn connections_end_as_recorded(rt: HostRuntime) -> Result<(), Fail> {
     for (script, end) in &REPORTS {
-        let ended = run_script(&rt, rt.alloc(), script.to_vec(rt.alloc())?)?;
-        assert_eq!(rt; ended.status, Status::Done);
-        assert!(rt; ended.output.as_slice().ends_with(end));
+        assert!(rt; run_script(&rt, rt.alloc(), script.to_vec(rt.alloc())?)?.is_done_with(end));
     }
     Ok(())
+}
+
+/// The hexadecimal of a call of `add`.
+const ADD: &[u8] = b"0000001e800100010000000361646400000001080001000000010800020000000100";
+
+/// The script in which that comes byte by byte.
+fn byte_by_byte(alloc: Global) -> Result<Vec<u8>, AllocError> {
+    let mut script = b"open\n".to_vec(alloc)?;
+    for pair in ADD.chunks(2) {
+        script.extend_from_slice(b"data 0 ")?;
+        script.extend_from_slice(pair)?;
+        script.extend_from_slice(b"\n")?;
+    }
+    script.extend_from_slice(b"end 0\n")?;
+    Ok(script)
+}
+
+/// The report of that.
+fn report_byte_by_byte(alloc: Global) -> Result<Vec<u8>, AllocError> {
+    let mut report = b"tape open 0\n".to_vec(alloc)?;
+    for _pair in ADD.chunks(2) {
+        report.extend_from_slice(b"tape read 0 1\n")?;
+    }
+    report.extend_from_slice(
+        b"tape wrote 0 27\ntape end 0\ntape close 0\ncall 0 0 0 add {1=1i,2=1i} ok 2i\n\
+conn 0 End 000000178001000200000003616464000000010800000000000200\ncalls 1\n",
+    )?;
+    Ok(report)
 }
 
 #[test]
 fn bytes_may_come_one_by_one(rt: HostRuntime) -> Result<(), Fail> {
-    let alloc = rt.alloc();
-    let mut script = b"open\n".to_vec(alloc)?;
-    let mut report = b"tape open 0\n".to_vec(alloc)?;
-    for pair in b"0000001e800100010000000361646400000001080001000000010800020000000100".chunks(2) {
-        script.extend_from_slice(b"data 0 ")?;
-        script.extend_from_slice(pair)?;
-        script.push(b'\n')?;
-        report.extend_from_slice(b"tape read 0 1\n")?;
-    }
-    script.extend_from_slice(b"end 0\n")?;
-    report.extend_from_slice(
-        b"tape wrote 0 27\ntape end 0\ntape close 0\ncall 0 0 0 add {1=1i,2=1i} ok 2i\n",
-    )?;
-    report.extend_from_slice(
-        b"conn 0 End 000000178001000200000003616464000000010800000000000200\ncalls 1\n",
-    )?;
-    let ended = run_script(&rt, alloc, script)?;
-    assert_eq!(rt; ended.status, Status::Done);
-    assert_eq!(rt; ended.output.as_slice(), report.as_slice());
+    let report = report_byte_by_byte(rt.alloc())?;
+    let ended = run_script(&rt, rt.alloc(), byte_by_byte(rt.alloc())?)?;
+    assert!(rt; ended.status == Status::Done);
+    assert!(rt; ended.output.as_slice() == report.as_slice());
     Ok(())
 }
 
+/// Scripts that are refused, with their statuses and lines.
+const REFUSED: [(&[u8], Status, &[u8]); 4] = [
+    (b"open\n", Status::ScriptRefused, b"thriftd: script\n"),
+    (
+        b"open\ndata 0 0\nend 0\n",
+        Status::ScriptRefused,
+        b"thriftd: script\n",
+    ),
+    (
+        b"data 0 00\nend 0\n",
+        Status::ScriptRefused,
+        b"thriftd: script\n",
+    ),
+    (
+        b"open\ndata 0 00000011800100010000000470696e6700000000000000000100\nend 0\n",
+        Status::Unbuilt,
+        b"thriftd: unbuilt frame 1\n",
+    ),
+];
+
 #[test]
 fn refusals_are_named(rt: HostRuntime) -> Result<(), Fail> {
-    let alloc = rt.alloc();
-    for script in [
-        b"open\n".as_slice(),
-        b"open\ndata 0 0\nend 0\n",
-        b"data 0 00\nend 0\n",
-    ] {
-        let ended = run_script(&rt, alloc, script.to_vec(alloc)?)?;
-        assert_eq!(rt; ended.status, Status::ScriptRefused);
-        assert_eq!(rt; ended.errors.as_slice(), b"thriftd: script\n".as_slice());
-        assert_eq!(rt; ended.output.as_slice(), b"".as_slice());
+    for (script, status, line) in &REFUSED {
+        let ended = run_script(&rt, rt.alloc(), script.to_vec(rt.alloc())?)?;
+        assert!(rt; ended.is_refused(*status, line));
     }
-    let ended = run_script(
-        &rt,
-        alloc,
-        b"open\ndata 0 00000011800100010000000470696e6700000000000000000100\nend 0\n".to_vec(
-            alloc,
-        )?,
-    )?;
-    assert_eq!(rt; ended.status, Status::Unbuilt);
-    assert_eq!(rt;
-        ended.errors.as_slice(),
-        b"thriftd: unbuilt frame 1\n".as_slice()
-    );
-    assert_eq!(rt; ended.output.as_slice(), b"".as_slice());
     Ok(())
 }
 
 #[test]
 fn each_read_may_fail(rt: HostRuntime) -> Result<(), Fail> {
-    let alloc = rt.alloc();
     // One read a byte, and one that finds the end.
     let reads = PING.len() as u64 + 1;
     for call in 0..reads {
-        let ended = run_ping(&rt, alloc, vec![in alloc; call]?, Vec::new(alloc))?;
-        assert_eq!(rt; ended.status, Status::ReadFault);
-        assert!(rt; ended.output.is_empty());
-        assert_eq!(rt;
-            ended.errors.as_slice(),
-            b"thriftd: read fault\n".as_slice()
-        );
+        let ended = run_ping(&rt, rt.alloc(), &[call], &[])?;
+        assert!(rt; ended.is_refused(Status::ReadFault, b"thriftd: read fault\n"));
     }
-    let ended = run_ping(&rt, alloc, vec![in alloc; reads]?, Vec::new(alloc))?;
-    assert_eq!(rt; ended.status, Status::Done);
+    let ended = run_ping(&rt, rt.alloc(), &[reads], &[])?;
+    assert!(rt; ended.status == Status::Done);
     Ok(())
+}
+
+/// Whether a run ended at a write that failed, when so many bytes of the report were written.
+fn ended_at_a_write(ended: &Ended, written: u64) -> bool {
+    let is_cut = ended.output.len() as u64 == written && PING_REPORT.starts_with(&ended.output);
+    let is_told = ended.errors.as_slice() == b"thriftd: write fault\n".as_slice();
+    ended.status == Status::WriteFault && is_cut && is_told
 }
 
 #[test]
 fn each_write_may_fail(rt: HostRuntime) -> Result<(), Fail> {
-    let alloc = rt.alloc();
     let writes = PING_REPORT.len() as u64;
     for call in 0..writes {
-        let ended = run_ping(&rt, alloc, Vec::new(alloc), vec![in alloc; call]?)?;
-        assert_eq!(rt; ended.status, Status::WriteFault);
-        assert_eq!(rt; ended.output.len() as u64, call);
-        assert!(rt; PING_REPORT.starts_with(ended.output.as_slice()));
-        assert_eq!(rt;
-            ended.errors.as_slice(),
-            b"thriftd: write fault\n".as_slice()
-        );
+        assert!(rt; ended_at_a_write(&run_ping(&rt, rt.alloc(), &[], &[call])?, call));
     }
-    let ended = run_ping(&rt, alloc, Vec::new(alloc), vec![in alloc; writes]?)?;
-    assert_eq!(rt; ended.status, Status::Done);
-    assert_eq!(rt; ended.output.as_slice(), PING_REPORT);
+    let ended = run_ping(&rt, rt.alloc(), &[], &[writes])?;
+    assert!(rt; ended.status == Status::Done);
+    assert!(rt; ended.output.as_slice() == PING_REPORT);
     Ok(())
 }
 
 #[test]
 fn a_line_that_is_not_written_changes_no_status(rt: HostRuntime) -> Result<(), Fail> {
-    let alloc = rt.alloc();
-    let mut given = Given::empty(alloc);
-    given.errors = MemSink::new(alloc, vec![in alloc; 0]?);
-    let ended = given.run(&rt, alloc, &REHEARSE)?;
-    assert_eq!(rt; ended.status, Status::ScriptRefused);
-    assert!(rt; ended.errors.is_empty());
+    let errors = MemSink::new(rt.alloc(), vec![in rt.alloc(); 0]?);
+    let mut given = Given::empty(rt.alloc());
+    given.errors = errors;
+    let ended = given.run(&rt, rt.alloc(), &REHEARSE)?;
+    assert!(rt; ended.status == Status::ScriptRefused && ended.errors.is_empty());
     Ok(())
+}
+
+/// Runs the command on a comment of so many bytes, with a connection behind it that opens and ends.
+fn run_comment<R>(rt: &R, alloc: Global, count: usize) -> Result<Ended, AllocError> {
+    let mut script = vec![in alloc; b'#'; count]?;
+    script.extend_from_slice(b"\nopen\nend 0\n")?;
+    run_script(rt, alloc, script)
 }
 
 #[test]
 fn scripts_have_a_longest(rt: HostRuntime) -> Result<(), Fail> {
-    let alloc = rt.alloc();
-    let said = b"\nopen\nend 0\n";
-    let mut longest = vec![in alloc; b'#'; LONGEST_SCRIPT - 12]?;
-    longest.extend_from_slice(said)?;
-    let ended = run_script(&rt, alloc, longest)?;
-    assert_eq!(rt; ended.status, Status::Done);
-    let mut longer = vec![in alloc; b'#'; LONGEST_SCRIPT - 11]?;
-    longer.extend_from_slice(said)?;
-    let ended = run_script(&rt, alloc, longer)?;
-    assert_eq!(rt; ended.status, Status::ScriptRefused);
-    assert_eq!(rt; ended.errors.as_slice(), b"thriftd: script\n".as_slice());
+    let longest = run_comment(&rt, rt.alloc(), LONGEST_SCRIPT - 12)?;
+    assert!(rt; longest.status == Status::Done);
+    let longer = run_comment(&rt, rt.alloc(), LONGEST_SCRIPT - 11)?;
+    assert!(rt; longer.is_refused(Status::ScriptRefused, b"thriftd: script\n"));
     Ok(())
 }

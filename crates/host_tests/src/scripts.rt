@@ -53,37 +53,37 @@ const NO_SCRIPTS: [&[u8]; 24] = [
     b"Open\nend 0\n",
 ];
 
-/// Answers the recording that a text is; what is written goes to `output`.
-fn answer(
-    alloc: Global,
-    text: &[u8],
-    output: &mut MemSink,
-) -> Result<Result<(), RecordingFault>, AllocError> {
+/// What answering a recording came to, and what was written.
+type Answered = (Result<(), RecordingFault>, Vec<u8>);
+
+/// Answers the recording that a text is.
+fn answer(alloc: Global, text: &[u8]) -> Result<Answered, AllocError> {
     let mut input = MemSource::new(text.to_vec(alloc)?, Vec::new(alloc));
-    Ok(answer_recorded(alloc, &mut input, output))
+    let mut output = MemSink::new(alloc, Vec::new(alloc));
+    let answered = answer_recorded(alloc, &mut input, &mut output);
+    Ok((answered, output.into_bytes()))
 }
 
 #[test]
 fn scripts_are_read_in_pieces(rt: HostRuntime) -> Result<(), Fail> {
-    let alloc = rt.alloc();
     for (text, front) in &SCRIPTS {
-        let mut output = MemSink::new(alloc, Vec::new(alloc));
-        assert_eq!(rt; answer(alloc, text, &mut output)?, Ok(()));
-        assert!(rt; output.bytes().starts_with(front), "{text:?}");
+        let (answered, output) = answer(rt.alloc(), text)?;
+        assert!(rt;
+            answered == Ok(()) && output.as_slice().starts_with(front),
+            "{text:?}"
+        );
     }
     Ok(())
 }
 
 #[test]
 fn other_texts_are_refused(rt: HostRuntime) -> Result<(), Fail> {
-    let alloc = rt.alloc();
     for text in NO_SCRIPTS {
-        let mut output = MemSink::new(alloc, Vec::new(alloc));
-        assert_eq!(rt;
-            answer(alloc, text, &mut output)?,
-            Err(RecordingFault::NoScript)
+        let (answered, output) = answer(rt.alloc(), text)?;
+        assert!(rt;
+            answered == Err(RecordingFault::NoScript) && output.is_empty(),
+            "{text:?}"
         );
-        assert!(rt; output.bytes().is_empty(), "{text:?}");
     }
     Ok(())
 }

@@ -48,47 +48,63 @@ const PING: &[u8] = b"\0\0\0\x11\x80\x01\0\x01\0\0\0\x04ping\0\0\0\x07\0";
 const ADD: &[u8] =
     b"\0\0\0\x1e\x80\x01\0\x01\0\0\0\x03add\0\0\0\x09\x08\0\x01\xff\xff\xff\xfe\x08\0\x02\0\0\0\x05\0";
 
+/// Three texts, one behind the other.
+fn joined(alloc: Global, first: &[u8], second: &[u8], third: &[u8]) -> Result<Vec<u8>, AllocError> {
+    let mut bytes = first.to_vec(alloc)?;
+    bytes.extend_from_slice(second)?;
+    bytes.extend_from_slice(third)?;
+    Ok(bytes)
+}
+
+/// Whether the report of these bytes ends as the plain split says.
+fn ends_plainly<R>(rt: &R, alloc: Global, bytes: &[u8]) -> Result<bool, AllocError> {
+    let ended = run_script(rt, alloc, script_of(alloc, bytes)?)?;
+    let end = plain_end(alloc, bytes)?;
+    Ok(ended.is_done_with(end.as_slice()))
+}
+
 #[test]
 fn the_plain_split_agrees(rt: HostRuntime) -> Result<(), Fail> {
-    let alloc = rt.alloc();
-    for (first, second, rest) in [
+    for (first, second, third) in [
         (PING, ADD, b"".as_slice()),
         (ADD, ADD, b"\0\0".as_slice()),
         (ADD, PING, b"\0\0\0\x02a".as_slice()),
     ] {
-        let mut bytes = first.to_vec(alloc)?;
-        bytes.extend_from_slice(second)?;
-        bytes.extend_from_slice(rest)?;
-        let ended = run_script(&rt, alloc, script_of(alloc, bytes.as_slice())?)?;
-        let end = plain_end(alloc, bytes.as_slice())?;
-        assert_eq!(rt; ended.status, Status::Done);
-        assert!(rt; ended.output.as_slice().ends_with(end.as_slice()));
+        let bytes = joined(rt.alloc(), first, second, third)?;
+        assert!(rt; ends_plainly(&rt, rt.alloc(), bytes.as_slice())?);
     }
     Ok(())
 }
 
+/// So many times the middle part, between the others.
+fn repeated(
+    alloc: Global,
+    front: &[u8],
+    middle: &[u8],
+    count: u32,
+    end: &[u8],
+) -> Result<Vec<u8>, AllocError> {
+    let mut text = front.to_vec(alloc)?;
+    for _ in 0..count {
+        text.extend_from_slice(middle)?;
+    }
+    text.extend_from_slice(end)?;
+    Ok(text)
+}
+
+const DATA: &[u8] = b"data 0 00000011800100010000000470696e670000000000\n";
+
 #[test]
 fn a_script_of_many_frames_runs(rt: HostRuntime) -> Result<(), Fail> {
-    let alloc = rt.alloc();
-    let mut script = b"open\n".to_vec(alloc)?;
-    for _frame in 0..100_000 {
-        script.extend_from_slice(b"data 0 00000011800100010000000470696e670000000000\n")?;
-    }
-    script.extend_from_slice(b"end 0\n")?;
-    let ended = run_script(&rt, alloc, script)?;
-    assert_eq!(rt; ended.status, Status::Done);
-    assert!(rt; ended.output.as_slice().ends_with(b"\ncalls 100000\n"));
+    let script = repeated(rt.alloc(), b"open\n", DATA, 100_000, b"end 0\n")?;
+    assert!(rt; run_script(&rt, rt.alloc(), script)?.is_done_with(b"\ncalls 100000\n"));
     Ok(())
 }
 
 #[test]
 fn an_idl_of_many_tokens_is_checked(rt: HostRuntime) -> Result<(), Fail> {
-    let alloc = rt.alloc();
-    let mut text = Vec::new(alloc);
-    for _definition in 0..20_000 {
-        text.extend_from_slice(b"const i32 a = 1\n")?;
-    }
-    let ended = check_text(&rt, alloc, text)?;
-    assert_eq!(rt; ended.status, Status::Done);
+    let text = repeated(rt.alloc(), b"", b"const i32 a = 1\n", 20_000, b"")?;
+    let ended = check_text(&rt, rt.alloc(), text)?;
+    assert!(rt; ended.status == Status::Done);
     Ok(())
 }
