@@ -155,6 +155,31 @@ fn payloads_of(
     Ok((payloads, conn.cause()))
 }
 
+/// Whether two lists have the same payloads.
+fn are_same(found: &[Vec<u8>], payloads: &[Vec<u8>]) -> bool {
+    if found.len() != payloads.len() {
+        return false;
+    }
+    for (one, other) in found.iter().zip(payloads) {
+        if one.as_slice() != other.as_slice() {
+            return false;
+        }
+    }
+    true
+}
+
+/// Whether a stream that is cut so has these payloads and this end.
+fn is_split_so(
+    alloc: Global,
+    stream: &[u8],
+    cut: usize,
+    payloads: &[Vec<u8>],
+    cause: Option<EndCause>,
+) -> Result<bool, AllocError> {
+    let (found, ended) = payloads_of(alloc, stream, cut)?;
+    Ok(ended == cause && are_same(found.as_slice(), payloads))
+}
+
 /// However a stream is cut, the payloads are those of the plain split, and a size that no frame has ends the connection.
 fn splits_as_plain<R: Abort>(
     rt: &R,
@@ -164,12 +189,7 @@ fn splits_as_plain<R: Abort>(
 ) -> Result<(), Fail> {
     let (payloads, _) = split(alloc, SMALL, stream)?;
     for cut in [1, 2, 3, 64] {
-        let (found, ended) = payloads_of(alloc, stream, cut)?;
-        assert!(rt; ended == cause);
-        assert!(rt; found.len() == payloads.len());
-        for (one, other) in found.iter().zip(payloads.iter()) {
-            assert!(rt; one.as_slice() == other.as_slice());
-        }
+        assert!(rt; is_split_so(alloc, stream, cut, payloads.as_slice(), cause)?);
     }
     Ok(())
 }

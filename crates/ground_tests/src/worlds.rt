@@ -69,23 +69,31 @@ impl PlainServices for Counting {
     }
 }
 
+/// Whether a connection has so many marks, and read and wrote these bytes.
+fn has_done(
+    alloc: Global,
+    c: u32,
+    count: usize,
+    read: &[u8],
+    written: &[u8],
+) -> Result<bool, AllocError> {
+    let tape = tape(alloc)?;
+    let own = marks_of(alloc, c, tape.as_slice())?;
+    let is_counted = own.len() == count;
+    let is_read = input(alloc, own.as_slice())?.as_slice() == read;
+    let is_written = output(alloc, own.as_slice())?.as_slice() == written;
+    Ok(is_counted && is_read && is_written)
+}
+
 #[test]
 fn a_table_of_small_examples(rt: HostRuntime) -> Result<(), Fail> {
     let alloc = rt.alloc();
     frames_and_rests(&rt, alloc)?;
     calls_and_replies(&rt, alloc)?;
     histories(&rt, alloc)?;
-    for c in 0..3 {
-        let own = marks_of(alloc, c, tape(alloc)?.as_slice())?;
-        let (count, read, written) = [
-            (5, b"abd".as_slice(), b"z".as_slice()),
-            (3, b"c", b"yx"),
-            (0, b"", b""),
-        ][c as usize];
-        assert!(rt; own.len() == count);
-        assert!(rt; input(alloc, own.as_slice())?.as_slice() == read);
-        assert!(rt; output(alloc, own.as_slice())?.as_slice() == written);
-    }
+    assert!(rt; has_done(alloc, 0, 5, b"abd", b"z")?);
+    assert!(rt; has_done(alloc, 1, 3, b"c", b"yx")?);
+    assert!(rt; has_done(alloc, 2, 0, b"", b"")?);
     Ok(())
 }
 
@@ -104,6 +112,19 @@ fn frames_and_rests<R: Abort>(rt: &R, alloc: Global) -> Result<(), Fail> {
     splits(rt, alloc, b"\xff\xff\xff\xffab", &[], 0)
 }
 
+/// Whether these payloads were found.
+fn are_payloads(found: &[Vec<u8>], payloads: &[&[u8]]) -> bool {
+    if found.len() != payloads.len() {
+        return false;
+    }
+    for (payload, expected) in found.iter().zip(payloads) {
+        if payload.as_slice() != *expected {
+            return false;
+        }
+    }
+    true
+}
+
 /// The bytes are the frames of these payloads, of two bytes at most, and a rest that begins at `at`.
 fn splits<R: Abort>(
     rt: &R,
@@ -113,30 +134,47 @@ fn splits<R: Abort>(
     at: usize,
 ) -> Result<(), Fail> {
     let (found, rest) = split(alloc, 2, bytes)?;
-    assert!(rt; rest == at);
-    assert!(rt; found.len() == payloads.len());
-    for (payload, expected) in found.iter().zip(payloads) {
-        assert!(rt; payload.as_slice() == *expected);
-    }
+    assert!(rt; rest == at && are_payloads(found.as_slice(), payloads));
     Ok(())
+}
+
+/// Whether these payloads call so.
+fn calls(alloc: Global, payloads: &[Vec<u8>], wanted: &[(u64, u8)]) -> Result<bool, AllocError> {
+    let found = called(alloc, &Tiny, payloads)?;
+    Ok(found.as_slice() == wanted)
+}
+
+/// Whether these entries answer these payloads so.
+fn sends(
+    alloc: Global,
+    entries: &[PlainEntry<u8, u8>],
+    payloads: &[Vec<u8>],
+    wanted: &[u8],
+) -> Result<bool, AllocError> {
+    let found = sent(alloc, &Tiny, entries, payloads)?;
+    Ok(found.as_slice() == wanted)
+}
+
+/// Whether a connection has so many of these entries.
+fn has_entries(
+    alloc: Global,
+    c: u32,
+    entries: &[PlainEntry<u8, u8>],
+    count: usize,
+) -> Result<bool, AllocError> {
+    let found = entries_of(alloc, c, entries)?;
+    Ok(found.len() == count)
 }
 
 fn calls_and_replies<R: Abort>(rt: &R, alloc: Global) -> Result<(), Fail> {
     let bytes = b"\0\0\0\x01\x01\0\0\0\x01\x02\0\0\0\x01\x03\0\0\0\x01\x05\0\0\0\x01\x01";
-    let payloads = split(alloc, 2, bytes)?.0;
-    let calls = called(alloc, &Tiny, payloads.as_slice())?;
-    assert!(rt; calls.as_slice() == [(0, 10), (3, 11), (4, 10)].as_slice());
+    let (payloads, _) = split(alloc, 2, bytes)?;
+    assert!(rt; calls(alloc, payloads.as_slice(), &[(0, 10), (3, 11), (4, 10)])?);
     let entries = [entry(0, 10, 5), entry(3, 11, 6), entry(4, 10, 7)];
-    assert!(rt; entries_of(alloc, 0, &entries)?.len() == 3);
-    assert!(rt; entries_of(alloc, 1, &entries)?.len() == 0);
-    assert!(rt;
-        sent(alloc, &Tiny, &entries[..2], payloads.as_slice())?.as_slice()
-            == [5, 5, 20, 21].as_slice()
-    );
-    assert!(rt;
-        sent(alloc, &Tiny, &entries, payloads.as_slice())?.as_slice()
-            == [5, 5, 20, 21, 7, 7].as_slice()
-    );
+    assert!(rt; has_entries(alloc, 0, &entries, 3)?);
+    assert!(rt; has_entries(alloc, 1, &entries, 0)?);
+    assert!(rt; sends(alloc, &entries[..2], payloads.as_slice(), &[5, 5, 20, 21])?);
+    assert!(rt; sends(alloc, &entries, payloads.as_slice(), &[5, 5, 20, 21, 7, 7])?);
     Ok(())
 }
 
@@ -188,17 +226,33 @@ fn leaves<R: Abort>(
     Ok(())
 }
 
-/// What two connections were seen to do.
+/// What two connections were seen to do: a letter for the kind, the connection and the bytes.
+const TAPE: [(u8, u32, &[u8]); 8] = [
+    (b'o', 0, b""),
+    (b'r', 0, b"ab"),
+    (b'r', 1, b"c"),
+    (b'w', 0, b"z"),
+    (b'w', 1, b"yx"),
+    (b'r', 0, b"d"),
+    (b'e', 1, b""),
+    (b'c', 0, b""),
+];
+
+fn mark(alloc: Global, kind: u8, c: u32, items: &[u8]) -> Result<Mark, AllocError> {
+    match kind {
+        b'o' => Ok(Mark::Opened(c)),
+        b'e' => Ok(Mark::Ended(c)),
+        b'c' => Ok(Mark::Closed(c)),
+        b'r' => Ok(Mark::Read(c, bytes(alloc, items)?)),
+        _ => Ok(Mark::Wrote(c, bytes(alloc, items)?)),
+    }
+}
+
 fn tape(alloc: Global) -> Result<Vec<Mark>, AllocError> {
     let mut tape = Vec::new(alloc);
-    tape.push(Mark::Opened(0))?;
-    tape.push(Mark::Read(0, bytes(alloc, b"ab")?))?;
-    tape.push(Mark::Read(1, bytes(alloc, b"c")?))?;
-    tape.push(Mark::Wrote(0, bytes(alloc, b"z")?))?;
-    tape.push(Mark::Wrote(1, bytes(alloc, b"yx")?))?;
-    tape.push(Mark::Read(0, bytes(alloc, b"d")?))?;
-    tape.push(Mark::Ended(1))?;
-    tape.push(Mark::Closed(0))?;
+    for (kind, c, items) in &TAPE {
+        tape.push(mark(alloc, *kind, *c, items)?)?;
+    }
     Ok(tape)
 }
 
