@@ -125,6 +125,16 @@ fn order(rt: HostRuntime) -> Result<(), Fail> {
     Ok(())
 }
 
+// A set of the same number twice.
+fn twice(alloc: Global) -> Result<Value, AllocError> {
+    Ok(Value::Set(Tag::I32, Items::new(numbers(alloc, &[4, 4])?)))
+}
+
+// A list of a number of another kind.
+fn other_tag(alloc: Global) -> Result<Value, AllocError> {
+    Ok(Value::List(Tag::I64, Items::new(numbers(alloc, &[4])?)))
+}
+
 // Two fields whose numbers fall.
 fn falling(alloc: Global) -> Result<Value, AllocError> {
     let fields = vec![in alloc; (2i16, Value::Bool(true)), (1i16, Value::Bool(true))]?;
@@ -133,11 +143,9 @@ fn falling(alloc: Global) -> Result<Value, AllocError> {
 
 #[test]
 fn untidy_values(rt: HostRuntime) -> Result<(), Fail> {
-    let twice = Value::Set(Tag::I32, Items::new(numbers(rt.alloc(), &[4, 4])?));
-    assert!(rt; !twice.is_tidy());
+    assert!(rt; !twice(rt.alloc())?.is_tidy());
     assert!(rt; listed(rt.alloc(), &[4, 4])?.is_tidy());
-    let other_tag = Value::List(Tag::I64, Items::new(numbers(rt.alloc(), &[4])?));
-    assert!(rt; !other_tag.is_tidy());
+    assert!(rt; !other_tag(rt.alloc())?.is_tidy());
     assert!(rt; !falling(rt.alloc())?.is_tidy());
     Ok(())
 }
@@ -169,25 +177,48 @@ fn deep_and_wide(rt: HostRuntime) -> Result<(), Fail> {
     Ok(())
 }
 
-#[test]
-fn lists(rt: HostRuntime) -> Result<(), Fail> {
-    let alloc = rt.alloc();
+// How many elements each list says that it has, and how many it gives back.
+fn of_bytes(alloc: Global) -> Result<(usize, usize), AllocError> {
     let name = ByteText::new(b"ping".to_vec(alloc)?);
-    assert_eq!(rt; name.as_slice(), b"ping".as_slice());
     let copy = name.try_clone(alloc)?;
     copy.numbers_fit();
-    assert_eq!(rt; copy.into_vec().len(), 4);
+    Ok((name.as_slice().len(), copy.into_vec().len()))
+}
+
+fn of_shapes(alloc: Global) -> Result<(usize, usize), AllocError> {
+    let name = ByteText::new(b"ping".to_vec(alloc)?);
     let shapes = FnShapes::new(vec![in alloc; name]?);
-    assert_eq!(rt; shapes.as_slice().len(), 1);
-    assert_eq!(rt; shapes.into_vec().len(), 1);
+    Ok((shapes.as_slice().len(), shapes.into_vec().len()))
+}
+
+fn of_items(alloc: Global) -> Result<(usize, usize), AllocError> {
     let items = Items::new(numbers(alloc, &[1, 2])?);
-    assert_eq!(rt; items.as_slice().len(), 2);
-    assert_eq!(rt; items.into_vec().len(), 2);
+    Ok((items.as_slice().len(), items.into_vec().len()))
+}
+
+fn of_fields(alloc: Global) -> Result<(usize, usize), AllocError> {
     let fields = Fields::new(vec![in alloc; (1i16, Value::Bool(true))]?);
-    assert_eq!(rt; fields.as_slice().len(), 1);
-    assert_eq!(rt; fields.into_vec().len(), 1);
+    Ok((fields.as_slice().len(), fields.into_vec().len()))
+}
+
+fn of_pairs(alloc: Global) -> Result<(usize, usize), AllocError> {
     let pairs = Pairs::new(vec![in alloc; (Value::I8(1), Value::Bool(true))]?);
-    assert_eq!(rt; pairs.as_slice().len(), 1);
-    assert_eq!(rt; pairs.into_vec().len(), 1);
+    Ok((pairs.as_slice().len(), pairs.into_vec().len()))
+}
+
+#[test]
+fn lists(rt: HostRuntime) -> Result<(), Fail> {
+    assert!(rt; of_bytes(rt.alloc())? == (4, 4));
+    assert!(rt; of_shapes(rt.alloc())? == (1, 1));
+    assert!(rt; of_items(rt.alloc())? == (2, 2));
+    assert!(rt; of_fields(rt.alloc())? == (1, 1));
+    assert!(rt; of_pairs(rt.alloc())? == (1, 1));
+    Ok(())
+}
+
+#[test]
+fn bytes_are_kept(rt: HostRuntime) -> Result<(), Fail> {
+    let name = ByteText::new(b"ping".to_vec(rt.alloc())?);
+    assert!(rt; name.as_slice() == b"ping".as_slice());
     Ok(())
 }
