@@ -39,4 +39,4 @@ pub use octets::Bytes;
 pub use outcomes::{EnvelopeFault, Settled};
 pub use real::{RealIn, RealOut};
 pub use real_files::RealFiles;
-pub use streams::{Failed, Sink, Source};
+pub use streams::{Failed, Sink, Source, write_all};

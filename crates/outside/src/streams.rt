@@ -2,7 +2,8 @@
 
 ghost use Rattle.std.specs.Prelude.{◌≡◌, ℕ, List, Option, MatchResult, OnErr};
 ghost use Rattle.outside.specs.Cause.{HasCause};
-ghost use Rattle.outside.specs.Content.{HasRead, HasWritten};
+ghost use Rattle.outside.specs.Content.{HasRead, HasWritten, told_more};
+ghost use Rattle.outside.specs.Taken.{IsTakenInPart};
 
 use thiserror::Error;
 
@@ -42,4 +43,21 @@ pub trait Sink {
             (λ count. HasWritten (taken self.old) (taken self.new) bytes.now count)
             (λ _. taken self.new ≡ taken self.old) }
         ensures cause { HasCause (faults self.old) (faults self.new) result };
+}
+
+/// Hands bytes to the sink until it took them all.
+#[tactic(auto, using(crate::proofs::Taking::taking))]
+pub fn write_all<K: Sink>(out: &mut K, bytes: &[u8]) -> Result<(), Failed>
+    ensures told { MatchResult result
+        (λ _. K.taken out.new ≡ told_more (K.taken out.old) bytes.now)
+        (λ _. IsTakenInPart (K.taken out.old) (K.taken out.new) bytes.now) }
+    ensures cause { HasCause (K.faults out.old) (K.faults out.new) result }
+{
+    let mut rest = bytes;
+    'pieces: while !rest.is_empty() {
+        let count = out.write(rest)?;
+        let (_, behind) = rest.split_at(count);
+        rest = behind;
+    }
+    Ok(())
 }

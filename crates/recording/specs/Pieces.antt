@@ -1,24 +1,8 @@
--- A long text that a sink takes in pieces.
-use Rattle.std.specs.Prelude.{◌≡◌, ℕ, ◌≤◌, List, ◌++◌, Option, Result, Err, MatchResult}
+-- Why a report wasn't handed to a sink.
+use Rattle.std.specs.Prelude.{◌≡◌, ℕ, ◌≤◌, Result, Err}
 use Rattle.outside.specs.Cause.{Rose}
-use Rattle.outside.specs.Content.{told_more}
 use Rattle.recording.specs.declared.report.ReportError.{ReportError}
 use Rattle.recording.specs.declared.report.ReportError.TheVariants.{Failed}
-
--- of this text a sink that had taken `before` took all but what is left
-pub record IsTakenBut (before now : Option (List ℕ)) (text left : List ℕ) : Type 0 where
-  pub front : List ℕ
-  pub taken : now ≡ told_more before front
-  pub whole : text ≡ front ++ left
-
--- the sink took a beginning of this text
-pub record IsTakenInPart (before now : Option (List ℕ)) (text : List ℕ) : Type 0 where
-  pub lost : List ℕ
-  pub taken : IsTakenBut before now text lost
-
--- a call hands this text to a sink and keeps what is left of it; where it fails, the sink took a beginning
-abbrev pub TakesText : {A E : Type 0} → (before now : Option (List ℕ)) (text left : List ℕ) → Result A E → Type 0
-TakesText before now text left result = MatchResult result (λ _. IsTakenBut before now text left) (λ _. IsTakenInPart before now text)
 
 -- the count of faults never falls, and the sink is said to have failed only where it rose
 pub record HasSinkCause {A : Type 0} (before now : ℕ) (result : Result A ReportError) : Type 0 where

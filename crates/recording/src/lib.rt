@@ -30,4 +30,3 @@ mod script;
 
 pub use fault::RecordingFault;
 pub use recorded::answer_recorded;
-pub use report::write_all;

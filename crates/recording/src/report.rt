@@ -9,13 +9,14 @@ ghost use Rattle.host_model.specs.Marks.{marks_of, output};
 ghost use Rattle.host_model.specs.Report.{end_text, hex_or_dash, journal_lines, mark_text, numbered, report, tape_lines};
 ghost use Rattle.recording.specs.Lines.{entry_line};
 ghost use Rattle.recording.specs.Run.{journal_entry};
-ghost use Rattle.recording.specs.Pieces.{HasSinkCause, IsTakenInPart, TakesText};
+ghost use Rattle.outside.specs.Taken.{TakesText};
+ghost use Rattle.recording.specs.Pieces.{HasSinkCause};
 ghost use Rattle.recording.specs.declared.report.ReportError.TheVariants.{Failed as SinkFailed, NoMemory};
 
 use crate::entry::KeptEntry;
 use crate::lines::{put_count, put_end, put_entry, put_mark};
 use host_model::EndCause;
-use outside::{Failed, Mark, Sink};
+use outside::{Failed, Mark, Sink, write_all};
 use std::alloc::{AllocError, AllocFailed, Global};
 use text_out::hex;
 use thiserror::Error;
@@ -267,22 +268,5 @@ fn flush<K: Sink>(out: &mut K, pending: &mut Vec<u8>) -> Result<(), ReportError>
 {
     write_all(out, pending.as_slice())?;
     pending.clear();
-    Ok(())
-}
-
-/// Hands bytes to the sink until it took them all.
-#[tactic(auto, using(crate::proofs::Taking::taking))]
-pub fn write_all<K: Sink>(out: &mut K, bytes: &[u8]) -> Result<(), Failed>
-    ensures told { MatchResult result
-        (λ _. K.taken out.new ≡ told_more (K.taken out.old) bytes.now)
-        (λ _. IsTakenInPart (K.taken out.old) (K.taken out.new) bytes.now) }
-    ensures cause { HasCause (K.faults out.old) (K.faults out.new) result }
-{
-    let mut rest = bytes;
-    'pieces: while !rest.is_empty() {
-        let count = out.write(rest)?;
-        let (_, behind) = rest.split_at(count);
-        rest = behind;
-    }
     Ok(())
 }

@@ -3,7 +3,7 @@ use Rattle.std.proofs.Common.{◌≡◌, ℕ, List, length, take, Option, Result
 use Rattle.std.proofs.Math.Seq.{take-length, take-append_seam}
 use Rattle.outside.specs.Cause.{HasCause}
 use Rattle.outside.specs.Content.{told_more}
-use Rattle.recording.specs.Pieces.{IsTakenInPart}
+use Rattle.outside.specs.Taken.{IsTakenInPart}
 use Rattle.thrift_host.specs.Top.{IsSaid}
 
 -- what a write of a whole line tells

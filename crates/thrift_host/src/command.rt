@@ -13,8 +13,8 @@ use crate::check::{Checked, check};
 use crate::refusal::{Refusal, put_refusal};
 use crate::status::Status;
 use crate::words::{Asked, read_words};
-use outside::{Files, Sink, Source};
-use recording::{RecordingFault, answer_recorded, write_all};
+use outside::{Files, Sink, Source, write_all};
+use recording::{RecordingFault, answer_recorded};
 use std::alloc::{AllocError, Global};
 use text_out::decimal;
 

@@ -1,7 +1,7 @@
 use Rattle.std.proofs.Common.{◌≡◌, List, ℕ, [], ◌∷◌, ◌++◌, ◌≤◌, take, drop, ap, sym, subst, ◌∙◌, refl, take-append-drop, arith}
 use Rattle.text_out.specs.Hex.{hex_of}
-use Rattle.recording.specs.Pieces.{IsTakenBut}
-use Rattle.recording.proofs.Taking.{next_taken, next_in_part, err_takes}
+use Rattle.outside.specs.Taken.{IsTakenBut}
+use Rattle.outside.proofs.Taking.{next_taken, next_in_part, err_takes}
 use Rattle.recording.proofs.report.write_hex.Goals as goal
 
 hex_of-append : (a b : List ℕ) → hex_of (a ++ b) ≡ hex_of a ++ hex_of b

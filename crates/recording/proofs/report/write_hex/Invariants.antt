@@ -1,6 +1,6 @@
 use Rattle.std.proofs.Common.{◌≤◌, ◌++◌, length}
 use Rattle.text_out.specs.Hex.{hex_of}
-use Rattle.recording.specs.Pieces.{IsTakenBut}
+use Rattle.outside.specs.Taken.{IsTakenBut}
 use Rattle.recording.proofs.report.write_hex.Given as goal
 
 abbrev pub invariant-chunks : goal.invariant-chunks

@@ -8,8 +8,8 @@ use Rattle.recording.specs.declared.message.Call.TheVariants.{Ping}
 use Rattle.recording.specs.declared.message.Answer.TheVariants.{Empty}
 use Rattle.recording.specs.Lines.{entry_line}
 use Rattle.recording.specs.Run.{journal_entry}
-use Rattle.recording.specs.Pieces.{IsTakenBut, IsTakenInPart}
-use Rattle.recording.proofs.Taking.{line_taken, line_in_part, err_takes}
+use Rattle.outside.specs.Taken.{IsTakenBut, IsTakenInPart}
+use Rattle.outside.proofs.Taking.{line_taken, line_in_part, err_takes}
 use Rattle.recording.proofs.report.write_journal.Goals as goal
 
 abbrev line : KeptEntry → List ℕ

@@ -3,7 +3,7 @@ use Rattle.std.specs.List.{flat_map}
 use Rattle.text_out.specs.Line.{line_of}
 use Rattle.recording.specs.Lines.{entry_line}
 use Rattle.recording.specs.Run.{journal_entry}
-use Rattle.recording.specs.Pieces.{IsTakenBut}
+use Rattle.outside.specs.Taken.{IsTakenBut}
 use Rattle.recording.proofs.report.write_journal.Given as goal
 
 abbrev pub invariant-loop-entry : goal.invariant-loop-entry

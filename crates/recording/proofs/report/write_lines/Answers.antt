@@ -8,8 +8,8 @@ use Rattle.host_model.specs.Report.{end_text, journal_lines, numbered, report, t
 use Rattle.recording.specs.declared.entry.KeptEntry.{KeptEntry}
 use Rattle.recording.specs.Lines.{entry_line}
 use Rattle.recording.specs.Run.{journal_entry}
-use Rattle.recording.specs.Pieces.{IsTakenBut}
-use Rattle.recording.proofs.Taking.{none_taken, next_taken, next_in_part, last_takes, err_takes}
+use Rattle.outside.specs.Taken.{IsTakenBut}
+use Rattle.outside.proofs.Taking.{none_taken, next_taken, next_in_part, last_takes, err_takes}
 use Rattle.recording.proofs.report.write_lines.Goals as goal
 
 abbrev journal_text : List KeptEntry → List ℕ

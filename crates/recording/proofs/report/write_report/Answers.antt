@@ -3,8 +3,8 @@ use Rattle.outside.specs.Content.{told_more}
 use Rattle.host_model.specs.Report.{report}
 use Rattle.recording.specs.Lines.{entry_line}
 use Rattle.recording.specs.Run.{journal_entry}
-use Rattle.recording.specs.Pieces.{IsTakenBut, TakesText}
-use Rattle.recording.proofs.Taking.{taken_on, last_in_part, all_told, part_told}
+use Rattle.outside.specs.Taken.{IsTakenBut, TakesText}
+use Rattle.outside.proofs.Taking.{taken_on, last_in_part, all_told, part_told}
 use Rattle.recording.proofs.report.write_report.Goals as goal
 
 -- all lines but the pending ones were taken, and then these

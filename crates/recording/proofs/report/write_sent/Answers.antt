@@ -1,7 +1,7 @@
 use Rattle.std.proofs.Common.{[], ◌∷◌, append_assoc, subst}
 use Rattle.host_model.specs.Report.{hex_or_dash}
-use Rattle.recording.specs.Pieces.{IsTakenInPart}
-use Rattle.recording.proofs.Taking.{but_in_part, more_in_part, err_takes}
+use Rattle.outside.specs.Taken.{IsTakenInPart}
+use Rattle.outside.proofs.Taking.{but_in_part, more_in_part, err_takes}
 use Rattle.recording.proofs.report.write_sent.Goals as goal
 
 pub returns-in_err-write_bytes-clause-told : goal.returns-in_err-write_bytes-clause-told

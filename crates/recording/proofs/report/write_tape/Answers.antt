@@ -1,7 +1,7 @@
 use Rattle.std.proofs.Common.{◌≤◌, arith}
 use Rattle.host_model.specs.Report.{mark_text}
 use Rattle.text_out.specs.Line.{line_of}
-use Rattle.recording.proofs.Taking.{line_taken, line_in_part, err_takes}
+use Rattle.outside.proofs.Taking.{line_taken, line_in_part, err_takes}
 use Rattle.recording.proofs.report.write_tape.Goals as goal
 
 pub returns-in_err-write_mark-clause-told : goal.returns-in_err-write_mark-clause-told

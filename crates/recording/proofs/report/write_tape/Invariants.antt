@@ -1,6 +1,6 @@
 use Rattle.std.proofs.Common.{◌≤◌, ◌++◌, drop}
 use Rattle.host_model.specs.Report.{tape_lines}
-use Rattle.recording.specs.Pieces.{IsTakenBut}
+use Rattle.outside.specs.Taken.{IsTakenBut}
 use Rattle.recording.proofs.report.write_tape.Given as goal
 
 abbrev pub invariant-loop-mark : goal.invariant-loop-mark

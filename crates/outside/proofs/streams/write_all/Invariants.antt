@@ -1,6 +1,6 @@
 use Rattle.std.proofs.Common.{◌≤◌, length}
-use Rattle.recording.specs.Pieces.{IsTakenBut}
-use Rattle.recording.proofs.report.write_all.Given as goal
+use Rattle.outside.specs.Taken.{IsTakenBut}
+use Rattle.outside.proofs.streams.write_all.Given as goal
 
 abbrev pub invariant-pieces : goal.invariant-pieces
 invariant-pieces g l = record {

@@ -1,7 +1,7 @@
 use Rattle.std.proofs.Common.{◌≡◌, List, ℕ, ◌++◌, ◌≤◌, take, ap, sym, ◌∙◌, take-append-drop, arith}
-use Rattle.recording.specs.Pieces.{IsTakenBut}
-use Rattle.recording.proofs.Taking.{taken_on}
-use Rattle.recording.proofs.report.write_all.Goals as goal
+use Rattle.outside.specs.Taken.{IsTakenBut}
+use Rattle.outside.proofs.Taking.{taken_on}
+use Rattle.outside.proofs.streams.write_all.Goals as goal
 
 pub pieces-preserved : goal.pieces-preserved
 pieces-preserved g c =
