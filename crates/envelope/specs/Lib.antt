@@ -1,3 +1,4 @@
 pub mod Said
 pub mod Spelling
 pub mod Readout
+pub mod Exception

@@ -71,7 +71,7 @@ fn put_id(id: i32, into: &mut Vec<u8>) -> Result<(), AllocError>
 
 /// Appends the length of a name as a varint, and the name.
 #[tactic(auto, unfolding(crate::specs::Spelling::compact_name))]
-fn put_name(name: &[u8], into: &mut Vec<u8>) -> Result<(), AllocError>
+pub(crate) fn put_name(name: &[u8], into: &mut Vec<u8>) -> Result<(), AllocError>
     requires { length name.now < 2 ^ 31 }
     ensures ok { OnOk result (into.new.items ≡ into.old.items ++ compact_name name.now) }
     ensures err { OnErr result (take (vec_len into.old) into.new.items ≡ into.old.items) }

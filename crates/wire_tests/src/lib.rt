@@ -12,6 +12,10 @@ mod compact_struct_vectors;
 #[cfg(test)]
 mod compact_structs;
 #[cfg(test)]
+mod exception_vectors;
+#[cfg(test)]
+mod exceptions;
+#[cfg(test)]
 mod head_vectors;
 #[cfg(test)]
 mod heads;
