@@ -1,0 +1,49 @@
+use Rattle.std.proofs.Common.{refl}
+use Rattle.std.specs.Fmt.{digits}
+use Rattle.call_rules.proofs.examples.calculator_answers.Goals as goal
+
+pub returns-clause-ping : goal.returns-clause-ping
+returns-clause-ping c = λ _. refl
+
+pub returns-clause-zip : goal.returns-clause-zip
+returns-clause-zip c = λ _. refl
+
+pub returns-clause-sum : goal.returns-clause-sum
+returns-clause-sum c = refl
+
+pub returns-clause-wraps : goal.returns-clause-wraps
+returns-clause-wraps c = refl
+
+pub returns-clause-absent_is_zero : goal.returns-clause-absent_is_zero
+returns-clause-absent_is_zero c = refl
+
+pub returns-clause-other_shape : goal.returns-clause-other_shape
+returns-clause-other_shape c = refl
+
+pub returns-clause-no_work : goal.returns-clause-no_work
+returns-clause-no_work c = refl
+
+pub returns-clause-unnamed : goal.returns-clause-unnamed
+returns-clause-unnamed c = refl
+
+pub returns-clause-by_zero : goal.returns-clause-by_zero
+returns-clause-by_zero c = refl
+
+pub returns-clause-unknown : goal.returns-clause-unknown
+returns-clause-unknown c = refl
+
+pub returns-clause-truncates : goal.returns-clause-truncates
+returns-clause-truncates c = refl
+
+pub returns-clause-least_by_minus_one : goal.returns-clause-least_by_minus_one
+returns-clause-least_by_minus_one c = refl
+
+pub returns-clause-no_struct : goal.returns-clause-no_struct
+returns-clause-no_struct c = refl
+
+pub returns-clause-kept : goal.returns-clause-kept
+unfolding digits
+returns-clause-kept c = refl
+
+pub returns-clause-told : goal.returns-clause-told
+returns-clause-told c = refl

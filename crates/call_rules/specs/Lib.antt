@@ -1,0 +1,12 @@
+pub mod PlainCalls
+pub mod Entries
+pub mod Answers
+pub mod Handled
+pub mod Memories
+pub mod Arguments
+pub mod CalculatorRule
+pub mod StoreRule
+pub mod Handling
+pub mod Suited
+pub mod Desks
+pub mod Examples

@@ -1,0 +1,36 @@
+//! What answers calls.
+
+ghost use Rattle.std.specs.Prelude.{◌≡◌, ◌↔◌, IfOk, OnOk, OnErr, IsTrue};
+ghost use Rattle.thrift_value.specs.TreeOf.{tree_of};
+ghost use Rattle.call_rules.specs.Answers.{plain_answer};
+ghost use Rattle.call_rules.specs.Handling.{ServiceState, IsKept, handled, service_after};
+ghost use Rattle.call_rules.specs.Suited.{Suits};
+
+use crate::call::Answer;
+use crate::kind::Kind;
+use std::alloc::{AllocError, Global};
+use thrift_value::{FnShapes, Value};
+
+/// What answers the calls of one service (Thrift: a handler). Its kind never changes.
+pub trait Handler: Send + Drop {
+    // Its kind, and what it keeps from one call to the next.
+    ghost service: { Self → ServiceState };
+
+    /// Its kind.
+    fn kind(&self) -> Kind
+        ensures { result ≡ (service self.now).kind };
+
+    /// Whether it can serve a service whose functions have these shapes.
+    fn suits(&self, shapes: &FnShapes) -> bool
+        ensures { IsTrue result ↔ Suits (service self.now).kind shapes.now };
+
+    /// Answers a call.
+    fn answer(&mut self, alloc: Global, method: &[u8], args: &Value) -> Result<Answer, AllocError>
+        ensures answered { IfOk result (λ answer.
+            plain_answer answer ≡ (handled (service self.old) method.now (tree_of args.now)).answer) }
+        ensures moved { OnOk result (service self.new ≡ service_after (service self.old) method.now (tree_of args.now)) }
+        ensures err { OnErr result (service self.new ≡ service self.old) };
+
+    // What it keeps is of its kind.
+    ghost kept: { (handler : Self) → IsKept (service handler) };
+}

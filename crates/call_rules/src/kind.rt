@@ -1,0 +1,10 @@
+/// A kind of handler.
+#[derive(Clone, Copy, Debug, PartialEq, Eq)]
+pub enum Kind {
+    /// The calculator of the Thrift tutorial.
+    Calculator,
+    /// Texts by their keys.
+    Store,
+    /// What answers every call with its first argument.
+    Mirror,
+}
