@@ -1,1 +1,2 @@
 pub mod Plainness
+pub mod TextMaps

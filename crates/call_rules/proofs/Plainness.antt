@@ -127,6 +127,7 @@ number_is_plain : (n : ℤ) → IsPlainValue (of_i32 n)
 number_is_plain n = record { tidy = record { tagged = tt; in_order = tt }; levels = omega arith }
 
 calculated_good : (memory : Tree) (logid op : ℤ) (r : Result ℤ (List ℕ)) → AreTextsBy I32 memory → IsGood I32 (calculated memory logid op r)
+unfolding calculated
 calculated_good memory logid op (Ok value) are =
     good I32 (calculated memory logid op (Ok value)) (number_is_plain value)
     (refl, refl, put_keeps I32 (of_i32 logid) (of_bytes (decimal_of value)) (pairs_in memory) refl tt refl tt (pairs_are I32 memory are))
@@ -141,6 +142,7 @@ work_good memory logid (Some x) (Some y) (Some op) are = calculated_good memory 
 
 calculate_good : (memory : Tree) (a : Option ℤ) (w : Option FieldTrees) → AreTextsBy I32 memory
     → IsGood I32 (or_broken memory a (λ logid. or_broken memory w (λ work. work_done memory logid work)))
+unfolding work_done
 calculate_good memory None w are = kept_good I32 memory broken tt are
 calculate_good memory (Some logid) None are = kept_good I32 memory broken tt are
 calculate_good memory (Some logid) (Some work) are =

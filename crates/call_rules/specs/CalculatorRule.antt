@@ -13,22 +13,26 @@ use Rattle.call_rules.specs.Memories.{pairs_in, texts_by, value_at, with_value}
 use Rattle.call_rules.specs.Arguments.{value_with_id, argument, number_passed, fields_passed}
 
 -- a quotient, truncated; the least number by -1 is itself
-abbrev pub quotient : ℤ → ℤ → Result ℤ (List ℕ)
+unfoldable pub quotient : ℤ → ℤ → Result ℤ (List ℕ)
 quotient a b = if int_eq b (pos 0) then Err (codes "Cannot divide by 0") else Ok (int_wrapping_div w32 a b)
 
+-- what two numbers come to under the third and the fourth operation; there is no other
+unfoldable pub product_or_quotient : ℤ → ℤ → ℤ → Result ℤ (List ℕ)
+product_or_quotient op a b =
+    if int_eq op (pos 3) then Ok (int_wrapping_mul w32 a b) else if int_eq op (pos 4) then quotient a b else Err (codes "Unknown operation")
+
 -- what two numbers come to under an operation, wrapped to 32 bits, or why they come to nothing
-abbrev pub calculation : ℤ → ℤ → ℤ → Result ℤ (List ℕ)
+unfoldable pub calculation : ℤ → ℤ → ℤ → Result ℤ (List ℕ)
 calculation op a b =
     if int_eq op (pos 1) then Ok (int_wrapping_add w32 a b) else if int_eq op (pos 2) then Ok (int_wrapping_sub w32 a b)
-    else if int_eq op (pos 3) then Ok (int_wrapping_mul w32 a b) else if int_eq op (pos 4) then quotient a b
-    else Err (codes "Unknown operation")
+    else product_or_quotient op a b
 
 -- the exception of the tutorial: the operation, and why it came to nothing
 abbrev pub invalid_operation : ℤ → List ℕ → Tree
 invalid_operation op why = of_struct (field (pos 1) (of_i32 op) (field (pos 2) (of_bytes why) no_fields))
 
 -- a value is the answer, and its text is kept; without one the exception is thrown
-abbrev pub calculated : Tree → ℤ → ℤ → Result ℤ (List ℕ) → Handled
+unfoldable pub calculated : Tree → ℤ → ℤ → Result ℤ (List ℕ) → Handled
 calculated memory logid op (Ok value) =
     record {
       answer = success (of_i32 value);
@@ -37,7 +41,7 @@ calculated memory logid op (Ok value) =
 calculated memory logid op (Err why) = keeping memory (throws (pos 1) (invalid_operation op why))
 
 -- calculate, for a log's number and the fields of its work
-abbrev pub work_done : Tree → ℤ → FieldTrees → Handled
+unfoldable pub work_done : Tree → ℤ → FieldTrees → Handled
 work_done memory logid work =
     or_broken memory (number_passed (value_with_id (pos 1) work)) (λ num1.
     or_broken memory (number_passed (value_with_id (pos 2) work)) (λ num2.

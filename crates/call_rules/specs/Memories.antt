@@ -1,11 +1,13 @@
 -- What a service keeps from one call to the next: the pairs of a map.
-use Rattle.std.specs.Prelude.{◌≡◌, ⊤, List, Option, None, Some, if◌then◌else◌}
+use Rattle.std.specs.Prelude.{◌≡◌, ⊤, ℕ, List, [], ◌∷◌, map, Option, None, Some, if◌then◌else◌, refl}
 use Rattle.std.specs.Ordering.{is_eq, match_ordering}
 use Rattle.thrift_value.specs.declared.tag.Tag.{Tag}
 use Rattle.thrift_value.specs.declared.tag.Tag.TheVariants.{Bytes}
-use Rattle.thrift_value.specs.Tree.{Tree, of_map, ItemTrees, no_items, item, PairTrees, no_pairs, pair}
+use Rattle.thrift_value.specs.Tree.{Tree, of_bytes, of_map, ItemTrees, no_items, item, PairTrees, no_pairs, pair}
 use Rattle.thrift_value.specs.Order.{tree_cmp}
-use Rattle.thrift_value.specs.Tidy.{AreWellTaggedPairs}
+use Rattle.thrift_value.specs.Tags.{tag_of}
+use Rattle.thrift_value.specs.Tidy.{IsWellTagged, AreWellTaggedPairs}
+use Rattle.thrift_value.specs.TreeOf.{pair_trees}
 
 -- the pairs of a map; what is no map has none
 abbrev pub pairs_in : Tree → PairTrees
@@ -41,3 +43,22 @@ without_value key (pair k v more) = if is_eq (tree_cmp key k) then more else pai
 abbrev pub map_keys_of : PairTrees → ItemTrees
 map_keys_of no_pairs = no_items
 map_keys_of (pair key _ more) = item key (map_keys_of more)
+
+-- a text by its key, as a pair of a memory, where keys and texts are kept in any form
+abbrev pub text_pair : {K X : Type 0} → (K → Tree) → (X → List ℕ) → K × X → Tree × Tree
+text_pair key_tree text_in e = (key_tree e.0, of_bytes (text_in e.1))
+
+-- the memory that keeps these texts
+abbrev pub texts_tree : {K X : Type 0} → Tag → (K → Tree) → (X → List ℕ) → List (K × X) → Tree
+texts_tree tag key_tree text_in entries = texts_by tag (pair_trees (map (text_pair key_tree text_in) entries))
+
+-- its pairs are well tagged
+text_pairs_are : {K X : Type 0} (tag : Tag) (key_tree : K → Tree) (text_in : X → List ℕ) → ((k : K) → tag_of (key_tree k) ≡ tag) → ((k : K) → IsWellTagged (key_tree k))
+    → (entries : List (K × X)) → AreWellTaggedPairs tag Bytes (pair_trees (map (text_pair key_tree text_in) entries))
+text_pairs_are tag key_tree text_in is tagged [] = tt
+text_pairs_are tag key_tree text_in is tagged (e ∷ es) = (is e.0, refl, tagged e.0, tt, text_pairs_are tag key_tree text_in is tagged es)
+
+-- so it is a memory of texts
+pub texts_tree_is : {K X : Type 0} (tag : Tag) (key_tree : K → Tree) (text_in : X → List ℕ) → ((k : K) → tag_of (key_tree k) ≡ tag) → ((k : K) → IsWellTagged (key_tree k))
+    → (entries : List (K × X)) → AreTextsBy tag (texts_tree tag key_tree text_in entries)
+texts_tree_is tag key_tree text_in is tagged entries = (refl, refl, text_pairs_are tag key_tree text_in is tagged entries)

@@ -1,5 +1,6 @@
 use Rattle.std.proofs.Common.{refl}
 use Rattle.std.specs.Fmt.{digits}
+use Rattle.call_rules.specs.CalculatorRule.{quotient, product_or_quotient, calculation, calculated, work_done}
 use Rattle.call_rules.proofs.examples.calculator_answers.Goals as goal
 
 pub returns-clause-ping : goal.returns-clause-ping
@@ -27,22 +28,26 @@ pub returns-clause-unnamed : goal.returns-clause-unnamed
 returns-clause-unnamed c = refl
 
 pub returns-clause-by_zero : goal.returns-clause-by_zero
+unfolding quotient product_or_quotient calculation calculated work_done
 returns-clause-by_zero c = refl
 
 pub returns-clause-unknown : goal.returns-clause-unknown
+unfolding quotient product_or_quotient calculation calculated work_done
 returns-clause-unknown c = refl
 
 pub returns-clause-truncates : goal.returns-clause-truncates
+unfolding quotient product_or_quotient calculation calculated work_done
 returns-clause-truncates c = refl
 
 pub returns-clause-least_by_minus_one : goal.returns-clause-least_by_minus_one
+unfolding quotient product_or_quotient calculation calculated work_done
 returns-clause-least_by_minus_one c = refl
 
 pub returns-clause-no_struct : goal.returns-clause-no_struct
 returns-clause-no_struct c = refl
 
 pub returns-clause-kept : goal.returns-clause-kept
-unfolding digits
+unfolding digits quotient product_or_quotient calculation calculated work_done
 returns-clause-kept c = refl
 
 pub returns-clause-told : goal.returns-clause-told
