@@ -15,6 +15,15 @@ use std::alloc::{AllocError, Global};
 use std::collections::BTreeMap;
 use thrift_value::{ByteText, FnShapes, Value};
 
+/// The shapes of the calculator's functions.
+const SHAPES: [&[u8]; 5] = [
+    b"add(1:i32,2:i32):i32",
+    b"calculate(1:i32,2:struct):i32 throws(1:struct)",
+    b"getStruct(1:i32):struct",
+    b"ping():void",
+    b"oneway zip():void",
+];
+
 /// The calculator of the Thrift tutorial.
 #[derive(Drop)]
 pub struct Calculator {
@@ -135,6 +144,7 @@ impl Calculator {
     }
 
     /// `calculate(logid, w)`
+    #[tactic(auto, unfolding(call_rules::specs::CalculatorRule::calculate_answered))]
     fn calculate(&mut self, alloc: Global, args: &Value) -> Result<Answer, AllocError>
         ensures answered { IfOk result (λ answer. plain_answer answer ≡ (calculate_answered (calculator_memory self.old) (tree_of args.now)).answer) }
         ensures moved { OnOk result (calculator_memory self.new ≡ (calculate_answered (calculator_memory self.old) (tree_of args.now)).memory) }
@@ -150,8 +160,10 @@ impl Calculator {
     }
 
     /// `getStruct(key)`
+    #[tactic(auto, unfolding(call_rules::specs::CalculatorRule::get_struct_answered))]
     fn get_struct(&self, alloc: Global, args: &Value) -> Result<Answer, AllocError>
-        ensures { IfOk result (λ answer. plain_answer answer ≡ (get_struct_answered (calculator_memory self.now) (tree_of args.now)).answer) }
+        ensures answered { IfOk result (λ answer. plain_answer answer ≡ (get_struct_answered (calculator_memory self.now) (tree_of args.now)).answer) }
+        ensures still { OnOk result ((get_struct_answered (calculator_memory self.now) (tree_of args.now)).memory ≡ calculator_memory self.now) }
     {
         let Some(key) = number_passed(argument(args, 1)) else {
             return Ok(Answer::Broken);
@@ -174,10 +186,50 @@ impl Calculator {
     }
 }
 
+impl Handler for Calculator {
+    ghost use Rattle.std.specs.Prelude.{◌≡◌, IfOk, OnOk, OnErr};
+    ghost use Rattle.thrift_value.specs.TreeOf.{tree_of};
+    ghost use Rattle.call_rules.specs.Answers.{plain_answer};
+    ghost use Rattle.call_rules.specs.Handling.{handled, service_after};
+    ghost use Rattle.calculator.specs.Kept.{calculator_service, calculator_is_kept};
+
+    ghost service = { calculator_service };
+
+    fn kind(&self) -> Kind {
+        Kind::Calculator
+    }
+
+    fn suits(&self, shapes: &FnShapes) -> bool {
+        are_shapes(shapes, &SHAPES)
+    }
+
+    fn answer(&mut self, alloc: Global, method: &[u8], args: &Value) -> Result<Answer, AllocError> {
+        if method == b"ping".as_slice() {
+            return Ok(Answer::Empty);
+        }
+        if method == b"zip".as_slice() {
+            return Ok(Answer::Empty);
+        }
+        if method == b"add".as_slice() {
+            return Ok(add(args));
+        }
+        if method == b"calculate".as_slice() {
+            return self.calculate(alloc, args);
+        }
+        if method == b"getStruct".as_slice() {
+            return self.get_struct(alloc, args);
+        }
+        Ok(Answer::Broken)
+    }
+
+    ghost kept = { calculator_is_kept };
+}
+
 /// `add(num1, num2)`
-#[tactic(auto, using(thrift_value::proofs::Trees::tree_equations))]
+#[tactic(auto, using(thrift_value::proofs::Trees::tree_equations), unfolding(call_rules::specs::CalculatorRule::add_answered))]
 fn add(args: &Value) -> Answer
-    ensures { (memory : Tree) → plain_answer result ≡ (add_answered memory (tree_of args.now)).answer }
+    ensures answered { (memory : Tree) → plain_answer result ≡ (add_answered memory (tree_of args.now)).answer }
+    ensures still { (memory : Tree) → (add_answered memory (tree_of args.now)).memory ≡ memory }
 {
     let Some(num1) = number_passed(argument(args, 1)) else {
         return Answer::Broken;

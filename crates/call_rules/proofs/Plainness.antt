@@ -166,6 +166,7 @@ get_struct_good memory (Some key) are =
     (struct_is_plain key (value_at (of_i32 key) (pairs_in memory)) (value_is_bytes I32 (of_i32 key) (pairs_in memory) (pairs_are I32 memory are))) are
 
 calculator_good : (memory : Tree) (method : List ℕ) (args : Tree) → AreTextsBy I32 memory → IsGood I32 (calculator_rule memory method args)
+unfolding add_answered calculate_answered get_struct_answered
 calculator_good memory method args are =
     good_if I32 (bytes_eq method (codes "ping")) _ _ (kept_good I32 memory empty tt are)
     (good_if I32 (bytes_eq method (codes "zip")) _ _ (kept_good I32 memory empty tt are)

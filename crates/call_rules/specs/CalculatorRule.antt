@@ -48,13 +48,13 @@ work_done memory logid work =
     or_broken memory (number_passed (value_with_id (pos 3) work)) (λ op. calculated memory logid op (calculation op num1 num2))))
 
 -- calculate(logid, w)
-abbrev pub calculate_answered : Tree → Tree → Handled
+unfoldable pub calculate_answered : Tree → Tree → Handled
 calculate_answered memory args =
     or_broken memory (number_passed (argument (pos 1) args)) (λ logid.
     or_broken memory (fields_passed (argument (pos 2) args)) (λ work. work_done memory logid work))
 
 -- add(num1, num2): the sum, wrapped to 32 bits
-abbrev pub add_answered : Tree → Tree → Handled
+unfoldable pub add_answered : Tree → Tree → Handled
 add_answered memory args =
     or_broken memory (number_passed (argument (pos 1) args)) (λ num1.
     or_broken memory (number_passed (argument (pos 2) args)) (λ num2. keeping memory (success (of_i32 (int_wrapping_add w32 num1 num2)))))
@@ -69,7 +69,7 @@ kept_struct key None = empty
 kept_struct key (Some text) = success (shared_struct key text)
 
 -- getStruct(key)
-abbrev pub get_struct_answered : Tree → Tree → Handled
+unfoldable pub get_struct_answered : Tree → Tree → Handled
 get_struct_answered memory args =
     or_broken memory (number_passed (argument (pos 1) args)) (λ key. keeping memory (kept_struct key (value_at (of_i32 key) (pairs_in memory))))
 
