@@ -187,6 +187,7 @@ kept_at_is_plain memory key are =
     (λ v e. of_bytes_is_plain v (value_is_bytes Bytes (of_bytes key) (pairs_in memory) (pairs_are Bytes memory are) v e))
 
 stored : (memory : Tree) (key text : List ℕ) → AreTextsBy Bytes memory → AreTextsBy Bytes (memory_with memory key text)
+unfolding memory_with
 stored memory key text are = (refl, refl, put_keeps Bytes (of_bytes key) (of_bytes text) (pairs_in memory) refl tt refl tt (pairs_are Bytes memory are))
 
 get_good : (memory : Tree) (a : Option (List ℕ)) → AreTextsBy Bytes memory → IsGood Bytes (or_broken memory a (λ key. keeping memory (kept_at memory key)))
@@ -208,6 +209,7 @@ forget_good memory (Some key) are =
     (refl, refl, take_keeps Bytes (of_bytes key) (pairs_in memory) (pairs_are Bytes memory are))
 
 store_good : (memory : Tree) (method : List ℕ) (args : Tree) → AreTextsBy Bytes memory → IsGood Bytes (store_rule memory method args)
+unfolding get_answered put_answered swap_answered forget_answered
 store_good memory method args are =
     let first = bytes_passed (argument (pos 1) args) in
     let second = bytes_passed (argument (pos 2) args) in

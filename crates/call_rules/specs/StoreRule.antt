@@ -18,28 +18,28 @@ abbrev pub kept_at : Tree → List ℕ → PlainAnswer
 kept_at memory key = found_or_empty (value_at (of_bytes key) (pairs_in memory))
 
 -- the memory with this text under the key
-abbrev pub memory_with : Tree → List ℕ → List ℕ → Tree
+unfoldable pub memory_with : Tree → List ℕ → List ℕ → Tree
 memory_with memory key text = texts_by Bytes (with_value (of_bytes key) (of_bytes text) (pairs_in memory))
 
 -- get(key)
-abbrev pub get_answered : Tree → Tree → Handled
+unfoldable pub get_answered : Tree → Tree → Handled
 get_answered memory args = or_broken memory (bytes_passed (argument (pos 1) args)) (λ key. keeping memory (kept_at memory key))
 
 -- put(key, value)
-abbrev pub put_answered : Tree → Tree → Handled
+unfoldable pub put_answered : Tree → Tree → Handled
 put_answered memory args =
     or_broken memory (bytes_passed (argument (pos 1) args)) (λ key.
     or_broken memory (bytes_passed (argument (pos 2) args)) (λ text. record { answer = empty; memory = memory_with memory key text }))
 
 -- swap(key, value): sets, and answers as get did before
-abbrev pub swap_answered : Tree → Tree → Handled
+unfoldable pub swap_answered : Tree → Tree → Handled
 swap_answered memory args =
     or_broken memory (bytes_passed (argument (pos 1) args)) (λ key.
     or_broken memory (bytes_passed (argument (pos 2) args)) (λ text.
     record { answer = kept_at memory key; memory = memory_with memory key text }))
 
 -- forget(key)
-abbrev pub forget_answered : Tree → Tree → Handled
+unfoldable pub forget_answered : Tree → Tree → Handled
 forget_answered memory args =
     or_broken memory (bytes_passed (argument (pos 1) args)) (λ key.
     record { answer = empty; memory = texts_by Bytes (without_value (of_bytes key) (pairs_in memory)) })
