@@ -40,14 +40,14 @@ impl Calculator {
     ghost use Rattle.thrift_value.specs.Tree.{of_i32, of_bytes};
     ghost use Rattle.call_rules.specs.declared.kind.Kind.TheVariants as kinds;
     ghost use Rattle.call_rules.specs.Answers.{plain_answer};
-    ghost use Rattle.call_rules.specs.Handling.{at_first};
-    ghost use Rattle.call_rules.specs.Memories.{pairs_in, texts_by, value_at, with_value};
+    ghost use Rattle.call_rules.specs.Handling.{new_service};
+    ghost use Rattle.call_rules.specs.Memories.{pairs_in, texts_by, value_at_key, pairs_with};
     ghost use Rattle.call_rules.specs.CalculatorRule.{calculate_answered, calculation, get_struct_answered, work_done, calculated, kept_struct};
     ghost use Rattle.calculator.specs.Kept.{calculator_memory, calculator_service, result_seen};
 
     /// A calculator that has calculated nothing; takes no memory.
     pub fn new(alloc: Global) -> Self
-        ensures { calculator_service result ≡ at_first kinds.Calculator }
+        ensures { calculator_service result ≡ new_service kinds.Calculator }
     {
         Calculator {
             texts: BTreeMap::new(alloc),
@@ -57,7 +57,7 @@ impl Calculator {
     /// Keeps a text under a log's number.
     fn keep(&mut self, logid: i32, text: ByteText) -> Result<(), AllocError>
         ensures ok { OnOk result (calculator_memory self.new
-            ≡ texts_by tags.I32 (with_value (of_i32 logid) (of_bytes text) (pairs_in (calculator_memory self.old)))) }
+            ≡ texts_by tags.I32 (pairs_with (of_i32 logid) (of_bytes text) (pairs_in (calculator_memory self.old)))) }
         ensures err { OnErr result (calculator_memory self.new ≡ calculator_memory self.old) }
     {
         self.texts.insert(logid, text)?;
@@ -66,7 +66,7 @@ impl Calculator {
 
     /// The text that is kept under a key, where there is one.
     fn kept(&self, key: i32) -> Option<&ByteText>
-        ensures { option_map (λ text. of_bytes text) (option_copied result) ≡ value_at (of_i32 key) (pairs_in (calculator_memory self.now)) }
+        ensures { option_map (λ text. of_bytes text) (option_copied result) ≡ value_at_key (of_i32 key) (pairs_in (calculator_memory self.now)) }
     {
         self.texts.get(&key)
     }
@@ -174,7 +174,7 @@ impl Calculator {
     /// The struct of a key, where a text is kept under it.
     fn told(&self, alloc: Global, key: i32) -> Result<Answer, AllocError>
         ensures { IfOk result (λ answer. plain_answer answer
-            ≡ kept_struct key (value_at (of_i32 key) (pairs_in (calculator_memory self.now)))) }
+            ≡ kept_struct key (value_at_key (of_i32 key) (pairs_in (calculator_memory self.now)))) }
     {
         match self.kept(key) {
             None => Ok(Answer::Empty),
@@ -186,24 +186,19 @@ impl Calculator {
     }
 }
 
-impl Handler for Calculator {
+impl Calculator {
     ghost use Rattle.std.specs.Prelude.{◌≡◌, IfOk, OnOk, OnErr};
     ghost use Rattle.thrift_value.specs.TreeOf.{tree_of};
     ghost use Rattle.call_rules.specs.Answers.{plain_answer};
     ghost use Rattle.call_rules.specs.Handling.{handled, service_after};
-    ghost use Rattle.calculator.specs.Kept.{calculator_service, calculator_is_kept};
+    ghost use Rattle.calculator.specs.Kept.{calculator_service};
 
-    ghost service = { calculator_service };
-
-    fn kind(&self) -> Kind {
-        Kind::Calculator
-    }
-
-    fn suits(&self, shapes: &FnShapes) -> bool {
-        are_shapes(shapes, &SHAPES)
-    }
-
-    fn answer(&mut self, alloc: Global, method: &[u8], args: &Value) -> Result<Answer, AllocError> {
+    /// Answers a call.
+    fn respond(&mut self, alloc: Global, method: &[u8], args: &Value) -> Result<Answer, AllocError>
+        ensures answered { IfOk result (λ answer. plain_answer answer ≡ (handled (calculator_service self.old) method.now (tree_of args.now)).answer) }
+        ensures moved { OnOk result (calculator_service self.new ≡ service_after (calculator_service self.old) method.now (tree_of args.now)) }
+        ensures err { OnErr result (calculator_service self.new ≡ calculator_service self.old) }
+    {
         if method == b"ping".as_slice() {
             return Ok(Answer::Empty);
         }
@@ -221,8 +216,28 @@ impl Handler for Calculator {
         }
         Ok(Answer::Broken)
     }
+}
 
-    ghost kept = { calculator_is_kept };
+impl Handler for Calculator {
+    ghost use Rattle.std.specs.Prelude.{◌≡◌, IfOk, OnOk, OnErr};
+    ghost use Rattle.thrift_value.specs.TreeOf.{tree_of};
+    ghost use Rattle.call_rules.specs.Answers.{plain_answer};
+    ghost use Rattle.call_rules.specs.Handling.{handled, service_after};
+    ghost use Rattle.calculator.specs.Kept.{calculator_service};
+
+    ghost service = { calculator_service };
+
+    fn kind(&self) -> Kind {
+        Kind::Calculator
+    }
+
+    fn suits(&self, shapes: &FnShapes) -> bool {
+        are_shapes(shapes, &SHAPES)
+    }
+
+    fn answer(&mut self, alloc: Global, method: &[u8], args: &Value) -> Result<Answer, AllocError> {
+        self.respond(alloc, method, args)
+    }
 }
 
 /// `add(num1, num2)`

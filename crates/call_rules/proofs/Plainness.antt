@@ -1,6 +1,6 @@
 -- What services answer is plain, and their memories stay of their kind.
 use Rattle.std.proofs.Common.{◌≡◌, ℕ, ℤ, pos, ◌≤◌, ◌+◌, Bool, true, false, cond, List, Option, None, Some, Result, Ok, Err, max, Ordering, Less, Equal, Greater, refl, sym, ap, subst, ◌∙◌, lit≤, arith}
-use Rattle.std.specs.Prelude.{⊤, codes}
+use Rattle.std.specs.Prelude.{⊤, codes, IfOk}
 use Rattle.std.specs.Int.{w32, int_wrapping_add}
 use Rattle.std.proofs.lemmas.Int.{ints}
 use Rattle.text_out.specs.Decimal.{decimal_of}
@@ -16,14 +16,16 @@ use Rattle.thrift_value.specs.Tags.{tag_of}
 use Rattle.thrift_value.specs.Order.{tree_cmp}
 use Rattle.thrift_value.specs.Tidy.{IsTidy, IsWellTagged, AreWellTaggedPairs, AreWellTaggedItems, IsInOrder, AreItemsInOrder}
 use Rattle.thrift_value.specs.Measures.{depth_of, fields_depth, items_depth}
+use Rattle.call_rules.specs.declared.call.Answer.{Answer}
+use Rattle.call_rules.specs.Answers.{plain_answer}
 use Rattle.call_rules.specs.declared.kind.Kind.TheVariants.{Calculator, Store, Mirror}
 use Rattle.call_rules.specs.PlainCalls.{PlainCall, PlainAnswer, success, empty, throws, broken, IsPlainValue, IsPlainAnswer, IsPlainCall}
 use Rattle.call_rules.specs.Handled.{Handled, keeping, or_broken}
-use Rattle.call_rules.specs.Memories.{pairs_in, texts_by, AreTextsBy, value_at, with_value, without_value, map_keys_of}
+use Rattle.call_rules.specs.Memories.{pairs_in, texts_by, AreTextsBy, value_at_key, pairs_with, pairs_without, map_keys_of}
 use Rattle.call_rules.specs.Arguments.{fields_in, first_value, value_with_id, argument, number_passed, bytes_passed, fields_passed}
 use Rattle.call_rules.specs.CalculatorRule.{calculation, invalid_operation, calculated, work_done, calculate_answered, add_answered, kept_struct, get_struct_answered, calculator_rule}
 use Rattle.call_rules.specs.StoreRule.{found_or_empty, kept_at, memory_with, get_answered, put_answered, swap_answered, forget_answered, store_rule, mirror_rule}
-use Rattle.call_rules.specs.Handling.{ServiceState, at_first, IsMemoryOf, IsKept, rule_of, handled, service_after}
+use Rattle.call_rules.specs.Handling.{ServiceState, new_service, IsMemoryOf, HasItsMemory, kind_rule, handled, service_after}
 
 -- bytes are a plain value
 of_bytes_is_plain : (v : Tree) → tag_of v ≡ Bytes → IsPlainValue v
@@ -45,9 +47,9 @@ found_by : (b : Bool) (w v : Tree) (rest : Option Tree) → tag_of w ≡ Bytes �
 found_by true w v rest here later e = subst (λ t. tag_of t ≡ Bytes) (same_Some w v e) here
 found_by false w v rest here later e = later e
 
-value_is_bytes : (tag : Tag) (key : Tree) (pairs : PairTrees) → AreWellTaggedPairs tag Bytes pairs → (v : Tree) → value_at key pairs ≡ Some v → tag_of v ≡ Bytes
+value_is_bytes : (tag : Tag) (key : Tree) (pairs : PairTrees) → AreWellTaggedPairs tag Bytes pairs → (v : Tree) → value_at_key key pairs ≡ Some v → tag_of v ≡ Bytes
 value_is_bytes tag key no_pairs are v e = absurd (none-some v e)
-value_is_bytes tag key (pair k w more) are v e = found_by (is_eq (tree_cmp key k)) w v (value_at key more) are.1 (value_is_bytes tag key more are.4 v) e
+value_is_bytes tag key (pair k w more) are v e = found_by (is_eq (tree_cmp key k)) w v (value_at_key key more) are.1 (value_is_bytes tag key more are.4 v) e
 
 -- a text that is put keeps them
 put_by : (o : Ordering) (tag : Tag) (key value k v : Tree) (more rest : PairTrees) → tag_of key ≡ tag → IsWellTagged key → tag_of value ≡ Bytes → IsWellTagged value
@@ -58,10 +60,10 @@ put_by Equal tag key value k v more rest is_key tagged is_value value_tagged are
 put_by Greater tag key value k v more rest is_key tagged is_value value_tagged are later = (are.0, are.1, are.2, are.3, later)
 
 put_keeps : (tag : Tag) (key value : Tree) (pairs : PairTrees) → tag_of key ≡ tag → IsWellTagged key → tag_of value ≡ Bytes → IsWellTagged value
-    → AreWellTaggedPairs tag Bytes pairs → AreWellTaggedPairs tag Bytes (with_value key value pairs)
+    → AreWellTaggedPairs tag Bytes pairs → AreWellTaggedPairs tag Bytes (pairs_with key value pairs)
 put_keeps tag key value no_pairs is_key tagged is_value value_tagged are = (is_key, is_value, tagged, value_tagged, tt)
 put_keeps tag key value (pair k v more) is_key tagged is_value value_tagged are =
-    put_by (tree_cmp key k) tag key value k v more (with_value key value more) is_key tagged is_value value_tagged are
+    put_by (tree_cmp key k) tag key value k v more (pairs_with key value more) is_key tagged is_value value_tagged are
     (put_keeps tag key value more is_key tagged is_value value_tagged are.4)
 
 -- and so does one that is taken out
@@ -70,10 +72,10 @@ taken_by : (b : Bool) (tag : Tag) (k v : Tree) (more rest : PairTrees) → AreWe
 taken_by true tag k v more rest are later = are.4
 taken_by false tag k v more rest are later = (are.0, are.1, are.2, are.3, later)
 
-take_keeps : (tag : Tag) (key : Tree) (pairs : PairTrees) → AreWellTaggedPairs tag Bytes pairs → AreWellTaggedPairs tag Bytes (without_value key pairs)
+take_keeps : (tag : Tag) (key : Tree) (pairs : PairTrees) → AreWellTaggedPairs tag Bytes pairs → AreWellTaggedPairs tag Bytes (pairs_without key pairs)
 take_keeps tag key no_pairs are = tt
 take_keeps tag key (pair k v more) are =
-    taken_by (is_eq (tree_cmp key k)) tag k v more (without_value key more) are (take_keeps tag key more are.4)
+    taken_by (is_eq (tree_cmp key k)) tag k v more (pairs_without key more) are (take_keeps tag key more are.4)
 
 -- the keys of texts by texts are a plain list
 keys_tagged : (pairs : PairTrees) → AreWellTaggedPairs Bytes Bytes pairs → AreWellTaggedItems Bytes (map_keys_of pairs)
@@ -159,11 +161,11 @@ struct_is_plain key None are = tt
 struct_is_plain key (Some text) are = two_fields key text (are text refl)
 
 get_struct_good : (memory : Tree) (a : Option ℤ) → AreTextsBy I32 memory
-    → IsGood I32 (or_broken memory a (λ key. keeping memory (kept_struct key (value_at (of_i32 key) (pairs_in memory)))))
+    → IsGood I32 (or_broken memory a (λ key. keeping memory (kept_struct key (value_at_key (of_i32 key) (pairs_in memory)))))
 get_struct_good memory None are = kept_good I32 memory broken tt are
 get_struct_good memory (Some key) are =
-    kept_good I32 memory (kept_struct key (value_at (of_i32 key) (pairs_in memory)))
-    (struct_is_plain key (value_at (of_i32 key) (pairs_in memory)) (value_is_bytes I32 (of_i32 key) (pairs_in memory) (pairs_are I32 memory are))) are
+    kept_good I32 memory (kept_struct key (value_at_key (of_i32 key) (pairs_in memory)))
+    (struct_is_plain key (value_at_key (of_i32 key) (pairs_in memory)) (value_is_bytes I32 (of_i32 key) (pairs_in memory) (pairs_are I32 memory are))) are
 
 calculator_good : (memory : Tree) (method : List ℕ) (args : Tree) → AreTextsBy I32 memory → IsGood I32 (calculator_rule memory method args)
 unfolding add_answered calculate_answered get_struct_answered
@@ -183,7 +185,7 @@ found_is_plain (Some v) plain = plain v refl
 
 kept_at_is_plain : (memory : Tree) (key : List ℕ) → AreTextsBy Bytes memory → IsPlainAnswer (kept_at memory key)
 kept_at_is_plain memory key are =
-    found_is_plain (value_at (of_bytes key) (pairs_in memory))
+    found_is_plain (value_at_key (of_bytes key) (pairs_in memory))
     (λ v e. of_bytes_is_plain v (value_is_bytes Bytes (of_bytes key) (pairs_in memory) (pairs_are Bytes memory are) v e))
 
 stored : (memory : Tree) (key text : List ℕ) → AreTextsBy Bytes memory → AreTextsBy Bytes (memory_with memory key text)
@@ -202,10 +204,10 @@ put_good memory answer (Some key) (Some text) plain are =
     good Bytes (record { answer = answer key; memory = memory_with memory key text }) (plain key) (stored memory key text are)
 
 forget_good : (memory : Tree) (a : Option (List ℕ)) → AreTextsBy Bytes memory
-    → IsGood Bytes (or_broken memory a (λ key. record { answer = empty; memory = texts_by Bytes (without_value (of_bytes key) (pairs_in memory)) }))
+    → IsGood Bytes (or_broken memory a (λ key. record { answer = empty; memory = texts_by Bytes (pairs_without (of_bytes key) (pairs_in memory)) }))
 forget_good memory None are = kept_good Bytes memory broken tt are
 forget_good memory (Some key) are =
-    good Bytes (record { answer = empty; memory = texts_by Bytes (without_value (of_bytes key) (pairs_in memory)) }) tt
+    good Bytes (record { answer = empty; memory = texts_by Bytes (pairs_without (of_bytes key) (pairs_in memory)) }) tt
     (refl, refl, take_keeps Bytes (of_bytes key) (pairs_in memory) (pairs_are Bytes memory are))
 
 store_good : (memory : Tree) (method : List ℕ) (args : Tree) → AreTextsBy Bytes memory → IsGood Bytes (store_rule memory method args)
@@ -232,25 +234,32 @@ first_is_plain _ plain = tt
 
 -- ---- all kinds
 
-rule_is_plain : (kind : Kind) (memory : Tree) (method : List ℕ) (args : Tree) → IsMemoryOf kind memory → IsPlainValue args → IsPlainAnswer (rule_of kind memory method args).answer
+rule_is_plain : (kind : Kind) (memory : Tree) (method : List ℕ) (args : Tree) → IsMemoryOf kind memory → IsPlainValue args → IsPlainAnswer (kind_rule kind memory method args).answer
 unfolding IsGood
 rule_is_plain Calculator memory method args kept plain = (calculator_good memory method args kept).0
 rule_is_plain Store memory method args kept plain = (store_good memory method args kept).0
 rule_is_plain Mirror memory method args kept plain = first_is_plain args plain
 
-rule_keeps : (kind : Kind) (memory : Tree) (method : List ℕ) (args : Tree) → IsMemoryOf kind memory → IsMemoryOf kind (rule_of kind memory method args).memory
+rule_keeps : (kind : Kind) (memory : Tree) (method : List ℕ) (args : Tree) → IsMemoryOf kind memory → IsMemoryOf kind (kind_rule kind memory method args).memory
 unfolding IsGood
 rule_keeps Calculator memory method args kept = (calculator_good memory method args kept).1
 rule_keeps Store memory method args kept = (store_good memory method args kept).1
 rule_keeps Mirror memory method args kept = kept
 
-pub answers_are_plain : (service : ServiceState) (call : PlainCall) → IsKept service → IsPlainCall call → IsPlainAnswer (handled service call.method call.args).answer
-answers_are_plain service call kept plain = rule_is_plain service.kind service.memory call.method call.args kept plain.plain
+pub answers_are_plain : (service : ServiceState) (method : List ℕ) (args : Tree) → HasItsMemory service → IsPlainValue args → IsPlainAnswer (handled service method args).answer
+answers_are_plain service method args kept plain = rule_is_plain service.kind service.memory method args kept plain
 
-pub services_are_kept : (service : ServiceState) (method : List ℕ) (args : Tree) → IsKept service → IsKept (service_after service method args)
+-- so what was answered as the service answers, where anything was
+pub answered_plainly : {E : Type 0} (service : ServiceState) (method : List ℕ) (args : Tree) (result : Result Answer E) → HasItsMemory service
+    → IfOk result (λ answer. plain_answer answer ≡ (handled service method args).answer)
+    → IsPlainValue args → IfOk result (λ answer. IsPlainAnswer (plain_answer answer))
+answered_plainly service method args (Ok answer) kept is plain = subst IsPlainAnswer (sym is) (answers_are_plain service method args kept plain)
+answered_plainly service method args (Err e) kept is plain = tt
+
+pub services_are_kept : (service : ServiceState) (method : List ℕ) (args : Tree) → HasItsMemory service → HasItsMemory (service_after service method args)
 services_are_kept service method args kept = rule_keeps service.kind service.memory method args kept
 
-pub new_services_are_kept : (kind : Kind) → IsKept (at_first kind)
+pub new_services_are_kept : (kind : Kind) → HasItsMemory (new_service kind)
 new_services_are_kept Calculator = (refl, refl, tt)
 new_services_are_kept Store = (refl, refl, tt)
 new_services_are_kept Mirror = refl

@@ -7,7 +7,7 @@ use Rattle.std.specs.BTreeMap.{insert_entry, is_at}
 use Rattle.thrift_value.specs.Tree.{Tree, of_bytes, PairTrees, no_pairs, pair}
 use Rattle.thrift_value.specs.TreeOf.{pair_trees}
 use Rattle.thrift_value.specs.Order.{tree_cmp}
-use Rattle.call_rules.specs.Memories.{value_at, with_value, without_value, text_pair}
+use Rattle.call_rules.specs.Memories.{value_at_key, pairs_with, pairs_without, text_pair}
 
 module _ {K X : Type 0} (key_tree : K → Tree) (text_in : X → List ℕ) where
   -- the pairs of entries
@@ -20,12 +20,12 @@ module _ {K X : Type 0} (key_tree : K → Tree) (text_in : X → List ℕ) where
   found_by false v rest later same = same
 
   -- a look-up
-  pub value_at-pairs : (q : Tree) (compare : K → Ordering) → ((k : K) → tree_cmp q (key_tree k) ≡ compare k) → (entries : List (K × X))
-      → value_at q (pairs_for entries) ≡ option_map (λ x. of_bytes (text_in x)) (lookup (is_at compare) entries)
-  value_at-pairs q compare alike [] = refl
-  value_at-pairs q compare alike (e ∷ es) =
-      ap (λ o. cond (is_eq o) (Some (of_bytes (text_in e.1))) (value_at q (pairs_for es))) (alike e.0)
-      ∙ found_by (is_eq (compare e.0)) e.1 (value_at q (pairs_for es)) (lookup (is_at compare) es) (value_at-pairs q compare alike es)
+  pub value_at_key-pairs : (q : Tree) (compare : K → Ordering) → ((k : K) → tree_cmp q (key_tree k) ≡ compare k) → (entries : List (K × X))
+      → value_at_key q (pairs_for entries) ≡ option_map (λ x. of_bytes (text_in x)) (lookup (is_at compare) entries)
+  value_at_key-pairs q compare alike [] = refl
+  value_at_key-pairs q compare alike (e ∷ es) =
+      ap (λ o. cond (is_eq o) (Some (of_bytes (text_in e.1))) (value_at_key q (pairs_for es))) (alike e.0)
+      ∙ found_by (is_eq (compare e.0)) e.1 (value_at_key q (pairs_for es)) (lookup (is_at compare) es) (value_at_key-pairs q compare alike es)
 
   taken_by : (b : Bool) (e : K × X) (es later : List (K × X)) (rest : PairTrees) → rest ≡ pairs_for later
       → cond b (pairs_for es) (pair (key_tree e.0) (of_bytes (text_in e.1)) rest) ≡ pairs_for (cond b es (e ∷ later))
@@ -33,12 +33,12 @@ module _ {K X : Type 0} (key_tree : K → Tree) (text_in : X → List ℕ) where
   taken_by false e es later rest same = ap (pair (key_tree e.0) (of_bytes (text_in e.1))) same
 
   -- an entry that is taken out
-  pub without_value-pairs : (q : Tree) (compare : K → Ordering) → ((k : K) → tree_cmp q (key_tree k) ≡ compare k) → (entries : List (K × X))
-      → without_value q (pairs_for entries) ≡ pairs_for (remove_entry (is_at compare) entries)
-  without_value-pairs q compare alike [] = refl
-  without_value-pairs q compare alike (e ∷ es) =
-      ap (λ o. cond (is_eq o) (pairs_for es) (pair (key_tree e.0) (of_bytes (text_in e.1)) (without_value q (pairs_for es)))) (alike e.0)
-      ∙ taken_by (is_eq (compare e.0)) e es (remove_entry (is_at compare) es) (without_value q (pairs_for es)) (without_value-pairs q compare alike es)
+  pub pairs_without-pairs : (q : Tree) (compare : K → Ordering) → ((k : K) → tree_cmp q (key_tree k) ≡ compare k) → (entries : List (K × X))
+      → pairs_without q (pairs_for entries) ≡ pairs_for (remove_entry (is_at compare) entries)
+  pairs_without-pairs q compare alike [] = refl
+  pairs_without-pairs q compare alike (e ∷ es) =
+      ap (λ o. cond (is_eq o) (pairs_for es) (pair (key_tree e.0) (of_bytes (text_in e.1)) (pairs_without q (pairs_for es)))) (alike e.0)
+      ∙ taken_by (is_eq (compare e.0)) e es (remove_entry (is_at compare) es) (pairs_without q (pairs_for es)) (pairs_without-pairs q compare alike es)
 
   put_by : (o : Ordering) (k : K) (v : X) (e : K × X) (es later : List (K × X)) (rest : PairTrees) → rest ≡ pairs_for later
       → match_ordering o (pair (key_tree k) (of_bytes (text_in v)) (pairs_for (e ∷ es))) (pair (key_tree e.0) (of_bytes (text_in v)) (pairs_for es)) (pair (key_tree e.0) (of_bytes (text_in e.1)) rest)
@@ -48,10 +48,10 @@ module _ {K X : Type 0} (key_tree : K → Tree) (text_in : X → List ℕ) where
   put_by Greater k v e es later rest same = ap (pair (key_tree e.0) (of_bytes (text_in e.1))) same
 
   -- an entry that is put
-  pub with_value-pairs : (cmp : K → K → Ordering) (k : K) (v : X) → ((j : K) → tree_cmp (key_tree k) (key_tree j) ≡ cmp k j) → (entries : List (K × X))
-      → with_value (key_tree k) (of_bytes (text_in v)) (pairs_for entries) ≡ pairs_for (insert_entry cmp entries k v)
-  with_value-pairs cmp k v alike [] = refl
-  with_value-pairs cmp k v alike (e ∷ es) =
+  pub pairs_with-pairs : (cmp : K → K → Ordering) (k : K) (v : X) → ((j : K) → tree_cmp (key_tree k) (key_tree j) ≡ cmp k j) → (entries : List (K × X))
+      → pairs_with (key_tree k) (of_bytes (text_in v)) (pairs_for entries) ≡ pairs_for (insert_entry cmp entries k v)
+  pairs_with-pairs cmp k v alike [] = refl
+  pairs_with-pairs cmp k v alike (e ∷ es) =
       ap (λ o. match_ordering o (pair (key_tree k) (of_bytes (text_in v)) (pairs_for (e ∷ es))) (pair (key_tree e.0) (of_bytes (text_in v)) (pairs_for es))
-          (pair (key_tree e.0) (of_bytes (text_in e.1)) (with_value (key_tree k) (of_bytes (text_in v)) (pairs_for es)))) (alike e.0)
-      ∙ put_by (cmp k e.0) k v e es (insert_entry cmp es k v) (with_value (key_tree k) (of_bytes (text_in v)) (pairs_for es)) (with_value-pairs cmp k v alike es)
+      (pair (key_tree e.0) (of_bytes (text_in e.1)) (pairs_with (key_tree k) (of_bytes (text_in v)) (pairs_for es)))) (alike e.0)
+      ∙ put_by (cmp k e.0) k v e es (insert_entry cmp es k v) (pairs_with (key_tree k) (of_bytes (text_in v)) (pairs_for es)) (pairs_with-pairs cmp k v alike es)

@@ -9,7 +9,7 @@ use Rattle.thrift_value.specs.declared.tag.Tag.TheVariants.{I32}
 use Rattle.thrift_value.specs.Tree.{Tree, of_i32, of_bytes, of_struct, FieldTrees, no_fields, field}
 use Rattle.call_rules.specs.PlainCalls.{PlainAnswer, success, empty, throws, broken}
 use Rattle.call_rules.specs.Handled.{Handled, keeping, or_broken}
-use Rattle.call_rules.specs.Memories.{pairs_in, texts_by, value_at, with_value}
+use Rattle.call_rules.specs.Memories.{pairs_in, texts_by, value_at_key, pairs_with}
 use Rattle.call_rules.specs.Arguments.{value_with_id, argument, number_passed, fields_passed}
 
 -- a quotient, truncated; the least number by -1 is itself
@@ -36,7 +36,7 @@ unfoldable pub calculated : Tree → ℤ → ℤ → Result ℤ (List ℕ) → H
 calculated memory logid op (Ok value) =
     record {
       answer = success (of_i32 value);
-      memory = texts_by I32 (with_value (of_i32 logid) (of_bytes (decimal_of value)) (pairs_in memory));
+      memory = texts_by I32 (pairs_with (of_i32 logid) (of_bytes (decimal_of value)) (pairs_in memory));
     }
 calculated memory logid op (Err why) = keeping memory (throws (pos 1) (invalid_operation op why))
 
@@ -71,7 +71,7 @@ kept_struct key (Some text) = success (shared_struct key text)
 -- getStruct(key)
 unfoldable pub get_struct_answered : Tree → Tree → Handled
 get_struct_answered memory args =
-    or_broken memory (number_passed (argument (pos 1) args)) (λ key. keeping memory (kept_struct key (value_at (of_i32 key) (pairs_in memory))))
+    or_broken memory (number_passed (argument (pos 1) args)) (λ key. keeping memory (kept_struct key (value_at_key (of_i32 key) (pairs_in memory))))
 
 -- the calculator's answer to a call of this method
 abbrev pub calculator_rule : Tree → List ℕ → Tree → Handled

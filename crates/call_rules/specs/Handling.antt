@@ -23,8 +23,8 @@ memory_at_first Store = texts_by Bytes no_pairs
 memory_at_first Mirror = of_struct no_fields
 
 -- a new service
-abbrev pub at_first : Kind → ServiceState
-at_first kind = record { kind = kind; memory = memory_at_first kind }
+abbrev pub new_service : Kind → ServiceState
+new_service kind = record { kind = kind; memory = memory_at_first kind }
 
 -- the memory is one of this kind
 abbrev pub IsMemoryOf : Kind → Tree → Type 0
@@ -33,18 +33,18 @@ IsMemoryOf Store memory = AreTextsBy Bytes memory
 IsMemoryOf Mirror memory = memory ≡ of_struct no_fields
 
 -- the service has a memory of its kind
-abbrev pub IsKept : ServiceState → Type 0
-IsKept service = IsMemoryOf service.kind service.memory
+abbrev pub HasItsMemory : ServiceState → Type 0
+HasItsMemory service = IsMemoryOf service.kind service.memory
 
 -- the answer of a kind, at a memory, to a call of this method with these arguments
-abbrev pub rule_of : Kind → Tree → List ℕ → Tree → Handled
-rule_of Calculator memory method args = calculator_rule memory method args
-rule_of Store memory method args = store_rule memory method args
-rule_of Mirror memory method args = mirror_rule memory method args
+abbrev pub kind_rule : Kind → Tree → List ℕ → Tree → Handled
+kind_rule Calculator memory method args = calculator_rule memory method args
+kind_rule Store memory method args = store_rule memory method args
+kind_rule Mirror memory method args = mirror_rule memory method args
 
 -- what a call comes to in a service; its kind stays
 abbrev pub handled : ServiceState → List ℕ → Tree → Handled
-handled service method args = rule_of service.kind service.memory method args
+handled service method args = kind_rule service.kind service.memory method args
 
 -- the service after a call
 abbrev pub service_after : ServiceState → List ℕ → Tree → ServiceState

@@ -24,20 +24,20 @@ AreTextsBy key (of_map k v pairs) = (k ≡ key) × (v ≡ Bytes) × AreWellTagge
 AreTextsBy key _ = ⊥
 
 -- the value at a key
-abbrev pub value_at : Tree → PairTrees → Option Tree
-value_at key no_pairs = None
-value_at key (pair k value more) = if is_eq (tree_cmp key k) then Some value else value_at key more
+abbrev pub value_at_key : Tree → PairTrees → Option Tree
+value_at_key key no_pairs = None
+value_at_key key (pair k value more) = if is_eq (tree_cmp key k) then Some value else value_at_key key more
 
 -- the pairs with this value at the key: in the place of an equal key, or where the key belongs in the order
-abbrev pub with_value : Tree → Tree → PairTrees → PairTrees
-with_value key value no_pairs = pair key value no_pairs
-with_value key value (pair k v more) =
-    match_ordering (tree_cmp key k) (pair key value (pair k v more)) (pair k value more) (pair k v (with_value key value more))
+abbrev pub pairs_with : Tree → Tree → PairTrees → PairTrees
+pairs_with key value no_pairs = pair key value no_pairs
+pairs_with key value (pair k v more) =
+    match_ordering (tree_cmp key k) (pair key value (pair k v more)) (pair k value more) (pair k v (pairs_with key value more))
 
 -- the pairs without the one at the key
-abbrev pub without_value : Tree → PairTrees → PairTrees
-without_value key no_pairs = no_pairs
-without_value key (pair k v more) = if is_eq (tree_cmp key k) then more else pair k v (without_value key more)
+abbrev pub pairs_without : Tree → PairTrees → PairTrees
+pairs_without key no_pairs = no_pairs
+pairs_without key (pair k v more) = if is_eq (tree_cmp key k) then more else pair k v (pairs_without key more)
 
 -- the keys, in order
 abbrev pub map_keys_of : PairTrees → ItemTrees

@@ -1,7 +1,5 @@
 -- Calls and answers as plain data, over trees.
-use Rattle.std.specs.Prelude.{◌≡◌, ◌≢◌, ◌≤◌, ⊤, ℕ, ℤ, pos, Bool, false, ◌||◌, ◌==◌, if◌then◌else◌, List, [], IsTrue, refl}
-use Rattle.std.specs.List.{list_all}
-use Rattle.std.specs.Char.{is_ascii_digit, is_ascii_alphabetic}
+use Rattle.std.specs.Prelude.{◌≡◌, ◌≤◌, ⊤, ℕ, ℤ, pos, Bool, false, ◌&&◌, ◌||◌, ◌==◌, nat_le, if◌then◌else◌, List, length, All, IsTrue, refl}
 use Rattle.std.specs.Coded.{Coded, code_by, coded×, coded_ℕ, coded_ℤ, coded_bool, coded_list}
 use Rattle.thrift_value.specs.Tree.{Tree, of_bool, of_struct}
 use Rattle.thrift_value.specs.Tidy.{IsTidy}
@@ -24,17 +22,18 @@ pub data PlainAnswer : Type 0 where
   broken : PlainAnswer
 
 -- a letter, a digit or `_` (Thrift IDL, 'Identifier')
-abbrev pub is_name_byte : ℕ → Bool
-is_name_byte b = is_ascii_alphabetic b || is_ascii_digit b || b == 95
+abbrev pub is_method_byte : ℕ → Bool
+is_method_byte b =
+    (nat_le 48 b && nat_le b 57) || (nat_le 65 b && nat_le b 90) || (nat_le 97 b && nat_le b 122) || b == 95
 
 -- the most levels that the values of a call and of an answer have
-abbrev pub most_levels : ℕ
-most_levels = 64
+abbrev pub deepest_plain : ℕ
+deepest_plain = 64
 
 -- a value that a message has room for: tidy, and not too deep
 pub record IsPlainValue (value : Tree) : Type 0 where
   pub tidy : IsTidy value
-  pub levels : depth_of value ≤ most_levels
+  pub levels : depth_of value ≤ deepest_plain
 
 -- the value is a struct
 abbrev pub IsStruct : Tree → Type 0
@@ -43,8 +42,8 @@ IsStruct _ = ⊥
 
 -- a call that names a method and has the arguments of one
 pub record IsPlainCall (call : PlainCall) : Type 0 where
-  pub named : call.method ≢ []
-  pub word : IsTrue (list_all is_name_byte call.method)
+  pub some : 1 ≤ length call.method
+  pub word : All (λ b. IsTrue (is_method_byte b)) call.method
   pub arguments : IsStruct call.args
   pub plain : IsPlainValue call.args
 

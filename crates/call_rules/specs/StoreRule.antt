@@ -5,7 +5,7 @@ use Rattle.thrift_value.specs.declared.tag.Tag.TheVariants.{Bytes}
 use Rattle.thrift_value.specs.Tree.{Tree, of_bytes, of_list}
 use Rattle.call_rules.specs.PlainCalls.{PlainAnswer, success, empty, broken}
 use Rattle.call_rules.specs.Handled.{Handled, keeping, or_broken}
-use Rattle.call_rules.specs.Memories.{pairs_in, texts_by, value_at, with_value, without_value, map_keys_of}
+use Rattle.call_rules.specs.Memories.{pairs_in, texts_by, value_at_key, pairs_with, pairs_without, map_keys_of}
 use Rattle.call_rules.specs.Arguments.{argument, first_value, fields_in, bytes_passed}
 
 -- a value, where there is one
@@ -15,11 +15,11 @@ found_or_empty (Some value) = success value
 
 -- the text that is kept under a key
 abbrev pub kept_at : Tree → List ℕ → PlainAnswer
-kept_at memory key = found_or_empty (value_at (of_bytes key) (pairs_in memory))
+kept_at memory key = found_or_empty (value_at_key (of_bytes key) (pairs_in memory))
 
 -- the memory with this text under the key
 unfoldable pub memory_with : Tree → List ℕ → List ℕ → Tree
-memory_with memory key text = texts_by Bytes (with_value (of_bytes key) (of_bytes text) (pairs_in memory))
+memory_with memory key text = texts_by Bytes (pairs_with (of_bytes key) (of_bytes text) (pairs_in memory))
 
 -- get(key)
 unfoldable pub get_answered : Tree → Tree → Handled
@@ -42,7 +42,7 @@ swap_answered memory args =
 unfoldable pub forget_answered : Tree → Tree → Handled
 forget_answered memory args =
     or_broken memory (bytes_passed (argument (pos 1) args)) (λ key.
-    record { answer = empty; memory = texts_by Bytes (without_value (of_bytes key) (pairs_in memory)) })
+    record { answer = empty; memory = texts_by Bytes (pairs_without (of_bytes key) (pairs_in memory)) })
 
 -- the store's answer to a call of this method
 abbrev pub store_rule : Tree → List ℕ → Tree → Handled

@@ -16,7 +16,7 @@ store_shapes =
     ∷ codes "swap(1:bytes,2:bytes):bytes" ∷ []
 
 -- a handler of this kind can serve a service of these shapes; a mirror can serve any
-abbrev pub Suits : Kind → List (List ℕ) → Type 0
-Suits Calculator shapes = shapes ≡ calculator_shapes
-Suits Store shapes = shapes ≡ store_shapes
-Suits Mirror shapes = ⊤
+abbrev pub IsSuited : Kind → List (List ℕ) → Type 0
+IsSuited Calculator shapes = shapes ≡ calculator_shapes
+IsSuited Store shapes = shapes ≡ store_shapes
+IsSuited Mirror shapes = ⊤

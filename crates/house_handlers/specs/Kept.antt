@@ -5,7 +5,7 @@ use Rattle.thrift_value.specs.declared.tag.Tag.TheVariants.{Bytes}
 use Rattle.thrift_value.specs.Tree.{Tree, of_bytes, of_struct, no_fields}
 use Rattle.call_rules.specs.declared.kind.Kind.TheVariants as kinds
 use Rattle.call_rules.specs.Memories.{texts_tree, texts_tree_is}
-use Rattle.call_rules.specs.Handling.{ServiceState, IsKept, at_first}
+use Rattle.call_rules.specs.Handling.{ServiceState, HasItsMemory, new_service}
 use Rattle.house_handlers.specs.declared.store_handler.Store.{Store}
 use Rattle.house_handlers.specs.declared.mirror_handler.Mirror.{Mirror}
 
@@ -22,12 +22,12 @@ abbrev pub store_service : Store → ServiceState
 store_service store = record { kind = kinds.Store; memory = store_memory store }
 
 -- its memory is of its kind
-pub store_is_kept : (store : Store) → IsKept (store_service store)
+pub store_is_kept : (store : Store) → HasItsMemory (store_service store)
 store_is_kept store = texts_tree_is Bytes key_tree (λ text. text) (λ _. refl) (λ _. tt) store.texts.entries
 
 -- a mirror keeps nothing
 abbrev pub mirror_service : Mirror → ServiceState
-mirror_service mirror = at_first kinds.Mirror
+mirror_service mirror = new_service kinds.Mirror
 
-pub mirror_is_kept : (mirror : Mirror) → IsKept (mirror_service mirror)
+pub mirror_is_kept : (mirror : Mirror) → HasItsMemory (mirror_service mirror)
 mirror_is_kept mirror = refl

@@ -57,14 +57,14 @@ impl Store {
     ghost use Rattle.thrift_value.specs.TreeOf.{tree_of, item_trees};
     ghost use Rattle.call_rules.specs.declared.kind.Kind.TheVariants as kinds;
     ghost use Rattle.call_rules.specs.Answers.{plain_answer};
-    ghost use Rattle.call_rules.specs.Handling.{at_first};
-    ghost use Rattle.call_rules.specs.Memories.{pairs_in, texts_by, value_at, without_value, map_keys_of};
+    ghost use Rattle.call_rules.specs.Handling.{new_service};
+    ghost use Rattle.call_rules.specs.Memories.{pairs_in, texts_by, value_at_key, pairs_without, map_keys_of};
     ghost use Rattle.call_rules.specs.StoreRule.{found_or_empty, memory_with, get_answered, put_answered, swap_answered, forget_answered};
     ghost use Rattle.house_handlers.specs.Kept.{store_memory, store_service};
 
     /// A store of nothing; takes no memory.
     pub fn new(alloc: Global) -> Self
-        ensures { store_service result ≡ at_first kinds.Store }
+        ensures { store_service result ≡ new_service kinds.Store }
     {
         Store {
             texts: BTreeMap::new(alloc),
@@ -78,7 +78,7 @@ impl Store {
         key: &[u8],
         text: &[u8],
     ) -> Result<Option<ByteText>, AllocError>
-        ensures found { IfOk result (λ old. option_map of_bytes old ≡ value_at (of_bytes key.now) (pairs_in (store_memory self.old))) }
+        ensures found { IfOk result (λ old. option_map of_bytes old ≡ value_at_key (of_bytes key.now) (pairs_in (store_memory self.old))) }
         ensures kept { OnOk result (store_memory self.new ≡ memory_with (store_memory self.old) key.now text.now) }
         ensures err { OnErr result (store_memory self.new ≡ store_memory self.old) }
     {
@@ -89,7 +89,7 @@ impl Store {
 
     /// Enters a text under a key, and gives back the one that was kept there.
     fn enter(&mut self, key: Vec<u8>, text: ByteText) -> Result<Option<ByteText>, AllocError>
-        ensures found { IfOk result (λ old. option_map of_bytes old ≡ value_at (of_bytes key.items) (pairs_in (store_memory self.old))) }
+        ensures found { IfOk result (λ old. option_map of_bytes old ≡ value_at_key (of_bytes key.items) (pairs_in (store_memory self.old))) }
         ensures kept { OnOk result (store_memory self.new ≡ memory_with (store_memory self.old) key.items text) }
         ensures err { OnErr result (store_memory self.new ≡ store_memory self.old) }
     {
@@ -98,14 +98,14 @@ impl Store {
 
     /// The text that is kept under a key, where there is one.
     fn kept(&self, key: &[u8]) -> Option<&ByteText>
-        ensures { option_map (λ text. of_bytes text) (option_copied result) ≡ value_at (of_bytes key.now) (pairs_in (store_memory self.now)) }
+        ensures { option_map (λ text. of_bytes text) (option_copied result) ≡ value_at_key (of_bytes key.now) (pairs_in (store_memory self.now)) }
     {
         self.texts.get(key)
     }
 
     /// Takes a key out.
     fn take_out(&mut self, key: &[u8])
-        ensures { store_memory self.new ≡ texts_by tags.Bytes (without_value (of_bytes key.now) (pairs_in (store_memory self.old))) }
+        ensures { store_memory self.new ≡ texts_by tags.Bytes (pairs_without (of_bytes key.now) (pairs_in (store_memory self.old))) }
     {
         let _text = self.texts.remove(key);
     }
@@ -125,7 +125,7 @@ impl Store {
 
     /// A copy of the text that is kept under a key, where there is one.
     fn copied(&self, alloc: Global, key: &[u8]) -> Result<Option<ByteText>, AllocError>
-        ensures { IfOk result (λ found. option_map of_bytes found ≡ value_at (of_bytes key.now) (pairs_in (store_memory self.now))) }
+        ensures { IfOk result (λ found. option_map of_bytes found ≡ value_at_key (of_bytes key.now) (pairs_in (store_memory self.now))) }
     {
         match self.kept(key) {
             None => Ok(None),
@@ -199,22 +199,19 @@ impl Store {
     }
 }
 
-impl Handler for Store {
-    ghost use Rattle.house_handlers.specs.Kept.{store_service, store_is_kept};
+impl Store {
+    ghost use Rattle.std.specs.Prelude.{◌≡◌, IfOk, OnOk, OnErr};
+    ghost use Rattle.thrift_value.specs.TreeOf.{tree_of};
+    ghost use Rattle.call_rules.specs.Answers.{plain_answer};
+    ghost use Rattle.call_rules.specs.Handling.{handled, service_after};
+    ghost use Rattle.house_handlers.specs.Kept.{store_service};
 
-    ghost service = { store_service };
-
-    ghost kept = { store_is_kept };
-
-    fn kind(&self) -> Kind {
-        Kind::Store
-    }
-
-    fn suits(&self, shapes: &FnShapes) -> bool {
-        are_shapes(shapes, &SHAPES)
-    }
-
-    fn answer(&mut self, alloc: Global, method: &[u8], args: &Value) -> Result<Answer, AllocError> {
+    /// Answers a call.
+    fn respond(&mut self, alloc: Global, method: &[u8], args: &Value) -> Result<Answer, AllocError>
+        ensures answered { IfOk result (λ answer. plain_answer answer ≡ (handled (store_service self.old) method.now (tree_of args.now)).answer) }
+        ensures moved { OnOk result (store_service self.new ≡ service_after (store_service self.old) method.now (tree_of args.now)) }
+        ensures err { OnErr result (store_service self.new ≡ store_service self.old) }
+    {
         if method == b"get".as_slice() {
             return self.get(alloc, args);
         }
@@ -231,5 +228,23 @@ impl Handler for Store {
             return Ok(self.forget(args));
         }
         Ok(Answer::Broken)
+    }
+}
+
+impl Handler for Store {
+    ghost use Rattle.house_handlers.specs.Kept.{store_service};
+
+    ghost service = { store_service };
+
+    fn kind(&self) -> Kind {
+        Kind::Store
+    }
+
+    fn suits(&self, shapes: &FnShapes) -> bool {
+        are_shapes(shapes, &SHAPES)
+    }
+
+    fn answer(&mut self, alloc: Global, method: &[u8], args: &Value) -> Result<Answer, AllocError> {
+        self.respond(alloc, method, args)
     }
 }

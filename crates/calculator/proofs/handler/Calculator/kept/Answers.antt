@@ -5,7 +5,7 @@ use Rattle.std.specs.BTreeMap.{get_by}
 use Rattle.std.specs.Option.{option_map}
 use Rattle.std.specs.Ordering.{int_cmp}
 use Rattle.thrift_value.specs.Tree.{Tree, of_i32, of_bytes}
-use Rattle.call_rules.proofs.TextMaps.{value_at-pairs}
+use Rattle.call_rules.proofs.TextMaps.{value_at_key-pairs}
 use Rattle.calculator.proofs.handler.Calculator.kept.Goals as goal
 
 -- the tree of a text, where there is one
@@ -17,4 +17,4 @@ unfolding text_found
 returns c =
     ap text_found c.get.ensures.value
     ∙ ap (λ (k : ℤ). text_found (get_by (int_cmp k) c.args.self.now.texts)) (to_z-of_z w32 c.args.key c.ranges.key)
-    ∙ sym (value_at-pairs of_i32 (λ text. text) (of_i32 c.args.key) (int_cmp c.args.key) (λ _. refl) c.args.self.now.texts.entries)
+    ∙ sym (value_at_key-pairs of_i32 (λ text. text) (of_i32 c.args.key) (int_cmp c.args.key) (λ _. refl) c.args.self.now.texts.entries)

@@ -4,7 +4,7 @@ use Rattle.thrift_value.specs.declared.tag.Tag.TheVariants.{Bytes}
 use Rattle.thrift_value.specs.Tree.{Tree, of_bytes}
 use Rattle.call_rules.specs.Memories.{texts_by, texts_tree}
 use Rattle.call_rules.specs.StoreRule.{memory_with}
-use Rattle.call_rules.proofs.TextMaps.{value_at-pairs, with_value-pairs}
+use Rattle.call_rules.proofs.TextMaps.{value_at_key-pairs, pairs_with-pairs}
 use Rattle.house_handlers.specs.Kept.{key_tree}
 use Rattle.house_handlers.proofs.store_handler.Store.enter.Goals as goal
 
@@ -20,10 +20,10 @@ pub returns-clause-found : goal.returns-clause-found
 unfolding text_found
 returns-clause-found c =
     ap text_found c.in_ok-insert.ensures.old
-    ∙ sym (value_at-pairs key_tree (λ text. text) (of_bytes c.args.key.items) _ (λ _. refl) c.args.self.now.texts.entries)
+    ∙ sym (value_at_key-pairs key_tree (λ text. text) (of_bytes c.args.key.items) _ (λ _. refl) c.args.self.now.texts.entries)
 
 pub returns-clause-kept : goal.returns-clause-kept
 unfolding memory_of memory_with
 returns-clause-kept c =
     ap memory_of c.in_ok-insert.ensures.entries
-    ∙ ap (texts_by Bytes) (sym (with_value-pairs key_tree (λ text. text) _ c.args.key c.args.text (λ _. refl) c.args.self.now.texts.entries))
+    ∙ ap (texts_by Bytes) (sym (pairs_with-pairs key_tree (λ text. text) _ c.args.key c.args.text (λ _. refl) c.args.self.now.texts.entries))

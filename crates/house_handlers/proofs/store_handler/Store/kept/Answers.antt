@@ -1,7 +1,7 @@
 use Rattle.std.proofs.Common.{List, ℕ, Option, refl, sym, ap, ◌∙◌}
 use Rattle.std.specs.Option.{option_map}
 use Rattle.thrift_value.specs.Tree.{Tree, of_bytes}
-use Rattle.call_rules.proofs.TextMaps.{value_at-pairs}
+use Rattle.call_rules.proofs.TextMaps.{value_at_key-pairs}
 use Rattle.house_handlers.specs.Kept.{key_tree}
 use Rattle.house_handlers.proofs.store_handler.Store.kept.Goals as goal
 
@@ -13,4 +13,4 @@ pub returns : goal.returns
 unfolding text_found
 returns c =
     ap text_found c.get.ensures.value
-    ∙ sym (value_at-pairs key_tree (λ text. text) (of_bytes c.args.key.now) _ (λ _. refl) c.args.self.now.texts.entries)
+    ∙ sym (value_at_key-pairs key_tree (λ text. text) (of_bytes c.args.key.now) _ (λ _. refl) c.args.self.now.texts.entries)
