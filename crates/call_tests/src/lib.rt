@@ -1,0 +1,7 @@
+//! Tests of calls and their handlers.
+#![tactic(auto)]
+
+#[cfg(test)]
+mod handlers;
+#[cfg(test)]
+mod values;
