@@ -21,7 +21,7 @@ use Rattle.machine_model.proofs.Summing.{sum_outside, sum_changed, open_sum}
 abbrev opens_of : LoopConn → ℕ
 opens_of conn = count_if_open conn.cause
 
-counted-append : (f : Mark → ℕ) (xs ys : List Mark) → marks_counted f (xs ++ ys) ≡ marks_counted f xs + marks_counted f ys
+pub counted-append : (f : Mark → ℕ) (xs ys : List Mark) → marks_counted f (xs ++ ys) ≡ marks_counted f xs + marks_counted f ys
 counted-append f [] ys = omega arith
 counted-append f (x ∷ xs) ys = let t : marks_counted f (xs ++ ys) ≡ marks_counted f xs + marks_counted f ys = counted-append f xs ys in omega arith
 

@@ -15,6 +15,10 @@ pub mod Extending
 pub mod Breaking
 pub mod Telling
 pub mod Fronts
+pub mod Taping
+pub mod Budgeting
+pub mod Ending
+pub mod Pausing
 pub mod Determining
 pub mod Summing
 pub mod Fitting

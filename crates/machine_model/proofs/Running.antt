@@ -114,7 +114,7 @@ module _ {C A M : Type 0} (d : DeskRules C A) (r : ServiceRules C A M) (opening 
       }
 
   -- a connection that has a cause has ended in the world
-  ended : (es : List (JournalEntry C A)) (conn : LoopConn) (endpoint : Endpoint) (place : PayloadPlace) (cause : EndCause) → conn.cause ≡ Some cause
+  pub ended : (es : List (JournalEntry C A)) (conn : LoopConn) (endpoint : Endpoint) (place : PayloadPlace) (cause : EndCause) → conn.cause ≡ Some cause
       → (place ≡ collected_all) ⊎ IsCalledOrNot d es conn.payloads → StageIs d es conn endpoint.stage place → World.HasEnded endpoint.stage (Some cause)
   ended es conn endpoint collected_all cause e phase t = subst (λ k. Rests k conn.left endpoint.stage) e t
   ended es conn endpoint ready cause e (inl q) t = absurd (let f : ⊥ = cc in f)

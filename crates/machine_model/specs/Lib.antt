@@ -11,6 +11,8 @@ pub mod Worker
 pub mod Machine
 pub mod Bounds
 pub mod OpenAtFronts
+pub mod AtFronts
+pub mod Resting
 pub mod Places
 pub mod Merge
 pub mod Plain

@@ -22,4 +22,5 @@
 
 pub mod examples;
 pub mod laws;
+pub mod moments;
 pub mod plain;
