@@ -21,7 +21,7 @@ use Rattle.host_model.proofs.Filters.{entries_same, entries_other, of_entry}
 use Rattle.outside.specs.declared.outcomes.Settled.{Settled}
 use Rattle.outside.specs.declared.outcomes.Settled.TheVariants.{Reply, Nothing, Close as Refused, NoMemory}
 use Rattle.machine_model.specs.HallState.{key_of, HallState, without}
-use Rattle.machine_model.specs.HallRule.{HallOperation, submit, take_job, apply, put, collect, close, HallAnswer, done, job, empty, is_closed, applied, no_memory, journal_fault, is_broken, outcome, job_of, outcome_of, entry_under, ApplyGives, HallGives}
+use Rattle.machine_model.specs.HallRule.{HallOperation, submit, take_job, apply, put, collect, close, HallAnswer, done, job, empty, is_closed, applied, no_memory, journal_fault, is_broken, outcome, job_of, outcome_of, entry_under, TakesEffect, ApplyGives, HallGives}
 use Rattle.machine_model.specs.Determined.{IsApply}
 use Rattle.machine_model.specs.Loop.{LoopConn, new_conn, Loop, IsOpen, FrameProgress, part, bad_size, whole, read_more, with_conn, changed, ConnEvent, opens, reads, ends, fails_read, writes, fails_write, gives_up, Happens, conn_settled, LoopAsks}
 use Rattle.machine_model.specs.Worker.{WorkerState, holds, key_held}
@@ -108,6 +108,18 @@ module _ (old : Loop) where
   ask_more (apply key call) answer new h = absurd h
   ask_more (put key settled) answer new h = absurd h
 
+none_less_then : (mid old new : Loop) → NoneLess mid old → NoneLess old new → NoneLess mid new
+none_less_then mid old new a b =
+    let ac : mid.count ≤ old.count = a.count in
+    let bc : old.count ≤ new.count = b.count in
+    record {
+      count = omega arith;
+      collected = λ c l.
+          let x : (mid.conns c).collected ≤ (old.conns c).collected = a.collected c l in
+          let y : (old.conns c).collected ≤ (new.conns c).collected = b.collected c (omega arith) in
+          omega arith;
+    }
+
 module _ {C A M : Type 0} where
   abbrev journal_in : HallState C A M → List (JournalEntry C A)
   journal_in hall = hall.journal
@@ -141,7 +153,7 @@ module _ {C A M : Type 0} where
   journal_more r old key call faults (applied answer) new t = inr (entry_under key call answer, refl, ap journal_in t.1.1)
   journal_more r old key call faults no_memory new t = go t.1
     where
-      go : _ → MayEnter old key new
+      go : (new ≡ record old { faults = faults }) ⊎ ((answer : A) × TakesEffect r old key call answer faults new) → MayEnter old key new
       go (inl e) = inl (ap journal_in e)
       go (inr u) = inr (entry_under key call u.0, refl, ap journal_in u.1.1)
   journal_more r old key call faults journal_fault new t = inl (ap journal_in t.2)
@@ -154,18 +166,6 @@ module _ {C A M : Type 0} where
     entries : List (JournalEntry C A)
     journal : cell.hall.journal ≡ mid.hall.journal ++ entries
     later : AllByRecursion (λ (e : JournalEntry C A). e.key.c < mid.loop.count → (mid.loop.conns e.key.c).collected ≤ e.key.i) entries
-
-  none_less_then : (mid old new : Loop) → NoneLess mid old → NoneLess old new → NoneLess mid new
-  none_less_then mid old new a b =
-      let ac : mid.count ≤ old.count = a.count in
-      let bc : old.count ≤ new.count = b.count in
-      record {
-        count = omega arith;
-        collected = λ c l.
-            let x : (mid.conns c).collected ≤ (old.conns c).collected = a.collected c l in
-            let y : (old.conns c).collected ≤ (new.conns c).collected = b.collected c (omega arith) in
-            omega arith;
-      }
 
   -- no entry is added
   behind_quiet : (mid old new : Cell C A M) → IsBehind mid old → NoneLess old.loop new.loop → new.hall.journal ≡ old.hall.journal → IsBehind mid new
@@ -250,11 +250,10 @@ module _ {C A M : Type 0} (d : DeskRules C A) (r : ServiceRules C A M) (opening 
       → AllByRecursion (λ (e : JournalEntry C A). e.key.c < mid.loop.count → (mid.loop.conns e.key.c).collected ≤ e.key.i) entries
       → AllByRecursion (λ (e : JournalEntry C A). e.key.c ≡ c → (mid.loop.conns c).collected ≤ e.key.i) entries
   later_of mid c l [] a = tt
-  later_of mid c l (e ∷ entries) a =
-      (
-        λ same. subst (λ y. (mid.loop.conns y).collected ≤ e.key.i) same (a.0 (subst (λ y. y < mid.loop.count) (sym same) l)),
-        later_of mid c l entries a.1,
-      )
+  later_of mid c l (e ∷ entries) a = (
+    λ same. subst (λ y. (mid.loop.conns y).collected ≤ e.key.i) same (a.0 (subst (λ y. y < mid.loop.count) (sym same) l)),
+    later_of mid c l entries a.1,
+  )
 
   -- a frame that is whole at a loop's tape is one of its connection's payloads
   whole_within : (loop : Loop) (f : JournalEntry C A) → TapeTells d.max loop → IsWhole d loop.tape f → (f.key.c < loop.count) × (f.key.i < length (loop.conns f.key.c).payloads)
