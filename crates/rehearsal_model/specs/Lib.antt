@@ -1,0 +1,4 @@
+pub mod ScriptLines
+pub mod Writing
+pub mod RestLines
+pub mod Fed

@@ -1,0 +1,13 @@
+//! What a script of many connections makes of a run, by definitions and laws alone: its lines and write rules as plain data,
+//! and which runs it feeds. Desk and services are given, so that it stands for any. It reads no text, and nothing runs.
+//!
+//! The files of `specs/`, in reading order: the lines of a script, and what they say of each connection; how much each write
+//! takes under its rule; what a line of rest asks of a run; and the run that a script feeds. A crate that runs scripts says
+//! in its contract that its run is fed, and so meets the headline with these bytes:
+//!
+//! ```rust
+//! ensures fed { IsFed desk budget (plain_script script.now) result.tape.items (journal_of result) }
+//! ```
+#![tactic(auto)]
+
+pub mod laws;
