@@ -19,10 +19,10 @@ use Rattle.script_model.specs.Feeding.{EachReadTakesItsPart}
 use Rattle.script_model.specs.Sending.{EachWriteTakesTheRest}
 use Rattle.script_model.specs.Rehearsal.{is_scripted, IsReadToItsEnd, FollowsArrival, IsRunOn}
 use Rattle.script_model.proofs.Marked.{kind_of, all_own, own_filter}
-use Rattle.rehearsal_model.specs.ScriptLines.{ScriptLine, opening, piece, input_end, resting, ScriptPlan, openings, piece_by, pieces_of, ends_input, some_line, numbers_from}
+use Rattle.rehearsal_model.specs.ScriptLines.{ScriptLine, opening, piece, input_end, resting, ScriptPlan, openings, piece_by, pieces_on, ends_input, some_line, count_up}
 use Rattle.rehearsal_model.specs.Writing.{KeepsItsRules}
 use Rattle.rehearsal_model.specs.RestLines.{opened_by, opened_in, HasPlaceFor}
-use Rattle.rehearsal_model.specs.Fed.{IsReadFrom, IsFed, script_of_one}
+use Rattle.rehearsal_model.specs.Fed.{IsReadFrom, IsFedBy, script_of_one}
 
 -- what holds of all elements holds of one among them
 all_at : {X : Type 0} (P : X → Type 0) (xs ys : List X) (x : X) → AllByRecursion P (xs ++ x ∷ ys) → P x
@@ -108,7 +108,7 @@ read_all WriteFault read all ws ys s r e = absurd (false≢true s)
 read_all Stopped read all ws ys s r e = absurd (false≢true s)
 
 -- what the script of one connection says
-pieces_there : (pieces : List (List ℕ)) → pieces_of 0 (map (piece 0) pieces ++ input_end 0 ∷ []) ≡ pieces
+pieces_there : (pieces : List (List ℕ)) → pieces_on 0 (map (piece 0) pieces ++ input_end 0 ∷ []) ≡ pieces
 pieces_there [] = refl
 pieces_there (p ∷ pieces) = ap (λ ps. p ∷ ps) (pieces_there pieces)
 
@@ -185,11 +185,11 @@ module _ {C A M : Type 0} (d : DeskRules C A) (r : ServiceRules C A M) (memories
       true≢false
       (sym is ∙ all_at (λ y. (kind_of y == k) ≡ false) t.0 back m (subst (AllByRecursion (λ y. (kind_of y == k) ≡ false)) t.1 (never_fails k cause scripted en cl)))
 
-  opened_one : opened_in tape ≡ numbers_from 0 (openings (script_of_one pieces).lines)
+  opened_one : opened_in tape ≡ count_up 0 (openings (script_of_one pieces).lines)
   opened_one =
       ap opened_in shape ∙ flat_map-append opened_by (Opened 0 ∷ marks.transfers) (ending 0 cause)
       ∙ (λ i. (0 ∷ transfers_open_none marks.transfers marks.only i) ++ ending_opens_none cause i)
-      ∙ ap (λ n. numbers_from 0 (1 + n)) (sym (opens_no_more pieces))
+      ∙ ap (λ n. count_up 0 (1 + n)) (sym (opens_no_more pieces))
 
   module _ (f : FollowsArrival d is_scripted 0 (arrival_of pieces) tape (entries_of 0 journal) cause) where
     read : (c : ℕ) → IsReadFrom d.max (script_of_one pieces) tape c
@@ -207,7 +207,7 @@ module _ {C A M : Type 0} (d : DeskRules C A) (r : ServiceRules C A M) (memories
         }
     read (suc c) =
         record {
-          bytes = (bytes_of_pieces (pieces_of (suc c) (script_of_one pieces).lines), ap (λ b. b ++ bytes_of_pieces (pieces_of (suc c) (script_of_one pieces).lines)) (sym (none_else c)));
+          bytes = (bytes_of_pieces (pieces_on (suc c) (script_of_one pieces).lines), ap (λ b. b ++ bytes_of_pieces (pieces_on (suc c) (script_of_one pieces).lines)) (sym (none_else c)));
           reads = λ front back bytes e. absurd (let n : suc c ≡ 0 = of_one front back (Read (suc c) bytes) e in let g : ⊥ = omega arith in g);
           ended = λ front back e. absurd (let n : suc c ≡ 0 = of_one front back (Ended (suc c)) e in let g : ⊥ = omega arith in g);
           failed = λ front back e. absurd (let n : suc c ≡ 0 = of_one front back (ReadFailed (suc c)) e in let g : ⊥ = omega arith in g);
@@ -225,7 +225,7 @@ module _ {C A M : Type 0} (d : DeskRules C A) (r : ServiceRules C A M) (memories
           fails_so = λ front back e. absurd (let n : suc c ≡ 0 = of_one front back (WriteFailed (suc c)) e in let g : ⊥ = omega arith in g);
         }
 
-    is_fed : IsFed d budget (script_of_one pieces) tape journal
+    is_fed : IsFedBy d budget (script_of_one pieces) tape journal
     is_fed =
         record {
           opened = opened_one;
@@ -234,7 +234,7 @@ module _ {C A M : Type 0} (d : DeskRules C A) (r : ServiceRules C A M) (memories
           rests = λ before behind e. absurd (no_rest pieces before behind e);
         }
 
-  module _ (fed : IsFed d budget (script_of_one pieces) tape journal) where
+  module _ (fed : IsFedBy d budget (script_of_one pieces) tape journal) where
     -- where the last marks say that the input ended, all was read
     ended_there : (ys : List Mark) → ending 0 cause ≡ Ended 0 ∷ ys → input (marks_of 0 tape) ≡ bytes_of_pieces pieces
     ended_there ys is =
@@ -267,13 +267,13 @@ module _ {C A M : Type 0} (d : DeskRules C A) (r : ServiceRules C A M) (memories
 
 module _ {C A M : Type 0} where
   pub fed_by_one : (d : DeskRules C A) (r : ServiceRules C A M) (memories : List M) (budget : ℕ) (pieces : List (List ℕ)) (tape : List Mark) (journal : List (JournalEntry C A)) (cause : EndCause)
-      → IsRunOn d r memories is_scripted (λ c. arrival_of pieces) tape journal (cause ∷ []) → IsFed d budget (script_of_one pieces) tape journal
+      → IsRunOn d r memories is_scripted (λ c. arrival_of pieces) tape journal (cause ∷ []) → IsFedBy d budget (script_of_one pieces) tape journal
   fed_by_one d r memories budget pieces tape journal cause run =
       let f : FollowsArrival d is_scripted 0 (arrival_of pieces) tape (entries_of 0 journal) cause = run.served 0 cause refl in
       is_fed d r memories budget pieces tape journal cause run.headline f.allowed f
 
   pub run_on_one : (d : DeskRules C A) (r : ServiceRules C A M) (memories : List M) (budget : ℕ) (pieces : List (List ℕ)) (tape : List Mark) (journal : List (JournalEntry C A)) (cause : EndCause)
-      → Headline d r memories tape journal (cause ∷ []) → is_scripted cause ≡ true → IsFed d budget (script_of_one pieces) tape journal
+      → Headline d r memories tape journal (cause ∷ []) → is_scripted cause ≡ true → IsFedBy d budget (script_of_one pieces) tape journal
       → IsRunOn d r memories is_scripted (λ c. arrival_of pieces) tape journal (cause ∷ [])
   run_on_one d r memories budget pieces tape journal cause headline scripted fed =
       record { headline = headline; served = served d r memories budget pieces tape journal cause headline scripted fed }

@@ -2,3 +2,6 @@ pub mod ScriptLines
 pub mod Writing
 pub mod RestLines
 pub mod Fed
+pub mod Playing
+pub mod Rehearsing
+pub mod Rows

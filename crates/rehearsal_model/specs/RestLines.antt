@@ -10,7 +10,7 @@ use Rattle.host_model.specs.Conversation.{IsPrefix}
 use Rattle.machine_model.specs.AtFronts.{IsOpenBehind, size_in, AreSizesBehind, summed}
 use Rattle.machine_model.specs.Resting.{IsPlaceOfRest}
 use Rattle.script_model.specs.Arrival.{bytes_of_pieces}
-use Rattle.rehearsal_model.specs.ScriptLines.{ScriptLine, openings, pieces_of, ends_input, fails_input, some_line, numbers_from}
+use Rattle.rehearsal_model.specs.ScriptLines.{ScriptLine, openings, pieces_on, ends_input, fails_input, some_line, count_up}
 
 -- the connection that a mark opens
 abbrev pub opened_by : Mark → List ℕ
@@ -23,7 +23,7 @@ opened_in tape = flat_map opened_by tape
 
 -- No mark of these tells of more than these lines say of connection c: its bytes are theirs, and its input has ended, or failed, only where they say so.
 pub record TellsNoMore (lines : List ScriptLine) (front : List Mark) (c : ℕ) : Type 0 where
-  pub bytes : IsPrefix (input (marks_of c front)) (bytes_of_pieces (pieces_of c lines))
+  pub bytes : IsPrefix (input (marks_of c front)) (bytes_of_pieces (pieces_on c lines))
   pub ended : (before behind : List Mark) → front ≡ before ++ Ended c ∷ behind → some_line (ends_input c) lines ≡ true
   pub failed : (before behind : List Mark) → front ≡ before ++ ReadFailed c ∷ behind → some_line (fails_input c) lines ≡ true
 
@@ -40,7 +40,7 @@ pub record HasPlaceFor {C A : Type 0} (d : DeskRules C A) (budget : ℕ) (lines 
   pub front : List Mark
   pub back : List Mark
   pub split : tape ≡ front ++ back
-  pub opened : opened_in front ≡ numbers_from 0 (openings lines)
+  pub opened : opened_in front ≡ count_up 0 (openings lines)
   pub no_more : (c : ℕ) → TellsNoMore lines front c
   pub at_rest : IsPlaceOfRest d journal front
-  pub all_read : ((c : ℕ) → IsOpenBehind c front → input (marks_of c front) ≡ bytes_of_pieces (pieces_of c lines)) ⊎ IsOverBudget d.max budget front
+  pub all_read : ((c : ℕ) → IsOpenBehind c front → input (marks_of c front) ≡ bytes_of_pieces (pieces_on c lines)) ⊎ IsOverBudget d.max budget front

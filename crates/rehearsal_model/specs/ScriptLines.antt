@@ -26,14 +26,14 @@ pub record ScriptPlan : Type 0 where
   pub rules : List (List WriteRule)
 
 -- one connection, where a line opens one
-abbrev pub opening_line : ScriptLine → ℕ
-opening_line opening = 1
-opening_line _ = 0
+abbrev pub one_if_opens : ScriptLine → ℕ
+one_if_opens opening = 1
+one_if_opens _ = 0
 
 -- how many connections are opened
 abbrev pub openings : List ScriptLine → ℕ
 openings [] = 0
-openings (line ∷ lines) = opening_line line + openings lines
+openings (line ∷ lines) = one_if_opens line + openings lines
 
 -- the piece of connection c that a line brings
 abbrev pub piece_by : ℕ → ScriptLine → List (List ℕ)
@@ -41,8 +41,8 @@ piece_by c (piece x bytes) = if x == c then bytes ∷ [] else []
 piece_by c _ = []
 
 -- the pieces of connection c
-abbrev pub pieces_of : ℕ → List ScriptLine → List (List ℕ)
-pieces_of c lines = flat_map (piece_by c) lines
+abbrev pub pieces_on : ℕ → List ScriptLine → List (List ℕ)
+pieces_on c lines = flat_map (piece_by c) lines
 
 -- a line ends the input of connection c
 abbrev pub ends_input : ℕ → ScriptLine → Bool
@@ -73,6 +73,6 @@ abbrev pub rule_of : ScriptPlan → ℕ → ℕ → Option WriteRule
 rule_of script c k = slice_get (filter governs (rules_of c script)) k
 
 -- n numbers from this one on
-abbrev pub numbers_from : ℕ → ℕ → List ℕ
-numbers_from from zero = []
-numbers_from from (suc n) = from ∷ numbers_from (suc from) n
+abbrev pub count_up : ℕ → ℕ → List ℕ
+count_up from zero = []
+count_up from (suc n) = from ∷ count_up (suc from) n

@@ -6,8 +6,9 @@
 //! in its contract that its run is fed, and so meets the headline with these bytes:
 //!
 //! ```rust
-//! ensures fed { IsFed desk budget (plain_script script.now) result.tape.items (journal_of result) }
+//! ensures fed { IsFedBy desk budget (plain_script script.now) result.tape.items (journal_of result) }
 //! ```
 #![tactic(auto)]
 
+pub mod examples;
 pub mod laws;

@@ -1,0 +1,28 @@
+-- Scripts of a tiny desk, for examples.
+use Rattle.std.specs.Prelude.{◌≡◌, ℕ, Option, None, Some, List, [], ◌∷◌, ◌++◌, map, option_map}
+use Rattle.outside.specs.declared.marks.Mark.{Mark}
+use Rattle.host_model.specs.declared.cause.EndCause.{EndCause}
+use Rattle.host_model.specs.Journal.{JournalEntry}
+use Rattle.host_model.specs.TinyDesk.{tiny_desk, counting, size_of_one}
+use Rattle.machine_model.specs.Tiny.{tiny_hall, causes_from}
+use Rattle.machine_model.specs.Merge.{cell_at_first}
+use Rattle.rehearsal_model.specs.ScriptLines.{ScriptLine, opening, piece, input_end, WriteRule, ScriptPlan}
+use Rattle.rehearsal_model.specs.Playing.{Play}
+use Rattle.rehearsal_model.specs.Rehearsing.{rehearsal}
+
+-- a script with these lines, and these rules of connection 0
+abbrev pub tiny_script : List ScriptLine → List WriteRule → ScriptPlan
+tiny_script lines rules = record { lines = lines; rules = rules ∷ [] }
+
+-- a frame whose payload is this one byte
+abbrev pub frame_of_one : ℕ → List ℕ
+frame_of_one kind = size_of_one ++ kind ∷ []
+
+-- the tape, the journal and the causes of a play
+abbrev pub played_so : Play ℕ ℕ ℕ → List Mark × List (JournalEntry ℕ ℕ) × List (Option EndCause)
+played_so play = (play.cell.loop.tape, play.cell.hall.journal, causes_from play.cell.loop.conns 0 play.cell.loop.count)
+
+-- the tiny desk's rehearsal of a script, with this budget and so many workers, comes to this tape, this journal and these causes
+abbrev pub RehearsesTo : ℕ → ℕ → ScriptPlan → List Mark → List (JournalEntry ℕ ℕ) → List EndCause → Type 0
+RehearsesTo budget workers script tape journal causes =
+    option_map played_so (rehearsal tiny_desk counting 20 budget workers script (cell_at_first tiny_hall)) ≡ Some (tape, journal, map Some causes)
