@@ -1,1 +1,3 @@
 pub mod OneFed
+pub mod Leading
+pub mod Sufficing

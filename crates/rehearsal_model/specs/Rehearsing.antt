@@ -31,6 +31,10 @@ abbrev pub is_idle : {A : Type 0} → WorkerState A → Bool
 is_idle idle = true
 is_idle _ = false
 
+-- a machine before the first line of a script
+abbrev pub before_all : {C A M : Type 0} → Cell C A M → ScriptPlan → Play C A M
+before_all cell script = record { cell = cell; unread = λ _. []; finish = λ _. None; rules = λ c. rules_of c script; admitted = λ _. None; moves = 0 }
+
 module _ {C A M : Type 0} (d : DeskRules C A) (r : ServiceRules C A M) where
   -- worker w moves until it has put its job, or finds none: a job has three moves at most
   abbrev pub work_through : ℕ → ℕ → Play C A M → Option (Play C A M)
@@ -75,10 +79,6 @@ module _ {C A M : Type 0} (d : DeskRules C A) (r : ServiceRules C A M) where
   abbrev pub lines_done : ℕ → ℕ → ℕ → List ScriptLine → Play C A M → Option (Play C A M)
   lines_done fuel budget workers [] play = drain fuel fuel budget workers play
   lines_done fuel budget workers (line ∷ lines) play = option_and_then (λ next. lines_done fuel budget workers lines next) (line_done fuel budget workers play line)
-
-  -- a machine before the first line of a script
-  abbrev pub before_all : Cell C A M → ScriptPlan → Play C A M
-  before_all cell script = record { cell = cell; unread = λ _. []; finish = λ _. None; rules = λ c. rules_of c script; admitted = λ _. None; moves = 0 }
 
   -- the rehearsal of a script by a machine, with so many workers, where so many steps suffice
   abbrev pub rehearsal : ℕ → ℕ → ℕ → ScriptPlan → Cell C A M → Option (Play C A M)
