@@ -12,7 +12,7 @@ use Rattle.machine_model.specs.AtFronts.{size_in}
 use Rattle.machine_model.proofs.Merging.{runs-append}
 use Rattle.rehearsal_model.specs.ScriptLines.{ScriptLine, opening, piece, input_end, input_fault, resting, turn_of_conn, turn_of_worker, turn_of_outcome, WriteRule, takes_most, blocks, fails, ScriptPlan, count_up}
 use Rattle.rehearsal_model.specs.Playing.{InputFinish, finishes, faults, Play, most_read, at_number, pieces_left, moved_on, all_admitted, event_on, freed, freed_if_over, with_rules, with_unread, told_in, on_one, read_behind, read_move, write_move, size_move, open_move, conn_move, step_of_worker, worker_move, collect_first, collect_move}
-use Rattle.rehearsal_model.specs.Rehearsing.{left_by, goes_on_with, until_still, work_through, all_read, all_work, pass, drain, line_done, lines_done, before_all, IsRehearsed}
+use Rattle.rehearsal_model.specs.Rehearsing.{workers_among, left_by, goes_on_with, until_still, work_through, all_read, all_work, pass, drain, line_done, lines_done, before_all, IsRehearsed}
 
 module _ {C A M : Type 0} (d : DeskRules C A) (r : ServiceRules C A M)
     (computes : (first cell : Cell C A M) (told : List Told) → run_plain d r told (Some first) ≡ Some cell → EventsLead d r first (map event_told told) cell) where
@@ -145,7 +145,7 @@ module _ {C A M : Type 0} (d : DeskRules C A) (r : ServiceRules C A M)
   pass_leads : (fuel budget workers : ℕ) (play : Play C A M) → Leading play (pass d r fuel budget workers play)
   pass_leads fuel budget workers play =
       and_leads play (λ next. until_still fuel (collect_move d r) next) _
-      (and_leads play (λ next. all_work d r (count_up 0 workers) next) _ (all_read_leads fuel budget (count_up 0 play.cell.loop.count) play) (λ next. all_work_leads (count_up 0 workers) next))
+      (and_leads play (λ next. all_work d r (count_up 0 (workers_among workers)) next) _ (all_read_leads fuel budget (count_up 0 play.cell.loop.count) play) (λ next. all_work_leads (count_up 0 (workers_among workers)) next))
       (λ next. still_leads fuel (collect_move d r) collect_leads next)
 
   drained : (play : Play C A M) (again : Play C A M → Option (Play C A M)) (o : Option (Play C A M)) → Leading play o → ((next : Play C A M) → Leading next (again next))

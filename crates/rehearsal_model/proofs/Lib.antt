@@ -1,3 +1,4 @@
 pub mod OneFed
 pub mod Leading
 pub mod Sufficing
+pub mod NotFed

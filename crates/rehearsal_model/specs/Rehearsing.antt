@@ -26,6 +26,11 @@ abbrev pub until_still : {X : Type 0} → ℕ → (X → Option X) → X → Opt
 until_still zero move play = goes_on_with play (move play) (λ next. None)
 until_still (suc n) move play = goes_on_with play (move play) (λ next. until_still n move next)
 
+-- how many workers there are: one at least
+abbrev pub workers_among : ℕ → ℕ
+workers_among zero = 1
+workers_among (suc n) = suc n
+
 -- a worker holds no job
 abbrev pub is_idle : {A : Type 0} → WorkerState A → Bool
 is_idle idle = true
@@ -56,7 +61,7 @@ module _ {C A M : Type 0} (d : DeskRules C A) (r : ServiceRules C A M) where
   abbrev pub pass : ℕ → ℕ → ℕ → Play C A M → Option (Play C A M)
   pass fuel budget workers play =
       option_and_then (λ next. until_still fuel (collect_move d r) next)
-      (option_and_then (λ next. all_work (count_up 0 workers) next) (all_read fuel budget (count_up 0 play.cell.loop.count) play))
+      (option_and_then (λ next. all_work (count_up 0 (workers_among workers)) next) (all_read fuel budget (count_up 0 play.cell.loop.count) play))
 
   -- passes until one moves nothing
   abbrev pub drain : ℕ → ℕ → ℕ → ℕ → Play C A M → Option (Play C A M)

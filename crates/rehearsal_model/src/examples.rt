@@ -1,24 +1,27 @@
 //! Scripts of a tiny desk and what their rehearsals come to, each the contract of a function that does nothing.
 
 ghost use Rattle.std.specs.Prelude.{ℕ, Some, List, [], ◌∷◌, ◌++◌};
+ghost use Rattle.outside.specs.declared.marks.Mark.{Mark};
 ghost use Rattle.outside.specs.declared.marks.Mark.TheVariants.{Opened, Read, Ended, Wrote, ReadFailed, WriteFailed, Closed};
 ghost use Rattle.host_model.specs.declared.cause.EndCause.TheVariants.{End, Cut, ReadFault, WriteFault};
-ghost use Rattle.host_model.specs.TinyDesk.{tiny_entry, size_of_one};
+ghost use Rattle.host_model.specs.Journal.{JournalEntry};
+ghost use Rattle.host_model.specs.TinyDesk.{tiny_desk, tiny_entry, size_of_one};
 ghost use Rattle.rehearsal_model.specs.ScriptLines.{opening, piece, input_end, input_fault, resting, turn_of_conn, turn_of_worker, turn_of_outcome, takes_most, blocks, fails};
+ghost use Rattle.rehearsal_model.specs.Fed.{IsFedBy};
 ghost use Rattle.rehearsal_model.specs.Rows.{tiny_script, frame_of_one, RehearsesTo};
 
 /// Rehearsals as they go: no line; an input that ends inside a size; a budget of one frame, for which a second connection is held until the first one's call is
 /// collected; a write of one byte and one that fails, with a block between them; two workers that overtake each other, on schedule; a rest between two calls; and
 /// a read that fails behind its pieces.
 pub fn rehearsals()
-    ensures nothing { RehearsesTo 2 1 (tiny_script [] []) [] [] [] }
+    ensures nothing { RehearsesTo 2 0 (tiny_script [] []) [] [] [] }
     ensures cut_in_a_size { RehearsesTo 2 1 (tiny_script (opening ∷ piece 0 (0 ∷ 0 ∷ []) ∷ input_end 0 ∷ []) [])
         (Opened 0 ∷ Read 0 (0 ∷ 0 ∷ []) ∷ Ended 0 ∷ Closed 0 ∷ []) [] (Cut ∷ []) }
     ensures held_for_the_budget { RehearsesTo 1 1 (tiny_script (opening ∷ opening ∷ piece 0 (frame_of_one 1) ∷ piece 1 (frame_of_one 1) ∷ input_end 0 ∷ input_end 1 ∷ []) [])
         (Opened 0 ∷ Opened 1 ∷ Read 0 size_of_one ∷ Read 0 (1 ∷ []) ∷ Read 1 size_of_one ∷ Wrote 0 (5 ∷ 5 ∷ []) ∷ Ended 0 ∷ Closed 0 ∷ Read 1 (1 ∷ [])
         ∷ Wrote 1 (6 ∷ 6 ∷ []) ∷ Ended 1 ∷ Closed 1 ∷ [])
         (tiny_entry 0 5 ∷ tiny_entry 1 6 ∷ []) (End ∷ End ∷ []) }
-    ensures write_rules { RehearsesTo 2 1 (tiny_script (opening ∷ piece 0 (frame_of_one 1) ∷ input_end 0 ∷ []) (takes_most 1 ∷ blocks ∷ fails ∷ []))
+    ensures write_rules { RehearsesTo 2 0 (tiny_script (opening ∷ piece 0 (frame_of_one 1) ∷ input_end 0 ∷ []) (takes_most 1 ∷ blocks ∷ fails ∷ []))
         (Opened 0 ∷ Read 0 size_of_one ∷ Read 0 (1 ∷ []) ∷ Wrote 0 (5 ∷ []) ∷ WriteFailed 0 ∷ Closed 0 ∷ [])
         (tiny_entry 0 5 ∷ []) (WriteFault ∷ []) }
     ensures on_schedule { RehearsesTo 2 2 (tiny_script (opening ∷ opening ∷ piece 0 (frame_of_one 1) ∷ piece 1 (frame_of_one 1) ∷ input_end 0 ∷ input_end 1
@@ -33,4 +36,18 @@ pub fn rehearsals()
         (tiny_entry 1 5 ∷ tiny_entry 0 6 ∷ []) (End ∷ End ∷ []) }
     ensures read_fails { RehearsesTo 2 1 (tiny_script (opening ∷ piece 0 (0 ∷ []) ∷ input_fault 0 ∷ turn_of_outcome ∷ []) [])
         (Opened 0 ∷ Read 0 (0 ∷ []) ∷ ReadFailed 0 ∷ Closed 0 ∷ []) [] (ReadFault ∷ []) }
+{}
+
+/// Runs that their scripts don't feed: a read goes over a piece's end; a write passes over its rule; an input ends that the script says fails; and a connection
+/// that is opened behind a rest is opened before what came before the rest was read.
+pub fn runs_that_are_not_fed()
+    ensures read_over_a_piece { (journal : List (JournalEntry ℕ ℕ)) (back : List Mark) →
+        IsFedBy tiny_desk 2 (tiny_script (opening ∷ piece 0 (0 ∷ 0 ∷ []) ∷ piece 0 (0 ∷ 1 ∷ 1 ∷ []) ∷ input_end 0 ∷ []) []) (Opened 0 ∷ Read 0 size_of_one ∷ back) journal → ⊥ }
+    ensures rule_passed_over { (journal : List (JournalEntry ℕ ℕ)) (back : List Mark) →
+        IsFedBy tiny_desk 2 (tiny_script (opening ∷ piece 0 (frame_of_one 1) ∷ input_end 0 ∷ []) (blocks ∷ takes_most 1 ∷ []))
+        (Opened 0 ∷ Read 0 size_of_one ∷ Read 0 (1 ∷ []) ∷ Wrote 0 (5 ∷ 5 ∷ []) ∷ back) journal → ⊥ }
+    ensures ended_in_place_of_a_fault { (journal : List (JournalEntry ℕ ℕ)) (back : List Mark) →
+        IsFedBy tiny_desk 2 (tiny_script (opening ∷ input_fault 0 ∷ []) []) (Opened 0 ∷ Ended 0 ∷ back) journal → ⊥ }
+    ensures opened_before_the_rest { (journal : List (JournalEntry ℕ ℕ)) (back : List Mark) →
+        IsFedBy tiny_desk 2 (tiny_script (opening ∷ piece 0 (frame_of_one 1) ∷ resting ∷ opening ∷ input_end 0 ∷ input_end 1 ∷ []) []) (Opened 0 ∷ Opened 1 ∷ back) journal → ⊥ }
 {}
