@@ -1,0 +1,6 @@
+use Rattle.std.proofs.Common.{length, ap, ◌∙◌, sym}
+use Rattle.conn_table.proofs.Placing.{length-kept}
+use Rattle.conn_table.proofs.places.Places.len.Goals as goal
+
+pub returns-clause-count : goal.returns-clause-count
+returns-clause-count c = ap length c.as_slice.ensures.value ∙ sym (length-kept c.self.inside.slots c.self.inside.rows.items c.self.invariant.placed) ∙ ap length c.self.view_is

@@ -1,0 +1,27 @@
+-- What is kept of the open connections: a list, by rising number.
+use Rattle.std.specs.Prelude.{◌≡◌, ℕ, nat_lt, ◌==◌, if◌then◌else◌, Option, None, Some, List, [], ◌∷◌}
+use Rattle.conn_table.specs.declared.places.Slot.{Slot}
+
+-- the most connections that are open at one time
+abbrev pub most_places : ℕ
+most_places = 1024
+
+-- what is kept of a connection, where it is open
+abbrev pub slot_in : ℕ → List Slot → Option Slot
+slot_in c [] = None
+slot_in c (slot ∷ slots) = if slot.number == c then Some slot else slot_in c slots
+
+-- this in place of what is kept of its connection
+abbrev pub with_slot : Slot → List Slot → List Slot
+with_slot new [] = []
+with_slot new (slot ∷ slots) = if slot.number == new.number then new ∷ slots else slot ∷ with_slot new slots
+
+-- one more connection, at its place by number
+abbrev pub with_more : Slot → List Slot → List Slot
+with_more new [] = new ∷ []
+with_more new (slot ∷ slots) = if nat_lt slot.number new.number then slot ∷ with_more new slots else new ∷ (slot ∷ slots)
+
+-- all but this connection
+abbrev pub without_number : ℕ → List Slot → List Slot
+without_number c [] = []
+without_number c (slot ∷ slots) = if slot.number == c then slots else slot ∷ without_number c slots

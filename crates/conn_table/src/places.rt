@@ -1,0 +1,146 @@
+//! Connections by number: a slab keeps them, and rows, by rising number, say under which key.
+
+ghost use Rattle.std.specs.Prelude.{◌≡◌, ◌<◌, ◌≤◌, IsSome, Some, None, IfOk, [], length};
+ghost use Rattle.conn_table.specs.Rows.{key_in, IsRising, rank};
+ghost use Rattle.conn_table.specs.Slots.{most_places, slot_in, with_slot, with_more, without_number};
+
+use conn_state::Conn;
+use slab::Slab;
+use std::alloc::{AllocError, Global};
+use std::marker::Model;
+
+/// The most connections that are open at one time.
+pub(crate) const MOST: usize = 1024;
+
+/// Where a connection is kept.
+#[derive(Clone, Copy, Debug, Drop)]
+pub(crate) struct Row {
+    /// The connection's number.
+    pub number: u32,
+    /// Its key in the slab.
+    pub key: usize,
+}
+
+/// What is kept of a connection.
+#[derive(Debug, Drop)]
+pub(crate) struct Slot {
+    /// Its number.
+    pub number: u32,
+    /// Its state.
+    pub conn: Conn,
+    /// The size that is admitted, where one is.
+    pub size: Option<u32>,
+}
+
+/// Connections by number, at most 1,024.
+#[derive(Drop)]
+pub(crate) struct Places {
+    /// The connections.
+    slots: Slab<Slot>,
+    /// Their keys, by rising number.
+    rows: Vec<Row>,
+}
+
+impl Model for Places {
+    ghost use Rattle.std.specs.Prelude.{List};
+    ghost use Rattle.std.specs.Vec.{vec_capacity};
+    ghost use Rattle.conn_table.specs.declared.places.Slot.{Slot};
+    ghost use Rattle.conn_table.specs.Places.{kept_in, AreSoundPlaces};
+
+    ghost Value = { List Slot };
+
+    ghost view = { λ p. kept_in p.slots p.rows.items };
+
+    ghost invariant = { λ p. AreSoundPlaces p.slots p.rows.items (vec_capacity p.rows) };
+}
+
+/// How many rows are in front of this number.
+fn rank_of(rows: &[Row], number: u32) -> usize
+    requires { IsRising rows.now }
+    ensures rank { result ≡ rank number rows.now }
+    ensures within { result ≤ length rows.now }
+{
+    let mut low = 0;
+    let mut high = rows.len();
+    while low < high {
+        let middle = low + (high - low) / 2;
+        if rows[middle].number < number {
+            low = middle + 1;
+        } else {
+            high = middle;
+        }
+    }
+    low
+}
+
+/// The key of a connection.
+fn key_of(rows: &[Row], number: u32) -> usize
+    requires rising { IsRising rows.now }
+    requires open { IsSome (key_in number rows.now) }
+    ensures { key_in number rows.now ≡ Some result }
+{
+    rows[rank_of(rows, number)].key
+}
+
+impl Places {
+    /// No connection, with room for the most.
+    pub(crate) fn new(alloc: Global) -> Result<Places, AllocError>
+        ensures { IfOk result (λ p. p ≡ []) }
+    {
+        Ok(Places {
+            slots: Slab::with_capacity(alloc, MOST)?,
+            rows: Vec::with_capacity(alloc, MOST)?,
+        })
+    }
+
+    /// How many there are.
+    pub(crate) fn len(&self) -> usize
+        ensures count { result ≡ length self.now }
+        ensures few { result ≤ most_places }
+    {
+        self.rows.as_slice().len()
+    }
+
+    /// What is kept of a connection.
+    pub(crate) fn get(&self, number: u32) -> &Slot
+        requires { IsSome (slot_in number self.now) }
+        ensures { slot_in number self.now ≡ Some result.now }
+    {
+        &self.slots[key_of(self.rows.as_slice(), number)]
+    }
+
+    /// Puts something else in the place of what is kept of a connection.
+    pub(crate) fn replace(&mut self, slot: Slot) -> Slot
+        requires { IsSome (slot_in slot.number self.old) }
+        ensures old { slot_in slot.number self.old ≡ Some result }
+        ensures new { self.new ≡ with_slot slot self.old }
+    {
+        let key = key_of(self.rows.as_slice(), slot.number);
+        let old = self.slots.remove(key);
+        self.slots.insert_reserved(slot);
+        old
+    }
+
+    /// Adds a connection.
+    pub(crate) fn insert(&mut self, slot: Slot)
+        requires room { length self.old < most_places }
+        requires vacant { slot_in slot.number self.old ≡ None }
+        ensures { self.new ≡ with_more slot self.old }
+    {
+        let number = slot.number;
+        let place = rank_of(self.rows.as_slice(), number);
+        let key = self.slots.insert_reserved(slot);
+        let _ = self.rows.insert(place, Row { number, key });
+    }
+
+    /// Takes a connection out.
+    pub(crate) fn remove(&mut self, number: u32) -> Slot
+        requires { IsSome (slot_in number self.old) }
+        ensures old { slot_in number self.old ≡ Some result }
+        ensures new { self.new ≡ without_number number self.old }
+    {
+        let place = rank_of(self.rows.as_slice(), number);
+        let row = self.rows.remove(place);
+        self.slots.remove(row.key)
+    }
+}
