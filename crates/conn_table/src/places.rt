@@ -2,6 +2,7 @@
 
 ghost use Rattle.std.specs.Prelude.{◌≡◌, ◌<◌, ◌≤◌, IsSome, Some, None, IfOk, [], length};
 ghost use Rattle.conn_table.specs.Rows.{key_in, IsRising, rank};
+ghost use Rattle.conn_table.specs.Table.{slot_of, fresh_slot};
 ghost use Rattle.conn_table.specs.Slots.{most_places, slot_in, with_slot, with_more, without_number};
 
 use conn_state::Conn;
@@ -119,6 +120,29 @@ impl Places {
         let old = self.slots.remove(key);
         self.slots.insert_reserved(slot);
         old
+    }
+
+    /// Takes what is kept of a connection, and leaves one at its beginning in its place.
+    pub(crate) fn take(&mut self, number: u32) -> Slot
+        requires { IsSome (slot_in number self.old) }
+        ensures taken { result ≡ slot_of number self.old }
+        ensures own { result.number ≡ number }
+        ensures left { self.new ≡ with_slot (fresh_slot number) self.old }
+        ensures open { IsSome (slot_in result.number self.new) }
+    {
+        self.replace(Slot {
+            number,
+            conn: Conn::new(),
+            size: None,
+        })
+    }
+
+    /// Puts back what was taken, changed.
+    pub(crate) fn put(&mut self, slot: Slot)
+        requires { IsSome (slot_in slot.number self.old) }
+        ensures { self.new ≡ with_slot slot self.old }
+    {
+        let _ = self.replace(slot);
     }
 
     /// Adds a connection.

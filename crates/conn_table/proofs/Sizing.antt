@@ -1,0 +1,182 @@
+-- What a change of one connection leaves of the others, of the sizes, and of what is admitted.
+use Rattle.std.proofs.Common.{◌≡◌, ℕ, suc, ◌+◌, ◌<◌, ◌≤◌, ◌⊎◌, Bool, true, false, ◌==◌, nat_lt, nat_le, ◌&&◌, ℤ, pos, negsuc, ◌++◌, if◌then◌else◌, Option, None, Some, List, [], ◌∷◌, length, unwrap_or, refl, sym, ap, ◌∙◌, subst, inl, inr, arith, eq-eqb, ne_eqb, IsSome}
+use Rattle.std.specs.Prelude.{is_some}
+use Rattle.std.specs.List.{AllByRecursion}
+use Rattle.std.proofs.lemmas.Bool.{false≢true, cases_eq}
+use Rattle.std.proofs.lemmas.Option.{none-some, same_Some}
+use Rattle.std.specs.Int.{w32, from_be_bytes, cast_signed}
+use Rattle.outside.specs.declared.outcomes.Settled.{Settled}
+use Rattle.outside.specs.declared.outcomes.Settled.TheVariants.{Reply, Nothing, Close, NoMemory as NoRoom}
+use Rattle.host_model.specs.declared.cause.EndCause.TheVariants.{SizeFault}
+use Rattle.conn_state.specs.Phase.{Phase, ConnView, sizing, held, framing, ready, waiting, writing, ended}
+use Rattle.conn_state.specs.Step.{after_size, after_bytes, after_took, after_answer, after_wrote, after_end_of_input}
+use Rattle.conn_table.specs.declared.places.Slot.{Slot}
+use Rattle.conn_table.specs.Slots.{slot_in, with_slot, with_more, without_number}
+use Rattle.conn_table.specs.Table.{TableView, fresh_slot, slot_of, with_conn, size_given, sizes_given, TakesRoom, IsAdmitted, IsSoundTable}
+use Rattle.conn_table.proofs.Placing.{value_of, has_value}
+
+-- what is kept of an open connection
+pub slot_is : (c : ℕ) (slots : List Slot) → IsSome (slot_in c slots) → slot_in c slots ≡ Some (slot_of c slots)
+slot_is c slots s = let v : (x : Slot) × (slot_in c slots ≡ Some x) = value_of (slot_in c slots) s in v.1 ∙ ap Some (sym (ap (λ o. unwrap_or o (fresh_slot c)) v.1))
+
+pub of_found : (c : ℕ) (slots : List Slot) (slot : Slot) → slot_in c slots ≡ Some slot → slot_of c slots ≡ slot
+of_found c slots slot e = ap (λ o. unwrap_or o (fresh_slot c)) e
+
+-- it has its number
+pub found_number : (c : ℕ) (slots : List Slot) (slot : Slot) → slot_in c slots ≡ Some slot → slot.number ≡ c
+found_number c [] slot e = absurd (none-some slot e)
+found_number c (s ∷ slots) slot e = go (cases_eq s.number c) (λ f. found_number c slots slot f)
+  where
+    go : (s.number ≡ c) ⊎ (s.number ≡ c → ⊥) → (slot_in c slots ≡ Some slot → slot.number ≡ c) → slot.number ≡ c
+    go (inl is) again = sym (ap (λ (x : Slot). x.number) (same_Some s slot (sym (ap (λ t. if t then Some s else slot_in c slots) (eq-eqb s.number c is)) ∙ e))) ∙ is
+    go (inr n) again = again (sym (ap (λ t. if t then Some s else slot_in c slots) (ne_eqb s.number c n)) ∙ e)
+
+-- a connection that was put in the place of another is found
+pub found_put : (new : Slot) (slots : List Slot) → IsSome (slot_in new.number slots) → slot_in new.number (with_slot new slots) ≡ Some new
+found_put new [] s = absurd (false≢true s)
+found_put new (x ∷ slots) s = go (cases_eq x.number new.number) (λ f. found_put new slots f)
+  where
+    go : (x.number ≡ new.number) ⊎ (x.number ≡ new.number → ⊥) → (IsSome (slot_in new.number slots) → slot_in new.number (with_slot new slots) ≡ Some new)
+        → slot_in new.number (with_slot new (x ∷ slots)) ≡ Some new
+    go (inl is) again =
+        ap (λ t. slot_in new.number (if t then new ∷ slots else x ∷ with_slot new slots)) (eq-eqb x.number new.number is)
+        ∙ ap (λ t. if t then Some new else slot_in new.number slots) (eq-eqb new.number new.number refl)
+    go (inr n) again =
+        ap (λ t. slot_in new.number (if t then new ∷ slots else x ∷ with_slot new slots)) (ne_eqb x.number new.number n)
+        ∙ ap (λ t. if t then Some x else slot_in new.number (with_slot new slots)) (ne_eqb x.number new.number n)
+        ∙ again (subst (λ t. IsSome (if t then Some x else slot_in new.number slots)) (ne_eqb x.number new.number n) s)
+
+-- the last of two that are put there stays
+pub put_twice : (one two : Slot) (slots : List Slot) → one.number ≡ two.number → with_slot two (with_slot one slots) ≡ with_slot two slots
+put_twice one two [] e = refl
+put_twice one two (x ∷ slots) e = go (cases_eq x.number one.number) (put_twice one two slots e)
+  where
+    go : (x.number ≡ one.number) ⊎ (x.number ≡ one.number → ⊥) → with_slot two (with_slot one slots) ≡ with_slot two slots → with_slot two (with_slot one (x ∷ slots)) ≡ with_slot two (x ∷ slots)
+    go (inl is) again =
+        ap (λ t. with_slot two (if t then one ∷ slots else x ∷ with_slot one slots)) (eq-eqb x.number one.number is)
+        ∙ ap (λ t. if t then two ∷ slots else one ∷ with_slot two slots) (eq-eqb one.number two.number e)
+        ∙ sym (ap (λ t. if t then two ∷ slots else x ∷ with_slot two slots) (eq-eqb x.number two.number (is ∙ e)))
+    go (inr n) again =
+        ap (λ t. with_slot two (if t then one ∷ slots else x ∷ with_slot one slots)) (ne_eqb x.number one.number n)
+        ∙ ap (λ t. if t then two ∷ with_slot one slots else x ∷ with_slot two (with_slot one slots)) (ne_eqb x.number two.number (λ f. n (f ∙ sym e)))
+        ∙ ap (λ l. x ∷ l) again
+        ∙ sym (ap (λ t. if t then two ∷ slots else x ∷ with_slot two slots) (ne_eqb x.number two.number (λ f. n (f ∙ sym e))))
+
+all_put : (P : Slot → Type 0) (new : Slot) (slots : List Slot) → AllByRecursion P slots → P new → AllByRecursion P (with_slot new slots)
+all_put P new [] a p = tt
+all_put P new (x ∷ slots) a p = step (x.number == new.number) (all_put P new slots a.1 p)
+  where
+    step : (b : Bool) → AllByRecursion P (with_slot new slots) → AllByRecursion P (if b then new ∷ slots else x ∷ with_slot new slots)
+    step true rest = (p, a.1)
+    step false rest = (a.0, rest)
+
+all_found : (P : Slot → Type 0) (c : ℕ) (slots : List Slot) (slot : Slot) → AllByRecursion P slots → slot_in c slots ≡ Some slot → P slot
+all_found P c [] slot a e = absurd (none-some slot e)
+all_found P c (x ∷ slots) slot a e = go (cases_eq x.number c) (λ f. all_found P c slots slot a.1 f)
+  where
+    go : (x.number ≡ c) ⊎ (x.number ≡ c → ⊥) → (slot_in c slots ≡ Some slot → P slot) → P slot
+    go (inl is) again = subst P (same_Some x slot (sym (ap (λ t. if t then Some x else slot_in c slots) (eq-eqb x.number c is)) ∙ e)) a.0
+    go (inr n) again = again (sym (ap (λ t. if t then Some x else slot_in c slots) (ne_eqb x.number c n)) ∙ e)
+
+-- the sizes, where one is put in the place of another
+pub sizes_put : (new old : Slot) (slots : List Slot) → slot_in new.number slots ≡ Some old → sizes_given (with_slot new slots) + size_given old.size ≡ sizes_given slots + size_given new.size
+sizes_put new old [] e = absurd (none-some old e)
+sizes_put new old (x ∷ slots) e = go (cases_eq x.number new.number) (λ f. sizes_put new old slots f)
+  where
+    go : (x.number ≡ new.number) ⊎ (x.number ≡ new.number → ⊥) → (slot_in new.number slots ≡ Some old → sizes_given (with_slot new slots) + size_given old.size ≡ sizes_given slots + size_given new.size)
+        → sizes_given (with_slot new (x ∷ slots)) + size_given old.size ≡ sizes_given (x ∷ slots) + size_given new.size
+    go (inl is) again =
+        let same : x ≡ old = same_Some x old (sym (ap (λ t. if t then Some x else slot_in new.number slots) (eq-eqb x.number new.number is)) ∙ e) in
+        let k : size_given x.size ≡ size_given old.size = ap (λ (s : Slot). size_given s.size) same in
+        let l : sizes_given (with_slot new (x ∷ slots)) ≡ size_given new.size + sizes_given slots =
+        ap (λ t. sizes_given (if t then new ∷ slots else x ∷ with_slot new slots)) (eq-eqb x.number new.number is) in
+        omega arith
+    go (inr n) again =
+        let t : sizes_given (with_slot new slots) + size_given old.size ≡ sizes_given slots + size_given new.size =
+        again (sym (ap (λ t. if t then Some x else slot_in new.number slots) (ne_eqb x.number new.number n)) ∙ e) in
+        let l : sizes_given (with_slot new (x ∷ slots)) ≡ size_given x.size + sizes_given (with_slot new slots) =
+        ap (λ t. sizes_given (if t then new ∷ slots else x ∷ with_slot new slots)) (ne_eqb x.number new.number n) in
+        omega arith
+
+-- A connection changes its state and keeps its size: the table stays sound where a payload takes room only where one did.
+pub changed_sound : (slots : List Slot) (budget admitted c : ℕ) (new : Slot) → IsSoundTable slots budget admitted → IsSome (slot_in c slots) → new.number ≡ c → new.size ≡ (slot_of c slots).size
+    → (TakesRoom new.conn.phase → TakesRoom (slot_of c slots).conn.phase) → IsSoundTable (with_slot new slots) budget admitted
+changed_sound slots budget admitted c new s there number size room =
+    let at : slot_in new.number slots ≡ Some (slot_of c slots) = ap (λ k. slot_in k slots) number ∙ slot_is c slots there in
+    let t : sizes_given (with_slot new slots) + size_given (slot_of c slots).size ≡ sizes_given slots + size_given new.size = sizes_put new (slot_of c slots) slots at in
+    let k : size_given new.size ≡ size_given (slot_of c slots).size = ap size_given size in
+    let sum : admitted ≡ sizes_given slots = s.sum in
+    record {
+      sum = omega arith;
+      within = s.within;
+      each = all_put IsAdmitted new slots s.each (λ takes. subst IsSome (sym size) (all_found IsAdmitted c slots (slot_of c slots) s.each (slot_is c slots there) (room takes)));
+    }
+
+-- and what was taken out and put back is what was changed
+pub changed_slots : (slots : List Slot) (c : ℕ) (new : Slot) → new.number ≡ c → with_slot new (with_slot (fresh_slot c) slots) ≡ with_slot new slots
+changed_slots slots c new e = put_twice (fresh_slot c) new slots (sym e)
+
+-- A call of one connection's state, through a slot that is taken out and put back: the table stays sound, and nothing but the state is changed.
+pub in_place : (old : TableView) (places left last : List Slot) (budget admitted c : ℕ) (slot : Slot) (conn : ConnView) → IsSoundTable places budget admitted
+    → record { budget = budget; slots = places } ≡ old → IsSome (slot_in c old.slots) → slot ≡ slot_of c places → slot.number ≡ c → left ≡ with_slot (fresh_slot c) places
+    → last ≡ with_slot (record { number = slot.number; conn = conn; size = slot.size }) left → (TakesRoom conn.phase → TakesRoom (slot_of c old.slots).conn.phase)
+    → IsSoundTable last budget admitted × (record { budget = budget; slots = last } ≡ record old { slots = with_conn c conn old.slots })
+in_place old places left last budget admitted c slot conn sound view there taken own is put room =
+    let new : Slot = record { number = slot.number; conn = conn; size = slot.size } in
+    let target : Slot = record { number = c; conn = conn; size = (slot_of c places).size } in
+    let same : new ≡ target = (λ i. record { number = own i; conn = conn; size = (taken i).size }) in
+    let all : last ≡ with_slot target places = put ∙ ap (with_slot new) is ∙ changed_slots places c new own ∙ ap (λ k. with_slot k places) same in
+    let open_there : IsSome (slot_in c places) = subst (λ (o : TableView). IsSome (slot_in c o.slots)) (sym view) there in
+    let room_there : TakesRoom conn.phase → TakesRoom (slot_of c places).conn.phase =
+    subst (λ (o : TableView). TakesRoom conn.phase → TakesRoom (slot_of c o.slots).conn.phase) (sym view) room in
+    let ended : IsSoundTable (with_slot target places) budget admitted = changed_sound places budget admitted c target sound open_there refl refl room_there in (
+      subst (λ l. IsSoundTable l budget admitted) (sym all) ended,
+      ap (λ l. tabled budget l) all ∙ ap (λ (o : TableView). record o { slots = with_conn c conn o.slots }) view,
+    )
+  where
+    tabled : ℕ → List Slot → TableView
+    tabled b l = record { budget = b; slots = l }
+
+-- which phases take no room
+pub answer_room : (settled : Settled) → TakesRoom (after_answer settled) → ⊥
+answer_room (Reply reply) t = t
+answer_room Nothing t = t
+answer_room (Close fault) t = t
+answer_room NoRoom t = t
+
+pub wrote_room : (left : List ℕ) → TakesRoom (after_wrote left) → ⊥
+wrote_room [] t = t
+wrote_room (byte ∷ left) t = t
+
+pub end_room : (phase : Phase) → TakesRoom (after_end_of_input phase) → ⊥
+end_room (sizing []) t = t
+end_room (sizing (byte ∷ bytes)) t = t
+end_room (held size) t = t
+end_room (framing size bytes) t = t
+end_room (ready number payload) t = t
+end_room (waiting number) t = t
+end_room (writing left) t = t
+end_room (ended cause) t = t
+
+either_none : (b : Bool) (x y : Phase) → (TakesRoom x → ⊥) → (TakesRoom y → ⊥) → TakesRoom (if b then x else y) → ⊥
+either_none true x y a b t = a t
+either_none false x y a b t = b t
+
+size_none : (max : ℕ) (size : ℤ) → TakesRoom (after_size max size) → ⊥
+size_none max (pos size) t = either_none (nat_le 1 size && nat_le size max) (held size) (ended (SizeFault (pos size))) (λ x. x) (λ x. x) t
+size_none max (negsuc size) t = t
+
+pub took_room : (max : ℕ) (view : ConnView) (bytes : List ℕ) → TakesRoom (after_took max view bytes).phase → TakesRoom view.phase
+took_room max view bytes t = go view.phase t
+  where
+    go : (phase : Phase) → TakesRoom (after_bytes max view.frames phase bytes).phase → TakesRoom phase
+    go (sizing part) t =
+        absurd
+        (either_none (nat_lt (length (part ++ bytes)) 4) (sizing (part ++ bytes)) (after_size max (cast_signed w32 (from_be_bytes w32 (part ++ bytes)))) (λ x. x)
+        (size_none max (cast_signed w32 (from_be_bytes w32 (part ++ bytes)))) t)
+    go (held size) t = t
+    go (framing size part) t = tt
+    go (ready number payload) t = tt
+    go (waiting number) t = tt
+    go (writing left) t = t
+    go (ended cause) t = t
