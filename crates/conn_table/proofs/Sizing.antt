@@ -180,3 +180,99 @@ took_room max view bytes t = go view.phase t
     go (waiting number) t = tt
     go (writing left) t = t
     go (ended cause) t = t
+
+-- what was put back is what was taken out, with this state and this size
+pub put_is : (places left last : List Slot) (c : ℕ) (slot : Slot) (conn : ConnView) (size : Option ℕ) → slot.number ≡ c → left ≡ with_slot (fresh_slot c) places
+    → last ≡ with_slot (record { number = slot.number; conn = conn; size = size }) left → last ≡ with_slot (record { number = c; conn = conn; size = size }) places
+put_is places left last c slot conn size own is put =
+    let new : Slot = record { number = slot.number; conn = conn; size = size } in
+    put ∙ ap (with_slot new) is ∙ changed_slots places c new own ∙ ap (λ k. with_slot (record { number = k; conn = conn; size = size }) places) own
+
+-- the same put back changes nothing
+put_same : (new : Slot) (slots : List Slot) → slot_in new.number slots ≡ Some new → with_slot new slots ≡ slots
+put_same new [] e = refl
+put_same new (x ∷ slots) e = go (cases_eq x.number new.number) (λ f. put_same new slots f)
+  where
+    go : (x.number ≡ new.number) ⊎ (x.number ≡ new.number → ⊥) → (slot_in new.number slots ≡ Some new → with_slot new slots ≡ slots) → with_slot new (x ∷ slots) ≡ x ∷ slots
+    go (inl is) again =
+        let same : x ≡ new = same_Some x new (sym (ap (λ t. if t then Some x else slot_in new.number slots) (eq-eqb x.number new.number is)) ∙ e) in
+        ap (λ t. if t then new ∷ slots else x ∷ with_slot new slots) (eq-eqb x.number new.number is) ∙ ap (λ s. s ∷ slots) (sym same)
+    go (inr n) again =
+        ap (λ t. if t then new ∷ slots else x ∷ with_slot new slots) (ne_eqb x.number new.number n)
+        ∙ ap (λ l. x ∷ l) (again (sym (ap (λ t. if t then Some x else slot_in new.number slots) (ne_eqb x.number new.number n)) ∙ e))
+
+-- a state that is as it was
+pub conn_same : (c : ℕ) (slots : List Slot) → IsSome (slot_in c slots) → with_conn c (slot_of c slots).conn slots ≡ slots
+conn_same c slots there =
+    let own : (slot_of c slots).number ≡ c = found_number c slots (slot_of c slots) (slot_is c slots there) in
+    ap (λ k. with_slot (record { number = k; conn = (slot_of c slots).conn; size = (slot_of c slots).size }) slots) (sym own)
+    ∙ put_same (slot_of c slots) slots (ap (λ k. slot_in k slots) own ∙ slot_is c slots there)
+
+-- one with another size and state is put in the place of one: the table is sound with the new sum
+pub resized_sound : (slots : List Slot) (budget admitted next c : ℕ) (conn : ConnView) (size : Option ℕ) → IsSoundTable slots budget admitted → IsSome (slot_in c slots)
+    → next + size_given (slot_of c slots).size ≡ admitted + size_given size → next ≤ budget → (TakesRoom conn.phase → IsSome size)
+    → IsSoundTable (with_slot (record { number = c; conn = conn; size = size }) slots) budget next
+resized_sound slots budget admitted next c conn size s there sum within room =
+    let new : Slot = record { number = c; conn = conn; size = size } in
+    let t : sizes_given (with_slot new slots) + size_given (slot_of c slots).size ≡ sizes_given slots + size_given new.size = sizes_put new (slot_of c slots) slots (slot_is c slots there) in
+    let before : admitted ≡ sizes_given slots = s.sum in
+    record { sum = omega arith; within = within; each = all_put IsAdmitted new slots s.each room }
+
+-- a size is one of those that are summed
+pub size_below : (c : ℕ) (slots : List Slot) → IsSome (slot_in c slots) → size_given (slot_of c slots).size ≤ sizes_given slots
+size_below c slots there =
+    let t : sizes_given (with_slot (fresh_slot c) slots) + size_given (slot_of c slots).size ≡ sizes_given slots + 0 = sizes_put (fresh_slot c) (slot_of c slots) slots (slot_is c slots there) in
+    omega arith
+
+-- one more, whose size isn't admitted
+pub more_sound : (slots : List Slot) (budget admitted : ℕ) (new : Slot) → IsSoundTable slots budget admitted → new.size ≡ None → IsAdmitted new → IsSoundTable (with_more new slots) budget admitted
+more_sound slots budget admitted new s none room = record { sum = s.sum ∙ sym (sizes slots); within = s.within; each = all slots s.each }
+  where
+    nothing : size_given new.size ≡ 0
+    nothing = ap size_given none
+
+    sizes : (slots : List Slot) → sizes_given (with_more new slots) ≡ sizes_given slots
+    sizes [] = omega (arith, nothing)
+    sizes (x ∷ slots) = step (nat_lt x.number new.number) (sizes slots)
+      where
+        step : (b : Bool) → sizes_given (with_more new slots) ≡ sizes_given slots → sizes_given (if b then x ∷ with_more new slots else new ∷ (x ∷ slots)) ≡ size_given x.size + sizes_given slots
+        step true rest = omega arith
+        step false rest = omega (arith, nothing)
+
+    all : (slots : List Slot) → AllByRecursion IsAdmitted slots → AllByRecursion IsAdmitted (with_more new slots)
+    all [] a = (room, tt)
+    all (x ∷ slots) a = step (nat_lt x.number new.number) (all slots a.1)
+      where
+        step : (b : Bool) → AllByRecursion IsAdmitted (with_more new slots) → AllByRecursion IsAdmitted (if b then x ∷ with_more new slots else new ∷ (x ∷ slots))
+        step true rest = (a.0, rest)
+        step false rest = (room, a)
+
+-- one less, whose size isn't admitted
+pub less_sound : (slots : List Slot) (budget admitted c : ℕ) → IsSoundTable slots budget admitted → IsSome (slot_in c slots) → (slot_of c slots).size ≡ None
+    → IsSoundTable (without_number c slots) budget admitted
+less_sound slots budget admitted c s there none = record { sum = s.sum ∙ sym (sizes slots (slot_is c slots there)); within = s.within; each = all slots s.each }
+  where
+    nothing : (x : Slot) → x ≡ slot_of c slots → size_given x.size ≡ 0
+    nothing x e = ap (λ (k : Slot). size_given k.size) e ∙ ap size_given none
+
+    sizes : (xs : List Slot) → slot_in c xs ≡ Some (slot_of c slots) → sizes_given (without_number c xs) ≡ sizes_given xs
+    sizes [] e = refl
+    sizes (x ∷ xs) e = go (cases_eq x.number c) (λ f. sizes xs f)
+      where
+        go : (x.number ≡ c) ⊎ (x.number ≡ c → ⊥) → (slot_in c xs ≡ Some (slot_of c slots) → sizes_given (without_number c xs) ≡ sizes_given xs) → sizes_given (without_number c (x ∷ xs)) ≡ sizes_given (x ∷ xs)
+        go (inl is) again =
+            let k : size_given x.size ≡ 0 = nothing x (same_Some x (slot_of c slots) (sym (ap (λ t. if t then Some x else slot_in c xs) (eq-eqb x.number c is)) ∙ e)) in
+            let l : sizes_given (without_number c (x ∷ xs)) ≡ sizes_given xs = ap (λ t. sizes_given (if t then xs else x ∷ without_number c xs)) (eq-eqb x.number c is) in
+            omega arith
+        go (inr n) again =
+            let k : sizes_given (without_number c xs) ≡ sizes_given xs = again (sym (ap (λ t. if t then Some x else slot_in c xs) (ne_eqb x.number c n)) ∙ e) in
+            let l : sizes_given (without_number c (x ∷ xs)) ≡ size_given x.size + sizes_given (without_number c xs) = ap (λ t. sizes_given (if t then xs else x ∷ without_number c xs)) (ne_eqb x.number c n) in
+            omega arith
+
+    all : (xs : List Slot) → AllByRecursion IsAdmitted xs → AllByRecursion IsAdmitted (without_number c xs)
+    all [] a = tt
+    all (x ∷ xs) a = step (x.number == c) (all xs a.1)
+      where
+        step : (b : Bool) → AllByRecursion IsAdmitted (without_number c xs) → AllByRecursion IsAdmitted (if b then xs else x ∷ without_number c xs)
+        step true rest = a.1
+        step false rest = (a.0, rest)
