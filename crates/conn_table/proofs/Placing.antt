@@ -7,9 +7,9 @@ use Rattle.std.proofs.lemmas.Option.{none-some, same_Some}
 use Rattle.slab.specs.Slab.{Slab, get}
 use Rattle.conn_table.specs.declared.places.Row.{Row}
 use Rattle.conn_table.specs.declared.places.Slot.{Slot}
-use Rattle.conn_table.specs.Rows.{key_in, IsRising, rank}
-use Rattle.conn_table.specs.Slots.{slot_in, with_slot, with_more, without_number}
-use Rattle.conn_table.specs.Places.{and_more, kept_in, IsPlaced}
+use Rattle.conn_table.specs.Rows.{key_in, IsRising, rank_below}
+use Rattle.conn_table.specs.Slots.{slot_in, with_slot, with_added, without_number}
+use Rattle.conn_table.specs.Places.{joined_to, kept_in, IsPlaced}
 
 -- an option that has a value
 pub value_of : {X : Type 0} (o : Option X) → IsSome o → (x : X) × (o ≡ Some x)
@@ -29,13 +29,13 @@ module _ (slab : Slab Slot) where
 
   pub length-kept : (rows : List Row) → Placed rows → length (kept_in slab rows) ≡ length rows
   length-kept [] p = refl
-  length-kept (row ∷ rows) p = ap (λ o. length (and_more o (kept_in slab rows))) p.0.1 ∙ ap suc (length-kept rows p.1)
+  length-kept (row ∷ rows) p = ap (λ o. length (joined_to o (kept_in slab rows))) p.0.1 ∙ ap suc (length-kept rows p.1)
 
   -- what is kept of a number is under its key
   pub slot_under : (c : ℕ) (rows : List Row) → Placed rows → slot_in c (kept_in slab rows) ≡ under slab (key_in c rows)
   slot_under c [] p = refl
   slot_under c (row ∷ rows) p =
-      ap (λ o. slot_in c (and_more o (kept_in slab rows))) p.0.1 ∙ ap (λ k. if k == c then Some p.0.0 else slot_in c (kept_in slab rows)) p.0.2
+      ap (λ o. slot_in c (joined_to o (kept_in slab rows))) p.0.1 ∙ ap (λ k. if k == c then Some p.0.0 else slot_in c (kept_in slab rows)) p.0.2
       ∙ step (row.number == c) (slot_under c rows p.1)
     where
       step : (b : Bool) → slot_in c (kept_in slab rows) ≡ under slab (key_in c rows)
@@ -90,7 +90,7 @@ module _ (slab : Slab Slot) where
   module _ (other : Slab Slot) (key : ℕ) (same : (k : ℕ) → (k ≡ key → ⊥) → get other k ≡ get slab k) where
     kept_same : (rows : List Row) → AllByRecursion (λ (row : Row). row.key ≡ key → ⊥) rows → kept_in other rows ≡ kept_in slab rows
     kept_same [] a = refl
-    kept_same (row ∷ rows) a = (λ i. and_more (same row.key a.0 i) (kept_same rows a.1 i))
+    kept_same (row ∷ rows) a = (λ i. joined_to (same row.key a.0 i) (kept_same rows a.1 i))
 
     one_same : (row : Row) → (row.key ≡ key → ⊥) → IsPlaced slab row → IsPlaced other row
     one_same row n p = (p.0, same row.key n ∙ p.1, p.2)
@@ -122,7 +122,7 @@ module _ (slab : Slab Slot) where
         at = placed_key new.number key (row ∷ rows) p e
 
         old_kept : with_slot new (kept_in slab (row ∷ rows)) ≡ (if row.number == new.number then new ∷ kept_in slab rows else p.0.0 ∷ with_slot new (kept_in slab rows))
-        old_kept = ap (λ o. with_slot new (and_more o (kept_in slab rows))) p.0.1 ∙ ap (λ k. if k == new.number then new ∷ kept_in slab rows else p.0.0 ∷ with_slot new (kept_in slab rows)) p.0.2
+        old_kept = ap (λ o. with_slot new (joined_to o (kept_in slab rows))) p.0.1 ∙ ap (λ k. if k == new.number then new ∷ kept_in slab rows else p.0.0 ∷ with_slot new (kept_in slab rows)) p.0.2
 
         go : (row.number ≡ new.number) ⊎ (row.number ≡ new.number → ⊥)
             → (key_in new.number rows ≡ Some key → (kept_in other rows ≡ with_slot new (kept_in slab rows)) × AllByRecursion (IsPlaced other) rows)
@@ -131,15 +131,15 @@ module _ (slab : Slab Slot) where
             let k : row.key ≡ key = head_key new.number row rows here e in
             let apart : AllByRecursion (λ (o : Row). o.key ≡ key → ⊥) rows = behind_other new.number row rows at here r.0 p.1 in
             let there : get other row.key ≡ Some new = ap (get other) k ∙ is in (
-              (λ i. and_more (there i) (kept_same rows apart i))
-              ∙ sym (old_kept ∙ ap (λ t. if t then new ∷ kept_in slab rows else p.0.0 ∷ with_slot new (kept_in slab rows)) (eq-eqb row.number new.number here)),
+              (λ i. joined_to (there i) (kept_same rows apart i))
+                  ∙ sym (old_kept ∙ ap (λ t. if t then new ∷ kept_in slab rows else p.0.0 ∷ with_slot new (kept_in slab rows)) (eq-eqb row.number new.number here)),
               ((new, there, sym here), placed_same rows apart p.1),
             )
         go (inr away) again =
             let n : row.key ≡ key → ⊥ = other_key new.number key row at p.0 away in
             let t : (kept_in other rows ≡ with_slot new (kept_in slab rows)) × AllByRecursion (IsPlaced other) rows = again (tail_key new.number row rows away e) in (
-              (λ i. and_more ((same row.key n ∙ p.0.1) i) (t.0 i))
-              ∙ sym (old_kept ∙ ap (λ t. if t then new ∷ kept_in slab rows else p.0.0 ∷ with_slot new (kept_in slab rows)) (ne_eqb row.number new.number away)),
+              (λ i. joined_to ((same row.key n ∙ p.0.1) i) (t.0 i))
+                  ∙ sym (old_kept ∙ ap (λ t. if t then new ∷ kept_in slab rows else p.0.0 ∷ with_slot new (kept_in slab rows)) (ne_eqb row.number new.number away)),
               (one_same row n p.0, t.1),
             )
 
@@ -148,15 +148,15 @@ module _ (slab : Slab Slot) where
     vacant_apart [] v p = tt
     vacant_apart (row ∷ rows) v p = (λ e. none-some p.0.0 (sym v ∙ ap (get slab) (sym e) ∙ p.0.1), vacant_apart rows v p.1)
 
-    all_ranked : (P : Row → Type 0) (c : ℕ) (row : Row) (rows : List Row) → AllByRecursion P rows → P row → AllByRecursion P (insert rows (rank c rows) row)
+    all_ranked : (P : Row → Type 0) (c : ℕ) (row : Row) (rows : List Row) → AllByRecursion P rows → P row → AllByRecursion P (insert rows (rank_below c rows) row)
     all_ranked P c row [] a x = (x, tt)
     all_ranked P c row (z ∷ rows) a x = step (nat_lt z.number c) (all_ranked P c row rows a.1 x)
       where
-        step : (b : Bool) → AllByRecursion P (insert rows (rank c rows) row) → AllByRecursion P (insert (z ∷ rows) (if b then suc (rank c rows) else 0) row)
+        step : (b : Bool) → AllByRecursion P (insert rows (rank_below c rows) row) → AllByRecursion P (insert (z ∷ rows) (if b then suc (rank_below c rows) else 0) row)
         step true rest = (a.0, rest)
         step false rest = (x, a)
 
-    rising_ranked : (row : Row) (rows : List Row) → IsRising rows → key_in row.number rows ≡ None → IsRising (insert rows (rank row.number rows) row)
+    rising_ranked : (row : Row) (rows : List Row) → IsRising rows → key_in row.number rows ≡ None → IsRising (insert rows (rank_below row.number rows) row)
     rising_ranked row [] r e = (tt, tt)
     rising_ranked row (z ∷ rows) r e = go (cases_lt z.number row.number) (cases_eq z.number row.number) (λ f. rising_ranked row rows r.1 f)
       where
@@ -164,43 +164,43 @@ module _ (slab : Slab Slot) where
         above n [] l a = tt
         above n (x ∷ xs) l a = let m : n < x.number = a.0 in (omega arith, above n xs l a.1)
 
-        go : (z.number < row.number) ⊎ (row.number ≤ z.number) → (z.number ≡ row.number) ⊎ (z.number ≡ row.number → ⊥) → (key_in row.number rows ≡ None → IsRising (insert rows (rank row.number rows) row))
-            → IsRising (insert (z ∷ rows) (rank row.number (z ∷ rows)) row)
+        go : (z.number < row.number) ⊎ (row.number ≤ z.number) → (z.number ≡ row.number) ⊎ (z.number ≡ row.number → ⊥) → (key_in row.number rows ≡ None → IsRising (insert rows (rank_below row.number rows) row))
+            → IsRising (insert (z ∷ rows) (rank_below row.number (z ∷ rows)) row)
         go l (inl is) again = absurd (none-some z.key (sym e ∙ ap (λ t. if t then Some z.key else key_in row.number rows) (eq-eqb z.number row.number is)))
         go (inl l) (inr n) again =
             let absent : key_in row.number rows ≡ None = sym (ap (λ t. if t then Some z.key else key_in row.number rows) (ne_eqb z.number row.number n)) ∙ e in
-            subst (λ b. IsRising (insert (z ∷ rows) (if b then suc (rank row.number rows) else 0) row)) (sym (lt-ltb z.number row.number l))
+            subst (λ b. IsRising (insert (z ∷ rows) (if b then suc (rank_below row.number rows) else 0) row)) (sym (lt-ltb z.number row.number l))
             (all_ranked (λ (o : Row). z.number < o.number) row.number row rows r.0 l, again absent)
         go (inr l) (inr n) again =
             let less : row.number < z.number = below l n in
-            subst (λ b. IsRising (insert (z ∷ rows) (if b then suc (rank row.number rows) else 0) row)) (sym (le-ltb z.number row.number l)) ((less, above z.number rows less r.0), r)
+            subst (λ b. IsRising (insert (z ∷ rows) (if b then suc (rank_below row.number rows) else 0) row)) (sym (le-ltb z.number row.number l)) ((less, above z.number rows less r.0), r)
           where
             below : row.number ≤ z.number → (z.number ≡ row.number → ⊥) → row.number < z.number
             below l n = elim (cases_lt row.number z.number) [ inl m ↦ m | inr m ↦ absurd (n (let e : z.number ≡ row.number = omega arith in e)) ]
 
     -- One more is kept.
     pub added : (new : Slot) (row : Row) (rows : List Row) → get other key ≡ Some new → row.key ≡ key → row.number ≡ new.number → get slab key ≡ None → Placed rows
-        → kept_in other (insert rows (rank row.number rows) row) ≡ with_more new (kept_in slab rows)
-    added new row [] is k n v p = ap (λ o. and_more o []) (ap (get other) k ∙ is)
+        → kept_in other (insert rows (rank_below row.number rows) row) ≡ with_added new (kept_in slab rows)
+    added new row [] is k n v p = ap (λ o. joined_to o []) (ap (get other) k ∙ is)
     added new row (z ∷ rows) is k n v p =
         step (nat_lt z.number row.number) (added new row rows is k n v p.1)
-        ∙ sym (ap (λ o. with_more new (and_more o (kept_in slab rows))) p.0.1
-        ∙ (λ i. if nat_lt (p.0.2 i) (sym n i) then p.0.0 ∷ with_more new (kept_in slab rows) else new ∷ (p.0.0 ∷ kept_in slab rows)))
+        ∙ sym (ap (λ o. with_added new (joined_to o (kept_in slab rows))) p.0.1
+        ∙ (λ i. if nat_lt (p.0.2 i) (sym n i) then p.0.0 ∷ with_added new (kept_in slab rows) else new ∷ (p.0.0 ∷ kept_in slab rows)))
       where
         apart : AllByRecursion (λ (o : Row). o.key ≡ key → ⊥) (z ∷ rows)
         apart = vacant_apart (z ∷ rows) v p
 
-        step : (b : Bool) → kept_in other (insert rows (rank row.number rows) row) ≡ with_more new (kept_in slab rows)
-            → kept_in other (insert (z ∷ rows) (if b then suc (rank row.number rows) else 0) row) ≡ (if b then p.0.0 ∷ with_more new (kept_in slab rows) else new ∷ (p.0.0 ∷ kept_in slab rows))
-        step true rest = (λ i. and_more ((same z.key apart.0 ∙ p.0.1) i) (rest i))
-        step false rest = (λ i. and_more ((ap (get other) k ∙ is) i) (and_more ((same z.key apart.0 ∙ p.0.1) i) (kept_same rows apart.1 i)))
+        step : (b : Bool) → kept_in other (insert rows (rank_below row.number rows) row) ≡ with_added new (kept_in slab rows)
+            → kept_in other (insert (z ∷ rows) (if b then suc (rank_below row.number rows) else 0) row) ≡ (if b then p.0.0 ∷ with_added new (kept_in slab rows) else new ∷ (p.0.0 ∷ kept_in slab rows))
+        step true rest = (λ i. joined_to ((same z.key apart.0 ∙ p.0.1) i) (rest i))
+        step false rest = (λ i. joined_to ((ap (get other) k ∙ is) i) (joined_to ((same z.key apart.0 ∙ p.0.1) i) (kept_same rows apart.1 i)))
 
     pub added_placed : (new : Slot) (row : Row) (rows : List Row) → get other key ≡ Some new → row.key ≡ key → row.number ≡ new.number → get slab key ≡ None → Placed rows
-        → AllByRecursion (IsPlaced other) (insert rows (rank row.number rows) row)
+        → AllByRecursion (IsPlaced other) (insert rows (rank_below row.number rows) row)
     added_placed new row rows is k n v p =
         all_ranked (IsPlaced other) row.number row rows (placed_same rows (vacant_apart rows v p) p) (new, ap (get other) k ∙ is, sym n)
 
-    pub added_rising : (row : Row) (rows : List Row) → IsRising rows → key_in row.number rows ≡ None → IsRising (insert rows (rank row.number rows) row)
+    pub added_rising : (row : Row) (rows : List Row) → IsRising rows → key_in row.number rows ≡ None → IsRising (insert rows (rank_below row.number rows) row)
     added_rising row rows r e = rising_ranked row rows r e
 
     less_than_key : (n c : ℕ) (rows : List Row) → AllByRecursion (λ (o : Row). n < o.number) rows → key_in c rows ≡ Some key → n < c
@@ -211,25 +211,25 @@ module _ (slab : Slab Slot) where
         go (inl is) again = let l : n < x.number = a.0 in omega arith
         go (inr away) again = again (tail_key c x rows away e)
 
-    all_removed : (P : Row → Type 0) (c : ℕ) (rows : List Row) → AllByRecursion P rows → AllByRecursion P (remove rows (rank c rows))
+    all_removed : (P : Row → Type 0) (c : ℕ) (rows : List Row) → AllByRecursion P rows → AllByRecursion P (remove rows (rank_below c rows))
     all_removed P c [] a = tt
     all_removed P c (z ∷ rows) a = step (nat_lt z.number c) (all_removed P c rows a.1)
       where
-        step : (b : Bool) → AllByRecursion P (remove rows (rank c rows)) → AllByRecursion P (remove (z ∷ rows) (if b then suc (rank c rows) else 0))
+        step : (b : Bool) → AllByRecursion P (remove rows (rank_below c rows)) → AllByRecursion P (remove (z ∷ rows) (if b then suc (rank_below c rows) else 0))
         step true rest = (a.0, rest)
         step false rest = a.1
 
-    pub removed_rising : (c : ℕ) (rows : List Row) → IsRising rows → IsRising (remove rows (rank c rows))
+    pub removed_rising : (c : ℕ) (rows : List Row) → IsRising rows → IsRising (remove rows (rank_below c rows))
     removed_rising c [] r = tt
     removed_rising c (z ∷ rows) r = step (nat_lt z.number c) (removed_rising c rows r.1)
       where
-        step : (b : Bool) → IsRising (remove rows (rank c rows)) → IsRising (remove (z ∷ rows) (if b then suc (rank c rows) else 0))
+        step : (b : Bool) → IsRising (remove rows (rank_below c rows)) → IsRising (remove (z ∷ rows) (if b then suc (rank_below c rows) else 0))
         step true rest = (all_removed (λ (o : Row). z.number < o.number) c rows r.0, rest)
         step false rest = r.1
 
     -- One is no longer kept.
     pub removed : (c : ℕ) (rows : List Row) → IsRising rows → Placed rows → key_in c rows ≡ Some key
-        → (kept_in other (remove rows (rank c rows)) ≡ without_number c (kept_in slab rows)) × AllByRecursion (IsPlaced other) (remove rows (rank c rows))
+        → (kept_in other (remove rows (rank_below c rows)) ≡ without_number c (kept_in slab rows)) × AllByRecursion (IsPlaced other) (remove rows (rank_below c rows))
     removed c [] r p e = absurd (none-some key e)
     removed c (row ∷ rows) r p e = go (cases_eq row.number c) (λ f. removed c rows r.1 p.1 f)
       where
@@ -237,48 +237,46 @@ module _ (slab : Slab Slot) where
         at = placed_key c key (row ∷ rows) p e
 
         old_kept : without_number c (kept_in slab (row ∷ rows)) ≡ (if row.number == c then kept_in slab rows else p.0.0 ∷ without_number c (kept_in slab rows))
-        old_kept = ap (λ o. without_number c (and_more o (kept_in slab rows))) p.0.1 ∙ ap (λ k. if k == c then kept_in slab rows else p.0.0 ∷ without_number c (kept_in slab rows)) p.0.2
+        old_kept = ap (λ o. without_number c (joined_to o (kept_in slab rows))) p.0.1 ∙ ap (λ k. if k == c then kept_in slab rows else p.0.0 ∷ without_number c (kept_in slab rows)) p.0.2
 
         go : (row.number ≡ c) ⊎ (row.number ≡ c → ⊥)
-            → (key_in c rows ≡ Some key → (kept_in other (remove rows (rank c rows)) ≡ without_number c (kept_in slab rows)) × AllByRecursion (IsPlaced other) (remove rows (rank c rows)))
-            → (kept_in other (remove (row ∷ rows) (rank c (row ∷ rows))) ≡ without_number c (kept_in slab (row ∷ rows))) × AllByRecursion (IsPlaced other) (remove (row ∷ rows) (rank c (row ∷ rows)))
+            → (key_in c rows ≡ Some key → (kept_in other (remove rows (rank_below c rows)) ≡ without_number c (kept_in slab rows)) × AllByRecursion (IsPlaced other) (remove rows (rank_below c rows)))
+            → (kept_in other (remove (row ∷ rows) (rank_below c (row ∷ rows))) ≡ without_number c (kept_in slab (row ∷ rows))) × AllByRecursion (IsPlaced other) (remove (row ∷ rows) (rank_below c (row ∷ rows)))
         go (inl here) again =
             let apart : AllByRecursion (λ (o : Row). o.key ≡ key → ⊥) rows = behind_other c row rows at here r.0 p.1 in
             subst
-            (λ b. (kept_in other (remove (row ∷ rows) (if b then suc (rank c rows) else 0)) ≡ without_number c (kept_in slab (row ∷ rows)))
-            × AllByRecursion (IsPlaced other) (remove (row ∷ rows) (if b then suc (rank c rows) else 0)))
-            (sym (le-ltb row.number c (omega arith)))
-            (
+            (λ b. (kept_in other (remove (row ∷ rows) (if b then suc (rank_below c rows) else 0)) ≡ without_number c (kept_in slab (row ∷ rows)))
+            × AllByRecursion (IsPlaced other) (remove (row ∷ rows) (if b then suc (rank_below c rows) else 0)))
+            (sym (le-ltb row.number c (omega arith))) (
               kept_same rows apart ∙ sym (old_kept ∙ ap (λ t. if t then kept_in slab rows else p.0.0 ∷ without_number c (kept_in slab rows)) (eq-eqb row.number c here)),
               placed_same rows apart p.1,
             )
         go (inr away) again =
             let found : key_in c rows ≡ Some key = tail_key c row rows away e in
             let n : row.key ≡ key → ⊥ = other_key c key row at p.0 away in
-            let t : (kept_in other (remove rows (rank c rows)) ≡ without_number c (kept_in slab rows)) × AllByRecursion (IsPlaced other) (remove rows (rank c rows)) = again found in
+            let t : (kept_in other (remove rows (rank_below c rows)) ≡ without_number c (kept_in slab rows)) × AllByRecursion (IsPlaced other) (remove rows (rank_below c rows)) = again found in
             subst
-            (λ b. (kept_in other (remove (row ∷ rows) (if b then suc (rank c rows) else 0)) ≡ without_number c (kept_in slab (row ∷ rows)))
-            × AllByRecursion (IsPlaced other) (remove (row ∷ rows) (if b then suc (rank c rows) else 0)))
-            (sym (lt-ltb row.number c (less_than_key row.number c rows r.0 found)))
-            (
-              (λ i. and_more ((same row.key n ∙ p.0.1) i) (t.0 i))
-              ∙ sym (old_kept ∙ ap (λ t. if t then kept_in slab rows else p.0.0 ∷ without_number c (kept_in slab rows)) (ne_eqb row.number c away)),
+            (λ b. (kept_in other (remove (row ∷ rows) (if b then suc (rank_below c rows) else 0)) ≡ without_number c (kept_in slab (row ∷ rows)))
+            × AllByRecursion (IsPlaced other) (remove (row ∷ rows) (if b then suc (rank_below c rows) else 0)))
+            (sym (lt-ltb row.number c (less_than_key row.number c rows r.0 found))) (
+              (λ i. joined_to ((same row.key n ∙ p.0.1) i) (t.0 i))
+                  ∙ sym (old_kept ∙ ap (λ t. if t then kept_in slab rows else p.0.0 ∷ without_number c (kept_in slab rows)) (ne_eqb row.number c away)),
               (one_same row n p.0, t.1),
             )
 
-pub length-inserted : (rows : List Row) (c : ℕ) (row : Row) → length (insert rows (rank c rows) row) ≡ suc (length rows)
+pub length-inserted : (rows : List Row) (c : ℕ) (row : Row) → length (insert rows (rank_below c rows) row) ≡ suc (length rows)
 length-inserted [] c row = refl
 length-inserted (z ∷ rows) c row = step (nat_lt z.number c) (length-inserted rows c row)
   where
-    step : (b : Bool) → length (insert rows (rank c rows) row) ≡ suc (length rows) → length (insert (z ∷ rows) (if b then suc (rank c rows) else 0) row) ≡ suc (suc (length rows))
+    step : (b : Bool) → length (insert rows (rank_below c rows) row) ≡ suc (length rows) → length (insert (z ∷ rows) (if b then suc (rank_below c rows) else 0) row) ≡ suc (suc (length rows))
     step true rest = ap suc rest
     step false rest = refl
 
-pub length-removed : (rows : List Row) (c : ℕ) → rank c rows < length rows → length (remove rows (rank c rows)) + 1 ≡ length rows
+pub length-removed : (rows : List Row) (c : ℕ) → rank_below c rows < length rows → length (remove rows (rank_below c rows)) + 1 ≡ length rows
 length-removed [] c l = absurd (let f : ⊥ = omega arith in f)
 length-removed (z ∷ rows) c l = step (nat_lt z.number c) l (λ k. length-removed rows c k)
   where
-    step : (b : Bool) → (if b then suc (rank c rows) else 0) < suc (length rows) → (rank c rows < length rows → length (remove rows (rank c rows)) + 1 ≡ length rows)
-        → length (remove (z ∷ rows) (if b then suc (rank c rows) else 0)) + 1 ≡ suc (length rows)
-    step true m rest = let t : length (remove rows (rank c rows)) + 1 ≡ length rows = rest (omega arith) in omega arith
+    step : (b : Bool) → (if b then suc (rank_below c rows) else 0) < suc (length rows) → (rank_below c rows < length rows → length (remove rows (rank_below c rows)) + 1 ≡ length rows)
+        → length (remove (z ∷ rows) (if b then suc (rank_below c rows) else 0)) + 1 ≡ suc (length rows)
+    step true m rest = let t : length (remove rows (rank_below c rows)) + 1 ≡ length rows = rest (omega arith) in omega arith
     step false m rest = omega arith

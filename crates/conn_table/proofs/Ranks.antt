@@ -4,7 +4,7 @@ use Rattle.std.specs.List.{AllByRecursion}
 use Rattle.std.proofs.lemmas.Bool.{cases_eq, cases_lt, lt-ltb, le-ltb}
 use Rattle.std.proofs.lemmas.Option.{none-some, same_Some, slice_get_past}
 use Rattle.conn_table.specs.declared.places.Row.{Row}
-use Rattle.conn_table.specs.Rows.{key_in, IsRising, rank}
+use Rattle.conn_table.specs.Rows.{key_in, IsRising, rank_below}
 
 -- the numbers of these rows before place i are below c, and from place j on they aren't
 pub record IsBetween (c : ℕ) (rows : List Row) (low high : ℕ) : Type 0 where
@@ -65,35 +65,35 @@ between_down c rows low high middle row r b l m at more =
       above = λ k x e n. let h : row.number ≤ x.number = rising_to rows middle k row x r at e n in omega arith;
     }
 
-pub rank_between : (c : ℕ) (rows : List Row) (i : ℕ) → IsBetween c rows i i → i ≡ rank c rows
+pub rank_between : (c : ℕ) (rows : List Row) (i : ℕ) → IsBetween c rows i i → i ≡ rank_below c rows
 rank_between c [] i b = let w : i ≤ 0 = b.within in omega arith
-rank_between c (x ∷ rows) zero b = sym (ap (λ t. if t then suc (rank c rows) else 0) (le-ltb x.number c (b.above 0 x refl (omega arith))))
+rank_between c (x ∷ rows) zero b = sym (ap (λ t. if t then suc (rank_below c rows) else 0) (le-ltb x.number c (b.above 0 x refl (omega arith))))
 rank_between c (x ∷ rows) (suc i) b =
     let w : suc i ≤ suc (length rows) = b.within in
-    let t : i ≡ rank c rows = rank_between c rows i (record {
+    let t : i ≡ rank_below c rows = rank_between c rows i (record {
       order = omega arith;
       within = omega arith;
       below = λ k row e l. b.below (suc k) row e (omega arith);
       above = λ k row e l. b.above (suc k) row e (omega arith);
     }) in
-    ap suc t ∙ sym (ap (λ t. if t then suc (rank c rows) else 0) (lt-ltb x.number c (b.below 0 x refl (omega arith))))
+    ap suc t ∙ sym (ap (λ t. if t then suc (rank_below c rows) else 0) (lt-ltb x.number c (b.below 0 x refl (omega arith))))
 
 -- a row of a number is at its rank
-pub rank_found : (c key : ℕ) (rows : List Row) → IsRising rows → key_in c rows ≡ Some key → (row : Row) × (slice_get rows (rank c rows) ≡ Some row) × (row.number ≡ c) × (row.key ≡ key)
+pub rank_found : (c key : ℕ) (rows : List Row) → IsRising rows → key_in c rows ≡ Some key → (row : Row) × (slice_get rows (rank_below c rows) ≡ Some row) × (row.number ≡ c) × (row.key ≡ key)
 rank_found c key [] r e = absurd (none-some key e)
 rank_found c key (x ∷ rows) r e = go (cases_eq x.number c) (λ f. rank_found c key rows r.1 f)
   where
-    go : (x.number ≡ c) ⊎ (x.number ≡ c → ⊥) → (key_in c rows ≡ Some key → (row : Row) × (slice_get rows (rank c rows) ≡ Some row) × (row.number ≡ c) × (row.key ≡ key))
-        → (row : Row) × (slice_get (x ∷ rows) (rank c (x ∷ rows)) ≡ Some row) × (row.number ≡ c) × (row.key ≡ key)
+    go : (x.number ≡ c) ⊎ (x.number ≡ c → ⊥) → (key_in c rows ≡ Some key → (row : Row) × (slice_get rows (rank_below c rows) ≡ Some row) × (row.number ≡ c) × (row.key ≡ key))
+        → (row : Row) × (slice_get (x ∷ rows) (rank_below c (x ∷ rows)) ≡ Some row) × (row.number ≡ c) × (row.key ≡ key)
     go (inl same) again = (
       x,
-      ap (λ t. slice_get (x ∷ rows) (if t then suc (rank c rows) else 0)) (le-ltb x.number c (omega arith)),
+      ap (λ t. slice_get (x ∷ rows) (if t then suc (rank_below c rows) else 0)) (le-ltb x.number c (omega arith)),
       same,
       same_Some x.key key (sym (ap (λ t. if t then Some x.key else key_in c rows) (eq-eqb x.number c same)) ∙ e),
     )
     go (inr other) again =
         let found : key_in c rows ≡ Some key = sym (ap (λ t. if t then Some x.key else key_in c rows) (ne_eqb x.number c other)) ∙ e in
-        let t : (row : Row) × (slice_get rows (rank c rows) ≡ Some row) × (row.number ≡ c) × (row.key ≡ key) = again found in
-        let less : x.number < t.0.number = all_get (λ (o : Row). x.number < o.number) rows (rank c rows) t.0 r.0 t.1 in
+        let t : (row : Row) × (slice_get rows (rank_below c rows) ≡ Some row) × (row.number ≡ c) × (row.key ≡ key) = again found in
+        let less : x.number < t.0.number = all_get (λ (o : Row). x.number < o.number) rows (rank_below c rows) t.0 r.0 t.1 in
         let n : t.0.number ≡ c = t.2 in
-        (t.0, ap (λ b. slice_get (x ∷ rows) (if b then suc (rank c rows) else 0)) (lt-ltb x.number c (omega arith)) ∙ t.1, t.2, t.3)
+        (t.0, ap (λ b. slice_get (x ∷ rows) (if b then suc (rank_below c rows) else 0)) (lt-ltb x.number c (omega arith)) ∙ t.1, t.2, t.3)

@@ -11,8 +11,8 @@ use Rattle.host_model.specs.declared.cause.EndCause.TheVariants.{SizeFault}
 use Rattle.conn_state.specs.Phase.{Phase, ConnView, sizing, held, framing, ready, waiting, writing, ended}
 use Rattle.conn_state.specs.Step.{after_size, after_bytes, after_took, after_answer, after_wrote, after_end_of_input}
 use Rattle.conn_table.specs.declared.places.Slot.{Slot}
-use Rattle.conn_table.specs.Slots.{slot_in, with_slot, with_more, without_number}
-use Rattle.conn_table.specs.Table.{TableView, fresh_slot, slot_of, with_conn, size_given, sizes_given, TakesRoom, IsAdmitted, IsSoundTable}
+use Rattle.conn_table.specs.Slots.{slot_in, with_slot, with_added, without_number}
+use Rattle.conn_table.specs.Table.{TableView, fresh_slot, slot_of, with_state, size_given, sizes_given, TakesRoom, IsAdmitted, IsSoundTable}
 use Rattle.conn_table.proofs.Placing.{value_of, has_value}
 
 -- what is kept of an open connection
@@ -70,7 +70,7 @@ all_put P new (x ∷ slots) a p = step (x.number == new.number) (all_put P new s
     step true rest = (p, a.1)
     step false rest = (a.0, rest)
 
-all_found : (P : Slot → Type 0) (c : ℕ) (slots : List Slot) (slot : Slot) → AllByRecursion P slots → slot_in c slots ≡ Some slot → P slot
+pub all_found : (P : Slot → Type 0) (c : ℕ) (slots : List Slot) (slot : Slot) → AllByRecursion P slots → slot_in c slots ≡ Some slot → P slot
 all_found P c [] slot a e = absurd (none-some slot e)
 all_found P c (x ∷ slots) slot a e = go (cases_eq x.number c) (λ f. all_found P c slots slot a.1 f)
   where
@@ -120,7 +120,7 @@ changed_slots slots c new e = put_twice (fresh_slot c) new slots (sym e)
 pub in_place : (old : TableView) (places left last : List Slot) (budget admitted c : ℕ) (slot : Slot) (conn : ConnView) → IsSoundTable places budget admitted
     → record { budget = budget; slots = places } ≡ old → IsSome (slot_in c old.slots) → slot ≡ slot_of c places → slot.number ≡ c → left ≡ with_slot (fresh_slot c) places
     → last ≡ with_slot (record { number = slot.number; conn = conn; size = slot.size }) left → (TakesRoom conn.phase → TakesRoom (slot_of c old.slots).conn.phase)
-    → IsSoundTable last budget admitted × (record { budget = budget; slots = last } ≡ record old { slots = with_conn c conn old.slots })
+    → IsSoundTable last budget admitted × (record { budget = budget; slots = last } ≡ record old { slots = with_state c conn old.slots })
 in_place old places left last budget admitted c slot conn sound view there taken own is put room =
     let new : Slot = record { number = slot.number; conn = conn; size = slot.size } in
     let target : Slot = record { number = c; conn = conn; size = (slot_of c places).size } in
@@ -131,7 +131,7 @@ in_place old places left last budget admitted c slot conn sound view there taken
     subst (λ (o : TableView). TakesRoom conn.phase → TakesRoom (slot_of c o.slots).conn.phase) (sym view) room in
     let ended : IsSoundTable (with_slot target places) budget admitted = changed_sound places budget admitted c target sound open_there refl refl room_there in (
       subst (λ l. IsSoundTable l budget admitted) (sym all) ended,
-      ap (λ l. tabled budget l) all ∙ ap (λ (o : TableView). record o { slots = with_conn c conn o.slots }) view,
+      ap (λ l. tabled budget l) all ∙ ap (λ (o : TableView). record o { slots = with_state c conn o.slots }) view,
     )
   where
     tabled : ℕ → List Slot → TableView
@@ -202,7 +202,7 @@ put_same new (x ∷ slots) e = go (cases_eq x.number new.number) (λ f. put_same
         ∙ ap (λ l. x ∷ l) (again (sym (ap (λ t. if t then Some x else slot_in new.number slots) (ne_eqb x.number new.number n)) ∙ e))
 
 -- a state that is as it was
-pub conn_same : (c : ℕ) (slots : List Slot) → IsSome (slot_in c slots) → with_conn c (slot_of c slots).conn slots ≡ slots
+pub conn_same : (c : ℕ) (slots : List Slot) → IsSome (slot_in c slots) → with_state c (slot_of c slots).conn slots ≡ slots
 conn_same c slots there =
     let own : (slot_of c slots).number ≡ c = found_number c slots (slot_of c slots) (slot_is c slots there) in
     ap (λ k. with_slot (record { number = k; conn = (slot_of c slots).conn; size = (slot_of c slots).size }) slots) (sym own)
@@ -225,25 +225,25 @@ size_below c slots there =
     omega arith
 
 -- one more, whose size isn't admitted
-pub more_sound : (slots : List Slot) (budget admitted : ℕ) (new : Slot) → IsSoundTable slots budget admitted → new.size ≡ None → IsAdmitted new → IsSoundTable (with_more new slots) budget admitted
+pub more_sound : (slots : List Slot) (budget admitted : ℕ) (new : Slot) → IsSoundTable slots budget admitted → new.size ≡ None → IsAdmitted new → IsSoundTable (with_added new slots) budget admitted
 more_sound slots budget admitted new s none room = record { sum = s.sum ∙ sym (sizes slots); within = s.within; each = all slots s.each }
   where
     nothing : size_given new.size ≡ 0
     nothing = ap size_given none
 
-    sizes : (slots : List Slot) → sizes_given (with_more new slots) ≡ sizes_given slots
+    sizes : (slots : List Slot) → sizes_given (with_added new slots) ≡ sizes_given slots
     sizes [] = omega (arith, nothing)
     sizes (x ∷ slots) = step (nat_lt x.number new.number) (sizes slots)
       where
-        step : (b : Bool) → sizes_given (with_more new slots) ≡ sizes_given slots → sizes_given (if b then x ∷ with_more new slots else new ∷ (x ∷ slots)) ≡ size_given x.size + sizes_given slots
+        step : (b : Bool) → sizes_given (with_added new slots) ≡ sizes_given slots → sizes_given (if b then x ∷ with_added new slots else new ∷ (x ∷ slots)) ≡ size_given x.size + sizes_given slots
         step true rest = omega arith
         step false rest = omega (arith, nothing)
 
-    all : (slots : List Slot) → AllByRecursion IsAdmitted slots → AllByRecursion IsAdmitted (with_more new slots)
+    all : (slots : List Slot) → AllByRecursion IsAdmitted slots → AllByRecursion IsAdmitted (with_added new slots)
     all [] a = (room, tt)
     all (x ∷ slots) a = step (nat_lt x.number new.number) (all slots a.1)
       where
-        step : (b : Bool) → AllByRecursion IsAdmitted (with_more new slots) → AllByRecursion IsAdmitted (if b then x ∷ with_more new slots else new ∷ (x ∷ slots))
+        step : (b : Bool) → AllByRecursion IsAdmitted (with_added new slots) → AllByRecursion IsAdmitted (if b then x ∷ with_added new slots else new ∷ (x ∷ slots))
         step true rest = (a.0, rest)
         step false rest = (room, a)
 
@@ -276,3 +276,50 @@ less_sound slots budget admitted c s there none = record { sum = s.sum ∙ sym (
         step : (b : Bool) → AllByRecursion IsAdmitted (without_number c xs) → AllByRecursion IsAdmitted (if b then xs else x ∷ without_number c xs)
         step true rest = a.1
         step false rest = (a.0, rest)
+
+-- a change of one connection is none of another's
+pub other_put : (new : Slot) (x : ℕ) (slots : List Slot) → (new.number ≡ x → ⊥) → slot_in x (with_slot new slots) ≡ slot_in x slots
+other_put new x [] n = refl
+other_put new x (s ∷ slots) n = go (cases_eq s.number new.number) (other_put new x slots n)
+  where
+    go : (s.number ≡ new.number) ⊎ (s.number ≡ new.number → ⊥) → slot_in x (with_slot new slots) ≡ slot_in x slots → slot_in x (with_slot new (s ∷ slots)) ≡ slot_in x (s ∷ slots)
+    go (inl is) again =
+        ap (λ t. slot_in x (if t then new ∷ slots else s ∷ with_slot new slots)) (eq-eqb s.number new.number is)
+        ∙ ap (λ t. if t then Some new else slot_in x slots) (ne_eqb new.number x n)
+        ∙ sym (ap (λ t. if t then Some s else slot_in x slots) (ne_eqb s.number x (λ e. n (sym is ∙ e))))
+    go (inr a) again =
+        ap (λ t. slot_in x (if t then new ∷ slots else s ∷ with_slot new slots)) (ne_eqb s.number new.number a)
+        ∙ ap (λ r. if s.number == x then Some s else r) again
+
+pub other_more : (new : Slot) (x : ℕ) (slots : List Slot) → (new.number ≡ x → ⊥) → slot_in x (with_added new slots) ≡ slot_in x slots
+other_more new x [] n = ap (λ t. if t then Some new else None) (ne_eqb new.number x n)
+other_more new x (s ∷ slots) n = step (nat_lt s.number new.number) (other_more new x slots n)
+  where
+    step : (b : Bool) → slot_in x (with_added new slots) ≡ slot_in x slots → slot_in x (if b then s ∷ with_added new slots else new ∷ (s ∷ slots)) ≡ slot_in x (s ∷ slots)
+    step true again = ap (λ r. if s.number == x then Some s else r) again
+    step false again = ap (λ t. if t then Some new else slot_in x (s ∷ slots)) (ne_eqb new.number x n)
+
+pub found_more : (new : Slot) (slots : List Slot) → slot_in new.number slots ≡ None → slot_in new.number (with_added new slots) ≡ Some new
+found_more new [] e = ap (λ t. if t then Some new else None) (eq-eqb new.number new.number refl)
+found_more new (s ∷ slots) e = go (cases_eq s.number new.number) (λ f. found_more new slots f)
+  where
+    step : (b : Bool) → slot_in new.number (with_added new slots) ≡ Some new → (s.number ≡ new.number → ⊥) → slot_in new.number (if b then s ∷ with_added new slots else new ∷ (s ∷ slots)) ≡ Some new
+    step true again n = ap (λ t. if t then Some s else slot_in new.number (with_added new slots)) (ne_eqb s.number new.number n) ∙ again
+    step false again n = ap (λ t. if t then Some new else slot_in new.number (s ∷ slots)) (eq-eqb new.number new.number refl)
+
+    go : (s.number ≡ new.number) ⊎ (s.number ≡ new.number → ⊥) → (slot_in new.number slots ≡ None → slot_in new.number (with_added new slots) ≡ Some new)
+        → slot_in new.number (with_added new (s ∷ slots)) ≡ Some new
+    go (inl is) again = absurd (none-some s (sym e ∙ ap (λ t. if t then Some s else slot_in new.number slots) (eq-eqb s.number new.number is)))
+    go (inr n) again =
+        step (nat_lt s.number new.number) (again (sym (ap (λ t. if t then Some s else slot_in new.number slots) (ne_eqb s.number new.number n)) ∙ e)) n
+
+pub other_without : (c x : ℕ) (slots : List Slot) → (c ≡ x → ⊥) → slot_in x (without_number c slots) ≡ slot_in x slots
+other_without c x [] n = refl
+other_without c x (s ∷ slots) n = go (cases_eq s.number c) (other_without c x slots n)
+  where
+    go : (s.number ≡ c) ⊎ (s.number ≡ c → ⊥) → slot_in x (without_number c slots) ≡ slot_in x slots → slot_in x (without_number c (s ∷ slots)) ≡ slot_in x (s ∷ slots)
+    go (inl is) again =
+        ap (λ t. slot_in x (if t then slots else s ∷ without_number c slots)) (eq-eqb s.number c is)
+        ∙ sym (ap (λ t. if t then Some s else slot_in x slots) (ne_eqb s.number x (λ e. n (sym is ∙ e))))
+    go (inr a) again =
+        ap (λ t. slot_in x (if t then slots else s ∷ without_number c slots)) (ne_eqb s.number c a) ∙ ap (λ r. if s.number == x then Some s else r) again

@@ -8,14 +8,14 @@ use Rattle.conn_table.specs.Rows.{IsRising}
 use Rattle.conn_table.specs.Slots.{most_places}
 
 -- one more in front, where there is one
-abbrev pub and_more : Option Slot → List Slot → List Slot
-and_more None slots = slots
-and_more (Some slot) slots = slot ∷ slots
+abbrev pub joined_to : Option Slot → List Slot → List Slot
+joined_to None slots = slots
+joined_to (Some slot) slots = slot ∷ slots
 
 -- what a slab has under the keys of these rows
 abbrev pub kept_in : Slab Slot → List Row → List Slot
 kept_in slab [] = []
-kept_in slab (row ∷ rows) = and_more (get slab row.key) (kept_in slab rows)
+kept_in slab (row ∷ rows) = joined_to (get slab row.key) (kept_in slab rows)
 
 -- a row's key has the slot of its number
 abbrev pub IsPlaced : Slab Slot → Row → Type 0

@@ -14,6 +14,6 @@ IsRising [] = Unit {0}
 IsRising (row ∷ rows) = AllByRecursion (λ (other : Row). row.number < other.number) rows × IsRising rows
 
 -- how many rows in front have a number below this one
-abbrev pub rank : ℕ → List Row → ℕ
-rank c [] = 0
-rank c (row ∷ rows) = if nat_lt row.number c then suc (rank c rows) else 0
+abbrev pub rank_below : ℕ → List Row → ℕ
+rank_below c [] = 0
+rank_below c (row ∷ rows) = if nat_lt row.number c then suc (rank_below c rows) else 0

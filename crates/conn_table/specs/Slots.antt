@@ -17,9 +17,9 @@ with_slot new [] = []
 with_slot new (slot ∷ slots) = if slot.number == new.number then new ∷ slots else slot ∷ with_slot new slots
 
 -- one more connection, at its place by number
-abbrev pub with_more : Slot → List Slot → List Slot
-with_more new [] = new ∷ []
-with_more new (slot ∷ slots) = if nat_lt slot.number new.number then slot ∷ with_more new slots else new ∷ (slot ∷ slots)
+abbrev pub with_added : Slot → List Slot → List Slot
+with_added new [] = new ∷ []
+with_added new (slot ∷ slots) = if nat_lt slot.number new.number then slot ∷ with_added new slots else new ∷ (slot ∷ slots)
 
 -- all but this connection
 abbrev pub without_number : ℕ → List Slot → List Slot

@@ -20,8 +20,8 @@ abbrev pub slot_of : ℕ → List Slot → Slot
 slot_of c slots = unwrap_or (slot_in c slots) (fresh_slot c)
 
 -- a connection in this state, and with its size as it was
-abbrev pub with_conn : ℕ → ConnView → List Slot → List Slot
-with_conn c conn slots = with_slot (record { number = c; conn = conn; size = (slot_of c slots).size }) slots
+abbrev pub with_state : ℕ → ConnView → List Slot → List Slot
+with_state c conn slots = with_slot (record { number = c; conn = conn; size = (slot_of c slots).size }) slots
 
 -- one with this size, and its state as it was
 abbrev pub with_size : ℕ → Option ℕ → List Slot → List Slot

@@ -13,6 +13,7 @@
 //! ```
 #![tactic(auto)]
 
+pub mod laws;
 mod limits;
 mod places;
 mod table;

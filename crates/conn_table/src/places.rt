@@ -1,9 +1,9 @@
 //! Connections by number: a slab keeps them, and rows, by rising number, say under which key.
 
 ghost use Rattle.std.specs.Prelude.{◌≡◌, ◌<◌, ◌≤◌, IsSome, Some, None, IfOk, [], length};
-ghost use Rattle.conn_table.specs.Rows.{key_in, IsRising, rank};
+ghost use Rattle.conn_table.specs.Rows.{key_in, IsRising, rank_below};
 ghost use Rattle.conn_table.specs.Table.{slot_of, fresh_slot};
-ghost use Rattle.conn_table.specs.Slots.{most_places, slot_in, with_slot, with_more, without_number};
+ghost use Rattle.conn_table.specs.Slots.{most_places, slot_in, with_slot, with_added, without_number};
 
 use conn_state::Conn;
 use slab::Slab;
@@ -58,7 +58,7 @@ impl Model for Places {
 /// How many rows are in front of this number.
 fn rank_of(rows: &[Row], number: u32) -> usize
     requires { IsRising rows.now }
-    ensures rank { result ≡ rank number rows.now }
+    ensures rank_below { result ≡ rank_below number rows.now }
     ensures within { result ≤ length rows.now }
 {
     let mut low = 0;
@@ -149,7 +149,7 @@ impl Places {
     pub(crate) fn insert(&mut self, slot: Slot)
         requires room { length self.old < most_places }
         requires vacant { slot_in slot.number self.old ≡ None }
-        ensures { self.new ≡ with_more slot self.old }
+        ensures { self.new ≡ with_added slot self.old }
     {
         let number = slot.number;
         let place = rank_of(self.rows.as_slice(), number);

@@ -3,8 +3,8 @@
 ghost use Rattle.std.specs.Prelude.{◌≡◌, ◌↔◌, ◌<◌, ◌≤◌, ◌+◌, ◌^◌, IsTrue, IsSome, Some, None, IfOk, [], length, drop};
 ghost use Rattle.conn_state.specs.Phase.{wanted, size_asked, waiting, ready, ended, left_to_write, cause_of, IsHeld, IsReading, IsReady, IsWaiting, HasNotEnded};
 ghost use Rattle.conn_state.specs.Step.{after_took, after_admission, after_answer, after_wrote, after_end_of_input, IsFromOutside};
-ghost use Rattle.conn_table.specs.Slots.{most_places, slot_in, with_more, without_number};
-ghost use Rattle.conn_table.specs.Table.{fresh_slot, slot_of, with_conn, with_size, sizes_given, TakesRoom, Admits};
+ghost use Rattle.conn_table.specs.Slots.{most_places, slot_in, with_added, without_number};
+ghost use Rattle.conn_table.specs.Table.{fresh_slot, slot_of, with_state, with_size, sizes_given, TakesRoom, Admits};
 
 use crate::places::{MOST, Places, Slot};
 use conn_state::{Conn, EndCause};
@@ -49,7 +49,7 @@ impl Table {
     pub fn add(&mut self, c: u32)
         requires room { length self.old.slots < most_places }
         requires closed { slot_in c self.old.slots ≡ None }
-        ensures { self.new ≡ record self.old { slots = with_more (fresh_slot c) self.old.slots } }
+        ensures { self.new ≡ record self.old { slots = with_added (fresh_slot c) self.old.slots } }
     {
         self.places.insert(Slot {
             number: c,
@@ -60,7 +60,8 @@ impl Table {
 
     /// Whether as many are open as may be.
     pub fn full(&self) -> bool
-        ensures { IsTrue result ↔ (length self.now.slots ≡ most_places) }
+        ensures full { IsTrue result ↔ (length self.now.slots ≡ most_places) }
+        ensures few { length self.now.slots ≤ most_places }
     {
         self.places.len() == MOST
     }
@@ -70,6 +71,7 @@ impl Table {
         requires { IsSome (slot_in c self.now.slots) }
         ensures state { result.now ≡ (slot_of c self.now.slots).conn }
         ensures within { sizes_given self.now.slots ≤ self.now.budget }
+        ensures admitted { TakesRoom (slot_of c self.now.slots).conn.phase → IsSome (slot_of c self.now.slots).size }
     {
         &self.places.get(c).conn
     }
@@ -80,7 +82,7 @@ impl Table {
         requires some { 0 < length bytes.now }
         requires asked { length bytes.now ≤ wanted (slot_of c self.old.slots).conn.phase }
         requires counted { (slot_of c self.old.slots).conn.frames < 2 ^ 62 }
-        ensures { self.new ≡ record self.old { slots = with_conn c (after_took max_frame (slot_of c self.old.slots).conn bytes.now) self.old.slots } }
+        ensures { self.new ≡ record self.old { slots = with_state c (after_took max_frame (slot_of c self.old.slots).conn bytes.now) self.old.slots } }
     {
         let mut slot = self.places.take(c);
         slot.conn.took(bytes, max_frame);
@@ -92,7 +94,7 @@ impl Table {
         requires open { IsSome (slot_in c self.old.slots) }
         requires whole { IsReady (slot_of c self.old.slots).conn.phase }
         ensures given { (slot_of c self.old.slots).conn.phase ≡ ready result.0 result.1.items }
-        ensures after { self.new ≡ record self.old { slots = with_conn c (record (slot_of c self.old.slots).conn { phase = waiting result.0 }) self.old.slots } }
+        ensures after { self.new ≡ record self.old { slots = with_state c (record (slot_of c self.old.slots).conn { phase = waiting result.0 }) self.old.slots } }
     {
         let mut slot = self.places.take(c);
         let given = slot.conn.give();
@@ -104,7 +106,7 @@ impl Table {
     pub fn answered(&mut self, c: u32, settled: Settled)
         requires open { IsSome (slot_in c self.old.slots) }
         requires awaited { IsWaiting (slot_of c self.old.slots).conn.phase }
-        ensures { self.new ≡ record self.old { slots = with_conn c (record (slot_of c self.old.slots).conn { phase = after_answer settled }) self.old.slots } }
+        ensures { self.new ≡ record self.old { slots = with_state c (record (slot_of c self.old.slots).conn { phase = after_answer settled }) self.old.slots } }
     {
         let mut slot = self.places.take(c);
         slot.conn.answered(settled);
@@ -116,7 +118,7 @@ impl Table {
         requires open { IsSome (slot_in c self.old.slots) }
         requires some { 0 < count }
         requires pending { count ≤ length (left_to_write (slot_of c self.old.slots).conn.phase) }
-        ensures { self.new ≡ record self.old { slots = with_conn c (record (slot_of c self.old.slots).conn { phase = after_wrote (drop count (left_to_write (slot_of c self.old.slots).conn.phase)) }) self.old.slots } }
+        ensures { self.new ≡ record self.old { slots = with_state c (record (slot_of c self.old.slots).conn { phase = after_wrote (drop count (left_to_write (slot_of c self.old.slots).conn.phase)) }) self.old.slots } }
     {
         let mut slot = self.places.take(c);
         slot.conn.wrote(count);
@@ -127,7 +129,7 @@ impl Table {
     pub fn end_of_input(&mut self, c: u32)
         requires open { IsSome (slot_in c self.old.slots) }
         requires reading { IsReading (slot_of c self.old.slots).conn.phase }
-        ensures { self.new ≡ record self.old { slots = with_conn c (record (slot_of c self.old.slots).conn { phase = after_end_of_input (slot_of c self.old.slots).conn.phase }) self.old.slots } }
+        ensures { self.new ≡ record self.old { slots = with_state c (record (slot_of c self.old.slots).conn { phase = after_end_of_input (slot_of c self.old.slots).conn.phase }) self.old.slots } }
     {
         let mut slot = self.places.take(c);
         slot.conn.end_of_input();
@@ -139,7 +141,7 @@ impl Table {
         requires open { IsSome (slot_in c self.old.slots) }
         requires going { HasNotEnded (slot_of c self.old.slots).conn.phase }
         requires outside { IsFromOutside cause }
-        ensures { self.new ≡ record self.old { slots = with_conn c (record (slot_of c self.old.slots).conn { phase = ended cause }) self.old.slots } }
+        ensures { self.new ≡ record self.old { slots = with_state c (record (slot_of c self.old.slots).conn { phase = ended cause }) self.old.slots } }
     {
         let mut slot = self.places.take(c);
         slot.conn.end(cause);

@@ -12,7 +12,7 @@ use Rattle.machine_model.specs.AtFronts.{size_in}
 use Rattle.machine_model.proofs.Merging.{runs-append}
 use Rattle.rehearsal_model.specs.ScriptLines.{ScriptLine, opening, piece, input_end, input_fault, resting, turn_of_conn, turn_of_worker, turn_of_outcome, WriteRule, takes_most, blocks, fails, ScriptPlan, count_up}
 use Rattle.rehearsal_model.specs.Playing.{InputFinish, finishes, faults, Play, most_read, at_number, pieces_left, moved_on, all_admitted, event_on, freed, freed_if_over, with_rules, with_unread, told_in, on_one, read_behind, read_move, write_move, size_move, open_move, conn_move, step_of_worker, worker_move, collect_first, collect_move}
-use Rattle.rehearsal_model.specs.Rehearsing.{workers_among, left_by, goes_on_with, until_still, work_through, all_read, all_work, pass, drain, line_done, lines_done, before_all, IsRehearsed}
+use Rattle.rehearsal_model.specs.Rehearsing.{workers_among, left_by, goes_on_with, until_still, work_through, all_read, all_work, pass, drain, line_done, lines_done, before_all, IsRehearsalOf}
 
 module _ {C A M : Type 0} (d : DeskRules C A) (r : ServiceRules C A M)
     (computes : (first cell : Cell C A M) (told : List Told) → run_plain d r told (Some first) ≡ Some cell → EventsLead d r first (map event_told told) cell) where
@@ -174,7 +174,7 @@ module _ {C A M : Type 0} (d : DeskRules C A) (r : ServiceRules C A M)
       and_leads play (λ next. lines_done d r fuel budget workers lines next) _ (line_leads fuel budget workers play line) (λ next. lines_lead fuel budget workers lines next)
 
   -- a rehearsal is a run
-  pub is_run : (budget workers : ℕ) (script : ScriptPlan) (first last : Cell C A M) → IsRehearsed d r budget workers script first last
+  pub is_run : (budget workers : ℕ) (script : ScriptPlan) (first last : Cell C A M) → IsRehearsalOf d r budget workers script first last
       → (events : List MachineEvent) × EventsLead d r first events last
   is_run budget workers script first last t =
       let l : Leads (before_all first script) t.play =

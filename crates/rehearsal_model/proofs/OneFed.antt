@@ -198,11 +198,11 @@ module _ {C A M : Type 0} (d : DeskRules C A) (r : ServiceRules C A M) (memories
           bytes = subst (λ ps. IsPrefix (input (marks_of 0 tape)) (bytes_of_pieces ps)) (sym (pieces_there pieces)) f.front;
           reads = subst (λ ps. EachReadTakesItsPart d.max 0 (ends_from 0 ps) tape) (sym (pieces_there pieces)) f.fed;
           ended = λ front back e. (
-              has_its_end pieces,
-              (let t : (ws : List Mark) × (ending 0 cause ≡ ws ++ Ended 0 ∷ back) × (input (marks_of 0 front) ≡ input (marks_of 0 tape)) =
-              at_the_end 2 front back (Ended 0) refl refl refl refl e in
-              t.2 ∙ read_all cause (input (marks_of 0 tape)) (bytes_of_pieces pieces) t.0 back scripted f.to_its_end t.1 ∙ ap bytes_of_pieces (sym (pieces_there pieces))),
-            );
+            has_its_end pieces,
+            (let t : (ws : List Mark) × (ending 0 cause ≡ ws ++ Ended 0 ∷ back) × (input (marks_of 0 front) ≡ input (marks_of 0 tape)) =
+                at_the_end 2 front back (Ended 0) refl refl refl refl e in
+                t.2 ∙ read_all cause (input (marks_of 0 tape)) (bytes_of_pieces pieces) t.0 back scripted f.to_its_end t.1 ∙ ap bytes_of_pieces (sym (pieces_there pieces))),
+          );
           failed = λ front back e. absurd (no_failure 4 front back (ReadFailed 0) refl refl refl refl refl refl e);
         }
     read (suc c) =

@@ -7,7 +7,7 @@ use Rattle.host_model.specs.DeskRules.{DeskRules}
 use Rattle.machine_model.specs.Machine.{Cell}
 use Rattle.rehearsal_model.specs.ScriptLines.{ScriptLine, opening, piece, input_end, input_fault, resting, turn_of_conn, turn_of_worker, turn_of_outcome, ScriptPlan, count_up}
 use Rattle.rehearsal_model.specs.Playing.{Play, conn_move, collect_move}
-use Rattle.rehearsal_model.specs.Rehearsing.{goes_on_with, until_still, all_read, all_work, pass, drain, line_done, lines_done, before_all, rehearsal, IsRehearsed}
+use Rattle.rehearsal_model.specs.Rehearsing.{goes_on_with, until_still, all_read, all_work, pass, drain, line_done, lines_done, before_all, rehearsal, IsRehearsalOf}
 
 module _ {X : Type 0} where
   -- where the one has an answer, the other has the same
@@ -72,8 +72,8 @@ module _ {C A M : Type 0} (d : DeskRules C A) (r : ServiceRules C A M) where
   more_suffice budget workers script first play fuel more l e = lines_agree d r budget workers fuel more l script.lines (before_all first script) play e
 
   -- a script comes to one cell
-  pub one_rehearsal : (budget workers : ℕ) (script : ScriptPlan) (first last other : Cell C A M) → IsRehearsed d r budget workers script first last
-      → IsRehearsed d r budget workers script first other → last ≡ other
+  pub one_rehearsal : (budget workers : ℕ) (script : ScriptPlan) (first last other : Cell C A M) → IsRehearsalOf d r budget workers script first last
+      → IsRehearsalOf d r budget workers script first other → last ≡ other
   one_rehearsal budget workers script first last other a b =
       let x : rehearsal d r (a.fuel + b.fuel) budget workers script first ≡ Some a.play = more_suffice budget workers script first a.play a.fuel (a.fuel + b.fuel) (omega arith) a.done in
       let y : rehearsal d r (a.fuel + b.fuel) budget workers script first ≡ Some b.play = more_suffice budget workers script first b.play b.fuel (a.fuel + b.fuel) (omega arith) b.done in

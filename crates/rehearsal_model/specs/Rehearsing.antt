@@ -90,7 +90,7 @@ module _ {C A M : Type 0} (d : DeskRules C A) (r : ServiceRules C A M) where
   rehearsal fuel budget workers script cell = lines_done fuel budget workers script.lines (before_all cell script)
 
   -- The rehearsal of a script comes to this cell, if some number of steps suffices.
-  pub record IsRehearsed (budget workers : ℕ) (script : ScriptPlan) (first last : Cell C A M) : Type 0 where
+  pub record IsRehearsalOf (budget workers : ℕ) (script : ScriptPlan) (first last : Cell C A M) : Type 0 where
     pub fuel : ℕ
     pub play : Play C A M
     pub done : rehearsal fuel budget workers script first ≡ Some play

@@ -11,7 +11,7 @@ ghost use Rattle.script_model.specs.Rehearsal.{is_scripted, IsRunOn};
 ghost use Rattle.machine_model.specs.Machine.{Cell, MachineEvent, EventsLead, IsFirst, HaveAllEnded};
 ghost use Rattle.rehearsal_model.specs.ScriptLines.{ScriptPlan};
 ghost use Rattle.rehearsal_model.specs.Fed.{IsFedBy, script_of_one};
-ghost use Rattle.rehearsal_model.specs.Rehearsing.{IsRehearsed};
+ghost use Rattle.rehearsal_model.specs.Rehearsing.{IsRehearsalOf};
 
 use machine_model::laws::{every_run_meets, plain_machine_runs};
 
@@ -29,12 +29,12 @@ pub fn one_connection_is_fed<C, A, M>()
 /// comes to one end alone, however many steps it is given.
 pub fn a_rehearsal_is_a_run<C, A, M>()
     ensures run { (d : DeskRules C A) (r : ServiceRules C A M) (budget workers : ℕ) (script : ScriptPlan) (first last : Cell C A M) →
-        d.max < 2 ^ 31 → IsRehearsed d r budget workers script first last → (events : List MachineEvent) × EventsLead d r first events last }
+        d.max < 2 ^ 31 → IsRehearsalOf d r budget workers script first last → (events : List MachineEvent) × EventsLead d r first events last }
     ensures meets { (d : DeskRules C A) (r : ServiceRules C A M) (memories : List M) (budget workers : ℕ) (script : ScriptPlan) (first last : Cell C A M) (causes : List EndCause) →
-        d.max < 2 ^ 31 → IsFirst memories first → IsRehearsed d r budget workers script first last → HaveAllEnded last.loop causes →
+        d.max < 2 ^ 31 → IsFirst memories first → IsRehearsalOf d r budget workers script first last → HaveAllEnded last.loop causes →
         Headline d r memories last.loop.tape last.hall.journal causes }
     ensures only { (d : DeskRules C A) (r : ServiceRules C A M) (budget workers : ℕ) (script : ScriptPlan) (first last other : Cell C A M) →
-        IsRehearsed d r budget workers script first last → IsRehearsed d r budget workers script first other → last ≡ other }
+        IsRehearsalOf d r budget workers script first last → IsRehearsalOf d r budget workers script first other → last ≡ other }
 {
     plain_machine_runs::<C, A, M>();
     every_run_meets::<C, A, M>();

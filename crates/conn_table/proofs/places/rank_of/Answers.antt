@@ -15,8 +15,8 @@ loop-low-preserved c =
     between_down c.args.number c.args.rows.now c.loop-low.low c.loop-low.high (c.loop-low.low + (c.loop-low.high - c.loop-low.low) / 2) _ c.requires c.loop-low.invariant (omega arith) (omega arith)
     (slice_get-get_or c.args.rows.now (c.loop-low.low + (c.loop-low.high - c.loop-low.low) / 2) _ (omega arith)) c.if-rows-middle.false
 
-pub returns-clause-rank : goal.returns-clause-rank
-returns-clause-rank c =
+pub returns-clause-rank_below : goal.returns-clause-rank_below
+returns-clause-rank_below c =
     let o : c.loop-low.low ≤ c.loop-low.high = c.loop-low.invariant.order in
     let e : c.loop-low.high ≡ c.loop-low.low = omega (arith, c.loop-low-test.false) in
     rank_between c.args.number c.args.rows.now c.loop-low.low (subst (IsBetween c.args.number c.args.rows.now c.loop-low.low) e c.loop-low.invariant)

@@ -3,8 +3,8 @@ use Rattle.std.specs.Prelude.{insert, if◌then◌else◌}
 use Rattle.std.specs.List.{AllByRecursion}
 use Rattle.slab.specs.Slab.{get}
 use Rattle.conn_table.specs.declared.places.Row.{Row}
-use Rattle.conn_table.specs.Rows.{key_in, rank, IsRising}
-use Rattle.conn_table.specs.Slots.{slot_in, with_more}
+use Rattle.conn_table.specs.Rows.{key_in, rank_below, IsRising}
+use Rattle.conn_table.specs.Slots.{slot_in, with_added}
 use Rattle.conn_table.specs.Places.{kept_in, IsPlaced}
 use Rattle.conn_table.proofs.Placing.{length-kept, none_kept, added, added_placed, added_rising, length-inserted}
 use Rattle.conn_table.proofs.places.Places.insert.Goals as goal
@@ -36,8 +36,8 @@ invariant_of-self c =
     let row : Row = record { number = c.args.slot.number; key = c.insert_reserved-key.result } in
     let l = below_most _ _ (sym (ap length c.self.view_is) ∙ length-kept slab rows c.self.invariant.placed) c.requires.room in
     let ok = c.insert.ensures.succeeds (vec_below _ _ _ _ c.as_slice.ensures.len (ap length c.as_slice.ensures.value) l c.self.invariant.rows_room) in
-    let place : c.rank_of-place.result ≡ rank row.number rows = c.rank_of-place.ensures.rank ∙ ap (rank row.number) c.as_slice.ensures.value in
-    let items : c.insert.new.self.items ≡ insert rows (rank row.number rows) row =
+    let place : c.rank_of-place.result ≡ rank_below row.number rows = c.rank_of-place.ensures.rank_below ∙ ap (rank_below row.number) c.as_slice.ensures.value in
+    let items : c.insert.new.self.items ≡ insert rows (rank_below row.number rows) row =
     c.insert.ensures.items ∙ ap (λ b. if b then insert rows c.rank_of-place.result row else rows) ok ∙ ap (λ i. insert rows i row) place in
     let absent : key_in row.number rows ≡ None = none_kept slab row.number rows c.self.invariant.placed (ap (slot_in row.number) c.self.view_is ∙ c.requires.vacant) in
     let is : get c.insert_reserved-key.new.self row.key ≡ Some c.args.slot = c.insert_reserved-key.ensures.updates.changed in
@@ -63,10 +63,10 @@ returns c =
     let row : Row = record { number = c.args.slot.number; key = c.insert_reserved-key.result } in
     let l = below_most _ _ (sym (ap length c.self.view_is) ∙ length-kept slab rows c.self.invariant.placed) c.requires.room in
     let ok = c.insert.ensures.succeeds (vec_below _ _ _ _ c.as_slice.ensures.len (ap length c.as_slice.ensures.value) l c.self.invariant.rows_room) in
-    let place : c.rank_of-place.result ≡ rank row.number rows = c.rank_of-place.ensures.rank ∙ ap (rank row.number) c.as_slice.ensures.value in
-    let items : c.insert.new.self.items ≡ insert rows (rank row.number rows) row =
+    let place : c.rank_of-place.result ≡ rank_below row.number rows = c.rank_of-place.ensures.rank_below ∙ ap (rank_below row.number) c.as_slice.ensures.value in
+    let items : c.insert.new.self.items ≡ insert rows (rank_below row.number rows) row =
     c.insert.ensures.items ∙ ap (λ b. if b then insert rows c.rank_of-place.result row else rows) ok ∙ ap (λ i. insert rows i row) place in
     let is : get c.insert_reserved-key.new.self row.key ≡ Some c.args.slot = c.insert_reserved-key.ensures.updates.changed in
     ap (kept_in c.insert_reserved-key.new.self) items
     ∙ added slab c.insert_reserved-key.new.self row.key c.insert_reserved-key.ensures.updates.others c.args.slot row rows is refl refl c.insert_reserved-key.ensures.was_vacant c.self.invariant.placed
-    ∙ ap (with_more c.args.slot) c.self.view_is
+    ∙ ap (with_added c.args.slot) c.self.view_is

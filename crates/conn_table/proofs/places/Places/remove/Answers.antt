@@ -4,7 +4,7 @@ use Rattle.std.specs.List.{AllByRecursion}
 use Rattle.std.proofs.lemmas.Option.{same_Some, slice_get_within, get_or_from_slice_get}
 use Rattle.slab.specs.Slab.{get, slab_len}
 use Rattle.conn_table.specs.declared.places.Row.{Row}
-use Rattle.conn_table.specs.Rows.{key_in, rank, IsRising}
+use Rattle.conn_table.specs.Rows.{key_in, rank_below, IsRising}
 use Rattle.conn_table.specs.Slots.{slot_in, without_number}
 use Rattle.conn_table.specs.Places.{kept_in, IsPlaced}
 use Rattle.conn_table.proofs.Ranks.{rank_found}
@@ -17,8 +17,8 @@ remove-row-requires c =
     let v = value_of _ c.requires in
     let t = key_of_kept c.self.inside.slots c.args.number rows v.0 c.self.invariant.placed (ap (slot_in c.args.number) c.self.view_is ∙ v.1) in
     let f = rank_found c.args.number t.0 rows c.self.invariant.rising t.1 in
-    let place : c.rank_of-place.result ≡ rank c.args.number rows = c.rank_of-place.ensures.rank ∙ ap (rank c.args.number) c.as_slice.ensures.value in
-    let l : rank c.args.number rows < length rows = slice_get_within rows (rank c.args.number rows) f.0 f.1 in
+    let place : c.rank_of-place.result ≡ rank_below c.args.number rows = c.rank_of-place.ensures.rank_below ∙ ap (rank_below c.args.number) c.as_slice.ensures.value in
+    let l : rank_below c.args.number rows < length rows = slice_get_within rows (rank_below c.args.number rows) f.0 f.1 in
     within _ _ _ _ place (ap length (sym c.as_slice.ensures.value) ∙ c.as_slice.ensures.len) l
   where
     within : (i j items len : ℕ) → i ≡ j → items ≡ len → j < items → i < len
@@ -31,12 +31,12 @@ invariant_of-self c =
     let v = value_of _ c.requires in
     let t = key_of_kept slab c.args.number rows v.0 c.self.invariant.placed (ap (slot_in c.args.number) c.self.view_is ∙ v.1) in
     let f = rank_found c.args.number t.0 rows c.self.invariant.rising t.1 in
-    let place : c.rank_of-place.result ≡ rank c.args.number rows = c.rank_of-place.ensures.rank ∙ ap (rank c.args.number) c.as_slice.ensures.value in
-    let items : c.remove-row.new.self.items ≡ remove rows (rank c.args.number rows) = c.remove-row.ensures.items ∙ ap (λ i. remove rows i) place in
+    let place : c.rank_of-place.result ≡ rank_below c.args.number rows = c.rank_of-place.ensures.rank_below ∙ ap (rank_below c.args.number) c.as_slice.ensures.value in
+    let items : c.remove-row.new.self.items ≡ remove rows (rank_below c.args.number rows) = c.remove-row.ensures.items ∙ ap (λ i. remove rows i) place in
     let same : c.remove-row.result.key ≡ t.0 =
-    ap (λ (row : Row). row.key) (c.remove-row.ensures.value ∙ ap (λ i. get_or rows i c.remove-row.result) place ∙ get_or_from_slice_get rows (rank c.args.number rows) f.0 c.remove-row.result f.1) ∙ f.3 in
+    ap (λ (row : Row). row.key) (c.remove-row.ensures.value ∙ ap (λ i. get_or rows i c.remove-row.result) place ∙ get_or_from_slice_get rows (rank_below c.args.number rows) f.0 c.remove-row.result f.1) ∙ f.3 in
     let r = removed slab c.remove.new.self t.0 (λ k n. c.remove.ensures.updates.others k (λ e. n (e ∙ same))) c.args.number rows c.self.invariant.rising c.self.invariant.placed t.1 in
-    let n : length (remove rows (rank c.args.number rows)) + 1 ≡ length rows = length-removed rows c.args.number (slice_get_within rows (rank c.args.number rows) f.0 f.1) in
+    let n : length (remove rows (rank_below c.args.number rows)) + 1 ≡ length rows = length-removed rows c.args.number (slice_get_within rows (rank_below c.args.number rows) f.0 f.1) in
     record {
       rising = subst IsRising (sym items) (removed_rising slab c.remove.new.self t.0 (λ k n. c.remove.ensures.updates.others k (λ e. n (e ∙ same))) c.args.number rows c.self.invariant.rising);
       placed = subst (AllByRecursion (IsPlaced c.remove.new.self)) (sym items) r.1;
@@ -58,9 +58,9 @@ returns-clause-old c =
     let v = value_of _ c.requires in
     let t = key_of_kept c.self.inside.slots c.args.number rows v.0 c.self.invariant.placed (ap (slot_in c.args.number) c.self.view_is ∙ v.1) in
     let f = rank_found c.args.number t.0 rows c.self.invariant.rising t.1 in
-    let place : c.rank_of-place.result ≡ rank c.args.number rows = c.rank_of-place.ensures.rank ∙ ap (rank c.args.number) c.as_slice.ensures.value in
+    let place : c.rank_of-place.result ≡ rank_below c.args.number rows = c.rank_of-place.ensures.rank_below ∙ ap (rank_below c.args.number) c.as_slice.ensures.value in
     let same : c.remove-row.result.key ≡ t.0 =
-    ap (λ (row : Row). row.key) (c.remove-row.ensures.value ∙ ap (λ i. get_or rows i c.remove-row.result) place ∙ get_or_from_slice_get rows (rank c.args.number rows) f.0 c.remove-row.result f.1) ∙ f.3 in
+    ap (λ (row : Row). row.key) (c.remove-row.ensures.value ∙ ap (λ i. get_or rows i c.remove-row.result) place ∙ get_or_from_slice_get rows (rank_below c.args.number rows) f.0 c.remove-row.result f.1) ∙ f.3 in
     v.1 ∙ sym t.2 ∙ ap (get c.self.inside.slots) (sym same) ∙ c.remove.ensures.value
 
 pub returns-clause-new : goal.returns-clause-new
@@ -70,9 +70,9 @@ returns-clause-new c =
     let v = value_of _ c.requires in
     let t = key_of_kept slab c.args.number rows v.0 c.self.invariant.placed (ap (slot_in c.args.number) c.self.view_is ∙ v.1) in
     let f = rank_found c.args.number t.0 rows c.self.invariant.rising t.1 in
-    let place : c.rank_of-place.result ≡ rank c.args.number rows = c.rank_of-place.ensures.rank ∙ ap (rank c.args.number) c.as_slice.ensures.value in
-    let items : c.remove-row.new.self.items ≡ remove rows (rank c.args.number rows) = c.remove-row.ensures.items ∙ ap (λ i. remove rows i) place in
+    let place : c.rank_of-place.result ≡ rank_below c.args.number rows = c.rank_of-place.ensures.rank_below ∙ ap (rank_below c.args.number) c.as_slice.ensures.value in
+    let items : c.remove-row.new.self.items ≡ remove rows (rank_below c.args.number rows) = c.remove-row.ensures.items ∙ ap (λ i. remove rows i) place in
     let same : c.remove-row.result.key ≡ t.0 =
-    ap (λ (row : Row). row.key) (c.remove-row.ensures.value ∙ ap (λ i. get_or rows i c.remove-row.result) place ∙ get_or_from_slice_get rows (rank c.args.number rows) f.0 c.remove-row.result f.1) ∙ f.3 in
+    ap (λ (row : Row). row.key) (c.remove-row.ensures.value ∙ ap (λ i. get_or rows i c.remove-row.result) place ∙ get_or_from_slice_get rows (rank_below c.args.number rows) f.0 c.remove-row.result f.1) ∙ f.3 in
     let r = removed slab c.remove.new.self t.0 (λ k n. c.remove.ensures.updates.others k (λ e. n (e ∙ same))) c.args.number rows c.self.invariant.rising c.self.invariant.placed t.1 in
     ap (kept_in c.remove.new.self) items ∙ r.0 ∙ ap (without_number c.args.number) c.self.view_is

@@ -3,7 +3,7 @@ use Rattle.conn_state.specs.Phase.{ConnView, size_asked}
 use Rattle.conn_state.specs.Step.{after_admission}
 use Rattle.conn_table.specs.declared.places.Slot.{Slot}
 use Rattle.conn_table.specs.Slots.{slot_in, with_slot}
-use Rattle.conn_table.specs.Table.{TableView, slot_of, with_conn, with_admitted, size_given, size_wanted, sizes_given, TakesRoom, IsSoundTable}
+use Rattle.conn_table.specs.Table.{TableView, slot_of, with_state, with_admitted, size_given, size_wanted, sizes_given, TakesRoom, IsSoundTable}
 use Rattle.conn_table.proofs.Sizing.{in_place, conn_same, put_is, of_found, resized_sound}
 use Rattle.conn_table.proofs.table.Table.admit.Goals as goal
 
@@ -22,7 +22,7 @@ returns-in-Err c =
     let is : c.admit.new.self ≡ (slot_of c.args.c old.slots).conn = c.in-Err.ensures.err ∙ ap (λ (s : Slot). s.conn) was in
     (in_place old c.self.inside.places c.take-slot.new.self c.put.new.self c.self.inside.read_budget c.self.inside.admitted c.args.c c.take-slot.result c.admit.new.self c.self.invariant c.self.view_is
     c.requires.open c.take-slot.ensures.taken c.take-slot.ensures.own c.take-slot.ensures.left c.put.ensures (λ takes. subst (λ (v : ConnView). TakesRoom v.phase) is takes)).1
-    ∙ ap (λ (v : ConnView). record old { slots = with_conn c.args.c v old.slots }) is ∙ ap (λ (l : List Slot). record old { slots = l }) (conn_same c.args.c old.slots c.requires.open)
+    ∙ ap (λ (v : ConnView). record old { slots = with_state c.args.c v old.slots }) is ∙ ap (λ (l : List Slot). record old { slots = l }) (conn_same c.args.c old.slots c.requires.open)
 
 summed : (admitted size given : ℕ) → given ≡ 0 → admitted + size + given ≡ admitted + size
 summed admitted size given e = omega arith
@@ -52,11 +52,10 @@ returns c =
     ap (λ (s : Slot). size_asked s.conn.phase) found ∙ sym c.asks.ensures.size ∙ c.unwrap-size.ensures in
     let is : c.admit.new.self ≡ record (slot_of c.args.c places).conn { phase = after_admission (slot_of c.args.c places).conn.phase } =
     c.in_default.ensures.ok ∙ ap (λ (s : Slot). record s.conn { phase = after_admission s.conn.phase }) c.take-slot.ensures.taken in
-    let last = put_is places c.take-slot.new.self c.put-2.new.self c.args.c c.take-slot.result c.admit.new.self (Some c.unwrap-size.result) c.take-slot.ensures.own c.take-slot.ensures.left c.put-2.ensures in
-    (
+    let last = put_is places c.take-slot.new.self c.put-2.new.self c.args.c c.take-slot.result c.admit.new.self (Some c.unwrap-size.result) c.take-slot.ensures.own c.take-slot.ensures.left c.put-2.ensures in (
       subst (λ (o : TableView). sizes_given o.slots + size_wanted (slot_of c.args.c o.slots).conn ≤ o.budget) c.self.view_is
-      (fitting (sizes_given places) (size_wanted (slot_of c.args.c places).conn) c.self.inside.admitted c.unwrap-size.result c.self.inside.read_budget c.self.invariant.sum (ap size_given asked)
-      (fits c.self.inside.admitted c.unwrap-size.result c.self.inside.read_budget c.self.invariant.within c.if-self-size.false)),
+          (fitting (sizes_given places) (size_wanted (slot_of c.args.c places).conn) c.self.inside.admitted c.unwrap-size.result c.self.inside.read_budget c.self.invariant.sum (ap size_given asked)
+          (fits c.self.inside.admitted c.unwrap-size.result c.self.inside.read_budget c.self.invariant.within c.if-self-size.false)),
       ap (λ l. tabled c.self.inside.read_budget l) (last ∙ (λ i. with_slot (record { number = c.args.c; conn = is i; size = sym asked i }) places)) ∙ ap (λ (o : TableView). with_admitted c.args.c o) c.self.view_is,
     )
   where
