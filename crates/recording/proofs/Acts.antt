@@ -9,8 +9,8 @@ use Rattle.host_model.specs.Marks.{marks_of, input, output, read_by, written_by}
 use Rattle.host_model.specs.Journal.{entries_of}
 use Rattle.host_model.specs.World.{World, Act, moves, Endpoint, Move, Moves, opens, reads, reads_frame, reads_bad_size, ends, fails_read, settles, replies, closes, writes, fails_write, gives_up, marks_by, with_endpoint, ReachedBy, unopened_endpoint}
 use Rattle.recording.specs.declared.run.Run.{Run}
-use Rattle.recording.specs.declared.message.Call.{Call}
-use Rattle.recording.specs.declared.message.Answer.{Answer}
+use Rattle.recording.specs.declared.message.TutorialCall.{TutorialCall}
+use Rattle.recording.specs.declared.message.TutorialAnswer.{TutorialAnswer}
 use Rattle.recording.specs.Office.{calculator_desk, calculator_rules, calculator_memories, longest_frame}
 use Rattle.recording.specs.Run.{journal_entry, IsRunUnderWay, PhaseStands, EndsWell, AreWrittenFor, settled_frames}
 use Rattle.recording.proofs.Writes.{Sends, wrote_after, wrote_more}
@@ -47,8 +47,8 @@ output_after tape move = ap output (marks_after tape move) ∙ flat_map-append w
 
 -- a world that acts have reached in which no connection but 0 was opened, with the tape of a run before a move and the journal of the run after it
 pub record Before (old new : Run) : Type 0 where
-  pub acts : List (Act Call Answer)
-  pub world : World Call Answer
+  pub acts : List (Act TutorialCall TutorialAnswer)
+  pub world : World TutorialCall TutorialAnswer
   pub reached : ReachedBy calculator_desk calculator_rules calculator_memories acts world
   pub same_tape : old.tape.items ≡ world.tape
   pub same_journal : map journal_entry new.journal.items ≡ world.journal

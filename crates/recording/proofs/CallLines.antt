@@ -4,10 +4,10 @@ use Rattle.text_out.specs.Decimal.{natural_of, decimal_of}
 use Rattle.host_model.specs.Journal.{JournalEntry}
 use Rattle.host_model.specs.Report.{numbered}
 use Rattle.host_model.proofs.Lists.{all-append}
-use Rattle.recording.specs.declared.message.Call.{Call}
-use Rattle.recording.specs.declared.message.Call.TheVariants.{Ping, Add}
-use Rattle.recording.specs.declared.message.Answer.{Answer}
-use Rattle.recording.specs.declared.message.Answer.TheVariants.{Empty, Sum}
+use Rattle.recording.specs.declared.message.TutorialCall.{TutorialCall}
+use Rattle.recording.specs.declared.message.TutorialCall.TheVariants.{Ping, Add}
+use Rattle.recording.specs.declared.message.TutorialAnswer.{TutorialAnswer}
+use Rattle.recording.specs.declared.message.TutorialAnswer.TheVariants.{Empty, Sum}
 use Rattle.recording.specs.Lines.{call_text, answer_text, entry_line}
 use Rattle.script_model.specs.Rehearsal.{IsCallLine}
 use Rattle.script_model.proofs.ReportLines.{IsOneLine, natural_one_line, numbered_one_line, plain_text}
@@ -19,7 +19,7 @@ decimal_one_line : (z : ℤ) → IsOneLine (decimal_of z)
 decimal_one_line (pos n) = natural_one_line n
 decimal_one_line (negsuc n) = ((λ e. omega (arith, e)), natural_one_line (suc n))
 
-call_one_line : (call : Call) → IsOneLine (call_text call)
+call_one_line : (call : TutorialCall) → IsOneLine (call_text call)
 call_one_line Ping = plain_text (codes "ping {}") refl
 call_one_line (Add a b) =
     both (codes "add {1=" ++ decimal_of a ++ codes "i,2=" ++ decimal_of b) (codes "i}")
@@ -28,12 +28,12 @@ call_one_line (Add a b) =
     (both (codes "add {1=") (decimal_of a) (plain_text (codes "add {1=") refl) (decimal_one_line a)) (plain_text (codes "i,2=") refl))
     (decimal_one_line b)) (plain_text (codes "i}") refl)
 
-answer_one_line : (answer : Answer) → IsOneLine (answer_text answer)
+answer_one_line : (answer : TutorialAnswer) → IsOneLine (answer_text answer)
 answer_one_line Empty = plain_text (codes "empty") refl
 answer_one_line (Sum n) =
     both (codes "ok " ++ decimal_of n) (codes "i") (both (codes "ok ") (decimal_of n) (plain_text (codes "ok ") refl) (decimal_one_line n)) (plain_text (codes "i") refl)
 
-pub call_lines : (e : JournalEntry Call Answer) → IsCallLine (entry_line e)
+pub call_lines : (e : JournalEntry TutorialCall TutorialAnswer) → IsCallLine (entry_line e)
 call_lines e =
     let front = numbered (numbered (codes "call") e.key.c) e.key.i in
     record {

@@ -14,8 +14,8 @@ use Rattle.host_model.specs.Conversation.{called, called_by, answer_at, but_last
 use Rattle.host_model.specs.Marks.{marks_of, input, output}
 use Rattle.host_model.specs.World.{Move, marks_by, World, enters, Endpoint, settles, replies, gives_up, Enters, open_, pending, answered as entered, over, with_endpoint, ReachedBy, NeedsNoCall, Moment, StageSays}
 use Rattle.recording.specs.declared.run.Run.{Run}
-use Rattle.recording.specs.declared.message.Call.{Call}
-use Rattle.recording.specs.declared.message.Answer.{Answer}
+use Rattle.recording.specs.declared.message.TutorialCall.{TutorialCall}
+use Rattle.recording.specs.declared.message.TutorialAnswer.{TutorialAnswer}
 use Rattle.recording.specs.declared.message.Message.{Message}
 use Rattle.recording.specs.Message.{message_of}
 use Rattle.recording.specs.Office.{calculator_desk, calculator_rules, calculator_memories, longest_frame, decided, answered, reply_to}
@@ -70,12 +70,12 @@ module _ {C A : Type 0} where
       one_below n i (d.decide p) (called d (suc i) ps) es (omega arith) same (λ fs e. numbers_below d (suc i) n ps fs (omega arith) e)
 
 -- the memory of the one service stays as it was
-memories_stay : (journal : List (JournalEntry Call Answer)) → after calculator_rules calculator_memories journal ≡ calculator_memories
+memories_stay : (journal : List (JournalEntry TutorialCall TutorialAnswer)) → after calculator_rules calculator_memories journal ≡ calculator_memories
 memories_stay [] = refl
 memories_stay (e ∷ es) = memories_stay es
 
 -- a reply has at least the bytes of its size
-reply_some : (message : Message) (answer : Answer) → reply_to (Some message) answer ≢ []
+reply_some : (message : Message) (answer : TutorialAnswer) → reply_to (Some message) answer ≢ []
 reply_some message answer e = cc
 
 -- what a move without bytes makes of the run's other parts
@@ -149,11 +149,11 @@ settles_nothing all run new number payload s same_journal unknown u =
     }
 
 -- the call of a message that the payload of this frame is
-abbrev entry_for : ℕ → Message → JournalEntry Call Answer
+abbrev entry_for : ℕ → Message → JournalEntry TutorialCall TutorialAnswer
 entry_for number message = record { key = record { c = 0; i = number }; call = message.call; answer = answered message.call }
 
 -- the world once the call is entered
-abbrev entered_world : World Call Answer → JournalEntry Call Answer → World Call Answer
+abbrev entered_world : World TutorialCall TutorialAnswer → JournalEntry TutorialCall TutorialAnswer → World TutorialCall TutorialAnswer
 entered_world w e =
     record { tape = w.tape; journal = w.journal ++ e ∷ []; endpoints = with_endpoint w.endpoints 0 (record (w.endpoints 0) { stage = entered }) }
 

@@ -14,8 +14,8 @@ use Rattle.host_model.specs.declared.cause.EndCause.TheVariants.{End, Cut, SizeF
 use Rattle.host_model.specs.Marks.{marks_of, input, output}
 use Rattle.host_model.specs.Frames.{IsPartial}
 use Rattle.host_model.specs.Journal.{JournalEntry, entries_of}
-use Rattle.recording.specs.declared.message.Call.{Call}
-use Rattle.recording.specs.declared.message.Answer.{Answer}
+use Rattle.recording.specs.declared.message.TutorialCall.{TutorialCall}
+use Rattle.recording.specs.declared.message.TutorialAnswer.{TutorialAnswer}
 use Rattle.host_model.specs.World.{Endpoint, Move, Moves, reads, reads_frame, reads_bad_size, ends, writes, gives_up, GivesUp, open_, pending, over, end_behind, marks_by, Moment, StageSays}
 use Rattle.recording.specs.declared.run.Run.{Run}
 use Rattle.recording.specs.Office.{calculator_desk, calculator_rules, calculator_memories, longest_frame}
@@ -315,13 +315,13 @@ reads_at (ended cause) line h s = absurd h
 record ReadsOn (line : Endpoint) (bytes : List ℕ) (now : ℕ) (phase : Phase) : Type 0 where
   move : Move
   after : Endpoint
-  goes : (es : List (JournalEntry Call Answer)) → Moves calculator_desk es line move after
+  goes : (es : List (JournalEntry TutorialCall TutorialAnswer)) → Moves calculator_desk es line move after
   marks : (tape : List Mark) → closed_tape phase (tape ++ Read 0 bytes ∷ []) ≡ tape ++ marks_by 0 move
   stands : PhaseStands phase after
   counted : now ≡ length after.payloads
   few : (at : ℕ) → length line.payloads ≤ at → now ≤ at + 1
   settles : length line.payloads ≤ settled_frames now phase
-  sends : (es : List (JournalEntry Call Answer)) (most : ℕ) (own : List Mark) → Sends es most own move
+  sends : (es : List (JournalEntry TutorialCall TutorialAnswer)) (most : ℕ) (own : List Mark) → Sends es most own move
   takes : input (marks_by 0 move) ≡ bytes
   silent : output (marks_by 0 move) ≡ []
   ends_well : (xs all : List ℕ) → EndsWell phase xs all

@@ -8,17 +8,17 @@ use Rattle.host_model.specs.Journal.{JournalEntry, entries_of}
 use Rattle.host_model.specs.DeskRules.{DeskRules}
 use Rattle.host_model.specs.Conversation.{sent, answer_at, reply_for}
 use Rattle.host_model.specs.World.{Move, opens, reads, reads_frame, reads_bad_size, ends, fails_read, settles, replies, closes, writes, fails_write, gives_up, marks_by}
-use Rattle.recording.specs.declared.message.Call.{Call}
-use Rattle.recording.specs.declared.message.Answer.{Answer}
+use Rattle.recording.specs.declared.message.TutorialCall.{TutorialCall}
+use Rattle.recording.specs.declared.message.TutorialAnswer.{TutorialAnswer}
 use Rattle.recording.specs.Office.{calculator_desk}
 use Rattle.recording.specs.Run.{WritesFor, AreWrittenFor}
 use Rattle.recording.proofs.Each.{each_on}
 
 -- what is said of each write, said of each mark
-abbrev WroteAt : List (JournalEntry Call Answer) → ℕ → List Mark → Mark → Type 0
+abbrev WroteAt : List (JournalEntry TutorialCall TutorialAnswer) → ℕ → List Mark → Mark → Type 0
 WroteAt es most front mark = (bytes : List ℕ) → mark ≡ Wrote 0 bytes → WritesFor es most (marks_of 0 front) bytes
 
-wrote_on : (es : List (JournalEntry Call Answer)) (most : ℕ) (tape : List Mark) (mark : Mark) → AreWrittenFor es most tape → WroteAt es most tape mark
+wrote_on : (es : List (JournalEntry TutorialCall TutorialAnswer)) (most : ℕ) (tape : List Mark) (mark : Mark) → AreWrittenFor es most tape → WroteAt es most tape mark
     → AreWrittenFor es most (tape ++ mark ∷ [])
 wrote_on es most tape mark wrote here front back bytes e =
     each_on (WroteAt es most) tape mark (λ front back other e bytes is. wrote front back bytes (e ∙ ap (λ m. front ++ m ∷ back) is)) here
@@ -29,20 +29,20 @@ abbrev IsNoWrite : Mark → Type 0
 IsNoWrite (Wrote c bytes) = ⊥
 IsNoWrite _ = Unit {0}
 
-no_write : (es : List (JournalEntry Call Answer)) (most : ℕ) (tape : List Mark) (mark : Mark) → IsNoWrite mark → AreWrittenFor es most tape
+no_write : (es : List (JournalEntry TutorialCall TutorialAnswer)) (most : ℕ) (tape : List Mark) (mark : Mark) → IsNoWrite mark → AreWrittenFor es most tape
     → AreWrittenFor es most (tape ++ mark ∷ [])
 no_write es most tape mark none wrote = wrote_on es most tape mark wrote (λ bytes e. absurd (subst IsNoWrite e none))
 
-two_no_writes : (es : List (JournalEntry Call Answer)) (most : ℕ) (tape : List Mark) (a b : Mark) → IsNoWrite a → IsNoWrite b → AreWrittenFor es most tape
+two_no_writes : (es : List (JournalEntry TutorialCall TutorialAnswer)) (most : ℕ) (tape : List Mark) (a b : Mark) → IsNoWrite a → IsNoWrite b → AreWrittenFor es most tape
     → AreWrittenFor es most (tape ++ a ∷ b ∷ [])
 two_no_writes es most tape a b x y wrote =
     subst (AreWrittenFor es most) (append_assoc tape (a ∷ []) (b ∷ [])) (no_write es most (tape ++ a ∷ []) b y (no_write es most tape a x wrote))
 
-no_marks : (es : List (JournalEntry Call Answer)) (most : ℕ) (tape : List Mark) → AreWrittenFor es most tape → AreWrittenFor es most (tape ++ [])
+no_marks : (es : List (JournalEntry TutorialCall TutorialAnswer)) (most : ℕ) (tape : List Mark) → AreWrittenFor es most tape → AreWrittenFor es most (tape ++ [])
 no_marks es most tape wrote = subst (AreWrittenFor es most) (sym (append-nil tape)) wrote
 
 -- what has to hold of a move's own write
-abbrev pub Sends : List (JournalEntry Call Answer) → ℕ → List Mark → Move → Type 0
+abbrev pub Sends : List (JournalEntry TutorialCall TutorialAnswer) → ℕ → List Mark → Move → Type 0
 Sends es most marks (writes bytes) = WritesFor es most marks bytes
 Sends es most marks _ = Unit {0}
 
@@ -51,7 +51,7 @@ same_bytes : (bytes more : List ℕ) → Wrote 0 bytes ≡ Wrote 0 more → byte
 same_bytes bytes more e = ap written_by e
 
 -- the marks of a move are added
-pub wrote_after : (es : List (JournalEntry Call Answer)) (most : ℕ) (tape : List Mark) (move : Move) → AreWrittenFor es most tape
+pub wrote_after : (es : List (JournalEntry TutorialCall TutorialAnswer)) (most : ℕ) (tape : List Mark) (move : Move) → AreWrittenFor es most tape
     → Sends es most (marks_of 0 tape) move → AreWrittenFor es most (tape ++ marks_by 0 move)
 wrote_after es most tape opens wrote s = no_write es most tape (Opened 0) tt wrote
 wrote_after es most tape (reads bytes) wrote s = no_write es most tape (Read 0 bytes) tt wrote
@@ -68,7 +68,7 @@ wrote_after es most tape fails_write wrote s = two_no_writes es most tape (Write
 wrote_after es most tape (gives_up cause) wrote s = no_write es most tape (Closed 0) tt wrote
 
 -- more frames may be settled
-pub wrote_more : (es : List (JournalEntry Call Answer)) (most now : ℕ) (tape : List Mark) → most ≤ now → AreWrittenFor es most tape → AreWrittenFor es now tape
+pub wrote_more : (es : List (JournalEntry TutorialCall TutorialAnswer)) (most now : ℕ) (tape : List Mark) → most ≤ now → AreWrittenFor es most tape → AreWrittenFor es now tape
 wrote_more es most now tape less wrote front back bytes e =
     let w = wrote front back bytes e in
     record { rest = w.rest; few = let few : length w.rest.payloads ≤ most = w.few in omega (arith, few, less) }
@@ -88,14 +88,14 @@ sent_stays d es e i (p ∷ ps) within =
     ∙ ap (λ r. reply_for d p (d.decide p) (answer_at es i) ++ r) (sent_stays d es e (suc i) ps (omega (arith, within)))
 
 -- a call of connection 0 is entered
-pub wrote_entered : (journal : List (JournalEntry Call Answer)) (e : JournalEntry Call Answer) (tape : List Mark) → e.key.c ≡ 0
+pub wrote_entered : (journal : List (JournalEntry TutorialCall TutorialAnswer)) (e : JournalEntry TutorialCall TutorialAnswer) (tape : List Mark) → e.key.c ≡ 0
     → AreWrittenFor (entries_of 0 journal) e.key.i tape → AreWrittenFor (entries_of 0 (journal ++ e ∷ [])) e.key.i tape
 wrote_entered journal e tape own wrote front back bytes is =
     let es = entries_of 0 journal in
     let w = wrote front back bytes is in
     let rest = w.rest in
     let one : entries_of 0 (e ∷ []) ≡ e ∷ [] = ap (λ c. cond (c == 0) (e ∷ []) []) own in
-    let more : entries_of 0 (journal ++ e ∷ []) ≡ es ++ e ∷ [] = filter-append (λ (x : JournalEntry Call Answer). x.key.c == 0) journal (e ∷ []) ∙ ap (λ r. es ++ r) one in
+    let more : entries_of 0 (journal ++ e ∷ []) ≡ es ++ e ∷ [] = filter-append (λ (x : JournalEntry TutorialCall TutorialAnswer). x.key.c == 0) journal (e ∷ []) ∙ ap (λ r. es ++ r) one in
     record {
       rest = record {
         payloads = rest.payloads;

@@ -3,7 +3,7 @@ use Rattle.std.specs.Prelude.{ℕ, ℤ, ◌∷◌, [], List, length, take, drop,
 use Rattle.std.specs.List.{starts_with}
 use Rattle.std.specs.Int.{w32}
 use Rattle.wire_num.specs.Fixed.{signed_of}
-use Rattle.recording.specs.declared.message.Call.TheVariants.{Ping, Add}
+use Rattle.recording.specs.declared.message.TutorialCall.TheVariants.{Ping, Add}
 use Rattle.recording.specs.declared.message.Message.{Message}
 
 -- the next step from a value, where there is one

@@ -13,8 +13,8 @@ use Rattle.host_model.specs.Conversation.{IsLast}
 use Rattle.host_model.specs.World.{World, Act, Endpoint, ReachedBy, unopened_endpoint, open_, pending, over}
 use Rattle.recording.specs.declared.run.Run.{Run}
 use Rattle.recording.specs.declared.run.Rehearsed.{Rehearsed}
-use Rattle.recording.specs.declared.message.Call.{Call}
-use Rattle.recording.specs.declared.message.Answer.{Answer}
+use Rattle.recording.specs.declared.message.TutorialCall.{TutorialCall}
+use Rattle.recording.specs.declared.message.TutorialAnswer.{TutorialAnswer}
 use Rattle.recording.specs.declared.entry.KeptEntry.{KeptEntry}
 use Rattle.recording.specs.Office.{calculator_desk, calculator_rules, calculator_memories, longest_frame, answered, reply_to}
 use Rattle.recording.specs.Message.{message_of}
@@ -24,7 +24,7 @@ use Rattle.script_model.specs.Sending.{WritesTheRest}
 use Rattle.script_model.specs.Rehearsal.{IsReadToItsEnd, IsRunOn}
 
 -- an entry as the journal keeps it
-abbrev pub journal_entry : KeptEntry → JournalEntry Call Answer
+abbrev pub journal_entry : KeptEntry → JournalEntry TutorialCall TutorialAnswer
 journal_entry e = record { key = e.key; call = e.call; answer = e.answer }
 
 -- what a connection's phase says of where it stands in the world
@@ -50,20 +50,20 @@ settled_frames frames (waiting number) = number
 settled_frames frames _ = frames
 
 -- these bytes are the rest of what is to be sent for at most so many frames
-pub record WritesFor (es : List (JournalEntry Call Answer)) (most : ℕ) (marks : List Mark) (bytes : List ℕ) : Type 0 where
+pub record WritesFor (es : List (JournalEntry TutorialCall TutorialAnswer)) (most : ℕ) (marks : List Mark) (bytes : List ℕ) : Type 0 where
   pub rest : WritesTheRest calculator_desk es marks bytes
   pub few : length rest.payloads ≤ most
 
 -- each write of connection 0 is such a one
-abbrev pub AreWrittenFor : List (JournalEntry Call Answer) → ℕ → List Mark → Type 0
+abbrev pub AreWrittenFor : List (JournalEntry TutorialCall TutorialAnswer) → ℕ → List Mark → Type 0
 AreWrittenFor es most tape =
     (front back : List Mark) (bytes : List ℕ) → tape ≡ front ++ Wrote 0 bytes ∷ back → WritesFor es most (marks_of 0 front) bytes
 
 -- The run's tape and journal are those of a world that acts have reached, in which connection 0 stands as the run's says and no other was opened. The first
 -- `at` of all bytes are read, and what is written is what the tape says.
 pub record IsRunUnderWay (all : List ℕ) (run : Run) : Type 0 where
-  pub acts : List (Act Call Answer)
-  pub world : World Call Answer
+  pub acts : List (Act TutorialCall TutorialAnswer)
+  pub world : World TutorialCall TutorialAnswer
   pub reached : ReachedBy calculator_desk calculator_rules calculator_memories acts world
   pub same_tape : run.tape.items ≡ world.tape
   pub same_journal : map journal_entry run.journal.items ≡ world.journal

@@ -1,6 +1,6 @@
 //! The journal's entries.
 
-use crate::message::{Answer, Call};
+use crate::message::{TutorialAnswer, TutorialCall};
 use host_model::Key;
 
 /// A call that took effect, with its answer.
@@ -8,6 +8,6 @@ use host_model::Key;
 pub(crate) struct KeptEntry {
     /// The call's connection and frame.
     pub key: Key,
-    pub call: Call,
-    pub answer: Answer,
+    pub call: TutorialCall,
+    pub answer: TutorialAnswer,
 }

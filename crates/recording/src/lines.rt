@@ -8,7 +8,7 @@ ghost use Rattle.recording.specs.Lines.{answer_text, call_text, entry_line};
 ghost use Rattle.recording.specs.Run.{journal_entry};
 
 use crate::entry::KeptEntry;
-use crate::message::{Answer, Call};
+use crate::message::{TutorialAnswer, TutorialCall};
 use host_model::EndCause;
 use outside::{EnvelopeFault, Mark};
 use std::alloc::AllocError;
@@ -77,12 +77,12 @@ pub(crate) fn put_entry(into: &mut Vec<u8>, entry: &KeptEntry) -> Result<(), All
 }
 
 /// Appends a call and its arguments.
-fn put_call(into: &mut Vec<u8>, call: Call) -> Result<(), AllocError>
+fn put_call(into: &mut Vec<u8>, call: TutorialCall) -> Result<(), AllocError>
     ensures { OnOk result (into.new.items ≡ into.old.items ++ call_text call) }
 {
     match call {
-        Call::Ping => into.extend_from_slice(b"ping {}"),
-        Call::Add(a, b) => {
+        TutorialCall::Ping => into.extend_from_slice(b"ping {}"),
+        TutorialCall::Add(a, b) => {
             into.extend_from_slice(b"add {1=")?;
             put_integer(into, a)?;
             into.extend_from_slice(b"i,2=")?;
@@ -93,12 +93,12 @@ fn put_call(into: &mut Vec<u8>, call: Call) -> Result<(), AllocError>
 }
 
 /// Appends an answer.
-fn put_answer(into: &mut Vec<u8>, answer: Answer) -> Result<(), AllocError>
+fn put_answer(into: &mut Vec<u8>, answer: TutorialAnswer) -> Result<(), AllocError>
     ensures { OnOk result (into.new.items ≡ into.old.items ++ answer_text answer) }
 {
     match answer {
-        Answer::Empty => into.extend_from_slice(b"empty"),
-        Answer::Sum(sum) => {
+        TutorialAnswer::Empty => into.extend_from_slice(b"empty"),
+        TutorialAnswer::Sum(sum) => {
             into.extend_from_slice(b"ok ")?;
             put_integer(into, sum)?;
             into.extend_from_slice(b"i")

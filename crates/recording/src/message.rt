@@ -7,7 +7,7 @@ use wire_num::i32_at;
 
 /// A call of the tutorial's calculator.
 #[derive(Clone, Copy, Debug, PartialEq, Eq)]
-pub(crate) enum Call {
+pub(crate) enum TutorialCall {
     /// Does nothing.
     Ping,
     /// Adds two numbers, wrapping at 32 bits.
@@ -16,7 +16,7 @@ pub(crate) enum Call {
 
 /// What a call answers.
 #[derive(Clone, Copy, Debug, PartialEq, Eq)]
-pub(crate) enum Answer {
+pub(crate) enum TutorialAnswer {
     /// It is done, and has no result.
     Empty,
     /// The sum.
@@ -27,7 +27,7 @@ pub(crate) enum Answer {
 #[derive(Clone, Copy, Debug, PartialEq, Eq)]
 pub(crate) struct Message {
     pub(crate) id: i32,
-    pub(crate) call: Call,
+    pub(crate) call: TutorialCall,
 }
 
 impl Message {
@@ -52,7 +52,7 @@ fn read_ping(payload: &[u8]) -> Option<Message>
     let _ = read_text(b"\0", arguments)?;
     Some(Message {
         id,
-        call: Call::Ping,
+        call: TutorialCall::Ping,
     })
 }
 
@@ -67,7 +67,7 @@ fn read_add(payload: &[u8]) -> Option<Message>
     let _ = read_text(b"\0", rest)?;
     Some(Message {
         id,
-        call: Call::Add(one, two),
+        call: TutorialCall::Add(one, two),
     })
 }
 

@@ -5,7 +5,7 @@ ghost use Rattle.host_model.specs.Frames.{frame, IsPayload, IsRest};
 ghost use Rattle.recording.specs.Office.{answered, longest_frame, name_bytes, reply_payload, reply_to, result_bytes};
 ghost use Rattle.recording.specs.Unbuilt.{AreBuilt, IsUnbuilt};
 
-use crate::message::{Answer, Call, Message};
+use crate::message::{Message, TutorialAnswer, TutorialCall};
 use host_model::laws::one_split;
 use std::alloc::{AllocError, Global};
 use wire_num::put_i32;
@@ -14,17 +14,21 @@ use wire_num::put_i32;
 pub(crate) const LONGEST_FRAME: u32 = 16_384_000;
 
 /// What a call answers.
-pub(crate) fn answer(call: Call) -> Answer
+pub(crate) fn answer(call: TutorialCall) -> TutorialAnswer
     ensures { result ≡ answered call }
 {
     match call {
-        Call::Ping => Answer::Empty,
-        Call::Add(a, b) => Answer::Sum(a.wrapping_add(b)),
+        TutorialCall::Ping => TutorialAnswer::Empty,
+        TutorialCall::Add(a, b) => TutorialAnswer::Sum(a.wrapping_add(b)),
     }
 }
 
 /// The reply to a message as a whole frame, in one allocation.
-pub(crate) fn reply(alloc: Global, message: &Message, answer: Answer) -> Result<Vec<u8>, AllocError>
+pub(crate) fn reply(
+    alloc: Global,
+    message: &Message,
+    answer: TutorialAnswer,
+) -> Result<Vec<u8>, AllocError>
     ensures { IfOk result (λ reply. reply.items ≡ reply_to (Some message.now) answer) }
 {
     let size = payload_size(message, answer);
@@ -35,23 +39,27 @@ pub(crate) fn reply(alloc: Global, message: &Message, answer: Answer) -> Result<
 }
 
 /// How many bytes a reply has behind its size.
-fn payload_size(message: &Message, answer: Answer) -> u32
+fn payload_size(message: &Message, answer: TutorialAnswer) -> u32
     ensures size { result ≡ length (reply_payload message.now answer) }
     ensures small { result < 64 }
 {
     let name = match message.call {
-        Call::Ping => 8,
-        Call::Add(_, _) => 7,
+        TutorialCall::Ping => 8,
+        TutorialCall::Add(_, _) => 7,
     };
     let value = match answer {
-        Answer::Empty => 1,
-        Answer::Sum(_) => 8,
+        TutorialAnswer::Empty => 1,
+        TutorialAnswer::Sum(_) => 8,
     };
     4 + name + 4 + value
 }
 
 /// Appends a reply's payload.
-fn put_payload(into: &mut Vec<u8>, message: &Message, answer: Answer) -> Result<(), AllocError>
+fn put_payload(
+    into: &mut Vec<u8>,
+    message: &Message,
+    answer: TutorialAnswer,
+) -> Result<(), AllocError>
     ensures { OnOk result (into.new.items ≡ into.old.items ++ reply_payload message.now answer) }
 {
     into.extend_from_slice(b"\x80\x01\0\x02")?;
@@ -61,10 +69,10 @@ fn put_payload(into: &mut Vec<u8>, message: &Message, answer: Answer) -> Result<
 }
 
 /// Appends a result.
-fn put_result(into: &mut Vec<u8>, answer: Answer) -> Result<(), AllocError>
+fn put_result(into: &mut Vec<u8>, answer: TutorialAnswer) -> Result<(), AllocError>
     ensures { OnOk result (into.new.items ≡ into.old.items ++ result_bytes answer) }
 {
-    if let Answer::Sum(sum) = answer {
+    if let TutorialAnswer::Sum(sum) = answer {
         into.extend_from_slice(b"\x08\0\0")?;
         put_i32(into, sum)?;
     }
@@ -73,12 +81,12 @@ fn put_result(into: &mut Vec<u8>, answer: Answer) -> Result<(), AllocError>
 }
 
 /// A method's name as it stands in a message, its length in front.
-fn name_of(call: Call) -> &'static [u8]
+fn name_of(call: TutorialCall) -> &'static [u8]
     ensures { result.now ≡ name_bytes call }
 {
     match call {
-        Call::Ping => b"\0\0\0\x04ping",
-        Call::Add(_, _) => b"\0\0\0\x03add",
+        TutorialCall::Ping => b"\0\0\0\x04ping",
+        TutorialCall::Add(_, _) => b"\0\0\0\x03add",
     }
 }
 

@@ -7,7 +7,7 @@ ghost use Rattle.recording.specs.Steps.{AreEnds};
 ghost use Rattle.recording.specs.Run.{ComesOf, IsInPiece, IsRunUnderWay, IsFed, StaysFed, MovesOn, closed_tape, IsRehearsed};
 
 use crate::entry::KeptEntry;
-use crate::message::{Answer, Call, Message};
+use crate::message::{Message, TutorialAnswer, TutorialCall};
 use crate::office::{LONGEST_FRAME, answer, reply};
 use crate::script::Script;
 use conn_state::Conn;
@@ -103,7 +103,7 @@ impl Run {
     {
         every_piece_stays_within();
         every_run_splits();
-        every_moment_stands::<Call, Answer, ()>();
+        every_moment_stands::<TutorialCall, TutorialAnswer, ()>();
         let end = self.end_of_piece(script);
         let count = self.conn.want().min(end - self.at);
         let bytes = part_of(&script.bytes, self.at, count);
@@ -149,7 +149,7 @@ impl Run {
         ensures moved { OnOk result ((all : List ℕ) → IsRunUnderWay all self.old → MovesOn all self.old self.new) }
         ensures still { OnOk result (StaysFed self.old self.new) }
     {
-        every_moment_stands::<Call, Answer, ()>();
+        every_moment_stands::<TutorialCall, TutorialAnswer, ()>();
         let (number, payload) = self.conn.give();
         let settled = settle(alloc, &mut self.journal, number, &payload)?;
         self.conn.answered(settled);
@@ -163,7 +163,7 @@ impl Run {
         ensures moved { OnOk result ((all : List ℕ) → IsRunUnderWay all self.old → MovesOn all self.old self.new) }
         ensures still { OnOk result (StaysFed self.old self.new) }
     {
-        every_moment_stands::<Call, Answer, ()>();
+        every_moment_stands::<TutorialCall, TutorialAnswer, ()>();
         let reply = Vec::from_slice(alloc, self.conn.pending())?;
         let count = reply.len();
         self.written.extend_from_slice(&reply)?;
@@ -246,7 +246,7 @@ pub(crate) fn rehearse(alloc: Global, script: &Script) -> Result<Rehearsed, Allo
     let mut run = Run::open(alloc)?;
     'run: loop {
         if let Some(cause) = run.conn.cause() {
-            every_run_meets::<Call, Answer, ()>();
+            every_run_meets::<TutorialCall, TutorialAnswer, ()>();
             return Ok(Rehearsed {
                 tape: run.tape,
                 journal: run.journal,

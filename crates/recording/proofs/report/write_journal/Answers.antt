@@ -4,8 +4,8 @@ use Rattle.std.proofs.lemmas.List.Folds.{flat_map-map}
 use Rattle.std.proofs.Math.ListN.{drop_of_length-le}
 use Rattle.text_out.specs.Line.{line_of}
 use Rattle.recording.specs.declared.entry.KeptEntry.{KeptEntry}
-use Rattle.recording.specs.declared.message.Call.TheVariants.{Ping}
-use Rattle.recording.specs.declared.message.Answer.TheVariants.{Empty}
+use Rattle.recording.specs.declared.message.TutorialCall.TheVariants.{Ping}
+use Rattle.recording.specs.declared.message.TutorialAnswer.TheVariants.{Empty}
 use Rattle.recording.specs.Lines.{entry_line}
 use Rattle.recording.specs.Run.{journal_entry}
 use Rattle.outside.specs.Taken.{IsTakenBut, IsTakenInPart}
