@@ -2,9 +2,10 @@
 //!
 //! The files of `specs/`, in reading order: the hall; its rule, and what that leaves open; what may be asked of it; how often
 //! a key comes; a hall whose journal may be untold; how it comes to be broken; the loop's part of the machine; a worker's
-//! part; the machine's step and its runs; what bounds them; the places of a frame, which are kept at each moment; the run that
-//! one history of the hall and the loop's own order make; what the loop knows in mid-run; and the same machine as functions,
-//! with small runs for examples. The only code is `plain`, which computes those functions on small inputs.
+//! part; the machine's step and its runs; what bounds them, also at each front of the tape; a moment of rest; the places of a
+//! frame, which are kept at each moment; the run that one history of the hall and the loop's own order make; what the loop
+//! knows in mid-run; and the same machine as functions, with small runs for examples. The only code is `plain`, which computes
+//! those functions on small inputs.
 //!
 //! A crate above cites a law where its proof needs it, and its tests compare its runs with the plain machine's:
 //!

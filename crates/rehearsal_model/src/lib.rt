@@ -2,8 +2,8 @@
 //! and which runs it feeds. Desk and services are given, so that it stands for any. It reads no text, and nothing runs.
 //!
 //! The files of `specs/`, in reading order: the lines of a script, and what they say of each connection; how much each write
-//! takes under its rule; what a line of rest asks of a run; and the run that a script feeds. A crate that runs scripts says
-//! in its contract that its run is fed, and so meets the headline with these bytes:
+//! takes under its rule; what a line of rest asks of a run; the run that a script feeds; the moves of a machine in rehearsal;
+//! and the whole rehearsal. A crate that runs scripts says that its run is fed, and is the rehearsal where memory is ample:
 //!
 //! ```rust
 //! ensures fed { IsFedBy desk budget (plain_script script.now) result.tape.items (journal_of result) }
