@@ -1,0 +1,5 @@
+pub mod RowLaws
+pub mod FirstItems
+pub mod TidyTrees
+pub mod KindsOf
+pub mod WholeBits

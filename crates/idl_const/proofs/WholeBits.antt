@@ -1,0 +1,37 @@
+-- The bits of whole numbers.
+use Rattle.std.proofs.Common.{◌≡◌, ℕ, zero, suc, ℤ, pos, negsuc, ◌+◌, ◌-◌, ◌*◌, ◌^◌, ◌<◌, ◌≤◌, Bool, true, false, refl, sym, ap, ◌∙◌, subst, arith}
+use Rattle.std.proofs.Math.Nat.{mul-le-mul_left}
+use Rattle.std.proofs.lemmas.Bool.{false≢true}
+use Rattle.std.proofs.lemmas.Nat.{pow-add, pow_pos}
+use Rattle.std.specs.Int.RustNames.{unsigned_abs}
+use borrow.Author.Tests.{ltb-true}
+use lib.Signed.{lt_z}
+use Rattle.check_model.specs.WholeDoubles.{magnitude_bits, double_bits}
+
+-- a part of a power with the other part
+narrowed : (place rest : ℕ) → place ≤ 52 → rest < 2 ^ place → rest * 2 ^ (52 - place) < 2 ^ 52
+narrowed place rest most below =
+    let whole : place + (52 - place) ≡ 52 = omega arith in
+    let wide : 2 ^ place * 2 ^ (52 - place) ≡ 2 ^ 52 = sym (pow-add 2 place (52 - place)) ∙ ap (λ n. 2 ^ n) whole in
+    let some = pow_pos (52 - place) in
+    let scaled = mul-le-mul_left (2 ^ (52 - place)) below in
+    omega (arith, scaled, wide, some)
+
+-- what stands behind the highest bit of a number has room in a fraction
+pub fraction_fits : (place rest : ℕ) → place ≤ 53 → rest < 2 ^ place → (place ≡ 53 → rest ≡ 0) → rest * 2 ^ (52 - place) < 2 ^ 52
+fraction_fits place zero most below last = omega (arith, pow_pos 52)
+fraction_fits place (suc rest) most below last =
+    let other : place ≡ 53 → ⊥ = λ e. (let none = last e in omega arith) in
+    let inside : place ≤ 52 = omega (arith, other) in
+    narrowed place (suc rest) inside below
+
+-- a number with its sign
+pub bits_below_zero : (z : ℤ) (top size : ℕ) → top ≡ 2 ^ 63 → size ≡ magnitude_bits (unsigned_abs z) → lt_z z (pos 0) ≡ true → top + size ≡ double_bits z
+unfolding double_bits
+bits_below_zero (pos n) top size t s below = absurd (let h = ltb-true n 0 below in omega arith)
+bits_below_zero (negsuc n) top size t s below = λ i. t i + s i
+
+pub bits_from_zero : (z : ℤ) (size : ℕ) → size ≡ magnitude_bits (unsigned_abs z) → lt_z z (pos 0) ≡ false → size ≡ double_bits z
+unfolding double_bits
+bits_from_zero (pos n) size s above = s
+bits_from_zero (negsuc n) size s above = absurd (false≢true (sym above))

@@ -1,0 +1,4 @@
+use Rattle.idl_const.proofs.doubles.+highest_bit.Given as goal
+
+abbrev pub decreases-highest_bit : goal.decreases-highest_bit
+decreases-highest_bit l = l.most

@@ -1,0 +1,25 @@
+-- What the answers of an evaluation say. Want of memory says nothing.
+use Rattle.std.specs.Prelude.{◌≡◌, ⊤, Option, Some, None, MatchOption, Result, Ok, Err}
+use Rattle.thrift_value.specs.declared.value.Value.{Value}
+use Rattle.thrift_value.specs.TreeOf.{tree_of}
+use Rattle.check_model.specs.Worths.{ConstFlaw, wrong_kind, out_of_range, unknown_name, double_constant, const_cycle, unknown_field, missing_field, too_large}
+use Rattle.check_model.specs.Scalars.{OneWorth}
+use Rattle.idl_const.specs.declared.faults.ConstFault.{ConstFault}
+use Rattle.idl_const.specs.declared.faults.ConstFault.TheVariants as fault
+
+-- the flaw that a fault tells; want of memory tells none
+abbrev pub flaw_of : ConstFault → Option ConstFlaw
+flaw_of fault.WrongKind = Some wrong_kind
+flaw_of fault.OutOfRange = Some out_of_range
+flaw_of fault.UnknownName = Some unknown_name
+flaw_of fault.DoubleConstant = Some double_constant
+flaw_of fault.ConstCycle = Some const_cycle
+flaw_of fault.UnknownField = Some unknown_field
+flaw_of fault.MissingField = Some missing_field
+flaw_of fault.TooLarge = Some too_large
+flaw_of fault.NoMemory = None
+
+-- the answer is what one value is worth
+abbrev pub IsOneWorth : OneWorth → Result Value ConstFault → Type 0
+IsOneWorth worth (Ok value) = worth ≡ Ok (tree_of value)
+IsOneWorth worth (Err f) = MatchOption (flaw_of f) ⊤ (λ flaw. worth ≡ Err flaw)

@@ -1,0 +1,47 @@
+//! Why a constant can't be evaluated.
+
+use std::alloc::AllocError;
+use thiserror::Error;
+
+/// Why a constant value can't be evaluated.
+#[derive(Clone, Copy, Debug, PartialEq, Eq, Error)]
+pub enum ConstFault {
+    /// The form doesn't fit the type, or a union has another number of fields than one.
+    #[error("the value doesn't fit its type")]
+    WrongKind,
+    /// A number that the type doesn't hold.
+    #[error("the number is out of range")]
+    OutOfRange,
+    /// No constant and no value of an enum has the name.
+    #[error("the name stands for no value")]
+    UnknownName,
+    /// A double that isn't a whole number within plus or minus 2^53.
+    #[error("the double isn't a whole number within 2^53")]
+    DoubleConstant,
+    /// The value needs itself.
+    #[error("the value needs itself")]
+    ConstCycle,
+    /// The struct has no field of the name.
+    #[error("there is no such field")]
+    UnknownField,
+    /// A required field without a default isn't given.
+    #[error("a required field is missing")]
+    MissingField,
+    /// The value has more than 64 levels or 4,000,000 values.
+    #[error("the value is too large")]
+    TooLarge,
+    /// There was no room in memory.
+    #[error("out of memory")]
+    NoMemory,
+}
+
+impl From<AllocError> for ConstFault {
+    ghost use Rattle.std.specs.Prelude.{◌≡◌};
+    ghost use Rattle.idl_const.specs.declared.faults.ConstFault.TheVariants.{NoMemory};
+
+    ghost from_gives = { λ _ fault. fault ≡ NoMemory };
+
+    fn from(_error: AllocError) -> Self {
+        ConstFault::NoMemory
+    }
+}

@@ -1,0 +1,10 @@
+//! Constants evaluated: what a constant value of an IDL is worth against a type, or its first fault.
+#![tactic(auto)]
+
+mod doubles;
+mod faults;
+mod rows;
+mod scalars;
+mod tidy;
+
+pub use faults::ConstFault;
