@@ -3,3 +3,5 @@ pub mod FirstItems
 pub mod TidyTrees
 pub mod KindsOf
 pub mod WholeBits
+pub mod Counting
+pub mod Entering

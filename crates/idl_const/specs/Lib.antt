@@ -1,2 +1,6 @@
+pub mod Chains
+pub mod FieldEntries
 pub mod Flaws
+pub mod Given
+pub mod Marks
 pub mod Rows

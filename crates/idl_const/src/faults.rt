@@ -1,5 +1,6 @@
 //! Why a constant can't be evaluated.
 
+use idl_token::Place;
 use std::alloc::AllocError;
 use thiserror::Error;
 
@@ -45,3 +46,29 @@ impl From<AllocError> for ConstFault {
         ConstFault::NoMemory
     }
 }
+
+/// Where evaluating ends before its end, and why; where memory ran out, anywhere.
+#[derive(Clone, Copy, Debug, PartialEq, Eq)]
+pub(crate) struct ConstStop {
+    /// The place of the value at fault.
+    pub(crate) at: Place,
+    /// What is wrong there.
+    pub(crate) fault: ConstFault,
+}
+
+impl From<AllocError> for ConstStop {
+    ghost use Rattle.std.specs.Prelude.{◌≡◌};
+    ghost use Rattle.idl_const.specs.declared.faults.ConstFault.TheVariants.{NoMemory};
+
+    ghost from_gives = { λ _ stop. stop.fault ≡ NoMemory };
+
+    fn from(_error: AllocError) -> Self {
+        ConstStop {
+            at: NOWHERE,
+            fault: ConstFault::NoMemory,
+        }
+    }
+}
+
+/// No place.
+const NOWHERE: Place = Place { line: 0, column: 0 };

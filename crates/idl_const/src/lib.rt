@@ -1,8 +1,12 @@
 //! Constants evaluated: what a constant value of an IDL is worth against a type, or its first fault.
 #![tactic(auto)]
 
+mod chains;
 mod doubles;
 mod faults;
+mod ground;
+mod marks;
+mod progress;
 mod rows;
 mod scalars;
 mod tidy;

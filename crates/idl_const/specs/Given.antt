@@ -1,0 +1,35 @@
+-- What stands for given values and their names in memory.
+use Rattle.std.specs.Prelude.{ℕ, ℤ, List, map, Option}
+use Rattle.std.specs.Option.{option_map}
+use Rattle.std.specs.List.{slice_get}
+use Rattle.std.specs.Borrow.{Bor}
+use Rattle.idl_parser.specs.declared.tree.ConstTree.{ConstTree}
+use Rattle.idl_model.specs.ConstExpr.{ConstExpr}
+use Rattle.idl_model.specs.ConstNames.{ConstMeaning, enum_value, given_value}
+use Rattle.idl_model.specs.DeclaredIn.{value_in}
+use Rattle.idl_model.specs.Numbering.{Filed}
+use Rattle.idl_model.specs.Program.{Program}
+use Rattle.idl_model.specs.Spots.{GivenValue, values_of}
+use Rattle.idl_const.specs.declared.ground.ConstName.{ConstName}
+use Rattle.idl_const.specs.declared.ground.ConstName.TheVariants as name
+
+-- what a name stands for
+abbrev pub const_meant : ConstName → ConstMeaning
+const_meant (name.Number which n) = enum_value which n
+const_meant (name.Value which) = given_value which
+
+-- a tree that stands in a file
+abbrev pub FiledTree : Type 0
+FiledTree = Filed ConstExpr
+
+-- the same in memory
+abbrev pub tree_filed : ℕ × Bor ConstTree → FiledTree
+tree_filed t = record { file = t.0; item = value_in t.1.now }
+
+-- the tree of a given value
+abbrev pub tree_given : Filed GivenValue → FiledTree
+tree_given v = record { file = v.file; item = v.item.tree }
+
+-- the tree of the given value of some number
+unfoldable pub tree_numbered : Program → ℕ → Option FiledTree
+tree_numbered program which = option_map tree_given (slice_get (values_of program) which)

@@ -1,0 +1,71 @@
+//! What evaluating asks of a program.
+
+ghost use Rattle.std.specs.Prelude.{◌≡◌, map, All, IfOk, IfSome};
+ghost use Rattle.std.specs.List.{find};
+ghost use Rattle.std.specs.Option.{option_map, option_copied};
+ghost use Rattle.std.specs.Str.{bytes_eq};
+ghost use Rattle.idl_model.specs.ConstNames.{const_meaning};
+ghost use Rattle.schema.specs.PlainSchema.{PlainField};
+ghost use Rattle.schema.specs.SchemaOf.{plain_field};
+ghost use Rattle.check_model.specs.Evaluation.{struct_numbered, default_of, fields_worth};
+ghost use Rattle.idl_const.specs.FieldEntries.{entry_in, given_in_memory, entries_worth, HasFieldId};
+ghost use Rattle.idl_const.specs.Given.{const_meant, tree_filed, tree_numbered};
+
+use idl_parser::ConstTree;
+use schema::{FieldDesc, StructKind};
+use std::alloc::{AllocError, Global};
+use std::collections::VecDeque;
+use thrift_value::Value;
+
+/// What a name in a constant value stands for.
+#[derive(Clone, Copy, Debug, PartialEq, Eq)]
+pub enum ConstName {
+    /// The number of a value of the enum of some number.
+    Number(u32, i64),
+    /// The given value of some number.
+    Value(u32),
+}
+
+/// A field that a literal of a struct is made of.
+#[derive(Drop)]
+pub(crate) enum FieldEntry<'a> {
+    /// It is given, by its id.
+    Given(i16, Value),
+    /// It isn't given, and has a default, by its number among the given values, or has to be given.
+    Owed(&'a FieldDesc, Option<u32>),
+}
+
+/// A program in which constants are evaluated.
+pub(crate) trait Ground {
+    ghost use Rattle.check_model.specs.Evaluation.{Setting};
+
+    ghost setting: { Self → Setting };
+
+    /// What a name that stands in a file stands for.
+    fn meaning(&self, file: u32, name: &[u8]) -> Option<ConstName>
+        ensures { option_map const_meant result ≡ const_meaning (setting self.now).program file name.now };
+
+    /// The file and the tree of the given value of some number.
+    fn given(&self, which: u32) -> Option<(u32, &ConstTree)>
+        ensures { option_map tree_filed result ≡ tree_numbered (setting self.now).program which };
+
+    /// Which kind of fields the struct of some number has.
+    fn fields_kind(&self, which: u32) -> StructKind
+        ensures { result ≡ (struct_numbered (setting self.now).schema which).kind };
+
+    /// The field of a name of the struct of some number.
+    fn field_named(&self, which: u32, name: &[u8]) -> Option<&FieldDesc>
+        ensures { option_map plain_field (option_copied result) ≡ find (λ (f : PlainField). bytes_eq f.name name.now) (struct_numbered (setting self.now).schema which).fields };
+
+    /// What the struct of some number is made of, by rising id, where these values are given.
+    fn entries(
+        &self,
+        alloc: Global,
+        which: u32,
+        given: Vec<(i16, Value)>,
+    ) -> Result<VecDeque<FieldEntry<'_>>, AllocError>
+        requires { All (λ p. HasFieldId (struct_numbered (setting self.now).schema which).fields p.0) given.items }
+        ensures { IfOk result (λ row. (named : _) (at : _) (levels count : _)
+            → fields_worth named (default_of (setting self.now).program which) (map given_in_memory given.items) at levels count (struct_numbered (setting self.now).schema which).fields
+            ≡ entries_worth named at levels count (map entry_in row.items)) };
+}
