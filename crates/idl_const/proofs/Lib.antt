@@ -5,3 +5,5 @@ pub mod KindsOf
 pub mod WholeBits
 pub mod Counting
 pub mod Entering
+pub mod Kept
+pub mod InFront

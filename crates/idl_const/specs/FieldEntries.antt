@@ -1,9 +1,9 @@
 -- The fields that a literal of a struct is made of: those that are given, and those that have a default or have to be given.
-use Rattle.std.specs.Prelude.{◌≡◌, ℕ, ℤ, List, [], ◌∷◌, map, Option, Some, None, Any}
+use Rattle.std.specs.Prelude.{◌≡◌, ◌⊎◌, ⊤, ℕ, ℤ, List, [], ◌∷◌, Option, Some, None}
 use Rattle.std.specs.Borrow.{Bor}
 use Rattle.idl_token.specs.declared.Place.{Place}
 use Rattle.thrift_value.specs.declared.value.Value.{Value}
-use Rattle.thrift_value.specs.Tree.{Tree, FieldTrees, no_fields}
+use Rattle.thrift_value.specs.Tree.{Tree, FieldTrees, no_fields, field}
 use Rattle.thrift_value.specs.TreeOf.{tree_of}
 use Rattle.schema.specs.PlainSchema.{PlainField}
 use Rattle.schema.specs.SchemaOf.{plain_field}
@@ -20,7 +20,7 @@ pub data PlainEntry : Type 0 where
 -- the same in memory
 abbrev pub entry_in : FieldEntry → PlainEntry
 entry_in (entry.Given id value) = given_entry (record { id = id; value = tree_of value })
-entry_in (entry.Owed field default) = owed_entry (plain_field field.now) default
+entry_in (entry.Owed f default) = owed_entry (plain_field f.now) default
 
 -- values that are given, in memory
 abbrev pub given_in_memory : ℤ × Value → FieldValue
@@ -46,4 +46,15 @@ entries_worth named at levels count (e ∷ more) =
 
 -- one of the fields has this id
 abbrev pub HasFieldId : List PlainField → ℤ → Type 0
-HasFieldId items id = Any (λ (f : PlainField). f.id ≡ id) items
+HasFieldId [] id = ⊥
+HasFieldId (f ∷ more) id = (f.id ≡ id) ⊎ HasFieldId more id
+
+-- each value is given for one of the fields
+abbrev pub AreGivenFor : List PlainField → List FieldValue → Type 0
+AreGivenFor items [] = ⊤
+AreGivenFor items (v ∷ more) = HasFieldId items v.id × AreGivenFor items more
+
+-- fields in front of others
+abbrev pub fields_in_front : List (ℤ × Value) → FieldTrees → FieldTrees
+fields_in_front [] more = more
+fields_in_front (f ∷ fs) more = field f.0 (tree_of f.1) (fields_in_front fs more)

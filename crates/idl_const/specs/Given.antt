@@ -33,3 +33,7 @@ tree_given v = record { file = v.file; item = v.item.tree }
 -- the tree of the given value of some number
 unfoldable pub tree_numbered : Program → ℕ → Option FiledTree
 tree_numbered program which = option_map tree_given (slice_get (values_of program) which)
+
+-- a key and its value
+abbrev pub both_in : ConstTree × ConstTree → ConstExpr × ConstExpr
+both_in p = (value_in p.0, value_in p.1)

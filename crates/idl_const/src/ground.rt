@@ -1,6 +1,6 @@
 //! What evaluating asks of a program.
 
-ghost use Rattle.std.specs.Prelude.{◌≡◌, map, All, IfOk, IfSome};
+ghost use Rattle.std.specs.Prelude.{◌≡◌, map, IfOk};
 ghost use Rattle.std.specs.List.{find};
 ghost use Rattle.std.specs.Option.{option_map, option_copied};
 ghost use Rattle.std.specs.Str.{bytes_eq};
@@ -8,7 +8,7 @@ ghost use Rattle.idl_model.specs.ConstNames.{const_meaning};
 ghost use Rattle.schema.specs.PlainSchema.{PlainField};
 ghost use Rattle.schema.specs.SchemaOf.{plain_field};
 ghost use Rattle.check_model.specs.Evaluation.{struct_numbered, default_of, fields_worth};
-ghost use Rattle.idl_const.specs.FieldEntries.{entry_in, given_in_memory, entries_worth, HasFieldId};
+ghost use Rattle.idl_const.specs.FieldEntries.{entry_in, given_in_memory, entries_worth, AreGivenFor};
 ghost use Rattle.idl_const.specs.Given.{const_meant, tree_filed, tree_numbered};
 
 use idl_parser::ConstTree;
@@ -64,7 +64,7 @@ pub(crate) trait Ground {
         which: u32,
         given: Vec<(i16, Value)>,
     ) -> Result<VecDeque<FieldEntry<'_>>, AllocError>
-        requires { All (λ p. HasFieldId (struct_numbered (setting self.now).schema which).fields p.0) given.items }
+        requires { AreGivenFor (struct_numbered (setting self.now).schema which).fields (map given_in_memory given.items) }
         ensures { IfOk result (λ row. (named : _) (at : _) (levels count : _)
             → fields_worth named (default_of (setting self.now).program which) (map given_in_memory given.items) at levels count (struct_numbered (setting self.now).schema which).fields
             ≡ entries_worth named at levels count (map entry_in row.items)) };

@@ -2,13 +2,16 @@
 #![tactic(auto)]
 
 mod chains;
+mod containers;
 mod doubles;
 mod faults;
 mod ground;
+mod keeping;
 mod marks;
 mod progress;
 mod rows;
 mod scalars;
 mod tidy;
+mod walk;
 
 pub use faults::ConstFault;

@@ -2,10 +2,10 @@
 
 ghost use Rattle.schema.specs.PlainKind.{kind_of, kind_enum};
 ghost use Rattle.thrift_value.specs.Tree.{of_i8, of_i16, of_i32, of_i64, of_bytes};
-ghost use Rattle.check_model.specs.Scalars.{ranged, truth, int_worth, literal_worth, enum_worth};
+ghost use Rattle.check_model.specs.Scalars.{ranged, truth, int_worth, double_worth, literal_worth, enum_worth};
 ghost use Rattle.idl_const.specs.Flaws.{IsOneWorth};
 
-use crate::doubles::double_of;
+use crate::doubles::{double_of, double_written};
 use crate::faults::ConstFault;
 use byte_text::ByteText;
 use schema::TypeDesc;
@@ -80,6 +80,28 @@ pub(crate) fn int_value(kind: &TypeDesc, number: i64) -> Result<Value, ConstFaul
         TypeDesc::Enum(_) => as_i32(number),
         TypeDesc::Text
         | TypeDesc::Binary
+        | TypeDesc::Struct(_)
+        | TypeDesc::Map(_, _)
+        | TypeDesc::Set(_)
+        | TypeDesc::List(_) => Err(ConstFault::WrongKind),
+    }
+}
+
+/// A number with a fraction or an exponent, by its bytes.
+#[tactic(auto, using(crate::proofs::KindsOf::kind_equations))]
+pub(crate) fn double_value(kind: &TypeDesc, text: &ByteText) -> Result<Value, ConstFault>
+    ensures { IsOneWorth (double_worth (kind_of kind.now) text.now) result }
+{
+    match kind {
+        TypeDesc::Double => double_written(text.as_slice()),
+        TypeDesc::Bool
+        | TypeDesc::I8
+        | TypeDesc::I16
+        | TypeDesc::I32
+        | TypeDesc::I64
+        | TypeDesc::Text
+        | TypeDesc::Binary
+        | TypeDesc::Enum(_)
         | TypeDesc::Struct(_)
         | TypeDesc::Map(_, _)
         | TypeDesc::Set(_)

@@ -27,12 +27,12 @@ returns-in-Some-clause-step g c =
     (λ kind levels count. worth_by s (worth_where s c.enter.new.work.free.items) c.in-Some.file kind levels count (value_in c.in-Some.tree.now))
     (worth_where s c.args.work.now.free.items c.args.which) c.link_of.result
     (λ kind levels count. worth_entered s c.args.work.now.free.items c.args.which t kind levels count c.in_ok-enter.ensures.entered.0 (sym c.in-Some.ensures)
-        ∙ ap (λ l. worth_by s (worth_where s l) t.file kind levels count t.item) (sym c.in_ok-enter.ensures.entered.1))
+    ∙ ap (λ l. worth_by s (worth_where s l) t.file kind levels count t.item) (sym c.in_ok-enter.ensures.entered.1))
     (c.link_of.ensures (worth_where s c.enter.new.work.free.items))
 
 pub returns-in-Some-clause-left : goal.returns-in-Some-clause-left
 returns-in-Some-clause-left g c =
     let same : left_again c.enter.new.work.free.items c.enter.new.entered.items ≡ left_again c.args.work.now.free.items c.args.entered.now.items =
-        left_entered c.args.work.now.free.items c.enter.new.work.free.items c.args.which c.args.entered.now.items c.enter.new.entered.items
-        c.in_ok-enter.ensures.entered.0 c.in_ok-enter.ensures.entered.1 c.in_ok-enter.ensures.entered.2 in
+    left_entered c.args.work.now.free.items c.enter.new.work.free.items c.args.which c.args.entered.now.items c.enter.new.entered.items
+    c.in_ok-enter.ensures.entered.0 c.in_ok-enter.ensures.entered.1 c.in_ok-enter.ensures.entered.2 in
     search rules
