@@ -7,3 +7,4 @@ pub mod Counting
 pub mod Entering
 pub mod Kept
 pub mod InFront
+pub mod Braces

@@ -4,7 +4,7 @@ ghost use Rattle.std.specs.Prelude.{◌≡◌, map, IfOk};
 ghost use Rattle.schema.specs.PlainKind.{kind_of, kind_set};
 ghost use Rattle.thrift_value.specs.Tree.{of_map};
 ghost use Rattle.thrift_value.specs.TreeOf.{tree_of, pair_tree, item_trees, pair_trees};
-ghost use Rattle.check_model.specs.Evaluation.{kind_tag, takes_brackets, element_kind, row_tree};
+ghost use Rattle.check_model.specs.Evaluation.{kind_tag, takes_brackets, takes_braces, element_kind, row_tree};
 ghost use Rattle.check_model.specs.TidyRows.{tidy_pairs};
 
 use crate::tidy::{tidy_members, tidy_pairs};
@@ -50,6 +50,27 @@ pub(crate) fn takes_brackets(kind: &TypeDesc) -> bool
         | TypeDesc::Enum(_)
         | TypeDesc::Struct(_)
         | TypeDesc::Map(_, _) => false,
+    }
+}
+
+/// Whether a type takes keys and values in braces.
+#[tactic(auto, using(crate::proofs::KindsOf::kind_equations))]
+pub(crate) fn takes_braces(kind: &TypeDesc) -> bool
+    ensures { result ≡ takes_braces (kind_of kind.now) }
+{
+    match kind {
+        TypeDesc::Struct(_) | TypeDesc::Map(_, _) => true,
+        TypeDesc::Bool
+        | TypeDesc::I8
+        | TypeDesc::I16
+        | TypeDesc::I32
+        | TypeDesc::I64
+        | TypeDesc::Double
+        | TypeDesc::Text
+        | TypeDesc::Binary
+        | TypeDesc::Enum(_)
+        | TypeDesc::Set(_)
+        | TypeDesc::List(_) => false,
     }
 }
 

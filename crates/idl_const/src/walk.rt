@@ -15,7 +15,7 @@ ghost use Rattle.idl_const.specs.Given.{both_in};
 ghost use Rattle.idl_const.specs.Marks.{worth_where};
 
 use crate::chains::{Meant, follow};
-use crate::containers::{element_kind, map_value, row_value, takes_brackets};
+use crate::containers::{element_kind, map_value, row_value, takes_braces, takes_brackets};
 use crate::faults::{ConstFault, ConstStop};
 use crate::ground::{ConstName, FieldEntry, Ground};
 use crate::keeping::{
@@ -246,24 +246,20 @@ fn braced<G: Ground>(
         (map_const at (entries_in (map both_in entries.now)))) }
     ensures free { OnOk result (work.new.free.items ≡ work.old.free.items) }
 {
+    if !takes_braces(kind) {
+        return unfit(work, at, levels);
+    }
     match kind {
-        TypeDesc::Map(key, value) => {
-            mapped(ground, alloc, work, file, key, value, levels, at, entries)
-        }
-        TypeDesc::Struct(which) => {
-            structured(ground, alloc, work, file, *which, levels, at, entries)
-        }
-        TypeDesc::Bool
-        | TypeDesc::I8
-        | TypeDesc::I16
-        | TypeDesc::I32
-        | TypeDesc::I64
-        | TypeDesc::Double
-        | TypeDesc::Text
-        | TypeDesc::Binary
-        | TypeDesc::Enum(_)
-        | TypeDesc::Set(_)
-        | TypeDesc::List(_) => unfit(work, at, levels),
+        TypeDesc::Map(key, value) => mapped(
+            ground, alloc, work, file, key, value, levels, at, entries,
+        ),
+        TypeDesc::Struct(which) => structured(
+            ground, alloc, work, file, *which, levels, at, entries,
+        ),
+        _ => Err(ConstStop {
+            at,
+            fault: ConstFault::NoMemory,
+        }),
     }
 }
 

@@ -1,0 +1,94 @@
+use Rattle.std.proofs.Common.{◌≡◌, ℕ, List, [], ◌∷◌, ◌++◌, map, length, OnOk, FitsSigned, sym, ap, ◌∙◌, subst, arith, rules}
+use Rattle.std.specs.Int.{w16}
+use Rattle.std.proofs.lemmas.Int.{to_z-of_z}
+use Rattle.thrift_value.specs.TreeOf.{tree_of, fields_tree, field_tree, field_trees}
+use Rattle.thrift_value.specs.Tree.{of_struct}
+use Rattle.thrift_value.proofs.Trees.{tree_of-Struct}
+use Rattle.thrift_value.specs.declared.value.Value as value
+use Rattle.schema.specs.PlainKind.{kind_of}
+use Rattle.schema.specs.SchemaOf.{plain_field}
+use Rattle.idl_model.specs.ConstExpr.{map_const}
+use Rattle.idl_model.specs.DeclaredIn.{value_in, items_in, entries_in}
+use Rattle.check_model.specs.Evaluation.{worth_by, struct_numbered}
+use Rattle.idl_const.specs.FieldEntries.{entry_in}
+use Rattle.idl_const.specs.Flaws.{AnswersWorth}
+use Rattle.idl_const.specs.Given.{both_in}
+use Rattle.idl_const.specs.Marks.{worth_where}
+use Rattle.idl_const.proofs.Braces.{map_is, unfit_worth, struct_where}
+use Rattle.idl_const.proofs.InFront.{items_step, items_end, pairs_step, pairs_end, given_step, known_step, fields_end, free_step, none_mapped}
+use Rattle.idl_const.proofs.walk.+walk.Goals as goal
+
+pub items-returns-clause-worth : goal.items-returns-clause-worth
+items-returns-clause-worth g t c =
+    let s = g.G.Ground.setting c.args.ground.now in
+    items_end s (worth_where s c.args.work.now.free.items) c.args.file (kind_of c.args.kind.now) c.args.levels c.loop-tree.tree-index c.args.trees.now c.loop-tree.made.items c.loop-tree.work.values
+    _ (omega arith) c.loop-tree.invariant.made
+
+pub items-loop-tree-preserved : goal.items-loop-tree-preserved
+items-loop-tree-preserved g t c =
+    let s = g.G.Ground.setting c.args.ground.now in
+    record {
+      made = items_step s (worth_where s c.args.work.now.free.items) c.args.file (kind_of c.args.kind.now) c.args.levels c.loop-tree.tree-index c.args.trees.now c.tree-item.result
+          c.loop-tree.made.items c.keep.new.list.items c.value-one.result c.loop-tree.work.values c.value-one.new.work.values _ c.loop-tree-test.true c.tree-item.is c.loop-tree.invariant.made
+          (subst (λ f. AnswersWorth tree_of c.value-one.result c.value-one.new.work.values (worth_by s (worth_where s f) c.args.file (kind_of c.args.kind.now) c.args.levels c.loop-tree.work.values (value_in c.tree-item.result))) c.loop-tree.invariant.free c.value-one.ensures.worth)
+          c.in_ok-keep.ensures;
+      free = free_step c.value-one.result c.value-one.new.work.free.items c.loop-tree.work.free.items c.args.work.now.free.items c.keep.new.list.items _ c.value-one.ensures.free c.loop-tree.invariant.free c.in_ok-keep.ensures;
+    }
+
+pub pairs-returns-clause-worth : goal.pairs-returns-clause-worth
+pairs-returns-clause-worth g t c =
+    let s = g.G.Ground.setting c.args.ground.now in
+    pairs_end s (worth_where s c.args.work.now.free.items) c.args.file (kind_of c.args.key.now) (kind_of c.args.held.now) c.args.levels c.loop-first.first-index c.args.entries.now c.loop-first.made.items c.loop-first.work.values
+    _ (omega arith) c.loop-first.invariant.made
+
+pub pairs-loop-first-preserved : goal.pairs-loop-first-preserved
+pairs-loop-first-preserved g t c =
+    let s = g.G.Ground.setting c.args.ground.now in
+    record {
+      made = pairs_step s (worth_where s c.args.work.now.free.items) c.args.file (kind_of c.args.key.now) (kind_of c.args.held.now) c.args.levels c.loop-first.first-index c.args.entries.now c.loop-first-item.result
+          c.loop-first.made.items c.keep_beside.new.list.items c.in_ok-first.first c.value-second.result c.loop-first.work.values c.value.new.work.values c.value-second.new.work.values _ c.loop-first-test.true c.loop-first-item.is c.loop-first.invariant.made
+          (ap (λ f. worth_by s (worth_where s f) c.args.file (kind_of c.args.key.now) c.args.levels c.loop-first.work.values (value_in c.loop-first-item.result.0)) (sym c.loop-first.invariant.free) ∙ c.in_ok-first.ensures.worth)
+          (subst (λ f. AnswersWorth tree_of c.value-second.result c.value-second.new.work.values (worth_by s (worth_where s f) c.args.file (kind_of c.args.held.now) c.args.levels c.value.new.work.values (value_in c.loop-first-item.result.1))) (c.in_ok-first.ensures.free ∙ c.loop-first.invariant.free) c.value-second.ensures.worth)
+          c.in_ok-keep_beside.ensures;
+      free = free_step c.value-second.result c.value-second.new.work.free.items c.value.new.work.free.items c.args.work.now.free.items c.keep_beside.new.list.items _ c.value-second.ensures.free (c.in_ok-first.ensures.free ∙ c.loop-first.invariant.free) c.in_ok-keep_beside.ensures;
+    }
+
+pub given_fields-loop-key-preserved : goal.given_fields-loop-key-preserved
+given_fields-loop-key-preserved g t c =
+    let s = g.G.Ground.setting c.args.ground.now in
+    let fits : FitsSigned w16 c.in_ok-field.field.now.id = search rules in
+    let same = to_z-of_z w16 c.in_ok-field.field.now.id fits in
+    record {
+      made = given_step s (worth_where s c.args.work.now.free.items) c.args.file (struct_numbered s.schema c.args.which).fields c.args.levels c.loop-key.key-index c.args.entries.now c.loop-key-item.result
+          (plain_field c.in_ok-field.field.now) _ c.loop-key.given.items c.keep_beside.new.list.items c.value-one.result c.loop-key.work.values c.value-one.new.work.values _ c.loop-key-test.true c.loop-key-item.is c.loop-key.invariant.made
+          (c.in_ok-field.ensures.worth c.loop-key.work.values)
+          (subst (λ f. AnswersWorth tree_of c.value-one.result c.value-one.new.work.values (worth_by s (worth_where s f) c.args.file (kind_of c.in_ok-field.field.now.kind) c.args.levels c.loop-key.work.values (value_in c.loop-key-item.result.1))) c.loop-key.invariant.free c.value-one.ensures.worth)
+          c.in_ok-keep_beside.ensures same;
+      known = known_step (struct_numbered s.schema c.args.which).fields c.loop-key.given.items c.keep_beside.new.list.items _ (plain_field c.in_ok-field.field.now) c.value-one.result c.loop-key.invariant.known c.in_ok-field.ensures.known c.in_ok-keep_beside.ensures same;
+      free = free_step c.value-one.result c.value-one.new.work.free.items c.loop-key.work.free.items c.args.work.now.free.items c.keep_beside.new.list.items _ c.value-one.ensures.free c.loop-key.invariant.free c.in_ok-keep_beside.ensures;
+    }
+
+pub owed_fields-returns-clause-worth : goal.owed_fields-returns-clause-worth
+owed_fields-returns-clause-worth g t c =
+    let s = g.G.Ground.setting c.args.ground.now in
+    fields_end (worth_where s c.args.work.now.free.items) c.args.at c.args.levels c.loop-entry.work.values (map entry_in c.loop-entry.row.items) c.loop-entry.made.items _ (none_mapped entry_in c.loop-entry.row.items (omega (arith, c.in_default.ensures.cases.0, c.loop-entry.row.ok))) c.loop-entry.invariant.made
+
+pub braced-returns-then-not-takes_braces-clause-worth : goal.braced-returns-then-not-takes_braces-clause-worth
+braced-returns-then-not-takes_braces-clause-worth g t c =
+    let s = g.G.Ground.setting c.args.ground.now in
+    unfit_worth s (worth_where s c.args.work.now.free.items) c.args.file c.args.levels c.args.work.now.values c.args.at (entries_in (map both_in c.args.entries.now)) (kind_of c.args.kind.now) c.unfit.result c.unfit.new.work.values
+    (sym c.takes_braces.ensures ∙ c.if-not-takes_braces.true) c.unfit.ensures.worth
+
+pub structured-returns-clause-worth : goal.structured-returns-clause-worth
+structured-returns-clause-worth g t c =
+    let s = g.G.Ground.setting c.args.ground.now in
+    struct_where s c.args.work.now.free.items c.opened.new.work.free.items c.args.file c.args.levels c.args.work.now.values c.args.at (entries_in (map both_in c.args.entries.now)) c.args.which c.in_ok-left.left c.opened.new.work.values c.fields.new.work.values
+    (field_trees (map field_tree c.in_ok-made.made.items)) (value.Struct c.new.result) (search rules) c.in_ok-left.ensures.worth c.in_ok-made.ensures.worth
+    (tree_of-Struct c.new.result ∙ ap (λ fs. of_struct (field_trees (map field_tree fs))) c.new.ensures)
+
+pub unnamed-returns-in-Map-clause-worth : goal.unnamed-returns-in-Map-clause-worth
+unnamed-returns-in-Map-clause-worth g t c =
+    let s = g.G.Ground.setting c.args.ground.now in
+    subst (λ e. AnswersWorth tree_of c.braced.result c.braced.new.work.values (worth_by s (worth_where s c.args.work.now.free.items) c.args.file (kind_of c.args.kind.now) c.args.levels c.args.work.now.values e))
+    (ap (λ es. map_const c.in-Map.at (entries_in (map both_in es))) c.as_slice-in-Map.ensures.value ∙ sym (map_is c.args.tree.now c.in-Map.at c.in-Map.entries c.in-Map.is))
+    c.braced.ensures.worth
