@@ -46,10 +46,10 @@ module _ (s : Setting) (named : NamedWorth) (file levels count : ℕ) (at : Plac
 pub struct_where : (s : Setting) (free after : List Bool) (file levels count : ℕ) (at : Place) (entries : ConstEntries) (which left n m : ℕ) (fields : FieldTrees) (value : Value)
     → after ≡ free → ((inner : ℕ → ℕ → Worth Tree) → opened at true levels count inner ≡ inner left n)
     → and_next (given_by s (worth_where s after) file (struct_numbered s.schema which).fields left n entries) (λ given m.
-        made_fields (worth_where s after) (default_of s.program which) at left (struct_numbered s.schema which).kind (struct_numbered s.schema which).fields given m) ≡ valued fields m
+    made_fields (worth_where s after) (default_of s.program which) at left (struct_numbered s.schema which).kind (struct_numbered s.schema which).fields given m) ≡ valued fields m
     → tree_of value ≡ of_struct fields → worth_by s (worth_where s free) file (kind_struct which) levels count (map_const at entries) ≡ valued (tree_of value) m
 struct_where s free after file levels count at entries which left n m fields value same opening made is =
     struct_worth s (worth_where s free) file levels count at entries which left n m fields value opening
     (subst (λ f. and_next (given_by s (worth_where s f) file (struct_numbered s.schema which).fields left n entries) (λ given m.
-        made_fields (worth_where s f) (default_of s.program which) at left (struct_numbered s.schema which).kind (struct_numbered s.schema which).fields given m) ≡ valued fields m) same made)
+    made_fields (worth_where s f) (default_of s.program which) at left (struct_numbered s.schema which).kind (struct_numbered s.schema which).fields given m) ≡ valued fields m) same made)
     is

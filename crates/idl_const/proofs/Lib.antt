@@ -8,3 +8,5 @@ pub mod Entering
 pub mod Kept
 pub mod InFront
 pub mod Braces
+pub mod Written
+pub mod AllFree

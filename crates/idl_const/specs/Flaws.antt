@@ -1,6 +1,8 @@
 -- What the answers of an evaluation say. Want of memory says nothing.
 use Rattle.std.specs.Prelude.{◌≡◌, ⊤, ℕ, Option, Some, None, MatchOption, Result, Ok, Err}
 use Rattle.thrift_value.specs.declared.value.Value.{Value}
+use Rattle.idl_token.specs.declared.Place.{Place}
+use Rattle.thrift_value.specs.Tree.{Tree}
 use Rattle.thrift_value.specs.TreeOf.{tree_of}
 use Rattle.check_model.specs.Worths.{ConstFlaw, wrong_kind, out_of_range, unknown_name, double_constant, const_cycle, unknown_field, missing_field, too_large, Worth, valued, flawed}
 use Rattle.check_model.specs.Scalars.{OneWorth}
@@ -33,3 +35,8 @@ StopsAs stop worth = MatchOption (flaw_of stop.fault) ⊤ (λ flaw. worth ≡ fl
 abbrev pub AnswersWorth : {A B : Type 0} → (A → B) → Result A ConstStop → ℕ → Worth B → Type 0
 AnswersWorth view (Ok x) count worth = worth ≡ valued (view x) count
 AnswersWorth view (Err stop) count worth = StopsAs stop worth
+
+-- What evaluating answers: a value, or the place of the first fault and what is wrong there.
+abbrev pub IsEvaluated : Worth Tree → Result Value (Place × ConstFault) → Type 0
+IsEvaluated worth (Ok value) = (count : ℕ) × (worth ≡ valued (tree_of value) count)
+IsEvaluated worth (Err e) = MatchOption (flaw_of e.1) ⊤ (λ flaw. worth ≡ flawed e.0 flaw)

@@ -3,10 +3,12 @@
 ghost use Rattle.std.specs.Prelude.{◌≡◌, ◌-◌, ◌*◌, ◌≤◌, ◌<◌, ◌^◌, suc, pos, neg_ℤ, if◌then◌else◌};
 ghost use Rattle.std.specs.Int.RustNames.{unsigned_abs};
 ghost use Rattle.check_model.specs.Scalars.{doubled};
-ghost use Rattle.check_model.specs.WholeDoubles.{double_number, int_as_double, highest_bit, magnitude_bits, double_bits};
+ghost use Rattle.check_model.specs.WholeDoubles.{double_number, signed_within, int_as_double, highest_bit, magnitude_bits, double_bits};
 ghost use Rattle.idl_const.specs.Flaws.{IsOneWorth};
 
+use crate::decimals::{decimal_in, whole_number};
 use crate::faults::ConstFault;
+use idl_token::{byte_at, sign_in};
 use thrift_value::Value;
 
 /// The greatest number up to which each whole number is a double.
@@ -82,9 +84,28 @@ pub(crate) fn double_of(number: i64) -> Result<Value, ConstFault>
     Ok(Value::Double(double_bits(number)))
 }
 
-/// A number that is written with a fraction or an exponent, as a double.
+/// A number that is written with a fraction or an exponent, as a double; want of memory where 128 bits don't suffice to read it.
 pub(crate) fn double_written(text: &[u8]) -> Result<Value, ConstFault>
     ensures { IsOneWorth (doubled (double_number text.now)) result }
 {
-    Err(ConstFault::NoMemory)
+    let (_, unsigned) = text.split_at(sign_in(text));
+    let parts = decimal_in(unsigned)?;
+    let whole = whole_number(parts.digits, parts.up, parts.down)?;
+    whole_double(byte_at(text, 0) == b'-', whole)
+}
+
+/// A number with its sign, where it is whole, as a double.
+#[tactic(auto, using(thrift_value::proofs::Trees::tree_equations))]
+fn whole_double(negative: bool, whole: Option<u128>) -> Result<Value, ConstFault>
+    ensures { IsOneWorth (doubled (signed_within negative whole)) result }
+{
+    let Some(size) = whole else {
+        return Err(ConstFault::DoubleConstant);
+    };
+    if size > u128::from(MOST) {
+        return Err(ConstFault::DoubleConstant);
+    }
+    let size = size as i64;
+    let number = if negative { -size } else { size };
+    Ok(Value::Double(double_bits(number)))
 }

@@ -1,9 +1,10 @@
 //! What evaluating asks of a program.
 
-ghost use Rattle.std.specs.Prelude.{◌≡◌, map, IfOk};
+ghost use Rattle.std.specs.Prelude.{◌≡◌, length, map, IfOk};
 ghost use Rattle.std.specs.List.{find};
 ghost use Rattle.std.specs.Option.{option_map, option_copied};
 ghost use Rattle.std.specs.Str.{bytes_eq};
+ghost use Rattle.idl_model.specs.Spots.{values_of};
 ghost use Rattle.idl_model.specs.ConstNames.{const_meaning};
 ghost use Rattle.schema.specs.PlainSchema.{PlainField};
 ghost use Rattle.schema.specs.SchemaOf.{plain_field};
@@ -28,7 +29,7 @@ pub enum ConstName {
 
 /// A field that a literal of a struct is made of.
 #[derive(Drop)]
-pub(crate) enum FieldEntry<'a> {
+pub enum FieldEntry<'a> {
     /// It is given, by its id.
     Given(i16, Value),
     /// It isn't given, and has a default, by its number among the given values, or has to be given.
@@ -36,7 +37,7 @@ pub(crate) enum FieldEntry<'a> {
 }
 
 /// A program in which constants are evaluated.
-pub(crate) trait Ground {
+pub trait Ground {
     ghost use Rattle.check_model.specs.Evaluation.{Setting};
 
     ghost setting: { Self → Setting };
@@ -44,6 +45,10 @@ pub(crate) trait Ground {
     /// What a name that stands in a file stands for.
     fn meaning(&self, file: u32, name: &[u8]) -> Option<ConstName>
         ensures { option_map const_meant result ≡ const_meaning (setting self.now).program file name.now };
+
+    /// How many values are given.
+    fn given_count(&self) -> usize
+        ensures { result ≡ length (values_of (setting self.now).program) };
 
     /// The file and the tree of the given value of some number.
     fn given(&self, which: u32) -> Option<(u32, &ConstTree)>

@@ -3,7 +3,9 @@
 
 mod chains;
 mod containers;
+mod decimals;
 mod doubles;
+mod evaluation;
 mod faults;
 mod ground;
 mod keeping;
@@ -14,4 +16,6 @@ mod scalars;
 mod tidy;
 mod walk;
 
+pub use evaluation::evaluate_in;
 pub use faults::ConstFault;
+pub use ground::{ConstName, FieldEntry, Ground};
