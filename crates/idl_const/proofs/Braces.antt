@@ -1,5 +1,5 @@
 -- What stands in braces.
-use Rattle.std.proofs.Common.{◌≡◌, ℕ, ℤ, Bool, true, false, List, map, Result, refl, sym, ap, ◌∙◌, subst, rules, Vec, Global}
+use Rattle.std.proofs.Common.{◌≡◌, ℕ, Bool, true, false, List, map, Result, sym, ap, ◌∙◌, subst, rules, Vec, Global}
 use Rattle.idl_token.specs.declared.Place.{Place}
 use Rattle.thrift_value.specs.declared.value.Value.{Value}
 use Rattle.thrift_value.specs.Tree.{Tree, FieldTrees, of_struct}

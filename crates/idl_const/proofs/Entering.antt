@@ -1,20 +1,19 @@
 -- What given values are worth where one is entered, or can't be.
-use Rattle.std.proofs.Common.{◌≡◌, ℕ, zero, suc, Bool, true, false, List, [], ◌∷◌, slice_get, Option, Some, None, Result, Ok, Err, refl, sym, ap, ◌∙◌, subst, arith, set, get_or, MatchOption}
+use Rattle.std.proofs.Common.{◌≡◌, ℕ, zero, suc, Bool, true, false, List, [], ◌∷◌, slice_get, Option, Some, None, Result, Ok, Err, refl, sym, ap, ◌∙◌, MatchOption}
 use Rattle.std.specs.Option.{option_map}
 use Rattle.std.specs.Prelude.{slice_set, ⊤}
 use Rattle.std.proofs.lemmas.Bool.{false≢true}
 use Rattle.idl_token.specs.declared.Place.{Place}
-use Rattle.thrift_value.specs.Tree.{Tree}
 use Rattle.schema.specs.PlainKind.{PlainKind}
 use Rattle.idl_model.specs.Numbering.{Filed}
 use Rattle.idl_model.specs.Spots.{GivenValue, values_of}
-use Rattle.check_model.specs.Worths.{ConstFlaw, Worth, flawed, const_cycle, seen_at}
+use Rattle.check_model.specs.Worths.{ConstFlaw, flawed, const_cycle, seen_at}
 use Rattle.check_model.specs.Evaluation.{Setting, NamedWorth, worth_by, on_entering, named_worth, is_free}
 use Rattle.idl_const.specs.declared.faults.ConstFault.{ConstFault}
 use Rattle.idl_const.specs.declared.chains.Link.{Link}
 use Rattle.idl_const.specs.Flaws.{flaw_of}
 use Rattle.idl_const.specs.Given.{FiledTree, tree_given, tree_numbered}
-use Rattle.idl_const.specs.Marks.{free_count, worth_where, left_again, IsEntered}
+use Rattle.idl_const.specs.Marks.{free_count, worth_where, left_again}
 use Rattle.idl_const.specs.Chains.{WorthBy, IsStepFrom, IsStep}
 
 -- one fewer is free once one is entered

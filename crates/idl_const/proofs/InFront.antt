@@ -1,9 +1,9 @@
 -- What was made of the first parts of a value, in front of what the others come to.
-use Rattle.std.proofs.Common.{◌≡◌, ℕ, zero, suc, ℤ, ◌+◌, ◌<◌, ◌≤◌, List, [], ◌∷◌, ◌++◌, map, length, get_or, drop, Option, Some, None, Result, Ok, Err, MatchResult, OnOk, Bool, refl, sym, ap, ◌∙◌, subst, arith, add-one, drop-cons, append_assoc}
+use Rattle.std.proofs.Common.{◌≡◌, ℕ, zero, suc, ℤ, ◌+◌, ◌<◌, ◌≤◌, List, [], ◌∷◌, ◌++◌, map, length, get_or, drop, Result, Ok, Err, MatchResult, OnOk, Bool, refl, sym, ap, ◌∙◌, subst, arith, add-one, drop-cons, append_assoc}
 use Rattle.std.specs.Prelude.{⊤}
 use Rattle.idl_token.specs.declared.Place.{Place}
 use Rattle.thrift_value.specs.declared.value.Value.{Value}
-use Rattle.thrift_value.specs.Tree.{Tree, FieldTrees, no_fields, ItemTrees, no_items, item, PairTrees, no_pairs, pair}
+use Rattle.thrift_value.specs.Tree.{Tree, FieldTrees, ItemTrees, no_items, item, PairTrees, no_pairs, pair}
 use Rattle.thrift_value.specs.TreeOf.{tree_of, pair_tree, field_tree, item_trees, pair_trees, field_trees}
 use Rattle.idl_parser.specs.declared.tree.ConstTree.{ConstTree}
 use Rattle.idl_model.specs.ConstExpr.{ConstEntries}

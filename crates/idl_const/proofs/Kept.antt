@@ -1,12 +1,11 @@
 -- What is kept of the parts of a value.
 use Rattle.std.proofs.Common.{◌≡◌, ℕ, ℤ, Bool, true, false, cond, List, [], ◌∷◌, ◌++◌, map, length, Option, Some, None, ◌⊎◌, inl, inr, refl, sym, ap, ◌∙◌, subst, arith, rules}
-use Rattle.std.specs.Prelude.{⊤}
 use Rattle.std.specs.List.{find}
-use Rattle.std.specs.Option.{option_map, option_map_or}
+use Rattle.std.specs.Option.{option_map_or}
 use Rattle.std.specs.Str.{bytes_eq}
 use Rattle.idl_token.specs.declared.Place.{Place}
 use Rattle.thrift_value.specs.declared.value.Value.{Value}
-use Rattle.thrift_value.specs.Tree.{Tree, FieldTrees, no_fields, field}
+use Rattle.thrift_value.specs.Tree.{FieldTrees, no_fields, field}
 use Rattle.thrift_value.specs.TreeOf.{tree_of, field_tree, field_trees}
 use Rattle.idl_parser.specs.declared.tree.Literal.{Literal}
 use Rattle.idl_parser.specs.declared.tree.ConstTree.{ConstTree}
@@ -16,8 +15,8 @@ use Rattle.idl_model.specs.Written.{Written}
 use Rattle.idl_model.specs.ConstExpr.{ConstExpr, literal_const}
 use Rattle.idl_model.specs.DeclaredIn.{value_in, literal_in}
 use Rattle.schema.specs.PlainSchema.{PlainField}
-use Rattle.check_model.specs.Worths.{Worth, valued, flawed, unknown_field}
-use Rattle.check_model.specs.Evaluation.{FieldValue, union_worth, field_of_key}
+use Rattle.check_model.specs.Worths.{valued, flawed, unknown_field}
+use Rattle.check_model.specs.Evaluation.{union_worth, field_of_key}
 use Rattle.idl_const.specs.FieldEntries.{given_in_memory, HasFieldId, AreGivenFor, fields_in_front}
 
 -- one field more

@@ -1,5 +1,5 @@
 -- The kind of each type. A proof about `match` on a type cites these.
-use Rattle.std.proofs.Common.{◌≡◌, ℕ, ap, ◌∙◌, rules, Global}
+use Rattle.std.proofs.Common.{◌≡◌, ℕ, rules, Global}
 use Rattle.std.specs.declared.boxed.Box.{Box}
 use Rattle.schema.specs.declared.types.TypeDesc as type
 use Rattle.schema.specs.declared.types.TypeDesc.{TypeDesc}

@@ -1,5 +1,5 @@
 -- Chains of mere names: what one link comes to, and what a chain comes to.
-use Rattle.std.specs.Prelude.{◌≡◌, ⊤, ℕ, ℤ, List, Bool, MatchOption, Result, Ok, Err}
+use Rattle.std.specs.Prelude.{◌≡◌, ⊤, ℕ, List, Bool, MatchOption, Result, Ok, Err}
 use Rattle.idl_token.specs.declared.Place.{Place}
 use Rattle.thrift_value.specs.Tree.{Tree}
 use Rattle.schema.specs.PlainKind.{PlainKind}

@@ -1,6 +1,5 @@
 -- The fields that a literal of a struct is made of: those that are given, and those that have a default or have to be given.
-use Rattle.std.specs.Prelude.{◌≡◌, ◌⊎◌, ⊤, ℕ, ℤ, List, [], ◌∷◌, Option, Some, None}
-use Rattle.std.specs.Borrow.{Bor}
+use Rattle.std.specs.Prelude.{◌≡◌, ◌⊎◌, ⊤, ℕ, ℤ, List, [], ◌∷◌, Option, Some}
 use Rattle.idl_token.specs.declared.Place.{Place}
 use Rattle.thrift_value.specs.declared.value.Value.{Value}
 use Rattle.thrift_value.specs.Tree.{Tree, FieldTrees, no_fields, field}

@@ -1,5 +1,5 @@
 -- What stands for given values and their names in memory.
-use Rattle.std.specs.Prelude.{ℕ, ℤ, List, map, Option}
+use Rattle.std.specs.Prelude.{ℕ, Option}
 use Rattle.std.specs.Option.{option_map}
 use Rattle.std.specs.List.{slice_get}
 use Rattle.std.specs.Borrow.{Bor}

@@ -1,5 +1,5 @@
 -- Marks of the given values that aren't under evaluation.
-use Rattle.std.specs.Prelude.{◌≡◌, ⊤, ℕ, zero, suc, Bool, true, false, List, [], ◌∷◌, slice_set, MatchOption, Result, Ok, Err}
+use Rattle.std.specs.Prelude.{◌≡◌, ⊤, ℕ, suc, Bool, true, false, List, [], ◌∷◌, slice_set, MatchOption, Result, Ok, Err}
 use Rattle.check_model.specs.Worths.{const_cycle}
 use Rattle.check_model.specs.Evaluation.{Setting, NamedWorth, named_worth, is_free}
 use Rattle.idl_const.specs.declared.faults.ConstFault.{ConstFault}

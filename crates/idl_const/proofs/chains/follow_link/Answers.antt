@@ -1,7 +1,5 @@
-use Rattle.std.proofs.Common.{◌≡◌, ℕ, Some, OnOk, sym, ap, ◌∙◌, subst, rules}
+use Rattle.std.proofs.Common.{◌≡◌, sym, ap, ◌∙◌, rules}
 use Rattle.std.proofs.lemmas.Result.{err_from_is_err_and}
-use Rattle.std.specs.Prelude.{slice_set}
-use Rattle.schema.specs.PlainKind.{PlainKind}
 use Rattle.idl_model.specs.DeclaredIn.{value_in}
 use Rattle.check_model.specs.Evaluation.{worth_by}
 use Rattle.idl_const.specs.Given.{FiledTree}

@@ -1,4 +1,4 @@
-use Rattle.std.proofs.Common.{◌≡◌, drop, sym, ap, ◌∙◌, subst, ◌==◌}
+use Rattle.std.proofs.Common.{drop, sym, ap, ◌∙◌, subst, ◌==◌}
 use Rattle.check_model.specs.Scalars.{doubled}
 use Rattle.check_model.specs.WholeDoubles.{double_number, signed_within, whole_number, decimal_in}
 use Rattle.idl_const.specs.Flaws.{IsOneWorth}

@@ -1,4 +1,4 @@
-use Rattle.std.proofs.Common.{◌≡◌, ◌<◌, ◌*◌, ◌^◌, ◌-◌, ◌∙◌, ap, subst, sym, arith}
+use Rattle.std.proofs.Common.{◌≡◌, ◌*◌, ◌^◌, ◌-◌, ◌∙◌, ap, arith}
 use Rattle.idl_const.proofs.WholeBits.{fraction_fits}
 use Rattle.idl_const.proofs.doubles.fraction.Goals as goal
 

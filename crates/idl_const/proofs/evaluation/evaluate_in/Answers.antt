@@ -1,4 +1,4 @@
-use Rattle.std.proofs.Common.{◌≡◌, sym, ◌∙◌, subst}
+use Rattle.std.proofs.Common.{sym, ◌∙◌, subst}
 use Rattle.schema.specs.PlainKind.{kind_of}
 use Rattle.idl_model.specs.DeclaredIn.{value_in}
 use Rattle.idl_const.specs.Flaws.{StopsAs}

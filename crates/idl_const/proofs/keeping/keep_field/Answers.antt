@@ -1,4 +1,4 @@
-use Rattle.std.proofs.Common.{Ok, List, [], ◌∷◌, ◌++◌, ap, ◌∙◌}
+use Rattle.std.proofs.Common.{Ok, [], ◌∷◌, ◌++◌, ap, ◌∙◌}
 use Rattle.std.specs.Int.{w16}
 use Rattle.std.proofs.lemmas.Int.{to_z-of_z}
 use Rattle.idl_const.proofs.Kept.{field_kept}

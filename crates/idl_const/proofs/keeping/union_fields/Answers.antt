@@ -1,5 +1,5 @@
 use Rattle.std.proofs.Common.{arith}
-use Rattle.idl_const.proofs.Kept.{one_given, not_one_given}
+use Rattle.idl_const.proofs.Kept.{one_given}
 use Rattle.idl_const.proofs.keeping.union_fields.Goals as goal
 
 pub returns : goal.returns

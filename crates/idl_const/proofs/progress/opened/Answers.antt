@@ -1,4 +1,3 @@
-use Rattle.std.proofs.Common.{ℕ, suc}
 use Rattle.std.proofs.lemmas.Result.{err_from_is_err_and}
 use Rattle.check_model.specs.Worths.{only_if, wrong_kind, one_level}
 use Rattle.idl_const.proofs.Counting.{form_refused}

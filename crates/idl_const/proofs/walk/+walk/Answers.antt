@@ -1,14 +1,14 @@
-use Rattle.std.proofs.Common.{◌≡◌, ℕ, List, [], ◌∷◌, ◌++◌, map, length, OnOk, FitsSigned, sym, ap, ◌∙◌, subst, arith, rules}
+use Rattle.std.proofs.Common.{map, FitsSigned, sym, ap, ◌∙◌, subst, arith, rules}
 use Rattle.std.specs.Int.{w16}
 use Rattle.std.proofs.lemmas.Int.{to_z-of_z}
-use Rattle.thrift_value.specs.TreeOf.{tree_of, fields_tree, field_tree, field_trees}
+use Rattle.thrift_value.specs.TreeOf.{tree_of, field_tree, field_trees}
 use Rattle.thrift_value.specs.Tree.{of_struct}
 use Rattle.thrift_value.proofs.Trees.{tree_of-Struct}
 use Rattle.thrift_value.specs.declared.value.Value as value
 use Rattle.schema.specs.PlainKind.{kind_of}
 use Rattle.schema.specs.SchemaOf.{plain_field}
 use Rattle.idl_model.specs.ConstExpr.{map_const}
-use Rattle.idl_model.specs.DeclaredIn.{value_in, items_in, entries_in}
+use Rattle.idl_model.specs.DeclaredIn.{value_in, entries_in}
 use Rattle.check_model.specs.Evaluation.{worth_by, struct_numbered}
 use Rattle.idl_const.specs.FieldEntries.{entry_in}
 use Rattle.idl_const.specs.Flaws.{AnswersWorth}

@@ -1,4 +1,4 @@
-use Rattle.std.proofs.Common.{◌≡◌, ℕ, ◌+◌, ◌*◌, map, drop}
+use Rattle.std.proofs.Common.{◌≡◌, ◌+◌, ◌*◌, map, drop}
 use Rattle.std.specs.VecDeque.{deque_len}
 use Rattle.thrift_value.specs.TreeOf.{tree_of, pair_tree}
 use Rattle.schema.specs.PlainKind.{kind_of}
