@@ -15,7 +15,7 @@ use Rattle.check_model.specs.Evaluation.{Setting, NamedWorth, FieldValue, worth_
 use Rattle.idl_const.specs.declared.faults.ConstStop.{ConstStop}
 use Rattle.idl_const.specs.Flaws.{AnswersWorth}
 use Rattle.idl_const.specs.Given.{both_in}
-use Rattle.idl_const.specs.FieldEntries.{PlainEntry, entries_worth, fields_in_front, given_in_memory, HasFieldId, AreGivenFor}
+use Rattle.idl_const.specs.FieldEntries.{PlainFieldEntry, entries_worth, fields_in_front, given_in_memory, HasFieldId, AreGivenFor}
 use Rattle.idl_const.proofs.Kept.{fields_kept, given_more}
 
 -- parts in front of others
@@ -194,7 +194,7 @@ known_step items xs new id f (Ok v) h k kept same = given_more items xs new (id,
 known_step items xs new id f (Err stop) h k kept same = absurd (ok_is_no_err stop kept)
 
 -- all fields
-pub fields_end : (named : NamedWorth) (at : Place) (levels n : ℕ) (row : List PlainEntry) (fs : List (ℤ × Value)) (all : Worth FieldTrees) → row ≡ []
+pub fields_end : (named : NamedWorth) (at : Place) (levels n : ℕ) (row : List PlainFieldEntry) (fs : List (ℤ × Value)) (all : Worth FieldTrees) → row ≡ []
     → fields_front fs (entries_worth named at levels n row) ≡ all → all ≡ valued (field_trees (map field_tree fs)) n
 fields_end named at levels n row fs all none made =
     sym made ∙ (λ j. fields_front fs (entries_worth named at levels n (none j))) ∙ ap (λ t. valued t n) (fields_kept fs)

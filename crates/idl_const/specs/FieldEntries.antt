@@ -12,12 +12,12 @@ use Rattle.idl_const.specs.declared.ground.FieldEntry.{FieldEntry}
 use Rattle.idl_const.specs.declared.ground.FieldEntry.TheVariants as entry
 
 -- a field that is given, by its id, or one that isn't, with the number of its default
-pub data PlainEntry : Type 0 where
-  given_entry : FieldValue → PlainEntry
-  owed_entry : PlainField → Option ℕ → PlainEntry
+pub data PlainFieldEntry : Type 0 where
+  given_entry : FieldValue → PlainFieldEntry
+  owed_entry : PlainField → Option ℕ → PlainFieldEntry
 
 -- the same in memory
-abbrev pub entry_in : FieldEntry → PlainEntry
+abbrev pub entry_in : FieldEntry → PlainFieldEntry
 entry_in (entry.Given id value) = given_entry (record { id = id; value = tree_of value })
 entry_in (entry.Owed f default) = owed_entry (plain_field f.now) default
 
@@ -26,17 +26,17 @@ abbrev pub given_in_memory : ℤ × Value → FieldValue
 given_in_memory p = record { id = p.0; value = tree_of p.1 }
 
 -- the id of an entry
-abbrev pub entry_id : PlainEntry → ℤ
+abbrev pub entry_id : PlainFieldEntry → ℤ
 entry_id (given_entry v) = v.id
 entry_id (owed_entry f default) = f.id
 
 -- what an entry is worth: the value that is given, or else the default
-abbrev pub entry_worth : NamedWorth → Place → ℕ → ℕ → PlainEntry → Worth (Option Tree)
+abbrev pub entry_worth : NamedWorth → Place → ℕ → ℕ → PlainFieldEntry → Worth (Option Tree)
 entry_worth named at levels count (given_entry v) = valued (Some v.value) count
 entry_worth named at levels count (owed_entry f default) = default_worth named at levels count f default
 
 -- what entries are worth, as fields
-abbrev pub entries_worth : NamedWorth → Place → ℕ → ℕ → List PlainEntry → Worth FieldTrees
+abbrev pub entries_worth : NamedWorth → Place → ℕ → ℕ → List PlainFieldEntry → Worth FieldTrees
 entries_worth named at levels count [] = valued no_fields count
 entries_worth named at levels count (e ∷ more) =
     and_next (entry_worth named at levels count e) (λ value n.

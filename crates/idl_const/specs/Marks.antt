@@ -21,6 +21,6 @@ left_again free [] = free
 left_again free (which ∷ before) = left_again (slice_set free which true) before
 
 -- what became of the marks where a value is entered: it was free, and isn't any longer
-abbrev pub IsEntered : ℕ → Result ⊤ ConstFault → List Bool → List Bool → List ℕ → List ℕ → Type 0
-IsEntered which (Ok done) free after before entered = (is_free free which ≡ true) × (after ≡ slice_set free which false) × (entered ≡ which ∷ before)
-IsEntered which (Err fault) free after before entered = MatchOption (flaw_of fault) ⊤ (λ flaw. (flaw ≡ const_cycle) × (is_free free which ≡ false))
+abbrev pub EntersGiven : ℕ → Result ⊤ ConstFault → List Bool → List Bool → List ℕ → List ℕ → Type 0
+EntersGiven which (Ok done) free after before entered = (is_free free which ≡ true) × (after ≡ slice_set free which false) × (entered ≡ which ∷ before)
+EntersGiven which (Err fault) free after before entered = MatchOption (flaw_of fault) ⊤ (λ flaw. (flaw ≡ const_cycle) × (is_free free which ≡ false))

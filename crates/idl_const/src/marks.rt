@@ -2,7 +2,7 @@
 
 ghost use Rattle.std.specs.Prelude.{◌≡◌, ◌∷◌, [], true, false, ℕ, Some, OnOk, MatchResult, MatchOption, ⊤, slice_set};
 ghost use Rattle.check_model.specs.Evaluation.{is_free};
-ghost use Rattle.idl_const.specs.Marks.{left_again, IsEntered};
+ghost use Rattle.idl_const.specs.Marks.{left_again, EntersGiven};
 
 use crate::faults::ConstFault;
 use crate::progress::Progress;
@@ -15,7 +15,7 @@ pub(crate) fn enter(
     which: u32,
 ) -> Result<(), ConstFault>
     ensures values { work.new.values ≡ work.old.values }
-    ensures entered { IsEntered which result work.old.free.items work.new.free.items entered.old.items entered.new.items }
+    ensures entered { EntersGiven which result work.old.free.items work.new.free.items entered.old.items entered.new.items }
 {
     if work.steps == 0 {
         return Err(ConstFault::NoMemory);
