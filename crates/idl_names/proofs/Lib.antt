@@ -1,0 +1,5 @@
+pub mod Listed
+pub mod Marked
+pub mod MarksAt
+pub mod Numbered
+pub mod Walked

@@ -1,0 +1,56 @@
+-- What definitions in memory declare, with the number of their file.
+use Rattle.std.specs.Prelude.{ℕ, List, map}
+use Rattle.std.specs.Option.{option_map}
+use Rattle.idl_parser.specs.declared.tree.Const.{Const}
+use Rattle.idl_parser.specs.declared.tree.Typedef.{Typedef}
+use Rattle.idl_parser.specs.declared.tree.Enum.{Enum}
+use Rattle.idl_parser.specs.declared.tree.Struct.{Struct}
+use Rattle.idl_parser.specs.declared.tree.Service.{Service}
+use Rattle.idl_model.specs.Declarations.{ConstDecl, TypedefDecl, EnumDecl, StructDecl, ServiceDecl}
+use Rattle.idl_model.specs.DeclaredIn.{name_in, type_in, value_in, field_in, function_in, enum_value_in}
+use Rattle.idl_model.specs.Numbering.{Filed}
+use Rattle.idl_names.specs.declared.filed.InFile.{InFile}
+
+-- a constant
+abbrev pub const_decl : Const → ConstDecl
+const_decl c = record { name = name_in c.name; type = type_in c.kind; value = value_in c.value }
+
+-- a typedef
+abbrev pub typedef_decl : Typedef → TypedefDecl
+typedef_decl t = record { name = name_in t.name; type = type_in t.kind }
+
+-- an enum
+abbrev pub enum_decl : Enum → EnumDecl
+enum_decl e = record { name = name_in e.name; values = map enum_value_in e.values.items }
+
+-- a struct, a union or an exception
+abbrev pub struct_decl : Struct → StructDecl
+struct_decl s = record { name = name_in s.name; kind = s.kind; fields = map field_in s.fields.items }
+
+-- a service
+abbrev pub service_decl : Service → ServiceDecl
+service_decl s = record { name = name_in s.name; parent = option_map name_in s.parent; functions = map function_in s.functions.items }
+
+-- something in a file, by what it declares
+abbrev pub filed_by : {D A : Type 0} → (D → A) → InFile D → Filed A
+filed_by declares x = record { file = x.file; item = declares x.item.now }
+
+-- constants in files
+abbrev pub filed_consts : List (InFile Const) → List (Filed ConstDecl)
+filed_consts = map (filed_by const_decl)
+
+-- typedefs in files
+abbrev pub filed_typedefs : List (InFile Typedef) → List (Filed TypedefDecl)
+filed_typedefs = map (filed_by typedef_decl)
+
+-- enums in files
+abbrev pub filed_enums : List (InFile Enum) → List (Filed EnumDecl)
+filed_enums = map (filed_by enum_decl)
+
+-- structs, unions and exceptions in files
+abbrev pub filed_structs : List (InFile Struct) → List (Filed StructDecl)
+filed_structs = map (filed_by struct_decl)
+
+-- services in files
+abbrev pub filed_services : List (InFile Service) → List (Filed ServiceDecl)
+filed_services = map (filed_by service_decl)

@@ -1,0 +1,9 @@
+pub mod NameMaps
+pub mod FiledIn
+pub mod Listing
+pub mod Before
+pub mod EnumRange
+pub mod Functions
+pub mod SpotsIn
+pub mod NameSets
+pub mod FieldMarks

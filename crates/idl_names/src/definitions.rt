@@ -1,0 +1,85 @@
+//! The definitions of a program by number: a list for each kind, by file, and in a file in order.
+
+ghost use Rattle.std.specs.Prelude.{◌≡◌, ℕ, List, map, OnOk, IfOk};
+ghost use Rattle.idl_model.specs.DeclaredIn.{definition_in};
+ghost use Rattle.idl_include.specs.SourcesOf.{program_in};
+ghost use Rattle.idl_names.specs.Listing.{listing_in, listing_of, with_definitions};
+
+use crate::filed::InFile;
+use idl_include::IdlFile;
+use idl_parser::{Const, Definition, Enum, Service, Struct, Typedef};
+use std::alloc::{AllocError, Global};
+
+/// Definitions, in a list for each kind.
+#[derive(Drop)]
+pub(crate) struct Definitions<'a> {
+    /// The constants.
+    pub(crate) constants: Vec<InFile<'a, Const>>,
+    /// The typedefs.
+    pub(crate) typedefs: Vec<InFile<'a, Typedef>>,
+    /// The enums.
+    pub(crate) enums: Vec<InFile<'a, Enum>>,
+    /// The structs, unions and exceptions.
+    pub(crate) structs: Vec<InFile<'a, Struct>>,
+    /// The services.
+    pub(crate) services: Vec<InFile<'a, Service>>,
+}
+
+impl<'a> Definitions<'a> {
+    ghost use Rattle.idl_names.specs.Listing.{listing_in, nothing_listed, with_definition, with_definitions};
+
+    /// No definition.
+    fn new(alloc: Global) -> Self
+        ensures { listing_in result ≡ nothing_listed }
+    {
+        Definitions {
+            constants: Vec::new(alloc),
+            typedefs: Vec::new(alloc),
+            enums: Vec::new(alloc),
+            structs: Vec::new(alloc),
+            services: Vec::new(alloc),
+        }
+    }
+
+    /// One definition more.
+    #[tactic(auto, unfolding(crate::specs::Listing::with_definition, idl_model::specs::DeclaredIn::definition_in))]
+    fn add(&mut self, file: u32, definition: &'a Definition) -> Result<(), AllocError>
+        ensures { OnOk result (listing_in self.new ≡ with_definition file (definition_in definition.now) (listing_in self.old)) }
+    {
+        match definition {
+            Definition::Const(item) => self.constants.push(InFile { file, item })?,
+            Definition::Typedef(item) => self.typedefs.push(InFile { file, item })?,
+            Definition::Enum(item) => self.enums.push(InFile { file, item })?,
+            Definition::Struct(item) => self.structs.push(InFile { file, item })?,
+            Definition::Service(item) => self.services.push(InFile { file, item })?,
+        }
+        Ok(())
+    }
+
+    /// The definitions of a file more.
+    fn add_all(&mut self, file: u32, definitions: &'a [Definition]) -> Result<(), AllocError>
+        ensures { OnOk result (listing_in self.new ≡ with_definitions file (map definition_in definitions.now) (listing_in self.old)) }
+    {
+        for definition in definitions {
+            self.add(file, definition)?;
+        }
+        Ok(())
+    }
+}
+
+/// The definitions of files.
+pub(crate) fn all_definitions<'a>(
+    alloc: Global,
+    files: &'a [IdlFile],
+) -> Result<Definitions<'a>, AllocError>
+    ensures { IfOk result (λ d. listing_in d ≡ listing_of (program_in files.now)) }
+{
+    let mut all = Definitions::new(alloc);
+    for (number, file) in files.iter().enumerate() {
+        let Ok(number) = u32::try_from(number) else {
+            return Err(AllocError);
+        };
+        all.add_all(number, file.document.definitions.as_slice())?;
+    }
+    Ok(all)
+}

@@ -1,0 +1,20 @@
+//! The names of a program of IDL files, looked up: tables that are made once from the files, and what names stand for by them.
+#![tactic(auto)]
+
+mod before;
+mod counts;
+mod definitions;
+mod fields;
+mod filed;
+mod ids;
+mod marks;
+mod name_maps;
+mod spot;
+mod type_uses;
+
+pub use before::GivenBefore;
+pub use filed::{InFile, Named};
+pub use ids::{enum_numbers, field_ids};
+pub use spot::{
+    EnumValueSpot, FieldSpot, FunctionSpot, GivenName, GivenTree, ShownIn, SpotIn,
+};
