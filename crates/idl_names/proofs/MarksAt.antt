@@ -1,16 +1,22 @@
 -- The marks at a place of a list.
-use Rattle.std.proofs.Common.{◌≡◌, ◌<◌, ◌+◌, ◌++◌, ℕ, ℤ, pos, zero, suc, Bool, true, false, Option, None, Some, List, [], ◌∷◌, map, length, get_or, take, refl, ap, sym, ◌∙◌, arith, append_assoc, add-zero, zero-add}
+use Rattle.std.proofs.Common.{◌≡◌, ◌<◌, ◌+◌, ◌++◌, ℕ, ℤ, pos, ◌+ℤ◌, zero, suc, Bool, true, false, Option, None, Some, List, [], ◌∷◌, map, length, get_or, take, refl, ap, sym, ◌∙◌, arith, append_assoc, add-zero, zero-add}
 use Rattle.std.proofs.lemmas.List.{append-nil}
 use Rattle.std.specs.Ordering.{int_eq}
 use Rattle.std.specs.List.{list_any}
 use Rattle.idl_parser.specs.declared.tree.Field.{Field}
-use Rattle.idl_model.specs.Declarations.{FieldDecl}
-use Rattle.idl_model.specs.DeclaredIn.{name_in, field_in}
+use Rattle.idl_parser.specs.declared.tree.Function.{Function}
+use Rattle.idl_parser.specs.declared.tree.EnumValue.{EnumValue}
+use Rattle.idl_parser.specs.declared.tree.Definition.{Definition}
+use Rattle.idl_model.specs.Declarations.{FieldDecl, EnumValueDecl, declared_name}
+use Rattle.idl_model.specs.DeclaredIn.{field_in, function_in, enum_value_in, definition_in}
+use Rattle.idl_model.specs.EnumNumbers.{number_or, next_number}
 use Rattle.idl_model.specs.FieldIds.{id_behind, one_more_unnumbered, unnumbered_in, ids_behind, field_ids}
 use Rattle.idl_model.specs.Loading.{is_among}
 use Rattle.idl_names.specs.declared.fields.FieldMark.{FieldMark}
 use Rattle.idl_names.specs.declared.fields.FieldMarks.{FieldMarks}
 use Rattle.idl_names.specs.Before.{texts_of, name_marks, id_marks}
+use Rattle.idl_names.specs.EnumRange.{has_32_bits, fits_enum, fit_marks}
+use Rattle.idl_names.specs.Functions.{function_names}
 use Rattle.idl_names.specs.FieldMarks.{field_texts, IsFieldMark, AreFieldMarks}
 
 -- ---- lists
@@ -108,3 +114,40 @@ field_mark_at fields marks i name id repeated field are l name_is id_is repeated
           ∙ id_mark_at [] marks.ids.items i (pos 0) inside
           ∙ (λ j. list_any (int_eq (sym id_is j)) ((ap (take i) ids_are ∙ ids_take 0 decls i ∙ ap (ids_behind 0) (sym (map_take field_in fields i))) j));
     }
+
+-- ---- names of other lists
+
+pub marked_at : {D : Type 0} (text : D → List ℕ) (xs before : List D) (texts : List (List ℕ)) (i : ℕ) (x : D) (repeated : Bool) → i < length xs → before ≡ take i xs
+    → texts ≡ map text before → repeated ≡ get_or (name_marks [] (map text xs)) i false → repeated ≡ is_among (text (get_or xs i x)) texts
+marked_at {D} text xs before texts i x repeated l e f r =
+    let inside : i < length (map text xs) = omega (arith, map_length text xs) in
+    r ∙ name_mark_at [] (map text xs) i (text x) inside
+    ∙ (λ j. is_among (get_map text xs i x (text x) l j) (sym (f ∙ ap (map text) e ∙ map_take text xs i) j))
+
+pub texts_in_values : (values : List EnumValue) → texts_of (map (λ (v : EnumValueDecl). v.name) (map enum_value_in values)) ≡ map (λ (v : EnumValue). v.name.text) values
+texts_in_values [] = refl
+texts_in_values (v ∷ values) = ap (λ ts. v.name.text ∷ ts) (texts_in_values values)
+
+pub texts_in_functions : (functions : List Function) → function_names (map function_in functions) ≡ map (λ (f : Function). f.name.text) functions
+unfolding function_in
+texts_in_functions [] = refl
+texts_in_functions (f ∷ functions) = ap (λ ts. f.name.text ∷ ts) (texts_in_functions functions)
+
+pub texts_in_definitions : (definitions : List Definition) → texts_of (map (λ d. declared_name (definition_in d)) definitions) ≡ map (λ d. (declared_name (definition_in d)).text) definitions
+texts_in_definitions [] = refl
+texts_in_definitions (d ∷ definitions) = ap (λ ts. (declared_name (definition_in d)).text ∷ ts) (texts_in_definitions definitions)
+
+-- ---- numbers of enums
+
+fit_at : (next : ℤ) (values : List EnumValueDecl) (i : ℕ) (d : EnumValueDecl) → i < length values
+    → get_or (fit_marks next values) i false ≡ has_32_bits (number_or (next_number next (take i values)) (get_or values i d).number)
+fit_at next [] i d l = absurd (omega arith)
+fit_at next (v ∷ values) zero d l = refl
+fit_at next (v ∷ values) (suc i) d l = fit_at (number_or next v.number +ℤ pos 1) values i d (omega arith)
+
+pub fits_at : (values before : List EnumValue) (i : ℕ) (v : EnumValue) (fits : Bool) → i < length values → before ≡ take i values
+    → fits ≡ get_or (fit_marks (pos 0) (map enum_value_in values)) i false → fits ≡ fits_enum (map enum_value_in before) (enum_value_in (get_or values i v))
+fits_at values before i v fits l e r =
+    let inside : i < length (map enum_value_in values) = omega (arith, map_length enum_value_in values) in
+    r ∙ fit_at (pos 0) (map enum_value_in values) i (enum_value_in v) inside
+    ∙ (λ j. fits_enum (sym (ap (map enum_value_in) e ∙ map_take enum_value_in values i) j) (get_map enum_value_in values i v (enum_value_in v) l j))

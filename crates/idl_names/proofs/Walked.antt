@@ -1,14 +1,16 @@
 -- Lists that are made of the items of another, one after another.
-use Rattle.std.proofs.Common.{◌≡◌, ◌⊎◌, ◌<◌, ◌+◌, ◌<ℤ◌, inl, inr, ℕ, ℤ, suc, Bool, true, false, Option, None, Some, arith, List, [], ◌∷◌, ◌++◌, map, length, get_or, drop, refl, ap, sym, ◌∙◌, append_assoc}
+use Rattle.std.proofs.Common.{◌≡◌, ◌⊎◌, ◌<◌, ◌+◌, ◌<ℤ◌, inl, inr, ℕ, ℤ, suc, Bool, true, false, Option, None, Some, arith, List, [], ◌∷◌, ◌++◌, map, length, get_or, take, drop, refl, ap, sym, ◌∙◌, append_assoc}
 use Rattle.std.specs.Prelude.{◌+ℤ◌, pos}
+use Rattle.std.proofs.lemmas.List.{map-append}
 use Rattle.idl_parser.specs.declared.tree.Field.{Field}
 use Rattle.idl_parser.specs.declared.tree.EnumValue.{EnumValue}
 use Rattle.idl_model.specs.Declarations.{FieldDecl, EnumValueDecl}
 use Rattle.idl_model.specs.DeclaredIn.{field_in, enum_value_in}
 use Rattle.idl_model.specs.FieldIds.{id_behind, one_more_unnumbered, ids_behind}
 use Rattle.idl_model.specs.EnumNumbers.{number_or, numbers_from}
+use Rattle.idl_model.specs.Spots.{Spotted, Spot, in_file}
 use Rattle.idl_names.specs.EnumRange.{has_32_bits, fit_marks, IsNextAs}
-use Rattle.idl_names.proofs.Marked.{left_more}
+use Rattle.idl_names.proofs.Marked.{left_more, taken_more}
 
 -- what was made so far and what the rest makes is what all make
 pub walk_next : {S A B D : Type 0} (walk : S → List A → List B) (own : S → A → List B) (next : S → A → S)
@@ -61,3 +63,21 @@ fits_next xs i x next number n old new all l here h e made so_far =
         ap has_32_bits e ∙ same_fit (number_or number (enum_value_in x).number) (number_or next (enum_value_in x).number) (same_number number next (enum_value_in x).number h) in
     walk_next fit_marks (λ m (v : EnumValueDecl). has_32_bits (number_or m v.number) ∷ []) (λ m (v : EnumValueDecl). number_or m v.number +ℤ pos 1) (λ _ _ _. refl)
     enum_value_in xs i x next (number_or next (enum_value_in x).number +ℤ pos 1) old new all l here refl (made ∙ ap (λ b. old ++ b ∷ []) same) so_far
+
+-- ---- spots
+
+pub in_file_append : (file : ℕ) (xs ys : List Spotted) → in_file file (xs ++ ys) ≡ in_file file xs ++ in_file file ys
+in_file_append file xs ys = map-append (λ (x : Spotted). record { file = file; shows = x }) xs ys
+
+-- what is made of an item behind those before it
+pub prefix_next : {A D : Type 0} (walk : List A → List A → List Spotted) (own : List A → A → List Spotted)
+    → ((before : List A) (a : A) (more : List A) → walk before (a ∷ more) ≡ own before a ++ walk (before ++ a ∷ []) more)
+    → (g : D → A) (file : ℕ) (xs : List D) (i : ℕ) (x : D) (old new all : List Spot) → i < length xs → x ≡ get_or xs i x
+    → new ≡ old ++ in_file file (own (map g (take i xs)) (g x))
+    → old ++ in_file file (walk (map g (take i xs)) (map g (drop i xs))) ≡ all
+    → new ++ in_file file (walk (map g (take (i + 1) xs)) (map g (drop (i + 1) xs))) ≡ all
+prefix_next {A} walk own step g file xs i x old new all l here made so_far =
+    walk_next (λ s left. in_file file (walk s left)) (λ s a. in_file file (own s a)) (λ s a. s ++ a ∷ [])
+    (λ s a more. ap (in_file file) (step s a more) ∙ in_file_append file (own s a) (walk (s ++ a ∷ []) more))
+    g xs i x (map g (take i xs)) (map g (take (i + 1) xs)) old new all l here
+    (ap (map g) (taken_more xs i x l here) ∙ map-append g (take i xs) (x ∷ [])) made so_far

@@ -4,16 +4,20 @@
 mod before;
 mod counts;
 mod definitions;
+mod enums;
 mod fields;
 mod filed;
+mod functions;
 mod ids;
 mod marks;
 mod name_maps;
 mod spot;
+mod spots;
 mod type_uses;
 
 pub use before::GivenBefore;
 pub use filed::{InFile, Named};
+pub use spots::program_spots;
 pub use ids::{enum_numbers, field_ids};
 pub use spot::{
     EnumValueSpot, FieldSpot, FunctionSpot, GivenName, GivenTree, ShownIn, SpotIn,

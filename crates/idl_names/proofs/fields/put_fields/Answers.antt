@@ -1,0 +1,13 @@
+use Rattle.std.proofs.Common.{rules, ◌++◌, ◌∷◌, [], map, refl}
+use Rattle.idl_model.specs.DeclaredIn.{field_in}
+use Rattle.idl_model.specs.Spots.{in_file, thrown_spot, spots_in_field, spots_in_fields}
+use Rattle.idl_names.specs.SpotsIn.{spots_in}
+use Rattle.idl_names.proofs.Walked.{prefix_next}
+use Rattle.idl_names.proofs.fields.put_fields.Goals as goal
+
+pub loop-place-preserved : goal.loop-place-preserved
+loop-place-preserved c =
+    prefix_next spots_in_fields spots_in_field (λ _ _ _. refl) field_in c.args.file c.args.fields.now c.loop-place.place c.index-fields-place.result
+    (spots_in c.loop-place.spots.items) (spots_in c.put_field.new.spots.items)
+    (spots_in c.args.spots.now.items ++ in_file c.args.file (spots_in_fields [] (map field_in c.args.fields.now)))
+    c.loop-place-test.true c.index-fields-place.is (search (rules, c.in_ok-put_field.ensures, c.split_at.ensures.front)) c.loop-place.invariant

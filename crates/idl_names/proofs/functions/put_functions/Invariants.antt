@@ -1,0 +1,10 @@
+use Rattle.std.proofs.Common.{◌≡◌, ◌++◌, [], map, take, drop}
+use Rattle.idl_model.specs.DeclaredIn.{function_in}
+use Rattle.idl_model.specs.Spots.{in_file, spots_in_functions}
+use Rattle.idl_names.specs.SpotsIn.{spots_in}
+use Rattle.idl_names.proofs.functions.put_functions.Given as goal
+
+abbrev pub invariant-loop-place : goal.invariant-loop-place
+invariant-loop-place l =
+    spots_in l.spots.items ++ in_file l.file (spots_in_functions l.service (map function_in (take l.place l.functions)) (map function_in (drop l.place l.functions)))
+    ≡ spots_in l.initial.spots.items ++ in_file l.file (spots_in_functions l.service [] (map function_in l.functions))
