@@ -1,3 +1,6 @@
+pub mod Based
+pub mod Found
+pub mod LastDots
 pub mod Listed
 pub mod Marked
 pub mod MarksAt

@@ -95,8 +95,10 @@ one_more_in maps file name number old new l here more f other = by (eqb_tells fi
   where
     after : Option NameMap → Option ℕ
     after o = option_and_then (λ m. number_of_name m other) o
+
     was : slice_get maps file ≡ Some old
     was = get_there maps file old l ∙ ap Some (sym here)
+
     by : ((eqb file f ≡ true) × (file ≡ f)) ⊎ ((eqb file f ≡ false) × (file ≢ f))
         → number_in_file (set maps file new) f other ≡ option_or (number_in_file maps f other) (number_if ((file == f) && bytes_eq name other) number)
     by (inl (t, e)) =
@@ -145,7 +147,7 @@ pub noted_next : {A : Type 0} (file_of : A → ℕ) (text : A → List ℕ) (ite
 noted_next {A} file_of text items n number x name old new l here counted named more so_far file other =
     let test : A → Bool = λ y. (file_of y == file) && bytes_eq (text y) other in
     let longer : take (n + 1) items ≡ take n items ++ x ∷ [] =
-        ap (λ k. take k items) (add-one n) ∙ take-suc items n x l ∙ ap (λ y. take n items ++ y ∷ []) (sym here) in
+    ap (λ k. take k items) (add-one n) ∙ take-suc items n x l ∙ ap (λ y. take n items ++ y ∷ []) (sym here) in
     let place : number ≡ length (take n items) = counted ∙ sym (length-take-le n items (omega arith)) in
     more file other
     ∙ ap (λ (o : Option ℕ). option_or o (number_if ((file_of x == file) && bytes_eq name other) number)) (so_far file other)

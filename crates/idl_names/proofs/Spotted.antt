@@ -84,7 +84,7 @@ pub definition_next : (file : ℕ) (ds : List Definition) (i : ℕ) (x : Definit
 unfolding next_met
 definition_next file ds i x n m names old new all l here e f made so_far =
     let longer : names_given (take (i + 1) ds) ≡ names_given (take i ds) ++ declared_name (definition_in x) ∷ [] =
-        ap names_given (taken_more ds i x l here) ∙ map-append (λ (d : Definition). declared_name (definition_in d)) (take i ds) (x ∷ []) in
+    ap names_given (taken_more ds i x l here) ∙ map-append (λ (d : Definition). declared_name (definition_in d)) (take i ds) (x ∷ []) in
     let before : Met = record { names = names_given (take i ds); counts = n } in
     let after : Met = record { names = names_given (take (i + 1) ds); counts = m } in
     walk_next (λ (s : Met) left. in_file file (spots_in_declarations s.names s.counts left)) (λ (s : Met) d. in_file file (spots_in_declaration s.names s.counts d)) next_met
@@ -121,7 +121,7 @@ file_next files i number x n m old new all l here counted_to made counts so_far 
     let own : List Spot = in_file i (spots_in_declarations [] n (map definition_in x.document.definitions.items)) in
     let rest : List Spot = spots_from (suc i) (all_counted n (map definition_in x.document.definitions.items)) (program_in (drop (i + 1) files)) in
     (λ j. (made ∙ ap (λ k. old ++ in_file k (spots_in_declarations [] n (map definition_in x.document.definitions.items))) counted_to) j
-        ++ spots_from (add-one i j) (counts j) (program_in (drop (i + 1) files)))
+    ++ spots_from (add-one i j) (counts j) (program_in (drop (i + 1) files)))
     ∙ append_assoc old own rest
     ∙ sym (ap (λ (fs : List IdlFile). old ++ spots_from i n (program_in fs)) (left_more files i x l here))
     ∙ so_far

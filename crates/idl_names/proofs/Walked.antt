@@ -60,7 +60,7 @@ pub fits_next : (xs : List EnumValue) (i : ℕ) (x : EnumValue) (next number n :
     → new ++ fit_marks (number_or next (enum_value_in x).number +ℤ pos 1) (map enum_value_in (drop (i + 1) xs)) ≡ all
 fits_next xs i x next number n old new all l here h e made so_far =
     let same : has_32_bits n ≡ has_32_bits (number_or next (enum_value_in x).number) =
-        ap has_32_bits e ∙ same_fit (number_or number (enum_value_in x).number) (number_or next (enum_value_in x).number) (same_number number next (enum_value_in x).number h) in
+    ap has_32_bits e ∙ same_fit (number_or number (enum_value_in x).number) (number_or next (enum_value_in x).number) (same_number number next (enum_value_in x).number h) in
     walk_next fit_marks (λ m (v : EnumValueDecl). has_32_bits (number_or m v.number) ∷ []) (λ m (v : EnumValueDecl). number_or m v.number +ℤ pos 1) (λ _ _ _. refl)
     enum_value_in xs i x next (number_or next (enum_value_in x).number +ℤ pos 1) old new all l here refl (made ∙ ap (λ b. old ++ b ∷ []) same) so_far
 

@@ -7,3 +7,6 @@ pub mod Functions
 pub mod SpotsIn
 pub mod NameSets
 pub mod FieldMarks
+pub mod Bases
+pub mod Tables
+pub mod Meanings

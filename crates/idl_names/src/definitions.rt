@@ -12,17 +12,17 @@ use std::alloc::{AllocError, Global};
 
 /// Definitions, in a list for each kind.
 #[derive(Drop)]
-pub(crate) struct Definitions<'a> {
+pub struct Definitions<'a> {
     /// The constants.
-    pub(crate) constants: Vec<InFile<'a, Const>>,
+    pub constants: Vec<InFile<'a, Const>>,
     /// The typedefs.
-    pub(crate) typedefs: Vec<InFile<'a, Typedef>>,
+    pub typedefs: Vec<InFile<'a, Typedef>>,
     /// The enums.
-    pub(crate) enums: Vec<InFile<'a, Enum>>,
+    pub enums: Vec<InFile<'a, Enum>>,
     /// The structs, unions and exceptions.
-    pub(crate) structs: Vec<InFile<'a, Struct>>,
+    pub structs: Vec<InFile<'a, Struct>>,
     /// The services.
-    pub(crate) services: Vec<InFile<'a, Service>>,
+    pub services: Vec<InFile<'a, Service>>,
 }
 
 impl<'a> Definitions<'a> {
@@ -68,7 +68,7 @@ impl<'a> Definitions<'a> {
 }
 
 /// The definitions of files.
-pub(crate) fn all_definitions<'a>(
+pub fn all_definitions<'a>(
     alloc: Global,
     files: &'a [IdlFile],
 ) -> Result<Definitions<'a>, AllocError>

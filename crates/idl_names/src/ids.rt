@@ -111,5 +111,9 @@ fn has_32_bits(number: i64) -> bool
 fn above(number: i64) -> i64
     ensures { (next : ℤ) → IsNextAs number next → IsNextAs result (next +ℤ pos 1) }
 {
-    if number <= 2147483647 { number + 1 } else { number }
+    if number <= 2147483647 {
+        number + 1
+    } else {
+        number
+    }
 }

@@ -34,10 +34,7 @@ fn id_was_seen(seen: &mut IdSet, id: i64) -> Result<bool, AllocError>
 }
 
 /// Whether each name is one of those before it.
-pub(crate) fn repeated_names<D: Named>(
-    alloc: Global,
-    items: &[D],
-) -> Result<Vec<bool>, AllocError>
+pub(crate) fn repeated_names<D: Named>(alloc: Global, items: &[D]) -> Result<Vec<bool>, AllocError>
     ensures { IfOk result (λ marks. marks.items ≡ name_marks [] (map D.text items.now)) }
 {
     let mut marks = Vec::new(alloc);

@@ -30,7 +30,7 @@ pub(crate) fn number_in_file(maps: &[NameMap<'_>], file: u32, name: &[u8]) -> Op
 }
 
 /// One name more, unless it is there.
-fn note<'a>(map: &mut NameMap<'a>, name: &'a [u8], number: u32) -> Result<(), AllocError>
+pub(crate) fn note<'a>(map: &mut NameMap<'a>, name: &'a [u8], number: u32) -> Result<(), AllocError>
     ensures { OnOk result (HasOneMore name.now number map.old map.new) }
 {
     if map.contains_key(name) {

@@ -1,9 +1,5 @@
 //! Spots in memory: what a check looks at, each with what is known of those before it in the same list.
 
-use crate::before::GivenBefore;
-use idl_parser::{ConstTree, EnumValue, Field, Function, Name, Struct, TypeTree};
-use idl_token::Place;
-
 ghost use Rattle.std.specs.Prelude.{◌≡◌, map};
 ghost use Rattle.std.specs.Ordering.{int_eq};
 ghost use Rattle.std.specs.List.{list_any};
@@ -14,6 +10,10 @@ ghost use Rattle.idl_model.specs.Loading.{is_among};
 ghost use Rattle.idl_names.specs.Before.{names_before, texts_of};
 ghost use Rattle.idl_names.specs.EnumRange.{fits_enum};
 ghost use Rattle.idl_names.specs.Functions.{function_names};
+
+use crate::before::GivenBefore;
+use idl_parser::{ConstTree, EnumValue, Field, Function, Name, Struct, TypeTree};
+use idl_token::Place;
 
 /// A value that a program gives: of a constant, with the place of its name, or the default of a field, with that of the field.
 #[derive(Clone, Copy)]

@@ -32,7 +32,13 @@ pub fn program_spots<'a>(alloc: Global, files: &'a [IdlFile]) -> Result<Vec<Spot
         let Ok(number) = u32::try_from(number) else {
             return Err(AllocError);
         };
-        counts = put_file(alloc, &mut spots, number, counts, file.document.definitions.as_slice())?;
+        counts = put_file(
+            alloc,
+            &mut spots,
+            number,
+            counts,
+            file.document.definitions.as_slice(),
+        )?;
     }
     Ok(spots)
 }

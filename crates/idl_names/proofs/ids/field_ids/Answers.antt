@@ -11,7 +11,9 @@ loop-field-init c = (0, refl, ap (λ xs. xs ++ ids_behind 0 (map field_in c.args
 pub loop-field-preserved : goal.loop-field-preserved
 loop-field-preserved c =
     let u = c.loop-field.invariant.0 in
-    let e = c.loop-field.invariant.1 in
-    (one_more_unnumbered u (field_in c.field-item.result).id, search (rules, c.in_ok-behind.ensures u e),
-    ids_next c.args.fields.now c.loop-field.field-index c.field-item.result u c.id_or-id.result c.loop-field.ids.items c.push.new.self.items
-    (field_ids (map field_in c.args.fields.now)) c.loop-field-test.true c.field-item.is (c.id_or-id.ensures u e) (search (rules, c.in_ok-push.ensures.items)) c.loop-field.invariant.2)
+    let e = c.loop-field.invariant.1 in (
+      one_more_unnumbered u (field_in c.field-item.result).id,
+      search (rules, c.in_ok-behind.ensures u e),
+      ids_next c.args.fields.now c.loop-field.field-index c.field-item.result u c.id_or-id.result c.loop-field.ids.items c.push.new.self.items
+          (field_ids (map field_in c.args.fields.now)) c.loop-field-test.true c.field-item.is (c.id_or-id.ensures u e) (search (rules, c.in_ok-push.ensures.items)) c.loop-field.invariant.2,
+    )
