@@ -11,11 +11,11 @@ use Rattle.idl_model.specs.Names.{has_base, included_with, includes_in}
 use Rattle.idl_include.specs.declared.sources.IdlFile.{IdlFile}
 use Rattle.idl_include.specs.SourcesOf.{file_in, program_in}
 use Rattle.idl_names.specs.NameMaps.{NameMap, number_of_name, number_in_file, number_if, HasOneMore}
-use Rattle.idl_names.specs.Bases.{HasOwnBase, HasInclude, HasIncludes}
+use Rattle.idl_names.specs.Bases.{HasOwnBase, NotesInclude, HasIncludes}
 use Rattle.idl_names.proofs.Marked.{taken_more}
 
 pub included_next : (program : Program) (includes : List ℕ) (i : ℕ) (old new : NameMap) → i < length includes
-    → HasInclude program (get_or includes i 0) old new → ((base : List ℕ) → number_of_name old base ≡ find (has_base program base) (take i includes))
+    → NotesInclude program (get_or includes i 0) old new → ((base : List ℕ) → number_of_name old base ≡ find (has_base program base) (take i includes))
     → (base : List ℕ) → number_of_name new base ≡ find (has_base program base) (take (i + 1) includes)
 included_next program includes i old new l more so_far base =
     let number : ℕ = get_or includes i 0 in

@@ -13,8 +13,8 @@ abbrev pub HasOwnBase : IdlFile → Type 0
 HasOwnBase file = file.base ≡ base_name file.name
 
 -- base names have that of one file more, unless it is there
-abbrev pub HasInclude : Program → ℕ → NameMap → NameMap → Type 0
-HasInclude program number old new =
+abbrev pub NotesInclude : Program → ℕ → NameMap → NameMap → Type 0
+NotesInclude program number old new =
     (base : List ℕ) → number_of_name new base ≡ option_or (number_of_name old base) (number_if (has_base program base number) number)
 
 -- base names of the files that a file includes

@@ -10,7 +10,7 @@ use Rattle.idl_names.specs.declared.spot.ShownIn.{ShownIn}
 use Rattle.idl_names.specs.declared.spot.ShownIn.TheVariants as shows
 use Rattle.idl_names.specs.declared.spot.SpotIn.{SpotIn}
 use Rattle.idl_names.specs.declared.counts.DefinitionCounts.{DefinitionCounts}
-use Rattle.idl_names.specs.FiledIn.{struct_decl}
+use Rattle.idl_names.specs.FiledIn.{struct_declared}
 use Rattle.idl_names.specs.Before.{names_before}
 
 -- a value that a program gives
@@ -30,7 +30,7 @@ shown_in (shows.Typedef number name) = typedef_spot number (name_in name.now)
 shown_in (shows.Field f) = field_spot (map field_in f.before.now) (field_in f.field.now)
 shown_in (shows.Thrown field) = thrown_spot (field_in field.now)
 shown_in (shows.EnumValue v) = enum_value_spot (map enum_value_in v.before.now) (enum_value_in v.value.now)
-shown_in (shows.Struct number s) = struct_spot number (struct_decl s.now)
+shown_in (shows.Struct number s) = struct_spot number (struct_declared s.now)
 shown_in (shows.Service number name) = service_spot number (name_in name.now)
 shown_in (shows.Function f) = function_spot f.service (map function_in f.before.now) (function_in f.function.now)
 shown_in (shows.Value v) = value_spot (given_value_in v)

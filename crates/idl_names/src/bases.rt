@@ -7,7 +7,7 @@ ghost use Rattle.idl_model.specs.Names.{has_base, included_with};
 ghost use Rattle.idl_include.specs.declared.sources.IdlFile.{IdlFile};
 ghost use Rattle.idl_include.specs.SourcesOf.{program_in};
 ghost use Rattle.idl_names.specs.NameMaps.{number_of_name, number_in_file};
-ghost use Rattle.idl_names.specs.Bases.{HasOwnBase, HasInclude};
+ghost use Rattle.idl_names.specs.Bases.{HasOwnBase, NotesInclude};
 
 use crate::name_maps::{NameMap, note};
 use idl_include::IdlFile;
@@ -33,7 +33,7 @@ fn base_map<'a>(
 /// One included file more, unless another has its base name.
 fn note_base<'a>(map: &mut NameMap<'a>, files: &'a [IdlFile], number: u32) -> Result<(), AllocError>
     requires { All HasOwnBase files.now }
-    ensures { OnOk result (HasInclude (program_in files.now) number map.old map.new) }
+    ensures { OnOk result (NotesInclude (program_in files.now) number map.old map.new) }
 {
     match files.get(number as usize) {
         Some(file) => note(map, file.base.as_slice(), number),

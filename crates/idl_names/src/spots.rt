@@ -7,7 +7,7 @@ ghost use Rattle.idl_model.specs.Numbering.{Counts, all_counted};
 ghost use Rattle.idl_model.specs.Spots.{in_file, parent_spots, spots_in_declaration, spots_in_declarations, spots_of};
 ghost use Rattle.idl_include.specs.SourcesOf.{program_in};
 ghost use Rattle.idl_names.specs.Before.{name_marks, names_before};
-ghost use Rattle.idl_names.specs.FiledIn.{const_decl, typedef_decl, enum_decl, struct_decl, service_decl};
+ghost use Rattle.idl_names.specs.FiledIn.{const_declared, typedef_declared, enum_declared, struct_declared, service_declared};
 ghost use Rattle.idl_names.specs.SpotsIn.{spots_in, counts_in};
 
 use crate::before::GivenBefore;
@@ -126,7 +126,7 @@ fn put_const<'a>(
 ) -> Result<(), AllocError>
     requires { name_in given.name.now ≡ name_in item.now.name }
     ensures { (n : Counts) → OnOk result (spots_in spots.new.items ≡ spots_in spots.old.items
-        ++ in_file file (spots_in_declaration (names_before given.entry.before) n (of_const (const_decl item.now)))) }
+        ++ in_file file (spots_in_declaration (names_before given.entry.before) n (of_const (const_declared item.now)))) }
 {
     put_type_uses(spots, file, &item.kind)?;
     put_spot(spots, file, ShownIn::Given(given))?;
@@ -153,7 +153,7 @@ fn put_typedef<'a>(
 ) -> Result<(), AllocError>
     requires { name_in given.name.now ≡ name_in item.now.name }
     ensures { (n : Counts) → n.aliases ≡ number → OnOk result (spots_in spots.new.items ≡ spots_in spots.old.items
-        ++ in_file file (spots_in_declaration (names_before given.entry.before) n (of_typedef (typedef_decl item.now)))) }
+        ++ in_file file (spots_in_declaration (names_before given.entry.before) n (of_typedef (typedef_declared item.now)))) }
 {
     put_type_uses(spots, file, &item.kind)?;
     put_spot(spots, file, ShownIn::Given(given))?;
@@ -171,7 +171,7 @@ fn put_enum<'a>(
 ) -> Result<(), AllocError>
     requires { name_in given.name.now ≡ name_in item.now.name }
     ensures { (n : Counts) → OnOk result (spots_in spots.new.items ≡ spots_in spots.old.items
-        ++ in_file file (spots_in_declaration (names_before given.entry.before) n (of_enum (enum_decl item.now)))) }
+        ++ in_file file (spots_in_declaration (names_before given.entry.before) n (of_enum (enum_declared item.now)))) }
 {
     put_spot(spots, file, ShownIn::Given(given))?;
     put_values(alloc, spots, file, item.values.as_slice())
@@ -189,7 +189,7 @@ fn put_struct<'a>(
 ) -> Result<(), AllocError>
     requires { name_in given.name.now ≡ name_in item.now.name }
     ensures { (n : Counts) → n.structs ≡ number → OnOk result (spots_in spots.new.items ≡ spots_in spots.old.items
-        ++ in_file file (spots_in_declaration (names_before given.entry.before) n (of_struct_decl (struct_decl item.now)))) }
+        ++ in_file file (spots_in_declaration (names_before given.entry.before) n (of_struct_decl (struct_declared item.now)))) }
 {
     put_spot(spots, file, ShownIn::Given(given))?;
     put_spot(spots, file, ShownIn::Struct(number, item))?;
@@ -208,7 +208,7 @@ fn put_service<'a>(
 ) -> Result<(), AllocError>
     requires { name_in given.name.now ≡ name_in item.now.name }
     ensures { (n : Counts) → n.services ≡ number → OnOk result (spots_in spots.new.items ≡ spots_in spots.old.items
-        ++ in_file file (spots_in_declaration (names_before given.entry.before) n (of_service (service_decl item.now)))) }
+        ++ in_file file (spots_in_declaration (names_before given.entry.before) n (of_service (service_declared item.now)))) }
 {
     put_spot(spots, file, ShownIn::Given(given))?;
     put_spot(spots, file, ShownIn::Service(number, &item.name))?;
@@ -222,7 +222,7 @@ fn put_parent<'a>(
     file: u32,
     item: &'a Service,
 ) -> Result<(), AllocError>
-    ensures { OnOk result (spots_in spots.new.items ≡ spots_in spots.old.items ++ in_file file (parent_spots (service_decl item.now).parent)) }
+    ensures { OnOk result (spots_in spots.new.items ≡ spots_in spots.old.items ++ in_file file (parent_spots (service_declared item.now).parent)) }
 {
     match &item.parent {
         Some(name) => put_spot(spots, file, ShownIn::ParentUse(name)),
