@@ -1,17 +1,15 @@
 -- Included files by base name, one more at a time.
-use Rattle.std.proofs.Common.{◌≡◌, ◌≤◌, ◌<◌, ◌+◌, ◌++◌, ◌==◌, ℕ, zero, suc, Bool, true, false, cond, List, [], ◌∷◌, map, length, get_or, take, slice_get, All, Option, None, Some, Result, Ok, Err, OnOk, refl, ap, sym, subst, ◌∙◌, arith, add-one}
-use Rattle.std.specs.Option.{option_or, option_and_then, option_map_or}
+use Rattle.std.proofs.Common.{◌≡◌, ◌≤◌, ◌<◌, ◌+◌, ◌++◌, ℕ, zero, suc, List, [], ◌∷◌, length, get_or, take, slice_get, Option, refl, ap, sym, subst, ◌∙◌, arith, add-one}
+use Rattle.std.specs.Option.{option_or, option_map_or}
 use Rattle.std.specs.List.{find, AllZip}
-use Rattle.std.specs.Str.{bytes_eq}
 use Rattle.std.proofs.Math.Seq.{take-suc}
 use Rattle.std.proofs.lemmas.List.Folds.{find-append}
-use Rattle.idl_model.specs.FileNames.{base_name}
 use Rattle.idl_model.specs.Program.{Program, SourceFile}
-use Rattle.idl_model.specs.Names.{has_base, included_with, includes_in}
+use Rattle.idl_model.specs.Names.{has_base, included_with}
 use Rattle.idl_include.specs.declared.sources.IdlFile.{IdlFile}
-use Rattle.idl_include.specs.SourcesOf.{file_in, program_in}
-use Rattle.idl_names.specs.NameMaps.{NameMap, number_of_name, number_in_file, number_if, HasOneMore}
-use Rattle.idl_names.specs.Bases.{HasOwnBase, NotesInclude, HasIncludes}
+use Rattle.idl_include.specs.SourcesOf.{program_in}
+use Rattle.idl_names.specs.NameMaps.{NameMap, number_of_name, number_in_file, number_if}
+use Rattle.idl_names.specs.Bases.{NotesInclude, HasIncludes}
 use Rattle.idl_names.proofs.Marked.{taken_more}
 
 pub included_next : (program : Program) (includes : List ℕ) (i : ℕ) (old new : NameMap) → i < length includes

@@ -1,5 +1,5 @@
 -- Marks of the items of a list, one more at a time.
-use Rattle.std.proofs.Common.{◌≡◌, ◌≤◌, ◌<◌, ℕ, ℤ, zero, suc, ◌+◌, Bool, true, false, cond, List, [], ◌∷◌, ◌++◌, map, length, get_or, take, drop, Result, Ok, Err, OnOk, Bor, refl, ap, sym, subst, ◌∙◌, arith, append_assoc, add-one, drop-cons}
+use Rattle.std.proofs.Common.{◌≡◌, ◌<◌, ℕ, ℤ, zero, suc, ◌+◌, Bool, true, false, List, [], ◌∷◌, ◌++◌, map, length, get_or, take, drop, Bor, refl, ap, sym, ◌∙◌, arith, append_assoc, add-one}
 use Rattle.std.specs.Prelude.{◌||◌, if◌then◌else◌}
 use Rattle.std.specs.Ordering.{int_eq}
 use Rattle.std.specs.List.{list_any}
@@ -9,8 +9,8 @@ use Rattle.std.proofs.lemmas.List.{map-append}
 use Rattle.std.proofs.lemmas.Slice.Eq.{bytes_eq-Decides}
 use Rattle.std.proofs.lemmas.Bool.Decides.{Decides-int_eq}
 use Rattle.indexmap.specs.IndexSet.{insert_key}
-use Rattle.idl_names.specs.Before.{name_marks, id_marks}
-use Rattle.idl_names.specs.NameSets.{NameSet, has_name, HasNameToo, IdSet, has_id, HasIdToo}
+use Rattle.idl_names.specs.Before.{id_marks}
+use Rattle.idl_names.specs.NameSets.{NameSet, HasNameToo, IdSet, has_id, HasIdToo}
 use Rattle.idl_names.proofs.Numbered.{same_either_way}
 
 -- ---- sets

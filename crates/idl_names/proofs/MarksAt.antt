@@ -1,5 +1,5 @@
 -- The marks at a place of a list.
-use Rattle.std.proofs.Common.{◌≡◌, ◌<◌, ◌+◌, ◌++◌, ℕ, ℤ, pos, ◌+ℤ◌, zero, suc, Bool, true, false, Option, None, Some, List, [], ◌∷◌, map, length, get_or, take, refl, ap, sym, ◌∙◌, arith, append_assoc, add-zero, zero-add}
+use Rattle.std.proofs.Common.{◌≡◌, ◌<◌, ◌+◌, ◌++◌, ℕ, ℤ, pos, ◌+ℤ◌, zero, suc, Bool, false, Option, None, Some, List, [], ◌∷◌, map, length, get_or, take, refl, ap, sym, ◌∙◌, arith, append_assoc, add-zero, zero-add}
 use Rattle.std.proofs.lemmas.List.{append-nil}
 use Rattle.std.specs.Ordering.{int_eq}
 use Rattle.std.specs.List.{list_any}
@@ -12,7 +12,6 @@ use Rattle.idl_model.specs.DeclaredIn.{field_in, function_in, enum_value_in, def
 use Rattle.idl_model.specs.EnumNumbers.{number_or, next_number}
 use Rattle.idl_model.specs.FieldIds.{id_behind, one_more_unnumbered, unnumbered_in, ids_behind, field_ids}
 use Rattle.idl_model.specs.Loading.{is_among}
-use Rattle.idl_names.specs.declared.fields.FieldMark.{FieldMark}
 use Rattle.idl_names.specs.declared.fields.FieldMarks.{FieldMarks}
 use Rattle.idl_names.specs.Before.{texts_of, name_marks, id_marks}
 use Rattle.idl_names.specs.EnumRange.{has_32_bits, fits_enum, fit_marks}

@@ -1,6 +1,6 @@
 -- Names with their numbers, one more at a time.
-use Rattle.std.proofs.Common.{◌≡◌, ◌≢◌, ◌⊎◌, ◌≤◌, ◌<◌, ℕ, zero, suc, ◌+◌, ◌==◌, eqb, Bool, true, false, cond, inl, inr, List, [], ◌∷◌, ◌++◌, length, get_or, set, slice_get, Option, None, Some, Result, Ok, Err, OnOk, is_some, Bor, refl, ap, sym, subst, ◌∙◌, arith, true≢false, add-zero, add-one, zero-add, take}
-use Rattle.std.specs.Prelude.{◌&&◌, if◌then◌else◌}
+use Rattle.std.proofs.Common.{◌≡◌, ◌≢◌, ◌⊎◌, ◌<◌, ℕ, zero, suc, ◌+◌, ◌==◌, eqb, Bool, true, false, cond, inl, inr, List, [], ◌∷◌, ◌++◌, length, get_or, set, slice_get, Option, None, Some, Result, Ok, Err, OnOk, is_some, Bor, refl, ap, sym, subst, ◌∙◌, arith, true≢false, add-zero, add-one, zero-add, take}
+use Rattle.std.specs.Prelude.{◌&&◌}
 use Rattle.std.proofs.Math.Seq.{take-suc}
 use Rattle.std.proofs.lemmas.List.{length-take-le}
 use Rattle.std.specs.Option.{option_or, option_and_then}

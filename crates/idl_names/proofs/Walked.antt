@@ -1,5 +1,5 @@
 -- Lists that are made of the items of another, one after another.
-use Rattle.std.proofs.Common.{◌≡◌, ◌⊎◌, ◌<◌, ◌+◌, ◌<ℤ◌, inl, inr, ℕ, ℤ, suc, Bool, true, false, Option, None, Some, arith, List, [], ◌∷◌, ◌++◌, map, length, get_or, take, drop, refl, ap, sym, ◌∙◌, append_assoc}
+use Rattle.std.proofs.Common.{◌≡◌, ◌<◌, ◌+◌, ◌<ℤ◌, inl, inr, ℕ, ℤ, Bool, false, Option, None, Some, arith, List, [], ◌∷◌, ◌++◌, map, length, get_or, take, drop, refl, ap, sym, ◌∙◌, append_assoc}
 use Rattle.std.specs.Prelude.{◌+ℤ◌, pos}
 use Rattle.std.proofs.lemmas.List.{map-append}
 use Rattle.idl_parser.specs.declared.tree.Field.{Field}

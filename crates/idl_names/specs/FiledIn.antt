@@ -1,5 +1,5 @@
 -- What definitions in memory declare, with the number of their file.
-use Rattle.std.specs.Prelude.{ℕ, List, map}
+use Rattle.std.specs.Prelude.{List, map}
 use Rattle.std.specs.Option.{option_map}
 use Rattle.idl_parser.specs.declared.tree.Const.{Const}
 use Rattle.idl_parser.specs.declared.tree.Typedef.{Typedef}

@@ -1,8 +1,6 @@
 -- What spots in memory show.
-use Rattle.std.specs.Prelude.{ℕ, List, [], map}
-use Rattle.idl_model.specs.Written.{Written}
-use Rattle.idl_model.specs.Declarations.{FieldDecl, EnumValueDecl, Declaration, declared_name}
-use Rattle.idl_model.specs.DeclaredIn.{name_in, type_in, value_in, field_in, function_in, enum_value_in, definition_in}
+use Rattle.std.specs.Prelude.{List, map}
+use Rattle.idl_model.specs.DeclaredIn.{name_in, type_in, value_in, field_in, function_in, enum_value_in}
 use Rattle.idl_model.specs.Numbering.{Filed, Counts}
 use Rattle.idl_model.specs.Spots.{GivenValue, Spotted, given_name, type_use, parent_use, typedef_spot, field_spot, thrown_spot, enum_value_spot, struct_spot, service_spot, function_spot, value_spot, Spot}
 use Rattle.idl_names.specs.declared.spot.GivenTree.{GivenTree}

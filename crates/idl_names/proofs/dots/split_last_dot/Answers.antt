@@ -1,4 +1,4 @@
-use Rattle.std.proofs.Common.{◌≡◌, ◌≢◌, ◌≤◌, ◌<◌, ◌-◌, ◌∙◌, ℕ, zero, suc, List, length, get_or, arith}
+use Rattle.std.proofs.Common.{◌∙◌}
 use Rattle.idl_names.proofs.LastDots.{before_is, behind_is, none_before}
 use Rattle.idl_names.proofs.dots.split_last_dot.Goals as goal
 

@@ -1,4 +1,4 @@
-use Rattle.std.proofs.Common.{rules, ◌++◌, [], map}
+use Rattle.std.proofs.Common.{◌++◌, [], map}
 use Rattle.idl_model.specs.DeclaredIn.{enum_value_in}
 use Rattle.idl_model.specs.Spots.{in_file, spots_in_enum}
 use Rattle.idl_names.specs.SpotsIn.{spots_in, shown_in}

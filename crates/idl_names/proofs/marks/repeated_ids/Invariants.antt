@@ -1,4 +1,4 @@
-use Rattle.std.proofs.Common.{◌≡◌, ◌++◌, ℤ, List, take, drop, []}
+use Rattle.std.proofs.Common.{◌≡◌, ◌++◌, ℤ, take, drop, []}
 use Rattle.std.specs.Ordering.{int_eq}
 use Rattle.std.specs.List.{list_any}
 use Rattle.idl_names.specs.Before.{id_marks}

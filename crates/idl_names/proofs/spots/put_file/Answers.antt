@@ -1,4 +1,4 @@
-use Rattle.std.proofs.Common.{rules, ◌++◌, [], map}
+use Rattle.std.proofs.Common.{◌++◌, [], map}
 use Rattle.idl_model.specs.DeclaredIn.{definition_in}
 use Rattle.idl_model.specs.Numbering.{all_counted}
 use Rattle.idl_model.specs.Spots.{in_file, spots_in_declarations}
