@@ -1,0 +1,50 @@
+-- Which raw values count under a type.
+use Rattle.std.specs.Prelude.{Bool, true, false, ◌&&◌}
+use Rattle.thrift_value.specs.declared.tag.Tag.{Tag}
+use Rattle.thrift_value.specs.declared.tag.Tag.TheVariants as tag
+use Rattle.thrift_value.specs.Tree.{Tree, of_bool, of_i8, of_i16, of_i32, of_i64, of_double, of_bytes, of_struct, of_map, of_set, of_list, ItemTrees, no_items, item, PairTrees, no_pairs, pair}
+use Rattle.schema.specs.PlainKind.{PlainKind, kind_bool, kind_i8, kind_i16, kind_i32, kind_i64, kind_double, kind_text, kind_binary, kind_enum, kind_struct, kind_map, kind_set, kind_list}
+
+-- the tag of the values of a type; an enum is a number of 32 bits
+abbrev pub tag_of_kind : PlainKind → Tag
+tag_of_kind kind_bool = tag.Bool
+tag_of_kind kind_i8 = tag.I8
+tag_of_kind kind_i16 = tag.I16
+tag_of_kind kind_i32 = tag.I32
+tag_of_kind kind_i64 = tag.I64
+tag_of_kind kind_double = tag.Double
+tag_of_kind kind_text = tag.Bytes
+tag_of_kind kind_binary = tag.Bytes
+tag_of_kind (kind_enum _) = tag.I32
+tag_of_kind (kind_struct _) = tag.Struct
+tag_of_kind (kind_map _ _) = tag.Map
+tag_of_kind (kind_set _) = tag.Set
+tag_of_kind (kind_list _) = tag.List
+
+-- each element passes a test
+abbrev pub each_item : (Tree → Bool) → ItemTrees → Bool
+each_item test no_items = true
+each_item test (item value more) = test value && each_item test more
+
+-- each key passes one test, and each value another
+abbrev pub each_pair : (Tree → Bool) → (Tree → Bool) → PairTrees → Bool
+each_pair key_test value_test no_pairs = true
+each_pair key_test value_test (pair key value more) = (key_test key && value_test value) && each_pair key_test value_test more
+
+-- a raw value fits a type: by its tag; a container by its elements too, so that an empty one fits whatever tags it names (own
+-- choice: generated readers look at the container's tag alone); a struct by its tag, whatever its fields are
+abbrev pub fits_kind : PlainKind → Tree → Bool
+fits_kind kind_bool (of_bool _) = true
+fits_kind kind_i8 (of_i8 _) = true
+fits_kind kind_i16 (of_i16 _) = true
+fits_kind kind_i32 (of_i32 _) = true
+fits_kind kind_i64 (of_i64 _) = true
+fits_kind kind_double (of_double _) = true
+fits_kind kind_text (of_bytes _) = true
+fits_kind kind_binary (of_bytes _) = true
+fits_kind (kind_enum _) (of_i32 _) = true
+fits_kind (kind_struct _) (of_struct _) = true
+fits_kind (kind_map key value) (of_map _ _ pairs) = each_pair (fits_kind key) (fits_kind value) pairs
+fits_kind (kind_set member) (of_set _ items) = each_item (fits_kind member) items
+fits_kind (kind_list element) (of_list _ items) = each_item (fits_kind element) items
+fits_kind _ _ = false

@@ -1,0 +1,9 @@
+pub mod Fits
+pub mod Latest
+pub mod Offers
+pub mod Results
+pub mod Projection
+pub mod Answering
+pub mod Needs
+pub mod Filled
+pub mod Rows
