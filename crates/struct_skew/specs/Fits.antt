@@ -1,8 +1,9 @@
 -- Which raw values count under a type.
-use Rattle.std.specs.Prelude.{Bool, true, false, ◌&&◌}
+use Rattle.std.specs.Prelude.{Bool, true, ◌&&◌, ◌==◌}
 use Rattle.thrift_value.specs.declared.tag.Tag.{Tag}
 use Rattle.thrift_value.specs.declared.tag.Tag.TheVariants as tag
-use Rattle.thrift_value.specs.Tree.{Tree, of_bool, of_i8, of_i16, of_i32, of_i64, of_double, of_bytes, of_struct, of_map, of_set, of_list, ItemTrees, no_items, item, PairTrees, no_pairs, pair}
+use Rattle.thrift_value.specs.Tags.{tag_of, rank}
+use Rattle.thrift_value.specs.Tree.{Tree, of_map, of_set, of_list, ItemTrees, no_items, item, PairTrees, no_pairs, pair}
 use Rattle.schema.specs.PlainKind.{PlainKind, kind_bool, kind_i8, kind_i16, kind_i32, kind_i64, kind_double, kind_text, kind_binary, kind_enum, kind_struct, kind_map, kind_set, kind_list}
 
 -- the tag of the values of a type; an enum is a number of 32 bits
@@ -31,20 +32,14 @@ abbrev pub each_pair : (Tree → Bool) → (Tree → Bool) → PairTrees → Boo
 each_pair key_test value_test no_pairs = true
 each_pair key_test value_test (pair key value more) = (key_test key && value_test value) && each_pair key_test value_test more
 
--- a raw value fits a type: by its tag; a container by its elements too, so that an empty one fits whatever tags it names (own
--- choice: generated readers look at the container's tag alone); a struct by its tag, whatever its fields are
+-- two tags are the same
+abbrev pub are_same_tags : Tag → Tag → Bool
+are_same_tags one other = rank one == rank other
+
+-- a raw value fits a type: the tags agree, and each element of a container fits its declared type, deeply; so an empty container
+-- fits whatever tags it names, and a struct whatever its fields are (own choice: generated readers look at no element's type)
 abbrev pub fits_kind : PlainKind → Tree → Bool
-fits_kind kind_bool (of_bool _) = true
-fits_kind kind_i8 (of_i8 _) = true
-fits_kind kind_i16 (of_i16 _) = true
-fits_kind kind_i32 (of_i32 _) = true
-fits_kind kind_i64 (of_i64 _) = true
-fits_kind kind_double (of_double _) = true
-fits_kind kind_text (of_bytes _) = true
-fits_kind kind_binary (of_bytes _) = true
-fits_kind (kind_enum _) (of_i32 _) = true
-fits_kind (kind_struct _) (of_struct _) = true
 fits_kind (kind_map key value) (of_map _ _ pairs) = each_pair (fits_kind key) (fits_kind value) pairs
 fits_kind (kind_set member) (of_set _ items) = each_item (fits_kind member) items
 fits_kind (kind_list element) (of_list _ items) = each_item (fits_kind element) items
-fits_kind _ _ = false
+fits_kind kind value = are_same_tags (tag_of_kind kind) (tag_of value)

@@ -1,5 +1,7 @@
 pub mod Fits
+pub mod Parts
 pub mod Latest
+pub mod Merging
 pub mod Offers
 pub mod Results
 pub mod Projection

@@ -2,6 +2,8 @@
 #![tactic(auto)]
 
 mod fault;
+mod kinds;
+mod order;
 mod rows;
 
 pub use fault::SkewFault;
