@@ -7,5 +7,6 @@ pub mod Results
 pub mod Projection
 pub mod Answering
 pub mod Needs
+pub mod Plan
 pub mod Filled
 pub mod Rows

@@ -2,6 +2,7 @@
 use Rattle.std.specs.Prelude.{ℕ, ◌+◌, Bool, not, ◌&&◌, if◌then◌else◌, List, [], ◌∷◌, map, is_some}
 use Rattle.schema.specs.PlainSchema.{PlainField, PlainStruct}
 use Rattle.schema.specs.declared.types.FieldsKind.{FieldsKind}
+use Rattle.struct_skew.specs.declared.needs.StructNeeds.{StructNeeds}
 use Rattle.struct_skew.specs.Projection.{is_required, default_of}
 
 -- the places from a number on of the items that pass a test
@@ -21,6 +22,10 @@ is_defaulted_field kind f = not (is_required f.need) && is_some (default_of kind
 pub record PlainNeeds : Type 0 where
   pub required : List ℕ
   pub defaulted : List ℕ
+
+-- a struct's needs in memory
+abbrev pub plain_needs : StructNeeds → PlainNeeds
+plain_needs needs = record { required = needs.required.items; defaulted = needs.defaulted.items }
 
 -- what a struct needs
 abbrev pub needs_of : PlainStruct → PlainNeeds

@@ -13,9 +13,13 @@ pub record Offer : Type 0 where
   pub value : Tree
   pub meaning : PlainKind → Result Tree SkewFault
 
+-- what is sent with an id counts for a declared field of this id whose type it fits
+abbrev pub is_sent_for : PlainField → ℤ → Tree → Bool
+is_sent_for f id value = int_eq id f.id && fits_kind f.kind value
+
 -- a raw field has a declared field's id, and fits its type
 abbrev pub is_offer_of : PlainField → Offer → Bool
-is_offer_of f o = int_eq o.id f.id && fits_kind f.kind o.value
+is_offer_of f o = is_sent_for f o.id o.value
 
 -- the last of the raw fields that is one of the declared field; where there is none, what came before
 abbrev pub last_offer_behind : PlainField → Option Offer → List Offer → Option Offer

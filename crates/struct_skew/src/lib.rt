@@ -3,8 +3,11 @@
 
 mod fault;
 mod kinds;
+mod needs;
 mod order;
+mod plan;
 mod rows;
 
 pub use fault::SkewFault;
+pub use needs::{NeededFields, needed_fields};
 pub use rows::{worked_containers, worked_fields, worked_levels, worked_unions};
