@@ -15,7 +15,7 @@ pub record Offer : Type 0 where
 
 -- what is sent with an id counts for a declared field of this id whose type it fits
 abbrev pub is_sent_for : PlainField → ℤ → Tree → Bool
-is_sent_for f id value = int_eq id f.id && fits_kind f.kind value
+is_sent_for f id value = int_eq f.id id && fits_kind f.kind value
 
 -- a raw field has a declared field's id, and fits its type
 abbrev pub is_offer_of : PlainField → Offer → Bool

@@ -1,9 +1,9 @@
 -- How the raw fields of a struct are assigned to its declared ones.
-use Rattle.std.specs.Prelude.{◌≡◌, ⊤, ℕ, ℤ, ◌+◌, Bool, true, false, ◌==◌, ◌||◌, if◌then◌else◌, List, [], ◌∷◌, ◌++◌, map, Option, Some, None, option_and_then, Result, Ok}
+use Rattle.std.specs.Prelude.{◌≡◌, ⊤, IfSome, ℕ, ℤ, ◌+◌, ◌<◌, length, Bool, true, false, ◌==◌, ◌||◌, if◌then◌else◌, List, [], ◌∷◌, ◌++◌, map, Option, Some, None, option_and_then, Result, Ok}
 use Rattle.std.specs.List.{slice_get, list_any}
 use Rattle.std.specs.declared.cmp.Ordering.{Ordering}
-use Rattle.std.specs.Ordering.{nat_cmp}
-use Rattle.thrift_value.specs.Tree.{Tree}
+use Rattle.std.specs.Ordering.{nat_cmp, int_eq}
+use Rattle.thrift_value.specs.Tree.{Tree, FieldTrees}
 use Rattle.schema.specs.declared.types.FieldsKind.{FieldsKind}
 use Rattle.schema.specs.PlainSchema.{PlainField, PlainStruct}
 use Rattle.struct_skew.specs.declared.fault.SkewFault.{SkewFault}
@@ -11,7 +11,7 @@ use Rattle.struct_skew.specs.declared.plan.Choice.{Choice}
 use Rattle.struct_skew.specs.Latest.{IsRisingBy}
 use Rattle.struct_skew.specs.Needs.{PlainNeeds, needs_of}
 use Rattle.struct_skew.specs.Offers.{Offer, last_offer, last_offer_behind, is_sent_for}
-use Rattle.struct_skew.specs.Projection.{is_required, default_of, field_value}
+use Rattle.struct_skew.specs.Projection.{is_required, default_of, field_value, offers_of}
 use Rattle.struct_skew.specs.Results.{with_field}
 
 -- what holds of each item and its place, from a number on
@@ -79,3 +79,29 @@ abbrev pub planned_fields : ℕ → FieldsKind → List PlainField → List Offe
 planned_fields which kind fields offers [] = Ok []
 planned_fields which kind fields offers (c ∷ cs) =
     chosen_field which kind offers c (slice_get fields c.place) (planned_fields which kind fields offers cs)
+
+-- the raw fields are looked at one by one: with those that are left, the choices so far lead to what counts
+pub record Follows (kind : FieldsKind) (offers : List Offer) (choices : List Choice) (rest : List Offer) (q : ℕ) (f : PlainField) : Type 0 where
+  pub sent : last_offer_behind f (offer_of offers (latest_at q choices)) rest ≡ last_offer f offers
+  pub passive : has_choice q choices ≡ false → IsPassive kind f
+
+-- an id is that of the declared field at a place, and of no other; where there is no place, of none
+abbrev pub is_place : Option ℕ → ℕ → Bool
+is_place (Some p) q = p == q
+is_place None q = false
+
+pub record IsPlaceOfId (id : ℤ) (fields : List PlainField) (place : Option ℕ) : Type 0 where
+  pub own : AllAt (λ q f. int_eq f.id id ≡ is_place place q) 0 fields
+  pub within : IfSome place (λ p. p < length fields)
+
+-- choices that may follow the raw fields lead, with those that come of all of these, to what counts
+abbrev pub LeadsOn : List PlainField → FieldTrees → List Choice → List Choice → Type 0
+LeadsOn fields sent old new =
+    (structs : List PlainStruct) (kind : FieldsKind) → AllAt (Follows kind (offers_of structs sent) old (offers_of structs sent)) 0 fields
+    → AllAt (Follows kind (offers_of structs sent) new []) 0 fields
+
+-- choices are a plan for each struct of these fields and needs, whatever structs there are
+abbrev pub Plans : List ℕ → List ℕ → List PlainField → FieldTrees → List Choice → Type 0
+Plans required defaulted fields sent choices =
+    (structs : List PlainStruct) (s : PlainStruct) → s.fields ≡ fields → required ≡ (needs_of s).required → defaulted ≡ (needs_of s).defaulted
+    → IsPlanFor s.kind fields (offers_of structs sent) choices
