@@ -5,3 +5,6 @@ pub mod PlanLaws
 pub mod PlannedFields
 pub mod PlacesOfIds
 pub mod PlanSteps
+pub mod StructsAt
+pub mod Steps
+pub mod Containers

@@ -18,7 +18,7 @@ use Rattle.struct_skew.specs.Needs.{needs_of, places_from, is_required_field, is
 use Rattle.struct_skew.specs.Offers.{Offer, last_offer, last_offer_behind}
 use Rattle.struct_skew.specs.Plan.{AllAt, place_cmp, unsent_choice, first_known, latest_at, has_choice, offer_at, offer_of, IsPassive, Suits, IsPlanFor, Follows, chosen_field, planned_fields}
 use Rattle.struct_skew.specs.Projection.{is_required, default_of, unsent_value, field_value, field_values}
-use Rattle.struct_skew.specs.Results.{with_field}
+use Rattle.struct_skew.specs.Results.{with_some, with_field}
 use Rattle.struct_skew.proofs.PlanLaws.{AllAt-both, listed_places, front_lacks, unsent_named, latest_at-none, own_here, other_here}
 
 -- the same from a number on
@@ -61,7 +61,7 @@ module _ (which : ℕ) (kind : FieldsKind) (all : List PlainField) (offers : Lis
   planned_past n (c ∷ cs) past from =
       let low = from.0 in
       let place : c.place ≡ n + (c.place - n) = omega (arith, low) in
-      ap (λ g. chosen_field which kind offers c g (planned_fields which kind all offers cs)) (ap (slice_get all) place ∙ past (c.place - n))
+      ap (λ g. with_some (chosen_field which kind offers c g) (planned_fields which kind all offers cs)) (ap (slice_get all) place ∙ past (c.place - n))
       ∙ planned_past n cs past from.1
 
   -- the choices behind one suit what stands behind its field
@@ -94,7 +94,7 @@ module _ (which : ℕ) (kind : FieldsKind) (all : List PlainField) (offers : Lis
         let rest : planned_fields which kind all offers cs ≡ field_values which kind fs offers =
             planned_from (n + 1) fs cs (λ k. ap (slice_get all) (omega arith) ∙ here (suc k)) rising.1 behind
             (AllAt-from (Suits kind offers (c ∷ cs)) (Suits kind offers cs) (n + 1) fs (λ q g high s. Suits-behind n c cs q g own.1 high s) suits.1) in
-        ap (λ g. chosen_field which kind offers c g (planned_fields which kind all offers cs)) (ap (slice_get all) at ∙ here zero)
+        ap (λ g. with_some (chosen_field which kind offers c g) (planned_fields which kind all offers cs)) (ap (slice_get all) at ∙ here zero)
         ∙ ap₂ (λ o more. with_field f.id (field_value which kind f o) more) sent rest)
       (λ other.
         let low = from.0 in

@@ -8,5 +8,7 @@ pub mod Projection
 pub mod Answering
 pub mod Needs
 pub mod Plan
+pub mod Orders
+pub mod Structs
 pub mod Filled
 pub mod Rows

@@ -12,7 +12,7 @@ use Rattle.struct_skew.specs.Latest.{IsRisingBy}
 use Rattle.struct_skew.specs.Needs.{PlainNeeds, needs_of}
 use Rattle.struct_skew.specs.Offers.{Offer, last_offer, last_offer_behind, is_sent_for}
 use Rattle.struct_skew.specs.Projection.{is_required, default_of, field_value, offers_of}
-use Rattle.struct_skew.specs.Results.{with_field}
+use Rattle.struct_skew.specs.Results.{with_some, as_field}
 
 -- what holds of each item and its place, from a number on
 abbrev pub AllAt : {A : Type 0} → (ℕ → A → Type 0) → ℕ → List A → Type 0
@@ -69,16 +69,16 @@ pub record IsPlanFor (kind : FieldsKind) (fields : List PlainField) (offers : Li
   pub rising : IsRisingBy place_cmp choices
   pub suits : AllAt (Suits kind offers choices) 0 fields
 
--- a choice's field and its value, and those of the choices behind it
-abbrev pub chosen_field : ℕ → FieldsKind → List Offer → Choice → Option PlainField → Result (List (ℤ × Tree)) SkewFault → Result (List (ℤ × Tree)) SkewFault
-chosen_field which kind offers c (Some f) more = with_field f.id (field_value which kind f (offer_at offers c.sent)) more
-chosen_field which kind offers c None more = more
+-- a choice's field and its value; none where no declared field is at its place
+abbrev pub chosen_field : ℕ → FieldsKind → List Offer → Choice → Option PlainField → Result (Option (ℤ × Tree)) SkewFault
+chosen_field which kind offers c (Some f) = as_field f.id (field_value which kind f (offer_at offers c.sent))
+chosen_field which kind offers c None = Ok None
 
 -- the fields that a plan gives, or the first fault
 abbrev pub planned_fields : ℕ → FieldsKind → List PlainField → List Offer → List Choice → Result (List (ℤ × Tree)) SkewFault
 planned_fields which kind fields offers [] = Ok []
 planned_fields which kind fields offers (c ∷ cs) =
-    chosen_field which kind offers c (slice_get fields c.place) (planned_fields which kind fields offers cs)
+    with_some (chosen_field which kind offers c (slice_get fields c.place)) (planned_fields which kind fields offers cs)
 
 -- the raw fields are looked at one by one: with those that are left, the choices so far lead to what counts
 pub record Follows (kind : FieldsKind) (offers : List Offer) (choices : List Choice) (rest : List Offer) (q : ℕ) (f : PlainField) : Type 0 where

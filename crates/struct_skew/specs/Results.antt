@@ -25,8 +25,18 @@ with_first (Ok x) (Ok xs) = Ok (x ∷ xs)
 with_first (Ok x) (Err fault) = Err fault
 with_first (Err fault) _ = Err fault
 
+-- the same of a value that may be none
+abbrev pub with_some : {A : Type 0} → Result (Option A) SkewFault → Result (List A) SkewFault → Result (List A) SkewFault
+with_some (Ok (Some x)) more = with_first (Ok x) more
+with_some (Ok None) more = more
+with_some (Err fault) more = Err fault
+
+-- a value as a field with this id
+abbrev pub as_field : ℤ → Result (Option Tree) SkewFault → Result (Option (ℤ × Tree)) SkewFault
+as_field id (Ok (Some value)) = Ok (Some (id, value))
+as_field id (Ok None) = Ok None
+as_field id (Err fault) = Err fault
+
 -- a field and those behind it, where it has a value; its fault comes first
 abbrev pub with_field : ℤ → Result (Option Tree) SkewFault → Result (List (ℤ × Tree)) SkewFault → Result (List (ℤ × Tree)) SkewFault
-with_field id (Ok (Some value)) more = with_first (Ok (id, value)) more
-with_field id (Ok None) more = more
-with_field id (Err fault) more = Err fault
+with_field id value more = with_some (as_field id value) more

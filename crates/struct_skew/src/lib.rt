@@ -7,6 +7,8 @@ mod needs;
 mod order;
 mod plan;
 mod rows;
+mod structs;
+mod values;
 
 pub use fault::SkewFault;
 pub use needs::{NeededFields, needed_fields};

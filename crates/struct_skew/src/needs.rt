@@ -1,5 +1,7 @@
 //! The declared fields that need a look even where nothing is sent for them.
 ghost use Rattle.std.specs.Prelude.{◌≡◌, ◌++◌, ◌∷◌, [], map, IfOk, OnOk};
+ghost use Rattle.std.specs.List.{slice_get};
+ghost use Rattle.std.specs.Option.{option_copied, option_map};
 ghost use Rattle.schema.specs.SchemaOf.{schema_of, plain_field, plain_struct};
 ghost use Rattle.struct_skew.specs.Needs.{places_from, is_required_field, is_defaulted_field, needs_of, plain_needs};
 ghost use Rattle.struct_skew.specs.Projection.{is_required, is_union};
@@ -30,6 +32,22 @@ impl Model for NeededFields {
     ghost Value = { List PlainNeeds };
 
     ghost view = { λ needed. map plain_needs needed.rows.items };
+}
+
+impl NeededFields {
+    /// What the struct at a number needs.
+    pub(crate) fn row(&self, which: u32) -> Option<&StructNeeds>
+        ensures { option_map plain_needs (option_copied result) ≡ slice_get self.now which }
+    {
+        item(self.rows.as_slice(), which as usize)
+    }
+}
+
+/// The item at a place.
+pub(crate) fn item<T>(items: &[T], place: usize) -> Option<&T>
+    ensures { option_copied result ≡ slice_get items.now place }
+{
+    items.get(place)
 }
 
 /// Whether a field has to be there.

@@ -1,0 +1,253 @@
+//! Values as parts of a projection: copies, containers, defaults, and the bounds of the whole.
+ghost use Rattle.std.specs.Prelude.{◌≡◌, map, IfErr, Result, Ok, List, Option as OptionOf};
+ghost use Rattle.std.specs.Option.{option_map};
+ghost use Rattle.thrift_value.specs.Order.{tree_cmp};
+ghost use Rattle.thrift_value.specs.Tree.{Tree};
+ghost use Rattle.thrift_value.specs.TreeOf.{tree_of, field_tree, pair_tree};
+ghost use Rattle.schema.specs.PlainKind.{kind_of};
+ghost use Rattle.schema.specs.SchemaOf.{plain_field};
+ghost use Rattle.struct_skew.specs.Answering.{MeansOrNoMemory, Puts, PutsSome};
+ghost use Rattle.struct_skew.specs.Projection.{unsent_value, map_value, set_value, list_value, bounded};
+ghost use Rattle.struct_skew.specs.Results.{with_value, both_values, as_field};
+ghost use Rattle.struct_skew.specs.declared.fault.SkewFault.{SkewFault as Skew};
+ghost use Rattle.struct_skew.specs.declared.fault.SkewFault.TheVariants.{NoMemory};
+
+use crate::fault::SkewFault;
+use crate::kinds::tag_of_kind;
+use crate::needs::{is_required, is_union};
+use crate::order::{Keyed, in_order};
+use schema::{FieldDesc, StructKind, TypeDesc};
+use std::alloc::Global;
+use std::cmp::Ordering;
+use thrift_value::{Items, Pairs, Value};
+
+impl Keyed for Value {
+    ghost use Rattle.std.proofs.lemmas.Cmp.{on_total};
+    ghost use Rattle.thrift_value.proofs.TotalOrder.{tree_cmp_total};
+    ghost use Rattle.struct_skew.specs.Orders.{value_cmp};
+
+    ghost key_order = { value_cmp };
+
+    fn compare_keys(&self, other: &Self) -> Ordering {
+        self.compare(other)
+    }
+
+    ghost total = { on_total tree_of tree_cmp_total };
+}
+
+impl Keyed for (Value, Value) {
+    ghost use Rattle.std.proofs.lemmas.Cmp.{on_total};
+    ghost use Rattle.thrift_value.proofs.TotalOrder.{tree_cmp_total};
+    ghost use Rattle.struct_skew.specs.Orders.{pair_cmp};
+
+    ghost key_order = { pair_cmp };
+
+    fn compare_keys(&self, other: &Self) -> Ordering {
+        self.0.compare(&other.0)
+    }
+
+    ghost total = { on_total (λ p. tree_of p.0) tree_cmp_total };
+}
+
+/// A copy of a value.
+pub(crate) fn copy_of(alloc: Global, value: &Value) -> Result<Value, SkewFault>
+    ensures { MeansOrNoMemory tree_of result (Ok (tree_of value.now)) }
+{
+    let copy = value.try_clone(alloc)?;
+    Ok(copy)
+}
+
+/// Appends a value, where it was found.
+pub(crate) fn put_found<T: Drop>(into: &mut Vec<T>, found: Result<T, SkewFault>) -> Result<(), SkewFault>
+    ensures { Puts found result into.old.items into.new.items }
+{
+    match found {
+        Ok(value) => {
+            into.push(value)?;
+            Ok(())
+        }
+        Err(fault) => Err(fault),
+    }
+}
+
+/// Appends a value, where there is one.
+pub(crate) fn put_any<T: Drop>(
+    into: &mut Vec<T>,
+    found: Result<Option<T>, SkewFault>,
+) -> Result<(), SkewFault>
+    ensures { PutsSome found result into.old.items into.new.items }
+{
+    match found {
+        Ok(Some(value)) => {
+            into.push(value)?;
+            Ok(())
+        }
+        Ok(None) => Ok(()),
+        Err(fault) => Err(fault),
+    }
+}
+
+/// A key and its value.
+pub(crate) fn both_of(
+    key: Result<Value, SkewFault>,
+    value: Result<Value, SkewFault>,
+) -> Result<(Value, Value), SkewFault>
+    ensures { (k v : Result Tree Skew) → MeansOrNoMemory tree_of key k → MeansOrNoMemory tree_of value v → MeansOrNoMemory pair_tree result (both_values k v) }
+{
+    match key {
+        Ok(key) => match value {
+            Ok(value) => Ok((key, value)),
+            Err(fault) => Err(fault),
+        },
+        Err(fault) => Err(fault),
+    }
+}
+
+/// A list of elements.
+pub(crate) fn list_of(
+    element: &TypeDesc,
+    items: Result<Vec<Value>, SkewFault>,
+) -> Result<Value, SkewFault>
+    ensures { (meant : Result (List Tree) Skew) → MeansOrNoMemory (λ v. map tree_of v.items) items meant
+        → MeansOrNoMemory tree_of result (with_value (list_value (kind_of element.now)) meant) }
+{
+    match items {
+        Ok(items) => Ok(Value::List(tag_of_kind(element), Items::new(items))),
+        Err(fault) => Err(fault),
+    }
+}
+
+/// A set of members, each once and in order.
+pub(crate) fn set_of(
+    alloc: Global,
+    member: &TypeDesc,
+    items: Result<Vec<Value>, SkewFault>,
+) -> Result<Value, SkewFault>
+    ensures { (meant : Result (List Tree) Skew) → MeansOrNoMemory (λ v. map tree_of v.items) items meant
+        → MeansOrNoMemory tree_of result (with_value (set_value (kind_of member.now)) meant) }
+{
+    match items {
+        Ok(items) => {
+            let items = in_order(alloc, items)?;
+            Ok(Value::Set(tag_of_kind(member), Items::new(items)))
+        }
+        Err(fault) => Err(fault),
+    }
+}
+
+/// A map of pairs, each key once and in order.
+pub(crate) fn map_of(
+    alloc: Global,
+    key: &TypeDesc,
+    value: &TypeDesc,
+    pairs: Result<Vec<(Value, Value)>, SkewFault>,
+) -> Result<Value, SkewFault>
+    ensures { (meant : Result (List (Tree × Tree)) Skew) → MeansOrNoMemory (λ v. map pair_tree v.items) pairs meant
+        → MeansOrNoMemory tree_of result (with_value (map_value (kind_of key.now) (kind_of value.now)) meant) }
+{
+    match pairs {
+        Ok(pairs) => {
+            let pairs = in_order(alloc, pairs)?;
+            let tag = tag_of_kind(key);
+            Ok(Value::Map(tag, tag_of_kind(value), Pairs::new(pairs)))
+        }
+        Err(fault) => Err(fault),
+    }
+}
+
+/// How much room a value takes, in bytes: about 40 a value, and its texts.
+#[cycle(weighing)]
+fn weight(value: &Value) -> u64 {
+    match value {
+        Value::Bytes(text) => 40u64.saturating_add(text.as_slice().len() as u64),
+        Value::Struct(fields) => {
+            let mut sum: u64 = 40;
+            for (_, value) in fields.as_slice() {
+                sum = sum.saturating_add(weight(value));
+            }
+            sum
+        }
+        Value::Map(_, _, pairs) => {
+            let mut sum: u64 = 40;
+            for (key, value) in pairs.as_slice() {
+                sum = sum.saturating_add(weight(key)).saturating_add(weight(value));
+            }
+            sum
+        }
+        Value::Set(_, items) => weight_of_items(items.as_slice()),
+        Value::List(_, items) => weight_of_items(items.as_slice()),
+        _ => 40,
+    }
+}
+
+#[cycle(weighing)]
+fn weight_of_items(items: &[Value]) -> u64 {
+    let mut sum: u64 = 40;
+    for value in items {
+        sum = sum.saturating_add(weight(value));
+    }
+    sum
+}
+
+/// Takes room for a default; where there is too little it is answered as want of memory.
+fn take_room(value: &Value, room: &mut u64) -> Result<(), SkewFault>
+    ensures { IfErr result (λ fault. fault ≡ NoMemory) }
+{
+    let size = weight(value);
+    if *room < size {
+        return Err(SkewFault::NoMemory);
+    }
+    *room -= size;
+    Ok(())
+}
+
+/// The value of a declared field for which nothing that fits was sent.
+pub(crate) fn unsent_value(
+    alloc: Global,
+    which: u32,
+    kind: StructKind,
+    field: &FieldDesc,
+    room: &mut u64,
+) -> Result<Option<Value>, SkewFault>
+    ensures { MeansOrNoMemory (option_map tree_of) result (unsent_value which kind (plain_field field.now)) }
+{
+    if is_required(field.need) {
+        return Err(SkewFault::Missing(which, field.id));
+    }
+    if is_union(kind) {
+        return Ok(None);
+    }
+    let Some(default) = &field.default else {
+        return Ok(None);
+    };
+    take_room(default, room)?;
+    let copy = copy_of(alloc, default)?;
+    Ok(Some(copy))
+}
+
+/// A value as a field with this id.
+pub(crate) fn as_field(
+    id: i16,
+    value: Result<Option<Value>, SkewFault>,
+) -> Result<Option<(i16, Value)>, SkewFault>
+    ensures { (meant : Result (OptionOf Tree) Skew) → MeansOrNoMemory (option_map tree_of) value meant → MeansOrNoMemory (option_map field_tree) result (as_field id meant) }
+{
+    match value {
+        Ok(Some(value)) => Ok(Some((id, value))),
+        Ok(None) => Ok(None),
+        Err(fault) => Err(fault),
+    }
+}
+
+/// The value, where it has at most 64 levels and 4,000,000 values.
+pub(crate) fn bounded(value: Value) -> Result<Value, SkewFault>
+    ensures { MeansOrNoMemory tree_of result (bounded (tree_of value)) }
+{
+    if value.depth() > 64 {
+        return Err(SkewFault::TooDeep);
+    }
+    if value.count() > 4_000_000 {
+        return Err(SkewFault::TooMany);
+    }
+    Ok(value)
+}
