@@ -1,22 +1,28 @@
 -- Sets and maps in memory, in order.
-use Rattle.std.proofs.Common.{◌≡◌, List, [], ◌∷◌, map, Result, Ok, Err, Ordering, Less, Equal, Greater, refl, sym, ap, ap₂, subst, ◌∙◌}
+use Rattle.std.proofs.Common.{◌≡◌, ℕ, ℤ, Bool, true, false, cond, List, [], ◌∷◌, length, map, Result, Ok, Err, Ordering, Less, Equal, Greater, refl, sym, ap, ap₂, subst, ◌∙◌}
+use Rattle.std.specs.Prelude.{not, ◌&&◌, ◌==◌}
+use Rattle.std.proofs.lemmas.List.{length-map}
 use Rattle.thrift_value.specs.declared.tag.Tag.{Tag}
+use Rattle.thrift_value.specs.declared.value.Fields.{Fields}
 use Rattle.thrift_value.specs.declared.value.Value as value
 use Rattle.thrift_value.specs.declared.value.Value.{Value}
 use Rattle.thrift_value.specs.declared.value.Items.{Items}
 use Rattle.thrift_value.specs.declared.value.Pairs.{Pairs}
 use Rattle.thrift_value.specs.Order.{tree_cmp}
-use Rattle.thrift_value.specs.Tree.{Tree, of_set, of_map}
-use Rattle.thrift_value.specs.TreeOf.{tree_of, pair_tree, item_trees, pair_trees, items_of, pairs_of}
-use Rattle.thrift_value.proofs.Trees.{tree_of-Set, tree_of-Map}
+use Rattle.thrift_value.specs.Tree.{Tree, of_struct, of_set, of_map}
+use Rattle.thrift_value.specs.TreeOf.{tree_of, field_tree, pair_tree, field_trees, item_trees, pair_trees, fields_of, items_of, pairs_of}
+use Rattle.thrift_value.proofs.Trees.{tree_of-Struct, tree_of-Set, tree_of-Map}
 use Rattle.schema.specs.PlainKind.{PlainKind}
+use Rattle.schema.specs.declared.types.FieldsKind.{FieldsKind}
+use Rattle.struct_skew.specs.declared.fault.SkewFault.TheVariants.{UnionFields}
+use Rattle.struct_skew.specs.Unions.{one_of_union}
 use Rattle.struct_skew.specs.declared.fault.SkewFault.{SkewFault}
 use Rattle.struct_skew.specs.Answering.{MeansOrNoMemory}
 use Rattle.struct_skew.specs.Fits.{tag_of_kind}
 use Rattle.struct_skew.specs.Latest.{by_order, with_earlier, with_all_earlier, latest_of_each}
 use Rattle.struct_skew.specs.Orders.{value_cmp, pair_cmp}
-use Rattle.struct_skew.specs.Projection.{key_cmp, map_value, set_value}
-use Rattle.struct_skew.specs.Results.{with_value}
+use Rattle.struct_skew.specs.Projection.{is_union, key_cmp, map_value, set_value}
+use Rattle.struct_skew.specs.Results.{with_value, and_if_ok}
 
 module _ {A B : Type 0} (cmp : B → B → Ordering) (f : A → B) where
   abbrev seen : A → A → Ordering
@@ -54,3 +60,13 @@ map_meant key_kind value_kind made all k v pairs meant means ordered put key_tag
     let inner : map pair_tree (pairs_of pairs) ≡ latest_of_each key_cmp (map pair_tree made) = ap (map pair_tree) (put ∙ ordered) ∙ map-latest key_cmp pair_tree made in
     ap (with_value (map_value key_kind value_kind)) means
     ∙ sym (ap Ok (tree_of-Map k v pairs ∙ (λ i. of_map (key_tag i) (value_tag i) (pair_trees (inner i)))))
+
+-- a struct of as many fields as it may have
+pub struct_meant : (which : ℕ) (kind : FieldsKind) (made : List (ℤ × Value)) (n : ℕ) (wrong : Bool) (fields : Fields) (meant : Result (List (ℤ × Tree)) SkewFault) → meant ≡ Ok (map field_tree made)
+    → n ≡ length made → wrong ≡ (is_union kind && not (n == 1)) → wrong ≡ false → fields_of fields ≡ made → and_if_ok meant (one_of_union which kind) ≡ Ok (tree_of (value.Struct fields))
+struct_meant which kind made n wrong fields meant means count test right put =
+    let size : length (map field_tree made) ≡ n = length-map made field_tree ∙ sym count in
+    ap (λ r. and_if_ok r (one_of_union which kind)) means
+    ∙ ap (λ m. cond (is_union kind && not (m == 1)) (Err (UnionFields which)) (Ok (of_struct (field_trees (map field_tree made))))) size
+    ∙ ap (λ b. cond b (Err (UnionFields which)) (Ok (of_struct (field_trees (map field_tree made))))) (sym test ∙ right)
+    ∙ sym (ap Ok (tree_of-Struct fields ∙ ap (λ fs. of_struct (field_trees (map field_tree fs))) put))

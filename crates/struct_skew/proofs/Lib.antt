@@ -8,3 +8,5 @@ pub mod PlanSteps
 pub mod StructsAt
 pub mod Steps
 pub mod Containers
+pub mod MeaningsOfKinds
+pub mod FieldValues

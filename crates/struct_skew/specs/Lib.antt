@@ -7,6 +7,7 @@ pub mod Results
 pub mod Projection
 pub mod Answering
 pub mod Needs
+pub mod Unions
 pub mod Plan
 pub mod Orders
 pub mod Structs

@@ -1,14 +1,15 @@
 //! Values as parts of a projection: copies, containers, defaults, and the bounds of the whole.
-ghost use Rattle.std.specs.Prelude.{◌≡◌, map, IfErr, Result, Ok, List, Option as OptionOf};
+ghost use Rattle.std.specs.Prelude.{◌≡◌, ℤ, not, ◌&&◌, ◌==◌, map, IfErr, Result, Ok, Some, List, Option as OptionOf};
 ghost use Rattle.std.specs.Option.{option_map};
 ghost use Rattle.thrift_value.specs.Order.{tree_cmp};
-ghost use Rattle.thrift_value.specs.Tree.{Tree};
+ghost use Rattle.thrift_value.specs.Tree.{Tree, of_struct, no_fields};
 ghost use Rattle.thrift_value.specs.TreeOf.{tree_of, field_tree, pair_tree};
 ghost use Rattle.schema.specs.PlainKind.{kind_of};
 ghost use Rattle.schema.specs.SchemaOf.{plain_field};
 ghost use Rattle.struct_skew.specs.Answering.{MeansOrNoMemory, Puts, PutsSome};
-ghost use Rattle.struct_skew.specs.Projection.{unsent_value, map_value, set_value, list_value, bounded};
-ghost use Rattle.struct_skew.specs.Results.{with_value, both_values, as_field};
+ghost use Rattle.struct_skew.specs.Projection.{is_union, unsent_value, map_value, set_value, list_value, bounded};
+ghost use Rattle.struct_skew.specs.Results.{with_value, and_if_ok, both_values, as_field};
+ghost use Rattle.struct_skew.specs.Unions.{one_of_union};
 ghost use Rattle.struct_skew.specs.declared.fault.SkewFault.{SkewFault as Skew};
 ghost use Rattle.struct_skew.specs.declared.fault.SkewFault.TheVariants.{NoMemory};
 
@@ -19,7 +20,7 @@ use crate::order::{Keyed, in_order};
 use schema::{FieldDesc, StructKind, TypeDesc};
 use std::alloc::Global;
 use std::cmp::Ordering;
-use thrift_value::{Items, Pairs, Value};
+use thrift_value::{Fields, Items, Pairs, Value};
 
 impl Keyed for Value {
     ghost use Rattle.std.proofs.lemmas.Cmp.{on_total};
@@ -227,13 +228,13 @@ pub(crate) fn unsent_value(
 
 /// A value as a field with this id.
 pub(crate) fn as_field(
-    id: i16,
+    id: &i16,
     value: Result<Option<Value>, SkewFault>,
 ) -> Result<Option<(i16, Value)>, SkewFault>
-    ensures { (meant : Result (OptionOf Tree) Skew) → MeansOrNoMemory (option_map tree_of) value meant → MeansOrNoMemory (option_map field_tree) result (as_field id meant) }
+    ensures { (meant : Result (OptionOf Tree) Skew) → MeansOrNoMemory (option_map tree_of) value meant → MeansOrNoMemory (option_map field_tree) result (as_field id.now meant) }
 {
     match value {
-        Ok(Some(value)) => Ok(Some((id, value))),
+        Ok(Some(value)) => Ok(Some((*id, value))),
         Ok(None) => Ok(None),
         Err(fault) => Err(fault),
     }
@@ -250,4 +251,61 @@ pub(crate) fn bounded(value: Value) -> Result<Value, SkewFault>
         return Err(SkewFault::TooMany);
     }
     Ok(value)
+}
+
+/// A value that is there.
+pub(crate) fn some_of(value: Result<Value, SkewFault>) -> Result<Option<Value>, SkewFault>
+    ensures { (meant : Result Tree Skew) → MeansOrNoMemory tree_of value meant → MeansOrNoMemory (option_map tree_of) result (with_value Some meant) }
+{
+    match value {
+        Ok(value) => Ok(Some(value)),
+        Err(fault) => Err(fault),
+    }
+}
+
+/// The struct without fields.
+pub(crate) fn empty_struct(alloc: Global) -> Value
+    ensures { tree_of result ≡ of_struct no_fields }
+{
+    Value::Struct(Fields::new(Vec::new(alloc)))
+}
+
+/// Whether a union has another number of fields than one.
+fn is_wrong_number(kind: StructKind, count: usize) -> bool
+    ensures { result ≡ (is_union kind && not (count == 1)) }
+{
+    if !is_union(kind) {
+        return false;
+    }
+    count != 1
+}
+
+/// A struct of these fields; of a union there has to be exactly one.
+pub(crate) fn checked_struct(
+    which: u32,
+    kind: StructKind,
+    fields: Result<Vec<(i16, Value)>, SkewFault>,
+) -> Result<Value, SkewFault>
+    ensures { (meant : Result (List (ℤ × Tree)) Skew) → MeansOrNoMemory (λ v. map field_tree v.items) fields meant
+        → MeansOrNoMemory tree_of result (and_if_ok meant (one_of_union which kind)) }
+{
+    match fields {
+        Ok(fields) => {
+            if is_wrong_number(kind, fields.as_slice().len()) {
+                return Err(SkewFault::UnionFields(which));
+            }
+            Ok(Value::Struct(Fields::new(fields)))
+        }
+        Err(fault) => Err(fault),
+    }
+}
+
+/// What was found, where it has at most 64 levels and 4,000,000 values.
+pub(crate) fn bounded_of(found: Result<Value, SkewFault>) -> Result<Value, SkewFault>
+    ensures { (meant : Result Tree Skew) → MeansOrNoMemory tree_of found meant → MeansOrNoMemory tree_of result (and_if_ok meant bounded) }
+{
+    match found {
+        Ok(value) => bounded(value),
+        Err(fault) => Err(fault),
+    }
 }

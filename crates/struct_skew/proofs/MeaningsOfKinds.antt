@@ -1,0 +1,62 @@
+-- What raw values mean, by the parts of a type.
+use Rattle.std.proofs.Common.{◌≡◌, ℕ, List, Option, Some, None, Result, Ok, Err, refl}
+use Rattle.std.specs.Prelude.{⊤}
+use Rattle.std.specs.List.{slice_get}
+use Rattle.thrift_value.specs.declared.tag.Tag.{Tag}
+use Rattle.thrift_value.specs.Tree.{Tree, of_bool, of_i8, of_i16, of_i32, of_i64, of_double, of_bytes, of_struct, of_map, of_set, of_list, FieldTrees, ItemTrees, PairTrees}
+use Rattle.schema.specs.PlainKind.{PlainKind, kind_struct, kind_map, kind_set, kind_list}
+use Rattle.schema.specs.PlainSchema.{PlainStruct}
+use Rattle.struct_skew.specs.declared.fault.SkewFault.{SkewFault}
+use Rattle.struct_skew.specs.Parts.{struct_of_kind, map_of_kind, set_of_kind, list_of_kind}
+use Rattle.struct_skew.specs.Projection.{meaning_of, offers_of, item_meanings, pair_meanings, struct_value, map_value, set_value, list_value}
+use Rattle.struct_skew.specs.Results.{with_value}
+
+-- a struct, a map, a set and a list under a type of parts that are known, or of none
+abbrev pub struct_meant : List PlainStruct → FieldTrees → Option ℕ → Result Tree SkewFault
+struct_meant structs fields (Some which) = struct_value which (slice_get structs which) (offers_of structs fields)
+struct_meant structs fields None = Ok (of_struct fields)
+
+abbrev pub map_meant_by : List PlainStruct → Tag → Tag → PairTrees → Option (PlainKind × PlainKind) → Result Tree SkewFault
+map_meant_by structs k v pairs (Some p) = with_value (map_value p.0 p.1) (pair_meanings structs pairs p.0 p.1)
+map_meant_by structs k v pairs None = Ok (of_map k v pairs)
+
+abbrev pub set_meant_by : List PlainStruct → Tag → ItemTrees → Option PlainKind → Result Tree SkewFault
+set_meant_by structs t items (Some kind) = with_value (set_value kind) (item_meanings structs items kind)
+set_meant_by structs t items None = Ok (of_set t items)
+
+abbrev pub list_meant_by : List PlainStruct → Tag → ItemTrees → Option PlainKind → Result Tree SkewFault
+list_meant_by structs t items (Some kind) = with_value (list_value kind) (item_meanings structs items kind)
+list_meant_by structs t items None = Ok (of_list t items)
+
+pub meaning_of_struct : (structs : List PlainStruct) (kind : PlainKind) (fields : FieldTrees) → meaning_of structs (of_struct fields) kind ≡ struct_meant structs fields (struct_of_kind kind)
+meaning_of_struct structs (kind_struct which) fields = refl
+meaning_of_struct structs _ fields = refl
+
+pub meaning_of_map : (structs : List PlainStruct) (kind : PlainKind) (k v : Tag) (pairs : PairTrees) → meaning_of structs (of_map k v pairs) kind ≡ map_meant_by structs k v pairs (map_of_kind kind)
+meaning_of_map structs (kind_map key value) k v pairs = refl
+meaning_of_map structs _ k v pairs = refl
+
+pub meaning_of_set : (structs : List PlainStruct) (kind : PlainKind) (t : Tag) (items : ItemTrees) → meaning_of structs (of_set t items) kind ≡ set_meant_by structs t items (set_of_kind kind)
+meaning_of_set structs (kind_set member) t items = refl
+meaning_of_set structs _ t items = refl
+
+pub meaning_of_list : (structs : List PlainStruct) (kind : PlainKind) (t : Tag) (items : ItemTrees) → meaning_of structs (of_list t items) kind ≡ list_meant_by structs t items (list_of_kind kind)
+meaning_of_list structs (kind_list element) t items = refl
+meaning_of_list structs _ t items = refl
+
+-- a number, a bool or bytes
+abbrev pub IsScalar : Tree → Type 0
+IsScalar (of_struct _) = ⊥
+IsScalar (of_map _ _ _) = ⊥
+IsScalar (of_set _ _) = ⊥
+IsScalar (of_list _ _) = ⊥
+IsScalar _ = ⊤
+
+pub meaning_of_scalar : (structs : List PlainStruct) (value : Tree) (kind : PlainKind) → IsScalar value → meaning_of structs value kind ≡ Ok value
+meaning_of_scalar structs (of_struct _) kind h = absurd h
+meaning_of_scalar structs (of_map _ _ _) kind h = absurd h
+meaning_of_scalar structs (of_set _ _) kind h = absurd h
+meaning_of_scalar structs (of_list _ _) kind h = absurd h
+meaning_of_scalar structs _ kind h = refl
+
+pub ruleset meaning_equations = (meaning_of_struct, meaning_of_map, meaning_of_set, meaning_of_list, meaning_of_scalar)
