@@ -1,5 +1,5 @@
 -- Sets and maps in memory, in order.
-use Rattle.std.proofs.Common.{◌≡◌, ℕ, ℤ, Bool, true, false, cond, List, [], ◌∷◌, length, map, Result, Ok, Err, Ordering, Less, Equal, Greater, refl, sym, ap, ap₂, subst, ◌∙◌}
+use Rattle.std.proofs.Common.{◌≡◌, ℕ, ℤ, Bool, false, cond, List, [], ◌∷◌, length, map, Result, Ok, Err, Ordering, Less, Equal, Greater, refl, sym, ap, ap₂, ◌∙◌}
 use Rattle.std.specs.Prelude.{not, ◌&&◌, ◌==◌}
 use Rattle.std.proofs.lemmas.List.{length-map}
 use Rattle.thrift_value.specs.declared.tag.Tag.{Tag}
@@ -17,9 +17,8 @@ use Rattle.schema.specs.declared.types.FieldsKind.{FieldsKind}
 use Rattle.struct_skew.specs.declared.fault.SkewFault.TheVariants.{UnionFields}
 use Rattle.struct_skew.specs.Unions.{one_of_union}
 use Rattle.struct_skew.specs.declared.fault.SkewFault.{SkewFault}
-use Rattle.struct_skew.specs.Answering.{MeansOrNoMemory}
 use Rattle.struct_skew.specs.Fits.{tag_of_kind}
-use Rattle.struct_skew.specs.Latest.{by_order, with_earlier, with_all_earlier, latest_of_each}
+use Rattle.struct_skew.specs.Latest.{by_order, with_earlier, latest_of_each}
 use Rattle.struct_skew.specs.Orders.{value_cmp, pair_cmp}
 use Rattle.struct_skew.specs.Projection.{is_union, key_cmp, map_value, set_value}
 use Rattle.struct_skew.specs.Results.{with_value, and_if_ok}

@@ -1,24 +1,22 @@
 -- What is found for the fields of a struct.
-use Rattle.std.proofs.Common.{◌≡◌, ℕ, zero, suc, ◌+◌, ◌≤◌, ◌<◌, ℤ, ◌⊎◌, Bool, true, false, true≢false, cond, List, [], ◌∷◌, length, map, get_or, Option, Some, None, Result, Ok, Err, refl, sym, ap, ap₂, subst, ◌∙◌, arith}
-use Rattle.std.specs.Prelude.{not, ◌&&◌, ◌==◌, count_by, is_some}
+use Rattle.std.proofs.Common.{◌≡◌, ℕ, zero, suc, ◌+◌, ◌≤◌, ◌<◌, ℤ, Bool, true, false, true≢false, cond, List, [], ◌∷◌, length, get_or, Option, Some, None, Result, Ok, Err, refl, sym, ap, ◌∙◌, arith}
+use Rattle.std.specs.Prelude.{not, ◌&&◌, ◌==◌, is_some}
 use Rattle.std.specs.List.{slice_get}
-use Rattle.std.specs.Option.{option_map}
 use Rattle.std.proofs.lemmas.List.Sums.{sum_by-cons}
 use Rattle.thrift_value.specs.declared.value.Value.{Value}
 use Rattle.thrift_value.specs.Tree.{Tree, of_struct}
-use Rattle.thrift_value.specs.TreeOf.{tree_of, field_tree, field_trees}
+use Rattle.thrift_value.specs.TreeOf.{tree_of, field_trees}
 use Rattle.schema.specs.declared.types.FieldsKind.{FieldsKind}
 use Rattle.schema.specs.PlainSchema.{PlainField, PlainStruct}
 use Rattle.struct_skew.specs.declared.fault.SkewFault.{SkewFault}
 use Rattle.struct_skew.specs.declared.fault.SkewFault.TheVariants.{Missing, UnionFields}
 use Rattle.struct_skew.specs.declared.plan.Choice.{Choice}
-use Rattle.struct_skew.specs.Answering.{MeansOrNoMemory}
 use Rattle.struct_skew.specs.Offers.{Offer, last_offer}
 use Rattle.struct_skew.specs.Plan.{offer_at, planned_fields, IsPlanFor}
-use Rattle.struct_skew.specs.Projection.{is_required, is_union, default_of, meaning_of, offers_of, field_value, field_values, unsent_value, sent_count, checked_struct, struct_value}
-use Rattle.struct_skew.specs.Results.{with_value, and_if_ok, with_first, with_some, with_field, as_field}
+use Rattle.struct_skew.specs.Projection.{is_required, is_union, default_of, meaning_of, field_value, field_values, sent_count, checked_struct, struct_value}
+use Rattle.struct_skew.specs.Results.{with_value, and_if_ok, with_field}
 use Rattle.struct_skew.specs.Unions.{one_of_union}
-use Rattle.struct_skew.proofs.PlanSteps.{raw_offers, raw_offer, offer_there}
+use Rattle.struct_skew.proofs.PlanSteps.{raw_offers, offer_there}
 use Rattle.struct_skew.proofs.PlannedFields.{plan_gives}
 
 -- the raw field at a choice's place

@@ -1,12 +1,12 @@
 -- What types ask of raw values, where the parts of a type are known or known to be none.
-use Rattle.std.proofs.Common.{◌≡◌, ℕ, ◌⊎◌, Bool, true, false, Option, Some, None, refl, sym, ap, ◌∙◌}
+use Rattle.std.proofs.Common.{◌≡◌, Bool, false, Option, Some, None, refl}
 use Rattle.std.specs.Prelude.{⊤}
 use Rattle.thrift_value.specs.declared.tag.Tag.{Tag}
 use Rattle.thrift_value.specs.Tags.{tag_of}
-use Rattle.thrift_value.specs.Tree.{Tree, of_bool, of_i8, of_i16, of_i32, of_i64, of_double, of_bytes, of_struct, of_map, of_set, of_list, ItemTrees, PairTrees}
-use Rattle.schema.specs.PlainKind.{PlainKind, kind_bool, kind_struct, kind_map, kind_set, kind_list}
+use Rattle.thrift_value.specs.Tree.{Tree, of_map, of_set, of_list, ItemTrees, PairTrees}
+use Rattle.schema.specs.PlainKind.{PlainKind, kind_map, kind_set, kind_list}
 use Rattle.struct_skew.specs.Fits.{tag_of_kind, each_item, each_pair, are_same_tags, fits_kind}
-use Rattle.struct_skew.specs.Parts.{struct_of_kind, map_of_kind, set_of_kind, list_of_kind}
+use Rattle.struct_skew.specs.Parts.{map_of_kind, set_of_kind, list_of_kind}
 
 -- a map, a set and a list under a type of parts that are known, or of none
 abbrev pub map_test : PairTrees → Option (PlainKind × PlainKind) → Bool

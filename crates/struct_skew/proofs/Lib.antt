@@ -10,3 +10,4 @@ pub mod Steps
 pub mod Containers
 pub mod MeaningsOfKinds
 pub mod FieldValues
+pub mod Bounds

@@ -1,9 +1,9 @@
 -- What raw values mean, by the parts of a type.
-use Rattle.std.proofs.Common.{◌≡◌, ℕ, List, Option, Some, None, Result, Ok, Err, refl}
+use Rattle.std.proofs.Common.{◌≡◌, ℕ, List, Option, Some, None, Result, Ok, refl}
 use Rattle.std.specs.Prelude.{⊤}
 use Rattle.std.specs.List.{slice_get}
 use Rattle.thrift_value.specs.declared.tag.Tag.{Tag}
-use Rattle.thrift_value.specs.Tree.{Tree, of_bool, of_i8, of_i16, of_i32, of_i64, of_double, of_bytes, of_struct, of_map, of_set, of_list, FieldTrees, ItemTrees, PairTrees}
+use Rattle.thrift_value.specs.Tree.{Tree, of_struct, of_map, of_set, of_list, FieldTrees, ItemTrees, PairTrees}
 use Rattle.schema.specs.PlainKind.{PlainKind, kind_struct, kind_map, kind_set, kind_list}
 use Rattle.schema.specs.PlainSchema.{PlainStruct}
 use Rattle.struct_skew.specs.declared.fault.SkewFault.{SkewFault}

@@ -1,7 +1,7 @@
 -- The place of an id among fields whose ids rise.
-use Rattle.std.proofs.Common.{◌≡◌, ℕ, zero, suc, ◌+◌, ◌<◌, ◌≤◌, ℤ, ◌⊎◌, ⊎_elim, Bool, true, false, true≢false, cond, List, [], ◌∷◌, length, map, get_or, Option, Some, None, Equal, Less, Greater, refl, sym, ap, subst, ◌∙◌, arith}
+use Rattle.std.proofs.Common.{◌≡◌, ℕ, zero, suc, ◌+◌, ◌<◌, ℤ, ⊎_elim, Bool, true, false, cond, List, [], ◌∷◌, length, map, get_or, Option, Some, None, Equal, refl, sym, ap, subst, ◌∙◌, arith}
 use Rattle.std.specs.Prelude.{◌<ℤ◌, ◌==◌, ◌&&◌, AllPairs}
-use Rattle.std.specs.List.{find, HoldsAt}
+use Rattle.std.specs.List.{HoldsAt}
 use Rattle.std.specs.Ordering.{int_cmp, int_eq}
 use Rattle.std.proofs.lemmas.Bool.Decides.{Decides-int_eq, eqb_tells}
 use Rattle.std.proofs.lemmas.Bool.{cases_order}
@@ -13,10 +13,9 @@ use Rattle.schema.specs.declared.types.FieldDesc.{FieldDesc}
 use Rattle.schema.specs.PlainSchema.{PlainField}
 use Rattle.schema.specs.SchemaOf.{plain_field}
 use Rattle.schema.specs.WrittenAs.{field_with_id}
-use Rattle.struct_skew.specs.declared.plan.Choice.{Choice}
 use Rattle.struct_skew.specs.Fits.{fits_kind}
 use Rattle.struct_skew.specs.Offers.{is_sent_for}
-use Rattle.struct_skew.specs.Plan.{AllAt, is_place, is_choice_at, IsPlaceOfId}
+use Rattle.struct_skew.specs.Plan.{AllAt, is_place, IsPlaceOfId}
 use Rattle.struct_skew.proofs.PlanLaws.{AllAt-then, AllAt-both}
 
 -- what holds at each place
@@ -43,12 +42,12 @@ only_here id fs p q d rising p_in q_in here =
     ⊎_elim
     (λ same. (Decides-int_eq (get_or fs q d).id id).1 (ap (λ k. (get_or fs k d).id) (sym same.1) ∙ here) ∙ sym same.0)
     (λ other.
-      let unequal : (get_or fs q d).id ≡ id → ⊥ =
-      ⊎_elim (λ same. λ e. other.1 same)
-      (λ rest. ⊎_elim (λ low. λ e. below_is_other (get_or fs p d).id (get_or fs q d).id (rising p q d low q_in) (here ∙ sym e))
-      (λ high. λ e. below_is_other (get_or fs q d).id (get_or fs p d).id (rising q p d high p_in) (e ∙ sym here)) rest)
-      (cases_order p q) in
-      other_id (get_or fs q d).id id unequal ∙ sym other.0)
+    let unequal : (get_or fs q d).id ≡ id → ⊥ =
+    ⊎_elim (λ same. λ e. other.1 same)
+    (λ rest. ⊎_elim (λ low. λ e. below_is_other (get_or fs p d).id (get_or fs q d).id (rising p q d low q_in) (here ∙ sym e))
+    (λ high. λ e. below_is_other (get_or fs q d).id (get_or fs p d).id (rising q p d high p_in) (e ∙ sym here)) rest)
+    (cases_order p q) in
+    other_id (get_or fs q d).id id unequal ∙ sym other.0)
     (eqb_tells p q)
 
 found_place : (id : ℤ) (fs : List FieldDesc) (p : ℕ) → AllPairs (λ (f g : PlainField). f.id <ℤ g.id) (map plain_field fs) → p < length fs
@@ -102,9 +101,9 @@ pub sent_here : (id : ℤ) (value : Tree) (fs : List PlainField) (p : ℕ) (g : 
 sent_here id value fs p g is at =
     AllAt-both (λ q f. int_eq f.id id ≡ (p == q)) (λ q f. (0 + p ≡ q → f ≡ g)) (λ q f. is_sent_for f id value ≡ ((p == q) && fits_kind g.kind value))
     (λ q f own same. ⊎_elim
-      (λ yes-it. ap (λ b. b && fits_kind f.kind value) own ∙ ap (λ (h : PlainField). (p == q) && fits_kind h.kind value) (same (omega (arith, yes-it.1))))
-      (λ other. ap (λ b. b && fits_kind f.kind value) (own ∙ other.0) ∙ sym (ap (λ b. b && fits_kind g.kind value) other.0))
-      (eqb_tells p q))
+    (λ yes-it. ap (λ b. b && fits_kind f.kind value) own ∙ ap (λ (h : PlainField). (p == q) && fits_kind h.kind value) (same (omega (arith, yes-it.1))))
+    (λ other. ap (λ b. b && fits_kind f.kind value) (own ∙ other.0) ∙ sym (ap (λ b. b && fits_kind g.kind value) other.0))
+    (eqb_tells p q))
     0 fs is.own (at_own_place 0 fs p g at)
 
 module _ (id : ℤ) (value : Tree) (ds : List FieldDesc) (p : ℕ) (g : FieldDesc) (is : IsPlaceOfId id (map plain_field ds) (Some p)) (at : g ≡ get_or ds p g) where

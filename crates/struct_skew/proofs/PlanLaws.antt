@@ -1,22 +1,18 @@
 -- Plans: what is sent for each declared field, and what comes of the fields that are passed over.
-use Rattle.std.proofs.Common.{◌≡◌, ◌≢◌, ℕ, ◌+◌, ◌≤◌, ◌<◌, ℤ, ◌⊎◌, inl, inr, ⊎_elim, Bool, true, false, true≢false, cond, List, [], ◌∷◌, ◌++◌, length, map, get_or, Option, Some, None, Result, Ok, Err, Ordering, Less, Equal, Greater, refl, sym, ap, ap₂, ◌∙◌, subst, append-nil, eq-eqb, ne_eqb, arith}
-use Rattle.std.specs.Prelude.{IfSome, ◌==◌, ◌||◌, ◌&&◌, if◌then◌else◌, option_to_list, is_some, not}
-use Rattle.std.specs.List.{slice_get, list_any}
-use Rattle.std.specs.Ordering.{nat_cmp, MatchOrdering}
+use Rattle.std.proofs.Common.{◌≡◌, ℕ, ◌+◌, ◌<◌, ⊎_elim, Bool, true, false, true≢false, cond, List, [], ◌∷◌, ◌++◌, map, Option, Some, None, Ordering, Less, Equal, Greater, refl, sym, ap, ap₂, ◌∙◌, subst, append-nil, eq-eqb, ne_eqb, arith}
+use Rattle.std.specs.Prelude.{IfSome, ◌==◌, ◌||◌, if◌then◌else◌, option_to_list}
+use Rattle.std.specs.List.{slice_get}
+use Rattle.std.specs.Ordering.{MatchOrdering}
 use Rattle.std.specs.Cmp.{IsTotalOrder}
 use Rattle.std.proofs.lemmas.Cmp.{ranked, nat_cmp_total, on_total}
 use Rattle.std.proofs.lemmas.Bool.Decides.{eqb_tells}
-use Rattle.thrift_value.specs.Tree.{Tree}
 use Rattle.schema.specs.declared.types.FieldsKind.{FieldsKind}
 use Rattle.schema.specs.PlainSchema.{PlainField}
-use Rattle.struct_skew.specs.declared.fault.SkewFault.{SkewFault}
 use Rattle.struct_skew.specs.declared.plan.Choice.{Choice}
-use Rattle.struct_skew.specs.Latest.{by_order, with_earlier, with_all_earlier, latest_of_each, ComesBefore, IsRisingBy}
-use Rattle.struct_skew.specs.Needs.{places_from, is_required_field, is_defaulted_field}
-use Rattle.struct_skew.specs.Offers.{Offer, is_offer_of, last_offer, last_offer_behind}
-use Rattle.struct_skew.specs.Plan.{AllAt, place_cmp, unsent_choice, is_choice_at, first_known, latest_at, has_choice, offer_at, offer_of, IsPassive, Suits, IsPlanFor, Follows, chosen_field, planned_fields}
-use Rattle.struct_skew.specs.Projection.{is_required, default_of, unsent_value, field_value, field_values}
-use Rattle.struct_skew.specs.Results.{with_first, with_field}
+use Rattle.struct_skew.specs.Latest.{by_order, with_earlier, latest_of_each}
+use Rattle.struct_skew.specs.Needs.{places_from}
+use Rattle.struct_skew.specs.Offers.{Offer, is_offer_of, last_offer_behind}
+use Rattle.struct_skew.specs.Plan.{AllAt, place_cmp, unsent_choice, is_choice_at, first_known, latest_at, has_choice, offer_at, offer_of, Suits, IsPlanFor, Follows}
 use Rattle.struct_skew.proofs.LatestLaws.{IsRisingBy-latest}
 
 -- choices are in a total order
@@ -80,6 +76,7 @@ none_latest_at q (c ∷ cs) none =
     both_none : (x y : Option (Option ℕ)) → first_known x y ≡ None → (x ≡ None) × (y ≡ None)
     both_none (Some x) y e = absurd cc
     both_none None y e = (refl, e)
+
     no_test : (b : Bool) (s : Option ℕ) → cond b (Some s) None ≡ None → b ≡ false
     no_test true s e = absurd cc
     no_test false s e = refl
@@ -98,9 +95,9 @@ other_place q c d (Some x) below = refl
 other_place q c d None below =
     ⊎_elim
     (λ own. let none : here q c ≡ None = other_here q c (λ e. omega (arith, e, own.1)) in
-        ap (λ y. first_known y (here q d)) none ∙ sym (nothing_first (here q d)) ∙ ap (first_known (here q d)) (sym none))
+    ap (λ y. first_known y (here q d)) none ∙ sym (nothing_first (here q d)) ∙ ap (first_known (here q d)) (sym none))
     (λ lacks. let none : here q d ≡ None = other_here q d lacks.1 in
-        ap (first_known (here q c)) none ∙ nothing_first (here q c) ∙ ap (λ y. first_known y (here q c)) (sym none))
+    ap (first_known (here q c)) none ∙ nothing_first (here q c) ∙ ap (λ y. first_known y (here q c)) (sym none))
     (eqb_tells d.place q)
 
 latest_at-by : (o : Ordering) (q : ℕ) (c d : Choice) (ds : List Choice) → MatchOrdering o (c.place < d.place) (c.place ≡ d.place) (d.place < c.place)
@@ -195,6 +192,6 @@ listed_places test n [] = tt
 listed_places test n (f ∷ fs) = (
   has_itself n (test f) (places_from test (n + 1) fs),
   AllAt-then (λ q g. test g ≡ true → has_choice q (map unsent_choice (places_from test (n + 1) fs)) ≡ true)
-  (λ q g. test g ≡ true → has_choice q (map unsent_choice (cond (test f) (n ∷ places_from test (n + 1) fs) (places_from test (n + 1) fs))) ≡ true)
-  (λ q g held e. has_more q (test f) n (places_from test (n + 1) fs) (held e)) (n + 1) fs (listed_places test (n + 1) fs),
+      (λ q g. test g ≡ true → has_choice q (map unsent_choice (cond (test f) (n ∷ places_from test (n + 1) fs) (places_from test (n + 1) fs))) ≡ true)
+      (λ q g held e. has_more q (test f) n (places_from test (n + 1) fs) (held e)) (n + 1) fs (listed_places test (n + 1) fs),
 )

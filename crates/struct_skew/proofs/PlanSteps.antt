@@ -1,5 +1,5 @@
 -- Steps of making a plan.
-use Rattle.std.proofs.Common.{◌≡◌, ℕ, zero, suc, ◌+◌, ◌<◌, ℤ, List, [], ◌∷◌, ◌++◌, length, map, drop, get_or, Option, Some, None, refl, sym, ap, ap₂, subst, ◌∙◌, arith}
+use Rattle.std.proofs.Common.{◌≡◌, ℕ, zero, suc, ◌+◌, ◌<◌, ℤ, List, [], ◌∷◌, ◌++◌, length, map, drop, get_or, Option, Some, sym, ap, subst, ◌∙◌, arith}
 use Rattle.std.specs.Prelude.{IfSome, option_to_list}
 use Rattle.std.specs.List.{slice_get}
 use Rattle.std.proofs.lemmas.List.{drop_more}
@@ -9,9 +9,8 @@ use Rattle.schema.specs.declared.types.FieldsKind.{FieldsKind}
 use Rattle.schema.specs.PlainSchema.{PlainField, PlainStruct}
 use Rattle.struct_skew.specs.declared.plan.Choice.{Choice}
 use Rattle.struct_skew.specs.Latest.{latest_of_each}
-use Rattle.struct_skew.specs.Needs.{needs_of}
 use Rattle.struct_skew.specs.Offers.{Offer, is_sent_for}
-use Rattle.struct_skew.specs.Plan.{AllAt, place_cmp, unsent_choice, is_choice_at, Follows, IsPlanFor, LeadsOn, Plans}
+use Rattle.struct_skew.specs.Plan.{AllAt, place_cmp, unsent_choice, is_choice_at, Follows, LeadsOn, Plans}
 use Rattle.struct_skew.specs.Projection.{meaning_of, offers_of}
 use Rattle.struct_skew.proofs.PlanLaws.{AllAt-both, Follows-more, plan_in_order}
 use Rattle.struct_skew.proofs.PlannedFields.{Follows-start}
@@ -45,7 +44,7 @@ sent_more fields sent i x into new choice low here is named put structs kind kep
     (Follows kind (raw_offers structs sent) into (raw_offer structs x ∷ raw_offers structs (drop (i + 1) sent)))
     (Follows kind (raw_offers structs sent) (into ++ option_to_list choice) (raw_offers structs (drop (i + 1) sent)))
     (λ q f own kept_here. Follows-more kind (raw_offers structs sent) into (raw_offer structs x) (raw_offers structs (drop (i + 1) sent)) i choice q f
-        (offer_there structs sent i x low here) named own kept_here)
+    (offer_there structs sent i x low here) named own kept_here)
     0 fields is (subst P front kept))
 
 -- what is needed and what is sent, in order, is a plan

@@ -1,8 +1,8 @@
 -- A plan gives the fields that the declared ones have: those that it passes over have no value.
-use Rattle.std.proofs.Common.{◌≡◌, ℕ, ◌+◌, ◌-◌, ◌≤◌, ◌<◌, ℤ, ◌⊎◌, ⊎_elim, Bool, true, false, true≢false, cond, List, [], ◌∷◌, ◌++◌, map, Option, Some, None, Result, Ok, Err, Ordering, Less, Equal, Greater, refl, sym, ap, ap₂, ◌∙◌, subst, arith}
+use Rattle.std.proofs.Common.{◌≡◌, ℕ, ◌+◌, ◌-◌, ◌≤◌, ◌<◌, ⊎_elim, Bool, true, false, true≢false, cond, List, [], ◌∷◌, ◌++◌, map, Option, Some, None, Ok, Err, Less, refl, sym, ap, ap₂, ◌∙◌, subst, arith}
 use Rattle.std.specs.Prelude.{⊤, zero, suc, ◌==◌, ◌||◌, ◌&&◌, not, is_some}
 use Rattle.std.specs.List.{slice_get}
-use Rattle.std.specs.Ordering.{nat_cmp, MatchOrdering}
+use Rattle.std.specs.Ordering.{MatchOrdering}
 use Rattle.std.proofs.lemmas.Cmp.{ranked}
 use Rattle.std.proofs.lemmas.Bool.{ne_eqb}
 use Rattle.std.proofs.lemmas.Bool.Decides.{eqb_tells}
@@ -10,14 +10,13 @@ use Rattle.std.proofs.lemmas.List.{map-append}
 use Rattle.thrift_value.specs.Tree.{Tree}
 use Rattle.schema.specs.declared.types.FieldsKind.{FieldsKind}
 use Rattle.schema.specs.PlainSchema.{PlainField, PlainStruct}
-use Rattle.struct_skew.specs.declared.fault.SkewFault.{SkewFault}
 use Rattle.struct_skew.specs.declared.fault.SkewFault.TheVariants.{Missing}
 use Rattle.struct_skew.specs.declared.plan.Choice.{Choice}
 use Rattle.struct_skew.specs.Latest.{ComesBefore, IsRisingBy}
-use Rattle.struct_skew.specs.Needs.{needs_of, places_from, is_required_field, is_defaulted_field}
+use Rattle.struct_skew.specs.Needs.{needs_of, is_required_field, is_defaulted_field}
 use Rattle.struct_skew.specs.Offers.{Offer, last_offer, last_offer_behind}
 use Rattle.struct_skew.specs.Plan.{AllAt, place_cmp, unsent_choice, first_known, latest_at, has_choice, offer_at, offer_of, IsPassive, Suits, IsPlanFor, Follows, chosen_field, planned_fields}
-use Rattle.struct_skew.specs.Projection.{is_required, default_of, unsent_value, field_value, field_values}
+use Rattle.struct_skew.specs.Projection.{is_required, default_of, field_value, field_values}
 use Rattle.struct_skew.specs.Results.{with_some, with_field}
 use Rattle.struct_skew.proofs.PlanLaws.{AllAt-both, listed_places, front_lacks, unsent_named, latest_at-none, own_here, other_here}
 
@@ -85,25 +84,25 @@ module _ (which : ℕ) (kind : FieldsKind) (all : List PlainField) (offers : Lis
   planned_from n (f ∷ fs) (c ∷ cs) here rising from suits =
       ⊎_elim
       (λ own.
-        let at : c.place ≡ n + 0 = omega (arith, own.1) in
-        let low = from.0 in
-        let behind : AreFrom (n + 1) cs = AreFrom-behind n c cs low rising.0 in
-        let lacks : latest_at n cs ≡ None = latest_at-none n cs (AreFrom-next n cs behind) in
-        let named : latest_at n (c ∷ cs) ≡ Some c.sent = ap₂ first_known lacks (own_here n c own.1) in
-        let sent : offer_at offers c.sent ≡ last_offer f offers = ap (offer_of offers) (sym named) ∙ suits.0.sent in
-        let rest : planned_fields which kind all offers cs ≡ field_values which kind fs offers =
-            planned_from (n + 1) fs cs (λ k. ap (slice_get all) (omega arith) ∙ here (suc k)) rising.1 behind
-            (AllAt-from (Suits kind offers (c ∷ cs)) (Suits kind offers cs) (n + 1) fs (λ q g high s. Suits-behind n c cs q g own.1 high s) suits.1) in
-        ap (λ g. with_some (chosen_field which kind offers c g) (planned_fields which kind all offers cs)) (ap (slice_get all) at ∙ here zero)
-        ∙ ap₂ (λ o more. with_field f.id (field_value which kind f o) more) sent rest)
+      let at : c.place ≡ n + 0 = omega (arith, own.1) in
+      let low = from.0 in
+      let behind : AreFrom (n + 1) cs = AreFrom-behind n c cs low rising.0 in
+      let lacks : latest_at n cs ≡ None = latest_at-none n cs (AreFrom-next n cs behind) in
+      let named : latest_at n (c ∷ cs) ≡ Some c.sent = ap₂ first_known lacks (own_here n c own.1) in
+      let sent : offer_at offers c.sent ≡ last_offer f offers = ap (offer_of offers) (sym named) ∙ suits.0.sent in
+      let rest : planned_fields which kind all offers cs ≡ field_values which kind fs offers =
+      planned_from (n + 1) fs cs (λ k. ap (slice_get all) (omega arith) ∙ here (suc k)) rising.1 behind
+      (AllAt-from (Suits kind offers (c ∷ cs)) (Suits kind offers cs) (n + 1) fs (λ q g high s. Suits-behind n c cs q g own.1 high s) suits.1) in
+      ap (λ g. with_some (chosen_field which kind offers c g) (planned_fields which kind all offers cs)) (ap (slice_get all) at ∙ here zero)
+      ∙ ap₂ (λ o more. with_field f.id (field_value which kind f o) more) sent rest)
       (λ other.
-        let low = from.0 in
-        let high : n + 1 ≤ c.place = omega (arith, low, other.1) in
-        let behind : AreFrom (n + 1) (c ∷ cs) = (high, AreFrom-low n c cs rising.0 high) in
-        let lacks : has_choice n (c ∷ cs) ≡ false = AreFrom-next n (c ∷ cs) behind in
-        let unsent : last_offer f offers ≡ None = sym suits.0.sent ∙ ap (offer_of offers) (latest_at-none n (c ∷ cs) lacks) in
-        planned_from (n + 1) fs (c ∷ cs) (λ k. ap (slice_get all) (omega arith) ∙ here (suc k)) rising behind suits.1
-        ∙ sym (passed_over f fs (suits.0.passive lacks) unsent))
+      let low = from.0 in
+      let high : n + 1 ≤ c.place = omega (arith, low, other.1) in
+      let behind : AreFrom (n + 1) (c ∷ cs) = (high, AreFrom-low n c cs rising.0 high) in
+      let lacks : has_choice n (c ∷ cs) ≡ false = AreFrom-next n (c ∷ cs) behind in
+      let unsent : last_offer f offers ≡ None = sym suits.0.sent ∙ ap (offer_of offers) (latest_at-none n (c ∷ cs) lacks) in
+      planned_from (n + 1) fs (c ∷ cs) (λ k. ap (slice_get all) (omega arith) ∙ here (suc k)) rising behind suits.1
+      ∙ sym (passed_over f fs (suits.0.passive lacks) unsent))
       (eqb_tells c.place n)
 
   -- a plan gives the fields that the declared ones have
@@ -138,14 +137,17 @@ Follows-start s offers choices required defaulted r d is =
   where
     both : choices ≡ map unsent_choice (needs_of s).required ++ map unsent_choice (needs_of s).defaulted
     both = is ∙ ap₂ (λ x y. map unsent_choice x ++ map unsent_choice y) r d
+
     whole : choices ≡ map unsent_choice ((needs_of s).required ++ (needs_of s).defaulted)
     whole = both ∙ sym (map-append unsent_choice (needs_of s).required (needs_of s).defaulted)
+
     defaults : (f : PlainField) → is_required f.need ≡ false → is_defaulted_field s.kind f ≡ false → default_of s.kind f ≡ None
     defaults f unneeded e = nothing (default_of s.kind f) (ap (λ b. not b && is_some (default_of s.kind f)) (sym unneeded) ∙ e)
       where
         nothing : (o : Option Tree) → is_some o ≡ false → o ≡ None
         nothing (Some x) e = absurd (true≢false e)
         nothing None e = refl
+
     follows : (q : ℕ) (f : PlainField) → (is_required_field f ≡ true → has_choice q (map unsent_choice (needs_of s).required) ≡ true)
         → (is_defaulted_field s.kind f ≡ true → has_choice q (map unsent_choice (needs_of s).defaulted) ≡ true) → Follows s.kind offers choices offers q f
     follows q f one other = record {

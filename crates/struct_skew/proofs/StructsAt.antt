@@ -1,11 +1,11 @@
 -- The struct at a number.
-use Rattle.std.proofs.Common.{◌≡◌, ℕ, zero, suc, ◌<◌, List, [], ◌∷◌, length, map, get_or, Option, Some, None, refl, sym, ap, subst, ◌∙◌}
+use Rattle.std.proofs.Common.{◌≡◌, ℕ, zero, suc, List, [], ◌∷◌, map, Some, refl, sym, ap, subst, ◌∙◌}
 use Rattle.std.specs.Prelude.{All}
 use Rattle.std.specs.List.{slice_get}
 use Rattle.std.specs.Option.{option_map}
 use Rattle.std.proofs.lemmas.Option.{get_or_from_slice_get, slice_get_within, same_Some}
 use Rattle.schema.specs.declared.types.StructDesc.{StructDesc}
-use Rattle.schema.specs.PlainSchema.{PlainStruct, PlainSchema}
+use Rattle.schema.specs.PlainSchema.{PlainSchema}
 use Rattle.schema.specs.SchemaOf.{plain_struct}
 use Rattle.schema.specs.Sound.{IsSoundStruct}
 use Rattle.struct_skew.specs.declared.needs.StructNeeds.{StructNeeds}

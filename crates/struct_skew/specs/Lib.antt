@@ -11,5 +11,4 @@ pub mod Unions
 pub mod Plan
 pub mod Orders
 pub mod Structs
-pub mod Filled
 pub mod Rows

@@ -1,5 +1,5 @@
 -- The declared fields that need a look even where nothing is sent for them: those that have to be there, and those with a default.
-use Rattle.std.specs.Prelude.{ℕ, ◌+◌, Bool, not, ◌&&◌, if◌then◌else◌, List, [], ◌∷◌, map, is_some}
+use Rattle.std.specs.Prelude.{ℕ, ◌+◌, Bool, not, ◌&&◌, if◌then◌else◌, List, [], ◌∷◌, is_some}
 use Rattle.schema.specs.PlainSchema.{PlainField, PlainStruct}
 use Rattle.schema.specs.declared.types.FieldsKind.{FieldsKind}
 use Rattle.struct_skew.specs.declared.needs.StructNeeds.{StructNeeds}

@@ -1,5 +1,5 @@
 -- How the raw fields of a struct are assigned to its declared ones.
-use Rattle.std.specs.Prelude.{◌≡◌, ⊤, IfSome, ℕ, ℤ, ◌+◌, ◌<◌, length, Bool, true, false, ◌==◌, ◌||◌, if◌then◌else◌, List, [], ◌∷◌, ◌++◌, map, Option, Some, None, option_and_then, Result, Ok}
+use Rattle.std.specs.Prelude.{◌≡◌, ⊤, IfSome, ℕ, ℤ, ◌+◌, ◌<◌, length, Bool, false, ◌==◌, if◌then◌else◌, List, [], ◌∷◌, Option, Some, None, option_and_then, Result, Ok}
 use Rattle.std.specs.List.{slice_get, list_any}
 use Rattle.std.specs.declared.cmp.Ordering.{Ordering}
 use Rattle.std.specs.Ordering.{nat_cmp, int_eq}
@@ -9,8 +9,8 @@ use Rattle.schema.specs.PlainSchema.{PlainField, PlainStruct}
 use Rattle.struct_skew.specs.declared.fault.SkewFault.{SkewFault}
 use Rattle.struct_skew.specs.declared.plan.Choice.{Choice}
 use Rattle.struct_skew.specs.Latest.{IsRisingBy}
-use Rattle.struct_skew.specs.Needs.{PlainNeeds, needs_of}
-use Rattle.struct_skew.specs.Offers.{Offer, last_offer, last_offer_behind, is_sent_for}
+use Rattle.struct_skew.specs.Needs.{needs_of}
+use Rattle.struct_skew.specs.Offers.{Offer, last_offer, last_offer_behind}
 use Rattle.struct_skew.specs.Projection.{is_required, default_of, field_value, offers_of}
 use Rattle.struct_skew.specs.Results.{with_some, as_field}
 

@@ -1,8 +1,8 @@
 -- Worked examples: some structs, and what is sent for them.
-use Rattle.std.specs.Prelude.{◌≡◌, ℕ, zero, suc, ℤ, pos, List, [], ◌∷◌, codes, Option, Some, None}
+use Rattle.std.specs.Prelude.{ℕ, zero, suc, ℤ, pos, [], ◌∷◌, codes, Option, Some, None}
 use Rattle.thrift_value.specs.declared.tag.Tag.{Tag}
 use Rattle.thrift_value.specs.declared.tag.Tag.TheVariants as tag
-use Rattle.thrift_value.specs.Tree.{Tree, of_i32, of_bytes, of_struct, of_map, of_list, FieldTrees, no_fields, field, no_items, item, no_pairs, pair}
+use Rattle.thrift_value.specs.Tree.{Tree, of_i32, of_struct, of_list, no_fields, field, no_items, item}
 use Rattle.schema.specs.declared.types.FieldNeed.{FieldNeed}
 use Rattle.schema.specs.declared.types.FieldNeed.TheVariants.{Default, Optional, Required}
 use Rattle.schema.specs.declared.types.FieldsKind.TheVariants as of_kind
@@ -20,8 +20,8 @@ row_work = record {
   name = codes "Work";
   kind = of_kind.Struct;
   fields =
-    row_field (pos 1) Default kind_i32 (Some (of_i32 (pos 0))) ∷ row_field (pos 2) Default kind_i32 None ∷ row_field (pos 3) Default kind_i32 None
-    ∷ row_field (pos 4) Optional kind_text None ∷ [];
+      row_field (pos 1) Default kind_i32 (Some (of_i32 (pos 0))) ∷ row_field (pos 2) Default kind_i32 None ∷ row_field (pos 3) Default kind_i32 None
+      ∷ row_field (pos 4) Optional kind_text None ∷ [];
 }
 
 -- union 1 { 1: i32, 2: string }
@@ -49,10 +49,10 @@ row_args = record {
   name = codes "f";
   kind = of_kind.Args;
   fields =
-    row_field (pos 1) Default kind_i32 None ∷ row_field (pos 2) Default (kind_struct 0) None ∷ row_field (pos 3) Default (kind_struct 2) None
-    ∷ row_field (pos 4) Default (kind_struct 1) None ∷ row_field (pos 5) Default (kind_list (kind_struct 0)) None
-    ∷ row_field (pos 6) Default (kind_map kind_text kind_i32) None ∷ row_field (pos 7) Default (kind_set kind_i32) None
-    ∷ row_field (pos 8) Default (nested_kind 64) None ∷ row_field (pos 9) Default (kind_list (kind_struct 2)) None ∷ [];
+      row_field (pos 1) Default kind_i32 None ∷ row_field (pos 2) Default (kind_struct 0) None ∷ row_field (pos 3) Default (kind_struct 2) None
+      ∷ row_field (pos 4) Default (kind_struct 1) None ∷ row_field (pos 5) Default (kind_list (kind_struct 0)) None
+      ∷ row_field (pos 6) Default (kind_map kind_text kind_i32) None ∷ row_field (pos 7) Default (kind_set kind_i32) None
+      ∷ row_field (pos 8) Default (nested_kind 64) None ∷ row_field (pos 9) Default (kind_list (kind_struct 2)) None ∷ [];
 }
 
 -- the schema of the four

@@ -1,12 +1,29 @@
-//! Structs as the schema declares them, from structs as anyone sent them.
+//! Structs as a schema declares them, from structs as anyone sent them: whatever version of the IDL the writer had, a
+//! projection keeps the known fields, puts in defaults, and names what is missing.
+//!
+//! ```
+//! let needed = needed_fields(alloc, &schema)?;                    // once a schema
+//! let (raw, behind) = read_struct(alloc, payload, at)?;           // of binary_codec or compact_codec
+//! match project_with(alloc, &schema, &needed, which, &raw) {
+//!     Ok(value) => call(value),                                   // tidy, with the declared fields alone
+//!     Err(SkewFault::Missing(which, id)) => complain(which, id),  // and so on
+//!     Err(_) => give_up(),
+//! }
+//! ```
+//!
+//! What a raw field counts for, and what a raw struct means, is said by `specs/Fits.antt`, `Offers.antt`, `Latest.antt` and
+//! `Projection.antt`, in this order; [`worked_fields`] and its kin have worked rows.
+//!
+//! Not here: bytes on a wire, and whether a value may be written under a type. A projection recurses once a level of the raw
+//! value. Where its defaults take more than 320 MB it answers want of memory, since few bytes can ask for many of them.
 #![tactic(auto)]
 
 mod fault;
 mod kinds;
+mod meanings;
 mod needs;
 mod order;
 mod plan;
-mod meanings;
 mod public;
 mod rows;
 mod structs;
@@ -15,4 +32,6 @@ mod values;
 pub use fault::SkewFault;
 pub use needs::{NeededFields, needed_fields};
 pub use public::{project, project_with};
-pub use rows::{worked_containers, worked_fields, worked_levels, worked_unions};
+pub use rows::{
+    a_projection_is_bounded, worked_containers, worked_fields, worked_levels, worked_unions,
+};

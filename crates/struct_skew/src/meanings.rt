@@ -17,7 +17,10 @@ use crate::kinds::{list_of_kind, map_of_kind, set_of_kind, struct_of_kind};
 use crate::needs::{NeededFields, item};
 use crate::plan::{Choice, plan_of};
 use crate::structs::struct_at;
-use crate::values::{as_field, both_of, checked_struct, copy_of, empty_struct, list_of, map_of, put_any, put_found, set_of, some_of, unsent_value};
+use crate::values::{
+    as_field, both_of, checked_struct, copy_of, empty_struct, list_of, map_of, put_any, put_found,
+    set_of, some_of, unsent_value,
+};
 use schema::{FieldDesc, Schema, StructDesc, StructKind, TypeDesc};
 use std::alloc::Global;
 use thrift_value::Value;
@@ -44,7 +47,15 @@ pub(crate) fn meaning(
         },
         Value::Map(_, _, pairs) => match map_of_kind(kind) {
             Some((key, value)) => {
-                let found = pair_meanings(pairs.as_slice(), alloc, schema, needed, key, value, room);
+                let found = pair_meanings(
+                    pairs.as_slice(),
+                    alloc,
+                    schema,
+                    needed,
+                    key,
+                    value,
+                    room,
+                );
                 map_of(alloc, key, value, found)
             }
             None => copy_of(alloc, raw),
@@ -90,7 +101,10 @@ fn item_meanings(
 {
     let mut found = Vec::with_capacity(alloc, items.len())?;
     for value in items {
-        put_found(&mut found, meaning(value, alloc, schema, needed, kind, room))?;
+        put_found(
+            &mut found,
+            meaning(value, alloc, schema, needed, kind, room),
+        )?;
     }
     Ok(found)
 }
@@ -136,7 +150,12 @@ fn pair_meanings(
 {
     let mut found = Vec::with_capacity(alloc, pairs.len())?;
     for place in 0..pairs.len() {
-        put_found(&mut found, pair_meaning(pairs, alloc, schema, needed, place, key_kind, value_kind, room))?;
+        put_found(
+            &mut found,
+            pair_meaning(
+                pairs, alloc, schema, needed, place, key_kind, value_kind, room,
+            ),
+        )?;
     }
     Ok(found)
 }
@@ -188,7 +207,17 @@ fn chosen_field(
     let Some(field) = item(desc.fields.as_slice(), choice.place) else {
         return Ok(None);
     };
-    let value = field_value(sent, alloc, schema, needed, which, desc.kind, field, choice.sent, room);
+    let value = field_value(
+        sent,
+        alloc,
+        schema,
+        needed,
+        which,
+        desc.kind,
+        field,
+        choice.sent,
+        room,
+    );
     as_field(&field.id, value)
 }
 
@@ -211,7 +240,10 @@ fn planned_fields(
 {
     let mut found = Vec::with_capacity(alloc, plan.len())?;
     for choice in plan {
-        put_any(&mut found, chosen_field(sent, alloc, schema, needed, which, desc, choice, room))?;
+        put_any(
+            &mut found,
+            chosen_field(sent, alloc, schema, needed, which, desc, choice, room),
+        )?;
     }
     Ok(found)
 }
@@ -241,6 +273,15 @@ fn struct_meaning(
         desc.fields.as_slice(),
         sent,
     )?;
-    let found = planned_fields(sent, alloc, schema, needed, which, desc, plan.as_slice(), room);
+    let found = planned_fields(
+        sent,
+        alloc,
+        schema,
+        needed,
+        which,
+        desc,
+        plan.as_slice(),
+        room,
+    );
     checked_struct(which, desc.kind, found)
 }

@@ -10,8 +10,8 @@ ghost use Rattle.struct_skew.specs.Needs.{needs_of};
 ghost use Rattle.struct_skew.specs.Projection.{projection};
 
 use crate::fault::SkewFault;
-use crate::needs::{NeededFields, needed_fields};
 use crate::meanings::meaning;
+use crate::needs::{NeededFields, needed_fields};
 use crate::values::bounded_of;
 use schema::{Schema, TypeDesc};
 use std::alloc::Global;
@@ -44,12 +44,7 @@ pub fn project_with(
 
 /// The projection of a raw struct on the struct at a number. It walks over all that the schema declares once: who projects more
 /// than once keeps `needed_fields` and calls `project_with`.
-pub fn project(
-    alloc: Global,
-    schema: &Schema,
-    which: u32,
-    raw: &Raw,
-) -> Result<Value, SkewFault>
+pub fn project(alloc: Global, schema: &Schema, which: u32, raw: &Raw) -> Result<Value, SkewFault>
     requires sound { IsSound (schema_of schema.now) }
     requires place { IsPlaceIn (schema_of schema.now).structs which }
     requires raw_struct { tag_of (tree_of raw.now) ≡ StructTag }

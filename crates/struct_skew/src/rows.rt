@@ -1,7 +1,9 @@
 //! Worked examples of the definitions.
-ghost use Rattle.std.specs.Prelude.{◌≡◌, pos, [], ◌∷◌, codes, true, false, Ok, Err};
+ghost use Rattle.std.specs.Prelude.{◌≡◌, ◌≤◌, ℕ, pos, [], ◌∷◌, codes, true, false, Ok, Err};
 ghost use Rattle.thrift_value.specs.declared.tag.Tag.TheVariants as tag;
-ghost use Rattle.thrift_value.specs.Tree.{of_i32, of_bytes, of_struct, of_map, of_set, of_list, field, no_fields, item, no_items, pair, no_pairs};
+ghost use Rattle.thrift_value.specs.Measures.{count_of, depth_of};
+ghost use Rattle.schema.specs.PlainSchema.{PlainSchema};
+ghost use Rattle.thrift_value.specs.Tree.{Tree, of_i32, of_bytes, of_struct, of_map, of_set, of_list, field, no_fields, item, no_items, pair, no_pairs};
 ghost use Rattle.schema.specs.PlainKind.{kind_i32, kind_list, kind_struct};
 ghost use Rattle.struct_skew.specs.Fits.{fits_kind};
 ghost use Rattle.struct_skew.specs.Projection.{projection};
@@ -55,4 +57,9 @@ pub fn worked_containers()
 pub fn worked_levels()
     ensures at_most { projection row_schema 3 (sent_one 8 (nested_empty tag.List 62)) ≡ Ok (sent_one 8 (nested_empty tag.List 62)) }
     ensures too_deep { projection row_schema 3 (sent_one 8 (nested_lists 64)) ≡ Err skew.TooDeep }
+{}
+
+/// A projection has at most 64 levels and 4,000,000 values.
+pub fn a_projection_is_bounded()
+    ensures { (s : PlainSchema) (which : ℕ) (raw value : Tree) → projection s which raw ≡ Ok value → (depth_of value ≤ 64) × (count_of value ≤ 4000000) }
 {}

@@ -59,7 +59,10 @@ pub(crate) fn copy_of(alloc: Global, value: &Value) -> Result<Value, SkewFault>
 }
 
 /// Appends a value, where it was found.
-pub(crate) fn put_found<T: Drop>(into: &mut Vec<T>, found: Result<T, SkewFault>) -> Result<(), SkewFault>
+pub(crate) fn put_found<T: Drop>(
+    into: &mut Vec<T>,
+    found: Result<T, SkewFault>,
+) -> Result<(), SkewFault>
     ensures { Puts found result into.old.items into.new.items }
 {
     match found {
@@ -171,7 +174,9 @@ fn weight(value: &Value) -> u64 {
         Value::Map(_, _, pairs) => {
             let mut sum: u64 = 40;
             for (key, value) in pairs.as_slice() {
-                sum = sum.saturating_add(weight(key)).saturating_add(weight(value));
+                sum = sum
+                    .saturating_add(weight(key))
+                    .saturating_add(weight(value));
             }
             sum
         }

@@ -1,4 +1,4 @@
-use Rattle.std.proofs.Common.{◌≡◌, refl, sym, ap, subst, ◌∙◌, map, Some, None, arith, rules}
+use Rattle.std.proofs.Common.{◌≡◌, refl, sym, ap, subst, ◌∙◌, map, Some, None, arith}
 use Rattle.std.specs.List.{slice_get}
 use Rattle.std.specs.Option.{option_map}
 use Rattle.thrift_value.specs.TreeOf.{tree_of, field_tree, item_trees, pair_tree, pair_trees}
@@ -65,7 +65,7 @@ field_value-returns t c =
     let structs = (schema_of c.args.schema.now).structs in
     let none : offer_at (raw_offers structs c.args.sent.now) c.args.choice ≡ None =
     elim c.match-choice.branch [
-      field_value-in-Some+else-place-sent w ↦ ap (offer_at (raw_offers structs c.args.sent.now)) w.in-Some.is ∙ none_there structs c.args.sent.now w.in-Some.place (omega (arith, w.if-place-sent.false))
+      | field_value-in-Some+else-place-sent w ↦ ap (offer_at (raw_offers structs c.args.sent.now)) w.in-Some.is ∙ none_there structs c.args.sent.now w.in-Some.place (omega (arith, w.if-place-sent.false))
       | field_value-in_default w ↦ ap (offer_at (raw_offers structs c.args.sent.now)) w.in_default.is
     ] in
     subst (MeansOrNoMemory (option_map tree_of) c.unsent_value.result)

@@ -1,4 +1,4 @@
-use Rattle.std.proofs.Common.{List, [], map, drop}
+use Rattle.std.proofs.Common.{List, map, drop}
 use Rattle.thrift_value.specs.TreeOf.{field_tree, field_trees}
 use Rattle.schema.specs.SchemaOf.{plain_field}
 use Rattle.schema.specs.PlainSchema.{PlainStruct}

@@ -1,4 +1,4 @@
-use Rattle.std.proofs.Common.{sym, ap, ◌∙◌}
+use Rattle.std.proofs.Common.{ap, ◌∙◌}
 use Rattle.std.specs.List.{slice_get}
 use Rattle.schema.specs.SchemaOf.{schema_of}
 use Rattle.struct_skew.proofs.StructsAt.{struct_here}
