@@ -20,7 +20,7 @@ use Rattle.struct_skew.specs.declared.fault.SkewFault.{SkewFault}
 use Rattle.struct_skew.specs.Fits.{tag_of_kind}
 use Rattle.struct_skew.specs.Latest.{by_order, with_earlier, latest_of_each}
 use Rattle.struct_skew.specs.Orders.{value_cmp, pair_cmp}
-use Rattle.struct_skew.specs.Projection.{is_union, key_cmp, map_value, set_value}
+use Rattle.struct_skew.specs.Projection.{is_union, key_cmp, map_meaning, set_meaning}
 use Rattle.struct_skew.specs.Results.{with_value, and_if_ok}
 
 module _ {A B : Type 0} (cmp : B → B → Ordering) (f : A → B) where
@@ -45,19 +45,19 @@ module _ {A B : Type 0} (cmp : B → B → Ordering) (f : A → B) where
 
 -- a set that was made of members in order
 pub set_meant : (kind : PlainKind) (made all : List Value) (t : Tag) (items : Items) (meant : Result (List Tree) SkewFault) → meant ≡ Ok (map tree_of made)
-    → all ≡ latest_of_each value_cmp made → items_of items ≡ all → t ≡ tag_of_kind kind → with_value (set_value kind) meant ≡ Ok (tree_of (value.Set t items))
+    → all ≡ latest_of_each value_cmp made → items_of items ≡ all → t ≡ tag_of_kind kind → with_value (set_meaning kind) meant ≡ Ok (tree_of (value.Set t items))
 set_meant kind made all t items meant means ordered put tagged =
     let inner : map tree_of (items_of items) ≡ latest_of_each tree_cmp (map tree_of made) = ap (map tree_of) (put ∙ ordered) ∙ map-latest tree_cmp tree_of made in
-    ap (with_value (set_value kind)) means
+    ap (with_value (set_meaning kind)) means
     ∙ sym (ap Ok (tree_of-Set t items ∙ ap₂ (λ u xs. of_set u (item_trees xs)) tagged inner))
 
 -- a map that was made of pairs in order
 pub map_meant : (key_kind value_kind : PlainKind) (made all : List (Value × Value)) (k v : Tag) (pairs : Pairs) (meant : Result (List (Tree × Tree)) SkewFault)
     → meant ≡ Ok (map pair_tree made) → all ≡ latest_of_each pair_cmp made → pairs_of pairs ≡ all → k ≡ tag_of_kind key_kind → v ≡ tag_of_kind value_kind
-    → with_value (map_value key_kind value_kind) meant ≡ Ok (tree_of (value.Map k v pairs))
+    → with_value (map_meaning key_kind value_kind) meant ≡ Ok (tree_of (value.Map k v pairs))
 map_meant key_kind value_kind made all k v pairs meant means ordered put key_tag value_tag =
     let inner : map pair_tree (pairs_of pairs) ≡ latest_of_each key_cmp (map pair_tree made) = ap (map pair_tree) (put ∙ ordered) ∙ map-latest key_cmp pair_tree made in
-    ap (with_value (map_value key_kind value_kind)) means
+    ap (with_value (map_meaning key_kind value_kind)) means
     ∙ sym (ap Ok (tree_of-Map k v pairs ∙ (λ i. of_map (key_tag i) (value_tag i) (pair_trees (inner i)))))
 
 -- a struct of as many fields as it may have

@@ -13,8 +13,8 @@ use Rattle.struct_skew.specs.declared.fault.SkewFault.TheVariants.{Missing, Unio
 use Rattle.struct_skew.specs.declared.plan.Choice.{Choice}
 use Rattle.struct_skew.specs.Offers.{Offer, last_offer}
 use Rattle.struct_skew.specs.Plan.{offer_at, planned_fields, IsPlanFor}
-use Rattle.struct_skew.specs.Projection.{is_required, is_union, default_of, meaning_of, field_value, field_values, sent_count, checked_struct, struct_value}
-use Rattle.struct_skew.specs.Results.{with_value, and_if_ok, with_field}
+use Rattle.struct_skew.specs.Projection.{is_required, is_union, counted_default, meaning_of, field_value, field_values, sent_count, checked_struct, struct_value}
+use Rattle.struct_skew.specs.Results.{with_value, and_if_ok, with_field_value}
 use Rattle.struct_skew.specs.Unions.{one_of_union}
 use Rattle.struct_skew.proofs.PlanSteps.{raw_offers, offer_there}
 use Rattle.struct_skew.proofs.PlannedFields.{plan_gives}
@@ -39,7 +39,7 @@ record Parts (value : Result (Option Tree) SkewFault) (rest : Result (List (ℤ 
   rest_is : rest ≡ Ok more
   length_is : length all ≡ cond (is_some found) 1 0 + length more
 
-parted : (id : ℤ) (value : Result (Option Tree) SkewFault) (rest : Result (List (ℤ × Tree)) SkewFault) (all : List (ℤ × Tree)) → with_field id value rest ≡ Ok all → Parts value rest all
+parted : (id : ℤ) (value : Result (Option Tree) SkewFault) (rest : Result (List (ℤ × Tree)) SkewFault) (all : List (ℤ × Tree)) → with_field_value id value rest ≡ Ok all → Parts value rest all
 parted id (Ok (Some v)) (Ok xs) all is =
     let same : all ≡ (id, v) ∷ xs = cc in record { found = Some v; more = xs; value_is = refl; rest_is = refl; length_is = omega (arith, ap length same) }
 parted id (Ok (Some v)) (Err e) all is = absurd cc
@@ -55,7 +55,7 @@ value_where_sent which kind f (Some o) v union is = sent (o.meaning f.kind) is
     sent : (r : Result Tree SkewFault) → with_value Some r ≡ Ok v → is_some v ≡ true
     sent (Ok x) e = let same : v ≡ Some x = cc in ap is_some same
     sent (Err g) e = absurd cc
-value_where_sent which kind f None v union is = unsent (is_required f.need) (default_of kind f) (ap (λ b. cond b None f.default) union) is
+value_where_sent which kind f None v union is = unsent (is_required f.need) (counted_default kind f) (ap (λ b. cond b None f.default) union) is
   where
     unsent : (b : Bool) (d : Option Tree) → d ≡ None → cond b (Err (Missing which f.id)) (Ok d) ≡ Ok v → is_some v ≡ false
     unsent true d none e = absurd cc

@@ -8,7 +8,7 @@ use Rattle.schema.specs.PlainKind.{PlainKind, kind_struct, kind_map, kind_set, k
 use Rattle.schema.specs.PlainSchema.{PlainStruct}
 use Rattle.struct_skew.specs.declared.fault.SkewFault.{SkewFault}
 use Rattle.struct_skew.specs.Parts.{struct_of_kind, map_of_kind, set_of_kind, list_of_kind}
-use Rattle.struct_skew.specs.Projection.{meaning_of, offers_of, item_meanings, pair_meanings, struct_value, map_value, set_value, list_value}
+use Rattle.struct_skew.specs.Projection.{meaning_of, offers_of, item_meanings, pair_meanings, struct_value, map_meaning, set_meaning, list_meaning}
 use Rattle.struct_skew.specs.Results.{with_value}
 
 -- a struct, a map, a set and a list under a type of parts that are known, or of none
@@ -17,20 +17,20 @@ struct_meant structs fields (Some which) = struct_value which (slice_get structs
 struct_meant structs fields None = Ok (of_struct fields)
 
 abbrev pub map_meant_by : List PlainStruct → Tag → Tag → PairTrees → Option (PlainKind × PlainKind) → Result Tree SkewFault
-map_meant_by structs k v pairs (Some p) = with_value (map_value p.0 p.1) (pair_meanings structs pairs p.0 p.1)
+map_meant_by structs k v pairs (Some p) = with_value (map_meaning p.0 p.1) (pair_meanings structs pairs p.0 p.1)
 map_meant_by structs k v pairs None = Ok (of_map k v pairs)
 
 abbrev pub set_meant_by : List PlainStruct → Tag → ItemTrees → Option PlainKind → Result Tree SkewFault
-set_meant_by structs t items (Some kind) = with_value (set_value kind) (item_meanings structs items kind)
+set_meant_by structs t items (Some kind) = with_value (set_meaning kind) (item_meanings structs items kind)
 set_meant_by structs t items None = Ok (of_set t items)
 
 abbrev pub list_meant_by : List PlainStruct → Tag → ItemTrees → Option PlainKind → Result Tree SkewFault
-list_meant_by structs t items (Some kind) = with_value (list_value kind) (item_meanings structs items kind)
+list_meant_by structs t items (Some kind) = with_value (list_meaning kind) (item_meanings structs items kind)
 list_meant_by structs t items None = Ok (of_list t items)
 
-pub meaning_of_struct : (structs : List PlainStruct) (kind : PlainKind) (fields : FieldTrees) → meaning_of structs (of_struct fields) kind ≡ struct_meant structs fields (struct_of_kind kind)
-meaning_of_struct structs (kind_struct which) fields = refl
-meaning_of_struct structs _ fields = refl
+pub meaning_of_struct : (structs : List PlainStruct) (kind : PlainKind) (sent : FieldTrees) → meaning_of structs (of_struct sent) kind ≡ struct_meant structs sent (struct_of_kind kind)
+meaning_of_struct structs (kind_struct which) sent = refl
+meaning_of_struct structs _ sent = refl
 
 pub meaning_of_map : (structs : List PlainStruct) (kind : PlainKind) (k v : Tag) (pairs : PairTrees) → meaning_of structs (of_map k v pairs) kind ≡ map_meant_by structs k v pairs (map_of_kind kind)
 meaning_of_map structs (kind_map key value) k v pairs = refl

@@ -16,8 +16,8 @@ use Rattle.struct_skew.specs.Latest.{ComesBefore, IsRisingBy}
 use Rattle.struct_skew.specs.Needs.{needs_of, is_required_field, is_defaulted_field}
 use Rattle.struct_skew.specs.Offers.{Offer, last_offer, last_offer_behind}
 use Rattle.struct_skew.specs.Plan.{AllAt, place_cmp, unsent_choice, first_known, latest_at, has_choice, offer_at, offer_of, IsPassive, Suits, IsPlanFor, Follows, chosen_field, planned_fields}
-use Rattle.struct_skew.specs.Projection.{is_required, default_of, field_value, field_values}
-use Rattle.struct_skew.specs.Results.{with_some, with_field}
+use Rattle.struct_skew.specs.Projection.{is_required, counted_default, field_value, field_values}
+use Rattle.struct_skew.specs.Results.{with_some, with_field_value}
 use Rattle.struct_skew.proofs.PlanLaws.{AllAt-both, listed_places, front_lacks, unsent_named, latest_at-none, own_here, other_here}
 
 -- the same from a number on
@@ -51,8 +51,8 @@ module _ (which : ℕ) (kind : FieldsKind) (all : List PlainField) (offers : Lis
   passed_over : (f : PlainField) (fs : List PlainField) → IsPassive kind f → last_offer f offers ≡ None
       → field_values which kind (f ∷ fs) offers ≡ field_values which kind fs offers
   passed_over f fs passive unsent =
-      ap (λ o. with_field f.id (field_value which kind f o) (field_values which kind fs offers)) unsent
-      ∙ ap₂ (λ b d. with_field f.id (cond b (Err (Missing which f.id)) (Ok d)) (field_values which kind fs offers)) passive.unneeded passive.no_default
+      ap (λ o. with_field_value f.id (field_value which kind f o) (field_values which kind fs offers)) unsent
+      ∙ ap₂ (λ b d. with_field_value f.id (cond b (Err (Missing which f.id)) (Ok d)) (field_values which kind fs offers)) passive.unneeded passive.no_default
 
   -- choices past the last declared field give nothing
   planned_past : (n : ℕ) (cs : List Choice) → ((k : ℕ) → slice_get all (n + k) ≡ None) → AreFrom n cs → planned_fields which kind all offers cs ≡ Ok []
@@ -94,7 +94,7 @@ module _ (which : ℕ) (kind : FieldsKind) (all : List PlainField) (offers : Lis
       planned_from (n + 1) fs cs (λ k. ap (slice_get all) (omega arith) ∙ here (suc k)) rising.1 behind
       (AllAt-from (Suits kind offers (c ∷ cs)) (Suits kind offers cs) (n + 1) fs (λ q g high s. Suits-behind n c cs q g own.1 high s) suits.1) in
       ap (λ g. with_some (chosen_field which kind offers c g) (planned_fields which kind all offers cs)) (ap (slice_get all) at ∙ here zero)
-      ∙ ap₂ (λ o more. with_field f.id (field_value which kind f o) more) sent rest)
+      ∙ ap₂ (λ o more. with_field_value f.id (field_value which kind f o) more) sent rest)
       (λ other.
       let low = from.0 in
       let high : n + 1 ≤ c.place = omega (arith, low, other.1) in
@@ -141,8 +141,8 @@ Follows-start s offers choices required defaulted r d is =
     whole : choices ≡ map unsent_choice ((needs_of s).required ++ (needs_of s).defaulted)
     whole = both ∙ sym (map-append unsent_choice (needs_of s).required (needs_of s).defaulted)
 
-    defaults : (f : PlainField) → is_required f.need ≡ false → is_defaulted_field s.kind f ≡ false → default_of s.kind f ≡ None
-    defaults f unneeded e = nothing (default_of s.kind f) (ap (λ b. not b && is_some (default_of s.kind f)) (sym unneeded) ∙ e)
+    defaults : (f : PlainField) → is_required f.need ≡ false → is_defaulted_field s.kind f ≡ false → counted_default s.kind f ≡ None
+    defaults f unneeded e = nothing (counted_default s.kind f) (ap (λ b. not b && is_some (counted_default s.kind f)) (sym unneeded) ∙ e)
       where
         nothing : (o : Option Tree) → is_some o ≡ false → o ≡ None
         nothing (Some x) e = absurd (true≢false e)

@@ -5,7 +5,7 @@ use Rattle.std.specs.Option.{option_map}
 use Rattle.std.proofs.lemmas.List.{drop_more, at_drop_all, map-append}
 use Rattle.struct_skew.specs.declared.fault.SkewFault.{SkewFault}
 use Rattle.struct_skew.specs.declared.fault.SkewFault.TheVariants.{Missing, UnionFields, TooDeep, TooMany, NoMemory}
-use Rattle.struct_skew.specs.Answering.{SkewsOrNoMemory, MeansOrNoMemory, Puts, PutsSome}
+use Rattle.struct_skew.specs.Answering.{SkewsOrNoMemory, ProjectsOrNoMemory, Puts, PutsSome}
 use Rattle.struct_skew.specs.Results.{with_value, with_first, with_some}
 
 -- the same fault of another result
@@ -21,7 +21,7 @@ no_memory_skews e other is = subst (λ f. SkewsOrNoMemory f other) (sym is) tt
 
 -- a result that follows from another
 pub means_on : {X Y A B : Type 0} (view : X → A) (other_view : Y → B) (f : X → Y) (g : A → B) (r : Result X SkewFault) (meant : Result A SkewFault)
-    → ((x : X) → g (view x) ≡ other_view (f x)) → MeansOrNoMemory view r meant → MeansOrNoMemory other_view (with_value f r) (with_value g meant)
+    → ((x : X) → g (view x) ≡ other_view (f x)) → ProjectsOrNoMemory view r meant → ProjectsOrNoMemory other_view (with_value f r) (with_value g meant)
 means_on view other_view f g (Ok x) meant same held = ap (with_value g) held ∙ ap Ok (same x)
 means_on view other_view f g (Err e) meant same held = skews_on e meant (with_value g meant) (ap (with_value g)) held
 
@@ -37,7 +37,7 @@ behind_first xs y (Err e) = refl
 module _ {X B : Type 0} (view : X → B) (W : Result (List B) SkewFault) where
   -- one value more was gathered
   pub gathered : (value : Result X SkewFault) (out : Result (⊤) SkewFault) (u : ⊤) (old new : List X) (meant : Result B SkewFault) (rest : Result (List B) SkewFault)
-      → out ≡ Ok u → MeansOrNoMemory view value meant → Puts value out old new → behind (map view old) (with_first meant rest) ≡ W → behind (map view new) rest ≡ W
+      → out ≡ Ok u → ProjectsOrNoMemory view value meant → Puts value out old new → behind (map view old) (with_first meant rest) ≡ W → behind (map view new) rest ≡ W
   gathered (Ok x) out u old new meant rest went means put kept =
       let made : new ≡ old ++ x ∷ [] = subst (λ r. MatchResult r (λ _. new ≡ old ++ x ∷ []) (λ e. e ≡ NoMemory)) went put in
       ap (λ n. behind n rest) (ap (map view) made ∙ map-append view old (x ∷ [])) ∙ sym (behind_first (map view old) (view x) rest)
@@ -46,7 +46,7 @@ module _ {X B : Type 0} (view : X → B) (W : Result (List B) SkewFault) where
 
   -- its fault is that of all
   pub not_gathered : (value : Result X SkewFault) (out : Result (⊤) SkewFault) (e : SkewFault) (old new : List X) (meant : Result B SkewFault) (rest : Result (List B) SkewFault)
-      → out ≡ Err e → MeansOrNoMemory view value meant → Puts value out old new → behind (map view old) (with_first meant rest) ≡ W → SkewsOrNoMemory e W
+      → out ≡ Err e → ProjectsOrNoMemory view value meant → Puts value out old new → behind (map view old) (with_first meant rest) ≡ W → SkewsOrNoMemory e W
   not_gathered (Ok x) out e old new meant rest went means put kept =
       no_memory_skews e W (subst (λ r. MatchResult r (λ _. new ≡ old ++ x ∷ []) (λ f. f ≡ NoMemory)) went put)
   not_gathered (Err f) out e old new meant rest went means put kept =
@@ -55,7 +55,7 @@ module _ {X B : Type 0} (view : X → B) (W : Result (List B) SkewFault) where
 
   -- the same of a value that may be none
   pub gathered_some : (value : Result (Option X) SkewFault) (out : Result (⊤) SkewFault) (u : ⊤) (old new : List X) (meant : Result (Option B) SkewFault) (rest : Result (List B) SkewFault)
-      → out ≡ Ok u → MeansOrNoMemory (option_map view) value meant → PutsSome value out old new → behind (map view old) (with_some meant rest) ≡ W → behind (map view new) rest ≡ W
+      → out ≡ Ok u → ProjectsOrNoMemory (option_map view) value meant → PutsSome value out old new → behind (map view old) (with_some meant rest) ≡ W → behind (map view new) rest ≡ W
   gathered_some (Ok (Some x)) out u old new meant rest went means put kept =
       let made : new ≡ old ++ x ∷ [] = subst (λ r. MatchResult r (λ _. new ≡ old ++ x ∷ []) (λ e. e ≡ NoMemory)) went put in
       ap (λ n. behind n rest) (ap (map view) made ∙ map-append view old (x ∷ [])) ∙ sym (behind_first (map view old) (view x) rest)
@@ -66,7 +66,7 @@ module _ {X B : Type 0} (view : X → B) (W : Result (List B) SkewFault) where
   gathered_some (Err e) out u old new meant rest went means put kept = absurd cc
 
   pub not_gathered_some : (value : Result (Option X) SkewFault) (out : Result (⊤) SkewFault) (e : SkewFault) (old new : List X) (meant : Result (Option B) SkewFault) (rest : Result (List B) SkewFault)
-      → out ≡ Err e → MeansOrNoMemory (option_map view) value meant → PutsSome value out old new → behind (map view old) (with_some meant rest) ≡ W → SkewsOrNoMemory e W
+      → out ≡ Err e → ProjectsOrNoMemory (option_map view) value meant → PutsSome value out old new → behind (map view old) (with_some meant rest) ≡ W → SkewsOrNoMemory e W
   not_gathered_some (Ok x) out e old new meant rest went means put kept =
       no_memory_skews e W (subst (λ r. MatchResult r (λ _. new ≡ old ++ option_to_list x) (λ f. f ≡ NoMemory)) went put)
   not_gathered_some (Err f) out e old new meant rest went means put kept =
@@ -86,7 +86,7 @@ in_front xs i x low here = drop_more xs i x low ∙ ap (λ y. y ∷ drop (i + 1)
 -- one item further in a loop that gathers what each means
 pub each_gathered : {A X B : Type 0} (view : X → B) (F : List A → Result (List B) SkewFault) (m : A → Result B SkewFault) → ((x : A) (xs : List A) → F (x ∷ xs) ≡ with_first (m x) (F xs))
     → (xs : List A) (i : ℕ) (x : A) (value : Result X SkewFault) (out : Result ⊤ SkewFault) (u : ⊤) (old new : List X) → i < length xs → x ≡ get_or xs i x → out ≡ Ok u
-    → MeansOrNoMemory view value (m x) → Puts value out old new → behind (map view old) (F (drop i xs)) ≡ F xs → behind (map view new) (F (drop (i + 1) xs)) ≡ F xs
+    → ProjectsOrNoMemory view value (m x) → Puts value out old new → behind (map view old) (F (drop i xs)) ≡ F xs → behind (map view new) (F (drop (i + 1) xs)) ≡ F xs
 each_gathered view F m step xs i x value out u old new low here went means put kept =
     gathered view (F xs) value out u old new (m x) (F (drop (i + 1) xs)) went means put
     (ap (behind (map view old)) (sym (ap F (in_front xs i x low here) ∙ step x (drop (i + 1) xs))) ∙ kept)
@@ -104,7 +104,7 @@ some_item (x ∷ xs) i low = x
 -- the same where a call looks the item up
 pub each_there : {A X B : Type 0} (view : X → B) (F : List A → Result (List B) SkewFault) (m : A → Result B SkewFault) → ((x : A) (xs : List A) → F (x ∷ xs) ≡ with_first (m x) (F xs))
     → (xs : List A) (i : ℕ) (value : Result X SkewFault) (out : Result ⊤ SkewFault) (u : ⊤) (old new : List X) → i < length xs → out ≡ Ok u
-    → ((d : A) → MeansOrNoMemory view value (m (get_or xs i d))) → Puts value out old new → behind (map view old) (F (drop i xs)) ≡ F xs → behind (map view new) (F (drop (i + 1) xs)) ≡ F xs
+    → ((d : A) → ProjectsOrNoMemory view value (m (get_or xs i d))) → Puts value out old new → behind (map view old) (F (drop i xs)) ≡ F xs → behind (map view new) (F (drop (i + 1) xs)) ≡ F xs
 each_there view F m step xs i value out u old new low went means put kept =
     let d = some_item xs i low in
     each_gathered view F m step xs i (get_or xs i d) value out u old new low (get_or_same xs i d (get_or xs i d) low) went (means d) put kept
@@ -112,7 +112,7 @@ each_there view F m step xs i value out u old new low went means put kept =
 -- the fault of one item in such a loop is that of all
 pub fault_there : {A X B : Type 0} (view : X → B) (F : List A → Result (List B) SkewFault) (m : A → Result B SkewFault) → ((x : A) (xs : List A) → F (x ∷ xs) ≡ with_first (m x) (F xs))
     → (xs : List A) (i : ℕ) (value : Result X SkewFault) (out : Result ⊤ SkewFault) (e : SkewFault) (old new : List X) → i < length xs → out ≡ Err e
-    → ((d : A) → MeansOrNoMemory view value (m (get_or xs i d))) → Puts value out old new → behind (map view old) (F (drop i xs)) ≡ F xs → SkewsOrNoMemory e (F xs)
+    → ((d : A) → ProjectsOrNoMemory view value (m (get_or xs i d))) → Puts value out old new → behind (map view old) (F (drop i xs)) ≡ F xs → SkewsOrNoMemory e (F xs)
 fault_there view F m step xs i value out e old new low went means put kept =
     let d = some_item xs i low in
     let x = get_or xs i d in

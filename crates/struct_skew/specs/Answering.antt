@@ -9,9 +9,9 @@ SkewsOrNoMemory NoMemory meant = ⊤
 SkewsOrNoMemory fault meant = meant ≡ Err fault
 
 -- what was answered, seen by view, is what is meant
-abbrev pub MeansOrNoMemory : {X Y : Type 0} → (X → Y) → Result X SkewFault → Result Y SkewFault → Type 0
-MeansOrNoMemory view (Ok x) meant = meant ≡ Ok (view x)
-MeansOrNoMemory view (Err fault) meant = SkewsOrNoMemory fault meant
+abbrev pub ProjectsOrNoMemory : {X Y : Type 0} → (X → Y) → Result X SkewFault → Result Y SkewFault → Type 0
+ProjectsOrNoMemory view (Ok x) meant = meant ≡ Ok (view x)
+ProjectsOrNoMemory view (Err fault) meant = SkewsOrNoMemory fault meant
 
 -- a value that was found is appended, or its fault is told
 abbrev pub Puts : {X : Type 0} → Result X SkewFault → Result ⊤ SkewFault → List X → List X → Type 0

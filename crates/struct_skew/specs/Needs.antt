@@ -3,7 +3,7 @@ use Rattle.std.specs.Prelude.{ℕ, ◌+◌, Bool, not, ◌&&◌, if◌then◌els
 use Rattle.schema.specs.PlainSchema.{PlainField, PlainStruct}
 use Rattle.schema.specs.declared.types.FieldsKind.{FieldsKind}
 use Rattle.struct_skew.specs.declared.needs.StructNeeds.{StructNeeds}
-use Rattle.struct_skew.specs.Projection.{is_required, default_of}
+use Rattle.struct_skew.specs.Projection.{is_required, counted_default}
 
 -- the places from a number on of the items that pass a test
 abbrev pub places_from : {A : Type 0} → (A → Bool) → ℕ → List A → List ℕ
@@ -16,7 +16,7 @@ is_required_field f = is_required f.need
 
 -- a field may be unsent, and has a default then
 abbrev pub is_defaulted_field : FieldsKind → PlainField → Bool
-is_defaulted_field kind f = not (is_required f.need) && is_some (default_of kind f)
+is_defaulted_field kind f = not (is_required f.need) && is_some (counted_default kind f)
 
 -- the places of a struct's fields that have to be there, and of those with a default
 pub record PlainNeeds : Type 0 where

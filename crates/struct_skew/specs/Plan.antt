@@ -11,7 +11,7 @@ use Rattle.struct_skew.specs.declared.plan.Choice.{Choice}
 use Rattle.struct_skew.specs.Latest.{IsRisingBy}
 use Rattle.struct_skew.specs.Needs.{needs_of}
 use Rattle.struct_skew.specs.Offers.{Offer, last_offer, last_offer_behind}
-use Rattle.struct_skew.specs.Projection.{is_required, default_of, field_value, offers_of}
+use Rattle.struct_skew.specs.Projection.{is_required, counted_default, field_value, offers_of}
 use Rattle.struct_skew.specs.Results.{with_some, as_field}
 
 -- what holds of each item and its place, from a number on
@@ -57,7 +57,7 @@ offer_of offers chosen = option_and_then (offer_at offers) chosen
 -- nothing comes of a declared field for which nothing is sent
 pub record IsPassive (kind : FieldsKind) (f : PlainField) : Type 0 where
   pub unneeded : is_required f.need ≡ false
-  pub no_default : default_of kind f ≡ None
+  pub no_default : counted_default kind f ≡ None
 
 -- the choices assign to a declared field what counts for it: the last raw field that fits, and where nothing comes of it maybe no choice
 pub record Suits (kind : FieldsKind) (offers : List Offer) (choices : List Choice) (q : ℕ) (f : PlainField) : Type 0 where

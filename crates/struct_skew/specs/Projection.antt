@@ -17,7 +17,7 @@ use Rattle.struct_skew.specs.declared.fault.SkewFault.TheVariants.{Missing, Unio
 use Rattle.struct_skew.specs.Fits.{tag_of_kind}
 use Rattle.struct_skew.specs.Latest.{latest_of_each}
 use Rattle.struct_skew.specs.Offers.{Offer, last_offer}
-use Rattle.struct_skew.specs.Results.{with_value, and_if_ok, both_values, with_first, with_field}
+use Rattle.struct_skew.specs.Results.{with_value, and_if_ok, both_values, with_first, with_field_value}
 
 -- a field has to be there
 abbrev pub is_required : FieldNeed → Bool
@@ -30,13 +30,13 @@ is_union Union = true
 is_union _ = false
 
 -- the default that counts; those of a union's fields don't
-abbrev pub default_of : FieldsKind → PlainField → Option Tree
-default_of kind f = if is_union kind then None else f.default
+abbrev pub counted_default : FieldsKind → PlainField → Option Tree
+counted_default kind f = if is_union kind then None else f.default
 
 -- the value of a declared field for which nothing that fits was sent: of a required one it is missing, even where it has a default
 -- (own choice); another has its default, or none
 abbrev pub unsent_value : ℕ → FieldsKind → PlainField → Result (Option Tree) SkewFault
-unsent_value which kind f = if is_required f.need then Err (Missing which f.id) else Ok (default_of kind f)
+unsent_value which kind f = if is_required f.need then Err (Missing which f.id) else Ok (counted_default kind f)
 
 -- the value of a declared field: what the last raw field that fits means under its type
 abbrev pub field_value : ℕ → FieldsKind → PlainField → Option Offer → Result (Option Tree) SkewFault
@@ -47,7 +47,7 @@ field_value which kind f None = unsent_value which kind f
 abbrev pub field_values : ℕ → FieldsKind → List PlainField → List Offer → Result (List (ℤ × Tree)) SkewFault
 field_values which kind [] offers = Ok []
 field_values which kind (f ∷ fs) offers =
-    with_field f.id (field_value which kind f (last_offer f offers)) (field_values which kind fs offers)
+    with_field_value f.id (field_value which kind f (last_offer f offers)) (field_values which kind fs offers)
 
 -- how many declared fields were sent as something that fits
 abbrev pub sent_count : List PlainField → List Offer → ℕ
@@ -69,22 +69,22 @@ key_cmp p q = tree_cmp p.0 q.0
 
 -- a map, a set and a list under the types of their elements, with the tags of these types, also where they are empty; keys and
 -- members rise, and of equal ones the last counts
-abbrev pub map_value : PlainKind → PlainKind → List (Tree × Tree) → Tree
-map_value key value pairs = of_map (tag_of_kind key) (tag_of_kind value) (pair_trees (latest_of_each key_cmp pairs))
+abbrev pub map_meaning : PlainKind → PlainKind → List (Tree × Tree) → Tree
+map_meaning key value pairs = of_map (tag_of_kind key) (tag_of_kind value) (pair_trees (latest_of_each key_cmp pairs))
 
-abbrev pub set_value : PlainKind → List Tree → Tree
-set_value member items = of_set (tag_of_kind member) (item_trees (latest_of_each tree_cmp items))
+abbrev pub set_meaning : PlainKind → List Tree → Tree
+set_meaning member items = of_set (tag_of_kind member) (item_trees (latest_of_each tree_cmp items))
 
-abbrev pub list_value : PlainKind → List Tree → Tree
-list_value element items = of_list (tag_of_kind element) (item_trees items)
+abbrev pub list_meaning : PlainKind → List Tree → Tree
+list_meaning element items = of_list (tag_of_kind element) (item_trees items)
 
 abbrev mutual
   -- what a raw value means under a type that it fits
   pub meaning_of : List PlainStruct → Tree → PlainKind → Result Tree SkewFault
   meaning_of structs (of_struct fields) (kind_struct which) = struct_value which (slice_get structs which) (offers_of structs fields)
-  meaning_of structs (of_map _ _ pairs) (kind_map key value) = with_value (map_value key value) (pair_meanings structs pairs key value)
-  meaning_of structs (of_set _ items) (kind_set member) = with_value (set_value member) (item_meanings structs items member)
-  meaning_of structs (of_list _ items) (kind_list element) = with_value (list_value element) (item_meanings structs items element)
+  meaning_of structs (of_map _ _ pairs) (kind_map key value) = with_value (map_meaning key value) (pair_meanings structs pairs key value)
+  meaning_of structs (of_set _ items) (kind_set member) = with_value (set_meaning member) (item_meanings structs items member)
+  meaning_of structs (of_list _ items) (kind_list element) = with_value (list_meaning element) (item_meanings structs items element)
   meaning_of structs value _ = Ok value
 
   -- the fields of a raw struct

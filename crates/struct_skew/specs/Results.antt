@@ -38,5 +38,5 @@ as_field id (Ok None) = Ok None
 as_field id (Err fault) = Err fault
 
 -- a field and those behind it, where it has a value; its fault comes first
-abbrev pub with_field : ℤ → Result (Option Tree) SkewFault → Result (List (ℤ × Tree)) SkewFault → Result (List (ℤ × Tree)) SkewFault
-with_field id value more = with_some (as_field id value) more
+abbrev pub with_field_value : ℤ → Result (Option Tree) SkewFault → Result (List (ℤ × Tree)) SkewFault → Result (List (ℤ × Tree)) SkewFault
+with_field_value id value more = with_some (as_field id value) more

@@ -71,10 +71,10 @@ abbrev pub sent_one : ℕ → Tree → Tree
 sent_one id value = of_struct (field (pos id) value no_fields)
 
 -- lists in one another, so many, with a number in the innermost; the innermost of none is the number
-abbrev pub nested_lists : ℕ → Tree
-nested_lists zero = of_i32 (pos 7)
-nested_lists (suc zero) = of_list tag.I32 (item (nested_lists zero) no_items)
-nested_lists (suc n) = of_list tag.List (item (nested_lists n) no_items)
+abbrev pub row_lists : ℕ → Tree
+row_lists zero = of_i32 (pos 7)
+row_lists (suc zero) = of_list tag.I32 (item (row_lists zero) no_items)
+row_lists (suc n) = of_list tag.List (item (row_lists n) no_items)
 
 -- the same with an empty innermost list that names this tag
 abbrev pub nested_empty : Tag → ℕ → Tree

@@ -6,7 +6,7 @@ ghost use Rattle.thrift_value.specs.TreeOf.{tree_of, field_tree, field_trees, it
 ghost use Rattle.schema.specs.PlainKind.{kind_of};
 ghost use Rattle.schema.specs.SchemaOf.{schema_of, plain_field, plain_struct};
 ghost use Rattle.schema.specs.Sound.{IsSound};
-ghost use Rattle.struct_skew.specs.Answering.{MeansOrNoMemory};
+ghost use Rattle.struct_skew.specs.Answering.{ProjectsOrNoMemory};
 ghost use Rattle.struct_skew.specs.Needs.{needs_of};
 ghost use Rattle.struct_skew.specs.Orders.{pair_meaning};
 ghost use Rattle.struct_skew.specs.Plan.{chosen_field, offer_at, planned_fields};
@@ -38,7 +38,7 @@ pub(crate) fn meaning(
 ) -> Result<Value, SkewFault>
     requires sound { IsSound (schema_of schema.now) }
     requires needed { needed.now ≡ map needs_of (schema_of schema.now).structs }
-    ensures { MeansOrNoMemory tree_of result (meaning_of (schema_of schema.now).structs (tree_of raw.now) (kind_of kind.now)) }
+    ensures { ProjectsOrNoMemory tree_of result (meaning_of (schema_of schema.now).structs (tree_of raw.now) (kind_of kind.now)) }
 {
     match raw {
         Value::Struct(fields) => match struct_of_kind(kind) {
@@ -47,15 +47,8 @@ pub(crate) fn meaning(
         },
         Value::Map(_, _, pairs) => match map_of_kind(kind) {
             Some((key, value)) => {
-                let found = pair_meanings(
-                    pairs.as_slice(),
-                    alloc,
-                    schema,
-                    needed,
-                    key,
-                    value,
-                    room,
-                );
+                let pairs = pairs.as_slice();
+                let found = pair_meanings(pairs, alloc, schema, needed, key, value, room);
                 map_of(alloc, key, value, found)
             }
             None => copy_of(alloc, raw),
@@ -96,7 +89,7 @@ fn item_meanings(
 ) -> Result<Vec<Value>, SkewFault>
     requires sound { IsSound (schema_of schema.now) }
     requires needed { needed.now ≡ map needs_of (schema_of schema.now).structs }
-    ensures { MeansOrNoMemory (λ v. map tree_of v.items) result
+    ensures { ProjectsOrNoMemory (λ v. map tree_of v.items) result
         (item_meanings (schema_of schema.now).structs (item_trees (map tree_of items.now)) (kind_of kind.now)) }
 {
     let mut found = Vec::with_capacity(alloc, items.len())?;
@@ -124,7 +117,7 @@ fn pair_meaning(
     requires sound { IsSound (schema_of schema.now) }
     requires needed { needed.now ≡ map needs_of (schema_of schema.now).structs }
     requires within { place < length pairs.now }
-    ensures { (d : _) → MeansOrNoMemory pair_tree result (pair_meaning (schema_of schema.now).structs (kind_of key_kind.now) (kind_of value_kind.now) (slice_index_or pairs.now place d)) }
+    ensures { (d : _) → ProjectsOrNoMemory pair_tree result (pair_meaning (schema_of schema.now).structs (kind_of key_kind.now) (kind_of value_kind.now) (slice_index_or pairs.now place d)) }
 {
     let (key, value) = &pairs[place];
     let key = meaning(key, alloc, schema, needed, key_kind, room);
@@ -145,7 +138,7 @@ fn pair_meanings(
 ) -> Result<Vec<(Value, Value)>, SkewFault>
     requires sound { IsSound (schema_of schema.now) }
     requires needed { needed.now ≡ map needs_of (schema_of schema.now).structs }
-    ensures { MeansOrNoMemory (λ v. map pair_tree v.items) result
+    ensures { ProjectsOrNoMemory (λ v. map pair_tree v.items) result
         (pair_meanings (schema_of schema.now).structs (pair_trees (map pair_tree pairs.now)) (kind_of key_kind.now) (kind_of value_kind.now)) }
 {
     let mut found = Vec::with_capacity(alloc, pairs.len())?;
@@ -175,7 +168,7 @@ fn field_value(
 ) -> Result<Option<Value>, SkewFault>
     requires sound { IsSound (schema_of schema.now) }
     requires needed { needed.now ≡ map needs_of (schema_of schema.now).structs }
-    ensures { MeansOrNoMemory (option_map tree_of) result (field_value which kind (plain_field field.now)
+    ensures { ProjectsOrNoMemory (option_map tree_of) result (field_value which kind (plain_field field.now)
         (offer_at (offers_of (schema_of schema.now).structs (field_trees (map field_tree sent.now))) choice)) }
 {
     if let Some(place) = choice {
@@ -201,7 +194,7 @@ fn chosen_field(
 ) -> Result<Option<(i16, Value)>, SkewFault>
     requires sound { IsSound (schema_of schema.now) }
     requires needed { needed.now ≡ map needs_of (schema_of schema.now).structs }
-    ensures { MeansOrNoMemory (option_map field_tree) result (chosen_field which desc.now.kind
+    ensures { ProjectsOrNoMemory (option_map field_tree) result (chosen_field which desc.now.kind
         (offers_of (schema_of schema.now).structs (field_trees (map field_tree sent.now))) choice.now (slice_get (plain_struct desc.now).fields choice.now.place)) }
 {
     let Some(field) = item(desc.fields.as_slice(), choice.place) else {
@@ -235,7 +228,7 @@ fn planned_fields(
 ) -> Result<Vec<(i16, Value)>, SkewFault>
     requires sound { IsSound (schema_of schema.now) }
     requires needed { needed.now ≡ map needs_of (schema_of schema.now).structs }
-    ensures { MeansOrNoMemory (λ v. map field_tree v.items) result (planned_fields which desc.now.kind (plain_struct desc.now).fields
+    ensures { ProjectsOrNoMemory (λ v. map field_tree v.items) result (planned_fields which desc.now.kind (plain_struct desc.now).fields
         (offers_of (schema_of schema.now).structs (field_trees (map field_tree sent.now))) plan.now) }
 {
     let mut found = Vec::with_capacity(alloc, plan.len())?;
@@ -260,7 +253,7 @@ fn struct_meaning(
 ) -> Result<Value, SkewFault>
     requires sound { IsSound (schema_of schema.now) }
     requires needed { needed.now ≡ map needs_of (schema_of schema.now).structs }
-    ensures { MeansOrNoMemory tree_of result (struct_value which (slice_get (schema_of schema.now).structs which)
+    ensures { ProjectsOrNoMemory tree_of result (struct_value which (slice_get (schema_of schema.now).structs which)
         (offers_of (schema_of schema.now).structs (field_trees (map field_tree sent.now)))) }
 {
     let Some((desc, needs)) = struct_at(schema, needed, which) else {

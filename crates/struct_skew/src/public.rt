@@ -5,7 +5,7 @@ ghost use Rattle.thrift_value.specs.Tags.{tag_of};
 ghost use Rattle.thrift_value.specs.TreeOf.{tree_of};
 ghost use Rattle.schema.specs.SchemaOf.{schema_of};
 ghost use Rattle.schema.specs.Sound.{IsSound, IsPlaceIn};
-ghost use Rattle.struct_skew.specs.Answering.{MeansOrNoMemory};
+ghost use Rattle.struct_skew.specs.Answering.{ProjectsOrNoMemory};
 ghost use Rattle.struct_skew.specs.Needs.{needs_of};
 ghost use Rattle.struct_skew.specs.Projection.{projection};
 
@@ -34,7 +34,7 @@ pub fn project_with(
     requires needed { needed.now ≡ map needs_of (schema_of schema.now).structs }
     requires place { IsPlaceIn (schema_of schema.now).structs which }
     requires raw_struct { tag_of (tree_of raw.now) ≡ StructTag }
-    ensures { MeansOrNoMemory tree_of result (projection (schema_of schema.now) which (tree_of raw.now)) }
+    ensures { ProjectsOrNoMemory tree_of result (projection (schema_of schema.now) which (tree_of raw.now)) }
 {
     let mut room = DEFAULTS_ROOM;
     let kind = TypeDesc::Struct(which);
@@ -48,7 +48,7 @@ pub fn project(alloc: Global, schema: &Schema, which: u32, raw: &Raw) -> Result<
     requires sound { IsSound (schema_of schema.now) }
     requires place { IsPlaceIn (schema_of schema.now).structs which }
     requires raw_struct { tag_of (tree_of raw.now) ≡ StructTag }
-    ensures { MeansOrNoMemory tree_of result (projection (schema_of schema.now) which (tree_of raw.now)) }
+    ensures { ProjectsOrNoMemory tree_of result (projection (schema_of schema.now) which (tree_of raw.now)) }
 {
     let needed = needed_fields(alloc, schema)?;
     project_with(alloc, schema, &needed, which, raw)

@@ -7,7 +7,7 @@ ghost use Rattle.thrift_value.specs.Tree.{Tree, of_i32, of_bytes, of_struct, of_
 ghost use Rattle.schema.specs.PlainKind.{kind_i32, kind_list, kind_struct};
 ghost use Rattle.struct_skew.specs.Fits.{fits_kind};
 ghost use Rattle.struct_skew.specs.Projection.{projection};
-ghost use Rattle.struct_skew.specs.Rows.{row_schema, sent_one, nested_lists, nested_empty};
+ghost use Rattle.struct_skew.specs.Rows.{row_schema, sent_one, row_lists, nested_empty};
 ghost use Rattle.struct_skew.specs.declared.fault.SkewFault.TheVariants as skew;
 
 /// Which field counts, and what stands for one that wasn't sent.
@@ -56,7 +56,7 @@ pub fn worked_containers()
 /// The bound on levels.
 pub fn worked_levels()
     ensures at_most { projection row_schema 3 (sent_one 8 (nested_empty tag.List 62)) ≡ Ok (sent_one 8 (nested_empty tag.List 62)) }
-    ensures too_deep { projection row_schema 3 (sent_one 8 (nested_lists 64)) ≡ Err skew.TooDeep }
+    ensures too_deep { projection row_schema 3 (sent_one 8 (row_lists 64)) ≡ Err skew.TooDeep }
 {}
 
 /// A projection has at most 64 levels and 4,000,000 values.

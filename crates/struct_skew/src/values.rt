@@ -6,8 +6,8 @@ ghost use Rattle.thrift_value.specs.Tree.{Tree, of_struct, no_fields};
 ghost use Rattle.thrift_value.specs.TreeOf.{tree_of, field_tree, pair_tree};
 ghost use Rattle.schema.specs.PlainKind.{kind_of};
 ghost use Rattle.schema.specs.SchemaOf.{plain_field};
-ghost use Rattle.struct_skew.specs.Answering.{MeansOrNoMemory, Puts, PutsSome};
-ghost use Rattle.struct_skew.specs.Projection.{is_union, unsent_value, map_value, set_value, list_value, bounded};
+ghost use Rattle.struct_skew.specs.Answering.{ProjectsOrNoMemory, Puts, PutsSome};
+ghost use Rattle.struct_skew.specs.Projection.{is_union, unsent_value, map_meaning, set_meaning, list_meaning, bounded};
 ghost use Rattle.struct_skew.specs.Results.{with_value, and_if_ok, both_values, as_field};
 ghost use Rattle.struct_skew.specs.Unions.{one_of_union};
 ghost use Rattle.struct_skew.specs.declared.fault.SkewFault.{SkewFault as Skew};
@@ -52,7 +52,7 @@ impl Keyed for (Value, Value) {
 
 /// A copy of a value.
 pub(crate) fn copy_of(alloc: Global, value: &Value) -> Result<Value, SkewFault>
-    ensures { MeansOrNoMemory tree_of result (Ok (tree_of value.now)) }
+    ensures { ProjectsOrNoMemory tree_of result (Ok (tree_of value.now)) }
 {
     let copy = value.try_clone(alloc)?;
     Ok(copy)
@@ -96,7 +96,7 @@ pub(crate) fn both_of(
     key: Result<Value, SkewFault>,
     value: Result<Value, SkewFault>,
 ) -> Result<(Value, Value), SkewFault>
-    ensures { (k v : Result Tree Skew) → MeansOrNoMemory tree_of key k → MeansOrNoMemory tree_of value v → MeansOrNoMemory pair_tree result (both_values k v) }
+    ensures { (k v : Result Tree Skew) → ProjectsOrNoMemory tree_of key k → ProjectsOrNoMemory tree_of value v → ProjectsOrNoMemory pair_tree result (both_values k v) }
 {
     match key {
         Ok(key) => match value {
@@ -112,8 +112,8 @@ pub(crate) fn list_of(
     element: &TypeDesc,
     items: Result<Vec<Value>, SkewFault>,
 ) -> Result<Value, SkewFault>
-    ensures { (meant : Result (List Tree) Skew) → MeansOrNoMemory (λ v. map tree_of v.items) items meant
-        → MeansOrNoMemory tree_of result (with_value (list_value (kind_of element.now)) meant) }
+    ensures { (meant : Result (List Tree) Skew) → ProjectsOrNoMemory (λ v. map tree_of v.items) items meant
+        → ProjectsOrNoMemory tree_of result (with_value (list_meaning (kind_of element.now)) meant) }
 {
     match items {
         Ok(items) => Ok(Value::List(tag_of_kind(element), Items::new(items))),
@@ -127,8 +127,8 @@ pub(crate) fn set_of(
     member: &TypeDesc,
     items: Result<Vec<Value>, SkewFault>,
 ) -> Result<Value, SkewFault>
-    ensures { (meant : Result (List Tree) Skew) → MeansOrNoMemory (λ v. map tree_of v.items) items meant
-        → MeansOrNoMemory tree_of result (with_value (set_value (kind_of member.now)) meant) }
+    ensures { (meant : Result (List Tree) Skew) → ProjectsOrNoMemory (λ v. map tree_of v.items) items meant
+        → ProjectsOrNoMemory tree_of result (with_value (set_meaning (kind_of member.now)) meant) }
 {
     match items {
         Ok(items) => {
@@ -146,8 +146,8 @@ pub(crate) fn map_of(
     value: &TypeDesc,
     pairs: Result<Vec<(Value, Value)>, SkewFault>,
 ) -> Result<Value, SkewFault>
-    ensures { (meant : Result (List (Tree × Tree)) Skew) → MeansOrNoMemory (λ v. map pair_tree v.items) pairs meant
-        → MeansOrNoMemory tree_of result (with_value (map_value (kind_of key.now) (kind_of value.now)) meant) }
+    ensures { (meant : Result (List (Tree × Tree)) Skew) → ProjectsOrNoMemory (λ v. map pair_tree v.items) pairs meant
+        → ProjectsOrNoMemory tree_of result (with_value (map_meaning (kind_of key.now) (kind_of value.now)) meant) }
 {
     match pairs {
         Ok(pairs) => {
@@ -215,7 +215,7 @@ pub(crate) fn unsent_value(
     field: &FieldDesc,
     room: &mut u64,
 ) -> Result<Option<Value>, SkewFault>
-    ensures { MeansOrNoMemory (option_map tree_of) result (unsent_value which kind (plain_field field.now)) }
+    ensures { ProjectsOrNoMemory (option_map tree_of) result (unsent_value which kind (plain_field field.now)) }
 {
     if is_required(field.need) {
         return Err(SkewFault::Missing(which, field.id));
@@ -236,7 +236,7 @@ pub(crate) fn as_field(
     id: &i16,
     value: Result<Option<Value>, SkewFault>,
 ) -> Result<Option<(i16, Value)>, SkewFault>
-    ensures { (meant : Result (OptionOf Tree) Skew) → MeansOrNoMemory (option_map tree_of) value meant → MeansOrNoMemory (option_map field_tree) result (as_field id.now meant) }
+    ensures { (meant : Result (OptionOf Tree) Skew) → ProjectsOrNoMemory (option_map tree_of) value meant → ProjectsOrNoMemory (option_map field_tree) result (as_field id.now meant) }
 {
     match value {
         Ok(Some(value)) => Ok(Some((*id, value))),
@@ -247,7 +247,7 @@ pub(crate) fn as_field(
 
 /// The value, where it has at most 64 levels and 4,000,000 values.
 pub(crate) fn bounded(value: Value) -> Result<Value, SkewFault>
-    ensures { MeansOrNoMemory tree_of result (bounded (tree_of value)) }
+    ensures { ProjectsOrNoMemory tree_of result (bounded (tree_of value)) }
 {
     if value.depth() > 64 {
         return Err(SkewFault::TooDeep);
@@ -260,7 +260,7 @@ pub(crate) fn bounded(value: Value) -> Result<Value, SkewFault>
 
 /// A value that is there.
 pub(crate) fn some_of(value: Result<Value, SkewFault>) -> Result<Option<Value>, SkewFault>
-    ensures { (meant : Result Tree Skew) → MeansOrNoMemory tree_of value meant → MeansOrNoMemory (option_map tree_of) result (with_value Some meant) }
+    ensures { (meant : Result Tree Skew) → ProjectsOrNoMemory tree_of value meant → ProjectsOrNoMemory (option_map tree_of) result (with_value Some meant) }
 {
     match value {
         Ok(value) => Ok(Some(value)),
@@ -291,8 +291,8 @@ pub(crate) fn checked_struct(
     kind: StructKind,
     fields: Result<Vec<(i16, Value)>, SkewFault>,
 ) -> Result<Value, SkewFault>
-    ensures { (meant : Result (List (ℤ × Tree)) Skew) → MeansOrNoMemory (λ v. map field_tree v.items) fields meant
-        → MeansOrNoMemory tree_of result (and_if_ok meant (one_of_union which kind)) }
+    ensures { (meant : Result (List (ℤ × Tree)) Skew) → ProjectsOrNoMemory (λ v. map field_tree v.items) fields meant
+        → ProjectsOrNoMemory tree_of result (and_if_ok meant (one_of_union which kind)) }
 {
     match fields {
         Ok(fields) => {
@@ -307,7 +307,7 @@ pub(crate) fn checked_struct(
 
 /// What was found, where it has at most 64 levels and 4,000,000 values.
 pub(crate) fn bounded_of(found: Result<Value, SkewFault>) -> Result<Value, SkewFault>
-    ensures { (meant : Result Tree Skew) → MeansOrNoMemory tree_of found meant → MeansOrNoMemory tree_of result (and_if_ok meant bounded) }
+    ensures { (meant : Result Tree Skew) → ProjectsOrNoMemory tree_of found meant → ProjectsOrNoMemory tree_of result (and_if_ok meant bounded) }
 {
     match found {
         Ok(value) => bounded(value),
