@@ -1,6 +1,6 @@
 -- What services answer is plain, and their memories stay of their kind.
-use Rattle.std.proofs.Common.{◌≡◌, ℕ, ℤ, pos, ◌≤◌, ◌+◌, Bool, true, false, cond, List, Option, None, Some, Result, Ok, Err, max, Ordering, Less, Equal, Greater, refl, sym, ap, subst, ◌∙◌, lit≤, arith}
-use Rattle.std.specs.Prelude.{⊤, codes, IfOk}
+use Rattle.std.proofs.Common.{◌≡◌, ℕ, ℤ, pos, ◌≤◌, ◌+◌, Bool, true, false, cond, List, Option, None, Some, Result, Ok, Err, max, Ordering, Less, Equal, Greater, refl, sym, subst, lit≤, arith}
+use Rattle.std.specs.Prelude.{codes, IfOk}
 use Rattle.std.specs.Int.{w32, int_wrapping_add}
 use Rattle.std.proofs.lemmas.Int.{ints}
 use Rattle.text_out.specs.Decimal.{decimal_of}
@@ -11,20 +11,20 @@ use Rattle.std.proofs.Math.Nat.{le-max_left}
 use Rattle.std.proofs.lemmas.Option.{same_Some, none-some}
 use Rattle.thrift_value.specs.declared.tag.Tag.{Tag}
 use Rattle.thrift_value.specs.declared.tag.Tag.TheVariants.{I32, Bytes}
-use Rattle.thrift_value.specs.Tree.{Tree, of_bool, of_i8, of_i16, of_i32, of_i64, of_double, of_bytes, of_struct, of_map, of_set, of_list, FieldTrees, no_fields, field, ItemTrees, no_items, item, PairTrees, no_pairs, pair}
+use Rattle.thrift_value.specs.Tree.{Tree, of_bool, of_i8, of_i16, of_i32, of_i64, of_double, of_bytes, of_struct, of_map, of_set, of_list, FieldTrees, no_fields, field, PairTrees, no_pairs, pair}
 use Rattle.thrift_value.specs.Tags.{tag_of}
 use Rattle.thrift_value.specs.Order.{tree_cmp}
-use Rattle.thrift_value.specs.Tidy.{IsTidy, IsWellTagged, AreWellTaggedPairs, AreWellTaggedItems, IsInOrder, AreItemsInOrder}
+use Rattle.thrift_value.specs.Tidy.{IsWellTagged, AreWellTaggedPairs, AreWellTaggedItems, AreItemsInOrder}
 use Rattle.thrift_value.specs.Measures.{depth_of, fields_depth, items_depth}
 use Rattle.call_rules.specs.declared.call.Answer.{Answer}
 use Rattle.call_rules.specs.Answers.{plain_answer}
 use Rattle.call_rules.specs.declared.kind.Kind.TheVariants.{Calculator, Store, Mirror}
-use Rattle.call_rules.specs.PlainCalls.{PlainCall, PlainAnswer, success, empty, throws, broken, IsPlainValue, IsPlainAnswer, IsPlainCall}
+use Rattle.call_rules.specs.PlainCalls.{PlainAnswer, success, empty, throws, broken, IsPlainValue, IsPlainAnswer}
 use Rattle.call_rules.specs.Handled.{Handled, keeping, or_broken}
 use Rattle.call_rules.specs.Memories.{pairs_in, texts_by, AreTextsBy, value_at_key, pairs_with, pairs_without, map_keys_of}
 use Rattle.call_rules.specs.Arguments.{fields_in, first_value, value_with_id, argument, number_passed, bytes_passed, fields_passed}
 use Rattle.call_rules.specs.CalculatorRule.{calculation, invalid_operation, calculated, work_done, calculate_answered, add_answered, kept_struct, get_struct_answered, calculator_rule}
-use Rattle.call_rules.specs.StoreRule.{found_or_empty, kept_at, memory_with, get_answered, put_answered, swap_answered, forget_answered, store_rule, mirror_rule}
+use Rattle.call_rules.specs.StoreRule.{found_or_empty, kept_at, memory_with, get_answered, put_answered, swap_answered, forget_answered, store_rule}
 use Rattle.call_rules.specs.Handling.{ServiceState, new_service, IsMemoryOf, HasItsMemory, kind_rule, handled, service_after}
 
 -- bytes are a plain value

@@ -1,10 +1,10 @@
 -- A map of texts, kept as entries by rising keys, does to its memory what the definitions do.
-use Rattle.std.proofs.Common.{◌≡◌, ℕ, Bool, true, false, cond, List, [], ◌∷◌, map, Option, None, Some, Ordering, Less, Equal, Greater, refl, sym, ap, ◌∙◌}
+use Rattle.std.proofs.Common.{◌≡◌, ℕ, Bool, true, false, cond, List, [], ◌∷◌, map, Option, Some, Ordering, Less, Equal, Greater, refl, ap, ◌∙◌}
 use Rattle.std.specs.Option.{option_map}
 use Rattle.std.specs.Ordering.{is_eq, match_ordering}
 use Rattle.std.specs.Map.{lookup, remove_entry}
 use Rattle.std.specs.BTreeMap.{insert_entry, is_at}
-use Rattle.thrift_value.specs.Tree.{Tree, of_bytes, PairTrees, no_pairs, pair}
+use Rattle.thrift_value.specs.Tree.{Tree, of_bytes, PairTrees, pair}
 use Rattle.thrift_value.specs.TreeOf.{pair_trees}
 use Rattle.thrift_value.specs.Order.{tree_cmp}
 use Rattle.call_rules.specs.Memories.{value_at_key, pairs_with, pairs_without, text_pair}

@@ -1,5 +1,4 @@
 -- What answers and decisions in memory stand for.
-use Rattle.outside.specs.declared.outcomes.EnvelopeFault.{EnvelopeFault}
 use Rattle.host_model.specs.DeskRules as desk
 use Rattle.host_model.specs.DeskRules.{DeskDecision}
 use Rattle.thrift_value.specs.TreeOf.{tree_of}

@@ -1,7 +1,6 @@
 -- Entries of a journal, over plain calls and answers.
 use Rattle.std.specs.Prelude.{ℕ, refl}
 use Rattle.std.specs.Coded.{Coded, code_by, coded×, coded_ℕ}
-use Rattle.host_model.specs.declared.key.Key.{Key}
 use Rattle.host_model.specs.Journal.{JournalEntry}
 use Rattle.call_rules.specs.PlainCalls.{PlainCall, PlainAnswer, plain_call_code, plain_answer_code}
 

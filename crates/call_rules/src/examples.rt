@@ -1,6 +1,6 @@
 //! Worked examples of the definitions, each the contract of a function that does nothing.
 
-ghost use Rattle.std.specs.Prelude.{◌≡◌, ℤ, pos, negsuc, ◌^◌, [], codes};
+ghost use Rattle.std.specs.Prelude.{◌≡◌, pos, negsuc, [], codes};
 ghost use Rattle.thrift_value.specs.declared.tag.Tag.TheVariants as tags;
 ghost use Rattle.thrift_value.specs.Tree.{Tree, of_i32, of_bytes, of_struct, of_map, of_list, no_fields, field, no_items, item, no_pairs, pair};
 ghost use Rattle.call_rules.specs.declared.kind.Kind.TheVariants as kinds;

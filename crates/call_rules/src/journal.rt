@@ -1,6 +1,6 @@
 //! Where calls are entered with their answers.
 
-ghost use Rattle.std.specs.Prelude.{◌≡◌, ◌≤◌, ℕ, Bool, true, false, List, [], ◌∷◌, ◌++◌, Option, OnOk, OnErr, MatchResult};
+ghost use Rattle.std.specs.Prelude.{◌≡◌, ◌≤◌, ℕ, Bool, true, false, List, [], ◌∷◌, ◌++◌, Option, OnOk, MatchResult};
 ghost use Rattle.std.specs.Option.{option_map};
 ghost use Rattle.outside.specs.Cause.{HasCause};
 ghost use Rattle.call_rules.specs.Entries.{CallEntry};

@@ -1,7 +1,7 @@
 -- The keys of a store, as a memory lists them.
 use Rattle.std.proofs.Common.{◌≡◌, ℕ, List, [], ◌∷◌, ◌++◌, map, Vec, Global, refl, sym, ap, ◌∙◌}
 use Rattle.std.specs.Map.{keys_of}
-use Rattle.thrift_value.specs.Tree.{Tree, ItemTrees, item}
+use Rattle.thrift_value.specs.Tree.{Tree, item}
 use Rattle.thrift_value.specs.TreeOf.{item_trees, pair_trees}
 use Rattle.call_rules.specs.Memories.{text_pair, map_keys_of}
 use Rattle.house_handlers.specs.Kept.{key_tree}

@@ -2,7 +2,7 @@
 use Rattle.std.specs.Prelude.{ℕ, Vec, refl}
 use Rattle.std.specs.declared.alloc.Global.{Global}
 use Rattle.thrift_value.specs.declared.tag.Tag.TheVariants.{Bytes}
-use Rattle.thrift_value.specs.Tree.{Tree, of_bytes, of_struct, no_fields}
+use Rattle.thrift_value.specs.Tree.{Tree, of_bytes}
 use Rattle.call_rules.specs.declared.kind.Kind.TheVariants as kinds
 use Rattle.call_rules.specs.Memories.{texts_tree, texts_tree_is}
 use Rattle.call_rules.specs.Handling.{ServiceState, HasItsMemory, new_service}

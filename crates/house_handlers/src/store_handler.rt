@@ -50,7 +50,7 @@ fn put_key(keys: &mut Vec<Value>, alloc: Global, key: &Vec<u8>) -> Result<(), Al
 }
 
 impl Store {
-    ghost use Rattle.std.specs.Prelude.{◌≡◌, map, IfOk, OnOk, OnErr, MatchOption};
+    ghost use Rattle.std.specs.Prelude.{◌≡◌, map, IfOk, OnOk, OnErr};
     ghost use Rattle.std.specs.Option.{option_map, option_copied};
     ghost use Rattle.thrift_value.specs.declared.tag.Tag.TheVariants as tags;
     ghost use Rattle.thrift_value.specs.Tree.{of_bytes, of_list};

@@ -1,4 +1,4 @@
-use Rattle.std.proofs.Common.{◌≡◌, ℤ, pos, List, ℕ, Bool, true, false, cond, Result, Ok, of_z, refl, ap, ◌∙◌, rules}
+use Rattle.std.proofs.Common.{◌≡◌, ℤ, pos, Bool, true, false, cond, Ok, of_z, refl, ap, ◌∙◌, rules}
 use Rattle.std.specs.Int.{w32, int_wrapping_add, int_wrapping_sub}
 use Rattle.std.specs.Ordering.{int_eq}
 use Rattle.std.proofs.lemmas.Bool.Decides.{Decides-int_eq}

@@ -1,6 +1,6 @@
-use Rattle.std.proofs.Common.{List, ℕ, refl, sym, ap, ◌∙◌}
+use Rattle.std.proofs.Common.{refl, sym, ap, ◌∙◌}
 use Rattle.thrift_value.specs.declared.tag.Tag.TheVariants.{Bytes}
-use Rattle.thrift_value.specs.Tree.{Tree, of_bytes}
+use Rattle.thrift_value.specs.Tree.{of_bytes}
 use Rattle.call_rules.specs.Memories.{texts_by, texts_tree}
 use Rattle.call_rules.proofs.TextMaps.{pairs_without-pairs}
 use Rattle.house_handlers.specs.Kept.{key_tree}
