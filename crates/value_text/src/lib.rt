@@ -21,9 +21,11 @@ use thrift_value::Value;
 
 mod printer;
 mod rows;
+mod spelling;
 
 pub use printer::put_value;
 pub use rows::worked_texts;
+pub use spelling::spell;
 
 /// The text of a value.
 pub fn print(alloc: Global, value: &Value) -> Result<Vec<u8>, AllocError>

@@ -9,7 +9,7 @@ use text_out::{decimal, hex, quoted};
 use thrift_value::{Tag, Value};
 
 /// The word of a tag.
-fn word_of(tag: Tag) -> &'static str
+pub(crate) fn word_of(tag: Tag) -> &'static str
     ensures { result.now ≡ tag_word tag }
 {
     match tag {

@@ -1,0 +1,179 @@
+use Rattle.std.proofs.Common.{◌++◌, codes, map, sym, arith}
+use Rattle.std.specs.List.{flat_map}
+use Rattle.thrift_value.specs.TreeOf.{tree_of, field_tree, pair_tree, field_trees, item_trees, pair_trees}
+use Rattle.value_text.specs.ValueText.{tag_word, number_and_letter, tree_text, listed_fields, listed_items, listed_pairs}
+use Rattle.value_text.proofs.Handed.{goes_on, hands_more, breaks, breaks_last, both_handed, hands_same, next_handed, next_fails, first_handed, next_field, next_item, next_pair, fields_begin, items_begin, pairs_begin}
+use Rattle.value_text.proofs.spelling.+value_speller.Goals as goal
+
+pub spell_struct-returns-in_err-hand_over : goal.spell_struct-returns-in_err-hand_over
+spell_struct-returns-in_err-hand_over g t c =
+    breaks (g.K.Sink.taken c.args.out.now) (g.K.Sink.taken c.hand_over.new.out) (g.K.Sink.faults c.args.out.now) (g.K.Sink.faults c.hand_over.new.out) (codes "{") ((listed_fields (field_trees (map field_tree c.args.fields.now))) ++ (codes "}")) c.from_residual.result c.from_residual.ensures.0 (c.in_err-hand_over.ensures {u = tt})
+
+pub spell_struct-returns-in_err-spell_fields : goal.spell_struct-returns-in_err-spell_fields
+spell_struct-returns-in_err-spell_fields g t c =
+    goes_on (g.K.Sink.taken c.args.out.now) (g.K.Sink.taken c.hand_over.new.out) (g.K.Sink.taken c.spell_fields.new.out) (g.K.Sink.faults c.args.out.now) (g.K.Sink.faults c.hand_over.new.out) (g.K.Sink.faults c.spell_fields.new.out) (codes "{") ((listed_fields (field_trees (map field_tree c.args.fields.now))) ++ (codes "}")) c.from_residual-in_err-spell_fields.result
+    (c.in_ok-hand_over.ensures {u = tt})
+    (breaks (g.K.Sink.taken c.hand_over.new.out) (g.K.Sink.taken c.spell_fields.new.out) (g.K.Sink.faults c.hand_over.new.out) (g.K.Sink.faults c.spell_fields.new.out) (listed_fields (field_trees (map field_tree c.args.fields.now))) (codes "}") c.from_residual-in_err-spell_fields.result c.from_residual-in_err-spell_fields.ensures.0 (c.in_err-spell_fields.ensures {u = tt}))
+
+pub spell_struct-returns : goal.spell_struct-returns
+spell_struct-returns g t c =
+    goes_on (g.K.Sink.taken c.args.out.now) (g.K.Sink.taken c.hand_over.new.out) (g.K.Sink.taken c.hand_over-2.new.out) (g.K.Sink.faults c.args.out.now) (g.K.Sink.faults c.hand_over.new.out) (g.K.Sink.faults c.hand_over-2.new.out) (codes "{") ((listed_fields (field_trees (map field_tree c.args.fields.now))) ++ (codes "}")) c.hand_over-2.result
+    (c.in_ok-hand_over.ensures {u = tt})
+    (goes_on (g.K.Sink.taken c.hand_over.new.out) (g.K.Sink.taken c.spell_fields.new.out) (g.K.Sink.taken c.hand_over-2.new.out) (g.K.Sink.faults c.hand_over.new.out) (g.K.Sink.faults c.spell_fields.new.out) (g.K.Sink.faults c.hand_over-2.new.out) (listed_fields (field_trees (map field_tree c.args.fields.now))) (codes "}") c.hand_over-2.result
+    (c.in_ok-spell_fields.ensures {u = tt})
+    (c.hand_over-2.ensures))
+
+pub spell_map-returns-in_err-spell_map_head : goal.spell_map-returns-in_err-spell_map_head
+spell_map-returns-in_err-spell_map_head g t c =
+    breaks (g.K.Sink.taken c.args.out.now) (g.K.Sink.taken c.spell_map_head.new.out) (g.K.Sink.faults c.args.out.now) (g.K.Sink.faults c.spell_map_head.new.out) (codes "map<" ++ (tag_word c.args.key ++ (codes "," ++ (tag_word c.args.value ++ codes ">{")))) ((listed_pairs (pair_trees (map pair_tree c.args.pairs.now))) ++ (codes "}")) c.from_residual.result c.from_residual.ensures.0 (c.in_err-spell_map_head.ensures {u = tt})
+
+pub spell_map-returns-in_err-spell_pairs : goal.spell_map-returns-in_err-spell_pairs
+spell_map-returns-in_err-spell_pairs g t c =
+    goes_on (g.K.Sink.taken c.args.out.now) (g.K.Sink.taken c.spell_map_head.new.out) (g.K.Sink.taken c.spell_pairs.new.out) (g.K.Sink.faults c.args.out.now) (g.K.Sink.faults c.spell_map_head.new.out) (g.K.Sink.faults c.spell_pairs.new.out) (codes "map<" ++ (tag_word c.args.key ++ (codes "," ++ (tag_word c.args.value ++ codes ">{")))) ((listed_pairs (pair_trees (map pair_tree c.args.pairs.now))) ++ (codes "}")) c.from_residual-in_err-spell_pairs.result
+    (c.in_ok-spell_map_head.ensures {u = tt})
+    (breaks (g.K.Sink.taken c.spell_map_head.new.out) (g.K.Sink.taken c.spell_pairs.new.out) (g.K.Sink.faults c.spell_map_head.new.out) (g.K.Sink.faults c.spell_pairs.new.out) (listed_pairs (pair_trees (map pair_tree c.args.pairs.now))) (codes "}") c.from_residual-in_err-spell_pairs.result c.from_residual-in_err-spell_pairs.ensures.0 (c.in_err-spell_pairs.ensures {u = tt}))
+
+pub spell_map-returns : goal.spell_map-returns
+spell_map-returns g t c =
+    goes_on (g.K.Sink.taken c.args.out.now) (g.K.Sink.taken c.spell_map_head.new.out) (g.K.Sink.taken c.hand_over.new.out) (g.K.Sink.faults c.args.out.now) (g.K.Sink.faults c.spell_map_head.new.out) (g.K.Sink.faults c.hand_over.new.out) (codes "map<" ++ (tag_word c.args.key ++ (codes "," ++ (tag_word c.args.value ++ codes ">{")))) ((listed_pairs (pair_trees (map pair_tree c.args.pairs.now))) ++ (codes "}")) c.hand_over.result
+    (c.in_ok-spell_map_head.ensures {u = tt})
+    (goes_on (g.K.Sink.taken c.spell_map_head.new.out) (g.K.Sink.taken c.spell_pairs.new.out) (g.K.Sink.taken c.hand_over.new.out) (g.K.Sink.faults c.spell_map_head.new.out) (g.K.Sink.faults c.spell_pairs.new.out) (g.K.Sink.faults c.hand_over.new.out) (listed_pairs (pair_trees (map pair_tree c.args.pairs.now))) (codes "}") c.hand_over.result
+    (c.in_ok-spell_pairs.ensures {u = tt})
+    (c.hand_over.ensures))
+
+pub spell_collection-returns-in_err-spell_head : goal.spell_collection-returns-in_err-spell_head
+spell_collection-returns-in_err-spell_head g t c =
+    breaks (g.K.Sink.taken c.args.out.now) (g.K.Sink.taken c.spell_head.new.out) (g.K.Sink.faults c.args.out.now) (g.K.Sink.faults c.spell_head.new.out) (c.args.word.now ++ (tag_word c.args.element ++ codes ">[")) ((listed_items (item_trees (map tree_of c.args.items.now))) ++ (codes "]")) c.from_residual.result c.from_residual.ensures.0 (c.in_err-spell_head.ensures {u = tt})
+
+pub spell_collection-returns-in_err-spell_items : goal.spell_collection-returns-in_err-spell_items
+spell_collection-returns-in_err-spell_items g t c =
+    goes_on (g.K.Sink.taken c.args.out.now) (g.K.Sink.taken c.spell_head.new.out) (g.K.Sink.taken c.spell_items.new.out) (g.K.Sink.faults c.args.out.now) (g.K.Sink.faults c.spell_head.new.out) (g.K.Sink.faults c.spell_items.new.out) (c.args.word.now ++ (tag_word c.args.element ++ codes ">[")) ((listed_items (item_trees (map tree_of c.args.items.now))) ++ (codes "]")) c.from_residual-in_err-spell_items.result
+    (c.in_ok-spell_head.ensures {u = tt})
+    (breaks (g.K.Sink.taken c.spell_head.new.out) (g.K.Sink.taken c.spell_items.new.out) (g.K.Sink.faults c.spell_head.new.out) (g.K.Sink.faults c.spell_items.new.out) (listed_items (item_trees (map tree_of c.args.items.now))) (codes "]") c.from_residual-in_err-spell_items.result c.from_residual-in_err-spell_items.ensures.0 (c.in_err-spell_items.ensures {u = tt}))
+
+pub spell_collection-returns : goal.spell_collection-returns
+spell_collection-returns g t c =
+    goes_on (g.K.Sink.taken c.args.out.now) (g.K.Sink.taken c.spell_head.new.out) (g.K.Sink.taken c.hand_over.new.out) (g.K.Sink.faults c.args.out.now) (g.K.Sink.faults c.spell_head.new.out) (g.K.Sink.faults c.hand_over.new.out) (c.args.word.now ++ (tag_word c.args.element ++ codes ">[")) ((listed_items (item_trees (map tree_of c.args.items.now))) ++ (codes "]")) c.hand_over.result
+    (c.in_ok-spell_head.ensures {u = tt})
+    (goes_on (g.K.Sink.taken c.spell_head.new.out) (g.K.Sink.taken c.spell_items.new.out) (g.K.Sink.taken c.hand_over.new.out) (g.K.Sink.faults c.spell_head.new.out) (g.K.Sink.faults c.spell_items.new.out) (g.K.Sink.faults c.hand_over.new.out) (listed_items (item_trees (map tree_of c.args.items.now))) (codes "]") c.hand_over.result
+    (c.in_ok-spell_items.ensures {u = tt})
+    (c.hand_over.ensures))
+
+pub spell_field-returns-in_err-spell_id : goal.spell_field-returns-in_err-spell_id
+spell_field-returns-in_err-spell_id g t c =
+    breaks (g.K.Sink.taken c.args.out.now) (g.K.Sink.taken c.spell_id.new.out) (g.K.Sink.faults c.args.out.now) (g.K.Sink.faults c.spell_id.new.out) (number_and_letter c.args.id.now (codes "=")) (tree_text (tree_of c.args.value.now)) c.from_residual.result c.from_residual.ensures.0 (c.in_err-spell_id.ensures {u = tt})
+
+pub spell_field-returns : goal.spell_field-returns
+spell_field-returns g t c =
+    goes_on (g.K.Sink.taken c.args.out.now) (g.K.Sink.taken c.spell_id.new.out) (g.K.Sink.taken c.spell_value.new.out) (g.K.Sink.faults c.args.out.now) (g.K.Sink.faults c.spell_id.new.out) (g.K.Sink.faults c.spell_value.new.out) (number_and_letter c.args.id.now (codes "=")) (tree_text (tree_of c.args.value.now)) c.spell_value.result
+    (c.in_ok-spell_id.ensures {u = tt})
+    (c.spell_value.ensures)
+
+pub spell_next_field-returns-in_err-hand_over : goal.spell_next_field-returns-in_err-hand_over
+spell_next_field-returns-in_err-hand_over g t c =
+    breaks (g.K.Sink.taken c.args.out.now) (g.K.Sink.taken c.hand_over.new.out) (g.K.Sink.faults c.args.out.now) (g.K.Sink.faults c.hand_over.new.out) (codes ",") (number_and_letter c.args.id.now (codes "=") ++ tree_text (tree_of c.args.value.now)) c.from_residual.result c.from_residual.ensures.0 (c.in_err-hand_over.ensures {u = tt})
+
+pub spell_next_field-returns : goal.spell_next_field-returns
+spell_next_field-returns g t c =
+    goes_on (g.K.Sink.taken c.args.out.now) (g.K.Sink.taken c.hand_over.new.out) (g.K.Sink.taken c.spell_field.new.out) (g.K.Sink.faults c.args.out.now) (g.K.Sink.faults c.hand_over.new.out) (g.K.Sink.faults c.spell_field.new.out) (codes ",") (number_and_letter c.args.id.now (codes "=") ++ tree_text (tree_of c.args.value.now)) c.spell_field.result
+    (c.in_ok-hand_over.ensures {u = tt})
+    (c.spell_field.ensures)
+
+pub spell_next_item-returns-in_err-hand_over : goal.spell_next_item-returns-in_err-hand_over
+spell_next_item-returns-in_err-hand_over g t c =
+    breaks (g.K.Sink.taken c.args.out.now) (g.K.Sink.taken c.hand_over.new.out) (g.K.Sink.faults c.args.out.now) (g.K.Sink.faults c.hand_over.new.out) (codes ",") (tree_text (tree_of c.args.item.now)) c.from_residual.result c.from_residual.ensures.0 (c.in_err-hand_over.ensures {u = tt})
+
+pub spell_next_item-returns : goal.spell_next_item-returns
+spell_next_item-returns g t c =
+    goes_on (g.K.Sink.taken c.args.out.now) (g.K.Sink.taken c.hand_over.new.out) (g.K.Sink.taken c.spell_value.new.out) (g.K.Sink.faults c.args.out.now) (g.K.Sink.faults c.hand_over.new.out) (g.K.Sink.faults c.spell_value.new.out) (codes ",") (tree_text (tree_of c.args.item.now)) c.spell_value.result
+    (c.in_ok-hand_over.ensures {u = tt})
+    (c.spell_value.ensures)
+
+pub spell_mapped-returns-in_err-hand_over : goal.spell_mapped-returns-in_err-hand_over
+spell_mapped-returns-in_err-hand_over g t c =
+    breaks (g.K.Sink.taken c.args.out.now) (g.K.Sink.taken c.hand_over.new.out) (g.K.Sink.faults c.args.out.now) (g.K.Sink.faults c.hand_over.new.out) (codes "=") (tree_text (tree_of c.args.value.now)) c.from_residual.result c.from_residual.ensures.0 (c.in_err-hand_over.ensures {u = tt})
+
+pub spell_mapped-returns : goal.spell_mapped-returns
+spell_mapped-returns g t c =
+    goes_on (g.K.Sink.taken c.args.out.now) (g.K.Sink.taken c.hand_over.new.out) (g.K.Sink.taken c.spell_value.new.out) (g.K.Sink.faults c.args.out.now) (g.K.Sink.faults c.hand_over.new.out) (g.K.Sink.faults c.spell_value.new.out) (codes "=") (tree_text (tree_of c.args.value.now)) c.spell_value.result
+    (c.in_ok-hand_over.ensures {u = tt})
+    (c.spell_value.ensures)
+
+pub spell_fields-returns-in_err-spell_field : goal.spell_fields-returns-in_err-spell_field
+spell_fields-returns-in_err-spell_field g t c =
+    hands_same (g.K.Sink.taken c.args.out.now) (g.K.Sink.taken c.spell_field.new.out) (g.K.Sink.faults c.args.out.now) (g.K.Sink.faults c.spell_field.new.out) ((number_and_letter c.in-Some.first.now.0 (codes "=") ++ tree_text (tree_of c.in-Some.first.now.1)) ++ (flat_map next_field c.in-Some.more.now)) (listed_fields (field_trees (map field_tree c.args.fields.now))) c.from_residual.result (sym (fields_begin c.args.fields.now c.in-Some.first.now c.in-Some.more.now c.in-Some.ensures.cases.0))
+    (breaks (g.K.Sink.taken c.args.out.now) (g.K.Sink.taken c.spell_field.new.out) (g.K.Sink.faults c.args.out.now) (g.K.Sink.faults c.spell_field.new.out) (number_and_letter c.in-Some.first.now.0 (codes "=") ++ tree_text (tree_of c.in-Some.first.now.1)) (flat_map next_field c.in-Some.more.now) c.from_residual.result c.from_residual.ensures.0 (c.in_err-spell_field.ensures {u = tt}))
+
+pub spell_fields-loop-id-init : goal.spell_fields-loop-id-init
+spell_fields-loop-id-init g t c =
+    first_handed next_field c.in-Some.more.now (g.K.Sink.taken c.args.out.now) (g.K.Sink.taken c.spell_field.new.out) (g.K.Sink.faults c.args.out.now) (g.K.Sink.faults c.spell_field.new.out) (number_and_letter c.in-Some.first.now.0 (codes "=") ++ tree_text (tree_of c.in-Some.first.now.1)) (listed_fields (field_trees (map field_tree c.args.fields.now)))
+    (fields_begin c.args.fields.now c.in-Some.first.now c.in-Some.more.now c.in-Some.ensures.cases.0)
+    (c.in_ok-spell_field.ensures {u = tt})
+
+pub spell_fields-loop-id-preserved : goal.spell_fields-loop-id-preserved
+spell_fields-loop-id-preserved g t c =
+    next_handed next_field c.in-Some.more.now c.loop-id.id-index c.loop-id-item.result c.loop-id-item.result (g.K.Sink.taken c.args.out.now) (g.K.Sink.taken c.loop-id.out) (g.K.Sink.taken c.spell_next_field.new.out) (g.K.Sink.faults c.args.out.now) (g.K.Sink.faults c.loop-id.out) (g.K.Sink.faults c.spell_next_field.new.out) (listed_fields (field_trees (map field_tree c.args.fields.now))) (omega arith) c.loop-id-item.is c.loop-id.invariant
+    (c.in_ok-spell_next_field.ensures {u = tt})
+
+pub spell_fields-returns-in_err-spell_next_field : goal.spell_fields-returns-in_err-spell_next_field
+spell_fields-returns-in_err-spell_next_field g t c =
+    next_fails next_field c.in-Some.more.now c.loop-id.id-index c.loop-id-item.result c.loop-id-item.result (g.K.Sink.taken c.args.out.now) (g.K.Sink.taken c.loop-id.out) (g.K.Sink.taken c.spell_next_field.new.out) (g.K.Sink.faults c.args.out.now) (g.K.Sink.faults c.loop-id.out) (g.K.Sink.faults c.spell_next_field.new.out) (listed_fields (field_trees (map field_tree c.args.fields.now))) c.from_residual-in_err-spell_next_field.result (omega arith) c.loop-id-item.is c.loop-id.invariant c.from_residual-in_err-spell_next_field.ensures.0
+    (breaks_last (g.K.Sink.taken c.loop-id.out) (g.K.Sink.taken c.spell_next_field.new.out) (g.K.Sink.faults c.loop-id.out) (g.K.Sink.faults c.spell_next_field.new.out) (next_field c.loop-id-item.result) c.from_residual-in_err-spell_next_field.result c.from_residual-in_err-spell_next_field.ensures.0 (c.in_err-spell_next_field.ensures {u = tt}))
+
+pub spell_items-returns-in_err-spell_value : goal.spell_items-returns-in_err-spell_value
+spell_items-returns-in_err-spell_value g t c =
+    hands_same (g.K.Sink.taken c.args.out.now) (g.K.Sink.taken c.spell_value.new.out) (g.K.Sink.faults c.args.out.now) (g.K.Sink.faults c.spell_value.new.out) ((tree_text (tree_of c.in-Some.first.now)) ++ (flat_map next_item c.in-Some.more.now)) (listed_items (item_trees (map tree_of c.args.items.now))) c.from_residual.result (sym (items_begin c.args.items.now c.in-Some.first.now c.in-Some.more.now c.in-Some.ensures.cases.0))
+    (breaks (g.K.Sink.taken c.args.out.now) (g.K.Sink.taken c.spell_value.new.out) (g.K.Sink.faults c.args.out.now) (g.K.Sink.faults c.spell_value.new.out) (tree_text (tree_of c.in-Some.first.now)) (flat_map next_item c.in-Some.more.now) c.from_residual.result c.from_residual.ensures.0 (c.in_err-spell_value.ensures {u = tt}))
+
+pub spell_items-loop-item-init : goal.spell_items-loop-item-init
+spell_items-loop-item-init g t c =
+    first_handed next_item c.in-Some.more.now (g.K.Sink.taken c.args.out.now) (g.K.Sink.taken c.spell_value.new.out) (g.K.Sink.faults c.args.out.now) (g.K.Sink.faults c.spell_value.new.out) (tree_text (tree_of c.in-Some.first.now)) (listed_items (item_trees (map tree_of c.args.items.now)))
+    (items_begin c.args.items.now c.in-Some.first.now c.in-Some.more.now c.in-Some.ensures.cases.0)
+    (c.in_ok-spell_value.ensures {u = tt})
+
+pub spell_items-loop-item-preserved : goal.spell_items-loop-item-preserved
+spell_items-loop-item-preserved g t c =
+    next_handed next_item c.in-Some.more.now c.loop-item.item-index c.item-item.result c.item-item.result (g.K.Sink.taken c.args.out.now) (g.K.Sink.taken c.loop-item.out) (g.K.Sink.taken c.spell_next_item.new.out) (g.K.Sink.faults c.args.out.now) (g.K.Sink.faults c.loop-item.out) (g.K.Sink.faults c.spell_next_item.new.out) (listed_items (item_trees (map tree_of c.args.items.now))) (omega arith) c.item-item.is c.loop-item.invariant
+    (c.in_ok-spell_next_item.ensures {u = tt})
+
+pub spell_items-returns-in_err-spell_next_item : goal.spell_items-returns-in_err-spell_next_item
+spell_items-returns-in_err-spell_next_item g t c =
+    next_fails next_item c.in-Some.more.now c.loop-item.item-index c.item-item.result c.item-item.result (g.K.Sink.taken c.args.out.now) (g.K.Sink.taken c.loop-item.out) (g.K.Sink.taken c.spell_next_item.new.out) (g.K.Sink.faults c.args.out.now) (g.K.Sink.faults c.loop-item.out) (g.K.Sink.faults c.spell_next_item.new.out) (listed_items (item_trees (map tree_of c.args.items.now))) c.from_residual-in_err-spell_next_item.result (omega arith) c.item-item.is c.loop-item.invariant c.from_residual-in_err-spell_next_item.ensures.0
+    (breaks_last (g.K.Sink.taken c.loop-item.out) (g.K.Sink.taken c.spell_next_item.new.out) (g.K.Sink.faults c.loop-item.out) (g.K.Sink.faults c.spell_next_item.new.out) (next_item c.item-item.result) c.from_residual-in_err-spell_next_item.result c.from_residual-in_err-spell_next_item.ensures.0 (c.in_err-spell_next_item.ensures {u = tt}))
+
+pub spell_pairs-returns-in_err-spell_value : goal.spell_pairs-returns-in_err-spell_value
+spell_pairs-returns-in_err-spell_value g t c =
+    hands_same (g.K.Sink.taken c.args.out.now) (g.K.Sink.taken c.spell_value.new.out) (g.K.Sink.faults c.args.out.now) (g.K.Sink.faults c.spell_value.new.out) ((tree_text (tree_of c.in-Some.first.now.0) ++ (codes "=" ++ tree_text (tree_of c.in-Some.first.now.1))) ++ (flat_map next_pair c.in-Some.more.now)) (listed_pairs (pair_trees (map pair_tree c.args.pairs.now))) c.from_residual.result (sym (pairs_begin c.args.pairs.now c.in-Some.first.now c.in-Some.more.now c.in-Some.ensures.cases.0))
+    (hands_more (g.K.Sink.taken c.args.out.now) (g.K.Sink.taken c.spell_value.new.out) (g.K.Sink.faults c.args.out.now) (g.K.Sink.faults c.spell_value.new.out) (tree_text (tree_of c.in-Some.first.now.0) ++ (codes "=" ++ tree_text (tree_of c.in-Some.first.now.1))) (flat_map next_pair c.in-Some.more.now) c.from_residual.result c.from_residual.ensures.0
+    (breaks (g.K.Sink.taken c.args.out.now) (g.K.Sink.taken c.spell_value.new.out) (g.K.Sink.faults c.args.out.now) (g.K.Sink.faults c.spell_value.new.out) (tree_text (tree_of c.in-Some.first.now.0)) (codes "=" ++ tree_text (tree_of c.in-Some.first.now.1)) c.from_residual.result c.from_residual.ensures.0 (c.in_err-spell_value.ensures {u = tt})))
+
+pub spell_pairs-returns-in_err-spell_mapped : goal.spell_pairs-returns-in_err-spell_mapped
+spell_pairs-returns-in_err-spell_mapped g t c =
+    hands_same (g.K.Sink.taken c.args.out.now) (g.K.Sink.taken c.spell_mapped.new.out) (g.K.Sink.faults c.args.out.now) (g.K.Sink.faults c.spell_mapped.new.out) ((tree_text (tree_of c.in-Some.first.now.0) ++ (codes "=" ++ tree_text (tree_of c.in-Some.first.now.1))) ++ (flat_map next_pair c.in-Some.more.now)) (listed_pairs (pair_trees (map pair_tree c.args.pairs.now))) c.from_residual-in_err-spell_mapped.result (sym (pairs_begin c.args.pairs.now c.in-Some.first.now c.in-Some.more.now c.in-Some.ensures.cases.0))
+    (hands_more (g.K.Sink.taken c.args.out.now) (g.K.Sink.taken c.spell_mapped.new.out) (g.K.Sink.faults c.args.out.now) (g.K.Sink.faults c.spell_mapped.new.out) (tree_text (tree_of c.in-Some.first.now.0) ++ (codes "=" ++ tree_text (tree_of c.in-Some.first.now.1))) (flat_map next_pair c.in-Some.more.now) c.from_residual-in_err-spell_mapped.result c.from_residual-in_err-spell_mapped.ensures.0
+    (goes_on (g.K.Sink.taken c.args.out.now) (g.K.Sink.taken c.spell_value.new.out) (g.K.Sink.taken c.spell_mapped.new.out) (g.K.Sink.faults c.args.out.now) (g.K.Sink.faults c.spell_value.new.out) (g.K.Sink.faults c.spell_mapped.new.out) (tree_text (tree_of c.in-Some.first.now.0)) (codes "=" ++ tree_text (tree_of c.in-Some.first.now.1)) c.from_residual-in_err-spell_mapped.result
+    (c.in_ok-spell_value.ensures {u = tt})
+    (breaks_last (g.K.Sink.taken c.spell_value.new.out) (g.K.Sink.taken c.spell_mapped.new.out) (g.K.Sink.faults c.spell_value.new.out) (g.K.Sink.faults c.spell_mapped.new.out) (codes "=" ++ tree_text (tree_of c.in-Some.first.now.1)) c.from_residual-in_err-spell_mapped.result c.from_residual-in_err-spell_mapped.ensures.0 (c.in_err-spell_mapped.ensures {u = tt}))))
+
+pub spell_pairs-loop-key-init : goal.spell_pairs-loop-key-init
+spell_pairs-loop-key-init g t c =
+    first_handed next_pair c.in-Some.more.now (g.K.Sink.taken c.args.out.now) (g.K.Sink.taken c.spell_mapped.new.out) (g.K.Sink.faults c.args.out.now) (g.K.Sink.faults c.spell_mapped.new.out) (tree_text (tree_of c.in-Some.first.now.0) ++ (codes "=" ++ tree_text (tree_of c.in-Some.first.now.1))) (listed_pairs (pair_trees (map pair_tree c.args.pairs.now)))
+    (pairs_begin c.args.pairs.now c.in-Some.first.now c.in-Some.more.now c.in-Some.ensures.cases.0)
+    (both_handed (g.K.Sink.taken c.args.out.now) (g.K.Sink.taken c.spell_value.new.out) (g.K.Sink.taken c.spell_mapped.new.out) (g.K.Sink.faults c.args.out.now) (g.K.Sink.faults c.spell_value.new.out) (g.K.Sink.faults c.spell_mapped.new.out) (tree_text (tree_of c.in-Some.first.now.0)) (codes "=" ++ tree_text (tree_of c.in-Some.first.now.1)) (c.in_ok-spell_value.ensures {u = tt}) (c.in_ok-spell_mapped.ensures {u = tt}))
+
+pub spell_pairs-loop-key-preserved : goal.spell_pairs-loop-key-preserved
+spell_pairs-loop-key-preserved g t c =
+    next_handed next_pair c.in-Some.more.now c.loop-key.key-index c.loop-key-item.result c.loop-key-item.result (g.K.Sink.taken c.args.out.now) (g.K.Sink.taken c.loop-key.out) (g.K.Sink.taken c.spell_mapped-in-loop-key.new.out) (g.K.Sink.faults c.args.out.now) (g.K.Sink.faults c.loop-key.out) (g.K.Sink.faults c.spell_mapped-in-loop-key.new.out) (listed_pairs (pair_trees (map pair_tree c.args.pairs.now))) (omega arith) c.loop-key-item.is c.loop-key.invariant
+    (both_handed (g.K.Sink.taken c.loop-key.out) (g.K.Sink.taken c.spell_next_item.new.out) (g.K.Sink.taken c.spell_mapped-in-loop-key.new.out) (g.K.Sink.faults c.loop-key.out) (g.K.Sink.faults c.spell_next_item.new.out) (g.K.Sink.faults c.spell_mapped-in-loop-key.new.out) (codes "," ++ tree_text (tree_of c.loop-key-item.result.0)) (codes "=" ++ tree_text (tree_of c.loop-key-item.result.1)) (c.in_ok-spell_next_item.ensures {u = tt}) (c.in_ok-spell_mapped-2.ensures {u = tt}))
+
+pub spell_pairs-returns-in_err-spell_next_item : goal.spell_pairs-returns-in_err-spell_next_item
+spell_pairs-returns-in_err-spell_next_item g t c =
+    next_fails next_pair c.in-Some.more.now c.loop-key.key-index c.loop-key-item.result c.loop-key-item.result (g.K.Sink.taken c.args.out.now) (g.K.Sink.taken c.loop-key.out) (g.K.Sink.taken c.spell_next_item.new.out) (g.K.Sink.faults c.args.out.now) (g.K.Sink.faults c.loop-key.out) (g.K.Sink.faults c.spell_next_item.new.out) (listed_pairs (pair_trees (map pair_tree c.args.pairs.now))) c.from_residual-in_err-spell_next_item.result (omega arith) c.loop-key-item.is c.loop-key.invariant c.from_residual-in_err-spell_next_item.ensures.0
+    (breaks (g.K.Sink.taken c.loop-key.out) (g.K.Sink.taken c.spell_next_item.new.out) (g.K.Sink.faults c.loop-key.out) (g.K.Sink.faults c.spell_next_item.new.out) (codes "," ++ tree_text (tree_of c.loop-key-item.result.0)) (codes "=" ++ tree_text (tree_of c.loop-key-item.result.1)) c.from_residual-in_err-spell_next_item.result c.from_residual-in_err-spell_next_item.ensures.0 (c.in_err-spell_next_item.ensures {u = tt}))
+
+pub spell_pairs-returns-in_err-spell_mapped-2 : goal.spell_pairs-returns-in_err-spell_mapped-2
+spell_pairs-returns-in_err-spell_mapped-2 g t c =
+    next_fails next_pair c.in-Some.more.now c.loop-key.key-index c.loop-key-item.result c.loop-key-item.result (g.K.Sink.taken c.args.out.now) (g.K.Sink.taken c.loop-key.out) (g.K.Sink.taken c.spell_mapped-in-loop-key.new.out) (g.K.Sink.faults c.args.out.now) (g.K.Sink.faults c.loop-key.out) (g.K.Sink.faults c.spell_mapped-in-loop-key.new.out) (listed_pairs (pair_trees (map pair_tree c.args.pairs.now))) c.from_residual-in_err-spell_mapped-2.result (omega arith) c.loop-key-item.is c.loop-key.invariant c.from_residual-in_err-spell_mapped-2.ensures.0
+    (goes_on (g.K.Sink.taken c.loop-key.out) (g.K.Sink.taken c.spell_next_item.new.out) (g.K.Sink.taken c.spell_mapped-in-loop-key.new.out) (g.K.Sink.faults c.loop-key.out) (g.K.Sink.faults c.spell_next_item.new.out) (g.K.Sink.faults c.spell_mapped-in-loop-key.new.out) (codes "," ++ tree_text (tree_of c.loop-key-item.result.0)) (codes "=" ++ tree_text (tree_of c.loop-key-item.result.1)) c.from_residual-in_err-spell_mapped-2.result
+    (c.in_ok-spell_next_item.ensures {u = tt})
+    (breaks_last (g.K.Sink.taken c.spell_next_item.new.out) (g.K.Sink.taken c.spell_mapped-in-loop-key.new.out) (g.K.Sink.faults c.spell_next_item.new.out) (g.K.Sink.faults c.spell_mapped-in-loop-key.new.out) (codes "=" ++ tree_text (tree_of c.loop-key-item.result.1)) c.from_residual-in_err-spell_mapped-2.result c.from_residual-in_err-spell_mapped-2.ensures.0 (c.in_err-spell_mapped-2.ensures {u = tt})))

@@ -1,0 +1,11 @@
+use Rattle.std.proofs.Common.{drop}
+use Rattle.std.specs.List.{flat_map}
+use Rattle.text_out.specs.Hex.{hex_of}
+use Rattle.value_text.specs.Handing.{HandsOver}
+use Rattle.value_text.proofs.Handed.{byte_hex}
+use Rattle.value_text.proofs.spelling.spell_hex.Given as goal
+
+abbrev pub invariant-loop-byte : goal.invariant-loop-byte
+invariant-loop-byte g l =
+    HandsOver (g.K.Sink.taken l.fn.out) (g.K.Sink.taken l.out) (g.K.Sink.faults l.fn.out) (g.K.Sink.faults l.out) (hex_of l.bytes)
+    (flat_map byte_hex (drop l.byte-index l.bytes))

@@ -1,0 +1,334 @@
+//! Hands the texts of values to a sink, and takes no memory.
+ghost use Rattle.std.specs.Prelude.{◌≡◌, ◌++◌, ◌≤◌, ◌∷◌, [], codes, map, MatchResult, if◌then◌else◌};
+ghost use Rattle.std.specs.Int.{w64, to_be_bytes};
+ghost use Rattle.std.specs.List.{flat_map};
+ghost use Rattle.outside.specs.Cause.{HasCause};
+ghost use Rattle.outside.specs.Content.{told_more};
+ghost use Rattle.text_out.specs.Decimal.{decimal_of};
+ghost use Rattle.text_out.specs.Hex.{hex_of};
+ghost use Rattle.text_out.specs.Quoted.{quoted_byte, quoted_of};
+ghost use Rattle.thrift_value.specs.Measures.{depth_of};
+ghost use Rattle.thrift_value.specs.Tidy.{IsTidy};
+ghost use Rattle.thrift_value.specs.TreeOf.{tree_of, field_tree, pair_tree, field_trees, item_trees, pair_trees};
+ghost use Rattle.value_text.specs.Handing.{HandsText, BreaksOff};
+ghost use Rattle.value_text.specs.ValueText.{tag_word, number_and_letter, double_text, tree_text, listed_fields, listed_items, listed_pairs, further_fields, further_items, further_pairs};
+
+use crate::printer::word_of;
+use itoa::Buffer;
+use outside::{Failed, Sink};
+use thrift_value::{Tag, Value};
+
+const HEX_DIGITS: &[u8; 16] = b"0123456789abcdef";
+
+/// Writes the text of a value into a sink, part by part; takes no memory. Where the sink fails, a beginning of it may have been taken.
+pub fn spell<K: Sink>(value: &Value, out: &mut K) -> Result<(), Failed>
+    requires tidy { IsTidy (tree_of value.now) }
+    requires levels { depth_of (tree_of value.now) ≤ 64 }
+    ensures told { MatchResult result
+        (λ _. K.taken out.new ≡ told_more (K.taken out.old) (tree_text (tree_of value.now)))
+        (λ _. BreaksOff (K.taken out.old) (K.taken out.new) (K.faults out.old) (K.faults out.new) (tree_text (tree_of value.now))) }
+    ensures cause { HasCause (K.faults out.old) (K.faults out.new) result }
+{
+    spell_value(out, value)
+}
+
+/// Writes bytes until the sink took them all.
+fn hand_over<K: Sink>(out: &mut K, bytes: &[u8]) -> Result<(), Failed>
+    ensures { HandsText (K.taken out.old) (K.taken out.new) (K.faults out.old) (K.faults out.new) bytes.now result }
+{
+    let mut rest = bytes;
+    'pieces: while !rest.is_empty() {
+        let count = out.write(rest)?;
+        let (_, behind) = rest.split_at(count);
+        rest = behind;
+    }
+    Ok(())
+}
+
+/// Writes a number and the letter of its type.
+fn spell_number<K: Sink>(out: &mut K, number: i128, letter: &[u8]) -> Result<(), Failed>
+    ensures { HandsText (K.taken out.old) (K.taken out.new) (K.faults out.old) (K.faults out.new) (number_and_letter number letter.now) result }
+{
+    spell_decimal(out, number)?;
+    hand_over(out, letter)
+}
+
+fn spell_decimal<K: Sink>(out: &mut K, number: i128) -> Result<(), Failed>
+    ensures { HandsText (K.taken out.old) (K.taken out.new) (K.faults out.old) (K.faults out.new) (decimal_of number) result }
+{
+    let mut buffer = Buffer::new();
+    hand_over(out, buffer.format(number).as_bytes())
+}
+
+/// Writes the id of a field.
+fn spell_id<K: Sink>(out: &mut K, id: &i16) -> Result<(), Failed>
+    ensures { HandsText (K.taken out.old) (K.taken out.new) (K.faults out.old) (K.faults out.new) (number_and_letter id.now (codes "=")) result }
+{
+    spell_number(out, i128::from(*id), b"=")
+}
+
+fn spell_tag<K: Sink>(out: &mut K, tag: Tag) -> Result<(), Failed>
+    ensures { HandsText (K.taken out.old) (K.taken out.new) (K.faults out.old) (K.faults out.new) (tag_word tag) result }
+{
+    hand_over(out, word_of(tag).as_bytes())
+}
+
+fn spell_bool<K: Sink>(out: &mut K, truth: bool) -> Result<(), Failed>
+    ensures { HandsText (K.taken out.old) (K.taken out.new) (K.faults out.old) (K.faults out.new) (if truth then codes "true" else codes "false") result }
+{
+    if truth {
+        return hand_over(out, b"true");
+    }
+    hand_over(out, b"false")
+}
+
+fn spell_double<K: Sink>(out: &mut K, bits: u64) -> Result<(), Failed>
+    ensures { HandsText (K.taken out.old) (K.taken out.new) (K.faults out.old) (K.faults out.new) (double_text bits) result }
+{
+    hand_over(out, b"d")?;
+    spell_bits(out, bits)
+}
+
+/// Writes 64 bits as hexadecimal digits, the highest first.
+fn spell_bits<K: Sink>(out: &mut K, bits: u64) -> Result<(), Failed>
+    ensures { HandsText (K.taken out.old) (K.taken out.new) (K.faults out.old) (K.faults out.new) (hex_of (to_be_bytes w64 bits)) result }
+{
+    spell_hex(out, &bits.to_be_bytes())
+}
+
+/// Writes each byte as two hexadecimal digits.
+fn spell_hex<K: Sink>(out: &mut K, bytes: &[u8]) -> Result<(), Failed>
+    ensures { HandsText (K.taken out.old) (K.taken out.new) (K.faults out.old) (K.faults out.new) (hex_of bytes.now) result }
+{
+    for byte in bytes {
+        spell_two_digits(out, *byte)?;
+    }
+    Ok(())
+}
+
+/// Writes a byte as two hexadecimal digits.
+fn spell_two_digits<K: Sink>(out: &mut K, byte: u8) -> Result<(), Failed>
+    ensures { HandsText (K.taken out.old) (K.taken out.new) (K.faults out.old) (K.faults out.new) (hex_of (byte ∷ [])) result }
+{
+    hand_over(out, &digits_of(byte))
+}
+
+/// The two hexadecimal digits of a byte.
+fn digits_of(byte: u8) -> [u8; 2]
+    ensures { result ≡ hex_of (byte ∷ []) }
+{
+    [
+        HEX_DIGITS[byte as usize / 16],
+        HEX_DIGITS[byte as usize % 16],
+    ]
+}
+
+/// Writes bytes between quotation marks.
+fn spell_quoted<K: Sink>(out: &mut K, bytes: &[u8]) -> Result<(), Failed>
+    ensures { HandsText (K.taken out.old) (K.taken out.new) (K.faults out.old) (K.faults out.new) (quoted_of bytes.now) result }
+{
+    hand_over(out, b"\"")?;
+    spell_each_byte(out, bytes)?;
+    hand_over(out, b"\"")
+}
+
+/// Writes the bytes between quotation marks.
+fn spell_each_byte<K: Sink>(out: &mut K, bytes: &[u8]) -> Result<(), Failed>
+    ensures { HandsText (K.taken out.old) (K.taken out.new) (K.faults out.old) (K.faults out.new) (flat_map quoted_byte bytes.now) result }
+{
+    for byte in bytes {
+        spell_byte(out, *byte)?;
+    }
+    Ok(())
+}
+
+/// Writes a byte as it stands between quotation marks.
+fn spell_byte<K: Sink>(out: &mut K, byte: u8) -> Result<(), Failed>
+    ensures { HandsText (K.taken out.old) (K.taken out.new) (K.faults out.old) (K.faults out.new) (quoted_byte byte) result }
+{
+    match byte {
+        b'"' => hand_over(out, b"\\\""),
+        b'\\' => hand_over(out, b"\\\\"),
+        0x20..=0x7e => hand_over(out, &[byte]),
+        _ => {
+            let high = HEX_DIGITS[byte as usize / 16];
+            let low = HEX_DIGITS[byte as usize % 16];
+            hand_over(out, &[b'\\', b'x', high, low])
+        }
+    }
+}
+
+/// Writes the text of a value. It recurses once a level.
+#[tactic(auto, using(thrift_value::proofs::Trees::tree_equations))]
+#[cycle(value_speller)]
+fn spell_value<K: Sink>(out: &mut K, value: &Value) -> Result<(), Failed>
+    ensures { HandsText (K.taken out.old) (K.taken out.new) (K.faults out.old) (K.faults out.new) (tree_text (tree_of value.now)) result }
+{
+    match value {
+        Value::Bool(truth) => spell_bool(out, *truth),
+        Value::I8(n) => spell_number(out, i128::from(*n), b"b"),
+        Value::I16(n) => spell_number(out, i128::from(*n), b"s"),
+        Value::I32(n) => spell_number(out, i128::from(*n), b"i"),
+        Value::I64(n) => spell_number(out, i128::from(*n), b"l"),
+        Value::Double(bits) => spell_double(out, *bits),
+        Value::Bytes(text) => spell_quoted(out, text.as_slice()),
+        Value::Struct(fields) => spell_struct(out, fields.as_slice()),
+        Value::Map(key, value, pairs) => spell_map(out, *key, *value, pairs.as_slice()),
+        Value::Set(element, items) => spell_collection(out, b"set<", *element, items.as_slice()),
+        Value::List(element, items) => spell_collection(out, b"list<", *element, items.as_slice()),
+    }
+}
+
+/// Writes a struct.
+#[cycle(value_speller)]
+fn spell_struct<K: Sink>(out: &mut K, fields: &[(i16, Value)]) -> Result<(), Failed>
+    ensures { HandsText (K.taken out.old) (K.taken out.new) (K.faults out.old) (K.faults out.new)
+        (codes "{" ++ (listed_fields (field_trees (map field_tree fields.now)) ++ codes "}")) result }
+{
+    hand_over(out, b"{")?;
+    spell_fields(out, fields)?;
+    hand_over(out, b"}")
+}
+
+/// Writes a map.
+#[cycle(value_speller)]
+fn spell_map<K: Sink>(
+    out: &mut K,
+    key: Tag,
+    value: Tag,
+    pairs: &[(Value, Value)],
+) -> Result<(), Failed>
+    ensures { HandsText (K.taken out.old) (K.taken out.new) (K.faults out.old) (K.faults out.new)
+        ((codes "map<" ++ (tag_word key ++ (codes "," ++ (tag_word value ++ codes ">{"))))
+        ++ (listed_pairs (pair_trees (map pair_tree pairs.now)) ++ codes "}")) result }
+{
+    spell_map_head(out, key, value)?;
+    spell_pairs(out, pairs)?;
+    hand_over(out, b"}")
+}
+
+/// Writes a set or a list, with the word of which it is.
+#[cycle(value_speller)]
+fn spell_collection<K: Sink>(
+    out: &mut K,
+    word: &[u8],
+    element: Tag,
+    items: &[Value],
+) -> Result<(), Failed>
+    ensures { HandsText (K.taken out.old) (K.taken out.new) (K.faults out.old) (K.faults out.new)
+        ((word.now ++ (tag_word element ++ codes ">[")) ++ (listed_items (item_trees (map tree_of items.now)) ++ codes "]")) result }
+{
+    spell_head(out, word, element)?;
+    spell_items(out, items)?;
+    hand_over(out, b"]")
+}
+
+/// Writes the word of a set or a list with its tag, and what opens its elements.
+fn spell_head<K: Sink>(out: &mut K, word: &[u8], element: Tag) -> Result<(), Failed>
+    ensures { HandsText (K.taken out.old) (K.taken out.new) (K.faults out.old) (K.faults out.new)
+        (word.now ++ (tag_word element ++ codes ">[")) result }
+{
+    hand_over(out, word)?;
+    spell_tag(out, element)?;
+    hand_over(out, b">[")
+}
+
+/// Writes the word of a map with its tags, and what opens its pairs.
+fn spell_map_head<K: Sink>(out: &mut K, key: Tag, value: Tag) -> Result<(), Failed>
+    ensures { HandsText (K.taken out.old) (K.taken out.new) (K.faults out.old) (K.faults out.new)
+        (codes "map<" ++ (tag_word key ++ (codes "," ++ (tag_word value ++ codes ">{")))) result }
+{
+    hand_over(out, b"map<")?;
+    spell_tag(out, key)?;
+    hand_over(out, b",")?;
+    spell_tag(out, value)?;
+    hand_over(out, b">{")
+}
+
+/// Writes fields with commas between them.
+#[cycle(value_speller)]
+fn spell_fields<K: Sink>(out: &mut K, fields: &[(i16, Value)]) -> Result<(), Failed>
+    ensures { HandsText (K.taken out.old) (K.taken out.new) (K.faults out.old) (K.faults out.new) (listed_fields (field_trees (map field_tree fields.now))) result }
+{
+    let Some((first, more)) = fields.split_first() else {
+        return Ok(());
+    };
+    let (id, value) = first;
+    spell_field(out, id, value)?;
+    for (id, value) in more {
+        spell_next_field(out, id, value)?;
+    }
+    Ok(())
+}
+
+/// Writes a comma and a field.
+#[cycle(value_speller)]
+fn spell_next_field<K: Sink>(out: &mut K, id: &i16, value: &Value) -> Result<(), Failed>
+    ensures { HandsText (K.taken out.old) (K.taken out.new) (K.faults out.old) (K.faults out.new)
+        (codes "," ++ (number_and_letter id.now (codes "=") ++ tree_text (tree_of value.now))) result }
+{
+    hand_over(out, b",")?;
+    spell_field(out, id, value)
+}
+
+/// Writes a field's id and its value.
+#[cycle(value_speller)]
+fn spell_field<K: Sink>(out: &mut K, id: &i16, value: &Value) -> Result<(), Failed>
+    ensures { HandsText (K.taken out.old) (K.taken out.new) (K.faults out.old) (K.faults out.new)
+        (number_and_letter id.now (codes "=") ++ tree_text (tree_of value.now)) result }
+{
+    spell_id(out, id)?;
+    spell_value(out, value)
+}
+
+/// Writes elements with commas between them.
+#[cycle(value_speller)]
+fn spell_items<K: Sink>(out: &mut K, items: &[Value]) -> Result<(), Failed>
+    ensures { HandsText (K.taken out.old) (K.taken out.new) (K.faults out.old) (K.faults out.new) (listed_items (item_trees (map tree_of items.now))) result }
+{
+    let Some((first, more)) = items.split_first() else {
+        return Ok(());
+    };
+    spell_value(out, first)?;
+    for item in more {
+        spell_next_item(out, item)?;
+    }
+    Ok(())
+}
+
+/// Writes a comma and an element, or a key.
+#[cycle(value_speller)]
+fn spell_next_item<K: Sink>(out: &mut K, item: &Value) -> Result<(), Failed>
+    ensures { HandsText (K.taken out.old) (K.taken out.new) (K.faults out.old) (K.faults out.new)
+        (codes "," ++ tree_text (tree_of item.now)) result }
+{
+    hand_over(out, b",")?;
+    spell_value(out, item)
+}
+
+/// Writes pairs with commas between them.
+#[cycle(value_speller)]
+fn spell_pairs<K: Sink>(out: &mut K, pairs: &[(Value, Value)]) -> Result<(), Failed>
+    ensures { HandsText (K.taken out.old) (K.taken out.new) (K.faults out.old) (K.faults out.new) (listed_pairs (pair_trees (map pair_tree pairs.now))) result }
+{
+    let Some((first, more)) = pairs.split_first() else {
+        return Ok(());
+    };
+    let (key, value) = first;
+    spell_value(out, key)?;
+    spell_mapped(out, value)?;
+    for (key, value) in more {
+        spell_next_item(out, key)?;
+        spell_mapped(out, value)?;
+    }
+    Ok(())
+}
+
+/// Writes the value of a key.
+#[cycle(value_speller)]
+fn spell_mapped<K: Sink>(out: &mut K, value: &Value) -> Result<(), Failed>
+    ensures { HandsText (K.taken out.old) (K.taken out.new) (K.faults out.old) (K.faults out.new) (codes "=" ++ tree_text (tree_of value.now)) result }
+{
+    hand_over(out, b"=")?;
+    spell_value(out, value)
+}
