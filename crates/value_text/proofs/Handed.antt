@@ -1,5 +1,5 @@
 -- How what a sink takes of a text in one call goes on in the next.
-use Rattle.std.proofs.Common.{◌≡◌, ℕ, ℤ, codes, ◌+◌, ◌<◌, ◌≤◌, List, [], ◌∷◌, ◌++◌, length, drop, get_or, map, Option, Some, None, Result, Ok, Err, refl, sym, ap, ◌∙◌, subst, arith, append_assoc, append-nil, add-one, drop-cons, drop_of_length-le}
+use Rattle.std.proofs.Common.{◌≡◌, ℕ, ℤ, codes, ◌+◌, ◌<◌, ◌≤◌, List, [], ◌∷◌, ◌++◌, length, drop, get_or, map, Option, Some, None, Result, Ok, Err, refl, sym, ap, ◌∙◌, subst, arith, append_assoc, add-one, drop-cons}
 use Rattle.std.specs.List.{flat_map}
 use Rattle.std.specs.Result.{IsErr}
 use Rattle.outside.specs.Cause.{Rose}
@@ -14,14 +14,6 @@ use Rattle.value_text.specs.ValueText.{number_and_letter, tree_text, listed_fiel
 told_twice : (x : Option (List ℕ)) (a b : List ℕ) → told_more (told_more x a) b ≡ told_more x (a ++ b)
 told_twice None a b = refl
 told_twice (Some c) a b = ap Some (append_assoc c a b)
-
-told_none : (x : Option (List ℕ)) → x ≡ told_more x []
-told_none None = refl
-told_none (Some c) = ap Some (sym (append-nil c))
-
--- nothing was taken yet
-pub none_handed : (x : Option (List ℕ)) (f : ℕ) (text : List ℕ) → HandsOver x x f f text text
-none_handed x f text = record { front = []; taken = told_none x; whole = refl; later = omega arith }
 
 -- what was left is taken on
 pub handed_on : (x y z : Option (List ℕ)) (f g h : ℕ) (text left rest : List ℕ) → HandsOver x y f g text left → HandsOver y z g h left rest → HandsOver x z f h text rest
@@ -107,11 +99,6 @@ pub first_handed : {X : Type 0} (t : X → List ℕ) (xs : List X) (x y : Option
     → whole ≡ text ++ flat_map t xs → HandsOver x y f g text [] → HandsOver x y f g whole (flat_map t (drop 0 xs))
 first_handed t xs x y f g text whole is one = subst (λ s. HandsOver x y f g s (flat_map t xs)) (sym is) (handed_of_more x y f g text [] (flat_map t xs) one)
 
--- all texts of a list are taken
-pub all_handed : {X : Type 0} (t : X → List ℕ) (xs : List X) (i : ℕ) (x y : Option (List ℕ)) (f g : ℕ) (text : List ℕ)
-    → length xs ≤ i → HandsOver x y f g text (flat_map t (drop i xs)) → HandsOver x y f g text []
-all_handed t xs i x y f g text past one = subst (λ s. HandsOver x y f g text (flat_map t s)) (drop_of_length-le xs past) one
-
 -- the same of another form of a text
 pub hands_same : {A E : Type 0} (x y : Option (List ℕ)) (f g : ℕ) (text other : List ℕ) (result : Result A E) → text ≡ other
     → HandsText x y f g text result → HandsText x y f g other result
@@ -120,10 +107,6 @@ hands_same x y f g text other result e h = subst (λ t. HandsText x y f g t resu
 -- the two digits of a byte
 abbrev pub byte_hex : ℕ → List ℕ
 byte_hex b = hex_of (b ∷ [])
-
-pub hex_is_flat : (bytes : List ℕ) → flat_map byte_hex bytes ≡ hex_of bytes
-hex_is_flat [] = refl
-hex_is_flat (b ∷ bytes) = ap (λ t. byte_hex b ++ t) (hex_is_flat bytes)
 
 -- a field, an element and a pair behind others
 abbrev pub next_field : ℤ × Value → List ℕ

@@ -1,9 +1,11 @@
 //! Values as text: one line a value, from which it can be told.
 //!
-//! `print(alloc, &value)` gives the text, and `put_value(&mut text, &value)` appends it to a longer one:
+//! `print(alloc, &value)` gives the text, `put_value(&mut text, &value)` appends it to a longer one, and `spell(&value, &mut out)`
+//! writes it into a sink, part by part, and takes no memory:
 //!
 //! ```
 //! let text = print(alloc, &value)?;        // {1=5i,2="a",3=list<i8>[1b,-2b]}
+//! spell(&value, &mut out)?;                // the same, or Failed where the sink failed
 //! ```
 //!
 //! Integers have the letter of their type behind them (`b`, `s`, `i`, `l`), a double is `d` and its 64 bits in hexadecimal, bytes
