@@ -1,10 +1,10 @@
 -- What runs that aren't fed contradict.
-use Rattle.std.proofs.Common.{◌≡◌, ℕ, zero, suc, ◌+◌, ◌-◌, ◌<◌, ◌≤◌, ◌⊎◌, Bool, true, false, cond, ◌==◌, min, Some, List, [], ◌∷◌, ◌++◌, length, take, refl, sym, ap, ◌∙◌, subst, inl, inr, arith, length-take, length-append}
-use Rattle.std.specs.List.{flat_map}
+use Rattle.std.proofs.Common.{◌≡◌, ℕ, zero, suc, ◌+◌, ◌-◌, ◌<◌, ◌≤◌, ◌⊎◌, Bool, true, false, cond, ◌==◌, min, Some, List, [], ◌∷◌, ◌++◌, length, take, refl, sym, ap, ◌∙◌, subst, inl, inr, arith, length-take, length-append, ne_eqb}
+use Rattle.std.specs.List.{AllByRecursion, flat_map}
 use Rattle.outside.specs.declared.marks.Mark.{Mark}
-use Rattle.outside.specs.declared.marks.Mark.TheVariants.{Opened}
+use Rattle.outside.specs.declared.marks.Mark.TheVariants.{Opened, Read, Closed}
 use Rattle.host_model.specs.Frames.{Frames, frame}
-use Rattle.host_model.specs.Marks.{marks_of, input}
+use Rattle.host_model.specs.Marks.{connection_of, marks_of, read_by, input}
 use Rattle.host_model.specs.Journal.{JournalEntry}
 use Rattle.host_model.specs.DeskRules.{DeskRules}
 use Rattle.host_model.proofs.Lists.{cons_parts, nil-cons}
@@ -74,3 +74,73 @@ no_place d budget bytes byte more journal h = go h.all_read
     go : ((c : ℕ) → IsOpenBehind c h.front → input (marks_of c h.front) ≡ bytes_of_pieces (pieces_on c (opening ∷ piece 0 (byte ∷ bytes) ∷ []))) ⊎ IsOverBudget d.max budget h.front → ⊥
     go (inl read) = nil-cons byte (bytes ++ []) (sym (none 0) ∙ read 0 (subst (IsOpenBehind 0) (sym is) (omega arith)))
     go (inr o) = let z : summed o.sizes o.count ≡ 0 = no_sizes d.max h.front o.sizes none o.each o.count in let m : budget < summed o.sizes o.count = o.more in let g : ⊥ = omega arith in g
+
+-- a front is taken from the whole
+taken_front : {X : Type 0} (front back : List X) → take (length front) (front ++ back) ≡ front
+taken_front [] back = refl
+taken_front (x ∷ front) back = ap (λ l. x ∷ l) (taken_front front back)
+
+-- where bytes were read on connection 0 alone, the sizes under way add up to one that a frame may have
+one_size : (max : ℕ) (front : List Mark) (sizes : ℕ → ℕ) → ((c : ℕ) → input (marks_of (suc c) front) ≡ []) → AreSizesBehind max size_in front sizes → ((c : ℕ) → sizes c ≤ max)
+    → (n : ℕ) → summed sizes n ≤ max
+one_size max front sizes none are within zero = omega arith
+one_size max front sizes none are within (suc zero) = let l : sizes 0 ≤ max = within 0 in omega arith
+one_size max front sizes none are within (suc (suc n)) =
+    let t : summed sizes (suc n) ≤ max = one_size max front sizes none are within (suc n) in
+    let s : sizes (suc n) ≡ 0 = go (are (suc n)) in
+    omega arith
+  where
+    go : (sizes (suc n) ≡ 0) ⊎ IsSizeBehind max size_in front (suc n) (sizes (suc n)) → sizes (suc n) ≡ 0
+    go (inl z) = z
+    go (inr s) = s.same ∙ ap size_in (no_rest max s.payloads s.rest (subst (λ b. Frames max b s.payloads s.rest) (none n) s.frames))
+
+-- connection 1 is open, and nothing was read but on connection 0
+record IsUnread (front : List Mark) : Type 0 where
+  pub open_there : IsOpenBehind 1 front
+  pub none : (c : ℕ) → input (marks_of (suc c) front) ≡ []
+
+-- two are opened, bytes are read on the first, it is closed, and a third is opened
+abbrev ended_first : List ℕ → List Mark → List Mark
+ended_first bytes more = Opened 0 ∷ Opened 1 ∷ Read 0 bytes ∷ Closed 0 ∷ Opened 2 ∷ more
+
+-- nothing is read by marks of which each is of connection 0, or tells of no bytes
+unread : (c : ℕ) (marks : List Mark) → AllByRecursion (λ m. (connection_of m ≡ 0) ⊎ (read_by m ≡ [])) marks → input (marks_of (suc c) marks) ≡ []
+unread c [] a = refl
+unread c (m ∷ marks) a = go a.0 (unread c marks a.1)
+  where
+    pass : (b : Bool) → read_by m ≡ [] → input (marks_of (suc c) marks) ≡ [] → input (cond b (m ∷ marks_of (suc c) marks) (marks_of (suc c) marks)) ≡ []
+    pass true none rest = (λ i. none i ++ rest i)
+    pass false none rest = rest
+
+    go : (connection_of m ≡ 0) ⊎ (read_by m ≡ []) → input (marks_of (suc c) marks) ≡ [] → input (marks_of (suc c) (m ∷ marks)) ≡ []
+    go (inl first) rest =
+        ap (λ b. input (cond b (m ∷ marks_of (suc c) marks) (marks_of (suc c) marks))) (ne_eqb (connection_of m) (suc c) (λ e. let f : connection_of m ≡ 0 = first in let g : ⊥ = omega arith in g)) ∙ rest
+    go (inr none) rest = pass (connection_of m == suc c) none rest
+
+-- so it is at each front at which just these two were opened
+unread_at : (bytes : List ℕ) (more : List Mark) (n : ℕ) → opened_in (take n (ended_first bytes more)) ≡ 0 ∷ 1 ∷ [] → IsUnread (take n (ended_first bytes more))
+unread_at bytes more zero o = absurd (nil-cons 0 (1 ∷ []) o)
+unread_at bytes more (suc zero) o = absurd (nil-cons 1 [] (cons_parts 0 0 [] (1 ∷ []) o).1)
+unread_at bytes more (suc (suc zero)) o = record { open_there = omega arith; none = λ c. unread c (take 2 (ended_first bytes more)) (inl refl, (inr refl, tt)) }
+unread_at bytes more (suc (suc (suc zero))) o = record { open_there = omega arith; none = λ c. unread c (take 3 (ended_first bytes more)) (inl refl, (inr refl, (inl refl, tt))) }
+unread_at bytes more (suc (suc (suc (suc zero)))) o = record { open_there = omega arith; none = λ c. unread c (take 4 (ended_first bytes more)) (inl refl, (inr refl, (inl refl, (inl refl, tt)))) }
+unread_at bytes more (suc (suc (suc (suc (suc n))))) o =
+    absurd (nil-cons 2 (opened_in (take n more)) (sym (cons_parts 1 1 (2 ∷ opened_in (take n more)) [] (cons_parts 0 0 (1 ∷ 2 ∷ opened_in (take n more)) (1 ∷ []) o).1).1))
+
+-- nor is a third opening, where the second connection's piece wasn't read, and one size at most is under way
+pub no_place_beside : {C A : Type 0} (d : DeskRules C A) (budget : ℕ) (one bytes : List ℕ) (byte : ℕ) (more : List Mark) (journal : List (JournalEntry C A)) → d.max ≤ budget
+    → HasPlaceFor d budget (opening ∷ opening ∷ piece 0 one ∷ piece 1 (byte ∷ bytes) ∷ []) (ended_first one more) journal → ⊥
+no_place_beside d budget one bytes byte more journal room h = go h.all_read
+  where
+    is : take (length h.front) (ended_first one more) ≡ h.front
+    is = ap (take (length h.front)) h.split ∙ taken_front h.front h.back
+
+    there : IsUnread h.front
+    there = subst IsUnread is (unread_at one more (length h.front) (ap opened_in is ∙ h.opened))
+
+    go : ((c : ℕ) → IsOpenBehind c h.front → input (marks_of c h.front) ≡ bytes_of_pieces (pieces_on c (opening ∷ opening ∷ piece 0 one ∷ piece 1 (byte ∷ bytes) ∷ []))) ⊎ IsOverBudget d.max budget h.front → ⊥
+    go (inl read) = nil-cons byte (bytes ++ []) (sym (there.none 0) ∙ read 1 there.open_there)
+    go (inr o) =
+        let l : summed o.sizes o.count ≤ d.max = one_size d.max h.front o.sizes there.none o.each o.within o.count in
+        let m : budget < summed o.sizes o.count = o.more in
+        let g : ⊥ = omega arith in g

@@ -1,5 +1,5 @@
 -- What a line of rest asks of a run: a place on its tape at which all that came before is done.
-use Rattle.std.specs.Prelude.{◌≡◌, ℕ, ◌<◌, ◌⊎◌, true, List, [], ◌∷◌, ◌++◌}
+use Rattle.std.specs.Prelude.{◌≡◌, ℕ, ◌<◌, ◌≤◌, ◌⊎◌, true, List, [], ◌∷◌, ◌++◌}
 use Rattle.std.specs.List.{flat_map}
 use Rattle.outside.specs.declared.marks.Mark.{Mark}
 use Rattle.outside.specs.declared.marks.Mark.TheVariants.{Opened, Ended, ReadFailed}
@@ -27,15 +27,16 @@ pub record TellsNoMore (lines : List ScriptLine) (front : List Mark) (c : ℕ) :
   pub ended : (before behind : List Mark) → front ≡ before ++ Ended c ∷ behind → some_line (ends_input c) lines ≡ true
   pub failed : (before behind : List Mark) → front ≡ before ++ ReadFailed c ∷ behind → some_line (fails_input c) lines ≡ true
 
--- behind these marks the whole sizes of the frames under way add up to more than the budget
+-- Behind these marks the whole sizes of the frames under way, each one that a frame may have, add up to more than the budget.
 pub record IsOverBudget (max budget : ℕ) (front : List Mark) : Type 0 where
   pub sizes : ℕ → ℕ
   pub count : ℕ
   pub each : AreSizesBehind max size_in front sizes
+  pub within : (c : ℕ) → sizes c ≤ max
   pub more : budget < summed sizes count
 
--- A place of the tape for a line of rest behind these lines: the connections that they open are open or closed, and no others; nothing of a later line was
--- seen; nothing is under way; and their pieces were read, but where connections that are open hold more than the budget.
+-- A place of the tape for a line of rest behind these lines: just the connections that they open were opened; nothing of a later line was seen; nothing is
+-- owed; and their pieces were read, but where connections that are open hold more than the budget.
 pub record HasPlaceFor {C A : Type 0} (d : DeskRules C A) (budget : ℕ) (lines : List ScriptLine) (tape : List Mark) (journal : List (JournalEntry C A)) : Type 0 where
   pub front : List Mark
   pub back : List Mark

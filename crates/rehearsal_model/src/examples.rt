@@ -38,8 +38,9 @@ pub fn rehearsals()
         (Opened 0 ∷ Read 0 (0 ∷ []) ∷ ReadFailed 0 ∷ Closed 0 ∷ []) [] (ReadFault ∷ []) }
 {}
 
-/// Runs that their scripts don't feed: a read goes over a piece's end; a write passes over its rule; an input ends that the script says fails; and a connection
-/// that is opened behind a rest is opened before what came before the rest was read.
+/// Runs that their scripts don't feed: a read goes over a piece's end; a write passes over its rule; an input ends that the script says fails; a connection
+/// that is opened behind a rest is opened before what came before the rest was read; and the same where a size that no frame has was read on another one,
+/// which is no size to be over the budget by.
 pub fn runs_that_are_not_fed()
     ensures read_over_a_piece { (journal : List (JournalEntry ℕ ℕ)) (back : List Mark) →
         IsFedBy tiny_desk 2 (tiny_script (opening ∷ piece 0 (0 ∷ 0 ∷ []) ∷ piece 0 (0 ∷ 1 ∷ 1 ∷ []) ∷ input_end 0 ∷ []) []) (Opened 0 ∷ Read 0 size_of_one ∷ back) journal → ⊥ }
@@ -50,4 +51,8 @@ pub fn runs_that_are_not_fed()
         IsFedBy tiny_desk 2 (tiny_script (opening ∷ input_fault 0 ∷ []) []) (Opened 0 ∷ Ended 0 ∷ back) journal → ⊥ }
     ensures opened_before_the_rest { (journal : List (JournalEntry ℕ ℕ)) (back : List Mark) →
         IsFedBy tiny_desk 2 (tiny_script (opening ∷ piece 0 (frame_of_one 1) ∷ resting ∷ opening ∷ input_end 0 ∷ input_end 1 ∷ []) []) (Opened 0 ∷ Opened 1 ∷ back) journal → ⊥ }
+    ensures rest_beside_a_bad_size { (journal : List (JournalEntry ℕ ℕ)) (back : List Mark) →
+        IsFedBy tiny_desk 2 (tiny_script (opening ∷ opening ∷ piece 0 (255 ∷ 255 ∷ 255 ∷ 255 ∷ []) ∷ piece 1 (frame_of_one 1) ∷ resting ∷ opening ∷ piece 2 (frame_of_one 1)
+        ∷ input_end 0 ∷ input_end 1 ∷ input_end 2 ∷ []) [])
+        (Opened 0 ∷ Opened 1 ∷ Read 0 (255 ∷ 255 ∷ 255 ∷ 255 ∷ []) ∷ Closed 0 ∷ Opened 2 ∷ back) journal → ⊥ }
 {}
