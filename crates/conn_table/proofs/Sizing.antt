@@ -1,18 +1,18 @@
 -- What a change of one connection leaves of the others, of the sizes, and of what is admitted.
-use Rattle.std.proofs.Common.{◌≡◌, ℕ, suc, ◌+◌, ◌<◌, ◌≤◌, ◌⊎◌, Bool, true, false, ◌==◌, nat_lt, nat_le, ◌&&◌, ℤ, pos, negsuc, ◌++◌, if◌then◌else◌, Option, None, Some, List, [], ◌∷◌, length, unwrap_or, refl, sym, ap, ◌∙◌, subst, inl, inr, arith, eq-eqb, ne_eqb, IsSome}
+use Rattle.std.proofs.Common.{◌≡◌, ℕ, suc, ◌+◌, ◌<◌, ◌≤◌, ◌⊎◌, Bool, true, false, ◌==◌, nat_lt, nat_le, ◌&&◌, ℤ, pos, negsuc, ◌++◌, if◌then◌else◌, Option, None, Some, List, [], ◌∷◌, length, unwrap_or, refl, sym, ap, ◌∙◌, subst, inl, inr, arith, eq-eqb, ne_eqb, length-append, ◌-◌, min, IsSome}
 use Rattle.std.specs.Prelude.{is_some}
 use Rattle.std.specs.List.{AllByRecursion}
-use Rattle.std.proofs.lemmas.Bool.{false≢true, cases_eq}
+use Rattle.std.proofs.lemmas.Bool.{false≢true, cases_eq, cases_lt, lt-ltb, le-ltb}
 use Rattle.std.proofs.lemmas.Option.{none-some, same_Some}
 use Rattle.std.specs.Int.{w32, from_be_bytes, cast_signed}
 use Rattle.outside.specs.declared.outcomes.Settled.{Settled}
 use Rattle.outside.specs.declared.outcomes.Settled.TheVariants.{Reply, Nothing, Close, NoMemory as NoRoom}
 use Rattle.host_model.specs.declared.cause.EndCause.TheVariants.{SizeFault}
-use Rattle.conn_state.specs.Phase.{Phase, ConnView, sizing, held, framing, ready, waiting, writing, ended}
-use Rattle.conn_state.specs.Step.{after_size, after_bytes, after_took, after_answer, after_wrote, after_end_of_input}
+use Rattle.conn_state.specs.Phase.{Phase, ConnView, wanted, size_asked, sizing, held, framing, ready, waiting, writing, ended}
+use Rattle.conn_state.specs.Step.{after_admission, after_size, after_payload_bytes, after_bytes, after_took, after_answer, after_wrote, after_end_of_input}
 use Rattle.conn_table.specs.declared.places.Slot.{Slot}
 use Rattle.conn_table.specs.Slots.{slot_in, with_slot, with_added, without_number}
-use Rattle.conn_table.specs.Table.{TableView, fresh_slot, slot_of, with_state, size_given, sizes_given, TakesRoom, IsAdmitted, IsSoundTable}
+use Rattle.conn_table.specs.Table.{TableView, fresh_slot, slot_of, with_state, size_given, sizes_given, TakesRoom, HasItsSize, IsAdmitted, IsSoundTable}
 use Rattle.conn_table.proofs.Placing.{value_of, has_value}
 
 -- what is kept of an open connection
@@ -98,9 +98,9 @@ sizes_put new old (x ∷ slots) e = go (cases_eq x.number new.number) (λ f. siz
         ap (λ t. sizes_given (if t then new ∷ slots else x ∷ with_slot new slots)) (ne_eqb x.number new.number n) in
         omega arith
 
--- A connection changes its state and keeps its size: the table stays sound where a payload takes room only where one did.
+-- A connection changes its state and keeps its size: the table stays sound where the payload that takes room then has the size of the one before.
 pub changed_sound : (slots : List Slot) (budget admitted c : ℕ) (new : Slot) → IsSoundTable slots budget admitted → IsSome (slot_in c slots) → new.number ≡ c → new.size ≡ (slot_of c slots).size
-    → (TakesRoom new.conn.phase → TakesRoom (slot_of c slots).conn.phase) → IsSoundTable (with_slot new slots) budget admitted
+    → (HasItsSize (slot_of c slots).conn.phase (slot_of c slots).size → HasItsSize new.conn.phase (slot_of c slots).size) → IsSoundTable (with_slot new slots) budget admitted
 changed_sound slots budget admitted c new s there number size room =
     let at : slot_in new.number slots ≡ Some (slot_of c slots) = ap (λ k. slot_in k slots) number ∙ slot_is c slots there in
     let t : sizes_given (with_slot new slots) + size_given (slot_of c slots).size ≡ sizes_given slots + size_given new.size = sizes_put new (slot_of c slots) slots at in
@@ -109,7 +109,7 @@ changed_sound slots budget admitted c new s there number size room =
     record {
       sum = omega arith;
       within = s.within;
-      each = all_put IsAdmitted new slots s.each (λ takes. subst IsSome (sym size) (all_found IsAdmitted c slots (slot_of c slots) s.each (slot_is c slots there) (room takes)));
+      each = all_put IsAdmitted new slots s.each (subst (HasItsSize new.conn.phase) (sym size) (room (all_found IsAdmitted c slots (slot_of c slots) s.each (slot_is c slots there))));
     }
 
 -- and what was taken out and put back is what was changed
@@ -119,7 +119,7 @@ changed_slots slots c new e = put_twice (fresh_slot c) new slots (sym e)
 -- A call of one connection's state, through a slot that is taken out and put back: the table stays sound, and nothing but the state is changed.
 pub in_place : (old : TableView) (places left last : List Slot) (budget admitted c : ℕ) (slot : Slot) (conn : ConnView) → IsSoundTable places budget admitted
     → record { budget = budget; slots = places } ≡ old → IsSome (slot_in c old.slots) → slot ≡ slot_of c places → slot.number ≡ c → left ≡ with_slot (fresh_slot c) places
-    → last ≡ with_slot (record { number = slot.number; conn = conn; size = slot.size }) left → (TakesRoom conn.phase → TakesRoom (slot_of c old.slots).conn.phase)
+    → last ≡ with_slot (record { number = slot.number; conn = conn; size = slot.size }) left → ((size : Option ℕ) → HasItsSize (slot_of c old.slots).conn.phase size → HasItsSize conn.phase size)
     → IsSoundTable last budget admitted × (record { budget = budget; slots = last } ≡ record old { slots = with_state c conn old.slots })
 in_place old places left last budget admitted c slot conn sound view there taken own is put room =
     let new : Slot = record { number = slot.number; conn = conn; size = slot.size } in
@@ -127,9 +127,9 @@ in_place old places left last budget admitted c slot conn sound view there taken
     let same : new ≡ target = (λ i. record { number = own i; conn = conn; size = (taken i).size }) in
     let all : last ≡ with_slot target places = put ∙ ap (with_slot new) is ∙ changed_slots places c new own ∙ ap (λ k. with_slot k places) same in
     let open_there : IsSome (slot_in c places) = subst (λ (o : TableView). IsSome (slot_in c o.slots)) (sym view) there in
-    let room_there : TakesRoom conn.phase → TakesRoom (slot_of c places).conn.phase =
-    subst (λ (o : TableView). TakesRoom conn.phase → TakesRoom (slot_of c o.slots).conn.phase) (sym view) room in
-    let ended : IsSoundTable (with_slot target places) budget admitted = changed_sound places budget admitted c target sound open_there refl refl room_there in (
+    let room_there : (size : Option ℕ) → HasItsSize (slot_of c places).conn.phase size → HasItsSize conn.phase size =
+    subst (λ (o : TableView). (size : Option ℕ) → HasItsSize (slot_of c o.slots).conn.phase size → HasItsSize conn.phase size) (sym view) room in
+    let ended : IsSoundTable (with_slot target places) budget admitted = changed_sound places budget admitted c target sound open_there refl refl (room_there (slot_of c places).size) in (
       subst (λ l. IsSoundTable l budget admitted) (sym all) ended,
       ap (λ l. tabled budget l) all ∙ ap (λ (o : TableView). record o { slots = with_state c conn o.slots }) view,
     )
@@ -138,48 +138,93 @@ in_place old places left last budget admitted c slot conn sound view there taken
     tabled b l = record { budget = b; slots = l }
 
 -- which phases take no room
-pub answer_room : (settled : Settled) → TakesRoom (after_answer settled) → ⊥
-answer_room (Reply reply) t = t
-answer_room Nothing t = t
-answer_room (Close fault) t = t
-answer_room NoRoom t = t
+pub answer_room : (settled : Settled) (size : Option ℕ) → HasItsSize (after_answer settled) size
+answer_room (Reply reply) size = tt
+answer_room Nothing size = tt
+answer_room (Close fault) size = tt
+answer_room NoRoom size = tt
 
-pub wrote_room : (left : List ℕ) → TakesRoom (after_wrote left) → ⊥
-wrote_room [] t = t
-wrote_room (byte ∷ left) t = t
+pub wrote_room : (left : List ℕ) (size : Option ℕ) → HasItsSize (after_wrote left) size
+wrote_room [] size = tt
+wrote_room (byte ∷ left) size = tt
 
-pub end_room : (phase : Phase) → TakesRoom (after_end_of_input phase) → ⊥
-end_room (sizing []) t = t
-end_room (sizing (byte ∷ bytes)) t = t
-end_room (held size) t = t
-end_room (framing size bytes) t = t
-end_room (ready number payload) t = t
-end_room (waiting number) t = t
-end_room (writing left) t = t
-end_room (ended cause) t = t
+pub end_room : (phase : Phase) (size : Option ℕ) → HasItsSize (after_end_of_input phase) size
+end_room (sizing []) size = tt
+end_room (sizing (byte ∷ bytes)) size = tt
+end_room (held asked) size = tt
+end_room (framing asked bytes) size = tt
+end_room (ready number payload) size = tt
+end_room (waiting number) size = tt
+end_room (writing left) size = tt
+end_room (ended cause) size = tt
 
-either_none : (b : Bool) (x y : Phase) → (TakesRoom x → ⊥) → (TakesRoom y → ⊥) → TakesRoom (if b then x else y) → ⊥
-either_none true x y a b t = a t
-either_none false x y a b t = b t
+-- a payload that is handed out was admitted
+pub give_room : (phase : Phase) (number : ℕ) (payload : List ℕ) (size : Option ℕ) → phase ≡ ready number payload → HasItsSize phase size → IsSome size
+give_room phase number payload size is has = let e : size ≡ Some (length payload) = subst (λ p. HasItsSize p size) is has in has_value size (length payload) e
 
-size_none : (max : ℕ) (size : ℤ) → TakesRoom (after_size max size) → ⊥
-size_none max (pos size) t = either_none (nat_le 1 size && nat_le size max) (held size) (ended (SizeFault (pos size))) (λ x. x) (λ x. x) t
-size_none max (negsuc size) t = t
+-- nothing is asked of a phase that takes no room
+pub idle_size : (phase : Phase) (size : Option ℕ) → (TakesRoom phase → ⊥) → HasItsSize phase size
+idle_size (sizing bytes) size idle = tt
+idle_size (held asked) size idle = tt
+idle_size (framing asked bytes) size idle = absurd (idle tt)
+idle_size (ready number payload) size idle = absurd (idle tt)
+idle_size (waiting number) size idle = absurd (idle tt)
+idle_size (writing left) size idle = tt
+idle_size (ended cause) size idle = tt
 
-pub took_room : (max : ℕ) (view : ConnView) (bytes : List ℕ) → TakesRoom (after_took max view bytes).phase → TakesRoom view.phase
-took_room max view bytes t = go view.phase t
+-- a frame that is admitted has the size that it asked for
+pub admitted_size : (phase : Phase) (new : ConnView) (size : ℕ) → size_asked phase ≡ Some size → new.phase ≡ after_admission phase → HasItsSize new.phase (Some size)
+admitted_size phase new size asked is = subst (λ p. HasItsSize p (Some size)) (sym is) (go phase asked)
   where
-    go : (phase : Phase) → TakesRoom (after_bytes max view.frames phase bytes).phase → TakesRoom phase
-    go (sizing part) t =
-        absurd
-        (either_none (nat_lt (length (part ++ bytes)) 4) (sizing (part ++ bytes)) (after_size max (cast_signed w32 (from_be_bytes w32 (part ++ bytes)))) (λ x. x)
-        (size_none max (cast_signed w32 (from_be_bytes w32 (part ++ bytes)))) t)
-    go (held size) t = t
-    go (framing size part) t = tt
-    go (ready number payload) t = tt
-    go (waiting number) t = tt
-    go (writing left) t = t
-    go (ended cause) t = t
+    go : (phase : Phase) → size_asked phase ≡ Some size → HasItsSize (after_admission phase) (Some size)
+    go (sizing bytes) e = tt
+    go (held other) e = sym e
+    go (framing other bytes) e = absurd (none-some size e)
+    go (ready number payload) e = absurd (none-some size e)
+    go (waiting number) e = refl
+    go (writing left) e = tt
+    go (ended cause) e = tt
+
+either_size : (b : Bool) (x y : Phase) (size : Option ℕ) → HasItsSize x size → HasItsSize y size → HasItsSize (if b then x else y) size
+either_size true x y size a b = a
+either_size false x y size a b = b
+
+size_none : (max : ℕ) (asked : ℤ) (size : Option ℕ) → HasItsSize (after_size max asked) size
+size_none max (pos asked) size = either_size (nat_le 1 asked && nat_le asked max) (held asked) (ended (SizeFault (pos asked))) size tt tt
+size_none max (negsuc asked) size = tt
+
+-- bytes that were asked for leave a payload at its size, or make it whole
+pub took_room : (max : ℕ) (view : ConnView) (bytes : List ℕ) → 0 < length bytes → length bytes ≤ wanted view.phase → (size : Option ℕ) → HasItsSize view.phase size
+    → HasItsSize (after_took max view bytes).phase size
+took_room max view bytes some asked size has = go view.phase asked has
+  where
+    whole : (n : ℕ) (part : List ℕ) → length bytes ≤ wanted (framing n part) → n ≤ length (part ++ bytes) → n ≡ length (part ++ bytes)
+    whole n part few l =
+        let e : length (part ++ bytes) ≡ length part + length bytes = length-append part bytes in
+        let m : length bytes ≤ min (n - length part) 65536 = few in
+        omega arith
+
+    go : (phase : Phase) → length bytes ≤ wanted phase → HasItsSize phase size → HasItsSize (after_bytes max view.frames phase bytes).phase size
+    go (sizing part) few has =
+        either_size (nat_lt (length (part ++ bytes)) 4) (sizing (part ++ bytes)) (after_size max (cast_signed w32 (from_be_bytes w32 (part ++ bytes)))) size tt
+        (size_none max (cast_signed w32 (from_be_bytes w32 (part ++ bytes))) size)
+    go (held asked) few has = tt
+    go (framing n part) few has = step (cases_lt (length (part ++ bytes)) n)
+      where
+        either : Bool → Phase
+        either b = let v : ConnView = if b then record { frames = view.frames; phase = framing n (part ++ bytes) } else record { frames = view.frames + 1; phase = ready view.frames (part ++ bytes) } in v.phase
+
+        step : (length (part ++ bytes) < n) ⊎ (n ≤ length (part ++ bytes)) → HasItsSize (after_payload_bytes view.frames n (part ++ bytes)).phase size
+        step (inl l) =
+            subst (λ b. HasItsSize (either b) size)
+            (sym (lt-ltb (length (part ++ bytes)) n l)) has
+        step (inr l) =
+            subst (λ b. HasItsSize (either b) size)
+            (sym (le-ltb (length (part ++ bytes)) n l)) (has ∙ ap Some (whole n part few l))
+    go (ready number payload) few has = has
+    go (waiting number) few has = has
+    go (writing left) few has = tt
+    go (ended cause) few has = tt
 
 -- what was put back is what was taken out, with this state and this size
 pub put_is : (places left last : List Slot) (c : ℕ) (slot : Slot) (conn : ConnView) (size : Option ℕ) → slot.number ≡ c → left ≡ with_slot (fresh_slot c) places
@@ -210,7 +255,7 @@ conn_same c slots there =
 
 -- one with another size and state is put in the place of one: the table is sound with the new sum
 pub resized_sound : (slots : List Slot) (budget admitted next c : ℕ) (conn : ConnView) (size : Option ℕ) → IsSoundTable slots budget admitted → IsSome (slot_in c slots)
-    → next + size_given (slot_of c slots).size ≡ admitted + size_given size → next ≤ budget → (TakesRoom conn.phase → IsSome size)
+    → next + size_given (slot_of c slots).size ≡ admitted + size_given size → next ≤ budget → HasItsSize conn.phase size
     → IsSoundTable (with_slot (record { number = c; conn = conn; size = size }) slots) budget next
 resized_sound slots budget admitted next c conn size s there sum within room =
     let new : Slot = record { number = c; conn = conn; size = size } in

@@ -1,5 +1,5 @@
 -- A table of open connections: their states and admitted sizes, and the read budget that the sizes keep within.
-use Rattle.std.specs.Prelude.{◌≡◌, ℕ, ◌+◌, ◌<◌, ◌≤◌, Bool, true, false, Option, None, Some, IsSome, unwrap_or, Result, Ok, Err, List, [], ◌∷◌}
+use Rattle.std.specs.Prelude.{◌≡◌, ℕ, ◌+◌, ◌<◌, ◌≤◌, Bool, true, false, Option, None, Some, IsSome, unwrap_or, Result, Ok, Err, List, [], ◌∷◌, length}
 use Rattle.std.specs.List.{AllByRecursion}
 use Rattle.conn_state.specs.Phase.{Phase, ConnView, fresh_conn, framing, ready, waiting, size_asked}
 use Rattle.conn_state.specs.Step.{after_admission}
@@ -44,11 +44,18 @@ TakesRoom (ready number payload) = Unit {0}
 TakesRoom (waiting number) = Unit {0}
 TakesRoom _ = ⊥
 
--- a connection whose payload takes room has its size admitted
-abbrev pub IsAdmitted : Slot → Type 0
-IsAdmitted slot = TakesRoom slot.conn.phase → IsSome slot.size
+-- the size of a payload that takes room is admitted: its own, or, once it is handed out, some size
+abbrev pub HasItsSize : Phase → Option ℕ → Type 0
+HasItsSize (framing size bytes) admitted = admitted ≡ Some size
+HasItsSize (ready number payload) admitted = admitted ≡ Some (length payload)
+HasItsSize (waiting number) admitted = IsSome admitted
+HasItsSize _ admitted = Unit {0}
 
--- what a table keeps: the sum of the admitted sizes, within the budget, and that whose payload takes room is admitted
+-- what is kept of a connection has the size of its payload
+abbrev pub IsAdmitted : Slot → Type 0
+IsAdmitted slot = HasItsSize slot.conn.phase slot.size
+
+-- what a table keeps: the sum of the admitted sizes, within the budget, and that the size of each payload that takes room is admitted
 pub record IsSoundTable (slots : List Slot) (budget admitted : ℕ) : Type 0 where
   pub sum : admitted ≡ sizes_given slots
   pub within : admitted ≤ budget

@@ -4,7 +4,7 @@ ghost use Rattle.std.specs.Prelude.{◌≡◌, ◌↔◌, ◌<◌, ◌≤◌, �
 ghost use Rattle.conn_state.specs.Phase.{wanted, size_asked, waiting, ready, ended, left_to_write, cause_of, IsHeld, IsReading, IsReady, IsWaiting, HasNotEnded};
 ghost use Rattle.conn_state.specs.Step.{after_took, after_admission, after_answer, after_wrote, after_end_of_input, IsFromOutside};
 ghost use Rattle.conn_table.specs.Slots.{most_places, slot_in, with_added, without_number};
-ghost use Rattle.conn_table.specs.Table.{fresh_slot, slot_of, with_state, with_size, sizes_given, TakesRoom, Admits};
+ghost use Rattle.conn_table.specs.Table.{fresh_slot, slot_of, with_state, with_size, sizes_given, TakesRoom, HasItsSize, Admits};
 
 use crate::places::{MOST, Places, Slot};
 use conn_state::{Conn, EndCause};
@@ -66,12 +66,12 @@ impl Table {
         self.places.len() == MOST
     }
 
-    /// The state of a connection. The admitted sizes are within the budget, and whose payload takes room is among them.
+    /// The state of a connection. The admitted sizes are within the budget, and so is the size of each payload that takes room.
     pub fn conn(&self, c: u32) -> &Conn
         requires { IsSome (slot_in c self.now.slots) }
         ensures state { result.now ≡ (slot_of c self.now.slots).conn }
         ensures within { sizes_given self.now.slots ≤ self.now.budget }
-        ensures admitted { TakesRoom (slot_of c self.now.slots).conn.phase → IsSome (slot_of c self.now.slots).size }
+        ensures admitted { HasItsSize (slot_of c self.now.slots).conn.phase (slot_of c self.now.slots).size }
     {
         &self.places.get(c).conn
     }

@@ -3,7 +3,7 @@ use Rattle.conn_state.specs.Phase.{ConnView}
 use Rattle.conn_table.specs.declared.places.Slot.{Slot}
 use Rattle.conn_table.specs.Slots.{slot_in, with_slot}
 use Rattle.conn_table.specs.Table.{TableView, slot_of, with_size, size_given, sizes_given, TakesRoom, IsSoundTable}
-use Rattle.conn_table.proofs.Sizing.{put_is, resized_sound, size_below}
+use Rattle.conn_table.proofs.Sizing.{put_is, resized_sound, size_below, idle_size}
 use Rattle.conn_table.proofs.table.Table.release.Goals as goal
 
 fits : (size given admitted all : ℕ) → given ≡ size → given ≤ all → admitted ≡ all → size ≤ admitted
@@ -35,7 +35,7 @@ invariant_of-self c =
     (sym (put_is places c.take-slot.new.self c.put.new.self c.args.c c.take-slot.result c.take-slot.result.conn None c.take-slot.ensures.own c.take-slot.ensures.left c.put.ensures))
     (resized_sound places c.self.inside.read_budget c.self.inside.admitted (c.self.inside.admitted - c.unwrap-size.result) c.args.c c.take-slot.result.conn None c.self.invariant there
     (less c.unwrap-size.result (size_given (slot_of c.args.c places).size) c.self.inside.admitted (ap size_given size) fit)
-    (lower c.unwrap-size.result c.self.inside.admitted c.self.inside.read_budget c.self.invariant.within) (λ takes. absurd (idle takes)))
+    (lower c.unwrap-size.result c.self.inside.admitted c.self.inside.read_budget c.self.invariant.within) (idle_size c.take-slot.result.conn.phase None idle))
 
 pub returns : goal.returns
 returns c =

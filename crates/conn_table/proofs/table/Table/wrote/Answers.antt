@@ -2,7 +2,7 @@ use Rattle.std.proofs.Common.{◌≡◌, ap, ◌∙◌, sym, subst, length, drop
 use Rattle.conn_state.specs.Phase.{ConnView, waiting, ended, left_to_write}
 use Rattle.conn_state.specs.Step.{after_took, after_answer, after_wrote, after_end_of_input}
 use Rattle.conn_table.specs.declared.places.Slot.{Slot}
-use Rattle.conn_table.specs.Table.{TableView, slot_of, with_state, TakesRoom}
+use Rattle.conn_table.specs.Table.{TableView, slot_of, with_state, HasItsSize}
 use Rattle.conn_table.proofs.Sizing.{in_place, answer_room, wrote_room, end_room, took_room}
 use Rattle.conn_table.proofs.table.Table.wrote.Goals as goal
 
@@ -12,7 +12,7 @@ invariant_of-self c =
     let is : c.wrote.new.self ≡ record (slot_of c.args.c old.slots).conn { phase = after_wrote (drop c.args.count (left_to_write (slot_of c.args.c old.slots).conn.phase)) } = c.wrote.ensures ∙ ap (λ (s : Slot). record s.conn { phase = after_wrote (drop c.args.count (left_to_write s.conn.phase)) }) (c.take-slot.ensures.taken ∙ ap (λ (o : TableView). slot_of c.args.c o.slots) c.self.view_is) in
     (in_place old c.self.inside.places c.take-slot.new.self c.put.new.self c.self.inside.read_budget c.self.inside.admitted c.args.c c.take-slot.result c.wrote.new.self c.self.invariant c.self.view_is
     c.requires.open c.take-slot.ensures.taken c.take-slot.ensures.own c.take-slot.ensures.left c.put.ensures
-    (λ takes. absurd (wrote_room (drop c.args.count (left_to_write (slot_of c.args.c old.slots).conn.phase)) (subst (λ (v : ConnView). TakesRoom v.phase) is takes)))).0
+    (λ size has. subst (λ (v : ConnView). HasItsSize v.phase size) (sym is) (wrote_room (drop c.args.count (left_to_write (slot_of c.args.c old.slots).conn.phase)) size))).0
 
 pub returns : goal.returns
 returns c =
@@ -20,4 +20,4 @@ returns c =
     let is : c.wrote.new.self ≡ record (slot_of c.args.c old.slots).conn { phase = after_wrote (drop c.args.count (left_to_write (slot_of c.args.c old.slots).conn.phase)) } = c.wrote.ensures ∙ ap (λ (s : Slot). record s.conn { phase = after_wrote (drop c.args.count (left_to_write s.conn.phase)) }) (c.take-slot.ensures.taken ∙ ap (λ (o : TableView). slot_of c.args.c o.slots) c.self.view_is) in
     (in_place old c.self.inside.places c.take-slot.new.self c.put.new.self c.self.inside.read_budget c.self.inside.admitted c.args.c c.take-slot.result c.wrote.new.self c.self.invariant c.self.view_is
     c.requires.open c.take-slot.ensures.taken c.take-slot.ensures.own c.take-slot.ensures.left c.put.ensures
-    (λ takes. absurd (wrote_room (drop c.args.count (left_to_write (slot_of c.args.c old.slots).conn.phase)) (subst (λ (v : ConnView). TakesRoom v.phase) is takes)))).1 ∙ ap (λ (v : ConnView). record old { slots = with_state c.args.c v old.slots }) is
+    (λ size has. subst (λ (v : ConnView). HasItsSize v.phase size) (sym is) (wrote_room (drop c.args.count (left_to_write (slot_of c.args.c old.slots).conn.phase)) size))).1 ∙ ap (λ (v : ConnView). record old { slots = with_state c.args.c v old.slots }) is
