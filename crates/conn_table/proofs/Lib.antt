@@ -1,3 +1,4 @@
 pub mod Ranks
 pub mod Placing
 pub mod Sizing
+pub mod Rising

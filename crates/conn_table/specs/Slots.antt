@@ -1,5 +1,6 @@
 -- What is kept of the open connections: a list, by rising number.
-use Rattle.std.specs.Prelude.{◌≡◌, ℕ, nat_lt, ◌==◌, if◌then◌else◌, Option, None, Some, List, [], ◌∷◌}
+use Rattle.std.specs.Prelude.{ℕ, ◌<◌, nat_lt, ◌==◌, if◌then◌else◌, Option, None, Some, List, [], ◌∷◌}
+use Rattle.std.specs.List.{AllByRecursion}
 use Rattle.conn_table.specs.declared.places.Slot.{Slot}
 
 -- the most connections that are open at one time
@@ -25,3 +26,8 @@ with_added new (slot ∷ slots) = if nat_lt slot.number new.number then slot ∷
 abbrev pub without_number : ℕ → List Slot → List Slot
 without_number c [] = []
 without_number c (slot ∷ slots) = if slot.number == c then slots else slot ∷ without_number c slots
+
+-- each connection's number is below those behind it, so that no number stands twice
+abbrev pub HaveRisingNumbers : List Slot → Type 0
+HaveRisingNumbers [] = Unit {0}
+HaveRisingNumbers (slot ∷ slots) = AllByRecursion (λ (other : Slot). slot.number < other.number) slots × HaveRisingNumbers slots

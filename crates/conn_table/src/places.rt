@@ -3,7 +3,7 @@
 ghost use Rattle.std.specs.Prelude.{◌≡◌, ◌<◌, ◌≤◌, IsSome, Some, None, IfOk, [], length};
 ghost use Rattle.conn_table.specs.Rows.{key_in, IsRising, rank_below};
 ghost use Rattle.conn_table.specs.Table.{slot_of, fresh_slot};
-ghost use Rattle.conn_table.specs.Slots.{most_places, slot_in, with_slot, with_added, without_number};
+ghost use Rattle.conn_table.specs.Slots.{most_places, slot_in, with_slot, with_added, without_number, HaveRisingNumbers};
 
 use conn_state::Conn;
 use slab::Slab;
@@ -94,10 +94,11 @@ impl Places {
         })
     }
 
-    /// How many there are.
+    /// How many there are. Their numbers rise.
     pub(crate) fn len(&self) -> usize
         ensures count { result ≡ length self.now }
         ensures few { result ≤ most_places }
+        ensures rising { HaveRisingNumbers self.now }
     {
         self.rows.as_slice().len()
     }
@@ -162,6 +163,7 @@ impl Places {
         requires { IsSome (slot_in number self.old) }
         ensures old { slot_in number self.old ≡ Some result }
         ensures new { self.new ≡ without_number number self.old }
+        ensures gone { slot_in number self.new ≡ None }
     {
         let place = rank_of(self.rows.as_slice(), number);
         let row = self.rows.remove(place);

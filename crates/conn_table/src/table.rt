@@ -3,7 +3,7 @@
 ghost use Rattle.std.specs.Prelude.{◌≡◌, ◌↔◌, ◌<◌, ◌≤◌, ◌+◌, ◌^◌, IsTrue, IsSome, Some, None, IfOk, [], length, drop};
 ghost use Rattle.conn_state.specs.Phase.{wanted, size_asked, waiting, ready, ended, left_to_write, cause_of, IsHeld, IsReading, IsReady, IsWaiting, HasNotEnded};
 ghost use Rattle.conn_state.specs.Step.{after_took, after_admission, after_answer, after_wrote, after_end_of_input, IsFromOutside};
-ghost use Rattle.conn_table.specs.Slots.{most_places, slot_in, with_added, without_number};
+ghost use Rattle.conn_table.specs.Slots.{most_places, slot_in, with_added, without_number, HaveRisingNumbers};
 ghost use Rattle.conn_table.specs.Table.{fresh_slot, slot_of, with_state, with_size, sizes_given, TakesRoom, HasItsSize, Admits};
 
 use crate::places::{MOST, Places, Slot};
@@ -58,10 +58,11 @@ impl Table {
         });
     }
 
-    /// Whether as many are open as may be.
+    /// Whether as many are open as may be. Their numbers rise.
     pub fn full(&self) -> bool
         ensures full { IsTrue result ↔ (length self.now.slots ≡ most_places) }
         ensures few { length self.now.slots ≤ most_places }
+        ensures rising { HaveRisingNumbers self.now.slots }
     {
         self.places.len() == MOST
     }
@@ -169,6 +170,7 @@ impl Table {
         requires given_back { (slot_of c self.old.slots).size ≡ None }
         ensures cause { cause_of (slot_of c self.old.slots).conn.phase ≡ Some result }
         ensures after { self.new ≡ record self.old { slots = without_number c self.old.slots } }
+        ensures gone { slot_in c self.new.slots ≡ None }
     {
         let slot = self.places.remove(c);
         slot.conn.cause().unwrap()

@@ -9,6 +9,7 @@ use Rattle.conn_table.specs.Slots.{slot_in, without_number}
 use Rattle.conn_table.specs.Places.{kept_in, IsPlaced}
 use Rattle.conn_table.proofs.Ranks.{rank_found}
 use Rattle.conn_table.proofs.Placing.{value_of, has_value, key_of_kept, removed, removed_rising, length-removed}
+use Rattle.conn_table.proofs.Rising.{kept_rising, gone}
 use Rattle.conn_table.proofs.places.Places.remove.Goals as goal
 
 pub remove-row-requires : goal.remove-row-requires
@@ -76,3 +77,17 @@ returns-clause-new c =
     ap (λ (row : Row). row.key) (c.remove-row.ensures.value ∙ ap (λ i. get_or rows i c.remove-row.result) place ∙ get_or_from_slice_get rows (rank_below c.args.number rows) f.0 c.remove-row.result f.1) ∙ f.3 in
     let r = removed slab c.remove.new.self t.0 (λ k n. c.remove.ensures.updates.others k (λ e. n (e ∙ same))) c.args.number rows c.self.invariant.rising c.self.invariant.placed t.1 in
     ap (kept_in c.remove.new.self) items ∙ r.0 ∙ ap (without_number c.args.number) c.self.view_is
+
+pub returns-clause-gone : goal.returns-clause-gone
+returns-clause-gone c =
+    let slab = c.self.inside.slots in
+    let rows : List Row = c.self.inside.rows.items in
+    let v = value_of _ c.requires in
+    let t = key_of_kept slab c.args.number rows v.0 c.self.invariant.placed (ap (slot_in c.args.number) c.self.view_is ∙ v.1) in
+    let f = rank_found c.args.number t.0 rows c.self.invariant.rising t.1 in
+    let place : c.rank_of-place.result ≡ rank_below c.args.number rows = c.rank_of-place.ensures.rank_below ∙ ap (rank_below c.args.number) c.as_slice.ensures.value in
+    let items : c.remove-row.new.self.items ≡ remove rows (rank_below c.args.number rows) = c.remove-row.ensures.items ∙ ap (λ i. remove rows i) place in
+    let same : c.remove-row.result.key ≡ t.0 =
+    ap (λ (row : Row). row.key) (c.remove-row.ensures.value ∙ ap (λ i. get_or rows i c.remove-row.result) place ∙ get_or_from_slice_get rows (rank_below c.args.number rows) f.0 c.remove-row.result f.1) ∙ f.3 in
+    let r = removed slab c.remove.new.self t.0 (λ k n. c.remove.ensures.updates.others k (λ e. n (e ∙ same))) c.args.number rows c.self.invariant.rising c.self.invariant.placed t.1 in
+    ap (λ l. slot_in c.args.number (kept_in c.remove.new.self l)) items ∙ ap (slot_in c.args.number) r.0 ∙ gone c.args.number (kept_in slab rows) (kept_rising slab rows c.self.invariant.rising c.self.invariant.placed)
