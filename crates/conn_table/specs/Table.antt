@@ -71,8 +71,8 @@ with_admitted c old =
     let conn : ConnView = (slot_of c old.slots).conn in
     record old { slots = with_slot (record { number = c; conn = record conn { phase = after_admission conn.phase }; size = size_asked conn.phase }) old.slots }
 
--- An admission: its size fits and is admitted; the budget has no room for it; or memory runs out.
+-- An admission: its size fits and is admitted; the budget has no room for it; or it fits and memory runs out.
 abbrev pub Admits : {E : Type 0} → ℕ → TableView → Result Bool E → TableView → Type 0
 Admits c old (Ok true) new = (sizes_given old.slots + size_wanted (slot_of c old.slots).conn ≤ old.budget) × (new ≡ with_admitted c old)
 Admits c old (Ok false) new = (old.budget < sizes_given old.slots + size_wanted (slot_of c old.slots).conn) × (new ≡ old)
-Admits c old (Err error) new = new ≡ old
+Admits c old (Err error) new = (sizes_given old.slots + size_wanted (slot_of c old.slots).conn ≤ old.budget) × (new ≡ old)

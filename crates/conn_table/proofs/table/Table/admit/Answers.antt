@@ -15,20 +15,31 @@ invariant_of-self c =
     (in_place old c.self.inside.places c.take-slot.new.self c.put.new.self c.self.inside.read_budget c.self.inside.admitted c.args.c c.take-slot.result c.admit.new.self c.self.invariant c.self.view_is
     c.requires.open c.take-slot.ensures.taken c.take-slot.ensures.own c.take-slot.ensures.left c.put.ensures (λ size has. subst (λ (v : ConnView). HasItsSize v.phase size) (sym is) has)).0
 
-pub returns-in-Err : goal.returns-in-Err
-returns-in-Err c =
-    let old : TableView = c.args.self.now in
-    let was : c.take-slot.result ≡ slot_of c.args.c old.slots = c.take-slot.ensures.taken ∙ ap (λ (o : TableView). slot_of c.args.c o.slots) c.self.view_is in
-    let is : c.admit.new.self ≡ (slot_of c.args.c old.slots).conn = c.in-Err.ensures.err ∙ ap (λ (s : Slot). s.conn) was in
-    (in_place old c.self.inside.places c.take-slot.new.self c.put.new.self c.self.inside.read_budget c.self.inside.admitted c.args.c c.take-slot.result c.admit.new.self c.self.invariant c.self.view_is
-    c.requires.open c.take-slot.ensures.taken c.take-slot.ensures.own c.take-slot.ensures.left c.put.ensures (λ size has. subst (λ (v : ConnView). HasItsSize v.phase size) (sym is) has)).1
-    ∙ ap (λ (v : ConnView). record old { slots = with_state c.args.c v old.slots }) is ∙ ap (λ (l : List Slot). record old { slots = l }) (conn_same c.args.c old.slots c.requires.open)
-
 summed : (admitted size given : ℕ) → given ≡ 0 → admitted + size + given ≡ admitted + size
 summed admitted size given e = omega arith
 
 fits : (admitted size budget : ℕ) → admitted ≤ budget → size ≤ budget - admitted → admitted + size ≤ budget
 fits admitted size budget a b = omega arith
+
+fitting : (all wanted admitted size budget : ℕ) → admitted ≡ all → wanted ≡ size → admitted + size ≤ budget → all + wanted ≤ budget
+fitting all wanted admitted size budget a b l = omega arith
+
+pub returns-in-Err : goal.returns-in-Err
+returns-in-Err c =
+    let old : TableView = c.args.self.now in
+    let was : c.take-slot.result ≡ slot_of c.args.c old.slots = c.take-slot.ensures.taken ∙ ap (λ (o : TableView). slot_of c.args.c o.slots) c.self.view_is in
+    let is : c.admit.new.self ≡ (slot_of c.args.c old.slots).conn = c.in-Err.ensures.err ∙ ap (λ (s : Slot). s.conn) was in
+    let places : List Slot = c.self.inside.places in
+    let found : slot_of c.args.c places ≡ c.get.result.now = of_found c.args.c places c.get.result.now c.get.ensures in
+    let asked : size_asked (slot_of c.args.c places).conn.phase ≡ Some c.unwrap-size.result =
+    ap (λ (s : Slot). size_asked s.conn.phase) found ∙ sym c.asks.ensures.size ∙ c.unwrap-size.ensures in (
+      subst (λ (o : TableView). sizes_given o.slots + size_wanted (slot_of c.args.c o.slots).conn ≤ o.budget) c.self.view_is
+          (fitting (sizes_given places) (size_wanted (slot_of c.args.c places).conn) c.self.inside.admitted c.unwrap-size.result c.self.inside.read_budget c.self.invariant.sum (ap size_given asked)
+          (fits c.self.inside.admitted c.unwrap-size.result c.self.inside.read_budget c.self.invariant.within c.if-self-size.false)),
+      (in_place old c.self.inside.places c.take-slot.new.self c.put.new.self c.self.inside.read_budget c.self.inside.admitted c.args.c c.take-slot.result c.admit.new.self c.self.invariant c.self.view_is
+          c.requires.open c.take-slot.ensures.taken c.take-slot.ensures.own c.take-slot.ensures.left c.put.ensures (λ size has. subst (λ (v : ConnView). HasItsSize v.phase size) (sym is) has)).1
+          ∙ ap (λ (v : ConnView). record old { slots = with_state c.args.c v old.slots }) is ∙ ap (λ (l : List Slot). record old { slots = l }) (conn_same c.args.c old.slots c.requires.open),
+    )
 
 pub invariant_of-self-2 : goal.invariant_of-self-2
 invariant_of-self-2 c =
@@ -43,9 +54,6 @@ invariant_of-self-2 c =
     (resized_sound places c.self.inside.read_budget c.self.inside.admitted (c.self.inside.admitted + c.unwrap-size.result) c.args.c c.admit.new.self (Some c.unwrap-size.result) c.self.invariant there
     (summed c.self.inside.admitted c.unwrap-size.result (size_given (slot_of c.args.c places).size) (ap size_given none))
     (fits c.self.inside.admitted c.unwrap-size.result c.self.inside.read_budget c.self.invariant.within c.if-self-size.false) (admitted_size c.take-slot.result.conn.phase c.admit.new.self c.unwrap-size.result asked (ap (λ (v : ConnView). v.phase) c.in_default.ensures.ok)))
-
-fitting : (all wanted admitted size budget : ℕ) → admitted ≡ all → wanted ≡ size → admitted + size ≤ budget → all + wanted ≤ budget
-fitting all wanted admitted size budget a b l = omega arith
 
 pub returns : goal.returns
 returns c =
