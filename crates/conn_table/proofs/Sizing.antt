@@ -368,3 +368,9 @@ other_without c x (s ∷ slots) n = go (cases_eq s.number c) (other_without c x 
         ∙ sym (ap (λ t. if t then Some s else slot_in x slots) (ne_eqb s.number x (λ e. n (sym is ∙ e))))
     go (inr a) again =
         ap (λ t. slot_in x (if t then slots else s ∷ without_number c slots)) (ne_eqb s.number c a) ∙ ap (λ r. if s.number == x then Some s else r) again
+
+-- the state that was put in the place of another
+pub conn_put : (c : ℕ) (conn : ConnView) (slots : List Slot) → IsSome (slot_in c slots) → (slot_of c (with_state c conn slots)).conn ≡ conn
+conn_put c conn slots there =
+    let new : Slot = record { number = c; conn = conn; size = (slot_of c slots).size } in
+    ap (λ (s : Slot). s.conn) (of_found c (with_slot new slots) new (found_put new slots there))

@@ -2,6 +2,7 @@
 
 ghost use Rattle.std.specs.Prelude.{◌≡◌, ◌↔◌, ◌<◌, ◌≤◌, ◌+◌, ◌^◌, IsTrue, IsSome, Some, None, IfOk, [], length, drop};
 ghost use Rattle.conn_state.specs.Phase.{wanted, size_asked, waiting, ready, ended, left_to_write, cause_of, IsHeld, IsReading, IsReady, IsWaiting, HasNotEnded};
+ghost use Rattle.conn_state.specs.Run.{EachIsByte};
 ghost use Rattle.conn_state.specs.Step.{after_took, after_admission, after_answer, after_wrote, after_end_of_input, IsFromOutside};
 ghost use Rattle.conn_table.specs.Slots.{most_places, slot_in, with_added, without_number, HaveRisingNumbers};
 ghost use Rattle.conn_table.specs.Table.{fresh_slot, slot_of, with_state, with_size, sizes_given, TakesRoom, HasItsSize, Admits};
@@ -83,7 +84,9 @@ impl Table {
         requires some { 0 < length bytes.now }
         requires asked { length bytes.now ≤ wanted (slot_of c self.old.slots).conn.phase }
         requires counted { (slot_of c self.old.slots).conn.frames < 2 ^ 62 }
-        ensures { self.new ≡ record self.old { slots = with_state c (after_took max_frame (slot_of c self.old.slots).conn bytes.now) self.old.slots } }
+        ensures after { self.new ≡ record self.old { slots = with_state c (after_took max_frame (slot_of c self.old.slots).conn bytes.now) self.old.slots } }
+        ensures bytes { EachIsByte bytes.now }
+        ensures whole { (slot_of c self.old.slots).conn.frames < (slot_of c self.new.slots).conn.frames ↔ IsReady (slot_of c self.new.slots).conn.phase }
     {
         let mut slot = self.places.take(c);
         slot.conn.took(bytes, max_frame);

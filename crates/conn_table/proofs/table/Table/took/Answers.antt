@@ -1,9 +1,9 @@
-use Rattle.std.proofs.Common.{◌≡◌, ap, ◌∙◌, sym, subst, length, drop}
-use Rattle.conn_state.specs.Phase.{ConnView, waiting, ended, left_to_write}
+use Rattle.std.proofs.Common.{◌≡◌, ◌<◌, ◌↔◌, ap, ◌∙◌, sym, subst, length, drop}
+use Rattle.conn_state.specs.Phase.{ConnView, IsReady}
 use Rattle.conn_state.specs.Step.{after_took, after_answer, after_wrote, after_end_of_input}
 use Rattle.conn_table.specs.declared.places.Slot.{Slot}
 use Rattle.conn_table.specs.Table.{TableView, slot_of, with_state, HasItsSize}
-use Rattle.conn_table.proofs.Sizing.{in_place, answer_room, wrote_room, end_room, took_room}
+use Rattle.conn_table.proofs.Sizing.{in_place, took_room, conn_put}
 use Rattle.conn_table.proofs.table.Table.took.Goals as goal
 
 pub invariant_of-self : goal.invariant_of-self
@@ -14,10 +14,24 @@ invariant_of-self c =
     c.requires.open c.take-slot.ensures.taken c.take-slot.ensures.own c.take-slot.ensures.left c.put.ensures
     (λ size has. subst (λ (v : ConnView). HasItsSize v.phase size) (sym is) (took_room c.args.max_frame (slot_of c.args.c old.slots).conn c.args.bytes.now c.requires.some c.requires.asked size has))).0
 
-pub returns : goal.returns
-returns c =
+pub returns-clause-after : goal.returns-clause-after
+returns-clause-after c =
     let old : TableView = c.args.self.now in
     let is : c.took.new.self ≡ after_took c.args.max_frame (slot_of c.args.c old.slots).conn c.args.bytes.now = c.took.ensures.after ∙ ap (λ (s : Slot). after_took c.args.max_frame s.conn c.args.bytes.now) (c.take-slot.ensures.taken ∙ ap (λ (o : TableView). slot_of c.args.c o.slots) c.self.view_is) in
     (in_place old c.self.inside.places c.take-slot.new.self c.put.new.self c.self.inside.read_budget c.self.inside.admitted c.args.c c.take-slot.result c.took.new.self c.self.invariant c.self.view_is
     c.requires.open c.take-slot.ensures.taken c.take-slot.ensures.own c.take-slot.ensures.left c.put.ensures
     (λ size has. subst (λ (v : ConnView). HasItsSize v.phase size) (sym is) (took_room c.args.max_frame (slot_of c.args.c old.slots).conn c.args.bytes.now c.requires.some c.requires.asked size has))).1 ∙ ap (λ (v : ConnView). record old { slots = with_state c.args.c v old.slots }) is
+
+pub returns-clause-whole : goal.returns-clause-whole
+returns-clause-whole c =
+    let old : TableView = c.args.self.now in
+    let is : c.took.new.self ≡ after_took c.args.max_frame (slot_of c.args.c old.slots).conn c.args.bytes.now = c.took.ensures.after ∙ ap (λ (s : Slot). after_took c.args.max_frame s.conn c.args.bytes.now) (c.take-slot.ensures.taken ∙ ap (λ (o : TableView). slot_of c.args.c o.slots) c.self.view_is) in
+    let after =
+    (in_place old c.self.inside.places c.take-slot.new.self c.put.new.self c.self.inside.read_budget c.self.inside.admitted c.args.c c.take-slot.result c.took.new.self c.self.invariant c.self.view_is
+    c.requires.open c.take-slot.ensures.taken c.take-slot.ensures.own c.take-slot.ensures.left c.put.ensures
+    (λ size has. subst (λ (v : ConnView). HasItsSize v.phase size) (sym is) (took_room c.args.max_frame (slot_of c.args.c old.slots).conn c.args.bytes.now c.requires.some c.requires.asked size has))).1 ∙ ap (λ (v : ConnView). record old { slots = with_state c.args.c v old.slots }) is in
+    let was : c.take-slot.result.conn ≡ (slot_of c.args.c old.slots).conn = ap (λ (s : Slot). s.conn) (c.take-slot.ensures.taken ∙ ap (λ (o : TableView). slot_of c.args.c o.slots) c.self.view_is) in
+    let now : c.took.new.self ≡ (slot_of c.args.c c.put.new.self).conn =
+    is ∙ sym (ap (λ (o : TableView). (slot_of c.args.c o.slots).conn) after ∙ conn_put c.args.c (after_took c.args.max_frame (slot_of c.args.c old.slots).conn c.args.bytes.now) old.slots c.requires.open) in
+    subst (λ (v : ConnView). (slot_of c.args.c old.slots).conn.frames < v.frames ↔ IsReady v.phase) now
+    (subst (λ (v : ConnView). v.frames < c.took.new.self.frames ↔ IsReady c.took.new.self.phase) was c.took.ensures.whole)
