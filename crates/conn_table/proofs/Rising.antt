@@ -1,13 +1,14 @@
--- Numbers rise through each change, and what is taken out is gone.
-use Rattle.std.proofs.Common.{◌≡◌, ℕ, suc, ◌<◌, ◌≤◌, ◌⊎◌, Bool, true, false, ◌==◌, nat_lt, if◌then◌else◌, None, Some, List, [], ◌∷◌, length, refl, sym, ap, ◌∙◌, subst, inl, inr, arith, eq-eqb, ne_eqb, IsSome}
+-- What each change makes of the numbers, which rise, of how many there are, and of the sizes.
+use Rattle.std.proofs.Common.{◌≡◌, ℕ, suc, ◌+◌, ◌<◌, ◌≤◌, ◌⊎◌, Bool, true, false, ◌==◌, nat_lt, if◌then◌else◌, None, Some, List, [], ◌∷◌, length, refl, sym, ap, ◌∙◌, subst, inl, inr, arith, eq-eqb, ne_eqb, IsSome}
 use Rattle.std.specs.List.{AllByRecursion}
 use Rattle.std.proofs.lemmas.Bool.{false≢true, cases_eq, cases_lt, lt-ltb, le-ltb}
-use Rattle.std.proofs.lemmas.Option.{none-some}
+use Rattle.std.proofs.lemmas.Option.{none-some, same_Some}
 use Rattle.slab.specs.Slab.{Slab}
 use Rattle.conn_table.specs.declared.places.Row.{Row}
 use Rattle.conn_table.specs.declared.places.Slot.{Slot}
 use Rattle.conn_table.specs.Rows.{IsRising}
 use Rattle.conn_table.specs.Slots.{slot_in, with_slot, with_added, without_number, HaveRisingNumbers}
+use Rattle.conn_table.specs.Table.{size_given, sizes_given}
 use Rattle.conn_table.specs.Places.{joined_to, kept_in, IsPlaced}
 
 -- each number of these is above n
@@ -134,3 +135,22 @@ count_left c (x ∷ slots) s = step (x.number == c) s (λ there. count_left c sl
         → suc (length (if b then slots else x ∷ without_number c slots)) ≡ suc (length slots)
     step true there rest = refl
     step false there rest = ap suc (rest there)
+
+-- the sizes, where one is added, or taken out
+pub sizes_added : (new : Slot) (slots : List Slot) → sizes_given (with_added new slots) ≡ size_given new.size + sizes_given slots
+sizes_added new [] = refl
+sizes_added new (x ∷ slots) = step (nat_lt x.number new.number) (sizes_added new slots)
+  where
+    step : (b : Bool) → sizes_given (with_added new slots) ≡ size_given new.size + sizes_given slots
+        → sizes_given (if b then x ∷ with_added new slots else new ∷ (x ∷ slots)) ≡ size_given new.size + (size_given x.size + sizes_given slots)
+    step true rest = omega arith
+    step false rest = refl
+
+pub sizes_left : (c : ℕ) (old : Slot) (slots : List Slot) → slot_in c slots ≡ Some old → size_given old.size + sizes_given (without_number c slots) ≡ sizes_given slots
+sizes_left c old [] e = absurd (none-some old e)
+sizes_left c old (x ∷ slots) e = step (x.number == c) e (λ there. sizes_left c old slots there)
+  where
+    step : (b : Bool) → (if b then Some x else slot_in c slots) ≡ Some old → (slot_in c slots ≡ Some old → size_given old.size + sizes_given (without_number c slots) ≡ sizes_given slots)
+        → size_given old.size + sizes_given (if b then slots else x ∷ without_number c slots) ≡ size_given x.size + sizes_given slots
+    step true there rest = let k : size_given x.size ≡ size_given old.size = ap (λ (s : Slot). size_given s.size) (same_Some x old there) in omega arith
+    step false there rest = let t : size_given old.size + sizes_given (without_number c slots) ≡ sizes_given slots = rest there in omega arith

@@ -29,4 +29,6 @@ pub fn changes_are_counted()
     ensures left { (c : ℕ) (slots : List Slot) → IsSome (slot_in c slots) → suc (length (without_number c slots)) ≡ length slots }
     ensures size_put { (new old : Slot) (slots : List Slot) → slot_in new.number slots ≡ Some old
         → sizes_given (with_slot new slots) + size_given old.size ≡ sizes_given slots + size_given new.size }
+    ensures size_added { (new : Slot) (slots : List Slot) → sizes_given (with_added new slots) ≡ size_given new.size + sizes_given slots }
+    ensures size_left { (c : ℕ) (old : Slot) (slots : List Slot) → slot_in c slots ≡ Some old → size_given old.size + sizes_given (without_number c slots) ≡ sizes_given slots }
 {}
