@@ -5,12 +5,12 @@ ghost use Rattle.std.specs.Prelude.{◌≡◌};
 use conn_state::EndCause;
 use std::marker::Model;
 
-/// The most bytes of a payload, and of all payloads under way together.
+/// The most bytes of a payload, and of all payloads that are admitted together.
 #[derive(Clone, Copy, Debug, Drop, PartialEq, Eq)]
 pub struct Limits {
     /// The most bytes of a payload.
     pub max_frame: u32,
-    /// The most bytes of all payloads under way.
+    /// The most bytes of all payloads that are admitted.
     pub read_budget: u64,
 }
 

@@ -35,9 +35,9 @@ abbrev pub at_number : {X : Type 0} → (ℕ → X) → ℕ → X → ℕ → X
 at_number f c v x = if x == c then v else f x
 
 -- an admitted size, or 0
-abbrev pub size_or_none : Option ℕ → ℕ
-size_or_none None = 0
-size_or_none (Some size) = size
+abbrev pub size_or_zero : Option ℕ → ℕ
+size_or_zero None = 0
+size_or_zero (Some size) = size
 
 -- a size that is kept while its connection has no cause
 abbrev pub kept_while_open : Option EndCause → Option ℕ → Option ℕ
@@ -56,7 +56,7 @@ module _ {C A M : Type 0} where
 
   -- the admitted sizes, summed
   abbrev pub all_admitted : Play C A M → ℕ
-  all_admitted play = summed (λ c. size_or_none (play.admitted c)) play.cell.loop.count
+  all_admitted play = summed (λ c. size_or_zero (play.admitted c)) play.cell.loop.count
 
   -- the size of a connection goes back
   abbrev pub freed : ℕ → Play C A M → Play C A M

@@ -16,7 +16,7 @@ abbrev pub left_by : {X : Type 0} → X → Option X → X
 left_by play None = play
 left_by play (Some next) = next
 
--- nothing moved, or something goes on
+-- all as it was where there was no move, else what comes of going on
 abbrev pub goes_on_with : {X : Type 0} → X → Option X → (X → Option X) → Option X
 goes_on_with play None again = Some play
 goes_on_with play (Some next) again = again next

@@ -25,8 +25,8 @@ pub fn one_connection_is_fed<C, A, M>()
         IsRunOn d r memories is_scripted (λ c. arrival_of pieces) tape journal (cause ∷ []) }
 {}
 
-/// A rehearsal is a run of the machine, since each of its moves is one of its events; so it meets the headline where each connection has ended. And a script
-/// comes to one end alone, however many steps it is given.
+/// A rehearsal is a run of the machine, since each of its moves is one of its events, or none that the machine sees; so it meets the headline where each
+/// connection has ended. And a script comes to one end alone, whatever number of steps sufficed.
 pub fn a_rehearsal_is_a_run<C, A, M>()
     ensures run { (d : DeskRules C A) (r : ServiceRules C A M) (budget workers : ℕ) (script : ScriptPlan) (first last : Cell C A M) →
         d.max < 2 ^ 31 → IsRehearsalOf d r budget workers script first last → (events : List MachineEvent) × EventsLead d r first events last }
