@@ -1,6 +1,6 @@
 -- A run on the pieces of one connection is fed by their script, and the other way round.
-use Rattle.std.proofs.Common.{◌≡◌, ℕ, zero, suc, ◌+◌, ◌≤◌, Bool, true, false, true≢false, ◌==◌, None, Some, List, [], ◌∷◌, ◌++◌, length, map, slice_get, refl, sym, ap, ◌∙◌, subst, arith, append-nil}
-use Rattle.std.specs.List.{AllByRecursion, flat_map}
+use Rattle.std.proofs.Common.{◌≡◌, ℕ, zero, suc, ◌+◌, ◌≤◌, Bool, true, false, true≢false, ◌==◌, Some, List, [], ◌∷◌, ◌++◌, map, slice_get, refl, sym, ap, ◌∙◌, subst, arith, append-nil}
+use Rattle.std.specs.List.{AllByRecursion}
 use Rattle.std.proofs.lemmas.Bool.{false≢true}
 use Rattle.std.proofs.lemmas.Grind.{flat_map-append}
 use Rattle.std.proofs.lemmas.Option.{none-some, same_Some}
@@ -16,12 +16,11 @@ use Rattle.host_model.specs.Headline.{Headline}
 use Rattle.host_model.proofs.Lists.{cons_parts, front_nil}
 use Rattle.script_model.specs.Arrival.{bytes_of_pieces, ends_from, arrival_of}
 use Rattle.script_model.specs.Feeding.{EachReadTakesItsPart}
-use Rattle.script_model.specs.Sending.{EachWriteTakesTheRest}
 use Rattle.script_model.specs.Rehearsal.{is_scripted, IsReadToItsEnd, FollowsArrival, IsRunOn}
 use Rattle.script_model.proofs.Marked.{kind_of, all_own, own_filter}
-use Rattle.rehearsal_model.specs.ScriptLines.{ScriptLine, opening, piece, input_end, resting, ScriptPlan, openings, piece_by, pieces_on, ends_input, some_line, count_up}
+use Rattle.rehearsal_model.specs.ScriptLines.{ScriptLine, piece, input_end, resting, openings, pieces_on, ends_input, some_line, count_up}
 use Rattle.rehearsal_model.specs.Writing.{KeepsItsRules}
-use Rattle.rehearsal_model.specs.RestLines.{opened_by, opened_in, HasPlaceFor}
+use Rattle.rehearsal_model.specs.RestLines.{opened_by, opened_in}
 use Rattle.rehearsal_model.specs.Fed.{IsReadFrom, IsFedBy, script_of_one}
 
 -- what holds of all elements holds of one among them

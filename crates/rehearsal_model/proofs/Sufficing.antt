@@ -1,5 +1,5 @@
 -- A rehearsal that comes to an end with some steps comes to the same with more.
-use Rattle.std.proofs.Common.{◌≡◌, ℕ, zero, suc, ◌+◌, ◌≤◌, Bool, true, false, ◌==◌, if◌then◌else◌, Option, None, Some, List, [], ◌∷◌, refl, sym, ap, ◌∙◌, subst, arith}
+use Rattle.std.proofs.Common.{◌≡◌, ℕ, zero, suc, ◌+◌, ◌≤◌, Bool, true, false, ◌==◌, if◌then◌else◌, Option, None, Some, List, [], ◌∷◌, refl, sym, ap, ◌∙◌, arith}
 use Rattle.std.specs.Prelude.{option_and_then}
 use Rattle.std.proofs.lemmas.Option.{none-some, same_Some}
 use Rattle.host_model.specs.Journal.{ServiceRules}
@@ -7,7 +7,7 @@ use Rattle.host_model.specs.DeskRules.{DeskRules}
 use Rattle.machine_model.specs.Machine.{Cell}
 use Rattle.rehearsal_model.specs.ScriptLines.{ScriptLine, opening, piece, input_end, input_fault, resting, turn_of_conn, turn_of_worker, turn_of_outcome, ScriptPlan, count_up}
 use Rattle.rehearsal_model.specs.Playing.{Play, conn_move, collect_move}
-use Rattle.rehearsal_model.specs.Rehearsing.{goes_on_with, until_still, all_read, all_work, pass, drain, line_done, lines_done, before_all, rehearsal, IsRehearsalOf}
+use Rattle.rehearsal_model.specs.Rehearsing.{goes_on_with, until_still, all_read, pass, drain, line_done, lines_done, before_all, rehearsal, IsRehearsalOf}
 
 module _ {X : Type 0} where
   -- where the one has an answer, the other has the same

@@ -1,15 +1,13 @@
 -- The whole rehearsal: lines in order, and at rests and at the end the run is drained.
 use Rattle.std.specs.Prelude.{◌≡◌, ℕ, zero, suc, Bool, true, false, ◌==◌, if◌then◌else◌, Option, None, Some, List, [], ◌∷◌, ◌++◌, option_and_then}
-use Rattle.outside.specs.declared.marks.Mark.{Mark}
-use Rattle.host_model.specs.declared.cause.EndCause.{EndCause}
-use Rattle.host_model.specs.Journal.{JournalEntry, ServiceRules}
+use Rattle.host_model.specs.Journal.{ServiceRules}
 use Rattle.host_model.specs.DeskRules.{DeskRules}
 use Rattle.machine_model.specs.Loop.{opens}
 use Rattle.machine_model.specs.Worker.{WorkerState, idle}
-use Rattle.machine_model.specs.Machine.{Cell, on_conn, HaveAllEnded}
+use Rattle.machine_model.specs.Machine.{Cell, on_conn}
 use Rattle.machine_model.specs.Plain.{goes}
 use Rattle.rehearsal_model.specs.ScriptLines.{ScriptLine, opening, piece, input_end, input_fault, resting, turn_of_conn, turn_of_worker, turn_of_outcome, ScriptPlan, rules_of, count_up}
-use Rattle.rehearsal_model.specs.Playing.{InputFinish, finishes, faults, Play, at_number, told_in, conn_move, worker_move, collect_move}
+use Rattle.rehearsal_model.specs.Playing.{finishes, faults, Play, at_number, told_in, conn_move, worker_move, collect_move}
 
 -- what a move leaves, or all as it was where there was none
 abbrev pub left_by : {X : Type 0} → X → Option X → X

@@ -1,12 +1,12 @@
 -- Scripts of a tiny desk, for examples.
-use Rattle.std.specs.Prelude.{◌≡◌, ℕ, Option, None, Some, List, [], ◌∷◌, ◌++◌, map, option_map}
+use Rattle.std.specs.Prelude.{◌≡◌, ℕ, Option, Some, List, [], ◌∷◌, ◌++◌, map, option_map}
 use Rattle.outside.specs.declared.marks.Mark.{Mark}
 use Rattle.host_model.specs.declared.cause.EndCause.{EndCause}
 use Rattle.host_model.specs.Journal.{JournalEntry}
 use Rattle.host_model.specs.TinyDesk.{tiny_desk, counting, size_of_one}
 use Rattle.machine_model.specs.Tiny.{tiny_hall, causes_from}
 use Rattle.machine_model.specs.Merge.{cell_at_first}
-use Rattle.rehearsal_model.specs.ScriptLines.{ScriptLine, opening, piece, input_end, WriteRule, ScriptPlan}
+use Rattle.rehearsal_model.specs.ScriptLines.{ScriptLine, WriteRule, ScriptPlan}
 use Rattle.rehearsal_model.specs.Playing.{Play}
 use Rattle.rehearsal_model.specs.Rehearsing.{rehearsal}
 

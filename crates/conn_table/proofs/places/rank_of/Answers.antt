@@ -1,6 +1,6 @@
-use Rattle.std.proofs.Common.{◌≡◌, ◌<◌, ◌≤◌, ◌+◌, ◌-◌, ◌/◌, length, slice_get, Some, arith, subst}
+use Rattle.std.proofs.Common.{◌≡◌, ◌≤◌, ◌+◌, ◌-◌, ◌/◌, length, arith, subst}
 use Rattle.std.proofs.lemmas.Option.{slice_get-get_or}
-use Rattle.conn_table.proofs.Ranks.{IsBetween, between_all, between_up, between_down, rank_between}
+use Rattle.conn_table.proofs.Ranks.{IsBetween, between_up, between_down, rank_between}
 use Rattle.conn_table.proofs.places.rank_of.Goals as goal
 
 pub loop-low-preserved-then-rows-middle : goal.loop-low-preserved-then-rows-middle

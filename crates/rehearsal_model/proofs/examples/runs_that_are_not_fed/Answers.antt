@@ -1,9 +1,9 @@
-use Rattle.std.proofs.Common.{◌≡◌, ◌≤◌, [], ◌∷◌, refl, arith}
+use Rattle.std.proofs.Common.{◌≤◌, [], ◌∷◌, refl, arith}
 use Rattle.std.proofs.lemmas.Bool.{false≢true}
-use Rattle.outside.specs.declared.marks.Mark.TheVariants.{Opened, Read, Wrote, Ended}
+use Rattle.outside.specs.declared.marks.Mark.TheVariants.{Opened, Read}
 use Rattle.host_model.specs.Journal.{entries_of}
 use Rattle.host_model.specs.TinyDesk.{tiny_desk, size_of_one}
-use Rattle.rehearsal_model.specs.ScriptLines.{opening, piece, input_end, resting}
+use Rattle.rehearsal_model.specs.ScriptLines.{opening, piece, input_end}
 use Rattle.rehearsal_model.specs.Rows.{frame_of_one}
 use Rattle.rehearsal_model.proofs.NotFed.{not_over, not_more, no_place, no_place_beside}
 use Rattle.rehearsal_model.proofs.examples.runs_that_are_not_fed.Goals as goal

@@ -1,9 +1,9 @@
-use Rattle.std.proofs.Common.{◌≡◌, Some, IsSome, ap, ◌∙◌, sym, subst}
+use Rattle.std.proofs.Common.{ap, ◌∙◌, sym}
 use Rattle.std.proofs.lemmas.Option.{same_Some}
 use Rattle.slab.specs.Slab.{get}
 use Rattle.conn_table.specs.Rows.{key_in}
 use Rattle.conn_table.specs.Slots.{slot_in}
-use Rattle.conn_table.proofs.Placing.{value_of, has_value, key_of_kept, slot_under}
+use Rattle.conn_table.proofs.Placing.{value_of, has_value, key_of_kept}
 use Rattle.conn_table.proofs.places.Places.get.Goals as goal
 
 pub key_of-requires-clause-open : goal.key_of-requires-clause-open

@@ -1,14 +1,14 @@
-use Rattle.std.proofs.Common.{◌≡◌, ◌+◌, ◌<◌, ◌≤◌, ℕ, suc, Some, List, length, get_or, slice_get, ap, ◌∙◌, sym, subst, arith, length-append}
+use Rattle.std.proofs.Common.{◌≡◌, ◌+◌, ◌<◌, ◌≤◌, ℕ, List, length, get_or, ap, ◌∙◌, sym, subst, arith}
 use Rattle.std.specs.Prelude.{remove}
 use Rattle.std.specs.List.{AllByRecursion}
-use Rattle.std.proofs.lemmas.Option.{same_Some, slice_get_within, get_or_from_slice_get}
-use Rattle.slab.specs.Slab.{get, slab_len}
+use Rattle.std.proofs.lemmas.Option.{slice_get_within, get_or_from_slice_get}
+use Rattle.slab.specs.Slab.{get}
 use Rattle.conn_table.specs.declared.places.Row.{Row}
-use Rattle.conn_table.specs.Rows.{key_in, rank_below, IsRising}
+use Rattle.conn_table.specs.Rows.{rank_below, IsRising}
 use Rattle.conn_table.specs.Slots.{slot_in, without_number}
 use Rattle.conn_table.specs.Places.{kept_in, IsPlaced}
 use Rattle.conn_table.proofs.Ranks.{rank_found}
-use Rattle.conn_table.proofs.Placing.{value_of, has_value, key_of_kept, removed, removed_rising, length-removed}
+use Rattle.conn_table.proofs.Placing.{value_of, key_of_kept, removed, removed_rising, length-removed}
 use Rattle.conn_table.proofs.Rising.{kept_rising, gone}
 use Rattle.conn_table.proofs.places.Places.remove.Goals as goal
 

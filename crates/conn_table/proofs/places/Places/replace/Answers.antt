@@ -1,7 +1,6 @@
-use Rattle.std.proofs.Common.{◌≡◌, ◌+◌, ◌≤◌, ℕ, Some, length, ap, ◌∙◌, sym, subst, arith}
+use Rattle.std.proofs.Common.{◌≡◌, ◌+◌, ◌≤◌, ℕ, ap, ◌∙◌, sym, subst, arith}
 use Rattle.std.proofs.lemmas.Option.{same_Some}
-use Rattle.slab.specs.Slab.{Slab, get, slab_len}
-use Rattle.conn_table.specs.declared.places.Slot.{Slot}
+use Rattle.slab.specs.Slab.{get, slab_len}
 use Rattle.conn_table.specs.Rows.{key_in}
 use Rattle.conn_table.specs.Slots.{slot_in, with_slot}
 use Rattle.conn_table.proofs.Placing.{value_of, has_value, key_of_kept, replaced}

@@ -1,4 +1,4 @@
-use Rattle.std.proofs.Common.{◌≡◌, None, ap, ◌∙◌}
+use Rattle.std.proofs.Common.{None, ap, ◌∙◌}
 use Rattle.conn_table.specs.Slots.{slot_in}
 use Rattle.conn_table.specs.declared.places.Slot.{Slot}
 use Rattle.conn_table.proofs.Placing.{has_value}

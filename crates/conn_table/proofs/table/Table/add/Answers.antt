@@ -1,4 +1,4 @@
-use Rattle.std.proofs.Common.{◌≡◌, ℕ, None, refl, ap, sym, subst}
+use Rattle.std.proofs.Common.{None, refl, sym, subst}
 use Rattle.conn_state.specs.Phase.{ConnView}
 use Rattle.conn_table.specs.declared.places.Slot.{Slot}
 use Rattle.conn_table.specs.Table.{HasItsSize, IsSoundTable}

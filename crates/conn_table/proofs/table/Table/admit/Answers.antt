@@ -1,4 +1,4 @@
-use Rattle.std.proofs.Common.{◌≡◌, ◌+◌, ◌-◌, ◌≤◌, ℕ, None, Some, List, IsSome, refl, ap, ◌∙◌, sym, subst, arith}
+use Rattle.std.proofs.Common.{◌≡◌, ◌+◌, ◌-◌, ◌≤◌, ℕ, None, Some, List, IsSome, ap, ◌∙◌, sym, subst, arith}
 use Rattle.conn_state.specs.Phase.{ConnView, size_asked}
 use Rattle.conn_state.specs.Step.{after_admission}
 use Rattle.conn_table.specs.declared.places.Slot.{Slot}

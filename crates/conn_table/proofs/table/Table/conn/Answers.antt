@@ -1,6 +1,6 @@
 use Rattle.std.proofs.Common.{subst, IsSome}
 use Rattle.conn_table.specs.Slots.{slot_in}
-use Rattle.conn_table.specs.Table.{TableView, slot_of, TakesRoom, IsAdmitted}
+use Rattle.conn_table.specs.Table.{TableView, slot_of, IsAdmitted}
 use Rattle.conn_table.proofs.Sizing.{slot_is, all_found}
 use Rattle.conn_table.proofs.table.Table.conn.Goals as goal
 

@@ -1,9 +1,8 @@
-use Rattle.std.proofs.Common.{◌≡◌, ap, ◌∙◌, sym, subst, length, drop}
-use Rattle.conn_state.specs.Phase.{ConnView, waiting, ended, left_to_write}
-use Rattle.conn_state.specs.Step.{after_took, after_answer, after_wrote, after_end_of_input}
+use Rattle.std.proofs.Common.{◌≡◌, ap, ◌∙◌, sym, subst}
+use Rattle.conn_state.specs.Phase.{ConnView, ended}
 use Rattle.conn_table.specs.declared.places.Slot.{Slot}
 use Rattle.conn_table.specs.Table.{TableView, slot_of, with_state, HasItsSize}
-use Rattle.conn_table.proofs.Sizing.{in_place, answer_room, wrote_room, end_room, took_room}
+use Rattle.conn_table.proofs.Sizing.{in_place}
 use Rattle.conn_table.proofs.table.Table.end.Goals as goal
 
 pub invariant_of-self : goal.invariant_of-self

@@ -1,5 +1,4 @@
-use Rattle.std.proofs.Common.{◌≡◌, ◌+◌, ◌-◌, ◌≤◌, ℕ, None, Some, List, IsSome, refl, ap, ◌∙◌, sym, subst, arith}
-use Rattle.conn_state.specs.Phase.{ConnView}
+use Rattle.std.proofs.Common.{◌≡◌, ◌+◌, ◌-◌, ◌≤◌, ℕ, None, Some, List, IsSome, ap, ◌∙◌, sym, subst, arith}
 use Rattle.conn_table.specs.declared.places.Slot.{Slot}
 use Rattle.conn_table.specs.Slots.{slot_in, with_slot}
 use Rattle.conn_table.specs.Table.{TableView, slot_of, with_size, size_given, sizes_given, TakesRoom, IsSoundTable}

@@ -1,6 +1,6 @@
-use Rattle.std.proofs.Common.{◌≡◌, ◌<◌, ◌↔◌, ap, ◌∙◌, sym, subst, length, drop}
+use Rattle.std.proofs.Common.{◌≡◌, ◌<◌, ◌↔◌, ap, ◌∙◌, sym, subst}
 use Rattle.conn_state.specs.Phase.{ConnView, IsReady}
-use Rattle.conn_state.specs.Step.{after_took, after_answer, after_wrote, after_end_of_input}
+use Rattle.conn_state.specs.Step.{after_took}
 use Rattle.conn_table.specs.declared.places.Slot.{Slot}
 use Rattle.conn_table.specs.Table.{TableView, slot_of, with_state, HasItsSize}
 use Rattle.conn_table.proofs.Sizing.{in_place, took_room, conn_put}
