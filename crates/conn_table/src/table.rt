@@ -1,9 +1,9 @@
 //! The table: open connections by number, and the sizes that are admitted.
 
 ghost use Rattle.std.specs.Prelude.{◌≡◌, ◌↔◌, ◌<◌, ◌≤◌, ◌+◌, ◌^◌, IsTrue, IsSome, Some, None, IfOk, [], length, drop};
-ghost use Rattle.conn_state.specs.Phase.{wanted, size_asked, waiting, ready, ended, left_to_write, cause_of, IsHeld, IsReading, IsReady, IsWaiting, HasNotEnded};
+ghost use Rattle.conn_state.specs.Phase.{wanted, waiting, ready, ended, left_to_write, cause_of, IsHeld, IsReading, IsReady, IsWaiting, HasNotEnded};
 ghost use Rattle.conn_state.specs.Run.{EachIsByte};
-ghost use Rattle.conn_state.specs.Step.{after_took, after_admission, after_answer, after_wrote, after_end_of_input, IsFromOutside};
+ghost use Rattle.conn_state.specs.Step.{after_took, after_answer, after_wrote, after_end_of_input, IsFromOutside};
 ghost use Rattle.conn_table.specs.Slots.{most_places, slot_in, with_added, without_number, HaveRisingNumbers};
 ghost use Rattle.conn_table.specs.Table.{fresh_slot, slot_of, with_state, with_size, sizes_given, TakesRoom, HasItsSize, Admits};
 

@@ -1,6 +1,6 @@
 //! Scripts of a tiny desk and what their rehearsals come to, each the contract of a function that does nothing.
 
-ghost use Rattle.std.specs.Prelude.{ℕ, Some, List, [], ◌∷◌, ◌++◌};
+ghost use Rattle.std.specs.Prelude.{ℕ, List, [], ◌∷◌};
 ghost use Rattle.outside.specs.declared.marks.Mark.{Mark};
 ghost use Rattle.outside.specs.declared.marks.Mark.TheVariants.{Opened, Read, Ended, Wrote, ReadFailed, WriteFailed, Closed};
 ghost use Rattle.host_model.specs.declared.cause.EndCause.TheVariants.{End, Cut, ReadFault, WriteFault};
