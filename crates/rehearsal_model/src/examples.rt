@@ -7,6 +7,7 @@ ghost use Rattle.host_model.specs.declared.cause.EndCause.TheVariants.{End, Cut,
 ghost use Rattle.host_model.specs.Journal.{JournalEntry};
 ghost use Rattle.host_model.specs.TinyDesk.{tiny_desk, tiny_entry, size_of_one};
 ghost use Rattle.rehearsal_model.specs.ScriptLines.{opening, piece, input_end, input_fault, resting, turn_of_conn, turn_of_worker, turn_of_outcome, takes_most, blocks, fails};
+ghost use Rattle.rehearsal_model.specs.RestLines.{IsOverBudget};
 ghost use Rattle.rehearsal_model.specs.Fed.{IsFedBy};
 ghost use Rattle.rehearsal_model.specs.Rows.{tiny_script, frame_of_one, RehearsesTo};
 
@@ -55,4 +56,9 @@ pub fn runs_that_are_not_fed()
         IsFedBy tiny_desk 2 (tiny_script (opening ∷ opening ∷ piece 0 (255 ∷ 255 ∷ 255 ∷ 255 ∷ []) ∷ piece 1 (frame_of_one 1) ∷ resting ∷ opening ∷ piece 2 (frame_of_one 1)
         ∷ input_end 0 ∷ input_end 1 ∷ input_end 2 ∷ []) [])
         (Opened 0 ∷ Opened 1 ∷ Read 0 (255 ∷ 255 ∷ 255 ∷ 255 ∷ []) ∷ Closed 0 ∷ Opened 2 ∷ back) journal → ⊥ }
+{}
+
+/// Behind the sizes of two frames of one byte, on a budget of one byte, a line of rest asks nothing of what was read.
+pub fn a_front_over_the_budget()
+    ensures { IsOverBudget 1 1 (Opened 0 ∷ Opened 1 ∷ Read 0 size_of_one ∷ Read 1 size_of_one ∷ []) }
 {}
