@@ -7,7 +7,7 @@ use thiserror::Error;
 /// Why a constant value can't be evaluated.
 #[derive(Clone, Copy, Debug, PartialEq, Eq, Error)]
 pub enum ConstFault {
-    /// The form doesn't fit the type, or a union has another number of fields than one.
+    /// The form doesn't fit the type, or a union is given another number of entries than one.
     #[error("the value doesn't fit its type")]
     WrongKind,
     /// A number that the type doesn't hold.
@@ -31,7 +31,7 @@ pub enum ConstFault {
     /// The value has more than 64 levels or 4,000,000 values.
     #[error("the value is too large")]
     TooLarge,
-    /// There was no room in memory.
+    /// There was no room in memory, or the evaluation passes a bound on its work.
     #[error("out of memory")]
     NoMemory,
 }

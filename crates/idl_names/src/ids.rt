@@ -61,7 +61,7 @@ fn one_more(number: i64) -> Result<i64, AllocError>
     number.checked_add(1).ok_or(AllocError)
 }
 
-/// The numbers of the values of an enum; want of memory where one has more than 64 bits.
+/// The numbers of the values of an enum; want of memory where the number behind one has more than 64 bits.
 #[tactic(auto, unfolding(idl_model::specs::EnumNumbers::enum_numbers))]
 pub fn enum_numbers(alloc: Global, values: &[EnumValue]) -> Result<Vec<i64>, AllocError>
     ensures { IfOk result (λ numbers. numbers.items ≡ enum_numbers (map enum_value_in values.now)) }

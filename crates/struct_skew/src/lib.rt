@@ -5,7 +5,7 @@
 //! let needed = needed_fields(alloc, &schema)?;                    // once a schema
 //! let (raw, behind) = read_struct(alloc, payload, at)?;           // of binary_codec or compact_codec
 //! match project_with(alloc, &schema, &needed, which, &raw) {
-//!     Ok(value) => call(value),                                   // tidy, with the declared fields alone
+//!     Ok(value) => call(value),                                   // the declared fields alone
 //!     Err(SkewFault::Missing(which, id)) => complain(which, id),  // and so on
 //!     Err(_) => give_up(),
 //! }
