@@ -14,6 +14,3 @@ pub mod ReaderCalls
 pub mod Starts
 pub mod Trees
 pub mod Faults
-pub mod Unplaced
-pub mod Printed
-pub mod ReadBack

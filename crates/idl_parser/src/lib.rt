@@ -1,8 +1,6 @@
-//! The parser and the printer of the interface language: the tokens of a text become a document, or the first fault is
-//! found; a document becomes a text.
+//! The parser of the interface language: the tokens of a text become a document, or the first fault is found.
 //!
-//! `parse(alloc, text, tokens.as_slice())` takes what `idl_token::tokens` gave for the text, and `print(alloc, &document)`
-//! gives the text:
+//! `parse(alloc, text, tokens.as_slice())` takes what `idl_token::tokens` gave for the text:
 //!
 //! ```
 //! let tokens = idl_token::tokens(alloc, text)?;
@@ -13,7 +11,6 @@
 //!         ..
 //!     }
 //! }
-//! let text = print(alloc, &document)?;
 //! ```
 //!
 //! The crate knows the grammar alone: whether a name is defined, a constant fits or a field's number is
@@ -35,21 +32,16 @@ use idl_token::{
 use std::alloc::{AllocError, Global};
 use thiserror::Error;
 
-mod definition_printer;
 mod definition_reader;
 mod document_reader;
-mod field_printer;
 mod field_reader;
 mod laws;
 mod leaves;
-mod printer;
 mod reader;
 mod small_reader;
 mod symbol;
 mod tree;
-mod type_printer;
 mod type_reader;
-mod value_printer;
 mod value_reader;
 
 pub use laws::{
@@ -57,15 +49,12 @@ pub use laws::{
     a_reading_finds_the_document_or_the_first_fault, one_more_level_changes_no_document,
     only_what_is_left_out_is_refused, the_document_is_determined, the_first_fault_is_determined,
 };
-pub use printer::{
-    a_printed_document_is_parsed_to_itself, a_printed_document_is_read_back, print,
-    the_print_is_canonical,
-};
 pub use symbol::{Symbol, symbols};
 pub use tree::{
     Base, Const, ConstTree, Definition, Document, Double, Enum, EnumValue, Field, Function,
     Include, Int, Literal, Name, Need, Service, Struct, StructKind, TypeTree, Typedef,
 };
+pub use type_reader::base_terminal;
 
 /// What is wrong with a token.
 #[derive(Clone, Copy, Debug, PartialEq, Eq, Error)]

@@ -10,9 +10,25 @@ ghost use Rattle.idl_parser.specs.ReaderCalls.{Parses, StopsAt, most};
 
 use crate::reader::{Stop, SymbolReader, joined, kept};
 use crate::tree::{Base, TypeTree};
-use crate::type_printer::base_terminal;
 use idl_token::{Place, Terminal};
 use std::alloc::Global;
+
+/// The word of a base type.
+pub fn base_terminal(base: Base) -> Terminal
+    ensures { result ≡ base_word base }
+{
+    match base {
+        Base::Bool => Terminal::Bool,
+        Base::Byte => Terminal::Byte,
+        Base::I8 => Terminal::I8,
+        Base::I16 => Terminal::I16,
+        Base::I32 => Terminal::I32,
+        Base::I64 => Terminal::I64,
+        Base::Double => Terminal::DoubleWord,
+        Base::String => Terminal::StringWord,
+        Base::Binary => Terminal::Binary,
+    }
+}
 
 fn boxed(alloc: Global, tree: TypeTree) -> Result<Box<TypeTree>, Stop>
     ensures { MatchResult result (λ b. b.value ≡ tree) (λ e. e ≡ Stop.NoMemory) }

@@ -1,7 +1,8 @@
 //! Texts as they are printed.
 ghost use Rattle.std.specs.Prelude.{◌≤◌, length};
 
-use idl_parser::{parse, print};
+use idl_parser::parse;
+use idl_printer::print;
 use idl_token::{MAX_TEXT, tokens};
 use std::alloc::Global;
 

@@ -1,5 +1,0 @@
-use Rattle.idl_parser.proofs.Canonical.{one_text}
-use Rattle.idl_parser.proofs.printer.the_print_is_canonical.Goals as goal
-
-pub returns : goal.returns
-returns c = one_text

@@ -1,0 +1,15 @@
+pub mod Marks
+pub mod PrintedPhrases
+pub mod PrintedWords
+pub mod PrintedNumbers
+pub mod PrintedLiterals
+pub mod PrintedLeaves
+pub mod Appends
+pub mod TypeTexts
+pub mod ValueTexts
+pub mod PrintedTypes
+pub mod PrintedValues
+pub mod PrintedFields
+pub mod PrintedDefinitions
+pub mod PrintedDocuments
+pub mod Canonical

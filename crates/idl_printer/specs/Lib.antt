@@ -1,0 +1,3 @@
+pub mod Unplaced
+pub mod Printed
+pub mod ReadBack
