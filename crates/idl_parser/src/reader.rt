@@ -32,7 +32,7 @@ pub(crate) fn deepest() -> usize
 }
 
 /// Why a reading ended.
-#[derive(Clone, Copy, Debug, PartialEq, Eq)]
+#[derive(Clone, Copy)]
 pub(crate) enum Stop {
     /// There was no room in memory.
     NoMemory,

@@ -253,3 +253,8 @@ pub struct Document {
     /// Its definitions in order.
     pub definitions: Vec<Definition>,
 }
+
+impl Document {
+    /// Lets the document go. Who calls this needn't prove again how each of its parts goes.
+    pub fn release(self) {}
+}

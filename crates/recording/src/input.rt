@@ -9,19 +9,16 @@ ghost use Rattle.recording.specs.declared.input.InputError.TheVariants.{Failed a
 use crate::script::LONGEST_SCRIPT;
 use outside::{Failed, Source};
 use std::alloc::{AllocError, Global};
-use thiserror::Error;
 
 /// The most bytes that one read asks for.
 const READ_SIZE: usize = 65_536;
 
 /// Why an input couldn't be read.
-#[derive(Clone, Copy, Debug, PartialEq, Eq, Error)]
+#[derive(Clone, Copy)]
 pub(crate) enum InputError {
     /// A read failed.
-    #[error("a read failed")]
     Failed,
     /// The bytes found no room in memory.
-    #[error("out of memory")]
     NoMemory,
 }
 

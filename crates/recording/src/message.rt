@@ -6,7 +6,7 @@ ghost use Rattle.recording.specs.Message.{add_of, behind_any, behind_text, call_
 use wire_num::i32_at;
 
 /// A call of the tutorial's calculator.
-#[derive(Clone, Copy, Debug, PartialEq, Eq)]
+#[derive(Clone, Copy)]
 pub(crate) enum TutorialCall {
     /// Does nothing.
     Ping,
@@ -15,7 +15,7 @@ pub(crate) enum TutorialCall {
 }
 
 /// What a call answers.
-#[derive(Clone, Copy, Debug, PartialEq, Eq)]
+#[derive(Clone, Copy)]
 pub(crate) enum TutorialAnswer {
     /// It is done, and has no result.
     Empty,
@@ -24,7 +24,7 @@ pub(crate) enum TutorialAnswer {
 }
 
 /// A message that the host knows: a call, and the sequence id that its reply carries.
-#[derive(Clone, Copy, Debug, PartialEq, Eq)]
+#[derive(Clone, Copy)]
 pub(crate) struct Message {
     pub(crate) id: i32,
     pub(crate) call: TutorialCall,

@@ -19,7 +19,6 @@ use host_model::EndCause;
 use outside::{Failed, Mark, Sink, write_all};
 use std::alloc::{AllocError, AllocFailed, Global};
 use text_out::hex;
-use thiserror::Error;
 
 /// How many bytes are pending at most before they are handed to the sink, a line aside.
 const PIECE: usize = 65_536;
@@ -28,13 +27,11 @@ const PIECE: usize = 65_536;
 const CHUNK: usize = 32_768;
 
 /// Why a report wasn't written whole.
-#[derive(Clone, Copy, Debug, PartialEq, Eq, Error)]
+#[derive(Clone, Copy)]
 pub(crate) enum ReportError {
     /// The sink failed.
-    #[error("the sink failed")]
     Failed,
     /// The lines that were pending found no room in memory.
-    #[error("out of memory")]
     NoMemory,
 }
 

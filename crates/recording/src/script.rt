@@ -8,13 +8,12 @@ ghost use Rattle.recording.specs.Steps.{AreEnds, IsScript, written};
 ghost use Rattle.recording.specs.declared.script.ScriptError.TheVariants.{Refused, NoMemory};
 
 use std::alloc::{AllocError, AllocFailed, Global};
-use thiserror::Error;
 
 /// The longest script, in bytes.
 pub(crate) const LONGEST_SCRIPT: usize = 67_108_864;
 
 /// A script: the bytes that arrive on its one connection, cut into pieces.
-#[derive(Debug, Drop)]
+#[derive(Drop)]
 pub(crate) struct Script {
     /// The bytes of all pieces, one behind the other.
     pub bytes: Vec<u8>,
@@ -23,13 +22,11 @@ pub(crate) struct Script {
 }
 
 /// Why a text couldn't be read as a script.
-#[derive(Clone, Copy, Debug, PartialEq, Eq, Error)]
+#[derive(Clone, Copy)]
 pub(crate) enum ScriptError {
     /// The text is no script.
-    #[error("no script")]
     Refused,
     /// The script found no room in memory.
-    #[error("out of memory")]
     NoMemory,
 }
 

@@ -16,7 +16,7 @@ use outside::{FileFail, Files};
 use std::alloc::Global;
 
 /// What becomes of an IDL.
-#[derive(Clone, Copy, Debug, PartialEq, Eq)]
+#[derive(Clone, Copy)]
 pub(crate) enum Checked {
     /// Its text is a document that includes no other file.
     Accepted,
@@ -86,7 +86,11 @@ fn judge_tokens(alloc: Global, text: &[u8], tokens: &[Token]) -> Checked
     ensures no_file { result ≢ Checked.FileFault }
 {
     match parse(alloc, text, tokens) {
-        Ok(document) => judge_document(&document),
+        Ok(document) => {
+            let judged = judge_document(&document);
+            document.release();
+            judged
+        }
         Err(fault) => parse_refusal(fault),
     }
 }

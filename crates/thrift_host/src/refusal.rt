@@ -8,7 +8,7 @@ use std::alloc::AllocError;
 use text_out::decimal;
 
 /// What is wrong with an IDL.
-#[derive(Clone, Copy, Debug, PartialEq, Eq)]
+#[derive(Clone, Copy)]
 pub(crate) enum IdlKind {
     /// No file has the name.
     Absent,
@@ -33,7 +33,7 @@ pub(crate) enum IdlKind {
 }
 
 /// Why an IDL is refused.
-#[derive(Clone, Copy, Debug, PartialEq, Eq)]
+#[derive(Clone, Copy)]
 pub(crate) struct Refusal {
     /// The place at fault, or 0:0 where the file as a whole is refused.
     pub(crate) at: Place,

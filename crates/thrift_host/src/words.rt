@@ -6,7 +6,7 @@ ghost use Rattle.thrift_host.specs.Words.{checks, command_of, is_check, is_file_
 ghost use Rattle.thrift_host.specs.Steps.{command_asked};
 
 /// What the words ask for.
-#[derive(Clone, Copy, Debug, PartialEq, Eq)]
+#[derive(Clone, Copy)]
 pub(crate) enum Asked<'a> {
     /// The IDL of this name is checked.
     Check(&'a str),
