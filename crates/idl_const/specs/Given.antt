@@ -1,22 +1,14 @@
--- What stands for given values and their names in memory.
+-- What stands for given values in memory.
 use Rattle.std.specs.Prelude.{ℕ, Option}
 use Rattle.std.specs.Option.{option_map}
 use Rattle.std.specs.List.{slice_get}
 use Rattle.std.specs.Borrow.{Bor}
 use Rattle.idl_parser.specs.declared.tree.ConstTree.{ConstTree}
 use Rattle.idl_model.specs.ConstExpr.{ConstExpr}
-use Rattle.idl_model.specs.ConstNames.{ConstMeaning, enum_value, given_value}
 use Rattle.idl_model.specs.DeclaredIn.{value_in}
 use Rattle.idl_model.specs.Numbering.{Filed}
 use Rattle.idl_model.specs.Program.{Program}
 use Rattle.idl_model.specs.Spots.{GivenValue, values_of}
-use Rattle.idl_const.specs.declared.ground.ConstName.{ConstName}
-use Rattle.idl_const.specs.declared.ground.ConstName.TheVariants as name
-
--- what a name stands for
-abbrev pub const_meant : ConstName → ConstMeaning
-const_meant (name.Number which n) = enum_value which n
-const_meant (name.Value which) = given_value which
 
 -- a tree that stands in a file
 abbrev pub FiledTree : Type 0

@@ -8,9 +8,10 @@ ghost use Rattle.idl_const.specs.Chains.{IsStepFrom, IsStep, IsFollowed};
 ghost use Rattle.idl_const.specs.Marks.{left_again, worth_where};
 
 use crate::faults::ConstFault;
-use crate::ground::{ConstName, Ground};
+use crate::ground::Ground;
 use crate::marks::enter;
 use crate::progress::Progress;
+use idl_names::ConstName;
 use idl_parser::ConstTree;
 use std::collections::VecDeque;
 

@@ -10,22 +10,15 @@ ghost use Rattle.schema.specs.PlainSchema.{PlainField};
 ghost use Rattle.schema.specs.SchemaOf.{plain_field};
 ghost use Rattle.check_model.specs.Evaluation.{struct_numbered, default_of, fields_worth};
 ghost use Rattle.idl_const.specs.FieldEntries.{entry_in, given_in_memory, entries_worth, AreGivenFor};
-ghost use Rattle.idl_const.specs.Given.{const_meant, tree_filed, tree_numbered};
+ghost use Rattle.idl_const.specs.Given.{tree_filed, tree_numbered};
+ghost use Rattle.idl_names.specs.Meanings.{const_meant};
 
+use idl_names::ConstName;
 use idl_parser::ConstTree;
 use schema::{FieldDesc, StructKind};
 use std::alloc::{AllocError, Global};
 use std::collections::VecDeque;
 use thrift_value::Value;
-
-/// What a name in a constant value stands for.
-#[derive(Clone, Copy, Debug, PartialEq, Eq)]
-pub enum ConstName {
-    /// The number of a value of the enum of some number.
-    Number(u32, i64),
-    /// The given value of some number.
-    Value(u32),
-}
 
 /// A field that a literal of a struct is made of.
 #[derive(Drop)]

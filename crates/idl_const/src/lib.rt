@@ -32,4 +32,4 @@ mod walk;
 
 pub use evaluation::evaluate_in;
 pub use faults::ConstFault;
-pub use ground::{ConstName, FieldEntry, Ground};
+pub use ground::{FieldEntry, Ground};

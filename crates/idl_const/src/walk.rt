@@ -17,13 +17,14 @@ ghost use Rattle.idl_const.specs.Marks.{worth_where};
 use crate::chains::{Meant, follow};
 use crate::containers::{element_kind, map_value, row_value, takes_braces, takes_brackets};
 use crate::faults::{ConstFault, ConstStop};
-use crate::ground::{ConstName, FieldEntry, Ground};
+use crate::ground::{FieldEntry, Ground};
 use crate::keeping::{
     entry_id, field_of_key, keep, keep_beside, keep_field, missing, some, union_fields,
 };
 use crate::marks::leave;
 use crate::progress::{Progress, opened, put_at, single, unfit};
 use crate::scalars::{double_value, enum_value, int_value, literal_value};
+use idl_names::ConstName;
 use idl_parser::{ConstTree, Name};
 use idl_token::Place;
 use schema::{StructKind, TypeDesc};

@@ -41,5 +41,5 @@ pub use filed::{InFile, Named};
 pub use ids::{enum_numbers, field_ids};
 pub use spot::{EnumValueSpot, FieldSpot, FunctionSpot, GivenName, GivenTree, ShownIn, SpotIn};
 pub use spots::program_spots;
-pub use tables::{NameTables, TypeName, name_tables};
+pub use tables::{ConstName, NameTables, TypeName, name_tables};
 pub use values::values_at;

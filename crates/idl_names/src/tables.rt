@@ -59,6 +59,15 @@ pub enum TypeName {
     Struct(u32),
 }
 
+/// What a name in a constant value stands for, by number.
+#[derive(Clone, Copy, Debug, PartialEq, Eq)]
+pub enum ConstName {
+    /// The number of a value of the enum of some number.
+    Number(u32, i64),
+    /// The given value of some number.
+    Value(u32),
+}
+
 /// The tables of files.
 pub fn name_tables<'a>(
     alloc: Global,
