@@ -11,7 +11,7 @@ pub fn is_dotted(name: &[u8]) -> bool
 }
 
 /// What stands before the last `.` of a name, and what stands behind it; all of it behind where there is none.
-pub(crate) fn split_last_dot(name: &[u8]) -> (&[u8], &[u8])
+pub fn split_last_dot(name: &[u8]) -> (&[u8], &[u8])
     ensures before { result.0.now ≡ qualifier name.now }
     ensures behind { result.1.now ≡ bare_name name.now }
 {

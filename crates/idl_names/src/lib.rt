@@ -13,6 +13,8 @@
 //! before it in its list (whether its name or its id is there, its id, whether its number fits), so that a pass over
 //! spots needs no list of its own. Want of memory is the one answer that the contracts leave free.
 //!
+//! Files that were loaded are as the tables want them ([`laws`]).
+//!
 //! Not here: names in constant values, and types with typedefs resolved.
 #![tactic(auto)]
 
@@ -26,6 +28,7 @@ mod fields;
 mod filed;
 mod functions;
 mod ids;
+pub mod laws;
 mod marks;
 mod name_maps;
 mod spot;
@@ -36,9 +39,11 @@ mod values;
 
 pub use before::GivenBefore;
 pub use definitions::{Definitions, all_definitions};
-pub use dots::is_dotted;
+pub use dots::{is_dotted, split_last_dot};
 pub use filed::{InFile, Named};
 pub use ids::{enum_numbers, field_ids};
+pub use marks::{NameSet, was_seen};
+pub use name_maps::{NameMap, note, number_of_name};
 pub use spot::{EnumValueSpot, FieldSpot, FunctionSpot, GivenName, GivenTree, ShownIn, SpotIn};
 pub use spots::program_spots;
 pub use tables::{ConstName, NameTables, TypeName, name_tables};

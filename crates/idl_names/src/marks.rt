@@ -10,13 +10,13 @@ use indexmap::IndexSet;
 use std::alloc::{AllocError, Global};
 
 /// Names, borrowed from where they stand.
-pub(crate) type NameSet<'a> = IndexSet<&'a [u8]>;
+pub type NameSet<'a> = IndexSet<&'a [u8]>;
 
 /// Ids.
 pub(crate) type IdSet = IndexSet<i64>;
 
 /// One name more. Whether it was there before.
-fn was_seen<'a>(seen: &mut NameSet<'a>, name: &'a [u8]) -> Result<bool, AllocError>
+pub fn was_seen<'a>(seen: &mut NameSet<'a>, name: &'a [u8]) -> Result<bool, AllocError>
     ensures before { IfOk result (λ was. was ≡ has_name seen.old name.now) }
     ensures after { OnOk result (HasNameToo name.now seen.old seen.new) }
 {

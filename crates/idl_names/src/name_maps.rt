@@ -10,10 +10,10 @@ use indexmap::IndexMap;
 use std::alloc::{AllocError, Global};
 
 /// Names of a file with their numbers.
-pub(crate) type NameMap<'a> = IndexMap<&'a [u8], u32>;
+pub type NameMap<'a> = IndexMap<&'a [u8], u32>;
 
 /// The number of a name.
-fn number_of_name(map: &NameMap<'_>, name: &[u8]) -> Option<u32>
+pub fn number_of_name(map: &NameMap<'_>, name: &[u8]) -> Option<u32>
     ensures { result ≡ number_of_name map.now name.now }
 {
     map.get(name).copied()
@@ -30,7 +30,7 @@ pub(crate) fn number_in_file(maps: &[NameMap<'_>], file: u32, name: &[u8]) -> Op
 }
 
 /// One name more, unless it is there.
-pub(crate) fn note<'a>(map: &mut NameMap<'a>, name: &'a [u8], number: u32) -> Result<(), AllocError>
+pub fn note<'a>(map: &mut NameMap<'a>, name: &'a [u8], number: u32) -> Result<(), AllocError>
     ensures { OnOk result (HasOneMore name.now number map.old map.new) }
 {
     if map.contains_key(name) {

@@ -2,7 +2,9 @@
 
 ghost use Rattle.std.specs.Prelude.{◌≡◌, IfOk, All};
 ghost use Rattle.std.specs.Option.{option_map, option_or};
+ghost use Rattle.idl_model.specs.Declarations.{ConstDecl, EnumDecl};
 ghost use Rattle.idl_model.specs.Names.{an_alias, an_enum, a_struct, sought, type_defined, type_named, service_for_name};
+ghost use Rattle.idl_model.specs.Numbering.{number_named, constants_of, enums_of};
 ghost use Rattle.idl_include.specs.SourcesOf.{program_in};
 ghost use Rattle.idl_names.specs.Bases.{HasOwnBase};
 ghost use Rattle.idl_names.specs.Listing.{listing_in, listing_of};
@@ -24,6 +26,7 @@ pub struct NameTables<'a> {
     // The included files of each by base name.
     bases: Vec<NameMap<'a>>,
     // The numbers of definitions of each kind, by file and name.
+    constants: Vec<NameMap<'a>>,
     typedefs: Vec<NameMap<'a>>,
     enums: Vec<NameMap<'a>>,
     structs: Vec<NameMap<'a>>,
@@ -45,7 +48,7 @@ impl<'a> Model for NameTables<'a> {
 
     ghost view = { λ n. n.files.now };
 
-    ghost invariant = { λ n. AreTables (program_in n.files.now) n.bases.items n.typedefs.items n.enums.items n.structs.items n.services.items };
+    ghost invariant = { λ n. AreTables (program_in n.files.now) n.bases.items n.constants.items n.typedefs.items n.enums.items n.structs.items n.services.items };
 }
 
 /// What a type's name stands for, by number.
@@ -79,6 +82,7 @@ pub fn name_tables<'a>(
     ensures { IfOk result (λ names. names ≡ files.now) }
 {
     let bases = base_maps(alloc, files)?;
+    let constants = name_maps(alloc, definitions.constants.as_slice())?;
     let typedefs = name_maps(alloc, definitions.typedefs.as_slice())?;
     let enums = name_maps(alloc, definitions.enums.as_slice())?;
     let structs = name_maps(alloc, definitions.structs.as_slice())?;
@@ -86,6 +90,7 @@ pub fn name_tables<'a>(
     Ok(NameTables {
         files,
         bases,
+        constants,
         typedefs,
         enums,
         structs,
@@ -94,9 +99,9 @@ pub fn name_tables<'a>(
 }
 
 impl<'a> NameTables<'a> {
-    #[tactic(auto, unfolding(idl_model::specs::Names::sought))]
     /// The file and the bare name that a name in a file stands for, if it is that of an included file or has no dot.
-    fn sought<'n>(&self, file: u32, name: &'n [u8]) -> Option<(u32, &'n [u8])>
+    #[tactic(auto, unfolding(idl_model::specs::Names::sought))]
+    pub fn sought<'n>(&self, file: u32, name: &'n [u8]) -> Option<(u32, &'n [u8])>
         ensures { sought_meant result ≡ sought (program_in self.now) file name.now }
     {
         if !is_dotted(name) {
@@ -128,6 +133,20 @@ impl<'a> NameTables<'a> {
         let number = number_in_file(self.enums.as_slice(), file, name);
         let structure = number_in_file(self.structs.as_slice(), file, name);
         first_type(alias, number, structure)
+    }
+
+    /// The constant of a name that is defined in a file.
+    pub fn constant_defined(&self, file: u32, name: &[u8]) -> Option<u32>
+        ensures { result ≡ number_named (λ (c : ConstDecl). c.name) (constants_of (program_in self.now)) file name.now }
+    {
+        number_in_file(self.constants.as_slice(), file, name)
+    }
+
+    /// The enum of a name that is defined in a file.
+    pub fn enum_defined(&self, file: u32, name: &[u8]) -> Option<u32>
+        ensures { result ≡ number_named (λ (e : EnumDecl). e.name) (enums_of (program_in self.now)) file name.now }
+    {
+        number_in_file(self.enums.as_slice(), file, name)
     }
 
     /// The service that a name in a file stands for.
