@@ -22,7 +22,7 @@ included_next program includes i old new l more so_far base =
     ∙ sym (find-append (has_base program base) (take i includes) (number ∷ []))
     ∙ ap (find (has_base program base)) (sym (ap (λ k. take k includes) (add-one i) ∙ take-suc includes i 0 l))
 
-zip_push : {A B : Type 0} (R : A → B → Type 0) (xs : List A) (ys : List B) (x : A) (y : B) → AllZip R xs ys → R x y → AllZip R (xs ++ x ∷ []) (ys ++ y ∷ [])
+pub zip_push : {A B : Type 0} (R : A → B → Type 0) (xs : List A) (ys : List B) (x : A) (y : B) → AllZip R xs ys → R x y → AllZip R (xs ++ x ∷ []) (ys ++ y ∷ [])
 zip_push R [] [] x y h r = (r, tt)
 zip_push R [] (b ∷ ys) x y h r = absurd h
 zip_push R (a ∷ xs) [] x y h r = absurd h
@@ -43,7 +43,7 @@ found_in program (m ∷ maps) [] h file base = absurd h
 found_in program (m ∷ maps) (f ∷ files) h zero base = h.0 base
 found_in program (m ∷ maps) (f ∷ files) h (suc file) base = found_in program maps files h.1 file base
 
-take_past : {A : Type 0} (xs : List A) (n : ℕ) → length xs ≤ n → take n xs ≡ xs
+pub take_past : {A : Type 0} (xs : List A) (n : ℕ) → length xs ≤ n → take n xs ≡ xs
 take_past [] zero l = refl
 take_past [] (suc n) l = refl
 take_past (x ∷ xs) zero l = absurd (omega arith)

@@ -14,7 +14,7 @@ use Rattle.idl_names.specs.FiledIn.{filed_by}
 use Rattle.idl_names.specs.NameMaps.{NameMap, number_in_file}
 use Rattle.idl_names.specs.Tables.{GiveNumbers}
 
-position_map : {A B : Type 0} (f : A → B) (p : B → Bool) (i : ℕ) (xs : List A) → position_from p i (map f xs) ≡ position_from (λ x. p (f x)) i xs
+pub position_map : {A B : Type 0} (f : A → B) (p : B → Bool) (i : ℕ) (xs : List A) → position_from p i (map f xs) ≡ position_from (λ x. p (f x)) i xs
 position_map f p i [] = refl
 position_map f p i (x ∷ xs) = ap (λ r. cond (p (f x)) (Some i) r) (position_map f p (i + 1) xs)
 
