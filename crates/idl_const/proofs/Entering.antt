@@ -53,7 +53,7 @@ worth_entered s free which t kind levels count is e =
     ∙ (λ i. on_entering s (named_worth s (free_count after) after) (is i) (slice_get (values_of s.program) which) kind levels count)
     ∙ on_some s (named_worth s (free_count after) after) (slice_get (values_of s.program) which) t kind levels count e
 
-cycle_by : (s : Setting) (left : ℕ) (free : List Bool) (which : ℕ) (kind : PlainKind) (levels count : ℕ) → is_free free which ≡ false
+pub cycle_by : (s : Setting) (left : ℕ) (free : List Bool) (which : ℕ) (kind : PlainKind) (levels count : ℕ) → is_free free which ≡ false
     → named_worth s left free which kind levels count ≡ flawed (record { line = 0; column = 0 }) const_cycle
 unfolding named_worth
 cycle_by s zero free which kind levels count is = refl
@@ -103,7 +103,7 @@ pub step_refused : (s : Setting) (free after : List Bool) (which : ℕ) (fault :
     → MatchOption (flaw_of fault) ⊤ (λ flaw. (flaw ≡ const_cycle) × (is_free free which ≡ false)) → IsStep s free after which (Err fault)
 step_refused s free after which fault h = not_free_told s free which (flaw_of fault) h
 
-set_back : (free : List Bool) (which : ℕ) → is_free free which ≡ true → slice_set (slice_set free which false) which true ≡ free
+pub set_back : (free : List Bool) (which : ℕ) → is_free free which ≡ true → slice_set (slice_set free which false) which true ≡ free
 set_back [] which is = refl
 set_back (true ∷ more) zero is = refl
 set_back (false ∷ more) zero is = absurd (false≢true is)

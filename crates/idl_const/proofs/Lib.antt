@@ -10,3 +10,4 @@ pub mod InFront
 pub mod Braces
 pub mod Written
 pub mod AllFree
+pub mod Fuel

@@ -2,5 +2,6 @@ pub mod Chains
 pub mod FieldEntries
 pub mod Flaws
 pub mod Given
+pub mod Idle
 pub mod Marks
 pub mod Rows

@@ -39,6 +39,7 @@ fn link_of<'a, G: Ground>(
     file: u32,
     tree: &'a ConstTree,
 ) -> Result<Link<'a>, ConstFault>
+    requires { G.right ground.now }
     ensures { (named : NamedWorth) → IsStepFrom named (λ kind levels count. worth_by (G.setting ground.now) named file kind levels count (value_in tree.now)) (G.setting ground.now) result }
 {
     let ConstTree::Name(name) = tree else {
@@ -58,6 +59,7 @@ fn follow_link<'a, G: Ground>(
     entered: &mut VecDeque<u32>,
     which: u32,
 ) -> Result<Link<'a>, ConstFault>
+    requires { G.right ground.now }
     ensures values { work.new.values ≡ work.old.values }
     ensures step { IsStep (G.setting ground.now) work.old.free.items work.new.free.items which result }
     ensures left { OnOk result (left_again work.new.free.items entered.new.items ≡ left_again work.old.free.items entered.old.items) }
@@ -76,6 +78,7 @@ pub(crate) fn follow<'a, G: Ground>(
     entered: &mut VecDeque<u32>,
     which: u32,
 ) -> Result<Meant<'a>, ConstFault>
+    requires { G.right ground.now }
     ensures values { work.new.values ≡ work.old.values }
     ensures chain { IsFollowed (G.setting ground.now) work.old.free.items work.new.free.items which result }
     ensures left { OnOk result (left_again work.new.free.items entered.new.items ≡ left_again work.old.free.items entered.old.items) }

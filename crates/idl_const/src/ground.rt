@@ -35,24 +35,32 @@ pub trait Ground {
 
     ghost setting: { Self → Setting };
 
+    /// What holds of it besides, so that its answers are right; tables may be right about some trees alone.
+    ghost right: { Self → Type 0 };
+
     /// What a name that stands in a file stands for.
     fn meaning(&self, file: u32, name: &[u8]) -> Option<ConstName>
+        requires { right self.now }
         ensures { option_map const_meant result ≡ const_meaning (setting self.now).program file name.now };
 
     /// How many values are given.
     fn given_count(&self) -> usize
+        requires { right self.now }
         ensures { result ≡ length (values_of (setting self.now).program) };
 
     /// The file and the tree of the given value of some number.
     fn given(&self, which: u32) -> Option<(u32, &ConstTree)>
+        requires { right self.now }
         ensures { option_map tree_filed result ≡ tree_numbered (setting self.now).program which };
 
     /// Which kind of fields the struct of some number has.
     fn fields_kind(&self, which: u32) -> StructKind
+        requires { right self.now }
         ensures { result ≡ (struct_numbered (setting self.now).schema which).kind };
 
     /// The field of a name of the struct of some number.
     fn field_named(&self, which: u32, name: &[u8]) -> Option<&FieldDesc>
+        requires { right self.now }
         ensures { option_map plain_field (option_copied result) ≡ find (λ (f : PlainField). bytes_eq f.name name.now) (struct_numbered (setting self.now).schema which).fields };
 
     /// What the struct of some number is made of, by rising id, where these values are given.
@@ -62,7 +70,8 @@ pub trait Ground {
         which: u32,
         given: Vec<(i16, Value)>,
     ) -> Result<VecDeque<FieldEntry<'_>>, AllocError>
-        requires { AreGivenFor (struct_numbered (setting self.now).schema which).fields (map given_in_memory given.items) }
+        requires right { right self.now }
+        requires given { AreGivenFor (struct_numbered (setting self.now).schema which).fields (map given_in_memory given.items) }
         ensures { IfOk result (λ row. (named : _) (at : _) (levels count : _)
             → fields_worth named (default_of (setting self.now).program which) (map given_in_memory given.items) at levels count (struct_numbered (setting self.now).schema which).fields
             ≡ entries_worth named at levels count (map entry_in row.items)) };

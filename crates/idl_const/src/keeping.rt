@@ -128,6 +128,7 @@ pub(crate) fn field_of_key<'a, G: Ground>(
     which: u32,
     key: &ConstTree,
 ) -> Result<&'a FieldDesc, ConstStop>
+    requires { G.right ground.now }
     ensures worth { (count : ℕ) → AnswersWorth (λ f. plain_field f.now) result count
         (field_of_key (struct_numbered (G.setting ground.now).schema which).fields count (value_in key.now)) }
     ensures known { IfOk result (λ f. HasFieldId (struct_numbered (G.setting ground.now).schema which).fields f.now.id) }

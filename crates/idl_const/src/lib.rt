@@ -2,15 +2,17 @@
 //!
 //! ```
 //! let value = evaluate_in(&ground, alloc, file, &kind, &tree)?;      // [1, OTHER] against list<i8>: list<i8>[1b,2b]
+//! let mut work = no_progress(&ground, alloc)?;
+//! let first = evaluate_given(&ground, alloc, &mut work, 0, &kind)?;  // the first value of the program, under evaluation itself
 //! ```
 //!
 //! What is asked of a program stands in one trait, [`Ground`]: what a name stands for, which trees are given by number, and what a
 //! literal of a struct is made of. Who keeps tables of a program implements it; the clauses speak of the definitions alone.
 //!
-//! The modules, bottom up: integers, literals and enums against a type (`scalars`), doubles (`decimals`, `doubles`), members and pairs
+//! The modules, bottom up: integers, literals and enums against a type (`scalars`), doubles, decided on their digits (`decimals`, `doubles`), members and pairs
 //! in order (`rows`, `tidy`), containers by their types (`containers`), marks of what is under evaluation and chains of names
-//! (`marks`, `chains`), and the walk (`walk`), which recurses once a level, at most 64 levels deep. 16,000,000 values and names in one
-//! evaluation are answered as want of memory, as is a double whose digits or powers of ten don't have 128 bits.
+//! (`marks`, `chains`), and the walk (`walk`), which recurses once a level, at most 64 levels deep. More than 16,000,000 values and
+//! names, in one evaluation alone or in those of a program's values together, are answered as want of memory.
 //!
 //! Not here: tables of names, and the checker, which evaluates all constants and defaults of a program.
 #![tactic(auto)]
@@ -30,6 +32,7 @@ mod scalars;
 mod tidy;
 mod walk;
 
-pub use evaluation::evaluate_in;
+pub use evaluation::{evaluate_given, evaluate_in, no_progress};
 pub use faults::ConstFault;
 pub use ground::{FieldEntry, Ground};
+pub use progress::Progress;

@@ -40,7 +40,7 @@ fn is_free(free: &Vec<bool>, which: u32) -> bool
 }
 
 /// Marks the given value of some number.
-fn mark(free: &mut Vec<bool>, which: u32, is: bool)
+pub(crate) fn mark(free: &mut Vec<bool>, which: u32, is: bool)
     ensures { free.new.items ≡ slice_set free.old.items which is }
 {
     let which = which as usize;

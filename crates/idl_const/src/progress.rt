@@ -15,9 +15,9 @@ use thrift_value::Value;
 /// How many values a constant has at most, itself included.
 const MOST_VALUES: u32 = 4_000_000;
 
-/// How far an evaluation has come.
+/// How far evaluating has come. It is kept from one given value of a program to the next, so that its bound is one of them all.
 #[derive(Drop)]
-pub(crate) struct Progress {
+pub struct Progress {
     // Of each given value, whether it isn't under evaluation.
     pub(crate) free: Vec<bool>,
     // How many values were evaluated.

@@ -43,6 +43,7 @@ pub(crate) fn value<G: Ground>(
     levels: u32,
     tree: &ConstTree,
 ) -> Result<Value, ConstStop>
+    requires { G.right ground.now }
     ensures worth { AnswersWorth tree_of result work.new.values
         (worth_by (G.setting ground.now) (worth_where (G.setting ground.now) work.old.free.items) file (kind_of kind.now) levels work.old.values (value_in tree.now)) }
     ensures free { OnOk result (work.new.free.items ≡ work.old.free.items) }
@@ -64,6 +65,7 @@ fn unnamed<G: Ground>(
     levels: u32,
     tree: &ConstTree,
 ) -> Result<Value, ConstStop>
+    requires { G.right ground.now }
     ensures worth { AnswersWorth tree_of result work.new.values
         (worth_by (G.setting ground.now) (worth_where (G.setting ground.now) work.old.free.items) file (kind_of kind.now) levels work.old.values (value_in tree.now)) }
     ensures free { OnOk result (work.new.free.items ≡ work.old.free.items) }
@@ -116,6 +118,7 @@ fn named<G: Ground>(
     levels: u32,
     name: &Name,
 ) -> Result<Value, ConstStop>
+    requires { G.right ground.now }
     ensures worth { AnswersWorth tree_of result work.new.values
         (worth_by (G.setting ground.now) (worth_where (G.setting ground.now) work.old.free.items) file (kind_of kind.now) levels work.old.values (name_const (name_in name.now))) }
     ensures free { OnOk result (work.new.free.items ≡ work.old.free.items) }
@@ -145,6 +148,7 @@ fn given<G: Ground>(
     kind: &TypeDesc,
     levels: u32,
 ) -> Result<Value, ConstStop>
+    requires { G.right ground.now }
     ensures worth { AnswersWorth tree_of result work.new.values
         (seen_at at (worth_where (G.setting ground.now) work.old.free.items which (kind_of kind.now) levels work.old.values)) }
     ensures free { OnOk result (work.new.free.items ≡ work.old.free.items) }
@@ -171,6 +175,7 @@ fn meant_value<G: Ground>(
     kind: &TypeDesc,
     levels: u32,
 ) -> Result<Value, ConstStop>
+    requires { G.right ground.now }
     ensures worth { AnswersWorth tree_of result work.new.values
         (meant_worth (G.setting ground.now) (worth_where (G.setting ground.now) work.old.free.items) (kind_of kind.now) levels work.old.values at meant.now) }
     ensures free { OnOk result (work.new.free.items ≡ work.old.free.items) }
@@ -196,6 +201,7 @@ fn bracketed<G: Ground>(
     at: Place,
     trees: &[ConstTree],
 ) -> Result<Value, ConstStop>
+    requires { G.right ground.now }
     ensures worth { AnswersWorth tree_of result work.new.values
         (worth_by (G.setting ground.now) (worth_where (G.setting ground.now) work.old.free.items) file (kind_of kind.now) levels work.old.values
         (list_const at (items_in (map value_in trees.now)))) }
@@ -217,6 +223,7 @@ fn items<G: Ground>(
     levels: u32,
     trees: &[ConstTree],
 ) -> Result<Vec<Value>, ConstStop>
+    requires { G.right ground.now }
     ensures worth { AnswersWorth (λ made. item_trees (map tree_of made.items)) result work.new.values
         (items_by (G.setting ground.now) (worth_where (G.setting ground.now) work.old.free.items) file (kind_of kind.now) levels work.old.values
         (items_in (map value_in trees.now))) }
@@ -242,6 +249,7 @@ fn braced<G: Ground>(
     at: Place,
     entries: &[(ConstTree, ConstTree)],
 ) -> Result<Value, ConstStop>
+    requires { G.right ground.now }
     ensures worth { AnswersWorth tree_of result work.new.values
         (worth_by (G.setting ground.now) (worth_where (G.setting ground.now) work.old.free.items) file (kind_of kind.now) levels work.old.values
         (map_const at (entries_in (map both_in entries.now)))) }
@@ -277,6 +285,7 @@ fn mapped<G: Ground>(
     at: Place,
     entries: &[(ConstTree, ConstTree)],
 ) -> Result<Value, ConstStop>
+    requires { G.right ground.now }
     ensures worth { AnswersWorth tree_of result work.new.values
         (worth_by (G.setting ground.now) (worth_where (G.setting ground.now) work.old.free.items) file (kind_map (kind_of key.now) (kind_of value.now)) levels work.old.values
         (map_const at (entries_in (map both_in entries.now)))) }
@@ -299,6 +308,7 @@ fn pairs<G: Ground>(
     levels: u32,
     entries: &[(ConstTree, ConstTree)],
 ) -> Result<Vec<(Value, Value)>, ConstStop>
+    requires { G.right ground.now }
     ensures worth { AnswersWorth (λ made. pair_trees (map pair_tree made.items)) result work.new.values
         (pairs_by (G.setting ground.now) (worth_where (G.setting ground.now) work.old.free.items) file (kind_of key.now) (kind_of held.now) levels work.old.values
         (entries_in (map both_in entries.now))) }
@@ -325,6 +335,7 @@ fn structured<G: Ground>(
     at: Place,
     entries: &[(ConstTree, ConstTree)],
 ) -> Result<Value, ConstStop>
+    requires { G.right ground.now }
     ensures worth { AnswersWorth tree_of result work.new.values
         (worth_by (G.setting ground.now) (worth_where (G.setting ground.now) work.old.free.items) file (kind_struct which) levels work.old.values
         (map_const at (entries_in (map both_in entries.now)))) }
@@ -347,6 +358,7 @@ fn fields<G: Ground>(
     at: Place,
     entries: &[(ConstTree, ConstTree)],
 ) -> Result<Vec<(i16, Value)>, ConstStop>
+    requires { G.right ground.now }
     ensures worth { let s = G.setting ground.now in let named = worth_where s work.old.free.items in
         AnswersWorth (λ made. field_trees (map field_tree made.items)) result work.new.values
         (and_next (given_by s named file (struct_numbered s.schema which).fields levels work.old.values (entries_in (map both_in entries.now))) (λ given m.
@@ -372,6 +384,7 @@ fn given_fields<G: Ground>(
     levels: u32,
     entries: &[(ConstTree, ConstTree)],
 ) -> Result<Vec<(i16, Value)>, ConstStop>
+    requires { G.right ground.now }
     ensures worth { let s = G.setting ground.now in AnswersWorth (λ given. map given_in_memory given.items) result work.new.values
         (given_by s (worth_where s work.old.free.items) file (struct_numbered s.schema which).fields levels work.old.values (entries_in (map both_in entries.now))) }
     ensures known { IfOk result (λ given. AreGivenFor (struct_numbered (G.setting ground.now).schema which).fields (map given_in_memory given.items)) }
@@ -396,6 +409,7 @@ fn owed_fields<G: Ground>(
     levels: u32,
     row: VecDeque<FieldEntry<'_>>,
 ) -> Result<Vec<(i16, Value)>, ConstStop>
+    requires { G.right ground.now }
     ensures worth { AnswersWorth (λ made. field_trees (map field_tree made.items)) result work.new.values
         (entries_worth (worth_where (G.setting ground.now) work.old.free.items) at levels work.old.values (map entry_in row.entry.items)) }
     ensures free { OnOk result (work.new.free.items ≡ work.old.free.items) }
@@ -420,6 +434,7 @@ fn entry_value<G: Ground>(
     levels: u32,
     part: FieldEntry<'_>,
 ) -> Result<Option<Value>, ConstStop>
+    requires { G.right ground.now }
     ensures worth { AnswersWorth (option_map tree_of) result work.new.values
         (entry_worth (worth_where (G.setting ground.now) work.old.free.items) at levels work.old.values (entry_in part.entry)) }
     ensures free { OnOk result (work.new.free.items ≡ work.old.free.items) }
