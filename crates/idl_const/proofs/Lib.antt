@@ -11,3 +11,4 @@ pub mod Braces
 pub mod Written
 pub mod AllFree
 pub mod Fuel
+pub mod WholeNumbers

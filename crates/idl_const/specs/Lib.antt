@@ -1,4 +1,5 @@
 pub mod Chains
+pub mod Digits
 pub mod FieldEntries
 pub mod Flaws
 pub mod Given

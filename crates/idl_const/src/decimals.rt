@@ -1,16 +1,20 @@
-//! Numbers that are written with a fraction or an exponent, and which of them are whole.
+//! Numbers that are written with a fraction or an exponent, decided on their digits: which of them are whole, and how large those are.
 
-ghost use Rattle.std.specs.Prelude.{◌≡◌, ◌^◌, ◌<◌, ◌≤◌, ◌+◌, not, length, IfOk, IfSome};
+ghost use Rattle.std.specs.Prelude.{◌≡◌, ◌^◌, ◌*◌, ◌≤◌, ◌+◌, ◌++◌, not, length, IfOk};
 ghost use Rattle.std.specs.List.{prefix_len};
-ghost use Rattle.std.specs.Char.{is_ascii_digit};
-ghost use Rattle.idl_token.specs.Numbers.{digits_in, digit_value, value_behind, behind_exponent_mark, int_of};
+ghost use Rattle.std.specs.Option.{option_map};
+ghost use Rattle.idl_token.specs.Numbers.{digits_in, digit_value, value_behind, behind_digits, behind_exponent_mark, int_of};
 ghost use Rattle.idl_token.specs.Classes.{is_exponent_mark};
-ghost use Rattle.check_model.specs.WholeDoubles.{decimal_in, places_up, places_down, fraction_digits, whole_number};
+ghost use Rattle.check_model.specs.WholeDoubles.{decimal_in, front_digits, fraction_digits, places_up, places_down, whole_number};
+ghost use Rattle.idl_const.specs.Digits.{AreDigits, capped};
 
 use idl_token::{
     big_integers_are_outside_64_bits, byte_at, int_value, is_big_int, is_exponent_mark,
 };
 use std::alloc::AllocError;
+
+/// One more than the greatest number up to which each whole number is a double. All above it are the same here.
+const CAP: u64 = 0x20_0000_0000_0001;
 
 /// The digits in front.
 fn digits_in(text: &[u8]) -> usize
@@ -20,15 +24,25 @@ fn digits_in(text: &[u8]) -> usize
     text.iter().take_while(|byte| byte.is_ascii_digit()).count()
 }
 
+/// The digits in front, and what stands behind them.
+fn front_digits(text: &[u8]) -> (&[u8], &[u8])
+    ensures front { result.0.now ≡ front_digits text.now }
+    ensures behind { result.1.now ≡ behind_digits text.now }
+    ensures digits { AreDigits result.0.now }
+{
+    text.split_at(digits_in(text))
+}
+
 /// The digits behind the point, where the text begins with it.
 fn fraction_digits(text: &[u8]) -> &[u8]
-    ensures { result.now ≡ fraction_digits text.now }
+    ensures value { result.now ≡ fraction_digits text.now }
+    ensures digits { AreDigits result.now }
 {
     if byte_at(text, 0) != b'.' {
         return &[];
     }
     let (_, inside) = text.split_at(1.min(text.len()));
-    inside.split_at(digits_in(inside)).0
+    front_digits(inside).0
 }
 
 /// The bytes before the first mark of an exponent.
@@ -50,17 +64,6 @@ fn behind_exponent_mark(text: &[u8]) -> &[u8]
     rest
 }
 
-/// Digits, and how many places they stand to the left and to the right of the point.
-#[derive(Clone, Copy)]
-pub(crate) struct Digits {
-    /// The number that they write.
-    pub(crate) digits: u128,
-    /// So many places to the left.
-    pub(crate) up: u64,
-    /// So many places to the right.
-    pub(crate) down: u64,
-}
-
 /// The exponent that a text writes; want of memory where it doesn't have 64 bits.
 fn exponent_of(text: &[u8]) -> Result<i64, AllocError>
     ensures { IfOk result (λ n. n ≡ int_of text.now) }
@@ -70,45 +73,6 @@ fn exponent_of(text: &[u8]) -> Result<i64, AllocError>
         return Err(AllocError);
     }
     Ok(int_value(text))
-}
-
-/// So many places to the left.
-fn places_up(exponent: i64) -> u64
-    ensures { result ≡ places_up exponent }
-{
-    if exponent < 0 {
-        0
-    } else {
-        exponent.unsigned_abs()
-    }
-}
-
-/// So many places to the right.
-fn places_down(exponent: i64) -> u64
-    ensures { result ≡ places_down exponent }
-{
-    if exponent < 0 {
-        exponent.unsigned_abs()
-    } else {
-        0
-    }
-}
-
-/// The parts of a double without its sign; want of memory where one is too long.
-pub(crate) fn decimal_in(text: &[u8]) -> Result<Digits, AllocError>
-    ensures { IfOk result (λ d. decimal_in text.now ≡ record { digits = d.digits; up = d.up; down = d.down }) }
-{
-    let (front, behind) = text.split_at(digits_in(text));
-    let fraction = fraction_digits(behind);
-    let exponent = exponent_of(behind_exponent_mark(text))?;
-    let whole = digits_value(0, front)?;
-    let digits = digits_value(whole, fraction)?;
-    let down = sum(places_down(exponent), fraction.len() as u64)?;
-    Ok(Digits {
-        digits,
-        up: places_up(exponent),
-        down,
-    })
 }
 
 /// The value of a digit.
@@ -124,59 +88,87 @@ fn digit_value(byte: u8) -> u8
     }
 }
 
-/// The number that digits write behind those of another; want of memory where it doesn't have 128 bits.
-fn digits_value(before: u128, digits: &[u8]) -> Result<u128, AllocError>
-    ensures { IfOk result (λ n. n ≡ value_behind 10 before digits.now) }
+/// The number that digits write behind those of another, up to the cap.
+fn read_digits(before: u64, digits: &[u8]) -> u64
+    requires { before ≤ CAP }
+    ensures { result ≡ capped (value_behind 10 before digits.now) }
 {
     let mut value = before;
     for byte in digits {
-        let Some(shifted) = value.checked_mul(10) else {
-            return Err(AllocError);
-        };
-        let Some(next) = shifted.checked_add(u128::from(digit_value(*byte))) else {
-            return Err(AllocError);
-        };
-        value = next;
+        value = (value * 10 + u64::from(digit_value(*byte))).min(CAP);
     }
-    Ok(value)
+    value
 }
 
-/// A sum; want of memory where it doesn't have 64 bits.
-fn sum(a: u64, b: u64) -> Result<u64, AllocError>
-    ensures { IfOk result (λ n. n ≡ a + b) }
+/// A number with so many zeros behind it, up to the cap, which one above 0 reaches in a few steps.
+fn with_zeros(number: u64, places: u64) -> u64
+    requires { number ≤ CAP }
+    ensures { result ≡ capped (number * 10 ^ places) }
 {
-    a.checked_add(b).ok_or(AllocError)
-}
-
-/// A power of 10, where it has 128 bits.
-fn ten_to(places: u64) -> Option<u128>
-    ensures power { IfSome result (λ n. n ≡ 10 ^ places) }
-    ensures some { IfSome result (λ n. 0 < n) }
-{
-    let mut value = 1u128;
+    let mut value = number;
     for place in 0..places {
-        value = value.checked_mul(10)?;
+        if value == 0 {
+            return 0;
+        }
+        if value == CAP {
+            return CAP;
+        }
+        value = (value * 10).min(CAP);
     }
-    Some(value)
+    value
 }
 
-/// The number of digits with so many places to the left and to the right, where it is whole; want of memory where 128 bits
-/// don't suffice.
-pub(crate) fn whole_number(digits: u128, up: u64, down: u64) -> Result<Option<u128>, AllocError>
-    ensures { IfOk result (λ whole. whole ≡ whole_number (record { digits = digits; up = up; down = down })) }
+/// The number of digits whose point moves to the right, where it is whole.
+fn moved_right(front: &[u8], fraction: &[u8], places: u64) -> Option<u64>
+    requires { AreDigits fraction.now }
+    ensures { result ≡ option_map capped (whole_number (record { digits = value_behind 10 0 (front.now ++ fraction.now); up = places; down = length fraction.now })) }
 {
-    let Some(high) = ten_to(up) else {
-        return Err(AllocError);
-    };
-    let Some(low) = ten_to(down) else {
-        return Err(AllocError);
-    };
-    let Some(number) = digits.checked_mul(high) else {
-        return Err(AllocError);
-    };
-    if number % low == 0 {
-        Ok(Some(number / low))
-    } else {
-        Ok(None)
+    let taken = places.min(fraction.len() as u64);
+    let (more, rest) = fraction.split_at(taken as usize);
+    if read_digits(0, rest) != 0 {
+        return None;
     }
+    let number = read_digits(read_digits(0, front), more);
+    Some(with_zeros(number, places - taken))
+}
+
+/// The number of digits whose point moves to the left, where it is whole.
+fn moved_left(front: &[u8], fraction: &[u8], places: u64) -> Option<u64>
+    requires front { AreDigits front.now }
+    requires fraction { AreDigits fraction.now }
+    ensures { result ≡ option_map capped (whole_number (record { digits = value_behind 10 0 (front.now ++ fraction.now); up = 0; down = places + length fraction.now })) }
+{
+    let left = (front.len() as u64).saturating_sub(places);
+    let (kept, rest) = front.split_at(left as usize);
+    if read_digits(0, rest) != 0 {
+        return None;
+    }
+    if read_digits(0, fraction) != 0 {
+        return None;
+    }
+    Some(read_digits(0, kept))
+}
+
+/// The number of digits whose point moves by an exponent, where it is whole.
+fn moved(front: &[u8], fraction: &[u8], exponent: i64) -> Option<u64>
+    requires front { AreDigits front.now }
+    requires fraction { AreDigits fraction.now }
+    ensures { result ≡ option_map capped (whole_number (record { digits = value_behind 10 0 (front.now ++ fraction.now); up = places_up exponent; down = places_down exponent + length fraction.now })) }
+{
+    let places = exponent.unsigned_abs();
+    if exponent < 0 {
+        return moved_left(front, fraction, places);
+    }
+    moved_right(front, fraction, places)
+}
+
+/// The number of a double without its sign, up to the cap, where it is whole; want of memory where its exponent doesn't have 64 bits,
+/// which no token's is.
+pub(crate) fn whole_size(text: &[u8]) -> Result<Option<u64>, AllocError>
+    ensures { IfOk result (λ size. size ≡ option_map capped (whole_number (decimal_in text.now))) }
+{
+    let (front, behind) = front_digits(text);
+    let fraction = fraction_digits(behind);
+    let exponent = exponent_of(behind_exponent_mark(text))?;
+    Ok(moved(front, fraction, exponent))
 }

@@ -6,7 +6,7 @@ ghost use Rattle.check_model.specs.Scalars.{doubled};
 ghost use Rattle.check_model.specs.WholeDoubles.{double_number, signed_within, int_as_double, highest_bit, magnitude_bits, double_bits};
 ghost use Rattle.idl_const.specs.Flaws.{IsOneWorth};
 
-use crate::decimals::{decimal_in, whole_number};
+use crate::decimals::whole_size;
 use crate::faults::ConstFault;
 use idl_token::{byte_at, sign_in};
 use thrift_value::Value;
@@ -84,25 +84,24 @@ pub(crate) fn double_of(number: i64) -> Result<Value, ConstFault>
     Ok(Value::Double(double_bits(number)))
 }
 
-/// A number that is written with a fraction or an exponent, as a double; want of memory where 128 bits don't suffice to read it.
+/// A number that is written with a fraction or an exponent, as a double.
 pub(crate) fn double_written(text: &[u8]) -> Result<Value, ConstFault>
     ensures { IsOneWorth (doubled (double_number text.now)) result }
 {
     let (_, unsigned) = text.split_at(sign_in(text));
-    let parts = decimal_in(unsigned)?;
-    let whole = whole_number(parts.digits, parts.up, parts.down)?;
-    whole_double(byte_at(text, 0) == b'-', whole)
+    let size = whole_size(unsigned)?;
+    whole_double(byte_at(text, 0) == b'-', size)
 }
 
 /// A number with its sign, where it is whole, as a double.
 #[tactic(auto, using(thrift_value::proofs::Trees::tree_equations))]
-fn whole_double(negative: bool, whole: Option<u128>) -> Result<Value, ConstFault>
+fn whole_double(negative: bool, whole: Option<u64>) -> Result<Value, ConstFault>
     ensures { IsOneWorth (doubled (signed_within negative whole)) result }
 {
     let Some(size) = whole else {
         return Err(ConstFault::DoubleConstant);
     };
-    if size > u128::from(MOST) {
+    if size > MOST {
         return Err(ConstFault::DoubleConstant);
     }
     let size = size as i64;
