@@ -10,5 +10,13 @@ pub mod InFront
 pub mod Braces
 pub mod Written
 pub mod AllFree
-pub mod Fuel
 pub mod WholeNumbers
+pub mod Fuel
+pub mod Inverting
+pub mod TidyKept
+pub mod Elements
+pub mod LeafWorths
+pub mod DeclaredFields
+pub mod FieldsWritten
+pub mod WorthWritten
+pub mod ValuesWritten

@@ -6,3 +6,4 @@ pub mod Given
 pub mod Idle
 pub mod Marks
 pub mod Rows
+pub mod ShortLiterals

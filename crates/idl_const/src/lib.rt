@@ -25,6 +25,7 @@ mod evaluation;
 mod faults;
 mod ground;
 mod keeping;
+pub mod laws;
 mod marks;
 mod progress;
 mod rows;
