@@ -1,15 +1,13 @@
 -- Fields that a struct declares, found again by their ids.
-use Rattle.std.proofs.Common.{◌≡◌, ◌≢◌, ℕ, zero, suc, ℤ, ◌<◌, ◌<ℤ◌, ◌⊎◌, inl, inr, Bool, true, false, cond, List, [], ◌∷◌, length, get_or, Option, Some, None, refl, sym, ap, ◌∙◌, subst, arith, All}
+use Rattle.std.proofs.Common.{◌≡◌, ℕ, zero, suc, ℤ, ◌<◌, ◌<ℤ◌, ◌⊎◌, inl, inr, Bool, true, false, cond, List, [], ◌∷◌, length, get_or, Option, Some, refl, sym, ap, ◌∙◌, subst, arith}
 use Rattle.std.specs.Prelude.{⊤, AllPairs}
-use Rattle.std.specs.List.{find, slice_get, AllByRecursion}
+use Rattle.std.specs.List.{find, AllByRecursion}
 use Rattle.std.specs.Ordering.{int_eq}
 use Rattle.std.proofs.lemmas.Int.{ints}
-use Rattle.std.proofs.lemmas.Bool.{false≢true}
 use Rattle.std.proofs.lemmas.Bool.Decides.{Decides-int_eq}
-use Rattle.schema.specs.PlainKind.{PlainKind}
-use Rattle.schema.specs.PlainSchema.{PlainField, PlainStruct, PlainSchema}
+use Rattle.schema.specs.PlainSchema.{PlainField, PlainSchema}
 use Rattle.schema.specs.WrittenAs.{field_with_id}
-use Rattle.schema.specs.Sound.{IsKindIn, IsSoundField}
+use Rattle.schema.specs.Sound.{IsKindIn}
 
 -- the field is one of some
 abbrev pub IsAmong : PlainField → List PlainField → Type 0

@@ -1,7 +1,6 @@
 -- Values that may be written as a type, with what a container needs of each of its elements.
-use Rattle.std.proofs.Common.{◌≡◌, ℕ, zero, suc, ℤ, ◌+◌, ◌≤◌, ◌<◌, ◌^◌, max, length, true, refl, sym, ap, ◌∙◌, subst, arith}
-use Rattle.std.specs.Prelude.{⊤, MatchOption, Option, Some, None, List}
-use Rattle.thrift_value.specs.declared.tag.Tag.{Tag}
+use Rattle.std.proofs.Common.{◌≡◌, ℕ, suc, ◌≤◌, ◌<◌, ◌^◌, refl, sym, subst, arith}
+use Rattle.std.specs.Prelude.{⊤, MatchOption, Option, Some, List}
 use Rattle.thrift_value.specs.Tags.{tag_of}
 use Rattle.thrift_value.specs.Tree.{Tree, of_set, of_list, of_map, of_struct, FieldTrees, no_fields, field, ItemTrees, no_items, item, PairTrees, no_pairs, pair}
 use Rattle.thrift_value.specs.Measures.{depth_of, fields_depth, items_depth, pairs_depth}
@@ -12,7 +11,7 @@ use Rattle.schema.specs.PlainSchema.{PlainField, PlainStruct}
 use Rattle.schema.specs.WrittenAs.{field_with_id, HasItsFields, IsWrittenAs, AreFieldsWrittenAs, AreItemsWrittenAs, ArePairsWrittenAs}
 use Rattle.std.specs.List.{slice_get}
 use Rattle.check_model.specs.TidyRows.{tidy_members, tidy_pairs}
-use Rattle.check_model.specs.Evaluation.{kind_tag, row_tree}
+use Rattle.check_model.specs.Evaluation.{kind_tag}
 use Rattle.idl_const.proofs.TidyKept.{EachItem, EachPair, rising_members, each_member, members_len, rising_pairs, each_tidy_pair, pairs_len_tidy}
 
 module _ (structs : List PlainStruct) where

@@ -1,6 +1,6 @@
 -- The fields of a struct's worth.
-use Rattle.std.proofs.Common.{◌≡◌, ◌≢◌, ℕ, suc, ℤ, ◌+◌, ◌≤◌, ◌<ℤ◌, ◌⊎◌, inl, inr, Bool, true, false, cond, List, [], ◌∷◌, length, Option, Some, None, refl, sym, ap, ◌∙◌, subst, arith}
-use Rattle.std.specs.Prelude.{⊤, MatchOption}
+use Rattle.std.proofs.Common.{◌≡◌, ℕ, suc, ℤ, ◌≤◌, inl, inr, Bool, true, false, cond, List, [], ◌∷◌, Option, Some, None, refl, sym, ap, ◌∙◌, subst, arith}
+use Rattle.std.specs.Prelude.{MatchOption}
 use Rattle.std.specs.Option.{option_or, option_map_or}
 use Rattle.std.specs.List.{find, AllByRecursion}
 use Rattle.std.specs.Ordering.{int_eq}
@@ -16,9 +16,9 @@ use Rattle.schema.specs.PlainKind.{PlainKind}
 use Rattle.schema.specs.PlainSchema.{PlainField, PlainStruct, PlainSchema}
 use Rattle.schema.specs.Sound.{IsKindIn}
 use Rattle.schema.specs.WrittenAs.{field_with_id, HasFieldTree, IsOneField}
-use Rattle.check_model.specs.Worths.{Worth, valued, flawed, and_next, seen_at, wrong_kind, unknown_field, missing_field}
+use Rattle.check_model.specs.Worths.{valued, flawed, and_next, seen_at, wrong_kind, unknown_field, missing_field}
 use Rattle.check_model.specs.Evaluation.{NamedWorth, FieldValue, field_of_key, last_given, with_field, missing_worth, default_worth, field_worth, fields_worth, union_worth}
-use Rattle.idl_const.proofs.Inverting.{same_valued, no_flaw, seen_valued, Came, next_valued}
+use Rattle.idl_const.proofs.Inverting.{same_valued, no_flaw, seen_valued, next_valued}
 use Rattle.idl_const.proofs.Elements.{IsElement, EachField}
 use Rattle.idl_const.proofs.DeclaredFields.{IsAmong, IsBelowAll, AreRising, found_among, IsDeclared}
 

@@ -1,11 +1,11 @@
 -- Values without others inside may be written as the types that they were evaluated against.
-use Rattle.std.proofs.Common.{◌≡◌, ℕ, ℤ, pos, negsuc, ◌<◌, ◌^◌, nat_eq, Bool, true, false, cond, List, length, Option, Some, None, Ok, Err, refl, sym, subst, arith}
+use Rattle.std.proofs.Common.{◌≡◌, ℕ, ℤ, pos, negsuc, ◌<◌, ◌^◌, nat_eq, Bool, true, false, cond, List, length, Option, Some, None, Ok, Err, refl, subst, arith}
 use Rattle.thrift_value.specs.Tree.{Tree, of_bool, of_i8, of_i16, of_i32, of_i64, of_double, of_bytes}
-use Rattle.schema.specs.PlainKind.{PlainKind, kind_bool, kind_i8, kind_i16, kind_i32, kind_i64, kind_double, kind_text, kind_binary, kind_enum, kind_struct, kind_map, kind_set, kind_list}
+use Rattle.schema.specs.PlainKind.{PlainKind, kind_bool, kind_i8, kind_i16, kind_i32, kind_i64, kind_double, kind_text, kind_binary, kind_enum}
 use Rattle.schema.specs.PlainSchema.{PlainStruct}
 use Rattle.check_model.specs.Worths.{ConstFlaw, wrong_kind, out_of_range, double_constant}
 use Rattle.check_model.specs.WholeDoubles.{double_number, int_as_double, double_bits}
-use Rattle.check_model.specs.Scalars.{OneWorth, has_bits, ranged, doubled, truth, int_worth, double_worth, literal_worth, enum_worth}
+use Rattle.check_model.specs.Scalars.{OneWorth, has_bits, doubled, truth, int_worth, double_worth, literal_worth, enum_worth}
 use Rattle.idl_const.proofs.Elements.{IsElement}
 
 -- a value, and what is wrong

@@ -20,3 +20,4 @@ pub mod DeclaredFields
 pub mod FieldsWritten
 pub mod WorthWritten
 pub mod ValuesWritten
+pub mod AlikeSchemas

@@ -1,9 +1,8 @@
 -- Constant values, and those that a program gives, may be written as the types that they are evaluated against.
-use Rattle.std.proofs.Common.{◌≡◌, ℕ, zero, suc, ◌≤◌, ◌<◌, Bool, true, false, List, [], ◌∷◌, length, get_or, Option, Some, None, refl, sym, ap, ◌∙◌, subst, arith, All}
-use Rattle.std.specs.Prelude.{⊤, slice_get, slice_set}
+use Rattle.std.proofs.Common.{◌≡◌, ℕ, zero, suc, ◌<◌, Bool, true, false, List, [], ◌∷◌, length, get_or, Option, Some, None, refl, sym, ◌∙◌, subst, arith, All}
+use Rattle.std.specs.Prelude.{slice_get, slice_set}
 use Rattle.std.specs.List.{AllByRecursion, AllZip}
 use Rattle.std.proofs.lemmas.List.Elements.{recursion_from_All}
-use Rattle.idl_token.specs.declared.Place.{Place}
 use Rattle.idl_model.specs.ConstExpr.{ConstExpr}
 use Rattle.idl_model.specs.Numbering.{Filed}
 use Rattle.idl_model.specs.Program.{Program}
@@ -13,14 +12,16 @@ use Rattle.schema.specs.declared.types.FieldNeed.TheVariants.{Required, Optional
 use Rattle.schema.specs.declared.types.FieldsKind.TheVariants as fields
 use Rattle.schema.specs.PlainKind.{PlainKind}
 use Rattle.schema.specs.PlainSchema.{PlainField, PlainStruct, PlainSchema}
-use Rattle.schema.specs.Sound.{IsKindIn, IsSoundField, IsSoundStruct, IsSoundButConstants, IsValueOf}
+use Rattle.schema.specs.Sound.{IsKindIn, IsSoundField, IsSoundStruct, IsValueOf}
 use Rattle.check_model.specs.FieldLists.{NumberedField, FieldsDecl, fields_by_id, field_lists}
-use Rattle.check_model.specs.SchemaParts.{NoDefault, IsFieldOf, IsStructFrom, IsPartialSchema}
+use Rattle.check_model.specs.SchemaParts.{NoDefault, IsFieldOf, IsStructFrom, IsSchemaWith, IsPartialSchema}
+use Rattle.check_model.specs.ProgramSchema.{DefaultIn}
 use Rattle.check_model.specs.Worths.{valued, const_cycle, most_levels}
-use Rattle.check_model.specs.Evaluation.{Setting, NamedWorth, struct_numbered, on_entering, named_worth, is_free, all_free, evaluated, given_worth, worth_by}
+use Rattle.check_model.specs.Evaluation.{Setting, NamedWorth, struct_numbered, on_entering, named_worth, is_free, all_free, evaluated, given_worth}
 use Rattle.idl_const.specs.ShortLiterals.{HasShortLiterals, GivesShortLiterals}
+use Rattle.idl_const.proofs.AlikeSchemas.{alike_structs, written_alike}
 use Rattle.idl_const.proofs.Inverting.{no_flaw}
-use Rattle.idl_const.proofs.DeclaredFields.{IsAmong, AreRising, rising_from, found_again, IsDeclared, all_declared, each_among}
+use Rattle.idl_const.proofs.DeclaredFields.{AreRising, rising_from, found_again, IsDeclared, all_declared, each_among}
 use Rattle.idl_const.proofs.FieldsWritten.{IsMade, AreMade}
 use Rattle.idl_const.proofs.WorthWritten.{HasGoodFields, worth_made}
 
@@ -50,10 +51,10 @@ declared_all schema items rising each =
     all_declared schema items items (λ f m. record { found = found_again items f rising m; kind = (each_among (IsSoundField schema) items f each m).kind })
 
 -- the structs of a schema
-good_fields : (program : Program) (schema : PlainSchema) → IsPartialSchema program schema → IsSoundButConstants schema → (which : ℕ) → which < length schema.structs → HasGoodFields schema (struct_numbered schema which)
+good_fields : (program : Program) (schema : PlainSchema) → IsPartialSchema program schema → All (IsSoundStruct schema) schema.structs → (which : ℕ) → which < length schema.structs → HasGoodFields schema (struct_numbered schema which)
 good_fields program schema partial sound which inside =
     let d = struct_numbered schema which in
-    let is : IsSoundStruct schema d = sound.structs which _ inside in
+    let is : IsSoundStruct schema d = sound which _ inside in
     let rising : AreRising d.fields = rising_from d.fields is.fields.rising in
     let from = zip_at (IsStructFrom NoDefault program) (field_lists program) schema.structs which (record { file = 0; name = []; kind = fields.Struct; fields = [] }) partial.made.structs inside in
     record {
@@ -62,7 +63,7 @@ good_fields program schema partial sound which inside =
       of_union = λ union. union_from program from.0 d from.1 union;
     }
 
-module _ (s : Setting) (partial : IsPartialSchema s.program s.schema) (sound : IsSoundButConstants s.schema) (short : GivesShortLiterals s.program) where
+module _ (s : Setting) (partial : IsPartialSchema s.program s.schema) (sound : All (IsSoundStruct s.schema) s.schema.structs) (short : GivesShortLiterals s.program) where
   entering : (named : NamedWorth) → AreMade s.schema named → (b : Bool) (o : Option (Filed GivenValue)) → ((g : Filed GivenValue) → o ≡ Some g → HasShortLiterals g.item.tree)
       → (kind : PlainKind) (levels count : ℕ) (v : Tree) (n : ℕ) → IsKindIn s.schema kind → on_entering s named b o kind levels count ≡ valued v n → IsMade s.schema.structs kind levels count v n
   entering named are true (Some g) few kind levels count v n known e =
@@ -98,3 +99,20 @@ module _ (s : Setting) (partial : IsPartialSchema s.program s.schema) (sound : I
   given_written which kind v value count known few e =
       value_of kind value count (worth_made s (named_worth s (length (values_of s.program)) (slice_set (all_free s.program) which false)) v.file (good_fields s.program s.schema partial sound)
       (named_made (length (values_of s.program)) (slice_set (all_free s.program) which false)) kind 64 0 v.item.tree value count known few e)
+
+-- the same under the whole schema of the program
+pub given_written_whole : (program : Program) (partial whole : PlainSchema) → IsPartialSchema program partial → IsSchemaWith (DefaultIn (record { program = program; schema = partial })) program whole
+    → All (IsSoundStruct partial) partial.structs → GivesShortLiterals program
+    → (which : ℕ) (kind : PlainKind) (v : Filed GivenValue) (value : Tree) (count : ℕ) → IsKindIn partial kind → HasShortLiterals v.item.tree
+    → given_worth (record { program = program; schema = partial }) which kind v ≡ valued value count → IsValueOf whole kind value
+given_written_whole program partial whole made this sound short which kind v value count known few e =
+    let s : Setting = record { program = program; schema = partial } in
+    let is = given_written s made sound short which kind v value count known few e in
+    record {
+      tidy = is.tidy;
+      levels = is.levels;
+      written = record {
+        fits = written_alike partial.structs whole.structs (alike_structs NoDefault (DefaultIn s) program partial whole made.made this) kind value is.written.fits;
+        sizes = is.written.sizes;
+      };
+    }

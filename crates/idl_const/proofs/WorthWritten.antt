@@ -1,33 +1,33 @@
 -- What a constant value is worth may be written as its type.
-use Rattle.std.proofs.Common.{◌≡◌, ◌≢◌, ℕ, zero, suc, ℤ, ◌+◌, ◌≤◌, ◌<◌, ◌^◌, Bool, true, false, List, [], ◌∷◌, length, Option, Some, None, Ok, Err, refl, sym, ap, ◌∙◌, subst, arith, All}
-use Rattle.std.specs.Prelude.{⊤, slice_get, slice_index_or}
+use Rattle.std.proofs.Common.{◌≡◌, ℕ, zero, suc, ℤ, ◌+◌, ◌≤◌, ◌<◌, true, List, [], ◌∷◌, length, Option, Some, None, refl, sym, ap, ◌∙◌, subst, arith}
+use Rattle.std.specs.Prelude.{slice_get, slice_index_or}
 use Rattle.std.specs.List.{AllByRecursion}
 use Rattle.std.proofs.lemmas.Bool.{false≢true}
-use Rattle.std.proofs.lemmas.List.Elements.{All-from_recursion, recursion_from_All}
+use Rattle.std.proofs.lemmas.List.Elements.{All-from_recursion}
 use Rattle.idl_token.specs.declared.Place.{Place}
 use Rattle.idl_model.specs.ConstExpr.{ConstExpr, int_const, double_const, literal_const, name_const, list_const, map_const, ConstItems, no_consts, const_item, ConstEntries, no_entries, const_entry}
 use Rattle.idl_model.specs.ConstNames.{ConstMeaning, enum_value, given_value, const_meaning}
-use Rattle.thrift_value.specs.Tree.{Tree, of_struct, of_map, of_list, of_set, FieldTrees, ItemTrees, no_items, item, PairTrees, no_pairs, pair}
+use Rattle.thrift_value.specs.Tree.{Tree, of_struct, of_map, FieldTrees, ItemTrees, no_items, item, PairTrees, no_pairs, pair}
 use Rattle.thrift_value.specs.Sizes.{items_len, pairs_len}
-use Rattle.schema.specs.declared.types.FieldNeed.TheVariants.{Required, Optional}
+use Rattle.schema.specs.declared.types.FieldNeed.TheVariants.{Required}
 use Rattle.schema.specs.declared.types.FieldsKind.{FieldsKind}
 use Rattle.schema.specs.declared.types.FieldsKind.TheVariants as fields
 use Rattle.schema.specs.PlainKind.{PlainKind, kind_bool, kind_i8, kind_i16, kind_i32, kind_i64, kind_double, kind_text, kind_binary, kind_enum, kind_struct, kind_map, kind_set, kind_list}
 use Rattle.schema.specs.PlainSchema.{PlainField, PlainStruct, PlainSchema}
-use Rattle.schema.specs.Sound.{IsKindIn, IsSoundStruct}
+use Rattle.schema.specs.Sound.{IsKindIn}
 use Rattle.schema.specs.WrittenAs.{HasItsFields, HasFieldTree}
 use Rattle.thrift_value.specs.Tidy.{AreRisingFields}
-use Rattle.check_model.specs.TidyRows.{tidy_members, tidy_pairs}
-use Rattle.check_model.specs.Worths.{Worth, valued, flawed, and_next, seen_at, unknown_name, wrong_kind}
+use Rattle.check_model.specs.TidyRows.{tidy_pairs}
+use Rattle.check_model.specs.Worths.{valued, and_next, unknown_name}
 use Rattle.check_model.specs.Scalars.{int_worth, double_worth, literal_worth, enum_worth}
-use Rattle.check_model.specs.Evaluation.{Setting, NamedWorth, FieldValue, kind_tag, name_worth, single, opened, takes_brackets, takes_braces, element_kind, row_tree, field_of_key, fields_worth, union_worth, made_fields, struct_numbered, default_of, braced, worth_by, items_by, pairs_by, given_by}
+use Rattle.check_model.specs.Evaluation.{Setting, NamedWorth, FieldValue, kind_tag, name_worth, opened, takes_brackets, takes_braces, element_kind, row_tree, field_of_key, fields_worth, made_fields, struct_numbered, default_of, braced, worth_by, items_by, pairs_by, given_by}
 use Rattle.idl_const.specs.ShortLiterals.{HasShortLiterals, HaveItemsShortLiterals, HaveEntriesShortLiterals}
-use Rattle.idl_const.proofs.Inverting.{same_valued, no_flaw, seen_valued, Came, next_valued, single_valued, Opened, opened_valued}
+use Rattle.idl_const.proofs.Inverting.{same_valued, no_flaw, seen_valued, next_valued, single_valued, opened_valued}
 use Rattle.idl_const.proofs.TidyKept.{EachItem, EachPair}
 use Rattle.idl_const.proofs.Elements.{IsElement, EachField, list_element, set_element, map_element, struct_element}
 use Rattle.idl_const.proofs.LeafWorths.{int_element, double_element, literal_element, number_element}
-use Rattle.idl_const.proofs.DeclaredFields.{IsAmong, AreRising, IsDeclared, each_among}
-use Rattle.idl_const.proofs.FieldsWritten.{IsMade, IsBehind, AreMade, IsGiven, IsKey, key_is, AreFieldsMade, fields_made, union_made}
+use Rattle.idl_const.proofs.DeclaredFields.{AreRising, IsDeclared, each_among}
+use Rattle.idl_const.proofs.FieldsWritten.{IsMade, IsBehind, AreMade, IsGiven, key_is, fields_made, union_made}
 
 -- the fields of a struct are told apart by their ids, and those of a union may all be missing
 pub record HasGoodFields (schema : PlainSchema) (d : PlainStruct) : Type 0 where

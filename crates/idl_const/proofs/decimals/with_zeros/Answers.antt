@@ -1,4 +1,4 @@
-use Rattle.std.proofs.Common.{◌≡◌, ◌-◌, sym, ◌∙◌, arith}
+use Rattle.std.proofs.Common.{◌-◌, sym, ◌∙◌, arith}
 use Rattle.idl_const.proofs.WholeNumbers.{zeros_step, cap_stays}
 use Rattle.idl_const.proofs.decimals.with_zeros.Goals as goal
 
