@@ -11,7 +11,7 @@ use Rattle.schema.specs.PlainSchema.{PlainField, PlainStruct, PlainSchema}
 use Rattle.check_model.specs.FiniteValues.{kind_has, field_allows, has_no_items, fields_have, has_value_within, HasFiniteValue}
 
 -- what the one says, the other says too
-abbrev Below : (ℕ → Bool) → (ℕ → Bool) → Type 0
+abbrev pub Below : (ℕ → Bool) → (ℕ → Bool) → Type 0
 Below f g = (n : ℕ) → f n ≡ true → g n ≡ true
 
 never : false ≡ true → ⊥
@@ -60,7 +60,7 @@ any_below f g below (x ∷ xs) e =
     or_below (kind_has f x.kind) (list_any (λ (x : PlainField). kind_has f x.kind) xs) (kind_has g x.kind)
     (list_any (λ (x : PlainField). kind_has g x.kind) xs) (kind_below f g below x.kind) (any_below f g below xs) e
 
-fields_below : (f g : ℕ → Bool) → Below f g → (k : FieldsKind) (xs : List PlainField) → fields_have f k xs ≡ true → fields_have g k xs ≡ true
+pub fields_below : (f g : ℕ → Bool) → Below f g → (k : FieldsKind) (xs : List PlainField) → fields_have f k xs ≡ true → fields_have g k xs ≡ true
 fields_below f g below fields.Union xs e =
     or_below (has_no_items xs) (list_any (λ (x : PlainField). kind_has f x.kind) xs) (has_no_items xs) (list_any (λ (x : PlainField). kind_has g x.kind) xs)
     (λ h. h) (any_below f g below xs) e
@@ -72,7 +72,7 @@ fields_below f g below fields.Args xs e = all_below f g below xs e
 abbrev level_on : PlainSchema → (ℕ → Bool) → ℕ → Bool
 level_on schema f n = option_map_or (λ (s : PlainStruct). fields_have f s.kind s.fields) (slice_get schema.structs n) false
 
-struct_below : (f g : ℕ → Bool) → Below f g → (o : Option PlainStruct)
+pub struct_below : (f g : ℕ → Bool) → Below f g → (o : Option PlainStruct)
     → option_map_or (λ (s : PlainStruct). fields_have f s.kind s.fields) o false ≡ true → option_map_or (λ (s : PlainStruct). fields_have g s.kind s.fields) o false ≡ true
 struct_below f g below None e = e
 struct_below f g below (Some s) e = fields_below f g below s.kind s.fields e

@@ -10,21 +10,21 @@ use std::alloc::AllocError;
 
 /// How many definitions of each kind there are.
 #[derive(Clone, Copy)]
-pub(crate) struct DefinitionCounts {
+pub struct DefinitionCounts {
     /// Typedefs.
-    pub(crate) aliases: u32,
+    pub aliases: u32,
     /// Constants.
-    pub(crate) constants: u32,
+    pub constants: u32,
     /// Enums.
-    pub(crate) enums: u32,
+    pub enums: u32,
     /// Structs, unions and exceptions.
-    pub(crate) structs: u32,
+    pub structs: u32,
     /// Services.
-    pub(crate) services: u32,
+    pub services: u32,
 }
 
 /// No definition.
-pub(crate) fn no_counts() -> DefinitionCounts
+pub fn no_counts() -> DefinitionCounts
     ensures { counts_in result ≡ none_counted }
 {
     DefinitionCounts {
@@ -48,7 +48,7 @@ fn one_more(count: u32) -> Result<u32, AllocError>
 
 /// One definition more.
 #[tactic(auto, unfolding(idl_model::specs::DeclaredIn::definition_in))]
-pub(crate) fn with_definition(
+pub fn with_definition(
     counts: DefinitionCounts,
     definition: &Definition,
 ) -> Result<DefinitionCounts, AllocError>

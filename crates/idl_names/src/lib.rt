@@ -38,6 +38,7 @@ mod type_uses;
 mod values;
 
 pub use before::GivenBefore;
+pub use counts::{DefinitionCounts, no_counts, with_definition};
 pub use definitions::{Definitions, all_definitions};
 pub use dots::{is_dotted, split_last_dot};
 pub use filed::{InFile, Named};

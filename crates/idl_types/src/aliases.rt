@@ -1,0 +1,87 @@
+//! The types of typedefs.
+
+ghost use Rattle.std.specs.Prelude.{◌≡◌, ◌<◌, ℕ, None, Some, length, slice_set, IfOk, OnOk};
+ghost use Rattle.idl_model.specs.Numbering.{typedefs_of};
+ghost use Rattle.idl_include.specs.SourcesOf.{program_in};
+ghost use Rattle.idl_names.specs.FiledIn.{filed_typedefs};
+ghost use Rattle.idl_types.specs.Known.{known_kind, AreAliasTypes};
+
+use crate::copies::MOST_TYPES;
+use crate::meaning::{TypeTables, type_meant};
+use crate::order::building_order;
+use idl_names::{InFile, NameTables};
+use idl_parser::Typedef;
+use schema::TypeDesc;
+use std::alloc::{AllocError, Global};
+
+/// Room for the types of so many typedefs, none of which is made.
+fn none_made(alloc: Global, count: usize) -> Result<Vec<Option<TypeDesc>>, AllocError>
+    ensures { IfOk result (λ made. (number : ℕ) → known_kind made.items number ≡ None) }
+{
+    let mut made = Vec::with_capacity(alloc, count)?;
+    for _place in 0..count {
+        made.push(None)?;
+    }
+    Ok(made)
+}
+
+/// The type of the typedef at a place is made.
+fn put_made(
+    made: &mut Vec<Option<TypeDesc>>,
+    place: usize,
+    kind: TypeDesc,
+) -> Result<(), AllocError>
+    ensures within { OnOk result (place < length made.old.items) }
+    ensures put { OnOk result (made.new.items ≡ slice_set made.old.items place (Some kind)) }
+{
+    if place < made.len() {
+        made[place] = Some(kind);
+        return Ok(());
+    }
+    Err(AllocError)
+}
+
+/// Makes the type of one typedef more, from those that are made.
+fn make_alias(
+    alloc: Global,
+    names: &NameTables<'_>,
+    typedefs: &[InFile<'_, Typedef>],
+    made: &mut Vec<Option<TypeDesc>>,
+    number: u32,
+    room: &mut u32,
+) -> Result<(), AllocError>
+    requires typedefs { filed_typedefs typedefs.now ≡ typedefs_of (program_in names.now) }
+    requires made { AreAliasTypes (program_in names.now) made.old.items }
+    ensures { OnOk result (AreAliasTypes (program_in names.now) made.new.items) }
+{
+    let place = number as usize;
+    if place >= typedefs.len() {
+        return Err(AllocError);
+    }
+    let typedef = &typedefs[place];
+    let tables = TypeTables {
+        names,
+        aliases: made.as_slice(),
+    };
+    let kind = type_meant(alloc, &tables, typedef.file, &typedef.item.kind, room)?;
+    put_made(made, place, kind)
+}
+
+/// The types of the typedefs of a program, by number. Those of a typedef that leads to itself, and of one with a name that stands for
+/// nothing, can't be made, and are answered as want of memory; so are more than 4,000,000 types.
+pub fn alias_types<'a>(
+    alloc: Global,
+    names: &NameTables<'a>,
+    typedefs: &[InFile<'a, Typedef>],
+) -> Result<Vec<Option<TypeDesc>>, AllocError>
+    requires { filed_typedefs typedefs.now ≡ typedefs_of (program_in names.now) }
+    ensures { IfOk result (λ made. AreAliasTypes (program_in names.now) made.items) }
+{
+    let order = building_order(alloc, names, typedefs)?;
+    let mut made = none_made(alloc, typedefs.len())?;
+    let mut room = MOST_TYPES;
+    for number in order.as_slice() {
+        make_alias(alloc, names, typedefs, &mut made, *number, &mut room)?;
+    }
+    Ok(made)
+}
