@@ -1,0 +1,151 @@
+-- What holds at the spots of a program of which each pass finds nothing.
+use Rattle.std.proofs.Common.{◌≡◌, ℕ, true, List, [], ◌∷◌, ◌++◌, map, refl}
+use Rattle.std.specs.List.{AllByRecursion}
+use Rattle.idl_model.specs.Written.{Written}
+use Rattle.idl_model.specs.Declarations.{FieldDecl, FunctionDecl, EnumValueDecl}
+use Rattle.idl_model.specs.Program.{Program}
+use Rattle.idl_model.specs.Names.{is_dotted}
+use Rattle.idl_model.specs.Numbering.{none_counted}
+use Rattle.idl_model.specs.Spots.{Spotted, given_name, field_spot, thrown_spot, function_spot, Spot, type_spots, result_spots, spots_in_field, spots_in_fields, spots_in_throws, spots_in_function, spots_in_functions, spots_in_enum, spots_of, default_spots}
+use Rattle.check_model.specs.Passes.{Pass, dotted_name, duplicate_name, unknown_type, typedef_cycle, field_id, duplicate_id, enum_number, service_cycle, duplicate_function, oneway_not_void, oneway_throws, not_exception, struct_loop, bad_constant, is_repeated, is_id_repeated, IsRepeatedFunction, MeansException}
+use Rattle.check_model.specs.FirstFlaw.{found_by, IsClearAt, FindsNothing, HasNoFlaw}
+use Rattle.check_model.proofs.Shown.{front_all, back_all}
+use Rattle.sound_model.proofs.RisingFields.{AreFresh}
+use Rattle.sound_model.proofs.Placed.{FilesIn, IsSpotted, program_spotted}
+
+-- what holds for each of one sort of each of another
+for_each : {A B : Type 0} (Q : B → A → Type 0) (xs : List A) → ((b : B) → AllByRecursion (Q b) xs) → AllByRecursion (λ x. (b : B) → Q b x) xs
+for_each Q [] h = tt
+for_each Q (x ∷ xs) h = (λ b. (h b).0, for_each Q xs (λ b. (h b).1))
+
+-- a name has no dot
+abbrev pub IsUndotted : Written → Type 0
+IsUndotted name = is_dotted name.text ≡ true → ⊥
+
+abbrev pub HasUndotted : FieldDecl → Type 0
+HasUndotted f = IsUndotted f.name
+
+-- names of values of an enum have no dot
+abbrev pub ValueUndotted : EnumValueDecl → Type 0
+ValueUndotted v = IsUndotted v.name
+
+module _ (program : Program) where
+  -- no pass finds anything in what is spotted in a file
+  abbrev pub IsClear : ℕ → Spotted → Type 0
+  IsClear file x = (pass : Pass) → IsClearAt program pass (record { file = file; shows = x })
+
+  every_pass : HasNoFlaw program → (pass : Pass) → FindsNothing program pass
+  every_pass h dotted_name = h.0
+  every_pass h duplicate_name = h.1.0
+  every_pass h unknown_type = h.1.1.0
+  every_pass h typedef_cycle = h.1.1.1.0
+  every_pass h field_id = h.1.1.1.1.0
+  every_pass h duplicate_id = h.1.1.1.1.1.0
+  every_pass h enum_number = h.1.1.1.1.1.1.0
+  every_pass h service_cycle = h.1.1.1.1.1.1.1.0
+  every_pass h duplicate_function = h.1.1.1.1.1.1.1.1.0
+  every_pass h oneway_not_void = h.1.1.1.1.1.1.1.1.1.0
+  every_pass h oneway_throws = h.1.1.1.1.1.1.1.1.1.1.0
+  every_pass h not_exception = h.1.1.1.1.1.1.1.1.1.1.1.0
+  every_pass h struct_loop = h.1.1.1.1.1.1.1.1.1.1.1.1.0
+  every_pass h bad_constant = h.1.1.1.1.1.1.1.1.1.1.1.1.1.0
+
+  pub all_clear : HasNoFlaw program → FilesIn (IsSpotted IsClear) 0 none_counted program
+  all_clear h = program_spotted IsClear program (for_each (IsClearAt program) (spots_of program) (every_pass h))
+
+  -- names that are given
+  pub name_clear : (file : ℕ) (before : List Written) (name : Written) → IsClear file (given_name before name) → IsUndotted name
+  name_clear file before name clear e = clear dotted_name (record { file = file; at = name.at; kind = found_by dotted_name }) (e, refl)
+
+  pub name_new : (file : ℕ) (before : List Written) (name : Written) → IsClear file (given_name before name) → is_repeated before name ≡ true → ⊥
+  name_new file before name clear e = clear duplicate_name (record { file = file; at = name.at; kind = found_by duplicate_name }) (e, refl)
+
+  -- fields
+  field_undotted : (file : ℕ) (before : List FieldDecl) (f : FieldDecl) → AllByRecursion (IsClear file) (spots_in_field before f) → HasUndotted f
+  unfolding spots_in_field
+  field_undotted file before f h =
+      let names = map (λ (g : FieldDecl). g.name) before in
+      name_clear file names f.name (back_all (IsClear file) (type_spots f.type) (given_name names f.name ∷ default_spots f f.default) h.1).0
+
+  field_new : (file : ℕ) (before : List FieldDecl) (f : FieldDecl) → AllByRecursion (IsClear file) (spots_in_field before f) → is_id_repeated before f ≡ true → ⊥
+  unfolding spots_in_field
+  field_new file before f h e = h.0 duplicate_id (record { file = file; at = f.at; kind = found_by duplicate_id }) (e, refl)
+
+  pub fields_undotted : (file : ℕ) (before fs : List FieldDecl) → AllByRecursion (IsClear file) (spots_in_fields before fs) → AllByRecursion HasUndotted fs
+  fields_undotted file before [] h = tt
+  fields_undotted file before (f ∷ fs) h =
+      let rest = spots_in_fields (before ++ f ∷ []) fs in (
+        field_undotted file before f (front_all (IsClear file) (spots_in_field before f) rest h),
+        fields_undotted file (before ++ f ∷ []) fs (back_all (IsClear file) (spots_in_field before f) rest h),
+      )
+
+  pub fields_fresh : (file : ℕ) (before fs : List FieldDecl) → AllByRecursion (IsClear file) (spots_in_fields before fs) → AreFresh before fs
+  fields_fresh file before [] h = tt
+  fields_fresh file before (f ∷ fs) h =
+      let rest = spots_in_fields (before ++ f ∷ []) fs in (
+        field_new file before f (front_all (IsClear file) (spots_in_field before f) rest h),
+        fields_fresh file (before ++ f ∷ []) fs (back_all (IsClear file) (spots_in_field before f) rest h),
+      )
+
+  -- a thrown field means an exception, in so far as it can't mean none
+  abbrev pub MayBeThrown : ℕ → FieldDecl → Type 0
+  MayBeThrown file f = (MeansException program file f.type → ⊥) → ⊥
+
+  thrown_clear : (file : ℕ) (f : FieldDecl) → IsClear file (thrown_spot f) → MayBeThrown file f
+  thrown_clear file f clear none = clear not_exception (record { file = file; at = f.at; kind = found_by not_exception }) (none, refl)
+
+  pub throws_clear : (file : ℕ) (before fs : List FieldDecl) → AllByRecursion (IsClear file) (spots_in_throws before fs)
+      → AllByRecursion HasUndotted fs × AreFresh before fs × AllByRecursion (MayBeThrown file) fs
+  throws_clear file before [] h = (tt, tt, tt)
+  throws_clear file before (f ∷ fs) h =
+      let rest = spots_in_throws (before ++ f ∷ []) fs in
+      let here = front_all (IsClear file) (spots_in_field before f) rest h.1 in
+      let later = throws_clear file (before ++ f ∷ []) fs (back_all (IsClear file) (spots_in_field before f) rest h.1) in
+      ((field_undotted file before f here, later.0), (field_new file before f here, later.1), (thrown_clear file f h.0, later.2))
+
+  -- values of an enum
+  pub values_undotted : (file : ℕ) (before vs : List EnumValueDecl) → AllByRecursion (IsClear file) (spots_in_enum before vs) → AllByRecursion ValueUndotted vs
+  values_undotted file before [] h = tt
+  values_undotted file before (v ∷ vs) h =
+      (name_clear file (map (λ (w : EnumValueDecl). w.name) before) v.name h.1.0, values_undotted file (before ++ v ∷ []) vs h.1.1)
+
+  -- a function behind others of the service of some number
+  pub record IsClearFunction (file service : ℕ) (before : List FunctionDecl) (f : FunctionDecl) : Type 0 where
+    pub new : IsRepeatedFunction program service before f.name.text → ⊥
+    pub name : IsUndotted f.name
+    pub arguments : AllByRecursion HasUndotted f.arguments
+    pub fresh : AreFresh [] f.arguments
+    pub throws : AllByRecursion HasUndotted f.throws
+    pub fresh_throws : AreFresh [] f.throws
+    pub thrown : AllByRecursion (MayBeThrown file) f.throws
+
+  function_clear : (file service : ℕ) (before : List FunctionDecl) (f : FunctionDecl) → AllByRecursion (IsClear file) (spots_in_function service before f) → IsClearFunction file service before f
+  unfolding spots_in_function
+  function_clear file service before f h =
+      let arguments = spots_in_fields [] f.arguments in
+      let throws = spots_in_throws [] f.throws in
+      let behind = back_all (IsClear file) (result_spots f.result) (given_name [] f.name ∷ (arguments ++ throws)) h.1 in
+      let own = front_all (IsClear file) arguments throws behind.1 in
+      let thrown = throws_clear file [] f.throws (back_all (IsClear file) arguments throws behind.1) in
+      record {
+        new = λ repeated. h.0 duplicate_function (record { file = file; at = f.at; kind = found_by duplicate_function }) (repeated, refl);
+        name = name_clear file [] f.name behind.0;
+        arguments = fields_undotted file [] f.arguments own;
+        fresh = fields_fresh file [] f.arguments own;
+        throws = thrown.0;
+        fresh_throws = thrown.1;
+        thrown = thrown.2;
+      }
+
+  -- functions behind others
+  abbrev pub AreClearFunctions : ℕ → ℕ → List FunctionDecl → List FunctionDecl → Type 0
+  AreClearFunctions file service before [] = Unit {0}
+  AreClearFunctions file service before (f ∷ fs) = IsClearFunction file service before f × AreClearFunctions file service (before ++ f ∷ []) fs
+
+  pub functions_clear : (file service : ℕ) (before fs : List FunctionDecl) → AllByRecursion (IsClear file) (spots_in_functions service before fs) → AreClearFunctions file service before fs
+  functions_clear file service before [] h = tt
+  functions_clear file service before (f ∷ fs) h =
+      let rest = spots_in_functions service (before ++ f ∷ []) fs in (
+        function_clear file service before f (front_all (IsClear file) (spots_in_function service before f) rest h),
+        functions_clear file service (before ++ f ∷ []) fs (back_all (IsClear file) (spots_in_function service before f) rest h),
+      )

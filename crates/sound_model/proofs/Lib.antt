@@ -1,0 +1,12 @@
+pub mod Leaves
+pub mod Grammar
+pub mod TokenNames
+pub mod DocumentNames
+pub mod TextPrograms
+pub mod Placed
+pub mod RisingFields
+pub mod TypeKinds
+pub mod SchemaNames
+pub mod Clear
+pub mod Sizes
+pub mod SchemaSizes

@@ -1,0 +1,66 @@
+-- The lists of a program's schema are as long as those of the program.
+use Rattle.std.proofs.Common.{◌≡◌, ℕ, suc, ◌+◌, ◌<◌, ◌≤◌, ◌^◌, List, [], ◌∷◌, ◌++◌, map, length, refl, sym, ap, ◌∙◌, length-append, arith}
+use Rattle.std.specs.List.{AllZip}
+use Rattle.idl_model.specs.Declarations.{FunctionDecl, ServiceDecl, StructDecl}
+use Rattle.idl_model.specs.Program.{Program}
+use Rattle.idl_model.specs.Numbering.{Filed, Counts, none_counted, all_counted, constants_of, typedefs_of, enums_of, structs_of, services_of, all_functions}
+use Rattle.schema.specs.PlainSchema.{PlainService, PlainSchema}
+use Rattle.schema.specs.Sound.{HasShortLists}
+use Rattle.check_model.specs.FieldLists.{FieldsDecl, fields_of_struct, args_of_function, field_lists}
+use Rattle.check_model.specs.SchemaParts.{DefaultRule, IsAliasOf, IsStructFrom, AreServicesOf, IsSchemaWith, enum_made, files_behind, files_of}
+use Rattle.check_model.specs.ProgramSchema.{IsSchemaOf, IsConstantOf, DefaultIn}
+use Rattle.sound_model.specs.Declared.{IsProgramOfTexts}
+use Rattle.sound_model.proofs.Sizes.{same_length, few_constants, few_typedefs, few_enums, few_services, few_lists}
+
+pub zip_length : {A B : Type 0} (R : A → B → Type 0) (xs : List A) (ys : List B) → AllZip R xs ys → length ys ≡ length xs
+zip_length R [] [] h = refl
+zip_length R [] (y ∷ ys) h = absurd h
+zip_length R (x ∷ xs) [] h = absurd h
+zip_length R (x ∷ xs) (y ∷ ys) h = ap suc (zip_length R xs ys h.1)
+
+files_length : (n : Counts) (fs : Program) → length (files_behind n fs) ≡ length fs
+files_length n [] = refl
+files_length n (f ∷ fs) = ap suc (files_length (all_counted n f.declarations) fs)
+
+pub lists_length : (program : Program) → length (field_lists program) ≡ length (structs_of program) + length (all_functions program)
+unfolding field_lists
+lists_length program =
+    omega (arith, length-append (map fields_of_struct (structs_of program)) (map args_of_function (all_functions program)),
+    same_length fields_of_struct (structs_of program), same_length args_of_function (all_functions program))
+
+module _ (D : DefaultRule) (program : Program) where
+  services_length : (args : ℕ) (ss : List (Filed ServiceDecl)) (ps : List PlainService) → AreServicesOf D program args ss ps → length ps ≡ length ss
+  services_length args [] [] h = refl
+  services_length args [] (p ∷ ps) h = absurd h
+  services_length args (s ∷ ss) [] h = absurd h
+  services_length args (s ∷ ss) (p ∷ ps) h = ap suc (services_length (args + length s.item.functions) ss ps h.1)
+
+  module _ (schema : PlainSchema) (is : IsSchemaWith D program schema) where
+    pub file_size : length schema.files ≡ length program
+    unfolding files_of
+    file_size = ap length is.files ∙ files_length none_counted program
+
+    pub alias_size : length schema.aliases ≡ length (typedefs_of program)
+    alias_size = zip_length (IsAliasOf program) (typedefs_of program) schema.aliases is.aliases
+
+    pub enum_size : length schema.enums ≡ length (enums_of program)
+    enum_size = ap length is.enums ∙ same_length enum_made (enums_of program)
+
+    pub struct_size : length schema.structs ≡ length (structs_of program) + length (all_functions program)
+    struct_size = zip_length (IsStructFrom D program) (field_lists program) schema.structs is.structs ∙ lists_length program
+
+    pub service_size : length schema.services ≡ length (services_of program)
+    service_size = services_length (length (structs_of program)) (services_of program) schema.services is.services
+
+pub short_lists : (program : Program) (schema : PlainSchema) → IsProgramOfTexts program → IsSchemaOf program schema → HasShortLists schema
+short_lists program schema texts is =
+    let D = DefaultIn (record { program = program; schema = is.partial }) in
+    let constants = zip_length (IsConstantOf (record { program = program; schema = is.partial })) (constants_of program) schema.constants is.constants in
+    record {
+      files = omega (arith, file_size D program schema is.whole, texts.most);
+      structs = omega (arith, struct_size D program schema is.whole, few_lists program texts);
+      enums = omega (arith, enum_size D program schema is.whole, few_enums program texts);
+      services = omega (arith, service_size D program schema is.whole, few_services program texts);
+      aliases = omega (arith, alias_size D program schema is.whole, few_typedefs program texts);
+      constants = omega (arith, constants, few_constants program texts);
+    }

@@ -1,0 +1,35 @@
+//! What holds of programs of texts, and of their schemas.
+
+ghost use Rattle.std.specs.Prelude.{List};
+ghost use Rattle.idl_model.specs.DeclaredIn.{definitions_in};
+ghost use Rattle.idl_model.specs.Program.{Program};
+ghost use Rattle.schema.specs.PlainSchema.{PlainSchema};
+ghost use Rattle.schema.specs.Sound.{HasShortLists};
+ghost use Rattle.check_model.specs.ProgramSchema.{IsSchemaOf};
+ghost use Rattle.idl_include.specs.SourcesOf.{program_in, IsOfSomeText, AreFiles};
+ghost use Rattle.sound_model.specs.Declared.{AreOfText, IsProgramOfTexts};
+
+use idl_include::IdlFile;
+use idl_parser::Document;
+use idl_token::{each_token_is_of_its_kind, tokens_stand_in_order};
+
+/// The names that a document gives are identifiers, and it has no more definitions and functions than its text has bytes.
+pub fn a_document_is_of_its_text()
+    ensures { (d : Document) → IsOfSomeText d → AreOfText (definitions_in d) }
+{
+    each_token_is_of_its_kind();
+    tokens_stand_in_order();
+}
+
+/// The files that loading gives are a program of texts.
+pub fn loaded_files_are_a_program_of_texts()
+    ensures { (files : List IdlFile) → AreFiles files → IsProgramOfTexts (program_in files) }
+{
+    each_token_is_of_its_kind();
+    tokens_stand_in_order();
+}
+
+/// Each list of a program's schema is short.
+pub fn a_schema_has_short_lists()
+    ensures { (program : Program) (schema : PlainSchema) → IsProgramOfTexts program → IsSchemaOf program schema → HasShortLists schema }
+{}
