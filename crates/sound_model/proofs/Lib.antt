@@ -10,3 +10,5 @@ pub mod SchemaNames
 pub mod Clear
 pub mod Sizes
 pub mod SchemaSizes
+pub mod Fine
+pub mod SoundFields

@@ -1,13 +1,14 @@
 //! What holds of programs of texts, and of their schemas.
 
-ghost use Rattle.std.specs.Prelude.{List};
+ghost use Rattle.std.specs.Prelude.{List, All};
 ghost use Rattle.idl_model.specs.DeclaredIn.{definitions_in};
 ghost use Rattle.idl_model.specs.Program.{Program};
 ghost use Rattle.schema.specs.PlainSchema.{PlainSchema};
-ghost use Rattle.schema.specs.Sound.{HasShortLists};
+ghost use Rattle.schema.specs.Sound.{HasShortLists, IsSoundStruct, IsSoundEnum, IsSoundAlias, IsSoundConstant};
 ghost use Rattle.check_model.specs.ProgramSchema.{IsSchemaOf};
 ghost use Rattle.idl_include.specs.SourcesOf.{program_in, IsOfSomeText, AreFiles};
 ghost use Rattle.sound_model.specs.Declared.{AreOfText, IsProgramOfTexts};
+ghost use Rattle.sound_model.specs.Worths.{WorthsAreWritten};
 
 use idl_include::IdlFile;
 use idl_parser::Document;
@@ -32,4 +33,13 @@ pub fn loaded_files_are_a_program_of_texts()
 /// Each list of a program's schema is short.
 pub fn a_schema_has_short_lists()
     ensures { (program : Program) (schema : PlainSchema) → IsProgramOfTexts program → IsSchemaOf program schema → HasShortLists schema }
+{}
+
+/// Structs, enums, typedefs and constants of a program's schema are sound, where the values that the program gives are written as
+/// their types say.
+pub fn definitions_of_a_schema_are_sound()
+    ensures structs { (program : Program) (schema : PlainSchema) → IsProgramOfTexts program → IsSchemaOf program schema → WorthsAreWritten program schema → All (IsSoundStruct schema) schema.structs }
+    ensures enums { (program : Program) (schema : PlainSchema) → IsProgramOfTexts program → IsSchemaOf program schema → WorthsAreWritten program schema → All (IsSoundEnum schema) schema.enums }
+    ensures aliases { (program : Program) (schema : PlainSchema) → IsProgramOfTexts program → IsSchemaOf program schema → WorthsAreWritten program schema → All (IsSoundAlias schema) schema.aliases }
+    ensures constants { (program : Program) (schema : PlainSchema) → IsProgramOfTexts program → IsSchemaOf program schema → WorthsAreWritten program schema → All (IsSoundConstant schema) schema.constants }
 {}
