@@ -12,3 +12,4 @@ pub mod Sizes
 pub mod SchemaSizes
 pub mod Fine
 pub mod SoundFields
+pub mod FileParts

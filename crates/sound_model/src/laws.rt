@@ -1,10 +1,10 @@
 //! What holds of programs of texts, and of their schemas.
 
-ghost use Rattle.std.specs.Prelude.{List, All};
+ghost use Rattle.std.specs.Prelude.{List, All, map};
 ghost use Rattle.idl_model.specs.DeclaredIn.{definitions_in};
 ghost use Rattle.idl_model.specs.Program.{Program};
-ghost use Rattle.schema.specs.PlainSchema.{PlainSchema};
-ghost use Rattle.schema.specs.Sound.{HasShortLists, IsSoundStruct, IsSoundEnum, IsSoundAlias, IsSoundConstant};
+ghost use Rattle.schema.specs.PlainSchema.{PlainFile, PlainSchema};
+ghost use Rattle.schema.specs.Sound.{HasShortLists, AreDifferent, AreSoundDefs, IsSoundFile, IsSoundStruct, IsSoundEnum, IsSoundAlias, IsSoundConstant};
 ghost use Rattle.check_model.specs.ProgramSchema.{IsSchemaOf};
 ghost use Rattle.idl_include.specs.SourcesOf.{program_in, IsOfSomeText, AreFiles};
 ghost use Rattle.sound_model.specs.Declared.{AreOfText, IsProgramOfTexts};
@@ -42,4 +42,11 @@ pub fn definitions_of_a_schema_are_sound()
     ensures enums { (program : Program) (schema : PlainSchema) → IsProgramOfTexts program → IsSchemaOf program schema → WorthsAreWritten program schema → All (IsSoundEnum schema) schema.enums }
     ensures aliases { (program : Program) (schema : PlainSchema) → IsProgramOfTexts program → IsSchemaOf program schema → WorthsAreWritten program schema → All (IsSoundAlias schema) schema.aliases }
     ensures constants { (program : Program) (schema : PlainSchema) → IsProgramOfTexts program → IsSchemaOf program schema → WorthsAreWritten program schema → All (IsSoundConstant schema) schema.constants }
+{}
+
+/// The files of a program's schema are sound, and have different base names.
+pub fn files_of_a_schema_are_sound()
+    ensures each { (program : Program) (schema : PlainSchema) → IsProgramOfTexts program → IsSchemaOf program schema → All (IsSoundFile schema) schema.files }
+    ensures bases { (program : Program) (schema : PlainSchema) → IsProgramOfTexts program → IsSchemaOf program schema → AreDifferent (map (λ (f : PlainFile). f.base) schema.files) }
+    ensures defs { (program : Program) (schema : PlainSchema) → IsProgramOfTexts program → IsSchemaOf program schema → All (λ (f : PlainFile). AreSoundDefs schema f.defs) schema.files }
 {}
