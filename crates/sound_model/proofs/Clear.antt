@@ -1,12 +1,14 @@
 -- What holds at the spots of a program of which each pass finds nothing.
 use Rattle.std.proofs.Common.{◌≡◌, ℕ, true, List, [], ◌∷◌, ◌++◌, map, refl}
 use Rattle.std.specs.List.{AllByRecursion}
+use Rattle.graph_walk.specs.Walks.{OnCycle}
 use Rattle.idl_model.specs.Written.{Written}
+use Rattle.idl_model.specs.Cycles.{parent_graph}
 use Rattle.idl_model.specs.Declarations.{FieldDecl, FunctionDecl, EnumValueDecl}
 use Rattle.idl_model.specs.Program.{Program}
 use Rattle.idl_model.specs.Names.{is_dotted}
 use Rattle.idl_model.specs.Numbering.{none_counted}
-use Rattle.idl_model.specs.Spots.{Spotted, given_name, field_spot, thrown_spot, function_spot, Spot, type_spots, result_spots, spots_in_field, spots_in_fields, spots_in_throws, spots_in_function, spots_in_functions, spots_in_enum, spots_of, default_spots}
+use Rattle.idl_model.specs.Spots.{Spotted, given_name, field_spot, thrown_spot, service_spot, function_spot, Spot, type_spots, result_spots, spots_in_field, spots_in_fields, spots_in_throws, spots_in_function, spots_in_functions, spots_in_enum, spots_of, default_spots}
 use Rattle.check_model.specs.Passes.{Pass, dotted_name, duplicate_name, unknown_type, typedef_cycle, field_id, duplicate_id, enum_number, service_cycle, duplicate_function, oneway_not_void, oneway_throws, not_exception, struct_loop, bad_constant, is_repeated, is_id_repeated, IsRepeatedFunction, MeansException}
 use Rattle.check_model.specs.FirstFlaw.{found_by, IsClearAt, FindsNothing, HasNoFlaw}
 use Rattle.check_model.proofs.Shown.{front_all, back_all}
@@ -59,6 +61,10 @@ module _ (program : Program) where
 
   pub name_new : (file : ℕ) (before : List Written) (name : Written) → IsClear file (given_name before name) → is_repeated before name ≡ true → ⊥
   name_new file before name clear e = clear duplicate_name (record { file = file; at = name.at; kind = found_by duplicate_name }) (e, refl)
+
+  -- services
+  pub service_acyclic : (file number : ℕ) (name : Written) → IsClear file (service_spot number name) → OnCycle (parent_graph program) number → ⊥
+  service_acyclic file number name clear cycle = clear service_cycle (record { file = file; at = name.at; kind = found_by service_cycle }) (cycle, refl)
 
   -- fields
   field_undotted : (file : ℕ) (before : List FieldDecl) (f : FieldDecl) → AllByRecursion (IsClear file) (spots_in_field before f) → HasUndotted f

@@ -1,7 +1,9 @@
 -- What each definition of a program of texts is, where no pass finds anything.
 use Rattle.std.proofs.Common.{◌≡◌, ℕ, suc, ◌+◌, ◌<◌, ◌≤◌, true, List, [], ◌∷◌, ◌++◌, map, length, refl, subst, arith}
 use Rattle.std.specs.List.{AllByRecursion, flat_map}
+use Rattle.graph_walk.specs.Walks.{OnCycle}
 use Rattle.idl_model.specs.Written.{Written}
+use Rattle.idl_model.specs.Cycles.{parent_graph}
 use Rattle.idl_model.specs.Declarations.{FieldDecl, FunctionDecl, ConstDecl, TypedefDecl, EnumValueDecl, EnumDecl, StructDecl, ServiceDecl, Declaration, of_const, of_typedef, of_enum, of_struct_decl, of_service}
 use Rattle.idl_model.specs.Program.{SourceFile, Program}
 use Rattle.idl_model.specs.Numbering.{Filed, filed, Counts, none_counted, const_in, typedef_in, enum_in, struct_in, service_in, constants_of, typedefs_of, enums_of, structs_of, services_of, functions_in, all_functions}
@@ -15,7 +17,7 @@ use Rattle.sound_model.specs.Declared.{IsFieldNamed, IsFunctionNamed, IsValueNam
 use Rattle.sound_model.proofs.RisingFields.{AreFresh}
 use Rattle.sound_model.proofs.SchemaNames.{schema_name}
 use Rattle.sound_model.proofs.Placed.{FilesIn, files_both, Everywhere, files_everywhere, InFile, files_in_file, IsSpotted, IsPicked, files_picked, constants_are, typedefs_are, enums_are, structs_are, services_are}
-use Rattle.sound_model.proofs.Clear.{IsUndotted, HasUndotted, ValueUndotted, IsClear, all_clear, name_clear, fields_undotted, fields_fresh, values_undotted, MayBeThrown, IsClearFunction, AreClearFunctions, functions_clear}
+use Rattle.sound_model.proofs.Clear.{IsUndotted, HasUndotted, ValueUndotted, IsClear, all_clear, name_clear, fields_undotted, fields_fresh, values_undotted, MayBeThrown, IsClearFunction, AreClearFunctions, functions_clear, service_acyclic}
 
 -- what holds of each with its number, without numbers
 pub without_numbers : {A : Type 0} (Q : ℕ → A → Type 0) (R : A → Type 0) → ((k : ℕ) (x : A) → Q k x → R x) → (n : ℕ) (xs : List A) → AllFrom Q n xs → AllByRecursion R xs
@@ -94,6 +96,7 @@ module _ (program : Program) where
   pub record IsFineService (number : ℕ) (s : Filed ServiceDecl) : Type 0 where
     pub file : s.file < length program
     pub name : IsSchemaName s.item.name.text
+    pub acyclic : OnCycle (parent_graph program) number → ⊥
     pub functions : AllByRecursion (IsFineFunction s.file) s.item.functions
     pub clear : AreClearFunctions program s.file number [] s.item.functions
 
@@ -136,6 +139,7 @@ module _ (program : Program) where
       record {
         file = is.within;
         name = schema_name s.item.name.text is.named.0 (name_clear program s.file before s.item.name is.clear.0);
+        acyclic = service_acyclic program s.file n.services s.item.name is.clear.1.0;
         functions = fine_functions s.file n.services [] s.item.functions is.named.1 clear;
         clear = clear;
       }

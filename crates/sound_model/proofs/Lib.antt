@@ -13,3 +13,5 @@ pub mod SchemaSizes
 pub mod Fine
 pub mod SoundFields
 pub mod FileParts
+pub mod Thrown
+pub mod SoundServices

@@ -4,7 +4,7 @@ ghost use Rattle.std.specs.Prelude.{List, All, map};
 ghost use Rattle.idl_model.specs.DeclaredIn.{definitions_in};
 ghost use Rattle.idl_model.specs.Program.{Program};
 ghost use Rattle.schema.specs.PlainSchema.{PlainFile, PlainSchema};
-ghost use Rattle.schema.specs.Sound.{HasShortLists, AreDifferent, AreSoundDefs, IsSoundFile, IsSoundStruct, IsSoundEnum, IsSoundAlias, IsSoundConstant};
+ghost use Rattle.schema.specs.Sound.{HasShortLists, AreDifferent, AreSoundDefs, IsSoundFile, IsSoundService, IsSoundStruct, IsSoundEnum, IsSoundAlias, IsSoundConstant};
 ghost use Rattle.check_model.specs.ProgramSchema.{IsSchemaOf};
 ghost use Rattle.idl_include.specs.SourcesOf.{program_in, IsOfSomeText, AreFiles};
 ghost use Rattle.sound_model.specs.Declared.{AreOfText, IsProgramOfTexts};
@@ -49,4 +49,9 @@ pub fn files_of_a_schema_are_sound()
     ensures each { (program : Program) (schema : PlainSchema) → IsProgramOfTexts program → IsSchemaOf program schema → All (IsSoundFile schema) schema.files }
     ensures bases { (program : Program) (schema : PlainSchema) → IsProgramOfTexts program → IsSchemaOf program schema → AreDifferent (map (λ (f : PlainFile). f.base) schema.files) }
     ensures defs { (program : Program) (schema : PlainSchema) → IsProgramOfTexts program → IsSchemaOf program schema → All (λ (f : PlainFile). AreSoundDefs schema f.defs) schema.files }
+{}
+
+/// The services of a program's schema are sound, where the values that the program gives are written as their types say.
+pub fn services_of_a_schema_are_sound()
+    ensures { (program : Program) (schema : PlainSchema) → IsProgramOfTexts program → IsSchemaOf program schema → WorthsAreWritten program schema → All (IsSoundService schema) schema.services }
 {}
