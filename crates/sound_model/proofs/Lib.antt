@@ -15,3 +15,6 @@ pub mod SoundFields
 pub mod FileParts
 pub mod Thrown
 pub mod SoundServices
+pub mod NoLoop
+pub mod DifferentFunctions
+pub mod Soundness

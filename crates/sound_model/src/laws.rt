@@ -4,7 +4,7 @@ ghost use Rattle.std.specs.Prelude.{List, All, map};
 ghost use Rattle.idl_model.specs.DeclaredIn.{definitions_in};
 ghost use Rattle.idl_model.specs.Program.{Program};
 ghost use Rattle.schema.specs.PlainSchema.{PlainFile, PlainSchema};
-ghost use Rattle.schema.specs.Sound.{HasShortLists, AreDifferent, AreSoundDefs, IsSoundFile, IsSoundService, IsSoundStruct, IsSoundEnum, IsSoundAlias, IsSoundConstant};
+ghost use Rattle.schema.specs.Sound.{HasShortLists, HasNoServiceLoop, HaveDifferentFunctions, IsSound, AreDifferent, AreSoundDefs, IsSoundFile, IsSoundService, IsSoundStruct, IsSoundEnum, IsSoundAlias, IsSoundConstant};
 ghost use Rattle.check_model.specs.ProgramSchema.{IsSchemaOf};
 ghost use Rattle.idl_include.specs.SourcesOf.{program_in, IsOfSomeText, AreFiles};
 ghost use Rattle.sound_model.specs.Declared.{AreOfText, IsProgramOfTexts};
@@ -55,3 +55,22 @@ pub fn files_of_a_schema_are_sound()
 pub fn services_of_a_schema_are_sound()
     ensures { (program : Program) (schema : PlainSchema) → IsProgramOfTexts program → IsSchemaOf program schema → WorthsAreWritten program schema → All (IsSoundService schema) schema.services }
 {}
+
+/// No service of a program's schema extends itself, and the functions of each, inherited ones included, have different names.
+pub fn services_of_a_schema_inherit_well()
+    ensures no_loop { (program : Program) (schema : PlainSchema) → IsProgramOfTexts program → IsSchemaOf program schema → HasNoServiceLoop schema.services }
+    ensures functions { (program : Program) (schema : PlainSchema) → IsProgramOfTexts program → IsSchemaOf program schema → HaveDifferentFunctions schema.services }
+{}
+
+/// The schema of a program of texts is sound, where the values that the program gives are written as their types say.
+pub fn a_schema_is_sound()
+    ensures { (program : Program) (schema : PlainSchema) → IsProgramOfTexts program → IsSchemaOf program schema → WorthsAreWritten program schema → IsSound schema }
+{}
+
+/// The schema of the program that loading gives is sound, where the values that the program gives are written as their types say.
+pub fn the_schema_of_loaded_files_is_sound()
+    ensures { (files : List IdlFile) (schema : PlainSchema) → AreFiles files → IsSchemaOf (program_in files) schema
+        → WorthsAreWritten (program_in files) schema → IsSound schema }
+{
+    loaded_files_are_a_program_of_texts();
+}
