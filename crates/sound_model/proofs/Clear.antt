@@ -1,5 +1,5 @@
 -- What holds at the spots of a program of which each pass finds nothing.
-use Rattle.std.proofs.Common.{◌≡◌, ℕ, true, List, [], ◌∷◌, ◌++◌, map, refl}
+use Rattle.std.proofs.Common.{◌≡◌, ℕ, Bool, true, false, List, [], ◌∷◌, ◌++◌, map, refl}
 use Rattle.std.specs.List.{AllByRecursion}
 use Rattle.graph_walk.specs.Walks.{OnCycle}
 use Rattle.idl_model.specs.Written.{Written}
@@ -12,13 +12,32 @@ use Rattle.idl_model.specs.Spots.{Spotted, given_name, field_spot, thrown_spot, 
 use Rattle.check_model.specs.Passes.{Pass, dotted_name, duplicate_name, unknown_type, typedef_cycle, field_id, duplicate_id, enum_number, service_cycle, duplicate_function, oneway_not_void, oneway_throws, not_exception, struct_loop, bad_constant, is_repeated, is_id_repeated, IsRepeatedFunction, MeansException}
 use Rattle.check_model.specs.FirstFlaw.{found_by, IsClearAt, FindsNothing, HasNoFlaw}
 use Rattle.check_model.proofs.Shown.{front_all, back_all}
+use Rattle.sound_model.specs.Clean.{IsClean}
 use Rattle.sound_model.proofs.RisingFields.{AreFresh}
 use Rattle.sound_model.proofs.Placed.{FilesIn, IsSpotted, program_spotted}
 
--- what holds for each of one sort of each of another
-for_each : {A B : Type 0} (Q : B → A → Type 0) (xs : List A) → ((b : B) → AllByRecursion (Q b) xs) → AllByRecursion (λ x. (b : B) → Q b x) xs
-for_each Q [] h = tt
-for_each Q (x ∷ xs) h = (λ b. (h b).0, for_each Q xs (λ b. (h b).1))
+-- what holds for each of some of one sort of each of another
+for_each : {A B : Type 0} (counts : B → Bool) (Q : B → A → Type 0) (xs : List A) → ((b : B) → counts b ≡ true → AllByRecursion (Q b) xs)
+    → AllByRecursion (λ x. (b : B) → counts b ≡ true → Q b x) xs
+for_each counts Q [] h = tt
+for_each counts Q (x ∷ xs) h = (λ b c. (h b c).0, for_each counts Q xs (λ b c. (h b c).1))
+
+-- the passes on which a schema's soundness stands
+abbrev pub bears : Pass → Bool
+bears dotted_name = true
+bears duplicate_name = true
+bears unknown_type = false
+bears typedef_cycle = false
+bears field_id = false
+bears duplicate_id = true
+bears enum_number = false
+bears service_cycle = true
+bears duplicate_function = true
+bears oneway_not_void = false
+bears oneway_throws = false
+bears not_exception = true
+bears struct_loop = false
+bears bad_constant = false
 
 -- a name has no dot
 abbrev pub IsUndotted : Written → Type 0
@@ -32,39 +51,49 @@ abbrev pub ValueUndotted : EnumValueDecl → Type 0
 ValueUndotted v = IsUndotted v.name
 
 module _ (program : Program) where
-  -- no pass finds anything in what is spotted in a file
+  -- none of these passes finds anything in what is spotted in a file
   abbrev pub IsClear : ℕ → Spotted → Type 0
-  IsClear file x = (pass : Pass) → IsClearAt program pass (record { file = file; shows = x })
+  IsClear file x = (pass : Pass) → bears pass ≡ true → IsClearAt program pass (record { file = file; shows = x })
 
-  every_pass : HasNoFlaw program → (pass : Pass) → FindsNothing program pass
-  every_pass h dotted_name = h.0
-  every_pass h duplicate_name = h.1.0
-  every_pass h unknown_type = h.1.1.0
-  every_pass h typedef_cycle = h.1.1.1.0
-  every_pass h field_id = h.1.1.1.1.0
-  every_pass h duplicate_id = h.1.1.1.1.1.0
-  every_pass h enum_number = h.1.1.1.1.1.1.0
-  every_pass h service_cycle = h.1.1.1.1.1.1.1.0
-  every_pass h duplicate_function = h.1.1.1.1.1.1.1.1.0
-  every_pass h oneway_not_void = h.1.1.1.1.1.1.1.1.1.0
-  every_pass h oneway_throws = h.1.1.1.1.1.1.1.1.1.1.0
-  every_pass h not_exception = h.1.1.1.1.1.1.1.1.1.1.1.0
-  every_pass h struct_loop = h.1.1.1.1.1.1.1.1.1.1.1.1.0
-  every_pass h bad_constant = h.1.1.1.1.1.1.1.1.1.1.1.1.1.0
+  every_pass : IsClean program → (pass : Pass) → bears pass ≡ true → FindsNothing program pass
+  every_pass h dotted_name e = h.dots
+  every_pass h duplicate_name e = h.names
+  every_pass h unknown_type e = cc
+  every_pass h typedef_cycle e = cc
+  every_pass h field_id e = cc
+  every_pass h duplicate_id e = h.ids
+  every_pass h enum_number e = cc
+  every_pass h service_cycle e = h.services
+  every_pass h duplicate_function e = h.functions
+  every_pass h oneway_not_void e = cc
+  every_pass h oneway_throws e = cc
+  every_pass h not_exception e = h.exceptions
+  every_pass h struct_loop e = cc
+  every_pass h bad_constant e = cc
 
-  pub all_clear : HasNoFlaw program → FilesIn (IsSpotted IsClear) 0 none_counted program
-  all_clear h = program_spotted IsClear program (for_each (IsClearAt program) (spots_of program) (every_pass h))
+  pub clean : HasNoFlaw program → IsClean program
+  clean h = record {
+    dots = h.0;
+    names = h.1.0;
+    ids = h.1.1.1.1.1.0;
+    services = h.1.1.1.1.1.1.1.0;
+    functions = h.1.1.1.1.1.1.1.1.0;
+    exceptions = h.1.1.1.1.1.1.1.1.1.1.1.0;
+  }
+
+  pub all_clear : IsClean program → FilesIn (IsSpotted IsClear) 0 none_counted program
+  all_clear h = program_spotted IsClear program (for_each bears (IsClearAt program) (spots_of program) (every_pass h))
 
   -- names that are given
   pub name_clear : (file : ℕ) (before : List Written) (name : Written) → IsClear file (given_name before name) → IsUndotted name
-  name_clear file before name clear e = clear dotted_name (record { file = file; at = name.at; kind = found_by dotted_name }) (e, refl)
+  name_clear file before name clear e = clear dotted_name refl (record { file = file; at = name.at; kind = found_by dotted_name }) (e, refl)
 
   pub name_new : (file : ℕ) (before : List Written) (name : Written) → IsClear file (given_name before name) → is_repeated before name ≡ true → ⊥
-  name_new file before name clear e = clear duplicate_name (record { file = file; at = name.at; kind = found_by duplicate_name }) (e, refl)
+  name_new file before name clear e = clear duplicate_name refl (record { file = file; at = name.at; kind = found_by duplicate_name }) (e, refl)
 
   -- services
   pub service_acyclic : (file number : ℕ) (name : Written) → IsClear file (service_spot number name) → OnCycle (parent_graph program) number → ⊥
-  service_acyclic file number name clear cycle = clear service_cycle (record { file = file; at = name.at; kind = found_by service_cycle }) (cycle, refl)
+  service_acyclic file number name clear cycle = clear service_cycle refl (record { file = file; at = name.at; kind = found_by service_cycle }) (cycle, refl)
 
   -- fields
   field_undotted : (file : ℕ) (before : List FieldDecl) (f : FieldDecl) → AllByRecursion (IsClear file) (spots_in_field before f) → HasUndotted f
@@ -75,7 +104,7 @@ module _ (program : Program) where
 
   field_new : (file : ℕ) (before : List FieldDecl) (f : FieldDecl) → AllByRecursion (IsClear file) (spots_in_field before f) → is_id_repeated before f ≡ true → ⊥
   unfolding spots_in_field
-  field_new file before f h e = h.0 duplicate_id (record { file = file; at = f.at; kind = found_by duplicate_id }) (e, refl)
+  field_new file before f h e = h.0 duplicate_id refl (record { file = file; at = f.at; kind = found_by duplicate_id }) (e, refl)
 
   pub fields_undotted : (file : ℕ) (before fs : List FieldDecl) → AllByRecursion (IsClear file) (spots_in_fields before fs) → AllByRecursion HasUndotted fs
   fields_undotted file before [] h = tt
@@ -98,7 +127,7 @@ module _ (program : Program) where
   MayBeThrown file f = (MeansException program file f.type → ⊥) → ⊥
 
   thrown_clear : (file : ℕ) (f : FieldDecl) → IsClear file (thrown_spot f) → MayBeThrown file f
-  thrown_clear file f clear none = clear not_exception (record { file = file; at = f.at; kind = found_by not_exception }) (none, refl)
+  thrown_clear file f clear none = clear not_exception refl (record { file = file; at = f.at; kind = found_by not_exception }) (none, refl)
 
   pub throws_clear : (file : ℕ) (before fs : List FieldDecl) → AllByRecursion (IsClear file) (spots_in_throws before fs)
       → AllByRecursion HasUndotted fs × AreFresh before fs × AllByRecursion (MayBeThrown file) fs
@@ -134,7 +163,7 @@ module _ (program : Program) where
       let own = front_all (IsClear file) arguments throws behind.1 in
       let thrown = throws_clear file [] f.throws (back_all (IsClear file) arguments throws behind.1) in
       record {
-        new = λ repeated. h.0 duplicate_function (record { file = file; at = f.at; kind = found_by duplicate_function }) (repeated, refl);
+        new = λ repeated. h.0 duplicate_function refl (record { file = file; at = f.at; kind = found_by duplicate_function }) (repeated, refl);
         name = name_clear file [] f.name behind.0;
         arguments = fields_undotted file [] f.arguments own;
         fresh = fields_fresh file [] f.arguments own;

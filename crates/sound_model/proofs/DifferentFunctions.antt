@@ -17,9 +17,9 @@ use Rattle.schema.specs.Inherited.{parent_of, lineage_within, lineage, own_funct
 use Rattle.schema.specs.PlainSchema.{PlainFunction, PlainService, PlainSchema}
 use Rattle.schema.specs.Sound.{AreDifferent, HaveDifferentFunctions}
 use Rattle.check_model.specs.SchemaParts.{DefaultRule, AreFunctionsOf, AreServicesOf, IsSchemaWith}
-use Rattle.check_model.specs.ProgramSchema.{DefaultIn, IsSchemaOf}
 use Rattle.check_model.proofs.Resolving.{from_at}
 use Rattle.check_model.proofs.Shown.{both_all, front_all, back_all, mapped, weaker}
+use Rattle.sound_model.specs.Clean.{IsClean}
 use Rattle.sound_model.specs.Declared.{IsProgramOfTexts}
 use Rattle.sound_model.proofs.Clear.{AreClearFunctions}
 use Rattle.sound_model.proofs.Fine.{IsFineService, services_fine}
@@ -86,7 +86,7 @@ module _ (program : Program) (file service : ℕ) where
   none_inherited before [] h = tt
   none_inherited before (f ∷ fs) h = (λ inherits. h.0.new (inr inherits), none_inherited (before ++ f ∷ []) fs h.1)
 
-module _ (program : Program) (schema : PlainSchema) (texts : IsProgramOfTexts program) (is : IsSchemaOf program schema) where
+module _ (D : DefaultRule) (program : Program) (schema : PlainSchema) (texts : IsProgramOfTexts program) (is_clean : IsClean program) (whole : IsSchemaWith D program schema) where
   -- the names of a service's own functions
   abbrev own_names : ℕ → List (List ℕ)
   own_names k = names_of (functions_by_number program k)
@@ -101,7 +101,7 @@ module _ (program : Program) (schema : PlainSchema) (texts : IsProgramOfTexts pr
   own_by k None at = (tt, tt)
   own_by k (Some s) at =
       let fine : IsFineService program k s = subst (λ n. IsFineService program n s) (let e : 0 + k ≡ k = omega arith in e)
-      (from_at (IsFineService program) 0 (services_of program) (services_fine program texts is.faultless) k s at) in
+      (from_at (IsFineService program) 0 (services_of program) (services_fine program texts is_clean) k s at) in
       (own_differ program s.file k [] s.item.functions fine.clear, none_inherited program s.file k [] s.item.functions fine.clear)
 
   own : (k : ℕ) → IsOwn k
@@ -151,7 +151,7 @@ module _ (program : Program) (schema : PlainSchema) (texts : IsProgramOfTexts pr
   good_by : (which : ℕ) (o : Option ℕ) (next : ℕ → List ℕ) → parent_of schema.services which ≡ o → ((parent : ℕ) → IsGoodLineage parent (next parent)) → IsGoodLineage which (which ∷ unwrap_or (option_map next o) [])
   good_by which None next e by = alone which
   good_by which (Some parent) next e by =
-      with_more which parent (next parent) (edge (DefaultIn (record { program = program; schema = is.partial })) program schema is.whole which parent e) (by parent)
+      with_more which parent (next parent) (edge D program schema whole which parent e) (by parent)
 
   good : (most which : ℕ) → IsGoodLineage which (lineage_within most schema.services which)
   good zero which = record { differ = tt; reached = tt }
@@ -159,19 +159,19 @@ module _ (program : Program) (schema : PlainSchema) (texts : IsProgramOfTexts pr
       good_by which (parent_of schema.services which) (lineage_within most schema.services) refl (λ parent. good most parent)
 
   -- the schema's services have the program's functions
-  function_names : (D : DefaultRule) (file args : ℕ) (fs : List FunctionDecl) (ps : List PlainFunction) → AreFunctionsOf D program file args fs ps → names_of fs ≡ map (λ (f : PlainFunction). f.name) ps
-  function_names D file args [] [] are = refl
-  function_names D file args [] (p ∷ ps) are = absurd are
-  function_names D file args (f ∷ fs) [] are = absurd are
-  function_names D file args (f ∷ fs) (p ∷ ps) are = λ i. sym are.0.name i ∷ function_names D file (suc args) fs ps are.1 i
+  function_names : (file args : ℕ) (fs : List FunctionDecl) (ps : List PlainFunction) → AreFunctionsOf D program file args fs ps → names_of fs ≡ map (λ (f : PlainFunction). f.name) ps
+  function_names file args [] [] are = refl
+  function_names file args [] (p ∷ ps) are = absurd are
+  function_names file args (f ∷ fs) [] are = absurd are
+  function_names file args (f ∷ fs) (p ∷ ps) are = λ i. sym are.0.name i ∷ function_names file (suc args) fs ps are.1 i
 
-  own_are : (D : DefaultRule) (args : ℕ) (ss : List (Filed ServiceDecl)) (ps : List PlainService) → AreServicesOf D program args ss ps → (k : ℕ)
+  own_are : (args : ℕ) (ss : List (Filed ServiceDecl)) (ps : List PlainService) → AreServicesOf D program args ss ps → (k : ℕ)
       → names_of (option_map_or (λ (s : Filed ServiceDecl). s.item.functions) (slice_get ss k) []) ≡ map (λ (f : PlainFunction). f.name) (own_functions ps k)
-  own_are D args [] [] are k = refl
-  own_are D args [] (p ∷ ps) are k = absurd are
-  own_are D args (s ∷ ss) [] are k = absurd are
-  own_are D args (s ∷ ss) (p ∷ ps) are zero = function_names D s.file args s.item.functions p.functions are.0.functions
-  own_are D args (s ∷ ss) (p ∷ ps) are (suc k) = own_are D (args + length s.item.functions) ss ps are.1 k
+  own_are args [] [] are k = refl
+  own_are args [] (p ∷ ps) are k = absurd are
+  own_are args (s ∷ ss) [] are k = absurd are
+  own_are args (s ∷ ss) (p ∷ ps) are zero = function_names s.file args s.item.functions p.functions are.0.functions
+  own_are args (s ∷ ss) (p ∷ ps) are (suc k) = own_are (args + length s.item.functions) ss ps are.1 k
 
   map_joined : (name : PlainFunction → List ℕ) (xs ys : List PlainFunction) → map name xs ++ map name ys ≡ map name (xs ++ ys)
   map_joined name [] ys = refl
@@ -181,7 +181,7 @@ module _ (program : Program) (schema : PlainSchema) (texts : IsProgramOfTexts pr
   all_are [] = refl
   all_are (k ∷ found) =
       let name = λ (f : PlainFunction). f.name in
-      (λ i. own_are (DefaultIn (record { program = program; schema = is.partial })) (length (structs_of program)) (services_of program) schema.services is.whole.services k i ++ all_are found i)
+      (λ i. own_are (length (structs_of program)) (services_of program) schema.services whole.services k i ++ all_are found i)
       ∙ map_joined name (own_functions schema.services k) (flat_map (own_functions schema.services) found)
 
   pub different_functions : HaveDifferentFunctions schema.services

@@ -3,9 +3,9 @@ use Rattle.std.proofs.Common.{◌≡◌, ◌≢◌, ◌⊎◌, inl, inr, ◌<◌
 use Rattle.std.specs.Option.{option_map}
 use Rattle.std.specs.List.{AllByRecursion, AllZip, list_any}
 use Rattle.std.specs.Str.{bytes_eq}
-use Rattle.std.proofs.lemmas.Bool.{or_cases, or_left, or_right}
-use Rattle.std.proofs.lemmas.List.Elements.{All-from_recursion, All-filter, All-weaker}
-use Rattle.std.proofs.lemmas.List.Kept.{AllPairs-cons, AllPairs-filter}
+use Rattle.std.proofs.lemmas.Bool.{or_cases, or_left, or_right, cond_both}
+use Rattle.std.proofs.lemmas.List.Elements.{All-from_recursion, All-weaker}
+use Rattle.std.proofs.lemmas.List.Kept.{AllPairs-cons}
 use Rattle.std.proofs.lemmas.Option.{slice_get-map, slice_get_within}
 use Rattle.std.proofs.lemmas.Slice.Eq.{bytes_eq-Decides}
 use Rattle.idl_model.specs.Written.{Written}
@@ -15,14 +15,15 @@ use Rattle.idl_model.specs.Program.{SourceFile, Program, base_of_file}
 use Rattle.idl_model.specs.Numbering.{Filed, Counts, none_counted, counted, all_counted, const_in, typedef_in, enum_in, struct_in, service_in, constants_of, typedefs_of, enums_of, structs_of, services_of, all_functions}
 use Rattle.idl_model.specs.Spots.{Spotted, given_name, type_spots, spots_in_declaration}
 use Rattle.schema.specs.declared.types.DefRef.{DefRef}
-use Rattle.schema.specs.PlainSchema.{PlainStruct, PlainEnum, PlainService, PlainAlias, PlainConstant, PlainFile, PlainSchema}
-use Rattle.schema.specs.Sound.{AreDifferent, IsPlaceIn, IsDefIn, def_name, AreSoundDefs, is_no_constant, IsSoundFile}
+use Rattle.schema.specs.declared.types.DefRef.TheVariants as ref
+use Rattle.schema.specs.PlainSchema.{PlainStruct, PlainEnum, PlainService, PlainAlias, PlainFile, PlainSchema}
+use Rattle.schema.specs.Sound.{AreDifferent, IsPlaceIn, IsDefIn, def_name, AreSoundDefs}
 use Rattle.check_model.specs.FieldLists.{FieldsDecl, fields_of_struct, args_of_function, field_lists}
 use Rattle.check_model.specs.Passes.{is_repeated}
-use Rattle.check_model.specs.SchemaParts.{IsAliasOf, IsStructFrom, AreServicesOf, IsServiceOf, DefaultRule, enum_made, ref_behind, refs_behind, files_behind, files_of}
-use Rattle.check_model.specs.ProgramSchema.{DefaultIn, IsConstantOf, IsSchemaOf}
+use Rattle.check_model.specs.SchemaParts.{IsAliasOf, IsStructFrom, AreServicesOf, IsSchemaWith, DefaultRule, enum_made, ref_behind, refs_behind, files_behind, files_of}
 use Rattle.check_model.proofs.FirstOnes.{somes, none_some}
 use Rattle.check_model.proofs.Shown.{back_all}
+use Rattle.sound_model.specs.Clean.{IsClean}
 use Rattle.sound_model.specs.Declared.{IsFileOfText, IsProgramOfTexts}
 use Rattle.sound_model.proofs.Placed.{DeclRule, DeclsIn, FilesIn, files_both, StandsAt, IsFound, program_found, constants_are, typedefs_are, enums_are, structs_are, services_are}
 use Rattle.sound_model.proofs.Clear.{IsClear, name_new}
@@ -75,10 +76,30 @@ among_last : (before : List Written) (w : Written) → IsAmong w.text (before ++
 among_last [] w = or_left (bytes_eq w.text w.text) false ((bytes_eq-Decides w.text w.text).1 refl)
 among_last (x ∷ before) w = or_right (bytes_eq x.text w.text) (is_among w.text (map (λ (w : Written). w.text) (before ++ w ∷ []))) (among_last before w)
 
-module _ (program : Program) (schema : PlainSchema) (texts : IsProgramOfTexts program) (is : IsSchemaOf program schema) where
-  abbrev Default : DefaultRule
-  Default = DefaultIn (record { program = program; schema = is.partial })
+-- of the definitions that pass a test this holds
+passing : {A : Type 0} (test : A → Bool) (Q : A → Type 0) (xs : List A) → AllByRecursion (λ x. test x ≡ true → Q x) xs → AllByRecursion Q (filter test xs)
+passing test Q [] h = tt
+passing test Q (x ∷ xs) h =
+    let rest = passing test Q xs h.1 in
+    cond_both (test x) (x ∷ filter test xs) (filter test xs) (AllByRecursion Q) (λ e. (h.0 e, rest)) (λ e. rest)
 
+pub all_pass : {A : Type 0} (xs : List A) → filter (λ x. true) xs ≡ xs
+all_pass [] = refl
+all_pass (x ∷ xs) = ap (λ ys. x ∷ ys) (all_pass xs)
+
+-- a definition by its number in its list, with its name
+abbrev IsReferredIn : PlainSchema → Counts → Declaration → Type 0
+IsReferredIn schema n d = IsDefIn schema (ref_behind n d) × (def_name schema (ref_behind n d) ≡ Some (declared_name d).text)
+
+-- the same of one of its list
+pub named_at : {A : Type 0} (xs : List A) (name : A → List ℕ) (k : ℕ) (x : A) (text : List ℕ) → slice_get xs k ≡ Some x → name x ≡ text
+    → (k < length xs) × (option_map name (slice_get xs k) ≡ Some text)
+named_at xs name k x text e same = (slice_get_within xs k x e, ap (option_map name) e ∙ ap Some same)
+
+-- of the definitions that pass a test it is said of constants that they stand at their number
+module _ (D : DefaultRule) (program : Program) (schema : PlainSchema) (texts : IsProgramOfTexts program) (is_clean : IsClean program) (whole : IsSchemaWith D program schema)
+    (keeps : DefRef → Bool) (constants : (file : ℕ) (n : Counts) (c : ConstDecl) → keeps (ref.Constant n.constants) ≡ true → slice_get (constants_of program) n.constants ≡ Some (record { file = file; item = c })
+    → IsReferredIn schema n (of_const c)) where
   abbrev Constants : DeclRule
   Constants = IsFound const_in (λ (n : Counts). n.constants) of_const constants_are (constants_of program)
 
@@ -114,34 +135,26 @@ module _ (program : Program) (schema : PlainSchema) (texts : IsProgramOfTexts pr
   unfolding services_of
   services_found = program_found service_in (λ (n : Counts). n.services) of_service services_are program refl
 
-  -- a definition stands at its number, and has its name there
+  -- a definition that passes stands at its number
   abbrev IsReferred : DeclRule
-  IsReferred file before n d = IsDefIn schema (ref_behind n d) × (def_name schema (ref_behind n d) ≡ Some (declared_name d).text)
-
-  -- the same of one of its list, with its name
-  named_at : {A : Type 0} (xs : List A) (name : A → List ℕ) (k : ℕ) (x : A) (text : List ℕ) → slice_get xs k ≡ Some x → name x ≡ text
-      → (k < length xs) × (option_map name (slice_get xs k) ≡ Some text)
-  named_at xs name k x text e same = (slice_get_within xs k x e, ap (option_map name) e ∙ ap Some same)
+  IsReferred file before n d = keeps (ref_behind n d) ≡ true → IsReferredIn schema n d
 
   referred : (file : ℕ) (before : List Written) (n : Counts) (d : Declaration)
       → Constants file before n d × Typedefs file before n d × Enums file before n d × Structs file before n d × Services file before n d → IsReferred file before n d
-  referred file before n (of_const c) h =
-      let of = IsConstantOf (record { program = program; schema = is.partial }) in
-      let (p, at, made) = zip_at of (constants_of program) schema.constants is.constants n.constants (record { file = file; item = c }) h.0 in
-      named_at schema.constants (λ (x : PlainConstant). x.name) n.constants p c.name.text at made.name
-  referred file before n (of_typedef t) h =
-      let (p, at, made) = zip_at (IsAliasOf program) (typedefs_of program) schema.aliases is.whole.aliases n.aliases (record { file = file; item = t }) h.1 in
+  referred file before n (of_const c) h = λ passes. constants file n c passes h.0
+  referred file before n (of_typedef t) h = λ passes.
+      let (p, at, made) = zip_at (IsAliasOf program) (typedefs_of program) schema.aliases whole.aliases n.aliases (record { file = file; item = t }) h.1 in
       named_at schema.aliases (λ (x : PlainAlias). x.name) n.aliases p t.name.text at made.name
-  referred file before n (of_enum e) h =
+  referred file before n (of_enum e) h = λ passes.
       let item : Filed EnumDecl = record { file = file; item = e } in
       named_at schema.enums (λ (x : PlainEnum). x.name) n.enums (enum_made item) e.name.text
-      (subst (λ xs. slice_get xs n.enums ≡ Some (enum_made item)) (sym is.whole.enums) (at_mapped enum_made (enums_of program) n.enums item h.2)) refl
-  referred file before n (of_struct_decl s) h =
+      (subst (λ xs. slice_get xs n.enums ≡ Some (enum_made item)) (sym whole.enums) (at_mapped enum_made (enums_of program) n.enums item h.2)) refl
+  referred file before n (of_struct_decl s) h = λ passes.
       let item : Filed StructDecl = record { file = file; item = s } in
-      let (p, at, made) = zip_at (IsStructFrom Default program) (field_lists program) schema.structs is.whole.structs n.structs (fields_of_struct item) (struct_list_at program n.structs item h.3) in
+      let (p, at, made) = zip_at (IsStructFrom D program) (field_lists program) schema.structs whole.structs n.structs (fields_of_struct item) (struct_list_at program n.structs item h.3) in
       named_at schema.structs (λ (x : PlainStruct). x.name) n.structs p s.name.text at made.name
-  referred file before n (of_service s) h =
-      let (p, at, name) = service_at Default program (length (structs_of program)) (services_of program) schema.services is.whole.services n.services (record { file = file; item = s }) h.4 in
+  referred file before n (of_service s) h = λ passes.
+      let (p, at, name) = service_at D program (length (structs_of program)) (services_of program) schema.services whole.services n.services (record { file = file; item = s }) h.4 in
       named_at schema.services (λ (x : PlainService). x.name) n.services p s.name.text at name
 
   -- a definition's name is new in its file
@@ -168,73 +181,68 @@ module _ (program : Program) (schema : PlainSchema) (texts : IsProgramOfTexts pr
       let two = files_both One Enums Two (λ file before n d h k. (h.0, h.1, k)) 0 none_counted program one enums_found in
       let three = files_both Two Structs Three (λ file before n d h k. (h.0, h.1, h.2, k)) 0 none_counted program two structs_found in
       let four = files_both Three Services IsReferred (λ file before n d h k. referred file before n d (h.0, h.1, h.2, h.3, k)) 0 none_counted program three services_found in
-      files_both IsReferred (IsFine program) IsGood (λ file before n d h fine. (h, new_name file before n d fine.clear)) 0 none_counted program four (all_fine program texts is.faultless)
+      files_both IsReferred (IsFine program) IsGood (λ file before n d h fine. (h, new_name file before n d fine.clear)) 0 none_counted program four (all_fine program texts is_clean)
 
-  -- the definitions of a file
-  places : (file : ℕ) (before : List Written) (n : Counts) (ds : List Declaration) → DeclsIn IsGood file before n ds → AllByRecursion (IsDefIn schema) (refs_behind n ds)
+  -- the definitions of a file that pass
+  places : (file : ℕ) (before : List Written) (n : Counts) (ds : List Declaration) → DeclsIn IsGood file before n ds → AllByRecursion (λ r. keeps r ≡ true → IsDefIn schema r) (refs_behind n ds)
   places file before n [] h = tt
-  places file before n (d ∷ ds) h = (h.0.0.0, places file (before ++ declared_name d ∷ []) (counted n d) ds h.1)
+  places file before n (d ∷ ds) h = (λ passes. (h.0.0 passes).0, places file (before ++ declared_name d ∷ []) (counted n d) ds h.1)
 
   abbrev HasOtherName : List ℕ → DefRef → Type 0
   HasOtherName name r = def_name schema r ≡ Some name → ⊥
 
   others : (name : List ℕ) (file : ℕ) (before : List Written) (n : Counts) (ds : List Declaration) → IsAmong name before → DeclsIn IsGood file before n ds
-      → AllByRecursion (HasOtherName name) (refs_behind n ds)
+      → AllByRecursion (λ r. keeps r ≡ true → HasOtherName name r) (refs_behind n ds)
   others name file before n [] among h = tt
   others name file before n (d ∷ ds) among h = (
-    λ e. h.0.1 (subst (λ x. IsAmong x before) (somes name (declared_name d).text (sym e ∙ h.0.0.1)) among),
+    λ passes e. h.0.1 (subst (λ x. IsAmong x before) (somes name (declared_name d).text (sym e ∙ (h.0.0 passes).1)) among),
     others name file (before ++ declared_name d ∷ []) (counted n d) ds (among_still name before (declared_name d) among) h.1,
   )
 
-  different : (file : ℕ) (before : List Written) (n : Counts) (ds : List Declaration) → DeclsIn IsGood file before n ds → AllPairs (λ a b. def_name schema a ≢ def_name schema b) (refs_behind n ds)
+  different : (file : ℕ) (before : List Written) (n : Counts) (ds : List Declaration) → DeclsIn IsGood file before n ds
+      → AllPairs (λ a b. def_name schema a ≢ def_name schema b) (filter keeps (refs_behind n ds))
   different file before n [] h = λ i j d low within. absurd (omega arith)
   different file before n (d ∷ ds) h =
       let name = (declared_name d).text in
-      let Other = λ (r : DefRef). def_name schema (ref_behind n d) ≢ def_name schema r in
-      AllPairs-cons (λ a b. def_name schema a ≢ def_name schema b) (ref_behind n d) (refs_behind (counted n d) ds)
-      (All-weaker (HasOtherName name) Other (λ r other e. other (sym e ∙ h.0.0.1)) (refs_behind (counted n d) ds)
-      (All-from_recursion (HasOtherName name) (refs_behind (counted n d) ds)
-      (others name file (before ++ declared_name d ∷ []) (counted n d) ds (among_last before (declared_name d)) h.1)))
-      (different file (before ++ declared_name d ∷ []) (counted n d) ds h.1)
+      let r = ref_behind n d in
+      let rest = filter keeps (refs_behind (counted n d) ds) in
+      let later = different file (before ++ declared_name d ∷ []) (counted n d) ds h.1 in
+      let behind = All-from_recursion (HasOtherName name) rest (passing keeps (HasOtherName name) (refs_behind (counted n d) ds)
+      (others name file (before ++ declared_name d ∷ []) (counted n d) ds (among_last before (declared_name d)) h.1)) in
+      cond_both (keeps r) (r ∷ rest) rest (AllPairs (λ a b. def_name schema a ≢ def_name schema b))
+      (λ passes. AllPairs-cons (λ a b. def_name schema a ≢ def_name schema b) r rest
+      (All-weaker (HasOtherName name) (λ (s : DefRef). def_name schema r ≢ def_name schema s) (λ s other e. other (sym e ∙ (h.0.0 passes).1)) rest behind) later)
+      (λ passes. later)
 
-  sound_defs : (file : ℕ) (n : Counts) (ds : List Declaration) → DeclsIn IsGood file [] n ds → AreSoundDefs schema (refs_behind n ds)
-  sound_defs file n ds h = record { places = All-from_recursion (IsDefIn schema) (refs_behind n ds) (places file [] n ds h); names = different file [] n ds h }
+  sound_defs : (file : ℕ) (n : Counts) (ds : List Declaration) → DeclsIn IsGood file [] n ds → AreSoundDefs schema (filter keeps (refs_behind n ds))
+  sound_defs file n ds h = record {
+    places = All-from_recursion (IsDefIn schema) (filter keeps (refs_behind n ds)) (passing keeps (IsDefIn schema) (refs_behind n ds) (places file [] n ds h));
+    names = different file [] n ds h;
+  }
 
   -- files
-  abbrev AreDefsSound : PlainFile → Type 0
-  AreDefsSound f = AreSoundDefs schema f.defs
-
-  defs_of_files : (file : ℕ) (n : Counts) (fs : Program) → FilesIn IsGood file n fs → AllByRecursion AreDefsSound (files_behind n fs)
+  defs_of_files : (file : ℕ) (n : Counts) (fs : Program) → FilesIn IsGood file n fs → AllByRecursion (λ (f : PlainFile). AreSoundDefs schema (filter keeps f.defs)) (files_behind n fs)
   defs_of_files file n [] h = tt
   defs_of_files file n (f ∷ fs) h = (sound_defs file n f.declarations h.0, defs_of_files (suc file) (all_counted n f.declarations) fs h.1)
 
-  pub all_defs : All (λ (f : PlainFile). AreSoundDefs schema f.defs) schema.files
+  pub all_defs : AllByRecursion (λ (f : PlainFile). AreSoundDefs schema (filter keeps f.defs)) schema.files
   unfolding files_of
-  all_defs = subst (All AreDefsSound) (sym is.whole.files) (All-from_recursion AreDefsSound (files_behind none_counted program) (defs_of_files 0 none_counted program all_good))
+  all_defs =
+      subst (AllByRecursion (λ (f : PlainFile). AreSoundDefs schema (filter keeps f.defs))) (sym whole.files) (defs_of_files 0 none_counted program all_good)
 
-  sound_file : (f : PlainFile) → All (IsPlaceIn schema.files) f.includes → AreSoundDefs schema f.defs → IsSoundFile schema f
-  sound_file f includes defs = record {
-    includes = includes;
-    defs = record {
-      places = All-filter is_no_constant (IsDefIn schema) f.defs defs.places;
-      names = AllPairs-filter (λ a b. def_name schema a ≢ def_name schema b) is_no_constant f.defs defs.names;
-    };
-  }
-
-  files_sound : (file : ℕ) (n : Counts) (fs : Program) → FilesIn IsGood file n fs → AllByRecursion (IsFileOfText (length program)) fs → AllByRecursion (IsSoundFile schema) (files_behind n fs)
-  files_sound file n [] h k = tt
-  files_sound file n (f ∷ fs) h k = (
-    sound_file (record { base = base_of_file f; includes = f.includes; defs = refs_behind n f.declarations })
-        (All-weaker (λ number. number < length program) (IsPlaceIn schema.files) (λ number within. omega (arith, file_size Default program schema is.whole)) f.includes k.0.includes)
-        (sound_defs file n f.declarations h.0),
-    files_sound (suc file) (all_counted n f.declarations) fs h.1 k.1,
+-- includes and base names
+module _ (D : DefaultRule) (program : Program) (schema : PlainSchema) (texts : IsProgramOfTexts program) (whole : IsSchemaWith D program schema) where
+  included : (n : Counts) (fs : Program) → AllByRecursion (IsFileOfText (length program)) fs → AllByRecursion (λ (f : PlainFile). All (IsPlaceIn schema.files) f.includes) (files_behind n fs)
+  included n [] h = tt
+  included n (f ∷ fs) h = (
+    All-weaker (λ number. number < length program) (IsPlaceIn schema.files) (λ number within. omega (arith, file_size D program schema whole)) f.includes h.0.includes,
+    included (all_counted n f.declarations) fs h.1,
   )
 
-  pub sound_files : All (IsSoundFile schema) schema.files
+  pub all_included : AllByRecursion (λ (f : PlainFile). All (IsPlaceIn schema.files) f.includes) schema.files
   unfolding files_of
-  sound_files =
-      subst (All (IsSoundFile schema)) (sym is.whole.files)
-      (All-from_recursion (IsSoundFile schema) (files_behind none_counted program) (files_sound 0 none_counted program all_good texts.files))
+  all_included =
+      subst (AllByRecursion (λ (f : PlainFile). All (IsPlaceIn schema.files) f.includes)) (sym whole.files) (included none_counted program texts.files)
 
   bases_are : (n : Counts) (fs : Program) → map base_of_file fs ≡ map (λ (f : PlainFile). f.base) (files_behind n fs)
   bases_are n [] = refl
@@ -242,4 +250,4 @@ module _ (program : Program) (schema : PlainSchema) (texts : IsProgramOfTexts pr
 
   pub different_bases : AreDifferent (map (λ (f : PlainFile). f.base) schema.files)
   unfolding files_of
-  different_bases = subst (AllPairs (λ a b. a ≢ b)) (bases_are none_counted program ∙ ap (map (λ (f : PlainFile). f.base)) (sym is.whole.files)) texts.bases
+  different_bases = subst (AllPairs (λ a b. a ≢ b)) (bases_are none_counted program ∙ ap (map (λ (f : PlainFile). f.base)) (sym whole.files)) texts.bases

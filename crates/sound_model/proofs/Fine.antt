@@ -10,9 +10,9 @@ use Rattle.idl_model.specs.Numbering.{Filed, filed, Counts, none_counted, const_
 use Rattle.idl_model.specs.Spots.{type_spots, parent_spots, spots_in_declaration}
 use Rattle.schema.specs.Sound.{IsSchemaName}
 use Rattle.check_model.specs.FieldLists.{FieldsDecl, fields_of_struct, args_of_function, field_lists}
-use Rattle.check_model.specs.FirstFlaw.{HasNoFlaw}
 use Rattle.check_model.proofs.Shown.{front_all, back_all, both_all, mapped, weaker, AllFrom}
 use Rattle.check_model.proofs.Resolving.{zip_all}
+use Rattle.sound_model.specs.Clean.{IsClean}
 use Rattle.sound_model.specs.Declared.{IsFieldNamed, IsFunctionNamed, IsValueNamed, IsNamed, IsFileOfText, IsProgramOfTexts}
 use Rattle.sound_model.proofs.RisingFields.{AreFresh}
 use Rattle.sound_model.proofs.SchemaNames.{schema_name}
@@ -145,7 +145,7 @@ module _ (program : Program) where
       }
 
   -- all of them
-  module _ (texts : IsProgramOfTexts program) (faultless : HasNoFlaw program) where
+  module _ (texts : IsProgramOfTexts program) (is_clean : IsClean program) where
     pub all_fine : FilesIn IsFine 0 none_counted program
     all_fine =
         let named = files_everywhere IsNamed 0 none_counted program
@@ -154,7 +154,7 @@ module _ (program : Program) where
         let NamedWithin = λ (file : ℕ) (before : List Written) (n : Counts) (d : Declaration). (file < length program) × IsNamed d in
         files_both NamedWithin (IsSpotted (IsClear program)) IsFine (λ file before n d h clear. record { within = h.0; named = h.1; clear = clear }) 0 none_counted program
         (files_both (InFile (length program)) (Everywhere IsNamed) NamedWithin (λ file before n d within named. (within, named)) 0 none_counted program within named)
-        (all_clear program faultless)
+        (all_clear program is_clean)
 
     pub constants_fine : AllByRecursion IsFineConst (constants_of program)
     unfolding constants_of

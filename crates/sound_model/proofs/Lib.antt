@@ -17,4 +17,5 @@ pub mod Thrown
 pub mod SoundServices
 pub mod NoLoop
 pub mod DifferentFunctions
+pub mod SameStructs
 pub mod Soundness

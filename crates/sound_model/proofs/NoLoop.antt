@@ -12,9 +12,9 @@ use Rattle.schema.specs.Inherited.{parent_of}
 use Rattle.schema.specs.PlainSchema.{PlainService, PlainSchema}
 use Rattle.schema.specs.Sound.{Extends, HasNoServiceLoop}
 use Rattle.check_model.specs.SchemaParts.{DefaultRule, IsServiceOf, AreServicesOf, IsSchemaWith}
-use Rattle.check_model.specs.ProgramSchema.{DefaultIn, IsSchemaOf}
 use Rattle.check_model.proofs.FirstOnes.{somes, none_some}
 use Rattle.check_model.proofs.Resolving.{from_at}
+use Rattle.sound_model.specs.Clean.{IsClean}
 use Rattle.sound_model.specs.Declared.{IsProgramOfTexts}
 use Rattle.sound_model.proofs.FileParts.{at_mapped}
 use Rattle.sound_model.proofs.Fine.{IsFineService, services_fine}
@@ -57,10 +57,9 @@ module _ (D : DefaultRule) (program : Program) (schema : PlainSchema) (is : IsSc
   starts child parent [] way = starts_by child parent (slice_get schema.services child) refl way
   starts child parent (next ∷ between) way = starts_by child next (slice_get schema.services child) refl way.0
 
-pub no_loop : (program : Program) (schema : PlainSchema) → IsProgramOfTexts program → IsSchemaOf program schema → HasNoServiceLoop schema.services
-no_loop program schema texts is which between way =
-    let D = DefaultIn (record { program = program; schema = is.partial }) in
-    let (s, at) = starts D program schema is.whole which which between way in
-    let fine = from_at (IsFineService program) 0 (services_of program) (services_fine program texts is.faultless) which s at in
-    let Q : ℕ → Type 0 = λ n. OnCycle (parent_graph program) n in
-    fine.acyclic (subst Q (let e : which ≡ 0 + which = omega arith in e) (between, walk D program schema is.whole which which between way))
+  pub no_loop : IsProgramOfTexts program → IsClean program → HasNoServiceLoop schema.services
+  no_loop texts is_clean which between way =
+      let (s, at) = starts which which between way in
+      let fine = from_at (IsFineService program) 0 (services_of program) (services_fine program texts is_clean) which s at in
+      let Q : ℕ → Type 0 = λ n. OnCycle (parent_graph program) n in
+      fine.acyclic (subst Q (let e : which ≡ 0 + which = omega arith in e) (between, walk which which between way))

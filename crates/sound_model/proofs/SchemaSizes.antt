@@ -3,14 +3,13 @@ use Rattle.std.proofs.Common.{◌≡◌, ℕ, suc, ◌+◌, ◌<◌, ◌≤◌, 
 use Rattle.std.specs.List.{AllZip}
 use Rattle.idl_model.specs.Declarations.{FunctionDecl, ServiceDecl, StructDecl}
 use Rattle.idl_model.specs.Program.{Program}
-use Rattle.idl_model.specs.Numbering.{Filed, Counts, none_counted, all_counted, constants_of, typedefs_of, enums_of, structs_of, services_of, all_functions}
+use Rattle.idl_model.specs.Numbering.{Filed, Counts, none_counted, all_counted, typedefs_of, enums_of, structs_of, services_of, all_functions}
 use Rattle.schema.specs.PlainSchema.{PlainService, PlainSchema}
 use Rattle.schema.specs.Sound.{HasShortLists}
 use Rattle.check_model.specs.FieldLists.{FieldsDecl, fields_of_struct, args_of_function, field_lists}
 use Rattle.check_model.specs.SchemaParts.{DefaultRule, IsAliasOf, IsStructFrom, AreServicesOf, IsSchemaWith, enum_made, files_behind, files_of}
-use Rattle.check_model.specs.ProgramSchema.{IsSchemaOf, IsConstantOf, DefaultIn}
 use Rattle.sound_model.specs.Declared.{IsProgramOfTexts}
-use Rattle.sound_model.proofs.Sizes.{same_length, few_constants, few_typedefs, few_enums, few_services, few_lists}
+use Rattle.sound_model.proofs.Sizes.{same_length, few_typedefs, few_enums, few_services, few_lists}
 
 pub zip_length : {A B : Type 0} (R : A → B → Type 0) (xs : List A) (ys : List B) → AllZip R xs ys → length ys ≡ length xs
 zip_length R [] [] h = refl
@@ -52,15 +51,13 @@ module _ (D : DefaultRule) (program : Program) where
     pub service_size : length schema.services ≡ length (services_of program)
     service_size = services_length (length (structs_of program)) (services_of program) schema.services is.services
 
-pub short_lists : (program : Program) (schema : PlainSchema) → IsProgramOfTexts program → IsSchemaOf program schema → HasShortLists schema
-short_lists program schema texts is =
-    let D = DefaultIn (record { program = program; schema = is.partial }) in
-    let constants = zip_length (IsConstantOf (record { program = program; schema = is.partial })) (constants_of program) schema.constants is.constants in
-    record {
-      files = omega (arith, file_size D program schema is.whole, texts.most);
-      structs = omega (arith, struct_size D program schema is.whole, few_lists program texts);
-      enums = omega (arith, enum_size D program schema is.whole, few_enums program texts);
-      services = omega (arith, service_size D program schema is.whole, few_services program texts);
-      aliases = omega (arith, alias_size D program schema is.whole, few_typedefs program texts);
-      constants = omega (arith, constants, few_constants program texts);
+    -- lists are short where that of constants is
+    pub short_lists : IsProgramOfTexts program → length schema.constants < 2 ^ 32 → HasShortLists schema
+    short_lists texts few = record {
+      files = omega (arith, file_size, texts.most);
+      structs = omega (arith, struct_size, few_lists program texts);
+      enums = omega (arith, enum_size, few_enums program texts);
+      services = omega (arith, service_size, few_services program texts);
+      aliases = omega (arith, alias_size, few_typedefs program texts);
+      constants = few;
     }

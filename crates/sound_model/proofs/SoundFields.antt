@@ -1,30 +1,27 @@
--- Structs, enums, typedefs and constants of a program's schema are sound.
+-- Structs, enums and typedefs of a program's schema are sound.
 use Rattle.std.proofs.Common.{◌≡◌, ℕ, ◌+◌, ◌<◌, ◌≤◌, ◌<ℤ◌, ℤ, List, [], ◌∷◌, map, length, Option, None, Some, All, refl, sym, subst, arith}
 use Rattle.std.specs.Prelude.{MatchOption, ⊤}
 use Rattle.std.specs.List.{AllByRecursion, AllZip}
 use Rattle.std.proofs.lemmas.List.Elements.{All-from_recursion}
 use Rattle.thrift_value.specs.Tree.{Tree}
-use Rattle.idl_model.specs.ConstExpr.{ConstExpr}
-use Rattle.idl_model.specs.Declarations.{FieldDecl, ConstDecl, TypedefDecl, EnumValueDecl, EnumDecl}
+use Rattle.idl_model.specs.Declarations.{FieldDecl, TypedefDecl, EnumValueDecl, EnumDecl}
 use Rattle.idl_model.specs.EnumNumbers.{enum_numbers}
 use Rattle.idl_model.specs.Program.{Program}
-use Rattle.idl_model.specs.Numbering.{Filed, constants_of, typedefs_of, enums_of, structs_of, all_functions}
-use Rattle.idl_model.specs.Spots.{GivenValue}
+use Rattle.idl_model.specs.Numbering.{Filed, typedefs_of, enums_of, structs_of, all_functions}
 use Rattle.schema.specs.declared.types.FieldsKind.{FieldsKind}
 use Rattle.schema.specs.PlainKind.{PlainKind}
-use Rattle.schema.specs.PlainSchema.{PlainField, PlainStruct, PlainEnum, PlainAlias, PlainConstant, PlainSchema}
-use Rattle.schema.specs.Sound.{IsSchemaName, IsKindIn, IsValueOf, IsSoundField, AreSoundFields, IsSoundStruct, IsSoundEnum, IsSoundAlias, IsSoundConstant}
+use Rattle.schema.specs.PlainSchema.{PlainField, PlainStruct, PlainEnum, PlainAlias, PlainSchema}
+use Rattle.schema.specs.Sound.{IsSchemaName, IsKindIn, IsValueOf, IsSoundField, AreSoundFields, IsSoundStruct, IsSoundEnum, IsSoundAlias}
 use Rattle.check_model.specs.FieldLists.{NumberedField, FieldsDecl, fields_by_id, field_lists}
 use Rattle.check_model.specs.Resolved.{TypeMeans}
 use Rattle.check_model.specs.SchemaParts.{DefaultRule, IsAliasOf, IsFieldOf, AreFieldsOf, IsStructFrom, IsSchemaWith, named_numbers, enum_made}
-use Rattle.check_model.specs.ProgramSchema.{HasWorth, IsDefault, DefaultIn, IsConstantOf, IsSchemaOf}
 use Rattle.check_model.proofs.Shown.{mapped, weaker}
+use Rattle.sound_model.specs.Clean.{IsClean}
 use Rattle.sound_model.specs.Declared.{IsProgramOfTexts}
-use Rattle.sound_model.specs.Worths.{WorthsAreWritten}
 use Rattle.sound_model.proofs.RisingFields.{by_id_holds, AreFresh, fields_rise, zip_rises}
 use Rattle.sound_model.proofs.TypeKinds.{meaning_in}
 use Rattle.sound_model.proofs.SchemaSizes.{file_size, enum_size, struct_size}
-use Rattle.sound_model.proofs.Fine.{IsFineField, IsFineValue, IsFineList, IsFineConst, IsFineTypedef, IsFineEnum, constants_fine, typedefs_fine, enums_fine, lists_fine}
+use Rattle.sound_model.proofs.Fine.{IsFineField, IsFineValue, IsFineList, IsFineTypedef, IsFineEnum, typedefs_fine, enums_fine, lists_fine}
 
 -- what holds of each of some things holds of what is made of them, one by one
 pub zip_turned : {A B : Type 0} (Q : A → Type 0) (R : A → B → Type 0) (S : B → Type 0) → ((x : A) (y : B) → Q x → R x y → S y) → (xs : List A) (ys : List B)
@@ -34,43 +31,37 @@ zip_turned Q R S by [] (y ∷ ys) h zip = absurd zip
 zip_turned Q R S by (x ∷ xs) [] h zip = absurd zip
 zip_turned Q R S by (x ∷ xs) (y ∷ ys) h zip = (by x y h.0 zip.0, zip_turned Q R S by xs ys h.1 zip.1)
 
-module _ (program : Program) (schema : PlainSchema) (texts : IsProgramOfTexts program) (is : IsSchemaOf program schema) (written : WorthsAreWritten program schema) where
-  -- the rule of its defaults
-  abbrev pub Defaults : DefaultRule
-  Defaults = DefaultIn (record { program = program; schema = is.partial })
+-- what is said of a default makes it a value of its type
+abbrev pub GivesValues : DefaultRule → Program → PlainSchema → Type 0
+GivesValues D program schema = (file : ℕ) (f : FieldDecl) (k : PlainKind) (default : Option Tree) → TypeMeans program file f.type k → D file f k default → MatchOption default ⊤ (IsValueOf schema k)
 
+module _ (D : DefaultRule) (program : Program) (schema : PlainSchema) (texts : IsProgramOfTexts program) (is_clean : IsClean program) (whole : IsSchemaWith D program schema)
+    (values : GivesValues D program schema) where
   pub kind_in : (file : ℕ) (t : _) (k : PlainKind) → TypeMeans program file t k → IsKindIn schema k
   kind_in file t k means =
-      meaning_in program schema (omega (arith, enum_size Defaults program schema is.whole)) (omega (arith, struct_size Defaults program schema is.whole)) file t k means
+      meaning_in program schema (omega (arith, enum_size D program schema whole)) (omega (arith, struct_size D program schema whole)) file t k means
 
-  default_value : (file : ℕ) (f : FieldDecl) (k : PlainKind) (tree : Option ConstExpr) (default : Option Tree) → TypeMeans program file f.type k
-      → IsDefault (record { program = program; schema = is.partial }) file f k tree default → MatchOption default ⊤ (IsValueOf schema k)
-  default_value file f k None default means said = subst (λ d. MatchOption d ⊤ (IsValueOf schema k)) (sym said) tt
-  default_value file f k (Some tree) default means said =
-      let v : Filed GivenValue = record { file = file; item = record { owner = f.at; type = f.type; tree = tree } } in
-      subst (λ d. MatchOption d ⊤ (IsValueOf schema k)) (sym said.1) (written is.partial is.made v k said.0 means said.2)
-
-  sound_field : (file : ℕ) (list : FieldsKind) (f : NumberedField) (p : PlainField) → IsFineField f.decl → IsFieldOf Defaults program file list f p → IsSoundField schema p
+  sound_field : (file : ℕ) (list : FieldsKind) (f : NumberedField) (p : PlainField) → IsFineField f.decl → IsFieldOf D program file list f p → IsSoundField schema p
   sound_field file list f p fine of = record {
     name = subst IsSchemaName (sym of.name) fine;
     kind = kind_in file f.decl.type p.kind of.kind;
-    default = default_value file f.decl p.kind f.decl.default p.default of.kind of.default;
+    default = values file f.decl p.kind p.default of.kind of.default;
   }
 
   pub sound_fields : (file : ℕ) (list : FieldsKind) (fs : List FieldDecl) (ps : List PlainField) → AllByRecursion IsFineField fs → AreFresh [] fs
-      → AreFieldsOf Defaults program file list fs ps → AreSoundFields schema ps
+      → AreFieldsOf D program file list fs ps → AreSoundFields schema ps
   sound_fields file list fs ps fine fresh are = record {
-    rising = zip_rises (IsFieldOf Defaults program file list) (λ f p of. of.id) (fields_by_id fs) ps are (fields_rise fs fresh);
+    rising = zip_rises (IsFieldOf D program file list) (λ f p of. of.id) (fields_by_id fs) ps are (fields_rise fs fresh);
     each = All-from_recursion (IsSoundField schema) ps
-        (zip_turned (λ (f : NumberedField). IsFineField f.decl) (IsFieldOf Defaults program file list) (IsSoundField schema) (sound_field file list)
+        (zip_turned (λ (f : NumberedField). IsFineField f.decl) (IsFieldOf D program file list) (IsSoundField schema) (sound_field file list)
         (fields_by_id fs) ps (by_id_holds IsFineField fs fine) are);
   }
 
   -- a file's number is a place among the schema's files
   pub file_in : (file : ℕ) → file < length program → file < length schema.files
-  file_in file within = omega (arith, file_size Defaults program schema is.whole)
+  file_in file within = omega (arith, file_size D program schema whole)
 
-  sound_struct : (d : FieldsDecl) (p : PlainStruct) → IsFineList (length program) d → IsStructFrom Defaults program d p → IsSoundStruct schema p
+  sound_struct : (d : FieldsDecl) (p : PlainStruct) → IsFineList (length program) d → IsStructFrom D program d p → IsSoundStruct schema p
   sound_struct d p fine from = record {
     file = subst (λ n. n < length schema.files) (sym from.file) (file_in d.file fine.file);
     name = subst IsSchemaName (sym from.name) fine.name;
@@ -80,8 +71,8 @@ module _ (program : Program) (schema : PlainSchema) (texts : IsProgramOfTexts pr
   pub sound_structs : All (IsSoundStruct schema) schema.structs
   sound_structs =
       All-from_recursion (IsSoundStruct schema) schema.structs
-      (zip_turned (IsFineList (length program)) (IsStructFrom Defaults program) (IsSoundStruct schema) sound_struct (field_lists program) schema.structs
-      (lists_fine program texts is.faultless) is.whole.structs)
+      (zip_turned (IsFineList (length program)) (IsStructFrom D program) (IsSoundStruct schema) sound_struct (field_lists program) schema.structs
+      (lists_fine program texts is_clean) whole.structs)
 
   value_names : (vs : List EnumValueDecl) (numbers : List ℤ) → AllByRecursion IsFineValue vs → AllByRecursion (λ (v : List ℕ × ℤ). IsSchemaName v.0) (named_numbers vs numbers)
   value_names [] numbers h = tt
@@ -98,10 +89,10 @@ module _ (program : Program) (schema : PlainSchema) (texts : IsProgramOfTexts pr
 
   pub sound_enums : All (IsSoundEnum schema) schema.enums
   sound_enums =
-      subst (All (IsSoundEnum schema)) (sym is.whole.enums)
+      subst (All (IsSoundEnum schema)) (sym whole.enums)
       (All-from_recursion (IsSoundEnum schema) (map enum_made (enums_of program))
       (mapped (IsSoundEnum schema) enum_made (enums_of program)
-      (weaker (IsFineEnum program) (λ e. IsSoundEnum schema (enum_made e)) sound_enum (enums_of program) (enums_fine program texts is.faultless))))
+      (weaker (IsFineEnum program) (λ e. IsSoundEnum schema (enum_made e)) sound_enum (enums_of program) (enums_fine program texts is_clean))))
 
   sound_alias : (t : Filed TypedefDecl) (a : PlainAlias) → IsFineTypedef program t → IsAliasOf program t a → IsSoundAlias schema a
   sound_alias t a fine of = record {
@@ -114,20 +105,4 @@ module _ (program : Program) (schema : PlainSchema) (texts : IsProgramOfTexts pr
   sound_aliases =
       All-from_recursion (IsSoundAlias schema) schema.aliases
       (zip_turned (IsFineTypedef program) (IsAliasOf program) (IsSoundAlias schema) sound_alias (typedefs_of program) schema.aliases
-      (typedefs_fine program texts is.faultless) is.whole.aliases)
-
-  sound_constant : (c : Filed ConstDecl) (p : PlainConstant) → IsFineConst program c → IsConstantOf (record { program = program; schema = is.partial }) c p → IsSoundConstant schema p
-  sound_constant c p fine of =
-      let v : Filed GivenValue = record { file = c.file; item = record { owner = c.item.name.at; type = c.item.type; tree = c.item.value } } in
-      record {
-        file = subst (λ n. n < length schema.files) (sym of.file) (file_in c.file fine.file);
-        name = subst IsSchemaName (sym of.name) fine.name;
-        kind = kind_in c.file c.item.type p.kind of.kind;
-        value = written is.partial is.made v p.kind p.value of.kind of.value;
-      }
-
-  pub sound_constants : All (IsSoundConstant schema) schema.constants
-  sound_constants =
-      All-from_recursion (IsSoundConstant schema) schema.constants
-      (zip_turned (IsFineConst program) (IsConstantOf (record { program = program; schema = is.partial })) (IsSoundConstant schema) sound_constant (constants_of program) schema.constants
-      (constants_fine program texts is.faultless) is.constants)
+      (typedefs_fine program texts is_clean) whole.aliases)

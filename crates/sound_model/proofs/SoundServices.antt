@@ -13,17 +13,16 @@ use Rattle.schema.specs.PlainKind.{PlainKind}
 use Rattle.schema.specs.PlainSchema.{PlainField, PlainFunction, PlainService, PlainSchema}
 use Rattle.schema.specs.Sound.{IsSchemaName, IsKindIn, IsStructOf, IsException, IsPlaceIn, IsSoundFunction, IsSoundService}
 use Rattle.check_model.specs.FieldLists.{NumberedField, FieldsDecl, fields_by_id, fields_of_struct, args_of_function, field_lists}
-use Rattle.check_model.specs.SchemaParts.{DefaultRule, IsFieldOf, AreFieldsOf, IsStructFrom, ResultMeans, IsFunctionOf, AreFunctionsOf, IsServiceOf, AreServicesOf}
-use Rattle.check_model.specs.ProgramSchema.{IsSchemaOf}
+use Rattle.check_model.specs.SchemaParts.{DefaultRule, IsFieldOf, AreFieldsOf, IsStructFrom, ResultMeans, IsFunctionOf, AreFunctionsOf, IsServiceOf, AreServicesOf, IsSchemaWith}
+use Rattle.sound_model.specs.Clean.{IsClean}
 use Rattle.sound_model.specs.Declared.{IsProgramOfTexts}
-use Rattle.sound_model.specs.Worths.{WorthsAreWritten}
 use Rattle.sound_model.proofs.RisingFields.{by_id_holds}
 use Rattle.sound_model.proofs.TypeKinds.{parent_within}
 use Rattle.sound_model.proofs.Sizes.{same_length}
 use Rattle.sound_model.proofs.SchemaSizes.{service_size}
 use Rattle.sound_model.proofs.Clear.{MayBeThrown}
 use Rattle.sound_model.proofs.Fine.{IsFineFunction, IsFineService, services_fine, without_numbers}
-use Rattle.sound_model.proofs.SoundFields.{zip_turned, Defaults, kind_in, sound_fields, file_in}
+use Rattle.sound_model.proofs.SoundFields.{GivesValues, zip_turned, kind_in, sound_fields, file_in}
 use Rattle.sound_model.proofs.FileParts.{zip_at, at_mapped}
 use Rattle.sound_model.proofs.Thrown.{struct_of_kind, is_exception}
 
@@ -49,16 +48,13 @@ args_list_at program k f e =
     subst P (same_length fields_of_struct (structs_of program)) (behind_at structs (map args_of_function (all_functions program)) k (args_of_function f)
     (at_mapped args_of_function (all_functions program) k f e))
 
-module _ (program : Program) (schema : PlainSchema) (texts : IsProgramOfTexts program) (is : IsSchemaOf program schema) (written : WorthsAreWritten program schema) where
-  -- the rule of the schema's defaults
-  abbrev D : DefaultRule
-  D = Defaults program schema texts is written
-
+module _ (D : DefaultRule) (program : Program) (schema : PlainSchema) (texts : IsProgramOfTexts program) (is_clean : IsClean program) (whole : IsSchemaWith D program schema)
+    (values : GivesValues D program schema) where
   args_struct : (number : ℕ) → length (structs_of program) ≤ number → number < length (structs_of program) + length (all_functions program) → IsStructOf schema fields.Args number
   args_struct number from within =
       let place = number - length (structs_of program) in
       let (f, at) = some_at (all_functions program) place (omega arith) in
-      let (p, found, made) = zip_at (IsStructFrom D program) (field_lists program) schema.structs is.whole.structs (length (structs_of program) + place) (args_of_function f) (args_list_at program place f at) in
+      let (p, found, made) = zip_at (IsStructFrom D program) (field_lists program) schema.structs whole.structs (length (structs_of program) + place) (args_of_function f) (args_list_at program place f at) in
       subst (IsStructOf schema fields.Args) (let e : length (structs_of program) + place ≡ number = omega arith in e)
       (struct_of_kind schema (length (structs_of program) + place) p fields.Args found made.kind)
 
@@ -66,14 +62,14 @@ module _ (program : Program) (schema : PlainSchema) (texts : IsProgramOfTexts pr
   result_in file None None means = tt
   result_in file None (Some k) means = absurd means
   result_in file (Some t) None means = absurd means
-  result_in file (Some t) (Some k) means = kind_in program schema texts is written file t k means
+  result_in file (Some t) (Some k) means = kind_in D program schema texts is_clean whole values file t k means
 
   thrown_in : (file : ℕ) (fs : List FieldDecl) (ps : List PlainField) → AllByRecursion (MayBeThrown program file) fs → AreFieldsOf D program file fields.Args fs ps
       → All (λ (t : PlainField). IsException schema t.kind) ps
   thrown_in file fs ps thrown are =
       All-from_recursion (λ (t : PlainField). IsException schema t.kind) ps
       (zip_turned (λ (f : NumberedField). MayBeThrown program file f.decl) (IsFieldOf D program file fields.Args) (λ (t : PlainField). IsException schema t.kind)
-      (λ f p may of. is_exception D program schema is.whole file f.decl.type may p.kind of.kind) (fields_by_id fs) ps (by_id_holds (MayBeThrown program file) fs thrown) are)
+      (λ f p may of. is_exception D program schema whole file f.decl.type may p.kind of.kind) (fields_by_id fs) ps (by_id_holds (MayBeThrown program file) fs thrown) are)
 
   sound_function : (file number : ℕ) (f : FunctionDecl) (p : PlainFunction) → length (structs_of program) ≤ number → number < length (structs_of program) + length (all_functions program)
       → IsFineFunction program file f → IsFunctionOf D program file number f p → IsSoundFunction schema p
@@ -81,7 +77,7 @@ module _ (program : Program) (schema : PlainSchema) (texts : IsProgramOfTexts pr
     name = subst IsSchemaName (sym of.name) fine.name;
     args = subst (IsStructOf schema fields.Args) (sym of.args) (args_struct number from within);
     result = result_in file f.result p.result of.result;
-    throws = sound_fields program schema texts is written file fields.Args f.throws p.throws fine.throws fine.fresh_throws of.throws;
+    throws = sound_fields D program schema texts is_clean whole values file fields.Args f.throws p.throws fine.throws fine.fresh_throws of.throws;
     exceptions = thrown_in file f.throws p.throws fine.thrown of.throws;
   }
 
@@ -99,12 +95,12 @@ module _ (program : Program) (schema : PlainSchema) (texts : IsProgramOfTexts pr
     where
       wider : (o : Option ℕ) → MatchOption o ⊤ (λ k. k < length (services_of program)) → MatchOption o ⊤ (IsPlaceIn schema.services)
       wider None h = tt
-      wider (Some k) h = omega (arith, h, service_size D program schema is.whole)
+      wider (Some k) h = omega (arith, h, service_size D program schema whole)
 
   sound_service : (args : ℕ) (s : Filed ServiceDecl) (p : PlainService) → length (structs_of program) ≤ args → args + length s.item.functions ≤ length (structs_of program) + length (all_functions program)
       → (number : ℕ) → IsFineService program number s → IsServiceOf D program args s p → IsSoundService schema p
   sound_service args s p from within number fine of = record {
-    file = subst (λ n. n < length schema.files) (sym of.file) (file_in program schema texts is written s.file fine.file);
+    file = subst (λ n. n < length schema.files) (sym of.file) (file_in D program schema texts is_clean whole values s.file fine.file);
     name = subst IsSchemaName (sym of.name) fine.name;
     parent = parent_in p.parent (parent_named program s) of.parent (parent_within program s);
     functions = All-from_recursion (IsSoundFunction schema) p.functions (sound_functions s.file args s.item.functions p.functions from within fine.functions of.functions);
@@ -131,4 +127,4 @@ module _ (program : Program) (schema : PlainSchema) (texts : IsProgramOfTexts pr
   sound_services =
       All-from_recursion (IsSoundService schema) schema.services
       (services_sound (length (structs_of program)) (services_of program) schema.services (omega arith) (omega arith)
-      (without_numbers (IsFineService program) IsFineSomewhere (λ number s fine. (number, fine)) 0 (services_of program) (services_fine program texts is.faultless)) is.whole.services)
+      (without_numbers (IsFineService program) IsFineSomewhere (λ number s fine. (number, fine)) 0 (services_of program) (services_fine program texts is_clean)) whole.services)

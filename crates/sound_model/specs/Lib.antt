@@ -1,3 +1,4 @@
 pub mod Identifiers
 pub mod Declared
+pub mod Clean
 pub mod Worths
