@@ -1,22 +1,40 @@
 -- Each phrase of the grammar keeps names as they are, and no more of a symbol than one leaf.
-use Rattle.std.proofs.Common.{◌≡◌, ℕ, zero, suc, ◌+◌, ◌≤◌, true, ◌==◌, sym, subst, arith}
+use Rattle.std.proofs.Common.{◌≡◌, ℕ, zero, suc, ◌+◌, ◌-◌, ◌≤◌, Bool, true, false, if◌then◌else◌, ◌==◌, List, [], ◌∷◌, length, take, drop, sym, subst, length-take, length-drop, arith}
 use Rattle.std.proofs.lemmas.Bool.{eqb-true}
 use Rattle.idl_token.specs.declared.terminal.Terminal.{Terminal}
 use Rattle.idl_token.specs.declared.terminal.Terminal.TheVariants as word
 use Rattle.idl_token.specs.Terminals.{code, same}
 use Rattle.idl_parser.specs.Phrases.{Lexeme, Node, none, word as word_node, flag, text, number, given, pair, placed, Phrase}
-use Rattle.idl_parser.specs.Leaves.{no_leaf, word_leaf, text_leaf, literal_leaf, number_leaf, flag_leaf, neither, left_tree, right_tree, dropped}
+use Rattle.idl_parser.specs.Leaves.{unescaped, literal_bytes, no_leaf, word_leaf, text_leaf, literal_leaf, number_leaf, flag_leaf, neither, left_tree, right_tree, dropped}
 use Rattle.idl_parser.specs.Parts.{separator, annotation_value, annotation_entry, annotation, annotated}
 use Rattle.idl_parser.specs.Types.{base, cpp_type, map_type_rest, set_type_rest, list_type_rest, container, no_container, bare_or, inner_type, bare_type, type_of}
 use Rattle.idl_parser.specs.Constants.{list_item, list_value_rest, map_entry, map_value_rest, collection, no_collection, leaf_or, inner_value, value_of}
 use Rattle.idl_parser.specs.Fields.{field_id, field_need, field_default, field_ending, field, fields}
 use Rattle.idl_parser.specs.Definitions.{constant_rest, typedef_rest, enum_number, enum_value, closing, enum_rest, struct_word, struct_rest, fields_in_parentheses, oneway, result_type, throws, function, parent, service_rest, bare_definition, definition}
 use Rattle.idl_parser.specs.Documents.{namespace_rest, header, with_header, document}
-use Rattle.sound_model.proofs.Leaves.{HasNames, leaves, KeepsOne, KeepsBoth, KeepsPart, Keeps}
+use Rattle.sound_model.proofs.Leaves.{HasTexts, leaves, KeepsOne, KeepsBoth, KeepsPart, Keeps}
 
 -- two symbols that are a third one
 same_through : (a k : Terminal) → same a k ≡ true → same k word.Identifier ≡ true → same a word.Identifier ≡ true
 same_through a k is e = subst (λ n. (n == 0) ≡ true) (sym (eqb-true (code a) (code k) is)) e
+
+-- a literal stands for no more bytes than it has
+unescaped_short : (taken : Bool) (bytes : List ℕ) → length (unescaped taken bytes) ≤ length bytes
+unescaped_short true [] = omega arith
+unescaped_short false [] = omega arith
+unescaped_short true (b ∷ bytes) = let rest = unescaped_short false bytes in omega arith
+unescaped_short false (b ∷ bytes) = escape_short (b == 92) b bytes (unescaped_short true bytes) (unescaped_short false bytes)
+  where
+    escape_short : (is : Bool) (b : ℕ) (bytes : List ℕ) → length (unescaped true bytes) ≤ length bytes → length (unescaped false bytes) ≤ length bytes
+        → length (if is then unescaped true bytes else b ∷ unescaped false bytes) ≤ suc (length bytes)
+    escape_short true b bytes l r = omega arith
+    escape_short false b bytes l r = omega arith
+
+literal_short : (bytes : List ℕ) → length (literal_bytes bytes) ≤ length bytes
+unfolding literal_bytes
+literal_short bytes =
+    let inside = take (length bytes - 2) (drop 1 bytes) in
+    omega (arith, unescaped_short false inside, length-take (length bytes - 2) (drop 1 bytes), length-drop 1 bytes)
 
 -- what is kept of a symbol
 no_sign : (k : Terminal) → KeepsOne k no_leaf
@@ -32,10 +50,10 @@ a_number : (k : Terminal) → KeepsOne k number_leaf
 a_number k = record { names = λ t is h. tt; few = λ t. omega arith }
 
 a_text : (k : Terminal) → KeepsOne k (text_leaf k)
-a_text k = record { names = λ t is h name. h (same_through t.what k is name); few = λ t. omega arith }
+a_text k = record { names = λ t is h. (λ name. h.0 (same_through t.what k is name), h.1); few = λ t. omega arith }
 
 a_literal : KeepsOne word.Literal (literal_leaf word.Literal)
-a_literal = record { names = λ t is h name. cc; few = λ t. omega arith }
+a_literal = record { names = λ t is h. (λ name. cc, omega (arith, literal_short t.bytes, h.1)); few = λ t. omega arith }
 
 -- what is made of trees
 in_pair : KeepsBoth pair
@@ -50,7 +68,7 @@ of_left = record { names = λ a b h k. h; few = λ a b. omega arith }
 of_right : KeepsBoth right_tree
 of_right = record { names = λ a b h k. k; few = λ a b. omega arith }
 
-header_names : (a b : Node) → HasNames a → HasNames b → HasNames (with_header a b)
+header_names : (a b : Node) → HasTexts a → HasTexts b → HasTexts (with_header a b)
 header_names none b h k = k
 header_names (word_node j at) b h k = (h, k)
 header_names (flag j) b h k = (h, k)

@@ -2,6 +2,7 @@ pub mod Leaves
 pub mod Grammar
 pub mod TokenNames
 pub mod DocumentNames
+pub mod DocumentValues
 pub mod TextPrograms
 pub mod Placed
 pub mod RisingFields
@@ -18,4 +19,5 @@ pub mod SoundServices
 pub mod NoLoop
 pub mod DifferentFunctions
 pub mod SameStructs
+pub mod ShortValues
 pub mod Soundness

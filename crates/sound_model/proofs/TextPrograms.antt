@@ -21,10 +21,11 @@ use Rattle.idl_include.specs.SourcesOf.{file_in, program_in, IsOfSomeText, IsFil
 use Rattle.idl_include.specs.declared.sources.IdlFile.{IdlFile}
 use Rattle.check_model.proofs.Shown.{weaker, mapped}
 use Rattle.sound_model.specs.Declared.{AreOfText, IsFileOfText, IsProgramOfTexts}
-use Rattle.sound_model.proofs.Leaves.{IsNameSymbol, Kept, kept}
+use Rattle.sound_model.proofs.Leaves.{IsTextSymbol, Kept, kept}
 use Rattle.sound_model.proofs.Grammar.{keeps_document}
-use Rattle.sound_model.proofs.TokenNames.{symbols_are_names, few_tokens, few_symbols}
+use Rattle.sound_model.proofs.TokenNames.{symbols_are_texts, few_tokens, few_symbols}
 use Rattle.sound_model.proofs.DocumentNames.{document_named, document_leaves}
+use Rattle.sound_model.proofs.DocumentValues.{document_short}
 
 -- the laws of tokens
 pub record TokenLaws : Type 0 where
@@ -36,10 +37,10 @@ module _ (laws : TokenLaws) where
   document_of_text d of_text =
       let text = of_text.text in
       let tokens = of_text.tree.tokens in
-      let names = symbols_are_names text of_text.short tokens (recursion_from_All (IsOfItsKind text) tokens (laws.kinds text tokens of_text.tree.cut)) in
+      let names = symbols_are_texts text of_text.short tokens (recursion_from_All (IsOfItsKind text) tokens (laws.kinds text tokens of_text.tree.cut)) in
       let tree : Kept (lexemes text tokens) (document_node d) [] = kept (document deepest) (keeps_document deepest) (lexemes text tokens) (document_node d) [] of_text.tree.document names in
       let few = few_tokens 0 (length text) tokens (laws.order text tokens of_text.tree.cut) in
-      record { names = document_named d tree.names; few = omega (arith, document_leaves d, tree.few, few, few_symbols text tokens, of_text.short) }
+      record { names = document_named d tree.names; values = document_short d tree.names; few = omega (arith, document_leaves d, tree.few, few, few_symbols text tokens, of_text.short) }
 
   file_of_text : (count : ℕ) (f : IdlFile) → IsFile count f → IsFileOfText count (file_in f)
   file_of_text count f is = record { text = document_of_text f.document is.document; includes = is.includes }

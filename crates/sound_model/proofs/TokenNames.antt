@@ -1,4 +1,4 @@
--- The symbols of a text that are names are identifiers, and there are no more symbols than bytes.
+-- The symbols of a text that are names are identifiers, none is longer than a text, and there are no more symbols than bytes.
 use Rattle.std.proofs.Common.{◌≡◌, ◌+◌, ◌≤◌, ◌-◌, ℕ, suc, Bool, true, false, cond, not, ◌==◌, ◌&&◌, List, [], ◌∷◌, length, take, drop, map, Option, Some, None, refl, sym, ap, ◌∙◌, arith, length-take, length-drop}
 use Rattle.std.specs.Prelude.{slice_index, nat_eq}
 use Rattle.std.specs.Option.{unwrap_or}
@@ -20,7 +20,7 @@ use Rattle.idl_token.specs.declared.terminal.Terminal.{Terminal}
 use Rattle.idl_token.specs.declared.terminal.Terminal.TheVariants as word
 use Rattle.idl_parser.specs.Symbols.{sign_of, terminal_of, lexeme_at, lexemes}
 use Rattle.sound_model.specs.Identifiers.{IsIdentifier}
-use Rattle.sound_model.proofs.Leaves.{IsNameSymbol}
+use Rattle.sound_model.proofs.Leaves.{IsTextSymbol}
 
 -- no keyword's symbol is a name
 row_case : (b : Bool) (k : Terminal) (rest : Option Terminal) → same k word.Identifier ≡ false → same (unwrap_or rest word.Refused) word.Identifier ≡ false
@@ -101,11 +101,11 @@ token_is_identifier w k short is name =
 token_is_short : (text : List ℕ) (t : Token) → length (token_bytes text t) ≤ length text
 token_is_short text t = omega (arith, length-take (t.to - t.from) (drop t.from text), length-drop t.from text)
 
-pub symbols_are_names : (text : List ℕ) → length text ≤ longest_text → (ts : List Token) → AllByRecursion (IsOfItsKind text) ts → AllByRecursion IsNameSymbol (lexemes text ts)
-symbols_are_names text short [] h = tt
-symbols_are_names text short (t ∷ ts) h =
+pub symbols_are_texts : (text : List ℕ) → length text ≤ longest_text → (ts : List Token) → AllByRecursion (IsOfItsKind text) ts → AllByRecursion IsTextSymbol (lexemes text ts)
+symbols_are_texts text short [] h = tt
+symbols_are_texts text short (t ∷ ts) h =
     let small : length (token_bytes text t) ≤ longest_text = omega (arith, token_is_short text t) in
-    (λ name. token_is_identifier (token_bytes text t) t.kind small h.0 name, symbols_are_names text short ts h.1)
+    ((λ name. token_is_identifier (token_bytes text t) t.kind small h.0 name, small), symbols_are_texts text short ts h.1)
 
 -- tokens in a row take bytes
 pub few_tokens : (from to : ℕ) (ts : List Token) → StandBetween from to ts → length ts + from ≤ to

@@ -1,10 +1,11 @@
--- What a program's definitions owe to the texts of its files: names that are identifiers, and no more definitions than bytes.
-use Rattle.std.specs.Prelude.{◌≡◌, ◌≢◌, ◌<◌, ◌≤◌, ℕ, suc, ◌+◌, List, [], ◌∷◌, length, map, All, AllPairs}
+-- What a program's definitions owe to the texts of its files: names that are identifiers, short literals, and no more definitions than bytes.
+use Rattle.std.specs.Prelude.{◌≡◌, ◌≢◌, ◌<◌, ◌≤◌, ℕ, suc, ◌+◌, List, [], ◌∷◌, length, map, All, AllPairs, MatchOption, ⊤}
 use Rattle.std.specs.List.{AllByRecursion}
 use Rattle.idl_token.specs.Limits.{longest_text}
 use Rattle.idl_model.specs.Declarations.{FieldDecl, FunctionDecl, EnumValueDecl, Declaration, of_const, of_typedef, of_enum, of_struct_decl, of_service}
 use Rattle.idl_model.specs.Loading.{most_files}
 use Rattle.idl_model.specs.Program.{SourceFile, Program, base_of_file}
+use Rattle.sound_model.specs.ShortLiterals.{HasShortLiterals}
 use Rattle.sound_model.specs.Identifiers.{IsIdentifier}
 
 -- the name of a field is an identifier
@@ -27,6 +28,21 @@ IsNamed (of_enum e) = IsIdentifier e.name.text × AllByRecursion IsValueNamed e.
 IsNamed (of_struct_decl s) = IsIdentifier s.name.text × AllByRecursion IsFieldNamed s.fields
 IsNamed (of_service s) = IsIdentifier s.name.text × AllByRecursion IsFunctionNamed s.functions
 
+-- the default of a field has short literals, if there is one
+abbrev pub HasShortDefault : FieldDecl → Type 0
+HasShortDefault f = MatchOption f.default ⊤ HasShortLiterals
+
+-- so have the defaults of a function's arguments and exceptions
+abbrev pub HasShortDefaults : FunctionDecl → Type 0
+HasShortDefaults f = AllByRecursion HasShortDefault f.arguments × AllByRecursion HasShortDefault f.throws
+
+-- all values that a definition gives have short literals
+abbrev pub HasShortValues : Declaration → Type 0
+HasShortValues (of_const c) = HasShortLiterals c.value
+HasShortValues (of_struct_decl s) = AllByRecursion HasShortDefault s.fields
+HasShortValues (of_service s) = AllByRecursion HasShortDefaults s.functions
+HasShortValues _ = ⊤
+
 -- how many functions a definition has
 abbrev pub function_count : Declaration → ℕ
 function_count (of_service s) = length s.functions
@@ -37,9 +53,10 @@ abbrev pub item_count : List Declaration → ℕ
 item_count [] = 0
 item_count (d ∷ ds) = suc (function_count d) + item_count ds
 
--- definitions of one text: their names are identifiers, and there are no more than the text has bytes
+-- definitions of one text: their names are identifiers, their literals are short, and there are no more than the text has bytes
 pub record AreOfText (ds : List Declaration) : Type 0 where
   pub names : AllByRecursion IsNamed ds
+  pub values : AllByRecursion HasShortValues ds
   pub few : item_count ds ≤ longest_text
 
 -- a file among so many: its definitions are of one text, and it includes files

@@ -1,4 +1,5 @@
 pub mod Identifiers
+pub mod ShortLiterals
 pub mod Declared
 pub mod Clean
 pub mod Worths

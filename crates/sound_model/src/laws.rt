@@ -12,6 +12,7 @@ ghost use Rattle.check_model.specs.SchemaParts.{IsPartialSchema};
 ghost use Rattle.check_model.specs.FirstFlaw.{HasNoFlaw};
 ghost use Rattle.check_model.specs.ProgramSchema.{IsSchemaOf};
 ghost use Rattle.sound_model.specs.Declared.{AreOfText, IsProgramOfTexts};
+ghost use Rattle.sound_model.specs.ShortLiterals.{GivesShortLiterals};
 ghost use Rattle.sound_model.specs.Clean.{IsClean};
 ghost use Rattle.sound_model.specs.Worths.{WorthsAreWritten};
 
@@ -19,7 +20,7 @@ use idl_include::IdlFile;
 use idl_parser::Document;
 use idl_token::{each_token_is_of_its_kind, tokens_stand_in_order};
 
-/// The names that a document gives are identifiers, and it has no more definitions and functions than its text has bytes.
+/// The names that a document gives are identifiers, its literals are short, and it has no more definitions and functions than its text has bytes.
 pub fn a_document_is_of_its_text()
     ensures { (d : Document) → IsOfSomeText d → AreOfText (definitions_in d) }
 {
@@ -34,6 +35,11 @@ pub fn loaded_files_are_a_program_of_texts()
     each_token_is_of_its_kind();
     tokens_stand_in_order();
 }
+
+/// The values that a program of texts gives have short literals.
+pub fn a_program_of_texts_gives_short_literals()
+    ensures { (program : Program) → IsProgramOfTexts program → GivesShortLiterals program }
+{}
 
 /// The schema of a program of texts is sound without its defaults and constants, where some passes find nothing.
 pub fn a_partial_schema_is_sound()
