@@ -13,7 +13,8 @@ use Rattle.check_model.specs.FieldLists.{FieldsDecl, fields_of_struct, args_of_f
 use Rattle.check_model.proofs.Shown.{front_all, back_all, both_all, mapped, weaker, AllFrom}
 use Rattle.check_model.proofs.Resolving.{zip_all}
 use Rattle.sound_model.specs.Clean.{IsClean}
-use Rattle.sound_model.specs.Declared.{IsFieldNamed, IsFunctionNamed, IsValueNamed, IsNamed, IsFileOfText, IsProgramOfTexts}
+use Rattle.sound_model.specs.Declared.{IsFieldNamed, IsFunctionNamed, IsValueNamed, IsNamed, HasShortDefault, HasShortDefaults, HasShortValues, IsFileOfText, IsProgramOfTexts}
+use Rattle.sound_model.specs.ShortLiterals.{HasShortLiterals}
 use Rattle.sound_model.proofs.RisingFields.{AreFresh}
 use Rattle.sound_model.proofs.SchemaNames.{schema_name}
 use Rattle.sound_model.proofs.Placed.{FilesIn, files_both, Everywhere, files_everywhere, InFile, files_in_file, IsSpotted, IsPicked, files_picked, constants_are, typedefs_are, enums_are, structs_are, services_are}
@@ -28,16 +29,22 @@ flat_all : {A B : Type 0} (Q : B → Type 0) (f : A → List B) (xs : List A) �
 flat_all Q f [] h = tt
 flat_all Q f (x ∷ xs) h = both_all Q (f x) (flat_map f xs) h.0 (flat_all Q f xs h.1)
 
--- a field's name is a schema's
-abbrev pub IsFineField : FieldDecl → Type 0
-IsFineField f = IsSchemaName f.name.text
+-- a field's name is a schema's, and its default has short literals
+pub record IsFineField (f : FieldDecl) : Type 0 where
+  pub name : IsSchemaName f.name.text
+  pub short : HasShortDefault f
 
--- so is that of a value of an enum
+-- the name of a value of an enum is a schema's
 abbrev pub IsFineValue : EnumValueDecl → Type 0
 IsFineValue v = IsSchemaName v.name.text
 
-fine_fields : (fs : List FieldDecl) → AllByRecursion IsFieldNamed fs → AllByRecursion HasUndotted fs → AllByRecursion IsFineField fs
-fine_fields fs h k = zip_all IsFieldNamed HasUndotted IsFineField (λ f named undotted. schema_name f.name.text named undotted) fs h k
+fine_fields : (fs : List FieldDecl) → AllByRecursion IsFieldNamed fs → AllByRecursion HasShortDefault fs → AllByRecursion HasUndotted fs → AllByRecursion IsFineField fs
+fine_fields [] h k l = tt
+fine_fields (f ∷ fs) h k l = (record { name = schema_name f.name.text h.0 l.0; short = k.0 }, fine_fields fs h.1 k.1 l.1)
+
+-- a definition has identifiers for names, and values with short literals
+abbrev IsOfText : Declaration → Type 0
+IsOfText d = IsNamed d × HasShortValues d
 
 -- the fields of a struct, union or exception, or the arguments of a function
 pub record IsFineList (count : ℕ) (d : FieldsDecl) : Type 0 where
@@ -51,6 +58,7 @@ module _ (program : Program) where
   pub record IsFine (file : ℕ) (before : List Written) (n : Counts) (d : Declaration) : Type 0 where
     pub within : file < length program
     pub named : IsNamed d
+    pub values : HasShortValues d
     pub clear : AllByRecursion (IsClear program file) (spots_in_declaration before n d)
 
   -- a function
@@ -62,24 +70,25 @@ module _ (program : Program) where
     pub fresh_throws : AreFresh [] f.throws
     pub thrown : AllByRecursion (MayBeThrown program file) f.throws
 
-  fine_functions : (file service : ℕ) (before fs : List FunctionDecl) → AllByRecursion IsFunctionNamed fs → AreClearFunctions program file service before fs → AllByRecursion (IsFineFunction file) fs
-  fine_functions file service before [] h k = tt
-  fine_functions file service before (f ∷ fs) h k = (
+  fine_functions : (file service : ℕ) (before fs : List FunctionDecl) → AllByRecursion IsFunctionNamed fs → AllByRecursion HasShortDefaults fs → AreClearFunctions program file service before fs → AllByRecursion (IsFineFunction file) fs
+  fine_functions file service before [] h l k = tt
+  fine_functions file service before (f ∷ fs) h l k = (
     record {
       name = schema_name f.name.text h.0.0 k.0.name;
-      arguments = fine_fields f.arguments h.0.1 k.0.arguments;
+      arguments = fine_fields f.arguments h.0.1 l.0.0 k.0.arguments;
       fresh = k.0.fresh;
-      throws = fine_fields f.throws h.0.2 k.0.throws;
+      throws = fine_fields f.throws h.0.2 l.0.1 k.0.throws;
       fresh_throws = k.0.fresh_throws;
       thrown = k.0.thrown;
     },
-    fine_functions file service (before ++ f ∷ []) fs h.1 k.1,
+    fine_functions file service (before ++ f ∷ []) fs h.1 l.1 k.1,
   )
 
   -- a constant
   pub record IsFineConst (c : Filed ConstDecl) : Type 0 where
     pub file : c.file < length program
     pub name : IsSchemaName c.item.name.text
+    pub short : HasShortLiterals c.item.value
 
   -- a typedef
   pub record IsFineTypedef (t : Filed TypedefDecl) : Type 0 where
@@ -105,6 +114,7 @@ module _ (program : Program) where
   fine_const c before n is = record {
     file = is.within;
     name = schema_name c.item.name.text is.named (name_clear program c.file before c.item.name (back_all (IsClear program c.file) (type_spots c.item.type) _ is.clear).0);
+    short = is.values;
   }
 
   fine_typedef : (t : Filed TypedefDecl) (before : List Written) (n : Counts) → IsFine t.file before n (of_typedef t.item) → IsFineTypedef t
@@ -128,7 +138,7 @@ module _ (program : Program) where
   fine_struct s before n is = record {
     file = is.within;
     name = schema_name s.item.name.text is.named.0 (name_clear program s.file before s.item.name is.clear.0);
-    names = fine_fields s.item.fields is.named.1 (fields_undotted program s.file [] s.item.fields is.clear.1.1);
+    names = fine_fields s.item.fields is.named.1 is.values (fields_undotted program s.file [] s.item.fields is.clear.1.1);
     fresh = fields_fresh program s.file [] s.item.fields is.clear.1.1;
   }
 
@@ -140,7 +150,7 @@ module _ (program : Program) where
         file = is.within;
         name = schema_name s.item.name.text is.named.0 (name_clear program s.file before s.item.name is.clear.0);
         acyclic = service_acyclic program s.file n.services s.item.name is.clear.1.0;
-        functions = fine_functions s.file n.services [] s.item.functions is.named.1 clear;
+        functions = fine_functions s.file n.services [] s.item.functions is.named.1 is.values clear;
         clear = clear;
       }
 
@@ -148,12 +158,13 @@ module _ (program : Program) where
   module _ (texts : IsProgramOfTexts program) (is_clean : IsClean program) where
     pub all_fine : FilesIn IsFine 0 none_counted program
     all_fine =
-        let named = files_everywhere IsNamed 0 none_counted program
-        (weaker (IsFileOfText (length program)) (λ (f : SourceFile). AllByRecursion IsNamed f.declarations) (λ f is. is.text.names) program texts.files) in
+        let named = files_everywhere IsOfText 0 none_counted program
+        (weaker (IsFileOfText (length program)) (λ (f : SourceFile). AllByRecursion IsOfText f.declarations)
+        (λ f is. zip_all IsNamed HasShortValues IsOfText (λ d h k. (h, k)) f.declarations is.text.names is.text.values) program texts.files) in
         let within = files_in_file (length program) 0 none_counted program (omega arith) in
-        let NamedWithin = λ (file : ℕ) (before : List Written) (n : Counts) (d : Declaration). (file < length program) × IsNamed d in
-        files_both NamedWithin (IsSpotted (IsClear program)) IsFine (λ file before n d h clear. record { within = h.0; named = h.1; clear = clear }) 0 none_counted program
-        (files_both (InFile (length program)) (Everywhere IsNamed) NamedWithin (λ file before n d within named. (within, named)) 0 none_counted program within named)
+        let NamedWithin = λ (file : ℕ) (before : List Written) (n : Counts) (d : Declaration). (file < length program) × IsOfText d in
+        files_both NamedWithin (IsSpotted (IsClear program)) IsFine (λ file before n d h clear. record { within = h.0; named = h.1.0; values = h.1.1; clear = clear }) 0 none_counted program
+        (files_both (InFile (length program)) (Everywhere IsOfText) NamedWithin (λ file before n d within named. (within, named)) 0 none_counted program within named)
         (all_clear program is_clean)
 
     pub constants_fine : AllByRecursion IsFineConst (constants_of program)

@@ -24,8 +24,12 @@ files_length n (f ∷ fs) = ap suc (files_length (all_counted n f.declarations) 
 pub lists_length : (program : Program) → length (field_lists program) ≡ length (structs_of program) + length (all_functions program)
 unfolding field_lists
 lists_length program =
-    omega (arith, length-append (map fields_of_struct (structs_of program)) (map args_of_function (all_functions program)),
-    same_length fields_of_struct (structs_of program), same_length args_of_function (all_functions program))
+    omega (
+      arith,
+      length-append (map fields_of_struct (structs_of program)) (map args_of_function (all_functions program)),
+      same_length fields_of_struct (structs_of program),
+      same_length args_of_function (all_functions program),
+    )
 
 module _ (D : DefaultRule) (program : Program) where
   services_length : (args : ℕ) (ss : List (Filed ServiceDecl)) (ps : List PlainService) → AreServicesOf D program args ss ps → length ps ≡ length ss

@@ -17,7 +17,7 @@ use Rattle.check_model.specs.Resolved.{TypeMeans}
 use Rattle.check_model.specs.SchemaParts.{DefaultRule, IsAliasOf, IsFieldOf, AreFieldsOf, IsStructFrom, IsSchemaWith, named_numbers, enum_made}
 use Rattle.check_model.proofs.Shown.{mapped, weaker}
 use Rattle.sound_model.specs.Clean.{IsClean}
-use Rattle.sound_model.specs.Declared.{IsProgramOfTexts}
+use Rattle.sound_model.specs.Declared.{HasShortDefault, IsProgramOfTexts}
 use Rattle.sound_model.proofs.RisingFields.{by_id_holds, AreFresh, fields_rise, zip_rises}
 use Rattle.sound_model.proofs.TypeKinds.{meaning_in}
 use Rattle.sound_model.proofs.SchemaSizes.{file_size, enum_size, struct_size}
@@ -33,7 +33,7 @@ zip_turned Q R S by (x ∷ xs) (y ∷ ys) h zip = (by x y h.0 zip.0, zip_turned 
 
 -- what is said of a default makes it a value of its type
 abbrev pub GivesValues : DefaultRule → Program → PlainSchema → Type 0
-GivesValues D program schema = (file : ℕ) (f : FieldDecl) (k : PlainKind) (default : Option Tree) → TypeMeans program file f.type k → D file f k default → MatchOption default ⊤ (IsValueOf schema k)
+GivesValues D program schema = (file : ℕ) (f : FieldDecl) (k : PlainKind) (default : Option Tree) → HasShortDefault f → TypeMeans program file f.type k → D file f k default → MatchOption default ⊤ (IsValueOf schema k)
 
 module _ (D : DefaultRule) (program : Program) (schema : PlainSchema) (texts : IsProgramOfTexts program) (is_clean : IsClean program) (whole : IsSchemaWith D program schema)
     (values : GivesValues D program schema) where
@@ -43,9 +43,9 @@ module _ (D : DefaultRule) (program : Program) (schema : PlainSchema) (texts : I
 
   sound_field : (file : ℕ) (list : FieldsKind) (f : NumberedField) (p : PlainField) → IsFineField f.decl → IsFieldOf D program file list f p → IsSoundField schema p
   sound_field file list f p fine of = record {
-    name = subst IsSchemaName (sym of.name) fine;
+    name = subst IsSchemaName (sym of.name) fine.name;
     kind = kind_in file f.decl.type p.kind of.kind;
-    default = values file f.decl p.kind p.default of.kind of.default;
+    default = values file f.decl p.kind p.default fine.short of.kind of.default;
   }
 
   pub sound_fields : (file : ℕ) (list : FieldsKind) (fs : List FieldDecl) (ps : List PlainField) → AllByRecursion IsFineField fs → AreFresh [] fs

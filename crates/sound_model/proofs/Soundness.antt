@@ -20,6 +20,7 @@ use Rattle.check_model.specs.ProgramSchema.{HasWorth, IsDefault, DefaultIn, IsCo
 use Rattle.check_model.proofs.Resolving.{zip_all}
 use Rattle.sound_model.specs.Clean.{IsClean}
 use Rattle.sound_model.specs.Declared.{IsProgramOfTexts}
+use Rattle.sound_model.specs.ShortLiterals.{HasShortLiterals}
 use Rattle.sound_model.specs.Worths.{WorthsAreWritten}
 use Rattle.sound_model.proofs.Clear.{clean}
 use Rattle.sound_model.proofs.Sizes.{few_constants}
@@ -30,6 +31,7 @@ use Rattle.sound_model.proofs.FileParts.{zip_at, named_at, all_pass, all_defs, a
 use Rattle.sound_model.proofs.SoundServices.{sound_services}
 use Rattle.sound_model.proofs.NoLoop.{no_loop}
 use Rattle.sound_model.proofs.DifferentFunctions.{different_functions}
+use Rattle.sound_model.proofs.ShortValues.{gives_short}
 use Rattle.sound_model.proofs.SameStructs.{value_of_both}
 
 -- but for constants
@@ -57,7 +59,7 @@ module _ (D : DefaultRule) (program : Program) (schema : PlainSchema) (texts : I
 
 -- a schema without defaults and constants
 no_values : (program : Program) (schema : PlainSchema) → GivesValues NoDefault program schema
-no_values program schema file f k default means none = subst (λ d. MatchOption d ⊤ (IsValueOf schema k)) (sym none) tt
+no_values program schema file f k default short means none = subst (λ d. MatchOption d ⊤ (IsValueOf schema k)) (sym none) tt
 
 pub partial_sound : (program : Program) (schema : PlainSchema) → IsProgramOfTexts program → IsClean program → IsPartialSchema program schema → IsSoundButConstants schema
 partial_sound program schema texts is_clean is =
@@ -76,20 +78,21 @@ module _ (program : Program) (schema : PlainSchema) (texts : IsProgramOfTexts pr
   is_clean : IsClean program
   is_clean = clean program is.faultless
 
-  worth_is_value : (v : Filed GivenValue) (k : PlainKind) (value : Tree) → TypeMeans program v.file v.item.type k → HasWorth (record { program = program; schema = is.partial }) v k value → IsValueOf schema k value
-  worth_is_value v k value means worth =
+  worth_is_value : (v : Filed GivenValue) (k : PlainKind) (value : Tree) → HasShortLiterals v.item.tree → TypeMeans program v.file v.item.type k → HasWorth (record { program = program; schema = is.partial }) v k value → IsValueOf schema k value
+  worth_is_value v k value short means worth =
       value_of_both NoDefault (DefaultIn (record { program = program; schema = is.partial })) program is.partial schema is.made.made is.whole k value
-      (written is.partial is.made (partial_sound program is.partial texts (clean program is.faultless) is.made) v k value means worth)
+      (written is.partial is.made (partial_sound program is.partial texts (clean program is.faultless) is.made) (gives_short program texts) worth.which k v value worth.count
+      (kind_in NoDefault program is.partial texts (clean program is.faultless) is.made.made (no_values program is.partial) v.file v.item.type k means) short worth.worth)
 
-  default_value : (file : ℕ) (f : FieldDecl) (k : PlainKind) (tree : Option ConstExpr) (default : Option Tree) → TypeMeans program file f.type k
+  default_value : (file : ℕ) (f : FieldDecl) (k : PlainKind) (tree : Option ConstExpr) (default : Option Tree) → MatchOption tree ⊤ HasShortLiterals → TypeMeans program file f.type k
       → IsDefault (record { program = program; schema = is.partial }) file f k tree default → MatchOption default ⊤ (IsValueOf schema k)
-  default_value file f k None default means said = subst (λ d. MatchOption d ⊤ (IsValueOf schema k)) (sym said) tt
-  default_value file f k (Some tree) default means said =
+  default_value file f k None default short means said = subst (λ d. MatchOption d ⊤ (IsValueOf schema k)) (sym said) tt
+  default_value file f k (Some tree) default short means said =
       let v : Filed GivenValue = record { file = file; item = record { owner = f.at; type = f.type; tree = tree } } in
-      subst (λ d. MatchOption d ⊤ (IsValueOf schema k)) (sym said.1) (worth_is_value v k said.0 means said.2)
+      subst (λ d. MatchOption d ⊤ (IsValueOf schema k)) (sym said.1) (worth_is_value v k said.0 short means said.2)
 
   values : GivesValues Default program schema
-  values file f k default means said = default_value file f k f.default default means said
+  values file f k default short means said = default_value file f k f.default default short means said
 
   few : length schema.constants < 2 ^ 32
   few = omega (arith, zip_length IsConstant (constants_of program) schema.constants is.constants, few_constants program texts)
@@ -101,7 +104,7 @@ module _ (program : Program) (schema : PlainSchema) (texts : IsProgramOfTexts pr
         file = subst (λ n. n < length schema.files) (sym of.file) (file_in Default program schema texts is_clean is.whole values c.file fine.file);
         name = subst IsSchemaName (sym of.name) fine.name;
         kind = kind_in Default program schema texts is_clean is.whole values c.file c.item.type p.kind of.kind;
-        value = worth_is_value v p.kind p.value of.kind of.value;
+        value = worth_is_value v p.kind p.value fine.short of.kind of.value;
       }
 
   constants_sound : All (IsSoundConstant schema) schema.constants
