@@ -9,10 +9,11 @@
 //! What is asked of a program stands in one trait, [`Ground`]: what a name stands for, which trees are given by number, and what a
 //! literal of a struct is made of. Who keeps tables of a program implements it; the clauses speak of the definitions alone.
 //!
-//! The modules, bottom up: integers, literals and enums against a type (`scalars`), doubles, decided on their digits (`decimals`, `doubles`), members and pairs
-//! in order (`rows`, `tidy`), containers by their types (`containers`), marks of what is under evaluation and chains of names
-//! (`marks`, `chains`), and the walk (`walk`), which recurses once a level, at most 64 levels deep. More than 16,000,000 values and
-//! names, in one evaluation alone or in those of a program's values together, are answered as want of memory.
+//! The modules, bottom up: integers, literals and enums against a type (`scalars`), doubles, decided on their digits (`decimals`,
+//! `doubles`), members and pairs in order (`rows`, `tidy`), containers by their types (`containers`), marks of what is under evaluation
+//! and chains of names (`marks`, `chains`), and the walk (`walk`), which recurses once a level, at most 64 levels deep. More than
+//! 16,000,000 values and names, in one evaluation alone or in those of a program's values together, are answered as want of memory.
+//! `laws` says that what is evaluated may be written as its type.
 //!
 //! Not here: tables of names, and the checker, which evaluates all constants and defaults of a program.
 #![tactic(auto)]
