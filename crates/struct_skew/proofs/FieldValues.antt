@@ -79,7 +79,7 @@ counted which kind (f ∷ fs) offers found union is =
     sums false true m n all same eq len = absurd (true≢false same)
 
 -- the fields of a struct, checked by how many there are
-checked_alike : (which : ℕ) (s : PlainStruct) (offers : List Offer) (found : List (ℤ × Tree)) → field_values which s.kind s.fields offers ≡ Ok found
+pub checked_alike : (which : ℕ) (s : PlainStruct) (offers : List Offer) (found : List (ℤ × Tree)) → field_values which s.kind s.fields offers ≡ Ok found
     → checked_struct which s offers found ≡ one_of_union which s.kind found
 checked_alike which s offers found is = by_kind (is_union s.kind) refl
   where

@@ -11,3 +11,10 @@ pub mod Containers
 pub mod MeaningsOfKinds
 pub mod FieldValues
 pub mod Bounds
+pub mod Deciding
+pub mod Each
+pub mod Rightness
+pub mod Projected
+pub mod FilledStructs
+pub mod Filling
+pub mod FoundFunctions

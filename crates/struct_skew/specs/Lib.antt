@@ -12,3 +12,7 @@ pub mod Plan
 pub mod Orders
 pub mod Structs
 pub mod Rows
+pub mod TidyTests
+pub mod WrittenTests
+pub mod ProjectionLaws
+pub mod Filled

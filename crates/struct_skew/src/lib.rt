@@ -20,6 +20,7 @@
 
 mod fault;
 mod kinds;
+mod laws;
 mod meanings;
 mod needs;
 mod order;
@@ -30,6 +31,11 @@ mod structs;
 mod values;
 
 pub use fault::SkewFault;
+pub use laws::{
+    a_fault_names_what_is_declared, a_filled_value_is_its_projection, a_found_function_is_sound,
+    a_projection_is_of_its_type,
+    the_tests_decide,
+};
 pub use needs::{NeededFields, needed_fields};
 pub use public::{project, project_with};
 pub use rows::{

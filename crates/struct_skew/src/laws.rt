@@ -1,0 +1,56 @@
+//! What holds of the definitions.
+ghost use Rattle.std.specs.Prelude.{◌≡◌, ◌↔◌, ◌≤◌, ℕ, IsTrue, List, Some, Ok, Err};
+ghost use Rattle.thrift_value.specs.declared.tag.Tag.TheVariants.{Struct as StructTag};
+ghost use Rattle.thrift_value.specs.Measures.{count_of, depth_of};
+ghost use Rattle.thrift_value.specs.Plain.{plain};
+ghost use Rattle.thrift_value.specs.Sizes.{HasSmallSizes};
+ghost use Rattle.thrift_value.specs.Tags.{tag_of};
+ghost use Rattle.thrift_value.specs.Tidy.{IsTidy};
+ghost use Rattle.thrift_value.specs.Tree.{Tree};
+ghost use Rattle.schema.specs.LookUp.{function_named};
+ghost use Rattle.schema.specs.PlainKind.{PlainKind, kind_struct};
+ghost use Rattle.schema.specs.PlainSchema.{PlainFunction, PlainSchema, PlainStruct};
+ghost use Rattle.schema.specs.Sound.{IsPlaceIn, IsSound, IsSoundFunction};
+ghost use Rattle.schema.specs.WrittenAs.{IsWrittenAs, MayBeWrittenAs};
+ghost use Rattle.struct_skew.specs.declared.fault.SkewFault.{SkewFault};
+ghost use Rattle.struct_skew.specs.Filled.{IsFilled};
+ghost use Rattle.struct_skew.specs.Projection.{projection};
+ghost use Rattle.struct_skew.specs.ProjectionLaws.{NamesDeclared};
+ghost use Rattle.struct_skew.specs.TidyTests.{has_small_sizes, is_tidy};
+ghost use Rattle.struct_skew.specs.WrittenTests.{may_be_written};
+
+/// The tests of values decide what they are named for.
+pub fn the_tests_decide()
+    ensures tidy { (x : Tree) → IsTrue (is_tidy x) ↔ IsTidy x }
+    ensures sizes { (x : Tree) → IsTrue (has_small_sizes x) ↔ HasSmallSizes x }
+    ensures written { (structs : List PlainStruct) (kind : PlainKind) (x : Tree)
+        → IsTrue (may_be_written structs kind x) ↔ MayBeWrittenAs structs kind x }
+{}
+
+/// A projection is a tidy value of its struct's type. Where no length and no number of elements that was sent is above
+/// 2^31 - 1, none of the projection is.
+pub fn a_projection_is_of_its_type()
+    ensures tidy { (s : PlainSchema) (which : ℕ) (raw value : Tree) → IsSound s → IsPlaceIn s.structs which → tag_of raw ≡ StructTag
+        → projection s which raw ≡ Ok value → IsTidy value }
+    ensures typed { (s : PlainSchema) (which : ℕ) (raw value : Tree) → IsSound s → IsPlaceIn s.structs which → tag_of raw ≡ StructTag
+        → projection s which raw ≡ Ok value → IsWrittenAs s.structs (kind_struct which) value }
+    ensures sizes { (s : PlainSchema) (which : ℕ) (raw value : Tree) → IsSound s → IsPlaceIn s.structs which → tag_of raw ≡ StructTag
+        → HasSmallSizes raw → projection s which raw ≡ Ok value → HasSmallSizes value }
+{}
+
+/// What is missing is a declared field that has to be there, and what has none or several fields is a union.
+pub fn a_fault_names_what_is_declared()
+    ensures { (s : PlainSchema) (which : ℕ) (raw : Tree) (fault : SkewFault) → IsSound s → IsPlaceIn s.structs which → tag_of raw ≡ StructTag
+        → projection s which raw ≡ Err fault → NamesDeclared s fault }
+{}
+
+/// A value in which nothing is missing is its own projection, also where its bytes don't tell the tags of empty containers.
+pub fn a_filled_value_is_its_projection()
+    ensures { (s : PlainSchema) (which : ℕ) (v : Tree) → IsSound s → IsTidy v → IsWrittenAs s.structs (kind_struct which) v
+        → IsFilled s.structs (kind_struct which) v → depth_of v ≤ 64 → count_of v ≤ 4000000 → projection s which (plain v) ≡ Ok v }
+{}
+
+/// A function that is found in a sound schema is sound: its arguments are a struct of the schema, and its types are too.
+pub fn a_found_function_is_sound()
+    ensures { (s : PlainSchema) (which : ℕ) (name : List ℕ) (f : PlainFunction) → IsSound s → function_named s which name ≡ Some f → IsSoundFunction s f }
+{}
