@@ -135,9 +135,11 @@ module _ (structs : List PlainStruct) where
 
   fields_fit : (declared : List PlainField) (fields : FieldTrees) → AreFieldsWrittenAs structs declared fields → FieldsFit declared fields
   fields_fit declared no_fields typed = tt
-  fields_fit declared (field id value more) typed =
-      (of_declared (field_with_id id declared) (λ (f : PlainField). IsWrittenAs structs f.kind value) (λ _. ⊤) (λ (f : PlainField). fits_kind f.kind (plain value) ≡ true) typed.0
-      (nothing (field_with_id id declared)) (λ f is _. fits_itself f.kind value is), fields_fit declared more typed.1)
+  fields_fit declared (field id value more) typed = (
+    of_declared (field_with_id id declared) (λ (f : PlainField). IsWrittenAs structs f.kind value) (λ _. ⊤) (λ (f : PlainField). fits_kind f.kind (plain value) ≡ true) typed.0
+        (nothing (field_with_id id declared)) (λ f is _. fits_itself f.kind value is),
+    fields_fit declared more typed.1,
+  )
     where
       nothing : (o : Option PlainField) → MatchOption o ⊤ (λ _. ⊤)
       nothing None = tt
@@ -145,8 +147,8 @@ module _ (structs : List PlainStruct) where
 
 -- a struct whose fields mean themselves
 module _ (s : PlainSchema) (sound : All (IsSoundStruct s) s.structs) (which : ℕ) (d : PlainStruct) (here : slice_get s.structs which ≡ Some d) (fields : FieldTrees)
-  (rises : AreRisingFields fields) (its : HasItsFields d fields) (typed : AreFieldsWrittenAs s.structs d.fields fields) (defaults : HasItsDefaults d fields)
-  (mean : FieldsMean s.structs d.fields fields) where
+    (rises : AreRisingFields fields) (its : HasItsFields d fields) (typed : AreFieldsWrittenAs s.structs d.fields fields) (defaults : HasItsDefaults d fields)
+    (mean : FieldsMean s.structs d.fields fields) where
   declared_rise : AreRisingDeclared d.fields
   declared_rise = rising_declared d.fields (All-at (IsSoundStruct s) s.structs which d sound here).fields.rising
 
@@ -154,9 +156,10 @@ module _ (s : PlainSchema) (sound : All (IsSoundStruct s) s.structs) (which : �
       → Each (λ (f : PlainField). f.need ≡ need.Required → HasFieldTree f.id fields) fs → Each (λ (f : PlainField). is_some (counted_default d.kind f) ≡ true → HasFieldTree f.id fields) fs
       → Each (λ (f : PlainField). field_value which d.kind f (last_offer f (offers_of s.structs (plain_fields fields))) ≡ Ok (value_at f.id fields)) fs
   each_value [] finds required defaulted = tt
-  each_value (f ∷ fs) finds required defaulted =
-      (offered s.structs f d.fields finds.0 fields rises (fields_fit s.structs d.fields fields typed) mean which d.kind (nothing_unsent which d.kind f fields required.0 defaulted.0),
-      each_value fs finds.1 required.1 defaulted.1)
+  each_value (f ∷ fs) finds required defaulted = (
+    offered s.structs f d.fields finds.0 fields rises (fields_fit s.structs d.fields fields typed) mean which d.kind (nothing_unsent which d.kind f fields required.0 defaulted.0),
+    each_value fs finds.1 required.1 defaulted.1,
+  )
 
   all_values : field_values which d.kind d.fields (offers_of s.structs (plain_fields fields)) ≡ Ok (field_list fields)
   all_values =
@@ -223,11 +226,12 @@ module _ (s : PlainSchema) (sound : All (IsSoundStruct s) s.structs) where
     fields_mean : (declared : List PlainField) (fields : FieldTrees) → AreTidyFields fields → AreFieldsWrittenAs s.structs declared fields → AreFieldsFilled s.structs declared fields
         → FieldsMean s.structs declared fields
     fields_mean declared no_fields tidy typed filled = tt
-    fields_mean declared (field id value more) tidy typed filled =
-        (of_declared (field_with_id id declared) (λ (f : PlainField). IsWrittenAs s.structs f.kind value) (λ (f : PlainField). IsFilled s.structs f.kind value)
-        (λ (f : PlainField). meaning_of s.structs (plain value) f.kind ≡ Ok value) typed.0 filled.0
-        (λ f is full. itself f.kind value (record { tagged = tidy.0.0; in_order = tidy.1.0 }) is full),
-        fields_mean declared more (tidy.0.1, tidy.1.1) typed.1 filled.1)
+    fields_mean declared (field id value more) tidy typed filled = (
+      of_declared (field_with_id id declared) (λ (f : PlainField). IsWrittenAs s.structs f.kind value) (λ (f : PlainField). IsFilled s.structs f.kind value)
+          (λ (f : PlainField). meaning_of s.structs (plain value) f.kind ≡ Ok value) typed.0 filled.0
+          (λ f is full. itself f.kind value (record { tagged = tidy.0.0; in_order = tidy.1.0 }) is full),
+      fields_mean declared more (tidy.0.1, tidy.1.1) typed.1 filled.1,
+    )
 
     items_mean : (kind : PlainKind) (t : Tag) (items : ItemTrees) → AreTidyItems t items → AreItemsWrittenAs s.structs kind items → AreItemsFilled s.structs kind items
         → item_meanings s.structs (plain_items items) kind ≡ Ok (item_list items)

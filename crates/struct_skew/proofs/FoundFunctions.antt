@@ -1,13 +1,15 @@
 -- A function that is found in a sound schema is sound.
 use Rattle.std.proofs.Common.{◌≡◌, ℕ, Bool, true, false, cond, List, [], ◌∷◌, ◌++◌, Option, Some, None, refl, subst}
-use Rattle.std.specs.Prelude.{flat_map, unwrap_or}
+use Rattle.std.specs.Prelude.{flat_map, unwrap_or, MatchOption}
 use Rattle.std.specs.List.{slice_get, find}
 use Rattle.std.specs.Option.{option_map}
-use Rattle.std.proofs.lemmas.Option.{same_Some}
+use Rattle.std.proofs.lemmas.Option.{same_Some, slice_get_within}
+use Rattle.schema.specs.declared.types.FieldsKind.{FieldsKind}
+use Rattle.schema.specs.declared.types.FieldsKind.TheVariants.{Args}
 use Rattle.schema.specs.Inherited.{own_functions, lineage}
 use Rattle.schema.specs.LookUp.{is_named, function_named}
-use Rattle.schema.specs.PlainSchema.{PlainFunction, PlainService, PlainSchema}
-use Rattle.schema.specs.Sound.{IsSound, IsSoundFunction, IsSoundService}
+use Rattle.schema.specs.PlainSchema.{PlainFunction, PlainService, PlainStruct, PlainSchema}
+use Rattle.schema.specs.Sound.{IsPlaceIn, IsSound, IsSoundFunction, IsSoundService, IsStructOf}
 use Rattle.struct_skew.proofs.Each.{Each, from_all}
 use Rattle.struct_skew.proofs.StructsAt.{All-at}
 
@@ -39,3 +41,14 @@ pub found_function : (s : PlainSchema) (which : ℕ) (name : List ℕ) (f : Plai
 found_function s which name f sound is =
     found_one (IsSoundFunction s) (is_named name) (flat_map (own_functions s.services) (lineage s.services which)) f
     (Each-flat_map (IsSoundFunction s) (own_functions s.services) (own_sound s sound) (lineage s.services which)) is
+
+-- where a struct of a kind stands is a place
+place_of_kind : (s : PlainSchema) (kind : FieldsKind) (which : ℕ) → IsStructOf s kind which → IsPlaceIn s.structs which
+place_of_kind s kind which is = of_struct (slice_get s.structs which) refl is
+  where
+    of_struct : (o : Option PlainStruct) → slice_get s.structs which ≡ o → MatchOption o ⊥ (λ (d : PlainStruct). d.kind ≡ kind) → IsPlaceIn s.structs which
+    of_struct None e none = absurd none
+    of_struct (Some d) e same = slice_get_within s.structs which d e
+
+pub found_args : (s : PlainSchema) (which : ℕ) (name : List ℕ) (f : PlainFunction) → IsSound s → function_named s which name ≡ Some f → IsPlaceIn s.structs f.args
+found_args s which name f sound is = place_of_kind s Args f.args (found_function s which name f sound is).args

@@ -12,9 +12,11 @@ pub mod MeaningsOfKinds
 pub mod FieldValues
 pub mod Bounds
 pub mod Deciding
+pub mod Writing
 pub mod Each
 pub mod Rightness
 pub mod Projected
 pub mod FilledStructs
 pub mod Filling
 pub mod FoundFunctions
+pub mod FoundFields

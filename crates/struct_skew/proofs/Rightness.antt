@@ -218,8 +218,8 @@ module _ (s : PlainSchema) (sound : All (IsSoundStruct s) s.structs) (small : Ty
   Found (f ∷ fs) found = (v : Option Tree) × (rest : List (ℤ × Tree)) × (found ≡ put_field f.id v rest) × FieldRight f v × Found fs rest
 
   module _ (P : List PlainField → List (ℤ × Tree) → Type 0) (none : P [] [])
-    (without : (f : PlainField) (fs : List PlainField) (rest : List (ℤ × Tree)) → is_required f.need ≡ false → P fs rest → P (f ∷ fs) rest)
-    (more : (f : PlainField) (fs : List PlainField) (v : Tree) (rest : List (ℤ × Tree)) → Right f.kind v → P fs rest → P (f ∷ fs) ((f.id, v) ∷ rest)) where
+      (without : (f : PlainField) (fs : List PlainField) (rest : List (ℤ × Tree)) → is_required f.need ≡ false → P fs rest → P (f ∷ fs) rest)
+      (more : (f : PlainField) (fs : List PlainField) (v : Tree) (rest : List (ℤ × Tree)) → Right f.kind v → P fs rest → P (f ∷ fs) ((f.id, v) ∷ rest)) where
     by_value : (f : PlainField) (fs : List PlainField) (v : Option Tree) (rest : List (ℤ × Tree)) → FieldRight f v → P fs rest → P (f ∷ fs) (put_field f.id v rest)
     by_value f fs None rest right p = without f fs rest right p
     by_value f fs (Some v) rest right p = more f fs v rest right p

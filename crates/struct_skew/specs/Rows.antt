@@ -55,11 +55,39 @@ row_args = record {
       ∷ row_field (pos 8) Default (nested_kind 64) None ∷ row_field (pos 9) Default (kind_list (kind_struct 2)) None ∷ [];
 }
 
--- the schema of the four
+-- lists in one another, so many, with a number in the innermost; the innermost of none is the number
+abbrev pub row_lists : ℕ → Tree
+row_lists zero = of_i32 (pos 7)
+row_lists (suc zero) = of_list tag.I32 (item (row_lists zero) no_items)
+row_lists (suc n) = of_list tag.List (item (row_lists n) no_items)
+
+-- union 4 { 1: P, 2: i32 }
+abbrev pub row_either : PlainStruct
+row_either = record {
+  file = 0;
+  name = codes "E";
+  kind = of_kind.Union;
+  fields = row_field (pos 1) Optional (kind_struct 2) None ∷ row_field (pos 2) Optional kind_i32 None ∷ [];
+}
+
+-- struct 5 { 1: map<string, P>, 2: map<P, i32> }
+abbrev pub row_maps : PlainStruct
+row_maps = record {
+  file = 0;
+  name = codes "M";
+  kind = of_kind.Struct;
+  fields = row_field (pos 1) Default (kind_map kind_text (kind_struct 2)) None ∷ row_field (pos 2) Default (kind_map (kind_struct 2) kind_i32) None ∷ [];
+}
+
+-- struct 6 { 1: optional list<list<..>> of 64 levels = [[..]] }
+abbrev pub row_deep : PlainStruct
+row_deep = record { file = 0; name = codes "D"; kind = of_kind.Struct; fields = row_field (pos 1) Optional (nested_kind 64) (Some (row_lists 64)) ∷ [] }
+
+-- the schema of these
 abbrev pub row_schema : PlainSchema
 row_schema = record {
   files = [];
-  structs = row_work ∷ row_union ∷ row_needy ∷ row_args ∷ [];
+  structs = row_work ∷ row_union ∷ row_needy ∷ row_args ∷ row_either ∷ row_maps ∷ row_deep ∷ [];
   enums = [];
   services = [];
   aliases = [];
@@ -69,12 +97,6 @@ row_schema = record {
 -- arguments with one field
 abbrev pub sent_one : ℕ → Tree → Tree
 sent_one id value = of_struct (field (pos id) value no_fields)
-
--- lists in one another, so many, with a number in the innermost; the innermost of none is the number
-abbrev pub row_lists : ℕ → Tree
-row_lists zero = of_i32 (pos 7)
-row_lists (suc zero) = of_list tag.I32 (item (row_lists zero) no_items)
-row_lists (suc n) = of_list tag.List (item (row_lists n) no_items)
 
 -- the same with an empty innermost list that names this tag
 abbrev pub nested_empty : Tag → ℕ → Tree

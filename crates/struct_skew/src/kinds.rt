@@ -115,7 +115,7 @@ pub(crate) fn list_of_kind(kind: &TypeDesc) -> Option<&TypeDesc>
 }
 
 /// Whether two tags are the same.
-fn are_same_tags(one: Tag, other: Tag) -> bool
+pub(crate) fn are_same_tags(one: Tag, other: Tag) -> bool
     ensures { result ≡ are_same_tags one other }
 {
     one.cmp(&other).is_eq()

@@ -50,7 +50,8 @@ pub fn a_filled_value_is_its_projection()
         → IsFilled s.structs (kind_struct which) v → depth_of v ≤ 64 → count_of v ≤ 4000000 → projection s which (plain v) ≡ Ok v }
 {}
 
-/// A function that is found in a sound schema is sound: its arguments are a struct of the schema, and its types are too.
+/// A function that is found in a sound schema is sound, and its arguments are a struct of the schema.
 pub fn a_found_function_is_sound()
-    ensures { (s : PlainSchema) (which : ℕ) (name : List ℕ) (f : PlainFunction) → IsSound s → function_named s which name ≡ Some f → IsSoundFunction s f }
+    ensures args { (s : PlainSchema) (which : ℕ) (name : List ℕ) (f : PlainFunction) → IsSound s → function_named s which name ≡ Some f → IsPlaceIn s.structs f.args }
+    ensures sound { (s : PlainSchema) (which : ℕ) (name : List ℕ) (f : PlainFunction) → IsSound s → function_named s which name ≡ Some f → IsSoundFunction s f }
 {}

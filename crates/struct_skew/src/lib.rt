@@ -9,13 +9,17 @@
 //!     Err(SkewFault::Missing(which, id)) => complain(which, id),  // and so on
 //!     Err(_) => give_up(),
 //! }
+//! if fits(&schema, &kind, &value) && value.is_tidy() {            // what a handler answered
+//!     write(value);
+//! }
 //! ```
 //!
 //! What a raw field counts for, and what a raw struct means, is said by `specs/Fits.antt`, `Offers.antt`, `Latest.antt` and
-//! `Projection.antt`, in this order; [`worked_fields`] and its kin have worked rows.
+//! `Projection.antt`, in this order; [`worked_fields`] and its kin have worked rows. Whether a value may be written under a type is
+//! said by `specs/WrittenTests.antt`, as a test that computes; [`the_tests_decide`] ties it to the schema's definition.
 //!
-//! Not here: bytes on a wire, and whether a value may be written under a type. A projection recurses once a level of the raw
-//! value. Where its defaults take more than 320 MB it answers want of memory, since few bytes can ask for many of them.
+//! Not here: bytes on a wire. A projection recurses once a level of the raw value, and `fits` once a level of its value. Where the
+//! defaults of a projection take more than 320 MB it answers want of memory, since few bytes can ask for many of them.
 #![tactic(auto)]
 
 mod fault;
@@ -29,15 +33,16 @@ mod public;
 mod rows;
 mod structs;
 mod values;
+mod written;
 
 pub use fault::SkewFault;
 pub use laws::{
     a_fault_names_what_is_declared, a_filled_value_is_its_projection, a_found_function_is_sound,
-    a_projection_is_of_its_type,
-    the_tests_decide,
+    a_projection_is_of_its_type, the_tests_decide,
 };
 pub use needs::{NeededFields, needed_fields};
 pub use public::{project, project_with};
 pub use rows::{
     a_projection_is_bounded, worked_containers, worked_fields, worked_levels, worked_unions,
 };
+pub use written::fits;

@@ -38,6 +38,8 @@ pub fn worked_unions()
         ≡ Ok (sent_one 1 (of_i32 (pos 2))) }
     ensures fields_first { projection row_schema 3 (of_struct (field (pos 4) (of_struct no_fields) (field (pos 3) (of_struct no_fields) no_fields)))
         ≡ Err (skew.Missing 2 (pos 1)) }
+    ensures its_field_first { projection row_schema 4 (of_struct (field (pos 2) (of_i32 (pos 1)) (field (pos 1) (of_struct no_fields) no_fields)))
+        ≡ Err (skew.Missing 2 (pos 1)) }
 {}
 
 /// Containers: their elements decide whether they fit, and maps and sets become tidy.
@@ -47,6 +49,13 @@ pub fn worked_containers()
     ensures equal_keys { projection row_schema 3 (sent_one 6 (of_map tag.Bytes tag.I32
         (pair (of_bytes (codes "b")) (of_i32 (pos 1)) (pair (of_bytes (codes "a")) (of_i32 (pos 2)) (pair (of_bytes (codes "b")) (of_i32 (pos 3)) no_pairs)))))
         ≡ Ok (sent_one 6 (of_map tag.Bytes tag.I32 (pair (of_bytes (codes "a")) (of_i32 (pos 2)) (pair (of_bytes (codes "b")) (of_i32 (pos 3)) no_pairs)))) }
+    ensures replaced_pair_counts { projection row_schema 5 (sent_one 1 (of_map tag.Bytes tag.Struct
+        (pair (of_bytes (codes "a")) (of_struct no_fields) (pair (of_bytes (codes "a")) (sent_one 1 (of_i32 (pos 1))) no_pairs))))
+        ≡ Err (skew.Missing 2 (pos 1)) }
+    ensures equal_when_projected { projection row_schema 5 (sent_one 2 (of_map tag.Struct tag.I32
+        (pair (of_struct (field (pos 1) (of_i32 (pos 7)) (field (pos 9) (of_bytes []) no_fields))) (of_i32 (pos 1))
+        (pair (of_struct (field (pos 8) (of_i32 (pos 0)) (field (pos 1) (of_i32 (pos 7)) no_fields))) (of_i32 (pos 2)) no_pairs))))
+        ≡ Ok (sent_one 2 (of_map tag.Struct tag.I32 (pair (sent_one 1 (of_i32 (pos 7))) (of_i32 (pos 2)) no_pairs))) }
     ensures members { projection row_schema 3 (sent_one 7 (of_set tag.I32 (item (of_i32 (pos 2)) (item (of_i32 (pos 1)) (item (of_i32 (pos 2)) no_items)))))
         ≡ Ok (sent_one 7 (of_set tag.I32 (item (of_i32 (pos 1)) (item (of_i32 (pos 2)) no_items)))) }
     ensures struct_by_its_tag { fits_kind (kind_list (kind_struct 2)) (of_list tag.Struct (item (of_struct no_fields) no_items)) ≡ true }
@@ -57,6 +66,7 @@ pub fn worked_containers()
 pub fn worked_levels()
     ensures at_most { projection row_schema 3 (sent_one 8 (nested_empty tag.List 62)) ≡ Ok (sent_one 8 (nested_empty tag.List 62)) }
     ensures too_deep { projection row_schema 3 (sent_one 8 (row_lists 64)) ≡ Err skew.TooDeep }
+    ensures too_deep_by_a_default { projection row_schema 6 (of_struct no_fields) ≡ Err skew.TooDeep }
 {}
 
 /// A projection has at most 64 levels and 4,000,000 values.

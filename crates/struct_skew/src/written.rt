@@ -1,0 +1,207 @@
+//! Whether a value may be written under a type.
+ghost use Rattle.std.specs.Bool.{OnTrue};
+ghost use Rattle.std.specs.Prelude.{◌≡◌, map, IsTrue};
+ghost use Rattle.std.specs.List.{slice_get};
+ghost use Rattle.std.specs.Option.{option_copied, option_map};
+ghost use Rattle.thrift_value.specs.TreeOf.{tree_of, field_tree, field_trees, item_trees, pair_tree, pair_trees};
+ghost use Rattle.schema.specs.LookUp.{fields_at};
+ghost use Rattle.schema.specs.PlainKind.{kind_of};
+ghost use Rattle.schema.specs.SchemaOf.{schema_of, plain_field, plain_struct};
+ghost use Rattle.schema.specs.Sound.{IsSound};
+ghost use Rattle.schema.specs.WrittenAs.{field_with_id};
+ghost use Rattle.struct_skew.specs.TidyTests.{has_small_sizes};
+ghost use Rattle.struct_skew.specs.WrittenTests.{are_fields_written_as, are_items_written_as, are_pairs_written_as, has_field_tree, has_its_fields, has_required_fields, is_one_field, is_struct_written, is_written_as, may_be_written};
+
+use crate::kinds::{
+    are_same_tags, list_of_kind, map_of_kind, set_of_kind, struct_of_kind, tag_of_kind,
+};
+use crate::needs::{is_required, is_union, item};
+use schema::{FieldDesc, Schema, StructDesc, TypeDesc};
+use thrift_value::Value;
+
+/// Whether halving finds a field with this id, as it does where the ids rise.
+fn is_found(fields: &[(i16, Value)], id: &i16) -> bool
+    ensures { OnTrue result (IsTrue (has_field_tree id.now (field_trees (map field_tree fields.now)))) }
+{
+    match fields.binary_search_by_key(id, |field| field.0) {
+        Ok(_) => true,
+        Err(_) => false,
+    }
+}
+
+/// Whether one of a value's fields has this id. It walks over all of them only where halving finds none.
+fn has_field(fields: &[(i16, Value)], id: &i16) -> bool
+    ensures { result ≡ has_field_tree id.now (field_trees (map field_tree fields.now)) }
+{
+    if is_found(fields, id) {
+        return true;
+    }
+    for (other, _) in fields {
+        if other == id {
+            return true;
+        }
+    }
+    false
+}
+
+/// Whether each declared field that has to be there is there.
+fn has_required_fields(declared: &[FieldDesc], fields: &[(i16, Value)]) -> bool
+    ensures { result ≡ has_required_fields (map plain_field declared.now) (field_trees (map field_tree fields.now)) }
+{
+    for field in declared {
+        if is_required(field.need) {
+            if !has_field(fields, &field.id) {
+                return false;
+            }
+        }
+    }
+    true
+}
+
+/// Whether exactly one field is there.
+fn is_one_field(fields: &[(i16, Value)]) -> bool
+    ensures { result ≡ is_one_field (field_trees (map field_tree fields.now)) }
+{
+    fields.len() == 1
+}
+
+/// Whether each required field is there, and of a union exactly one.
+fn has_its_fields(desc: &StructDesc, fields: &[(i16, Value)]) -> bool
+    ensures { result ≡ has_its_fields (plain_struct desc.now) (field_trees (map field_tree fields.now)) }
+{
+    if !has_required_fields(desc.fields.as_slice(), fields) {
+        return false;
+    }
+    if !is_union(desc.kind) {
+        return true;
+    }
+    is_one_field(fields)
+}
+
+/// The declared field with an id of the struct at a number.
+fn declared_field<'a>(schema: &'a Schema, which: u32, id: &i16) -> Option<&'a FieldDesc>
+    requires { IsSound (schema_of schema.now) }
+    ensures { option_map plain_field (option_copied result) ≡ field_with_id id.now (fields_at (schema_of schema.now) which) }
+{
+    schema.field(which, *id)
+}
+
+/// Whether a value is of a type. It recurses once a level that both have.
+#[tactic(auto, using(thrift_value::proofs::Trees::tree_equations, crate::proofs::Writing::written_equations))]
+#[cycle(writing)]
+fn is_written_as(value: &Value, schema: &Schema, kind: &TypeDesc) -> bool
+    requires { IsSound (schema_of schema.now) }
+    ensures { result ≡ is_written_as (schema_of schema.now).structs (kind_of kind.now) (tree_of value.now) }
+{
+    match value {
+        Value::Struct(fields) => match struct_of_kind(kind) {
+            Some(which) => struct_is_written(fields.as_slice(), schema, which),
+            None => false,
+        },
+        Value::Map(_, _, pairs) => match map_of_kind(kind) {
+            Some((key, value)) => pairs_are_written(pairs.as_slice(), schema, key, value),
+            None => false,
+        },
+        Value::Set(_, items) => match set_of_kind(kind) {
+            Some(member) => items_are_written(items.as_slice(), schema, member),
+            None => false,
+        },
+        Value::List(_, items) => match list_of_kind(kind) {
+            Some(element) => items_are_written(items.as_slice(), schema, element),
+            None => false,
+        },
+        Value::Bool(_)
+        | Value::I8(_)
+        | Value::I16(_)
+        | Value::I32(_)
+        | Value::I64(_)
+        | Value::Double(_)
+        | Value::Bytes(_) => are_same_tags(tag_of_kind(kind), value.tag()),
+    }
+}
+
+/// Whether fields are those of the struct at a number, each of its type.
+#[cycle(writing)]
+fn struct_is_written(fields: &[(i16, Value)], schema: &Schema, which: u32) -> bool
+    requires { IsSound (schema_of schema.now) }
+    ensures { result ≡ is_struct_written (schema_of schema.now).structs (slice_get (schema_of schema.now).structs which) (field_trees (map field_tree fields.now)) }
+{
+    let Some(desc) = item(schema.structs.as_slice(), which as usize) else {
+        return false;
+    };
+    if !has_its_fields(desc, fields) {
+        return false;
+    }
+    fields_are_written(fields, schema, which)
+}
+
+/// Whether each field is declared in the struct at a number, and of its type.
+#[cycle(writing)]
+fn fields_are_written(fields: &[(i16, Value)], schema: &Schema, which: u32) -> bool
+    requires { IsSound (schema_of schema.now) }
+    ensures { result ≡ are_fields_written_as (schema_of schema.now).structs (fields_at (schema_of schema.now) which) (field_trees (map field_tree fields.now)) }
+{
+    for (id, value) in fields {
+        let Some(field) = declared_field(schema, which, id) else {
+            return false;
+        };
+        if !is_written_as(value, schema, &field.kind) {
+            return false;
+        }
+    }
+    true
+}
+
+/// Whether each element is of a type.
+#[cycle(writing)]
+fn items_are_written(items: &[Value], schema: &Schema, kind: &TypeDesc) -> bool
+    requires { IsSound (schema_of schema.now) }
+    ensures { result ≡ are_items_written_as (schema_of schema.now).structs (kind_of kind.now) (item_trees (map tree_of items.now)) }
+{
+    for value in items {
+        if !is_written_as(value, schema, kind) {
+            return false;
+        }
+    }
+    true
+}
+
+/// Whether each key is of a type, and each value of another.
+#[cycle(writing)]
+fn pairs_are_written(
+    pairs: &[(Value, Value)],
+    schema: &Schema,
+    key_kind: &TypeDesc,
+    value_kind: &TypeDesc,
+) -> bool
+    requires { IsSound (schema_of schema.now) }
+    ensures { result ≡ are_pairs_written_as (schema_of schema.now).structs (kind_of key_kind.now) (kind_of value_kind.now) (pair_trees (map pair_tree pairs.now)) }
+{
+    for (key, value) in pairs {
+        if !is_written_as(key, schema, key_kind) {
+            return false;
+        }
+        if !is_written_as(value, schema, value_kind) {
+            return false;
+        }
+    }
+    true
+}
+
+/// Whether the lengths and sizes in a value have an encoding.
+fn has_small_sizes(value: &Value) -> bool
+    ensures { result ≡ has_small_sizes (tree_of value.now) }
+{
+    value.has_small_sizes()
+}
+
+/// Whether a tidy value may be written under a type.
+pub fn fits(schema: &Schema, kind: &TypeDesc, value: &Value) -> bool
+    requires sound { IsSound (schema_of schema.now) }
+    ensures { result ≡ may_be_written (schema_of schema.now).structs (kind_of kind.now) (tree_of value.now) }
+{
+    if !has_small_sizes(value) {
+        return false;
+    }
+    is_written_as(value, schema, kind)
+}
