@@ -1,0 +1,7 @@
+mod Lengths
+mod Heads
+mod Framed
+mod Parts
+mod Found
+mod Refused
+mod Invoked

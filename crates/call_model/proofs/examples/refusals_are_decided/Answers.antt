@@ -1,0 +1,43 @@
+use Rattle.std.proofs.Common.{refl}
+use Rattle.envelope.specs.Readout.{head_at, whole_head, either_head, strict_head, old_head, version, name_of, sized_name, compact_rest, compact_head, call_type}
+use Rattle.envelope.specs.Exception.{failure_struct, exception_head}
+use Rattle.wire_model.specs.Reading.{value, layer, parts, field_list, field_behind, item_list, pair_list}
+use Rattle.binary_codec.specs.Codes.{tag_of_code}
+use Rattle.binary_codec.specs.Reading.{binary_field, binary_scalar, binary_size, binary_span, binary_items, binary_pairs, tag_coded}
+use Rattle.compact_codec.specs.Codes.{compact_tag}
+use Rattle.compact_codec.specs.Reading.{compact_field, compact_scalar, compact_size, compact_span, compact_items, compact_pairs, tag_in_half}
+use Rattle.call_model.specs.Arguments.{arguments_at}
+use Rattle.call_model.specs.Decisions.{decided_on_head, decided_on_service, decided_on_function, refused, failure_frame}
+use Rattle.call_model.proofs.examples.refusals_are_decided.Goals as goal
+
+pub returns-clause-no_method : goal.returns-clause-no_method
+unfolding decided_on_head decided_on_service decided_on_function refused failure_frame arguments_at head_at whole_head either_head strict_head old_head version name_of sized_name compact_rest compact_head call_type failure_struct exception_head value layer parts field_list field_behind item_list pair_list binary_field binary_scalar binary_size binary_span binary_items binary_pairs tag_coded tag_of_code
+returns-clause-no_method c = refl
+
+pub returns-clause-silent : goal.returns-clause-silent
+unfolding decided_on_head decided_on_service decided_on_function refused failure_frame arguments_at head_at whole_head either_head strict_head old_head version name_of sized_name compact_rest compact_head call_type failure_struct exception_head value layer parts field_list field_behind item_list pair_list binary_field binary_scalar binary_size binary_span binary_items binary_pairs tag_coded tag_of_code
+returns-clause-silent c = refl
+
+pub returns-clause-no_service : goal.returns-clause-no_service
+unfolding decided_on_head decided_on_service decided_on_function refused failure_frame arguments_at head_at whole_head either_head strict_head old_head version name_of sized_name compact_rest compact_head call_type failure_struct exception_head value layer parts field_list field_behind item_list pair_list binary_field binary_scalar binary_size binary_span binary_items binary_pairs tag_coded tag_of_code
+returns-clause-no_service c = refl
+
+pub returns-clause-no_name_of_a_service : goal.returns-clause-no_name_of_a_service
+unfolding decided_on_head decided_on_service decided_on_function refused failure_frame arguments_at head_at whole_head either_head strict_head old_head version name_of sized_name compact_rest compact_head call_type failure_struct exception_head value layer parts field_list field_behind item_list pair_list binary_field binary_scalar binary_size binary_span binary_items binary_pairs tag_coded tag_of_code
+returns-clause-no_name_of_a_service c = refl
+
+pub returns-clause-missing : goal.returns-clause-missing
+unfolding decided_on_head decided_on_service decided_on_function refused failure_frame arguments_at head_at whole_head either_head strict_head old_head version name_of sized_name compact_rest compact_head call_type failure_struct exception_head value layer parts field_list field_behind item_list pair_list binary_field binary_scalar binary_size binary_span binary_items binary_pairs tag_coded tag_of_code
+returns-clause-missing c = refl
+
+pub returns-clause-huge_list : goal.returns-clause-huge_list
+unfolding decided_on_head decided_on_service decided_on_function refused failure_frame arguments_at head_at whole_head either_head strict_head old_head version name_of sized_name compact_rest compact_head call_type failure_struct exception_head value layer parts field_list field_behind item_list pair_list binary_field binary_scalar binary_size binary_span binary_items binary_pairs tag_coded tag_of_code
+returns-clause-huge_list c = refl
+
+pub returns-clause-no_call : goal.returns-clause-no_call
+unfolding decided_on_head decided_on_service decided_on_function refused failure_frame arguments_at head_at whole_head either_head strict_head old_head version name_of sized_name compact_rest compact_head call_type failure_struct exception_head value layer parts field_list field_behind item_list pair_list binary_field binary_scalar binary_size binary_span binary_items binary_pairs tag_coded tag_of_code
+returns-clause-no_call c = refl
+
+pub returns-clause-version : goal.returns-clause-version
+unfolding decided_on_head decided_on_service decided_on_function refused failure_frame arguments_at head_at whole_head either_head strict_head old_head version name_of sized_name compact_rest compact_head call_type failure_struct exception_head value layer parts field_list field_behind item_list pair_list binary_field binary_scalar binary_size binary_span binary_items binary_pairs tag_coded tag_of_code
+returns-clause-version c = refl

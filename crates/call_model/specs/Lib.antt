@@ -1,0 +1,7 @@
+pub mod Offices
+pub mod Names
+pub mod Failures
+pub mod Arguments
+pub mod Decisions
+pub mod Replies
+pub mod Examples
