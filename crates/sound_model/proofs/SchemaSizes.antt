@@ -2,13 +2,17 @@
 use Rattle.std.proofs.Common.{◌≡◌, ℕ, suc, ◌+◌, ◌<◌, ◌≤◌, ◌^◌, List, [], ◌∷◌, ◌++◌, map, length, refl, sym, ap, ◌∙◌, length-append, arith}
 use Rattle.std.specs.List.{AllZip}
 use Rattle.idl_model.specs.Declarations.{FunctionDecl, ServiceDecl, StructDecl}
+use Rattle.idl_model.specs.TypeExpr.{TypeExpr}
 use Rattle.idl_model.specs.Program.{Program}
 use Rattle.idl_model.specs.Numbering.{Filed, Counts, none_counted, all_counted, typedefs_of, enums_of, structs_of, services_of, all_functions}
+use Rattle.schema.specs.PlainKind.{PlainKind}
 use Rattle.schema.specs.PlainSchema.{PlainService, PlainSchema}
-use Rattle.schema.specs.Sound.{HasShortLists}
+use Rattle.schema.specs.Sound.{IsKindIn, HasShortLists}
 use Rattle.check_model.specs.FieldLists.{FieldsDecl, fields_of_struct, args_of_function, field_lists}
+use Rattle.check_model.specs.Resolved.{TypeMeans}
 use Rattle.check_model.specs.SchemaParts.{DefaultRule, IsAliasOf, IsStructFrom, AreServicesOf, IsSchemaWith, enum_made, files_behind, files_of}
 use Rattle.sound_model.specs.Declared.{IsProgramOfTexts}
+use Rattle.sound_model.proofs.TypeKinds.{meaning_in}
 use Rattle.sound_model.proofs.Sizes.{same_length, few_typedefs, few_enums, few_services, few_lists}
 
 pub zip_length : {A B : Type 0} (R : A → B → Type 0) (xs : List A) (ys : List B) → AllZip R xs ys → length ys ≡ length xs
@@ -54,6 +58,10 @@ module _ (D : DefaultRule) (program : Program) where
 
     pub service_size : length schema.services ≡ length (services_of program)
     service_size = services_length (length (structs_of program)) (services_of program) schema.services is.services
+
+    -- what a type means names enums and structs of the schema
+    pub kind_in : (file : ℕ) (t : TypeExpr) (k : PlainKind) → TypeMeans program file t k → IsKindIn schema k
+    kind_in file t k means = meaning_in program schema (omega (arith, enum_size)) (omega (arith, struct_size)) file t k means
 
     -- lists are short where that of constants is
     pub short_lists : IsProgramOfTexts program → length schema.constants < 2 ^ 32 → HasShortLists schema

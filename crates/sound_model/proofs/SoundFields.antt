@@ -11,7 +11,7 @@ use Rattle.idl_model.specs.Numbering.{Filed, typedefs_of, enums_of, structs_of, 
 use Rattle.schema.specs.declared.types.FieldsKind.{FieldsKind}
 use Rattle.schema.specs.PlainKind.{PlainKind}
 use Rattle.schema.specs.PlainSchema.{PlainField, PlainStruct, PlainEnum, PlainAlias, PlainSchema}
-use Rattle.schema.specs.Sound.{IsSchemaName, IsKindIn, IsValueOf, IsSoundField, AreSoundFields, IsSoundStruct, IsSoundEnum, IsSoundAlias}
+use Rattle.schema.specs.Sound.{IsSchemaName, IsValueOf, IsSoundField, AreSoundFields, IsSoundStruct, IsSoundEnum, IsSoundAlias}
 use Rattle.check_model.specs.FieldLists.{NumberedField, FieldsDecl, fields_by_id, field_lists}
 use Rattle.check_model.specs.Resolved.{TypeMeans}
 use Rattle.check_model.specs.SchemaParts.{DefaultRule, IsAliasOf, IsFieldOf, AreFieldsOf, IsStructFrom, IsSchemaWith, named_numbers, enum_made}
@@ -19,8 +19,7 @@ use Rattle.check_model.proofs.Shown.{mapped, weaker}
 use Rattle.sound_model.specs.Clean.{IsClean}
 use Rattle.sound_model.specs.Declared.{HasShortDefault, IsProgramOfTexts}
 use Rattle.sound_model.proofs.RisingFields.{by_id_holds, AreFresh, fields_rise, zip_rises}
-use Rattle.sound_model.proofs.TypeKinds.{meaning_in}
-use Rattle.sound_model.proofs.SchemaSizes.{file_size, enum_size, struct_size}
+use Rattle.sound_model.proofs.SchemaSizes.{file_size, kind_in}
 use Rattle.sound_model.proofs.Fine.{IsFineField, IsFineValue, IsFineList, IsFineTypedef, IsFineEnum, typedefs_fine, enums_fine, lists_fine}
 
 -- what holds of each of some things holds of what is made of them, one by one
@@ -37,14 +36,10 @@ GivesValues D program schema = (file : ℕ) (f : FieldDecl) (k : PlainKind) (def
 
 module _ (D : DefaultRule) (program : Program) (schema : PlainSchema) (texts : IsProgramOfTexts program) (is_clean : IsClean program) (whole : IsSchemaWith D program schema)
     (values : GivesValues D program schema) where
-  pub kind_in : (file : ℕ) (t : _) (k : PlainKind) → TypeMeans program file t k → IsKindIn schema k
-  kind_in file t k means =
-      meaning_in program schema (omega (arith, enum_size D program schema whole)) (omega (arith, struct_size D program schema whole)) file t k means
-
   sound_field : (file : ℕ) (list : FieldsKind) (f : NumberedField) (p : PlainField) → IsFineField f.decl → IsFieldOf D program file list f p → IsSoundField schema p
   sound_field file list f p fine of = record {
     name = subst IsSchemaName (sym of.name) fine.name;
-    kind = kind_in file f.decl.type p.kind of.kind;
+    kind = kind_in D program schema whole file f.decl.type p.kind of.kind;
     default = values file f.decl p.kind p.default fine.short of.kind of.default;
   }
 
@@ -98,7 +93,7 @@ module _ (D : DefaultRule) (program : Program) (schema : PlainSchema) (texts : I
   sound_alias t a fine of = record {
     file = subst (λ n. n < length schema.files) (sym of.file) (file_in t.file fine.file);
     name = subst IsSchemaName (sym of.name) fine.name;
-    kind = kind_in t.file t.item.type a.kind of.kind;
+    kind = kind_in D program schema whole t.file t.item.type a.kind of.kind;
   }
 
   pub sound_aliases : All (IsSoundAlias schema) schema.aliases

@@ -19,10 +19,10 @@ use Rattle.sound_model.specs.Declared.{IsProgramOfTexts}
 use Rattle.sound_model.proofs.RisingFields.{by_id_holds}
 use Rattle.sound_model.proofs.TypeKinds.{parent_within}
 use Rattle.sound_model.proofs.Sizes.{same_length}
-use Rattle.sound_model.proofs.SchemaSizes.{service_size}
+use Rattle.sound_model.proofs.SchemaSizes.{service_size, kind_in}
 use Rattle.sound_model.proofs.Clear.{MayBeThrown}
 use Rattle.sound_model.proofs.Fine.{IsFineFunction, IsFineService, services_fine, without_numbers}
-use Rattle.sound_model.proofs.SoundFields.{GivesValues, zip_turned, kind_in, sound_fields, file_in}
+use Rattle.sound_model.proofs.SoundFields.{GivesValues, zip_turned, sound_fields, file_in}
 use Rattle.sound_model.proofs.FileParts.{zip_at, at_mapped}
 use Rattle.sound_model.proofs.Thrown.{struct_of_kind, is_exception}
 
@@ -62,7 +62,7 @@ module _ (D : DefaultRule) (program : Program) (schema : PlainSchema) (texts : I
   result_in file None None means = tt
   result_in file None (Some k) means = absurd means
   result_in file (Some t) None means = absurd means
-  result_in file (Some t) (Some k) means = kind_in D program schema texts is_clean whole values file t k means
+  result_in file (Some t) (Some k) means = kind_in D program schema whole file t k means
 
   thrown_in : (file : ℕ) (fs : List FieldDecl) (ps : List PlainField) → AllByRecursion (MayBeThrown program file) fs → AreFieldsOf D program file fields.Args fs ps
       → All (λ (t : PlainField). IsException schema t.kind) ps

@@ -24,9 +24,9 @@ use Rattle.sound_model.specs.ShortLiterals.{HasShortLiterals}
 use Rattle.sound_model.specs.Worths.{WorthsAreWritten}
 use Rattle.sound_model.proofs.Clear.{clean}
 use Rattle.sound_model.proofs.Sizes.{few_constants}
-use Rattle.sound_model.proofs.SchemaSizes.{zip_length, short_lists}
+use Rattle.sound_model.proofs.SchemaSizes.{zip_length, short_lists, kind_in}
 use Rattle.sound_model.proofs.Fine.{IsFineConst, constants_fine}
-use Rattle.sound_model.proofs.SoundFields.{GivesValues, zip_turned, kind_in, file_in, sound_structs, sound_enums, sound_aliases}
+use Rattle.sound_model.proofs.SoundFields.{GivesValues, zip_turned, file_in, sound_structs, sound_enums, sound_aliases}
 use Rattle.sound_model.proofs.FileParts.{zip_at, named_at, all_pass, all_defs, all_included, different_bases}
 use Rattle.sound_model.proofs.SoundServices.{sound_services}
 use Rattle.sound_model.proofs.NoLoop.{no_loop}
@@ -82,7 +82,7 @@ module _ (program : Program) (schema : PlainSchema) (texts : IsProgramOfTexts pr
   worth_is_value v k value short means worth =
       value_of_both NoDefault (DefaultIn (record { program = program; schema = is.partial })) program is.partial schema is.made.made is.whole k value
       (written is.partial is.made (partial_sound program is.partial texts (clean program is.faultless) is.made) (gives_short program texts) worth.which k v value worth.count
-      (kind_in NoDefault program is.partial texts (clean program is.faultless) is.made.made (no_values program is.partial) v.file v.item.type k means) short worth.worth)
+      (kind_in NoDefault program is.partial is.made.made v.file v.item.type k means) short worth.worth)
 
   default_value : (file : ℕ) (f : FieldDecl) (k : PlainKind) (tree : Option ConstExpr) (default : Option Tree) → MatchOption tree ⊤ HasShortLiterals → TypeMeans program file f.type k
       → IsDefault (record { program = program; schema = is.partial }) file f k tree default → MatchOption default ⊤ (IsValueOf schema k)
@@ -103,7 +103,7 @@ module _ (program : Program) (schema : PlainSchema) (texts : IsProgramOfTexts pr
       record {
         file = subst (λ n. n < length schema.files) (sym of.file) (file_in Default program schema texts is_clean is.whole values c.file fine.file);
         name = subst IsSchemaName (sym of.name) fine.name;
-        kind = kind_in Default program schema texts is_clean is.whole values c.file c.item.type p.kind of.kind;
+        kind = kind_in Default program schema is.whole c.file c.item.type p.kind of.kind;
         value = worth_is_value v p.kind p.value fine.short of.kind of.value;
       }
 

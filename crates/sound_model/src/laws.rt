@@ -1,13 +1,16 @@
 //! What holds of programs of texts, and of their schemas.
 
-ghost use Rattle.std.specs.Prelude.{List};
+ghost use Rattle.std.specs.Prelude.{◌<◌, ◌+◌, ◌^◌, ℕ, List, length};
 ghost use Rattle.thrift_value.specs.Tree.{Tree};
 ghost use Rattle.idl_model.specs.DeclaredIn.{definitions_in};
+ghost use Rattle.idl_model.specs.TypeExpr.{TypeExpr};
 ghost use Rattle.idl_model.specs.Program.{Program};
+ghost use Rattle.idl_model.specs.Numbering.{constants_of, typedefs_of, enums_of, structs_of, services_of, all_functions};
 ghost use Rattle.idl_include.specs.SourcesOf.{program_in, IsOfSomeText, AreFiles};
 ghost use Rattle.schema.specs.PlainKind.{PlainKind};
 ghost use Rattle.schema.specs.PlainSchema.{PlainSchema};
-ghost use Rattle.schema.specs.Sound.{IsValueOf, IsSoundButConstants, IsSound};
+ghost use Rattle.schema.specs.Sound.{IsKindIn, IsValueOf, IsSoundButConstants, IsSound};
+ghost use Rattle.check_model.specs.Resolved.{TypeMeans};
 ghost use Rattle.check_model.specs.SchemaParts.{IsPartialSchema};
 ghost use Rattle.check_model.specs.FirstFlaw.{HasNoFlaw};
 ghost use Rattle.check_model.specs.ProgramSchema.{IsSchemaOf};
@@ -35,6 +38,23 @@ pub fn loaded_files_are_a_program_of_texts()
     each_token_is_of_its_kind();
     tokens_stand_in_order();
 }
+
+/// A program of texts has fewer definitions, functions included, than 32 bits count.
+pub fn a_program_of_texts_has_short_lists()
+    ensures constants { (program : Program) → IsProgramOfTexts program → length (constants_of program) < 2 ^ 32 }
+    ensures typedefs { (program : Program) → IsProgramOfTexts program → length (typedefs_of program) < 2 ^ 32 }
+    ensures enums { (program : Program) → IsProgramOfTexts program → length (enums_of program) < 2 ^ 32 }
+    ensures services { (program : Program) → IsProgramOfTexts program → length (services_of program) < 2 ^ 32 }
+    ensures structs { (program : Program) → IsProgramOfTexts program → length (structs_of program) + length (all_functions program) < 2 ^ 32 }
+{}
+
+/// What a type means names enums and structs of the program's schema.
+pub fn a_meaning_is_a_type_of_the_schema()
+    ensures partial { (program : Program) (partial : PlainSchema) → IsPartialSchema program partial → (file : ℕ) (type : TypeExpr) (kind : PlainKind)
+        → TypeMeans program file type kind → IsKindIn partial kind }
+    ensures whole { (program : Program) (schema : PlainSchema) → IsSchemaOf program schema → (file : ℕ) (type : TypeExpr) (kind : PlainKind)
+        → TypeMeans program file type kind → IsKindIn schema kind }
+{}
 
 /// The values that a program of texts gives have short literals.
 pub fn a_program_of_texts_gives_short_literals()
