@@ -16,7 +16,7 @@ use Rattle.idl_parser.specs.Phrases.{Node}
 use Rattle.idl_parser.specs.Trees.{row, pair_row, both_nodes, maybe_node, value_step, value_node, field_node, fields_node, function_node, const_node, typedef_node, enum_node, struct_node, service_node, definition_node, document_node}
 use Rattle.idl_model.specs.ConstExpr.{ConstExpr}
 use Rattle.idl_model.specs.DeclaredIn.{items_in, entries_in, const_level, value_in, field_in, throws_in, function_in, definition_in, definitions_in}
-use Rattle.sound_model.specs.ShortLiterals.{HasShortLiterals, HaveItemsShortLiterals, HaveEntriesShortLiterals}
+use Rattle.idl_const.specs.ShortLiterals.{HasShortLiterals, HaveItemsShortLiterals, HaveEntriesShortLiterals}
 use Rattle.sound_model.specs.Declared.{HasShortDefault, HasShortDefaults, HasShortValues}
 use Rattle.sound_model.proofs.Leaves.{HasTexts}
 use Rattle.sound_model.proofs.DocumentNames.{row_names}

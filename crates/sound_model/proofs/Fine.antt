@@ -14,7 +14,7 @@ use Rattle.check_model.proofs.Shown.{front_all, back_all, both_all, mapped, weak
 use Rattle.check_model.proofs.Resolving.{zip_all}
 use Rattle.sound_model.specs.Clean.{IsClean}
 use Rattle.sound_model.specs.Declared.{IsFieldNamed, IsFunctionNamed, IsValueNamed, IsNamed, HasShortDefault, HasShortDefaults, HasShortValues, IsFileOfText, IsProgramOfTexts}
-use Rattle.sound_model.specs.ShortLiterals.{HasShortLiterals}
+use Rattle.idl_const.specs.ShortLiterals.{HasShortLiterals}
 use Rattle.sound_model.proofs.RisingFields.{AreFresh}
 use Rattle.sound_model.proofs.SchemaNames.{schema_name}
 use Rattle.sound_model.proofs.Placed.{FilesIn, files_both, Everywhere, files_everywhere, InFile, files_in_file, IsSpotted, IsPicked, files_picked, constants_are, typedefs_are, enums_are, structs_are, services_are}

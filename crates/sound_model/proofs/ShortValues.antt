@@ -11,7 +11,7 @@ use Rattle.idl_model.specs.Numbering.{Filed, Counts, none_counted, counted, all_
 use Rattle.idl_model.specs.Spots.{GivenValue, Spotted, given_name, type_use, parent_use, typedef_spot, field_spot, thrown_spot, enum_value_spot, struct_spot, service_spot, function_spot, value_spot, Spot, type_spots, default_spots, spots_in_field, spots_in_fields, spots_in_throws, result_spots, spots_in_function, spots_in_functions, spots_in_enum, parent_spots, spots_in_declaration, spots_in_declarations, in_file, spots_from, spots_of, value_at, values_of}
 use Rattle.check_model.proofs.FirstOnes.{somes, none_some}
 use Rattle.check_model.proofs.Shown.{both_all, mapped}
-use Rattle.sound_model.specs.ShortLiterals.{HasShortLiterals, GivesShortLiterals}
+use Rattle.idl_const.specs.ShortLiterals.{HasShortLiterals, GivesShortLiterals}
 use Rattle.sound_model.specs.Declared.{HasShortDefault, HasShortDefaults, HasShortValues, IsFileOfText, IsProgramOfTexts}
 
 -- a spot that shows a value shows one with short literals

@@ -13,15 +13,16 @@ use Rattle.idl_model.specs.Spots.{GivenValue}
 use Rattle.schema.specs.declared.types.DefRef.TheVariants as ref
 use Rattle.schema.specs.PlainKind.{PlainKind}
 use Rattle.schema.specs.PlainSchema.{PlainConstant, PlainFile, PlainSchema}
-use Rattle.schema.specs.Sound.{IsSchemaName, IsPlaceIn, IsDefIn, def_name, IsValueOf, AreSoundDefs, is_no_constant, IsSoundFile, IsSoundConstant, IsSoundButConstants, IsSound}
+use Rattle.schema.specs.Sound.{IsSchemaName, IsPlaceIn, IsDefIn, def_name, IsKindIn, IsValueOf, AreSoundDefs, is_no_constant, IsSoundFile, IsSoundConstant, IsSoundButConstants, IsSound}
 use Rattle.check_model.specs.Resolved.{TypeMeans}
+use Rattle.check_model.specs.Worths.{valued}
+use Rattle.check_model.specs.Evaluation.{Setting, given_worth}
 use Rattle.check_model.specs.SchemaParts.{DefaultRule, NoDefault, ref_behind, IsSchemaWith, IsPartialSchema}
 use Rattle.check_model.specs.ProgramSchema.{HasWorth, IsDefault, DefaultIn, IsConstantOf, IsSchemaOf}
 use Rattle.check_model.proofs.Resolving.{zip_all}
 use Rattle.sound_model.specs.Clean.{IsClean}
 use Rattle.sound_model.specs.Declared.{IsProgramOfTexts}
-use Rattle.sound_model.specs.ShortLiterals.{HasShortLiterals}
-use Rattle.sound_model.specs.Worths.{WorthsAreWritten}
+use Rattle.idl_const.specs.ShortLiterals.{HasShortLiterals, GivesShortLiterals}
 use Rattle.sound_model.proofs.Clear.{clean}
 use Rattle.sound_model.proofs.Sizes.{few_constants}
 use Rattle.sound_model.proofs.SchemaSizes.{zip_length, short_lists, kind_in}
@@ -66,8 +67,15 @@ partial_sound program schema texts is_clean is =
     let none : length schema.constants ≡ 0 = ap length is.constants in
     sound_but_constants NoDefault program schema texts is_clean is.made (no_values program schema) (omega arith)
 
+-- the law of constants
+abbrev WorthsAreWritten : Type 0
+WorthsAreWritten =
+    (s : Setting) → IsPartialSchema s.program s.schema → IsSoundButConstants s.schema → GivesShortLiterals s.program
+    → (which : ℕ) (kind : PlainKind) (v : Filed GivenValue) (value : Tree) (count : ℕ) → IsKindIn s.schema kind → HasShortLiterals v.item.tree
+    → given_worth s which kind v ≡ valued value count → IsValueOf s.schema kind value
+
 -- a whole schema
-module _ (program : Program) (schema : PlainSchema) (texts : IsProgramOfTexts program) (is : IsSchemaOf program schema) (written : WorthsAreWritten program) where
+module _ (program : Program) (schema : PlainSchema) (texts : IsProgramOfTexts program) (is : IsSchemaOf program schema) (written : WorthsAreWritten) where
   -- the rule of its defaults, and of its constants
   abbrev Default : DefaultRule
   Default = DefaultIn (record { program = program; schema = is.partial })
@@ -81,7 +89,7 @@ module _ (program : Program) (schema : PlainSchema) (texts : IsProgramOfTexts pr
   worth_is_value : (v : Filed GivenValue) (k : PlainKind) (value : Tree) → HasShortLiterals v.item.tree → TypeMeans program v.file v.item.type k → HasWorth (record { program = program; schema = is.partial }) v k value → IsValueOf schema k value
   worth_is_value v k value short means worth =
       value_of_both NoDefault (DefaultIn (record { program = program; schema = is.partial })) program is.partial schema is.made.made is.whole k value
-      (written is.partial is.made (partial_sound program is.partial texts (clean program is.faultless) is.made) (gives_short program texts) worth.which k v value worth.count
+      (written (record { program = program; schema = is.partial }) is.made (partial_sound program is.partial texts (clean program is.faultless) is.made) (gives_short program texts) worth.which k v value worth.count
       (kind_in NoDefault program is.partial is.made.made v.file v.item.type k means) short worth.worth)
 
   default_value : (file : ℕ) (f : FieldDecl) (k : PlainKind) (tree : Option ConstExpr) (default : Option Tree) → MatchOption tree ⊤ HasShortLiterals → TypeMeans program file f.type k

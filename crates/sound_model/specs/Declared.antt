@@ -5,7 +5,7 @@ use Rattle.idl_token.specs.Limits.{longest_text}
 use Rattle.idl_model.specs.Declarations.{FieldDecl, FunctionDecl, EnumValueDecl, Declaration, of_const, of_typedef, of_enum, of_struct_decl, of_service}
 use Rattle.idl_model.specs.Loading.{most_files}
 use Rattle.idl_model.specs.Program.{SourceFile, Program, base_of_file}
-use Rattle.sound_model.specs.ShortLiterals.{HasShortLiterals}
+use Rattle.idl_const.specs.ShortLiterals.{HasShortLiterals}
 use Rattle.sound_model.specs.Identifiers.{IsIdentifier}
 
 -- the name of a field is an identifier

@@ -15,10 +15,10 @@ ghost use Rattle.check_model.specs.SchemaParts.{IsPartialSchema};
 ghost use Rattle.check_model.specs.FirstFlaw.{HasNoFlaw};
 ghost use Rattle.check_model.specs.ProgramSchema.{IsSchemaOf};
 ghost use Rattle.sound_model.specs.Declared.{AreOfText, IsProgramOfTexts};
-ghost use Rattle.sound_model.specs.ShortLiterals.{GivesShortLiterals};
+ghost use Rattle.idl_const.specs.ShortLiterals.{GivesShortLiterals};
 ghost use Rattle.sound_model.specs.Clean.{IsClean};
-ghost use Rattle.sound_model.specs.Worths.{WorthsAreWritten};
 
+use idl_const::laws::values_may_be_written;
 use idl_include::IdlFile;
 use idl_parser::Document;
 use idl_token::{each_token_is_of_its_kind, tokens_stand_in_order};
@@ -77,15 +77,17 @@ pub fn a_value_is_one_with_defaults()
         → (kind : PlainKind) (value : Tree) → IsValueOf partial kind value → IsValueOf schema kind value }
 {}
 
-/// The schema of a program of texts is sound, where the values that the program gives are written as their types say.
+/// The schema of a program of texts is sound.
 pub fn a_schema_is_sound()
-    ensures { (program : Program) (schema : PlainSchema) → IsProgramOfTexts program → IsSchemaOf program schema → WorthsAreWritten program → IsSound schema }
-{}
+    ensures { (program : Program) (schema : PlainSchema) → IsProgramOfTexts program → IsSchemaOf program schema → IsSound schema }
+{
+    values_may_be_written();
+}
 
-/// The schema of the program that loading gives is sound, where the values that the program gives are written as their types say.
+/// The schema of the program that loading gives is sound.
 pub fn the_schema_of_loaded_files_is_sound()
-    ensures { (files : List IdlFile) (schema : PlainSchema) → AreFiles files → IsSchemaOf (program_in files) schema
-        → WorthsAreWritten (program_in files) → IsSound schema }
+    ensures { (files : List IdlFile) (schema : PlainSchema) → AreFiles files → IsSchemaOf (program_in files) schema → IsSound schema }
 {
     loaded_files_are_a_program_of_texts();
+    a_schema_is_sound();
 }
