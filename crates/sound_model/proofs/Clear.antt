@@ -8,7 +8,7 @@ use Rattle.idl_model.specs.Declarations.{FieldDecl, FunctionDecl, EnumValueDecl}
 use Rattle.idl_model.specs.Program.{Program}
 use Rattle.idl_model.specs.Names.{is_dotted}
 use Rattle.idl_model.specs.Numbering.{none_counted}
-use Rattle.idl_model.specs.Spots.{Spotted, given_name, field_spot, thrown_spot, service_spot, function_spot, Spot, type_spots, result_spots, spots_in_field, spots_in_fields, spots_in_throws, spots_in_function, spots_in_functions, spots_in_enum, spots_of, default_spots}
+use Rattle.idl_model.specs.Spots.{Spotted, given_name, thrown_spot, service_spot, type_spots, result_spots, spots_in_field, spots_in_fields, spots_in_throws, spots_in_function, spots_in_functions, spots_in_enum, spots_of, default_spots}
 use Rattle.check_model.specs.Passes.{Pass, dotted_name, duplicate_name, unknown_type, typedef_cycle, field_id, duplicate_id, enum_number, service_cycle, duplicate_function, oneway_not_void, oneway_throws, not_exception, struct_loop, bad_constant, is_repeated, is_id_repeated, IsRepeatedFunction, MeansException}
 use Rattle.check_model.specs.FirstFlaw.{found_by, IsClearAt, FindsNothing, HasNoFlaw}
 use Rattle.check_model.proofs.Shown.{front_all, back_all}

@@ -1,24 +1,24 @@
 -- The functions of each service of a program's schema, inherited ones included, have different names.
-use Rattle.std.proofs.Common.{◌≡◌, ◌≢◌, ◌⊎◌, inl, inr, ◌<◌, ◌≤◌, ◌+◌, ℕ, zero, suc, Bool, true, false, ◌||◌, List, [], ◌∷◌, ◌++◌, map, length, Option, None, Some, slice_get, AllPairs, refl, sym, ap, subst, ◌∙◌, arith}
+use Rattle.std.proofs.Common.{◌≡◌, ◌≢◌, ◌⊎◌, inl, inr, ◌+◌, ℕ, zero, suc, List, [], ◌∷◌, ◌++◌, map, length, Option, None, Some, slice_get, AllPairs, refl, sym, ap, subst, ◌∙◌, arith}
 use Rattle.std.specs.Prelude.{unwrap_or}
-use Rattle.std.specs.Option.{option_and_then, option_map, option_map_or}
+use Rattle.std.specs.Option.{option_map, option_map_or}
 use Rattle.std.specs.List.{AllByRecursion, list_any, flat_map}
 use Rattle.std.specs.Str.{bytes_eq}
 use Rattle.std.proofs.lemmas.Bool.{or_left, or_right}
 use Rattle.std.proofs.lemmas.List.Elements.{All-from_recursion}
 use Rattle.std.proofs.lemmas.List.Kept.{AllPairs-cons}
 use Rattle.std.proofs.lemmas.Slice.Eq.{bytes_eq-Decides}
-use Rattle.graph_walk.specs.Walks.{Walk, IsEdge, LeadsTo}
+use Rattle.graph_walk.specs.Walks.{IsEdge, LeadsTo}
 use Rattle.idl_model.specs.Declarations.{FunctionDecl, ServiceDecl}
 use Rattle.idl_model.specs.Program.{Program}
 use Rattle.idl_model.specs.Numbering.{Filed, structs_of, services_of}
 use Rattle.idl_model.specs.Cycles.{parent_graph, functions_by_number, HasFunction, Inherits}
-use Rattle.schema.specs.Inherited.{parent_of, lineage_within, lineage, own_functions, functions_of}
+use Rattle.schema.specs.Inherited.{parent_of, lineage_within, lineage, own_functions}
 use Rattle.schema.specs.PlainSchema.{PlainFunction, PlainService, PlainSchema}
-use Rattle.schema.specs.Sound.{AreDifferent, HaveDifferentFunctions}
+use Rattle.schema.specs.Sound.{HaveDifferentFunctions}
 use Rattle.check_model.specs.SchemaParts.{DefaultRule, AreFunctionsOf, AreServicesOf, IsSchemaWith}
 use Rattle.check_model.proofs.Resolving.{from_at}
-use Rattle.check_model.proofs.Shown.{both_all, front_all, back_all, mapped, weaker}
+use Rattle.check_model.proofs.Shown.{both_all, mapped, weaker}
 use Rattle.sound_model.specs.Clean.{IsClean}
 use Rattle.sound_model.specs.Declared.{IsProgramOfTexts}
 use Rattle.sound_model.proofs.Clear.{AreClearFunctions}

@@ -1,5 +1,5 @@
 -- What the tree of a document in memory keeps, said of what the document declares.
-use Rattle.std.proofs.Common.{Vec, Global, ◌≡◌, ℕ, suc, ◌+◌, ◌≤◌, true, List, [], ◌∷◌, map, length, Option, Some, None, refl, ap, arith}
+use Rattle.std.proofs.Common.{Vec, Global, ◌≡◌, suc, ◌≤◌, List, [], ◌∷◌, map, length, Option, Some, None, refl, ap, arith}
 use Rattle.std.specs.Option.{option_map}
 use Rattle.std.specs.List.{AllByRecursion}
 use Rattle.idl_parser.specs.declared.tree.Field.{Field}
@@ -9,7 +9,7 @@ use Rattle.idl_parser.specs.declared.tree.Definition.{Definition}
 use Rattle.idl_parser.specs.declared.tree.Definition.TheVariants as definition
 use Rattle.idl_parser.specs.declared.tree.Document.{Document}
 use Rattle.idl_parser.specs.Phrases.{Node}
-use Rattle.idl_parser.specs.Trees.{row, maybe_node, field_node, fields_node, function_node, functions_node, const_node, typedef_node, enum_value_node, enum_node, struct_node, service_node, definition_node, definitions_node, document_node}
+use Rattle.idl_parser.specs.Trees.{row, maybe_node, field_node, fields_node, function_node, const_node, typedef_node, enum_value_node, enum_node, struct_node, service_node, definition_node, definitions_node, document_node}
 use Rattle.idl_model.specs.DeclaredIn.{field_in, throws_in, function_in, enum_value_in, definition_in, definitions_in}
 use Rattle.sound_model.specs.Declared.{IsFieldNamed, IsFunctionNamed, IsValueNamed, IsNamed, function_count, item_count}
 use Rattle.sound_model.proofs.Leaves.{HasTexts, leaves}

@@ -1,5 +1,5 @@
 -- The values that a document gives have short literals, where its tree has.
-use Rattle.std.proofs.Common.{Vec, Global, ◌≡◌, ◌<◌, ◌≤◌, ◌^◌, ℕ, List, [], ◌∷◌, map, length, Option, Some, None, sym, subst, arith}
+use Rattle.std.proofs.Common.{Vec, Global, List, [], ◌∷◌, map, Option, Some, None, sym, subst, arith}
 use Rattle.std.specs.Prelude.{MatchOption, ⊤}
 use Rattle.std.specs.Option.{option_map}
 use Rattle.std.specs.List.{AllByRecursion}

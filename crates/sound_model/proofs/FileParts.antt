@@ -1,7 +1,7 @@
 -- The files of a program's schema are sound: their base names, includes and definitions.
-use Rattle.std.proofs.Common.{◌≡◌, ◌≢◌, ◌⊎◌, inl, inr, ◌<◌, ◌≤◌, ◌+◌, ℕ, zero, suc, Bool, true, false, ◌||◌, List, [], ◌∷◌, ◌++◌, map, length, Option, None, Some, slice_get, All, AllPairs, filter, refl, sym, ap, subst, ◌∙◌, arith}
+use Rattle.std.proofs.Common.{◌≡◌, ◌≢◌, inl, inr, ◌<◌, ◌+◌, ℕ, zero, suc, Bool, true, false, List, [], ◌∷◌, ◌++◌, map, length, Some, slice_get, All, AllPairs, filter, refl, sym, ap, subst, ◌∙◌, arith}
 use Rattle.std.specs.Option.{option_map}
-use Rattle.std.specs.List.{AllByRecursion, AllZip, list_any}
+use Rattle.std.specs.List.{AllByRecursion, AllZip}
 use Rattle.std.specs.Str.{bytes_eq}
 use Rattle.std.proofs.lemmas.Bool.{or_cases, or_left, or_right, cond_both}
 use Rattle.std.proofs.lemmas.List.Elements.{All-from_recursion, All-weaker}
@@ -9,23 +9,23 @@ use Rattle.std.proofs.lemmas.List.Kept.{AllPairs-cons}
 use Rattle.std.proofs.lemmas.Option.{slice_get-map, slice_get_within}
 use Rattle.std.proofs.lemmas.Slice.Eq.{bytes_eq-Decides}
 use Rattle.idl_model.specs.Written.{Written}
-use Rattle.idl_model.specs.Declarations.{Declaration, of_const, of_typedef, of_enum, of_struct_decl, of_service, declared_name, ConstDecl, TypedefDecl, EnumDecl, StructDecl, ServiceDecl}
+use Rattle.idl_model.specs.Declarations.{Declaration, of_const, of_typedef, of_enum, of_struct_decl, of_service, declared_name, ConstDecl, EnumDecl, StructDecl, ServiceDecl}
 use Rattle.idl_model.specs.Loading.{is_among}
-use Rattle.idl_model.specs.Program.{SourceFile, Program, base_of_file}
+use Rattle.idl_model.specs.Program.{Program, base_of_file}
 use Rattle.idl_model.specs.Numbering.{Filed, Counts, none_counted, counted, all_counted, const_in, typedef_in, enum_in, struct_in, service_in, constants_of, typedefs_of, enums_of, structs_of, services_of, all_functions}
-use Rattle.idl_model.specs.Spots.{Spotted, given_name, type_spots, spots_in_declaration}
+use Rattle.idl_model.specs.Spots.{type_spots, spots_in_declaration}
 use Rattle.schema.specs.declared.types.DefRef.{DefRef}
 use Rattle.schema.specs.declared.types.DefRef.TheVariants as ref
 use Rattle.schema.specs.PlainSchema.{PlainStruct, PlainEnum, PlainService, PlainAlias, PlainFile, PlainSchema}
 use Rattle.schema.specs.Sound.{AreDifferent, IsPlaceIn, IsDefIn, def_name, AreSoundDefs}
-use Rattle.check_model.specs.FieldLists.{FieldsDecl, fields_of_struct, args_of_function, field_lists}
+use Rattle.check_model.specs.FieldLists.{fields_of_struct, args_of_function, field_lists}
 use Rattle.check_model.specs.Passes.{is_repeated}
 use Rattle.check_model.specs.SchemaParts.{IsAliasOf, IsStructFrom, AreServicesOf, IsSchemaWith, DefaultRule, enum_made, ref_behind, refs_behind, files_behind, files_of}
 use Rattle.check_model.proofs.FirstOnes.{somes, none_some}
 use Rattle.check_model.proofs.Shown.{back_all}
 use Rattle.sound_model.specs.Clean.{IsClean}
 use Rattle.sound_model.specs.Declared.{IsFileOfText, IsProgramOfTexts}
-use Rattle.sound_model.proofs.Placed.{DeclRule, DeclsIn, FilesIn, files_both, StandsAt, IsFound, program_found, constants_are, typedefs_are, enums_are, structs_are, services_are}
+use Rattle.sound_model.proofs.Placed.{DeclRule, DeclsIn, FilesIn, files_both, IsFound, program_found, constants_are, typedefs_are, enums_are, structs_are, services_are}
 use Rattle.sound_model.proofs.Clear.{IsClear, name_new}
 use Rattle.sound_model.proofs.Fine.{IsFine, all_fine}
 use Rattle.sound_model.proofs.SchemaSizes.{file_size}

@@ -1,5 +1,5 @@
 -- What each definition of a program of texts is, where no pass finds anything.
-use Rattle.std.proofs.Common.{◌≡◌, ℕ, suc, ◌+◌, ◌<◌, ◌≤◌, true, List, [], ◌∷◌, ◌++◌, map, length, refl, subst, arith}
+use Rattle.std.proofs.Common.{ℕ, suc, ◌<◌, List, [], ◌∷◌, ◌++◌, map, length, subst, arith}
 use Rattle.std.specs.List.{AllByRecursion, flat_map}
 use Rattle.graph_walk.specs.Walks.{OnCycle}
 use Rattle.idl_model.specs.Written.{Written}
@@ -10,7 +10,7 @@ use Rattle.idl_model.specs.Numbering.{Filed, filed, Counts, none_counted, const_
 use Rattle.idl_model.specs.Spots.{type_spots, parent_spots, spots_in_declaration}
 use Rattle.schema.specs.Sound.{IsSchemaName}
 use Rattle.check_model.specs.FieldLists.{FieldsDecl, fields_of_struct, args_of_function, field_lists}
-use Rattle.check_model.proofs.Shown.{front_all, back_all, both_all, mapped, weaker, AllFrom}
+use Rattle.check_model.proofs.Shown.{back_all, both_all, mapped, weaker, AllFrom}
 use Rattle.check_model.proofs.Resolving.{zip_all}
 use Rattle.sound_model.specs.Clean.{IsClean}
 use Rattle.sound_model.specs.Declared.{IsFieldNamed, IsFunctionNamed, IsValueNamed, IsNamed, HasShortDefault, HasShortDefaults, HasShortValues, IsFileOfText, IsProgramOfTexts}
@@ -18,7 +18,7 @@ use Rattle.idl_const.specs.ShortLiterals.{HasShortLiterals}
 use Rattle.sound_model.proofs.RisingFields.{AreFresh}
 use Rattle.sound_model.proofs.SchemaNames.{schema_name}
 use Rattle.sound_model.proofs.Placed.{FilesIn, files_both, Everywhere, files_everywhere, InFile, files_in_file, IsSpotted, IsPicked, files_picked, constants_are, typedefs_are, enums_are, structs_are, services_are}
-use Rattle.sound_model.proofs.Clear.{IsUndotted, HasUndotted, ValueUndotted, IsClear, all_clear, name_clear, fields_undotted, fields_fresh, values_undotted, MayBeThrown, IsClearFunction, AreClearFunctions, functions_clear, service_acyclic}
+use Rattle.sound_model.proofs.Clear.{HasUndotted, ValueUndotted, IsClear, all_clear, name_clear, fields_undotted, fields_fresh, values_undotted, MayBeThrown, AreClearFunctions, functions_clear, service_acyclic}
 
 -- what holds of each with its number, without numbers
 pub without_numbers : {A : Type 0} (Q : ℕ → A → Type 0) (R : A → Type 0) → ((k : ℕ) (x : A) → Q k x → R x) → (n : ℕ) (xs : List A) → AllFrom Q n xs → AllByRecursion R xs

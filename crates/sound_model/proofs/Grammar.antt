@@ -4,7 +4,7 @@ use Rattle.std.proofs.lemmas.Bool.{eqb-true}
 use Rattle.idl_token.specs.declared.terminal.Terminal.{Terminal}
 use Rattle.idl_token.specs.declared.terminal.Terminal.TheVariants as word
 use Rattle.idl_token.specs.Terminals.{code, same}
-use Rattle.idl_parser.specs.Phrases.{Lexeme, Node, none, word as word_node, flag, text, number, given, pair, placed, Phrase}
+use Rattle.idl_parser.specs.Phrases.{Node, none, word as word_node, flag, text, number, given, pair, placed, Phrase}
 use Rattle.idl_parser.specs.Leaves.{unescaped, literal_bytes, no_leaf, word_leaf, text_leaf, literal_leaf, number_leaf, flag_leaf, neither, left_tree, right_tree, dropped}
 use Rattle.idl_parser.specs.Parts.{separator, annotation_value, annotation_entry, annotation, annotated}
 use Rattle.idl_parser.specs.Types.{base, cpp_type, map_type_rest, set_type_rest, list_type_rest, container, no_container, bare_or, inner_type, bare_type, type_of}

@@ -1,5 +1,5 @@
 -- A tree keeps no more than its symbols, and its names and literals are of them.
-use Rattle.std.proofs.Common.{◌≡◌, ◌⊎◌, inl, inr, ℕ, zero, suc, ◌+◌, ◌≤◌, true, List, [], ◌∷◌, length, ap, sym, subst, arith}
+use Rattle.std.proofs.Common.{◌≡◌, inl, inr, ℕ, zero, suc, ◌+◌, ◌≤◌, true, List, ◌∷◌, length, ap, sym, subst, arith}
 use Rattle.std.specs.List.{AllByRecursion}
 use Rattle.idl_token.specs.declared.terminal.Terminal.{Terminal}
 use Rattle.idl_token.specs.declared.terminal.Terminal.TheVariants as word

@@ -1,5 +1,5 @@
 -- No service of a program's schema reaches itself by what it extends.
-use Rattle.std.proofs.Common.{◌≡◌, ◌<◌, ◌≤◌, ◌+◌, ℕ, zero, suc, List, [], ◌∷◌, map, length, Option, None, Some, slice_get, slice_index_or, refl, sym, ap, subst, ◌∙◌, arith}
+use Rattle.std.proofs.Common.{◌≡◌, ◌+◌, ℕ, zero, suc, List, [], ◌∷◌, map, length, Option, None, Some, slice_get, refl, sym, ap, subst, ◌∙◌, arith}
 use Rattle.std.specs.Option.{option_and_then}
 use Rattle.std.specs.List.{Contains}
 use Rattle.std.proofs.lemmas.Option.{get_or_from_slice_get}
@@ -11,7 +11,7 @@ use Rattle.idl_model.specs.Cycles.{parent_named, listed, parent_graph}
 use Rattle.schema.specs.Inherited.{parent_of}
 use Rattle.schema.specs.PlainSchema.{PlainService, PlainSchema}
 use Rattle.schema.specs.Sound.{Extends, HasNoServiceLoop}
-use Rattle.check_model.specs.SchemaParts.{DefaultRule, IsServiceOf, AreServicesOf, IsSchemaWith}
+use Rattle.check_model.specs.SchemaParts.{DefaultRule, AreServicesOf, IsSchemaWith}
 use Rattle.check_model.proofs.FirstOnes.{somes, none_some}
 use Rattle.check_model.proofs.Resolving.{from_at}
 use Rattle.sound_model.specs.Clean.{IsClean}

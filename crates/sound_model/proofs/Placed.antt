@@ -1,8 +1,8 @@
 -- What holds of each definition of a program where it stands: its file, the names before it in the file, the counts before it.
-use Rattle.std.proofs.Common.{◌≡◌, ℕ, suc, ◌+◌, ◌<◌, ◌≤◌, List, [], ◌∷◌, ◌++◌, length, Option, None, Some, slice_get, refl, ap, sym, subst, ◌∙◌, append_assoc, length-append, arith}
+use Rattle.std.proofs.Common.{◌≡◌, ℕ, suc, ◌+◌, ◌<◌, ◌≤◌, List, [], ◌∷◌, ◌++◌, length, Option, None, Some, slice_get, refl, sym, subst, ◌∙◌, append_assoc, length-append, arith}
 use Rattle.std.specs.List.{AllByRecursion, filter_map, cons_option}
 use Rattle.idl_model.specs.Written.{Written}
-use Rattle.idl_model.specs.Declarations.{ConstDecl, TypedefDecl, EnumDecl, StructDecl, ServiceDecl, Declaration, of_const, of_typedef, of_enum, of_struct_decl, of_service, declared_name}
+use Rattle.idl_model.specs.Declarations.{Declaration, of_const, of_typedef, of_enum, of_struct_decl, of_service, declared_name}
 use Rattle.idl_model.specs.Program.{SourceFile, Program}
 use Rattle.idl_model.specs.Numbering.{Filed, filed, Counts, none_counted, counted, all_counted, picked_from, const_in, typedef_in, enum_in, struct_in, service_in}
 use Rattle.idl_model.specs.Spots.{Spotted, Spot, spots_in_declaration, spots_in_declarations, in_file, spots_from, spots_of}

@@ -1,18 +1,17 @@
 -- What may be written under a type of a program's schema may be so whether defaults are told or not.
-use Rattle.std.proofs.Common.{◌≡◌, ℕ, zero, suc, ℤ, Bool, true, false, cond, List, [], ◌∷◌, Option, None, Some, slice_get, All, refl, sym, ap, subst, ◌∙◌}
-use Rattle.std.specs.Prelude.{MatchOption, ⊤}
-use Rattle.std.specs.List.{AllByRecursion, AllZip, find}
+use Rattle.std.proofs.Common.{◌≡◌, ℕ, zero, suc, ℤ, Bool, true, false, cond, List, [], ◌∷◌, Option, Some, slice_get, sym, ap, subst, ◌∙◌}
+use Rattle.std.specs.Prelude.{MatchOption}
+use Rattle.std.specs.List.{AllByRecursion, AllZip}
 use Rattle.std.specs.Ordering.{int_eq}
 use Rattle.std.proofs.lemmas.List.Elements.{All-from_recursion, recursion_from_All}
 use Rattle.thrift_value.specs.Tree.{Tree, of_bool, of_i8, of_i16, of_i32, of_i64, of_double, of_bytes, of_struct, of_map, of_set, of_list, FieldTrees, no_fields, field, ItemTrees, no_items, item, PairTrees, no_pairs, pair}
 use Rattle.idl_model.specs.Program.{Program}
 use Rattle.schema.specs.declared.types.FieldNeed.TheVariants.{Required}
 use Rattle.schema.specs.declared.types.FieldsKind.{FieldsKind}
-use Rattle.schema.specs.declared.types.FieldsKind.TheVariants.{Union}
 use Rattle.schema.specs.PlainKind.{PlainKind, kind_bool, kind_i8, kind_i16, kind_i32, kind_i64, kind_double, kind_text, kind_binary, kind_enum, kind_struct, kind_map, kind_set, kind_list}
 use Rattle.schema.specs.PlainSchema.{PlainField, PlainStruct, PlainSchema}
 use Rattle.schema.specs.Sound.{IsValueOf}
-use Rattle.schema.specs.WrittenAs.{field_with_id, HasFieldTree, IsOneField, HasItsFields, IsWrittenAs, AreFieldsWrittenAs, AreItemsWrittenAs, ArePairsWrittenAs}
+use Rattle.schema.specs.WrittenAs.{field_with_id, HasFieldTree, HasItsFields, IsWrittenAs, AreFieldsWrittenAs, AreItemsWrittenAs, ArePairsWrittenAs}
 use Rattle.check_model.specs.FieldLists.{NumberedField, FieldsDecl, fields_by_id, field_lists}
 use Rattle.check_model.specs.SchemaParts.{DefaultRule, IsFieldOf, IsStructFrom, IsSchemaWith}
 use Rattle.check_model.proofs.Meanings.{one_meaning}

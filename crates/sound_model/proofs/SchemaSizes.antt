@@ -1,14 +1,14 @@
 -- The lists of a program's schema are as long as those of the program.
-use Rattle.std.proofs.Common.{◌≡◌, ℕ, suc, ◌+◌, ◌<◌, ◌≤◌, ◌^◌, List, [], ◌∷◌, ◌++◌, map, length, refl, sym, ap, ◌∙◌, length-append, arith}
+use Rattle.std.proofs.Common.{◌≡◌, ℕ, suc, ◌+◌, ◌<◌, ◌^◌, List, [], ◌∷◌, map, length, refl, ap, ◌∙◌, length-append, arith}
 use Rattle.std.specs.List.{AllZip}
-use Rattle.idl_model.specs.Declarations.{FunctionDecl, ServiceDecl, StructDecl}
+use Rattle.idl_model.specs.Declarations.{ServiceDecl}
 use Rattle.idl_model.specs.TypeExpr.{TypeExpr}
 use Rattle.idl_model.specs.Program.{Program}
 use Rattle.idl_model.specs.Numbering.{Filed, Counts, none_counted, all_counted, typedefs_of, enums_of, structs_of, services_of, all_functions}
 use Rattle.schema.specs.PlainKind.{PlainKind}
 use Rattle.schema.specs.PlainSchema.{PlainService, PlainSchema}
 use Rattle.schema.specs.Sound.{IsKindIn, HasShortLists}
-use Rattle.check_model.specs.FieldLists.{FieldsDecl, fields_of_struct, args_of_function, field_lists}
+use Rattle.check_model.specs.FieldLists.{fields_of_struct, args_of_function, field_lists}
 use Rattle.check_model.specs.Resolved.{TypeMeans}
 use Rattle.check_model.specs.SchemaParts.{DefaultRule, IsAliasOf, IsStructFrom, AreServicesOf, IsSchemaWith, enum_made, files_behind, files_of}
 use Rattle.sound_model.specs.Declared.{IsProgramOfTexts}

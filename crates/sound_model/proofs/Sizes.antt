@@ -1,11 +1,10 @@
 -- A program of texts has fewer definitions, functions included, than 32 bits count.
-use Rattle.std.proofs.Common.{◌≡◌, ℕ, suc, ◌+◌, ◌*◌, ◌<◌, ◌≤◌, ◌^◌, List, [], ◌∷◌, ◌++◌, map, length, Option, None, Some, refl, ap, ◌∙◌, length-append, arith}
+use Rattle.std.proofs.Common.{◌≡◌, ℕ, suc, ◌+◌, ◌*◌, ◌<◌, ◌≤◌, ◌^◌, List, [], ◌∷◌, ◌++◌, map, length, Option, None, Some, refl, ap, length-append, arith}
 use Rattle.std.specs.List.{AllByRecursion, filter_map, cons_option, flat_map}
-use Rattle.idl_token.specs.Limits.{longest_text}
 use Rattle.idl_model.specs.Declarations.{FunctionDecl, ServiceDecl, Declaration, of_const, of_typedef, of_enum, of_struct_decl, of_service}
-use Rattle.idl_model.specs.Program.{SourceFile, Program}
+use Rattle.idl_model.specs.Program.{Program}
 use Rattle.idl_model.specs.Numbering.{Filed, filed, picked_from, const_in, typedef_in, enum_in, struct_in, service_in, constants_of, typedefs_of, enums_of, structs_of, services_of, functions_in, all_functions}
-use Rattle.sound_model.specs.Declared.{function_count, item_count, IsFileOfText, IsProgramOfTexts}
+use Rattle.sound_model.specs.Declared.{item_count, IsFileOfText, IsProgramOfTexts}
 
 pub same_length : {A B : Type 0} (f : A → B) (xs : List A) → length (map f xs) ≡ length xs
 same_length f [] = refl

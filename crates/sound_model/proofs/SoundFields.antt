@@ -1,5 +1,5 @@
 -- Structs, enums and typedefs of a program's schema are sound.
-use Rattle.std.proofs.Common.{◌≡◌, ℕ, ◌+◌, ◌<◌, ◌≤◌, ◌<ℤ◌, ℤ, List, [], ◌∷◌, map, length, Option, None, Some, All, refl, sym, subst, arith}
+use Rattle.std.proofs.Common.{ℕ, ◌<◌, ℤ, List, [], ◌∷◌, map, length, Option, All, sym, subst, arith}
 use Rattle.std.specs.Prelude.{MatchOption, ⊤}
 use Rattle.std.specs.List.{AllByRecursion, AllZip}
 use Rattle.std.proofs.lemmas.List.Elements.{All-from_recursion}
@@ -7,10 +7,10 @@ use Rattle.thrift_value.specs.Tree.{Tree}
 use Rattle.idl_model.specs.Declarations.{FieldDecl, TypedefDecl, EnumValueDecl, EnumDecl}
 use Rattle.idl_model.specs.EnumNumbers.{enum_numbers}
 use Rattle.idl_model.specs.Program.{Program}
-use Rattle.idl_model.specs.Numbering.{Filed, typedefs_of, enums_of, structs_of, all_functions}
+use Rattle.idl_model.specs.Numbering.{Filed, typedefs_of, enums_of}
 use Rattle.schema.specs.declared.types.FieldsKind.{FieldsKind}
 use Rattle.schema.specs.PlainKind.{PlainKind}
-use Rattle.schema.specs.PlainSchema.{PlainField, PlainStruct, PlainEnum, PlainAlias, PlainSchema}
+use Rattle.schema.specs.PlainSchema.{PlainField, PlainStruct, PlainAlias, PlainSchema}
 use Rattle.schema.specs.Sound.{IsSchemaName, IsValueOf, IsSoundField, AreSoundFields, IsSoundStruct, IsSoundEnum, IsSoundAlias}
 use Rattle.check_model.specs.FieldLists.{NumberedField, FieldsDecl, fields_by_id, field_lists}
 use Rattle.check_model.specs.Resolved.{TypeMeans}

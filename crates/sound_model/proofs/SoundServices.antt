@@ -1,7 +1,7 @@
 -- The services of a program's schema are sound.
-use Rattle.std.proofs.Common.{◌≡◌, ◌<◌, ◌≤◌, ◌+◌, ◌-◌, ℕ, zero, suc, List, [], ◌∷◌, ◌++◌, map, length, Option, None, Some, slice_get, All, refl, sym, ap, subst, ◌∙◌, length-append, arith}
+use Rattle.std.proofs.Common.{◌≡◌, ◌<◌, ◌≤◌, ◌+◌, ◌-◌, ℕ, zero, suc, List, [], ◌∷◌, ◌++◌, map, length, Option, None, Some, slice_get, All, refl, sym, subst, length-append, arith}
 use Rattle.std.specs.Prelude.{MatchOption, ⊤}
-use Rattle.std.specs.List.{AllByRecursion, AllZip, flat_map}
+use Rattle.std.specs.List.{AllByRecursion, flat_map}
 use Rattle.std.proofs.lemmas.List.Elements.{All-from_recursion}
 use Rattle.idl_model.specs.Declarations.{FieldDecl, FunctionDecl, ServiceDecl}
 use Rattle.idl_model.specs.TypeExpr.{TypeExpr}
@@ -12,7 +12,7 @@ use Rattle.schema.specs.declared.types.FieldsKind.TheVariants as fields
 use Rattle.schema.specs.PlainKind.{PlainKind}
 use Rattle.schema.specs.PlainSchema.{PlainField, PlainFunction, PlainService, PlainSchema}
 use Rattle.schema.specs.Sound.{IsSchemaName, IsKindIn, IsStructOf, IsException, IsPlaceIn, IsSoundFunction, IsSoundService}
-use Rattle.check_model.specs.FieldLists.{NumberedField, FieldsDecl, fields_by_id, fields_of_struct, args_of_function, field_lists}
+use Rattle.check_model.specs.FieldLists.{NumberedField, fields_by_id, fields_of_struct, args_of_function, field_lists}
 use Rattle.check_model.specs.SchemaParts.{DefaultRule, IsFieldOf, AreFieldsOf, IsStructFrom, ResultMeans, IsFunctionOf, AreFunctionsOf, IsServiceOf, AreServicesOf, IsSchemaWith}
 use Rattle.sound_model.specs.Clean.{IsClean}
 use Rattle.sound_model.specs.Declared.{IsProgramOfTexts}

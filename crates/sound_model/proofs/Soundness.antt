@@ -1,16 +1,14 @@
 -- A program's schema is sound, with its defaults and constants and without.
-use Rattle.std.proofs.Common.{◌≡◌, ◌<◌, ◌^◌, ℕ, true, List, [], ◌∷◌, length, Option, None, Some, slice_get, All, filter, refl, sym, ap, subst, ◌∙◌, arith}
+use Rattle.std.proofs.Common.{◌≡◌, ◌<◌, ◌^◌, ℕ, true, List, [], ◌∷◌, length, Option, None, Some, slice_get, All, filter, sym, ap, subst, arith}
 use Rattle.std.specs.Prelude.{MatchOption, ⊤}
 use Rattle.std.specs.List.{AllByRecursion}
-use Rattle.std.proofs.lemmas.List.Elements.{All-from_recursion, All-filter}
-use Rattle.std.proofs.lemmas.List.Kept.{AllPairs-filter}
+use Rattle.std.proofs.lemmas.List.Elements.{All-from_recursion}
 use Rattle.thrift_value.specs.Tree.{Tree}
 use Rattle.idl_model.specs.ConstExpr.{ConstExpr}
 use Rattle.idl_model.specs.Declarations.{FieldDecl, ConstDecl, of_const}
 use Rattle.idl_model.specs.Program.{Program}
 use Rattle.idl_model.specs.Numbering.{Filed, Counts, constants_of}
 use Rattle.idl_model.specs.Spots.{GivenValue}
-use Rattle.schema.specs.declared.types.DefRef.TheVariants as ref
 use Rattle.schema.specs.PlainKind.{PlainKind}
 use Rattle.schema.specs.PlainSchema.{PlainConstant, PlainFile, PlainSchema}
 use Rattle.schema.specs.Sound.{IsSchemaName, IsPlaceIn, IsDefIn, def_name, IsKindIn, IsValueOf, AreSoundDefs, is_no_constant, IsSoundFile, IsSoundConstant, IsSoundButConstants, IsSound}

@@ -1,12 +1,11 @@
 -- The files that loading gives are a program of texts.
-use Rattle.std.proofs.Common.{◌≡◌, ◌≢◌, ◌<◌, ℕ, suc, ◌+◌, ◌≤◌, true, false, List, [], ◌∷◌, map, length, All, AllPairs, refl, sym, ap, subst, ◌∙◌, arith}
-use Rattle.std.specs.List.{AllByRecursion, list_any}
+use Rattle.std.proofs.Common.{◌≡◌, ◌≢◌, ℕ, suc, false, List, [], ◌∷◌, map, length, All, AllPairs, refl, sym, ap, subst, arith}
+use Rattle.std.specs.List.{AllByRecursion}
 use Rattle.std.proofs.lemmas.Bool.{or_parts, both_ways}
 use Rattle.std.proofs.lemmas.List.Elements.{All-from_recursion, recursion_from_All}
 use Rattle.std.proofs.lemmas.List.Kept.{AllPairs-cons}
 use Rattle.std.proofs.lemmas.Slice.Eq.{bytes_eq-Decides}
 use Rattle.std.specs.Str.{bytes_eq}
-use Rattle.idl_token.specs.Limits.{longest_text}
 use Rattle.idl_token.specs.Tokens.{AreTokensOf, IsOfItsKind, StandBetween}
 use Rattle.idl_token.specs.declared.Token.{Token}
 use Rattle.idl_parser.specs.Documents.{deepest, document}
@@ -14,14 +13,13 @@ use Rattle.idl_parser.specs.Symbols.{lexemes}
 use Rattle.idl_parser.specs.Trees.{document_node}
 use Rattle.idl_parser.specs.declared.tree.Document.{Document}
 use Rattle.idl_model.specs.DeclaredIn.{definitions_in}
-use Rattle.idl_model.specs.FileNames.{base_name}
 use Rattle.idl_model.specs.Loading.{is_among}
-use Rattle.idl_model.specs.Program.{SourceFile, base_of_file}
+use Rattle.idl_model.specs.Program.{base_of_file}
 use Rattle.idl_include.specs.SourcesOf.{file_in, program_in, IsOfSomeText, IsFile, HaveOwnBases, AreFiles}
 use Rattle.idl_include.specs.declared.sources.IdlFile.{IdlFile}
 use Rattle.check_model.proofs.Shown.{weaker, mapped}
 use Rattle.sound_model.specs.Declared.{AreOfText, IsFileOfText, IsProgramOfTexts}
-use Rattle.sound_model.proofs.Leaves.{IsTextSymbol, Kept, kept}
+use Rattle.sound_model.proofs.Leaves.{Kept, kept}
 use Rattle.sound_model.proofs.Grammar.{keeps_document}
 use Rattle.sound_model.proofs.TokenNames.{symbols_are_texts, few_tokens, few_symbols}
 use Rattle.sound_model.proofs.DocumentNames.{document_named, document_leaves}

@@ -1,5 +1,5 @@
 -- What a function throws are exceptions of the schema.
-use Rattle.std.proofs.Common.{◌≡◌, ◌⊎◌, ℕ, Bool, true, false, List, [], ◌∷◌, Option, None, Some, slice_get, refl, sym, ap, subst, ◌∙◌}
+use Rattle.std.proofs.Common.{◌≡◌, ℕ, Bool, true, false, Option, None, Some, slice_get, refl, sym, ap, subst, ◌∙◌}
 use Rattle.std.specs.Prelude.{MatchOption}
 use Rattle.idl_parser.specs.declared.tree.StructKind.{StructKind}
 use Rattle.idl_parser.specs.declared.tree.StructKind.TheVariants as kind
@@ -12,7 +12,7 @@ use Rattle.schema.specs.declared.types.FieldsKind.TheVariants as fields
 use Rattle.schema.specs.PlainKind.{PlainKind, kind_bool, kind_i8, kind_i16, kind_i32, kind_i64, kind_double, kind_text, kind_binary, kind_enum, kind_struct, kind_map, kind_set, kind_list}
 use Rattle.schema.specs.PlainSchema.{PlainStruct, PlainSchema}
 use Rattle.schema.specs.Sound.{IsStructOf, IsException}
-use Rattle.check_model.specs.FieldLists.{FieldsDecl, kind_said, fields_of_struct, field_lists}
+use Rattle.check_model.specs.FieldLists.{kind_said, fields_of_struct, field_lists}
 use Rattle.check_model.specs.Passes.{MeansException}
 use Rattle.check_model.specs.Resolved.{TypeMeans}
 use Rattle.check_model.specs.SchemaParts.{DefaultRule, IsStructFrom, IsSchemaWith}

@@ -1,5 +1,5 @@
 -- The symbols of a text that are names are identifiers, none is longer than a text, and there are no more symbols than bytes.
-use Rattle.std.proofs.Common.{◌≡◌, ◌+◌, ◌≤◌, ◌-◌, ℕ, suc, Bool, true, false, cond, not, ◌==◌, ◌&&◌, List, [], ◌∷◌, length, take, drop, map, Option, Some, None, refl, sym, ap, ◌∙◌, arith, length-take, length-drop}
+use Rattle.std.proofs.Common.{◌≡◌, ◌+◌, ◌≤◌, ◌-◌, ℕ, suc, Bool, true, false, cond, not, ◌==◌, List, [], ◌∷◌, length, drop, Option, Some, None, refl, sym, ap, ◌∙◌, arith, length-take, length-drop}
 use Rattle.std.specs.Prelude.{slice_index, nat_eq}
 use Rattle.std.specs.Option.{unwrap_or}
 use Rattle.std.specs.List.{AllByRecursion, list_all, prefix_len}
@@ -18,7 +18,7 @@ use Rattle.idl_token.specs.declared.TokenKind.{TokenKind}
 use Rattle.idl_token.specs.declared.TokenKind.TheVariants as kind
 use Rattle.idl_token.specs.declared.terminal.Terminal.{Terminal}
 use Rattle.idl_token.specs.declared.terminal.Terminal.TheVariants as word
-use Rattle.idl_parser.specs.Symbols.{sign_of, terminal_of, lexeme_at, lexemes}
+use Rattle.idl_parser.specs.Symbols.{sign_of, terminal_of, lexemes}
 use Rattle.sound_model.specs.Identifiers.{IsIdentifier}
 use Rattle.sound_model.proofs.Leaves.{IsTextSymbol}
 

@@ -1,5 +1,5 @@
 -- What a program's definitions owe to the texts of its files: names that are identifiers, short literals, and no more definitions than bytes.
-use Rattle.std.specs.Prelude.{◌≡◌, ◌≢◌, ◌<◌, ◌≤◌, ℕ, suc, ◌+◌, List, [], ◌∷◌, length, map, All, AllPairs, MatchOption, ⊤}
+use Rattle.std.specs.Prelude.{◌≢◌, ◌<◌, ◌≤◌, ℕ, suc, ◌+◌, List, [], ◌∷◌, length, map, All, AllPairs, MatchOption, ⊤}
 use Rattle.std.specs.List.{AllByRecursion}
 use Rattle.idl_token.specs.Limits.{longest_text}
 use Rattle.idl_model.specs.Declarations.{FieldDecl, FunctionDecl, EnumValueDecl, Declaration, of_const, of_typedef, of_enum, of_struct_decl, of_service}
