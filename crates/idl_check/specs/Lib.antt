@@ -1,1 +1,5 @@
-pub mod SpotPasses
+pub mod Faults
+pub mod Passed
+pub mod Right
+pub mod Exceptions
+pub mod Given

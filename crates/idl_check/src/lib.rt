@@ -1,15 +1,21 @@
-//! Passes over the spots of a program, each for the first spot with a fault of one kind. Three of them stand so far: names with
-//! a dot, names that are given twice, and numbers of enums that don't fit.
-//!
-//! ```
-//! let spots = program_spots(alloc, files)?;
-//! let place = first_found(spots.as_slice(), SpotPass::DuplicateName);    // of the second of two equal names, or none
-//! ```
-//!
-//! Not here yet: the other passes, constants, and the schema of a program without fault.
+//! Passes over the spots of a program, each for the first spot with a fault of one kind.
 #![tactic(auto)]
 
+mod cycle_tests;
+mod faults;
+mod function_tests;
+mod name_tests;
 mod pass;
+mod passes;
+mod places;
+mod spot_facts;
 mod spot_tests;
+mod struct_tests;
+mod thrown_tests;
+mod values;
 
-pub use pass::{SpotPass, first_found};
+pub use faults::{CheckFault, CheckKind};
+pub use function_tests::Lineage;
+pub use pass::{SpotTest, first_fault};
+pub use passes::{function_fault, list_fault, name_fault, struct_fault};
+pub use values::{Evaluator, evaluate_all};

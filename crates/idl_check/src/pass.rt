@@ -1,44 +1,51 @@
-//! The passes that look at a spot and at those before it in its list.
+//! A pass over the spots of a program.
 
-ghost use Rattle.std.specs.Prelude.{◌↔◌, IsTrue};
+ghost use Rattle.std.specs.Prelude.{◌≡◌, ◌↔◌, [], ◌∷◌, Some, IsTrue, IfOk};
 ghost use Rattle.idl_model.specs.Program.{Program};
+ghost use Rattle.idl_model.specs.Spots.{spots_of};
 ghost use Rattle.check_model.specs.Passes.{FindsFault};
-ghost use Rattle.idl_names.specs.SpotsIn.{shown_in};
-ghost use Rattle.idl_check.specs.SpotPasses.{pass_meant, IsFirstFound};
+ghost use Rattle.idl_names.specs.SpotsIn.{shown_in, spots_in};
+ghost use Rattle.idl_check.specs.Faults.{spot_pass};
+ghost use Rattle.idl_check.specs.Passed.{ArePassed};
 
-use crate::spot_tests::{is_bad_number, is_dotted_name, is_repeated_name};
+use crate::faults::{CheckFault, CheckKind};
+use crate::places::place_of;
 use idl_names::SpotIn;
+use std::alloc::AllocError;
 
-/// A pass over spots.
-#[derive(Clone, Copy, Debug, PartialEq, Eq)]
-pub enum SpotPass {
-    /// A name that is given has a dot.
-    DottedName,
-    /// A name was given before in the same list.
-    DuplicateName,
-    /// The number of an enum's value is outside its range.
-    EnumNumber,
+/// What a pass tests at one spot of a program.
+pub trait SpotTest {
+    ghost use Rattle.idl_model.specs.Program.{Program};
+    ghost use Rattle.check_model.specs.Passes.{Pass};
+
+    ghost pass: { Pass };
+
+    ghost right: { Self → Program → Type 0 };
+
+    /// The kind of the faults that it finds.
+    fn kind(&self) -> CheckKind
+        ensures { spot_pass result ≡ Some pass };
+
+    /// Whether a spot is at fault.
+    fn finds(&self, spot: &SpotIn<'_>) -> Result<bool, AllocError>
+        ensures { (program : Program) → right self.now program
+            → IfOk result (λ found. IsTrue found ↔ FindsFault pass program spot.now.file (shown_in spot.now.shown)) };
 }
 
-/// The place of the first spot at which a pass finds a fault, or none.
-pub fn first_found(spots: &[SpotIn<'_>], pass: SpotPass) -> Option<usize>
-    ensures { (program : Program) → IsFirstFound program (pass_meant pass) spots.now result }
+/// The first fault that a test finds among the spots of a program.
+pub fn first_fault<T: SpotTest>(test: &T, spots: &[SpotIn<'_>]) -> Result<(), CheckFault>
+    ensures { (program : Program) → T.right test.now program → spots_in spots.now ≡ spots_of program → ArePassed program (T.pass ∷ []) result }
 {
-    for (place, spot) in spots.iter().enumerate() {
-        if finds(spot, pass) {
-            return Some(place);
+    let kind = test.kind();
+    for spot in spots {
+        let found = test.finds(spot)?;
+        if found {
+            return Err(CheckFault {
+                file: spot.file,
+                at: place_of(spot),
+                kind,
+            });
         }
     }
-    None
-}
-
-/// Whether a pass finds a fault at a spot.
-fn finds(spot: &SpotIn<'_>, pass: SpotPass) -> bool
-    ensures { (program : Program) → IsTrue result ↔ FindsFault (pass_meant pass) program spot.now.file (shown_in spot.now.shown) }
-{
-    match pass {
-        SpotPass::DottedName => is_dotted_name(spot),
-        SpotPass::DuplicateName => is_repeated_name(spot),
-        SpotPass::EnumNumber => is_bad_number(spot),
-    }
+    Ok(())
 }
