@@ -92,7 +92,7 @@ clear_next program pass kind spots i x b told l here tells failed before =
 pub tells : (P : ProgramFlaw → Type 0) (file : ℕ) (at : Place) (kind : CheckKind) (k : FlawKind) → flaw_kind kind ≡ Some k → P (record { file = file; at = at; kind = k })
     → TellsFlaw P (record { file = file; at = at; kind = kind })
 tells P file at kind k e h =
-    let Q : Option FlawKind → Type 0 = λ o. MatchOption o ⊤ (λ k. P (record { file = file; at = at; kind = k })) in
+    let Q : Option FlawKind → Type 0 = λ o. MatchOption o (kind ≡ check.NoMemory) (λ k. P (record { file = file; at = at; kind = k })) in
     subst Q (sym e) h
 
 pub found_here : (program : Program) (pass : Pass) (kind : CheckKind) (spots : List SpotIn) (i : ℕ) (x : SpotIn) (at : Place) (b : Bool) → spot_pass kind ≡ Some pass

@@ -14,9 +14,9 @@ use Rattle.idl_check.specs.Passed.{IsFirstAmong, ArePassed}
 pub tells_more : (P Q : ProgramFlaw → Type 0) → ((flaw : ProgramFlaw) → P flaw → Q flaw) → (fault : CheckFault) → TellsFlaw P fault → TellsFlaw Q fault
 tells_more P Q f fault h = by (flaw_kind fault.kind) h
   where
-    by : (o : Option FlawKind) → MatchOption o ⊤ (λ kind. P (record { file = fault.file; at = fault.at; kind = kind }))
-        → MatchOption o ⊤ (λ kind. Q (record { file = fault.file; at = fault.at; kind = kind }))
-    by None h = tt
+    by : (o : Option FlawKind) → MatchOption o (fault.kind ≡ check.NoMemory) (λ kind. P (record { file = fault.file; at = fault.at; kind = kind }))
+        → MatchOption o (fault.kind ≡ check.NoMemory) (λ kind. Q (record { file = fault.file; at = fault.at; kind = kind }))
+    by None h = h
     by (Some kind) h = f (record { file = fault.file; at = fault.at; kind = kind }) h
 
 -- a fault of the first passes is one of all

@@ -1,8 +1,9 @@
 -- What a fault in memory tells of a program.
-use Rattle.std.specs.Prelude.{⊤, Option, Some, None, MatchOption}
+use Rattle.std.specs.Prelude.{◌≡◌, Option, Some, None, MatchOption}
 use Rattle.std.specs.Option.{option_map}
 use Rattle.check_model.specs.Passes.{Pass, dotted_name, duplicate_name, unknown_type, typedef_cycle, field_id, duplicate_id, enum_number, service_cycle, duplicate_function, oneway_not_void, oneway_throws, not_exception, struct_loop}
 use Rattle.check_model.specs.FirstFlaw.{FlawKind, found_by, of_value, ProgramFlaw}
+use Rattle.idl_const.specs.declared.faults.ConstFault.{ConstFault}
 use Rattle.idl_const.specs.Flaws.{flaw_of}
 use Rattle.idl_check.specs.declared.faults.CheckKind.{CheckKind}
 use Rattle.idl_check.specs.declared.faults.CheckKind.TheVariants as check
@@ -31,6 +32,10 @@ abbrev pub flaw_kind : CheckKind → Option FlawKind
 flaw_kind (check.Const fault) = option_map of_value (flaw_of fault)
 flaw_kind kind = option_map found_by (spot_pass kind)
 
--- the fault tells a flaw of which this holds, or that memory ran out
+-- the fault tells a flaw of which this holds, or that memory ran out; never want of memory as a fault of a value
 abbrev pub TellsFlaw : (ProgramFlaw → Type 0) → CheckFault → Type 0
-TellsFlaw P fault = MatchOption (flaw_kind fault.kind) ⊤ (λ kind. P (record { file = fault.file; at = fault.at; kind = kind }))
+TellsFlaw P fault = MatchOption (flaw_kind fault.kind) (fault.kind ≡ check.NoMemory) (λ kind. P (record { file = fault.file; at = fault.at; kind = kind }))
+
+-- the kind is that of a fault of a value
+abbrev pub IsConstKind : ConstFault → CheckKind → Type 0
+IsConstKind fault kind = MatchOption (flaw_of fault) (kind ≡ check.NoMemory) (λ flaw. flaw_kind kind ≡ Some (of_value flaw))

@@ -1,15 +1,13 @@
 //! The pass over the values that a program gives.
 
 ghost use Rattle.std.specs.Prelude.{◌≡◌, Some, slice_get, MatchResult};
-ghost use Rattle.std.specs.Option.{option_map};
 ghost use Rattle.thrift_value.specs.TreeOf.{tree_of};
 ghost use Rattle.idl_model.specs.Program.{Program};
 ghost use Rattle.idl_model.specs.Spots.{values_of};
 ghost use Rattle.idl_names.specs.SpotsIn.{filed_value};
 ghost use Rattle.check_model.specs.Passes.{bad_constant};
-ghost use Rattle.check_model.specs.FirstFlaw.{of_value, IsFirstOf};
-ghost use Rattle.idl_const.specs.Flaws.{flaw_of};
-ghost use Rattle.idl_check.specs.Faults.{flaw_kind, TellsFlaw};
+ghost use Rattle.check_model.specs.FirstFlaw.{IsFirstOf};
+ghost use Rattle.idl_check.specs.Faults.{IsConstKind, TellsFlaw};
 ghost use Rattle.idl_check.specs.Given.{HasOwnWorth, IsGivenWorth, IsFlawAt, AreGivenValues, AreWorth};
 
 use crate::faults::{CheckFault, CheckKind};
@@ -76,7 +74,7 @@ fn worth_of<E: Evaluator>(
 
 /// The kind of a fault of a value.
 fn const_kind(fault: ConstFault) -> CheckKind
-    ensures { flaw_kind result ≡ option_map of_value (flaw_of fault) }
+    ensures { IsConstKind fault result }
 {
     match fault {
         ConstFault::NoMemory => CheckKind::NoMemory,
