@@ -1,4 +1,1 @@
-pub mod Judging
 pub mod Saying
-pub mod SomeVerdict
-pub mod Verdicts

@@ -1,39 +1,18 @@
 -- Steps of the program on the way to what it promises. No part of the promise: no clause of `host` cites them.
-use Rattle.std.specs.Prelude.{ℕ, List, ⊤}
-use Rattle.outside.specs.declared.files.FileFail.{FileFail}
-use Rattle.outside.specs.declared.files.FileFail.TheVariants as fail
+use Rattle.std.specs.Prelude.{ℕ, List}
 use Rattle.thrift_host.specs.declared.status.Status.{Status}
 use Rattle.thrift_host.specs.declared.status.Status.TheVariants as status
 use Rattle.thrift_host.specs.declared.words.Asked.{Asked}
 use Rattle.thrift_host.specs.declared.words.Asked.TheVariants.{Check, Rehearse}
-use Rattle.thrift_host.specs.declared.refusal.IdlKind.TheVariants as kinds
-use Rattle.thrift_host.specs.declared.refusal.Refusal.{Refusal}
-use Rattle.thrift_host.specs.declared.check.Checked.{Checked}
-use Rattle.thrift_host.specs.declared.check.Checked.TheVariants.{Accepted, HasInclude, Refused, FileFault, NoMemory}
+use Rattle.idl_verdict.specs.declared.refusal.Refusal.{Refusal}
 use Rattle.thrift_host.specs.Words.{Command, checks, rehearses}
-use Rattle.thrift_host.specs.Check.{Verdict, accepted, including, refused, whole_file}
-use Rattle.thrift_host.specs.Refusals.{refusal_text}
+use Rattle.idl_verdict.specs.Refusals.{refusal_text}
 use Rattle.thrift_host.specs.Top.{Errors, IsSaid, IsLineSaid, unbuilt_frame_text}
 
 -- the command that the words were read as
 abbrev pub command_asked : Asked → Command
 command_asked (Check idl) = checks idl.now
 command_asked Rehearse = rehearses
-
--- this holds of the verdict; a fault of the file and want of memory are none
-abbrev pub OnVerdict : Checked → (Verdict → Type 0) → Type 0
-OnVerdict Accepted P = P accepted
-OnVerdict HasInclude P = P including
-OnVerdict (Refused refusal) P = P (refused refusal.at refusal.kind)
-OnVerdict FileFault P = ⊤
-OnVerdict NoMemory P = ⊤
-
--- what becomes of an IDL that isn't read
-abbrev pub unread : FileFail → Checked
-unread fail.Absent = Refused (record { at = whole_file; kind = kinds.Absent })
-unread fail.TooLong = Refused (record { at = whole_file; kind = kinds.TooLong })
-unread fail.Failed = FileFault
-unread fail.NoMemory = NoMemory
 
 -- what a status says of the errors where this frame isn't built
 abbrev pub EndsUnbuilt : Status → ℕ → Errors → Type 0

@@ -9,10 +9,10 @@ use Rattle.host_model.specs.Report.{numbered}
 use Rattle.recording.specs.Recorded.{Streams, IsUnwritten, IsReported, IsReportedInPart, IsNoScript, IsUnbuiltAt}
 use Rattle.thrift_host.specs.declared.status.Status.{Status}
 use Rattle.thrift_host.specs.declared.status.Status.TheVariants.{Done, Usage, IdlRefused, ScriptRefused, FileFault, ReadFault, WriteFault, NoMemory, Unbuilt}
-use Rattle.thrift_host.specs.declared.refusal.IdlKind.{IdlKind}
+use Rattle.idl_verdict.specs.declared.refusal.IdlKind.{IdlKind}
 use Rattle.thrift_host.specs.Words.{Command, no_command, checks, rehearses}
-use Rattle.thrift_host.specs.Check.{accepted, including, refused, IsChecked, IsReadable}
-use Rattle.thrift_host.specs.Refusals.{refusal_text}
+use Rattle.idl_verdict.specs.Check.{accepted, including, refused, IsChecked, IsReadable}
+use Rattle.idl_verdict.specs.Refusals.{refusal_text}
 
 -- What a call did to its errors: what they had taken before and after it, and how often they had failed.
 pub record Errors : Type 0 where

@@ -5,14 +5,14 @@ ghost use Rattle.outside.specs.Cause.{Rose};
 ghost use Rattle.outside.specs.Files.{File};
 ghost use Rattle.recording.specs.Recorded.{MeansRecorded, Streams};
 ghost use Rattle.thrift_host.specs.Words.{checks, command_of, no_command, rehearses};
-ghost use Rattle.thrift_host.specs.Check.{IsChecked, IsReadable};
+ghost use Rattle.idl_verdict.specs.Check.{IsChecked, IsReadable};
 ghost use Rattle.thrift_host.specs.Top.{Means, Says, AreUntouched, IsSaid, error_text, unbuilt_frame_text, unbuilt_include_text};
-ghost use Rattle.thrift_host.specs.Steps.{OnVerdict, EndsUnbuilt, EndsRefused};
+ghost use Rattle.idl_verdict.specs.Checking.{OnVerdict};
+ghost use Rattle.thrift_host.specs.Steps.{EndsUnbuilt, EndsRefused};
 
-use crate::check::{Checked, check};
-use crate::refusal::{Refusal, put_refusal};
 use crate::status::Status;
 use crate::words::{Asked, read_words};
+use idl_verdict::{Checked, Refusal, check, put_refusal};
 use outside::{Files, Sink, Source, write_all};
 use recording::{RecordingFault, answer_recorded};
 use std::alloc::{AllocError, Global};

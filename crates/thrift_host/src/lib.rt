@@ -4,12 +4,8 @@
 //! itself. So far it checks an IDL of one file, and it answers one recorded connection that asks for `ping` and `add` over the strict binary protocol.
 #![tactic(auto)]
 
-mod check;
 mod command;
-pub mod laws;
-mod refusal;
 mod status;
-mod tutorial;
 mod words;
 
 pub use command::host;

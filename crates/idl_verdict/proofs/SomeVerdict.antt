@@ -17,10 +17,10 @@ use Rattle.idl_parser.specs.Symbols.{lexemes}
 use Rattle.idl_parser.specs.FirstFault.{AreDocument, HasFirstSyntaxFault as HaveFirstFault}
 use Rattle.idl_parser.specs.Faults.{kind_at, fault_kind, next_place}
 use Rattle.idl_parser.proofs.OneFault.{either_of_both}
-use Rattle.thrift_host.specs.declared.refusal.IdlKind.{IdlKind}
-use Rattle.thrift_host.specs.declared.refusal.IdlKind.TheVariants as kinds
-use Rattle.thrift_host.specs.Check.{Verdict, accepted, including, refused, HasDocument, has_include, kind_of_lexer, kind_of_parser, IsJudged, whole_file, IsJudgedWithin, IsJudgedAsHeld, IsCheckedIn, IsChecked, is_tutorial, longest_idl}
-use Rattle.thrift_host.specs.Tutorial.{tutorial_text}
+use Rattle.idl_verdict.specs.declared.refusal.IdlKind.{IdlKind}
+use Rattle.idl_verdict.specs.declared.refusal.IdlKind.TheVariants as kinds
+use Rattle.idl_verdict.specs.Check.{Verdict, accepted, including, refused, HasDocument, has_include, kind_of_lexer, kind_of_parser, IsJudged, whole_file, IsJudgedWithin, IsJudgedAsHeld, IsCheckedIn, IsChecked, is_tutorial, longest_idl}
+use Rattle.idl_verdict.specs.Tutorial.{tutorial_text}
 
 -- a fault of the lexer has a kind
 of_lexer : (is : LexKind) → is ≢ lex.NoMemory → (named : IdlKind) × (kind_of_lexer is ≡ Some named)

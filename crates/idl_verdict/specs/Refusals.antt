@@ -3,8 +3,8 @@ use Rattle.std.specs.Prelude.{ℕ, List, ◌∷◌, ◌++◌, codes}
 use Rattle.text_out.specs.Decimal.{natural_of}
 use Rattle.text_out.specs.Line.{line_of}
 use Rattle.idl_token.specs.declared.Place.{Place}
-use Rattle.thrift_host.specs.declared.refusal.IdlKind.{IdlKind}
-use Rattle.thrift_host.specs.declared.refusal.IdlKind.TheVariants.{Absent, TooLong, BadByte, OpenLiteral, OpenComment, BadEscape, BigNumber, Found, Refused, TooDeep}
+use Rattle.idl_verdict.specs.declared.refusal.IdlKind.{IdlKind}
+use Rattle.idl_verdict.specs.declared.refusal.IdlKind.TheVariants.{Absent, TooLong, BadByte, OpenLiteral, OpenComment, BadEscape, BigNumber, Found, Refused, TooDeep}
 
 -- the word of a kind
 abbrev pub kind_word : IdlKind → List ℕ

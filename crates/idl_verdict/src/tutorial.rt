@@ -1,8 +1,8 @@
 //! The tutorial's IDL, which the program holds.
 
 ghost use Rattle.std.specs.Prelude.{◌≡◌, ◌≤◌, length};
-ghost use Rattle.thrift_host.specs.Check.{longest_idl};
-ghost use Rattle.thrift_host.specs.Tutorial.{tutorial_text};
+ghost use Rattle.idl_verdict.specs.Check.{longest_idl};
+ghost use Rattle.idl_verdict.specs.Tutorial.{tutorial_text};
 
 /// The text of tutorial.thrift without its comments.
 const TUTORIAL: &[u8] = br#"include "shared.thrift"

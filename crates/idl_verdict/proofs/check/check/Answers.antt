@@ -1,8 +1,8 @@
 use Rattle.std.proofs.Common.{sym, ◌∙◌, subst}
-use Rattle.thrift_host.specs.Check.{IsJudged}
-use Rattle.thrift_host.specs.Steps.{OnVerdict}
-use Rattle.thrift_host.proofs.Judging.{read_and_judged}
-use Rattle.thrift_host.proofs.check.check.Goals as goal
+use Rattle.idl_verdict.specs.Check.{IsJudged}
+use Rattle.idl_verdict.specs.Checking.{OnVerdict}
+use Rattle.idl_verdict.proofs.Judging.{read_and_judged}
+use Rattle.idl_verdict.proofs.check.check.Goals as goal
 
 pub returns-in-Ok-clause-checked : goal.returns-in-Ok-clause-checked
 returns-in-Ok-clause-checked g c =

@@ -5,8 +5,8 @@ ghost use Rattle.outside.specs.Cause.{Rose};
 ghost use Rattle.idl_token.specs.Tokens.{AreTokensOf, IsFirstLexFault};
 ghost use Rattle.idl_parser.specs.Faults.{IsFaultOf};
 ghost use Rattle.idl_parser.specs.Trees.{document_node};
-ghost use Rattle.thrift_host.specs.Check.{HasDocument, IsChecked, IsJudged, IsReadable, kind_of_lexer, kind_of_parser, longest_idl, whole_file};
-ghost use Rattle.thrift_host.specs.Steps.{OnVerdict, unread};
+ghost use Rattle.idl_verdict.specs.Check.{HasDocument, IsChecked, IsJudged, IsReadable, kind_of_lexer, kind_of_parser, longest_idl, whole_file};
+ghost use Rattle.idl_verdict.specs.Checking.{OnVerdict, unread};
 
 use crate::refusal::{IdlKind, Refusal};
 use crate::tutorial::tutorial;
@@ -17,7 +17,7 @@ use std::alloc::Global;
 
 /// What becomes of an IDL.
 #[derive(Clone, Copy)]
-pub(crate) enum Checked {
+pub enum Checked {
     /// Its text is a document that includes no other file.
     Accepted,
     /// Its text is a document with an `include` header.
@@ -31,7 +31,7 @@ pub(crate) enum Checked {
 }
 
 /// Checks the IDL of this name.
-pub(crate) fn check<F: Files>(alloc: Global, files: &mut F, idl: &str) -> Checked
+pub fn check<F: Files>(alloc: Global, files: &mut F, idl: &str) -> Checked
     ensures checked { OnVerdict result (λ verdict. IsChecked (F.files files.old) idl.now verdict) }
     ensures same { F.files files.new ≡ F.files files.old }
     ensures of_a_file { result ≡ Checked.FileFault → IsReadable (F.files files.old) idl.now }

@@ -15,9 +15,9 @@ use Rattle.idl_parser.specs.Phrases.{Node, pair}
 use Rattle.idl_parser.specs.Symbols.{lexemes}
 use Rattle.idl_parser.specs.Documents.{deepest, DocumentIn}
 use Rattle.idl_parser.specs.Faults.{IsFaultOf}
-use Rattle.thrift_host.specs.declared.refusal.IdlKind.{IdlKind}
-use Rattle.thrift_host.specs.declared.refusal.IdlKind.TheVariants as kinds
-use Rattle.thrift_host.specs.Tutorial.{tutorial_text}
+use Rattle.idl_verdict.specs.declared.refusal.IdlKind.{IdlKind}
+use Rattle.idl_verdict.specs.declared.refusal.IdlKind.TheVariants as kinds
+use Rattle.idl_verdict.specs.Tutorial.{tutorial_text}
 
 -- The verdict on an IDL: a document without an include, a document with one, or refused at a place for a kind of fault.
 pub data Verdict : Type 0 where

@@ -1,7 +1,7 @@
 //! Why an IDL is refused, and the errors' line that says so.
 
 ghost use Rattle.std.specs.Prelude.{◌≡◌, ◌∷◌, [], ◌++◌, codes, OnOk};
-ghost use Rattle.thrift_host.specs.Refusals.{kind_word, place_text, refusal_text};
+ghost use Rattle.idl_verdict.specs.Refusals.{kind_word, place_text, refusal_text};
 
 use idl_token::Place;
 use std::alloc::AllocError;
@@ -9,7 +9,7 @@ use text_out::decimal;
 
 /// What is wrong with an IDL.
 #[derive(Clone, Copy)]
-pub(crate) enum IdlKind {
+pub enum IdlKind {
     /// No file has the name.
     Absent,
     /// The file is longer than an IDL may be.
@@ -34,15 +34,15 @@ pub(crate) enum IdlKind {
 
 /// Why an IDL is refused.
 #[derive(Clone, Copy)]
-pub(crate) struct Refusal {
+pub struct Refusal {
     /// The place at fault, or 0:0 where the file as a whole is refused.
-    pub(crate) at: Place,
+    pub at: Place,
     /// What is wrong.
-    pub(crate) kind: IdlKind,
+    pub kind: IdlKind,
 }
 
 /// Appends the errors' line of an IDL that is refused.
-pub(crate) fn put_refusal(into: &mut Vec<u8>, idl: &str, refusal: Refusal) -> Result<(), AllocError>
+pub fn put_refusal(into: &mut Vec<u8>, idl: &str, refusal: Refusal) -> Result<(), AllocError>
     ensures { OnOk result (into.new.items ≡ into.old.items ++ refusal_text idl.now refusal.at refusal.kind) }
 {
     put_name(into, idl)?;

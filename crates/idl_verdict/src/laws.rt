@@ -2,7 +2,7 @@
 
 ghost use Rattle.std.specs.Prelude.{◌≡◌, ℕ, List, Some};
 ghost use Rattle.outside.specs.Files.{File};
-ghost use Rattle.thrift_host.specs.Check.{IsChecked, IsJudged, Verdict};
+ghost use Rattle.idl_verdict.specs.Check.{IsChecked, IsJudged, Verdict};
 
 /// Each text has a verdict: it is accepted, or has an include, or is refused with a place and a kind.
 pub fn a_text_has_a_verdict()

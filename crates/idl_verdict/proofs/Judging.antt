@@ -7,10 +7,10 @@ use Rattle.idl_parser.specs.declared.tree.Include.{Include}
 use Rattle.idl_parser.specs.declared.tree.Document.{Document}
 use Rattle.idl_parser.specs.Phrases.{Node, pair}
 use Rattle.idl_parser.specs.Trees.{include_node, includes_node, definitions_node, document_node}
-use Rattle.thrift_host.specs.declared.check.Checked.{Checked}
-use Rattle.thrift_host.specs.declared.check.Checked.TheVariants.{Accepted, HasInclude, Refused, FileFault, NoMemory}
-use Rattle.thrift_host.specs.Check.{Verdict, accepted, including, refused, has_include, IsJudged, IsJudgedWithin, IsJudgedAsHeld, IsCheckedIn, IsChecked, is_tutorial, longest_idl}
-use Rattle.thrift_host.specs.Steps.{OnVerdict}
+use Rattle.idl_verdict.specs.declared.check.Checked.{Checked}
+use Rattle.idl_verdict.specs.declared.check.Checked.TheVariants.{Accepted, HasInclude, Refused, FileFault, NoMemory}
+use Rattle.idl_verdict.specs.Check.{Verdict, accepted, including, refused, has_include, IsJudged, IsJudgedWithin, IsJudgedAsHeld, IsCheckedIn, IsChecked, is_tutorial, longest_idl}
+use Rattle.idl_verdict.specs.Checking.{OnVerdict}
 
 -- whether a row of includes has a first one
 row_included : (includes : List Include) (definitions : Node) (b : Bool) → eqb (length includes) 0 ≡ b

@@ -9,9 +9,9 @@ use Rattle.idl_parser.specs.Symbols.{lexemes}
 use Rattle.idl_parser.specs.Faults.{IsFaultOf}
 use Rattle.idl_parser.proofs.Faults.{one_document, no_fault}
 use Rattle.idl_parser.proofs.OneFault.{one_fault}
-use Rattle.thrift_host.specs.declared.refusal.IdlKind.{IdlKind}
-use Rattle.thrift_host.specs.Check.{Verdict, accepted, including, refused, HasDocument, has_include, kind_of_lexer, kind_of_parser, IsLexFlaw, IsParseFlaw, IsJudged, IsJudgedWithin, IsJudgedAsHeld, IsCheckedIn, IsChecked, is_tutorial, longest_idl}
-use Rattle.thrift_host.specs.Tutorial.{tutorial_text}
+use Rattle.idl_verdict.specs.declared.refusal.IdlKind.{IdlKind}
+use Rattle.idl_verdict.specs.Check.{Verdict, accepted, including, refused, HasDocument, has_include, kind_of_lexer, kind_of_parser, IsLexFlaw, IsParseFlaw, IsJudged, IsJudgedWithin, IsJudgedAsHeld, IsCheckedIn, IsChecked, is_tutorial, longest_idl}
+use Rattle.idl_verdict.specs.Tutorial.{tutorial_text}
 
 -- a text is one document
 document_once : (text : List ℕ) (d e : Node) → HasDocument text d → HasDocument text e → d ≡ e

@@ -1,0 +1,4 @@
+pub mod Tutorial
+pub mod Check
+pub mod Checking
+pub mod Refusals

@@ -1,5 +1,0 @@
-use Rattle.thrift_host.proofs.SomeVerdict.{some_verdict}
-use Rattle.thrift_host.proofs.laws.a_text_has_a_verdict.Goals as goal
-
-pub returns : goal.returns
-returns c = some_verdict
