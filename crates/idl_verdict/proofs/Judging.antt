@@ -7,8 +7,8 @@ use Rattle.idl_parser.specs.declared.tree.Include.{Include}
 use Rattle.idl_parser.specs.declared.tree.Document.{Document}
 use Rattle.idl_parser.specs.Phrases.{Node, pair}
 use Rattle.idl_parser.specs.Trees.{include_node, includes_node, definitions_node, document_node}
-use Rattle.idl_verdict.specs.declared.check.Checked.{Checked}
-use Rattle.idl_verdict.specs.declared.check.Checked.TheVariants.{Accepted, HasInclude, Refused, FileFault, NoMemory}
+use Rattle.idl_verdict.specs.declared.idl.Checked.{Checked}
+use Rattle.idl_verdict.specs.declared.idl.Checked.TheVariants.{Accepted, HasInclude, Refused, FileFault, NoMemory}
 use Rattle.idl_verdict.specs.Check.{Verdict, accepted, including, refused, has_include, IsJudged, IsJudgedWithin, IsJudgedAsHeld, IsCheckedIn, IsChecked, is_tutorial, longest_idl}
 use Rattle.idl_verdict.specs.Checking.{OnVerdict}
 

@@ -3,8 +3,8 @@ use Rattle.std.specs.Prelude.{⊤}
 use Rattle.outside.specs.declared.files.FileFail.{FileFail}
 use Rattle.outside.specs.declared.files.FileFail.TheVariants as fail
 use Rattle.idl_verdict.specs.declared.refusal.IdlKind.TheVariants as kinds
-use Rattle.idl_verdict.specs.declared.check.Checked.{Checked}
-use Rattle.idl_verdict.specs.declared.check.Checked.TheVariants.{Accepted, HasInclude, Refused, FileFault, NoMemory}
+use Rattle.idl_verdict.specs.declared.idl.Checked.{Checked}
+use Rattle.idl_verdict.specs.declared.idl.Checked.TheVariants.{Accepted, HasInclude, Refused, FileFault, NoMemory}
 use Rattle.idl_verdict.specs.Check.{Verdict, accepted, including, refused, whole_file}
 
 -- this holds of the verdict; a fault of the file and want of memory are none

@@ -8,10 +8,10 @@
 //! ```
 #![tactic(auto)]
 
-mod check;
+mod idl;
 pub mod laws;
 mod refusal;
 mod tutorial;
 
-pub use check::{Checked, check};
+pub use idl::{Checked, check};
 pub use refusal::{IdlKind, Refusal, put_refusal};

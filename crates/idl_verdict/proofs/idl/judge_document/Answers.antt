@@ -1,7 +1,7 @@
 use Rattle.std.proofs.Common.{true, false, sym, ◌∙◌}
 use Rattle.idl_parser.specs.Trees.{document_node}
 use Rattle.idl_verdict.proofs.Judging.{included}
-use Rattle.idl_verdict.proofs.check.judge_document.Goals as goal
+use Rattle.idl_verdict.proofs.idl.judge_document.Goals as goal
 
 pub returns-then-is_empty-clause-judged : goal.returns-then-is_empty-clause-judged
 returns-then-is_empty-clause-judged c = λ text is.

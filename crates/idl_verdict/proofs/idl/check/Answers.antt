@@ -2,7 +2,7 @@ use Rattle.std.proofs.Common.{sym, ◌∙◌, subst}
 use Rattle.idl_verdict.specs.Check.{IsJudged}
 use Rattle.idl_verdict.specs.Checking.{OnVerdict}
 use Rattle.idl_verdict.proofs.Judging.{read_and_judged}
-use Rattle.idl_verdict.proofs.check.check.Goals as goal
+use Rattle.idl_verdict.proofs.idl.check.Goals as goal
 
 pub returns-in-Ok-clause-checked : goal.returns-in-Ok-clause-checked
 returns-in-Ok-clause-checked g c =
