@@ -17,7 +17,7 @@ use std::mem;
 const MOST_WANTED: usize = 65_536;
 
 /// What a connection is doing.
-#[derive(Debug, Drop)]
+#[derive(Drop)]
 enum State {
     /// Reads a size, of which fewer than four bytes are held.
     ReadingSize(SizeBytes),
@@ -36,7 +36,7 @@ enum State {
 }
 
 /// One connection: sizes and payloads are read in turn, and a reply is written before more is read.
-#[derive(Debug, Drop)]
+#[derive(Drop)]
 pub struct Conn {
     /// How many frames were whole so far.
     frames: u64,

@@ -6,7 +6,7 @@ ghost use Rattle.std.specs.Int.{w32, from_be_bytes, cast_signed};
 use std::marker::Model;
 
 /// The first bytes of a size, at most the four that it has; contracts see them as a list.
-#[derive(Debug, Drop)]
+#[derive(Drop)]
 pub struct SizeBytes {
     /// The bytes; what stands behind the first `count` is left open.
     bytes: [u8; 4],

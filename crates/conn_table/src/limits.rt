@@ -28,7 +28,7 @@ pub enum Outcome {
 }
 
 /// The causes by which connections ended, by number; contracts see them as a list.
-#[derive(Debug, Drop)]
+#[derive(Drop)]
 pub struct Ends {
     /// The causes.
     items: Vec<EndCause>,

@@ -14,7 +14,7 @@ use std::marker::Model;
 pub(crate) const MOST: usize = 1024;
 
 /// Where a connection is kept.
-#[derive(Clone, Copy, Debug, Drop)]
+#[derive(Clone, Copy, Drop)]
 pub(crate) struct Row {
     /// The connection's number.
     pub number: u32,
@@ -23,7 +23,7 @@ pub(crate) struct Row {
 }
 
 /// What is kept of a connection.
-#[derive(Debug, Drop)]
+#[derive(Drop)]
 pub(crate) struct Slot {
     /// Its number.
     pub number: u32,

@@ -25,7 +25,7 @@ pub enum Protocol {
 }
 
 /// The head of a call, as it was read (Thrift binary and compact protocol, 'Message').
-#[derive(Debug, Drop)]
+#[derive(Drop)]
 pub struct Head {
     /// The method's name, with the service's in front where several share a connection.
     pub name: ByteText,

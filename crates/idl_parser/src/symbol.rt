@@ -9,7 +9,7 @@ use idl_token::{MAX_TEXT, Place, Terminal, Token, TokenKind, byte_at, keyword_of
 use std::alloc::{AllocError, Global};
 
 /// A token of a text, as the grammar sees it.
-#[derive(Clone, Copy, Debug, PartialEq, Eq)]
+#[derive(Clone, Copy)]
 pub struct Symbol {
     /// What it is to the grammar.
     pub what: Terminal,

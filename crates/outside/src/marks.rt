@@ -6,7 +6,7 @@ use super::octets::Bytes;
 use std::marker::Model;
 
 /// One thing that happened on the connection of the number that it carries.
-#[derive(Clone, Debug, Drop)]
+#[derive(Drop)]
 pub enum Mark {
     /// The connection was opened.
     Opened(u32),
@@ -25,7 +25,7 @@ pub enum Mark {
 }
 
 /// A list of marks, the oldest first.
-#[derive(Debug, Drop)]
+#[derive(Drop)]
 pub struct Tape {
     /// The marks, the oldest first.
     marks: Vec<Mark>,

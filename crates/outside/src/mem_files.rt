@@ -11,7 +11,7 @@ use std::marker::Model;
 
 /// Files in memory, the first of a name being the file of that name. The calls whose numbers were given, counted from 0, count a fault each, and
 /// fail to read a file that could be read.
-#[derive(Debug, Drop)]
+#[derive(Drop)]
 pub struct MemFiles {
     /// The files, each a name and its bytes.
     files: Vec<(String, Vec<u8>)>,

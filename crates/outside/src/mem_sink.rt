@@ -11,7 +11,7 @@ use std::marker::Model;
 
 /// A sink that keeps its bytes in memory. It fails at the calls whose numbers it was given, counted from 0, and
 /// where it finds no memory.
-#[derive(Debug, Drop)]
+#[derive(Drop)]
 pub struct MemSink {
     /// The bytes that were taken.
     content: Vec<u8>,

@@ -9,7 +9,7 @@ use super::streams::{Failed, Source};
 use std::marker::Model;
 
 /// A source over bytes in memory. It fails at the calls whose numbers it was given, counted from 0.
-#[derive(Debug, Drop)]
+#[derive(Drop)]
 pub struct MemSource {
     /// All bytes, given or not.
     content: Vec<u8>,

@@ -5,7 +5,7 @@ ghost use Rattle.std.specs.Prelude.{◌≡◌};
 use std::marker::Model;
 
 /// A list of bytes, as contracts see it too.
-#[derive(Clone, Debug, Drop)]
+#[derive(Drop)]
 pub struct Bytes {
     /// The bytes, in order.
     items: Vec<u8>,

@@ -24,7 +24,7 @@ pub enum EnvelopeFault {
 }
 
 /// What one whole frame came to.
-#[derive(Debug, Drop)]
+#[derive(Drop)]
 pub enum Settled {
     /// It is replied to with this whole frame, its size included.
     Reply(Bytes),

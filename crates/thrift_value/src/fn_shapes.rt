@@ -4,7 +4,7 @@ use byte_text::ByteText;
 use std::marker::Model;
 
 /// The shapes of a service's functions, a line each.
-#[derive(Debug, Drop)]
+#[derive(Drop)]
 pub struct FnShapes {
     // One a function, without its newline.
     lines: Vec<ByteText>,

@@ -10,7 +10,7 @@ use thrift_value::WireFault;
 use wire_num::decode_bytes;
 
 /// The bytes that are still to be read, and how many more values may come.
-#[derive(Debug, Drop)]
+#[derive(Drop)]
 pub struct Input<'a> {
     bytes: &'a [u8],
     budget: u32,

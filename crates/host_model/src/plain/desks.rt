@@ -10,7 +10,7 @@ use outside::{Bytes, EnvelopeFault};
 use std::alloc::{AllocError, Global};
 
 /// What is decided on a payload.
-#[derive(Debug, Drop)]
+#[derive(Drop)]
 pub enum Decided<C> {
     /// Its head is refused, which ends the connection.
     Refused(EnvelopeFault),

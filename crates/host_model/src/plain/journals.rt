@@ -8,7 +8,7 @@ use crate::Key;
 use std::alloc::{AllocError, Global};
 
 /// A call with its answer.
-#[derive(Clone, Copy, Debug)]
+#[derive(Clone, Copy)]
 pub struct PlainEntry<C, A> {
     /// The frame that asked for the call.
     pub key: Key,

@@ -10,7 +10,7 @@ use super::workers::{PlainWorkerState, with_worker};
 use std::alloc::AllocError;
 
 /// How an Apply goes.
-#[derive(Clone, Copy, Debug)]
+#[derive(Clone, Copy)]
 pub enum PlainApplyResult {
     /// It is answered.
     Answers,
@@ -23,7 +23,7 @@ pub enum PlainApplyResult {
 }
 
 /// What happens; connections and workers have numbers, from 0.
-#[derive(Debug, Drop)]
+#[derive(Drop)]
 pub enum PlainEvent {
     /// Something on a connection.
     Happens(PlainConnEvent),
@@ -44,7 +44,7 @@ pub enum PlainEvent {
 }
 
 /// The machine.
-#[derive(Debug, Drop)]
+#[derive(Drop)]
 pub struct PlainCell<C, A, M> {
     pub loop_part: PlainLoop,
     pub hall: PlainHall<C, A, M>,

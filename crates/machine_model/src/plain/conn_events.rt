@@ -13,7 +13,7 @@ use std::alloc::{AllocError, Global};
 use std::mem;
 
 /// What happens on a connection alone; connections have numbers, from 0.
-#[derive(Debug, Drop)]
+#[derive(Drop)]
 pub enum PlainConnEvent {
     /// The next connection is opened.
     Opens,
@@ -32,7 +32,7 @@ pub enum PlainConnEvent {
 }
 
 /// The tape, and each connection at its number.
-#[derive(Debug, Drop)]
+#[derive(Drop)]
 pub struct PlainLoop {
     pub tape: Vec<Mark>,
     pub conns: Vec<PlainConn>,

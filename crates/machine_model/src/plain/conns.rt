@@ -13,7 +13,7 @@ use outside::{Bytes, Mark};
 use std::alloc::{AllocError, Global};
 
 /// A connection.
-#[derive(Debug, Drop)]
+#[derive(Drop)]
 pub struct PlainConn {
     /// The payloads read whole.
     pub payloads: Vec<Vec<u8>>,
@@ -30,7 +30,7 @@ pub struct PlainConn {
 }
 
 /// A connection after what it did, and the marks of that.
-#[derive(Debug, Drop)]
+#[derive(Drop)]
 pub struct PlainMoved {
     pub conn: PlainConn,
     pub marks: Vec<Mark>,

@@ -9,21 +9,21 @@ use outside::Settled;
 use std::alloc::{AllocError, Global};
 
 /// A payload that waits for a worker.
-#[derive(Debug, Drop)]
+#[derive(Drop)]
 pub struct PlainJob {
     pub key: Key,
     pub payload: Vec<u8>,
 }
 
 /// What a payload came to.
-#[derive(Debug, Drop)]
+#[derive(Drop)]
 pub struct PlainJobOutcome {
     pub key: Key,
     pub settled: Settled,
 }
 
 /// A hall.
-#[derive(Debug, Drop)]
+#[derive(Drop)]
 pub struct PlainHall<C, A, M> {
     /// The jobs, the oldest first.
     pub jobs: Vec<PlainJob>,

@@ -8,7 +8,7 @@ ghost use Rattle.machine_model.specs.Seen.{seen_progress};
 use std::alloc::{AllocError, Global};
 
 /// What bytes make with those held.
-#[derive(Debug, Drop)]
+#[derive(Drop)]
 pub enum PlainProgress {
     /// Less than a frame.
     Part,

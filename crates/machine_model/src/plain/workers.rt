@@ -9,7 +9,7 @@ use std::alloc::{AllocError, Global};
 use std::mem;
 
 /// What a worker holds.
-#[derive(Debug, Drop)]
+#[derive(Drop)]
 pub enum PlainWorkerState<A> {
     /// No job.
     Idle,
