@@ -23,7 +23,7 @@ or_true : (b : Bool) → (b || true) ≡ true
 or_true true = refl
 or_true false = refl
 
-or_right : (a b c : Bool) → (a || b) || c ≡ (a || (b || c))
+pub or_right : (a b c : Bool) → (a || b) || c ≡ (a || (b || c))
 or_right true b c = refl
 or_right false b c = refl
 
@@ -31,7 +31,7 @@ pub any_push : {A : Type 0} (p : A → Bool) (xs : List A) (y : A) → list_any 
 any_push p [] y = or_false (p y)
 any_push p (x ∷ xs) y = ap (λ b. p x || b) (any_push p xs y) ∙ sym (or_right (p x) (list_any p xs) (p y))
 
-any_same : {A : Type 0} (p q : A → Bool) → ((x : A) → p x ≡ q x) → (xs : List A) → list_any p xs ≡ list_any q xs
+pub any_same : {A : Type 0} (p q : A → Bool) → ((x : A) → p x ≡ q x) → (xs : List A) → list_any p xs ≡ list_any q xs
 any_same p q same [] = refl
 any_same p q same (x ∷ xs) = λ i. same x i || any_same p q same xs i
 

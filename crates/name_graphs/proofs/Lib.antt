@@ -1,0 +1,5 @@
+pub mod ShownByNumber
+pub mod Rising
+pub mod RowsMade
+pub mod Sets
+pub mod Inheriting

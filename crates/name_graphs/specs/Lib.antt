@@ -1,0 +1,3 @@
+pub mod SpotNumbers
+pub mod Rows
+pub mod Inherited
