@@ -1,0 +1,6 @@
+use Rattle.schema.specs.SchemaOf.{schema_of}
+use Rattle.skew_tests.proofs.Soundness.{sound_as_example}
+use Rattle.skew_tests.proofs.projections.fits_example.Goals as goal
+
+pub fits-requires : goal.fits-requires
+fits-requires c = record { sound = sound_as_example (schema_of c.in_ok-schema.schema) c.in_ok-schema.ensures }

@@ -1,0 +1,7 @@
+//! Tests of projections, and of what may be written, on a schema in memory.
+#![tactic(auto)]
+
+#[cfg(test)]
+mod example;
+#[cfg(test)]
+mod projections;
