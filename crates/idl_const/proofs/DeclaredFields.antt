@@ -38,14 +38,14 @@ below_among id [] f h m = elim m [ ]
 below_among id (g ∷ more) f h (inl e) = subst (λ (g : PlainField). id <ℤ g.id) (sym e) h.0
 below_among id (g ∷ more) f h (inr m) = below_among id more f h.1 m
 
-same_id : (i : ℤ) → int_eq i i ≡ true
+pub same_id : (i : ℤ) → int_eq i i ≡ true
 same_id i = (Decides-int_eq i i).1 refl
 
-not_true : (b : Bool) → (b ≡ true → ⊥) → b ≡ false
+pub not_true : (b : Bool) → (b ≡ true → ⊥) → b ≡ false
 not_true true h = absurd (h refl)
 not_true false h = refl
 
-other_id : (i j : ℤ) → i <ℤ j → int_eq i j ≡ false
+pub other_id : (i j : ℤ) → i <ℤ j → int_eq i j ≡ false
 other_id i j low = not_true (int_eq i j) (λ e. (let same = (Decides-int_eq i j).0 e in omega (arith, ints, same)))
 
 -- a field is found by its id

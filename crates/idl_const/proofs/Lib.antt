@@ -21,3 +21,4 @@ pub mod FieldsWritten
 pub mod WorthWritten
 pub mod ValuesWritten
 pub mod AlikeSchemas
+pub mod FieldRowLaws

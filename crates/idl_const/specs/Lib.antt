@@ -1,6 +1,7 @@
 pub mod Chains
 pub mod Digits
 pub mod FieldEntries
+pub mod FieldRows
 pub mod Flaws
 pub mod Given
 pub mod Idle
