@@ -1,10 +1,3 @@
 pub mod Meant
 pub mod Made
-pub mod ById
-pub mod Zipped
-pub mod Adding
-pub mod Serving
-pub mod Filing
-pub mod EnumValues
 pub mod Throwing
-pub mod Ranked

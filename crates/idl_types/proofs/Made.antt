@@ -1,7 +1,9 @@
 -- The type of one typedef more is made.
-use Rattle.std.proofs.Common.{◌≡◌, ◌≢◌, ◌⊎◌, ◌<◌, inl, inr, eqb, true, false, ℕ, zero, suc, Option, None, Some, List, [], ◌∷◌, ◌++◌, map, length, get_or, set, slice_get, Result, Ok, Err, OnOk, refl, ap, sym, subst, ◌∙◌, arith}
+use Rattle.std.proofs.Common.{◌≡◌, ◌≢◌, ◌⊎◌, ◌≤◌, ◌<◌, inl, inr, eqb, true, false, ℕ, zero, suc, Option, None, Some, List, [], ◌∷◌, ◌++◌, map, length, get_or, set, slice_get, Result, Ok, Err, OnOk, refl, ap, sym, subst, ◌∙◌, arith, true≢false, is_some, IsSome}
 use Rattle.std.specs.Option.{option_and_then, option_map}
+use Rattle.std.specs.List.{list_all}
 use Rattle.std.proofs.lemmas.Bool.Decides.{eqb_tells}
+use Rattle.std.proofs.lemmas.List.{length-map}
 use Rattle.idl_parser.specs.declared.tree.Typedef.{Typedef}
 use Rattle.idl_model.specs.Declarations.{TypedefDecl}
 use Rattle.idl_model.specs.DeclaredIn.{type_in}
@@ -78,3 +80,17 @@ pub alias_put : {A E : Type 0} (r : Result A E) (program : Program) (typedefs : 
 alias_put (Ok done) program typedefs old new i x t all l here means are within put =
     subst (λ (made : List (Option TypeDesc)). AreAliasTypes program made) (sym put) (one_more_made program typedefs old i x t all l here means within are)
 alias_put (Err e) program typedefs old new i x t all l here means are within put = tt
+
+some_known : (made : List (Option TypeDesc)) (n : ℕ) → list_all (λ (o : Option TypeDesc). is_some o) made ≡ true → n < length made → IsSome (known_kind made n)
+some_known [] n e l = absurd (omega arith)
+some_known (None ∷ made) n e l = absurd (true≢false (sym e))
+some_known (Some kind ∷ made) zero e l = refl
+some_known (Some kind ∷ made) (suc n) e l = some_known made n e (omega arith)
+
+-- where each type is made, that of each typedef is known
+pub all_known : (program : Program) (typedefs : List (InFile Typedef)) (made : List (Option TypeDesc)) → filed_typedefs typedefs ≡ typedefs_of program
+    → length typedefs ≤ length made → list_all (λ (o : Option TypeDesc). is_some o) made ≡ true
+    → (number : ℕ) → number < length (typedefs_of program) → IsSome (known_kind made number)
+all_known program typedefs made all few e number l =
+    let so_many : length typedefs ≡ length (typedefs_of program) = sym (length-map typedefs (filed_by typedef_declared)) ∙ ap length all in
+    some_known made number e (omega arith)

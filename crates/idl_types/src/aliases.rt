@@ -1,6 +1,8 @@
 //! The types of typedefs.
 
-ghost use Rattle.std.specs.Prelude.{◌≡◌, ◌<◌, ℕ, None, Some, length, slice_set, IfOk, OnOk};
+ghost use Rattle.std.specs.Prelude.{◌≡◌, ◌<◌, ℕ, None, Some, Option, length, slice_set, is_some, IsSome, IfOk, OnOk};
+ghost use Rattle.std.specs.List.{list_all};
+ghost use Rattle.schema.specs.declared.types.TypeDesc.{TypeDesc};
 ghost use Rattle.idl_model.specs.Numbering.{typedefs_of};
 ghost use Rattle.idl_include.specs.SourcesOf.{program_in};
 ghost use Rattle.idl_names.specs.FiledIn.{filed_typedefs};
@@ -67,6 +69,31 @@ fn make_alias(
     put_made(made, place, kind)
 }
 
+/// The types of typedefs, made in this order.
+fn made_in_order(
+    alloc: Global,
+    names: &NameTables<'_>,
+    typedefs: &[InFile<'_, Typedef>],
+    order: &[u32],
+) -> Result<Vec<Option<TypeDesc>>, AllocError>
+    requires { filed_typedefs typedefs.now ≡ typedefs_of (program_in names.now) }
+    ensures { IfOk result (λ made. AreAliasTypes (program_in names.now) made.items) }
+{
+    let mut made = none_made(alloc, typedefs.len())?;
+    let mut room = MOST_TYPES;
+    for number in order {
+        make_alias(alloc, names, typedefs, &mut made, *number, &mut room)?;
+    }
+    Ok(made)
+}
+
+/// Whether all types are made.
+fn are_all_made(made: &[Option<TypeDesc>]) -> bool
+    ensures { result ≡ list_all (λ (kind : Option TypeDesc). is_some kind) made.now }
+{
+    made.iter().all(|kind| kind.is_some())
+}
+
 /// The types of the typedefs of a program, by number. Those of a typedef that leads to itself, and of one with a name that stands for
 /// nothing, can't be made, and are answered as want of memory; so are more than 4,000,000 types.
 pub fn alias_types<'a>(
@@ -75,13 +102,16 @@ pub fn alias_types<'a>(
     typedefs: &[InFile<'a, Typedef>],
 ) -> Result<Vec<Option<TypeDesc>>, AllocError>
     requires { filed_typedefs typedefs.now ≡ typedefs_of (program_in names.now) }
-    ensures { IfOk result (λ made. AreAliasTypes (program_in names.now) made.items) }
+    ensures right { IfOk result (λ made. AreAliasTypes (program_in names.now) made.items) }
+    ensures all { IfOk result (λ made. (number : ℕ) → number < length (typedefs_of (program_in names.now)) → IsSome (known_kind made.items number)) }
 {
     let order = building_order(alloc, names, typedefs)?;
-    let mut made = none_made(alloc, typedefs.len())?;
-    let mut room = MOST_TYPES;
-    for number in order.as_slice() {
-        make_alias(alloc, names, typedefs, &mut made, *number, &mut room)?;
+    let made = made_in_order(alloc, names, typedefs, order.as_slice())?;
+    if made.len() < typedefs.len() {
+        return Err(AllocError);
+    }
+    if !are_all_made(made.as_slice()) {
+        return Err(AllocError);
     }
     Ok(made)
 }

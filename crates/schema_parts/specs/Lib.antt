@@ -1,0 +1,4 @@
+pub mod ById
+pub mod GivenLists
+pub mod StructsAdded
+pub mod Ranks
