@@ -7,10 +7,11 @@ use Rattle.std.specs.Str.{bytes_eq}
 use Rattle.std.specs.Ordering.{int_eq}
 use Rattle.std.proofs.lemmas.List.Elements.{All-get_or, All-nil, All-tail, All-append}
 use Rattle.std.proofs.lemmas.Option.{slice_get_within, get_or_from_slice_get, same_Some}
+use Rattle.schema.specs.declared.types.FieldsKind.TheVariants.{Args}
 use Rattle.schema.specs.Inherited.{own_functions, functions_of, lineage}
 use Rattle.schema.specs.LookUp.{field_at, fields_at, function_named, is_named}
 use Rattle.schema.specs.PlainSchema.{PlainField, PlainStruct, PlainFunction, PlainService, PlainSchema}
-use Rattle.schema.specs.Sound.{IsSound, IsSchemaName, IsSoundStruct, IsSoundField, IsSoundFunction, IsSoundService}
+use Rattle.schema.specs.Sound.{IsSound, IsPlaceIn, IsSchemaName, IsSoundStruct, IsSoundField, IsSoundFunction, IsSoundService}
 use Rattle.schema.specs.WrittenAs.{field_with_id}
 use Rattle.call_model.specs.Failures.{field_name, struct_name_at}
 
@@ -50,6 +51,15 @@ pub function_sound : (s : PlainSchema) → IsSound s → (which : ℕ) (name : L
 function_sound s sound which name f e =
     found_is (IsSoundFunction s) (is_named name) (functions_of s.services which) f
     (all_flat (IsSoundFunction s) (own_functions s.services) (lineage s.services which) (own_sound s sound)) e
+
+-- the struct of a function's arguments is there
+args_there : (s : PlainSchema) (which : ℕ) (o : Option PlainStruct) → slice_get s.structs which ≡ o → MatchOption o ⊥ (λ (d : PlainStruct). d.kind ≡ Args) → IsPlaceIn s.structs which
+args_there s which None e is = absurd is
+args_there s which (Some d) e is = slice_get_within s.structs which d e
+
+pub args_place : (s : PlainSchema) → IsSound s → (which : ℕ) (name : List ℕ) (f : PlainFunction) → function_named s which name ≡ Some f → IsPlaceIn s.structs f.args
+args_place s sound which name f found =
+    args_there s f.args (slice_get s.structs f.args) refl (function_sound s sound which name f found).0.args
 
 -- the fields of the struct at a number
 fields_sound : (s : PlainSchema) → IsSound s → (which : ℕ) → All (IsSoundField s) (fields_at s which)

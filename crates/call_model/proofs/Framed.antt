@@ -51,6 +51,13 @@ struct_length Compact failure =
     let b = length-append (varint_bytes w32 (zigzag failure.code)) (0 ∷ []) in
     omega (arith, n, c, a, b)
 
+-- the whole message
+pub exception_length : (p : Protocol) (name : List ℕ) (id : ℤ) (failure : Failure) → length (exception_text p name id failure) ≤ 32 + (length name + length failure.text)
+unfolding exception_head
+exception_length p name id failure =
+    let h = head_length p (record { name = name; kind = 3; id = id }) in
+    omega (arith, h.most, struct_length p failure, length-append (exception_head p name id) (failure_struct p failure))
+
 -- a failure that is not too long makes a payload
 exception_payload : (p : Protocol) (name : List ℕ) (id : ℤ) (failure : Failure) → length name ≤ 268435456 → length failure.text ≤ 268435556
     → IsPayload (2 ^ 31 - 1) (exception_text p name id failure)

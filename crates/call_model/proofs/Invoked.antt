@@ -6,7 +6,6 @@ use Rattle.std.specs.Option.{option_map}
 use Rattle.std.specs.Str.{bytes_eq}
 use Rattle.std.proofs.lemmas.Option.{slice_get_within}
 use Rattle.std.proofs.lemmas.Slice.Eq.{bytes_eq-Decides}
-use Rattle.schema.specs.declared.types.FieldsKind.TheVariants.{Args}
 use Rattle.outside.specs.declared.outcomes.EnvelopeFault.{EnvelopeFault}
 use Rattle.host_model.specs.DeskRules.{DeskDecision, Close, Silent, Reply, Invoke}
 use Rattle.call_rules.specs.PlainCalls.{PlainCall, IsPlainCall, IsPlainValue, IsStruct}
@@ -34,7 +33,7 @@ use Rattle.call_model.specs.Offices.{Binding, PlainOffice, IsSoundOffice}
 use Rattle.call_model.specs.Names.{Bound, bound_at, slot_of, service_part, method_part, service_asked, function_asked}
 use Rattle.call_model.specs.Arguments.{wire_of, projected_or_fault, read_as_arguments, arguments_at}
 use Rattle.call_model.specs.Decisions.{is_silent, refused, called, decided_on_function, decided_on_service, decided_on_head, decision}
-use Rattle.call_model.proofs.Found.{function_sound}
+use Rattle.call_model.proofs.Found.{function_sound, args_place}
 
 -- what is read under the tag of structs is one
 struct_read : (wire : Wire) (levels : ℕ) (before : Unread) (x : Tree × Unread) → value wire (suc levels) tags.Struct before ≡ Ok x → tag_of x.0 ≡ tags.Struct
@@ -106,11 +105,6 @@ pub record IsDecidedCall (office : PlainOffice) (call : PlainCall) : Type 0 wher
 abbrev pub TakesPlainly : PlainSchema → Type 0
 TakesPlainly s = (which : ℕ) → IsPlaceIn s.structs which → ProjectsPlainly s which
 
--- the struct of a function's arguments is there
-args_there : (s : PlainSchema) (which : ℕ) (o : Option PlainStruct) → slice_get s.structs which ≡ o → MatchOption o ⊥ (λ (d : PlainStruct). d.kind ≡ Args) → IsPlaceIn s.structs which
-args_there s which None e is = absurd is
-args_there s which (Some d) e is = slice_get_within s.structs which d e
-
 abbrev Decided : Type 0
 Decided = DeskDecision PlainCall
 
@@ -142,7 +136,7 @@ on_function office sound plainly payload head bound (Some f) call slot found e =
     let name : f.name ≡ method_part head.name = (bytes_eq-Decides f.name (method_part head.name)).0 known.1 in
     called_is office head bound f (arguments_at office.schema office.protocol f.args payload head.behind) call slot (subst IsSchemaName name known.0.name)
     (arguments_plain office.schema office.protocol f.args
-    (plainly f.args (args_there office.schema f.args (slice_get office.schema.structs f.args) refl known.0.args)) payload head.behind) e
+    (plainly f.args (args_place office.schema sound bound.service (method_part head.name) f found)) payload head.behind) e
 on_function office sound plainly payload head bound None call slot found e = absurd (refused_no_call _ _ _ _ call e)
 
 bound_slot : (bindings : List Binding) (o : Option ℕ) (bound : Bound) → option_and_then (bound_at bindings) o ≡ Some bound → bound.slot < length bindings

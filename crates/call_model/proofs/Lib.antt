@@ -1,7 +1,9 @@
 mod Lengths
 mod Heads
-mod Framed
-mod Parts
-mod Found
-mod Refused
+pub mod Framed
+pub mod Parts
+pub mod Found
+pub mod Refused
 mod Invoked
+mod Replied
+pub mod SoundAgain

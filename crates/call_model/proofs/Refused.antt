@@ -57,7 +57,8 @@ refused_framed p head true failure reply named told e = absurd cc
 refused_framed p head false failure reply named told e =
     subst IsWholeFrame (same_reply (failure_frame p head failure) reply e) (failure_framed p head failure named told)
 
-wire_text_short : (fault : WireFault) → length (wire_fault_text fault) ≤ 100
+-- the texts of faults of arguments
+pub wire_text_short : (fault : WireFault) → length (wire_fault_text fault) ≤ 100
 wire_text_short wire.Short = omega arith
 wire_text_short (wire.BadType code) = omega (arith, decimal_length code)
 wire_text_short wire.BadSize = omega arith
@@ -67,7 +68,7 @@ wire_text_short wire.TooDeep = omega arith
 wire_text_short wire.TooMany = omega arith
 wire_text_short wire.NoMemory = omega arith
 
-skew_text_short : (s : PlainSchema) → IsSound s → (fault : SkewFault) → length (skew_fault_text s fault) ≤ 4194404
+pub skew_text_short : (s : PlainSchema) → IsSound s → (fault : SkewFault) → length (skew_fault_text s fault) ≤ 4194404
 skew_text_short s sound (skew.Missing which id) = omega (arith, field_name_short s sound which id)
 skew_text_short s sound (skew.UnionFields which) = omega (arith, struct_name_short s sound which)
 skew_text_short s sound skew.TooDeep = omega arith

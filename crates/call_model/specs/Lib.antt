@@ -4,4 +4,5 @@ pub mod Failures
 pub mod Arguments
 pub mod Decisions
 pub mod Replies
+pub mod Desk
 pub mod Examples

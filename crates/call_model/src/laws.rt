@@ -2,10 +2,12 @@
 
 ghost use Rattle.std.specs.Prelude.{◌≡◌, ◌<◌, ◌≤◌, ℕ, List, length};
 ghost use Rattle.host_model.specs.DeskRules as desk;
-ghost use Rattle.call_rules.specs.Desks.{IsWholeFrame, longest_payload};
-ghost use Rattle.call_rules.specs.PlainCalls.{PlainCall, IsPlainCall};
+ghost use Rattle.call_rules.specs.Desks.{IsAnsweredCall, IsDesk, IsWholeFrame, longest_payload};
+ghost use Rattle.call_rules.specs.PlainCalls.{PlainAnswer, PlainCall, IsPlainCall};
 ghost use Rattle.call_model.specs.Offices.{PlainOffice, IsSoundOffice};
 ghost use Rattle.call_model.specs.Decisions.{decision};
+ghost use Rattle.call_model.specs.Desk.{desk_of};
+ghost use Rattle.call_model.specs.Replies.{reply_of};
 
 use struct_skew::{a_projection_is_bounded, a_projection_is_of_its_type};
 
@@ -24,4 +26,20 @@ pub fn calls_are_plain()
 {
     a_projection_is_bounded();
     a_projection_is_of_its_type();
+}
+
+/// Each reply to a call is a whole frame.
+pub fn replies_are_framed()
+    ensures { (office : PlainOffice) (payload : List ℕ) (answer : PlainAnswer) → IsSoundOffice office → length payload ≤ longest_payload
+        → IsAnsweredCall (decision office payload) → IsWholeFrame (reply_of office payload answer) }
+{}
+
+/// An office is a desk, also where no more is kept of it than that it is sound.
+pub fn an_office_is_a_desk()
+    ensures sound { (office : PlainOffice) → IsSoundOffice office → IsDesk (desk_of office) }
+    ensures again { (office : PlainOffice) → ∥ IsSoundOffice office ∥₁ → IsSoundOffice office }
+{
+    calls_are_plain();
+    refusals_are_framed();
+    replies_are_framed();
 }
