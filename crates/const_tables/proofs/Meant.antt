@@ -2,6 +2,7 @@
 use Rattle.std.proofs.Common.{◌≡◌, ℕ, zero, suc, Bool, true, false, cond, List, [], ◌∷◌, map, get_or, slice_get, Option, None, Some, refl, ap, sym, ◌∙◌}
 use Rattle.std.specs.Option.{option_map, option_and_then}
 use Rattle.std.specs.List.{find, position_from}
+use Rattle.std.proofs.lemmas.Simd.{map-map}
 use Rattle.idl_parser.specs.declared.tree.Const.{Const}
 use Rattle.idl_model.specs.Declarations.{ConstDecl}
 use Rattle.idl_model.specs.Numbering.{Filed, constants_of}
@@ -9,6 +10,7 @@ use Rattle.idl_model.specs.Program.{Program}
 use Rattle.idl_model.specs.ConstNames.{given_value, value_number}
 use Rattle.idl_names.specs.declared.filed.InFile.{InFile}
 use Rattle.idl_names.specs.FiledIn.{filed_by, const_declared}
+use Rattle.idl_names.proofs.Found.{mapped_alike}
 use Rattle.const_tables.specs.declared.places.ValuePlaces.{ValuePlaces}
 use Rattle.const_tables.specs.Places.{number_at_place, ArePlaces}
 use Rattle.const_tables.proofs.Valued.{shifted, one_on}
@@ -18,14 +20,6 @@ pub value_there : {A : Type 0} (f : A → Option ℕ) (xs : List A) (k : ℕ) �
 value_there f [] k = refl
 value_there f (x ∷ xs) zero = refl
 value_there f (x ∷ xs) (suc k) = value_there f xs k
-
-mapped_twice : {A B C : Type 0} (g : B → C) (f : A → B) (xs : List A) → map g (map f xs) ≡ map (λ x. g (f x)) xs
-mapped_twice g f [] = refl
-mapped_twice g f (x ∷ xs) = ap (λ ys. g (f x) ∷ ys) (mapped_twice g f xs)
-
-mapped_alike : {A B : Type 0} (f g : A → B) → ((x : A) → f x ≡ g x) → (xs : List A) → map f xs ≡ map g xs
-mapped_alike f g same [] = refl
-mapped_alike f g same (x ∷ xs) = λ i. same x i ∷ mapped_alike f g same xs i
 
 pub values_found : (program : Program) (constants given : List (InFile Const)) (places : ValuePlaces) (numbers : List (Option ℕ)) → map (filed_by const_declared) constants ≡ constants_of program
     → given ≡ constants → ArePlaces program places → numbers ≡ map (λ (c : InFile Const). number_at_place places c.file c.item.now.name.at) given
@@ -37,7 +31,7 @@ values_found program constants given places numbers is same right made which =
     ∙ ap (map (λ (c : InFile Const). number_at_place places c.file c.item.now.name.at)) same
     ∙ mapped_alike (λ (c : InFile Const). number_at_place places c.file c.item.now.name.at) (λ (c : InFile Const). value (filed_by const_declared c))
     (λ c. right.numbers c.file c.item.now.name.at) constants
-    ∙ sym (mapped_twice value (filed_by const_declared) constants)
+    ∙ sym (map-map value (filed_by const_declared) constants)
     ∙ ap (map value) is in
     ap (λ (ns : List (Option ℕ)). get_or ns which None) all ∙ value_there value (constants_of program) which
 

@@ -1,10 +1,10 @@
 -- Numbers by place, one more at a time.
-use Rattle.std.proofs.Common.{◌≡◌, ◌≢◌, ◌⊎◌, ◌≤◌, ◌<◌, ◌+◌, ℕ, zero, suc, ◌==◌, eqb, Bool, true, false, cond, inl, inr, List, [], ◌∷◌, ◌++◌, map, length, get_or, take, slice_get, Option, None, Some, is_some, refl, ap, sym, subst, ◌∙◌, arith, true≢false, zero-add}
+use Rattle.std.proofs.Common.{◌≡◌, ◌≢◌, ◌⊎◌, ◌≤◌, ◌<◌, ◌+◌, ℕ, zero, suc, ◌==◌, eqb, Bool, true, false, inl, inr, List, [], ◌∷◌, ◌++◌, map, length, get_or, take, slice_get, Option, None, Some, is_some, refl, ap, sym, subst, ◌∙◌, arith, zero-add}
 use Rattle.std.specs.Prelude.{◌&&◌}
 use Rattle.std.specs.Option.{option_or}
 use Rattle.std.specs.List.{position_from}
 use Rattle.std.specs.Map.{lookup}
-use Rattle.std.proofs.lemmas.List.{length-take-le}
+use Rattle.std.proofs.lemmas.List.{length-take-le, get_or_default}
 use Rattle.std.proofs.lemmas.Bool.Decides.{eqb_tells}
 use Rattle.indexmap.specs.IndexMap.{get, insert_entry}
 use Rattle.indexmap.proofs.CallerLemmas.{insert_entry-new}
@@ -16,22 +16,14 @@ use Rattle.idl_model.specs.ConstNames.{same_place, value_number}
 use Rattle.idl_names.specs.declared.spot.GivenTree.{GivenTree}
 use Rattle.idl_names.specs.NameMaps.{number_if}
 use Rattle.idl_names.specs.SpotsIn.{filed_value}
-use Rattle.idl_names.proofs.Numbered.{position_one_more}
+use Rattle.idl_names.proofs.Numbered.{none_from_test, behind, position_one_more}
 use Rattle.idl_names.proofs.Marked.{taken_more}
 use Rattle.idl_names.proofs.Found.{position_map}
 use Rattle.idl_names.proofs.Based.{take_past}
 use Rattle.const_tables.specs.declared.places.ValuePlaces.{ValuePlaces}
-use Rattle.const_tables.specs.Places.{PlaceKey, PlaceMap, is_at, number_of_place, HasNewPlace, number_at_place, ArePlaces}
+use Rattle.const_tables.specs.Places.{PlaceKey, PlaceMap, is_key_of, number_of_place, HasNewPlace, number_at_place, ArePlaces}
 
 -- ---- one place more
-
-none_from_test : {A : Type 0} (o : Option A) → is_some o ≡ false → o ≡ None
-none_from_test None e = refl
-none_from_test (Some x) e = absurd (true≢false e)
-
-behind : {V : Type 0} (b : Bool) (x : V) (o p q : Option V) → p ≡ option_or o q → cond b (Some x) p ≡ option_or (cond b (Some x) o) q
-behind true x o p q e = refl
-behind false x o p q e = e
 
 one_behind : (test : PlaceKey → Bool) (es : List (PlaceKey × ℕ)) (k : PlaceKey) (v : ℕ) → lookup test (es ++ (k, v) ∷ []) ≡ option_or (lookup test es) (number_if (test k) v)
 one_behind test [] k v = refl
@@ -46,7 +38,7 @@ new_place old new file owner number gone entries =
     let none : get eq old k ≡ None = none_from_test (number_of_place old file owner) gone in
     record {
       absent = none;
-      found = λ f other. ap (lookup (is_at f other)) (entries ∙ insert_entry-new eq old k number none) ∙ one_behind (is_at f other) old.entries k number;
+      found = λ f other. ap (lookup (is_key_of f other)) (entries ∙ insert_entry-new eq old k number none) ∙ one_behind (is_key_of f other) old.entries k number;
     }
 
 -- ---- given values, one after another
@@ -68,7 +60,7 @@ and_right : (a b c : Bool) → ((a && b) && c) ≡ (a && (b && c))
 and_right true b c = refl
 and_right false b c = refl
 
-at_as_given : (file : ℕ) (owner : Place) (v : GivenTree) → is_at file owner (v.file, v.owner.line, v.owner.column) ≡ is_given_at file owner v
+at_as_given : (file : ℕ) (owner : Place) (v : GivenTree) → is_key_of file owner (v.file, v.owner.line, v.owner.column) ≡ is_given_at file owner v
 at_as_given file owner v =
     and_right (file == v.file) (owner.line == v.owner.line) (owner.column == v.owner.column)
     ∙ (λ i. eqb_either_way file v.file i && (eqb_either_way owner.line v.owner.line i && eqb_either_way owner.column v.owner.column i))
@@ -99,17 +91,12 @@ same_itself a = by (eqb_tells a a)
     by (inl (t, e)) = t
     by (inr (t, n)) = absurd (n refl)
 
-is_at_itself : (file : ℕ) (owner : Place) → is_at file owner (file, owner.line, owner.column) ≡ true
-is_at_itself file owner = λ i. (same_itself file i && same_itself owner.line i) && same_itself owner.column i
+is_key_of_itself : (file : ℕ) (owner : Place) → is_key_of file owner (file, owner.line, owner.column) ≡ true
+is_key_of_itself file owner = λ i. (same_itself file i && same_itself owner.line i) && same_itself owner.column i
 
 kept_or : {A : Type 0} (o : Option A) (p : Option A) (x : A) → o ≡ Some x → option_or o p ≡ Some x
 kept_or None p x e = absurd (let no : ⊥ = cc in no)
 kept_or (Some y) p x e = e
-
-at_any : {A : Type 0} (xs : List A) (i : ℕ) (d e : A) → i < length xs → get_or xs i d ≡ get_or xs i e
-at_any [] i d e l = absurd (omega arith)
-at_any (x ∷ xs) zero d e l = refl
-at_any (x ∷ xs) (suc i) d e l = at_any xs i d e (omega arith)
 
 pub own_next : (values : List GivenTree) (n number : ℕ) (x : GivenTree) (old new : PlaceMap) → n < length values → x ≡ get_or values n x → number ≡ n
     → HasNewPlace x.file x.owner number old new → HaveOwnPlaces old values n → HaveOwnPlaces new values (n + 1)
@@ -117,15 +104,15 @@ own_next values n number x old new l here counted more so_far k d near = by (eqb
   where
     by : ((eqb k n ≡ true) × (k ≡ n)) ⊎ ((eqb k n ≡ false) × (k ≢ n)) → number_of_place new (get_or values k d).file (get_or values k d).owner ≡ Some k
     by (inl (t, e)) =
-        let same : get_or values k d ≡ x = ap (λ j. get_or values j d) e ∙ at_any values n d x l ∙ sym here in
+        let same : get_or values k d ≡ x = ap (λ j. get_or values j d) e ∙ get_or_default values n d x l ∙ sym here in
         ap (λ (v : GivenTree). number_of_place new v.file v.owner) same
         ∙ more.found x.file x.owner
-        ∙ (λ i. option_or (more.absent i) (number_if (is_at_itself x.file x.owner i) number))
+        ∙ (λ i. option_or (more.absent i) (number_if (is_key_of_itself x.file x.owner i) number))
         ∙ ap Some (counted ∙ sym e)
     by (inr (t, ne)) =
         more.found (get_or values k d).file (get_or values k d).owner
         ∙ kept_or (number_of_place old (get_or values k d).file (get_or values k d).owner)
-        (number_if (is_at (get_or values k d).file (get_or values k d).owner (x.file, x.owner.line, x.owner.column)) number) k
+        (number_if (is_key_of (get_or values k d).file (get_or values k d).owner (x.file, x.owner.line, x.owner.column)) number) k
         (so_far k d (omega arith))
 
 -- ---- all of them

@@ -21,17 +21,17 @@ abbrev pub PlaceMap : Type 0
 PlaceMap = IndexMap PlaceKey ℕ (BuildHasherDefault FoldHasher)
 
 -- it is this place in this file
-abbrev pub is_at : ℕ → Place → PlaceKey → Bool
-is_at file owner key = ((file == key.0) && (owner.line == key.1)) && (owner.column == key.2)
+abbrev pub is_key_of : ℕ → Place → PlaceKey → Bool
+is_key_of file owner key = ((file == key.0) && (owner.line == key.1)) && (owner.column == key.2)
 
 -- the number of a place in a file
 abbrev pub number_of_place : PlaceMap → ℕ → Place → Option ℕ
-number_of_place m file owner = get_by (is_at file owner) m
+number_of_place m file owner = get_by (is_key_of file owner) m
 
 -- places have one more, which wasn't there
 pub record HasNewPlace (file : ℕ) (owner : Place) (number : ℕ) (old new : PlaceMap) : Type 0 where
   pub absent : number_of_place old file owner ≡ None
-  pub found : (f : ℕ) (other : Place) → number_of_place new f other ≡ option_or (number_of_place old f other) (number_if (is_at f other (file, owner.line, owner.column)) number)
+  pub found : (f : ℕ) (other : Place) → number_of_place new f other ≡ option_or (number_of_place old f other) (number_if (is_key_of f other (file, owner.line, owner.column)) number)
 
 -- the number of the value that is given for what stands at a place in a file
 abbrev pub number_at_place : ValuePlaces → ℕ → Place → Option ℕ

@@ -18,6 +18,11 @@ pub position_map : {A B : Type 0} (f : A → B) (p : B → Bool) (i : ℕ) (xs :
 position_map f p i [] = refl
 position_map f p i (x ∷ xs) = ap (λ r. cond (p (f x)) (Some i) r) (position_map f p (i + 1) xs)
 
+-- equal functions make equal lists
+pub mapped_alike : {A B : Type 0} (f g : A → B) → ((x : A) → f x ≡ g x) → (xs : List A) → map f xs ≡ map g xs
+mapped_alike f g same [] = refl
+mapped_alike f g same (x ∷ xs) = λ i. same x i ∷ mapped_alike f g same xs i
+
 pub numbers_of : {D A : Type 0} (view : D → A) (name_of : A → Written) (items given : List (InFile D)) (all : List (Filed A)) (maps : List NameMap)
     → map (filed_by view) items ≡ all → given ≡ items
     → ((file : ℕ) (name : List ℕ) → number_in_file maps file name ≡ position_from (λ (x : InFile D). (x.file == file) && bytes_eq (name_of (view x.item.now)).text name) 0 given)

@@ -31,7 +31,7 @@ option_or_some : {A : Type 0} (o p : Option A) → is_some o ≡ true → option
 option_or_some None p e = absurd (true≢false (sym e))
 option_or_some (Some x) p e = refl
 
-none_from_test : {A : Type 0} (o : Option A) → is_some o ≡ false → o ≡ None
+pub none_from_test : {A : Type 0} (o : Option A) → is_some o ≡ false → o ≡ None
 none_from_test None e = refl
 none_from_test (Some x) e = absurd (true≢false e)
 
@@ -44,7 +44,7 @@ Entries = List (Bor (List ℕ) × ℕ)
 abbrev among : List ℕ → Entries → Option ℕ
 among other es = lookup (λ (key : Bor (List ℕ)). bytes_eq other key.now) es
 
-behind : (b : Bool) (x : ℕ) (o p q : Option ℕ) → p ≡ option_or o q → cond b (Some x) p ≡ option_or (cond b (Some x) o) q
+pub behind : (b : Bool) (x : ℕ) (o p q : Option ℕ) → p ≡ option_or o q → cond b (Some x) p ≡ option_or (cond b (Some x) o) q
 behind true x o p q e = refl
 behind false x o p q e = e
 

@@ -15,7 +15,8 @@
 //!
 //! Files that were loaded are as the tables want them ([`laws`]).
 //!
-//! Not here: names in constant values, and types with typedefs resolved.
+//! Not here: names in constant values (`const_tables`), how typedefs and services lead to one another (`name_graphs`), and types with
+//! typedefs resolved.
 #![tactic(auto)]
 
 mod bases;

@@ -2,6 +2,7 @@
 use Rattle.std.proofs.Common.{◌≡◌, ◌≤◌, ◌<◌, ◌+◌, ◌++◌, ℕ, List, [], ◌∷◌, map, length, get_or, take, refl, ap, sym, ◌∙◌}
 use Rattle.std.specs.List.{filter_map}
 use Rattle.std.proofs.lemmas.List.{map-append}
+use Rattle.std.proofs.lemmas.Simd.{map-map}
 use Rattle.std.proofs.lemmas.List.Elements.{filter_map-append}
 use Rattle.idl_parser.specs.declared.tree.Typedef.{Typedef}
 use Rattle.idl_parser.specs.declared.tree.Service.{Service}
@@ -13,6 +14,7 @@ use Rattle.idl_model.specs.Cycles.{aliases_below, alias_graph, parent_named, par
 use Rattle.idl_names.specs.declared.filed.InFile.{InFile}
 use Rattle.idl_names.specs.FiledIn.{filed_by, typedef_declared, service_declared}
 use Rattle.idl_names.proofs.Marked.{taken_more}
+use Rattle.idl_names.proofs.Found.{mapped_alike}
 use Rattle.idl_names.proofs.Based.{take_past}
 use Rattle.name_graphs.specs.Rows.{alias_for, aliases_in_type, parents_of}
 
@@ -39,14 +41,6 @@ row_next g f xs i x row old new l here is pushed so_far =
 pub rows_end : {A B : Type 0} (f : A → B) (xs : List A) (i : ℕ) (made : List B) → length xs ≤ i → made ≡ map f (take i xs) → made ≡ map f xs
 rows_end f xs i made past so_far = so_far ∙ ap (map f) (take_past xs i past)
 
-pub mapped_twice : {A B C : Type 0} (g : B → C) (f : A → B) (xs : List A) → map g (map f xs) ≡ map (λ x. g (f x)) xs
-mapped_twice g f [] = refl
-mapped_twice g f (x ∷ xs) = ap (λ ys. g (f x) ∷ ys) (mapped_twice g f xs)
-
-mapped_alike : {A B : Type 0} (f g : A → B) → ((x : A) → f x ≡ g x) → (xs : List A) → map f xs ≡ map g xs
-mapped_alike f g same [] = refl
-mapped_alike f g same (x ∷ xs) = λ i. same x i ∷ mapped_alike f g same xs i
-
 -- the typedefs that a typedef's type names
 abbrev pub aliases_of : Program → InFile Typedef → List ℕ
 aliases_of program t = aliases_in_type program t.file (type_in t.item.now.kind)
@@ -56,14 +50,14 @@ pub aliases_are : (program : Program) (typedefs : List (InFile Typedef)) → map
 unfolding alias_graph
 aliases_are program typedefs is =
     mapped_alike (aliases_of program) (λ t. aliases_below program (filed_by typedef_declared t)) (λ t. aliases_kept program t.file (type_in t.item.now.kind)) typedefs
-    ∙ sym (mapped_twice (aliases_below program) (filed_by typedef_declared) typedefs)
+    ∙ sym (map-map (aliases_below program) (filed_by typedef_declared) typedefs)
     ∙ ap (map (aliases_below program)) is
 
 pub parents_are : (program : Program) (services : List (InFile Service)) → map (filed_by service_declared) services ≡ services_of program
     → map (λ (s : InFile Service). parent_named program (filed_by service_declared s)) services ≡ parents_of program
 unfolding parents_of
-parents_are program services is = sym (mapped_twice (parent_named program) (filed_by service_declared) services) ∙ ap (map (parent_named program)) is
+parents_are program services is = sym (map-map (parent_named program) (filed_by service_declared) services) ∙ ap (map (parent_named program)) is
 
 pub parent_rows_are : (program : Program) → map listed (parents_of program) ≡ parent_graph program
 unfolding parents_of parent_graph
-parent_rows_are program = mapped_twice listed (parent_named program) (services_of program)
+parent_rows_are program = map-map listed (parent_named program) (services_of program)

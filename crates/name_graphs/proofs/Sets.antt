@@ -1,8 +1,9 @@
 -- Sets of names, one name more at a time.
-use Rattle.std.proofs.Common.{◌≡◌, ◌≤◌, ◌<◌, ◌+◌, ◌++◌, ℕ, zero, suc, Bool, List, [], ◌∷◌, length, get_or, take, Option, None, Bor, refl, ap, sym, subst, ◌∙◌, arith}
+use Rattle.std.proofs.Common.{◌≡◌, ◌≤◌, ◌<◌, ◌+◌, ◌++◌, ℕ, zero, suc, Bool, List, [], ◌∷◌, length, get_or, take, Option, None, Bor, refl, ap, sym, subst, ◌∙◌}
 use Rattle.std.specs.Prelude.{◌||◌}
 use Rattle.std.specs.List.{list_any, AllZip}
 use Rattle.std.specs.Str.{bytes_eq}
+use Rattle.std.proofs.lemmas.List.{get_or_default}
 use Rattle.idl_parser.specs.declared.tree.Function.{Function}
 use Rattle.idl_names.specs.NameSets.{NameSet, has_name, HasNameToo}
 use Rattle.idl_names.proofs.Based.{zip_push, take_past}
@@ -47,17 +48,12 @@ none_more xs new pushed none k = ap (λ (ns : List (Option ℕ)). get_or ns k No
 
 -- ---- the sets of parents
 
-at_any : {A : Type 0} (xs : List A) (i : ℕ) (d e : A) → i < length xs → get_or xs i d ≡ get_or xs i e
-at_any [] i d e l = absurd (omega arith)
-at_any (x ∷ xs) zero d e l = refl
-at_any (x ∷ xs) (suc i) d e l = at_any xs i d e (omega arith)
-
 pub bases_next : (made parents : List (Option ℕ)) (i : ℕ) (parent base : Option ℕ) (old new : List (Option ℕ)) → i < length parents → parent ≡ get_or parents i None
     → IsBase made parent base → new ≡ old ++ base ∷ [] → AllZip (IsBase made) (take i parents) old → AllZip (IsBase made) (take (i + 1) parents) new
 bases_next made parents i parent base old new l here is pushed so_far =
     let P : List (Option ℕ) → Type 0 = λ bs. AllZip (IsBase made) (take (i + 1) parents) bs in
     let Q : List (Option ℕ) → Type 0 = λ ps. AllZip (IsBase made) ps (old ++ base ∷ []) in
-    subst P (sym pushed) (subst Q (sym (taken_more parents i parent l (here ∙ at_any parents i None parent l))) (zip_push (IsBase made) (take i parents) old parent base so_far is))
+    subst P (sym pushed) (subst Q (sym (taken_more parents i parent l (here ∙ get_or_default parents i None parent l))) (zip_push (IsBase made) (take i parents) old parent base so_far is))
 
 pub bases_end : (made parents sets : List (Option ℕ)) (i : ℕ) → length parents ≤ i → AllZip (IsBase made) (take i parents) sets → AreInherited made parents sets
 bases_end made parents sets i past so_far = by parents sets (subst (λ (ps : List (Option ℕ)). AllZip (IsBase made) ps sets) (take_past parents i past) so_far)

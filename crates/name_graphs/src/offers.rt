@@ -137,10 +137,22 @@ fn offer_new<'a>(
     let Ok(which) = u32::try_from(offered.sets.len()) else {
         return Err(AllocError);
     };
+    let more = names_in(offered.sets.as_slice(), base);
+    offered.copied = within_most(offered.copied, more)?;
     let set = with_functions(alloc, offered.sets.as_slice(), base, functions)?;
-    offered.copied = within_most(offered.copied, set.len())?;
     offered.sets.push(set)?;
     put_made(&mut offered.made, service, which)
+}
+
+/// How many names a set has, if there is one.
+fn names_in(sets: &[NameSet<'_>], base: Option<u32>) -> usize {
+    match base {
+        Some(which) => match sets.get(which as usize) {
+            Some(set) => set.len(),
+            None => 0,
+        },
+        None => 0,
+    }
 }
 
 /// So many more, as far as they are at most so many as are copied.
