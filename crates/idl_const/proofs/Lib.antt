@@ -22,3 +22,4 @@ pub mod WorthWritten
 pub mod ValuesWritten
 pub mod AlikeSchemas
 pub mod FieldRowLaws
+pub mod FieldPlaces

@@ -13,7 +13,7 @@
 //! `doubles`), members and pairs in order (`rows`, `tidy`), containers by their types (`containers`), marks of what is under evaluation
 //! and chains of names (`marks`, `chains`), and the walk (`walk`), which recurses once a level, at most 64 levels deep. More than
 //! 16,000,000 values and names, in one evaluation alone or in those of a program's values together, are answered as want of memory.
-//! `field_rows` makes the row of a literal's fields for who implements `Ground`; `laws` says that what is evaluated may be written as
+//! `field_names` finds a struct's fields by name, and `field_rows` makes the row of a literal's fields, for who implements `Ground`; `laws` says that what is evaluated may be written as
 //! its type.
 //!
 //! Not here: tables of names, and the checker, which evaluates all constants and defaults of a program.
@@ -25,6 +25,7 @@ mod decimals;
 mod doubles;
 mod evaluation;
 mod faults;
+mod field_names;
 mod field_rows;
 mod ground;
 mod keeping;
@@ -38,6 +39,7 @@ mod walk;
 
 pub use evaluation::{evaluate_given, evaluate_in, no_progress};
 pub use faults::ConstFault;
+pub use field_names::{field_of_name, field_places};
 pub use field_rows::{OwedField, field_row};
 pub use ground::{FieldEntry, Ground};
 pub use progress::Progress;
