@@ -1,4 +1,18 @@
-//! Passes over the spots of a program, each for the first spot with a fault of one kind.
+//! The passes over a program of IDL files, each for the first fault of its kind: what a checker answers where it refuses a program.
+//!
+//! ```
+//! let spots = program_spots(alloc, files)?;
+//! name_fault(&names, spots.as_slice())?;                        // dots, equal names, names that stand for nothing
+//! list_fault(typedef, service, spots.as_slice())?;              // the least typedef and service that lead to themselves, or none
+//! function_fault(&lineage, spots.as_slice())?;                  // who knows what services inherit
+//! struct_fault(&names, structs, aliases, finite, spots.as_slice())?;
+//! let values = evaluate_all(alloc, &mut evaluator, given.as_slice())?;
+//! ```
+//!
+//! A pass is a test of one spot ([`SpotTest`]) over all spots in order; a test holds what it looks at, which is right for a program.
+//! The last pass goes over the values that a program gives ([`Evaluator`]).
+//!
+//! Not here: who makes what the passes look at, and the schema of a program without fault.
 #![tactic(auto)]
 
 mod cycle_tests;
