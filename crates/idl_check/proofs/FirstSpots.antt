@@ -14,7 +14,7 @@ use Rattle.check_model.specs.FirstFlaw.{FlawKind, found_by, ProgramFlaw, IsAtFau
 use Rattle.idl_check.specs.declared.faults.CheckKind.{CheckKind}
 use Rattle.idl_check.specs.declared.faults.CheckKind.TheVariants as check
 use Rattle.idl_check.specs.declared.faults.CheckFault.{CheckFault}
-use Rattle.idl_check.specs.Faults.{spot_pass, flaw_kind, TellsFlaw}
+use Rattle.idl_check.specs.Faults.{spot_pass, flaw_told, TellsFlaw}
 use Rattle.idl_check.specs.Passed.{IsFirstAmong, ArePassed}
 
 -- ---- lists
@@ -59,7 +59,7 @@ on_spots check.StructLoop = tt
 on_spots (check.Const fault) = tt
 on_spots check.NoMemory = tt
 
-pub kind_told : (kind : CheckKind) (pass : Pass) → spot_pass kind ≡ Some pass → flaw_kind kind ≡ Some (found_by pass)
+pub kind_told : (kind : CheckKind) (pass : Pass) → spot_pass kind ≡ Some pass → flaw_told kind ≡ Some (found_by pass)
 kind_told (check.Const fault) pass e = cc
 kind_told kind pass e = ap (option_map found_by) e
 
@@ -89,7 +89,7 @@ clear_next program pass kind spots i x b told l here tells failed before =
     ap spots_in (take_more spots i x l ∙ ap (λ (y : SpotIn). take i spots ++ y ∷ []) (sym here)) ∙ map-append spot_in (take i spots) (x ∷ []) in
     subst (AllByRecursion (IsClearAt program pass)) (sym shown) (all_behind (IsClearAt program pass) (spots_in (take i spots)) (spot_in x) before here_clear)
 
-pub tells : (P : ProgramFlaw → Type 0) (file : ℕ) (at : Place) (kind : CheckKind) (k : FlawKind) → flaw_kind kind ≡ Some k → P (record { file = file; at = at; kind = k })
+pub tells : (P : ProgramFlaw → Type 0) (file : ℕ) (at : Place) (kind : CheckKind) (k : FlawKind) → flaw_told kind ≡ Some k → P (record { file = file; at = at; kind = k })
     → TellsFlaw P (record { file = file; at = at; kind = kind })
 tells P file at kind k e h =
     let Q : Option FlawKind → Type 0 = λ o. MatchOption o (kind ≡ check.NoMemory) (λ k. P (record { file = file; at = at; kind = k })) in

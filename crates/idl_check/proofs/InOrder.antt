@@ -8,11 +8,11 @@ use Rattle.check_model.specs.Passes.{Pass, passes}
 use Rattle.check_model.specs.FirstFlaw.{FlawKind, ProgramFlaw, FindsNothing, IsFirstOf, IsFirstFlaw}
 use Rattle.idl_check.specs.declared.faults.CheckFault.{CheckFault}
 use Rattle.idl_check.specs.declared.faults.CheckKind.TheVariants as check
-use Rattle.idl_check.specs.Faults.{flaw_kind, TellsFlaw}
+use Rattle.idl_check.specs.Faults.{flaw_told, TellsFlaw}
 use Rattle.idl_check.specs.Passed.{IsFirstAmong, ArePassed}
 
 pub tells_more : (P Q : ProgramFlaw → Type 0) → ((flaw : ProgramFlaw) → P flaw → Q flaw) → (fault : CheckFault) → TellsFlaw P fault → TellsFlaw Q fault
-tells_more P Q f fault h = by (flaw_kind fault.kind) h
+tells_more P Q f fault h = by (flaw_told fault.kind) h
   where
     by : (o : Option FlawKind) → MatchOption o (fault.kind ≡ check.NoMemory) (λ kind. P (record { file = fault.file; at = fault.at; kind = kind }))
         → MatchOption o (fault.kind ≡ check.NoMemory) (λ kind. Q (record { file = fault.file; at = fault.at; kind = kind }))

@@ -22,8 +22,8 @@ use Rattle.check_model.specs.Resolved.{base_kind, named_kind, map_kind, kind_by,
 use Rattle.check_model.specs.Passes.{MeansException}
 use Rattle.check_model.proofs.FirstOnes.{somes, none_some}
 use Rattle.check_model.proofs.Meanings.{one_meaning}
-use Rattle.idl_check.specs.Right.{known_kind, AreMeanings, AreStructsOf}
-use Rattle.idl_check.specs.Exceptions.{struct_in, type_name, IsStructMeant, is_exception_kind, declares_exception}
+use Rattle.idl_check.specs.Right.{alias_known, AreMeanings, AreStructsOf}
+use Rattle.idl_check.specs.Exceptions.{struct_number_in, type_name, IsStructMeant, names_exception, declares_exception}
 
 -- ---- types that mean no struct
 
@@ -97,7 +97,7 @@ struct_is_some program file name n e = (0, ap (option_and_then (named_kind (alia
 -- ---- typedefs
 
 -- the struct of a kind that a type means
-of_kind : (program : Program) (file : ℕ) (type : TypeExpr) (j : PlainKind) → TypeMeans program file type j → IsStructMeant program file type (struct_in j)
+of_kind : (program : Program) (file : ℕ) (type : TypeExpr) (j : PlainKind) → TypeMeans program file type j → IsStructMeant program file type (struct_number_in j)
 of_kind program file type (kind_struct n) m = m
 of_kind program file type kind_bool m = λ k p. let e = one_meaning program file type kind_bool (kind_struct k) m p in cc
 of_kind program file type kind_i8 m = λ k p. let e = one_meaning program file type kind_i8 (kind_struct k) m p in cc
@@ -114,24 +114,24 @@ of_kind program file type (kind_list a) m = λ k p. let e = one_meaning program 
 
 -- the struct of what a typedef is known to mean
 alias_meant : (program : Program) (file : ℕ) (name : Written) (n deep : ℕ) (kind : PlainKind) → type_named program file name.text ≡ Some (an_alias n)
-    → alias_kind program deep n ≡ Some kind → IsStructMeant program file (name_expr name) (struct_in kind)
+    → alias_kind program deep n ≡ Some kind → IsStructMeant program file (name_expr name) (struct_number_in kind)
 alias_meant program file name n deep kind named m =
     of_kind program file (name_expr name) kind (deep, ap (option_and_then (named_kind (alias_kind program deep))) named ∙ m)
 
 pub alias_told : (program : Program) (file : ℕ) (name : Written) (n : ℕ) (aliases : List (Option TypeDesc)) (found : Option ℕ) → AreMeanings program aliases
-    → type_named program file name.text ≡ Some (an_alias n) → option_map struct_in (known_kind aliases n) ≡ Some found
+    → type_named program file name.text ≡ Some (an_alias n) → option_map struct_number_in (alias_known aliases n) ≡ Some found
     → IsStructMeant program file (name_expr name) found
-alias_told program file name n aliases found right named told = by (known_kind aliases n) refl told
+alias_told program file name n aliases found right named told = by (alias_known aliases n) refl told
   where
-    by : (o : Option PlainKind) → known_kind aliases n ≡ o → option_map struct_in o ≡ Some found → IsStructMeant program file (name_expr name) found
+    by : (o : Option PlainKind) → alias_known aliases n ≡ o → option_map struct_number_in o ≡ Some found → IsStructMeant program file (name_expr name) found
     by None e f = absurd (none_some found f)
     by (Some kind) e f =
         let m = right n kind e in
-        subst (IsStructMeant program file (name_expr name)) (somes (struct_in kind) found f) (alias_meant program file name n m.0 kind named m.1)
+        subst (IsStructMeant program file (name_expr name)) (somes (struct_number_in kind) found f) (alias_meant program file name n m.0 kind named m.1)
 
 -- ---- exceptions
 
-is_exception : (kind : StructKind) → is_exception_kind kind ≡ true → kind ≡ kinds.Exception
+is_exception : (kind : StructKind) → names_exception kind ≡ true → kind ≡ kinds.Exception
 is_exception kinds.Exception e = refl
 is_exception kinds.Struct e = cc
 is_exception kinds.Union e = cc
@@ -164,7 +164,7 @@ exception_told program file type structs k b same told m = (onward, back)
     back x =
         let number : x.0 ≡ k = structs_apart x.0 k (one_meaning program file type (kind_struct x.0) (kind_struct k) x.1 m) in
         let there : slice_get (structs_of program) k ≡ Some x.2 = ap (slice_get (structs_of program)) (sym number) ∙ x.3 in
-        here ∙ ap (λ (o : Option (Filed StructDecl)). option_map_or declares_exception o false) there ∙ ap is_exception_kind x.4
+        here ∙ ap (λ (o : Option (Filed StructDecl)). option_map_or declares_exception o false) there ∙ ap names_exception x.4
 
 -- ---- answers
 

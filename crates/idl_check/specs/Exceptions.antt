@@ -11,9 +11,9 @@ use Rattle.schema.specs.PlainKind.{PlainKind, kind_struct}
 use Rattle.check_model.specs.Resolved.{TypeMeans}
 
 -- the struct of a kind, if it is one
-abbrev pub struct_in : PlainKind → Option ℕ
-struct_in (kind_struct number) = Some number
-struct_in _ = None
+abbrev pub struct_number_in : PlainKind → Option ℕ
+struct_number_in (kind_struct number) = Some number
+struct_number_in _ = None
 
 -- the name that a type is, if it is one
 abbrev pub type_name : TypeExpr → Option Written
@@ -26,10 +26,10 @@ IsStructMeant program file type None = (number : ℕ) → TypeMeans program file
 IsStructMeant program file type (Some number) = TypeMeans program file type (kind_struct number)
 
 -- what is declared as an exception
-abbrev pub is_exception_kind : StructKind → Bool
-is_exception_kind kinds.Exception = true
-is_exception_kind _ = false
+abbrev pub names_exception : StructKind → Bool
+names_exception kinds.Exception = true
+names_exception _ = false
 
 -- a declaration of an exception
 abbrev pub declares_exception : Filed StructDecl → Bool
-declares_exception s = is_exception_kind s.item.kind
+declares_exception s = names_exception s.item.kind

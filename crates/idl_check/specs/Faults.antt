@@ -28,14 +28,14 @@ spot_pass (check.Const fault) = None
 spot_pass check.NoMemory = None
 
 -- the kind of flaw that a fault tells; want of memory tells none
-abbrev pub flaw_kind : CheckKind → Option FlawKind
-flaw_kind (check.Const fault) = option_map of_value (flaw_of fault)
-flaw_kind kind = option_map found_by (spot_pass kind)
+abbrev pub flaw_told : CheckKind → Option FlawKind
+flaw_told (check.Const fault) = option_map of_value (flaw_of fault)
+flaw_told kind = option_map found_by (spot_pass kind)
 
 -- the fault tells a flaw of which this holds, or that memory ran out; never want of memory as a fault of a value
 abbrev pub TellsFlaw : (ProgramFlaw → Type 0) → CheckFault → Type 0
-TellsFlaw P fault = MatchOption (flaw_kind fault.kind) (fault.kind ≡ check.NoMemory) (λ kind. P (record { file = fault.file; at = fault.at; kind = kind }))
+TellsFlaw P fault = MatchOption (flaw_told fault.kind) (fault.kind ≡ check.NoMemory) (λ kind. P (record { file = fault.file; at = fault.at; kind = kind }))
 
 -- the kind is that of a fault of a value
 abbrev pub IsConstKind : ConstFault → CheckKind → Type 0
-IsConstKind fault kind = MatchOption (flaw_of fault) (kind ≡ check.NoMemory) (λ flaw. flaw_kind kind ≡ Some (of_value flaw))
+IsConstKind fault kind = MatchOption (flaw_of fault) (kind ≡ check.NoMemory) (λ flaw. flaw_told kind ≡ Some (of_value flaw))

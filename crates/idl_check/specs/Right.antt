@@ -20,13 +20,13 @@ abbrev pub AreFilesOf : Program → List IdlFile → Type 0
 AreFilesOf program files = program_in files ≡ program
 
 -- what the typedef of some number is known to mean
-abbrev pub known_kind : List (Option TypeDesc) → ℕ → Option PlainKind
-known_kind aliases number = option_and_then (option_map kind_of) (slice_get aliases number)
+abbrev pub alias_known : List (Option TypeDesc) → ℕ → Option PlainKind
+alias_known aliases number = option_and_then (option_map kind_of) (slice_get aliases number)
 
 -- what is known of typedefs by number is what they mean
 abbrev pub AreMeanings : Program → List (Option TypeDesc) → Type 0
 AreMeanings program aliases =
-    (number : ℕ) (kind : PlainKind) → known_kind aliases number ≡ Some kind → (deep : ℕ) × (alias_kind program deep number ≡ Some kind)
+    (number : ℕ) (kind : PlainKind) → alias_known aliases number ≡ Some kind → (deep : ℕ) × (alias_kind program deep number ≡ Some kind)
 
 -- structs, unions and exceptions by number
 abbrev pub AreStructsOf : Program → List (InFile Struct) → Type 0

@@ -6,9 +6,9 @@ ghost use Rattle.idl_model.specs.TypeExpr.{name_expr};
 ghost use Rattle.idl_model.specs.DeclaredIn.{name_in, type_in};
 ghost use Rattle.idl_model.specs.Program.{Program};
 ghost use Rattle.idl_names.specs.FiledIn.{filed_structs};
-ghost use Rattle.idl_check.specs.Right.{AreFilesOf, known_kind, AreMeanings};
+ghost use Rattle.idl_check.specs.Right.{AreFilesOf, alias_known, AreMeanings};
 ghost use Rattle.schema.specs.PlainKind.{kind_of};
-ghost use Rattle.idl_check.specs.Exceptions.{struct_in, type_name, IsStructMeant, declares_exception};
+ghost use Rattle.idl_check.specs.Exceptions.{struct_number_in, type_name, IsStructMeant, declares_exception};
 
 use crate::faults::CheckKind;
 use crate::pass::SpotTest;
@@ -131,7 +131,7 @@ fn struct_named(
 
 /// The struct that the typedef of some number is known to mean, if it means one; want of memory where nothing is known of it.
 fn struct_of_alias(aliases: &[Option<TypeDesc>], number: u32) -> Result<Option<u32>, AllocError>
-    ensures { IfOk result (λ found. option_map struct_in (known_kind aliases.now number) ≡ Some found) }
+    ensures { IfOk result (λ found. option_map struct_number_in (alias_known aliases.now number) ≡ Some found) }
 {
     match aliases.get(number as usize) {
         Some(known) => struct_known(known),
@@ -141,7 +141,7 @@ fn struct_of_alias(aliases: &[Option<TypeDesc>], number: u32) -> Result<Option<u
 
 /// The struct that a type is, if it is known and one; want of memory where it isn't known.
 fn struct_known(known: &Option<TypeDesc>) -> Result<Option<u32>, AllocError>
-    ensures { IfOk result (λ found. option_map struct_in (option_map kind_of known.now) ≡ Some found) }
+    ensures { IfOk result (λ found. option_map struct_number_in (option_map kind_of known.now) ≡ Some found) }
 {
     match known {
         Some(kind) => Ok(struct_number(kind)),
@@ -151,7 +151,7 @@ fn struct_known(known: &Option<TypeDesc>) -> Result<Option<u32>, AllocError>
 
 /// The number of the struct that a type is, if it is one.
 fn struct_number(kind: &TypeDesc) -> Option<u32>
-    ensures { result ≡ struct_in (kind_of kind.now) }
+    ensures { result ≡ struct_number_in (kind_of kind.now) }
 {
     match kind {
         TypeDesc::Struct(which) => Some(*which),

@@ -6,8 +6,8 @@ use Rattle.idl_model.specs.Names.{an_alias, type_named}
 use Rattle.idl_include.specs.SourcesOf.{program_in}
 use Rattle.idl_names.specs.declared.tables.TypeName.{TypeName}
 use Rattle.idl_names.specs.Meanings.{type_meant}
-use Rattle.idl_check.specs.Right.{known_kind}
-use Rattle.idl_check.specs.Exceptions.{struct_in, IsStructMeant}
+use Rattle.idl_check.specs.Right.{alias_known}
+use Rattle.idl_check.specs.Exceptions.{struct_number_in, IsStructMeant}
 use Rattle.idl_check.proofs.Thrown.{alias_told, ok_more}
 use Rattle.idl_check.proofs.thrown_tests.struct_named.Goals as goal
 
@@ -18,7 +18,7 @@ returns-in-Some-Alias c program files right =
     let told : Some (an_alias c.in-Some-Alias.number) ≡ type_named (program_in c.args.names.now) c.args.file c.as_slice.result.now =
     sym (ap (λ (t : TypeName). Some (type_meant t)) c.in-Some-Alias.field-0-is) ∙ c.in-Some-Alias.ensures in
     let named : type_named program c.args.file c.args.name.now.text ≡ Some (an_alias c.in-Some-Alias.number) = sym same ∙ sym told in
-    ok_more c.struct_of_alias.result (λ (found : Option ℕ). option_map struct_in (known_kind c.args.aliases.now c.in-Some-Alias.number) ≡ Some found)
+    ok_more c.struct_of_alias.result (λ (found : Option ℕ). option_map struct_number_in (alias_known c.args.aliases.now c.in-Some-Alias.number) ≡ Some found)
     (IsStructMeant program c.args.file (name_expr (name_in c.args.name.now)))
     (λ found meant. alias_told program c.args.file (name_in c.args.name.now) c.in-Some-Alias.number c.args.aliases.now found right named meant)
     c.struct_of_alias.ensures
