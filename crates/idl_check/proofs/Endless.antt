@@ -1,7 +1,6 @@
 -- Which structs have no finite value.
 use Rattle.std.proofs.Common.{◌≡◌, ℕ, Bool, true, false, List, refl, sym, subst, ◌∙◌, true≢false, not}
 use Rattle.std.specs.Prelude.{◌↔◌, IsTrue, slice_index_or}
-use Rattle.idl_parser.specs.declared.tree.StructKind.{StructKind}
 use Rattle.idl_model.specs.Program.{Program}
 use Rattle.schema.specs.PlainSchema.{PlainSchema}
 use Rattle.check_model.specs.FiniteValues.{HasFiniteValue}

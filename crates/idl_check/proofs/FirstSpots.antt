@@ -1,6 +1,6 @@
 -- The first spot at which a pass finds a fault.
-use Rattle.std.proofs.Common.{◌≡◌, ◌≤◌, ◌<◌, ◌+◌, ℕ, zero, suc, Bool, true, false, inl, inr, List, [], ◌∷◌, ◌++◌, length, get_or, map, take, drop, Option, None, Some, refl, ap, sym, subst, ◌∙◌, arith, true≢false}
-use Rattle.std.specs.Prelude.{◌↔◌, IsTrue, ⊤, MatchOption, Ok, Err}
+use Rattle.std.proofs.Common.{◌≡◌, ◌≤◌, ◌<◌, ◌+◌, ℕ, zero, suc, Bool, true, false, inl, List, [], ◌∷◌, ◌++◌, length, get_or, take, drop, Option, Some, refl, ap, sym, subst, ◌∙◌, arith, true≢false}
+use Rattle.std.specs.Prelude.{◌↔◌, IsTrue, ⊤, MatchOption}
 use Rattle.std.specs.Option.{option_map}
 use Rattle.std.specs.List.{AllByRecursion}
 use Rattle.std.proofs.lemmas.List.{map-append, take_more}
@@ -9,13 +9,12 @@ use Rattle.idl_model.specs.Program.{Program}
 use Rattle.idl_model.specs.Spots.{Spot, spots_of}
 use Rattle.idl_names.specs.declared.spot.SpotIn.{SpotIn}
 use Rattle.idl_names.specs.SpotsIn.{shown_in, spot_in, spots_in}
-use Rattle.check_model.specs.Passes.{Pass, dotted_name, duplicate_name, unknown_type, typedef_cycle, field_id, duplicate_id, enum_number, service_cycle, duplicate_function, oneway_not_void, oneway_throws, not_exception, struct_loop, bad_constant, FindsFault, place_shown}
-use Rattle.check_model.specs.FirstFlaw.{FlawKind, found_by, ProgramFlaw, IsAtFault, IsClearAt, FindsNothing, IsFirstOf}
+use Rattle.check_model.specs.Passes.{Pass, bad_constant, FindsFault, place_shown}
+use Rattle.check_model.specs.FirstFlaw.{FlawKind, found_by, ProgramFlaw, IsAtFault, IsClearAt}
 use Rattle.idl_check.specs.declared.faults.CheckKind.{CheckKind}
 use Rattle.idl_check.specs.declared.faults.CheckKind.TheVariants as check
-use Rattle.idl_check.specs.declared.faults.CheckFault.{CheckFault}
 use Rattle.idl_check.specs.Faults.{spot_pass, flaw_told, TellsFlaw}
-use Rattle.idl_check.specs.Passed.{IsFirstAmong, ArePassed}
+use Rattle.idl_check.specs.Passed.{IsFirstAmong}
 
 -- ---- lists
 
@@ -112,8 +111,3 @@ found_here program pass kind spots i x at b told l here finds held placed whole 
       clear = before;
       here = fault;
     }))
-
-pub none_found : (program : Program) (pass : Pass) (spots : List SpotIn) (n : ℕ) → length spots ≤ n → spots_in spots ≡ spots_of program
-    → AreClear program pass spots n → FindsNothing program pass
-none_found program pass spots n past all h =
-    subst (AllByRecursion (IsClearAt program pass)) (ap spots_in (whole spots n past) ∙ all) h

@@ -1,8 +1,7 @@
 -- Passes, one after another.
-use Rattle.std.proofs.Common.{◌≡◌, ◌⊎◌, inl, inr, List, [], ◌∷◌, ◌++◌, Option, None, Some, refl, ap, sym, subst, ◌∙◌, append_assoc}
-use Rattle.std.specs.Prelude.{⊤, MatchOption, Result, Ok, Err, IfOk, IfErr}
+use Rattle.std.proofs.Common.{◌≡◌, inl, inr, List, [], ◌∷◌, ◌++◌, Option, None, Some, refl}
+use Rattle.std.specs.Prelude.{MatchOption, Result, Ok, Err}
 use Rattle.std.specs.List.{AllByRecursion}
-use Rattle.std.proofs.lemmas.List.{append-nil}
 use Rattle.idl_model.specs.Program.{Program}
 use Rattle.check_model.specs.Passes.{Pass, passes}
 use Rattle.check_model.specs.FirstFlaw.{FlawKind, ProgramFlaw, FindsNothing, IsFirstOf, IsFirstFlaw}
@@ -20,13 +19,13 @@ tells_more P Q f fault h = by (flaw_told fault.kind) h
     by (Some kind) h = f (record { file = fault.file; at = fault.at; kind = kind }) h
 
 -- a fault of the first passes is one of all
-first_behind : (program : Program) (ps qs : List Pass) (flaw : ProgramFlaw) → IsFirstAmong program ps flaw → IsFirstAmong program (ps ++ qs) flaw
+pub first_behind : (program : Program) (ps qs : List Pass) (flaw : ProgramFlaw) → IsFirstAmong program ps flaw → IsFirstAmong program (ps ++ qs) flaw
 first_behind program [] qs flaw h = absurd h
 first_behind program (p ∷ ps) qs flaw (inl h) = inl h
 first_behind program (p ∷ ps) qs flaw (inr h) = inr (h.0, first_behind program ps qs flaw h.1)
 
 -- a fault of the later passes is one of all where the first find nothing
-first_past : (program : Program) (ps qs : List Pass) (flaw : ProgramFlaw) → AllByRecursion (FindsNothing program) ps → IsFirstAmong program qs flaw
+pub first_past : (program : Program) (ps qs : List Pass) (flaw : ProgramFlaw) → AllByRecursion (FindsNothing program) ps → IsFirstAmong program qs flaw
     → IsFirstAmong program (ps ++ qs) flaw
 first_past program [] qs flaw none h = h
 first_past program (p ∷ ps) qs flaw none h = inr (none.0, first_past program ps qs flaw none.1 h)
@@ -63,8 +62,10 @@ split_at_first program (p ∷ ps) flaw (inr h) =
     let s = split_at_first program ps flaw h.1 in
     record { earlier = p ∷ s.earlier; pass = s.pass; later = s.later; split = λ i. p ∷ s.split i; clear = (h.0, s.clear); first = s.first }
 
+pub first_is_flaw : (program : Program) (flaw : ProgramFlaw) → IsFirstAmong program passes flaw → IsFirstFlaw program flaw
+first_is_flaw program flaw k =
+    let s = split_at_first program passes flaw k in
+    record { earlier = s.earlier; pass = s.pass; later = s.later; split = s.split; clear = s.clear; first = s.first }
+
 pub first_of_all : (program : Program) (fault : CheckFault) → TellsFlaw (IsFirstAmong program passes) fault → TellsFlaw (IsFirstFlaw program) fault
-first_of_all program fault h =
-    tells_more (IsFirstAmong program passes) (IsFirstFlaw program)
-    (λ flaw k. let s = split_at_first program passes flaw k in
-    record { earlier = s.earlier; pass = s.pass; later = s.later; split = s.split; clear = s.clear; first = s.first }) fault h
+first_of_all program fault h = tells_more (IsFirstAmong program passes) (IsFirstFlaw program) (first_is_flaw program) fault h

@@ -1,5 +1,5 @@
 -- Which nodes lie on cycles, by the first that does.
-use Rattle.std.proofs.Common.{◌≡◌, ◌<◌, ◌≤◌, ℕ, Bool, true, false, nat_eq, eqb, Option, None, Some, refl, sym, subst, ◌∙◌, arith, true≢false}
+use Rattle.std.proofs.Common.{◌≡◌, ◌<◌, ℕ, true, false, Option, None, Some, refl, sym, subst, true≢false}
 use Rattle.std.specs.Prelude.{◌↔◌, IsTrue}
 use Rattle.graph_walk.specs.Walks.{Graph, OnCycle, IsLowest}
 

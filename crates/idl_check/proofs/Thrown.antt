@@ -1,8 +1,7 @@
 -- Which types mean an exception.
-use Rattle.std.proofs.Common.{◌≡◌, ℕ, zero, suc, Bool, true, false, List, [], ◌∷◌, slice_get, Option, None, Some, refl, ap, sym, subst, ◌∙◌, true≢false}
+use Rattle.std.proofs.Common.{◌≡◌, ℕ, Bool, true, false, List, slice_get, Option, None, Some, refl, ap, sym, subst, ◌∙◌, true≢false}
 use Rattle.std.specs.Prelude.{◌↔◌, IsTrue, not, Result, Ok, Err, IfOk}
 use Rattle.std.specs.Option.{option_and_then, option_map, option_map_or}
-use Rattle.std.specs.List.{AllZip}
 use Rattle.idl_parser.specs.declared.tree.Base.{Base}
 use Rattle.idl_parser.specs.declared.tree.Base.TheVariants as base
 use Rattle.idl_parser.specs.declared.tree.Struct.{Struct}
@@ -10,14 +9,14 @@ use Rattle.idl_parser.specs.declared.tree.StructKind.{StructKind}
 use Rattle.idl_parser.specs.declared.tree.StructKind.TheVariants as kinds
 use Rattle.idl_model.specs.Written.{Written}
 use Rattle.idl_model.specs.TypeExpr.{TypeExpr, base_expr, name_expr, map_expr, set_expr, list_expr}
-use Rattle.idl_model.specs.Declarations.{TypedefDecl, StructDecl}
+use Rattle.idl_model.specs.Declarations.{StructDecl}
 use Rattle.idl_model.specs.Program.{Program}
-use Rattle.idl_model.specs.Numbering.{Filed, structs_of, typedefs_of}
+use Rattle.idl_model.specs.Numbering.{Filed, structs_of}
 use Rattle.idl_model.specs.Names.{an_alias, an_enum, a_struct, type_named}
 use Rattle.idl_names.specs.declared.filed.InFile.{InFile}
 use Rattle.idl_names.specs.FiledIn.{filed_structs}
 use Rattle.schema.specs.declared.types.TypeDesc.{TypeDesc}
-use Rattle.schema.specs.PlainKind.{PlainKind, kind_bool, kind_i8, kind_i16, kind_i32, kind_i64, kind_double, kind_text, kind_binary, kind_enum, kind_struct, kind_map, kind_set, kind_list, kind_of}
+use Rattle.schema.specs.PlainKind.{PlainKind, kind_bool, kind_i8, kind_i16, kind_i32, kind_i64, kind_double, kind_text, kind_binary, kind_enum, kind_struct, kind_map, kind_set, kind_list}
 use Rattle.check_model.specs.Resolved.{base_kind, named_kind, map_kind, kind_by, alias_kind, TypeMeans}
 use Rattle.check_model.specs.Passes.{MeansException}
 use Rattle.check_model.proofs.FirstOnes.{somes, none_some}

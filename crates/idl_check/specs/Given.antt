@@ -1,5 +1,5 @@
 -- What the values of a program are worth, or their first fault.
-use Rattle.std.specs.Prelude.{◌≡◌, ⊤, ℕ, List, map, MatchOption, Result, Ok, Err}
+use Rattle.std.specs.Prelude.{◌≡◌, ⊤, List, map, MatchOption, Result, Ok, Err}
 use Rattle.std.specs.List.{AllZip}
 use Rattle.thrift_value.specs.declared.value.Value.{Value}
 use Rattle.thrift_value.specs.Tree.{Tree}

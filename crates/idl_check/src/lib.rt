@@ -18,6 +18,7 @@
 mod cycle_tests;
 mod faults;
 mod function_tests;
+pub mod laws;
 mod name_tests;
 mod pass;
 mod passes;

@@ -1,4 +1,4 @@
-use Rattle.std.proofs.Common.{◌≡◌, ℕ, List, map, subst}
+use Rattle.std.proofs.Common.{ℕ, List, map, subst}
 use Rattle.std.specs.Prelude.{◌↔◌, IsTrue}
 use Rattle.idl_model.specs.DeclaredIn.{function_in}
 use Rattle.idl_model.specs.Cycles.{Inherits}

@@ -1,4 +1,4 @@
-use Rattle.idl_check.proofs.FirstSpots.{clear_next, found_here, none_found}
+use Rattle.idl_check.proofs.FirstSpots.{clear_next, found_here}
 use Rattle.idl_check.proofs.pass.first_fault.Goals as goal
 
 pub loop-spot-preserved : goal.loop-spot-preserved
