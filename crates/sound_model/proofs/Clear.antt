@@ -52,8 +52,8 @@ ValueUndotted v = IsUndotted v.name
 
 module _ (program : Program) where
   -- none of these passes finds anything in what is spotted in a file
-  abbrev pub IsClear : ℕ → Spotted → Type 0
-  IsClear file x = (pass : Pass) → bears pass ≡ true → IsClearAt program pass (record { file = file; shows = x })
+  abbrev pub IsSpotClear : ℕ → Spotted → Type 0
+  IsSpotClear file x = (pass : Pass) → bears pass ≡ true → IsClearAt program pass (record { file = file; shows = x })
 
   every_pass : IsClean program → (pass : Pass) → bears pass ≡ true → FindsNothing program pass
   every_pass h dotted_name e = h.dots
@@ -81,65 +81,65 @@ module _ (program : Program) where
     exceptions = h.1.1.1.1.1.1.1.1.1.1.1.0;
   }
 
-  pub all_clear : IsClean program → FilesIn (IsSpotted IsClear) 0 none_counted program
-  all_clear h = program_spotted IsClear program (for_each bears (IsClearAt program) (spots_of program) (every_pass h))
+  pub all_clear : IsClean program → FilesIn (IsSpotted IsSpotClear) 0 none_counted program
+  all_clear h = program_spotted IsSpotClear program (for_each bears (IsClearAt program) (spots_of program) (every_pass h))
 
   -- names that are given
-  pub name_clear : (file : ℕ) (before : List Written) (name : Written) → IsClear file (given_name before name) → IsUndotted name
+  pub name_clear : (file : ℕ) (before : List Written) (name : Written) → IsSpotClear file (given_name before name) → IsUndotted name
   name_clear file before name clear e = clear dotted_name refl (record { file = file; at = name.at; kind = found_by dotted_name }) (e, refl)
 
-  pub name_new : (file : ℕ) (before : List Written) (name : Written) → IsClear file (given_name before name) → is_repeated before name ≡ true → ⊥
+  pub name_new : (file : ℕ) (before : List Written) (name : Written) → IsSpotClear file (given_name before name) → is_repeated before name ≡ true → ⊥
   name_new file before name clear e = clear duplicate_name refl (record { file = file; at = name.at; kind = found_by duplicate_name }) (e, refl)
 
   -- services
-  pub service_acyclic : (file number : ℕ) (name : Written) → IsClear file (service_spot number name) → OnCycle (parent_graph program) number → ⊥
+  pub service_acyclic : (file number : ℕ) (name : Written) → IsSpotClear file (service_spot number name) → OnCycle (parent_graph program) number → ⊥
   service_acyclic file number name clear cycle = clear service_cycle refl (record { file = file; at = name.at; kind = found_by service_cycle }) (cycle, refl)
 
   -- fields
-  field_undotted : (file : ℕ) (before : List FieldDecl) (f : FieldDecl) → AllByRecursion (IsClear file) (spots_in_field before f) → HasUndotted f
+  field_undotted : (file : ℕ) (before : List FieldDecl) (f : FieldDecl) → AllByRecursion (IsSpotClear file) (spots_in_field before f) → HasUndotted f
   unfolding spots_in_field
   field_undotted file before f h =
       let names = map (λ (g : FieldDecl). g.name) before in
-      name_clear file names f.name (back_all (IsClear file) (type_spots f.type) (given_name names f.name ∷ default_spots f f.default) h.1).0
+      name_clear file names f.name (back_all (IsSpotClear file) (type_spots f.type) (given_name names f.name ∷ default_spots f f.default) h.1).0
 
-  field_new : (file : ℕ) (before : List FieldDecl) (f : FieldDecl) → AllByRecursion (IsClear file) (spots_in_field before f) → is_id_repeated before f ≡ true → ⊥
+  field_new : (file : ℕ) (before : List FieldDecl) (f : FieldDecl) → AllByRecursion (IsSpotClear file) (spots_in_field before f) → is_id_repeated before f ≡ true → ⊥
   unfolding spots_in_field
   field_new file before f h e = h.0 duplicate_id refl (record { file = file; at = f.at; kind = found_by duplicate_id }) (e, refl)
 
-  pub fields_undotted : (file : ℕ) (before fs : List FieldDecl) → AllByRecursion (IsClear file) (spots_in_fields before fs) → AllByRecursion HasUndotted fs
+  pub fields_undotted : (file : ℕ) (before fs : List FieldDecl) → AllByRecursion (IsSpotClear file) (spots_in_fields before fs) → AllByRecursion HasUndotted fs
   fields_undotted file before [] h = tt
   fields_undotted file before (f ∷ fs) h =
       let rest = spots_in_fields (before ++ f ∷ []) fs in (
-        field_undotted file before f (front_all (IsClear file) (spots_in_field before f) rest h),
-        fields_undotted file (before ++ f ∷ []) fs (back_all (IsClear file) (spots_in_field before f) rest h),
+        field_undotted file before f (front_all (IsSpotClear file) (spots_in_field before f) rest h),
+        fields_undotted file (before ++ f ∷ []) fs (back_all (IsSpotClear file) (spots_in_field before f) rest h),
       )
 
-  pub fields_fresh : (file : ℕ) (before fs : List FieldDecl) → AllByRecursion (IsClear file) (spots_in_fields before fs) → AreFresh before fs
+  pub fields_fresh : (file : ℕ) (before fs : List FieldDecl) → AllByRecursion (IsSpotClear file) (spots_in_fields before fs) → AreFresh before fs
   fields_fresh file before [] h = tt
   fields_fresh file before (f ∷ fs) h =
       let rest = spots_in_fields (before ++ f ∷ []) fs in (
-        field_new file before f (front_all (IsClear file) (spots_in_field before f) rest h),
-        fields_fresh file (before ++ f ∷ []) fs (back_all (IsClear file) (spots_in_field before f) rest h),
+        field_new file before f (front_all (IsSpotClear file) (spots_in_field before f) rest h),
+        fields_fresh file (before ++ f ∷ []) fs (back_all (IsSpotClear file) (spots_in_field before f) rest h),
       )
 
   -- a thrown field means an exception, in so far as it can't mean none
   abbrev pub MayBeThrown : ℕ → FieldDecl → Type 0
   MayBeThrown file f = (MeansException program file f.type → ⊥) → ⊥
 
-  thrown_clear : (file : ℕ) (f : FieldDecl) → IsClear file (thrown_spot f) → MayBeThrown file f
+  thrown_clear : (file : ℕ) (f : FieldDecl) → IsSpotClear file (thrown_spot f) → MayBeThrown file f
   thrown_clear file f clear none = clear not_exception refl (record { file = file; at = f.at; kind = found_by not_exception }) (none, refl)
 
-  pub throws_clear : (file : ℕ) (before fs : List FieldDecl) → AllByRecursion (IsClear file) (spots_in_throws before fs)
+  pub throws_clear : (file : ℕ) (before fs : List FieldDecl) → AllByRecursion (IsSpotClear file) (spots_in_throws before fs)
       → AllByRecursion HasUndotted fs × AreFresh before fs × AllByRecursion (MayBeThrown file) fs
   throws_clear file before [] h = (tt, tt, tt)
   throws_clear file before (f ∷ fs) h =
       let rest = spots_in_throws (before ++ f ∷ []) fs in
-      let here = front_all (IsClear file) (spots_in_field before f) rest h.1 in
-      let later = throws_clear file (before ++ f ∷ []) fs (back_all (IsClear file) (spots_in_field before f) rest h.1) in
+      let here = front_all (IsSpotClear file) (spots_in_field before f) rest h.1 in
+      let later = throws_clear file (before ++ f ∷ []) fs (back_all (IsSpotClear file) (spots_in_field before f) rest h.1) in
       ((field_undotted file before f here, later.0), (field_new file before f here, later.1), (thrown_clear file f h.0, later.2))
 
   -- values of an enum
-  pub values_undotted : (file : ℕ) (before vs : List EnumValueDecl) → AllByRecursion (IsClear file) (spots_in_enum before vs) → AllByRecursion ValueUndotted vs
+  pub values_undotted : (file : ℕ) (before vs : List EnumValueDecl) → AllByRecursion (IsSpotClear file) (spots_in_enum before vs) → AllByRecursion ValueUndotted vs
   values_undotted file before [] h = tt
   values_undotted file before (v ∷ vs) h =
       (name_clear file (map (λ (w : EnumValueDecl). w.name) before) v.name h.1.0, values_undotted file (before ++ v ∷ []) vs h.1.1)
@@ -154,14 +154,14 @@ module _ (program : Program) where
     pub fresh_throws : AreFresh [] f.throws
     pub thrown : AllByRecursion (MayBeThrown file) f.throws
 
-  function_clear : (file service : ℕ) (before : List FunctionDecl) (f : FunctionDecl) → AllByRecursion (IsClear file) (spots_in_function service before f) → IsClearFunction file service before f
+  function_clear : (file service : ℕ) (before : List FunctionDecl) (f : FunctionDecl) → AllByRecursion (IsSpotClear file) (spots_in_function service before f) → IsClearFunction file service before f
   unfolding spots_in_function
   function_clear file service before f h =
       let arguments = spots_in_fields [] f.arguments in
       let throws = spots_in_throws [] f.throws in
-      let behind = back_all (IsClear file) (result_spots f.result) (given_name [] f.name ∷ (arguments ++ throws)) h.1 in
-      let own = front_all (IsClear file) arguments throws behind.1 in
-      let thrown = throws_clear file [] f.throws (back_all (IsClear file) arguments throws behind.1) in
+      let behind = back_all (IsSpotClear file) (result_spots f.result) (given_name [] f.name ∷ (arguments ++ throws)) h.1 in
+      let own = front_all (IsSpotClear file) arguments throws behind.1 in
+      let thrown = throws_clear file [] f.throws (back_all (IsSpotClear file) arguments throws behind.1) in
       record {
         new = λ repeated. h.0 duplicate_function refl (record { file = file; at = f.at; kind = found_by duplicate_function }) (repeated, refl);
         name = name_clear file [] f.name behind.0;
@@ -177,10 +177,10 @@ module _ (program : Program) where
   AreClearFunctions file service before [] = Unit {0}
   AreClearFunctions file service before (f ∷ fs) = IsClearFunction file service before f × AreClearFunctions file service (before ++ f ∷ []) fs
 
-  pub functions_clear : (file service : ℕ) (before fs : List FunctionDecl) → AllByRecursion (IsClear file) (spots_in_functions service before fs) → AreClearFunctions file service before fs
+  pub functions_clear : (file service : ℕ) (before fs : List FunctionDecl) → AllByRecursion (IsSpotClear file) (spots_in_functions service before fs) → AreClearFunctions file service before fs
   functions_clear file service before [] h = tt
   functions_clear file service before (f ∷ fs) h =
       let rest = spots_in_functions service (before ++ f ∷ []) fs in (
-        function_clear file service before f (front_all (IsClear file) (spots_in_function service before f) rest h),
-        functions_clear file service (before ++ f ∷ []) fs (back_all (IsClear file) (spots_in_function service before f) rest h),
+        function_clear file service before f (front_all (IsSpotClear file) (spots_in_function service before f) rest h),
+        functions_clear file service (before ++ f ∷ []) fs (back_all (IsSpotClear file) (spots_in_function service before f) rest h),
       )

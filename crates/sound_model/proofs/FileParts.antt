@@ -26,7 +26,7 @@ use Rattle.check_model.proofs.Shown.{back_all}
 use Rattle.sound_model.specs.Clean.{IsClean}
 use Rattle.sound_model.specs.Declared.{IsFileOfText, IsProgramOfTexts}
 use Rattle.sound_model.proofs.Placed.{DeclRule, DeclsIn, FilesIn, files_both, IsFound, program_found, constants_are, typedefs_are, enums_are, structs_are, services_are}
-use Rattle.sound_model.proofs.Clear.{IsClear, name_new}
+use Rattle.sound_model.proofs.Clear.{IsSpotClear, name_new}
 use Rattle.sound_model.proofs.Fine.{IsFine, all_fine}
 use Rattle.sound_model.proofs.SchemaSizes.{file_size}
 
@@ -161,10 +161,10 @@ module _ (D : DefaultRule) (program : Program) (schema : PlainSchema) (texts : I
   abbrev IsNew : DeclRule
   IsNew file before n d = is_repeated before (declared_name d) ≡ true → ⊥
 
-  new_name : (file : ℕ) (before : List Written) (n : Counts) (d : Declaration) → AllByRecursion (IsClear program file) (spots_in_declaration before n d) → IsNew file before n d
+  new_name : (file : ℕ) (before : List Written) (n : Counts) (d : Declaration) → AllByRecursion (IsSpotClear program file) (spots_in_declaration before n d) → IsNew file before n d
   unfolding spots_in_declaration
-  new_name file before n (of_const c) h = name_new program file before c.name (back_all (IsClear program file) (type_spots c.type) _ h).0
-  new_name file before n (of_typedef t) h = name_new program file before t.name (back_all (IsClear program file) (type_spots t.type) _ h).0
+  new_name file before n (of_const c) h = name_new program file before c.name (back_all (IsSpotClear program file) (type_spots c.type) _ h).0
+  new_name file before n (of_typedef t) h = name_new program file before t.name (back_all (IsSpotClear program file) (type_spots t.type) _ h).0
   new_name file before n (of_enum e) h = name_new program file before e.name h.0
   new_name file before n (of_struct_decl s) h = name_new program file before s.name h.0
   new_name file before n (of_service s) h = name_new program file before s.name h.0

@@ -18,7 +18,7 @@ use Rattle.idl_const.specs.ShortLiterals.{HasShortLiterals}
 use Rattle.sound_model.proofs.RisingFields.{AreFresh}
 use Rattle.sound_model.proofs.SchemaNames.{schema_name}
 use Rattle.sound_model.proofs.Placed.{FilesIn, files_both, Everywhere, files_everywhere, InFile, files_in_file, IsSpotted, IsPicked, files_picked, constants_are, typedefs_are, enums_are, structs_are, services_are}
-use Rattle.sound_model.proofs.Clear.{HasUndotted, ValueUndotted, IsClear, all_clear, name_clear, fields_undotted, fields_fresh, values_undotted, MayBeThrown, AreClearFunctions, functions_clear, service_acyclic}
+use Rattle.sound_model.proofs.Clear.{HasUndotted, ValueUndotted, IsSpotClear, all_clear, name_clear, fields_undotted, fields_fresh, values_undotted, MayBeThrown, AreClearFunctions, functions_clear, service_acyclic}
 
 -- what holds of each with its number, without numbers
 pub without_numbers : {A : Type 0} (Q : ℕ → A → Type 0) (R : A → Type 0) → ((k : ℕ) (x : A) → Q k x → R x) → (n : ℕ) (xs : List A) → AllFrom Q n xs → AllByRecursion R xs
@@ -59,7 +59,7 @@ module _ (program : Program) where
     pub within : file < length program
     pub named : IsNamed d
     pub values : HasShortValues d
-    pub clear : AllByRecursion (IsClear program file) (spots_in_declaration before n d)
+    pub clear : AllByRecursion (IsSpotClear program file) (spots_in_declaration before n d)
 
   -- a function
   pub record IsFineFunction (file : ℕ) (f : FunctionDecl) : Type 0 where
@@ -113,7 +113,7 @@ module _ (program : Program) where
   unfolding spots_in_declaration
   fine_const c before n is = record {
     file = is.within;
-    name = schema_name c.item.name.text is.named (name_clear program c.file before c.item.name (back_all (IsClear program c.file) (type_spots c.item.type) _ is.clear).0);
+    name = schema_name c.item.name.text is.named (name_clear program c.file before c.item.name (back_all (IsSpotClear program c.file) (type_spots c.item.type) _ is.clear).0);
     short = is.values;
   }
 
@@ -121,7 +121,7 @@ module _ (program : Program) where
   unfolding spots_in_declaration
   fine_typedef t before n is = record {
     file = is.within;
-    name = schema_name t.item.name.text is.named (name_clear program t.file before t.item.name (back_all (IsClear program t.file) (type_spots t.item.type) _ is.clear).0);
+    name = schema_name t.item.name.text is.named (name_clear program t.file before t.item.name (back_all (IsSpotClear program t.file) (type_spots t.item.type) _ is.clear).0);
   }
 
   fine_enum : (e : Filed EnumDecl) (before : List Written) (n : Counts) → IsFine e.file before n (of_enum e.item) → IsFineEnum e
@@ -145,7 +145,7 @@ module _ (program : Program) where
   fine_service : (s : Filed ServiceDecl) (before : List Written) (n : Counts) → IsFine s.file before n (of_service s.item) → IsFineService n.services s
   unfolding spots_in_declaration
   fine_service s before n is =
-      let clear = functions_clear program s.file n.services [] s.item.functions (back_all (IsClear program s.file) (parent_spots s.item.parent) _ is.clear.1.1) in
+      let clear = functions_clear program s.file n.services [] s.item.functions (back_all (IsSpotClear program s.file) (parent_spots s.item.parent) _ is.clear.1.1) in
       record {
         file = is.within;
         name = schema_name s.item.name.text is.named.0 (name_clear program s.file before s.item.name is.clear.0);
@@ -163,7 +163,7 @@ module _ (program : Program) where
         (λ f is. zip_all IsNamed HasShortValues IsOfText (λ d h k. (h, k)) f.declarations is.text.names is.text.values) program texts.files) in
         let within = files_in_file (length program) 0 none_counted program (omega arith) in
         let NamedWithin = λ (file : ℕ) (before : List Written) (n : Counts) (d : Declaration). (file < length program) × IsOfText d in
-        files_both NamedWithin (IsSpotted (IsClear program)) IsFine (λ file before n d h clear. record { within = h.0; named = h.1.0; values = h.1.1; clear = clear }) 0 none_counted program
+        files_both NamedWithin (IsSpotted (IsSpotClear program)) IsFine (λ file before n d h clear. record { within = h.0; named = h.1.0; values = h.1.1; clear = clear }) 0 none_counted program
         (files_both (InFile (length program)) (Everywhere IsOfText) NamedWithin (λ file before n d within named. (within, named)) 0 none_counted program within named)
         (all_clear program is_clean)
 
