@@ -1,5 +1,5 @@
 -- What holds of each item of a list, also of those that are put in order.
-use Rattle.std.proofs.Common.{◌≡◌, ℕ, zero, suc, ◌+◌, ◌≤◌, ◌<◌, List, [], ◌∷◌, length, get_or, Ordering, Less, Equal, Greater, refl, arith}
+use Rattle.std.proofs.Common.{ℕ, zero, suc, ◌≤◌, ◌<◌, List, [], ◌∷◌, length, get_or, Ordering, Less, Equal, Greater, arith}
 use Rattle.std.specs.Prelude.{⊤, All}
 use Rattle.struct_skew.specs.Latest.{by_order, with_earlier, latest_of_each}
 

@@ -1,13 +1,13 @@
 -- The fields of a struct in which nothing is missing are found again.
-use Rattle.std.proofs.Common.{◌≡◌, ℕ, zero, suc, ◌+◌, ℤ, ◌<ℤ◌, Bool, true, false, true≢false, cond, List, [], ◌∷◌, length, Option, Some, None, Result, Ok, Err, refl, sym, ap, ap₂, subst, ◌∙◌, inl, inr, ⊎_elim, arith}
-use Rattle.std.specs.Prelude.{⊤, ◌⊎◌, MatchOption, not, ◌&&◌, ◌==◌, is_some}
+use Rattle.std.proofs.Common.{◌≡◌, ℕ, ℤ, ◌<ℤ◌, Bool, true, false, true≢false, cond, List, [], ◌∷◌, Option, Some, None, Result, Ok, Err, refl, sym, ap, ap₂, subst, ◌∙◌, ⊎_elim, arith}
+use Rattle.std.specs.Prelude.{⊤, MatchOption, ◌&&◌, is_some}
 use Rattle.std.specs.Ordering.{int_eq}
 use Rattle.std.proofs.lemmas.Bool.{false≢true, and_from}
 use Rattle.std.proofs.lemmas.Bool.Decides.{Decides-int_eq}
 use Rattle.std.proofs.lemmas.Int.{ints}
 use Rattle.thrift_value.specs.Plain.{plain, plain_fields}
 use Rattle.thrift_value.specs.Tidy.{IsBelowIds, AreRisingFields}
-use Rattle.thrift_value.specs.Tree.{Tree, of_struct, FieldTrees, no_fields, field}
+use Rattle.thrift_value.specs.Tree.{Tree, FieldTrees, no_fields, field}
 use Rattle.thrift_value.specs.TreeOf.{field_trees}
 use Rattle.schema.specs.declared.types.FieldNeed.TheVariants as need
 use Rattle.schema.specs.declared.types.FieldsKind.{FieldsKind}
@@ -16,7 +16,7 @@ use Rattle.schema.specs.WrittenAs.{field_with_id, HasFieldTree}
 use Rattle.struct_skew.specs.declared.fault.SkewFault.{SkewFault}
 use Rattle.struct_skew.specs.declared.fault.SkewFault.TheVariants.{Missing}
 use Rattle.struct_skew.specs.Fits.{fits_kind}
-use Rattle.struct_skew.specs.Offers.{Offer, is_offer_of, last_offer, last_offer_behind}
+use Rattle.struct_skew.specs.Offers.{Offer, last_offer, last_offer_behind}
 use Rattle.struct_skew.specs.Projection.{is_required, counted_default, unsent_value, field_value, field_values, meaning_of, offers_of}
 use Rattle.struct_skew.specs.Results.{with_value, with_field_value}
 use Rattle.struct_skew.proofs.Deciding.{required_need}

@@ -1,10 +1,9 @@
 -- A value in which nothing is missing means itself.
-use Rattle.std.proofs.Common.{◌≡◌, ℕ, zero, suc, ◌+◌, ℤ, Bool, true, false, cond, List, [], ◌∷◌, length, Option, Some, None, Result, Ok, Err, refl, sym, ap, ap₂, subst, ◌∙◌, ltb-false, arith}
+use Rattle.std.proofs.Common.{◌≡◌, ℕ, Bool, true, false, cond, List, [], ◌∷◌, length, Option, Some, None, Ok, Err, refl, sym, ap, ap₂, ◌∙◌}
 use Rattle.std.specs.Prelude.{⊤, ◌≤◌, nat_lt, All, MatchOption, not, ◌&&◌, ◌==◌, is_some}
 use Rattle.std.specs.List.{slice_get}
 use Rattle.std.proofs.lemmas.Bool.{and_from, le-ltb}
 use Rattle.thrift_value.specs.declared.tag.Tag.{Tag}
-use Rattle.thrift_value.specs.declared.tag.Tag.TheVariants as tag
 use Rattle.thrift_value.specs.Measures.{count_of, depth_of}
 use Rattle.thrift_value.specs.Order.{tree_cmp}
 use Rattle.thrift_value.specs.Plain.{plain, plain_fields, plain_items, plain_pairs}
@@ -12,24 +11,22 @@ use Rattle.thrift_value.specs.Tidy.{IsTidy, AreTidyFields, AreTidyItems, AreTidy
 use Rattle.thrift_value.specs.Tree.{Tree, of_bool, of_i8, of_i16, of_i32, of_i64, of_double, of_bytes, of_struct, of_map, of_set, of_list, FieldTrees, no_fields, field, ItemTrees, no_items, item, PairTrees, no_pairs, pair}
 use Rattle.thrift_value.specs.TreeOf.{field_trees, item_trees, pair_trees}
 use Rattle.schema.specs.declared.types.FieldNeed.TheVariants as need
-use Rattle.schema.specs.declared.types.FieldsKind.TheVariants as of_kind
 use Rattle.schema.specs.PlainKind.{PlainKind, kind_bool, kind_i8, kind_i16, kind_i32, kind_i64, kind_double, kind_text, kind_binary, kind_enum, kind_struct, kind_map, kind_set, kind_list}
 use Rattle.schema.specs.PlainSchema.{PlainField, PlainStruct, PlainSchema}
 use Rattle.schema.specs.Sound.{IsSoundStruct, IsSound}
 use Rattle.schema.specs.WrittenAs.{field_with_id, HasFieldTree, HasItsFields, IsOneField, IsWrittenAs, AreFieldsWrittenAs, AreItemsWrittenAs, ArePairsWrittenAs}
-use Rattle.struct_skew.specs.declared.fault.SkewFault.{SkewFault}
 use Rattle.struct_skew.specs.declared.fault.SkewFault.TheVariants.{UnionFields, TooDeep, TooMany}
 use Rattle.struct_skew.specs.Filled.{HasItsDefaults, IsFilled, AreFieldsFilled, AreItemsFilled, ArePairsFilled}
 use Rattle.struct_skew.specs.Fits.{tag_of_kind, each_item, each_pair, fits_kind}
 use Rattle.struct_skew.specs.Latest.{latest_of_each, ComesBefore, IsRisingBy}
-use Rattle.struct_skew.specs.Offers.{Offer, last_offer}
+use Rattle.struct_skew.specs.Offers.{last_offer}
 use Rattle.struct_skew.specs.Projection.{is_union, counted_default, field_value, field_values, checked_struct, struct_value, key_cmp, map_meaning, set_meaning, list_meaning, meaning_of, offers_of, item_meanings, pair_meanings, bounded, projection}
 use Rattle.struct_skew.specs.Results.{with_value, and_if_ok, both_values, with_first}
 use Rattle.struct_skew.specs.Unions.{one_of_union}
 use Rattle.struct_skew.proofs.Deciding.{union_kind}
 use Rattle.struct_skew.proofs.Each.{Each, from_all}
 use Rattle.struct_skew.proofs.FieldValues.{checked_alike}
-use Rattle.struct_skew.proofs.FilledStructs.{value_at, field_list, same_fields, values_of, FieldsFit, FieldsMean, offered, nothing_unsent, values_found, AreDeclared, same_values}
+use Rattle.struct_skew.proofs.FilledStructs.{value_at, field_list, same_fields, FieldsFit, FieldsMean, offered, nothing_unsent, values_found, AreDeclared, same_values}
 use Rattle.struct_skew.proofs.LatestLaws.{rising_stay}
 use Rattle.struct_skew.proofs.Rightness.{rising_declared, each_found, AreRisingDeclared}
 use Rattle.struct_skew.proofs.StructsAt.{All-at}

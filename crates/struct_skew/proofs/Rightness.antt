@@ -1,15 +1,12 @@
 -- What is projected is tidy and of its type, and its faults name what is declared.
-use Rattle.std.proofs.Common.{◌≡◌, ◌≢◌, ℕ, zero, suc, ◌+◌, ◌≤◌, ◌<◌, ◌^◌, ℤ, ◌<ℤ◌, Bool, true, false, true≢false, cond, List, [], ◌∷◌, length, get_or, Option, Some, None, Result, Ok, Err, Less, refl, sym, ap, subst, ◌∙◌, inl, inr, arith}
-use Rattle.std.specs.Prelude.{⊤, MatchOption, MatchResult, All, AllPairs, unwrap_or, not, ◌&&◌, ◌==◌, IfOk}
+use Rattle.std.proofs.Common.{◌≡◌, ℕ, zero, suc, ◌<◌, ◌^◌, ℤ, ◌<ℤ◌, Bool, true, false, true≢false, cond, List, [], ◌∷◌, length, get_or, Option, Some, None, Result, Ok, Err, refl, sym, ap, subst, ◌∙◌, inl, inr, arith}
+use Rattle.std.specs.Prelude.{⊤, MatchOption, MatchResult, All, AllPairs, unwrap_or, not, ◌&&◌, ◌==◌}
 use Rattle.std.specs.List.{slice_get}
 use Rattle.std.specs.Option.{option_map}
 use Rattle.std.specs.Ordering.{int_eq}
 use Rattle.std.proofs.lemmas.Bool.{false≢true, and_parts, eqb-true}
 use Rattle.std.proofs.lemmas.Bool.Decides.{Decides-int_eq}
 use Rattle.std.proofs.lemmas.Int.{ints}
-use Rattle.std.proofs.lemmas.Option.{slice_get-get_or}
-use Rattle.thrift_value.specs.declared.tag.Tag.{Tag}
-use Rattle.thrift_value.specs.declared.tag.Tag.TheVariants as tag
 use Rattle.thrift_value.specs.Order.{tree_cmp}
 use Rattle.thrift_value.specs.Sizes.{items_len, pairs_len, HasSmallSizes, HaveFieldsSmallSizes, HaveItemsSmallSizes, HavePairsSmallSizes}
 use Rattle.thrift_value.specs.Tags.{tag_of}
@@ -18,22 +15,21 @@ use Rattle.thrift_value.specs.Tree.{Tree, of_bool, of_i8, of_i16, of_i32, of_i64
 use Rattle.thrift_value.specs.TreeOf.{field_trees, item_trees, pair_trees}
 use Rattle.thrift_value.proofs.TotalOrder.{tree_cmp_total}
 use Rattle.std.proofs.lemmas.Cmp.{on_total}
-use Rattle.schema.specs.declared.types.FieldNeed.{FieldNeed}
 use Rattle.schema.specs.declared.types.FieldNeed.TheVariants as need
 use Rattle.schema.specs.declared.types.FieldsKind.{FieldsKind}
 use Rattle.schema.specs.declared.types.FieldsKind.TheVariants as of_kind
-use Rattle.schema.specs.LookUp.{fields_at, field_at}
+use Rattle.schema.specs.LookUp.{field_at}
 use Rattle.schema.specs.PlainKind.{PlainKind, kind_bool, kind_i8, kind_i16, kind_i32, kind_i64, kind_double, kind_text, kind_binary, kind_enum, kind_struct, kind_map, kind_set, kind_list}
 use Rattle.schema.specs.PlainSchema.{PlainField, PlainStruct, PlainSchema}
-use Rattle.schema.specs.Sound.{IsKindIn, IsPlaceIn, IsSound, IsSoundField, IsSoundStruct, IsStructOf, IsValueOf}
-use Rattle.schema.specs.WrittenAs.{field_with_id, HasFieldTree, HasItsFields, IsOneField, IsWrittenAs, AreFieldsWrittenAs, AreItemsWrittenAs, ArePairsWrittenAs, MayBeWrittenAs}
+use Rattle.schema.specs.Sound.{IsKindIn, IsPlaceIn, IsSoundField, IsSoundStruct, IsValueOf}
+use Rattle.schema.specs.WrittenAs.{field_with_id, HasFieldTree, HasItsFields, IsOneField, IsWrittenAs, AreFieldsWrittenAs, AreItemsWrittenAs, ArePairsWrittenAs}
 use Rattle.struct_skew.specs.declared.fault.SkewFault.{SkewFault}
 use Rattle.struct_skew.specs.declared.fault.SkewFault.TheVariants.{Missing, UnionFields}
 use Rattle.struct_skew.specs.Fits.{tag_of_kind, each_item, each_pair, fits_kind}
 use Rattle.struct_skew.specs.Latest.{latest_of_each, ComesBefore, IsRisingBy}
 use Rattle.struct_skew.specs.Offers.{Offer, is_offer_of, last_offer, last_offer_behind}
 use Rattle.struct_skew.specs.Projection.{is_required, is_union, counted_default, unsent_value, field_value, field_values, checked_struct, struct_value, key_cmp, map_meaning, set_meaning, list_meaning, meaning_of, offers_of, item_meanings, pair_meanings}
-use Rattle.struct_skew.specs.ProjectionLaws.{IsDeclaredRequired, NamesDeclared}
+use Rattle.struct_skew.specs.ProjectionLaws.{NamesDeclared}
 use Rattle.struct_skew.specs.Results.{with_value, and_if_ok, both_values, with_first, with_field_value}
 use Rattle.struct_skew.specs.Unions.{one_of_union}
 use Rattle.struct_skew.proofs.Deciding.{required_need, union_kind}

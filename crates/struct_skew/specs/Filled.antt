@@ -1,5 +1,5 @@
 -- Values in which nothing is left to fill in.
-use Rattle.std.specs.Prelude.{◌≡◌, ⊤, ℤ, true, is_some, List, All, MatchOption}
+use Rattle.std.specs.Prelude.{◌≡◌, ⊤, true, is_some, List, All, MatchOption}
 use Rattle.std.specs.List.{slice_get}
 use Rattle.thrift_value.specs.Tree.{Tree, of_struct, of_map, of_set, of_list, FieldTrees, no_fields, field, ItemTrees, no_items, item, PairTrees, no_pairs, pair}
 use Rattle.schema.specs.PlainKind.{PlainKind, kind_struct, kind_map, kind_set, kind_list}
