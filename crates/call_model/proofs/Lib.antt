@@ -7,3 +7,4 @@ pub mod Refused
 mod Invoked
 mod Replied
 pub mod SoundAgain
+pub mod AsDesk

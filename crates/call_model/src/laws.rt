@@ -9,8 +9,6 @@ ghost use Rattle.call_model.specs.Decisions.{decision};
 ghost use Rattle.call_model.specs.Desk.{desk_of};
 ghost use Rattle.call_model.specs.Replies.{reply_of};
 
-use struct_skew::{a_projection_is_bounded, a_projection_is_of_its_type};
-
 /// Each reply that is decided on a payload is a whole frame.
 pub fn refusals_are_framed()
     ensures { (office : PlainOffice) (payload reply : List ℕ) → IsSoundOffice office → length payload ≤ longest_payload
@@ -23,10 +21,7 @@ pub fn calls_are_plain()
         → call.slot < length office.bindings }
     ensures plain { (office : PlainOffice) (payload : List ℕ) (call : PlainCall) → IsSoundOffice office → decision office payload ≡ desk.Invoke call
         → IsPlainCall call }
-{
-    a_projection_is_bounded();
-    a_projection_is_of_its_type();
-}
+{}
 
 /// Each reply to a call is a whole frame.
 pub fn replies_are_framed()
@@ -38,8 +33,4 @@ pub fn replies_are_framed()
 pub fn an_office_is_a_desk()
     ensures sound { (office : PlainOffice) → IsSoundOffice office → IsDesk (desk_of office) }
     ensures again { (office : PlainOffice) → ∥ IsSoundOffice office ∥₁ → IsSoundOffice office }
-{
-    calls_are_plain();
-    refusals_are_framed();
-    replies_are_framed();
-}
+{}

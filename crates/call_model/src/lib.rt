@@ -5,6 +5,4 @@
 pub mod examples;
 mod laws;
 
-pub use laws::{
-    an_office_is_a_desk, calls_are_plain, refusals_are_framed, replies_are_framed,
-};
+pub use laws::{an_office_is_a_desk, calls_are_plain, refusals_are_framed, replies_are_framed};

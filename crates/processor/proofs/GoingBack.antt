@@ -1,0 +1,34 @@
+-- What may go back is small.
+use Rattle.std.proofs.Common.{◌≡◌, ℕ, ◌<◌, ◌≤◌, min, Bool, true, false, List, refl, sym, ◌∙◌, arith}
+use Rattle.std.specs.Prelude.{nat_le, ◌&&◌}
+use Rattle.std.proofs.lemmas.Bool.{and_parts, leb-true, leb-false, le-leb, lt-leb}
+use Rattle.schema.specs.PlainKind.{PlainKind}
+use Rattle.schema.specs.PlainSchema.{PlainStruct}
+use Rattle.struct_skew.specs.TidyTests.{is_tidy, has_small_sizes}
+use Rattle.struct_skew.specs.WrittenTests.{is_written_as, may_be_written}
+use Rattle.struct_skew.proofs.Deciding.{decides_sizes}
+use Rattle.thrift_value.specs.Measures.{depth_of}
+use Rattle.thrift_value.specs.Sizes.{HasSmallSizes}
+use Rattle.thrift_value.specs.Tree.{Tree}
+use Rattle.call_model.specs.Replies.{deepest_result, may_go_back}
+
+-- a depth that is cut off at 32 bits is as shallow
+pub shallow : (d : ℕ) → nat_le (min d 4294967295) 63 ≡ nat_le d 63
+shallow d = either (nat_le d 63) refl
+  where
+    either : (b : Bool) → nat_le d 63 ≡ b → nat_le (min d 4294967295) 63 ≡ b
+    either true t =
+        let h : d ≤ 63 = leb-true d 63 t in
+        le-leb (min d 4294967295) 63 (omega (arith, h))
+    either false t =
+        let h : 63 < d = leb-false d 63 t in
+        lt-leb (min d 4294967295) 63 (omega (arith, h))
+
+-- what may go back has lengths and sizes that have an encoding
+pub small_where_it_may : (structs : List PlainStruct) (kind : PlainKind) (value : Tree) → may_go_back structs kind value ≡ true → HasSmallSizes value
+unfolding may_go_back
+small_where_it_may structs kind value is =
+    let tidied = and_parts (is_tidy value) (nat_le (depth_of value) deepest_result && may_be_written structs kind value) is in
+    let written = and_parts (nat_le (depth_of value) deepest_result) (may_be_written structs kind value) tidied.1 in
+    let sized = and_parts (is_written_as structs kind value) (has_small_sizes value) written.1 in
+    (decides_sizes value).0 sized.1

@@ -1,0 +1,19 @@
+-- A frame's size, and that it fits.
+use Rattle.std.proofs.Common.{◌≡◌, ℕ, ℤ, ◌+◌, ◌-◌, ◌≤◌, List, [], ◌∷◌, ◌++◌, length, take, drop, refl, sym, ap, subst, ◌∙◌, arith, get_or}
+use Rattle.std.specs.Int.{w32, to_be_bytes}
+use Rattle.std.specs.List.{slice_set}
+use Rattle.std.proofs.lemmas.List.{length-append, length-drop}
+use Rattle.envelope.specs.declared.head.Protocol.{Protocol}
+use Rattle.envelope.specs.Exception.{Failure, exception_text}
+use Rattle.call_model.specs.Names.{method_part}
+use Rattle.call_model.proofs.Framed.{exception_length}
+use Rattle.call_model.proofs.Parts.{method_within}
+
+-- a frame that tells of a failure
+pub failure_fits : (front framed : List ℕ) (p : Protocol) (name method : List ℕ) (id : ℤ) (failure : Failure) → front ≡ 0 ∷ 0 ∷ 0 ∷ 0 ∷ []
+    → framed ≡ front ++ exception_text p method id failure → method ≡ method_part name → length name ≤ 268435456 → length failure.text ≤ 268435556 → length framed ≤ 2147483648
+failure_fits front framed p name method id failure empty is part named told =
+    let a : length framed ≡ length (front ++ exception_text p method id failure) = ap length is in
+    let b : length front ≡ 4 = ap length empty in
+    let m : length method ≡ length (method_part name) = ap length part in
+    omega (arith, a, b, m, length-append front (exception_text p method id failure), exception_length p method id failure, method_within name, named, told)

@@ -1,0 +1,4 @@
+pub mod Seen
+pub mod Offices
+pub mod Results
+pub mod Holding

@@ -1,0 +1,8 @@
+-- What an office in memory serves.
+use Rattle.schema.specs.SchemaOf.{schema_of}
+use Rattle.call_model.specs.Offices.{PlainOffice}
+use Rattle.processor.specs.declared.office.Office.{Office}
+
+-- an office
+abbrev pub plain_office : Office → PlainOffice
+plain_office o = record { schema = schema_of o.schema; bindings = o.bindings; protocol = o.protocol; max_frame = o.max_frame }

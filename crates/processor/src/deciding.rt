@@ -1,0 +1,223 @@
+//! The decision on a payload.
+
+ghost use Rattle.std.specs.Prelude.{◌≡◌, IfOk};
+ghost use Rattle.host_model.specs.DeskRules.{Invoke};
+ghost use Rattle.thrift_value.specs.TreeOf.{tree_of};
+ghost use Rattle.call_rules.specs.Answers.{plain_decision};
+ghost use Rattle.schema.specs.SchemaOf.{plain_function};
+ghost use Rattle.call_model.specs.Decisions.{is_sent_oneway, is_silent};
+ghost use Rattle.call_model.specs.Names.{method_part};
+
+use crate::arguments::{ArgumentFault, arguments_at};
+use crate::failures::{Told, bad_arguments, no_method, no_service};
+use crate::frames::failure_frame;
+use crate::names::{BoundService, method_part, service_asked};
+use crate::office::Office;
+use call_rules::{Call, Decision};
+use envelope::{Head, HeadFault, read_head};
+use outside::Bytes;
+use schema::FnDesc;
+use std::alloc::{AllocError, Global};
+use thrift_value::{ByteText, Value};
+
+/// The type of a message whose sender waits for no reply.
+const ONEWAY: u8 = 4;
+
+impl Office {
+    ghost use Rattle.std.specs.Prelude.{◌≡◌, ◌≤◌, ◌<◌, ◌^◌, ◌+◌, length, false, IfOk};
+    ghost use Rattle.std.specs.Option.{option_map, option_copied};
+    ghost use Rattle.thrift_value.specs.TreeOf.{tree_of};
+    ghost use Rattle.call_rules.specs.Answers.{plain_decision};
+    ghost use Rattle.call_rules.specs.Desks.{longest_payload};
+    ghost use Rattle.schema.specs.SchemaOf.{schema_of, plain_function};
+    ghost use Rattle.schema.specs.Sound.{IsSound, IsPlaceIn};
+    ghost use Rattle.call_model.specs.Arguments.{arguments_at};
+    ghost use Rattle.call_model.specs.Failures.{bad_arguments, no_method, no_service};
+    ghost use Rattle.call_model.specs.Decisions.{called, decided_on_function, decided_on_head, decided_on_service, decision, is_sent_oneway, is_silent, refused};
+    ghost use Rattle.call_model.specs.Names.{function_asked, method_part, service_asked};
+    ghost use Rattle.processor.specs.Offices.{plain_office};
+    ghost use Rattle.processor.specs.Seen.{argument_fault_text, bound_of, failure_of};
+
+    /// A message that makes no call: its sender is told why.
+    #[tactic(auto, unfolding(call_model::specs::Decisions::refused))]
+    fn refuse(&self, alloc: Global, head: &Head, told: &Told) -> Result<Decision, AllocError>
+        requires name { length head.now.name ≤ longest_payload }
+        requires text { length told.now.text.items ≤ longest_payload + 100 }
+        ensures { IfOk result (λ d. plain_decision d ≡ refused self.now.protocol head.now false (failure_of told.now)) }
+    {
+        let framed = failure_frame(alloc, self.protocol, head, told)?;
+        Ok(Decision::Reply(Bytes::new(framed)))
+    }
+
+    /// A message whose service isn't bound.
+    #[tactic(auto, unfolding(call_model::specs::Decisions::refused))]
+    fn refuse_service(&self, alloc: Global, head: &Head) -> Result<Decision, AllocError>
+        requires name { length head.now.name ≤ longest_payload }
+        ensures { IfOk result (λ d. plain_decision d ≡ refused self.now.protocol head.now (is_sent_oneway head.now) (no_service head.now.name)) }
+    {
+        if is_sent_oneway(head) {
+            return Ok(Decision::Silent);
+        }
+        let told = no_service(alloc, head.name.as_slice())?;
+        self.refuse(alloc, head, &told)
+    }
+
+    /// A message whose method its service hasn't.
+    #[tactic(auto, unfolding(call_model::specs::Decisions::refused))]
+    fn refuse_method(&self, alloc: Global, head: &Head) -> Result<Decision, AllocError>
+        requires name { length head.now.name ≤ longest_payload }
+        ensures { IfOk result (λ d. plain_decision d ≡ refused self.now.protocol head.now (is_sent_oneway head.now) (no_method (method_part head.now.name))) }
+    {
+        if is_sent_oneway(head) {
+            return Ok(Decision::Silent);
+        }
+        let told = no_method(alloc, head.name.as_slice())?;
+        self.refuse(alloc, head, &told)
+    }
+
+    /// A message whose arguments are at fault.
+    #[tactic(auto, unfolding(call_model::specs::Decisions::refused))]
+    fn refuse_arguments(
+        &self,
+        alloc: Global,
+        head: &Head,
+        silent: bool,
+        fault: ArgumentFault,
+    ) -> Result<Decision, AllocError>
+        requires sound { IsSound (schema_of self.now.schema) }
+        requires name { length head.now.name ≤ longest_payload }
+        ensures { IfOk result (λ d. plain_decision d
+            ≡ refused self.now.protocol head.now silent (bad_arguments (argument_fault_text (schema_of self.now.schema) fault))) }
+    {
+        if silent {
+            return Ok(Decision::Silent);
+        }
+        let told = bad_arguments(alloc, &self.schema, fault)?;
+        self.refuse(alloc, head, &told)
+    }
+
+    /// The call of a function, by its arguments.
+    #[tactic(auto, unfolding(call_model::specs::Decisions::refused))]
+    fn call(
+        &self,
+        alloc: Global,
+        payload: &[u8],
+        head: &Head,
+        bound: BoundService,
+        function: &FnDesc,
+    ) -> Result<Decision, AllocError>
+        requires sound { IsSound (schema_of self.now.schema) }
+        requires place { IsPlaceIn (schema_of self.now.schema).structs function.now.args }
+        requires name { length head.now.name ≤ longest_payload }
+        requires within { head.now.behind ≤ length payload.now }
+        ensures { IfOk result (λ d. plain_decision d ≡ called (plain_office self.now) head.now (bound_of bound) (plain_function function.now)
+            (arguments_at (schema_of self.now.schema) self.now.protocol function.now.args payload.now head.now.behind)) }
+    {
+        let silent = is_silent(head, function);
+        match arguments_at(
+            alloc,
+            &self.schema,
+            self.protocol,
+            function.args,
+            payload,
+            head.behind,
+        )? {
+            Ok(args) => invoked(alloc, bound.slot, head, args, silent),
+            Err(fault) => self.refuse_arguments(alloc, head, silent, fault),
+        }
+    }
+
+    /// The decision where this service is asked for.
+    #[tactic(auto, unfolding(call_model::specs::Decisions::decided_on_function))]
+    fn decide_on_function(
+        &self,
+        alloc: Global,
+        payload: &[u8],
+        head: &Head,
+        bound: BoundService,
+    ) -> Result<Decision, AllocError>
+        requires sound { IsSound (schema_of self.now.schema) }
+        requires name { length head.now.name ≤ longest_payload }
+        requires within { head.now.behind ≤ length payload.now }
+        ensures { IfOk result (λ d. plain_decision d ≡ decided_on_function (plain_office self.now) payload.now head.now (bound_of bound)
+            (function_asked (plain_office self.now) (bound_of bound) head.now.name)) }
+    {
+        let method = method_part(head.name.as_slice());
+        match self.schema.function(bound.service, method) {
+            Some(function) => self.call(alloc, payload, head, bound, function),
+            None => self.refuse_method(alloc, head),
+        }
+    }
+
+    /// The decision where this is the head.
+    #[tactic(auto, unfolding(call_model::specs::Decisions::decided_on_service))]
+    fn decide_on_service(
+        &self,
+        alloc: Global,
+        payload: &[u8],
+        head: &Head,
+    ) -> Result<Decision, AllocError>
+        requires sound { IsSound (schema_of self.now.schema) }
+        requires few { length self.now.bindings < 2 ^ 32 }
+        requires name { length head.now.name ≤ longest_payload }
+        requires within { head.now.behind ≤ length payload.now }
+        ensures { IfOk result (λ d. plain_decision d ≡ decided_on_service (plain_office self.now) payload.now head.now
+            (service_asked self.now.bindings head.now.name)) }
+    {
+        match service_asked(self.bindings.as_slice(), head.name.as_slice()) {
+            Some(bound) => self.decide_on_function(alloc, payload, head, bound),
+            None => self.refuse_service(alloc, head),
+        }
+    }
+
+    /// What is decided on a payload.
+    #[tactic(auto, unfolding(call_model::specs::Decisions::decided_on_head))]
+    pub(crate) fn decided(&self, alloc: Global, payload: &[u8]) -> Result<Decision, AllocError>
+        requires sound { IsSound (schema_of self.now.schema) }
+        requires few { length self.now.bindings < 2 ^ 32 }
+        requires short { length payload.now ≤ longest_payload }
+        ensures { IfOk result (λ d. plain_decision d ≡ decision (plain_office self.now) payload.now) }
+    {
+        match read_head(alloc, self.protocol, payload) {
+            Ok(head) => self.decide_on_service(alloc, payload, &head),
+            Err(HeadFault::Envelope(fault)) => Ok(Decision::Close(fault)),
+            Err(HeadFault::NoMemory) => Err(AllocError),
+        }
+    }
+}
+
+/// The call of a method at a slot.
+fn invoked(
+    alloc: Global,
+    slot: u32,
+    head: &Head,
+    args: Value,
+    silent: bool,
+) -> Result<Decision, AllocError>
+    ensures { IfOk result (λ d. plain_decision d ≡ Invoke (record { slot = slot; method = method_part head.now.name; args = tree_of args; silent = silent })) }
+{
+    let method = method_part(head.name.as_slice()).to_vec(alloc)?;
+    Ok(Decision::Invoke(Call {
+        slot,
+        method: ByteText::new(method),
+        args,
+        silent,
+    }))
+}
+
+/// Whether the sender of a message waits for no reply.
+fn is_sent_oneway(head: &Head) -> bool
+    ensures { result ≡ is_sent_oneway head.now }
+{
+    head.kind == ONEWAY
+}
+
+/// Whether a call gets no reply.
+fn is_silent(head: &Head, function: &FnDesc) -> bool
+    ensures { result ≡ is_silent head.now (plain_function function.now) }
+{
+    if is_sent_oneway(head) {
+        return true;
+    }
+    function.oneway
+}

@@ -1,0 +1,177 @@
+//! The reply to a call.
+
+use crate::failures::{no_result, too_large};
+use crate::frames::{SIZE_BYTES, failure_frame, opened, with_size};
+use crate::names::{BoundService, method_part, service_asked};
+use crate::office::Office;
+use crate::results::{ResultField, put_result, result_field};
+use call_rules::Answer;
+use envelope::{Head, HeadFault, read_head, write_head};
+use schema::FnDesc;
+use std::alloc::{AllocError, Global};
+
+/// The type of a reply.
+const REPLY: u8 = 2;
+
+impl Office {
+    ghost use Rattle.std.specs.Prelude.{◌≡◌, ◌≤◌, ◌<◌, ◌^◌, ◌+◌, ◌++◌, ◌∷◌, [], length, Some, IfOk};
+    ghost use Rattle.call_rules.specs.Answers.{plain_answer};
+    ghost use Rattle.call_rules.specs.Desks.{longest_payload};
+    ghost use Rattle.schema.specs.SchemaOf.{schema_of, plain_function};
+    ghost use Rattle.schema.specs.Sound.{IsSound};
+    ghost use Rattle.call_model.specs.Failures.{no_result, too_large};
+    ghost use Rattle.call_model.specs.Decisions.{failure_frame};
+    ghost use Rattle.call_model.specs.Replies.{reply_text, reply_of, reply_of_function, reply_of_service, reply_to_head, result_fields, result_frame, within_frame};
+    ghost use Rattle.call_model.specs.Names.{function_asked, method_part, service_asked};
+    ghost use Rattle.processor.specs.Offices.{plain_office};
+    ghost use Rattle.processor.specs.Results.{HasSmallField, fields_of};
+    ghost use Rattle.processor.specs.Seen.{bound_of};
+
+    /// The frame that tells that a call has no result.
+    fn without_result(&self, alloc: Global, head: &Head) -> Result<Vec<u8>, AllocError>
+        requires name { length head.now.name ≤ longest_payload }
+        ensures { IfOk result (λ framed. framed.items ≡ failure_frame self.now.protocol head.now (no_result (method_part head.now.name))) }
+    {
+        let told = no_result(alloc, head.name.as_slice())?;
+        failure_frame(alloc, self.protocol, head, &told)
+    }
+
+    /// The frame that tells that a result is too large.
+    fn above_frame(&self, alloc: Global, head: &Head) -> Result<Vec<u8>, AllocError>
+        requires name { length head.now.name ≤ longest_payload }
+        ensures { IfOk result (λ framed. framed.items ≡ failure_frame self.now.protocol head.now too_large) }
+    {
+        let told = too_large(alloc)?;
+        failure_frame(alloc, self.protocol, head, &told)
+    }
+
+    /// The frame of a result's struct.
+    #[tactic(auto, unfolding(call_model::specs::Replies::within_frame))]
+    fn with_result(
+        &self,
+        alloc: Global,
+        head: &Head,
+        field: ResultField<'_>,
+    ) -> Result<Vec<u8>, AllocError>
+        requires most { self.now.max_frame ≤ longest_payload }
+        requires name { length head.now.name ≤ longest_payload }
+        requires sizes { HasSmallField field }
+        ensures { IfOk result (λ framed. framed.items
+            ≡ within_frame (plain_office self.now) head.now (reply_text self.now.protocol head.now (fields_of field.entry))) }
+    {
+        let framed = self.open_reply(alloc, head, field)?;
+        if framed.len() - SIZE_BYTES > self.max_frame as usize {
+            return self.above_frame(alloc, head);
+        }
+        Ok(with_size(framed))
+    }
+
+    /// A reply with its struct, behind four bytes for its size.
+    #[tactic(auto, unfolding(call_model::specs::Replies::reply_head))]
+    fn open_reply(
+        &self,
+        alloc: Global,
+        head: &Head,
+        field: ResultField<'_>,
+    ) -> Result<Vec<u8>, AllocError>
+        requires name { length head.now.name ≤ longest_payload }
+        requires sizes { HasSmallField field }
+        ensures { IfOk result (λ framed. framed.items ≡ 0 ∷ 0 ∷ 0 ∷ 0 ∷ reply_text self.now.protocol head.now (fields_of field.entry)) }
+    {
+        let mut framed = opened(alloc)?;
+        write_head(
+            self.protocol,
+            method_part(head.name.as_slice()),
+            REPLY,
+            head.id,
+            &mut framed,
+        )?;
+        put_result(self.protocol, field, &mut framed)?;
+        Ok(framed)
+    }
+
+    /// The frame for an answer of a function.
+    #[tactic(auto, unfolding(call_model::specs::Replies::result_frame))]
+    fn reply_to_answer(
+        &self,
+        alloc: Global,
+        head: &Head,
+        function: &FnDesc,
+        answer: &Answer,
+    ) -> Result<Vec<u8>, AllocError>
+        requires sound { IsSound (schema_of self.now.schema) }
+        requires most { self.now.max_frame ≤ longest_payload }
+        requires name { length head.now.name ≤ longest_payload }
+        ensures { IfOk result (λ framed. framed.items ≡ result_frame (plain_office self.now) head.now
+            (result_fields (schema_of self.now.schema).structs (plain_function function.now) (plain_answer answer.now))) }
+    {
+        match result_field(&self.schema, function, answer) {
+            Some(field) => self.with_result(alloc, head, field),
+            None => self.without_result(alloc, head),
+        }
+    }
+
+    /// The frame for an answer of a function of this service.
+    #[tactic(auto, unfolding(call_model::specs::Replies::reply_of_function))]
+    fn reply_of_bound(
+        &self,
+        alloc: Global,
+        head: &Head,
+        bound: BoundService,
+        answer: &Answer,
+    ) -> Result<Vec<u8>, AllocError>
+        requires sound { IsSound (schema_of self.now.schema) }
+        requires most { self.now.max_frame ≤ longest_payload }
+        requires name { length head.now.name ≤ longest_payload }
+        ensures { IfOk result (λ framed. framed.items ≡ reply_of_function (plain_office self.now) head.now (plain_answer answer.now)
+            (function_asked (plain_office self.now) (bound_of bound) head.now.name)) }
+    {
+        let method = method_part(head.name.as_slice());
+        match self.schema.function(bound.service, method) {
+            Some(function) => self.reply_to_answer(alloc, head, function, answer),
+            None => Ok(Vec::new(alloc)),
+        }
+    }
+
+    /// The frame for an answer to a message with this head.
+    #[tactic(auto, unfolding(call_model::specs::Replies::reply_of_service))]
+    fn reply_to_message(
+        &self,
+        alloc: Global,
+        head: &Head,
+        answer: &Answer,
+    ) -> Result<Vec<u8>, AllocError>
+        requires sound { IsSound (schema_of self.now.schema) }
+        requires few { length self.now.bindings < 2 ^ 32 }
+        requires most { self.now.max_frame ≤ longest_payload }
+        requires name { length head.now.name ≤ longest_payload }
+        ensures { IfOk result (λ framed. framed.items ≡ reply_of_service (plain_office self.now) head.now (plain_answer answer.now)
+            (service_asked self.now.bindings head.now.name)) }
+    {
+        match service_asked(self.bindings.as_slice(), head.name.as_slice()) {
+            Some(bound) => self.reply_of_bound(alloc, head, bound, answer),
+            None => Ok(Vec::new(alloc)),
+        }
+    }
+
+    /// The frame that goes back for a payload whose call had this answer.
+    #[tactic(auto, unfolding(call_model::specs::Replies::reply_to_head))]
+    pub(crate) fn replied(
+        &self,
+        alloc: Global,
+        payload: &[u8],
+        answer: &Answer,
+    ) -> Result<Vec<u8>, AllocError>
+        requires sound { IsSound (schema_of self.now.schema) }
+        requires few { length self.now.bindings < 2 ^ 32 }
+        requires most { self.now.max_frame ≤ longest_payload }
+        requires short { length payload.now ≤ longest_payload }
+        ensures { IfOk result (λ framed. framed.items ≡ reply_of (plain_office self.now) payload.now (plain_answer answer.now)) }
+    {
+        match read_head(alloc, self.protocol, payload) {
+            Ok(head) => self.reply_to_message(alloc, &head, answer),
+            Err(HeadFault::Envelope(_)) => Ok(Vec::new(alloc)),
+            Err(HeadFault::NoMemory) => Err(AllocError),
+        }
+    }
+}

@@ -1,0 +1,205 @@
+//! The struct of a result, from an answer that is lent.
+
+ghost use Rattle.std.specs.Prelude.{◌≡◌, ◌++◌, nat_le, map, pos, IfSome, OnOk};
+ghost use Rattle.std.specs.Ordering.{int_eq};
+ghost use Rattle.std.specs.Option.{option_map, option_copied};
+ghost use Rattle.struct_skew.specs.TidyTests.{is_tidy};
+ghost use Rattle.thrift_value.specs.Measures.{depth_of};
+ghost use Rattle.thrift_value.specs.Sizes.{HasSmallSizes};
+ghost use Rattle.thrift_value.specs.Tree.{of_struct};
+ghost use Rattle.thrift_value.specs.TreeOf.{tree_of};
+ghost use Rattle.call_rules.specs.Answers.{plain_answer};
+ghost use Rattle.schema.specs.PlainKind.{kind_of};
+ghost use Rattle.schema.specs.SchemaOf.{schema_of, plain_field, plain_function};
+ghost use Rattle.schema.specs.Sound.{IsSound};
+ghost use Rattle.schema.specs.WrittenAs.{field_with_id};
+ghost use Rattle.wire_model.specs.Encoder.{behind_heading, heading, text};
+ghost use Rattle.call_model.specs.Replies.{alone_under, deepest_result, encoder_of, may_go_back, result_fields, success_fields, throws_fields};
+ghost use Rattle.processor.specs.Results.{HasSmallField, fields_of};
+
+use binary_codec::Binary;
+use call_rules::Answer;
+use compact_codec::Compact;
+use envelope::Protocol;
+use schema::{FieldDesc, FnDesc, Schema, TypeDesc};
+use std::alloc::AllocError;
+use struct_skew::fits;
+use thrift_value::Value;
+use wire_walk::{Codec, Header, put};
+
+/// The most levels of a value that goes back: the struct around it has one more.
+const DEEPEST_RESULT: u32 = 63;
+
+/// The id of the field that has the value of a result.
+const SUCCESS: i16 = 0;
+
+/// What the struct of a result has in it.
+#[derive(Clone, Copy)]
+pub(crate) enum ResultField<'a> {
+    /// Nothing.
+    Nothing,
+    /// A value under an id.
+    One(i16, &'a Value),
+}
+
+/// Whether a value is tidy.
+fn is_tidy(value: &Value) -> bool
+    ensures { result ≡ is_tidy (tree_of value.now) }
+{
+    value.is_tidy()
+}
+
+/// Whether a value has no more levels than a result may have.
+fn is_shallow(value: &Value) -> bool
+    ensures { result ≡ nat_le (depth_of (tree_of value.now)) deepest_result }
+{
+    value.depth() <= DEEPEST_RESULT
+}
+
+/// Whether a value may go back under a type.
+#[tactic(auto, unfolding(call_model::specs::Replies::may_go_back))]
+fn may_go_back(schema: &Schema, kind: &TypeDesc, value: &Value) -> bool
+    requires { IsSound (schema_of schema.now) }
+    ensures { result ≡ may_go_back (schema_of schema.now).structs (kind_of kind.now) (tree_of value.now) }
+{
+    if !is_tidy(value) {
+        return false;
+    }
+    if !is_shallow(value) {
+        return false;
+    }
+    fits(schema, kind, value)
+}
+
+/// A value alone in its struct, where it may go back.
+fn alone_under<'a>(
+    schema: &Schema,
+    id: i16,
+    kind: &TypeDesc,
+    value: &'a Value,
+) -> Option<ResultField<'a>>
+    requires { IsSound (schema_of schema.now) }
+    ensures made { option_map fields_of result ≡ alone_under (schema_of schema.now).structs id (kind_of kind.now) (tree_of value.now) }
+    ensures sizes { IfSome result HasSmallField }
+{
+    if may_go_back(schema, kind, value) {
+        Some(ResultField::One(id, value))
+    } else {
+        None
+    }
+}
+
+/// The struct that a value makes; a function without a result has no place for one.
+fn success_field<'a>(
+    schema: &Schema,
+    function: &FnDesc,
+    value: &'a Value,
+) -> Option<ResultField<'a>>
+    requires { IsSound (schema_of schema.now) }
+    ensures made { option_map fields_of result ≡ success_fields (schema_of schema.now).structs (plain_function function.now).result (tree_of value.now) }
+    ensures sizes { IfSome result HasSmallField }
+{
+    match &function.result {
+        Some(kind) => alone_under(schema, SUCCESS, kind, value),
+        None => None,
+    }
+}
+
+/// Whether a declared field has an id.
+fn has_id(field: &FieldDesc, id: i16) -> bool
+    ensures { result ≡ int_eq (plain_field field.now).id id }
+{
+    field.id == id
+}
+
+/// The exception with an id among those that a function declares.
+fn thrown(throws: &[FieldDesc], id: i16) -> Option<&FieldDesc>
+    ensures { option_map plain_field (option_copied result) ≡ field_with_id id (map plain_field throws.now) }
+{
+    for field in throws {
+        if has_id(field, id) {
+            return Some(field);
+        }
+    }
+    None
+}
+
+/// The struct that an exception makes, under the id of a declared one.
+fn throws_field<'a>(
+    schema: &Schema,
+    function: &FnDesc,
+    id: i16,
+    exception: &'a Value,
+) -> Option<ResultField<'a>>
+    requires { IsSound (schema_of schema.now) }
+    ensures made { option_map fields_of result ≡ throws_fields (schema_of schema.now).structs
+        (field_with_id id (plain_function function.now).throws) (tree_of exception.now) }
+    ensures sizes { IfSome result HasSmallField }
+{
+    match thrown(function.throws.as_slice(), id) {
+        Some(field) => alone_under(schema, field.id, &field.kind, exception),
+        None => None,
+    }
+}
+
+/// The struct that an answer makes; none where the function has no such answer.
+pub(crate) fn result_field<'a>(
+    schema: &Schema,
+    function: &FnDesc,
+    answer: &'a Answer,
+) -> Option<ResultField<'a>>
+    requires { IsSound (schema_of schema.now) }
+    ensures made { option_map fields_of result ≡ result_fields (schema_of schema.now).structs (plain_function function.now) (plain_answer answer.now) }
+    ensures sizes { IfSome result HasSmallField }
+{
+    match answer {
+        Answer::Success(value) => success_field(schema, function, value),
+        Answer::Empty => Some(ResultField::Nothing),
+        Answer::Throws(id, exception) => throws_field(schema, function, *id, exception),
+        Answer::Broken => None,
+    }
+}
+
+/// Appends a field's header and its value. A bool may have its value in the header.
+fn put_field<C: Codec>(id: i16, value: &Value, into: &mut Vec<u8>) -> Result<(), AllocError>
+    requires { HasSmallSizes (tree_of value.now) }
+    ensures { OnOk result (into.new.items ≡ into.old.items ++ (C.encoder.header (pos 0) (heading C.encoder.flags id (tree_of value.now))
+        ++ behind_heading (heading C.encoder.flags id (tree_of value.now)) (text C.encoder (tree_of value.now)))) }
+{
+    if let Value::Bool(flag) = value {
+        if C::flags() {
+            return C::put_header(0, Header::Flag(id, *flag), into);
+        }
+    }
+    C::put_header(0, Header::Field(id, value.tag()), into)?;
+    put::<C>(value, into)
+}
+
+/// Appends the struct of a result.
+fn put_struct<C: Codec>(field: ResultField<'_>, into: &mut Vec<u8>) -> Result<(), AllocError>
+    requires { HasSmallField field }
+    ensures { OnOk result (into.new.items ≡ into.old.items ++ text C.encoder (of_struct (fields_of field.entry))) }
+{
+    match field {
+        ResultField::Nothing => C::put_header(0, Header::Stop, into),
+        ResultField::One(id, value) => {
+            put_field::<C>(id, value, into)?;
+            C::put_header(id, Header::Stop, into)
+        }
+    }
+}
+
+/// Appends the struct of a result in a protocol.
+pub(crate) fn put_result(
+    protocol: Protocol,
+    field: ResultField<'_>,
+    into: &mut Vec<u8>,
+) -> Result<(), AllocError>
+    requires { HasSmallField field }
+    ensures { OnOk result (into.new.items ≡ into.old.items ++ text (encoder_of protocol) (of_struct (fields_of field.entry))) }
+{
+    match protocol {
+        Protocol::Binary => put_struct::<Binary>(field, into),
+        Protocol::Compact => put_struct::<Compact>(field, into),
+    }
+}
