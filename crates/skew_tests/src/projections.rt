@@ -8,7 +8,7 @@ use crate::example::example;
 use schema::TypeDesc;
 use std::alloc::{AllocError, Global};
 use std::test::Fail;
-use struct_skew::{SkewFault, fits, project};
+use struct_skew::{SkewFault, fits, fits_with, needed_fields, project};
 use thrift_value::{Fields, Items, Tag, Value};
 
 // The fields of a struct by their ids: a bool, or another kind of value where there is none.
@@ -71,7 +71,11 @@ fn fields_that_fit_count(rt: HostRuntime) -> Result<(), Fail> {
 
 fn fits_example(alloc: Global, kind: &TypeDesc, value: &Value) -> Result<bool, AllocError> {
     let schema = example(alloc)?;
-    Ok(fits(&schema, kind, value))
+    let needed = needed_fields(alloc, &schema)?;
+    if !fits(&schema, kind, value) {
+        return Ok(false);
+    }
+    Ok(fits_with(&schema, &needed, kind, value))
 }
 
 fn list_of(alloc: Global, value: Value) -> Result<Value, AllocError> {

@@ -20,3 +20,4 @@ pub mod FilledStructs
 pub mod Filling
 pub mod FoundFunctions
 pub mod FoundFields
+pub mod RequiredPlaces

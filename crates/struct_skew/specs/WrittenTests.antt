@@ -1,5 +1,5 @@
 -- Tests that decide whether a value may be written under a type.
-use Rattle.std.specs.Prelude.{ℤ, Bool, true, false, not, ◌&&◌, ◌||◌, List, [], ◌∷◌, Option, Some, None}
+use Rattle.std.specs.Prelude.{ℕ, ℤ, Bool, true, false, not, ◌&&◌, ◌||◌, List, [], ◌∷◌, Option, Some, None}
 use Rattle.std.specs.List.{slice_get}
 use Rattle.std.specs.Ordering.{int_eq}
 use Rattle.thrift_value.specs.Tree.{Tree, of_bool, of_i8, of_i16, of_i32, of_i64, of_double, of_bytes, of_struct, of_map, of_set, of_list, FieldTrees, no_fields, field, ItemTrees, no_items, item, PairTrees, no_pairs, pair}
@@ -28,6 +28,15 @@ is_one_field _ = false
 abbrev pub has_required_fields : List PlainField → FieldTrees → Bool
 has_required_fields [] _ = true
 has_required_fields (f ∷ fs) fields = (not (is_required f.need) || has_field_tree f.id fields) && has_required_fields fs fields
+
+-- there is a declared field at a place, and it is there
+abbrev pub has_field_at : List PlainField → ℕ → FieldTrees → Bool
+has_field_at declared p fields = some_passes (slice_get declared p) (λ f. has_field_tree f.id fields)
+
+-- the declared field at each of these places is there
+abbrev pub has_fields_at : List PlainField → List ℕ → FieldTrees → Bool
+has_fields_at declared [] _ = true
+has_fields_at declared (p ∷ ps) fields = has_field_at declared p fields && has_fields_at declared ps fields
 
 -- each required field is there, and of a union exactly one
 abbrev pub has_its_fields : PlainStruct → FieldTrees → Bool

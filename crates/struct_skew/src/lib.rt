@@ -9,7 +9,7 @@
 //!     Err(SkewFault::Missing(which, id)) => complain(which, id),  // and so on
 //!     Err(_) => give_up(),
 //! }
-//! if fits(&schema, &kind, &value) && value.is_tidy() {            // what a handler answered
+//! if value.is_tidy() && fits_with(&schema, &needed, &kind, &value) {   // what a handler answered
 //!     write(value);
 //! }
 //! ```
@@ -45,4 +45,4 @@ pub use public::{project, project_with};
 pub use rows::{
     a_projection_is_bounded, worked_containers, worked_fields, worked_levels, worked_unions,
 };
-pub use written::fits;
+pub use written::{fits, fits_with};

@@ -1,21 +1,23 @@
 //! Whether a value may be written under a type.
 ghost use Rattle.std.specs.Bool.{OnTrue};
-ghost use Rattle.std.specs.Prelude.{◌≡◌, map, IsTrue};
+ghost use Rattle.std.specs.Prelude.{◌≡◌, ⊤, map, IsTrue, MatchOption, Some};
 ghost use Rattle.std.specs.List.{slice_get};
 ghost use Rattle.std.specs.Option.{option_copied, option_map};
 ghost use Rattle.thrift_value.specs.TreeOf.{tree_of, field_tree, field_trees, item_trees, pair_tree, pair_trees};
 ghost use Rattle.schema.specs.LookUp.{fields_at};
 ghost use Rattle.schema.specs.PlainKind.{kind_of};
+ghost use Rattle.schema.specs.PlainSchema.{PlainStruct};
 ghost use Rattle.schema.specs.SchemaOf.{schema_of, plain_field, plain_struct};
 ghost use Rattle.schema.specs.Sound.{IsSound};
 ghost use Rattle.schema.specs.WrittenAs.{field_with_id};
+ghost use Rattle.struct_skew.specs.Needs.{is_required_field, needs_of, places_from};
 ghost use Rattle.struct_skew.specs.TidyTests.{has_small_sizes};
-ghost use Rattle.struct_skew.specs.WrittenTests.{are_fields_written_as, are_items_written_as, are_pairs_written_as, has_field_tree, has_its_fields, has_required_fields, is_one_field, is_struct_written, is_written_as, may_be_written};
+ghost use Rattle.struct_skew.specs.WrittenTests.{are_fields_written_as, are_items_written_as, are_pairs_written_as, has_field_at, has_field_tree, has_fields_at, has_its_fields, has_required_fields, is_one_field, is_struct_written, is_written_as, may_be_written};
 
 use crate::kinds::{
     are_same_tags, list_of_kind, map_of_kind, set_of_kind, struct_of_kind, tag_of_kind,
 };
-use crate::needs::{is_required, is_union, item};
+use crate::needs::{NeededFields, is_required, is_union, item};
 use schema::{FieldDesc, Schema, StructDesc, TypeDesc};
 use thrift_value::Value;
 
@@ -45,7 +47,7 @@ fn has_field(fields: &[(i16, Value)], id: &i16) -> bool
 }
 
 /// Whether each declared field that has to be there is there.
-fn has_required_fields(declared: &[FieldDesc], fields: &[(i16, Value)]) -> bool
+fn has_all_required(declared: &[FieldDesc], fields: &[(i16, Value)]) -> bool
     ensures { result ≡ has_required_fields (map plain_field declared.now) (field_trees (map field_tree fields.now)) }
 {
     for field in declared {
@@ -58,6 +60,43 @@ fn has_required_fields(declared: &[FieldDesc], fields: &[(i16, Value)]) -> bool
     true
 }
 
+/// Whether the declared field at a place is there.
+fn has_field_at(declared: &[FieldDesc], place: usize, fields: &[(i16, Value)]) -> bool
+    ensures { result ≡ has_field_at (map plain_field declared.now) place (field_trees (map field_tree fields.now)) }
+{
+    match item(declared, place) {
+        Some(field) => has_field(fields, &field.id),
+        None => false,
+    }
+}
+
+/// Whether the declared field at each of these places is there.
+fn has_fields_at(declared: &[FieldDesc], places: &[usize], fields: &[(i16, Value)]) -> bool
+    ensures { result ≡ has_fields_at (map plain_field declared.now) places.now (field_trees (map field_tree fields.now)) }
+{
+    for place in places {
+        if !has_field_at(declared, *place, fields) {
+            return false;
+        }
+    }
+    true
+}
+
+/// Whether each declared field that has to be there is there, by their places where these are known.
+fn has_required_fields(
+    declared: &[FieldDesc],
+    required: Option<&[usize]>,
+    fields: &[(i16, Value)],
+) -> bool
+    requires { MatchOption required ⊤ (λ places. places.now ≡ places_from is_required_field 0 (map plain_field declared.now)) }
+    ensures { result ≡ has_required_fields (map plain_field declared.now) (field_trees (map field_tree fields.now)) }
+{
+    match required {
+        Some(places) => has_fields_at(declared, places, fields),
+        None => has_all_required(declared, fields),
+    }
+}
+
 /// Whether exactly one field is there.
 fn is_one_field(fields: &[(i16, Value)]) -> bool
     ensures { result ≡ is_one_field (field_trees (map field_tree fields.now)) }
@@ -66,16 +105,30 @@ fn is_one_field(fields: &[(i16, Value)]) -> bool
 }
 
 /// Whether each required field is there, and of a union exactly one.
-fn has_its_fields(desc: &StructDesc, fields: &[(i16, Value)]) -> bool
+fn has_its_fields(desc: &StructDesc, required: Option<&[usize]>, fields: &[(i16, Value)]) -> bool
+    requires { MatchOption required ⊤ (λ places. places.now ≡ (needs_of (plain_struct desc.now)).required) }
     ensures { result ≡ has_its_fields (plain_struct desc.now) (field_trees (map field_tree fields.now)) }
 {
-    if !has_required_fields(desc.fields.as_slice(), fields) {
+    if !has_required_fields(desc.fields.as_slice(), required, fields) {
         return false;
     }
     if !is_union(desc.kind) {
         return true;
     }
     is_one_field(fields)
+}
+
+/// The places of the fields that have to be there in the struct at a number, where they are known.
+fn required_of<'a>(
+    schema: &Schema,
+    needed: Option<&'a NeededFields>,
+    which: u32,
+) -> Option<&'a [usize]>
+    requires { MatchOption needed ⊤ (λ n. n.now ≡ map needs_of (schema_of schema.now).structs) }
+    ensures { MatchOption result ⊤ (λ places. (d : PlainStruct) → slice_get (schema_of schema.now).structs which ≡ Some d → places.now ≡ (needs_of d).required) }
+{
+    let needs = needed?.row(which)?;
+    Some(needs.required.as_slice())
 }
 
 /// The declared field with an id of the struct at a number.
@@ -89,25 +142,31 @@ fn declared_field<'a>(schema: &'a Schema, which: u32, id: &i16) -> Option<&'a Fi
 /// Whether a value is of a type. It recurses once a level that both have.
 #[tactic(auto, using(thrift_value::proofs::Trees::tree_equations, crate::proofs::Writing::written_equations))]
 #[cycle(writing)]
-fn is_written_as(value: &Value, schema: &Schema, kind: &TypeDesc) -> bool
-    requires { IsSound (schema_of schema.now) }
+fn is_written_as(
+    value: &Value,
+    schema: &Schema,
+    needed: Option<&NeededFields>,
+    kind: &TypeDesc,
+) -> bool
+    requires sound { IsSound (schema_of schema.now) }
+    requires needed { MatchOption needed ⊤ (λ n. n.now ≡ map needs_of (schema_of schema.now).structs) }
     ensures { result ≡ is_written_as (schema_of schema.now).structs (kind_of kind.now) (tree_of value.now) }
 {
     match value {
         Value::Struct(fields) => match struct_of_kind(kind) {
-            Some(which) => struct_is_written(fields.as_slice(), schema, which),
+            Some(which) => struct_is_written(fields.as_slice(), schema, needed, which),
             None => false,
         },
         Value::Map(_, _, pairs) => match map_of_kind(kind) {
-            Some((key, value)) => pairs_are_written(pairs.as_slice(), schema, key, value),
+            Some((key, value)) => pairs_are_written(pairs.as_slice(), schema, needed, key, value),
             None => false,
         },
         Value::Set(_, items) => match set_of_kind(kind) {
-            Some(member) => items_are_written(items.as_slice(), schema, member),
+            Some(member) => items_are_written(items.as_slice(), schema, needed, member),
             None => false,
         },
         Value::List(_, items) => match list_of_kind(kind) {
-            Some(element) => items_are_written(items.as_slice(), schema, element),
+            Some(element) => items_are_written(items.as_slice(), schema, needed, element),
             None => false,
         },
         Value::Bool(_)
@@ -122,30 +181,43 @@ fn is_written_as(value: &Value, schema: &Schema, kind: &TypeDesc) -> bool
 
 /// Whether fields are those of the struct at a number, each of its type.
 #[cycle(writing)]
-fn struct_is_written(fields: &[(i16, Value)], schema: &Schema, which: u32) -> bool
-    requires { IsSound (schema_of schema.now) }
+fn struct_is_written(
+    fields: &[(i16, Value)],
+    schema: &Schema,
+    needed: Option<&NeededFields>,
+    which: u32,
+) -> bool
+    requires sound { IsSound (schema_of schema.now) }
+    requires needed { MatchOption needed ⊤ (λ n. n.now ≡ map needs_of (schema_of schema.now).structs) }
     ensures { result ≡ is_struct_written (schema_of schema.now).structs (slice_get (schema_of schema.now).structs which) (field_trees (map field_tree fields.now)) }
 {
     let Some(desc) = item(schema.structs.as_slice(), which as usize) else {
         return false;
     };
-    if !has_its_fields(desc, fields) {
+    let required = required_of(schema, needed, which);
+    if !has_its_fields(desc, required, fields) {
         return false;
     }
-    fields_are_written(fields, schema, which)
+    fields_are_written(fields, schema, needed, which)
 }
 
 /// Whether each field is declared in the struct at a number, and of its type.
 #[cycle(writing)]
-fn fields_are_written(fields: &[(i16, Value)], schema: &Schema, which: u32) -> bool
-    requires { IsSound (schema_of schema.now) }
+fn fields_are_written(
+    fields: &[(i16, Value)],
+    schema: &Schema,
+    needed: Option<&NeededFields>,
+    which: u32,
+) -> bool
+    requires sound { IsSound (schema_of schema.now) }
+    requires needed { MatchOption needed ⊤ (λ n. n.now ≡ map needs_of (schema_of schema.now).structs) }
     ensures { result ≡ are_fields_written_as (schema_of schema.now).structs (fields_at (schema_of schema.now) which) (field_trees (map field_tree fields.now)) }
 {
     for (id, value) in fields {
         let Some(field) = declared_field(schema, which, id) else {
             return false;
         };
-        if !is_written_as(value, schema, &field.kind) {
+        if !is_written_as(value, schema, needed, &field.kind) {
             return false;
         }
     }
@@ -154,12 +226,18 @@ fn fields_are_written(fields: &[(i16, Value)], schema: &Schema, which: u32) -> b
 
 /// Whether each element is of a type.
 #[cycle(writing)]
-fn items_are_written(items: &[Value], schema: &Schema, kind: &TypeDesc) -> bool
-    requires { IsSound (schema_of schema.now) }
+fn items_are_written(
+    items: &[Value],
+    schema: &Schema,
+    needed: Option<&NeededFields>,
+    kind: &TypeDesc,
+) -> bool
+    requires sound { IsSound (schema_of schema.now) }
+    requires needed { MatchOption needed ⊤ (λ n. n.now ≡ map needs_of (schema_of schema.now).structs) }
     ensures { result ≡ are_items_written_as (schema_of schema.now).structs (kind_of kind.now) (item_trees (map tree_of items.now)) }
 {
     for value in items {
-        if !is_written_as(value, schema, kind) {
+        if !is_written_as(value, schema, needed, kind) {
             return false;
         }
     }
@@ -171,17 +249,19 @@ fn items_are_written(items: &[Value], schema: &Schema, kind: &TypeDesc) -> bool
 fn pairs_are_written(
     pairs: &[(Value, Value)],
     schema: &Schema,
+    needed: Option<&NeededFields>,
     key_kind: &TypeDesc,
     value_kind: &TypeDesc,
 ) -> bool
-    requires { IsSound (schema_of schema.now) }
+    requires sound { IsSound (schema_of schema.now) }
+    requires needed { MatchOption needed ⊤ (λ n. n.now ≡ map needs_of (schema_of schema.now).structs) }
     ensures { result ≡ are_pairs_written_as (schema_of schema.now).structs (kind_of key_kind.now) (kind_of value_kind.now) (pair_trees (map pair_tree pairs.now)) }
 {
     for (key, value) in pairs {
-        if !is_written_as(key, schema, key_kind) {
+        if !is_written_as(key, schema, needed, key_kind) {
             return false;
         }
-        if !is_written_as(value, schema, value_kind) {
+        if !is_written_as(value, schema, needed, value_kind) {
             return false;
         }
     }
@@ -195,7 +275,21 @@ fn has_small_sizes(value: &Value) -> bool
     value.has_small_sizes()
 }
 
-/// Whether a tidy value may be written under a type.
+/// Whether a tidy value may be written under a type, by what the schema's structs need. It takes time for the value, however many
+/// fields are declared.
+pub fn fits_with(schema: &Schema, needed: &NeededFields, kind: &TypeDesc, value: &Value) -> bool
+    requires sound { IsSound (schema_of schema.now) }
+    requires needed { needed.now ≡ map needs_of (schema_of schema.now).structs }
+    ensures { result ≡ may_be_written (schema_of schema.now).structs (kind_of kind.now) (tree_of value.now) }
+{
+    if !has_small_sizes(value) {
+        return false;
+    }
+    is_written_as(value, schema, Some(needed), kind)
+}
+
+/// Whether a tidy value may be written under a type. It walks over the declared fields of each struct in the value: who asks for many
+/// keeps `needed_fields` and calls `fits_with`.
 pub fn fits(schema: &Schema, kind: &TypeDesc, value: &Value) -> bool
     requires sound { IsSound (schema_of schema.now) }
     ensures { result ≡ may_be_written (schema_of schema.now).structs (kind_of kind.now) (tree_of value.now) }
@@ -203,5 +297,5 @@ pub fn fits(schema: &Schema, kind: &TypeDesc, value: &Value) -> bool
     if !has_small_sizes(value) {
         return false;
     }
-    is_written_as(value, schema, kind)
+    is_written_as(value, schema, None, kind)
 }
