@@ -1,6 +1,6 @@
 -- What a sound schema has under a name or a number.
-use Rattle.std.proofs.Common.{◌≡◌, ℕ, ℤ, zero, suc, ◌+◌, ◌<◌, ◌≤◌, Bool, true, false, cond, List, [], ◌∷◌, ◌++◌, length, map, flat_map, Option, Some, None, refl, sym, ap, subst, ◌∙◌, arith, unwrap_or}
-use Rattle.std.specs.Prelude.{⊤, All, MatchOption, option_and_then, ◌^◌, find}
+use Rattle.std.proofs.Common.{◌≡◌, ℕ, ℤ, ◌≤◌, Bool, true, false, cond, List, [], ◌∷◌, length, flat_map, Option, Some, None, refl, subst, arith, unwrap_or}
+use Rattle.std.specs.Prelude.{All, MatchOption, ◌^◌, find}
 use Rattle.std.specs.List.{slice_get}
 use Rattle.std.specs.Option.{option_map}
 use Rattle.std.specs.Str.{bytes_eq}
@@ -11,8 +11,7 @@ use Rattle.schema.specs.declared.types.FieldsKind.TheVariants.{Args}
 use Rattle.schema.specs.Inherited.{own_functions, functions_of, lineage}
 use Rattle.schema.specs.LookUp.{field_at, fields_at, function_named, is_named}
 use Rattle.schema.specs.PlainSchema.{PlainField, PlainStruct, PlainFunction, PlainService, PlainSchema}
-use Rattle.schema.specs.Sound.{IsSound, IsPlaceIn, IsSchemaName, IsSoundStruct, IsSoundField, IsSoundFunction, IsSoundService}
-use Rattle.schema.specs.WrittenAs.{field_with_id}
+use Rattle.schema.specs.Sound.{IsSound, IsPlaceIn, IsSoundStruct, IsSoundField, IsSoundFunction, IsSoundService}
 use Rattle.call_model.specs.Failures.{field_name, struct_name_at}
 
 -- an item at a place is one of all

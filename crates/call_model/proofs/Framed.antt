@@ -1,18 +1,18 @@
 -- What is written of a failure is a whole frame.
-use Rattle.std.proofs.Common.{◌≡◌, ℕ, ℤ, pos, ◌+◌, ◌-◌, ◌*◌, ◌%◌, ◌≤◌, ◌^◌, List, [], ◌∷◌, ◌++◌, length, refl, arith}
+use Rattle.std.proofs.Common.{ℕ, ℤ, ◌+◌, ◌-◌, ◌≤◌, ◌^◌, List, [], ◌∷◌, ◌++◌, length, refl, arith}
 use Rattle.std.specs.Int.{w32, cast_unsigned}
 use Rattle.std.proofs.lemmas.List.{length-append}
 use Rattle.wire_num.specs.Fixed.{signed_bytes}
 use Rattle.wire_num.specs.Varint.{varint_bytes}
 use Rattle.wire_num.specs.Zigzag.{zigzag}
-use Rattle.host_model.specs.Frames.{frame, IsPayload}
+use Rattle.host_model.specs.Frames.{IsPayload}
 use Rattle.call_rules.specs.Desks.{IsWholeFrame}
 use Rattle.envelope.specs.declared.head.Head.{Head}
 use Rattle.envelope.specs.declared.head.Protocol.{Protocol}
 use Rattle.envelope.specs.declared.head.Protocol.TheVariants.{Binary, Compact}
 use Rattle.envelope.specs.Said.{Said}
-use Rattle.envelope.specs.Spelling.{name_text, compact_id, compact_name, head_text}
-use Rattle.envelope.specs.Exception.{Failure, binary_text_field, binary_code_field, compact_text_field, compact_code_field, failure_struct, exception_head, exception_text}
+use Rattle.envelope.specs.Spelling.{compact_id, compact_name, head_text}
+use Rattle.envelope.specs.Exception.{Failure, binary_code_field, compact_text_field, compact_code_field, failure_struct, exception_head, exception_text}
 use Rattle.call_model.specs.Names.{method_part}
 use Rattle.call_model.specs.Decisions.{failure_frame}
 use Rattle.call_model.proofs.Lengths.{varint_length}

@@ -1,19 +1,18 @@
 -- The name in a head that was read is no longer than the bytes.
-use Rattle.std.proofs.Common.{◌≡◌, ℕ, zero, suc, ℤ, pos, negsuc, ◌-◌, ◌<◌, ◌≤◌, ◌==◌, ◌/◌, ◌%◌, Bool, true, false, if◌then◌else◌, nat_lt, List, [], ◌∷◌, ◌++◌, length, Result, Ok, Err, refl, sym, ap, ◌∙◌, subst, arith, get_or, cond}
+use Rattle.std.proofs.Common.{◌≡◌, ℕ, zero, suc, ℤ, pos, negsuc, ◌≤◌, ◌==◌, ◌/◌, ◌%◌, Bool, true, false, if◌then◌else◌, nat_lt, List, [], ◌∷◌, ◌++◌, length, Ok, ap, arith, get_or}
 use Rattle.std.specs.Int.{w32}
-use Rattle.std.specs.Prelude.{⊤, ◌^◌}
+use Rattle.std.specs.Prelude.{◌^◌}
 use Rattle.std.proofs.lemmas.List.{length-append}
 use Rattle.wire_num.specs.Decoding.{decode_bytes, decode_byte, decode_signed, decoded_as}
-use Rattle.wire_num.specs.Fixed.{signed_of, unsigned_of}
+use Rattle.wire_num.specs.Fixed.{signed_of}
 use Rattle.wire_num.specs.Varint.{decode_varint, decode_groups, varint_of}
 use Rattle.wire_num.proofs.Fronts.{front_found, meant, decoded, decoded_is}
-use Rattle.outside.specs.declared.outcomes.EnvelopeFault.{EnvelopeFault}
 use Rattle.outside.specs.declared.outcomes.EnvelopeFault.TheVariants.{NameSize}
 use Rattle.envelope.specs.declared.head.Head.{Head}
 use Rattle.envelope.specs.declared.head.Protocol.{Protocol}
 use Rattle.envelope.specs.declared.head.Protocol.TheVariants.{Binary, Compact}
 use Rattle.envelope.specs.Said.{Said}
-use Rattle.envelope.specs.Readout.{head_bytes, head_byte, head_i32, head_varint, in_head, name_of, sized_name, version, strict_head, old_head, either_head, compact_rest, compact_head, accepted, whole_head, call_type, head_at}
+use Rattle.envelope.specs.Readout.{head_bytes, head_byte, head_i32, head_varint, name_of, sized_name, version, strict_head, old_head, either_head, compact_rest, compact_head, accepted, whole_head, call_type, head_at}
 use Rattle.envelope.proofs.Pieces.{bind_found, piece_found, decoded_in_head, ok, fail, same_ok}
 
 -- some bytes and those behind them are no more than there were

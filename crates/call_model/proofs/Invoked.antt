@@ -1,38 +1,36 @@
 -- Each call that is decided is plain, and its slot is one of those that are bound.
-use Rattle.std.proofs.Common.{◌≡◌, ℕ, zero, suc, ℤ, pos, ◌+◌, ◌-◌, ◌<◌, ◌≤◌, ◌^◌, Bool, true, false, List, [], ◌∷◌, length, Option, Some, None, Result, Ok, Err, refl, sym, ap, subst, ◌∙◌, arith}
-use Rattle.std.specs.Prelude.{⊤, All, IsTrue, option_and_then, MatchOption}
+use Rattle.std.proofs.Common.{◌≡◌, ℕ, suc, pos, ◌-◌, ◌<◌, Bool, true, false, List, length, Option, Some, None, Result, Ok, Err, refl, sym, ap, subst}
+use Rattle.std.specs.Prelude.{⊤, option_and_then}
 use Rattle.std.specs.List.{slice_get}
 use Rattle.std.specs.Option.{option_map}
-use Rattle.std.specs.Str.{bytes_eq}
 use Rattle.std.proofs.lemmas.Option.{slice_get_within}
 use Rattle.std.proofs.lemmas.Slice.Eq.{bytes_eq-Decides}
 use Rattle.outside.specs.declared.outcomes.EnvelopeFault.{EnvelopeFault}
-use Rattle.host_model.specs.DeskRules.{DeskDecision, Close, Silent, Reply, Invoke}
-use Rattle.call_rules.specs.PlainCalls.{PlainCall, IsPlainCall, IsPlainValue, IsStruct}
+use Rattle.host_model.specs.DeskRules.{DeskDecision, Invoke}
+use Rattle.call_rules.specs.PlainCalls.{PlainCall, IsPlainValue, IsStruct}
 use Rattle.envelope.specs.declared.head.Head.{Head}
 use Rattle.envelope.specs.declared.head.Protocol.{Protocol}
 use Rattle.envelope.specs.Exception.{Failure}
 use Rattle.envelope.specs.Readout.{head_at}
 use Rattle.schema.specs.PlainKind.{kind_struct}
 use Rattle.schema.specs.PlainSchema.{PlainFunction, PlainStruct, PlainSchema}
-use Rattle.schema.specs.Sound.{IsSound, IsPlaceIn, IsStructOf, IsSchemaName, IsSoundFunction}
+use Rattle.schema.specs.Sound.{IsSound, IsPlaceIn, IsSchemaName}
 use Rattle.schema.specs.WrittenAs.{IsWrittenAs}
 use Rattle.struct_skew.specs.declared.fault.SkewFault.{SkewFault}
 use Rattle.struct_skew.specs.Projection.{projection}
-use Rattle.thrift_value.specs.declared.tag.Tag.{Tag}
 use Rattle.thrift_value.specs.declared.tag.Tag.TheVariants as tags
 use Rattle.thrift_value.specs.declared.wire_fault.WireFault.{WireFault}
 use Rattle.thrift_value.specs.Tags.{tag_of}
 use Rattle.thrift_value.specs.Tree.{Tree, of_struct, FieldTrees}
-use Rattle.wire_model.specs.Decoder.{Decoder, Unread, ◌>>=◌, go_on, give, room, count_value}
-use Rattle.wire_model.specs.Place.{struct_at, placed, max_values}
+use Rattle.wire_model.specs.Decoder.{Decoder, Unread, ◌>>=◌, give, room, count_value}
+use Rattle.wire_model.specs.Place.{struct_at, placed}
 use Rattle.wire_model.specs.Reading.{deeper, field_list, parts, layer, value}
 use Rattle.wire_model.specs.Wire.{Wire}
 use Rattle.wire_model.proofs.Steps.{went_on, ok_is}
-use Rattle.call_model.specs.Offices.{Binding, PlainOffice, IsSoundOffice}
-use Rattle.call_model.specs.Names.{Bound, bound_at, slot_of, service_part, method_part, service_asked, function_asked}
+use Rattle.call_model.specs.Offices.{Binding, PlainOffice}
+use Rattle.call_model.specs.Names.{Bound, bound_at, slot_asked, service_part, method_part, service_asked, function_asked}
 use Rattle.call_model.specs.Arguments.{wire_of, projected_or_fault, read_as_arguments, arguments_at}
-use Rattle.call_model.specs.Decisions.{is_silent, refused, called, decided_on_function, decided_on_service, decided_on_head, decision}
+use Rattle.call_model.specs.Decisions.{is_silent, refused, call_made, decided_on_function, decided_on_service, decided_on_head, decision}
 use Rattle.call_model.proofs.Found.{function_sound, args_place}
 
 -- what is read under the tag of structs is one
@@ -121,7 +119,7 @@ refused_no_call p head false failure call e = cc
 
 called_is : (office : PlainOffice) (head : Head) (bound : Bound) (f : PlainFunction) (args : Result Tree Failure) (call : PlainCall)
     → bound.slot < length office.bindings → IsSchemaName (method_part head.name) → ((x : Tree) → args ≡ taken x → IsPlainValue x × IsStruct x)
-    → called office head bound f args ≡ makes call → IsDecidedCall office call
+    → call_made office head bound f args ≡ makes call → IsDecidedCall office call
 called_is office head bound f (Ok args) call slot word plain e =
     subst (IsDecidedCall office) (same_call _ call e) (record { slot = slot; word = word; args = plain args refl })
 called_is office head bound f (Err failure) call slot word plain e =
@@ -155,7 +153,7 @@ on_service : (office : PlainOffice) → IsSound office.schema → TakesPlainly o
 unfolding decided_on_service
 on_service office sound plainly payload head (Some bound) call found e =
     on_function office sound plainly payload head bound (function_asked office bound head.name) call
-    (bound_slot office.bindings (slot_of office.bindings (service_part head.name)) bound found) refl e
+    (bound_slot office.bindings (slot_asked office.bindings (service_part head.name)) bound found) refl e
 on_service office sound plainly payload head None call found e = absurd (refused_no_call _ _ _ _ call e)
 
 on_head : (office : PlainOffice) → IsSound office.schema → TakesPlainly office.schema → (payload : List ℕ) (r : Result Head EnvelopeFault) (call : PlainCall)

@@ -1,5 +1,5 @@
 -- The parts of a message's name are no longer than the name.
-use Rattle.std.proofs.Common.{◌≡◌, ℕ, ◌+◌, ◌-◌, ◌≤◌, List, length, take, drop, Option, Some, None, unwrap_or, arith}
+use Rattle.std.proofs.Common.{ℕ, ◌+◌, ◌≤◌, List, length, take, Option, Some, None, unwrap_or, arith}
 use Rattle.std.proofs.lemmas.List.{length-take, length-drop}
 use Rattle.std.specs.Option.{option_map}
 use Rattle.call_model.specs.Names.{separator_of, service_part, method_behind, method_part}

@@ -1,9 +1,8 @@
 -- Each reply that is decided is a whole frame.
-use Rattle.std.proofs.Common.{◌≡◌, ℕ, ℤ, pos, ◌+◌, ◌<◌, ◌≤◌, ◌^◌, Bool, true, false, List, [], ◌∷◌, ◌++◌, codes, length, Option, Some, None, Result, Ok, Err, refl, sym, ap, subst, arith, unwrap_or}
-use Rattle.std.specs.Fmt.{decimal}
+use Rattle.std.proofs.Common.{◌≡◌, ℕ, ◌≤◌, Bool, true, false, List, codes, length, Option, Some, None, Result, Ok, Err, refl, subst, arith}
 use Rattle.std.proofs.lemmas.List.{length-append}
 use Rattle.outside.specs.declared.outcomes.EnvelopeFault.{EnvelopeFault}
-use Rattle.host_model.specs.DeskRules.{DeskDecision, Close, Silent, Reply, Invoke}
+use Rattle.host_model.specs.DeskRules.{DeskDecision, Reply}
 use Rattle.call_rules.specs.PlainCalls.{PlainCall}
 use Rattle.call_rules.specs.Desks.{IsWholeFrame, longest_payload}
 use Rattle.envelope.specs.declared.head.Head.{Head}
@@ -20,10 +19,10 @@ use Rattle.thrift_value.specs.declared.wire_fault.WireFault.TheVariants as wire
 use Rattle.thrift_value.specs.Tree.{Tree}
 use Rattle.wire_model.specs.Place.{struct_at}
 use Rattle.call_model.specs.Offices.{PlainOffice, IsSoundOffice}
-use Rattle.call_model.specs.Names.{Bound, method_part, service_part, service_asked, function_asked}
-use Rattle.call_model.specs.Failures.{no_service, no_method, bad_arguments, wire_fault_text, skew_fault_text, field_name, struct_name_at}
+use Rattle.call_model.specs.Names.{Bound, method_part, service_asked, function_asked}
+use Rattle.call_model.specs.Failures.{no_service, no_method, bad_arguments, wire_fault_text, skew_fault_text}
 use Rattle.call_model.specs.Arguments.{wire_of, projected_or_fault, read_as_arguments, arguments_at}
-use Rattle.call_model.specs.Decisions.{is_sent_oneway, is_silent, failure_frame, refused, called, decided_on_function, decided_on_service, decided_on_head, decision}
+use Rattle.call_model.specs.Decisions.{is_sent_oneway, is_silent, failure_frame, refused, call_made, decided_on_function, decided_on_service, decided_on_head, decision}
 use Rattle.call_model.proofs.Lengths.{decimal_length}
 use Rattle.call_model.proofs.Heads.{name_within}
 use Rattle.call_model.proofs.Framed.{failure_framed}
@@ -96,7 +95,7 @@ arguments_text s sound p which payload at failure e = read_text s sound which (s
 
 called_framed : (office : PlainOffice) (head : Head) (bound : Bound) (f : PlainFunction) (args : Result Tree Failure) (reply : List ℕ)
     → length head.name ≤ longest_payload → ((failure : Failure) → args ≡ failed failure → length failure.text ≤ longest_text)
-    → called office head bound f args ≡ replied reply → IsWholeFrame reply
+    → call_made office head bound f args ≡ replied reply → IsWholeFrame reply
 called_framed office head bound f (Ok args) reply named told e = absurd cc
 called_framed office head bound f (Err failure) reply named told e =
     refused_framed office.protocol head (is_silent head f) failure reply (omega (arith, named, method_within head.name)) (told failure refl) e

@@ -1,8 +1,8 @@
 -- That an office is sound, had where a value keeps no more than that it is so.
-use Rattle.std.proofs.Common.{◌≡◌, ℕ, ℤ, ◌<◌, ◌≤◌, ◌<ℤ◌, Bool, true, false, List, [], ◌∷◌, length, get_or, Option, Some, None, refl, arith}
+use Rattle.std.proofs.Common.{◌≡◌, ℕ, ℤ, List, [], ◌∷◌, Option, Some, None, arith}
 use Rattle.std.proofs.Props.{props}
 use Rattle.std.proofs.Math.Logic.{∥∥₁_elim, ∥∥₁_prop}
-use Rattle.std.specs.Prelude.{⊤, All, AllPairs, MatchOption}
+use Rattle.std.specs.Prelude.{⊤, All, MatchOption}
 use Rattle.std.proofs.lemmas.List.Elements.{All-get_or, All-nil, All-cons, All-tail}
 use Rattle.schema.specs.declared.types.FieldsKind.{FieldsKind}
 use Rattle.schema.specs.declared.types.DefRef.{DefRef}
@@ -12,7 +12,7 @@ use Rattle.schema.specs.PlainSchema.{PlainField, PlainStruct, PlainEnum, PlainFu
 use Rattle.schema.specs.Sound.{IsSchemaName, IsKindIn, IsStructOf, IsValueOf, IsSoundField, AreSoundFields, IsSoundStruct, IsSoundEnum, IsException, IsSoundFunction, IsSoundService, IsSoundAlias, IsSoundConstant, IsDefIn, AreSoundDefs, IsSoundFile, HasShortLists, IsSoundButConstants, IsSound}
 use Rattle.struct_skew.proofs.Deciding.{decides_tidy, decides_written}
 use Rattle.thrift_value.specs.Tree.{Tree}
-use Rattle.call_model.specs.Offices.{Binding, PlainOffice, IsSoundOffice}
+use Rattle.call_model.specs.Offices.{PlainOffice, IsSoundOffice}
 
 -- what is known to hold is had
 abbrev Had : Type 0 → Type 0

@@ -1,5 +1,5 @@
 -- What is decided on a payload, in the order of its content: head, service, method, arguments (Thrift: a processor).
-use Rattle.std.specs.Prelude.{ℕ, ℤ, ◌==◌, ◌||◌, Bool, if◌then◌else◌, List, Option, Some, None, Result, Ok, Err}
+use Rattle.std.specs.Prelude.{ℕ, ◌==◌, ◌||◌, Bool, if◌then◌else◌, List, Option, Some, None, Result, Ok, Err}
 use Rattle.outside.specs.declared.outcomes.EnvelopeFault.{EnvelopeFault}
 use Rattle.host_model.specs.DeskRules.{DeskDecision, Close, Silent, Reply, Invoke}
 use Rattle.host_model.specs.Frames.{frame}
@@ -33,15 +33,15 @@ unfoldable pub refused : Protocol → Head → Bool → Failure → DeskDecision
 refused protocol head silent failure = if silent then Silent else Reply (failure_frame protocol head failure)
 
 -- the call of a function that is bound at a slot, by its arguments
-abbrev pub called : PlainOffice → Head → Bound → PlainFunction → Result Tree Failure → DeskDecision PlainCall
-called office head bound f (Ok args) =
+abbrev pub call_made : PlainOffice → Head → Bound → PlainFunction → Result Tree Failure → DeskDecision PlainCall
+call_made office head bound f (Ok args) =
     Invoke (record { slot = bound.slot; method = method_part head.name; args = args; silent = is_silent head f })
-called office head bound f (Err failure) = refused office.protocol head (is_silent head f) failure
+call_made office head bound f (Err failure) = refused office.protocol head (is_silent head f) failure
 
 -- the decision where this function is found
 unfoldable pub decided_on_function : PlainOffice → List ℕ → Head → Bound → Option PlainFunction → DeskDecision PlainCall
 decided_on_function office payload head bound (Some f) =
-    called office head bound f (arguments_at office.schema office.protocol f.args payload head.behind)
+    call_made office head bound f (arguments_at office.schema office.protocol f.args payload head.behind)
 decided_on_function office payload head bound None =
     refused office.protocol head (is_sent_oneway head) (no_method (method_part head.name))
 

@@ -2,16 +2,15 @@
 -- that takes and gives bytes.
 use Rattle.std.specs.Prelude.{ℕ, ℤ, pos, Bool, true, false, List, [], ◌∷◌, ◌++◌, codes, length, Option, Some, None}
 use Rattle.envelope.specs.declared.head.Protocol.{Protocol}
-use Rattle.envelope.specs.declared.head.Protocol.TheVariants.{Binary, Compact}
-use Rattle.thrift_value.specs.Tree.{Tree, of_i32}
+use Rattle.envelope.specs.declared.head.Protocol.TheVariants.{Binary}
+use Rattle.thrift_value.specs.Tree.{of_i32}
 use Rattle.schema.specs.declared.types.FieldNeed.{FieldNeed}
 use Rattle.schema.specs.declared.types.FieldNeed.TheVariants.{Default, Optional, Required}
-use Rattle.schema.specs.declared.types.FieldsKind.{FieldsKind}
 use Rattle.schema.specs.declared.types.FieldsKind.TheVariants as of_kind
 use Rattle.schema.specs.PlainKind.{PlainKind, kind_i32, kind_text, kind_binary, kind_enum, kind_struct}
 use Rattle.schema.specs.PlainSchema.{PlainField, PlainStruct, PlainFunction, PlainSchema}
 use Rattle.call_rules.specs.Desks.{longest_payload}
-use Rattle.call_model.specs.Offices.{Binding, PlainOffice}
+use Rattle.call_model.specs.Offices.{PlainOffice}
 
 -- a field without a default
 abbrev pub declared_field : ℤ → FieldNeed → PlainKind → List ℕ → PlainField
@@ -37,8 +36,8 @@ tutorial_work = record {
 }
 
 -- exception InvalidOperation { 1: i32 whatOp, 2: string why }
-abbrev pub invalid_operation : PlainStruct
-invalid_operation = record {
+abbrev pub tutorial_exception : PlainStruct
+tutorial_exception = record {
   file = 0;
   name = codes "InvalidOperation";
   kind = of_kind.Exception;
@@ -46,8 +45,8 @@ invalid_operation = record {
 }
 
 -- struct SharedStruct { 1: i32 key, 2: string value }
-abbrev pub shared_struct : PlainStruct
-shared_struct = record {
+abbrev pub tutorial_shared : PlainStruct
+tutorial_shared = record {
   file = 1;
   name = codes "SharedStruct";
   kind = of_kind.Struct;
@@ -74,7 +73,7 @@ abbrev pub tutorial_schema : PlainSchema
 tutorial_schema = record {
   files = record { base = codes "tutorial"; includes = 1 ∷ []; defs = [] } ∷ record { base = codes "shared"; includes = []; defs = [] } ∷ [];
   structs =
-      tutorial_work ∷ invalid_operation ∷ shared_struct ∷ declared_args (codes "ping") []
+      tutorial_work ∷ tutorial_exception ∷ tutorial_shared ∷ declared_args (codes "ping") []
       ∷ declared_args (codes "add") (usual_field 1 kind_i32 (codes "num1") ∷ usual_field 2 kind_i32 (codes "num2") ∷ [])
       ∷ declared_args (codes "calculate") (usual_field 1 kind_i32 (codes "logid") ∷ usual_field 2 (kind_struct 0) (codes "w") ∷ [])
       ∷ declared_args (codes "zip") [] ∷ declared_args (codes "getStruct") (usual_field 1 kind_i32 (codes "key") ∷ []) ∷ [];

@@ -1,6 +1,6 @@
 -- Why there is no call, or no result, as callers are told (Thrift RPC specification, 'Application Exceptions'). The codes are those of
 -- TApplicationException. Own choice: the texts, and that an unknown service and arguments at fault are answered at all.
-use Rattle.std.specs.Prelude.{ℕ, ℤ, pos, List, [], ◌++◌, codes, Option, Some, None, unwrap_or}
+use Rattle.std.specs.Prelude.{ℕ, ℤ, pos, List, [], ◌++◌, codes, unwrap_or}
 use Rattle.std.specs.List.{slice_get}
 use Rattle.std.specs.Option.{option_map}
 use Rattle.text_out.specs.Decimal.{decimal_of}

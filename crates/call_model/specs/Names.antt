@@ -39,9 +39,9 @@ only_slot _ = None
 
 -- the slot of the service that is asked for. Own choice: a name without a service asks for the only one that is bound, and where there
 -- are several for none
-abbrev pub slot_of : List Binding → Option (List ℕ) → Option ℕ
-slot_of bindings (Some name) = position (has_bound_name name) bindings
-slot_of bindings None = only_slot bindings
+abbrev pub slot_asked : List Binding → Option (List ℕ) → Option ℕ
+slot_asked bindings (Some name) = position (has_bound_name name) bindings
+slot_asked bindings None = only_slot bindings
 
 -- a slot and the number of its service
 pub record Bound : Type 0 where
@@ -54,7 +54,7 @@ bound_at bindings slot = option_map (λ (b : Binding). record { slot = slot; ser
 
 -- the service that a message's name asks for
 abbrev pub service_asked : List Binding → List ℕ → Option Bound
-service_asked bindings name = option_and_then (bound_at bindings) (slot_of bindings (service_part name))
+service_asked bindings name = option_and_then (bound_at bindings) (slot_asked bindings (service_part name))
 
 -- the function that a message's name asks for of a service, inherited ones included
 abbrev pub function_asked : PlainOffice → Bound → List ℕ → Option PlainFunction

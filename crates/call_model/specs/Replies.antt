@@ -9,7 +9,6 @@ use Rattle.envelope.specs.declared.head.Protocol.{Protocol}
 use Rattle.envelope.specs.declared.head.Protocol.TheVariants.{Binary, Compact}
 use Rattle.envelope.specs.Spelling.{head_text}
 use Rattle.envelope.specs.Readout.{head_at}
-use Rattle.envelope.specs.Exception.{Failure}
 use Rattle.call_rules.specs.PlainCalls.{PlainAnswer, success, empty, throws, broken}
 use Rattle.schema.specs.PlainKind.{PlainKind}
 use Rattle.schema.specs.PlainSchema.{PlainField, PlainStruct, PlainFunction}

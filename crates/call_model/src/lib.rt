@@ -1,5 +1,20 @@
 //! What a payload asks of a host that serves services of a schema, and what goes back, by definitions and laws alone: the
-//! decision on a message, and the reply to a call. Nothing runs.
+//! decision on a message, and the reply to a call. It is for crates that decide and reply; nothing runs.
+//!
+//! The files of `specs/`, in reading order: what is served (`Offices`); which function a message's name asks for (`Names`); why
+//! there is no call, or no result, as callers are told (`Failures`); the arguments of a call (`Arguments`); the decision on a
+//! payload, in the order of its content (`Decisions`); the reply to a call, by its answer (`Replies`); both as what a desk means
+//! (`Desk`).
+//!
+//! A crate that decides says in its contract that it decides just this, and gets the rest from the laws:
+//!
+//! ```
+//! fn decide(office: &Office, alloc: Global, payload: &[u8]) -> Result<Decision, AllocError>
+//!     ensures { IfOk result (λ d. plain_decision d ≡ decision (plain_office office.now) payload.now) }
+//! ```
+//!
+//! By [`an_office_is_a_desk`] each call that is decided is plain and its slot is bound, and each reply is a whole frame, whatever
+//! the payload. Not here: how a handler answers (`call_rules`), and connections.
 #![tactic(auto)]
 
 pub mod examples;

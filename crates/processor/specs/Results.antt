@@ -7,9 +7,9 @@ use Rattle.processor.specs.declared.results.ResultField.{ResultField}
 use Rattle.processor.specs.declared.results.ResultField.TheVariants.{Nothing, One}
 
 -- its fields
-abbrev pub fields_of : ResultField → FieldTrees
-fields_of Nothing = no_fields
-fields_of (One id value) = field id (tree_of value.now) no_fields
+abbrev pub lent_fields : ResultField → FieldTrees
+lent_fields Nothing = no_fields
+lent_fields (One id value) = field id (tree_of value.now) no_fields
 
 -- its lengths and sizes have an encoding
 abbrev pub HasSmallField : ResultField → Type 0

@@ -9,7 +9,7 @@ ghost use Rattle.call_model.specs.Decisions.{is_sent_oneway, is_silent};
 ghost use Rattle.call_model.specs.Names.{method_part};
 
 use crate::arguments::{ArgumentFault, arguments_at};
-use crate::failures::{Told, bad_arguments, no_method, no_service};
+use crate::failures::{ToldFailure, bad_arguments, no_method, no_service};
 use crate::frames::failure_frame;
 use crate::names::{BoundService, method_part, service_asked};
 use crate::office::Office;
@@ -33,14 +33,14 @@ impl Office {
     ghost use Rattle.schema.specs.Sound.{IsSound, IsPlaceIn};
     ghost use Rattle.call_model.specs.Arguments.{arguments_at};
     ghost use Rattle.call_model.specs.Failures.{bad_arguments, no_method, no_service};
-    ghost use Rattle.call_model.specs.Decisions.{called, decided_on_function, decided_on_head, decided_on_service, decision, is_sent_oneway, is_silent, refused};
+    ghost use Rattle.call_model.specs.Decisions.{call_made, decided_on_function, decided_on_head, decided_on_service, decision, is_sent_oneway, is_silent, refused};
     ghost use Rattle.call_model.specs.Names.{function_asked, method_part, service_asked};
     ghost use Rattle.processor.specs.Offices.{plain_office};
     ghost use Rattle.processor.specs.Seen.{argument_fault_text, bound_of, failure_of};
 
     /// A message that makes no call: its sender is told why.
     #[tactic(auto, unfolding(call_model::specs::Decisions::refused))]
-    fn refuse(&self, alloc: Global, head: &Head, told: &Told) -> Result<Decision, AllocError>
+    fn refuse(&self, alloc: Global, head: &Head, told: &ToldFailure) -> Result<Decision, AllocError>
         requires name { length head.now.name ≤ longest_payload }
         requires text { length told.now.text.items ≤ longest_payload + 100 }
         ensures { IfOk result (λ d. plain_decision d ≡ refused self.now.protocol head.now false (failure_of told.now)) }
@@ -110,7 +110,7 @@ impl Office {
         requires place { IsPlaceIn (schema_of self.now.schema).structs function.now.args }
         requires name { length head.now.name ≤ longest_payload }
         requires within { head.now.behind ≤ length payload.now }
-        ensures { IfOk result (λ d. plain_decision d ≡ called (plain_office self.now) head.now (bound_of bound) (plain_function function.now)
+        ensures { IfOk result (λ d. plain_decision d ≡ call_made (plain_office self.now) head.now (bound_of bound) (plain_function function.now)
             (arguments_at (schema_of self.now.schema) self.now.protocol function.now.args payload.now head.now.behind)) }
     {
         let silent = is_silent(head, function);

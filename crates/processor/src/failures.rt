@@ -28,19 +28,19 @@ const PROTOCOL_ERROR: i32 = 7;
 
 /// What a caller is told of a call that failed.
 #[derive(Drop)]
-pub(crate) struct Told {
+pub(crate) struct ToldFailure {
     pub(crate) text: Vec<u8>,
     pub(crate) code: i32,
 }
 
 /// No service is bound under the name's front, or under the whole name where it has no front.
-pub(crate) fn no_service(alloc: Global, name: &[u8]) -> Result<Told, AllocError>
+pub(crate) fn no_service(alloc: Global, name: &[u8]) -> Result<ToldFailure, AllocError>
     ensures { IfOk result (λ told. failure_of told ≡ no_service name.now) }
 {
     let mut text = Vec::new(alloc);
     text.extend_from_slice(b"Service name not found: ")?;
     text.extend_from_slice(service_or_whole(name))?;
-    Ok(Told {
+    Ok(ToldFailure {
         text,
         code: UNKNOWN_METHOD,
     })
@@ -57,14 +57,14 @@ fn service_or_whole(name: &[u8]) -> &[u8]
 }
 
 /// The service has no function of the name's method.
-pub(crate) fn no_method(alloc: Global, name: &[u8]) -> Result<Told, AllocError>
+pub(crate) fn no_method(alloc: Global, name: &[u8]) -> Result<ToldFailure, AllocError>
     ensures { IfOk result (λ told. failure_of told ≡ no_method (method_part name.now)) }
 {
     let mut text = Vec::new(alloc);
     text.extend_from_slice(b"Invalid method name: '")?;
     text.extend_from_slice(method_part(name))?;
     text.extend_from_slice(b"'")?;
-    Ok(Told {
+    Ok(ToldFailure {
         text,
         code: UNKNOWN_METHOD,
     })
@@ -174,39 +174,39 @@ pub(crate) fn bad_arguments(
     alloc: Global,
     schema: &Schema,
     fault: ArgumentFault,
-) -> Result<Told, AllocError>
+) -> Result<ToldFailure, AllocError>
     requires { IsSound (schema_of schema.now) }
     ensures { IfOk result (λ told. failure_of told ≡ bad_arguments (argument_fault_text (schema_of schema.now) fault)) }
 {
     let mut text = Vec::new(alloc);
     text.extend_from_slice(b"Bad arguments: ")?;
     put_argument_fault(schema, fault, &mut text)?;
-    Ok(Told {
+    Ok(ToldFailure {
         text,
         code: PROTOCOL_ERROR,
     })
 }
 
 /// The call has no result that may go back.
-pub(crate) fn no_result(alloc: Global, name: &[u8]) -> Result<Told, AllocError>
+pub(crate) fn no_result(alloc: Global, name: &[u8]) -> Result<ToldFailure, AllocError>
     ensures { IfOk result (λ told. failure_of told ≡ no_result (method_part name.now)) }
 {
     let mut text = Vec::new(alloc);
     text.extend_from_slice(b"Internal error processing ")?;
     text.extend_from_slice(method_part(name))?;
-    Ok(Told {
+    Ok(ToldFailure {
         text,
         code: INTERNAL_ERROR,
     })
 }
 
 /// The result is longer than a payload may be.
-pub(crate) fn too_large(alloc: Global) -> Result<Told, AllocError>
+pub(crate) fn too_large(alloc: Global) -> Result<ToldFailure, AllocError>
     ensures { IfOk result (λ told. failure_of told ≡ too_large) }
 {
     let mut text = Vec::new(alloc);
     text.extend_from_slice(b"Reply is too large")?;
-    Ok(Told {
+    Ok(ToldFailure {
         text,
         code: INTERNAL_ERROR,
     })

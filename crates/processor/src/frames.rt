@@ -7,7 +7,7 @@ ghost use Rattle.call_rules.specs.Desks.{longest_payload};
 ghost use Rattle.call_model.specs.Decisions.{failure_frame};
 ghost use Rattle.processor.specs.Seen.{failure_of};
 
-use crate::failures::Told;
+use crate::failures::ToldFailure;
 use crate::names::method_part;
 use envelope::{Head, Protocol, write_exception};
 use std::alloc::{AllocError, Global};
@@ -54,7 +54,7 @@ pub(crate) fn failure_frame(
     alloc: Global,
     protocol: Protocol,
     head: &Head,
-    told: &Told,
+    told: &ToldFailure,
 ) -> Result<Vec<u8>, AllocError>
     requires name { length head.now.name ≤ longest_payload }
     requires text { length told.now.text.items ≤ longest_payload + 100 }

@@ -3,7 +3,7 @@
 ghost use Rattle.std.specs.Prelude.{◌≡◌, ◌<◌, ◌^◌, length, position, IfSome};
 ghost use Rattle.std.specs.List.{slice_get};
 ghost use Rattle.std.specs.Option.{option_map, option_copied};
-ghost use Rattle.call_model.specs.Names.{separator_of, service_part, method_part, has_bound_name, only_slot, slot_of, service_asked};
+ghost use Rattle.call_model.specs.Names.{separator_of, service_part, method_part, has_bound_name, only_slot, slot_asked, service_asked};
 ghost use Rattle.processor.specs.Seen.{bound_of};
 
 use thrift_value::ByteText;
@@ -68,8 +68,8 @@ fn only_slot(bindings: &[(ByteText, u32)]) -> Option<usize>
 }
 
 /// The slot that a message's name asks for.
-fn slot_of(bindings: &[(ByteText, u32)], name: &[u8]) -> Option<usize>
-    ensures { result ≡ slot_of bindings.now (service_part name.now) }
+fn slot_asked(bindings: &[(ByteText, u32)], name: &[u8]) -> Option<usize>
+    ensures { result ≡ slot_asked bindings.now (service_part name.now) }
 {
     match service_part(name) {
         Some(service) => slot_named(bindings, service),
@@ -89,7 +89,7 @@ pub(crate) fn service_asked(bindings: &[(ByteText, u32)], name: &[u8]) -> Option
     requires { length bindings.now < 2 ^ 32 }
     ensures { option_map bound_of result ≡ service_asked bindings.now name.now }
 {
-    let slot = slot_of(bindings, name)?;
+    let slot = slot_asked(bindings, name)?;
     let binding = binding_at(bindings, slot)?;
     Some(BoundService {
         slot: slot as u32,

@@ -24,7 +24,7 @@ impl Office {
     ghost use Rattle.call_model.specs.Replies.{reply_text, reply_of, reply_of_function, reply_of_service, reply_to_head, result_fields, result_frame, within_frame};
     ghost use Rattle.call_model.specs.Names.{function_asked, method_part, service_asked};
     ghost use Rattle.processor.specs.Offices.{plain_office};
-    ghost use Rattle.processor.specs.Results.{HasSmallField, fields_of};
+    ghost use Rattle.processor.specs.Results.{HasSmallField, lent_fields};
     ghost use Rattle.processor.specs.Seen.{bound_of};
 
     /// The frame that tells that a call has no result.
@@ -57,7 +57,7 @@ impl Office {
         requires name { length head.now.name ≤ longest_payload }
         requires sizes { HasSmallField field }
         ensures { IfOk result (λ framed. framed.items
-            ≡ within_frame (plain_office self.now) head.now (reply_text self.now.protocol head.now (fields_of field.entry))) }
+            ≡ within_frame (plain_office self.now) head.now (reply_text self.now.protocol head.now (lent_fields field.entry))) }
     {
         let framed = self.open_reply(alloc, head, field)?;
         if framed.len() - SIZE_BYTES > self.max_frame as usize {
@@ -76,7 +76,7 @@ impl Office {
     ) -> Result<Vec<u8>, AllocError>
         requires name { length head.now.name ≤ longest_payload }
         requires sizes { HasSmallField field }
-        ensures { IfOk result (λ framed. framed.items ≡ 0 ∷ 0 ∷ 0 ∷ 0 ∷ reply_text self.now.protocol head.now (fields_of field.entry)) }
+        ensures { IfOk result (λ framed. framed.items ≡ 0 ∷ 0 ∷ 0 ∷ 0 ∷ reply_text self.now.protocol head.now (lent_fields field.entry)) }
     {
         let mut framed = opened(alloc)?;
         write_head(

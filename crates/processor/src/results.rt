@@ -15,7 +15,7 @@ ghost use Rattle.schema.specs.Sound.{IsSound};
 ghost use Rattle.schema.specs.WrittenAs.{field_with_id};
 ghost use Rattle.wire_model.specs.Encoder.{behind_heading, heading, text};
 ghost use Rattle.call_model.specs.Replies.{alone_under, deepest_result, encoder_of, may_go_back, result_fields, success_fields, throws_fields};
-ghost use Rattle.processor.specs.Results.{HasSmallField, fields_of};
+ghost use Rattle.processor.specs.Results.{HasSmallField, lent_fields};
 
 use binary_codec::Binary;
 use call_rules::Answer;
@@ -79,7 +79,7 @@ fn alone_under<'a>(
     value: &'a Value,
 ) -> Option<ResultField<'a>>
     requires { IsSound (schema_of schema.now) }
-    ensures made { option_map fields_of result ≡ alone_under (schema_of schema.now).structs id (kind_of kind.now) (tree_of value.now) }
+    ensures made { option_map lent_fields result ≡ alone_under (schema_of schema.now).structs id (kind_of kind.now) (tree_of value.now) }
     ensures sizes { IfSome result HasSmallField }
 {
     if may_go_back(schema, kind, value) {
@@ -96,7 +96,7 @@ fn success_field<'a>(
     value: &'a Value,
 ) -> Option<ResultField<'a>>
     requires { IsSound (schema_of schema.now) }
-    ensures made { option_map fields_of result ≡ success_fields (schema_of schema.now).structs (plain_function function.now).result (tree_of value.now) }
+    ensures made { option_map lent_fields result ≡ success_fields (schema_of schema.now).structs (plain_function function.now).result (tree_of value.now) }
     ensures sizes { IfSome result HasSmallField }
 {
     match &function.result {
@@ -132,7 +132,7 @@ fn throws_field<'a>(
     exception: &'a Value,
 ) -> Option<ResultField<'a>>
     requires { IsSound (schema_of schema.now) }
-    ensures made { option_map fields_of result ≡ throws_fields (schema_of schema.now).structs
+    ensures made { option_map lent_fields result ≡ throws_fields (schema_of schema.now).structs
         (field_with_id id (plain_function function.now).throws) (tree_of exception.now) }
     ensures sizes { IfSome result HasSmallField }
 {
@@ -149,7 +149,7 @@ pub(crate) fn result_field<'a>(
     answer: &'a Answer,
 ) -> Option<ResultField<'a>>
     requires { IsSound (schema_of schema.now) }
-    ensures made { option_map fields_of result ≡ result_fields (schema_of schema.now).structs (plain_function function.now) (plain_answer answer.now) }
+    ensures made { option_map lent_fields result ≡ result_fields (schema_of schema.now).structs (plain_function function.now) (plain_answer answer.now) }
     ensures sizes { IfSome result HasSmallField }
 {
     match answer {
@@ -178,7 +178,7 @@ fn put_field<C: Codec>(id: i16, value: &Value, into: &mut Vec<u8>) -> Result<(),
 /// Appends the struct of a result.
 fn put_struct<C: Codec>(field: ResultField<'_>, into: &mut Vec<u8>) -> Result<(), AllocError>
     requires { HasSmallField field }
-    ensures { OnOk result (into.new.items ≡ into.old.items ++ text C.encoder (of_struct (fields_of field.entry))) }
+    ensures { OnOk result (into.new.items ≡ into.old.items ++ text C.encoder (of_struct (lent_fields field.entry))) }
 {
     match field {
         ResultField::Nothing => C::put_header(0, Header::Stop, into),
@@ -196,7 +196,7 @@ pub(crate) fn put_result(
     into: &mut Vec<u8>,
 ) -> Result<(), AllocError>
     requires { HasSmallField field }
-    ensures { OnOk result (into.new.items ≡ into.old.items ++ text (encoder_of protocol) (of_struct (fields_of field.entry))) }
+    ensures { OnOk result (into.new.items ≡ into.old.items ++ text (encoder_of protocol) (of_struct (lent_fields field.entry))) }
 {
     match protocol {
         Protocol::Binary => put_struct::<Binary>(field, into),

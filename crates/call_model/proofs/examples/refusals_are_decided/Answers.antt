@@ -4,8 +4,6 @@ use Rattle.envelope.specs.Exception.{failure_struct, exception_head}
 use Rattle.wire_model.specs.Reading.{value, layer, parts, field_list, field_behind, item_list, pair_list}
 use Rattle.binary_codec.specs.Codes.{tag_of_code}
 use Rattle.binary_codec.specs.Reading.{binary_field, binary_scalar, binary_size, binary_span, binary_items, binary_pairs, tag_coded}
-use Rattle.compact_codec.specs.Codes.{compact_tag}
-use Rattle.compact_codec.specs.Reading.{compact_field, compact_scalar, compact_size, compact_span, compact_items, compact_pairs, tag_in_half}
 use Rattle.call_model.specs.Arguments.{arguments_at}
 use Rattle.call_model.specs.Decisions.{decided_on_head, decided_on_service, decided_on_function, refused, failure_frame}
 use Rattle.call_model.proofs.examples.refusals_are_decided.Goals as goal
