@@ -15,11 +15,14 @@ use std::alloc::{AllocError, Global};
 /// The bytes that a size has in front of a payload.
 pub(crate) const SIZE_BYTES: usize = 4;
 
-/// A frame without a payload, in which no size stands yet.
-pub(crate) fn opened(alloc: Global) -> Result<Vec<u8>, AllocError>
+/// The most bytes that the frame of a failure has beside its name and its text.
+const FAILURE_ROOM: usize = 36;
+
+/// A frame without a payload, in which no size stands yet, with room for so many bytes.
+pub(crate) fn opened(alloc: Global, room: usize) -> Result<Vec<u8>, AllocError>
     ensures { IfOk result (λ framed. framed.items ≡ 0 ∷ 0 ∷ 0 ∷ 0 ∷ []) }
 {
-    let mut framed = Vec::new(alloc);
+    let mut framed = Vec::with_capacity(alloc, room)?;
     framed.extend_from_slice(&[0; SIZE_BYTES])?;
     Ok(framed)
 }
@@ -48,6 +51,14 @@ pub(crate) fn with_size(framed: Vec<u8>) -> Vec<u8>
     framed
 }
 
+/// How many bytes the frame of a failure has at most.
+fn failure_room(head: &Head, told: &ToldFailure) -> usize
+    requires name { length head.now.name ≤ longest_payload }
+    requires text { length told.now.text.items ≤ longest_payload + 100 }
+{
+    FAILURE_ROOM + head.name.as_slice().len() + told.text.len()
+}
+
 /// The frame that tells a caller of a failure.
 #[tactic(auto, unfolding(call_model::specs::Decisions::failure_frame))]
 pub(crate) fn failure_frame(
@@ -60,7 +71,7 @@ pub(crate) fn failure_frame(
     requires text { length told.now.text.items ≤ longest_payload + 100 }
     ensures { IfOk result (λ framed. framed.items ≡ failure_frame protocol head.now (failure_of told.now)) }
 {
-    let mut framed = opened(alloc)?;
+    let mut framed = opened(alloc, failure_room(head, told))?;
     write_exception(
         protocol,
         method_part(head.name.as_slice()),

@@ -10,6 +10,9 @@ use envelope::{Head, HeadFault, read_head, write_head};
 use schema::FnDesc;
 use std::alloc::{AllocError, Global};
 
+/// Room for the head of a reply beside its name, and for a short result.
+const REPLY_ROOM: usize = 64;
+
 /// The type of a reply.
 const REPLY: u8 = 2;
 
@@ -78,7 +81,7 @@ impl Office {
         requires sizes { HasSmallField field }
         ensures { IfOk result (λ framed. framed.items ≡ 0 ∷ 0 ∷ 0 ∷ 0 ∷ reply_text self.now.protocol head.now (lent_fields field.entry)) }
     {
-        let mut framed = opened(alloc)?;
+        let mut framed = opened(alloc, REPLY_ROOM + head.name.as_slice().len())?;
         write_head(
             self.protocol,
             method_part(head.name.as_slice()),
