@@ -1,5 +1,6 @@
 pub mod Phrases
 pub mod Leaves
+pub mod Unplaced
 pub mod Parts
 pub mod Types
 pub mod Constants

@@ -10,7 +10,7 @@ use Rattle.idl_token.proofs.Spellings.{word as spells_word}
 use Rattle.idl_token.specs.declared.terminal.Terminal.{Terminal}
 use Rattle.idl_token.specs.declared.terminal.Terminal.TheVariants as word
 use Rattle.idl_token.specs.Terminals.{same}
-use Rattle.idl_printer.specs.Unplaced.{nowhere}
+use Rattle.idl_parser.specs.Unplaced.{nowhere}
 use Rattle.idl_parser.specs.Phrases.{text as leaf, number}
 use Rattle.idl_parser.specs.Leaves.{literal_bytes, int_number}
 use Rattle.idl_parser.specs.Parts.{identifier, decimal, integer, literal}

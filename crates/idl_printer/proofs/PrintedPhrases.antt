@@ -13,7 +13,8 @@ use Rattle.idl_parser.specs.Phrases.{Lexeme, Node, none, word, flag, text as lea
 use Rattle.idl_parser.specs.Leaves.{sign, kept_word, flagged, text_leaf, neither, left_tree, right_tree}
 use Rattle.idl_parser.specs.Symbols.{terminal_of}
 use Rattle.idl_parser.specs.Trees.{row}
-use Rattle.idl_printer.specs.Unplaced.{without_places, nowhere}
+use Rattle.idl_parser.specs.Unplaced.{nowhere}
+use Rattle.idl_printer.specs.Unplaced.{without_places}
 use Rattle.idl_printer.specs.Printed.{behind_comma, separated}
 use Rattle.idl_parser.proofs.Sound.{cut}
 use Rattle.idl_token.specs.Spellings.{BareToken, parted, any, Spells}

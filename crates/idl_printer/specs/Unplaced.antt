@@ -1,10 +1,6 @@
 -- Trees without their places.
-use Rattle.idl_token.specs.declared.Place.{Place}
 use Rattle.idl_parser.specs.Phrases.{Node, none, word, flag, text, number, given, pair, placed}
-
--- a place that no text has
-abbrev pub nowhere : Place
-nowhere = record { line = 0; column = 0 }
+use Rattle.idl_parser.specs.Unplaced.{nowhere}
 
 -- the tree with one place everywhere
 abbrev pub without_places : Node → Node
