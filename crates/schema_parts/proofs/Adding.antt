@@ -86,7 +86,7 @@ services_given (s ∷ services) =
     (λ i. args_alike s.file s.item.now.functions.items i ++ services_given services i)
     ∙ sym (map-append args_of_function (functions_in (filed_by service_declared s)) (flat_map functions_in (filed_services services)))
 
-lists_given : (program : Program) (structs : List (InFile Struct)) (services : List (InFile Service)) → filed_structs structs ≡ structs_of program
+pub lists_given : (program : Program) (structs : List (InFile Struct)) (services : List (InFile Service)) → filed_structs structs ≡ structs_of program
     → filed_services services ≡ services_of program → all_given structs services ≡ field_lists program
 unfolding field_lists all_functions
 lists_given program structs services s v =

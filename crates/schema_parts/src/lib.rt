@@ -26,4 +26,5 @@ mod typedefs;
 
 pub use finite::finite_structs;
 pub use partial::partial_schema;
+pub use services::thrown;
 pub use sorted::{FieldById, fields_sorted};

@@ -31,7 +31,7 @@ fn number_behind(first: u32, count: usize) -> Result<u32, AllocError>
 
 /// The exceptions that a function throws.
 #[tactic(auto, unfolding(idl_model::specs::DeclaredIn::function_in))]
-fn thrown(function: &Function) -> &[Field]
+pub fn thrown(function: &Function) -> &[Field]
     ensures { map field_in result.now ≡ (function_in function.now).throws }
 {
     match &function.throws {
