@@ -1,0 +1,5 @@
+pub mod RisingIds
+pub mod OwedBeside
+pub mod ListsGiven
+pub mod Tabled
+pub mod InTables

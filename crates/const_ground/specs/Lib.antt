@@ -1,0 +1,4 @@
+pub mod GivenFields
+pub mod OwedFields
+pub mod StructTables
+pub mod ProgramGrounds

@@ -1,0 +1,20 @@
+//! The constants of a program evaluated over its tables.
+//!
+//! ```
+//! let ground = program_ground(alloc, &constants, &definitions, &places, values.as_slice(), &schema)?;
+//! let mut evaluator = program_evaluator(alloc, &ground, &types)?;
+//! let made = evaluate_all(alloc, &mut evaluator, values.as_slice())?;
+//! ```
+//!
+//! [`ProgramGround`] is what `idl_const` asks of a program, over its names, its given values and its schema without defaults;
+//! [`ProgramEvaluator`] is who evaluates the values of a program, as `idl_check` asks for one. Of each struct there is a table,
+//! made once: its fields by name, and those that a literal owes. Tables are made in time that grows with the schema.
+//!
+//! Behind a fault an evaluator answers want of memory: the first fault is the last.
+#![tactic(auto)]
+
+mod given_fields;
+mod ground;
+mod struct_tables;
+
+pub use ground::{ProgramGround, program_ground};
