@@ -3,3 +3,4 @@ pub mod OwedBeside
 pub mod ListsGiven
 pub mod Tabled
 pub mod InTables
+pub mod GivenWorths

@@ -39,5 +39,5 @@ lists_given program structs services none mid new empty first then_more s v =
     then_more
     ∙ ap (λ (ls : List FiledFields). ls ++ flat_map service_fields services) (first ∙ ap (λ (gs : List GivenFields). map fields_given gs ++ map struct_fields structs) empty)
     ∙ (λ i. (structs_alike structs ∙ ap (λ (ss : List (Filed StructDecl)). map fields_filed (map fields_of_struct ss)) s) i
-      ++ (services_alike services ∙ ap (λ (ss : List (Filed ServiceDecl)). map fields_filed (map args_of_function (flat_map functions_in ss))) v) i)
+    ++ (services_alike services ∙ ap (λ (ss : List (Filed ServiceDecl)). map fields_filed (map args_of_function (flat_map functions_in ss))) v) i)
     ∙ sym (map-append fields_filed (map fields_of_struct (structs_of program)) (map args_of_function (flat_map functions_in (services_of program))))

@@ -98,8 +98,8 @@ all_told number [] (f ∷ fields) rising same = absurd same
 all_told number (s ∷ sorted) (f ∷ fields) rising same = (
   ap (λ (b : Bool). option_and_then number (cond b (Some s) (find (λ (g : NumberedField). int_eq g.id f.id) sorted))) (ap (λ n. int_eq n f.id) same.0 ∙ same_id f.id),
   in_front number s sorted sorted fields
-  (λ k d inside. subst (λ (n : ℤ). n <ℤ (get_or fields k d).id) (sym same.0) (rising zero (suc k) d (omega arith) (omega (arith, inside))))
-  (all_told number sorted fields (λ i j d low high. rising (suc i) (suc j) d (omega (arith, low)) (omega (arith, high))) same.1),
+      (λ k d inside. subst (λ (n : ℤ). n <ℤ (get_or fields k d).id) (sym same.0) (rising zero (suc k) d (omega arith) (omega (arith, inside))))
+      (all_told number sorted fields (λ i j d low high. rising (suc i) (suc j) d (omega (arith, low)) (omega (arith, high))) same.1),
 )
 
 -- what is owed beside others is what is owed by ids

@@ -10,11 +10,13 @@
 //! [`ProgramEvaluator`] is who evaluates the values of a program, as `idl_check` asks for one. Of each struct there is a table,
 //! made once: its fields by name, and those that a literal owes. Tables are made in time that grows with the schema.
 //!
-//! Behind a fault an evaluator answers want of memory: the first fault is the last.
+//! Want of memory is also the answer where the ids of a struct's fields do not rise, and past 4,000,000 types.
 #![tactic(auto)]
 
+mod evaluator;
 mod given_fields;
 mod ground;
 mod struct_tables;
 
+pub use evaluator::{ProgramEvaluator, program_evaluator};
 pub use ground::{ProgramGround, program_ground};

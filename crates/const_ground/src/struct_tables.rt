@@ -57,10 +57,7 @@ fn default_number(places: &ValuePlaces, file: u32, field: &Field) -> Option<u32>
 }
 
 /// A field without a default behind others, if it has to be given.
-fn put_needed<'s>(
-    owed: &mut Vec<OwedField<'s>>,
-    field: &'s FieldDesc,
-) -> Result<(), AllocError>
+fn put_needed<'s>(owed: &mut Vec<OwedField<'s>>, field: &'s FieldDesc) -> Result<(), AllocError>
     ensures { (rest : List PlainFieldEntry) → OnOk result (map owed_in owed.new.items ++ rest
         ≡ map owed_in owed.old.items ++ needed_before field.now.need (plain_field field.now) rest) }
 {

@@ -1,6 +1,6 @@
 //! The pass over the values that a program gives.
 
-ghost use Rattle.std.specs.Prelude.{◌≡◌, Some, slice_get, MatchResult};
+ghost use Rattle.std.specs.Prelude.{◌≡◌, Some, slice_get, MatchResult, OnOk};
 ghost use Rattle.thrift_value.specs.TreeOf.{tree_of};
 ghost use Rattle.idl_model.specs.Program.{Program};
 ghost use Rattle.idl_model.specs.Spots.{values_of};
@@ -23,11 +23,16 @@ pub trait Evaluator {
 
     ghost right: { Self → Program → Type 0 };
 
+    /// What it has to keep for the next value.
+    ghost ready: { Self → Type 0 };
+
     /// What the given value of some number is worth, or the place of its first fault and what is wrong there.
     fn evaluate(&mut self, which: u32, given: &GivenTree<'_>) -> Result<Value, (Place, ConstFault)>
+        requires { ready self.old }
         ensures worth { (program : Program) → right self.old program → slice_get (values_of program) which ≡ Some (filed_value given.now)
             → IsGivenWorth program (filed_value given.now) result }
-        ensures kept { (program : Program) → right self.old program → right self.new program };
+        ensures kept { (program : Program) → right self.old program → right self.new program }
+        ensures ready { OnOk result (ready self.new) };
 }
 
 /// What the given values of a program are worth, in order, or the first fault.
@@ -36,6 +41,7 @@ pub fn evaluate_all<E: Evaluator>(
     evaluator: &mut E,
     values: &[GivenTree<'_>],
 ) -> Result<Vec<Value>, CheckFault>
+    requires { E.ready evaluator.old }
     ensures { (program : Program) → E.right evaluator.old program → AreGivenValues program values.now
         → MatchResult result (λ made. AreWorth program made.items) (TellsFlaw (IsFirstOf program bad_constant)) }
 {
@@ -58,9 +64,11 @@ fn worth_of<E: Evaluator>(
     which: u32,
     given: &GivenTree<'_>,
 ) -> Result<Value, CheckFault>
+    requires { E.ready evaluator.old }
     ensures worth { (program : Program) → E.right evaluator.old program → slice_get (values_of program) which ≡ Some (filed_value given.now)
         → MatchResult result (λ value. HasOwnWorth program (filed_value given.now) (tree_of value)) (TellsFlaw (IsFlawAt program (filed_value given.now))) }
     ensures kept { (program : Program) → E.right evaluator.old program → E.right evaluator.new program }
+    ensures ready { OnOk result (E.ready evaluator.new) }
 {
     match evaluator.evaluate(which, given) {
         Ok(value) => Ok(value),

@@ -21,8 +21,8 @@ returns-clause-right c = record {
   tables =
       tables_are (program_in c.args.constants.now) c.args.places.now (map fields_given c.as_slice-2.result.now) c.in_ok-structs.structs.items c.requires.places
       (ap (λ (ls : List GivenFields). map fields_given ls) c.as_slice-2.ensures.value
-        ∙ c.in_ok-lists.ensures (program_in c.args.constants.now)
-        (ap (λ (ss : List (InFile Struct)). filed_structs ss) c.as_slice-structs.ensures.value ∙ ap (λ (l : Listing). l.structs) c.requires.definitions)
-        (ap (λ (ss : List (InFile Service)). filed_services ss) c.as_slice.ensures.value ∙ ap (λ (l : Listing). l.services) c.requires.definitions))
+      ∙ c.in_ok-lists.ensures (program_in c.args.constants.now)
+      (ap (λ (ss : List (InFile Struct)). filed_structs ss) c.as_slice-structs.ensures.value ∙ ap (λ (l : Listing). l.structs) c.requires.definitions)
+      (ap (λ (ss : List (InFile Service)). filed_services ss) c.as_slice.ensures.value ∙ ap (λ (l : Listing). l.services) c.requires.definitions))
       c.in_ok-structs.ensures.right;
 }

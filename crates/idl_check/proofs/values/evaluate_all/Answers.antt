@@ -14,6 +14,7 @@ pub loop-number-preserved : goal.loop-number-preserved
 loop-number-preserved g c =
     let number : c.in-Ok.which ≡ c.loop-number.number = search rules in
     record {
+      ready = c.in-Ok-worth_of.ensures.ready;
       right = λ program right. c.worth_of.ensures.kept program (c.loop-number.invariant.right program right);
       worth = λ program right given.
           worth_next program c.args.values.now given c.loop-number.number c.in-Ok.which c.index-values-number.result c.loop-number-test.true c.index-values-number.is number

@@ -18,7 +18,7 @@ returns-in-Some c =
     c.field_of_name.ensures
     ∙ ap (λ (fs : List FieldDesc). find test (map plain_field fs)) c.as_slice.ensures
     ∙ sym (ap (λ (s : PlainStruct). find test s.fields)
-      (struct_there (schema_of c.args.self.now.schema.now) c.args.self.now.structs.items c.args.which c.in-Some.table.now c.requires.structs c.in-Some.ensures))
+    (struct_there (schema_of c.args.self.now.schema.now) c.args.self.now.structs.items c.args.which c.in-Some.table.now c.requires.structs c.in-Some.ensures))
 
 pub returns-in-None : goal.returns-in-None
 returns-in-None c =
