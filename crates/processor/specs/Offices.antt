@@ -2,7 +2,8 @@
 use Rattle.schema.specs.SchemaOf.{schema_of}
 use Rattle.call_model.specs.Offices.{PlainOffice}
 use Rattle.processor.specs.declared.office.Office.{Office}
+use Rattle.processor.specs.Bound.{bound_names}
 
 -- an office
 abbrev pub plain_office : Office → PlainOffice
-plain_office o = record { schema = schema_of o.schema; bindings = o.bindings; protocol = o.protocol; max_frame = o.max_frame }
+plain_office o = record { schema = schema_of o.schema; bindings = bound_names o.bindings; protocol = o.protocol; max_frame = o.max_frame }

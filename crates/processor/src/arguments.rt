@@ -1,11 +1,12 @@
 //! The arguments of a call, read and projected.
 
-ghost use Rattle.std.specs.Prelude.{◌≡◌, ◌≤◌, length, IfOk};
+ghost use Rattle.std.specs.Prelude.{◌≡◌, ◌≤◌, length, map, IfOk};
 ghost use Rattle.thrift_value.specs.declared.tag.Tag.TheVariants.{Struct as StructTag};
 ghost use Rattle.thrift_value.specs.Tags.{tag_of};
 ghost use Rattle.thrift_value.specs.TreeOf.{tree_of};
 ghost use Rattle.schema.specs.SchemaOf.{schema_of};
 ghost use Rattle.schema.specs.Sound.{IsSound, IsPlaceIn};
+ghost use Rattle.struct_skew.specs.Needs.{needs_of};
 ghost use Rattle.struct_skew.specs.Projection.{projection};
 ghost use Rattle.wire_model.specs.Answering.{AnswersOrNoMemory};
 ghost use Rattle.wire_model.specs.Place.{struct_at};
@@ -15,11 +16,11 @@ ghost use Rattle.processor.specs.Seen.{arguments_seen};
 use envelope::Protocol;
 use schema::Schema;
 use std::alloc::{AllocError, Global};
-use struct_skew::{SkewFault, project};
+use struct_skew::{NeededFields, SkewFault, project_with};
 use thrift_value::{Raw, Value, WireFault};
 
 /// Why there are no arguments.
-#[derive(Clone, Copy, Debug, PartialEq, Eq)]
+#[derive(Clone, Copy)]
 pub(crate) enum ArgumentFault {
     /// They can't be read.
     Wire(WireFault),
@@ -48,16 +49,18 @@ fn read_raw(
 fn projected(
     alloc: Global,
     schema: &Schema,
+    needed: &NeededFields,
     which: u32,
     raw: &Raw,
 ) -> Result<Result<Value, ArgumentFault>, AllocError>
     requires sound { IsSound (schema_of schema.now) }
+    requires needed { needed.now ≡ map needs_of (schema_of schema.now).structs }
     requires place { IsPlaceIn (schema_of schema.now).structs which }
     requires raw_struct { tag_of (tree_of raw.now) ≡ StructTag }
     ensures { IfOk result (λ args. arguments_seen (schema_of schema.now) args
         ≡ projected_or_fault (schema_of schema.now) (projection (schema_of schema.now) which (tree_of raw.now))) }
 {
-    match project(alloc, schema, which, raw) {
+    match project_with(alloc, schema, needed, which, raw) {
         Ok(value) => Ok(Ok(value)),
         Err(SkewFault::NoMemory) => Err(AllocError),
         Err(fault) => Ok(Err(ArgumentFault::Skew(fault))),
@@ -69,19 +72,21 @@ fn projected(
 pub(crate) fn arguments_at(
     alloc: Global,
     schema: &Schema,
+    needed: &NeededFields,
     protocol: Protocol,
     which: u32,
     payload: &[u8],
     at: usize,
 ) -> Result<Result<Value, ArgumentFault>, AllocError>
     requires sound { IsSound (schema_of schema.now) }
+    requires needed { needed.now ≡ map needs_of (schema_of schema.now).structs }
     requires place { IsPlaceIn (schema_of schema.now).structs which }
     requires within { at ≤ length payload.now }
     ensures { IfOk result (λ args. arguments_seen (schema_of schema.now) args
         ≡ arguments_at (schema_of schema.now) protocol which payload.now at) }
 {
     match read_raw(alloc, protocol, payload, at) {
-        Ok((raw, _behind)) => projected(alloc, schema, which, &raw),
+        Ok((raw, _behind)) => projected(alloc, schema, needed, which, &raw),
         Err(WireFault::NoMemory) => Err(AllocError),
         Err(fault) => Ok(Err(ArgumentFault::Wire(fault))),
     }

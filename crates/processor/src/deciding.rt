@@ -117,6 +117,7 @@ impl Office {
         match arguments_at(
             alloc,
             &self.schema,
+            &self.bindings.needed,
             self.protocol,
             function.args,
             payload,
@@ -158,13 +159,13 @@ impl Office {
         head: &Head,
     ) -> Result<Decision, AllocError>
         requires sound { IsSound (schema_of self.now.schema) }
-        requires few { length self.now.bindings < 2 ^ 32 }
+        requires few { length self.now.bindings.names < 2 ^ 32 }
         requires name { length head.now.name ≤ longest_payload }
         requires within { head.now.behind ≤ length payload.now }
         ensures { IfOk result (λ d. plain_decision d ≡ decided_on_service (plain_office self.now) payload.now head.now
-            (service_asked self.now.bindings head.now.name)) }
+            (service_asked self.now.bindings.names head.now.name)) }
     {
-        match service_asked(self.bindings.as_slice(), head.name.as_slice()) {
+        match service_asked(self.bindings.names.as_slice(), head.name.as_slice()) {
             Some(bound) => self.decide_on_function(alloc, payload, head, bound),
             None => self.refuse_service(alloc, head),
         }
@@ -174,7 +175,7 @@ impl Office {
     #[tactic(auto, unfolding(call_model::specs::Decisions::decided_on_head))]
     pub(crate) fn decided(&self, alloc: Global, payload: &[u8]) -> Result<Decision, AllocError>
         requires sound { IsSound (schema_of self.now.schema) }
-        requires few { length self.now.bindings < 2 ^ 32 }
+        requires few { length self.now.bindings.names < 2 ^ 32 }
         requires short { length payload.now ≤ longest_payload }
         ensures { IfOk result (λ d. plain_decision d ≡ decision (plain_office self.now) payload.now) }
     {

@@ -2,7 +2,8 @@
 //! in the compact protocol.
 //!
 //! ```
-//! let bindings = Bindings::new(vec![in alloc; (ByteText::new(b"Calculator".to_vec(alloc)?), 0)]?);
+//! let names = BoundNames::new(vec![in alloc; (ByteText::new(b"Calculator".to_vec(alloc)?), 0)]?);
+//! let bindings = Bindings::new(alloc, &schema, names)?;                         // walks over the schema once
 //! let office = Office::new(schema, bindings, Protocol::Binary, 16_384_000);      // takes no memory
 //! match office.decide(alloc, payload)? {
 //!     Decision::Invoke(call) => {
@@ -21,6 +22,7 @@
 #![tactic(auto)]
 
 mod arguments;
+mod bindings;
 mod deciding;
 mod failures;
 mod frames;
@@ -29,4 +31,5 @@ mod office;
 mod replying;
 mod results;
 
-pub use office::{Bindings, Office};
+pub use bindings::{Bindings, BoundNames};
+pub use office::Office;

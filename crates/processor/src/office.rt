@@ -1,16 +1,16 @@
 //! What an office holds.
 
+ghost use Rattle.std.specs.Prelude.{◌≡◌, map};
 ghost use Rattle.schema.specs.SchemaOf.{schema_of};
+ghost use Rattle.struct_skew.specs.Needs.{needs_of};
 ghost use Rattle.call_model.specs.Offices.{IsSoundOffice};
+ghost use Rattle.processor.specs.Bound.{bound_names, needs_in};
 
+use crate::bindings::Bindings;
 use call_rules::{Answer, Decision, Desk};
 use envelope::Protocol;
-use schema::{Listed, Schema};
+use schema::Schema;
 use std::alloc::{AllocError, Global};
-use thrift_value::ByteText;
-
-/// Services that are bound, each a name and its number in the schema; the places are their slots.
-pub type Bindings = Listed<(ByteText, u32)>;
 
 /// The services of a schema that are bound, in one protocol: what decides on their messages and makes their replies (Thrift: a
 /// processor, and with several services a TMultiplexedProcessor).
@@ -19,19 +19,24 @@ pub struct Office {
     pub(crate) schema: Schema,
     pub(crate) bindings: Bindings,
     pub(crate) protocol: Protocol,
-    // The longest payload of a reply.
+    // The longest payload that may come in, and that a reply may have.
     pub(crate) max_frame: u32,
-    ghost sound: { ∥ IsSoundOffice (record { schema = schema_of schema; bindings = bindings; protocol = protocol; max_frame = max_frame }) ∥₁ },
+    ghost sound: { ∥ IsSoundOffice (record { schema = schema_of schema; bindings = bound_names bindings; protocol = protocol; max_frame = max_frame }) ∥₁ },
+    ghost needed: { needs_in bindings ≡ map needs_of (schema_of schema).structs },
 }
 
 impl Office {
-    ghost use Rattle.std.specs.Prelude.{◌≡◌};
+    ghost use Rattle.std.specs.Prelude.{◌≡◌, map};
+    ghost use Rattle.schema.specs.SchemaOf.{schema_of};
+    ghost use Rattle.struct_skew.specs.Needs.{needs_of};
+    ghost use Rattle.processor.specs.Bound.{bound_names, needs_in};
     ghost use Rattle.processor.specs.Offices.{plain_office};
 
-    /// The office of these services; takes no memory.
+    /// The office of these services, which are bound by this schema; takes no memory.
     pub fn new(schema: Schema, bindings: Bindings, protocol: Protocol, max_frame: u32) -> Self
-        requires { IsSoundOffice (record { schema = schema_of schema; bindings = bindings; protocol = protocol; max_frame = max_frame }) }
-        ensures { plain_office result ≡ record { schema = schema_of schema; bindings = bindings; protocol = protocol; max_frame = max_frame } }
+        requires sound { IsSoundOffice (record { schema = schema_of schema; bindings = bound_names bindings; protocol = protocol; max_frame = max_frame }) }
+        requires needed { needs_in bindings ≡ map needs_of (schema_of schema).structs }
+        ensures { plain_office result ≡ record { schema = schema_of schema; bindings = bound_names bindings; protocol = protocol; max_frame = max_frame } }
     {
         Office {
             schema,

@@ -108,7 +108,7 @@ impl Office {
         ensures { IfOk result (λ framed. framed.items ≡ result_frame (plain_office self.now) head.now
             (result_fields (schema_of self.now.schema).structs (plain_function function.now) (plain_answer answer.now))) }
     {
-        match result_field(&self.schema, function, answer) {
+        match result_field(&self.schema, &self.bindings.needed, function, answer) {
             Some(field) => self.with_result(alloc, head, field),
             None => self.without_result(alloc, head),
         }
@@ -145,13 +145,13 @@ impl Office {
         answer: &Answer,
     ) -> Result<Vec<u8>, AllocError>
         requires sound { IsSound (schema_of self.now.schema) }
-        requires few { length self.now.bindings < 2 ^ 32 }
+        requires few { length self.now.bindings.names < 2 ^ 32 }
         requires most { self.now.max_frame ≤ longest_payload }
         requires name { length head.now.name ≤ longest_payload }
         ensures { IfOk result (λ framed. framed.items ≡ reply_of_service (plain_office self.now) head.now (plain_answer answer.now)
-            (service_asked self.now.bindings head.now.name)) }
+            (service_asked self.now.bindings.names head.now.name)) }
     {
-        match service_asked(self.bindings.as_slice(), head.name.as_slice()) {
+        match service_asked(self.bindings.names.as_slice(), head.name.as_slice()) {
             Some(bound) => self.reply_of_bound(alloc, head, bound, answer),
             None => Ok(Vec::new(alloc)),
         }
@@ -166,7 +166,7 @@ impl Office {
         answer: &Answer,
     ) -> Result<Vec<u8>, AllocError>
         requires sound { IsSound (schema_of self.now.schema) }
-        requires few { length self.now.bindings < 2 ^ 32 }
+        requires few { length self.now.bindings.names < 2 ^ 32 }
         requires most { self.now.max_frame ≤ longest_payload }
         requires short { length payload.now ≤ longest_payload }
         ensures { IfOk result (λ framed. framed.items ≡ reply_of (plain_office self.now) payload.now (plain_answer answer.now)) }

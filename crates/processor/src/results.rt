@@ -4,6 +4,7 @@ ghost use Rattle.std.specs.Prelude.{◌≡◌, ◌++◌, nat_le, map, pos, IfSom
 ghost use Rattle.std.specs.Ordering.{int_eq};
 ghost use Rattle.std.specs.Option.{option_map, option_copied};
 ghost use Rattle.struct_skew.specs.TidyTests.{is_tidy};
+ghost use Rattle.struct_skew.specs.Needs.{needs_of};
 ghost use Rattle.thrift_value.specs.Measures.{depth_of};
 ghost use Rattle.thrift_value.specs.Sizes.{HasSmallSizes};
 ghost use Rattle.thrift_value.specs.Tree.{of_struct};
@@ -23,7 +24,7 @@ use compact_codec::Compact;
 use envelope::Protocol;
 use schema::{FieldDesc, FnDesc, Schema, TypeDesc};
 use std::alloc::AllocError;
-use struct_skew::fits;
+use struct_skew::{NeededFields, fits_with};
 use thrift_value::Value;
 use wire_walk::{Codec, Header, put};
 
@@ -58,8 +59,9 @@ fn is_shallow(value: &Value) -> bool
 
 /// Whether a value may go back under a type.
 #[tactic(auto, unfolding(call_model::specs::Replies::may_go_back))]
-fn may_go_back(schema: &Schema, kind: &TypeDesc, value: &Value) -> bool
-    requires { IsSound (schema_of schema.now) }
+fn may_go_back(schema: &Schema, needed: &NeededFields, kind: &TypeDesc, value: &Value) -> bool
+    requires sound { IsSound (schema_of schema.now) }
+    requires needed { needed.now ≡ map needs_of (schema_of schema.now).structs }
     ensures { result ≡ may_go_back (schema_of schema.now).structs (kind_of kind.now) (tree_of value.now) }
 {
     if !is_tidy(value) {
@@ -68,21 +70,23 @@ fn may_go_back(schema: &Schema, kind: &TypeDesc, value: &Value) -> bool
     if !is_shallow(value) {
         return false;
     }
-    fits(schema, kind, value)
+    fits_with(schema, needed, kind, value)
 }
 
 /// A value alone in its struct, where it may go back.
 fn alone_under<'a>(
     schema: &Schema,
+    needed: &NeededFields,
     id: i16,
     kind: &TypeDesc,
     value: &'a Value,
 ) -> Option<ResultField<'a>>
-    requires { IsSound (schema_of schema.now) }
+    requires sound { IsSound (schema_of schema.now) }
+    requires needed { needed.now ≡ map needs_of (schema_of schema.now).structs }
     ensures made { option_map lent_fields result ≡ alone_under (schema_of schema.now).structs id (kind_of kind.now) (tree_of value.now) }
     ensures sizes { IfSome result HasSmallField }
 {
-    if may_go_back(schema, kind, value) {
+    if may_go_back(schema, needed, kind, value) {
         Some(ResultField::One(id, value))
     } else {
         None
@@ -92,15 +96,17 @@ fn alone_under<'a>(
 /// The struct that a value makes; a function without a result has no place for one.
 fn success_field<'a>(
     schema: &Schema,
+    needed: &NeededFields,
     function: &FnDesc,
     value: &'a Value,
 ) -> Option<ResultField<'a>>
-    requires { IsSound (schema_of schema.now) }
+    requires sound { IsSound (schema_of schema.now) }
+    requires needed { needed.now ≡ map needs_of (schema_of schema.now).structs }
     ensures made { option_map lent_fields result ≡ success_fields (schema_of schema.now).structs (plain_function function.now).result (tree_of value.now) }
     ensures sizes { IfSome result HasSmallField }
 {
     match &function.result {
-        Some(kind) => alone_under(schema, SUCCESS, kind, value),
+        Some(kind) => alone_under(schema, needed, SUCCESS, kind, value),
         None => None,
     }
 }
@@ -127,17 +133,19 @@ fn thrown(throws: &[FieldDesc], id: i16) -> Option<&FieldDesc>
 /// The struct that an exception makes, under the id of a declared one.
 fn throws_field<'a>(
     schema: &Schema,
+    needed: &NeededFields,
     function: &FnDesc,
     id: i16,
     exception: &'a Value,
 ) -> Option<ResultField<'a>>
-    requires { IsSound (schema_of schema.now) }
+    requires sound { IsSound (schema_of schema.now) }
+    requires needed { needed.now ≡ map needs_of (schema_of schema.now).structs }
     ensures made { option_map lent_fields result ≡ throws_fields (schema_of schema.now).structs
         (field_with_id id (plain_function function.now).throws) (tree_of exception.now) }
     ensures sizes { IfSome result HasSmallField }
 {
     match thrown(function.throws.as_slice(), id) {
-        Some(field) => alone_under(schema, field.id, &field.kind, exception),
+        Some(field) => alone_under(schema, needed, field.id, &field.kind, exception),
         None => None,
     }
 }
@@ -145,17 +153,19 @@ fn throws_field<'a>(
 /// The struct that an answer makes; none where the function has no such answer.
 pub(crate) fn result_field<'a>(
     schema: &Schema,
+    needed: &NeededFields,
     function: &FnDesc,
     answer: &'a Answer,
 ) -> Option<ResultField<'a>>
-    requires { IsSound (schema_of schema.now) }
+    requires sound { IsSound (schema_of schema.now) }
+    requires needed { needed.now ≡ map needs_of (schema_of schema.now).structs }
     ensures made { option_map lent_fields result ≡ result_fields (schema_of schema.now).structs (plain_function function.now) (plain_answer answer.now) }
     ensures sizes { IfSome result HasSmallField }
 {
     match answer {
-        Answer::Success(value) => success_field(schema, function, value),
+        Answer::Success(value) => success_field(schema, needed, function, value),
         Answer::Empty => Some(ResultField::Nothing),
-        Answer::Throws(id, exception) => throws_field(schema, function, *id, exception),
+        Answer::Throws(id, exception) => throws_field(schema, needed, function, *id, exception),
         Answer::Broken => None,
     }
 }

@@ -1,0 +1,13 @@
+-- Bindings in memory, as plain data.
+use Rattle.std.specs.Prelude.{List}
+use Rattle.struct_skew.specs.Needs.{PlainNeeds}
+use Rattle.call_model.specs.Offices.{Binding}
+use Rattle.processor.specs.declared.bindings.Bindings.{Bindings}
+
+-- the services that are bound
+abbrev pub bound_names : Bindings → List Binding
+bound_names b = b.names
+
+-- what the structs of their schema need
+abbrev pub needs_in : Bindings → List PlainNeeds
+needs_in b = b.needed
