@@ -8,3 +8,4 @@ mod Invoked
 mod Replied
 pub mod SoundAgain
 pub mod AsDesk
+pub mod SoundExample

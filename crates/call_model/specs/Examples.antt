@@ -1,14 +1,15 @@
--- What is served in the worked examples: the services of the Thrift tutorial, a service with an argument that has to be there, and one
--- that takes and gives bytes.
-use Rattle.std.specs.Prelude.{ℕ, ℤ, pos, Bool, true, false, List, [], ◌∷◌, ◌++◌, codes, length, Option, Some, None}
+-- What is served in the worked examples: the services of the Thrift tutorial, a service with an argument that has to be there, one
+-- that takes and gives bytes, one with a union and structs in structs, and that of the schema that is known to be sound.
+use Rattle.std.specs.Prelude.{ℕ, zero, suc, ℤ, pos, ◌*◌, Bool, true, false, List, [], ◌∷◌, ◌++◌, codes, length, Option, Some, None}
 use Rattle.envelope.specs.declared.head.Protocol.{Protocol}
 use Rattle.envelope.specs.declared.head.Protocol.TheVariants.{Binary}
-use Rattle.thrift_value.specs.Tree.{of_i32}
+use Rattle.thrift_value.specs.Tree.{Tree, of_i32, of_struct, field, no_fields}
 use Rattle.schema.specs.declared.types.FieldNeed.{FieldNeed}
 use Rattle.schema.specs.declared.types.FieldNeed.TheVariants.{Default, Optional, Required}
 use Rattle.schema.specs.declared.types.FieldsKind.TheVariants as of_kind
-use Rattle.schema.specs.PlainKind.{PlainKind, kind_i32, kind_text, kind_binary, kind_enum, kind_struct}
+use Rattle.schema.specs.PlainKind.{PlainKind, kind_bool, kind_i32, kind_text, kind_binary, kind_enum, kind_struct}
 use Rattle.schema.specs.PlainSchema.{PlainField, PlainStruct, PlainFunction, PlainSchema}
+use Rattle.schema.specs.Example.{example_schema}
 use Rattle.call_rules.specs.Desks.{longest_payload}
 use Rattle.call_model.specs.Offices.{PlainOffice}
 
@@ -116,6 +117,35 @@ echo_schema = record {
   constants = [];
 }
 
+-- union U { 1: i32 a, 2: i32 b }
+abbrev pub mixed_union : PlainStruct
+mixed_union = record {
+  file = 0;
+  name = codes "U";
+  kind = of_kind.Union;
+  fields = declared_field (pos 1) Optional kind_i32 (codes "a") ∷ declared_field (pos 2) Optional kind_i32 (codes "b") ∷ [];
+}
+
+-- struct N { 1: optional N next }, union U { .. }, service M { bool b(1: U u), N n() }
+abbrev pub mixed_schema : PlainSchema
+mixed_schema = record {
+  files = record { base = codes "m"; includes = []; defs = [] } ∷ [];
+  structs =
+      record { file = 0; name = codes "N"; kind = of_kind.Struct; fields = declared_field (pos 1) Optional (kind_struct 0) (codes "next") ∷ [] }
+      ∷ mixed_union ∷ declared_args (codes "b") (usual_field 1 (kind_struct 1) (codes "u") ∷ []) ∷ declared_args (codes "n") [] ∷ [];
+  enums = [];
+  services =
+      record {
+        file = 0;
+        name = codes "M";
+        parent = None;
+        functions = declared_function (codes "b") false 2 (Some kind_bool) ∷ declared_function (codes "n") false 3 (Some (kind_struct 0)) ∷ [];
+      }
+      ∷ [];
+  aliases = [];
+  constants = [];
+}
+
 -- one service under a name
 abbrev pub serves_one : PlainSchema → List ℕ → ℕ → Protocol → ℕ → PlainOffice
 serves_one s name service protocol max_frame = record { schema = s; bindings = (name, service) ∷ []; protocol = protocol; max_frame = max_frame }
@@ -133,9 +163,17 @@ two_services = record {
   max_frame = longest_payload;
 }
 
--- the service that gives back its argument, with short replies
-abbrev pub echo_office : PlainOffice
-echo_office = serves_one echo_schema (codes "E") 0 Binary 18
+-- the service that gives back its argument, with replies of at most so many bytes
+abbrev pub echo_within : ℕ → PlainOffice
+echo_within max_frame = serves_one echo_schema (codes "E") 0 Binary max_frame
+
+-- the service with a union, a bool and structs in structs
+abbrev pub mixed_office : Protocol → PlainOffice
+mixed_office protocol = serves_one mixed_schema (codes "M") 0 protocol longest_payload
+
+-- the service of the schema that is known to be sound
+abbrev pub example_office : Protocol → PlainOffice
+example_office protocol = serves_one example_schema (codes "V") 0 protocol longest_payload
 
 -- the service whose argument has to be there
 abbrev pub needy_office : PlainOffice
@@ -169,3 +207,22 @@ exception_sent size name id text code =
 -- a whole reply of 255 bytes at most, its size included, with the bytes of its struct
 abbrev pub reply_sent : ℕ → List ℕ → ℕ → List ℕ → List ℕ
 reply_sent size name id result = (0 ∷ 0 ∷ 0 ∷ size ∷ []) ++ (short_head 2 name id ++ result)
+
+-- lists in a list, so many below it, the last one without elements
+abbrev pub sent_lists : ℕ → List ℕ
+sent_lists zero = 8 ∷ 0 ∷ 0 ∷ 0 ∷ 0 ∷ []
+sent_lists (suc n) = 15 ∷ 0 ∷ 0 ∷ 0 ∷ 1 ∷ sent_lists n
+
+-- structs in a struct, so many below it, each under the id 1; and the compact text of them
+abbrev pub nested : ℕ → Tree
+nested zero = of_struct no_fields
+nested (suc n) = of_struct (field (pos 1) (nested n) no_fields)
+
+abbrev pub nested_sent : ℕ → List ℕ
+nested_sent zero = 0 ∷ []
+nested_sent (suc n) = 28 ∷ (nested_sent n ++ 0 ∷ [])
+
+-- a whole exception of 127 bytes at most in the compact protocol, of a small sequence id
+abbrev pub compact_exception_sent : ℕ → List ℕ → ℕ → List ℕ → ℕ → List ℕ
+compact_exception_sent size name id text code =
+    (0 ∷ 0 ∷ 0 ∷ size ∷ 130 ∷ 97 ∷ id ∷ length name ∷ name) ++ ((24 ∷ length text ∷ text) ++ (21 ∷ 2 * code ∷ 0 ∷ []))

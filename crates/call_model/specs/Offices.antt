@@ -9,7 +9,8 @@ use Rattle.schema.specs.Sound.{IsSound, IsPlaceIn, AreDifferent}
 abbrev pub Binding : Type 0
 Binding = List ℕ × ℕ
 
--- a schema, the services that are bound, whose places are their slots, the protocol, and the longest payload of a reply
+-- a schema, the services that are bound, whose places are their slots, the protocol, and the longest payload that may come in, and that
+-- a reply may have
 pub record PlainOffice : Type 0 where
   pub schema : PlainSchema
   pub bindings : List Binding
