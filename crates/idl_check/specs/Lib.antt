@@ -3,3 +3,4 @@ pub mod Passed
 pub mod Right
 pub mod Exceptions
 pub mod Given
+pub mod Typed

@@ -1,5 +1,5 @@
 -- What passes over a program answer: nothing, or a first fault.
-use Rattle.std.specs.Prelude.{◌⊎◌, List, [], ◌∷◌, Result, Ok, Err}
+use Rattle.std.specs.Prelude.{◌⊎◌, List, [], ◌∷◌, ◌++◌, Result, Ok, Err}
 use Rattle.std.specs.List.{AllByRecursion}
 use Rattle.idl_model.specs.Program.{Program}
 use Rattle.check_model.specs.Passes.{Pass, dotted_name, duplicate_name, unknown_type, typedef_cycle, field_id, duplicate_id, enum_number, service_cycle, duplicate_function, oneway_not_void, oneway_throws, not_exception, struct_loop}
@@ -32,3 +32,15 @@ function_passes = duplicate_function ∷ oneway_not_void ∷ oneway_throws ∷ [
 -- the passes over types behind those
 abbrev pub struct_passes : List Pass
 struct_passes = not_exception ∷ struct_loop ∷ []
+
+-- the passes behind those over typedefs, fields, enums and services, as far as they look at spots
+abbrev pub passes_behind_lists : List Pass
+passes_behind_lists = function_passes ++ struct_passes
+
+-- the passes behind those over names, as far as they look at spots
+abbrev pub passes_behind_names : List Pass
+passes_behind_names = list_passes ++ passes_behind_lists
+
+-- the passes that look at spots, in order
+abbrev pub spot_passes : List Pass
+spot_passes = name_passes ++ passes_behind_names

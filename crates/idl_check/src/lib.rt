@@ -12,17 +12,21 @@
 //! A pass is a test of one spot ([`SpotTest`]) over all spots in order; a test holds what it looks at, which is right for a program.
 //! The last pass goes over the values that a program gives ([`Evaluator`]).
 //!
-//! Not here: who makes what the passes look at, and the schema of a program without fault.
+//! [`typed_program`] makes what the passes over spots look at, each where those before found nothing, and keeps the types.
+//!
+//! Not here: who evaluates the values, and the schema of a program without fault.
 #![tactic(auto)]
 
 mod cycle_tests;
 mod faults;
 mod function_tests;
 pub mod laws;
+mod lineage;
 mod name_tests;
 mod pass;
 mod passes;
 mod places;
+mod program;
 mod spot_facts;
 mod spot_tests;
 mod struct_tests;
@@ -33,4 +37,5 @@ pub use faults::{CheckFault, CheckKind};
 pub use function_tests::Lineage;
 pub use pass::{SpotTest, first_fault};
 pub use passes::{function_fault, list_fault, name_fault, struct_fault};
+pub use program::{TypedProgram, typed_program};
 pub use values::{Evaluator, evaluate_all};
