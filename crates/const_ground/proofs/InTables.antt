@@ -3,7 +3,6 @@ use Rattle.std.proofs.Common.{◌≡◌, ℕ, ℤ, zero, suc, List, [], ◌∷�
 use Rattle.std.specs.Prelude.{slice_index_or}
 use Rattle.std.specs.Option.{option_map, option_and_then}
 use Rattle.std.proofs.lemmas.Option.{slice_get-map}
-use Rattle.idl_token.specs.declared.Place.{Place}
 use Rattle.schema.specs.declared.types.FieldsKind.TheVariants as fields
 use Rattle.schema.specs.PlainSchema.{PlainStruct, PlainSchema}
 use Rattle.idl_model.specs.Numbering.{Filed}
@@ -14,11 +13,11 @@ use Rattle.idl_names.specs.declared.spot.GivenTree.{GivenTree}
 use Rattle.idl_names.specs.SpotsIn.{filed_value}
 use Rattle.check_model.specs.FieldLists.{FieldsDecl, field_lists}
 use Rattle.check_model.specs.Evaluation.{struct_numbered, default_in, default_of}
-use Rattle.idl_const.specs.Given.{FiledTree, tree_given, tree_numbered}
+use Rattle.idl_const.specs.Given.{tree_given, tree_numbered}
 use Rattle.const_tables.specs.declared.places.ValuePlaces.{ValuePlaces}
 use Rattle.const_tables.specs.Places.{number_at_place, ArePlaces}
 use Rattle.const_ground.specs.declared.struct_tables.StructTable.{StructTable}
-use Rattle.const_ground.specs.GivenFields.{FiledFields, NumberRule, fields_filed, default_by, default_among}
+use Rattle.const_ground.specs.GivenFields.{FiledFields, fields_filed, default_by, default_among}
 use Rattle.const_ground.specs.StructTables.{struct_in_table, IsStructTable, AreStructTables}
 
 -- the item at a place, by what stands there

@@ -1,6 +1,6 @@
 -- Fields whose ids rise from one to the next.
-use Rattle.std.proofs.Common.{◌≡◌, ◌≤◌, ◌<◌, ◌+◌, ℕ, ℤ, zero, suc, List, [], ◌∷◌, map, length, get_or, sym, subst, arith, add-one}
-use Rattle.std.specs.Prelude.{◌<ℤ◌, All, AllPairs}
+use Rattle.std.proofs.Common.{◌≤◌, ◌<◌, ◌+◌, ℕ, zero, suc, List, [], ◌∷◌, map, length, get_or, subst, arith, add-one}
+use Rattle.std.specs.Prelude.{◌<ℤ◌}
 use Rattle.std.proofs.lemmas.Int.{ints}
 use Rattle.std.proofs.lemmas.List.Kept.{AllPairs-cons}
 use Rattle.schema.specs.declared.types.FieldDesc.{FieldDesc}

@@ -1,5 +1,5 @@
 -- Tables of structs, one more at a time.
-use Rattle.std.proofs.Common.{◌≡◌, ◌≤◌, ◌<◌, ◌+◌, ◌++◌, ◌⊎◌, inl, inr, ℕ, ℤ, zero, suc, List, [], ◌∷◌, map, length, get_or, take, slice_get, Option, Some, None, refl, ap, sym, subst, ◌∙◌, arith}
+use Rattle.std.proofs.Common.{◌≡◌, ◌<◌, ◌+◌, ◌++◌, ◌⊎◌, inl, inr, ℕ, ℤ, zero, suc, List, [], ◌∷◌, map, length, get_or, take, slice_get, Option, Some, None, refl, ap, sym, subst, ◌∙◌, arith}
 use Rattle.std.specs.Option.{option_map, option_and_then}
 use Rattle.std.specs.Ordering.{int_eq}
 use Rattle.std.specs.List.{find, position_from}
@@ -8,9 +8,8 @@ use Rattle.std.proofs.lemmas.List.{length-take-le}
 use Rattle.std.proofs.lemmas.Option.{slice_get-map}
 use Rattle.schema.specs.declared.types.FieldDesc.{FieldDesc}
 use Rattle.schema.specs.declared.types.StructDesc.{StructDesc}
-use Rattle.schema.specs.PlainSchema.{PlainField, PlainStruct}
+use Rattle.schema.specs.PlainSchema.{PlainField}
 use Rattle.schema.specs.SchemaOf.{plain_field, plain_struct}
-use Rattle.idl_model.specs.Declarations.{FieldDecl}
 use Rattle.idl_names.specs.NameMaps.{number_of_name}
 use Rattle.check_model.specs.FieldLists.{NumberedField, fields_by_id}
 use Rattle.idl_const.specs.FieldRows.{owed_in, owed_entries}

@@ -13,7 +13,7 @@ use Rattle.idl_model.specs.Declarations.{FieldDecl}
 use Rattle.idl_model.specs.Numbering.{Filed}
 use Rattle.idl_names.specs.declared.filed.InFile.{InFile}
 use Rattle.check_model.specs.FieldLists.{NumberedField, FieldsDecl, fields_by_id}
-use Rattle.schema_parts.specs.GivenLists.{struct_given, args_given, service_args}
+use Rattle.schema_parts.specs.GivenLists.{struct_given, args_given}
 use Rattle.const_ground.specs.declared.given_fields.GivenFields.{GivenFields}
 
 -- a list of fields, with the number of its file

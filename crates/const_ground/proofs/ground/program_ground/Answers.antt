@@ -1,4 +1,4 @@
-use Rattle.std.proofs.Common.{◌≡◌, ◌∙◌, List, map, ap, subst}
+use Rattle.std.proofs.Common.{◌∙◌, List, map, ap}
 use Rattle.schema.specs.declared.types.StructDesc.{StructDesc}
 use Rattle.schema.specs.SchemaOf.{plain_struct}
 use Rattle.idl_parser.specs.declared.tree.Struct.{Struct}

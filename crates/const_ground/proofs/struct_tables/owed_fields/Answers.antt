@@ -3,7 +3,6 @@ use Rattle.idl_const.specs.FieldRows.{owed_in}
 use Rattle.check_model.specs.FieldLists.{NumberedField}
 use Rattle.const_tables.specs.Places.{number_at_place}
 use Rattle.const_ground.specs.GivenFields.{default_number}
-use Rattle.const_ground.specs.OwedFields.{owed_beside}
 use Rattle.const_ground.proofs.OwedBeside.{owed_end}
 use Rattle.const_ground.proofs.struct_tables.owed_fields.Goals as goal
 

@@ -1,5 +1,4 @@
-use Rattle.std.proofs.Common.{◌≡◌, ◌∙◌, List, map, ap, rules}
-use Rattle.check_model.specs.FieldLists.{NumberedField}
+use Rattle.std.proofs.Common.{◌∙◌, List, map, ap, rules}
 use Rattle.schema_parts.specs.declared.sorted.FieldById.{FieldById}
 use Rattle.schema_parts.specs.ById.{numbered_in}
 use Rattle.const_tables.specs.Places.{number_at_place}

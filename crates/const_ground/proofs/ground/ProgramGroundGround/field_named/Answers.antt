@@ -1,4 +1,4 @@
-use Rattle.std.proofs.Common.{◌≡◌, ◌∙◌, List, Bool, Some, slice_get, map, sym, ap}
+use Rattle.std.proofs.Common.{◌∙◌, List, Bool, map, sym, ap}
 use Rattle.std.specs.List.{find, position_from}
 use Rattle.std.specs.Str.{bytes_eq}
 use Rattle.schema.specs.declared.types.FieldDesc.{FieldDesc}
