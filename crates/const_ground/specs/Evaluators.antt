@@ -8,7 +8,7 @@ use Rattle.const_ground.specs.ProgramGrounds.{ground_program, IsProgramGround}
 use Rattle.const_ground.specs.declared.evaluator.ProgramEvaluator.{ProgramEvaluator}
 
 -- its tables are right, and no value is under evaluation
-pub record IsReady (e : ProgramEvaluator) : Type 0 where
+pub record CanEvaluate (e : ProgramEvaluator) : Type 0 where
   pub ground : IsProgramGround e.ground.now
   pub aliases : AreAliasTypes (program_in e.types.now.names.now) e.types.now.aliases.now
   pub idle : NoneEntered (ground_program e.ground.now) e.work

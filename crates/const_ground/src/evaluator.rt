@@ -4,7 +4,7 @@ ghost use Rattle.std.specs.Prelude.{◌≡◌, IfOk};
 ghost use Rattle.idl_include.specs.SourcesOf.{program_in};
 ghost use Rattle.idl_types.specs.Known.{AreAliasTypes};
 ghost use Rattle.const_ground.specs.ProgramGrounds.{ground_program, IsProgramGround};
-ghost use Rattle.const_ground.specs.Evaluators.{IsReady, IsEvaluatorOf};
+ghost use Rattle.const_ground.specs.Evaluators.{CanEvaluate, IsEvaluatorOf};
 
 use crate::ground::ProgramGround;
 use idl_check::Evaluator;
@@ -39,7 +39,7 @@ pub fn program_evaluator<'g, 'n, 'a>(
     requires ground { IsProgramGround ground.now }
     requires names { program_in types.now.names.now ≡ ground_program ground.now }
     requires aliases { AreAliasTypes (program_in types.now.names.now) types.now.aliases.now }
-    ensures ready { IfOk result (λ evaluator. IsReady evaluator) }
+    ensures ready { IfOk result (λ evaluator. CanEvaluate evaluator) }
     ensures right { IfOk result (λ evaluator. IsEvaluatorOf evaluator (ground_program ground.now)) }
 {
     let work = no_progress(ground, alloc)?;
@@ -53,9 +53,9 @@ pub fn program_evaluator<'g, 'n, 'a>(
 }
 
 impl<'g, 'n, 'a> Evaluator for ProgramEvaluator<'g, 'n, 'a> {
-    ghost use Rattle.const_ground.specs.Evaluators.{IsReady, IsEvaluatorOf};
+    ghost use Rattle.const_ground.specs.Evaluators.{CanEvaluate, IsEvaluatorOf};
 
-    ghost ready = { λ e. IsReady e };
+    ghost ready = { λ e. CanEvaluate e };
 
     ghost right = { λ e program. IsEvaluatorOf e program };
 
