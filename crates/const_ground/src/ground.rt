@@ -49,8 +49,8 @@ pub fn program_ground<'n, 'a>(
     requires places { ArePlaces (program_in constants.now) places.now }
     requires values { map filed_value values.now ≡ values_of (program_in constants.now) }
     requires schema { IsPartialSchema (program_in constants.now) (schema_of schema.now) }
-    ensures program { IfOk result (λ ground. ground_program ground ≡ program_in constants.now) }
-    ensures right { IfOk result (λ ground. IsProgramGround ground) }
+    ensures program { IfOk result (λ made. ground_program made ≡ program_in constants.now) }
+    ensures right { IfOk result (λ made. IsProgramGround made) }
 {
     let structs = definitions.structs.as_slice();
     let lists = given_fields(alloc, structs, definitions.services.as_slice())?;
