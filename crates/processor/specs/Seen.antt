@@ -9,7 +9,7 @@ use Rattle.call_model.specs.Failures.{bad_arguments, wire_fault_text, skew_fault
 use Rattle.call_model.specs.Names.{Bound}
 use Rattle.processor.specs.declared.arguments.ArgumentFault.{ArgumentFault}
 use Rattle.processor.specs.declared.arguments.ArgumentFault.TheVariants.{Wire, Skew}
-use Rattle.processor.specs.declared.failures.ToldFailure.{ToldFailure}
+use Rattle.processor.specs.declared.failures.FailureText.{FailureText}
 use Rattle.processor.specs.declared.names.BoundService.{BoundService}
 
 -- a service that is bound
@@ -26,6 +26,6 @@ abbrev pub arguments_seen : PlainSchema → Result Value ArgumentFault → Resul
 arguments_seen s (Ok value) = Ok (tree_of value)
 arguments_seen s (Err fault) = Err (bad_arguments (argument_fault_text s fault))
 
--- what a caller is told
-abbrev pub failure_of : ToldFailure → Failure
-failure_of told = record { text = told.text.items; code = told.code }
+-- what a caller reads
+abbrev pub failure_of : FailureText → Failure
+failure_of failure = record { text = failure.text.items; code = failure.code }

@@ -9,7 +9,7 @@ ghost use Rattle.call_model.specs.Decisions.{is_sent_oneway, is_silent};
 ghost use Rattle.call_model.specs.Names.{method_part};
 
 use crate::arguments::{ArgumentFault, arguments_at};
-use crate::failures::{ToldFailure, bad_arguments, no_method, no_service};
+use crate::failures::{FailureText, bad_arguments, no_method, no_service};
 use crate::frames::failure_frame;
 use crate::names::{BoundService, method_part, service_asked};
 use crate::office::Office;
@@ -40,12 +40,17 @@ impl Office {
 
     /// A message that makes no call: its sender is told why.
     #[tactic(auto, unfolding(call_model::specs::Decisions::refused))]
-    fn refuse(&self, alloc: Global, head: &Head, told: &ToldFailure) -> Result<Decision, AllocError>
+    fn refuse(
+        &self,
+        alloc: Global,
+        head: &Head,
+        failure: &FailureText,
+    ) -> Result<Decision, AllocError>
         requires name { length head.now.name ≤ longest_payload }
-        requires text { length told.now.text.items ≤ longest_payload + 100 }
-        ensures { IfOk result (λ d. plain_decision d ≡ refused self.now.protocol head.now false (failure_of told.now)) }
+        requires text { length failure.now.text.items ≤ longest_payload + 100 }
+        ensures { IfOk result (λ d. plain_decision d ≡ refused self.now.protocol head.now false (failure_of failure.now)) }
     {
-        let framed = failure_frame(alloc, self.protocol, head, told)?;
+        let framed = failure_frame(alloc, self.protocol, head, failure)?;
         Ok(Decision::Reply(Bytes::new(framed)))
     }
 
@@ -58,8 +63,8 @@ impl Office {
         if is_sent_oneway(head) {
             return Ok(Decision::Silent);
         }
-        let told = no_service(alloc, head.name.as_slice())?;
-        self.refuse(alloc, head, &told)
+        let failure = no_service(alloc, head.name.as_slice())?;
+        self.refuse(alloc, head, &failure)
     }
 
     /// A message whose method its service hasn't.
@@ -71,8 +76,8 @@ impl Office {
         if is_sent_oneway(head) {
             return Ok(Decision::Silent);
         }
-        let told = no_method(alloc, head.name.as_slice())?;
-        self.refuse(alloc, head, &told)
+        let failure = no_method(alloc, head.name.as_slice())?;
+        self.refuse(alloc, head, &failure)
     }
 
     /// A message whose arguments are at fault.
@@ -92,8 +97,8 @@ impl Office {
         if silent {
             return Ok(Decision::Silent);
         }
-        let told = bad_arguments(alloc, &self.schema, fault)?;
-        self.refuse(alloc, head, &told)
+        let failure = bad_arguments(alloc, &self.schema, fault)?;
+        self.refuse(alloc, head, &failure)
     }
 
     /// The call of a function, by its arguments.

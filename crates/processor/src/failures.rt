@@ -1,6 +1,6 @@
-//! Why there is no call, as callers are told.
+//! Why there is no call or no result, as callers read it.
 
-ghost use Rattle.std.specs.Prelude.{◌≡◌, ◌++◌, OnOk, IfOk, unwrap_or};
+ghost use Rattle.std.specs.Prelude.{◌≡◌, ◌++◌, [], OnOk, IfOk, unwrap_or};
 ghost use Rattle.std.specs.List.{slice_get};
 ghost use Rattle.std.specs.Option.{option_map, option_copied};
 ghost use Rattle.schema.specs.SchemaOf.{schema_of, plain_struct};
@@ -26,21 +26,31 @@ const INTERNAL_ERROR: i32 = 6;
 /// The content of a message is at fault (TApplicationException).
 const PROTOCOL_ERROR: i32 = 7;
 
-/// What a caller is told of a call that failed.
+/// The most bytes that a text has beside a name: those of 'Internal error processing '.
+const WORDS_ROOM: usize = 26;
+
+/// What a caller reads where there is no call, or no result.
 #[derive(Drop)]
-pub(crate) struct ToldFailure {
+pub(crate) struct FailureText {
     pub(crate) text: Vec<u8>,
     pub(crate) code: i32,
 }
 
-/// No service is bound under the name's front, or under the whole name where it has no front.
-pub(crate) fn no_service(alloc: Global, name: &[u8]) -> Result<ToldFailure, AllocError>
-    ensures { IfOk result (λ told. failure_of told ≡ no_service name.now) }
+/// An empty text, with room for a name and the words beside it.
+fn beside_name(alloc: Global, name: &[u8]) -> Result<Vec<u8>, AllocError>
+    ensures { IfOk result (λ text. text.items ≡ []) }
 {
-    let mut text = Vec::new(alloc);
+    Vec::with_capacity(alloc, WORDS_ROOM + name.len())
+}
+
+/// No service is bound under the name's front, or under the whole name where it has no front.
+pub(crate) fn no_service(alloc: Global, name: &[u8]) -> Result<FailureText, AllocError>
+    ensures { IfOk result (λ failure. failure_of failure ≡ no_service name.now) }
+{
+    let mut text = beside_name(alloc, name)?;
     text.extend_from_slice(b"Service name not found: ")?;
     text.extend_from_slice(service_or_whole(name))?;
-    Ok(ToldFailure {
+    Ok(FailureText {
         text,
         code: UNKNOWN_METHOD,
     })
@@ -57,14 +67,14 @@ fn service_or_whole(name: &[u8]) -> &[u8]
 }
 
 /// The service has no function of the name's method.
-pub(crate) fn no_method(alloc: Global, name: &[u8]) -> Result<ToldFailure, AllocError>
-    ensures { IfOk result (λ told. failure_of told ≡ no_method (method_part name.now)) }
+pub(crate) fn no_method(alloc: Global, name: &[u8]) -> Result<FailureText, AllocError>
+    ensures { IfOk result (λ failure. failure_of failure ≡ no_method (method_part name.now)) }
 {
-    let mut text = Vec::new(alloc);
+    let mut text = beside_name(alloc, name)?;
     text.extend_from_slice(b"Invalid method name: '")?;
     text.extend_from_slice(method_part(name))?;
     text.extend_from_slice(b"'")?;
-    Ok(ToldFailure {
+    Ok(FailureText {
         text,
         code: UNKNOWN_METHOD,
     })
@@ -100,8 +110,8 @@ fn field_name(schema: &Schema, which: u32, id: i16) -> &[u8]
     }
 }
 
-/// The struct at a number.
-fn struct_at(schema: &Schema, which: u32) -> Option<&StructDesc>
+/// The declared struct at a number.
+fn declared_struct(schema: &Schema, which: u32) -> Option<&StructDesc>
     ensures { option_map plain_struct (option_copied result) ≡ slice_get (schema_of schema.now).structs which }
 {
     schema.structs.as_slice().get(which as usize)
@@ -111,7 +121,7 @@ fn struct_at(schema: &Schema, which: u32) -> Option<&StructDesc>
 fn struct_name(schema: &Schema, which: u32) -> &[u8]
     ensures { result.now ≡ struct_name_at (schema_of schema.now) which }
 {
-    match struct_at(schema, which) {
+    match declared_struct(schema, which) {
         Some(desc) => desc.name.as_slice(),
         None => &[],
     }
@@ -174,39 +184,39 @@ pub(crate) fn bad_arguments(
     alloc: Global,
     schema: &Schema,
     fault: ArgumentFault,
-) -> Result<ToldFailure, AllocError>
+) -> Result<FailureText, AllocError>
     requires { IsSound (schema_of schema.now) }
-    ensures { IfOk result (λ told. failure_of told ≡ bad_arguments (argument_fault_text (schema_of schema.now) fault)) }
+    ensures { IfOk result (λ failure. failure_of failure ≡ bad_arguments (argument_fault_text (schema_of schema.now) fault)) }
 {
     let mut text = Vec::new(alloc);
     text.extend_from_slice(b"Bad arguments: ")?;
     put_argument_fault(schema, fault, &mut text)?;
-    Ok(ToldFailure {
+    Ok(FailureText {
         text,
         code: PROTOCOL_ERROR,
     })
 }
 
 /// The call has no result that may go back.
-pub(crate) fn no_result(alloc: Global, name: &[u8]) -> Result<ToldFailure, AllocError>
-    ensures { IfOk result (λ told. failure_of told ≡ no_result (method_part name.now)) }
+pub(crate) fn no_result(alloc: Global, name: &[u8]) -> Result<FailureText, AllocError>
+    ensures { IfOk result (λ failure. failure_of failure ≡ no_result (method_part name.now)) }
 {
-    let mut text = Vec::new(alloc);
+    let mut text = beside_name(alloc, name)?;
     text.extend_from_slice(b"Internal error processing ")?;
     text.extend_from_slice(method_part(name))?;
-    Ok(ToldFailure {
+    Ok(FailureText {
         text,
         code: INTERNAL_ERROR,
     })
 }
 
 /// The result is longer than a payload may be.
-pub(crate) fn too_large(alloc: Global) -> Result<ToldFailure, AllocError>
-    ensures { IfOk result (λ told. failure_of told ≡ too_large) }
+pub(crate) fn too_large(alloc: Global) -> Result<FailureText, AllocError>
+    ensures { IfOk result (λ failure. failure_of failure ≡ too_large) }
 {
     let mut text = Vec::new(alloc);
     text.extend_from_slice(b"Reply is too large")?;
-    Ok(ToldFailure {
+    Ok(FailureText {
         text,
         code: INTERNAL_ERROR,
     })

@@ -7,7 +7,7 @@ ghost use Rattle.call_rules.specs.Desks.{longest_payload};
 ghost use Rattle.call_model.specs.Decisions.{failure_frame};
 ghost use Rattle.processor.specs.Seen.{failure_of};
 
-use crate::failures::ToldFailure;
+use crate::failures::FailureText;
 use crate::names::method_part;
 use envelope::{Head, Protocol, write_exception};
 use std::alloc::{AllocError, Global};
@@ -16,7 +16,7 @@ use std::alloc::{AllocError, Global};
 pub(crate) const SIZE_BYTES: usize = 4;
 
 /// The most bytes that the frame of a failure has beside its name and its text.
-const FAILURE_ROOM: usize = 36;
+const FAILURE_ROOM: usize = 31;
 
 /// A frame without a payload, in which no size stands yet, with room for so many bytes.
 pub(crate) fn opened(alloc: Global, room: usize) -> Result<Vec<u8>, AllocError>
@@ -52,11 +52,11 @@ pub(crate) fn with_size(framed: Vec<u8>) -> Vec<u8>
 }
 
 /// How many bytes the frame of a failure has at most.
-fn failure_room(head: &Head, told: &ToldFailure) -> usize
+fn failure_room(head: &Head, failure: &FailureText) -> usize
     requires name { length head.now.name ≤ longest_payload }
-    requires text { length told.now.text.items ≤ longest_payload + 100 }
+    requires text { length failure.now.text.items ≤ longest_payload + 100 }
 {
-    FAILURE_ROOM + head.name.as_slice().len() + told.text.len()
+    FAILURE_ROOM + head.name.as_slice().len() + failure.text.len()
 }
 
 /// The frame that tells a caller of a failure.
@@ -65,19 +65,19 @@ pub(crate) fn failure_frame(
     alloc: Global,
     protocol: Protocol,
     head: &Head,
-    told: &ToldFailure,
+    failure: &FailureText,
 ) -> Result<Vec<u8>, AllocError>
     requires name { length head.now.name ≤ longest_payload }
-    requires text { length told.now.text.items ≤ longest_payload + 100 }
-    ensures { IfOk result (λ framed. framed.items ≡ failure_frame protocol head.now (failure_of told.now)) }
+    requires text { length failure.now.text.items ≤ longest_payload + 100 }
+    ensures { IfOk result (λ framed. framed.items ≡ failure_frame protocol head.now (failure_of failure.now)) }
 {
-    let mut framed = opened(alloc, failure_room(head, told))?;
+    let mut framed = opened(alloc, failure_room(head, failure))?;
     write_exception(
         protocol,
         method_part(head.name.as_slice()),
         head.id,
-        told.text.as_slice(),
-        told.code,
+        failure.text.as_slice(),
+        failure.code,
         &mut framed,
     )?;
     Ok(with_size(framed))

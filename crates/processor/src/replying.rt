@@ -4,13 +4,13 @@ use crate::failures::{no_result, too_large};
 use crate::frames::{SIZE_BYTES, failure_frame, opened, with_size};
 use crate::names::{BoundService, method_part, service_asked};
 use crate::office::Office;
-use crate::results::{ResultField, put_result, result_field};
+use crate::results::{ResultField, bytes_in, put_result, result_field};
 use call_rules::Answer;
 use envelope::{Head, HeadFault, read_head, write_head};
 use schema::FnDesc;
 use std::alloc::{AllocError, Global};
 
-/// Room for the head of a reply beside its name, and for a short result.
+/// Room for the head of a reply beside its name, and for a short result or what stands around bytes.
 const REPLY_ROOM: usize = 64;
 
 /// The type of a reply.
@@ -35,8 +35,8 @@ impl Office {
         requires name { length head.now.name ≤ longest_payload }
         ensures { IfOk result (λ framed. framed.items ≡ failure_frame self.now.protocol head.now (no_result (method_part head.now.name))) }
     {
-        let told = no_result(alloc, head.name.as_slice())?;
-        failure_frame(alloc, self.protocol, head, &told)
+        let failure = no_result(alloc, head.name.as_slice())?;
+        failure_frame(alloc, self.protocol, head, &failure)
     }
 
     /// The frame that tells that a result is too large.
@@ -44,8 +44,8 @@ impl Office {
         requires name { length head.now.name ≤ longest_payload }
         ensures { IfOk result (λ framed. framed.items ≡ failure_frame self.now.protocol head.now too_large) }
     {
-        let told = too_large(alloc)?;
-        failure_frame(alloc, self.protocol, head, &told)
+        let failure = too_large(alloc)?;
+        failure_frame(alloc, self.protocol, head, &failure)
     }
 
     /// The frame of a result's struct.
@@ -81,7 +81,8 @@ impl Office {
         requires sizes { HasSmallField field }
         ensures { IfOk result (λ framed. framed.items ≡ 0 ∷ 0 ∷ 0 ∷ 0 ∷ reply_text self.now.protocol head.now (lent_fields field.entry)) }
     {
-        let mut framed = opened(alloc, REPLY_ROOM + head.name.as_slice().len())?;
+        let room = REPLY_ROOM + head.name.as_slice().len() + bytes_in(field);
+        let mut framed = opened(alloc, room)?;
         write_head(
             self.protocol,
             method_part(head.name.as_slice()),

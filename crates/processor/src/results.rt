@@ -1,6 +1,6 @@
 //! The struct of a result, from an answer that is lent.
 
-ghost use Rattle.std.specs.Prelude.{◌≡◌, ◌++◌, nat_le, map, pos, IfSome, OnOk};
+ghost use Rattle.std.specs.Prelude.{◌≡◌, ◌++◌, ◌<◌, ◌^◌, nat_le, map, pos, IfSome, OnOk};
 ghost use Rattle.std.specs.Ordering.{int_eq};
 ghost use Rattle.std.specs.Option.{option_map, option_copied};
 ghost use Rattle.struct_skew.specs.TidyTests.{is_tidy};
@@ -41,6 +41,16 @@ pub(crate) enum ResultField<'a> {
     Nothing,
     /// A value under an id.
     One(i16, &'a Value),
+}
+
+/// How many bytes a result has that is a bytes value.
+pub(crate) fn bytes_in(field: ResultField<'_>) -> usize
+    ensures { result < 2 ^ 63 }
+{
+    if let ResultField::One(_, Value::Bytes(bytes)) = field {
+        return bytes.as_slice().len();
+    }
+    0
 }
 
 /// Whether a value is tidy.
