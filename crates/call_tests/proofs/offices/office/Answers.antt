@@ -1,0 +1,8 @@
+use Rattle.std.proofs.Common.{◌∙◌}
+use Rattle.schema.specs.SchemaOf.{schema_of}
+use Rattle.call_tests.proofs.Served.{served_soundly}
+use Rattle.call_tests.proofs.offices.office.Goals as goal
+
+pub new-requires-2-clause-sound : goal.new-requires-2-clause-sound
+new-requires-2-clause-sound c =
+    served_soundly (schema_of c.in_ok-schema.schema) c.in_ok-bindings.bindings.names c.args.protocol c.in_ok-schema.ensures (c.in_ok-bindings.ensures.names ∙ c.in_ok-named.ensures)
