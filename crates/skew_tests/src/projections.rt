@@ -4,8 +4,8 @@ ghost use Rattle.thrift_value.specs.declared.tag.Tag.TheVariants.{Struct as Stru
 ghost use Rattle.thrift_value.specs.Tags.{tag_of};
 ghost use Rattle.thrift_value.specs.TreeOf.{tree_of};
 
-use crate::example::example;
 use schema::TypeDesc;
+use schema_example::example;
 use std::alloc::{AllocError, Global};
 use std::test::Fail;
 use struct_skew::{SkewFault, fits, fits_with, needed_fields, project};

@@ -1,5 +1,5 @@
 use Rattle.schema.specs.SchemaOf.{schema_of}
-use Rattle.skew_tests.proofs.Soundness.{sound_as_example}
+use Rattle.schema_example.proofs.Soundness.{sound_as_example}
 use Rattle.skew_tests.proofs.projections.fits_example.Goals as goal
 
 pub fits-requires : goal.fits-requires

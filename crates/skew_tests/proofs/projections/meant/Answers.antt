@@ -1,5 +1,5 @@
 use Rattle.schema.specs.SchemaOf.{schema_of}
-use Rattle.skew_tests.proofs.Soundness.{sound_as_example}
+use Rattle.schema_example.proofs.Soundness.{sound_as_example}
 use Rattle.skew_tests.proofs.projections.meant.Goals as goal
 
 pub project-requires-clause-sound : goal.project-requires-clause-sound
