@@ -1,0 +1,83 @@
+//! The last stage of a check: the values that a program gives, and its schema with them.
+
+ghost use Rattle.std.specs.Prelude.{◌≡◌, MatchResult};
+ghost use Rattle.idl_model.specs.Spots.{spots_of};
+ghost use Rattle.idl_include.specs.SourcesOf.{program_in};
+ghost use Rattle.idl_names.specs.Listing.{listing_in, listing_of};
+ghost use Rattle.idl_names.specs.SpotsIn.{spots_in};
+ghost use Rattle.schema.specs.SchemaOf.{schema_of};
+ghost use Rattle.check_model.specs.Passes.{bad_constant};
+ghost use Rattle.check_model.specs.FirstFlaw.{IsFirstOf};
+ghost use Rattle.check_model.specs.SchemaParts.{IsPartialSchema};
+ghost use Rattle.const_tables.specs.Places.{ArePlaces};
+ghost use Rattle.idl_types.specs.Known.{AreAliasTypes};
+ghost use Rattle.idl_check.specs.Faults.{TellsFlaw};
+ghost use Rattle.idl_check.specs.Given.{AreGivenValues, AreWorth};
+ghost use Rattle.idl_check.specs.Typed.{IsTyped};
+ghost use Rattle.program_check.specs.Behind.{IsValued};
+
+use const_ground::{program_evaluator, program_ground};
+use const_tables::{ValuePlaces, const_names, value_places};
+use idl_check::{CheckFault, TypedProgram, evaluate_all};
+use idl_names::{Definitions, GivenTree, NameTables, SpotIn, values_at};
+use idl_types::TypeTables;
+use schema::Schema;
+use schema_values::whole_schema;
+use std::alloc::Global;
+use thrift_value::Value;
+
+/// The schema of a program of types without fault, or the first fault of its values.
+pub(crate) fn with_values<'a>(
+    alloc: Global,
+    definitions: &Definitions<'a>,
+    names: &NameTables<'a>,
+    typed: TypedProgram,
+    spots: &[SpotIn<'a>],
+) -> Result<Schema, CheckFault>
+    requires definitions { listing_in definitions.now ≡ listing_of (program_in names.now) }
+    requires typed { IsTyped (program_in names.now) typed }
+    requires spots { spots_in spots.now ≡ spots_of (program_in names.now) }
+    ensures { IsValued (program_in names.now) result }
+{
+    let TypedProgram { aliases, partial } = typed;
+    let tables = TypeTables {
+        names,
+        aliases: aliases.as_slice(),
+    };
+    let values = values_at(alloc, spots)?;
+    let places = value_places(alloc, values.as_slice())?;
+    match worths_over(
+        alloc,
+        definitions,
+        &tables,
+        &places,
+        &partial,
+        values.as_slice(),
+    ) {
+        Ok(made) => Ok(whole_schema(alloc, definitions, &tables, &places, partial, made)?),
+        Err(fault) => Err(fault),
+    }
+}
+
+/// What the values of a program are worth, in order, or the first fault.
+fn worths_over<'n, 'a>(
+    alloc: Global,
+    definitions: &Definitions<'a>,
+    tables: &TypeTables<'n, 'a>,
+    places: &ValuePlaces,
+    partial: &Schema,
+    values: &[GivenTree<'a>],
+) -> Result<Vec<Value>, CheckFault>
+    requires definitions { listing_in definitions.now ≡ listing_of (program_in tables.now.names.now) }
+    requires aliases { AreAliasTypes (program_in tables.now.names.now) tables.now.aliases.now }
+    requires places { ArePlaces (program_in tables.now.names.now) places.now }
+    requires partial { IsPartialSchema (program_in tables.now.names.now) (schema_of partial.now) }
+    requires values { AreGivenValues (program_in tables.now.names.now) values.now }
+    ensures { MatchResult result (λ made. AreWorth (program_in tables.now.names.now) made.items)
+        (TellsFlaw (IsFirstOf (program_in tables.now.names.now) bad_constant)) }
+{
+    let constants = const_names(alloc, tables.names, definitions, places)?;
+    let ground = program_ground(alloc, &constants, definitions, places, values, partial)?;
+    let mut evaluator = program_evaluator(alloc, &ground, tables)?;
+    evaluate_all(alloc, &mut evaluator, values)
+}
