@@ -14,7 +14,7 @@ use Rattle.check_model.specs.Passes.{HasConstFlaw}
 use Rattle.check_model.specs.Resolved.{TypeMeans}
 use Rattle.idl_const.specs.declared.faults.ConstFault.{ConstFault}
 use Rattle.idl_const.specs.Flaws.{flaw_of, IsEvaluated}
-use Rattle.idl_check.specs.Given.{IsGivenWorth}
+use Rattle.idl_passes.specs.Given.{IsGivenWorth}
 use Rattle.const_ground.specs.declared.ground.ProgramGround.{ProgramGround}
 use Rattle.const_ground.specs.ProgramGrounds.{ground_program, ground_setting, IsProgramGround}
 

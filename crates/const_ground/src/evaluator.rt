@@ -7,9 +7,9 @@ ghost use Rattle.const_ground.specs.ProgramGrounds.{ground_program, IsProgramGro
 ghost use Rattle.const_ground.specs.Evaluators.{CanEvaluate, IsEvaluatorOf};
 
 use crate::ground::ProgramGround;
-use idl_check::Evaluator;
 use idl_const::{ConstFault, Progress, evaluate_given, no_progress};
 use idl_names::GivenTree;
+use idl_passes::Evaluator;
 use idl_token::Place;
 use idl_types::{MOST_TYPES, TypeTables, type_meant};
 use std::alloc::{AllocError, Global};

@@ -1,91 +1,83 @@
-//! The pass over the values that a program gives.
+//! The last stage of a check: the values that a program gives, and its schema with them.
 
-ghost use Rattle.std.specs.Prelude.{◌≡◌, Some, slice_get, MatchResult, OnOk};
-ghost use Rattle.thrift_value.specs.TreeOf.{tree_of};
-ghost use Rattle.idl_model.specs.Program.{Program};
-ghost use Rattle.idl_model.specs.Spots.{values_of};
-ghost use Rattle.idl_names.specs.SpotsIn.{filed_value};
+ghost use Rattle.std.specs.Prelude.{◌≡◌, MatchResult};
+ghost use Rattle.idl_model.specs.Spots.{spots_of};
+ghost use Rattle.idl_include.specs.SourcesOf.{program_in};
+ghost use Rattle.idl_names.specs.Listing.{listing_in, listing_of};
+ghost use Rattle.idl_names.specs.SpotsIn.{spots_in};
+ghost use Rattle.schema.specs.SchemaOf.{schema_of};
 ghost use Rattle.check_model.specs.Passes.{bad_constant};
 ghost use Rattle.check_model.specs.FirstFlaw.{IsFirstOf};
-ghost use Rattle.idl_check.specs.Faults.{IsConstKind, TellsFlaw};
-ghost use Rattle.idl_check.specs.Given.{HasOwnWorth, IsGivenWorth, IsFlawAt, AreGivenValues, AreWorth};
+ghost use Rattle.check_model.specs.SchemaParts.{IsPartialSchema};
+ghost use Rattle.const_tables.specs.Places.{ArePlaces};
+ghost use Rattle.idl_types.specs.Known.{AreAliasTypes};
+ghost use Rattle.idl_passes.specs.Faults.{TellsFlaw};
+ghost use Rattle.idl_passes.specs.Given.{AreGivenValues, AreWorth};
+ghost use Rattle.idl_passes.specs.Typed.{IsTyped};
+ghost use Rattle.idl_check.specs.Behind.{IsValued};
 
-use crate::faults::{CheckFault, CheckKind};
-use idl_const::ConstFault;
-use idl_names::GivenTree;
-use idl_token::Place;
-use std::alloc::{AllocError, Global};
+use const_ground::{program_evaluator, program_ground};
+use const_tables::{ValuePlaces, const_names, value_places};
+use idl_names::{Definitions, GivenTree, NameTables, SpotIn, values_at};
+use idl_passes::{CheckFault, TypedProgram, evaluate_all};
+use idl_types::TypeTables;
+use schema::Schema;
+use schema_values::whole_schema;
+use std::alloc::Global;
 use thrift_value::Value;
 
-/// Who evaluates the values that a program gives.
-pub trait Evaluator {
-    ghost use Rattle.idl_model.specs.Program.{Program};
-
-    ghost right: { Self → Program → Type 0 };
-
-    /// What it has to keep for the next value.
-    ghost ready: { Self → Type 0 };
-
-    /// What the given value of some number is worth, or the place of its first fault and what is wrong there.
-    fn evaluate(&mut self, which: u32, given: &GivenTree<'_>) -> Result<Value, (Place, ConstFault)>
-        requires { ready self.old }
-        ensures worth { (program : Program) → right self.old program → slice_get (values_of program) which ≡ Some (filed_value given.now)
-            → IsGivenWorth program (filed_value given.now) result }
-        ensures kept { (program : Program) → right self.old program → right self.new program }
-        ensures ready { OnOk result (ready self.new) };
-}
-
-/// What the given values of a program are worth, in order, or the first fault.
-pub fn evaluate_all<E: Evaluator>(
+/// The schema of a program of types without fault, or the first fault of its values.
+pub(crate) fn with_values<'a>(
     alloc: Global,
-    evaluator: &mut E,
-    values: &[GivenTree<'_>],
+    definitions: &Definitions<'a>,
+    names: &NameTables<'a>,
+    typed: TypedProgram,
+    spots: &[SpotIn<'a>],
+) -> Result<Schema, CheckFault>
+    requires definitions { listing_in definitions.now ≡ listing_of (program_in names.now) }
+    requires typed { IsTyped (program_in names.now) typed }
+    requires spots { spots_in spots.now ≡ spots_of (program_in names.now) }
+    ensures { IsValued (program_in names.now) result }
+{
+    let TypedProgram { aliases, partial } = typed;
+    let tables = TypeTables {
+        names,
+        aliases: aliases.as_slice(),
+    };
+    let values = values_at(alloc, spots)?;
+    let places = value_places(alloc, values.as_slice())?;
+    match worths_over(
+        alloc,
+        definitions,
+        &tables,
+        &places,
+        &partial,
+        values.as_slice(),
+    ) {
+        Ok(made) => Ok(whole_schema(alloc, definitions, &tables, &places, partial, made)?),
+        Err(fault) => Err(fault),
+    }
+}
+
+/// What the values of a program are worth, in order, or the first fault.
+fn worths_over<'n, 'a>(
+    alloc: Global,
+    definitions: &Definitions<'a>,
+    tables: &TypeTables<'n, 'a>,
+    places: &ValuePlaces,
+    partial: &Schema,
+    values: &[GivenTree<'a>],
 ) -> Result<Vec<Value>, CheckFault>
-    requires { E.ready evaluator.old }
-    ensures { (program : Program) → E.right evaluator.old program → AreGivenValues program values.now
-        → MatchResult result (λ made. AreWorth program made.items) (TellsFlaw (IsFirstOf program bad_constant)) }
+    requires definitions { listing_in definitions.now ≡ listing_of (program_in tables.now.names.now) }
+    requires aliases { AreAliasTypes (program_in tables.now.names.now) tables.now.aliases.now }
+    requires places { ArePlaces (program_in tables.now.names.now) places.now }
+    requires partial { IsPartialSchema (program_in tables.now.names.now) (schema_of partial.now) }
+    requires values { AreGivenValues (program_in tables.now.names.now) values.now }
+    ensures { MatchResult result (λ made. AreWorth (program_in tables.now.names.now) made.items)
+        (TellsFlaw (IsFirstOf (program_in tables.now.names.now) bad_constant)) }
 {
-    let mut made = Vec::new(alloc);
-    for (number, given) in values.iter().enumerate() {
-        let Ok(which) = u32::try_from(number) else {
-            return Err(CheckFault::from(AllocError));
-        };
-        match worth_of(evaluator, which, given) {
-            Ok(value) => made.push(value)?,
-            Err(fault) => return Err(fault),
-        }
-    }
-    Ok(made)
-}
-
-/// What the given value of some number is worth, or its fault.
-fn worth_of<E: Evaluator>(
-    evaluator: &mut E,
-    which: u32,
-    given: &GivenTree<'_>,
-) -> Result<Value, CheckFault>
-    requires { E.ready evaluator.old }
-    ensures worth { (program : Program) → E.right evaluator.old program → slice_get (values_of program) which ≡ Some (filed_value given.now)
-        → MatchResult result (λ value. HasOwnWorth program (filed_value given.now) (tree_of value)) (TellsFlaw (IsFlawAt program (filed_value given.now))) }
-    ensures kept { (program : Program) → E.right evaluator.old program → E.right evaluator.new program }
-    ensures ready { OnOk result (E.ready evaluator.new) }
-{
-    match evaluator.evaluate(which, given) {
-        Ok(value) => Ok(value),
-        Err((at, fault)) => Err(CheckFault {
-            file: given.file,
-            at,
-            kind: const_kind(fault),
-        }),
-    }
-}
-
-/// The kind of a fault of a value.
-fn const_kind(fault: ConstFault) -> CheckKind
-    ensures { IsConstKind fault result }
-{
-    match fault {
-        ConstFault::NoMemory => CheckKind::NoMemory,
-        other => CheckKind::Const(other),
-    }
+    let constants = const_names(alloc, tables.names, definitions, places)?;
+    let ground = program_ground(alloc, &constants, definitions, places, values, partial)?;
+    let mut evaluator = program_evaluator(alloc, &ground, tables)?;
+    evaluate_all(alloc, &mut evaluator, values)
 }

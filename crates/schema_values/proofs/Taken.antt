@@ -9,7 +9,7 @@ use Rattle.idl_model.specs.Spots.{values_of}
 use Rattle.check_model.proofs.FirstOnes.{somes, none_some}
 use Rattle.const_tables.specs.declared.places.ValuePlaces.{ValuePlaces}
 use Rattle.const_tables.specs.Places.{number_at_place, ArePlaces}
-use Rattle.idl_check.specs.Given.{HasOwnWorth, AreWorth}
+use Rattle.idl_passes.specs.Given.{HasOwnWorth, AreWorth}
 use Rattle.schema_values.specs.declared.worths.Worths.{Worths}
 use Rattle.schema_values.specs.Taking.{AreLeft, AreWorths, IsWorthAt, value_given}
 

@@ -10,7 +10,7 @@ use Rattle.idl_model.specs.Program.{Program}
 use Rattle.idl_model.specs.Numbering.{Filed}
 use Rattle.idl_model.specs.Spots.{GivenValue, values_of}
 use Rattle.const_tables.specs.Places.{ArePlaces}
-use Rattle.idl_check.specs.Given.{HasOwnWorth}
+use Rattle.idl_passes.specs.Given.{HasOwnWorth}
 use Rattle.schema_values.specs.declared.worths.Worths.{Worths}
 
 -- a value that stands in a file

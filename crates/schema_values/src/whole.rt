@@ -6,7 +6,7 @@ ghost use Rattle.idl_names.specs.Listing.{listing_in, listing_of};
 ghost use Rattle.schema.specs.SchemaOf.{schema_of};
 ghost use Rattle.check_model.specs.SchemaParts.{IsPartialSchema};
 ghost use Rattle.const_tables.specs.Places.{ArePlaces};
-ghost use Rattle.idl_check.specs.Given.{AreWorth};
+ghost use Rattle.idl_passes.specs.Given.{AreWorth};
 ghost use Rattle.idl_types.specs.Known.{AreAliasTypes};
 ghost use Rattle.schema_values.specs.Filling.{IsWholeSchema};
 

@@ -4,7 +4,7 @@ ghost use Rattle.std.specs.Prelude.{◌≡◌, ℕ, Some, None, slice_index_or, 
 ghost use Rattle.thrift_value.specs.TreeOf.{tree_of};
 ghost use Rattle.idl_model.specs.Program.{Program};
 ghost use Rattle.const_tables.specs.Places.{ArePlaces};
-ghost use Rattle.idl_check.specs.Given.{AreWorth};
+ghost use Rattle.idl_passes.specs.Given.{AreWorth};
 ghost use Rattle.schema_values.specs.Taking.{AreWorths, IsWorthAt};
 
 use const_tables::ValuePlaces;

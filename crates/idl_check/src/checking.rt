@@ -1,0 +1,31 @@
+//! A program's schema, or its first fault.
+
+ghost use Rattle.idl_include.specs.SourcesOf.{AreFiles, program_in, sources_in};
+ghost use Rattle.idl_check.specs.Behind.{IsCheckOf};
+
+use crate::values::with_values;
+use idl_include::Sources;
+use idl_names::laws::files_of_a_program_have_their_own_bases;
+use idl_names::{all_definitions, name_tables, program_spots};
+use idl_passes::{CheckFault, typed_program};
+use schema::Schema;
+use sound_model::laws::the_schema_of_loaded_files_is_sound;
+use std::alloc::Global;
+
+/// The schema of a program, or the first fault that its passes find, by pass and then in reading order.
+pub fn check(alloc: Global, sources: &Sources) -> Result<Schema, CheckFault>
+    requires { AreFiles (sources_in sources.now) }
+    ensures { IsCheckOf (program_in (sources_in sources.now)) result }
+{
+    files_of_a_program_have_their_own_bases();
+    the_schema_of_loaded_files_is_sound();
+    let files = sources.files();
+    let definitions = all_definitions(alloc, files)?;
+    let names = name_tables(alloc, files, &definitions)?;
+    let spots = program_spots(alloc, files)?;
+    let spots = spots.as_slice();
+    match typed_program(alloc, files, &definitions, &names, spots) {
+        Ok(typed) => with_values(alloc, &definitions, &names, typed, spots),
+        Err(fault) => Err(fault),
+    }
+}
