@@ -1,4 +1,5 @@
 pub mod OneFed
 pub mod Leading
 pub mod Sufficing
+pub mod Ample
 pub mod NotFed

@@ -6,7 +6,7 @@ use Rattle.host_model.specs.Journal.{ServiceRules}
 use Rattle.host_model.specs.DeskRules.{DeskRules}
 use Rattle.machine_model.specs.Machine.{Cell}
 use Rattle.rehearsal_model.specs.ScriptLines.{ScriptLine, opening, piece, input_end, input_fault, resting, turn_of_conn, turn_of_worker, turn_of_outcome, ScriptPlan, count_up}
-use Rattle.rehearsal_model.specs.Playing.{Play, conn_move, collect_move}
+use Rattle.rehearsal_model.specs.Playing.{MemoryAt, Play, conn_move, collect_move}
 use Rattle.rehearsal_model.specs.Rehearsing.{goes_on_with, until_still, all_read, pass, drain, line_done, lines_done, before_all, rehearsal, IsRehearsalOf}
 
 module _ {X : Type 0} where
@@ -38,21 +38,21 @@ module _ {X : Type 0} where
   still_agrees (suc m) zero move x l = absurd (let f : ⊥ = omega arith in f)
   still_agrees (suc m) (suc n) move x l = goes_agrees x (move x) _ _ (λ y. still_agrees m n move y (omega arith))
 
-module _ {C A M : Type 0} (d : DeskRules C A) (r : ServiceRules C A M) (budget workers : ℕ) (fuel more : ℕ) (less : fuel ≤ more) where
-  read_agrees : (cs : List ℕ) (play : Play C A M) → Agrees (all_read d r fuel budget cs play) (all_read d r more budget cs play)
+module _ {C A M : Type 0} (d : DeskRules C A) (r : ServiceRules C A M) (memory : ℕ → MemoryAt) (budget workers : ℕ) (fuel more : ℕ) (less : fuel ≤ more) where
+  read_agrees : (cs : List ℕ) (play : Play C A M) → Agrees (all_read d r memory fuel budget cs play) (all_read d r memory more budget cs play)
   read_agrees [] play = agrees_same _
-  read_agrees (c ∷ cs) play = and_agrees _ _ _ _ (still_agrees fuel more (conn_move d r budget c) play less) (λ next. read_agrees cs next)
+  read_agrees (c ∷ cs) play = and_agrees _ _ _ _ (still_agrees fuel more (conn_move d r memory budget c) play less) (λ next. read_agrees cs next)
 
-  pass_agrees : (play : Play C A M) → Agrees (pass d r fuel budget workers play) (pass d r more budget workers play)
+  pass_agrees : (play : Play C A M) → Agrees (pass d r memory fuel budget workers play) (pass d r memory more budget workers play)
   pass_agrees play =
       and_agrees _ _ _ _ (and_agrees _ _ _ _ (read_agrees (count_up 0 play.cell.loop.count) play) (λ next. agrees_same _)) (λ next. still_agrees fuel more (collect_move d r) next less)
 
-  drain_agrees : (m n : ℕ) → m ≤ n → (play : Play C A M) → Agrees (drain d r m fuel budget workers play) (drain d r n more budget workers play)
+  drain_agrees : (m n : ℕ) → m ≤ n → (play : Play C A M) → Agrees (drain d r memory m fuel budget workers play) (drain d r memory n more budget workers play)
   drain_agrees zero n l play = none_agrees _
   drain_agrees (suc m) zero l play = absurd (let f : ⊥ = omega arith in f)
   drain_agrees (suc m) (suc n) l play = and_agrees _ _ _ _ (pass_agrees play) (λ next. either_agrees (next.moves == play.moves) (Some play) _ _ (drain_agrees m n (omega arith) next))
 
-  line_agrees : (play : Play C A M) (line : ScriptLine) → Agrees (line_done d r fuel budget workers play line) (line_done d r more budget workers play line)
+  line_agrees : (play : Play C A M) (line : ScriptLine) → Agrees (line_done d r memory fuel budget workers play line) (line_done d r memory more budget workers play line)
   line_agrees play opening = agrees_same _
   line_agrees play (piece c bytes) = agrees_same _
   line_agrees play (input_end c) = agrees_same _
@@ -62,19 +62,19 @@ module _ {C A M : Type 0} (d : DeskRules C A) (r : ServiceRules C A M) (budget w
   line_agrees play (turn_of_worker w) = agrees_same _
   line_agrees play turn_of_outcome = agrees_same _
 
-  lines_agree : (lines : List ScriptLine) (play : Play C A M) → Agrees (lines_done d r fuel budget workers lines play) (lines_done d r more budget workers lines play)
+  lines_agree : (lines : List ScriptLine) (play : Play C A M) → Agrees (lines_done d r memory fuel budget workers lines play) (lines_done d r memory more budget workers lines play)
   lines_agree [] play = drain_agrees fuel more less play
   lines_agree (line ∷ lines) play = and_agrees _ _ _ _ (line_agrees play line) (λ next. lines_agree lines next)
 
-module _ {C A M : Type 0} (d : DeskRules C A) (r : ServiceRules C A M) where
+module _ {C A M : Type 0} (d : DeskRules C A) (r : ServiceRules C A M) (memory : ℕ → MemoryAt) where
   pub more_suffice : (budget workers : ℕ) (script : ScriptPlan) (first : Cell C A M) (play : Play C A M) (fuel more : ℕ) → fuel ≤ more
-      → rehearsal d r fuel budget workers script first ≡ Some play → rehearsal d r more budget workers script first ≡ Some play
-  more_suffice budget workers script first play fuel more l e = lines_agree d r budget workers fuel more l script.lines (before_all first script) play e
+      → rehearsal d r memory fuel budget workers script first ≡ Some play → rehearsal d r memory more budget workers script first ≡ Some play
+  more_suffice budget workers script first play fuel more l e = lines_agree d r memory budget workers fuel more l script.lines (before_all first script) play e
 
   -- a script comes to one cell
-  pub one_rehearsal : (budget workers : ℕ) (script : ScriptPlan) (first last other : Cell C A M) → IsRehearsalOf d r budget workers script first last
-      → IsRehearsalOf d r budget workers script first other → last ≡ other
-  one_rehearsal budget workers script first last other a b =
-      let x : rehearsal d r (a.fuel + b.fuel) budget workers script first ≡ Some a.play = more_suffice budget workers script first a.play a.fuel (a.fuel + b.fuel) (omega arith) a.done in
-      let y : rehearsal d r (a.fuel + b.fuel) budget workers script first ≡ Some b.play = more_suffice budget workers script first b.play b.fuel (a.fuel + b.fuel) (omega arith) b.done in
+  pub one_rehearsal : (budget workers : ℕ) (script : ScriptPlan) (wants others : ℕ) (first last other : Cell C A M) → IsRehearsalOf d r memory budget workers script wants first last
+      → IsRehearsalOf d r memory budget workers script others first other → last ≡ other
+  one_rehearsal budget workers script wants others first last other a b =
+      let x : rehearsal d r memory (a.fuel + b.fuel) budget workers script first ≡ Some a.play = more_suffice budget workers script first a.play a.fuel (a.fuel + b.fuel) (omega arith) a.done in
+      let y : rehearsal d r memory (a.fuel + b.fuel) budget workers script first ≡ Some b.play = more_suffice budget workers script first b.play b.fuel (a.fuel + b.fuel) (omega arith) b.done in
       a.same ∙ ap (λ (p : Play C A M). p.cell) (same_Some a.play b.play (sym x ∙ y)) ∙ sym b.same

@@ -7,7 +7,7 @@ use Rattle.machine_model.specs.Worker.{WorkerState, idle}
 use Rattle.machine_model.specs.Machine.{Cell, on_conn}
 use Rattle.machine_model.specs.Plain.{goes}
 use Rattle.rehearsal_model.specs.ScriptLines.{ScriptLine, opening, piece, input_end, input_fault, resting, turn_of_conn, turn_of_worker, turn_of_outcome, ScriptPlan, rules_of, count_up}
-use Rattle.rehearsal_model.specs.Playing.{finishes, faults, Play, at_number, told_in, conn_move, worker_move, collect_move}
+use Rattle.rehearsal_model.specs.Playing.{finishes, faults, MemoryAt, Play, at_number, told_in, conn_move, worker_move, collect_move}
 
 -- what a move leaves, or all as it was where there was none
 abbrev pub left_by : {X : Type 0} → X → Option X → X
@@ -36,19 +36,19 @@ is_idle _ = false
 
 -- a machine before the first line of a script
 abbrev pub before_all : {C A M : Type 0} → Cell C A M → ScriptPlan → Play C A M
-before_all cell script = record { cell = cell; unread = λ _. []; finish = λ _. None; rules = λ c. rules_of c script; admitted = λ _. None; moves = 0 }
+before_all cell script = record { cell = cell; unread = λ _. []; finish = λ _. None; rules = λ c. rules_of c script; admitted = λ _. None; moves = 0; wants = 0 }
 
-module _ {C A M : Type 0} (d : DeskRules C A) (r : ServiceRules C A M) where
+module _ {C A M : Type 0} (d : DeskRules C A) (r : ServiceRules C A M) (memory : ℕ → MemoryAt) where
   -- worker w moves until it has put its job, or finds none: a job has three moves at most
   abbrev pub work_through : ℕ → ℕ → Play C A M → Option (Play C A M)
   work_through zero w play = Some play
   work_through (suc n) w play =
-      goes_on_with play (worker_move d r w play) (λ next. if is_idle (next.cell.workers w) then Some next else work_through n w next)
+      goes_on_with play (worker_move d r memory w play) (λ next. if is_idle (next.cell.workers w) then Some next else work_through n w next)
 
   -- each of these connections moves until it can't
   abbrev pub all_read : ℕ → ℕ → List ℕ → Play C A M → Option (Play C A M)
   all_read fuel budget [] play = Some play
-  all_read fuel budget (c ∷ cs) play = option_and_then (λ next. all_read fuel budget cs next) (until_still fuel (conn_move d r budget c) play)
+  all_read fuel budget (c ∷ cs) play = option_and_then (λ next. all_read fuel budget cs next) (until_still fuel (conn_move d r memory budget c) play)
 
   -- each of these workers has put its job, or found none
   abbrev pub all_work : List ℕ → Play C A M → Option (Play C A M)
@@ -74,8 +74,8 @@ module _ {C A M : Type 0} (d : DeskRules C A) (r : ServiceRules C A M) where
   line_done fuel budget workers play (input_end c) = Some (record play { finish = at_number play.finish c (Some finishes) })
   line_done fuel budget workers play (input_fault c) = Some (record play { finish = at_number play.finish c (Some faults) })
   line_done fuel budget workers play resting = drain fuel fuel budget workers play
-  line_done fuel budget workers play (turn_of_conn c) = Some (left_by play (conn_move d r budget c play))
-  line_done fuel budget workers play (turn_of_worker w) = Some (left_by play (worker_move d r w play))
+  line_done fuel budget workers play (turn_of_conn c) = Some (left_by play (conn_move d r memory budget c play))
+  line_done fuel budget workers play (turn_of_worker w) = Some (left_by play (worker_move d r memory w play))
   line_done fuel budget workers play turn_of_outcome = Some (left_by play (collect_move d r play))
 
   -- the lines are done in order, and behind the last one the run is drained
@@ -87,9 +87,10 @@ module _ {C A M : Type 0} (d : DeskRules C A) (r : ServiceRules C A M) where
   abbrev pub rehearsal : ℕ → ℕ → ℕ → ScriptPlan → Cell C A M → Option (Play C A M)
   rehearsal fuel budget workers script cell = lines_done fuel budget workers script.lines (before_all cell script)
 
-  -- The rehearsal of a script comes to this cell, if some number of steps suffices.
-  pub record IsRehearsalOf (budget workers : ℕ) (script : ScriptPlan) (first last : Cell C A M) : Type 0 where
+  -- The rehearsal of a script comes to this cell, if some number of steps suffices; at so many of its moves memory ran out.
+  pub record IsRehearsalOf (budget workers : ℕ) (script : ScriptPlan) (wants : ℕ) (first last : Cell C A M) : Type 0 where
     pub fuel : ℕ
     pub play : Play C A M
     pub done : rehearsal fuel budget workers script first ≡ Some play
+    pub count : wants ≡ play.wants
     pub same : last ≡ play.cell

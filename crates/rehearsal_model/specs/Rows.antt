@@ -1,5 +1,5 @@
 -- Scripts of a tiny desk, for examples.
-use Rattle.std.specs.Prelude.{◌≡◌, ℕ, Option, Some, List, [], ◌∷◌, ◌++◌, map, option_map}
+use Rattle.std.specs.Prelude.{◌≡◌, ℕ, ◌==◌, if◌then◌else◌, Option, Some, List, [], ◌∷◌, ◌++◌, map, option_map}
 use Rattle.outside.specs.declared.marks.Mark.{Mark}
 use Rattle.host_model.specs.declared.cause.EndCause.{EndCause}
 use Rattle.host_model.specs.Journal.{JournalEntry}
@@ -7,7 +7,7 @@ use Rattle.host_model.specs.TinyDesk.{tiny_desk, counting, size_of_one}
 use Rattle.machine_model.specs.Tiny.{tiny_hall, causes_from}
 use Rattle.machine_model.specs.Merge.{cell_at_first}
 use Rattle.rehearsal_model.specs.ScriptLines.{ScriptLine, WriteRule, ScriptPlan}
-use Rattle.rehearsal_model.specs.Playing.{Play}
+use Rattle.rehearsal_model.specs.Playing.{MemoryAt, ample, always_ample, Play}
 use Rattle.rehearsal_model.specs.Rehearsing.{rehearsal}
 
 -- a script with these lines, and these rules of connection 0
@@ -22,7 +22,15 @@ frame_of_one kind = size_of_one ++ kind ∷ []
 abbrev pub played_so : Play ℕ ℕ ℕ → List Mark × List (JournalEntry ℕ ℕ) × List (Option EndCause)
 played_so play = (play.cell.loop.tape, play.cell.hall.journal, causes_from play.cell.loop.conns 0 play.cell.loop.count)
 
--- the tiny desk's rehearsal of a script, with this budget and so many workers, comes to this tape, this journal and these causes
+-- the tiny desk's rehearsal of a script, with this memory at its moves, this budget and so many workers, comes to this tape, this journal and these causes
+abbrev pub RehearsesWith : (ℕ → MemoryAt) → ℕ → ℕ → ScriptPlan → List Mark → List (JournalEntry ℕ ℕ) → List EndCause → Type 0
+RehearsesWith memory budget workers script tape journal causes =
+    option_map played_so (rehearsal tiny_desk counting memory 20 budget workers script (cell_at_first tiny_hall)) ≡ Some (tape, journal, map Some causes)
+
+-- the same where memory is ample
 abbrev pub RehearsesTo : ℕ → ℕ → ScriptPlan → List Mark → List (JournalEntry ℕ ℕ) → List EndCause → Type 0
-RehearsesTo budget workers script tape journal causes =
-    option_map played_so (rehearsal tiny_desk counting 20 budget workers script (cell_at_first tiny_hall)) ≡ Some (tape, journal, map Some causes)
+RehearsesTo budget workers script tape journal causes = RehearsesWith always_ample budget workers script tape journal causes
+
+-- memory is so at move number n, and ample at the others
+abbrev pub once : ℕ → MemoryAt → ℕ → MemoryAt
+once n memory move = if move == n then memory else ample

@@ -3,13 +3,14 @@
 ghost use Rattle.std.specs.Prelude.{ℕ, List, [], ◌∷◌};
 ghost use Rattle.outside.specs.declared.marks.Mark.{Mark};
 ghost use Rattle.outside.specs.declared.marks.Mark.TheVariants.{Opened, Read, Ended, Wrote, ReadFailed, WriteFailed, Closed};
-ghost use Rattle.host_model.specs.declared.cause.EndCause.TheVariants.{End, Cut, ReadFault, WriteFault};
+ghost use Rattle.host_model.specs.declared.cause.EndCause.TheVariants.{End, Cut, ReadFault, WriteFault, NoMemory};
 ghost use Rattle.host_model.specs.Journal.{JournalEntry};
 ghost use Rattle.host_model.specs.TinyDesk.{tiny_desk, tiny_entry, size_of_one};
 ghost use Rattle.rehearsal_model.specs.ScriptLines.{opening, piece, input_end, input_fault, resting, turn_of_conn, turn_of_worker, turn_of_outcome, takes_most, blocks, fails};
 ghost use Rattle.rehearsal_model.specs.RestLines.{IsOverBudget};
 ghost use Rattle.rehearsal_model.specs.Fed.{IsFedBy};
-ghost use Rattle.rehearsal_model.specs.Rows.{tiny_script, frame_of_one, RehearsesTo};
+ghost use Rattle.rehearsal_model.specs.Playing.{lacking, lacking_for_call, lacking_for_answer};
+ghost use Rattle.rehearsal_model.specs.Rows.{tiny_script, frame_of_one, RehearsesTo, RehearsesWith, once};
 
 /// Rehearsals as they go: no line; an input that ends inside a size; a budget of one frame, for which a second connection is held until the first one's call is
 /// collected; a write of one byte and one that fails, with a block between them; two workers that overtake each other, on schedule; a rest between two calls; and
@@ -37,6 +38,21 @@ pub fn rehearsals()
         (tiny_entry 1 5 ∷ tiny_entry 0 6 ∷ []) (End ∷ End ∷ []) }
     ensures read_fails { RehearsesTo 2 1 (tiny_script (opening ∷ piece 0 (0 ∷ []) ∷ input_fault 0 ∷ turn_of_outcome ∷ []) [])
         (Opened 0 ∷ Read 0 (0 ∷ []) ∷ ReadFailed 0 ∷ Closed 0 ∷ []) [] (ReadFault ∷ []) }
+{}
+
+/// Rehearsals in which memory runs out: for the only frame, when it is to be admitted; for a decision, or a reply, after which the connection ends; for a call,
+/// which isn't made; and for the copy of its answer, which leaves the call in the journal.
+pub fn rehearsals_without_memory()
+    ensures for_a_frame { RehearsesWith (once 2 lacking) 2 1 (tiny_script (opening ∷ piece 0 (frame_of_one 1) ∷ input_end 0 ∷ []) [])
+        (Opened 0 ∷ Read 0 size_of_one ∷ Closed 0 ∷ []) [] (NoMemory ∷ []) }
+    ensures for_a_decision { RehearsesWith (once 6 lacking) 2 1 (tiny_script (opening ∷ piece 0 (frame_of_one 1) ∷ input_end 0 ∷ []) [])
+        (Opened 0 ∷ Read 0 size_of_one ∷ Read 0 (1 ∷ []) ∷ Closed 0 ∷ []) [] (NoMemory ∷ []) }
+    ensures for_a_call { RehearsesWith (once 6 lacking_for_call) 2 1 (tiny_script (opening ∷ piece 0 (frame_of_one 1) ∷ input_end 0 ∷ []) [])
+        (Opened 0 ∷ Read 0 size_of_one ∷ Read 0 (1 ∷ []) ∷ Closed 0 ∷ []) [] (NoMemory ∷ []) }
+    ensures for_an_answer { RehearsesWith (once 6 lacking_for_answer) 2 1 (tiny_script (opening ∷ piece 0 (frame_of_one 1) ∷ input_end 0 ∷ []) [])
+        (Opened 0 ∷ Read 0 size_of_one ∷ Read 0 (1 ∷ []) ∷ Closed 0 ∷ []) (tiny_entry 0 5 ∷ []) (NoMemory ∷ []) }
+    ensures for_a_reply { RehearsesWith (once 7 lacking) 2 1 (tiny_script (opening ∷ piece 0 (frame_of_one 1) ∷ input_end 0 ∷ []) [])
+        (Opened 0 ∷ Read 0 size_of_one ∷ Read 0 (1 ∷ []) ∷ Closed 0 ∷ []) (tiny_entry 0 5 ∷ []) (NoMemory ∷ []) }
 {}
 
 /// Runs that their scripts don't feed: a read goes over a piece's end; a write passes over its rule; an input ends that the script says fails; a connection

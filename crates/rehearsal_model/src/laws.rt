@@ -11,6 +11,7 @@ ghost use Rattle.script_model.specs.Rehearsal.{is_scripted, IsRunOn};
 ghost use Rattle.machine_model.specs.Machine.{Cell, MachineEvent, EventsLead, IsFirst, HaveAllEnded};
 ghost use Rattle.rehearsal_model.specs.ScriptLines.{ScriptPlan};
 ghost use Rattle.rehearsal_model.specs.Fed.{IsFedBy, script_of_one};
+ghost use Rattle.rehearsal_model.specs.Playing.{MemoryAt, always_ample};
 ghost use Rattle.rehearsal_model.specs.Rehearsing.{IsRehearsalOf};
 
 use machine_model::laws::{every_run_meets, plain_machine_runs};
@@ -25,16 +26,20 @@ pub fn one_connection_is_fed<C, A, M>()
         IsRunOn d r memories is_scripted (λ c. arrival_of pieces) tape journal (cause ∷ []) }
 {}
 
-/// A rehearsal is a run of the machine, since each of its moves is one of its events, or none that the machine sees; so it meets the headline where each
-/// connection has ended. And a script comes to one end alone, whatever number of steps sufficed.
+/// A rehearsal is a run of the machine, however memory is at its moves, since each move is one of the machine's events, or none that it sees; so it meets the
+/// headline where each connection has ended. A script comes to one end alone, whatever number of steps sufficed; and where memory never ran out, to the end
+/// that it comes to with ample memory.
 pub fn a_rehearsal_is_a_run<C, A, M>()
-    ensures run { (d : DeskRules C A) (r : ServiceRules C A M) (budget workers : ℕ) (script : ScriptPlan) (first last : Cell C A M) →
-        d.max < 2 ^ 31 → IsRehearsalOf d r budget workers script first last → (events : List MachineEvent) × EventsLead d r first events last }
-    ensures meets { (d : DeskRules C A) (r : ServiceRules C A M) (memories : List M) (budget workers : ℕ) (script : ScriptPlan) (first last : Cell C A M) (causes : List EndCause) →
-        d.max < 2 ^ 31 → IsFirst memories first → IsRehearsalOf d r budget workers script first last → HaveAllEnded last.loop causes →
+    ensures run { (d : DeskRules C A) (r : ServiceRules C A M) (memory : ℕ → MemoryAt) (budget workers : ℕ) (script : ScriptPlan) (wants : ℕ) (first last : Cell C A M) →
+        d.max < 2 ^ 31 → IsRehearsalOf d r memory budget workers script wants first last → (events : List MachineEvent) × EventsLead d r first events last }
+    ensures meets { (d : DeskRules C A) (r : ServiceRules C A M) (memories : List M) (memory : ℕ → MemoryAt) (budget workers : ℕ) (script : ScriptPlan) (wants : ℕ)
+        (first last : Cell C A M) (causes : List EndCause) →
+        d.max < 2 ^ 31 → IsFirst memories first → IsRehearsalOf d r memory budget workers script wants first last → HaveAllEnded last.loop causes →
         Headline d r memories last.loop.tape last.hall.journal causes }
-    ensures only { (d : DeskRules C A) (r : ServiceRules C A M) (budget workers : ℕ) (script : ScriptPlan) (first last other : Cell C A M) →
-        IsRehearsalOf d r budget workers script first last → IsRehearsalOf d r budget workers script first other → last ≡ other }
+    ensures only { (d : DeskRules C A) (r : ServiceRules C A M) (memory : ℕ → MemoryAt) (budget workers : ℕ) (script : ScriptPlan) (wants others : ℕ) (first last other : Cell C A M) →
+        IsRehearsalOf d r memory budget workers script wants first last → IsRehearsalOf d r memory budget workers script others first other → last ≡ other }
+    ensures with_ample_memory { (d : DeskRules C A) (r : ServiceRules C A M) (memory : ℕ → MemoryAt) (budget workers : ℕ) (script : ScriptPlan) (first last : Cell C A M) →
+        d.max < 2 ^ 31 → IsRehearsalOf d r memory budget workers script 0 first last → IsRehearsalOf d r always_ample budget workers script 0 first last }
 {
     plain_machine_runs::<C, A, M>();
     every_run_meets::<C, A, M>();
