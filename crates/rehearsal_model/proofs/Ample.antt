@@ -12,7 +12,7 @@ use Rattle.machine_model.specs.Worker.{WorkerState, idle, holds, has_answer, has
 use Rattle.machine_model.specs.Machine.{Cell, MachineEvent, on_conn, submits, puts, EventsLead}
 use Rattle.machine_model.specs.Plain.{is_empty, is_open, Told, goes, puts_none, event_told, told_plain, run_plain}
 use Rattle.machine_model.specs.AtFronts.{size_in}
-use Rattle.rehearsal_model.specs.ScriptLines.{ScriptLine, opening, piece, input_end, input_fault, resting, turn_of_conn, turn_of_worker, turn_of_outcome, ScriptPlan, count_up}
+use Rattle.rehearsal_model.specs.ScriptLines.{PlanLine, opening, piece, input_end, input_fault, resting, turn_of_conn, turn_of_worker, turn_of_outcome, ScriptPlan, count_up}
 use Rattle.rehearsal_model.specs.Playing.{MemoryAt, ample, lacking, lacking_for_call, lacking_for_answer, always_ample, Play, at_number, moved_on, all_admitted, event_on, or_else, told_without, told_wanting, by_memory, admission, told_in, read_move, write_move, size_move, open_move, conn_move, step_of_worker, worker_move, collect_move}
 use Rattle.rehearsal_model.specs.Rehearsing.{workers_among, is_idle, left_by, goes_on_with, until_still, work_through, all_read, all_work, pass, drain, line_done, lines_done, before_all, IsRehearsalOf}
 use Rattle.rehearsal_model.proofs.Leading.{Leads, Leading, stays, either, conn_leads, worker_leads, collect_leads, still_leads, through_leads, all_read_leads, all_work_leads, pass_leads, drain_leads, line_leads, lines_lead}
@@ -184,7 +184,7 @@ module _ {C A M : Type 0} (d : DeskRules C A) (r : ServiceRules C A M) (memory :
       (pass_leads d r memory computes fuel budget workers play) (pass_same fuel budget workers play)
       (λ next. drain_leads d r memory computes n fuel budget workers next) (λ next. drain_same n fuel budget workers next)
 
-  line_same : (fuel budget workers : ℕ) (play : Play C A M) (line : ScriptLine)
+  line_same : (fuel budget workers : ℕ) (play : Play C A M) (line : PlanLine)
       → Same (line_done d r memory fuel budget workers play line) (line_done d r always_ample fuel budget workers play line)
   line_same fuel budget workers play opening = same_self _
   line_same fuel budget workers play (piece c bytes) = same_self _
@@ -195,7 +195,7 @@ module _ {C A M : Type 0} (d : DeskRules C A) (r : ServiceRules C A M) (memory :
   line_same fuel budget workers play (turn_of_worker w) = left_same play _ _ (worker_alike w play)
   line_same fuel budget workers play turn_of_outcome = same_self _
 
-  lines_same : (fuel budget workers : ℕ) (lines : List ScriptLine) (play : Play C A M)
+  lines_same : (fuel budget workers : ℕ) (lines : List PlanLine) (play : Play C A M)
       → Same (lines_done d r memory fuel budget workers lines play) (lines_done d r always_ample fuel budget workers lines play)
   lines_same fuel budget workers [] play = drain_same fuel fuel budget workers play
   lines_same fuel budget workers (line ∷ lines) play =

@@ -11,7 +11,7 @@ use Rattle.machine_model.specs.Machine.{Cell, MachineEvent, on_conn, submits, ta
 use Rattle.machine_model.specs.Plain.{is_empty, is_open, Told, goes, puts_none, event_told, told_plain, run_plain}
 use Rattle.machine_model.specs.AtFronts.{size_in}
 use Rattle.machine_model.proofs.Merging.{runs-append}
-use Rattle.rehearsal_model.specs.ScriptLines.{ScriptLine, opening, piece, input_end, input_fault, resting, turn_of_conn, turn_of_worker, turn_of_outcome, WriteRule, takes_most, blocks, fails, ScriptPlan, count_up}
+use Rattle.rehearsal_model.specs.ScriptLines.{PlanLine, opening, piece, input_end, input_fault, resting, turn_of_conn, turn_of_worker, turn_of_outcome, PlanRule, takes_most, blocks, fails, ScriptPlan, count_up}
 use Rattle.rehearsal_model.specs.Playing.{InputFinish, finishes, faults, MemoryAt, is_ample, Play, most_read, at_number, pieces_left, moved_on, all_admitted, event_on, or_else, told_without, told_wanting, by_memory, admission, freed, freed_if_over, with_rules, with_unread, told_in, on_one, read_behind, read_move, write_move, size_move, open_move, conn_move, step_of_worker, worker_move, collect_first, collect_move}
 use Rattle.rehearsal_model.specs.Rehearsing.{workers_among, left_by, goes_on_with, until_still, work_through, all_read, all_work, pass, drain, line_done, lines_done, before_all, IsRehearsalOf}
 
@@ -133,7 +133,7 @@ module _ {C A M : Type 0} (d : DeskRules C A) (r : ServiceRules C A M) (memory :
       let n : ℕ = min (min missing most_read) (length bytes) in
       mapped play (with_unread c (pieces_left (drop n bytes) pieces)) (on_one d r play c (reads c (take n bytes))) (λ p. record { cell = refl; wants = refl; moves = refl }) (one_leads play c (reads c (take n bytes)))
 
-  write_leads : (play : Play C A M) (c : ℕ) (left : List ℕ) (rules : List WriteRule) → Leading play (write_move d r play c left rules)
+  write_leads : (play : Play C A M) (c : ℕ) (left : List ℕ) (rules : List PlanRule) → Leading play (write_move d r play c left rules)
   write_leads play c left [] = one_leads play c (writes c (length left))
   write_leads play c left (takes_most count ∷ rules) =
       mapped play (with_rules c rules) (on_one d r play c (writes c (min count (length left)))) (λ p. record { cell = refl; wants = refl; moves = refl }) (one_leads play c (writes c (min count (length left))))
@@ -220,7 +220,7 @@ module _ {C A M : Type 0} (d : DeskRules C A) (r : ServiceRules C A M) (memory :
   drain_leads (suc n) fuel budget workers play =
       drained play (λ next. drain d r memory n fuel budget workers next) (pass d r memory fuel budget workers play) (pass_leads fuel budget workers play) (λ next. drain_leads n fuel budget workers next)
 
-  pub line_leads : (fuel budget workers : ℕ) (play : Play C A M) (line : ScriptLine) → Leading play (line_done d r memory fuel budget workers play line)
+  pub line_leads : (fuel budget workers : ℕ) (play : Play C A M) (line : PlanLine) → Leading play (line_done d r memory fuel budget workers play line)
   line_leads fuel budget workers play opening = left_leads play _ (told_leads play (goes (on_conn opens)))
   line_leads fuel budget workers play (piece c bytes) = record { events = []; lead = refl; more = as_many play.wants; few = swapped play.wants play.moves }
   line_leads fuel budget workers play (input_end c) = record { events = []; lead = refl; more = as_many play.wants; few = swapped play.wants play.moves }
@@ -230,7 +230,7 @@ module _ {C A M : Type 0} (d : DeskRules C A) (r : ServiceRules C A M) (memory :
   line_leads fuel budget workers play (turn_of_worker w) = left_leads play _ (worker_leads w play)
   line_leads fuel budget workers play turn_of_outcome = left_leads play _ (collect_leads play)
 
-  pub lines_lead : (fuel budget workers : ℕ) (lines : List ScriptLine) (play : Play C A M) → Leading play (lines_done d r memory fuel budget workers lines play)
+  pub lines_lead : (fuel budget workers : ℕ) (lines : List PlanLine) (play : Play C A M) → Leading play (lines_done d r memory fuel budget workers lines play)
   lines_lead fuel budget workers [] play = drain_leads fuel fuel budget workers play
   lines_lead fuel budget workers (line ∷ lines) play =
       and_leads play (λ next. lines_done d r memory fuel budget workers lines next) _ (line_leads fuel budget workers play line) (λ next. lines_lead fuel budget workers lines next)

@@ -18,7 +18,7 @@ use Rattle.script_model.specs.Arrival.{bytes_of_pieces, ends_from, arrival_of}
 use Rattle.script_model.specs.Feeding.{EachReadTakesItsPart}
 use Rattle.script_model.specs.Rehearsal.{is_scripted, IsReadToItsEnd, FollowsArrival, IsRunOn}
 use Rattle.script_model.proofs.Marked.{kind_of, all_own, own_filter}
-use Rattle.rehearsal_model.specs.ScriptLines.{ScriptLine, piece, input_end, resting, openings, pieces_on, ends_input, some_line, count_up}
+use Rattle.rehearsal_model.specs.ScriptLines.{PlanLine, piece, input_end, resting, openings, pieces_on, ends_input, some_line, count_up}
 use Rattle.rehearsal_model.specs.Writing.{KeepsItsRules}
 use Rattle.rehearsal_model.specs.RestLines.{opened_by, opened_in}
 use Rattle.rehearsal_model.specs.Fed.{IsReadFrom, IsFedBy, script_of_one}
@@ -119,7 +119,7 @@ has_its_end : (pieces : List (List ℕ)) → some_line (ends_input 0) (map (piec
 has_its_end [] = refl
 has_its_end (p ∷ pieces) = has_its_end pieces
 
-rests : ScriptLine → Bool
+rests : PlanLine → Bool
 rests resting = true
 rests _ = false
 
@@ -128,7 +128,7 @@ unfolding rests
 rests_nowhere [] = (refl, tt)
 rests_nowhere (p ∷ pieces) = (refl, rests_nowhere pieces)
 
-no_rest : (pieces : List (List ℕ)) (before behind : List ScriptLine) → (script_of_one pieces).lines ≡ before ++ resting ∷ behind → ⊥
+no_rest : (pieces : List (List ℕ)) (before behind : List PlanLine) → (script_of_one pieces).lines ≡ before ++ resting ∷ behind → ⊥
 unfolding rests
 no_rest pieces before behind e =
     true≢false (all_at (λ line. rests line ≡ false) before behind resting (subst (AllByRecursion (λ line. rests line ≡ false)) e (refl, rests_nowhere pieces)))

@@ -8,7 +8,7 @@ use Rattle.host_model.specs.DeskRules.{DeskRules}
 use Rattle.host_model.specs.Conversation.{IsPrefix}
 use Rattle.script_model.specs.Arrival.{bytes_of_pieces, ends_from}
 use Rattle.script_model.specs.Feeding.{EachReadTakesItsPart}
-use Rattle.rehearsal_model.specs.ScriptLines.{ScriptLine, opening, piece, input_end, resting, ScriptPlan, openings, pieces_on, ends_input, fails_input, some_line, count_up}
+use Rattle.rehearsal_model.specs.ScriptLines.{PlanLine, opening, piece, input_end, resting, ScriptPlan, openings, pieces_on, ends_input, fails_input, some_line, count_up}
 use Rattle.rehearsal_model.specs.Writing.{KeepsItsRules}
 use Rattle.rehearsal_model.specs.RestLines.{opened_in, HasPlaceFor}
 
@@ -28,7 +28,7 @@ pub record IsFedBy {C A : Type 0} (d : DeskRules C A) (budget : ℕ) (script : S
   pub opened : opened_in tape ≡ count_up 0 (openings script.lines)
   pub each_read : (c : ℕ) → IsReadFrom d.max script tape c
   pub each_written : (c : ℕ) → KeepsItsRules d script c (entries_of c journal) tape
-  pub rests : (before behind : List ScriptLine) → script.lines ≡ before ++ resting ∷ behind → HasPlaceFor d budget before tape journal
+  pub rests : (before behind : List PlanLine) → script.lines ≡ before ++ resting ∷ behind → HasPlaceFor d budget before tape journal
 
 -- the script of one connection that these pieces arrive on, and that ends then
 abbrev pub script_of_one : List (List ℕ) → ScriptPlan

@@ -10,7 +10,7 @@ use Rattle.machine_model.specs.Worker.{WorkerState, idle, holds, has_answer, has
 use Rattle.machine_model.specs.Machine.{Cell, MachineEvent, on_conn, submits, takes, applies, puts, collects}
 use Rattle.machine_model.specs.Plain.{is_empty, is_open, lacks_for_call, lacks_for_answer, Told, goes, applies_so, puts_none, told_plain}
 use Rattle.machine_model.specs.AtFronts.{size_in, summed}
-use Rattle.rehearsal_model.specs.ScriptLines.{WriteRule, takes_most, blocks, fails}
+use Rattle.rehearsal_model.specs.ScriptLines.{PlanRule, takes_most, blocks, fails}
 
 -- what comes behind all pieces of a connection: its input ends, or a read fails
 pub data InputFinish : Type 0 where
@@ -39,7 +39,7 @@ pub record Play (C A M : Type 0) : Type 0 where
   pub cell : Cell C A M
   pub unread : ℕ → List (List ℕ)
   pub finish : ℕ → Option InputFinish
-  pub rules : ℕ → List WriteRule
+  pub rules : ℕ → List PlanRule
   pub admitted : ℕ → Option ℕ
   pub moves : ℕ
   pub wants : ℕ
@@ -90,7 +90,7 @@ module _ {C A M : Type 0} where
   freed_if_over c play = record play { admitted = at_number play.admitted c (kept_while_open (play.cell.loop.conns c).cause (play.admitted c)) }
 
   -- these rules are left to a connection
-  abbrev pub with_rules : ℕ → List WriteRule → Play C A M → Play C A M
+  abbrev pub with_rules : ℕ → List PlanRule → Play C A M → Play C A M
   with_rules c rules play = record play { rules = at_number play.rules c rules }
 
   -- these pieces are left to it
@@ -127,7 +127,7 @@ module _ {C A M : Type 0} (d : DeskRules C A) (r : ServiceRules C A M) where
       let n : ℕ = min (min missing most_read) (length bytes) in option_map (with_unread c (pieces_left (drop n bytes) pieces)) (on_one play c (reads c (take n bytes)))
 
   -- one write, by the next rule
-  abbrev pub write_move : Play C A M → ℕ → List ℕ → List WriteRule → Option (Play C A M)
+  abbrev pub write_move : Play C A M → ℕ → List ℕ → List PlanRule → Option (Play C A M)
   write_move play c left [] = on_one play c (writes c (length left))
   write_move play c left (takes_most count ∷ rules) = option_map (with_rules c rules) (on_one play c (writes c (min count (length left))))
   write_move play c left (blocks ∷ rules) = Some (moved_on (with_rules c rules play))

@@ -6,7 +6,7 @@ use Rattle.machine_model.specs.Loop.{opens}
 use Rattle.machine_model.specs.Worker.{WorkerState, idle}
 use Rattle.machine_model.specs.Machine.{Cell, on_conn}
 use Rattle.machine_model.specs.Plain.{goes}
-use Rattle.rehearsal_model.specs.ScriptLines.{ScriptLine, opening, piece, input_end, input_fault, resting, turn_of_conn, turn_of_worker, turn_of_outcome, ScriptPlan, rules_of, count_up}
+use Rattle.rehearsal_model.specs.ScriptLines.{PlanLine, opening, piece, input_end, input_fault, resting, turn_of_conn, turn_of_worker, turn_of_outcome, ScriptPlan, rules_of, count_up}
 use Rattle.rehearsal_model.specs.Playing.{finishes, faults, MemoryAt, Play, at_number, told_in, conn_move, worker_move, collect_move}
 
 -- what a move leaves, or all as it was where there was none
@@ -68,7 +68,7 @@ module _ {C A M : Type 0} (d : DeskRules C A) (r : ServiceRules C A M) (memory :
       option_and_then (λ next. if next.moves == play.moves then Some play else drain n fuel budget workers next) (pass fuel budget workers play)
 
   -- a line is done: something arrives, a connection is opened, the run is drained, or one move is made, where there is one
-  abbrev pub line_done : ℕ → ℕ → ℕ → Play C A M → ScriptLine → Option (Play C A M)
+  abbrev pub line_done : ℕ → ℕ → ℕ → Play C A M → PlanLine → Option (Play C A M)
   line_done fuel budget workers play opening = Some (left_by play (told_in d r play (goes (on_conn opens))))
   line_done fuel budget workers play (piece c bytes) = Some (record play { unread = at_number play.unread c (play.unread c ++ bytes ∷ []) })
   line_done fuel budget workers play (input_end c) = Some (record play { finish = at_number play.finish c (Some finishes) })
@@ -79,7 +79,7 @@ module _ {C A M : Type 0} (d : DeskRules C A) (r : ServiceRules C A M) (memory :
   line_done fuel budget workers play turn_of_outcome = Some (left_by play (collect_move d r play))
 
   -- the lines are done in order, and behind the last one the run is drained
-  abbrev pub lines_done : ℕ → ℕ → ℕ → List ScriptLine → Play C A M → Option (Play C A M)
+  abbrev pub lines_done : ℕ → ℕ → ℕ → List PlanLine → Play C A M → Option (Play C A M)
   lines_done fuel budget workers [] play = drain fuel fuel budget workers play
   lines_done fuel budget workers (line ∷ lines) play = option_and_then (λ next. lines_done fuel budget workers lines next) (line_done fuel budget workers play line)
 

@@ -10,7 +10,7 @@ use Rattle.host_model.specs.Conversation.{IsPrefix}
 use Rattle.machine_model.specs.AtFronts.{IsOpenBehind, size_in, AreSizesBehind, summed}
 use Rattle.machine_model.specs.Resting.{IsPlaceOfRest}
 use Rattle.script_model.specs.Arrival.{bytes_of_pieces}
-use Rattle.rehearsal_model.specs.ScriptLines.{ScriptLine, openings, pieces_on, ends_input, fails_input, some_line, count_up}
+use Rattle.rehearsal_model.specs.ScriptLines.{PlanLine, openings, pieces_on, ends_input, fails_input, some_line, count_up}
 
 -- the connection that a mark opens
 abbrev pub opened_by : Mark → List ℕ
@@ -22,7 +22,7 @@ abbrev pub opened_in : List Mark → List ℕ
 opened_in tape = flat_map opened_by tape
 
 -- No mark of these tells of more than these lines say of connection c: its bytes are theirs, and its input has ended, or failed, only where they say so.
-pub record TellsNoMore (lines : List ScriptLine) (front : List Mark) (c : ℕ) : Type 0 where
+pub record TellsNoMore (lines : List PlanLine) (front : List Mark) (c : ℕ) : Type 0 where
   pub bytes : IsPrefix (input (marks_of c front)) (bytes_of_pieces (pieces_on c lines))
   pub ended : (before behind : List Mark) → front ≡ before ++ Ended c ∷ behind → some_line (ends_input c) lines ≡ true
   pub failed : (before behind : List Mark) → front ≡ before ++ ReadFailed c ∷ behind → some_line (fails_input c) lines ≡ true
@@ -37,7 +37,7 @@ pub record IsOverBudget (max budget : ℕ) (front : List Mark) : Type 0 where
 
 -- A place of the tape for a line of rest behind these lines: just the connections that they open were opened; nothing of a later line was seen; nothing is
 -- owed; and their pieces were read, but where connections that are open hold more than the budget.
-pub record HasPlaceFor {C A : Type 0} (d : DeskRules C A) (budget : ℕ) (lines : List ScriptLine) (tape : List Mark) (journal : List (JournalEntry C A)) : Type 0 where
+pub record HasPlaceFor {C A : Type 0} (d : DeskRules C A) (budget : ℕ) (lines : List PlanLine) (tape : List Mark) (journal : List (JournalEntry C A)) : Type 0 where
   pub front : List Mark
   pub back : List Mark
   pub split : tape ≡ front ++ back

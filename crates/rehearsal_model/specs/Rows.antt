@@ -6,12 +6,12 @@ use Rattle.host_model.specs.Journal.{JournalEntry}
 use Rattle.host_model.specs.TinyDesk.{tiny_desk, counting, size_of_one}
 use Rattle.machine_model.specs.Tiny.{tiny_hall, causes_from}
 use Rattle.machine_model.specs.Merge.{cell_at_first}
-use Rattle.rehearsal_model.specs.ScriptLines.{ScriptLine, WriteRule, ScriptPlan}
+use Rattle.rehearsal_model.specs.ScriptLines.{PlanLine, PlanRule, ScriptPlan}
 use Rattle.rehearsal_model.specs.Playing.{MemoryAt, ample, always_ample, Play}
 use Rattle.rehearsal_model.specs.Rehearsing.{rehearsal}
 
 -- a script with these lines, and these rules of connection 0
-abbrev pub tiny_script : List ScriptLine → List WriteRule → ScriptPlan
+abbrev pub tiny_script : List PlanLine → List PlanRule → ScriptPlan
 tiny_script lines rules = record { lines = lines; rules = rules ∷ [] }
 
 -- a frame whose payload is this one byte

@@ -8,7 +8,7 @@ use Rattle.host_model.specs.Journal.{JournalEntry}
 use Rattle.host_model.specs.DeskRules.{DeskRules}
 use Rattle.host_model.specs.Conversation.{sent}
 use Rattle.script_model.specs.Sending.{WritesTheRest}
-use Rattle.rehearsal_model.specs.ScriptLines.{WriteRule, takes_most, blocks, fails, ScriptPlan, rule_of}
+use Rattle.rehearsal_model.specs.ScriptLines.{PlanRule, takes_most, blocks, fails, ScriptPlan, rule_of}
 
 -- one, where a mark is of a write
 abbrev pub write_in : Mark → ℕ
@@ -33,7 +33,7 @@ pub record WritesAtMost {C A : Type 0} (count : ℕ) (d : DeskRules C A) (es : L
   pub part : bytes ≡ take count offered
 
 -- what a write does under this rule, or under none
-abbrev pub WritesUnder : {C A : Type 0} → Option WriteRule → DeskRules C A → List (JournalEntry C A) → List Mark → List ℕ → Type 0
+abbrev pub WritesUnder : {C A : Type 0} → Option PlanRule → DeskRules C A → List (JournalEntry C A) → List Mark → List ℕ → Type 0
 WritesUnder None d es marks bytes = WritesTheRest d es marks bytes
 WritesUnder (Some (takes_most count)) d es marks bytes = WritesAtMost count d es marks bytes
 WritesUnder (Some blocks) d es marks bytes = ⊥
