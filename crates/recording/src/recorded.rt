@@ -10,7 +10,7 @@ use crate::input::read_whole;
 use crate::office::first_unbuilt;
 use crate::report::write_report;
 use crate::run::rehearse;
-use crate::script::{Script, read_script};
+use crate::script::{OneScript, read_script};
 use outside::{Sink, Source};
 use std::alloc::Global;
 
@@ -36,7 +36,7 @@ pub fn answer_recorded<S: Source, K: Sink>(
 }
 
 /// The script that the input is.
-fn read_input<S: Source>(alloc: Global, input: &mut S) -> Result<Script, RecordingFault>
+fn read_input<S: Source>(alloc: Global, input: &mut S) -> Result<OneScript, RecordingFault>
     ensures input { MatchResult result
         (λ script. IsInput (S.left input.old) (S.left input.new) script.bytes.items script.ends.items)
         (λ fault. EndsInput fault (S.left input.old)) }
@@ -50,7 +50,7 @@ fn read_input<S: Source>(alloc: Global, input: &mut S) -> Result<Script, Recordi
 }
 
 /// Runs a script and writes its report.
-fn run<K: Sink>(alloc: Global, script: &Script, output: &mut K) -> Result<(), RecordingFault>
+fn run<K: Sink>(alloc: Global, script: &OneScript, output: &mut K) -> Result<(), RecordingFault>
     requires small { length script.now.bytes.items < 2 ^ 62 }
     requires ends { AreEnds script.now.ends.items (length script.now.bytes.items) }
     ensures written { MatchResult result

@@ -9,7 +9,7 @@ ghost use Rattle.recording.specs.Run.{ComesOf, IsInPiece, IsRunUnderWay, IsFed, 
 use crate::entry::KeptEntry;
 use crate::message::{Message, TutorialAnswer, TutorialCall};
 use crate::office::{LONGEST_FRAME, answer, reply};
-use crate::script::Script;
+use crate::script::OneScript;
 use conn_state::Conn;
 use conn_state::laws::{every_piece_stays_within, every_run_splits};
 use host_model::laws::{every_moment_stands, every_run_meets};
@@ -53,7 +53,7 @@ impl Run {
     }
 
     /// One move of the connection.
-    fn move_on(&mut self, alloc: Global, script: &Script) -> Result<(), AllocError>
+    fn move_on(&mut self, alloc: Global, script: &OneScript) -> Result<(), AllocError>
         requires under_way { IsRunUnderWay script.now.bytes.items self.old }
         requires open { cause_of self.old.conn.phase ≡ None }
         requires small { length script.now.bytes.items < 2 ^ 62 }
@@ -92,7 +92,7 @@ impl Run {
     }
 
     /// Reads as many bytes as are wanted, at most those that are left of the piece under way.
-    fn read(&mut self, alloc: Global, script: &Script) -> Result<(), AllocError>
+    fn read(&mut self, alloc: Global, script: &OneScript) -> Result<(), AllocError>
         requires reading { IsReading self.old.conn.phase }
         requires some { self.old.at < length script.now.bytes.items }
         requires few { self.old.conn.frames < 2 ^ 62 }
@@ -117,7 +117,7 @@ impl Run {
     }
 
     /// Where the piece under way ends among the script's bytes.
-    fn end_of_piece(&self, script: &Script) -> usize
+    fn end_of_piece(&self, script: &OneScript) -> usize
         requires { self.now.at < length script.now.bytes.items }
         ensures some { self.now.at < result }
         ensures within { result ≤ length script.now.bytes.items }
@@ -238,7 +238,7 @@ pub(crate) struct Rehearsed {
 }
 
 /// Runs a script to its connection's end.
-pub(crate) fn rehearse(alloc: Global, script: &Script) -> Result<Rehearsed, AllocError>
+pub(crate) fn rehearse(alloc: Global, script: &OneScript) -> Result<Rehearsed, AllocError>
     requires small { length script.now.bytes.items < 2 ^ 62 }
     requires ends { AreEnds script.now.ends.items (length script.now.bytes.items) }
     ensures { IfOk result (λ run. IsRehearsed script.now.bytes.items script.now.ends.items run) }

@@ -14,7 +14,7 @@ pub(crate) const LONGEST_SCRIPT: usize = 67_108_864;
 
 /// A script: the bytes that arrive on its one connection, cut into pieces.
 #[derive(Drop)]
-pub(crate) struct Script {
+pub(crate) struct OneScript {
     /// The bytes of all pieces, one behind the other.
     pub bytes: Vec<u8>,
     /// Where each piece ends among all bytes, in order; the last one ends where the bytes do.
@@ -47,7 +47,7 @@ impl From<AllocFailed<usize>> for ScriptError {
 }
 
 /// The script that a text is.
-pub(crate) fn read_script(alloc: Global, text: &[u8]) -> Result<Script, ScriptError>
+pub(crate) fn read_script(alloc: Global, text: &[u8]) -> Result<OneScript, ScriptError>
     ensures read { IfOk result (λ script. IsScript text.now script.bytes.items script.ends.items) }
     ensures refused { result ≡ Err ScriptError.Refused → script_of text.now ≡ None }
     ensures ends { IfOk result (λ script. AreEnds script.ends.items (length script.bytes.items)) }
@@ -66,13 +66,13 @@ pub(crate) fn read_script(alloc: Global, text: &[u8]) -> Result<Script, ScriptEr
 }
 
 /// The pieces of the lines behind `open`.
-fn read_pieces(alloc: Global, text: &[u8]) -> Result<Script, ScriptError>
+fn read_pieces(alloc: Global, text: &[u8]) -> Result<OneScript, ScriptError>
     ensures read { MatchResult result
         (λ script. written [] [] (pieces_of (said_lines text.now)) ≡ Some (script.bytes.items, script.ends.items))
         (λ error. error ≡ ScriptError.Refused → written [] [] (pieces_of (said_lines text.now)) ≡ None) }
     ensures within { IfOk result (λ script. length script.bytes.items ≤ length text.now) }
 {
-    let mut script = Script {
+    let mut script = OneScript {
         bytes: Vec::new(alloc),
         ends: Vec::new(alloc),
     };
@@ -88,7 +88,7 @@ fn read_pieces(alloc: Global, text: &[u8]) -> Result<Script, ScriptError>
 }
 
 /// The script, where nothing is said behind its last line.
-fn ended(script: Script, rest: &[u8]) -> Result<Script, ScriptError>
+fn ended(script: OneScript, rest: &[u8]) -> Result<OneScript, ScriptError>
     ensures { MatchResult result
         (λ read. (said_lines rest.now ≡ []) × (read ≡ script))
         (λ error. (error ≡ ScriptError.Refused) × (0 < length (said_lines rest.now))) }
@@ -100,7 +100,7 @@ fn ended(script: Script, rest: &[u8]) -> Result<Script, ScriptError>
 }
 
 /// Adds the piece of a line.
-fn put_piece(script: &mut Script, line: &[u8]) -> Result<(), ScriptError>
+fn put_piece(script: &mut OneScript, line: &[u8]) -> Result<(), ScriptError>
     ensures put { OnOk result (option_map (λ piece. script.old.bytes.items ++ piece) (data_of line.now) ≡ Some script.new.bytes.items) }
     ensures end { OnOk result (script.new.ends.items ≡ script.old.ends.items ++ length script.new.bytes.items ∷ []) }
     ensures refused { result ≡ Err ScriptError.Refused → data_of line.now ≡ None }
