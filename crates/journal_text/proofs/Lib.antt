@@ -1,0 +1,4 @@
+mod Walks
+pub mod Handing
+pub mod OneLine
+pub mod Written

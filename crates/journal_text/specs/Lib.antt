@@ -1,0 +1,3 @@
+pub mod EntryText
+pub mod JournalStates
+pub mod Lines

@@ -1,0 +1,130 @@
+//! Hands the lines of entries to a sink, and takes no memory.
+
+ghost use Rattle.std.specs.Prelude.{◌++◌, codes};
+ghost use Rattle.text_out.specs.Decimal.{natural_of, decimal_of};
+ghost use Rattle.thrift_value.specs.TreeOf.{tree_of};
+ghost use Rattle.value_text.specs.Handing.{HandsText};
+ghost use Rattle.value_text.specs.ValueText.{tree_text};
+ghost use Rattle.call_rules.specs.Answers.{plain_answer};
+ghost use Rattle.call_rules.specs.PlainCalls.{IsPlainCall, IsPlainValue, IsPlainAnswer};
+ghost use Rattle.journal_text.specs.EntryText.{next_word, call_word, front_text, asked_text, answered_text, call_line};
+
+use crate::words::word_of_call;
+use call_rules::{Answer, Call, Entry, Key};
+use itoa::Buffer;
+use outside::{Failed, Sink, write_all};
+use thrift_value::Value;
+use value_text::spell;
+
+/// Hands the line of an entry to a sink.
+pub(crate) fn spell_entry<K: Sink>(out: &mut K, entry: &Entry) -> Result<(), Failed>
+    requires call { IsPlainCall entry.now.call }
+    requires answer { IsPlainAnswer entry.now.answer }
+    ensures { HandsText (K.taken out.old) (K.taken out.new) (K.faults out.old) (K.faults out.new) (call_line entry.now) result }
+{
+    spell_front(out, &entry.key, &entry.call)?;
+    spell_asked(out, &entry.call)?;
+    spell_answer(out, &entry.answer)?;
+    hand(out, b"\n")
+}
+
+/// Hands bytes to a sink.
+fn hand<K: Sink>(out: &mut K, bytes: &[u8]) -> Result<(), Failed>
+    ensures { HandsText (K.taken out.old) (K.taken out.new) (K.faults out.old) (K.faults out.new) bytes.now result }
+{
+    write_all(out, bytes)
+}
+
+/// Hands the words in front of the method.
+fn spell_front<K: Sink>(out: &mut K, key: &Key, call: &Call) -> Result<(), Failed>
+    ensures { HandsText (K.taken out.old) (K.taken out.new) (K.faults out.old) (K.faults out.new)
+        (front_text call.now.silent key.now call.now.slot) result }
+{
+    spell_word(out, call.silent)?;
+    spell_number(out, u64::from(key.c))?;
+    spell_number(out, key.i)?;
+    spell_number(out, u64::from(call.slot))
+}
+
+/// Hands the first word.
+fn spell_word<K: Sink>(out: &mut K, silent: bool) -> Result<(), Failed>
+    ensures { HandsText (K.taken out.old) (K.taken out.new) (K.faults out.old) (K.faults out.new) (call_word silent) result }
+{
+    hand(out, word_of_call(silent))
+}
+
+/// Hands a blank and a number.
+fn spell_number<K: Sink>(out: &mut K, n: u64) -> Result<(), Failed>
+    ensures { HandsText (K.taken out.old) (K.taken out.new) (K.faults out.old) (K.faults out.new) (next_word (natural_of n)) result }
+{
+    hand(out, b" ")?;
+    spell_natural(out, n)
+}
+
+fn spell_natural<K: Sink>(out: &mut K, n: u64) -> Result<(), Failed>
+    ensures { HandsText (K.taken out.old) (K.taken out.new) (K.faults out.old) (K.faults out.new) (natural_of n) result }
+{
+    let mut buffer = Buffer::new();
+    hand(out, buffer.format(n).as_bytes())
+}
+
+/// Hands the method and its arguments.
+fn spell_asked<K: Sink>(out: &mut K, call: &Call) -> Result<(), Failed>
+    requires { IsPlainValue call.now.args }
+    ensures { HandsText (K.taken out.old) (K.taken out.new) (K.faults out.old) (K.faults out.new)
+        (asked_text call.now.method call.now.args) result }
+{
+    hand(out, b" ")?;
+    hand(out, call.method.as_slice())?;
+    spell_behind(out, b" ", &call.args)
+}
+
+/// Hands a word and a value.
+fn spell_behind<K: Sink>(out: &mut K, word: &[u8], value: &Value) -> Result<(), Failed>
+    requires { IsPlainValue (tree_of value.now) }
+    ensures { HandsText (K.taken out.old) (K.taken out.new) (K.faults out.old) (K.faults out.new)
+        (word.now ++ tree_text (tree_of value.now)) result }
+{
+    hand(out, word)?;
+    spell_value(out, value)
+}
+
+fn spell_value<K: Sink>(out: &mut K, value: &Value) -> Result<(), Failed>
+    requires { IsPlainValue (tree_of value.now) }
+    ensures { HandsText (K.taken out.old) (K.taken out.new) (K.faults out.old) (K.faults out.new) (tree_text (tree_of value.now)) result }
+{
+    spell(value, out)
+}
+
+/// Hands an answer.
+fn spell_answer<K: Sink>(out: &mut K, answer: &Answer) -> Result<(), Failed>
+    requires { IsPlainAnswer (plain_answer answer.now) }
+    ensures { HandsText (K.taken out.old) (K.taken out.new) (K.faults out.old) (K.faults out.new)
+        (next_word (answered_text (plain_answer answer.now))) result }
+{
+    match answer {
+        Answer::Success(value) => spell_behind(out, b" ok ", value),
+        Answer::Empty => hand(out, b" empty"),
+        Answer::Throws(id, exception) => spell_thrown(out, id, exception),
+        Answer::Broken => hand(out, b" broken"),
+    }
+}
+
+/// Hands an exception and its id.
+fn spell_thrown<K: Sink>(out: &mut K, id: &i16, exception: &Value) -> Result<(), Failed>
+    requires { IsPlainValue (tree_of exception.now) }
+    ensures { HandsText (K.taken out.old) (K.taken out.new) (K.faults out.old) (K.faults out.new)
+        (next_word (codes "throws " ++ (decimal_of id.now ++ next_word (tree_text (tree_of exception.now))))) result }
+{
+    hand(out, b" throws ")?;
+    spell_id(out, id)?;
+    spell_behind(out, b" ", exception)
+}
+
+/// Hands the id of an exception.
+fn spell_id<K: Sink>(out: &mut K, id: &i16) -> Result<(), Failed>
+    ensures { HandsText (K.taken out.old) (K.taken out.new) (K.faults out.old) (K.faults out.new) (decimal_of id.now) result }
+{
+    let mut buffer = Buffer::new();
+    hand(out, buffer.format(*id).as_bytes())
+}
