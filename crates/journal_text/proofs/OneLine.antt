@@ -43,7 +43,7 @@ digit_line n = byte_at (codes "0123456789abcdef") n (plain_text (codes "01234567
 
 hex_line : (bytes : List ℕ) → IsOneLine (hex_of bytes)
 hex_line [] = tt
-hex_line (b ∷ bytes) = (digit_line (b / 16), digit_line (b % 16), hex_line bytes)
+hex_line (b ∷ bytes) = (digit_line (b / 16), (digit_line (b % 16), hex_line bytes))
 
 -- a byte that stands as it is
 printable_line : (b : ℕ) (t : Bool) (other : List ℕ) → (nat_le 0x20 b && nat_le b 0x7e) ≡ t → IsOneLine other → IsOneLine (if t then b ∷ [] else other)
@@ -53,9 +53,9 @@ printable_line b false other is a = a
 quoted_byte_line : (b : ℕ) → IsOneLine (quoted_byte b)
 quoted_byte_line b =
     let escaped : IsOneLine (escape_mark ∷ hex_mark ∷ hex_digit_of (b / 16) ∷ hex_digit_of (b % 16) ∷ []) =
-    ((λ e. omega (arith, e)), (λ e. omega (arith, e)), digit_line (b / 16), digit_line (b % 16), tt) in
-    either (b == quotation_mark) _ _ ((λ e. omega (arith, e)), (λ e. omega (arith, e)), tt)
-    (either (b == escape_mark) _ _ ((λ e. omega (arith, e)), (λ e. omega (arith, e)), tt)
+    ((λ e. omega (arith, e)), ((λ e. omega (arith, e)), (digit_line (b / 16), (digit_line (b % 16), tt)))) in
+    either (b == quotation_mark) _ _ ((λ e. omega (arith, e)), ((λ e. omega (arith, e)), tt))
+    (either (b == escape_mark) _ _ ((λ e. omega (arith, e)), ((λ e. omega (arith, e)), tt))
     (printable_line b (nat_le 0x20 b && nat_le b 0x7e) _ refl escaped))
 
 quoted_bytes_line : (bytes : List ℕ) → IsOneLine (flat_map quoted_byte bytes)

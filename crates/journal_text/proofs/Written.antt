@@ -1,6 +1,8 @@
 -- How lines that go to a sink through a buffer make up its bytes.
-use Rattle.std.proofs.Common.{◌≡◌, ℕ, ◌+◌, ◌-◌, ◌^◌, Bool, true, false, List, [], ◌∷◌, ◌++◌, length, take, drop, min, Option, refl, sym, ap, ◌∙◌, arith, append-nil, length-append, take-append-drop}
+use Rattle.std.proofs.Common.{◌≡◌, ℕ, ◌+◌, ◌-◌, ◌^◌, Bool, true, false, List, [], ◌∷◌, ◌++◌, length, min, Option, Result, Ok, Err, refl, sym, ap, ◌∙◌, arith, append-nil, length-append}
+use Rattle.std.specs.Prelude.{MatchResult}
 use Rattle.std.specs.List.{flat_map}
+use Rattle.std.specs.Result.{IsErr}
 use Rattle.std.proofs.lemmas.Bool.{true≢false}
 use Rattle.std.proofs.lemmas.Grind.{flat_map-append}
 use Rattle.outside.specs.Content.{told_more}
@@ -17,7 +19,7 @@ told_none : (x : Option (List ℕ)) → told_more x [] ≡ x
 told_none x = sym (all_told x x [] (none_taken x []))
 
 -- two texts, one behind the other
-pub told_twice : (x : Option (List ℕ)) (a b : List ℕ) → told_more (told_more x a) b ≡ told_more x (a ++ b)
+told_twice : (x : Option (List ℕ)) (a b : List ℕ) → told_more (told_more x a) b ≡ told_more x (a ++ b)
 told_twice x a b =
     let both : IsTakenBut x (told_more (told_more x a) b) (a ++ b) [] =
     taken_on x (told_more x a) (told_more (told_more x a) b) (a ++ b) b [] (record { front = a; taken = refl; whole = refl })
@@ -35,12 +37,12 @@ line_held x y start held line f g none one =
     one.taken ∙ ap (told_more (told_more x start)) (sym (append-nil one.front) ∙ sym one.whole) ∙ from_empty x start line none
 
 -- and then to the sink
-pub line_out : (x y z : Option (List ℕ)) (start held line : List ℕ) (f g : ℕ) → start ≡ [] → HandsOver (told_more x start) (told_more y held) f g line []
+line_out : (x y z : Option (List ℕ)) (start held line : List ℕ) (f g : ℕ) → start ≡ [] → HandsOver (told_more x start) (told_more y held) f g line []
     → z ≡ told_more y held → z ≡ told_more x line
 line_out x y z start held line f g none one passed = passed ∙ line_held x y start held line f g none one
 
 -- or only a part of it to the sink
-pub line_held_back : (x y z : Option (List ℕ)) (start held line : List ℕ) (f g : ℕ) → start ≡ [] → HandsOver (told_more x start) (told_more y held) f g line []
+line_held_back : (x y z : Option (List ℕ)) (start held line : List ℕ) (f g : ℕ) → start ≡ [] → HandsOver (told_more x start) (told_more y held) f g line []
     → IsTakenInPart y z held → IsCutShort x z line
 line_held_back x y z start held line f g none one part =
     let rest : told_more z part.lost ≡ told_more y held =
@@ -56,14 +58,18 @@ line_broken x y start held line f g none one =
     ap (λ t. told_more t one.lost) handed.taken ∙ told_twice (told_more x start) handed.front one.lost ∙ ap (told_more (told_more x start)) (sym handed.whole) in
     record { lost = held ++ one.lost; rest = sym (told_twice y held one.lost) ∙ whole ∙ from_empty x start line none }
 
--- what a sink takes off the front of a buffer stays told
-pub room_told : (x y : Option (List ℕ)) (held : List ℕ) (n : ℕ) → y ≡ told_more x (take n held) → told_more y (drop n held) ≡ told_more x held
-room_told x y held n taken =
-    ap (λ t. told_more t (drop n held)) taken ∙ told_twice x (take n held) (drop n held) ∙ ap (told_more x) (take-append-drop n held)
+-- the answer of a call that breaks off
+pub cut_result : {A E : Type 0} (x y : Option (List ℕ)) (line : List ℕ) (result : Result A E) → IsErr result → IsCutShort x y line
+    → MatchResult result (λ _. y ≡ told_more x line) (λ _. IsCutShort x y line)
+cut_result x y line (Ok a) e cut = absurd (let g : ⊥ = cc in g)
+cut_result x y line (Err e) h cut = cut
 
--- bytes behind those that are held
-pub held_more : (x y : Option (List ℕ)) (start held bytes : List ℕ) → told_more y held ≡ told_more x start → told_more y (held ++ bytes) ≡ told_more (told_more x start) bytes
-held_more x y start held bytes same = sym (told_twice y held bytes) ∙ ap (λ t. told_more t bytes) same
+-- the answer of a call that empties the buffer
+pub line_flushed : {A E : Type 0} (x y z : Option (List ℕ)) (start held line : List ℕ) (f g : ℕ) (result : Result A E) → start ≡ []
+    → HandsOver (told_more x start) (told_more y held) f g line [] → MatchResult result (λ _. z ≡ told_more y held) (λ _. IsTakenInPart y z held)
+    → MatchResult result (λ _. z ≡ told_more x line) (λ _. IsCutShort x z line)
+line_flushed x y z start held line f g (Ok a) none one passed = line_out x y z start held line f g none one passed
+line_flushed x y z start held line f g (Err e) none one part = line_held_back x y z start held line f g none one part
 
 -- the lines of the entries with one more
 lines_with : (entries : List CallEntry) (e : CallEntry)
@@ -73,20 +79,16 @@ lines_with entries e =
     ∙ sym (flat_map-append (λ e. line_of (entry_text e)) entries (e ∷ []))
 
 -- an entry more, whose line the sink took
-pub written_on : (x y z : Option (List ℕ)) (held empty : List ℕ) (entries : List CallEntry) (e : CallEntry) (count next : ℕ) → IsWritten x y held entries count false
-    → z ≡ told_more y (call_line e) → empty ≡ [] → next ≡ min (count + 1) (2 ^ 64 - 1) → IsWritten x z empty (entries ++ e ∷ []) next false
-written_on x y z held empty entries e count next before taken none one_more =
+pub written_on : (x y z : Option (List ℕ)) (held empty : List ℕ) (entries longer : List CallEntry) (e : CallEntry) (count next : ℕ) (torn : Bool) → torn ≡ false
+    → IsWritten x y held entries count torn → z ≡ told_more y (call_line e) → empty ≡ [] → longer ≡ entries ++ e ∷ [] → next ≡ min (count + 1) (2 ^ 64 - 1)
+    → IsWritten x z empty longer next torn
+written_on x y z held empty entries longer e count next torn whole before taken none more one_more =
     let lines : List ℕ = flat_map (λ e. line_of (entry_text e)) entries in
-    let counts : count ≡ appended_count entries = before.counted in
-    let longer : length (entries ++ e ∷ []) ≡ length entries + 1 = length-append entries (e ∷ []) in
+    let counted : count ≡ appended_count entries = before.counted in
+    let length_is : length longer ≡ length entries + 1 = ap length more ∙ length-append entries (e ∷ []) in
     record {
-      counted = omega (arith, counts, longer, one_more);
+      counted = omega (arith, counted, length_is, one_more);
       passed_on = λ _. none;
-      lines = λ _. taken ∙ ap (λ t. told_more t (call_line e)) (before.lines refl) ∙ told_twice x lines (call_line e) ∙ ap (told_more x) (lines_with entries e);
+      lines = λ _. taken ∙ ap (λ t. told_more t (call_line e)) (before.lines whole) ∙ told_twice x lines (call_line e) ∙ ap (told_more x) (lines_with entries e)
+          ∙ ap (λ es. told_more x (flat_map (λ e. line_of (entry_text e)) es)) (sym more);
     }
-
--- a journal that is torn
-pub torn_written : (x y z : Option (List ℕ)) (held left : List ℕ) (entries : List CallEntry) (count : ℕ) → IsWritten x y held entries count false
-    → IsWritten x z left entries count true
-torn_written x y z held left entries count before =
-    record { counted = before.counted; passed_on = λ e. absurd (true≢false e); lines = λ e. absurd (true≢false e) }

@@ -41,9 +41,9 @@ fn spell_front<K: Sink>(out: &mut K, key: &Key, call: &Call) -> Result<(), Faile
         (front_text call.now.silent key.now call.now.slot) result }
 {
     spell_word(out, call.silent)?;
-    spell_number(out, u64::from(key.c))?;
+    spell_narrow(out, key.c)?;
     spell_number(out, key.i)?;
-    spell_number(out, u64::from(call.slot))
+    spell_narrow(out, call.slot)
 }
 
 /// Hands the first word.
@@ -51,6 +51,13 @@ fn spell_word<K: Sink>(out: &mut K, silent: bool) -> Result<(), Failed>
     ensures { HandsText (K.taken out.old) (K.taken out.new) (K.faults out.old) (K.faults out.new) (call_word silent) result }
 {
     hand(out, word_of_call(silent))
+}
+
+/// Hands a blank and a number of 32 bits.
+fn spell_narrow<K: Sink>(out: &mut K, n: u32) -> Result<(), Failed>
+    ensures { HandsText (K.taken out.old) (K.taken out.new) (K.faults out.old) (K.faults out.new) (next_word (natural_of n)) result }
+{
+    spell_number(out, u64::from(n))
 }
 
 /// Hands a blank and a number.
@@ -74,9 +81,16 @@ fn spell_asked<K: Sink>(out: &mut K, call: &Call) -> Result<(), Failed>
     ensures { HandsText (K.taken out.old) (K.taken out.new) (K.faults out.old) (K.faults out.new)
         (asked_text call.now.method call.now.args) result }
 {
-    hand(out, b" ")?;
-    hand(out, call.method.as_slice())?;
+    spell_next(out, call.method.as_slice())?;
     spell_behind(out, b" ", &call.args)
+}
+
+/// Hands a blank and a word.
+fn spell_next<K: Sink>(out: &mut K, word: &[u8]) -> Result<(), Failed>
+    ensures { HandsText (K.taken out.old) (K.taken out.new) (K.faults out.old) (K.faults out.new) (next_word word.now) result }
+{
+    hand(out, b" ")?;
+    hand(out, word)
 }
 
 /// Hands a word and a value.
