@@ -1,5 +1,5 @@
 -- What a sink took in one call, as a part of a text.
-use Rattle.std.proofs.Common.{◌≡◌, ℕ, List, [], ◌++◌, Option, Result, Ok, Err, refl, sym, ap, ◌∙◌, append_assoc, append-nil}
+use Rattle.std.proofs.Common.{◌≡◌, ℕ, List, ◌++◌, Option, Result, Ok, Err, refl, sym, ap, ◌∙◌, append_assoc, append-nil}
 use Rattle.std.specs.Prelude.{MatchResult}
 use Rattle.outside.specs.Cause.{HasCause}
 use Rattle.outside.specs.Content.{told_more}

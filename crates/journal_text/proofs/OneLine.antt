@@ -1,19 +1,19 @@
 -- An entry's text has no newline.
-use Rattle.std.proofs.Common.{◌≡◌, ◌≢◌, ℕ, zero, suc, ◌<◌, ◌/◌, ◌%◌, ◌==◌, ◌&&◌, nat_le, ℤ, pos, negsuc, Bool, true, false, cond, if◌then◌else◌, List, [], ◌∷◌, ◌++◌, length, get_or, codes, IsTrue, refl, sym, ap, ◌∙◌, subst, arith}
+use Rattle.std.proofs.Common.{◌≡◌, ◌≢◌, ℕ, zero, suc, ◌/◌, ◌%◌, ◌==◌, ◌&&◌, nat_le, ℤ, pos, negsuc, Bool, true, false, if◌then◌else◌, List, [], ◌∷◌, ◌++◌, get_or, codes, IsTrue, refl, sym, ap, ◌∙◌, arith}
 use Rattle.std.specs.Prelude.{All}
 use Rattle.std.specs.Int.{w64, to_be_bytes}
-use Rattle.std.specs.List.{AllByRecursion, flat_map}
+use Rattle.std.specs.List.{flat_map}
 use Rattle.std.proofs.lemmas.Bool.{true≢false}
 use Rattle.text_out.specs.Bytes.{quotation_mark, escape_mark, hex_mark}
 use Rattle.text_out.specs.Decimal.{natural_of, decimal_of}
 use Rattle.text_out.specs.Hex.{hex_of, hex_digit_of}
-use Rattle.text_out.specs.Quoted.{quoted_byte, quoted_of}
+use Rattle.text_out.specs.Quoted.{quoted_byte}
 use Rattle.host_model.proofs.Lists.{all-append}
 use Rattle.script_model.proofs.ReportLines.{IsOneLine, natural_one_line, plain_text}
 use Rattle.thrift_value.specs.declared.tag.Tag.{Tag}
 use Rattle.thrift_value.specs.declared.tag.Tag.TheVariants.{Bool as BoolTag, I8, I16, I32, I64, Double, Bytes, Struct, Map, Set, List as ListTag}
 use Rattle.thrift_value.specs.Tree.{Tree, of_bool, of_i8, of_i16, of_i32, of_i64, of_double, of_bytes, of_struct, of_map, of_set, of_list, FieldTrees, no_fields, field, ItemTrees, no_items, item, PairTrees, no_pairs, pair}
-use Rattle.value_text.specs.ValueText.{tag_word, number_and_letter, double_text, tree_text, listed_fields, listed_items, listed_pairs, further_fields, further_items, further_pairs}
+use Rattle.value_text.specs.ValueText.{tag_word, number_and_letter, tree_text, listed_fields, listed_items, listed_pairs, further_fields, further_items, further_pairs}
 use Rattle.call_rules.specs.PlainCalls.{PlainAnswer, success, empty, throws, broken, is_method_byte, IsPlainCall}
 use Rattle.call_rules.specs.Entries.{CallEntry}
 use Rattle.journal_text.specs.EntryText.{next_word, call_word, front_text, asked_text, answered_text, entry_text}

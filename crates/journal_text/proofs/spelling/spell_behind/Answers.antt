@@ -1,4 +1,3 @@
-use Rattle.std.proofs.Common.{◌++◌}
 use Rattle.thrift_value.specs.TreeOf.{tree_of}
 use Rattle.value_text.specs.ValueText.{tree_text}
 use Rattle.value_text.proofs.Handed.{goes_on, breaks}
