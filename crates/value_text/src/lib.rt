@@ -6,25 +6,39 @@
 //! ```
 //! let text = print(alloc, &value)?;        // {1=5i,2="a",3=list<i8>[1b,-2b]}
 //! spell(&value, &mut out)?;                // the same, or Failed where the sink failed
+//! let again = read(alloc, b"{1=5i}")?;     // the value whose text this is, or the place of the first fault
+//! let (value, behind) = read_front(alloc, b"ok 5i", 3)?;
 //! ```
 //!
 //! Integers have the letter of their type behind them (`b`, `s`, `i`, `l`), a double is `d` and its 64 bits in hexadecimal, bytes
 //! stand between quotation marks, and a container names its tags. Not here: names of an IDL, which a value doesn't have.
 #![tactic(auto)]
 
-ghost use Rattle.std.specs.Prelude.{◌≡◌, ◌≤◌, IfOk};
+ghost use Rattle.std.specs.Prelude.{◌≡◌, ◌≤◌, length, IfOk};
 ghost use Rattle.thrift_value.specs.Measures.{depth_of};
 ghost use Rattle.thrift_value.specs.Tidy.{IsTidy};
 ghost use Rattle.thrift_value.specs.TreeOf.{tree_of};
+ghost use Rattle.value_text.specs.Answering.{Answers};
+ghost use Rattle.value_text.specs.Reading.{front_at, reading_of};
 ghost use Rattle.value_text.specs.ValueText.{tree_text};
 
+use crate::reading::value_at;
+use crate::stop::Stop;
 use std::alloc::{AllocError, Global};
 use thrift_value::Value;
 
+mod fault;
+mod form;
+mod fronts;
+mod heads;
+mod leaves;
 mod printer;
+mod reading;
 mod rows;
 mod spelling;
+mod stop;
 
+pub use fault::TextFault;
 pub use printer::put_value;
 pub use rows::worked_texts;
 pub use spelling::spell;
@@ -38,4 +52,30 @@ pub fn print(alloc: Global, value: &Value) -> Result<Vec<u8>, AllocError>
     let mut text = Vec::new(alloc);
     put_value(&mut text, value)?;
     Ok(text)
+}
+
+/// The value whose text stands at `at`, and the place behind it; or the place of the fault. What follows doesn't matter, since a
+/// text ends itself.
+pub fn read_front(alloc: Global, text: &[u8], at: usize) -> Result<(Value, usize), TextFault>
+    requires { at ≤ length text.now }
+    ensures exact { Answers (λ x. (tree_of x.0, x.1)) result (front_at text.now at) }
+    ensures place { IfOk result (λ x. x.1 ≤ length text.now) }
+{
+    let (_, front) = text.split_at(at);
+    match value_at(alloc, 64, None, front) {
+        Ok((value, rest)) => Ok((value, text.len().saturating_sub(rest.len()))),
+        Err(Stop::Left(left)) => Err(TextFault::At(text.len().saturating_sub(left))),
+        Err(Stop::NoMemory) => Err(TextFault::NoMemory),
+    }
+}
+
+/// The value whose text this is; or the place of the fault, where it is none.
+pub fn read(alloc: Global, text: &[u8]) -> Result<Value, TextFault>
+    ensures exact { Answers tree_of result (reading_of text.now) }
+{
+    let (value, behind) = read_front(alloc, text, 0)?;
+    if behind != text.len() {
+        return Err(TextFault::At(behind));
+    }
+    Ok(value)
 }

@@ -1,0 +1,72 @@
+-- Reading entries one after another, as a loop does.
+use Rattle.std.proofs.Common.{◌≡◌, ℕ, suc, Bool, true, false, List, [], ◌∷◌, ◌++◌, Option, Some, None, Result, Ok, Err, map, refl, sym, ap, subst, ◌∙◌, append_assoc}
+use Rattle.std.proofs.lemmas.List.{append-nil, map-append}
+use Rattle.std.specs.Result.{IsErrAnd}
+use Rattle.value_text.specs.declared.stop.Stop.{Stop}
+use Rattle.value_text.specs.declared.stop.Stop.TheVariants as stop
+use Rattle.value_text.specs.Answering.{StopsAs, Gives}
+use Rattle.value_text.specs.Fronts.{◌>>=◌}
+use Rattle.value_text.specs.Rows.{last_of, row_at, entries_behind, rows_at}
+
+-- the last entry, where one more was added
+pub last_push : {A : Type 0} (xs : List A) (x : A) → last_of (xs ++ x ∷ []) ≡ Some x
+last_push [] x = refl
+last_push (y ∷ []) x = refl
+last_push (y ∷ (z ∷ zs)) x = last_push (z ∷ zs) x
+
+-- what was read before, and what is still read
+abbrev pub in_front : {A : Type 0} → List A → Result (List A × List ℕ) ℕ → Result (List A × List ℕ) ℕ
+in_front xs read = read >>= λ more. Ok (xs ++ more.0, more.1)
+
+pub nothing_in_front : {A : Type 0} (r : Result (List A × List ℕ) ℕ) → in_front [] r ≡ r
+nothing_in_front (Ok x) = refl
+nothing_in_front (Err left) = refl
+
+-- one more was read
+pub one_in_front : {A : Type 0} (xs : List A) (x : A) (r : Result (List A × List ℕ) ℕ) → in_front xs (r >>= λ more. Ok (x ∷ more.0, more.1)) ≡ in_front (xs ++ x ∷ []) r
+one_in_front xs x (Ok more) = ap (λ ys. Ok (ys, more.1)) (sym (append_assoc xs (x ∷ []) more.0))
+one_in_front xs x (Err left) = refl
+
+-- a reading that stops stops what follows
+stops_on : {A B : Type 0} (why : Stop) (r : Result A ℕ) (f : A → Result B ℕ) (total : Result B ℕ) → (r >>= f) ≡ total → StopsAs why r → StopsAs why total
+stops_on stop.NoMemory r f total is h = tt
+stops_on (stop.Left left) r f total is h = sym is ∙ ap (λ z. z >>= f) h
+
+module _ {A : Type 0} (entry : Option A → List ℕ → Result (A × List ℕ) ℕ) (close : ℕ) (most : ℕ) (text : List ℕ) where
+  -- what was read so far, in front of what is read of the rest, is what is read of all
+  abbrev pub AreRead : ℕ → List A → List ℕ → Type 0
+  AreRead left xs rest = in_front xs (rows_at entry close left (last_of xs) rest) ≡ rows_at entry close most None text
+
+  pub begun : (left : ℕ) (xs : List A) → left ≡ most → xs ≡ [] → AreRead left xs text
+  begun left xs all none =
+      ap (λ ys. in_front ys (rows_at entry close left (last_of ys) text)) none
+      ∙ nothing_in_front (rows_at entry close left None text)
+      ∙ ap (λ n. rows_at entry close n None text) all
+
+  -- what is read of the rest, where a row comes first
+  abbrev behind_row : ℕ → List A → A × Bool × List ℕ → Result (List A × List ℕ) ℕ
+  behind_row left xs row = in_front xs (entries_behind row (rows_at entry close left))
+
+  opened : (left less : ℕ) (xs : List A) (rest : List ℕ) → left ≡ suc less
+      → in_front xs (rows_at entry close left (last_of xs) rest) ≡ in_front xs (row_at entry close (last_of xs) rest >>= λ row. entries_behind row (rows_at entry close less))
+  unfolding rows_at
+  opened left less xs rest is = ap (λ n. in_front xs (rows_at entry close n (last_of xs) rest)) is
+
+  pub rows_stop : (why : Stop) (left less : ℕ) (xs : List A) (rest : List ℕ) → left ≡ suc less → AreRead left xs rest
+      → StopsAs why (row_at entry close (last_of xs) rest) → StopsAs why (rows_at entry close most None text)
+  rows_stop stop.NoMemory left less xs rest is kept h = tt
+  rows_stop (stop.Left n) left less xs rest is kept h =
+      sym kept ∙ opened left less xs rest is ∙ ap (λ r. in_front xs (r >>= λ row. entries_behind row (rows_at entry close less))) h
+
+  pub row_read : (left less : ℕ) (xs : List A) (rest : List ℕ) (x : A) (behind : List ℕ) → left ≡ suc less → AreRead left xs rest
+      → row_at entry close (last_of xs) rest ≡ Ok (x, true, behind) → AreRead less (xs ++ x ∷ []) behind
+  row_read left less xs rest x behind is kept h =
+      ap (λ last. in_front (xs ++ x ∷ []) (rows_at entry close less last behind)) (last_push xs x)
+      ∙ sym (one_in_front xs x (rows_at entry close less (Some x) behind))
+      ∙ sym (ap (λ r. in_front xs (r >>= λ row. entries_behind row (rows_at entry close less))) h)
+      ∙ sym (opened left less xs rest is) ∙ kept
+
+  pub last_row_read : (left less : ℕ) (xs : List A) (rest : List ℕ) (x : A) (behind : List ℕ) → left ≡ suc less → AreRead left xs rest
+      → row_at entry close (last_of xs) rest ≡ Ok (x, false, behind) → rows_at entry close most None text ≡ Ok (xs ++ x ∷ [], behind)
+  last_row_read left less xs rest x behind is kept h =
+      sym kept ∙ opened left less xs rest is ∙ ap (λ r. in_front xs (r >>= λ row. entries_behind row (rows_at entry close less))) h

@@ -1,0 +1,459 @@
+//! Reads values, level by level.
+ghost use Rattle.std.specs.Prelude.{◌≡◌, ◌++◌, ◌∷◌, [], map, MatchResult, OnOk, None, Some, Ok, Err, true};
+ghost use Rattle.thrift_value.specs.TreeOf.{tree_of, field_tree, pair_tree};
+ghost use Rattle.value_text.specs.Answering.{Gives};
+ghost use Rattle.value_text.specs.Reading.{assigned_at, comes_behind, container_at, deeper_at, field_at, id_at, id_comes_behind, item_at, last_key, list_value_at, map_at, most_bytes, pair_at, set_at, struct_at, value_at};
+ghost use Rattle.value_text.specs.Rows.{last_of, list_at, row_at, rows_at};
+
+use crate::form::{Container, Form, form_at, has_level};
+use crate::fronts::{integer_at, next_at, past, rest_behind};
+use crate::heads::{head_at, map_head_at};
+use crate::leaves::leaf_at;
+use crate::stop::Stop;
+use std::alloc::{AllocError, Global};
+use thrift_value::{Fields, Items, Pairs, Tag, Value};
+
+/// The value in front, of the tag that is wanted or of any, where so many levels may be opened. It recurses once a level.
+#[cycle(reading)]
+#[tactic(auto, unfolding(crate::specs::Reading::value_at, crate::specs::Reading::value_by))]
+pub(crate) fn value_at(
+    alloc: Global,
+    levels: u32,
+    wanted: Option<Tag>,
+    text: &[u8],
+) -> Result<(Value, &[u8]), Stop>
+    ensures { Gives (λ r. (tree_of r.0, r.1.now)) result (value_at most_bytes levels wanted text.now) }
+{
+    let form = form_at(wanted, text)?;
+    match form {
+        Form::Alone(leaf) => leaf_at(alloc, wanted, leaf, text),
+        Form::Holding(container) => deeper_at(alloc, levels, container, text),
+    }
+}
+
+/// A value that holds others, where so many levels may be opened.
+#[cycle(reading)]
+fn deeper_at(
+    alloc: Global,
+    levels: u32,
+    container: Container,
+    text: &[u8],
+) -> Result<(Value, &[u8]), Stop>
+    ensures { Gives (λ r. (tree_of r.0, r.1.now)) result (deeper_at most_bytes levels container text.now) }
+{
+    if levels == 0 {
+        return Err(Stop::Left(text.len()));
+    }
+    container_at(alloc, levels - 1, container, text)
+}
+
+/// A value that holds others, which may open so many levels.
+#[cycle(reading)]
+fn container_at(
+    alloc: Global,
+    levels: u32,
+    container: Container,
+    text: &[u8],
+) -> Result<(Value, &[u8]), Stop>
+    ensures { Gives (λ r. (tree_of r.0, r.1.now)) result (container_at most_bytes levels (value_at most_bytes levels) container text.now) }
+{
+    match container {
+        Container::Struct => struct_at(alloc, levels, text),
+        Container::Map => map_at(alloc, levels, text),
+        Container::Set => set_at(alloc, levels, text),
+        Container::List => list_value_at(alloc, levels, text),
+    }
+}
+
+/// One more at the end of a list: a function of its own, so that a proof meets the dropping of what wasn't kept only here.
+fn keep<T: Drop>(list: &mut Vec<T>, item: T) -> Result<(), AllocError>
+    ensures { OnOk result (list.new.items ≡ list.old.items ++ item ∷ []) }
+{
+    list.push(item)?;
+    Ok(())
+}
+
+/// An entry, with what stands behind it.
+fn joined<'a, T: Drop>(
+    entry: T,
+    next: Result<(bool, &'a [u8]), Stop>,
+) -> Result<(T, bool, &'a [u8]), Stop>
+    ensures { MatchResult next (λ n. result ≡ Ok (entry, n.0, n.1)) (λ stop. result ≡ Err stop) }
+{
+    match next {
+        Ok((more, rest)) => Ok((entry, more, rest)),
+        Err(stop) => Err(stop),
+    }
+}
+
+/// Whether an id comes behind that of the last field.
+fn id_comes_behind(before: &[(i16, Value)], id: i16) -> bool
+    ensures { result ≡ id_comes_behind (last_of (map field_tree before.now)) id }
+{
+    match before.split_last() {
+        None => true,
+        Some((last, _)) => last.0 < id,
+    }
+}
+
+/// The id of a field behind others.
+#[tactic(auto, unfolding(crate::specs::Reading::id_at))]
+fn id_at<'a>(before: &[(i16, Value)], text: &'a [u8]) -> Result<(i16, &'a [u8]), Stop>
+    ensures { Gives (λ r. (r.0, r.1.now)) result (id_at (last_of (map field_tree before.now)) text.now) }
+{
+    let (n, rest) = integer_at(0x7fff, text)?;
+    let id = n as i16;
+    if id_comes_behind(before, id) {
+        return Ok((id, rest));
+    }
+    Err(Stop::Left(rest.len()))
+}
+
+/// `=` and a value.
+#[cycle(reading)]
+#[tactic(auto, unfolding(crate::specs::Reading::assigned_at))]
+fn assigned_at(
+    alloc: Global,
+    levels: u32,
+    wanted: Option<Tag>,
+    text: &[u8],
+) -> Result<(Value, &[u8]), Stop>
+    ensures { Gives (λ r. (tree_of r.0, r.1.now)) result (assigned_at (value_at most_bytes levels) wanted text.now) }
+{
+    let rest = past(b"=", text)?;
+    value_at(alloc, levels, wanted, rest)
+}
+
+/// A field behind others: its id and its value.
+#[cycle(reading)]
+#[tactic(auto, unfolding(crate::specs::Reading::field_at))]
+fn field_at<'a>(
+    alloc: Global,
+    levels: u32,
+    before: &[(i16, Value)],
+    text: &'a [u8],
+) -> Result<((i16, Value), &'a [u8]), Stop>
+    ensures { Gives (λ r. (field_tree r.0, r.1.now)) result (field_at (value_at most_bytes levels) (last_of (map field_tree before.now)) text.now) }
+{
+    let (id, rest) = id_at(before, text)?;
+    let (value, rest) = assigned_at(alloc, levels, None, rest)?;
+    Ok(((id, value), rest))
+}
+
+/// A field and what stands behind it.
+#[cycle(reading)]
+fn field_row<'a>(
+    alloc: Global,
+    levels: u32,
+    before: &[(i16, Value)],
+    text: &'a [u8],
+) -> Result<((i16, Value), bool, &'a [u8]), Stop>
+    ensures { Gives (λ r. (field_tree r.0, r.1, r.2.now)) result
+        (row_at (field_at (value_at most_bytes levels)) 125 (last_of (map field_tree before.now)) text.now) }
+{
+    let (entry, rest) = field_at(alloc, levels, before, text)?;
+    joined(entry, next_at(b'}', rest))
+}
+
+/// Fields with commas between them, one at least, up to the brace that closes them.
+#[cycle(reading)]
+fn field_rows(
+    alloc: Global,
+    levels: u32,
+    text: &[u8],
+) -> Result<(Vec<(i16, Value)>, &[u8]), Stop>
+    ensures { Gives (λ r. (map field_tree r.0.items, r.1.now)) result
+        (rows_at (field_at (value_at most_bytes levels)) 125 most_bytes None text.now) }
+{
+    let mut made = Vec::new(alloc);
+    let mut rest = text;
+    for step in 0..usize::MAX {
+        let (entry, more, behind) = field_row(alloc, levels, made.as_slice(), rest)?;
+        keep(&mut made, entry)?;
+        if !more {
+            return Ok((made, behind));
+        }
+        rest = behind;
+    }
+    Err(Stop::NoMemory)
+}
+
+/// The fields of a struct, if any, up to the brace that closes them.
+#[cycle(reading)]
+fn fields_at(
+    alloc: Global,
+    levels: u32,
+    text: &[u8],
+) -> Result<(Vec<(i16, Value)>, &[u8]), Stop>
+    ensures { Gives (λ r. (map field_tree r.0.items, r.1.now)) result
+        (list_at (field_at (value_at most_bytes levels)) 125 most_bytes text.now) }
+{
+    if let Some(rest) = rest_behind(b'}', text) {
+        return Ok((Vec::new(alloc), rest));
+    }
+    field_rows(alloc, levels, text)
+}
+
+/// A struct.
+#[cycle(reading)]
+#[tactic(auto, unfolding(crate::specs::Reading::struct_at), using(thrift_value::proofs::Trees::tree_equations))]
+fn struct_at(alloc: Global, levels: u32, text: &[u8]) -> Result<(Value, &[u8]), Stop>
+    ensures { Gives (λ r. (tree_of r.0, r.1.now)) result (struct_at most_bytes (value_at most_bytes levels) text.now) }
+{
+    let inside = past(b"{", text)?;
+    let (fields, rest) = fields_at(alloc, levels, inside)?;
+    Ok((Value::Struct(Fields::new(fields)), rest))
+}
+
+/// Whether a value comes behind the last one.
+fn comes_behind(before: &[Value], value: &Value) -> bool
+    ensures { result ≡ comes_behind (last_of (map tree_of before.now)) (tree_of value.now) }
+{
+    match before.split_last() {
+        None => true,
+        Some((last, _)) => last.compare(value).is_lt(),
+    }
+}
+
+/// An element behind others; the members of a set rise.
+#[cycle(reading)]
+#[tactic(auto, unfolding(crate::specs::Reading::item_at))]
+fn item_at<'a>(
+    alloc: Global,
+    levels: u32,
+    rising: bool,
+    tag: Tag,
+    before: &[Value],
+    text: &'a [u8],
+) -> Result<(Value, &'a [u8]), Stop>
+    ensures { Gives (λ r. (tree_of r.0, r.1.now)) result
+        (item_at rising tag (value_at most_bytes levels) (last_of (map tree_of before.now)) text.now) }
+{
+    let (value, rest) = value_at(alloc, levels, Some(tag), text)?;
+    if !rising {
+        return Ok((value, rest));
+    }
+    if comes_behind(before, &value) {
+        return Ok((value, rest));
+    }
+    Err(Stop::Left(rest.len()))
+}
+
+/// An element and what stands behind it.
+#[cycle(reading)]
+fn item_row<'a>(
+    alloc: Global,
+    levels: u32,
+    rising: bool,
+    tag: Tag,
+    before: &[Value],
+    text: &'a [u8],
+) -> Result<(Value, bool, &'a [u8]), Stop>
+    ensures { Gives (λ r. (tree_of r.0, r.1, r.2.now)) result
+        (row_at (item_at rising tag (value_at most_bytes levels)) 93 (last_of (map tree_of before.now)) text.now) }
+{
+    let (entry, rest) = item_at(alloc, levels, rising, tag, before, text)?;
+    joined(entry, next_at(b']', rest))
+}
+
+/// Elements with commas between them, one at least, up to the bracket that closes them.
+#[cycle(reading)]
+fn item_rows(
+    alloc: Global,
+    levels: u32,
+    rising: bool,
+    tag: Tag,
+    text: &[u8],
+) -> Result<(Vec<Value>, &[u8]), Stop>
+    ensures { Gives (λ r. (map tree_of r.0.items, r.1.now)) result
+        (rows_at (item_at rising tag (value_at most_bytes levels)) 93 most_bytes None text.now) }
+{
+    let mut made = Vec::new(alloc);
+    let mut rest = text;
+    for step in 0..usize::MAX {
+        let (entry, more, behind) =
+            item_row(alloc, levels, rising, tag, made.as_slice(), rest)?;
+        keep(&mut made, entry)?;
+        if !more {
+            return Ok((made, behind));
+        }
+        rest = behind;
+    }
+    Err(Stop::NoMemory)
+}
+
+/// The elements of a set or a list, if any, up to the bracket that closes them.
+#[cycle(reading)]
+fn items_at(
+    alloc: Global,
+    levels: u32,
+    rising: bool,
+    tag: Tag,
+    text: &[u8],
+) -> Result<(Vec<Value>, &[u8]), Stop>
+    ensures { Gives (λ r. (map tree_of r.0.items, r.1.now)) result
+        (list_at (item_at rising tag (value_at most_bytes levels)) 93 most_bytes text.now) }
+{
+    if let Some(rest) = rest_behind(b']', text) {
+        return Ok((Vec::new(alloc), rest));
+    }
+    item_rows(alloc, levels, rising, tag, text)
+}
+
+/// A set.
+#[cycle(reading)]
+#[tactic(auto, unfolding(crate::specs::Reading::set_at), using(thrift_value::proofs::Trees::tree_equations))]
+fn set_at(alloc: Global, levels: u32, text: &[u8]) -> Result<(Value, &[u8]), Stop>
+    ensures { Gives (λ r. (tree_of r.0, r.1.now)) result (set_at most_bytes (value_at most_bytes levels) text.now) }
+{
+    let (tag, inside) = head_at(b"set<", text)?;
+    let (items, rest) = items_at(alloc, levels, true, tag, inside)?;
+    Ok((Value::Set(tag, Items::new(items)), rest))
+}
+
+/// A list.
+#[cycle(reading)]
+#[tactic(auto, unfolding(crate::specs::Reading::list_value_at), using(thrift_value::proofs::Trees::tree_equations))]
+fn list_value_at(alloc: Global, levels: u32, text: &[u8]) -> Result<(Value, &[u8]), Stop>
+    ensures { Gives (λ r. (tree_of r.0, r.1.now)) result (list_value_at most_bytes (value_at most_bytes levels) text.now) }
+{
+    let (tag, inside) = head_at(b"list<", text)?;
+    let (items, rest) = items_at(alloc, levels, false, tag, inside)?;
+    Ok((Value::List(tag, Items::new(items)), rest))
+}
+
+/// Whether a key comes behind that of the last pair.
+fn key_comes_behind(before: &[(Value, Value)], key: &Value) -> bool
+    ensures { result ≡ comes_behind (last_key (last_of (map pair_tree before.now))) (tree_of key.now) }
+{
+    match before.split_last() {
+        None => true,
+        Some((last, _)) => last.0.compare(key).is_lt(),
+    }
+}
+
+/// A key behind others.
+#[cycle(reading)]
+#[tactic(auto, unfolding(crate::specs::Reading::item_at))]
+fn key_at<'a>(
+    alloc: Global,
+    levels: u32,
+    tag: Tag,
+    before: &[(Value, Value)],
+    text: &'a [u8],
+) -> Result<(Value, &'a [u8]), Stop>
+    ensures { Gives (λ r. (tree_of r.0, r.1.now)) result
+        (item_at true tag (value_at most_bytes levels) (last_key (last_of (map pair_tree before.now))) text.now) }
+{
+    let (value, rest) = value_at(alloc, levels, Some(tag), text)?;
+    if key_comes_behind(before, &value) {
+        return Ok((value, rest));
+    }
+    Err(Stop::Left(rest.len()))
+}
+
+/// A pair behind others: its key and its value.
+#[cycle(reading)]
+#[tactic(auto, unfolding(crate::specs::Reading::pair_at))]
+fn pair_at<'a>(
+    alloc: Global,
+    levels: u32,
+    key: Tag,
+    tag: Tag,
+    before: &[(Value, Value)],
+    text: &'a [u8],
+) -> Result<((Value, Value), &'a [u8]), Stop>
+    ensures { Gives (λ r. (pair_tree r.0, r.1.now)) result
+        (pair_at levels key tag (value_at most_bytes levels) (last_of (map pair_tree before.now)) text.now) }
+{
+    if !has_level(levels, tag) {
+        return Err(Stop::Left(text.len()));
+    }
+    let (one, rest) = key_at(alloc, levels, key, before, text)?;
+    let value = assigned_at(alloc, levels, Some(tag), rest);
+    paired(one, value)
+}
+
+/// A key with its value.
+fn paired<'a>(
+    key: Value,
+    value: Result<(Value, &'a [u8]), Stop>,
+) -> Result<((Value, Value), &'a [u8]), Stop>
+    ensures { MatchResult value (λ v. result ≡ Ok ((key, v.0), v.1)) (λ stop. result ≡ Err stop) }
+{
+    match value {
+        Ok((value, rest)) => Ok(((key, value), rest)),
+        Err(stop) => Err(stop),
+    }
+}
+
+/// A pair and what stands behind it.
+#[cycle(reading)]
+fn pair_row<'a>(
+    alloc: Global,
+    levels: u32,
+    key: Tag,
+    tag: Tag,
+    before: &[(Value, Value)],
+    text: &'a [u8],
+) -> Result<((Value, Value), bool, &'a [u8]), Stop>
+    ensures { Gives (λ r. (pair_tree r.0, r.1, r.2.now)) result
+        (row_at (pair_at levels key tag (value_at most_bytes levels)) 125 (last_of (map pair_tree before.now)) text.now) }
+{
+    let (entry, rest) = pair_at(alloc, levels, key, tag, before, text)?;
+    joined(entry, next_at(b'}', rest))
+}
+
+/// Pairs with commas between them, one at least, up to the brace that closes them.
+#[cycle(reading)]
+fn pair_rows(
+    alloc: Global,
+    levels: u32,
+    key: Tag,
+    tag: Tag,
+    text: &[u8],
+) -> Result<(Vec<(Value, Value)>, &[u8]), Stop>
+    ensures { Gives (λ r. (map pair_tree r.0.items, r.1.now)) result
+        (rows_at (pair_at levels key tag (value_at most_bytes levels)) 125 most_bytes None text.now) }
+{
+    let mut made = Vec::new(alloc);
+    let mut rest = text;
+    for step in 0..usize::MAX {
+        let (entry, more, behind) = pair_row(alloc, levels, key, tag, made.as_slice(), rest)?;
+        keep(&mut made, entry)?;
+        if !more {
+            return Ok((made, behind));
+        }
+        rest = behind;
+    }
+    Err(Stop::NoMemory)
+}
+
+/// The pairs of a map, if any, up to the brace that closes them.
+#[cycle(reading)]
+fn pairs_at(
+    alloc: Global,
+    levels: u32,
+    key: Tag,
+    tag: Tag,
+    text: &[u8],
+) -> Result<(Vec<(Value, Value)>, &[u8]), Stop>
+    ensures { Gives (λ r. (map pair_tree r.0.items, r.1.now)) result
+        (list_at (pair_at levels key tag (value_at most_bytes levels)) 125 most_bytes text.now) }
+{
+    if let Some(rest) = rest_behind(b'}', text) {
+        return Ok((Vec::new(alloc), rest));
+    }
+    pair_rows(alloc, levels, key, tag, text)
+}
+
+/// A map.
+#[cycle(reading)]
+#[tactic(auto, unfolding(crate::specs::Reading::map_at), using(thrift_value::proofs::Trees::tree_equations))]
+fn map_at(alloc: Global, levels: u32, text: &[u8]) -> Result<(Value, &[u8]), Stop>
+    ensures { Gives (λ r. (tree_of r.0, r.1.now)) result (map_at most_bytes levels (value_at most_bytes levels) text.now) }
+{
+    let (key, tag, inside) = map_head_at(text)?;
+    let (pairs, rest) = pairs_at(alloc, levels, key, tag, inside)?;
+    Ok((Value::Map(key, tag, Pairs::new(pairs)), rest))
+}
