@@ -62,7 +62,7 @@ head_again word tag rest passes =
     ∙ ap (λ r. r >>= λ t. past (codes ">[") t.1 >>= λ behind. Ok (t.0, behind)) (tag_again tag (62 ∷ 91 ∷ rest))
 
 -- the text of elements, up to what follows
-items_text : (word : List ℕ) (tag : Tag) (items rest : List ℕ) → (word ++ (tag_word tag ++ (62 ∷ 91 ∷ (items ++ 93 ∷ [])))) ++ rest ≡ word ++ (tag_word tag ++ 62 ∷ 91 ∷ (items ++ 93 ∷ rest))
+pub items_text : (word : List ℕ) (tag : Tag) (items rest : List ℕ) → (word ++ (tag_word tag ++ (62 ∷ 91 ∷ (items ++ 93 ∷ [])))) ++ rest ≡ word ++ (tag_word tag ++ 62 ∷ 91 ∷ (items ++ 93 ∷ rest))
 items_text word tag items rest =
     append_assoc word (tag_word tag ++ (62 ∷ 91 ∷ (items ++ 93 ∷ []))) rest
     ∙ ap (λ t. word ++ t) (append_assoc (tag_word tag) (62 ∷ 91 ∷ (items ++ 93 ∷ [])) rest ∙ ap (λ t. tag_word tag ++ 62 ∷ 91 ∷ t) (append_assoc items (93 ∷ []) rest))
@@ -109,7 +109,7 @@ map_head_again key tag rest =
     ap (λ r. r >>= λ k. past (codes ",") k.1 >>= λ next. tag_at next >>= λ t. past (codes ">{") t.1 >>= λ behind. Ok (k.0, t.0, behind)) (tag_again key (44 ∷ (tag_word tag ++ 62 ∷ 123 ∷ rest)))
     ∙ ap (λ r. r >>= λ t. past (codes ">{") t.1 >>= λ behind. Ok (key, t.0, behind)) (tag_again tag (62 ∷ 123 ∷ rest))
 
-pairs_text : (key tag : Tag) (pairs rest : List ℕ)
+pub pairs_text : (key tag : Tag) (pairs rest : List ℕ)
     → (codes "map<" ++ (tag_word key ++ (44 ∷ (tag_word tag ++ (62 ∷ 123 ∷ (pairs ++ 125 ∷ [])))))) ++ rest ≡ codes "map<" ++ (tag_word key ++ 44 ∷ (tag_word tag ++ 62 ∷ 123 ∷ (pairs ++ 125 ∷ rest)))
 pairs_text key tag pairs rest =
     ap (λ t. codes "map<" ++ t) (append_assoc (tag_word key) (44 ∷ (tag_word tag ++ (62 ∷ 123 ∷ (pairs ++ 125 ∷ [])))) rest

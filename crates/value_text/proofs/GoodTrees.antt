@@ -2,8 +2,8 @@
 use Rattle.std.proofs.Common.{◌≡◌, ℕ, zero, suc, ◌+◌, ◌<◌, ◌≤◌, ◌<ℤ◌, Bool, true, false, T, ℤ, List, [], ◌∷◌, Option, Some, None, Less, refl, sym, ap, subst, ◌∙◌, arith}
 use Rattle.std.specs.Prelude.{FitsSigned, ⊤}
 use Rattle.std.specs.Int.{w16}
-use Rattle.core.specs.Ordering.{is_lt}
-use Rattle.core.specs.Bool.{passes}
+use Rattle.std.specs.Ordering.{is_lt}
+use Rattle.std.specs.Bool.{passes}
 use Rattle.std.specs.declared.cmp.Ordering.{Ordering}
 use Rattle.std.specs.declared.cmp.Ordering.TheVariants as order
 use Rattle.std.proofs.lemmas.Int.{ints}
@@ -154,8 +154,8 @@ good_items rising tag levels last [] h = record { above = λ _. nothing_above la
 good_items rising tag levels last (x ∷ xs) h =
     let more = good_items rising tag levels (Some x) xs h.1 in
     record {
-      above = λ yes. above_item last x (item_trees xs) (h.0.rises yes) (more.above yes);
-      rise = λ yes. (more.above yes, more.rise yes);
+      above = λ so. above_item last x (item_trees xs) (h.0.rises so) (more.above so);
+      rise = λ so. (more.above so, more.rise so);
       tagged = (h.0.kind, h.0.good.tagged, more.tagged);
       in_order = (h.0.good.in_order, more.in_order);
       in_range = (h.0.good.in_range, more.in_range);
@@ -166,11 +166,11 @@ pub chained_items : (rising : Bool) (tag : Tag) (levels : ℕ) (last : Option Tr
 chained_items rising tag levels last [] h = tt
 chained_items rising tag levels last (x ∷ xs) h = (
   record {
-    rises = λ yes. behind_item last x (item_trees xs) (h.above yes);
+    rises = λ so. behind_item last x (item_trees xs) (h.above so);
     kind = h.tagged.0;
     good = record { tagged = h.tagged.1; in_order = h.in_order.0; in_range = h.in_range.0; depth = omega (arith, h.depth) };
   },
-  chained_items rising tag levels (Some x) xs (record { above = λ yes. (h.rise yes).0; rise = λ yes. (h.rise yes).1; tagged = h.tagged.2; in_order = h.in_order.1; in_range = h.in_range.1; depth = omega (arith, h.depth) }),
+  chained_items rising tag levels (Some x) xs (record { above = λ so. (h.rise so).0; rise = λ so. (h.rise so).1; tagged = h.tagged.2; in_order = h.in_order.1; in_range = h.in_range.1; depth = omega (arith, h.depth) }),
 )
 
 -- ---- pairs

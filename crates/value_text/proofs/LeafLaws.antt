@@ -1,6 +1,7 @@
 -- Values that hold no others are read back, and what is read stands there.
 use Rattle.std.proofs.Common.{◌≡◌, ◌==◌, if◌then◌else◌, ◌⊎◌, ℕ, zero, suc, ◌+◌, ◌*◌, ◌-◌, ◌^◌, ◌<◌, ◌≤◌, Bool, true, false, cond, eqb, leb, ◌&&◌, ℤ, pos, negsuc, codes, List, [], ◌∷◌, ◌++◌, length, flat_map, get_or, All, Option, Some, None, Result, Ok, Err, refl, sym, ap, subst, ◌∙◌, append_assoc, arith, inl, inr, eqb-true, eq-eqb}
 use Rattle.std.proofs.lemmas.Bool.{and_parts, and_from}
+use Rattle.std.proofs.lemmas.Fmt.{decimal_digit}
 use Rattle.std.proofs.lemmas.Int.{ints}
 use Rattle.std.proofs.lemmas.Nat.{be_bytes_8, from_be_bytes-to_be_bytes_8}
 use Rattle.std.proofs.lemmas.List.Elements.{All-from_recursion, recursion_from_All}
@@ -48,6 +49,10 @@ pub wanted_is : (wanted : Option Tag) (tag : Tag) → is_wanted wanted tag ≡ t
 wanted_is None tag e = inl refl
 wanted_is (Some only) tag e = inr (ap Some (sym (ranked only) ∙ ap tag_ranked (eqb-true (rank only) (rank tag) e) ∙ ranked tag))
 
+-- a value of the tag that is wanted has it
+pub kind_is : (wanted tag : Tag) → is_wanted (Some wanted) tag ≡ true → tag ≡ wanted
+kind_is wanted tag e = sym (ranked tag) ∙ ap tag_ranked (sym (eqb-true (rank wanted) (rank tag) e)) ∙ ranked wanted
+
 pub same_wanted : (tag : Tag) → is_wanted (Some tag) tag ≡ true
 same_wanted tag = eq-eqb (rank tag) (rank tag) refl
 
@@ -68,7 +73,7 @@ digit_form (suc (suc (suc (suc (suc (suc (suc (suc (suc (suc d)))))))))) low = a
 
 -- the first byte of a number
 pub number_begins : (z : ℤ) → FitsSigned w64 z → (b : ℕ) × (bs : List ℕ) × (decimal_of z ≡ b ∷ bs) × (form_of b ≡ Some (Alone Number)) × (b ≤ 57)
-number_begins (pos zero) fits = (48, [], refl, refl, omega arith)
+number_begins (pos zero) fits = (48, [], decimal_digit 0 (omega arith), refl, omega arith)
 number_begins (pos (suc n)) fits =
     let found = decimal_begins (suc n) (omega (arith, fits.sfits)) (omega arith) in
     let byte : 48 + (found.0 - 48) ≡ found.0 = omega (arith, found.3, found.4) in
@@ -77,11 +82,11 @@ number_begins (negsuc n) fits = (45, natural_of (suc n), refl, refl, omega arith
 
 pub number_form : (wanted : Option Tag) (z : ℤ) (rest : List ℕ) → FitsSigned w64 z → is_number_wanted wanted ≡ true → form_at wanted (decimal_of z ++ rest) ≡ Ok (Alone Number)
 unfolding form_at
-number_form wanted z rest fits yes =
+number_form wanted z rest fits so =
     let first = number_begins z fits in
     ap (λ t. form_at wanted (t ++ rest)) first.2
     ∙ ap (λ o. form_or o wanted (first.0 ∷ (first.1 ++ rest))) first.3
-    ∙ ap (λ t. cond t (Ok (Alone Number)) (Err (length (first.0 ∷ (first.1 ++ rest))))) yes
+    ∙ ap (λ t. cond t (Ok (Alone Number)) (Err (length (first.0 ∷ (first.1 ++ rest))))) so
 
 number_again : (wanted : Option Tag) (z : ℤ) (letter : ℕ) (x : Tree) (rest : List ℕ) → greatest wanted < 2 ^ 64 → IsWithin (greatest wanted) z → is_digit letter ≡ false → lettered wanted letter z ≡ Some x
     → number_at wanted (decimal_of z ++ letter ∷ rest) ≡ Ok (x, rest)
@@ -95,7 +100,7 @@ bits_pass : (bits most : ℕ) (z : ℤ) → 2 ^ (bits - 1) ≡ suc most → IsWi
 bits_pass bits most (pos n) is within = grind (arith, ints)
 bits_pass bits most (negsuc n) is within = grind (arith, ints)
 
-bits_tell : (bits most : ℕ) (z : ℤ) → 2 ^ (bits - 1) ≡ suc most → has_bits bits z ≡ true → IsWithin most z
+pub bits_tell : (bits most : ℕ) (z : ℤ) → 2 ^ (bits - 1) ≡ suc most → has_bits bits z ≡ true → IsWithin most z
 bits_tell bits most (pos n) is e = grind (arith, ints)
 bits_tell bits most (negsuc n) is e = grind (arith, ints)
 

@@ -96,12 +96,12 @@ digits_found most n [] m rest wide some within e =
     subst (λ (x : ℕ × List ℕ). (natural_of n ++ [] ≡ natural_of x.0 ++ x.1) × (0 < x.0) × (x.0 ≤ most)) same (refl, some, within)
 digits_found most n (b ∷ bs) m rest wide some within e =
     elim (chosen (is_digit b) (cond (leb (n * 10 + (b - 48)) most) (digits_at most (n * 10 + (b - 48)) bs) (Err (length (b ∷ bs)))) (Ok (n, b ∷ bs)) (Ok (m, rest)) e) [
-      | inl yes ↦
-        let range = and_parts (leb 48 b) (leb b 57) yes.0 in
+      | inl so ↦
+        let range = and_parts (leb 48 b) (leb b 57) so.0 in
         let low : 48 ≤ b = leb-true 48 b range.0 in
         let high : b ≤ 57 = leb-true b 57 range.1 in
         let next : ℕ = n * 10 + (b - 48) in
-        let fits = held (leb next most) (digits_at most next bs) (length (b ∷ bs)) (m, rest) yes.1 in
+        let fits = held (leb next most) (digits_at most next bs) (length (b ∷ bs)) (m, rest) so.1 in
         let below : next ≤ most = leb-true next most fits.0 in
         let more = digits_found most next bs m rest wide (omega arith) below fits.1 in
         let half : next / 10 ≡ n = omega arith in

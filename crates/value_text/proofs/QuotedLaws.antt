@@ -1,6 +1,6 @@
 -- Hexadecimal digits and quoted bytes are read back, and what is read stands there.
-use Rattle.std.proofs.Common.{◌≡◌, ℕ, zero, suc, ◌+◌, ◌*◌, ◌-◌, ◌/◌, ◌%◌, ◌<◌, ◌≤◌, Bool, true, false, cond, eqb, leb, ltb, ◌&&◌, List, [], ◌∷◌, ◌++◌, length, flat_map, get_or, Option, Some, None, Result, Ok, Err, refl, sym, ap, subst, ◌∙◌, append_assoc, arith, inl, inr, le-leb, lt-leb, leb-true, leb-false, ne_eqb, eqb-true, eqb-false, eq-eqb, lt-ltb, le-ltb}
-use Rattle.std.proofs.lemmas.Bool.{and_parts, and_from, and_cases, and_left, and_right, cases_lt, cases_eq, cases_Bool}
+use Rattle.std.proofs.Common.{◌≡◌, ℕ, zero, suc, ◌+◌, ◌*◌, ◌-◌, ◌/◌, ◌%◌, ◌<◌, ◌≤◌, Bool, true, false, cond, eqb, leb, ltb, ◌&&◌, List, [], ◌∷◌, ◌++◌, length, flat_map, get_or, Option, Some, None, Result, Ok, Err, refl, sym, ap, subst, ◌∙◌, append_assoc, arith, inl, inr, le-leb, leb-true, leb-false, ne_eqb, eqb-true, eq-eqb, lt-ltb, le-ltb}
+use Rattle.std.proofs.lemmas.Bool.{lt-leb, eqb-false, and_parts, and_from, and_cases, and_left, and_right, cases_lt, cases_eq, cases_Bool}
 use Rattle.std.specs.List.{AllByRecursion}
 use Rattle.text_out.specs.Hex.{hex_digit_of, hex_of}
 use Rattle.text_out.specs.Quoted.{quoted_byte}
@@ -178,10 +178,10 @@ written_other b mark escape =
 -- a byte that stands as it is
 plain_byte : (b : ℕ) (rest : List ℕ) → (b ≡ 34 → ⊥) → (b ≡ 92 → ⊥) → is_printable b ≡ true → quoted_byte_at (b ∷ rest) ≡ Ok (Some b, rest)
 unfolding quoted_byte_at
-plain_byte b rest mark escape yes =
+plain_byte b rest mark escape so =
     ap (λ t. cond t (Ok (None, rest)) (cond (eqb b 92) (escaped_at rest) (cond (is_printable b) (Ok (Some b, rest)) (Err (length (b ∷ rest)))))) (ne_eqb b 34 mark)
     ∙ ap (λ t. cond t (escaped_at rest) (cond (is_printable b) (Ok (Some b, rest)) (Err (length (b ∷ rest))))) (ne_eqb b 92 escape)
-    ∙ ap (λ t. cond t (Ok (Some b, rest)) (Err (length (b ∷ rest)))) yes
+    ∙ ap (λ t. cond t (Ok (Some b, rest)) (Err (length (b ∷ rest)))) so
 
 escaped_by_digits : (b : ℕ) (rest : List ℕ) → b < 256 → is_printable b ≡ false → quoted_byte_at (written_digits b ++ rest) ≡ Ok (Some b, rest)
 unfolding quoted_byte_at escaped_at
@@ -204,7 +204,7 @@ quoted_byte_again b rest low =
           | inl escape ↦ ap (λ t. quoted_byte_at (t ++ rest)) (written_escape b escape) ∙ escaped_escape rest ∙ ap (λ k. Ok (Some k, rest)) (sym escape)
           | inr no_escape ↦
             elim (cases_Bool (is_printable b)) [
-              | inl yes ↦ ap (λ t. quoted_byte_at (t ++ rest)) (written_other b no_mark no_escape ∙ ap (λ t. cond t (b ∷ []) (written_digits b)) yes) ∙ plain_byte b rest no_mark no_escape yes
+              | inl so ↦ ap (λ t. quoted_byte_at (t ++ rest)) (written_other b no_mark no_escape ∙ ap (λ t. cond t (b ∷ []) (written_digits b)) so) ∙ plain_byte b rest no_mark no_escape so
               | inr not ↦ ap (λ t. quoted_byte_at (t ++ rest)) (written_other b no_mark no_escape ∙ ap (λ t. cond t (b ∷ []) (written_digits b)) not) ∙ escaped_by_digits b rest low not
             ]
         ]

@@ -12,7 +12,7 @@ rest_found : (c : ℕ) (text rest : List ℕ) → rest_behind c text ≡ Some re
 rest_found c [] rest e = absurd cc
 rest_found c (b ∷ bs) rest e =
     elim (chosen (eqb b c) (Some bs) None (Some rest) e) [
-      | inl yes ↦ ap (λ x. x ∷ bs) (eqb-true b c yes.0) ∙ ap (λ r. c ∷ r) (some_same bs rest yes.1)
+      | inl so ↦ ap (λ x. x ∷ bs) (eqb-true b c so.0) ∙ ap (λ r. c ∷ r) (some_same bs rest so.1)
       | inr not ↦ absurd cc
     ]
 

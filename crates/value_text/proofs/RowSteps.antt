@@ -1,7 +1,6 @@
 -- Reading entries one after another, as a loop does.
 use Rattle.std.proofs.Common.{◌≡◌, ℕ, suc, Bool, true, false, List, [], ◌∷◌, ◌++◌, Option, Some, None, Result, Ok, Err, map, refl, sym, ap, subst, ◌∙◌, append_assoc}
-use Rattle.std.proofs.lemmas.List.{append-nil, map-append}
-use Rattle.std.specs.Result.{IsErrAnd}
+use Rattle.std.proofs.lemmas.List.{map_push}
 use Rattle.value_text.specs.declared.stop.Stop.{Stop}
 use Rattle.value_text.specs.declared.stop.Stop.TheVariants as stop
 use Rattle.value_text.specs.Answering.{StopsAs, Gives}
@@ -31,6 +30,17 @@ one_in_front xs x (Err left) = refl
 stops_on : {A B : Type 0} (why : Stop) (r : Result A ℕ) (f : A → Result B ℕ) (total : Result B ℕ) → (r >>= f) ≡ total → StopsAs why r → StopsAs why total
 stops_on stop.NoMemory r f total is h = tt
 stops_on (stop.Left left) r f total is h = sym is ∙ ap (λ z. z >>= f) h
+
+-- answers of rows
+abbrev row_answer : {A : Type 0} → A → List ℕ → Bool → Result (A × Bool × List ℕ) ℕ
+row_answer x behind more = Ok (x, more, behind)
+
+abbrev list_answer : {A : Type 0} → List ℕ → List A → Result (List A × List ℕ) ℕ
+list_answer behind xs = Ok (xs, behind)
+
+-- the last of some items, where the list is seen by view
+pub last_mapped : {A B : Type 0} (view : B → A) (xs rest : List B) (x : B) → xs ≡ rest ++ x ∷ [] → last_of (map view xs) ≡ Some (view x)
+last_mapped view xs rest x is = ap (λ ys. last_of (map view ys)) is ∙ ap last_of (map_push view rest x) ∙ last_push (map view rest) (view x)
 
 module _ {A : Type 0} (entry : Option A → List ℕ → Result (A × List ℕ) ℕ) (close : ℕ) (most : ℕ) (text : List ℕ) where
   -- what was read so far, in front of what is read of the rest, is what is read of all
@@ -70,3 +80,16 @@ module _ {A : Type 0} (entry : Option A → List ℕ → Result (A × List ℕ) 
       → row_at entry close (last_of xs) rest ≡ Ok (x, false, behind) → rows_at entry close most None text ≡ Ok (xs ++ x ∷ [], behind)
   last_row_read left less xs rest x behind is kept h =
       sym kept ∙ opened left less xs rest is ∙ ap (λ r. in_front xs (r >>= λ row. entries_behind row (rows_at entry close less))) h
+
+  -- a row that was read, where one more item was put behind the others
+  pub row_put : {B : Type 0} (view : B → A) (left less : ℕ) (items more_items : List B) (rest : List ℕ) (x : B) (more : Bool) (behind : List ℕ) → left ≡ suc less → AreRead left (map view items) rest
+      → row_at entry close (last_of (map view items)) rest ≡ Ok (view x, more, behind) → more ≡ true → more_items ≡ items ++ x ∷ [] → AreRead less (map view more_items) behind
+  row_put view left less items more_items rest x more behind is kept h yes put =
+      subst (λ ys. AreRead less ys behind) (sym (ap (map view) put ∙ map_push view items x))
+      (row_read left less (map view items) rest (view x) behind is kept (h ∙ ap (row_answer (view x) behind) yes))
+
+  pub last_row_put : {B : Type 0} (view : B → A) (left less : ℕ) (items more_items : List B) (rest : List ℕ) (x : B) (more : Bool) (behind : List ℕ) → left ≡ suc less → AreRead left (map view items) rest
+      → row_at entry close (last_of (map view items)) rest ≡ Ok (view x, more, behind) → more ≡ false → more_items ≡ items ++ x ∷ [] → rows_at entry close most None text ≡ Ok (map view more_items, behind)
+  last_row_put view left less items more_items rest x more behind is kept h done put =
+      last_row_read left less (map view items) rest (view x) behind is kept (h ∙ ap (row_answer (view x) behind) done)
+      ∙ ap (list_answer behind) (sym (ap (map view) put ∙ map_push view items x))

@@ -1,5 +1,5 @@
 -- The text of each value that has one is read as that value, whatever follows.
-use Rattle.std.proofs.Common.{◌≡◌, ℕ, zero, suc, ◌+◌, ◌<◌, ◌≤◌, eqb, ne_eqb, pos, negsuc, Bool, true, false, cond, ℤ, codes, List, [], ◌∷◌, ◌++◌, length, flat_map, Option, Some, None, Result, Ok, Err, refl, sym, ap, subst, ◌∙◌, append_assoc, length-append, arith, inl, inr}
+use Rattle.std.proofs.Common.{◌≡◌, ℕ, zero, suc, ◌+◌, ◌^◌, ◌<◌, ◌≤◌, eqb, ne_eqb, pos, negsuc, Bool, true, false, cond, ℤ, codes, List, [], ◌∷◌, ◌++◌, length, flat_map, Option, Some, None, Result, Ok, Err, refl, sym, ap, subst, ◌∙◌, append_assoc, length-append, arith, inl, inr}
 use Rattle.std.proofs.lemmas.Bool.{cases_Bool, cases_cond}
 use Rattle.std.proofs.lemmas.Nat.{from_be_bytes-to_be_bytes_8}
 use Rattle.std.proofs.lemmas.List.Elements.{recursion_from_All}
@@ -55,7 +55,7 @@ bool_again most levels wanted true rest e = by_form most levels wanted (codes "t
 bool_again most levels wanted false rest e = by_form most levels wanted (codes "false" ++ rest) (Alone No) (form_is wanted 102 _ (Alone No) refl e)
 
 eight_bytes : (n : ℕ) → AreBytes (to_be_bytes w64 n)
-eight_bytes n = (omega arith, omega arith, omega arith, omega arith, omega arith, omega arith, omega arith, omega arith, tt)
+eight_bytes n = (omega arith, (omega arith, (omega arith, (omega arith, (omega arith, (omega arith, (omega arith, (omega arith, tt))))))))
 
 pub double_again : (most levels : ℕ) (wanted : Option Tag) (n : ℕ) (rest : List ℕ) → n < 2 ^ 64 → is_wanted wanted tags.Double ≡ true → value_at most levels wanted (tree_text (of_double n) ++ rest) ≡ Ok (of_double n, rest)
 unfolding double_at
@@ -152,7 +152,7 @@ number_open z letter fits =
     let first = number_begins z fits in
     (first.0, first.1 ++ letter, ap (λ t. t ++ letter) first.2, ne_eqb first.0 93 (λ e. omega (arith, first.4, e)), ne_eqb first.0 125 (λ e. omega (arith, first.4, e)))
 
-wider : (z : ℤ) (low : ℕ) → low ≤ 2 ^ 63 → IsWithin low z → FitsSigned w64 z
+wider : (z : ℤ) (low : ℕ) → low < 2 ^ 63 → IsWithin low z → FitsSigned w64 z
 wider (pos n) low le h = record { sfits = omega (arith, h, le) }
 wider (negsuc n) low le h = record { sfits = omega (arith, h, le) }
 

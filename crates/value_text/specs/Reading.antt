@@ -2,7 +2,7 @@
 -- fault is the first byte with which no text of a tidy value of so many levels goes on; a comma is taken behind any entry, and an
 -- id, a key or a member that doesn't come behind the one before it is at fault at the first byte behind it.
 use Rattle.std.specs.Prelude.{ℕ, zero, suc, ◌-◌, ◌^◌, ◌==◌, ◌&&◌, not, Bool, true, false, ℤ, pos, neg_ℤ, int_le, int_lt, List, [], ◌∷◌, codes, length, drop, Option, Some, None, Result, Ok, Err, if◌then◌else◌}
-use Rattle.core.specs.Ordering.{is_lt}
+use Rattle.std.specs.Ordering.{is_lt}
 use Rattle.std.specs.Int.{w64, from_be_bytes}
 use Rattle.text_out.specs.Bytes.{minus_sign, quotation_mark}
 use Rattle.thrift_value.specs.declared.tag.Tag.{Tag}
@@ -261,6 +261,10 @@ max_levels = 64
 abbrev pub placed : ℕ → Result (Tree × List ℕ) ℕ → Result (Tree × ℕ) ℕ
 placed size (Ok x) = Ok (x.0, size - length x.1)
 placed size (Err left) = Err (size - left)
+
+-- this value, with this place behind it
+abbrev pub read_as : Tree → ℕ → Result (Tree × ℕ) ℕ
+read_as x behind = Ok (x, behind)
 
 -- the value whose text stands at a place, and the place behind it; or the place of the fault
 abbrev pub front_at : List ℕ → ℕ → Result (Tree × ℕ) ℕ

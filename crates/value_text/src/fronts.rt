@@ -143,11 +143,11 @@ fn positive_at(most: u64, text: &[u8]) -> Result<(u64, &[u8]), Stop>
 /// An integer up to `most`, or down to one below the negative of it.
 #[tactic(auto, unfolding(crate::specs::Fronts::integer_at))]
 pub(crate) fn integer_at(most: u64, text: &[u8]) -> Result<(i128, &[u8]), Stop>
-    requires { 9 ≤ most }
-    requires { most < 2 ^ 63 }
+    requires some { 9 ≤ most }
+    requires low { most < 2 ^ 63 }
     ensures exact { Gives (λ r. (r.0, r.1.now)) result (integer_at most text.now) }
-    ensures low { IfOk result (λ r. neg_ℤ (pos (most + 1)) ≤ℤ r.0) }
-    ensures high { IfOk result (λ r. r.0 ≤ℤ pos most) }
+    ensures least { IfOk result (λ r. neg_ℤ (pos (most + 1)) ≤ℤ r.0) }
+    ensures greatest { IfOk result (λ r. r.0 ≤ℤ pos most) }
 {
     let [byte, behind @ ..] = text else {
         return Err(Stop::Left(0));
@@ -298,12 +298,14 @@ pub(crate) fn quoted_at(alloc: Global, text: &[u8]) -> Result<(Vec<u8>, &[u8]), 
     let mut bytes = Vec::new(alloc);
     let mut rest = text;
     for step in 0..usize::MAX {
-        let (byte, behind) = quoted_byte_at(rest)?;
-        let Some(byte) = byte else {
-            return Ok((bytes, behind));
-        };
-        bytes.push(byte)?;
-        rest = behind;
+        let (found, behind) = quoted_byte_at(rest)?;
+        match found {
+            None => return Ok((bytes, behind)),
+            Some(byte) => {
+                bytes.push(byte)?;
+                rest = behind;
+            }
+        }
     }
     Err(Stop::NoMemory)
 }

@@ -14,12 +14,14 @@
 //! stand between quotation marks, and a container names its tags. Not here: names of an IDL, which a value doesn't have.
 #![tactic(auto)]
 
-ghost use Rattle.std.specs.Prelude.{◌≡◌, ◌≤◌, length, IfOk};
+ghost use Rattle.std.specs.Prelude.{◌≡◌, ◌≤◌, ◌+◌, ◌++◌, ℕ, List, length, drop, Ok, IfOk};
 ghost use Rattle.thrift_value.specs.Measures.{depth_of};
 ghost use Rattle.thrift_value.specs.Tidy.{IsTidy};
+ghost use Rattle.thrift_value.specs.Tree.{Tree};
 ghost use Rattle.thrift_value.specs.TreeOf.{tree_of};
 ghost use Rattle.value_text.specs.Answering.{Answers};
-ghost use Rattle.value_text.specs.Reading.{front_at, reading_of};
+ghost use Rattle.value_text.specs.Reading.{front_at, read_as, reading_of};
+ghost use Rattle.value_text.specs.Texts.{HasText, IsTextAt, IsTextOf};
 ghost use Rattle.value_text.specs.ValueText.{tree_text};
 
 use crate::reading::value_at;
@@ -58,6 +60,21 @@ pub fn print(alloc: Global, value: &Value) -> Result<Vec<u8>, AllocError>
 /// text ends itself.
 pub fn read_front(alloc: Global, text: &[u8], at: usize) -> Result<(Value, usize), TextFault>
     requires { at ≤ length text.now }
+    // Which value or which fault it is; want of memory alone is free.
+    ensures exact { Answers (λ x. (tree_of x.0, x.1)) result (front_at text.now at) }
+    // What is read is the text that stands there.
+    ensures found { IfOk result (λ x. IsTextAt text.now at (tree_of x.0) x.1) }
+    ensures place { IfOk result (λ x. x.1 ≤ length text.now) }
+    // A text that stands there is read, whatever follows.
+    ensures only { (x : Tree) (more : List ℕ) → HasText x → drop at text.now ≡ tree_text x ++ more
+        → Answers (λ y. (tree_of y.0, y.1)) result (read_as x (at + length (tree_text x))) }
+{
+    front_in(alloc, text, at)
+}
+
+/// The same, by its reading alone.
+fn front_in(alloc: Global, text: &[u8], at: usize) -> Result<(Value, usize), TextFault>
+    requires { at ≤ length text.now }
     ensures exact { Answers (λ x. (tree_of x.0, x.1)) result (front_at text.now at) }
     ensures place { IfOk result (λ x. x.1 ≤ length text.now) }
 {
@@ -71,9 +88,21 @@ pub fn read_front(alloc: Global, text: &[u8], at: usize) -> Result<(Value, usize
 
 /// The value whose text this is; or the place of the fault, where it is none.
 pub fn read(alloc: Global, text: &[u8]) -> Result<Value, TextFault>
+    // Which value or which fault it is; want of memory alone is free.
     ensures exact { Answers tree_of result (reading_of text.now) }
+    // What is read is this text.
+    ensures found { IfOk result (λ value. IsTextOf text.now (tree_of value)) }
+    // A text that a value has is read.
+    ensures only { (x : Tree) → IsTextOf text.now x → Answers tree_of result (Ok x) }
 {
-    let (value, behind) = read_front(alloc, text, 0)?;
+    whole_in(alloc, text)
+}
+
+/// The same, by its reading alone.
+fn whole_in(alloc: Global, text: &[u8]) -> Result<Value, TextFault>
+    ensures { Answers tree_of result (reading_of text.now) }
+{
+    let (value, behind) = front_in(alloc, text, 0)?;
     if behind != text.len() {
         return Err(TextFault::At(behind));
     }

@@ -78,7 +78,7 @@ fn joined<'a, T: Drop>(
     entry: T,
     next: Result<(bool, &'a [u8]), Stop>,
 ) -> Result<(T, bool, &'a [u8]), Stop>
-    ensures { MatchResult next (λ n. result ≡ Ok (entry, n.0, n.1)) (λ stop. result ≡ Err stop) }
+    ensures { MatchResult next.entry (λ n. result ≡ Ok (entry, n.0, n.1)) (λ stop. result ≡ Err stop) }
 {
     match next {
         Ok((more, rest)) => Ok((entry, more, rest)),
@@ -379,7 +379,7 @@ fn paired<'a>(
     key: Value,
     value: Result<(Value, &'a [u8]), Stop>,
 ) -> Result<((Value, Value), &'a [u8]), Stop>
-    ensures { MatchResult value (λ v. result ≡ Ok ((key, v.0), v.1)) (λ stop. result ≡ Err stop) }
+    ensures { MatchResult value.entry (λ v. result ≡ Ok ((key, v.0), v.1)) (λ stop. result ≡ Err stop) }
 {
     match value {
         Ok((value, rest)) => Ok(((key, value), rest)),
