@@ -11,9 +11,9 @@ use Rattle.value_text.specs.declared.form.Container.{Container}
 use Rattle.value_text.specs.declared.form.Container.TheVariants.{Struct, Map, Set, List as ListForm}
 use Rattle.value_text.specs.declared.form.Form.TheVariants.{Holding}
 use Rattle.value_text.specs.ValueText.{tree_text, tag_word, listed_fields, listed_items, listed_pairs}
-use Rattle.value_text.specs.Fronts.{◌>>=◌, past, tag_at}
+use Rattle.value_text.specs.Fronts.{◌>>=◌, behind_word, tag_at}
 use Rattle.value_text.specs.Rows.{list_at}
-use Rattle.value_text.specs.Reading.{is_wanted, value_at, deeper_at, value_by, struct_at, map_at, set_at, list_value_at, head_at, map_head_at, field_at, item_at, pair_at}
+use Rattle.value_text.specs.Reading.{is_wanted, value_text_at, deeper_at, value_by, struct_text_at, map_at, set_at, list_value_at, head_text_at, map_head_at, field_text_at, item_at, pair_text_at}
 use Rattle.value_text.proofs.RowLaws.{AreChained, shown, list_again}
 use Rattle.value_text.proofs.GoodTrees.{IsGood, FieldFits, ItemFits, PairFits, chained_fields, chained_items, chained_pairs}
 use Rattle.value_text.proofs.LeafLaws.{i8_again, i16_again, i32_again, i64_again}
@@ -40,26 +40,26 @@ abbrev made : {A : Type 0} → (List A → Tree) → List A × List ℕ → Resu
 made make x = Ok (make x.0, x.1)
 
 struct_again : (most levels : ℕ) → ReadsValues most levels → (fs : List (ℤ × Tree)) (rest : List ℕ) → length (tree_text (of_struct (field_trees fs))) < most → IsGood (suc levels) (of_struct (field_trees fs))
-    → struct_at most (value_at most levels) (tree_text (of_struct (field_trees fs)) ++ rest) ≡ Ok (of_struct (field_trees fs), rest)
-unfolding struct_at
+    → struct_text_at most (value_text_at most levels) (tree_text (of_struct (field_trees fs)) ++ rest) ≡ Ok (of_struct (field_trees fs), rest)
+unfolding struct_text_at
 struct_again most levels reads fs rest short good =
     let is = listed_fields_is fs in
     let long = length-append (listed_fields (field_trees fs)) (125 ∷ []) in
     let same : length (listed_fields (field_trees fs)) ≡ length (shown show_field fs) = ap length is in
     let chained = chained_fields levels None fs (record { above = tt; rising = good.in_order.0; tagged = good.tagged; in_order = good.in_order.1; in_range = good.in_range; depth = omega (arith, good.depth) }) in
-    let read = list_again show_field (FitsShort show_field (FieldFits levels) most) (field_at (value_at most levels)) 125 (field_again most levels reads) refl
+    let read = list_again show_field (FitsShort show_field (FieldFits levels) most) (field_text_at (value_text_at most levels)) 125 (field_again most levels reads) refl
     (λ f behind fits. field_open levels f behind fits.0.id) most fs rest
     (few show_field (FieldFits levels) most fs (omega (arith, short, long, same))) (roomy show_field (FieldFits levels) most None fs (omega (arith, short, long, same)) chained) in
-    ap (λ t. list_at (field_at (value_at most levels)) 125 most t >>= made (λ x. of_struct (field_trees x)))
+    ap (λ t. list_at (field_text_at (value_text_at most levels)) 125 most t >>= made (λ x. of_struct (field_trees x)))
     (append_assoc (listed_fields (field_trees fs)) (125 ∷ []) rest ∙ ap (λ t. t ++ 125 ∷ rest) is)
     ∙ ap (λ r. r >>= made (λ x. of_struct (field_trees x))) read
 
 -- what opens elements
-head_again : (word : List ℕ) (tag : Tag) (rest : List ℕ) → ((text : List ℕ) → past word (word ++ text) ≡ Ok text) → head_at word (word ++ (tag_word tag ++ 62 ∷ 91 ∷ rest)) ≡ Ok (tag, rest)
-unfolding head_at
+head_again : (word : List ℕ) (tag : Tag) (rest : List ℕ) → ((text : List ℕ) → behind_word word (word ++ text) ≡ Ok text) → head_text_at word (word ++ (tag_word tag ++ 62 ∷ 91 ∷ rest)) ≡ Ok (tag, rest)
+unfolding head_text_at
 head_again word tag rest passes =
-    ap (λ r. r >>= λ named. tag_at named >>= λ t. past (codes ">[") t.1 >>= λ behind. Ok (t.0, behind)) (passes (tag_word tag ++ 62 ∷ 91 ∷ rest))
-    ∙ ap (λ r. r >>= λ t. past (codes ">[") t.1 >>= λ behind. Ok (t.0, behind)) (tag_again tag (62 ∷ 91 ∷ rest))
+    ap (λ r. r >>= λ named. tag_at named >>= λ t. behind_word (codes ">[") t.1 >>= λ behind. Ok (t.0, behind)) (passes (tag_word tag ++ 62 ∷ 91 ∷ rest))
+    ∙ ap (λ r. r >>= λ t. behind_word (codes ">[") t.1 >>= λ behind. Ok (t.0, behind)) (tag_again tag (62 ∷ 91 ∷ rest))
 
 -- the text of elements, up to what follows
 pub items_text : (word : List ℕ) (tag : Tag) (items rest : List ℕ) → (word ++ (tag_word tag ++ (62 ∷ 91 ∷ (items ++ 93 ∷ [])))) ++ rest ≡ word ++ (tag_word tag ++ 62 ∷ 91 ∷ (items ++ 93 ∷ rest))
@@ -73,41 +73,41 @@ items_short word tag items most short =
     omega (arith, short, length-append word (tag_word tag ++ (62 ∷ 91 ∷ (items ++ 93 ∷ []))), length-append (tag_word tag) (62 ∷ 91 ∷ (items ++ 93 ∷ [])), length-append items (93 ∷ []))
 
 items_again : (most levels : ℕ) → ReadsValues most levels → (rising : Bool) (tag : Tag) (xs : List Tree) (rest : List ℕ) → length (listed_items (item_trees xs)) + 1 < most
-    → AreChained (ItemFits rising tag levels) None xs → list_at (item_at rising tag (value_at most levels)) 93 most (listed_items (item_trees xs) ++ 93 ∷ rest) ≡ Ok (xs, rest)
+    → AreChained (ItemFits rising tag levels) None xs → list_at (item_at rising tag (value_text_at most levels)) 93 most (listed_items (item_trees xs) ++ 93 ∷ rest) ≡ Ok (xs, rest)
 items_again most levels reads rising tag xs rest short chained =
     let is = listed_items_is xs in
     let same : length (listed_items (item_trees xs)) ≡ length (shown tree_text xs) = ap length is in
-    ap (λ t. list_at (item_at rising tag (value_at most levels)) 93 most (t ++ 93 ∷ rest)) is
-    ∙ list_again tree_text (FitsShort tree_text (ItemFits rising tag levels) most) (item_at rising tag (value_at most levels)) 93 (item_again most levels reads rising tag) refl
+    ap (λ t. list_at (item_at rising tag (value_text_at most levels)) 93 most (t ++ 93 ∷ rest)) is
+    ∙ list_again tree_text (FitsShort tree_text (ItemFits rising tag levels) most) (item_at rising tag (value_text_at most levels)) 93 (item_again most levels reads rising tag) refl
     (λ x behind fits. item_open x behind fits.0.good.in_range) most xs rest
     (few tree_text (ItemFits rising tag levels) most xs (omega (arith, short, same))) (roomy tree_text (ItemFits rising tag levels) most None xs (omega (arith, short, same)) chained)
 
 set_again : (most levels : ℕ) → ReadsValues most levels → (tag : Tag) (xs : List Tree) (rest : List ℕ) → length (tree_text (of_set tag (item_trees xs))) < most → IsGood (suc levels) (of_set tag (item_trees xs))
-    → set_at most (value_at most levels) (tree_text (of_set tag (item_trees xs)) ++ rest) ≡ Ok (of_set tag (item_trees xs), rest)
+    → set_at most (value_text_at most levels) (tree_text (of_set tag (item_trees xs)) ++ rest) ≡ Ok (of_set tag (item_trees xs), rest)
 unfolding set_at
 set_again most levels reads tag xs rest short good =
     let items = listed_items (item_trees xs) in
     let chained = chained_items true tag levels None xs (record { above = λ _. tt; rise = λ _. good.in_order.0; tagged = good.tagged; in_order = good.in_order.1; in_range = good.in_range; depth = omega (arith, good.depth) }) in
-    ap (λ t. head_at (codes "set<") t >>= λ h. list_at (item_at true h.0 (value_at most levels)) 93 most h.1 >>= λ x. Ok (of_set h.0 (item_trees x.0), x.1)) (items_text (codes "set<") tag items rest)
-    ∙ ap (λ r. r >>= λ h. list_at (item_at true h.0 (value_at most levels)) 93 most h.1 >>= λ x. Ok (of_set h.0 (item_trees x.0), x.1)) (head_again (codes "set<") tag (items ++ 93 ∷ rest) (λ text. refl))
+    ap (λ t. head_text_at (codes "set<") t >>= λ h. list_at (item_at true h.0 (value_text_at most levels)) 93 most h.1 >>= λ x. Ok (of_set h.0 (item_trees x.0), x.1)) (items_text (codes "set<") tag items rest)
+    ∙ ap (λ r. r >>= λ h. list_at (item_at true h.0 (value_text_at most levels)) 93 most h.1 >>= λ x. Ok (of_set h.0 (item_trees x.0), x.1)) (head_again (codes "set<") tag (items ++ 93 ∷ rest) (λ text. refl))
     ∙ ap (λ r. r >>= λ x. Ok (of_set tag (item_trees x.0), x.1)) (items_again most levels reads true tag xs rest (items_short (codes "set<") tag items most short) chained)
 
 list_value_again : (most levels : ℕ) → ReadsValues most levels → (tag : Tag) (xs : List Tree) (rest : List ℕ) → length (tree_text (of_list tag (item_trees xs))) < most → IsGood (suc levels) (of_list tag (item_trees xs))
-    → list_value_at most (value_at most levels) (tree_text (of_list tag (item_trees xs)) ++ rest) ≡ Ok (of_list tag (item_trees xs), rest)
+    → list_value_at most (value_text_at most levels) (tree_text (of_list tag (item_trees xs)) ++ rest) ≡ Ok (of_list tag (item_trees xs), rest)
 unfolding list_value_at
 list_value_again most levels reads tag xs rest short good =
     let items = listed_items (item_trees xs) in
     let chained = chained_items false tag levels None xs (record { above = λ e. absurd cc; rise = λ e. absurd cc; tagged = good.tagged; in_order = good.in_order; in_range = good.in_range; depth = omega (arith, good.depth) }) in
-    ap (λ t. head_at (codes "list<") t >>= λ h. list_at (item_at false h.0 (value_at most levels)) 93 most h.1 >>= λ x. Ok (of_list h.0 (item_trees x.0), x.1)) (items_text (codes "list<") tag items rest)
-    ∙ ap (λ r. r >>= λ h. list_at (item_at false h.0 (value_at most levels)) 93 most h.1 >>= λ x. Ok (of_list h.0 (item_trees x.0), x.1)) (head_again (codes "list<") tag (items ++ 93 ∷ rest) (λ text. refl))
+    ap (λ t. head_text_at (codes "list<") t >>= λ h. list_at (item_at false h.0 (value_text_at most levels)) 93 most h.1 >>= λ x. Ok (of_list h.0 (item_trees x.0), x.1)) (items_text (codes "list<") tag items rest)
+    ∙ ap (λ r. r >>= λ h. list_at (item_at false h.0 (value_text_at most levels)) 93 most h.1 >>= λ x. Ok (of_list h.0 (item_trees x.0), x.1)) (head_again (codes "list<") tag (items ++ 93 ∷ rest) (λ text. refl))
     ∙ ap (λ r. r >>= λ x. Ok (of_list tag (item_trees x.0), x.1)) (items_again most levels reads false tag xs rest (items_short (codes "list<") tag items most short) chained)
 
 -- what opens pairs
 map_head_again : (key tag : Tag) (rest : List ℕ) → map_head_at (codes "map<" ++ (tag_word key ++ 44 ∷ (tag_word tag ++ 62 ∷ 123 ∷ rest))) ≡ Ok (key, tag, rest)
 unfolding map_head_at
 map_head_again key tag rest =
-    ap (λ r. r >>= λ k. past (codes ",") k.1 >>= λ next. tag_at next >>= λ t. past (codes ">{") t.1 >>= λ behind. Ok (k.0, t.0, behind)) (tag_again key (44 ∷ (tag_word tag ++ 62 ∷ 123 ∷ rest)))
-    ∙ ap (λ r. r >>= λ t. past (codes ">{") t.1 >>= λ behind. Ok (key, t.0, behind)) (tag_again tag (62 ∷ 123 ∷ rest))
+    ap (λ r. r >>= λ k. behind_word (codes ",") k.1 >>= λ next. tag_at next >>= λ t. behind_word (codes ">{") t.1 >>= λ behind. Ok (k.0, t.0, behind)) (tag_again key (44 ∷ (tag_word tag ++ 62 ∷ 123 ∷ rest)))
+    ∙ ap (λ r. r >>= λ t. behind_word (codes ">{") t.1 >>= λ behind. Ok (key, t.0, behind)) (tag_again tag (62 ∷ 123 ∷ rest))
 
 pub pairs_text : (key tag : Tag) (pairs rest : List ℕ)
     → (codes "map<" ++ (tag_word key ++ (44 ∷ (tag_word tag ++ (62 ∷ 123 ∷ (pairs ++ 125 ∷ [])))))) ++ rest ≡ codes "map<" ++ (tag_word key ++ 44 ∷ (tag_word tag ++ 62 ∷ 123 ∷ (pairs ++ 125 ∷ rest)))
@@ -120,7 +120,7 @@ pairs_short key tag pairs most short =
     omega (arith, short, length-append (tag_word key) (44 ∷ (tag_word tag ++ (62 ∷ 123 ∷ (pairs ++ 125 ∷ [])))), length-append (tag_word tag) (62 ∷ 123 ∷ (pairs ++ 125 ∷ [])), length-append pairs (125 ∷ []))
 
 map_again : (most levels : ℕ) → ReadsValues most levels → (key tag : Tag) (ps : List (Tree × Tree)) (rest : List ℕ) → length (tree_text (of_map key tag (pair_trees ps))) < most → IsGood (suc levels) (of_map key tag (pair_trees ps))
-    → map_at most levels (value_at most levels) (tree_text (of_map key tag (pair_trees ps)) ++ rest) ≡ Ok (of_map key tag (pair_trees ps), rest)
+    → map_at most levels (value_text_at most levels) (tree_text (of_map key tag (pair_trees ps)) ++ rest) ≡ Ok (of_map key tag (pair_trees ps), rest)
 unfolding map_at
 map_again most levels reads key tag ps rest short good =
     let pairs = listed_pairs (pair_trees ps) in
@@ -128,11 +128,11 @@ map_again most levels reads key tag ps rest short good =
     let same : length pairs ≡ length (shown show_pair ps) = ap length is in
     let room : length pairs + 1 < most = pairs_short key tag pairs most short in
     let chained = chained_pairs key tag levels None ps (record { above = tt; rising = good.in_order.0; tagged = good.tagged; in_order = good.in_order.1; in_range = good.in_range; depth = omega (arith, good.depth) }) in
-    ap (λ t. map_head_at t >>= λ h. list_at (pair_at levels h.0 h.1 (value_at most levels)) 125 most h.2 >>= λ x. Ok (of_map h.0 h.1 (pair_trees x.0), x.1)) (pairs_text key tag pairs rest)
-    ∙ ap (λ r. r >>= λ h. list_at (pair_at levels h.0 h.1 (value_at most levels)) 125 most h.2 >>= λ x. Ok (of_map h.0 h.1 (pair_trees x.0), x.1)) (map_head_again key tag (pairs ++ 125 ∷ rest))
-    ∙ ap (λ t. list_at (pair_at levels key tag (value_at most levels)) 125 most (t ++ 125 ∷ rest) >>= λ x. Ok (of_map key tag (pair_trees x.0), x.1)) is
+    ap (λ t. map_head_at t >>= λ h. list_at (pair_text_at levels h.0 h.1 (value_text_at most levels)) 125 most h.2 >>= λ x. Ok (of_map h.0 h.1 (pair_trees x.0), x.1)) (pairs_text key tag pairs rest)
+    ∙ ap (λ r. r >>= λ h. list_at (pair_text_at levels h.0 h.1 (value_text_at most levels)) 125 most h.2 >>= λ x. Ok (of_map h.0 h.1 (pair_trees x.0), x.1)) (map_head_again key tag (pairs ++ 125 ∷ rest))
+    ∙ ap (λ t. list_at (pair_text_at levels key tag (value_text_at most levels)) 125 most (t ++ 125 ∷ rest) >>= λ x. Ok (of_map key tag (pair_trees x.0), x.1)) is
     ∙ ap (λ r. r >>= λ x. Ok (of_map key tag (pair_trees x.0), x.1))
-    (list_again show_pair (FitsShort show_pair (PairFits key tag levels) most) (pair_at levels key tag (value_at most levels)) 125 (pair_again most levels reads key tag) refl
+    (list_again show_pair (FitsShort show_pair (PairFits key tag levels) most) (pair_text_at levels key tag (value_text_at most levels)) 125 (pair_again most levels reads key tag) refl
     (λ p behind fits. pair_open p behind fits.0.key_good.in_range) most ps rest
     (few show_pair (PairFits key tag levels) most ps (omega (arith, room, same))) (roomy show_pair (PairFits key tag levels) most None ps (omega (arith, room, same)) chained))
 
@@ -157,7 +157,7 @@ no_level most = record {
 
 struct_deeper : (most levels : ℕ) → ReadsValues most levels → (fields : FieldTrees) (rest : List ℕ) → length (tree_text (of_struct fields)) < most → IsGood (suc levels) (of_struct fields)
     → deeper_at most (suc levels) Struct (tree_text (of_struct fields) ++ rest) ≡ Ok (of_struct fields, rest)
-unfolding deeper_at value_at
+unfolding deeper_at value_text_at
 struct_deeper most levels reads fields rest =
     let fs = as_fields fields in
     subst (λ (t : FieldTrees). length (tree_text (of_struct t)) < most → IsGood (suc levels) (of_struct t) → deeper_at most (suc levels) Struct (tree_text (of_struct t) ++ rest) ≡ Ok (of_struct t, rest)) fs.1
@@ -165,7 +165,7 @@ struct_deeper most levels reads fields rest =
 
 map_deeper : (most levels : ℕ) → ReadsValues most levels → (key tag : Tag) (pairs : PairTrees) (rest : List ℕ) → length (tree_text (of_map key tag pairs)) < most → IsGood (suc levels) (of_map key tag pairs)
     → deeper_at most (suc levels) Map (tree_text (of_map key tag pairs) ++ rest) ≡ Ok (of_map key tag pairs, rest)
-unfolding deeper_at value_at
+unfolding deeper_at value_text_at
 map_deeper most levels reads key tag pairs rest =
     let ps = as_pairs pairs in
     subst (λ (t : PairTrees). length (tree_text (of_map key tag t)) < most → IsGood (suc levels) (of_map key tag t) → deeper_at most (suc levels) Map (tree_text (of_map key tag t) ++ rest) ≡ Ok (of_map key tag t, rest)) ps.1
@@ -173,7 +173,7 @@ map_deeper most levels reads key tag pairs rest =
 
 set_deeper : (most levels : ℕ) → ReadsValues most levels → (tag : Tag) (items : ItemTrees) (rest : List ℕ) → length (tree_text (of_set tag items)) < most → IsGood (suc levels) (of_set tag items)
     → deeper_at most (suc levels) Set (tree_text (of_set tag items) ++ rest) ≡ Ok (of_set tag items, rest)
-unfolding deeper_at value_at
+unfolding deeper_at value_text_at
 set_deeper most levels reads tag items rest =
     let xs = as_items items in
     subst (λ (t : ItemTrees). length (tree_text (of_set tag t)) < most → IsGood (suc levels) (of_set tag t) → deeper_at most (suc levels) Set (tree_text (of_set tag t) ++ rest) ≡ Ok (of_set tag t, rest)) xs.1
@@ -181,7 +181,7 @@ set_deeper most levels reads tag items rest =
 
 list_deeper : (most levels : ℕ) → ReadsValues most levels → (tag : Tag) (items : ItemTrees) (rest : List ℕ) → length (tree_text (of_list tag items)) < most → IsGood (suc levels) (of_list tag items)
     → deeper_at most (suc levels) ListForm (tree_text (of_list tag items) ++ rest) ≡ Ok (of_list tag items, rest)
-unfolding deeper_at value_at
+unfolding deeper_at value_text_at
 list_deeper most levels reads tag items rest =
     let xs = as_items items in
     subst (λ (t : ItemTrees). length (tree_text (of_list tag t)) < most → IsGood (suc levels) (of_list tag t) → deeper_at most (suc levels) ListForm (tree_text (of_list tag t) ++ rest) ≡ Ok (of_list tag t, rest)) xs.1

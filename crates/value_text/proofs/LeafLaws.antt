@@ -20,7 +20,7 @@ use Rattle.value_text.specs.declared.form.Leaf.TheVariants.{Number}
 use Rattle.value_text.specs.ValueText.{tree_text}
 use Rattle.value_text.specs.Fronts.{◌>>=◌, is_digit, integer_at}
 use Rattle.value_text.specs.Rows.{found_or}
-use Rattle.value_text.specs.Reading.{form_of, form_or, form_at, is_wanted, is_number_wanted, greatest, has_bits, ranged, lettered, typed_at, number_at}
+use Rattle.value_text.specs.Reading.{form_of, form_or, form_at, is_wanted, is_number_wanted, greatest, fits_bits, typed_as, lettered, typed_at, number_text_at}
 use Rattle.value_text.proofs.Choices.{went_on, chosen, held, one_ok, had_to}
 use Rattle.value_text.proofs.Numbers.{IsWithin, integer_again, integer_found, decimal_begins}
 
@@ -89,18 +89,18 @@ number_form wanted z rest fits so =
     ∙ ap (λ t. cond t (Ok (Alone Number)) (Err (length (first.0 ∷ (first.1 ++ rest))))) so
 
 number_again : (wanted : Option Tag) (z : ℤ) (letter : ℕ) (x : Tree) (rest : List ℕ) → greatest wanted < 2 ^ 64 → IsWithin (greatest wanted) z → is_digit letter ≡ false → lettered wanted letter z ≡ Some x
-    → number_at wanted (decimal_of z ++ letter ∷ rest) ≡ Ok (x, rest)
-unfolding number_at typed_at
+    → number_text_at wanted (decimal_of z ++ letter ∷ rest) ≡ Ok (x, rest)
+unfolding number_text_at typed_at
 number_again wanted z letter x rest wide within none is =
     ap (λ r. r >>= λ n. typed_at wanted n.0 n.1) (integer_again (greatest wanted) z letter rest wide within none)
     ∙ ap (λ o. found_or o (λ y. Ok (y, rest)) (Err (length (letter ∷ rest)))) is
 
 -- the numbers of so many bits pass the test, and no others
-bits_pass : (bits most : ℕ) (z : ℤ) → 2 ^ (bits - 1) ≡ suc most → IsWithin most z → has_bits bits z ≡ true
+bits_pass : (bits most : ℕ) (z : ℤ) → 2 ^ (bits - 1) ≡ suc most → IsWithin most z → fits_bits bits z ≡ true
 bits_pass bits most (pos n) is within = grind (arith, ints)
 bits_pass bits most (negsuc n) is within = grind (arith, ints)
 
-pub bits_tell : (bits most : ℕ) (z : ℤ) → 2 ^ (bits - 1) ≡ suc most → has_bits bits z ≡ true → IsWithin most z
+pub bits_tell : (bits most : ℕ) (z : ℤ) → 2 ^ (bits - 1) ≡ suc most → fits_bits bits z ≡ true → IsWithin most z
 bits_tell bits most (pos n) is e = grind (arith, ints)
 bits_tell bits most (negsuc n) is e = grind (arith, ints)
 
@@ -126,15 +126,15 @@ within_more most more (negsuc n) le h = omega (arith, le, h)
 
 -- a number of a type that may stand there has its letter
 lettered_is : (wanted : Option Tag) (tag : Tag) (tree : ℤ → Tree) (bits most : ℕ) (z : ℤ) → 2 ^ (bits - 1) ≡ suc most → is_wanted wanted tag ≡ true → IsWithin most z
-    → ranged wanted tag tree bits z ≡ Some (tree z)
+    → typed_as wanted tag tree bits z ≡ Some (tree z)
 lettered_is wanted tag tree bits most z is allowed within =
-    ap (λ t. cond t (cond (has_bits bits z) (Some (tree z)) None) None) allowed
+    ap (λ t. cond t (cond (fits_bits bits z) (Some (tree z)) None) None) allowed
     ∙ ap (λ t. cond t (Some (tree z)) None) (bits_pass bits most z is within)
 
 -- what is read again: the form of a number and the number
 pub record IsNumberAgain (wanted : Option Tag) (text : List ℕ) (x : Tree) (rest : List ℕ) : Type 0 where
   pub form : form_at wanted text ≡ Ok (Alone Number)
-  pub number : number_at wanted text ≡ Ok (x, rest)
+  pub number : number_text_at wanted text ≡ Ok (x, rest)
 
 fits_wide : (most : ℕ) (z : ℤ) → most < 2 ^ 63 → IsWithin most z → FitsSigned w64 z
 fits_wide most (pos n) low h = record { sfits = omega (arith, low, h) }

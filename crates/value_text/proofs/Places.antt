@@ -6,13 +6,13 @@ use Rattle.thrift_value.specs.TreeOf.{tree_of}
 use Rattle.value_text.specs.declared.fault.TextFault.{TextFault}
 use Rattle.value_text.specs.ValueText.{tree_text}
 use Rattle.value_text.specs.Answering.{Answers}
-use Rattle.value_text.specs.Reading.{most_bytes, max_levels, value_at, placed, front_at, ended, reading_of}
+use Rattle.value_text.specs.Reading.{most_rounds, text_levels, value_text_at, at_place, front_at, ended, reading_of}
 use Rattle.value_text.specs.Texts.{HasText, IsTextOf, IsTextAt}
 use Rattle.value_text.proofs.Choices.{held, one_ok}
 use Rattle.value_text.proofs.ContainersAgain.{values_again}
 use Rattle.value_text.proofs.ContainersFound.{values_found}
 
-placed_found : (size : ℕ) (r : Result (Tree × List ℕ) ℕ) (x : Tree) (behind : ℕ) → placed size r ≡ Ok (x, behind) → (rest : List ℕ) × (r ≡ Ok (x, rest)) × (size - length rest ≡ behind)
+placed_found : (size : ℕ) (r : Result (Tree × List ℕ) ℕ) (x : Tree) (behind : ℕ) → at_place size r ≡ Ok (x, behind) → (rest : List ℕ) × (r ≡ Ok (x, rest)) × (size - length rest ≡ behind)
 placed_found size (Ok y) x behind e =
     let same = one_ok (y.0, size - length y.1) (x, behind) e in
     (y.1, ap (λ z. Ok (z, y.1)) (ap (λ (p : Tree × ℕ). p.0) same), ap (λ (p : Tree × ℕ). p.1) same)
@@ -29,8 +29,8 @@ rest_is text at front rest is = sym (drop-drop (length front) at text) ∙ ap (d
 
 pub front_found : (text : List ℕ) (at : ℕ) (x : Tree) (behind : ℕ) → at ≤ length text → front_at text at ≡ Ok (x, behind) → IsTextAt text at x behind
 front_found text at x behind within e =
-    let read = placed_found (length text) (value_at most_bytes max_levels None (drop at text)) x behind e in
-    let found = values_found most_bytes max_levels None (drop at text) x read.0 read.1 in
+    let read = placed_found (length text) (value_text_at most_rounds text_levels None (drop at text)) x behind e in
+    let found = values_found most_rounds text_levels None (drop at text) x read.0 read.1 in
     let end : behind ≡ at + length (tree_text x) = sym read.2 ∙ end_is text at (tree_text x) read.0 within found.whole in
     record {
       has_text = record { tidy = record { tagged = found.good.tagged; in_order = found.good.in_order }; depth = found.good.depth; in_range = found.good.in_range };
@@ -38,12 +38,12 @@ front_found text at x behind within e =
       end = end;
     }
 
-pub front_again : (text : List ℕ) (at : ℕ) (x : Tree) (more : List ℕ) → length text < most_bytes → at ≤ length text → HasText x → drop at text ≡ tree_text x ++ more
+pub front_again : (text : List ℕ) (at : ℕ) (x : Tree) (more : List ℕ) → length text < most_rounds → at ≤ length text → HasText x → drop at text ≡ tree_text x ++ more
     → front_at text at ≡ Ok (x, at + length (tree_text x))
 front_again text at x more short within has stands =
-    let long : length (tree_text x) < most_bytes = omega (arith, short, ap length stands, length-drop at text, length-append (tree_text x) more) in
-    ap (λ t. placed (length text) (value_at most_bytes max_levels None t)) stands
-    ∙ ap (placed (length text)) (values_again most_bytes max_levels None x more long (record { tagged = has.tidy.tagged; in_order = has.tidy.in_order; in_range = has.in_range; depth = has.depth }) refl)
+    let long : length (tree_text x) < most_rounds = omega (arith, short, ap length stands, length-drop at text, length-append (tree_text x) more) in
+    ap (λ t. at_place (length text) (value_text_at most_rounds text_levels None t)) stands
+    ∙ ap (at_place (length text)) (values_again most_rounds text_levels None x more long (record { tagged = has.tidy.tagged; in_order = has.tidy.in_order; in_range = has.in_range; depth = has.depth }) refl)
     ∙ ap (λ k. Ok (x, k)) (end_is text at (tree_text x) more within stands)
 
 -- a text behind which nothing stands
@@ -61,7 +61,7 @@ ended_found text (Err place) x is e = absurd cc
 pub text_found : (text : List ℕ) (x : Tree) → reading_of text ≡ Ok x → IsTextOf text x
 text_found text x e = ended_found text (front_at text 0) x refl e
 
-pub text_again : (text : List ℕ) (x : Tree) → length text < most_bytes → IsTextOf text x → reading_of text ≡ Ok x
+pub text_again : (text : List ℕ) (x : Tree) → length text < most_rounds → IsTextOf text x → reading_of text ≡ Ok x
 text_again text x short is =
     let read = front_again text 0 x [] short (omega arith) is.has_text (is.whole ∙ sym (append-nil (tree_text x))) in
     ap (ended (length text)) read ∙ ap (λ b. cond b (Ok x) (Err (0 + length (tree_text x)))) (eq-eqb (0 + length (tree_text x)) (length text) (omega (arith, ap length is.whole)))

@@ -4,7 +4,7 @@ use Rattle.std.proofs.lemmas.Bool.{lt-leb, eqb-false, and_parts, and_from, and_c
 use Rattle.std.specs.List.{AllByRecursion}
 use Rattle.text_out.specs.Hex.{hex_digit_of, hex_of}
 use Rattle.text_out.specs.Quoted.{quoted_byte}
-use Rattle.value_text.specs.Fronts.{◌>>=◌, is_digit, nibble, nibble_or, nibble_at, hex_byte_at, hex_at, is_printable, low_half, hexed_at, escaped_at, quoted_byte_at, with_byte, quoted_at}
+use Rattle.value_text.specs.Fronts.{◌>>=◌, is_digit, nibble, nibble_or, nibble_at, hex_byte_at, hex_at, is_printable, low_half, hexed_at, escaped_at, quoted_byte_at, byte_before, quoted_at}
 use Rattle.value_text.proofs.Choices.{went_on, chosen, held, held_not, one_ok}
 
 -- all are bytes
@@ -278,7 +278,7 @@ quoted_again zero bytes rest room fits = absurd (omega (arith, room))
 quoted_again (suc most) [] rest room fits = refl
 quoted_again (suc most) (b ∷ bytes) rest room fits =
     ap (quoted_at (suc most)) (append_assoc (quoted_byte b) (flat_map quoted_byte bytes) (34 ∷ rest))
-    ∙ ap (λ r. r >>= λ one. with_byte one.0 one.1 (quoted_at most)) (quoted_byte_again b (flat_map quoted_byte bytes ++ 34 ∷ rest) fits.0)
+    ∙ ap (λ r. r >>= λ one. byte_before one.0 one.1 (quoted_at most)) (quoted_byte_again b (flat_map quoted_byte bytes ++ 34 ∷ rest) fits.0)
     ∙ ap (λ r. r >>= λ more. Ok (b ∷ more.0, more.1)) (quoted_again most bytes rest (omega (arith, room)) fits.1)
 
 abbrev pub IsQuoted : List ℕ → List ℕ → List ℕ → Type 0
@@ -286,7 +286,7 @@ IsQuoted text bytes rest = (text ≡ flat_map quoted_byte bytes ++ 34 ∷ rest) 
 
 -- the bytes behind one that was read
 behind_one : (most : ℕ) → ((text bytes rest : List ℕ) → quoted_at most text ≡ Ok (bytes, rest) → IsQuoted text bytes rest)
-    → (text : List ℕ) (one : Option ℕ) (after bytes rest : List ℕ) → IsOneByte text one after → with_byte one after (quoted_at most) ≡ Ok (bytes, rest) → IsQuoted text bytes rest
+    → (text : List ℕ) (one : Option ℕ) (after bytes rest : List ℕ) → IsOneByte text one after → byte_before one after (quoted_at most) ≡ Ok (bytes, rest) → IsQuoted text bytes rest
 behind_one most found text None after bytes rest is e =
     subst (λ (x : List ℕ × List ℕ). IsQuoted text x.0 x.1) (one_ok ([], after) (bytes, rest) e) (is, tt)
 behind_one most found text (Some b) after bytes rest is e =
@@ -299,5 +299,5 @@ pub quoted_found : (most : ℕ) (text bytes rest : List ℕ) → quoted_at most 
 unfolding quoted_at
 quoted_found zero text bytes rest e = absurd cc
 quoted_found (suc most) text bytes rest e =
-    let one = went_on (quoted_byte_at text) (λ one. with_byte one.0 one.1 (quoted_at most)) (bytes, rest) e in
+    let one = went_on (quoted_byte_at text) (λ one. byte_before one.0 one.1 (quoted_at most)) (bytes, rest) e in
     behind_one most (quoted_found most) text one.0.0 one.0.1 bytes rest (quoted_byte_found text one.0.0 one.0.1 one.1) one.2

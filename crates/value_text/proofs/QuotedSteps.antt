@@ -1,9 +1,9 @@
 -- Reading quoted bytes one after another, as a loop does.
 use Rattle.std.proofs.Common.{◌≡◌, ℕ, suc, List, [], ◌∷◌, ◌++◌, Option, Some, None, Result, Ok, Err, refl, sym, ap, ◌∙◌, append-nil}
-use Rattle.value_text.specs.declared.stop.Stop.{Stop}
-use Rattle.value_text.specs.declared.stop.Stop.TheVariants as stop
-use Rattle.value_text.specs.Answering.{StopsAs}
-use Rattle.value_text.specs.Fronts.{◌>>=◌, quoted_byte_at, with_byte, quoted_at}
+use Rattle.value_text.specs.declared.stop.TextStop.{TextStop}
+use Rattle.value_text.specs.declared.stop.TextStop.TheVariants as stop
+use Rattle.value_text.specs.Answering.{LeavesAs}
+use Rattle.value_text.specs.Fronts.{◌>>=◌, quoted_byte_at, byte_before, quoted_at}
 use Rattle.value_text.proofs.RowSteps.{in_front, one_in_front, nothing_in_front}
 
 abbrev byte_answer : List ℕ → Option ℕ → Result (Option ℕ × List ℕ) ℕ
@@ -18,28 +18,28 @@ module _ (most : ℕ) (text : List ℕ) where
   AreQuoted left bytes rest = in_front bytes (quoted_at left rest) ≡ quoted_at most text
 
   opened : (left less : ℕ) (bytes rest : List ℕ) → left ≡ suc less
-      → in_front bytes (quoted_at left rest) ≡ in_front bytes (quoted_byte_at rest >>= λ one. with_byte one.0 one.1 (quoted_at less))
+      → in_front bytes (quoted_at left rest) ≡ in_front bytes (quoted_byte_at rest >>= λ one. byte_before one.0 one.1 (quoted_at less))
   unfolding quoted_at
   opened left less bytes rest is = ap (λ n. in_front bytes (quoted_at n rest)) is
 
   pub quoted_begun : (left : ℕ) (bytes : List ℕ) → left ≡ most → bytes ≡ [] → AreQuoted left bytes text
   quoted_begun left bytes all none = ap (λ bs. in_front bs (quoted_at left text)) none ∙ nothing_in_front (quoted_at left text) ∙ ap (λ n. quoted_at n text) all
 
-  pub quoted_stop : (why : Stop) (left less : ℕ) (bytes rest : List ℕ) → left ≡ suc less → AreQuoted left bytes rest → StopsAs why (quoted_byte_at rest) → StopsAs why (quoted_at most text)
+  pub quoted_stop : (why : TextStop) (left less : ℕ) (bytes rest : List ℕ) → left ≡ suc less → AreQuoted left bytes rest → LeavesAs why (quoted_byte_at rest) → LeavesAs why (quoted_at most text)
   quoted_stop stop.NoMemory left less bytes rest is kept h = tt
   quoted_stop (stop.Left n) left less bytes rest is kept h =
-      sym kept ∙ opened left less bytes rest is ∙ ap (λ r. in_front bytes (r >>= λ one. with_byte one.0 one.1 (quoted_at less))) h
+      sym kept ∙ opened left less bytes rest is ∙ ap (λ r. in_front bytes (r >>= λ one. byte_before one.0 one.1 (quoted_at less))) h
 
   pub byte_put : (left less : ℕ) (bytes more rest : List ℕ) (one : Option ℕ) (b : ℕ) (behind : List ℕ) → left ≡ suc less → AreQuoted left bytes rest
       → quoted_byte_at rest ≡ Ok (one, behind) → one ≡ Some b → more ≡ bytes ++ b ∷ [] → AreQuoted less more behind
   byte_put left less bytes more rest one b behind is kept h some put =
       ap (λ bs. in_front bs (quoted_at less behind)) put
       ∙ sym (one_in_front bytes b (quoted_at less behind))
-      ∙ sym (ap (λ r. in_front bytes (r >>= λ one. with_byte one.0 one.1 (quoted_at less))) (h ∙ ap (byte_answer behind) some))
+      ∙ sym (ap (λ r. in_front bytes (r >>= λ one. byte_before one.0 one.1 (quoted_at less))) (h ∙ ap (byte_answer behind) some))
       ∙ sym (opened left less bytes rest is) ∙ kept
 
   pub quoted_end : (left less : ℕ) (bytes rest : List ℕ) (one : Option ℕ) (behind : List ℕ) → left ≡ suc less → AreQuoted left bytes rest
       → quoted_byte_at rest ≡ Ok (one, behind) → one ≡ None → quoted_at most text ≡ Ok (bytes, behind)
   quoted_end left less bytes rest one behind is kept h none =
-      sym kept ∙ opened left less bytes rest is ∙ ap (λ r. in_front bytes (r >>= λ one. with_byte one.0 one.1 (quoted_at less))) (h ∙ ap (byte_answer behind) none)
+      sym kept ∙ opened left less bytes rest is ∙ ap (λ r. in_front bytes (r >>= λ one. byte_before one.0 one.1 (quoted_at less))) (h ∙ ap (byte_answer behind) none)
       ∙ ap (bytes_answer behind) (append-nil bytes)

@@ -1,9 +1,9 @@
 -- Reading entries one after another, as a loop does.
 use Rattle.std.proofs.Common.{◌≡◌, ℕ, suc, Bool, true, false, List, [], ◌∷◌, ◌++◌, Option, Some, None, Result, Ok, Err, map, refl, sym, ap, subst, ◌∙◌, append_assoc}
 use Rattle.std.proofs.lemmas.List.{map_push}
-use Rattle.value_text.specs.declared.stop.Stop.{Stop}
-use Rattle.value_text.specs.declared.stop.Stop.TheVariants as stop
-use Rattle.value_text.specs.Answering.{StopsAs, Gives}
+use Rattle.value_text.specs.declared.stop.TextStop.{TextStop}
+use Rattle.value_text.specs.declared.stop.TextStop.TheVariants as stop
+use Rattle.value_text.specs.Answering.{LeavesAs}
 use Rattle.value_text.specs.Fronts.{◌>>=◌}
 use Rattle.value_text.specs.Rows.{last_of, row_at, entries_behind, rows_at}
 
@@ -27,7 +27,7 @@ one_in_front xs x (Ok more) = ap (λ ys. Ok (ys, more.1)) (sym (append_assoc xs 
 one_in_front xs x (Err left) = refl
 
 -- a reading that stops stops what follows
-stops_on : {A B : Type 0} (why : Stop) (r : Result A ℕ) (f : A → Result B ℕ) (total : Result B ℕ) → (r >>= f) ≡ total → StopsAs why r → StopsAs why total
+stops_on : {A B : Type 0} (why : TextStop) (r : Result A ℕ) (f : A → Result B ℕ) (total : Result B ℕ) → (r >>= f) ≡ total → LeavesAs why r → LeavesAs why total
 stops_on stop.NoMemory r f total is h = tt
 stops_on (stop.Left left) r f total is h = sym is ∙ ap (λ z. z >>= f) h
 
@@ -62,8 +62,8 @@ module _ {A : Type 0} (entry : Option A → List ℕ → Result (A × List ℕ) 
   unfolding rows_at
   opened left less xs rest is = ap (λ n. in_front xs (rows_at entry close n (last_of xs) rest)) is
 
-  pub rows_stop : (why : Stop) (left less : ℕ) (xs : List A) (rest : List ℕ) → left ≡ suc less → AreRead left xs rest
-      → StopsAs why (row_at entry close (last_of xs) rest) → StopsAs why (rows_at entry close most None text)
+  pub rows_stop : (why : TextStop) (left less : ℕ) (xs : List A) (rest : List ℕ) → left ≡ suc less → AreRead left xs rest
+      → LeavesAs why (row_at entry close (last_of xs) rest) → LeavesAs why (rows_at entry close most None text)
   rows_stop stop.NoMemory left less xs rest is kept h = tt
   rows_stop (stop.Left n) left less xs rest is kept h =
       sym kept ∙ opened left less xs rest is ∙ ap (λ r. in_front xs (r >>= λ row. entries_behind row (rows_at entry close less))) h
@@ -82,14 +82,19 @@ module _ {A : Type 0} (entry : Option A → List ℕ → Result (A × List ℕ) 
       sym kept ∙ opened left less xs rest is ∙ ap (λ r. in_front xs (r >>= λ row. entries_behind row (rows_at entry close less))) h
 
   -- a row that was read, where one more item was put behind the others
-  pub row_put : {B : Type 0} (view : B → A) (left less : ℕ) (items more_items : List B) (rest : List ℕ) (x : B) (more : Bool) (behind : List ℕ) → left ≡ suc less → AreRead left (map view items) rest
-      → row_at entry close (last_of (map view items)) rest ≡ Ok (view x, more, behind) → more ≡ true → more_items ≡ items ++ x ∷ [] → AreRead less (map view more_items) behind
-  row_put view left less items more_items rest x more behind is kept h yes put =
+  pub row_put : {B : Type 0} (view : B → A) (left less : ℕ) (seen items more_items : List B) (rest : List ℕ) (x : B) (more : Bool) (behind : List ℕ) → seen ≡ items → left ≡ suc less → AreRead left (map view items) rest
+      → row_at entry close (last_of (map view seen)) rest ≡ Ok (view x, more, behind) → more ≡ true → more_items ≡ items ++ x ∷ [] → AreRead less (map view more_items) behind
+  row_put view left less seen items more_items rest x more behind same is kept h on put =
       subst (λ ys. AreRead less ys behind) (sym (ap (map view) put ∙ map_push view items x))
-      (row_read left less (map view items) rest (view x) behind is kept (h ∙ ap (row_answer (view x) behind) yes))
+      (row_read left less (map view items) rest (view x) behind is kept (ap (λ ys. row_at entry close (last_of (map view ys)) rest) (sym same) ∙ h ∙ ap (row_answer (view x) behind) on))
 
-  pub last_row_put : {B : Type 0} (view : B → A) (left less : ℕ) (items more_items : List B) (rest : List ℕ) (x : B) (more : Bool) (behind : List ℕ) → left ≡ suc less → AreRead left (map view items) rest
-      → row_at entry close (last_of (map view items)) rest ≡ Ok (view x, more, behind) → more ≡ false → more_items ≡ items ++ x ∷ [] → rows_at entry close most None text ≡ Ok (map view more_items, behind)
-  last_row_put view left less items more_items rest x more behind is kept h done put =
-      last_row_read left less (map view items) rest (view x) behind is kept (h ∙ ap (row_answer (view x) behind) done)
+  pub last_row_put : {B : Type 0} (view : B → A) (left less : ℕ) (seen items more_items : List B) (rest : List ℕ) (x : B) (more : Bool) (behind : List ℕ) → seen ≡ items → left ≡ suc less → AreRead left (map view items) rest
+      → row_at entry close (last_of (map view seen)) rest ≡ Ok (view x, more, behind) → more ≡ false → more_items ≡ items ++ x ∷ [] → rows_at entry close most None text ≡ Ok (map view more_items, behind)
+  last_row_put view left less seen items more_items rest x more behind same is kept h done put =
+      last_row_read left less (map view items) rest (view x) behind is kept (ap (λ ys. row_at entry close (last_of (map view ys)) rest) (sym same) ∙ h ∙ ap (row_answer (view x) behind) done)
       ∙ ap (list_answer behind) (sym (ap (map view) put ∙ map_push view items x))
+
+  pub row_stop : {B : Type 0} (view : B → A) (why : TextStop) (left less : ℕ) (seen items : List B) (rest : List ℕ) → seen ≡ items → left ≡ suc less → AreRead left (map view items) rest
+      → LeavesAs why (row_at entry close (last_of (map view seen)) rest) → LeavesAs why (rows_at entry close most None text)
+  row_stop view why left less seen items rest same is kept h =
+      rows_stop why left less (map view items) rest is kept (subst (λ ys. LeavesAs why (row_at entry close (last_of (map view ys)) rest)) same h)

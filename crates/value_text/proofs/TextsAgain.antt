@@ -20,9 +20,9 @@ use Rattle.value_text.specs.declared.form.Form.TheVariants.{Alone, Holding}
 use Rattle.value_text.specs.declared.form.Leaf.TheVariants.{Yes, No, Number, Double, Quoted}
 use Rattle.value_text.specs.declared.form.Container.TheVariants.{Struct, Map, Set, List as ListForm}
 use Rattle.value_text.specs.ValueText.{tree_text, tag_word, listed_fields, further_fields, listed_items, further_items, listed_pairs, further_pairs}
-use Rattle.value_text.specs.Fronts.{◌>>=◌, past, tag_at, quoted_at, integer_at}
+use Rattle.value_text.specs.Fronts.{◌>>=◌, behind_word, tag_at, quoted_at, integer_at}
 use Rattle.value_text.specs.Rows.{rest_behind, list_at}
-use Rattle.value_text.specs.Reading.{form_of, form_or, form_at, is_form_wanted, is_wanted, id_comes_behind, is_leaf_tag, bool_at, double_at, bytes_at, number_at, leaf_at, formed_at, value_by, value_at, deeper_at, struct_at, map_at, set_at, list_value_at, head_at, map_head_at, field_at, id_at, assigned_at, item_at, pair_at, has_level, comes_behind, last_key}
+use Rattle.value_text.specs.Reading.{form_of, form_or, form_at, is_form_wanted, is_wanted, id_comes_behind, is_leaf_tag, bool_at, double_at, bytes_at, number_text_at, leaf_at, formed_at, value_by, value_text_at, deeper_at, struct_text_at, map_at, set_at, list_value_at, head_text_at, map_head_at, field_text_at, id_at, assigned_at, item_at, pair_text_at, has_level, comes_behind, last_key}
 use Rattle.value_text.proofs.RowLaws.{AreChained, shown, shown_behind, list_again}
 use Rattle.value_text.proofs.GoodTrees.{IsGood, FieldFits, ItemFits, PairFits, chained_fields, chained_items, chained_pairs}
 use Rattle.value_text.proofs.QuotedLaws.{AreBytes, hex_again, quoted_again}
@@ -33,7 +33,7 @@ use Rattle.value_text.proofs.Shows.{show_field, show_pair, listed_fields_is, lis
 -- values of so many levels are read back, where so long a text may be read
 abbrev pub ReadsValues : ℕ → ℕ → Type 0
 ReadsValues most levels = (wanted : Option Tag) (x : Tree) (rest : List ℕ) → length (tree_text x) < most → IsGood levels x → is_wanted wanted (tag_of x) ≡ true
-    → value_at most levels wanted (tree_text x ++ rest) ≡ Ok (x, rest)
+    → value_text_at most levels wanted (tree_text x ++ rest) ≡ Ok (x, rest)
 
 -- a form that may stand there
 pub form_is : (wanted : Option Tag) (b : ℕ) (bs : List ℕ) (form : Form) → form_of b ≡ Some form → is_form_wanted wanted form ≡ true → form_at wanted (b ∷ bs) ≡ Ok form
@@ -41,15 +41,15 @@ unfolding form_at
 form_is wanted b bs form is allowed =
     ap (λ o. form_or o wanted (b ∷ bs)) is ∙ ap (λ t. cond t (Ok form) (Err (length (b ∷ bs)))) allowed
 
-pub by_form : (most levels : ℕ) (wanted : Option Tag) (text : List ℕ) (form : Form) → form_at wanted text ≡ Ok form → value_at most levels wanted text ≡ formed_at most (deeper_at most levels) wanted form text
-unfolding value_at value_by
+pub by_form : (most levels : ℕ) (wanted : Option Tag) (text : List ℕ) (form : Form) → form_at wanted text ≡ Ok form → value_text_at most levels wanted text ≡ formed_at most (deeper_at most levels) wanted form text
+unfolding value_text_at value_by
 by_form most levels wanted text form is = ap (λ r. r >>= λ f. formed_at most (deeper_at most levels) wanted f text) is
 
 -- a text that is a number's
-pub by_number : (most levels : ℕ) (wanted : Option Tag) (text : List ℕ) (x : Tree) (rest : List ℕ) → IsNumberAgain wanted text x rest → value_at most levels wanted text ≡ Ok (x, rest)
+pub by_number : (most levels : ℕ) (wanted : Option Tag) (text : List ℕ) (x : Tree) (rest : List ℕ) → IsNumberAgain wanted text x rest → value_text_at most levels wanted text ≡ Ok (x, rest)
 by_number most levels wanted text x rest is = by_form most levels wanted text (Alone Number) is.form ∙ is.number
 
-pub bool_again : (most levels : ℕ) (wanted : Option Tag) (truth : Bool) (rest : List ℕ) → is_wanted wanted tags.Bool ≡ true → value_at most levels wanted (tree_text (of_bool truth) ++ rest) ≡ Ok (of_bool truth, rest)
+pub bool_again : (most levels : ℕ) (wanted : Option Tag) (truth : Bool) (rest : List ℕ) → is_wanted wanted tags.Bool ≡ true → value_text_at most levels wanted (tree_text (of_bool truth) ++ rest) ≡ Ok (of_bool truth, rest)
 unfolding bool_at
 bool_again most levels wanted true rest e = by_form most levels wanted (codes "true" ++ rest) (Alone Yes) (form_is wanted 116 _ (Alone Yes) refl e)
 bool_again most levels wanted false rest e = by_form most levels wanted (codes "false" ++ rest) (Alone No) (form_is wanted 102 _ (Alone No) refl e)
@@ -57,14 +57,14 @@ bool_again most levels wanted false rest e = by_form most levels wanted (codes "
 eight_bytes : (n : ℕ) → AreBytes (to_be_bytes w64 n)
 eight_bytes n = (omega arith, (omega arith, (omega arith, (omega arith, (omega arith, (omega arith, (omega arith, (omega arith, tt))))))))
 
-pub double_again : (most levels : ℕ) (wanted : Option Tag) (n : ℕ) (rest : List ℕ) → n < 2 ^ 64 → is_wanted wanted tags.Double ≡ true → value_at most levels wanted (tree_text (of_double n) ++ rest) ≡ Ok (of_double n, rest)
+pub double_again : (most levels : ℕ) (wanted : Option Tag) (n : ℕ) (rest : List ℕ) → n < 2 ^ 64 → is_wanted wanted tags.Double ≡ true → value_text_at most levels wanted (tree_text (of_double n) ++ rest) ≡ Ok (of_double n, rest)
 unfolding double_at
 double_again most levels wanted n rest low e =
     by_form most levels wanted (tree_text (of_double n) ++ rest) (Alone Double) (form_is wanted 100 _ (Alone Double) refl e)
     ∙ ap (λ r. r >>= λ bytes. Ok (of_double (from_be_bytes w64 bytes.0), bytes.1)) (hex_again (to_be_bytes w64 n) rest (eight_bytes n))
     ∙ ap (λ m. Ok (of_double m, rest)) (from_be_bytes-to_be_bytes_8 n low)
 
-pub bytes_again : (most levels : ℕ) (wanted : Option Tag) (bytes rest : List ℕ) → length bytes < most → AreBytes bytes → is_wanted wanted tags.Bytes ≡ true → value_at most levels wanted (tree_text (of_bytes bytes) ++ rest) ≡ Ok (of_bytes bytes, rest)
+pub bytes_again : (most levels : ℕ) (wanted : Option Tag) (bytes rest : List ℕ) → length bytes < most → AreBytes bytes → is_wanted wanted tags.Bytes ≡ true → value_text_at most levels wanted (tree_text (of_bytes bytes) ++ rest) ≡ Ok (of_bytes bytes, rest)
 unfolding bytes_at
 bytes_again most levels wanted bytes rest room fits e =
     by_form most levels wanted (tree_text (of_bytes bytes) ++ rest) (Alone Quoted) (form_is wanted 34 _ (Alone Quoted) refl e)
@@ -84,24 +84,24 @@ id_again last z rest fits rises =
     ∙ ap (λ t. cond t (Ok (z, 61 ∷ rest)) (Err (length (61 ∷ rest)))) rises
 
 assigned_again : (most levels : ℕ) → ReadsValues most levels → (wanted : Option Tag) (x : Tree) (rest : List ℕ) → length (tree_text x) < most → IsGood levels x → is_wanted wanted (tag_of x) ≡ true
-    → assigned_at (value_at most levels) wanted (61 ∷ (tree_text x ++ rest)) ≡ Ok (x, rest)
+    → assigned_at (value_text_at most levels) wanted (61 ∷ (tree_text x ++ rest)) ≡ Ok (x, rest)
 unfolding assigned_at
 assigned_again most levels reads wanted x rest short good e = reads wanted x rest short good e
 
 pub field_again : (most levels : ℕ) → ReadsValues most levels → (last : Option (ℤ × Tree)) (f : ℤ × Tree) (rest : List ℕ) → FitsShort show_field (FieldFits levels) most last f
-    → field_at (value_at most levels) last (show_field f ++ rest) ≡ Ok (f, rest)
-unfolding field_at
+    → field_text_at (value_text_at most levels) last (show_field f ++ rest) ≡ Ok (f, rest)
+unfolding field_text_at
 field_again most levels reads last f rest fits =
     let short : length (tree_text f.1) < most = omega (arith, fits.1, length-append (decimal_of f.0) (61 ∷ tree_text f.1)) in
-    ap (λ t. id_at last t >>= λ id. assigned_at (value_at most levels) None id.1 >>= λ x. Ok ((id.0, x.0), x.1)) (append_assoc (decimal_of f.0) (61 ∷ tree_text f.1) rest)
-    ∙ ap (λ r. r >>= λ id. assigned_at (value_at most levels) None id.1 >>= λ x. Ok ((id.0, x.0), x.1)) (id_again last f.0 (tree_text f.1 ++ rest) fits.0.id fits.0.rises)
+    ap (λ t. id_at last t >>= λ id. assigned_at (value_text_at most levels) None id.1 >>= λ x. Ok ((id.0, x.0), x.1)) (append_assoc (decimal_of f.0) (61 ∷ tree_text f.1) rest)
+    ∙ ap (λ r. r >>= λ id. assigned_at (value_text_at most levels) None id.1 >>= λ x. Ok ((id.0, x.0), x.1)) (id_again last f.0 (tree_text f.1 ++ rest) fits.0.id fits.0.rises)
     ∙ ap (λ r. r >>= λ x. Ok ((f.0, x.0), x.1)) (assigned_again most levels reads None f.1 rest short fits.0.good refl)
 
 of_kind : (tag : Tag) (x : Tree) → tag_of x ≡ tag → is_wanted (Some tag) (tag_of x) ≡ true
 of_kind tag x is = subst (λ t. is_wanted (Some tag) t ≡ true) (sym is) (same_wanted tag)
 
 pub item_again : (most levels : ℕ) → ReadsValues most levels → (rising : Bool) (tag : Tag) (last : Option Tree) (x : Tree) (rest : List ℕ) → FitsShort tree_text (ItemFits rising tag levels) most last x
-    → item_at rising tag (value_at most levels) last (tree_text x ++ rest) ≡ Ok (x, rest)
+    → item_at rising tag (value_text_at most levels) last (tree_text x ++ rest) ≡ Ok (x, rest)
 unfolding item_at
 item_again most levels reads false tag last x rest fits =
     ap (λ r. r >>= λ y. Ok y) (reads (Some tag) x rest fits.1 fits.0.good (of_kind tag x fits.0.kind))
@@ -130,13 +130,13 @@ level_for levels (of_set tag items) le = inner_level levels (items_depth items) 
 level_for levels (of_list tag items) le = inner_level levels (items_depth items) le
 
 pub pair_again : (most levels : ℕ) → ReadsValues most levels → (key tag : Tag) (last : Option (Tree × Tree)) (p : Tree × Tree) (rest : List ℕ) → FitsShort show_pair (PairFits key tag levels) most last p
-    → pair_at levels key tag (value_at most levels) last (show_pair p ++ rest) ≡ Ok (p, rest)
-unfolding pair_at
+    → pair_text_at levels key tag (value_text_at most levels) last (show_pair p ++ rest) ≡ Ok (p, rest)
+unfolding pair_text_at
 pair_again most levels reads key tag last p rest fits =
     let key_short : length (tree_text p.0) < most = omega (arith, fits.1, length-append (tree_text p.0) (61 ∷ tree_text p.1)) in
     let short : length (tree_text p.1) < most = omega (arith, fits.1, length-append (tree_text p.0) (61 ∷ tree_text p.1)) in
     let level : has_level levels tag ≡ true = subst (λ t. has_level levels t ≡ true) fits.0.kind (level_for levels p.1 fits.0.good.depth) in
-    let value = value_at most levels in
+    let value = value_text_at most levels in
     ap (λ t. cond (has_level levels tag) (item_at true key value (last_key last) t) (Err (length t)) >>= λ k. assigned_at value (Some tag) k.1 >>= λ x. Ok ((k.0, x.0), x.1)) (append_assoc (tree_text p.0) (61 ∷ tree_text p.1) rest)
     ∙ ap (λ b. cond b (item_at true key value (last_key last) (tree_text p.0 ++ 61 ∷ (tree_text p.1 ++ rest))) (Err (length (tree_text p.0 ++ 61 ∷ (tree_text p.1 ++ rest)))) >>= λ k. assigned_at value (Some tag) k.1 >>= λ x. Ok ((k.0, x.0), x.1)) level
     ∙ ap (λ r. r >>= λ k. assigned_at value (Some tag) k.1 >>= λ x. Ok ((k.0, x.0), x.1))

@@ -18,9 +18,9 @@ use Rattle.value_text.specs.declared.form.Leaf.TheVariants.{Yes, No, Number, Dou
 use Rattle.value_text.specs.declared.form.Container.{Container}
 use Rattle.value_text.specs.declared.form.Container.TheVariants.{Struct, Map, Set, List as ListForm}
 use Rattle.value_text.specs.ValueText.{tree_text, tag_word, listed_fields, listed_items, listed_pairs}
-use Rattle.value_text.specs.Fronts.{◌>>=◌, past, tag_or, tag_among, all_tags, tag_at, integer_at, hex_at, quoted_at}
+use Rattle.value_text.specs.Fronts.{◌>>=◌, behind_word, tag_or, tag_among, all_tags, tag_at, integer_at, hex_at, quoted_at}
 use Rattle.value_text.specs.Rows.{list_at, found_or}
-use Rattle.value_text.specs.Reading.{form_of, form_or, form_at, is_form_wanted, is_wanted, greatest, has_bits, ranged, lettered, typed_at, number_at, bool_at, double_at, bytes_at, leaf_at, id_comes_behind, id_at, assigned_at, field_at, comes_behind, item_at, last_key, has_level, pair_at, struct_at, head_at, map_head_at, map_at, set_at, list_value_at, container_tag, container_at, formed_at, value_by, deeper_at, value_at}
+use Rattle.value_text.specs.Reading.{form_of, form_or, form_at, is_form_wanted, is_wanted, greatest, fits_bits, typed_as, lettered, typed_at, number_text_at, bool_at, double_at, bytes_at, leaf_at, id_comes_behind, id_at, assigned_at, field_text_at, comes_behind, item_at, last_key, has_level, pair_text_at, struct_text_at, head_text_at, map_head_at, map_at, set_at, list_value_at, container_tag, container_at, formed_at, value_by, deeper_at, value_text_at}
 use Rattle.value_text.proofs.Choices.{went_on, chosen, held, one_ok, had_to}
 use Rattle.value_text.proofs.RowLaws.{AreChained, shown, list_found}
 use Rattle.value_text.proofs.Numbers.{IsWithin, integer_found}
@@ -36,14 +36,14 @@ pub record IsFound (wanted : Option Tag) (levels : ℕ) (text : List ℕ) (x : T
   pub kind : is_wanted wanted (tag_of x) ≡ true
 
 abbrev pub FindsValues : ℕ → ℕ → Type 0
-FindsValues most levels = (wanted : Option Tag) (text : List ℕ) (x : Tree) (rest : List ℕ) → value_at most levels wanted text ≡ Ok (x, rest) → IsFound wanted levels text x rest
+FindsValues most levels = (wanted : Option Tag) (text : List ℕ) (x : Tree) (rest : List ℕ) → value_text_at most levels wanted text ≡ Ok (x, rest) → IsFound wanted levels text x rest
 
 -- bytes that had to stand there
-pub past_found : (word text rest : List ℕ) → past word text ≡ Ok rest → text ≡ word ++ rest
+pub past_found : (word text rest : List ℕ) → behind_word word text ≡ Ok rest → text ≡ word ++ rest
 past_found [] text rest e = one_ok text rest e
 past_found (c ∷ cs) [] rest e = absurd cc
 past_found (c ∷ cs) (b ∷ bs) rest e =
-    let test = held (eqb b c) (past cs bs) (length (b ∷ bs)) rest e in
+    let test = held (eqb b c) (behind_word cs bs) (length (b ∷ bs)) rest e in
     ap (λ x. x ∷ bs) (eqb-true b c test.0) ∙ ap (λ t. c ∷ t) (past_found cs bs rest test.1)
 
 form_or_found : (o : Option Form) (wanted : Option Tag) (text : List ℕ) (form : Form) → form_or o wanted text ≡ Ok form → is_form_wanted wanted form ≡ true
@@ -64,7 +64,7 @@ pub bool_found : (levels : ℕ) (wanted : Option Tag) (truth : Bool) (word text 
     → bool_at truth word text ≡ Ok (x, rest) → IsFound wanted levels text x rest
 unfolding bool_at
 bool_found levels wanted truth word text x rest is allowed e =
-    let read = went_on (past word text) (λ r. Ok (of_bool truth, r)) (x, rest) e in
+    let read = went_on (behind_word word text) (λ r. Ok (of_bool truth, r)) (x, rest) e in
     subst (λ (y : Tree × List ℕ). IsFound wanted levels text y.0 y.1) (one_ok (of_bool truth, read.0) (x, rest) read.2)
     (record {
       whole = past_found word text read.0 read.1 ∙ ap (λ w. w ++ read.0) (sym is);
@@ -76,11 +76,11 @@ one_tree : (y z : Tree) → Some y ≡ Some z → y ≡ z
 one_tree y z e = cc
 
 -- a number of a type, with its letter
-ranged_found : (wanted : Option Tag) (tag : Tag) (tree : ℤ → Tree) (bits : ℕ) (n : ℤ) (x : Tree) → ranged wanted tag tree bits n ≡ Some x → (is_wanted wanted tag ≡ true) × (has_bits bits n ≡ true) × (tree n ≡ x)
+ranged_found : (wanted : Option Tag) (tag : Tag) (tree : ℤ → Tree) (bits : ℕ) (n : ℤ) (x : Tree) → typed_as wanted tag tree bits n ≡ Some x → (is_wanted wanted tag ≡ true) × (fits_bits bits n ≡ true) × (tree n ≡ x)
 ranged_found wanted tag tree bits n x e =
-    elim (chosen (is_wanted wanted tag) (cond (has_bits bits n) (Some (tree n)) None) None (Some x) e) [
+    elim (chosen (is_wanted wanted tag) (cond (fits_bits bits n) (Some (tree n)) None) None (Some x) e) [
       | inl allowed ↦
-        elim (chosen (has_bits bits n) (Some (tree n)) None (Some x) allowed.1) [
+        elim (chosen (fits_bits bits n) (Some (tree n)) None (Some x) allowed.1) [
           | inl fits ↦ (allowed.0, fits.0, one_tree (tree n) x fits.1)
           | inr none ↦ absurd cc
         ]
@@ -112,22 +112,22 @@ record IsTyped (wanted : Option Tag) (letter : ℕ) (n : ℤ) (x : Tree) : Type 
 lettered_found : (wanted : Option Tag) (letter : ℕ) (n : ℤ) (x : Tree) → lettered wanted letter n ≡ Some x → IsTyped wanted letter n x
 unfolding lettered
 lettered_found wanted letter n x e =
-    elim (chosen (eqb letter 98) (ranged wanted tags.I8 of_i8 8 n) _ (Some x) e) [
+    elim (chosen (eqb letter 98) (typed_as wanted tags.I8 of_i8 8 n) _ (Some x) e) [
       | inl b ↦
         let is = ranged_found wanted tags.I8 of_i8 8 n x b.1 in
         subst (IsTyped wanted letter n) is.2 (record { text = ap (λ c. decimal_of n ++ c ∷ []) (sym (eqb-true letter 98 b.0)); good = λ levels. record { tagged = tt; in_order = tt; in_range = signed8 n (bits_tell 8 127 n refl is.1); depth = omega arith }; kind = is.0 })
       | inr not_b ↦
-        elim (chosen (eqb letter 115) (ranged wanted tags.I16 of_i16 16 n) _ (Some x) not_b.1) [
+        elim (chosen (eqb letter 115) (typed_as wanted tags.I16 of_i16 16 n) _ (Some x) not_b.1) [
           | inl s ↦
             let is = ranged_found wanted tags.I16 of_i16 16 n x s.1 in
             subst (IsTyped wanted letter n) is.2 (record { text = ap (λ c. decimal_of n ++ c ∷ []) (sym (eqb-true letter 115 s.0)); good = λ levels. record { tagged = tt; in_order = tt; in_range = signed16 n (bits_tell 16 32767 n refl is.1); depth = omega arith }; kind = is.0 })
           | inr not_s ↦
-            elim (chosen (eqb letter 105) (ranged wanted tags.I32 of_i32 32 n) _ (Some x) not_s.1) [
+            elim (chosen (eqb letter 105) (typed_as wanted tags.I32 of_i32 32 n) _ (Some x) not_s.1) [
               | inl i ↦
                 let is = ranged_found wanted tags.I32 of_i32 32 n x i.1 in
                 subst (IsTyped wanted letter n) is.2 (record { text = ap (λ c. decimal_of n ++ c ∷ []) (sym (eqb-true letter 105 i.0)); good = λ levels. record { tagged = tt; in_order = tt; in_range = signed32 n (bits_tell 32 2147483647 n refl is.1); depth = omega arith }; kind = is.0 })
               | inr not_i ↦
-                elim (chosen (eqb letter 108) (ranged wanted tags.I64 of_i64 64 n) None (Some x) not_i.1) [
+                elim (chosen (eqb letter 108) (typed_as wanted tags.I64 of_i64 64 n) None (Some x) not_i.1) [
                   | inl l ↦
                     let is = ranged_found wanted tags.I64 of_i64 64 n x l.1 in
                     subst (IsTyped wanted letter n) is.2 (record { text = ap (λ c. decimal_of n ++ c ∷ []) (sym (eqb-true letter 108 l.0)); good = λ levels. record { tagged = tt; in_order = tt; in_range = signed64 n (bits_tell 64 9223372036854775807 n refl is.1); depth = omega arith }; kind = is.0 })
@@ -153,8 +153,8 @@ most_is_enough (Some tags.I16) = (omega arith, omega arith)
 most_is_enough (Some tags.I32) = (omega arith, omega arith)
 most_is_enough (Some tag) = (omega arith, omega arith)
 
-pub number_found : (levels : ℕ) (wanted : Option Tag) (text : List ℕ) (x : Tree) (rest : List ℕ) → number_at wanted text ≡ Ok (x, rest) → IsFound wanted levels text x rest
-unfolding number_at
+pub number_found : (levels : ℕ) (wanted : Option Tag) (text : List ℕ) (x : Tree) (rest : List ℕ) → number_text_at wanted text ≡ Ok (x, rest) → IsFound wanted levels text x rest
+unfolding number_text_at
 number_found levels wanted text x rest e =
     let n = went_on (integer_at (greatest wanted) text) (λ n. typed_at wanted n.0 n.1) (x, rest) e in
     let enough = most_is_enough wanted in
@@ -172,7 +172,7 @@ eight_below bytes fits = omega (arith, fits 0, fits 1, fits 2, fits 3, fits 4, f
 pub double_found : (levels : ℕ) (wanted : Option Tag) (text : List ℕ) (x : Tree) (rest : List ℕ) → is_wanted wanted tags.Double ≡ true → double_at text ≡ Ok (x, rest) → IsFound wanted levels text x rest
 unfolding double_at
 double_found levels wanted text x rest allowed e =
-    let digits = went_on (past (codes "d") text) (λ digits. hex_at 8 digits >>= λ bytes. Ok (of_double (from_be_bytes w64 bytes.0), bytes.1)) (x, rest) e in
+    let digits = went_on (behind_word (codes "d") text) (λ digits. hex_at 8 digits >>= λ bytes. Ok (of_double (from_be_bytes w64 bytes.0), bytes.1)) (x, rest) e in
     let bytes = went_on (hex_at 8 digits.0) (λ bytes. Ok (of_double (from_be_bytes w64 bytes.0), bytes.1)) (x, rest) digits.2 in
     let hex = hex_found 8 digits.0 bytes.0.0 bytes.0.1 bytes.1 in
     let each = each_byte bytes.0.0 hex.2 in
@@ -187,7 +187,7 @@ double_found levels wanted text x rest allowed e =
 pub bytes_found : (most levels : ℕ) (wanted : Option Tag) (text : List ℕ) (x : Tree) (rest : List ℕ) → is_wanted wanted tags.Bytes ≡ true → bytes_at most text ≡ Ok (x, rest) → IsFound wanted levels text x rest
 unfolding bytes_at
 bytes_found most levels wanted text x rest allowed e =
-    let inside = went_on (past (34 ∷ []) text) (λ inside. quoted_at most inside >>= λ bytes. Ok (of_bytes bytes.0, bytes.1)) (x, rest) e in
+    let inside = went_on (behind_word (34 ∷ []) text) (λ inside. quoted_at most inside >>= λ bytes. Ok (of_bytes bytes.0, bytes.1)) (x, rest) e in
     let bytes = went_on (quoted_at most inside.0) (λ bytes. Ok (of_bytes bytes.0, bytes.1)) (x, rest) inside.2 in
     let quoted = quoted_found most inside.0 bytes.0.0 bytes.0.1 bytes.1 in
     subst (λ (y : Tree × List ℕ). IsFound wanted levels text y.0 y.1) (one_ok (of_bytes bytes.0.0, bytes.0.1) (x, rest) bytes.2)

@@ -17,10 +17,10 @@ abbrev pub stuck : {A : Type 0} → List ℕ → Result A ℕ
 stuck text = Err (length text)
 
 -- bytes that have to stand there
-abbrev pub past : List ℕ → List ℕ → Result (List ℕ) ℕ
-past [] text = Ok text
-past (c ∷ cs) [] = Err 0
-past (c ∷ cs) (b ∷ bs) = if b == c then past cs bs else stuck (b ∷ bs)
+abbrev pub behind_word : List ℕ → List ℕ → Result (List ℕ) ℕ
+behind_word [] text = Ok text
+behind_word (c ∷ cs) [] = Err 0
+behind_word (c ∷ cs) (b ∷ bs) = if b == c then behind_word cs bs else stuck (b ∷ bs)
 
 -- the tags, in the order of values
 abbrev pub all_tags : List Tag
@@ -34,7 +34,7 @@ tag_or (Err left) tag others = others left
 -- the word of one of some tags; where none stands there, the fault is where the word that went furthest ended
 abbrev pub tag_among : List Tag → ℕ → List ℕ → Result (Tag × List ℕ) ℕ
 tag_among [] furthest text = Err furthest
-tag_among (tag ∷ tags) furthest text = tag_or (past (tag_word tag) text) tag (λ left. tag_among tags (min left furthest) text)
+tag_among (tag ∷ tags) furthest text = tag_or (behind_word (tag_word tag) text) tag (λ left. tag_among tags (min left furthest) text)
 
 -- the word of a tag
 unfoldable pub tag_at : List ℕ → Result (Tag × List ℕ) ℕ
@@ -126,12 +126,12 @@ quoted_byte_at (b ∷ bs) =
     else stuck (b ∷ bs)
 
 -- a byte, and the bytes behind it
-abbrev pub with_byte : Option ℕ → List ℕ → (List ℕ → Result (List ℕ × List ℕ) ℕ) → Result (List ℕ × List ℕ) ℕ
-with_byte None rest others = Ok ([], rest)
-with_byte (Some b) rest others = others rest >>= λ more. Ok (b ∷ more.0, more.1)
+abbrev pub byte_before : Option ℕ → List ℕ → (List ℕ → Result (List ℕ × List ℕ) ℕ) → Result (List ℕ × List ℕ) ℕ
+byte_before None rest others = Ok ([], rest)
+byte_before (Some b) rest others = others rest >>= λ more. Ok (b ∷ more.0, more.1)
 
 -- the bytes behind a quotation mark, up to the mark that ends them. A byte takes one at least, so `most` may be any number above
 -- that of the bytes
 unfoldable pub quoted_at : ℕ → List ℕ → Result (List ℕ × List ℕ) ℕ
 quoted_at zero text = stuck text
-quoted_at (suc most) text = quoted_byte_at text >>= λ one. with_byte one.0 one.1 (quoted_at most)
+quoted_at (suc most) text = quoted_byte_at text >>= λ one. byte_before one.0 one.1 (quoted_at most)

@@ -17,7 +17,7 @@ use Rattle.value_text.specs.declared.form.Container.{Container}
 use Rattle.value_text.specs.declared.form.Container.TheVariants.{Struct, Map, Set, List as ListForm}
 use Rattle.value_text.specs.declared.form.Form.{Form}
 use Rattle.value_text.specs.declared.form.Form.TheVariants.{Alone, Holding}
-use Rattle.value_text.specs.Fronts.{◌>>=◌, stuck, past, tag_at, integer_at, hex_at, quoted_at, is_digit}
+use Rattle.value_text.specs.Fronts.{◌>>=◌, stuck, behind_word, tag_at, integer_at, hex_at, quoted_at, is_digit}
 use Rattle.value_text.specs.Rows.{found_or, list_at}
 
 -- the form that a value's first byte tells
@@ -80,18 +80,18 @@ greatest (Some I32) = 2147483647
 greatest wanted = 9223372036854775807
 
 -- whether a number has so many bits
-abbrev pub has_bits : ℕ → ℤ → Bool
-has_bits bits n = int_le (neg_ℤ (pos (2 ^ (bits - 1)))) n && int_le n (pos (2 ^ (bits - 1) - 1))
+abbrev pub fits_bits : ℕ → ℤ → Bool
+fits_bits bits n = int_le (neg_ℤ (pos (2 ^ (bits - 1)))) n && int_le n (pos (2 ^ (bits - 1) - 1))
 
 -- a number of a tag that may stand there
-abbrev pub ranged : Option Tag → Tag → (ℤ → Tree) → ℕ → ℤ → Option Tree
-ranged wanted tag tree bits n = if is_wanted wanted tag then (if has_bits bits n then Some (tree n) else None) else None
+abbrev pub typed_as : Option Tag → Tag → (ℤ → Tree) → ℕ → ℤ → Option Tree
+typed_as wanted tag tree bits n = if is_wanted wanted tag then (if fits_bits bits n then Some (tree n) else None) else None
 
 -- the number of the type that a letter tells
 unfoldable pub lettered : Option Tag → ℕ → ℤ → Option Tree
 lettered wanted letter n =
-    if letter == 98 then ranged wanted I8 of_i8 8 n else if letter == 115 then ranged wanted I16 of_i16 16 n
-    else if letter == 105 then ranged wanted I32 of_i32 32 n else if letter == 108 then ranged wanted I64 of_i64 64 n else None
+    if letter == 98 then typed_as wanted I8 of_i8 8 n else if letter == 115 then typed_as wanted I16 of_i16 16 n
+    else if letter == 105 then typed_as wanted I32 of_i32 32 n else if letter == 108 then typed_as wanted I64 of_i64 64 n else None
 
 -- a number with the letter of its type in front
 unfoldable pub typed_at : Option Tag → ℤ → List ℕ → Result (Tree × List ℕ) ℕ
@@ -99,24 +99,24 @@ typed_at wanted n [] = Err 0
 typed_at wanted n (b ∷ bs) = found_or (lettered wanted b n) (λ x. Ok (x, bs)) (stuck (b ∷ bs))
 
 -- an integer and the letter of its type
-unfoldable pub number_at : Option Tag → List ℕ → Result (Tree × List ℕ) ℕ
-number_at wanted text = integer_at (greatest wanted) text >>= λ n. typed_at wanted n.0 n.1
+unfoldable pub number_text_at : Option Tag → List ℕ → Result (Tree × List ℕ) ℕ
+number_text_at wanted text = integer_at (greatest wanted) text >>= λ n. typed_at wanted n.0 n.1
 
 -- a bool's word
 unfoldable pub bool_at : Bool → List ℕ → List ℕ → Result (Tree × List ℕ) ℕ
-bool_at truth word text = past word text >>= λ rest. Ok (of_bool truth, rest)
+bool_at truth word text = behind_word word text >>= λ rest. Ok (of_bool truth, rest)
 
 -- a double
 unfoldable pub double_at : List ℕ → Result (Tree × List ℕ) ℕ
 double_at text = do
-  digits ← past (codes "d") text
+  digits ← behind_word (codes "d") text
   bytes ← hex_at 8 digits
   Ok (of_double (from_be_bytes w64 bytes.0), bytes.1)
 
 -- bytes between quotation marks
 unfoldable pub bytes_at : ℕ → List ℕ → Result (Tree × List ℕ) ℕ
 bytes_at most text = do
-  inside ← past (quotation_mark ∷ []) text
+  inside ← behind_word (quotation_mark ∷ []) text
   bytes ← quoted_at most inside
   Ok (of_bytes bytes.0, bytes.1)
 
@@ -124,13 +124,13 @@ bytes_at most text = do
 abbrev pub leaf_at : ℕ → Option Tag → Leaf → List ℕ → Result (Tree × List ℕ) ℕ
 leaf_at most wanted Yes text = bool_at true (codes "true") text
 leaf_at most wanted No text = bool_at false (codes "false") text
-leaf_at most wanted Number text = number_at wanted text
+leaf_at most wanted Number text = number_text_at wanted text
 leaf_at most wanted Double text = double_at text
 leaf_at most wanted Quoted text = bytes_at most text
 
 -- `=` and a value
 unfoldable pub assigned_at : (Option Tag → List ℕ → Result (Tree × List ℕ) ℕ) → Option Tag → List ℕ → Result (Tree × List ℕ) ℕ
-assigned_at value wanted text = past (codes "=") text >>= λ rest. value wanted rest
+assigned_at value wanted text = behind_word (codes "=") text >>= λ rest. value wanted rest
 
 -- whether an id comes behind that of a last field
 abbrev pub id_comes_behind : Option (ℤ × Tree) → ℤ → Bool
@@ -141,8 +141,8 @@ unfoldable pub id_at : Option (ℤ × Tree) → List ℕ → Result (ℤ × List
 id_at last text = integer_at 32767 text >>= λ n. if id_comes_behind last n.0 then Ok n else stuck n.1
 
 -- a field behind a last one: its id and its value
-unfoldable pub field_at : (Option Tag → List ℕ → Result (Tree × List ℕ) ℕ) → Option (ℤ × Tree) → List ℕ → Result ((ℤ × Tree) × List ℕ) ℕ
-field_at value last text = do
+unfoldable pub field_text_at : (Option Tag → List ℕ → Result (Tree × List ℕ) ℕ) → Option (ℤ × Tree) → List ℕ → Result ((ℤ × Tree) × List ℕ) ℕ
+field_text_at value last text = do
   id ← id_at last text
   x ← assigned_at value None id.1
   Ok ((id.0, x.0), x.1)
@@ -172,61 +172,61 @@ abbrev pub last_key : Option (Tree × Tree) → Option Tree
 last_key last = found_or last (λ p. Some p.0) None
 
 -- a pair behind a last one: its key and its value. None can begin where there is no level for its value
-unfoldable pub pair_at : ℕ → Tag → Tag → (Option Tag → List ℕ → Result (Tree × List ℕ) ℕ) → Option (Tree × Tree) → List ℕ → Result ((Tree × Tree) × List ℕ) ℕ
-pair_at levels key tag value last text = do
+unfoldable pub pair_text_at : ℕ → Tag → Tag → (Option Tag → List ℕ → Result (Tree × List ℕ) ℕ) → Option (Tree × Tree) → List ℕ → Result ((Tree × Tree) × List ℕ) ℕ
+pair_text_at levels key tag value last text = do
   k ← if has_level levels tag then item_at true key value (last_key last) text else stuck text
   x ← assigned_at value (Some tag) k.1
   Ok ((k.0, x.0), x.1)
 
 -- a struct
-unfoldable pub struct_at : ℕ → (Option Tag → List ℕ → Result (Tree × List ℕ) ℕ) → List ℕ → Result (Tree × List ℕ) ℕ
-struct_at most value text = do
-  inside ← past (codes "{") text
-  fields ← list_at (field_at value) 125 most inside
+unfoldable pub struct_text_at : ℕ → (Option Tag → List ℕ → Result (Tree × List ℕ) ℕ) → List ℕ → Result (Tree × List ℕ) ℕ
+struct_text_at most value text = do
+  inside ← behind_word (codes "{") text
+  fields ← list_at (field_text_at value) 125 most inside
   Ok (of_struct (field_trees fields.0), fields.1)
 
 -- the word of a set or a list with its tag, and what opens its elements
-unfoldable pub head_at : List ℕ → List ℕ → Result (Tag × List ℕ) ℕ
-head_at word text = do
-  named ← past word text
+unfoldable pub head_text_at : List ℕ → List ℕ → Result (Tag × List ℕ) ℕ
+head_text_at word text = do
+  named ← behind_word word text
   tag ← tag_at named
-  rest ← past (codes ">[") tag.1
+  rest ← behind_word (codes ">[") tag.1
   Ok (tag.0, rest)
 
 -- the word of a map with its tags, and what opens its pairs
 unfoldable pub map_head_at : List ℕ → Result (Tag × Tag × List ℕ) ℕ
 map_head_at text = do
-  named ← past (codes "map<") text
+  named ← behind_word (codes "map<") text
   key ← tag_at named
-  next ← past (codes ",") key.1
+  next ← behind_word (codes ",") key.1
   tag ← tag_at next
-  rest ← past (codes ">{") tag.1
+  rest ← behind_word (codes ">{") tag.1
   Ok (key.0, tag.0, rest)
 
 -- a map
 unfoldable pub map_at : ℕ → ℕ → (Option Tag → List ℕ → Result (Tree × List ℕ) ℕ) → List ℕ → Result (Tree × List ℕ) ℕ
 map_at most levels value text = do
   head ← map_head_at text
-  pairs ← list_at (pair_at levels head.0 head.1 value) 125 most head.2
+  pairs ← list_at (pair_text_at levels head.0 head.1 value) 125 most head.2
   Ok (of_map head.0 head.1 (pair_trees pairs.0), pairs.1)
 
 -- a set
 unfoldable pub set_at : ℕ → (Option Tag → List ℕ → Result (Tree × List ℕ) ℕ) → List ℕ → Result (Tree × List ℕ) ℕ
 set_at most value text = do
-  head ← head_at (codes "set<") text
+  head ← head_text_at (codes "set<") text
   items ← list_at (item_at true head.0 value) 93 most head.1
   Ok (of_set head.0 (item_trees items.0), items.1)
 
 -- a list
 unfoldable pub list_value_at : ℕ → (Option Tag → List ℕ → Result (Tree × List ℕ) ℕ) → List ℕ → Result (Tree × List ℕ) ℕ
 list_value_at most value text = do
-  head ← head_at (codes "list<") text
+  head ← head_text_at (codes "list<") text
   items ← list_at (item_at false head.0 value) 93 most head.1
   Ok (of_list head.0 (item_trees items.0), items.1)
 
 -- a value that holds others; `value` reads those, and `levels` is how many levels they may open
 abbrev pub container_at : ℕ → ℕ → (Option Tag → List ℕ → Result (Tree × List ℕ) ℕ) → Container → List ℕ → Result (Tree × List ℕ) ℕ
-container_at most levels value Struct text = struct_at most value text
+container_at most levels value Struct text = struct_text_at most value text
 container_at most levels value Map text = map_at most levels value text
 container_at most levels value Set text = set_at most value text
 container_at most levels value ListForm text = list_value_at most value text
@@ -246,21 +246,21 @@ deeper_at most zero container text = stuck text
 deeper_at most (suc levels) container text = container_at most levels (value_by most (deeper_at most levels)) container text
 
 -- a value that is wanted there, where so many levels may be opened
-unfoldable pub value_at : ℕ → ℕ → Option Tag → List ℕ → Result (Tree × List ℕ) ℕ
-value_at most levels = value_by most (deeper_at most levels)
+unfoldable pub value_text_at : ℕ → ℕ → Option Tag → List ℕ → Result (Tree × List ℕ) ℕ
+value_text_at most levels = value_by most (deeper_at most levels)
 
 -- no text has more bytes
-abbrev pub most_bytes : ℕ
-most_bytes = 18446744073709551615
+abbrev pub most_rounds : ℕ
+most_rounds = 18446744073709551615
 
 -- how many levels a value that is read may have
-abbrev pub max_levels : ℕ
-max_levels = 64
+abbrev pub text_levels : ℕ
+text_levels = 64
 
 -- what was read and the place behind it, or the place of the fault, in a text of this length
-abbrev pub placed : ℕ → Result (Tree × List ℕ) ℕ → Result (Tree × ℕ) ℕ
-placed size (Ok x) = Ok (x.0, size - length x.1)
-placed size (Err left) = Err (size - left)
+abbrev pub at_place : ℕ → Result (Tree × List ℕ) ℕ → Result (Tree × ℕ) ℕ
+at_place size (Ok x) = Ok (x.0, size - length x.1)
+at_place size (Err left) = Err (size - left)
 
 -- this value, with this place behind it
 abbrev pub read_as : Tree → ℕ → Result (Tree × ℕ) ℕ
@@ -268,7 +268,7 @@ read_as x behind = Ok (x, behind)
 
 -- the value whose text stands at a place, and the place behind it; or the place of the fault
 abbrev pub front_at : List ℕ → ℕ → Result (Tree × ℕ) ℕ
-front_at text at = placed (length text) (value_at most_bytes max_levels None (drop at text))
+front_at text at = at_place (length text) (value_text_at most_rounds text_levels None (drop at text))
 
 -- a value behind which the text ends, or a fault at what stands there
 abbrev pub ended : ℕ → Result (Tree × ℕ) ℕ → Result Tree ℕ

@@ -5,12 +5,12 @@ use Rattle.thrift_value.specs.Tidy.{IsTidy}
 use Rattle.thrift_value.specs.Measures.{depth_of}
 use Rattle.thrift_value.specs.Ranges.{IsInRange}
 use Rattle.value_text.specs.ValueText.{tree_text}
-use Rattle.value_text.specs.Reading.{max_levels}
+use Rattle.value_text.specs.Reading.{text_levels}
 
 -- a tidy value of at most 64 levels
 pub record HasText (x : Tree) : Type 0 where
   pub tidy : IsTidy x
-  pub depth : depth_of x ≤ max_levels
+  pub depth : depth_of x ≤ text_levels
   pub in_range : IsInRange x
 
 -- this is the text of the value

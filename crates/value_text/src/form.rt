@@ -6,7 +6,7 @@ ghost use Rattle.value_text.specs.Fronts.{is_digit};
 ghost use Rattle.value_text.specs.Reading.{container_tag, form_at, form_of, greatest, has_level, is_form_wanted, is_leaf_tag, is_leaf_wanted, is_number_wanted, is_wanted};
 
 use crate::fronts::is_digit;
-use crate::stop::Stop;
+use crate::stop::TextStop;
 use thrift_value::Tag;
 
 /// A value that holds no others.
@@ -169,19 +169,19 @@ fn is_form_wanted(wanted: Option<Tag>, form: Form) -> bool
 
 /// The form of the value in front.
 #[tactic(auto, unfolding(crate::specs::Reading::form_at))]
-pub(crate) fn form_at(wanted: Option<Tag>, text: &[u8]) -> Result<Form, Stop>
+pub(crate) fn form_at(wanted: Option<Tag>, text: &[u8]) -> Result<Form, TextStop>
     ensures { Gives (λ form. form) result (form_at wanted text.now) }
 {
     let [byte, ..] = text else {
-        return Err(Stop::Left(0));
+        return Err(TextStop::Left(0));
     };
     let Some(form) = form_of(*byte) else {
-        return Err(Stop::Left(text.len()));
+        return Err(TextStop::Left(text.len()));
     };
     if is_form_wanted(wanted, form) {
         return Ok(form);
     }
-    Err(Stop::Left(text.len()))
+    Err(TextStop::Left(text.len()))
 }
 
 /// The greatest integer that may stand there.

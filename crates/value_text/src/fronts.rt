@@ -2,27 +2,27 @@
 //! it read and what is left behind it, or how many bytes are left at the fault.
 ghost use Rattle.std.specs.Prelude.{◌≡◌, ◌≤◌, ◌<◌, ◌+◌, ◌^◌, ◌&&◌, ◌≤ℤ◌, neg_ℤ, pos, nat_le, MatchOption, None, Some, IfOk, IfSome};
 ghost use Rattle.value_text.specs.Answering.{Gives};
-ghost use Rattle.value_text.specs.Fronts.{digits_at, escaped_at, hex_at, hex_byte_at, hexed_at, integer_at, is_digit, is_printable, nibble, nibble_at, past, positive_at, quoted_at, quoted_byte_at, tag_among, tag_at};
-ghost use Rattle.value_text.specs.Reading.{most_bytes};
+ghost use Rattle.value_text.specs.Fronts.{digits_at, escaped_at, hex_at, hex_byte_at, hexed_at, integer_at, is_digit, is_printable, nibble, nibble_at, behind_word, positive_at, quoted_at, quoted_byte_at, tag_among, tag_at};
+ghost use Rattle.value_text.specs.Reading.{most_rounds};
 ghost use Rattle.value_text.specs.Rows.{next_at, rest_behind};
 
 use crate::printer::word_of;
-use crate::stop::Stop;
+use crate::stop::TextStop;
 use std::alloc::Global;
 use thrift_value::Tag;
 
 /// What stands behind bytes that have to stand in front.
-pub(crate) fn past<'a>(word: &[u8], text: &'a [u8]) -> Result<&'a [u8], Stop>
-    ensures { Gives (λ rest. rest.now) result (past word.now text.now) }
+pub(crate) fn past<'a>(word: &[u8], text: &'a [u8]) -> Result<&'a [u8], TextStop>
+    ensures { Gives (λ rest. rest.now) result (behind_word word.now text.now) }
 {
     let [wanted, more @ ..] = word else {
         return Ok(text);
     };
     let [byte, rest @ ..] = text else {
-        return Err(Stop::Left(0));
+        return Err(TextStop::Left(0));
     };
     if *byte != *wanted {
-        return Err(Stop::Left(text.len()));
+        return Err(TextStop::Left(text.len()));
     }
     past(more, rest)
 }
@@ -41,7 +41,7 @@ pub(crate) fn rest_behind(wanted: u8, text: &[u8]) -> Option<&[u8]>
 }
 
 /// What stands behind a comma, so that more has to come, or behind the byte that closes.
-pub(crate) fn next_at(close: u8, text: &[u8]) -> Result<(bool, &[u8]), Stop>
+pub(crate) fn next_at(close: u8, text: &[u8]) -> Result<(bool, &[u8]), TextStop>
     ensures { Gives (λ r. (r.0, r.1.now)) result (next_at close text.now) }
 {
     if let Some(rest) = rest_behind(b',', text) {
@@ -50,7 +50,7 @@ pub(crate) fn next_at(close: u8, text: &[u8]) -> Result<(bool, &[u8]), Stop>
     if let Some(rest) = rest_behind(close, text) {
         return Ok((false, rest));
     }
-    Err(Stop::Left(text.len()))
+    Err(TextStop::Left(text.len()))
 }
 
 /// The word of one of some tags. Where there is none, the fault is the furthest one.
@@ -58,22 +58,22 @@ fn tag_among<'a>(
     tags: &[Tag],
     furthest: usize,
     text: &'a [u8],
-) -> Result<(Tag, &'a [u8]), Stop>
+) -> Result<(Tag, &'a [u8]), TextStop>
     ensures { Gives (λ r. (r.0, r.1.now)) result (tag_among tags.now furthest text.now) }
 {
     let [tag, more @ ..] = tags else {
-        return Err(Stop::Left(furthest));
+        return Err(TextStop::Left(furthest));
     };
     match past(word_of(*tag).as_bytes(), text) {
         Ok(rest) => Ok((*tag, rest)),
-        Err(Stop::Left(left)) => tag_among(more, left.min(furthest), text),
-        Err(Stop::NoMemory) => Err(Stop::NoMemory),
+        Err(TextStop::Left(left)) => tag_among(more, left.min(furthest), text),
+        Err(TextStop::NoMemory) => Err(TextStop::NoMemory),
     }
 }
 
 /// The word of a tag.
 #[tactic(auto, unfolding(crate::specs::Fronts::tag_at))]
-pub(crate) fn tag_at(text: &[u8]) -> Result<(Tag, &[u8]), Stop>
+pub(crate) fn tag_at(text: &[u8]) -> Result<(Tag, &[u8]), TextStop>
     ensures { Gives (λ r. (r.0, r.1.now)) result (tag_at text.now) }
 {
     let tags = [
@@ -107,7 +107,7 @@ fn is_first_digit(byte: u8) -> bool
 }
 
 /// The further digits of a number that is `n` so far, as long as it isn't above `most`. It recurses once a digit.
-fn digits_at(most: u64, n: u64, text: &[u8]) -> Result<(u64, &[u8]), Stop>
+fn digits_at(most: u64, n: u64, text: &[u8]) -> Result<(u64, &[u8]), TextStop>
     requires { n ≤ most }
     ensures exact { Gives (λ r. (r.0, r.1.now)) result (digits_at most n text.now) }
     ensures bound { IfOk result (λ r. r.0 ≤ most) }
@@ -120,29 +120,29 @@ fn digits_at(most: u64, n: u64, text: &[u8]) -> Result<(u64, &[u8]), Stop>
     }
     let next = u128::from(n) * 10 + u128::from(*byte - b'0');
     if next > u128::from(most) {
-        return Err(Stop::Left(text.len()));
+        return Err(TextStop::Left(text.len()));
     }
     digits_at(most, next as u64, rest)
 }
 
 /// A number from 1 up to `most`, with no zero in front.
-fn positive_at(most: u64, text: &[u8]) -> Result<(u64, &[u8]), Stop>
+fn positive_at(most: u64, text: &[u8]) -> Result<(u64, &[u8]), TextStop>
     requires { 9 ≤ most }
     ensures exact { Gives (λ r. (r.0, r.1.now)) result (positive_at most text.now) }
     ensures bound { IfOk result (λ r. r.0 ≤ most) }
 {
     let [byte, rest @ ..] = text else {
-        return Err(Stop::Left(0));
+        return Err(TextStop::Left(0));
     };
     if !is_first_digit(*byte) {
-        return Err(Stop::Left(text.len()));
+        return Err(TextStop::Left(text.len()));
     }
     digits_at(most, u64::from(*byte - b'0'), rest)
 }
 
 /// An integer up to `most`, or down to one below the negative of it.
 #[tactic(auto, unfolding(crate::specs::Fronts::integer_at))]
-pub(crate) fn integer_at(most: u64, text: &[u8]) -> Result<(i128, &[u8]), Stop>
+pub(crate) fn integer_at(most: u64, text: &[u8]) -> Result<(i128, &[u8]), TextStop>
     requires some { 9 ≤ most }
     requires low { most < 2 ^ 63 }
     ensures exact { Gives (λ r. (r.0, r.1.now)) result (integer_at most text.now) }
@@ -150,7 +150,7 @@ pub(crate) fn integer_at(most: u64, text: &[u8]) -> Result<(i128, &[u8]), Stop>
     ensures greatest { IfOk result (λ r. r.0 ≤ℤ pos most) }
 {
     let [byte, behind @ ..] = text else {
-        return Err(Stop::Left(0));
+        return Err(TextStop::Left(0));
     };
     if *byte == b'0' {
         return Ok((0, behind));
@@ -185,22 +185,22 @@ fn is_letter_digit(byte: u8) -> bool
 }
 
 /// A hexadecimal digit.
-fn nibble_at(text: &[u8]) -> Result<(u8, &[u8]), Stop>
+fn nibble_at(text: &[u8]) -> Result<(u8, &[u8]), TextStop>
     ensures exact { Gives (λ r. (r.0, r.1.now)) result (nibble_at text.now) }
     ensures bound { IfOk result (λ r. r.0 < 16) }
 {
     let [byte, rest @ ..] = text else {
-        return Err(Stop::Left(0));
+        return Err(TextStop::Left(0));
     };
     let Some(n) = nibble(*byte) else {
-        return Err(Stop::Left(text.len()));
+        return Err(TextStop::Left(text.len()));
     };
     Ok((n, rest))
 }
 
 /// A byte of two hexadecimal digits, the high half first.
 #[tactic(auto, unfolding(crate::specs::Fronts::hex_byte_at))]
-fn hex_byte_at(text: &[u8]) -> Result<(u8, &[u8]), Stop>
+fn hex_byte_at(text: &[u8]) -> Result<(u8, &[u8]), TextStop>
     ensures { Gives (λ r. (r.0, r.1.now)) result (hex_byte_at text.now) }
 {
     let (high, behind) = nibble_at(text)?;
@@ -210,7 +210,7 @@ fn hex_byte_at(text: &[u8]) -> Result<(u8, &[u8]), Stop>
 
 /// Eight bytes of two hexadecimal digits each.
 #[tactic(auto, unfolding(crate::specs::Fronts::hex_at))]
-pub(crate) fn eight_at(text: &[u8]) -> Result<([u8; 8], &[u8]), Stop>
+pub(crate) fn eight_at(text: &[u8]) -> Result<([u8; 8], &[u8]), TextStop>
     ensures { Gives (λ r. (r.0, r.1.now)) result (hex_at 8 text.now) }
 {
     let (a, rest) = hex_byte_at(text)?;
@@ -240,44 +240,44 @@ fn is_middle(n: u8) -> bool
 
 /// The two digits of a byte that doesn't stand as it is.
 #[tactic(auto, unfolding(crate::specs::Fronts::hexed_at))]
-fn hexed_at(text: &[u8]) -> Result<(Option<u8>, &[u8]), Stop>
+fn hexed_at(text: &[u8]) -> Result<(Option<u8>, &[u8]), TextStop>
     ensures { Gives (λ r. (r.0, r.1.now)) result (hexed_at text.now) }
 {
     let (high, behind) = nibble_at(text)?;
     if is_middle(high) {
-        return Err(Stop::Left(text.len()));
+        return Err(TextStop::Left(text.len()));
     }
     let (low, rest) = nibble_at(behind)?;
     let byte = high * 16 + low;
     if is_printable(byte) {
-        return Err(Stop::Left(behind.len()));
+        return Err(TextStop::Left(behind.len()));
     }
     Ok((Some(byte), rest))
 }
 
 /// What stands behind an escape mark.
 #[tactic(auto, unfolding(crate::specs::Fronts::escaped_at))]
-fn escaped_at(text: &[u8]) -> Result<(Option<u8>, &[u8]), Stop>
+fn escaped_at(text: &[u8]) -> Result<(Option<u8>, &[u8]), TextStop>
     ensures { Gives (λ r. (r.0, r.1.now)) result (escaped_at text.now) }
 {
     let [byte, rest @ ..] = text else {
-        return Err(Stop::Left(0));
+        return Err(TextStop::Left(0));
     };
     match *byte {
         b'"' => Ok((Some(b'"'), rest)),
         b'\\' => Ok((Some(b'\\'), rest)),
         b'x' => hexed_at(rest),
-        _ => Err(Stop::Left(text.len())),
+        _ => Err(TextStop::Left(text.len())),
     }
 }
 
 /// One byte behind a quotation mark, or the mark that ends them.
 #[tactic(auto, unfolding(crate::specs::Fronts::quoted_byte_at))]
-fn quoted_byte_at(text: &[u8]) -> Result<(Option<u8>, &[u8]), Stop>
+fn quoted_byte_at(text: &[u8]) -> Result<(Option<u8>, &[u8]), TextStop>
     ensures { Gives (λ r. (r.0, r.1.now)) result (quoted_byte_at text.now) }
 {
     let [byte, rest @ ..] = text else {
-        return Err(Stop::Left(0));
+        return Err(TextStop::Left(0));
     };
     if *byte == b'"' {
         return Ok((None, rest));
@@ -288,12 +288,12 @@ fn quoted_byte_at(text: &[u8]) -> Result<(Option<u8>, &[u8]), Stop>
     if is_printable(*byte) {
         return Ok((Some(*byte), rest));
     }
-    Err(Stop::Left(text.len()))
+    Err(TextStop::Left(text.len()))
 }
 
 /// The bytes behind a quotation mark, up to the mark that ends them.
-pub(crate) fn quoted_at(alloc: Global, text: &[u8]) -> Result<(Vec<u8>, &[u8]), Stop>
-    ensures { Gives (λ r. (r.0.items, r.1.now)) result (quoted_at most_bytes text.now) }
+pub(crate) fn quoted_at(alloc: Global, text: &[u8]) -> Result<(Vec<u8>, &[u8]), TextStop>
+    ensures { Gives (λ r. (r.0.items, r.1.now)) result (quoted_at most_rounds text.now) }
 {
     let mut bytes = Vec::new(alloc);
     let mut rest = text;
@@ -307,5 +307,5 @@ pub(crate) fn quoted_at(alloc: Global, text: &[u8]) -> Result<(Vec<u8>, &[u8]), 
             }
         }
     }
-    Err(Stop::NoMemory)
+    Err(TextStop::NoMemory)
 }

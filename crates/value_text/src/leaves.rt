@@ -3,18 +3,18 @@ ghost use Rattle.std.specs.Prelude.{◌≡◌, MatchOption, None, Some};
 ghost use Rattle.thrift_value.specs.Tree.{of_i8, of_i16, of_i32, of_i64};
 ghost use Rattle.thrift_value.specs.TreeOf.{tree_of};
 ghost use Rattle.value_text.specs.Answering.{Gives};
-ghost use Rattle.value_text.specs.Reading.{bool_at, bytes_at, double_at, leaf_at, lettered, most_bytes, number_at, ranged, typed_at};
+ghost use Rattle.value_text.specs.Reading.{bool_at, bytes_at, double_at, leaf_at, lettered, most_rounds, number_text_at, typed_as, typed_at};
 
 use crate::form::{Leaf, greatest, is_wanted};
 use crate::fronts::{eight_at, integer_at, past, quoted_at};
-use crate::stop::Stop;
+use crate::stop::TextStop;
 use std::alloc::Global;
 use thrift_value::{ByteText, Tag, Value};
 
 /// A number as one of 8 bits, where it is one and one may stand there.
 #[tactic(auto, using(thrift_value::proofs::Trees::tree_equations))]
 fn as_i8(wanted: Option<Tag>, n: i128) -> Option<Value>
-    ensures { MatchOption result (ranged wanted Tag.I8 of_i8 8 n ≡ None) (λ v. ranged wanted Tag.I8 of_i8 8 n ≡ Some (tree_of v)) }
+    ensures { MatchOption result (typed_as wanted Tag.I8 of_i8 8 n ≡ None) (λ v. typed_as wanted Tag.I8 of_i8 8 n ≡ Some (tree_of v)) }
 {
     if !is_wanted(wanted, Tag::I8) {
         return None;
@@ -28,7 +28,7 @@ fn as_i8(wanted: Option<Tag>, n: i128) -> Option<Value>
 /// A number as one of 16 bits.
 #[tactic(auto, using(thrift_value::proofs::Trees::tree_equations))]
 fn as_i16(wanted: Option<Tag>, n: i128) -> Option<Value>
-    ensures { MatchOption result (ranged wanted Tag.I16 of_i16 16 n ≡ None) (λ v. ranged wanted Tag.I16 of_i16 16 n ≡ Some (tree_of v)) }
+    ensures { MatchOption result (typed_as wanted Tag.I16 of_i16 16 n ≡ None) (λ v. typed_as wanted Tag.I16 of_i16 16 n ≡ Some (tree_of v)) }
 {
     if !is_wanted(wanted, Tag::I16) {
         return None;
@@ -42,7 +42,7 @@ fn as_i16(wanted: Option<Tag>, n: i128) -> Option<Value>
 /// A number as one of 32 bits.
 #[tactic(auto, using(thrift_value::proofs::Trees::tree_equations))]
 fn as_i32(wanted: Option<Tag>, n: i128) -> Option<Value>
-    ensures { MatchOption result (ranged wanted Tag.I32 of_i32 32 n ≡ None) (λ v. ranged wanted Tag.I32 of_i32 32 n ≡ Some (tree_of v)) }
+    ensures { MatchOption result (typed_as wanted Tag.I32 of_i32 32 n ≡ None) (λ v. typed_as wanted Tag.I32 of_i32 32 n ≡ Some (tree_of v)) }
 {
     if !is_wanted(wanted, Tag::I32) {
         return None;
@@ -56,7 +56,7 @@ fn as_i32(wanted: Option<Tag>, n: i128) -> Option<Value>
 /// A number as one of 64 bits.
 #[tactic(auto, using(thrift_value::proofs::Trees::tree_equations))]
 fn as_i64(wanted: Option<Tag>, n: i128) -> Option<Value>
-    ensures { MatchOption result (ranged wanted Tag.I64 of_i64 64 n ≡ None) (λ v. ranged wanted Tag.I64 of_i64 64 n ≡ Some (tree_of v)) }
+    ensures { MatchOption result (typed_as wanted Tag.I64 of_i64 64 n ≡ None) (λ v. typed_as wanted Tag.I64 of_i64 64 n ≡ Some (tree_of v)) }
 {
     if !is_wanted(wanted, Tag::I64) {
         return None;
@@ -83,22 +83,22 @@ fn lettered(wanted: Option<Tag>, letter: u8, n: i128) -> Option<Value>
 
 /// A number whose letter stands in front.
 #[tactic(auto, unfolding(crate::specs::Reading::typed_at))]
-fn typed_at(wanted: Option<Tag>, n: i128, text: &[u8]) -> Result<(Value, &[u8]), Stop>
+fn typed_at(wanted: Option<Tag>, n: i128, text: &[u8]) -> Result<(Value, &[u8]), TextStop>
     ensures { Gives (λ r. (tree_of r.0, r.1.now)) result (typed_at wanted n text.now) }
 {
     let [letter, rest @ ..] = text else {
-        return Err(Stop::Left(0));
+        return Err(TextStop::Left(0));
     };
     let Some(value) = lettered(wanted, *letter, n) else {
-        return Err(Stop::Left(text.len()));
+        return Err(TextStop::Left(text.len()));
     };
     Ok((value, rest))
 }
 
 /// An integer and the letter of its type.
-#[tactic(auto, unfolding(crate::specs::Reading::number_at))]
-fn number_at(wanted: Option<Tag>, text: &[u8]) -> Result<(Value, &[u8]), Stop>
-    ensures { Gives (λ r. (tree_of r.0, r.1.now)) result (number_at wanted text.now) }
+#[tactic(auto, unfolding(crate::specs::Reading::number_text_at))]
+fn number_at(wanted: Option<Tag>, text: &[u8]) -> Result<(Value, &[u8]), TextStop>
+    ensures { Gives (λ r. (tree_of r.0, r.1.now)) result (number_text_at wanted text.now) }
 {
     let (n, rest) = integer_at(greatest(wanted), text)?;
     typed_at(wanted, n, rest)
@@ -106,7 +106,7 @@ fn number_at(wanted: Option<Tag>, text: &[u8]) -> Result<(Value, &[u8]), Stop>
 
 /// A bool's word.
 #[tactic(auto, unfolding(crate::specs::Reading::bool_at), using(thrift_value::proofs::Trees::tree_equations))]
-fn bool_at<'a>(truth: bool, word: &[u8], text: &'a [u8]) -> Result<(Value, &'a [u8]), Stop>
+fn bool_at<'a>(truth: bool, word: &[u8], text: &'a [u8]) -> Result<(Value, &'a [u8]), TextStop>
     ensures { Gives (λ r. (tree_of r.0, r.1.now)) result (bool_at truth word.now text.now) }
 {
     let rest = past(word, text)?;
@@ -115,7 +115,7 @@ fn bool_at<'a>(truth: bool, word: &[u8], text: &'a [u8]) -> Result<(Value, &'a [
 
 /// A double.
 #[tactic(auto, unfolding(crate::specs::Reading::double_at), using(thrift_value::proofs::Trees::tree_equations))]
-fn double_at(text: &[u8]) -> Result<(Value, &[u8]), Stop>
+fn double_at(text: &[u8]) -> Result<(Value, &[u8]), TextStop>
     ensures { Gives (λ r. (tree_of r.0, r.1.now)) result (double_at text.now) }
 {
     let digits = past(b"d", text)?;
@@ -125,8 +125,8 @@ fn double_at(text: &[u8]) -> Result<(Value, &[u8]), Stop>
 
 /// Bytes between quotation marks.
 #[tactic(auto, unfolding(crate::specs::Reading::bytes_at), using(thrift_value::proofs::Trees::tree_equations))]
-fn bytes_at(alloc: Global, text: &[u8]) -> Result<(Value, &[u8]), Stop>
-    ensures { Gives (λ r. (tree_of r.0, r.1.now)) result (bytes_at most_bytes text.now) }
+fn bytes_at(alloc: Global, text: &[u8]) -> Result<(Value, &[u8]), TextStop>
+    ensures { Gives (λ r. (tree_of r.0, r.1.now)) result (bytes_at most_rounds text.now) }
 {
     let inside = past(b"\"", text)?;
     let (bytes, rest) = quoted_at(alloc, inside)?;
@@ -139,8 +139,8 @@ pub(crate) fn leaf_at(
     wanted: Option<Tag>,
     leaf: Leaf,
     text: &[u8],
-) -> Result<(Value, &[u8]), Stop>
-    ensures { Gives (λ r. (tree_of r.0, r.1.now)) result (leaf_at most_bytes wanted leaf text.now) }
+) -> Result<(Value, &[u8]), TextStop>
+    ensures { Gives (λ r. (tree_of r.0, r.1.now)) result (leaf_at most_rounds wanted leaf text.now) }
 {
     match leaf {
         Leaf::Yes => bool_at(true, b"true", text),

@@ -25,7 +25,7 @@ ghost use Rattle.value_text.specs.Texts.{HasText, IsTextAt, IsTextOf};
 ghost use Rattle.value_text.specs.ValueText.{tree_text};
 
 use crate::reading::value_at;
-use crate::stop::Stop;
+use crate::stop::TextStop;
 use std::alloc::{AllocError, Global};
 use thrift_value::Value;
 
@@ -81,8 +81,8 @@ fn front_in(alloc: Global, text: &[u8], at: usize) -> Result<(Value, usize), Tex
     let (_, front) = text.split_at(at);
     match value_at(alloc, 64, None, front) {
         Ok((value, rest)) => Ok((value, text.len().saturating_sub(rest.len()))),
-        Err(Stop::Left(left)) => Err(TextFault::At(text.len().saturating_sub(left))),
-        Err(Stop::NoMemory) => Err(TextFault::NoMemory),
+        Err(TextStop::Left(left)) => Err(TextFault::At(text.len().saturating_sub(left))),
+        Err(TextStop::NoMemory) => Err(TextFault::NoMemory),
     }
 }
 

@@ -1,28 +1,28 @@
 //! Reads values, level by level.
-ghost use Rattle.std.specs.Prelude.{◌≡◌, ◌++◌, ◌∷◌, [], map, MatchResult, OnOk, None, Some, Ok, Err, true};
+ghost use Rattle.std.specs.Prelude.{◌≡◌, ◌++◌, ◌∷◌, [], map, MatchResult, OnOk, None, Some, Ok, Err, true, int_lt};
 ghost use Rattle.thrift_value.specs.TreeOf.{tree_of, field_tree, pair_tree};
 ghost use Rattle.value_text.specs.Answering.{Gives};
-ghost use Rattle.value_text.specs.Reading.{assigned_at, comes_behind, container_at, deeper_at, field_at, id_at, id_comes_behind, item_at, last_key, list_value_at, map_at, most_bytes, pair_at, set_at, struct_at, value_at};
+ghost use Rattle.value_text.specs.Reading.{assigned_at, comes_behind, container_at, deeper_at, field_text_at, id_at, id_comes_behind, item_at, last_key, list_value_at, map_at, most_rounds, pair_text_at, set_at, struct_text_at, value_text_at};
 ghost use Rattle.value_text.specs.Rows.{last_of, list_at, row_at, rows_at};
 
 use crate::form::{Container, Form, form_at, has_level};
 use crate::fronts::{integer_at, next_at, past, rest_behind};
 use crate::heads::{head_at, map_head_at};
 use crate::leaves::leaf_at;
-use crate::stop::Stop;
+use crate::stop::TextStop;
 use std::alloc::{AllocError, Global};
 use thrift_value::{Fields, Items, Pairs, Tag, Value};
 
 /// The value in front, of the tag that is wanted or of any, where so many levels may be opened. It recurses once a level.
 #[cycle(reading)]
-#[tactic(auto, unfolding(crate::specs::Reading::value_at, crate::specs::Reading::value_by))]
+#[tactic(auto, unfolding(crate::specs::Reading::value_text_at, crate::specs::Reading::value_by))]
 pub(crate) fn value_at(
     alloc: Global,
     levels: u32,
     wanted: Option<Tag>,
     text: &[u8],
-) -> Result<(Value, &[u8]), Stop>
-    ensures { Gives (λ r. (tree_of r.0, r.1.now)) result (value_at most_bytes levels wanted text.now) }
+) -> Result<(Value, &[u8]), TextStop>
+    ensures { Gives (λ r. (tree_of r.0, r.1.now)) result (value_text_at most_rounds levels wanted text.now) }
 {
     let form = form_at(wanted, text)?;
     match form {
@@ -38,11 +38,11 @@ fn deeper_at(
     levels: u32,
     container: Container,
     text: &[u8],
-) -> Result<(Value, &[u8]), Stop>
-    ensures { Gives (λ r. (tree_of r.0, r.1.now)) result (deeper_at most_bytes levels container text.now) }
+) -> Result<(Value, &[u8]), TextStop>
+    ensures { Gives (λ r. (tree_of r.0, r.1.now)) result (deeper_at most_rounds levels container text.now) }
 {
     if levels == 0 {
-        return Err(Stop::Left(text.len()));
+        return Err(TextStop::Left(text.len()));
     }
     container_at(alloc, levels - 1, container, text)
 }
@@ -54,8 +54,8 @@ fn container_at(
     levels: u32,
     container: Container,
     text: &[u8],
-) -> Result<(Value, &[u8]), Stop>
-    ensures { Gives (λ r. (tree_of r.0, r.1.now)) result (container_at most_bytes levels (value_at most_bytes levels) container text.now) }
+) -> Result<(Value, &[u8]), TextStop>
+    ensures { Gives (λ r. (tree_of r.0, r.1.now)) result (container_at most_rounds levels (value_text_at most_rounds levels) container text.now) }
 {
     match container {
         Container::Struct => struct_at(alloc, levels, text),
@@ -76,8 +76,8 @@ fn keep<T: Drop>(list: &mut Vec<T>, item: T) -> Result<(), AllocError>
 /// An entry, with what stands behind it.
 fn joined<'a, T: Drop>(
     entry: T,
-    next: Result<(bool, &'a [u8]), Stop>,
-) -> Result<(T, bool, &'a [u8]), Stop>
+    next: Result<(bool, &'a [u8]), TextStop>,
+) -> Result<(T, bool, &'a [u8]), TextStop>
     ensures { MatchResult next.entry (λ n. result ≡ Ok (entry, n.0, n.1)) (λ stop. result ≡ Err stop) }
 {
     match next {
@@ -86,19 +86,27 @@ fn joined<'a, T: Drop>(
     }
 }
 
+/// Whether an id is below another.
+fn is_below(low: &i16, high: i16) -> bool
+    ensures { result ≡ int_lt low.now high }
+{
+    let low = *low;
+    low < high
+}
+
 /// Whether an id comes behind that of the last field.
 fn id_comes_behind(before: &[(i16, Value)], id: i16) -> bool
     ensures { result ≡ id_comes_behind (last_of (map field_tree before.now)) id }
 {
     match before.split_last() {
         None => true,
-        Some((last, _)) => last.0 < id,
+        Some((last, _)) => is_below(&last.0, id),
     }
 }
 
 /// The id of a field behind others.
 #[tactic(auto, unfolding(crate::specs::Reading::id_at))]
-fn id_at<'a>(before: &[(i16, Value)], text: &'a [u8]) -> Result<(i16, &'a [u8]), Stop>
+fn id_at<'a>(before: &[(i16, Value)], text: &'a [u8]) -> Result<(i16, &'a [u8]), TextStop>
     ensures { Gives (λ r. (r.0, r.1.now)) result (id_at (last_of (map field_tree before.now)) text.now) }
 {
     let (n, rest) = integer_at(0x7fff, text)?;
@@ -106,7 +114,7 @@ fn id_at<'a>(before: &[(i16, Value)], text: &'a [u8]) -> Result<(i16, &'a [u8]),
     if id_comes_behind(before, id) {
         return Ok((id, rest));
     }
-    Err(Stop::Left(rest.len()))
+    Err(TextStop::Left(rest.len()))
 }
 
 /// `=` and a value.
@@ -117,8 +125,8 @@ fn assigned_at(
     levels: u32,
     wanted: Option<Tag>,
     text: &[u8],
-) -> Result<(Value, &[u8]), Stop>
-    ensures { Gives (λ r. (tree_of r.0, r.1.now)) result (assigned_at (value_at most_bytes levels) wanted text.now) }
+) -> Result<(Value, &[u8]), TextStop>
+    ensures { Gives (λ r. (tree_of r.0, r.1.now)) result (assigned_at (value_text_at most_rounds levels) wanted text.now) }
 {
     let rest = past(b"=", text)?;
     value_at(alloc, levels, wanted, rest)
@@ -126,14 +134,14 @@ fn assigned_at(
 
 /// A field behind others: its id and its value.
 #[cycle(reading)]
-#[tactic(auto, unfolding(crate::specs::Reading::field_at))]
+#[tactic(auto, unfolding(crate::specs::Reading::field_text_at))]
 fn field_at<'a>(
     alloc: Global,
     levels: u32,
     before: &[(i16, Value)],
     text: &'a [u8],
-) -> Result<((i16, Value), &'a [u8]), Stop>
-    ensures { Gives (λ r. (field_tree r.0, r.1.now)) result (field_at (value_at most_bytes levels) (last_of (map field_tree before.now)) text.now) }
+) -> Result<((i16, Value), &'a [u8]), TextStop>
+    ensures { Gives (λ r. (field_tree r.0, r.1.now)) result (field_text_at (value_text_at most_rounds levels) (last_of (map field_tree before.now)) text.now) }
 {
     let (id, rest) = id_at(before, text)?;
     let (value, rest) = assigned_at(alloc, levels, None, rest)?;
@@ -147,9 +155,9 @@ fn field_row<'a>(
     levels: u32,
     before: &[(i16, Value)],
     text: &'a [u8],
-) -> Result<((i16, Value), bool, &'a [u8]), Stop>
+) -> Result<((i16, Value), bool, &'a [u8]), TextStop>
     ensures { Gives (λ r. (field_tree r.0, r.1, r.2.now)) result
-        (row_at (field_at (value_at most_bytes levels)) 125 (last_of (map field_tree before.now)) text.now) }
+        (row_at (field_text_at (value_text_at most_rounds levels)) 125 (last_of (map field_tree before.now)) text.now) }
 {
     let (entry, rest) = field_at(alloc, levels, before, text)?;
     joined(entry, next_at(b'}', rest))
@@ -161,9 +169,9 @@ fn field_rows(
     alloc: Global,
     levels: u32,
     text: &[u8],
-) -> Result<(Vec<(i16, Value)>, &[u8]), Stop>
+) -> Result<(Vec<(i16, Value)>, &[u8]), TextStop>
     ensures { Gives (λ r. (map field_tree r.0.items, r.1.now)) result
-        (rows_at (field_at (value_at most_bytes levels)) 125 most_bytes None text.now) }
+        (rows_at (field_text_at (value_text_at most_rounds levels)) 125 most_rounds None text.now) }
 {
     let mut made = Vec::new(alloc);
     let mut rest = text;
@@ -175,7 +183,7 @@ fn field_rows(
         }
         rest = behind;
     }
-    Err(Stop::NoMemory)
+    Err(TextStop::NoMemory)
 }
 
 /// The fields of a struct, if any, up to the brace that closes them.
@@ -184,9 +192,9 @@ fn fields_at(
     alloc: Global,
     levels: u32,
     text: &[u8],
-) -> Result<(Vec<(i16, Value)>, &[u8]), Stop>
+) -> Result<(Vec<(i16, Value)>, &[u8]), TextStop>
     ensures { Gives (λ r. (map field_tree r.0.items, r.1.now)) result
-        (list_at (field_at (value_at most_bytes levels)) 125 most_bytes text.now) }
+        (list_at (field_text_at (value_text_at most_rounds levels)) 125 most_rounds text.now) }
 {
     if let Some(rest) = rest_behind(b'}', text) {
         return Ok((Vec::new(alloc), rest));
@@ -196,9 +204,9 @@ fn fields_at(
 
 /// A struct.
 #[cycle(reading)]
-#[tactic(auto, unfolding(crate::specs::Reading::struct_at), using(thrift_value::proofs::Trees::tree_equations))]
-fn struct_at(alloc: Global, levels: u32, text: &[u8]) -> Result<(Value, &[u8]), Stop>
-    ensures { Gives (λ r. (tree_of r.0, r.1.now)) result (struct_at most_bytes (value_at most_bytes levels) text.now) }
+#[tactic(auto, unfolding(crate::specs::Reading::struct_text_at), using(thrift_value::proofs::Trees::tree_equations))]
+fn struct_at(alloc: Global, levels: u32, text: &[u8]) -> Result<(Value, &[u8]), TextStop>
+    ensures { Gives (λ r. (tree_of r.0, r.1.now)) result (struct_text_at most_rounds (value_text_at most_rounds levels) text.now) }
 {
     let inside = past(b"{", text)?;
     let (fields, rest) = fields_at(alloc, levels, inside)?;
@@ -225,9 +233,9 @@ fn item_at<'a>(
     tag: Tag,
     before: &[Value],
     text: &'a [u8],
-) -> Result<(Value, &'a [u8]), Stop>
+) -> Result<(Value, &'a [u8]), TextStop>
     ensures { Gives (λ r. (tree_of r.0, r.1.now)) result
-        (item_at rising tag (value_at most_bytes levels) (last_of (map tree_of before.now)) text.now) }
+        (item_at rising tag (value_text_at most_rounds levels) (last_of (map tree_of before.now)) text.now) }
 {
     let (value, rest) = value_at(alloc, levels, Some(tag), text)?;
     if !rising {
@@ -236,7 +244,7 @@ fn item_at<'a>(
     if comes_behind(before, &value) {
         return Ok((value, rest));
     }
-    Err(Stop::Left(rest.len()))
+    Err(TextStop::Left(rest.len()))
 }
 
 /// An element and what stands behind it.
@@ -248,9 +256,9 @@ fn item_row<'a>(
     tag: Tag,
     before: &[Value],
     text: &'a [u8],
-) -> Result<(Value, bool, &'a [u8]), Stop>
+) -> Result<(Value, bool, &'a [u8]), TextStop>
     ensures { Gives (λ r. (tree_of r.0, r.1, r.2.now)) result
-        (row_at (item_at rising tag (value_at most_bytes levels)) 93 (last_of (map tree_of before.now)) text.now) }
+        (row_at (item_at rising tag (value_text_at most_rounds levels)) 93 (last_of (map tree_of before.now)) text.now) }
 {
     let (entry, rest) = item_at(alloc, levels, rising, tag, before, text)?;
     joined(entry, next_at(b']', rest))
@@ -264,9 +272,9 @@ fn item_rows(
     rising: bool,
     tag: Tag,
     text: &[u8],
-) -> Result<(Vec<Value>, &[u8]), Stop>
+) -> Result<(Vec<Value>, &[u8]), TextStop>
     ensures { Gives (λ r. (map tree_of r.0.items, r.1.now)) result
-        (rows_at (item_at rising tag (value_at most_bytes levels)) 93 most_bytes None text.now) }
+        (rows_at (item_at rising tag (value_text_at most_rounds levels)) 93 most_rounds None text.now) }
 {
     let mut made = Vec::new(alloc);
     let mut rest = text;
@@ -279,7 +287,7 @@ fn item_rows(
         }
         rest = behind;
     }
-    Err(Stop::NoMemory)
+    Err(TextStop::NoMemory)
 }
 
 /// The elements of a set or a list, if any, up to the bracket that closes them.
@@ -290,9 +298,9 @@ fn items_at(
     rising: bool,
     tag: Tag,
     text: &[u8],
-) -> Result<(Vec<Value>, &[u8]), Stop>
+) -> Result<(Vec<Value>, &[u8]), TextStop>
     ensures { Gives (λ r. (map tree_of r.0.items, r.1.now)) result
-        (list_at (item_at rising tag (value_at most_bytes levels)) 93 most_bytes text.now) }
+        (list_at (item_at rising tag (value_text_at most_rounds levels)) 93 most_rounds text.now) }
 {
     if let Some(rest) = rest_behind(b']', text) {
         return Ok((Vec::new(alloc), rest));
@@ -303,8 +311,8 @@ fn items_at(
 /// A set.
 #[cycle(reading)]
 #[tactic(auto, unfolding(crate::specs::Reading::set_at), using(thrift_value::proofs::Trees::tree_equations))]
-fn set_at(alloc: Global, levels: u32, text: &[u8]) -> Result<(Value, &[u8]), Stop>
-    ensures { Gives (λ r. (tree_of r.0, r.1.now)) result (set_at most_bytes (value_at most_bytes levels) text.now) }
+fn set_at(alloc: Global, levels: u32, text: &[u8]) -> Result<(Value, &[u8]), TextStop>
+    ensures { Gives (λ r. (tree_of r.0, r.1.now)) result (set_at most_rounds (value_text_at most_rounds levels) text.now) }
 {
     let (tag, inside) = head_at(b"set<", text)?;
     let (items, rest) = items_at(alloc, levels, true, tag, inside)?;
@@ -314,8 +322,8 @@ fn set_at(alloc: Global, levels: u32, text: &[u8]) -> Result<(Value, &[u8]), Sto
 /// A list.
 #[cycle(reading)]
 #[tactic(auto, unfolding(crate::specs::Reading::list_value_at), using(thrift_value::proofs::Trees::tree_equations))]
-fn list_value_at(alloc: Global, levels: u32, text: &[u8]) -> Result<(Value, &[u8]), Stop>
-    ensures { Gives (λ r. (tree_of r.0, r.1.now)) result (list_value_at most_bytes (value_at most_bytes levels) text.now) }
+fn list_value_at(alloc: Global, levels: u32, text: &[u8]) -> Result<(Value, &[u8]), TextStop>
+    ensures { Gives (λ r. (tree_of r.0, r.1.now)) result (list_value_at most_rounds (value_text_at most_rounds levels) text.now) }
 {
     let (tag, inside) = head_at(b"list<", text)?;
     let (items, rest) = items_at(alloc, levels, false, tag, inside)?;
@@ -341,20 +349,20 @@ fn key_at<'a>(
     tag: Tag,
     before: &[(Value, Value)],
     text: &'a [u8],
-) -> Result<(Value, &'a [u8]), Stop>
+) -> Result<(Value, &'a [u8]), TextStop>
     ensures { Gives (λ r. (tree_of r.0, r.1.now)) result
-        (item_at true tag (value_at most_bytes levels) (last_key (last_of (map pair_tree before.now))) text.now) }
+        (item_at true tag (value_text_at most_rounds levels) (last_key (last_of (map pair_tree before.now))) text.now) }
 {
     let (value, rest) = value_at(alloc, levels, Some(tag), text)?;
     if key_comes_behind(before, &value) {
         return Ok((value, rest));
     }
-    Err(Stop::Left(rest.len()))
+    Err(TextStop::Left(rest.len()))
 }
 
 /// A pair behind others: its key and its value.
 #[cycle(reading)]
-#[tactic(auto, unfolding(crate::specs::Reading::pair_at))]
+#[tactic(auto, unfolding(crate::specs::Reading::pair_text_at))]
 fn pair_at<'a>(
     alloc: Global,
     levels: u32,
@@ -362,12 +370,12 @@ fn pair_at<'a>(
     tag: Tag,
     before: &[(Value, Value)],
     text: &'a [u8],
-) -> Result<((Value, Value), &'a [u8]), Stop>
+) -> Result<((Value, Value), &'a [u8]), TextStop>
     ensures { Gives (λ r. (pair_tree r.0, r.1.now)) result
-        (pair_at levels key tag (value_at most_bytes levels) (last_of (map pair_tree before.now)) text.now) }
+        (pair_text_at levels key tag (value_text_at most_rounds levels) (last_of (map pair_tree before.now)) text.now) }
 {
     if !has_level(levels, tag) {
-        return Err(Stop::Left(text.len()));
+        return Err(TextStop::Left(text.len()));
     }
     let (one, rest) = key_at(alloc, levels, key, before, text)?;
     let value = assigned_at(alloc, levels, Some(tag), rest);
@@ -377,8 +385,8 @@ fn pair_at<'a>(
 /// A key with its value.
 fn paired<'a>(
     key: Value,
-    value: Result<(Value, &'a [u8]), Stop>,
-) -> Result<((Value, Value), &'a [u8]), Stop>
+    value: Result<(Value, &'a [u8]), TextStop>,
+) -> Result<((Value, Value), &'a [u8]), TextStop>
     ensures { MatchResult value.entry (λ v. result ≡ Ok ((key, v.0), v.1)) (λ stop. result ≡ Err stop) }
 {
     match value {
@@ -396,9 +404,9 @@ fn pair_row<'a>(
     tag: Tag,
     before: &[(Value, Value)],
     text: &'a [u8],
-) -> Result<((Value, Value), bool, &'a [u8]), Stop>
+) -> Result<((Value, Value), bool, &'a [u8]), TextStop>
     ensures { Gives (λ r. (pair_tree r.0, r.1, r.2.now)) result
-        (row_at (pair_at levels key tag (value_at most_bytes levels)) 125 (last_of (map pair_tree before.now)) text.now) }
+        (row_at (pair_text_at levels key tag (value_text_at most_rounds levels)) 125 (last_of (map pair_tree before.now)) text.now) }
 {
     let (entry, rest) = pair_at(alloc, levels, key, tag, before, text)?;
     joined(entry, next_at(b'}', rest))
@@ -412,9 +420,9 @@ fn pair_rows(
     key: Tag,
     tag: Tag,
     text: &[u8],
-) -> Result<(Vec<(Value, Value)>, &[u8]), Stop>
+) -> Result<(Vec<(Value, Value)>, &[u8]), TextStop>
     ensures { Gives (λ r. (map pair_tree r.0.items, r.1.now)) result
-        (rows_at (pair_at levels key tag (value_at most_bytes levels)) 125 most_bytes None text.now) }
+        (rows_at (pair_text_at levels key tag (value_text_at most_rounds levels)) 125 most_rounds None text.now) }
 {
     let mut made = Vec::new(alloc);
     let mut rest = text;
@@ -426,7 +434,7 @@ fn pair_rows(
         }
         rest = behind;
     }
-    Err(Stop::NoMemory)
+    Err(TextStop::NoMemory)
 }
 
 /// The pairs of a map, if any, up to the brace that closes them.
@@ -437,9 +445,9 @@ fn pairs_at(
     key: Tag,
     tag: Tag,
     text: &[u8],
-) -> Result<(Vec<(Value, Value)>, &[u8]), Stop>
+) -> Result<(Vec<(Value, Value)>, &[u8]), TextStop>
     ensures { Gives (λ r. (map pair_tree r.0.items, r.1.now)) result
-        (list_at (pair_at levels key tag (value_at most_bytes levels)) 125 most_bytes text.now) }
+        (list_at (pair_text_at levels key tag (value_text_at most_rounds levels)) 125 most_rounds text.now) }
 {
     if let Some(rest) = rest_behind(b'}', text) {
         return Ok((Vec::new(alloc), rest));
@@ -450,8 +458,8 @@ fn pairs_at(
 /// A map.
 #[cycle(reading)]
 #[tactic(auto, unfolding(crate::specs::Reading::map_at), using(thrift_value::proofs::Trees::tree_equations))]
-fn map_at(alloc: Global, levels: u32, text: &[u8]) -> Result<(Value, &[u8]), Stop>
-    ensures { Gives (λ r. (tree_of r.0, r.1.now)) result (map_at most_bytes levels (value_at most_bytes levels) text.now) }
+fn map_at(alloc: Global, levels: u32, text: &[u8]) -> Result<(Value, &[u8]), TextStop>
+    ensures { Gives (λ r. (tree_of r.0, r.1.now)) result (map_at most_rounds levels (value_text_at most_rounds levels) text.now) }
 {
     let (key, tag, inside) = map_head_at(text)?;
     let (pairs, rest) = pairs_at(alloc, levels, key, tag, inside)?;

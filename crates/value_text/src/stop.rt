@@ -4,31 +4,31 @@ use std::alloc::{AllocError, AllocFailed};
 
 /// Why a reading stopped.
 #[derive(Clone, Copy)]
-pub(crate) enum Stop {
+pub(crate) enum TextStop {
     /// The text doesn't go on so. This many bytes are left, the one at fault in front.
     Left(usize),
     /// There was no room in memory.
     NoMemory,
 }
 
-impl From<AllocError> for Stop {
+impl From<AllocError> for TextStop {
     ghost use Rattle.std.specs.Prelude.{◌≡◌};
-    ghost use Rattle.value_text.specs.declared.stop.Stop.TheVariants.{NoMemory};
+    ghost use Rattle.value_text.specs.declared.stop.TextStop.TheVariants.{NoMemory};
 
     ghost from_gives = { λ _ stop. stop ≡ NoMemory };
 
     fn from(_error: AllocError) -> Self {
-        Stop::NoMemory
+        TextStop::NoMemory
     }
 }
 
-impl<T: Drop> From<AllocFailed<T>> for Stop {
+impl<T: Drop> From<AllocFailed<T>> for TextStop {
     ghost use Rattle.std.specs.Prelude.{◌≡◌};
-    ghost use Rattle.value_text.specs.declared.stop.Stop.TheVariants.{NoMemory};
+    ghost use Rattle.value_text.specs.declared.stop.TextStop.TheVariants.{NoMemory};
 
     ghost from_gives = { λ _ stop. stop ≡ NoMemory };
 
     fn from(_failed: AllocFailed<T>) -> Self {
-        Stop::NoMemory
+        TextStop::NoMemory
     }
 }

@@ -1,6 +1,6 @@
 use Rattle.std.proofs.Common.{◌+◌, ◌-◌, ◌*◌, map}
 use Rattle.thrift_value.specs.TreeOf.{tree_of, field_tree, pair_tree}
-use Rattle.value_text.specs.Reading.{field_at, item_at, most_bytes, pair_at, value_at}
+use Rattle.value_text.specs.Reading.{field_text_at, item_at, most_rounds, pair_text_at, value_text_at}
 use Rattle.value_text.proofs.RowSteps.{AreRead}
 use Rattle.value_text.proofs.reading.+reading.Given as goal
 
@@ -69,10 +69,10 @@ decreases-assigned_at l = 20 * l.levels + 5
 
 -- what was read, in front of what is read of the rest, is what is read of all
 abbrev pub invariant-field_rows-loop-step : goal.invariant-field_rows-loop-step
-invariant-field_rows-loop-step l = AreRead (field_at (value_at most_bytes l.levels)) 125 most_bytes l.text (most_bytes - l.step) (map field_tree l.made.items) l.rest
+invariant-field_rows-loop-step l = AreRead (field_text_at (value_text_at most_rounds l.levels)) 125 most_rounds l.text (most_rounds - l.step) (map field_tree l.made.items) l.rest
 
 abbrev pub invariant-item_rows-loop-step : goal.invariant-item_rows-loop-step
-invariant-item_rows-loop-step l = AreRead (item_at l.rising l.tag (value_at most_bytes l.levels)) 93 most_bytes l.text (most_bytes - l.step) (map tree_of l.made.items) l.rest
+invariant-item_rows-loop-step l = AreRead (item_at l.rising l.tag (value_text_at most_rounds l.levels)) 93 most_rounds l.text (most_rounds - l.step) (map tree_of l.made.items) l.rest
 
 abbrev pub invariant-pair_rows-loop-step : goal.invariant-pair_rows-loop-step
-invariant-pair_rows-loop-step l = AreRead (pair_at l.levels l.key l.tag (value_at most_bytes l.levels)) 125 most_bytes l.text (most_bytes - l.step) (map pair_tree l.made.items) l.rest
+invariant-pair_rows-loop-step l = AreRead (pair_text_at l.levels l.key l.tag (value_text_at most_rounds l.levels)) 125 most_rounds l.text (most_rounds - l.step) (map pair_tree l.made.items) l.rest
