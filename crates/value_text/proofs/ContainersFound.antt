@@ -28,7 +28,6 @@ use Rattle.value_text.proofs.QuotedLaws.{AreBytes, hex_found, quoted_found}
 use Rattle.value_text.proofs.GoodTrees.{IsGood, FieldFits, ItemFits, PairFits, good_fields, good_items, good_pairs}
 use Rattle.value_text.proofs.LeafLaws.{bits_tell, kind_is}
 use Rattle.value_text.proofs.Shows.{show_field, show_pair, listed_fields_is, listed_items_is, listed_pairs_is}
-
 use Rattle.value_text.proofs.ContainersAgain.{items_text, pairs_text}
 use Rattle.value_text.proofs.TextsFound.{IsFound, FindsValues, past_found, form_found, bool_found, number_found, double_found, bytes_found, signed16}
 
@@ -57,9 +56,10 @@ field_found most levels finds last text f rest e =
     let x = went_on (assigned_at (value_text_at most levels) None id.0.1) (λ x. Ok ((id.0.0, x.0), x.1)) (f, rest) id.2 in
     let first = id_found last text id.0.0 id.0.1 id.1 in
     let value = assigned_found most levels finds None id.0.1 x.0.0 x.0.1 x.1 in
-    subst (λ (y : (ℤ × Tree) × List ℕ). (text ≡ show_field y.0 ++ y.1) × FieldFits levels last y.0) (one_ok ((id.0.0, x.0.0), x.0.1) (f, rest) x.2)
-    (first.0 ∙ ap (λ t. decimal_of id.0.0 ++ t) (value.1 ∙ ap (λ t. 61 ∷ t) value.2.whole) ∙ sym (append_assoc (decimal_of id.0.0) (61 ∷ tree_text x.0.0) x.0.1),
-      record { rises = first.2; id = first.1; good = value.2.good })
+    subst (λ (y : (ℤ × Tree) × List ℕ). (text ≡ show_field y.0 ++ y.1) × FieldFits levels last y.0) (one_ok ((id.0.0, x.0.0), x.0.1) (f, rest) x.2) (
+      first.0 ∙ ap (λ t. decimal_of id.0.0 ++ t) (value.1 ∙ ap (λ t. 61 ∷ t) value.2.whole) ∙ sym (append_assoc (decimal_of id.0.0) (61 ∷ tree_text x.0.0) x.0.1),
+      record { rises = first.2; id = first.1; good = value.2.good },
+    )
 
 item_found : (most levels : ℕ) → FindsValues most levels → (rising : Bool) (tag : Tag) (last : Option Tree) (text : List ℕ) (x : Tree) (rest : List ℕ) → item_at rising tag (value_text_at most levels) last text ≡ Ok (x, rest)
     → (text ≡ tree_text x ++ rest) × ItemFits rising tag levels last x
@@ -86,9 +86,10 @@ pair_found most levels finds key tag last text p rest e =
     let room = held (has_level levels tag) (item_at true key value (last_key last) text) (length text) k.0 k.1 in
     let first = item_found most levels finds true key (last_key last) text k.0.0 k.0.1 room.1 in
     let second = assigned_found most levels finds (Some tag) k.0.1 x.0.0 x.0.1 x.1 in
-    subst (λ (y : (Tree × Tree) × List ℕ). (text ≡ show_pair y.0 ++ y.1) × PairFits key tag levels last y.0) (one_ok ((k.0.0, x.0.0), x.0.1) (p, rest) x.2)
-    (first.0 ∙ ap (λ t. tree_text k.0.0 ++ t) (second.1 ∙ ap (λ t. 61 ∷ t) second.2.whole) ∙ sym (append_assoc (tree_text k.0.0) (61 ∷ tree_text x.0.0) x.0.1),
-      record { rises = first.1.rises refl; key_kind = first.1.kind; kind = kind_is tag (tag_of x.0.0) second.2.kind; key_good = first.1.good; good = second.2.good })
+    subst (λ (y : (Tree × Tree) × List ℕ). (text ≡ show_pair y.0 ++ y.1) × PairFits key tag levels last y.0) (one_ok ((k.0.0, x.0.0), x.0.1) (p, rest) x.2) (
+      first.0 ∙ ap (λ t. tree_text k.0.0 ++ t) (second.1 ∙ ap (λ t. 61 ∷ t) second.2.whole) ∙ sym (append_assoc (tree_text k.0.0) (61 ∷ tree_text x.0.0) x.0.1),
+      record { rises = first.1.rises refl; key_kind = first.1.kind; kind = kind_is tag (tag_of x.0.0) second.2.kind; key_good = first.1.good; good = second.2.good },
+    )
 
 -- ---- values that hold others
 

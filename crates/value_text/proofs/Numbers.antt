@@ -97,20 +97,20 @@ digits_found most n [] m rest wide some within e =
 digits_found most n (b ∷ bs) m rest wide some within e =
     elim (chosen (is_digit b) (cond (leb (n * 10 + (b - 48)) most) (digits_at most (n * 10 + (b - 48)) bs) (Err (length (b ∷ bs)))) (Ok (n, b ∷ bs)) (Ok (m, rest)) e) [
       | inl so ↦
-        let range = and_parts (leb 48 b) (leb b 57) so.0 in
-        let low : 48 ≤ b = leb-true 48 b range.0 in
-        let high : b ≤ 57 = leb-true b 57 range.1 in
-        let next : ℕ = n * 10 + (b - 48) in
-        let fits = held (leb next most) (digits_at most next bs) (length (b ∷ bs)) (m, rest) so.1 in
-        let below : next ≤ most = leb-true next most fits.0 in
-        let more = digits_found most next bs m rest wide (omega arith) below fits.1 in
-        let half : next / 10 ≡ n = omega arith in
-        let last : 48 + next % 10 ≡ b = omega arith in
-        let digits : natural_of next ≡ natural_of n ++ b ∷ [] = decimal_step_wide next (omega arith) (omega arith) ∙ ap (λ k. natural_of k ++ (48 + next % 10) ∷ []) half ∙ ap (λ d. natural_of n ++ d ∷ []) last in
-        (sym (append_assoc (natural_of n) (b ∷ []) bs) ∙ ap (λ ds. ds ++ bs) (sym digits) ∙ more.0, more.1, more.2)
+          let range = and_parts (leb 48 b) (leb b 57) so.0 in
+          let low : 48 ≤ b = leb-true 48 b range.0 in
+          let high : b ≤ 57 = leb-true b 57 range.1 in
+          let next : ℕ = n * 10 + (b - 48) in
+          let fits = held (leb next most) (digits_at most next bs) (length (b ∷ bs)) (m, rest) so.1 in
+          let below : next ≤ most = leb-true next most fits.0 in
+          let more = digits_found most next bs m rest wide (omega arith) below fits.1 in
+          let half : next / 10 ≡ n = omega arith in
+          let last : 48 + next % 10 ≡ b = omega arith in
+          let digits : natural_of next ≡ natural_of n ++ b ∷ [] = decimal_step_wide next (omega arith) (omega arith) ∙ ap (λ k. natural_of k ++ (48 + next % 10) ∷ []) half ∙ ap (λ d. natural_of n ++ d ∷ []) last in
+          (sym (append_assoc (natural_of n) (b ∷ []) bs) ∙ ap (λ ds. ds ++ bs) (sym digits) ∙ more.0, more.1, more.2)
       | inr not ↦
-        let same = one_ok (n, b ∷ bs) (m, rest) not.1 in
-        subst (λ (x : ℕ × List ℕ). (natural_of n ++ b ∷ bs ≡ natural_of x.0 ++ x.1) × (0 < x.0) × (x.0 ≤ most)) same (refl, some, within)
+          let same = one_ok (n, b ∷ bs) (m, rest) not.1 in
+          subst (λ (x : ℕ × List ℕ). (natural_of n ++ b ∷ bs ≡ natural_of x.0 ++ x.1) × (0 < x.0) × (x.0 ≤ most)) same (refl, some, within)
     ]
 
 pub positive_found : (most : ℕ) (text : List ℕ) (m : ℕ) (rest : List ℕ) → most < 2 ^ 64 → 9 ≤ most → positive_at most text ≡ Ok (m, rest)
@@ -134,24 +134,24 @@ integer_found most [] z rest wide wider e = absurd cc
 integer_found most (b ∷ bs) z rest wide wider e =
     elim (chosen (eqb b 48) (Ok (pos 0, bs)) (cond (eqb b 45) (positive_at (suc most) bs >>= λ n. Ok (neg_ℤ (pos n.0), n.1)) (positive_at most (b ∷ bs) >>= λ n. Ok (pos n.0, n.1))) (Ok (z, rest)) e) [
       | inl zero_in_front ↦
-        let same = one_ok (pos 0, bs) (z, rest) zero_in_front.1 in
-        let text_is : b ∷ bs ≡ natural_of 0 ++ bs = ap (λ c. c ∷ bs) (eqb-true b 48 zero_in_front.0) ∙ ap (λ ds. ds ++ bs) (sym (decimal_digit 0 (omega arith))) in
-        subst (λ (x : ℤ × List ℕ). (b ∷ bs ≡ decimal_of x.0 ++ x.1) × IsWithin most x.0) same (text_is, omega arith)
+          let same = one_ok (pos 0, bs) (z, rest) zero_in_front.1 in
+          let text_is : b ∷ bs ≡ natural_of 0 ++ bs = ap (λ c. c ∷ bs) (eqb-true b 48 zero_in_front.0) ∙ ap (λ ds. ds ++ bs) (sym (decimal_digit 0 (omega arith))) in
+          subst (λ (x : ℤ × List ℕ). (b ∷ bs ≡ decimal_of x.0 ++ x.1) × IsWithin most x.0) same (text_is, omega arith)
       | inr other ↦
-        elim (chosen (eqb b 45) (positive_at (suc most) bs >>= λ n. Ok (neg_ℤ (pos n.0), n.1)) (positive_at most (b ∷ bs) >>= λ n. Ok (pos n.0, n.1)) (Ok (z, rest)) other.1) [
-          | inl minus ↦
-            let size = went_on (positive_at (suc most) bs) (λ n. Ok (neg_ℤ (pos n.0), n.1)) (z, rest) minus.1 in
-            let found = positive_found (suc most) bs size.0.0 size.0.1 (omega arith) (omega arith) size.1 in
-            let same = one_ok (neg_ℤ (pos size.0.0), size.0.1) (z, rest) size.2 in
-            let less : size.0.0 ≡ suc (size.0.0 - 1) = omega (arith, found.1) in
-            let text_is : b ∷ bs ≡ decimal_of (negsuc (size.0.0 - 1)) ++ size.0.1 = ap (λ c. c ∷ bs) (eqb-true b 45 minus.0) ∙ ap (λ t. 45 ∷ t) (found.0 ∙ ap (λ k. natural_of k ++ size.0.1) less) in
-            let number : negsuc (size.0.0 - 1) ≡ neg_ℤ (pos size.0.0) = sym (ap (λ k. neg_ℤ (pos k)) less) in
-            subst (λ (x : ℤ × List ℕ). (b ∷ bs ≡ decimal_of x.0 ++ x.1) × IsWithin most x.0) same
-            (subst (λ y. (b ∷ bs ≡ decimal_of y ++ size.0.1) × IsWithin most y) number (text_is, omega (arith, found.1, found.2)))
-          | inr plus ↦
-            let size = went_on (positive_at most (b ∷ bs)) (λ n. Ok (pos n.0, n.1)) (z, rest) plus.1 in
-            let found = positive_found most (b ∷ bs) size.0.0 size.0.1 (omega arith) wider size.1 in
-            let same = one_ok (pos size.0.0, size.0.1) (z, rest) size.2 in
-            subst (λ (x : ℤ × List ℕ). (b ∷ bs ≡ decimal_of x.0 ++ x.1) × IsWithin most x.0) same (found.0, found.2)
-        ]
+          elim (chosen (eqb b 45) (positive_at (suc most) bs >>= λ n. Ok (neg_ℤ (pos n.0), n.1)) (positive_at most (b ∷ bs) >>= λ n. Ok (pos n.0, n.1)) (Ok (z, rest)) other.1) [
+            | inl minus ↦
+                let size = went_on (positive_at (suc most) bs) (λ n. Ok (neg_ℤ (pos n.0), n.1)) (z, rest) minus.1 in
+                let found = positive_found (suc most) bs size.0.0 size.0.1 (omega arith) (omega arith) size.1 in
+                let same = one_ok (neg_ℤ (pos size.0.0), size.0.1) (z, rest) size.2 in
+                let less : size.0.0 ≡ suc (size.0.0 - 1) = omega (arith, found.1) in
+                let text_is : b ∷ bs ≡ decimal_of (negsuc (size.0.0 - 1)) ++ size.0.1 = ap (λ c. c ∷ bs) (eqb-true b 45 minus.0) ∙ ap (λ t. 45 ∷ t) (found.0 ∙ ap (λ k. natural_of k ++ size.0.1) less) in
+                let number : negsuc (size.0.0 - 1) ≡ neg_ℤ (pos size.0.0) = sym (ap (λ k. neg_ℤ (pos k)) less) in
+                subst (λ (x : ℤ × List ℕ). (b ∷ bs ≡ decimal_of x.0 ++ x.1) × IsWithin most x.0) same
+                (subst (λ y. (b ∷ bs ≡ decimal_of y ++ size.0.1) × IsWithin most y) number (text_is, omega (arith, found.1, found.2)))
+            | inr plus ↦
+                let size = went_on (positive_at most (b ∷ bs)) (λ n. Ok (pos n.0, n.1)) (z, rest) plus.1 in
+                let found = positive_found most (b ∷ bs) size.0.0 size.0.1 (omega arith) wider size.1 in
+                let same = one_ok (pos size.0.0, size.0.1) (z, rest) size.2 in
+                subst (λ (x : ℤ × List ℕ). (b ∷ bs ≡ decimal_of x.0 ++ x.1) × IsWithin most x.0) same (found.0, found.2)
+          ]
     ]

@@ -36,14 +36,14 @@ pub nibble_again : (n : ℕ) → n < 16 → nibble (hex_digit_of n) ≡ Some n
 nibble_again n low =
     elim (cases_lt n 10) [
       | inl small ↦
-        ap nibble (hex_digit_is n low ∙ ap (λ b. cond b (48 + n) (87 + n)) (lt-ltb n 10 small))
-        ∙ ap (λ b. cond b (Some (48 + n - 48)) (cond (leb 97 (48 + n) && leb (48 + n) 102) (Some (48 + n - 87)) None)) (and_from _ _ (le-leb 48 (48 + n) (omega arith)) (le-leb (48 + n) 57 (omega arith)))
-        ∙ ap Some (let same : 48 + n - 48 ≡ n = omega arith in same)
+          ap nibble (hex_digit_is n low ∙ ap (λ b. cond b (48 + n) (87 + n)) (lt-ltb n 10 small))
+          ∙ ap (λ b. cond b (Some (48 + n - 48)) (cond (leb 97 (48 + n) && leb (48 + n) 102) (Some (48 + n - 87)) None)) (and_from _ _ (le-leb 48 (48 + n) (omega arith)) (le-leb (48 + n) 57 (omega arith)))
+          ∙ ap Some (let same : 48 + n - 48 ≡ n = omega arith in same)
       | inr great ↦
-        ap nibble (hex_digit_is n low ∙ ap (λ b. cond b (48 + n) (87 + n)) (le-ltb n 10 great))
-        ∙ ap (λ b. cond b (Some (87 + n - 48)) (cond (leb 97 (87 + n) && leb (87 + n) 102) (Some (87 + n - 87)) None)) (and_right (leb 48 (87 + n)) (leb (87 + n) 57) (lt-leb (87 + n) 57 (omega arith)))
-        ∙ ap (λ b. cond b (Some (87 + n - 87)) None) (and_from _ _ (le-leb 97 (87 + n) (omega arith)) (le-leb (87 + n) 102 (omega arith)))
-        ∙ ap Some (let same : 87 + n - 87 ≡ n = omega arith in same)
+          ap nibble (hex_digit_is n low ∙ ap (λ b. cond b (48 + n) (87 + n)) (le-ltb n 10 great))
+          ∙ ap (λ b. cond b (Some (87 + n - 48)) (cond (leb 97 (87 + n) && leb (87 + n) 102) (Some (87 + n - 87)) None)) (and_right (leb 48 (87 + n)) (leb (87 + n) 57) (lt-leb (87 + n) 57 (omega arith)))
+          ∙ ap (λ b. cond b (Some (87 + n - 87)) None) (and_from _ _ (le-leb 97 (87 + n) (omega arith)) (le-leb (87 + n) 102 (omega arith)))
+          ∙ ap Some (let same : 87 + n - 87 ≡ n = omega arith in same)
     ]
 
 some_is : (n m : ℕ) → Some n ≡ Some m → n ≡ m
@@ -53,23 +53,23 @@ pub nibble_found : (b n : ℕ) → nibble b ≡ Some n → (b ≡ hex_digit_of n
 nibble_found b n e =
     elim (chosen (is_digit b) (Some (b - 48)) (cond (leb 97 b && leb b 102) (Some (b - 87)) None) (Some n) e) [
       | inl digit ↦
-        let range = and_parts (leb 48 b) (leb b 57) digit.0 in
-        let low : 48 ≤ b = leb-true 48 b range.0 in
-        let high : b ≤ 57 = leb-true b 57 range.1 in
-        let same : b - 48 ≡ n = some_is (b - 48) n digit.1 in
-        let byte : 48 + n ≡ b = omega arith in
-        (sym (hex_digit_is n (omega arith) ∙ ap (λ t. cond t (48 + n) (87 + n)) (lt-ltb n 10 (omega arith)) ∙ byte), omega arith)
+          let range = and_parts (leb 48 b) (leb b 57) digit.0 in
+          let low : 48 ≤ b = leb-true 48 b range.0 in
+          let high : b ≤ 57 = leb-true b 57 range.1 in
+          let same : b - 48 ≡ n = some_is (b - 48) n digit.1 in
+          let byte : 48 + n ≡ b = omega arith in
+          (sym (hex_digit_is n (omega arith) ∙ ap (λ t. cond t (48 + n) (87 + n)) (lt-ltb n 10 (omega arith)) ∙ byte), omega arith)
       | inr other ↦
-        elim (chosen (leb 97 b && leb b 102) (Some (b - 87)) None (Some n) other.1) [
-          | inl letter ↦
-            let range = and_parts (leb 97 b) (leb b 102) letter.0 in
-            let low : 97 ≤ b = leb-true 97 b range.0 in
-            let high : b ≤ 102 = leb-true b 102 range.1 in
-            let same : b - 87 ≡ n = some_is (b - 87) n letter.1 in
-            let byte : 87 + n ≡ b = omega arith in
-            (sym (hex_digit_is n (omega arith) ∙ ap (λ t. cond t (48 + n) (87 + n)) (le-ltb n 10 (omega arith)) ∙ byte), omega arith)
-          | inr none ↦ absurd cc
-        ]
+          elim (chosen (leb 97 b && leb b 102) (Some (b - 87)) None (Some n) other.1) [
+            | inl letter ↦
+                let range = and_parts (leb 97 b) (leb b 102) letter.0 in
+                let low : 97 ≤ b = leb-true 97 b range.0 in
+                let high : b ≤ 102 = leb-true b 102 range.1 in
+                let same : b - 87 ≡ n = some_is (b - 87) n letter.1 in
+                let byte : 87 + n ≡ b = omega arith in
+                (sym (hex_digit_is n (omega arith) ∙ ap (λ t. cond t (48 + n) (87 + n)) (le-ltb n 10 (omega arith)) ∙ byte), omega arith)
+            | inr none ↦ absurd cc
+          ]
     ]
 
 nibble_at_again : (n : ℕ) (rest : List ℕ) → n < 16 → nibble_at (hex_digit_of n ∷ rest) ≡ Ok (n, rest)
@@ -200,14 +200,14 @@ quoted_byte_again b rest low =
     elim (cases_eq b 34) [
       | inl mark ↦ ap (λ t. quoted_byte_at (t ++ rest)) (written_mark b mark) ∙ escaped_mark rest ∙ ap (λ k. Ok (Some k, rest)) (sym mark)
       | inr no_mark ↦
-        elim (cases_eq b 92) [
-          | inl escape ↦ ap (λ t. quoted_byte_at (t ++ rest)) (written_escape b escape) ∙ escaped_escape rest ∙ ap (λ k. Ok (Some k, rest)) (sym escape)
-          | inr no_escape ↦
-            elim (cases_Bool (is_printable b)) [
-              | inl so ↦ ap (λ t. quoted_byte_at (t ++ rest)) (written_other b no_mark no_escape ∙ ap (λ t. cond t (b ∷ []) (written_digits b)) so) ∙ plain_byte b rest no_mark no_escape so
-              | inr not ↦ ap (λ t. quoted_byte_at (t ++ rest)) (written_other b no_mark no_escape ∙ ap (λ t. cond t (b ∷ []) (written_digits b)) not) ∙ escaped_by_digits b rest low not
-            ]
-        ]
+          elim (cases_eq b 92) [
+            | inl escape ↦ ap (λ t. quoted_byte_at (t ++ rest)) (written_escape b escape) ∙ escaped_escape rest ∙ ap (λ k. Ok (Some k, rest)) (sym escape)
+            | inr no_escape ↦
+                elim (cases_Bool (is_printable b)) [
+                  | inl so ↦ ap (λ t. quoted_byte_at (t ++ rest)) (written_other b no_mark no_escape ∙ ap (λ t. cond t (b ∷ []) (written_digits b)) so) ∙ plain_byte b rest no_mark no_escape so
+                  | inr not ↦ ap (λ t. quoted_byte_at (t ++ rest)) (written_other b no_mark no_escape ∙ ap (λ t. cond t (b ∷ []) (written_digits b)) not) ∙ escaped_by_digits b rest low not
+                ]
+          ]
     ]
 
 -- what was read as one byte, or as the mark that ends them, stands there
@@ -245,12 +245,12 @@ escaped_found (b ∷ bs) found rest e =
     elim (chosen (eqb b 34) (Ok (Some 34, bs)) (cond (eqb b 92) (Ok (Some 92, bs)) (cond (eqb b 120) (hexed_at bs) (Err (length (b ∷ bs))))) (Ok (found, rest)) e) [
       | inl mark ↦ subst (λ (x : Option ℕ × List ℕ). IsOneByte (92 ∷ (b ∷ bs)) x.0 x.1) (one_ok (Some 34, bs) (found, rest) mark.1) (ap (λ c. 92 ∷ (c ∷ bs)) (eqb-true b 34 mark.0), omega arith)
       | inr other ↦
-        elim (chosen (eqb b 92) (Ok (Some 92, bs)) (cond (eqb b 120) (hexed_at bs) (Err (length (b ∷ bs)))) (Ok (found, rest)) other.1) [
-          | inl escape ↦ subst (λ (x : Option ℕ × List ℕ). IsOneByte (92 ∷ (b ∷ bs)) x.0 x.1) (one_ok (Some 92, bs) (found, rest) escape.1) (ap (λ c. 92 ∷ (c ∷ bs)) (eqb-true b 92 escape.0), omega arith)
-          | inr more ↦
-            let digits = held (eqb b 120) (hexed_at bs) (length (b ∷ bs)) (found, rest) more.1 in
-            subst (λ c. IsOneByte (92 ∷ (c ∷ bs)) found rest) (sym (eqb-true b 120 digits.0)) (hexed_found bs found rest digits.1)
-        ]
+          elim (chosen (eqb b 92) (Ok (Some 92, bs)) (cond (eqb b 120) (hexed_at bs) (Err (length (b ∷ bs)))) (Ok (found, rest)) other.1) [
+            | inl escape ↦ subst (λ (x : Option ℕ × List ℕ). IsOneByte (92 ∷ (b ∷ bs)) x.0 x.1) (one_ok (Some 92, bs) (found, rest) escape.1) (ap (λ c. 92 ∷ (c ∷ bs)) (eqb-true b 92 escape.0), omega arith)
+            | inr more ↦
+                let digits = held (eqb b 120) (hexed_at bs) (length (b ∷ bs)) (found, rest) more.1 in
+                subst (λ c. IsOneByte (92 ∷ (c ∷ bs)) found rest) (sym (eqb-true b 120 digits.0)) (hexed_found bs found rest digits.1)
+          ]
     ]
 
 quoted_byte_found : (text : List ℕ) (found : Option ℕ) (rest : List ℕ) → quoted_byte_at text ≡ Ok (found, rest) → IsOneByte text found rest
@@ -260,15 +260,15 @@ quoted_byte_found (b ∷ bs) found rest e =
     elim (chosen (eqb b 34) (Ok (None, bs)) (cond (eqb b 92) (escaped_at bs) (cond (is_printable b) (Ok (Some b, bs)) (Err (length (b ∷ bs))))) (Ok (found, rest)) e) [
       | inl mark ↦ subst (λ (x : Option ℕ × List ℕ). IsOneByte (b ∷ bs) x.0 x.1) (one_ok (None, bs) (found, rest) mark.1) (ap (λ c. c ∷ bs) (eqb-true b 34 mark.0))
       | inr other ↦
-        elim (chosen (eqb b 92) (escaped_at bs) (cond (is_printable b) (Ok (Some b, bs)) (Err (length (b ∷ bs)))) (Ok (found, rest)) other.1) [
-          | inl escape ↦ subst (λ c. IsOneByte (c ∷ bs) found rest) (sym (eqb-true b 92 escape.0)) (escaped_found bs found rest escape.1)
-          | inr more ↦
-            let plain = held (is_printable b) (Ok (Some b, bs)) (length (b ∷ bs)) (found, rest) more.1 in
-            let range = and_parts (leb 32 b) (leb b 126) plain.0 in
-            let high : b ≤ 126 = leb-true b 126 range.1 in
-            let written : quoted_byte b ≡ b ∷ [] = written_other b (eqb-false b 34 other.0) (eqb-false b 92 more.0) ∙ ap (λ t. cond t (b ∷ []) (written_digits b)) plain.0 in
-            subst (λ (x : Option ℕ × List ℕ). IsOneByte (b ∷ bs) x.0 x.1) (one_ok (Some b, bs) (found, rest) plain.1) (ap (λ t. t ++ bs) (sym written), omega arith)
-        ]
+          elim (chosen (eqb b 92) (escaped_at bs) (cond (is_printable b) (Ok (Some b, bs)) (Err (length (b ∷ bs)))) (Ok (found, rest)) other.1) [
+            | inl escape ↦ subst (λ c. IsOneByte (c ∷ bs) found rest) (sym (eqb-true b 92 escape.0)) (escaped_found bs found rest escape.1)
+            | inr more ↦
+                let plain = held (is_printable b) (Ok (Some b, bs)) (length (b ∷ bs)) (found, rest) more.1 in
+                let range = and_parts (leb 32 b) (leb b 126) plain.0 in
+                let high : b ≤ 126 = leb-true b 126 range.1 in
+                let written : quoted_byte b ≡ b ∷ [] = written_other b (eqb-false b 34 other.0) (eqb-false b 92 more.0) ∙ ap (λ t. cond t (b ∷ []) (written_digits b)) plain.0 in
+                subst (λ (x : Option ℕ × List ℕ). IsOneByte (b ∷ bs) x.0 x.1) (one_ok (Some b, bs) (found, rest) plain.1) (ap (λ t. t ++ bs) (sym written), omega arith)
+          ]
     ]
 
 -- bytes between quotation marks, behind the first one

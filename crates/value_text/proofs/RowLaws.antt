@@ -28,8 +28,8 @@ next_found close text more rest e =
     elim (was_found (rest_behind 44 text) (λ r. Ok (true, r)) (found_or (rest_behind close text) (λ r. Ok (false, r)) (Err (length text))) (Ok (more, rest)) e) [
       | inl comma ↦ subst (λ (x : Bool × List ℕ). text ≡ next_byte close x.0 ∷ x.1) (one_ok (true, comma.0) (more, rest) comma.2) (rest_found 44 text comma.0 comma.1)
       | inr other ↦
-        let closing = had_to (rest_behind close text) (λ r. Ok (false, r)) (length text) (more, rest) other.1 in
-        subst (λ (x : Bool × List ℕ). text ≡ next_byte close x.0 ∷ x.1) (one_ok (false, closing.0) (more, rest) closing.2) (rest_found close text closing.0 closing.1)
+          let closing = had_to (rest_behind close text) (λ r. Ok (false, r)) (length text) (more, rest) other.1 in
+          subst (λ (x : Bool × List ℕ). text ≡ next_byte close x.0 ∷ x.1) (one_ok (false, closing.0) (more, rest) closing.2) (rest_found close text closing.0 closing.1)
     ]
 
 next_comma : (close : ℕ) (rest : List ℕ) → next_at close (44 ∷ rest) ≡ Ok (true, rest)
@@ -76,10 +76,14 @@ module _ {A : Type 0} (show : A → List ℕ) where
         let read = went_on (others (Some x) after) (λ more. Ok (x ∷ more.0, more.1)) (xs, rest) e in
         let rows = found (Some x) after read.0.0 read.0.1 read.1 in
         let same = one_ok (x ∷ read.0.0, read.0.1) (xs, rest) read.2 in
-        subst (λ (y : List A × List ℕ). AreRows last text y.0 y.1) same
-        (x, rows.0 ∷ rows.1, ap (λ zs. x ∷ zs) rows.2,
+        subst (λ (y : List A × List ℕ). AreRows last text y.0 y.1) same (
+          x,
+          rows.0 ∷ rows.1,
+          ap (λ zs. x ∷ zs) rows.2,
           is ∙ ap (λ t. show x ++ 44 ∷ t) rows.3 ∙ ap (λ t. show x ++ 44 ∷ t) (sym (append_assoc (show rows.0) (shown_behind rows.1) (close ∷ read.0.1))),
-          fits, (rows.4, rows.5))
+          fits,
+          (rows.4, rows.5),
+        )
     behind_entry others found last text x false after xs rest is fits e =
         let same = one_ok (x ∷ [], after) (xs, rest) e in
         subst (λ (y : List A × List ℕ). AreRows last text y.0 y.1) same (x, [], refl, is, fits, tt)
@@ -99,9 +103,10 @@ module _ {A : Type 0} (show : A → List ℕ) where
         (first.0 ∙ ap (λ t. show one.0.0 ++ t) behind) first.1 (ap (λ r. entries_behind r (rows_at entry close most)) same ∙ row.2)
 
     as_shown : (last : Option A) (text : List ℕ) (xs : List A) (rest : List ℕ) → AreRows last text xs rest → AreShown last text xs rest
-    as_shown last text xs rest rows =
-        (rows.3 ∙ sym (append_assoc (show rows.0) (shown_behind rows.1) (close ∷ rest)) ∙ ap (λ ys. shown ys ++ close ∷ rest) (sym rows.2),
-          subst (λ ys. AreChained Fits last ys) (sym rows.2) (rows.4, rows.5))
+    as_shown last text xs rest rows = (
+      rows.3 ∙ sym (append_assoc (show rows.0) (shown_behind rows.1) (close ∷ rest)) ∙ ap (λ ys. shown ys ++ close ∷ rest) (sym rows.2),
+      subst (λ ys. AreChained Fits last ys) (sym rows.2) (rows.4, rows.5),
+    )
 
     pub list_found : ReadsEntry → (most : ℕ) (text : List ℕ) (xs : List A) (rest : List ℕ) → list_at entry close most text ≡ Ok (xs, rest) → AreShown None text xs rest
     list_found reads most text xs rest e =

@@ -75,15 +75,17 @@ module _ {A : Type 0} (show : A → List ℕ) (Fits : Option A → A → Type 0)
 
   roomy_behind : (last : Option A) (xs : List A) → length (shown_behind show xs) < most → AreChained Fits last xs → AreChained FitsShort last xs
   roomy_behind last [] short h = tt
-  roomy_behind last (x ∷ xs) short h =
-      ((h.0, omega (arith, short, length-append (show x) (shown_behind show xs))),
-        roomy_behind (Some x) xs (omega (arith, short, length-append (show x) (shown_behind show xs))) h.1)
+  roomy_behind last (x ∷ xs) short h = (
+    (h.0, omega (arith, short, length-append (show x) (shown_behind show xs))),
+    roomy_behind (Some x) xs (omega (arith, short, length-append (show x) (shown_behind show xs))) h.1,
+  )
 
   pub roomy : (last : Option A) (xs : List A) → length (shown show xs) < most → AreChained Fits last xs → AreChained FitsShort last xs
   roomy last [] short h = tt
-  roomy last (x ∷ xs) short h =
-      ((h.0, omega (arith, short, length-append (show x) (shown_behind show xs))),
-        roomy_behind (Some x) xs (omega (arith, short, length-append (show x) (shown_behind show xs))) h.1)
+  roomy last (x ∷ xs) short h = (
+    (h.0, omega (arith, short, length-append (show x) (shown_behind show xs))),
+    roomy_behind (Some x) xs (omega (arith, short, length-append (show x) (shown_behind show xs))) h.1,
+  )
 
 -- a byte takes one between quotation marks, at least
 byte_shown : (b : ℕ) → 0 < length (quoted_byte b)

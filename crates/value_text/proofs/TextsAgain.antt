@@ -111,7 +111,7 @@ item_again most levels reads true tag last x rest fits =
 
 -- there is a level for the tag of each value of so many levels
 leaf_level : (levels : ℕ) → cond (eqb levels 0) true true ≡ true
-leaf_level levels = elim (cases_Bool (eqb levels 0)) [ | inl e ↦ ap (λ t. cond t true true) e | inr e ↦ ap (λ t. cond t true true) e ]
+leaf_level levels = elim (cases_Bool (eqb levels 0)) [ inl e ↦ ap (λ t. cond t true true) e | inr e ↦ ap (λ t. cond t true true) e ]
 
 inner_level : (levels depth : ℕ) → depth + 1 ≤ levels → cond (eqb levels 0) false true ≡ true
 inner_level levels depth le = ap (λ t. cond t false true) (ne_eqb levels 0 (λ e. omega (arith, le, e)))

@@ -80,10 +80,10 @@ ranged_found : (wanted : Option Tag) (tag : Tag) (tree : ℤ → Tree) (bits : �
 ranged_found wanted tag tree bits n x e =
     elim (chosen (is_wanted wanted tag) (cond (fits_bits bits n) (Some (tree n)) None) None (Some x) e) [
       | inl allowed ↦
-        elim (chosen (fits_bits bits n) (Some (tree n)) None (Some x) allowed.1) [
-          | inl fits ↦ (allowed.0, fits.0, one_tree (tree n) x fits.1)
-          | inr none ↦ absurd cc
-        ]
+          elim (chosen (fits_bits bits n) (Some (tree n)) None (Some x) allowed.1) [
+            | inl fits ↦ (allowed.0, fits.0, one_tree (tree n) x fits.1)
+            | inr none ↦ absurd cc
+          ]
       | inr none ↦ absurd cc
     ]
 
@@ -114,27 +114,27 @@ unfolding lettered
 lettered_found wanted letter n x e =
     elim (chosen (eqb letter 98) (typed_as wanted tags.I8 of_i8 8 n) _ (Some x) e) [
       | inl b ↦
-        let is = ranged_found wanted tags.I8 of_i8 8 n x b.1 in
-        subst (IsTyped wanted letter n) is.2 (record { text = ap (λ c. decimal_of n ++ c ∷ []) (sym (eqb-true letter 98 b.0)); good = λ levels. record { tagged = tt; in_order = tt; in_range = signed8 n (bits_tell 8 127 n refl is.1); depth = omega arith }; kind = is.0 })
+          let is = ranged_found wanted tags.I8 of_i8 8 n x b.1 in
+          subst (IsTyped wanted letter n) is.2 (record { text = ap (λ c. decimal_of n ++ c ∷ []) (sym (eqb-true letter 98 b.0)); good = λ levels. record { tagged = tt; in_order = tt; in_range = signed8 n (bits_tell 8 127 n refl is.1); depth = omega arith }; kind = is.0 })
       | inr not_b ↦
-        elim (chosen (eqb letter 115) (typed_as wanted tags.I16 of_i16 16 n) _ (Some x) not_b.1) [
-          | inl s ↦
-            let is = ranged_found wanted tags.I16 of_i16 16 n x s.1 in
-            subst (IsTyped wanted letter n) is.2 (record { text = ap (λ c. decimal_of n ++ c ∷ []) (sym (eqb-true letter 115 s.0)); good = λ levels. record { tagged = tt; in_order = tt; in_range = signed16 n (bits_tell 16 32767 n refl is.1); depth = omega arith }; kind = is.0 })
-          | inr not_s ↦
-            elim (chosen (eqb letter 105) (typed_as wanted tags.I32 of_i32 32 n) _ (Some x) not_s.1) [
-              | inl i ↦
-                let is = ranged_found wanted tags.I32 of_i32 32 n x i.1 in
-                subst (IsTyped wanted letter n) is.2 (record { text = ap (λ c. decimal_of n ++ c ∷ []) (sym (eqb-true letter 105 i.0)); good = λ levels. record { tagged = tt; in_order = tt; in_range = signed32 n (bits_tell 32 2147483647 n refl is.1); depth = omega arith }; kind = is.0 })
-              | inr not_i ↦
-                elim (chosen (eqb letter 108) (typed_as wanted tags.I64 of_i64 64 n) None (Some x) not_i.1) [
-                  | inl l ↦
-                    let is = ranged_found wanted tags.I64 of_i64 64 n x l.1 in
-                    subst (IsTyped wanted letter n) is.2 (record { text = ap (λ c. decimal_of n ++ c ∷ []) (sym (eqb-true letter 108 l.0)); good = λ levels. record { tagged = tt; in_order = tt; in_range = signed64 n (bits_tell 64 9223372036854775807 n refl is.1); depth = omega arith }; kind = is.0 })
-                  | inr none ↦ absurd cc
+          elim (chosen (eqb letter 115) (typed_as wanted tags.I16 of_i16 16 n) _ (Some x) not_b.1) [
+            | inl s ↦
+                let is = ranged_found wanted tags.I16 of_i16 16 n x s.1 in
+                subst (IsTyped wanted letter n) is.2 (record { text = ap (λ c. decimal_of n ++ c ∷ []) (sym (eqb-true letter 115 s.0)); good = λ levels. record { tagged = tt; in_order = tt; in_range = signed16 n (bits_tell 16 32767 n refl is.1); depth = omega arith }; kind = is.0 })
+            | inr not_s ↦
+                elim (chosen (eqb letter 105) (typed_as wanted tags.I32 of_i32 32 n) _ (Some x) not_s.1) [
+                  | inl i ↦
+                      let is = ranged_found wanted tags.I32 of_i32 32 n x i.1 in
+                      subst (IsTyped wanted letter n) is.2 (record { text = ap (λ c. decimal_of n ++ c ∷ []) (sym (eqb-true letter 105 i.0)); good = λ levels. record { tagged = tt; in_order = tt; in_range = signed32 n (bits_tell 32 2147483647 n refl is.1); depth = omega arith }; kind = is.0 })
+                  | inr not_i ↦
+                      elim (chosen (eqb letter 108) (typed_as wanted tags.I64 of_i64 64 n) None (Some x) not_i.1) [
+                        | inl l ↦
+                            let is = ranged_found wanted tags.I64 of_i64 64 n x l.1 in
+                            subst (IsTyped wanted letter n) is.2 (record { text = ap (λ c. decimal_of n ++ c ∷ []) (sym (eqb-true letter 108 l.0)); good = λ levels. record { tagged = tt; in_order = tt; in_range = signed64 n (bits_tell 64 9223372036854775807 n refl is.1); depth = omega arith }; kind = is.0 })
+                        | inr none ↦ absurd cc
+                      ]
                 ]
-            ]
-        ]
+          ]
     ]
 
 typed_found : (levels : ℕ) (wanted : Option Tag) (n : ℤ) (before text : List ℕ) (x : Tree) (rest : List ℕ) → before ≡ decimal_of n ++ text → typed_at wanted n text ≡ Ok (x, rest) → IsFound wanted levels before x rest

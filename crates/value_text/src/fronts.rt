@@ -54,11 +54,7 @@ pub(crate) fn next_at(close: u8, text: &[u8]) -> Result<(bool, &[u8]), TextStop>
 }
 
 /// The word of one of some tags. Where there is none, the fault is the furthest one.
-fn tag_among<'a>(
-    tags: &[Tag],
-    furthest: usize,
-    text: &'a [u8],
-) -> Result<(Tag, &'a [u8]), TextStop>
+fn tag_among<'a>(tags: &[Tag], furthest: usize, text: &'a [u8]) -> Result<(Tag, &'a [u8]), TextStop>
     ensures { Gives (λ r. (r.0, r.1.now)) result (tag_among tags.now furthest text.now) }
 {
     let [tag, more @ ..] = tags else {

@@ -279,8 +279,7 @@ fn item_rows(
     let mut made = Vec::new(alloc);
     let mut rest = text;
     for step in 0..usize::MAX {
-        let (entry, more, behind) =
-            item_row(alloc, levels, rising, tag, made.as_slice(), rest)?;
+        let (entry, more, behind) = item_row(alloc, levels, rising, tag, made.as_slice(), rest)?;
         keep(&mut made, entry)?;
         if !more {
             return Ok((made, behind));

@@ -16,7 +16,6 @@ deeper_at-returns t c =
     let e : c.args.levels ≡ suc (c.args.levels - 1) = omega arith in
     subst (λ k. Gives (λ r. (tree_of r.0, r.1.now)) c.container_at.result (deeper_at most_rounds k c.args.container c.args.text.now)) (sym e) c.container_at.ensures
 
-
 pub field_rows-returns-in_err-entry : goal.field_rows-returns-in_err-entry
 field_rows-returns-in_err-entry t c =
     let p = err_from_is_err_and c.from_residual.result c.from_residual.ensures.1 in
@@ -34,7 +33,6 @@ field_rows-loop-step-preserved t c =
     row_put (field_text_at (value_text_at most_rounds c.args.levels)) 125 most_rounds c.args.text.now field_tree (most_rounds - c.loop-step.step) (most_rounds - (c.loop-step.step + 1)) c.as_slice.result.now c.loop-step.made.items c.keep.new.list.items c.loop-step.rest.now c.in_ok-entry.entry c.in_ok-entry.more c.in_ok-entry.behind.now c.as_slice.ensures.value
     (let more : most_rounds - c.loop-step.step ≡ suc (most_rounds - (c.loop-step.step + 1)) = omega arith in more) c.loop-step.invariant c.in_ok-entry.ensures c.if-not-more.false c.in_ok-keep.ensures
 
-
 pub item_rows-returns-in_err-entry : goal.item_rows-returns-in_err-entry
 item_rows-returns-in_err-entry t c =
     let p = err_from_is_err_and c.from_residual.result c.from_residual.ensures.1 in
@@ -51,7 +49,6 @@ pub item_rows-loop-step-preserved : goal.item_rows-loop-step-preserved
 item_rows-loop-step-preserved t c =
     row_put (item_at c.args.rising c.args.tag (value_text_at most_rounds c.args.levels)) 93 most_rounds c.args.text.now tree_of (most_rounds - c.loop-step.step) (most_rounds - (c.loop-step.step + 1)) c.as_slice.result.now c.loop-step.made.items c.keep.new.list.items c.loop-step.rest.now c.in_ok-entry.entry c.in_ok-entry.more c.in_ok-entry.behind.now c.as_slice.ensures.value
     (let more : most_rounds - c.loop-step.step ≡ suc (most_rounds - (c.loop-step.step + 1)) = omega arith in more) c.loop-step.invariant c.in_ok-entry.ensures c.if-not-more.false c.in_ok-keep.ensures
-
 
 pub pair_rows-returns-in_err-entry : goal.pair_rows-returns-in_err-entry
 pair_rows-returns-in_err-entry t c =
