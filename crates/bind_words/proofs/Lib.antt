@@ -1,0 +1,2 @@
+mod AtEquals
+mod PairWords

@@ -1,0 +1,3 @@
+mod Digits
+pub mod PutBehind
+mod Pairing
