@@ -1,0 +1,5 @@
+mod SameKinds
+mod Taking
+mod Progressing
+mod Served
+mod Determined

@@ -1,0 +1,6 @@
+pub mod Handlers
+pub mod Services
+pub mod Binding
+pub mod FirstRefusal
+pub mod Refusals
+pub mod Steps
