@@ -1,6 +1,6 @@
 -- What is bound, and what is refused, is determined.
-use Rattle.std.proofs.Common.{◌≡◌, ℕ, suc, ◌⊎◌, List, [], ◌∷◌, ◌++◌, length, get_or, drop, Result, Ok, Err, refl, sym, ap, ap₂, ◌∙◌, subst, inl, inr, append_assoc, append-nil}
-use Rattle.pair_binding.specs.Binding.{AreBound, AreBoundBehind, HasNoHandler, IsBound, IsRefused, IsUnsuited, NumberedName}
+use Rattle.std.proofs.Common.{◌≡◌, ℕ, suc, List, [], ◌∷◌, ◌++◌, length, get_or, drop, Result, Ok, Err, refl, sym, ap, ap₂, ◌∙◌, subst, inl, inr, append_assoc, append-nil}
+use Rattle.pair_binding.specs.Binding.{AreBound, AreBoundBehind, IsBound, IsRefused, NumberedName}
 use Rattle.call_rules.specs.Handling.{ServiceState}
 use Rattle.call_rules.specs.Suited.{IsSuited}
 use Rattle.bind_words.specs.Pairs.{NamedKind}

@@ -1,7 +1,7 @@
 -- Names that are bound are different, and their numbers are places.
-use Rattle.std.proofs.Common.{◌≡◌, ◌≢◌, ℕ, suc, ◌+◌, ◌<◌, ◌≤◌, Bool, true, false, cond, ◌||◌, List, [], ◌∷◌, ◌++◌, map, length, Option, Some, None, Ok, refl, sym, ap, ◌∙◌, subst, arith}
+use Rattle.std.proofs.Common.{◌≡◌, ◌≢◌, ℕ, suc, ◌+◌, ◌<◌, Bool, true, false, cond, ◌||◌, List, [], ◌∷◌, ◌++◌, map, length, Option, Some, None, Ok, refl, sym, ap, ◌∙◌, subst, arith}
 use Rattle.std.specs.Prelude.{⊤, All, MatchOption}
-use Rattle.std.specs.List.{list_any, position_from}
+use Rattle.std.specs.List.{position_from}
 use Rattle.std.specs.Str.{bytes_eq}
 use Rattle.std.proofs.lemmas.List.Elements.{All-nil, All-cons}
 use Rattle.std.proofs.lemmas.List.Folds.{list_any-append}
@@ -10,10 +10,10 @@ use Rattle.std.proofs.lemmas.Slice.Eq.{bytes_eq-Decides}
 use Rattle.call_rules.specs.Handling.{ServiceState}
 use Rattle.bind_words.specs.Pairs.{NamedKind}
 use Rattle.schema.specs.LookUp.{is_service_name, service_named}
-use Rattle.schema.specs.PlainSchema.{PlainSchema, PlainService}
+use Rattle.schema.specs.PlainSchema.{PlainSchema}
 use Rattle.schema.specs.Sound.{IsPlaceIn, AreDifferent}
 use Rattle.pair_binding.specs.Binding.{AreBoundBehind, NumberedName, name_of}
-use Rattle.pair_binding.specs.Services.{is_name_taken, new_number, number_for}
+use Rattle.pair_binding.specs.Services.{is_name_taken, new_number}
 
 -- what a number for a pair says
 pub number_known : (named : Bool) (o : Option ℕ) (number : ℕ) → new_number named o ≡ Ok number → (named ≡ false) × (o ≡ Some number)

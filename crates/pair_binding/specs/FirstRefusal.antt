@@ -1,5 +1,5 @@
 -- The first pair that is refused.
-use Rattle.std.specs.Prelude.{◌≡◌, ⊤, ℕ, List, [], ◌∷◌, ◌++◌, length}
+use Rattle.std.specs.Prelude.{◌≡◌, ⊤, ℕ, List, ◌∷◌, ◌++◌, length}
 use Rattle.pair_binding.specs.Binding.{AreBound, IsRefused, NumberedName}
 use Rattle.call_rules.specs.Handling.{ServiceState}
 use Rattle.bind_words.specs.Pairs.{NamedKind}

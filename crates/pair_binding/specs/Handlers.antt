@@ -1,5 +1,5 @@
 -- Which handler a pair takes of those that were handed in.
-use Rattle.std.specs.Prelude.{ℕ, Bool, true, false, List, [], ◌∷◌, drop, filter, count_by, Result, Ok, Err}
+use Rattle.std.specs.Prelude.{Bool, true, false, List, [], ◌∷◌, drop, filter, count_by, Result, Ok, Err}
 use Rattle.std.specs.List.{list_any}
 use Rattle.call_rules.specs.declared.kind.Kind.{Kind}
 use Rattle.call_rules.specs.declared.kind.Kind.TheVariants.{Calculator, Store, Mirror}

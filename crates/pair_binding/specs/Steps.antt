@@ -1,5 +1,5 @@
 -- Pairs that are bound one after another. No part of what is promised.
-use Rattle.std.specs.Prelude.{◌≡◌, ⊤, ℕ, Bool, List, [], ◌∷◌, ◌++◌, drop, cond, Option, None, Some}
+use Rattle.std.specs.Prelude.{◌≡◌, ⊤, ℕ, Bool, List, [], ◌∷◌, drop, cond, Option, None, Some}
 use Rattle.pair_binding.specs.Binding.{AreBound, NumberedName}
 use Rattle.call_rules.specs.declared.kind.Kind.{Kind}
 use Rattle.call_rules.specs.declared.kind.Kind.TheVariants.{Calculator, Store, Mirror}
