@@ -1,5 +1,5 @@
 -- Numbers of at most ten digits.
-use Rattle.std.proofs.Common.{◌≡◌, ℕ, zero, suc, ◌+◌, ◌*◌, ◌^◌, ◌<◌, ◌≤◌, arith, lit≤}
+use Rattle.std.proofs.Common.{ℕ, zero, suc, ◌^◌, ◌≤◌, arith, lit≤}
 
 -- a power of ten below the tenth
 pub power_within : (i : ℕ) → i ≤ 9 → 10 ^ i ≤ 1000000000
