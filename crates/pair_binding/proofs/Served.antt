@@ -12,7 +12,7 @@ use Rattle.bind_words.specs.Pairs.{NamedKind}
 use Rattle.schema.specs.LookUp.{is_service_name, service_named}
 use Rattle.schema.specs.PlainSchema.{PlainSchema}
 use Rattle.schema.specs.Sound.{IsPlaceIn, AreDifferent}
-use Rattle.pair_binding.specs.Binding.{AreBoundBehind, NumberedName, name_of}
+use Rattle.pair_binding.specs.Binding.{AreBoundBehind, NumberedName, numbered_name}
 use Rattle.pair_binding.specs.Services.{is_name_taken, new_number}
 
 -- what a number for a pair says
@@ -77,11 +77,11 @@ now_named before pair name is =
 
 -- a name that stands before is none of these
 apart : (s : PlainSchema) (services : List ServiceState) (before pairs : List NamedKind) (bindings : List NumberedName) (bound : List ServiceState) (name : List ℕ)
-    → is_name_taken before name ≡ true → AreBoundBehind s services before pairs bindings bound → All (λ (other : List ℕ). name ≢ other) (map name_of bindings)
+    → is_name_taken before name ≡ true → AreBoundBehind s services before pairs bindings bound → All (λ (other : List ℕ). name ≢ other) (map numbered_name bindings)
 apart s services before [] [] [] name named are = All-nil (λ (other : List ℕ). name ≢ other)
 apart s services before (p ∷ pairs) (b ∷ bindings) (h ∷ bound) name named are =
     let known = number_known (is_name_taken before p.0) (service_named s p.0) b.1 are.0.number in
-    All-cons (λ (other : List ℕ). name ≢ other) (name_of b) (map name_of bindings)
+    All-cons (λ (other : List ℕ). name ≢ other) (numbered_name b) (map numbered_name bindings)
     (λ same. let e : true ≡ false = sym named ∙ ap (is_name_taken before) (same ∙ are.0.name) ∙ known.0 in let f : ⊥ = cc in f)
     (apart s services (before ++ p ∷ []) pairs bindings bound name (still_named before p name named) are.1)
 apart s services before [] [] (h ∷ bound) name named are = absurd are
@@ -90,11 +90,11 @@ apart s services before (p ∷ pairs) [] bound name named are = absurd are
 apart s services before (p ∷ pairs) (b ∷ bindings) [] name named are = absurd are
 
 pub different : (s : PlainSchema) (services : List ServiceState) (before pairs : List NamedKind) (bindings : List NumberedName) (bound : List ServiceState)
-    → AreBoundBehind s services before pairs bindings bound → AreDifferent (map name_of bindings)
+    → AreBoundBehind s services before pairs bindings bound → AreDifferent (map numbered_name bindings)
 different s services before [] [] [] are = λ i j d below within. absurd (omega (arith, within))
 different s services before (p ∷ pairs) (b ∷ bindings) (h ∷ bound) are =
-    AllPairs-cons (λ (x y : List ℕ). x ≢ y) (name_of b) (map name_of bindings)
-    (apart s services (before ++ p ∷ []) pairs bindings bound (name_of b) (now_named before p (name_of b) (sym are.0.name)) are.1)
+    AllPairs-cons (λ (x y : List ℕ). x ≢ y) (numbered_name b) (map numbered_name bindings)
+    (apart s services (before ++ p ∷ []) pairs bindings bound (numbered_name b) (now_named before p (numbered_name b) (sym are.0.name)) are.1)
     (different s services (before ++ p ∷ []) pairs bindings bound are.1)
 different s services before [] [] (h ∷ bound) are = absurd are
 different s services before [] (b ∷ bindings) bound are = absurd are

@@ -14,8 +14,8 @@ abbrev pub NumberedName : Type 0
 NumberedName = List ℕ × ℕ
 
 -- the name
-abbrev pub name_of : NumberedName → List ℕ
-name_of named = named.0
+abbrev pub numbered_name : NumberedName → List ℕ
+numbered_name named = named.0
 
 -- Behind these other pairs a pair is bound: its name to a service's number, and to a handler that suits the service's shapes.
 pub record IsBound (s : PlainSchema) (services : List ServiceState) (before : List NamedKind) (pair : NamedKind) (binding : NumberedName) (service : ServiceState) : Type 0 where

@@ -4,7 +4,7 @@ ghost use Rattle.std.specs.Prelude.{◌≡◌, ◌≤◌, ◌++◌, ◌∷◌, [
 ghost use Rattle.call_rules.specs.Handling.{ServiceState};
 ghost use Rattle.schema.specs.SchemaOf.{schema_of};
 ghost use Rattle.schema.specs.Sound.{AreDifferent, IsPlaceIn, IsSound};
-ghost use Rattle.pair_binding.specs.Binding.{AreBound, IsBound, IsRefused, name_of};
+ghost use Rattle.pair_binding.specs.Binding.{AreBound, IsBound, IsRefused, numbered_name};
 ghost use Rattle.pair_binding.specs.FirstRefusal.{IsFirstRefusal, OnRefusal};
 ghost use Rattle.pair_binding.specs.Steps.{AreLeftBehind, IsHanded, IsBoundSoFar, OnPairFault};
 
@@ -133,7 +133,7 @@ pub fn bind_pairs<H: Handler>(
     ensures bound { IfOk result (λ made. AreBound (schema_of schema.now) (map H.service handlers.items) pairs.now made.0.items (map H.service made.1.items)) }
     ensures refused { IfErr result (λ fault. OnRefusal fault (IsFirstRefusal (schema_of schema.now) (map H.service handlers.items) pairs.now)) }
     // So the names are different, the numbers are places, and there is a handler for each pair.
-    ensures different { IfOk result (λ made. AreDifferent (map name_of made.0.items)) }
+    ensures different { IfOk result (λ made. AreDifferent (map numbered_name made.0.items)) }
     ensures places { IfOk result (λ made. All (λ named. IsPlaceIn (schema_of schema.now).services named.1) made.0.items) }
     ensures names { IfOk result (λ made. length made.0.items ≡ length pairs.now) }
     ensures handlers { IfOk result (λ made. length made.1.items ≡ length pairs.now) }
