@@ -1,0 +1,13 @@
+pub mod Acts
+pub mod Asked
+pub mod Each
+pub mod Ends
+pub mod Entering
+pub mod Fed
+pub mod Moves
+pub mod Numbers
+pub mod Payloads
+pub mod Reading
+pub mod Results
+pub mod Settled
+pub mod Writes

@@ -1,0 +1,117 @@
+//! The lines of a report but those of entries, each appended to a vector.
+
+ghost use Rattle.std.specs.Prelude.{◌≡◌, ◌∷◌, [], ◌++◌, codes, length, OnOk};
+ghost use Rattle.text_out.specs.Decimal.{decimal_of, natural_of};
+ghost use Rattle.text_out.specs.Line.{line_of};
+ghost use Rattle.host_model.specs.Report.{cause_text, fault_text, mark_text, numbered};
+
+use host_model::EndCause;
+use outside::{EnvelopeFault, Mark};
+use std::alloc::AllocError;
+use text_out::{decimal, hex};
+
+/// Appends the line of a mark.
+pub(crate) fn put_mark(into: &mut Vec<u8>, mark: &Mark) -> Result<(), AllocError>
+    ensures { OnOk result (into.new.items ≡ into.old.items ++ line_of (mark_text mark.now)) }
+{
+    match mark {
+        Mark::Opened(c) => put_numbered(into, b"tape open", u64::from(*c))?,
+        Mark::Read(c, bytes) => put_moved(into, b"tape read", *c, bytes.as_slice())?,
+        Mark::Ended(c) => put_numbered(into, b"tape end", u64::from(*c))?,
+        Mark::Wrote(c, bytes) => put_moved(into, b"tape wrote", *c, bytes.as_slice())?,
+        Mark::ReadFailed(c) => put_numbered(into, b"tape readfail", u64::from(*c))?,
+        Mark::WriteFailed(c) => put_numbered(into, b"tape writefail", u64::from(*c))?,
+        Mark::Closed(c) => put_numbered(into, b"tape close", u64::from(*c))?,
+    }
+    into.push(b'\n')?;
+    Ok(())
+}
+
+/// Appends a word, a connection, and the number of bytes that moved.
+fn put_moved(into: &mut Vec<u8>, word: &[u8], c: u32, bytes: &[u8]) -> Result<(), AllocError>
+    ensures { OnOk result (into.new.items ≡ into.old.items ++ numbered (numbered word.now c) (length bytes.now)) }
+{
+    put_numbered(into, word, u64::from(c))?;
+    put_next(into, bytes.len() as u64)
+}
+
+/// Appends a word, a blank and a number.
+fn put_numbered(into: &mut Vec<u8>, word: &[u8], n: u64) -> Result<(), AllocError>
+    ensures { OnOk result (into.new.items ≡ into.old.items ++ numbered word.now n) }
+{
+    into.extend_from_slice(word)?;
+    put_next(into, n)
+}
+
+/// Appends a blank and a number.
+fn put_next(into: &mut Vec<u8>, n: u64) -> Result<(), AllocError>
+    ensures { OnOk result (into.new.items ≡ into.old.items ++ 32 ∷ natural_of n) }
+{
+    into.push(b' ')?;
+    decimal(into, i128::from(n))
+}
+
+/// Appends a number that may be below 0.
+fn put_integer(into: &mut Vec<u8>, n: i32) -> Result<(), AllocError>
+    ensures { OnOk result (into.new.items ≡ into.old.items ++ decimal_of n) }
+{
+    decimal(into, i128::from(n))
+}
+
+/// Appends the front of a connection's line: its number and what it ended by, each with a blank behind it.
+pub(crate) fn put_end(into: &mut Vec<u8>, c: u64, cause: EndCause) -> Result<(), AllocError>
+    ensures { OnOk result (into.new.items ≡ into.old.items ++ numbered (codes "conn") c ++ 32 ∷ cause_text cause ++ 32 ∷ []) }
+{
+    put_numbered(into, b"conn", c)?;
+    into.push(b' ')?;
+    put_cause(into, cause)?;
+    into.push(b' ')?;
+    Ok(())
+}
+
+/// Appends why a connection ended.
+fn put_cause(into: &mut Vec<u8>, cause: EndCause) -> Result<(), AllocError>
+    ensures { OnOk result (into.new.items ≡ into.old.items ++ cause_text cause) }
+{
+    match cause {
+        EndCause::End => into.extend_from_slice(b"End"),
+        EndCause::Cut => into.extend_from_slice(b"Cut"),
+        EndCause::SizeFault(size) => {
+            into.extend_from_slice(b"SizeFault ")?;
+            put_integer(into, size)
+        }
+        EndCause::Envelope(fault) => {
+            into.extend_from_slice(b"Envelope ")?;
+            put_fault(into, fault)
+        }
+        EndCause::ReadFault => into.extend_from_slice(b"ReadFault"),
+        EndCause::WriteFault => into.extend_from_slice(b"WriteFault"),
+        EndCause::NoMemory => into.extend_from_slice(b"NoMemory"),
+        EndCause::Stopped => into.extend_from_slice(b"Stopped"),
+    }
+}
+
+/// Appends why a message's head is refused.
+fn put_fault(into: &mut Vec<u8>, fault: EnvelopeFault) -> Result<(), AllocError>
+    ensures { OnOk result (into.new.items ≡ into.old.items ++ fault_text fault) }
+{
+    match fault {
+        EnvelopeFault::Short => into.extend_from_slice(b"Short"),
+        EnvelopeFault::Version(version) => {
+            into.extend_from_slice(b"Version ")?;
+            hex(into, &version.to_be_bytes())
+        }
+        EnvelopeFault::NameSize => into.extend_from_slice(b"NameSize"),
+        EnvelopeFault::LongVarint => into.extend_from_slice(b"LongVarint"),
+        EnvelopeFault::MessageType(kind) => put_numbered(into, b"MessageType", u64::from(kind)),
+    }
+}
+
+/// Appends the line of the number of calls.
+pub(crate) fn put_count(into: &mut Vec<u8>, count: usize) -> Result<(), AllocError>
+    ensures { OnOk result (into.new.items ≡ into.old.items ++ line_of (numbered (codes "calls") count)) }
+{
+    put_numbered(into, b"calls", count as u64)?;
+    into.push(b'\n')?;
+    Ok(())
+}
