@@ -16,7 +16,7 @@ use Rattle.pair_binding.specs.declared.fault.PairFault.TheVariants as faults
 use Rattle.pair_binding.specs.declared.handlers.Handed.{Handed}
 use Rattle.pair_binding.specs.FirstRefusal.{IsFirstRefusal, OnRefusal}
 use Rattle.pair_binding.specs.Handlers.{asks_for, first_left, handler_for, same_kind, services_of_kind}
-use Rattle.pair_binding.specs.Steps.{AreLeftBehind, IsHanded, IsBoundSoFar, OnPairFault, fault_at, has_kind}
+use Rattle.pair_binding.specs.Steps.{AreLeftBehind, IsHanded, IsBoundSoFar, OnPairFault, refusal_at, has_kind}
 
 -- a pair is bound behind those that are
 pub bound_more : (s : PlainSchema) (services : List ServiceState) (front before : List NamedKind) (bindings : List NumberedName) (bound : List ServiceState) (pair : NamedKind) (binding : NumberedName) (service : ServiceState)
@@ -83,7 +83,7 @@ progress_more s services before pair name number service bindings more bound tak
     }
 
 -- a fault of the pair at a place
-pub on_fault : (fault : PairFault) (place : ℕ) (result : BindFault) (P : BindKind → Type 0) (Q : ℕ → BindKind → Type 0) → result ≡ fault_at place fault
+pub on_fault : (fault : PairFault) (place : ℕ) (result : BindFault) (P : BindKind → Type 0) (Q : ℕ → BindKind → Type 0) → result ≡ refusal_at place fault
     → ((kind : BindKind) → P kind → Q place kind) → OnPairFault fault P → OnRefusal result Q
 on_fault (faults.Refused kind) place result P Q is step p = subst (λ (f : BindFault). OnRefusal f Q) (sym is) (step kind p)
 on_fault faults.NoMemory place result P Q is step p = subst (λ (f : BindFault). OnRefusal f Q) (sym is) tt

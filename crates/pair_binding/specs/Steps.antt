@@ -46,6 +46,6 @@ OnPairFault (faults.Refused kind) Holds = Holds kind
 OnPairFault faults.NoMemory Holds = ⊤
 
 -- the fault of the pair at a place
-abbrev pub fault_at : ℕ → PairFault → BindFault
-fault_at place (faults.Refused kind) = bind_faults.Refused place kind
-fault_at place faults.NoMemory = bind_faults.NoMemory
+abbrev pub refusal_at : ℕ → PairFault → BindFault
+refusal_at place (faults.Refused kind) = bind_faults.Refused place kind
+refusal_at place faults.NoMemory = bind_faults.NoMemory

@@ -78,11 +78,11 @@ impl From<AllocError> for PairFault {
 
 impl PairFault {
     ghost use Rattle.std.specs.Prelude.{◌≡◌};
-    ghost use Rattle.pair_binding.specs.Steps.{fault_at};
+    ghost use Rattle.pair_binding.specs.Steps.{refusal_at};
 
     /// The fault of the pair at a place.
     pub(crate) fn at(self, place: u32) -> BindFault
-        ensures { result ≡ fault_at place self }
+        ensures { result ≡ refusal_at place self }
     {
         match self {
             PairFault::Refused(kind) => BindFault::Refused(place, kind),

@@ -11,9 +11,9 @@ use Rattle.host_model.specs.World.{World, Act, moves, Endpoint, Move, Moves, ope
 use Rattle.call_rules.specs.PlainCalls.{PlainCall, PlainAnswer}
 use Rattle.call_rules.specs.Entries.{CallEntry}
 use Rattle.call_rules.specs.Handling.{handler_rules}
-use Rattle.recorded_calls.specs.declared.run.Run.{Run}
+use Rattle.recorded_calls.specs.declared.run.ServedRun.{ServedRun}
 use Rattle.recorded_calls.specs.Serving.{Serving}
-use Rattle.recorded_calls.specs.Run.{RunSetting, setting_rules, IsServing, IsRunUnderWay, PhaseStands, EndsWell, AreWrittenFor, settled_frames}
+use Rattle.recorded_calls.specs.Run.{RunSetting, setting_rules, IsServing, IsServingUnderWay, ServedPhaseStands, ServedEndsWell, AreWrittenInServing, frames_settled}
 use Rattle.recorded_calls.proofs.Writes.{Sends, wrote_after, wrote_more}
 
 -- a run of calls, with one call more
@@ -47,33 +47,33 @@ output_after : (tape : List Mark) (move : Move) → output (marks_of 0 (tape ++ 
 output_after tape move = ap output (marks_after tape move) ∙ flat_map-append written_by (marks_of 0 tape) (marks_by 0 move)
 
 -- a world that acts have reached in which no connection but 0 was opened, with the tape of a run before a move
-pub record Before (s : RunSetting) (old : Run) : Type 0 where
+pub record Before (s : RunSetting) (old : ServedRun) : Type 0 where
   pub acts : List (Act PlainCall PlainAnswer)
   pub world : World PlainCall PlainAnswer
   pub reached : ReachedBy (setting_rules s) handler_rules s.first acts world
   pub same_tape : old.tape.items ≡ world.tape
   pub others : (c : ℕ) → c ≢ 0 → world.endpoints c ≡ unopened_endpoint
-  pub wrote : AreWrittenFor (setting_rules s) (entries_of 0 world.journal) (settled_frames old.conn.frames old.conn.phase) world.tape
+  pub wrote : AreWrittenInServing (setting_rules s) (entries_of 0 world.journal) (frames_settled old.conn.frames old.conn.phase) world.tape
 
 -- what a move makes of the run's other parts
-pub record Behind (s : RunSetting) (v : Serving) (old new : Run) (move : Move) (line : Endpoint) (journal : List CallEntry) : Type 0 where
+pub record Behind (s : RunSetting) (v : Serving) (old new : ServedRun) (move : Move) (line : Endpoint) (journal : List CallEntry) : Type 0 where
   pub tape : new.tape.items ≡ old.tape.items ++ marks_by 0 move
   pub serves : IsServing s v new.conn.phase journal
   pub events : List ConnCall
   pub calls : CallsLead s.desk.max_frame fresh_conn events new.conn
-  pub stands : PhaseStands s.desk.max_frame new.conn.phase line
+  pub stands : ServedPhaseStands s.desk.max_frame new.conn.phase line
   pub counted : new.conn.frames ≡ length line.payloads
   pub read : take old.at s.all ++ input (marks_by 0 move) ≡ take new.at s.all
   pub sent : old.written.items ++ output (marks_by 0 move) ≡ new.written.items
   pub within : new.at ≤ length s.all
   pub few : new.conn.frames ≤ new.at
-  pub settles : settled_frames old.conn.frames old.conn.phase ≤ settled_frames new.conn.frames new.conn.phase
-  pub ends_well : EndsWell new.conn.phase (take new.at s.all) s.all
+  pub settles : frames_settled old.conn.frames old.conn.phase ≤ frames_settled new.conn.frames new.conn.phase
+  pub ends_well : ServedEndsWell new.conn.phase (take new.at s.all) s.all
 
 -- a run is under way after a move of its connection
-pub moved : (s : RunSetting) (w v : Serving) (old new : Run) (under_way : IsRunUnderWay s w old) (b : Before s old) (move : Move) (line : Endpoint)
+pub moved : (s : RunSetting) (w v : Serving) (old new : ServedRun) (under_way : IsServingUnderWay s w old) (b : Before s old) (move : Move) (line : Endpoint)
     → Moves (setting_rules s) (entries_of 0 b.world.journal) (b.world.endpoints 0) move line → Behind s v old new move line b.world.journal
-    → Sends (setting_rules s) (entries_of 0 b.world.journal) (settled_frames new.conn.frames new.conn.phase) (marks_of 0 b.world.tape) move → IsRunUnderWay s v new
+    → Sends (setting_rules s) (entries_of 0 b.world.journal) (frames_settled new.conn.frames new.conn.phase) (marks_of 0 b.world.tape) move → IsServingUnderWay s v new
 moved s w v old new u b move line goes after sends =
     record {
       acts = moves 0 move ∷ b.acts;
@@ -96,7 +96,7 @@ moved s w v old new u b move line goes after sends =
     }
 
 -- a run before a move, for which nothing was entered
-abbrev pub before : (s : RunSetting) (v : Serving) (old : Run) → IsRunUnderWay s v old → Before s old
+abbrev pub before : (s : RunSetting) (v : Serving) (old : ServedRun) → IsServingUnderWay s v old → Before s old
 before s v old u =
     record {
       acts = u.acts;

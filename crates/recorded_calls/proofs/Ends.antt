@@ -20,12 +20,12 @@ use Rattle.call_rules.specs.Entries.{CallEntry}
 use Rattle.call_rules.specs.Desks.{DeskMeaning, desk_rules, longest_payload}
 use Rattle.call_rules.specs.Handling.{ServiceState, handler_rules}
 use Rattle.run_report.specs.Entries.{IsPlainEntry}
-use Rattle.recorded_calls.specs.declared.run.Run.{Run}
+use Rattle.recorded_calls.specs.declared.run.ServedRun.{ServedRun}
 use Rattle.recorded_calls.specs.Causes.{is_served, is_served_or_stopped, is_stopped}
 use Rattle.recorded_calls.specs.Serving.{Serving}
 use Rattle.recorded_calls.specs.Served.{IsServed}
-use Rattle.recorded_calls.specs.Pieces.{IsFed}
-use Rattle.recorded_calls.specs.Run.{RunSetting, setting_rules, IsRunUnderWay, IsOver, IsStopping, IsStopped, IsAtWork, PhaseStands, EndsWell}
+use Rattle.recorded_calls.specs.Pieces.{IsServedByPieces}
+use Rattle.recorded_calls.specs.Run.{RunSetting, setting_rules, IsServingUnderWay, IsOver, IsStopping, IsStopped, IsAtWork, ServedPhaseStands, ServedEndsWell}
 
 -- an ended phase says its cause
 ended_phase : (phase : Phase) (cause : EndCause) → cause_of phase ≡ Some cause → phase ≡ ended cause
@@ -98,13 +98,13 @@ run_alone desk first arrival tape journal cause alive run =
     }
 
 -- a run that has ended is served
-pub served : (s : RunSetting) (told : Option (List CallEntry)) (torn : Bool) (v : Serving) (ends : List ℕ) (run : Run) (cause : EndCause) → s.desk.max_frame < 2 ^ 31
-    → cause_of run.conn.phase ≡ Some cause → IsRunUnderWay s v run → IsFed s.desk.max_frame ends run
+pub served : (s : RunSetting) (told : Option (List CallEntry)) (torn : Bool) (v : Serving) (ends : List ℕ) (run : ServedRun) (cause : EndCause) → s.desk.max_frame < 2 ^ 31
+    → cause_of run.conn.phase ≡ Some cause → IsServingUnderWay s v run → IsServedByPieces s.desk.max_frame ends run
     → IsServed s.desk (record { bytes = s.all; ends = ends }) (record { told = told; faults = s.faults; torn = torn; services = s.first }) v run.tape.items run.written.items cause
 served s told torn v ends run cause short e u fed =
     let phase = ended_phase run.conn.phase cause e in
-    let is_over : IsOver (u.world.endpoints 0).stage cause = subst (λ ph. PhaseStands s.desk.max_frame ph (u.world.endpoints 0)) phase u.stands in
-    let well : EndsWell (ended cause) (take run.at s.all) s.all = subst (λ ph. EndsWell ph (take run.at s.all) s.all) phase u.ends_well in
+    let is_over : IsOver (u.world.endpoints 0).stage cause = subst (λ ph. ServedPhaseStands s.desk.max_frame ph (u.world.endpoints 0)) phase u.stands in
+    let well : ServedEndsWell (ended cause) (take run.at s.all) s.all = subst (λ ph. ServedEndsWell ph (take run.at s.all) s.all) phase u.ends_well in
     let journal = u.world.journal in
     let run_on : IsRunOn (setting_rules s) handler_rules s.first is_served_or_stopped (λ c. record { bytes = s.all; ends = ends }) run.tape.items journal (cause ∷ []) =
     record {
@@ -133,7 +133,7 @@ served s told torn v ends run cause short e u fed =
     }
 
 -- a connection that is open has something to do
-phase_at_work : (max : ℕ) (phase : Phase) (line : Endpoint) → max ≤ longest_payload → cause_of phase ≡ None → PhaseStands max phase line → IsAtWork phase
+phase_at_work : (max : ℕ) (phase : Phase) (line : Endpoint) → max ≤ longest_payload → cause_of phase ≡ None → ServedPhaseStands max phase line → IsAtWork phase
 phase_at_work max (sizing bytes) line short e p = tt
 phase_at_work max (held size) line short e p = tt
 phase_at_work max (framing size bytes) line short e p = tt
@@ -142,7 +142,7 @@ phase_at_work max (waiting number) line short e p = p
 phase_at_work max (writing left) line short e p = p.0
 phase_at_work max (ended cause) line short e p = absurd (let f : ⊥ = cc in f)
 
-pub at_work : (s : RunSetting) (v : Serving) (run : Run) → s.desk.max_frame ≤ longest_payload → cause_of run.conn.phase ≡ None → IsRunUnderWay s v run → IsAtWork run.conn.phase
+pub at_work : (s : RunSetting) (v : Serving) (run : ServedRun) → s.desk.max_frame ≤ longest_payload → cause_of run.conn.phase ≡ None → IsServingUnderWay s v run → IsAtWork run.conn.phase
 at_work s v run short e u = phase_at_work s.desk.max_frame run.conn.phase (u.world.endpoints 0) short e u.stands
 
 -- and it isn't stopped
@@ -155,5 +155,5 @@ open_alive (ready number payload) e stopped = stopped
 open_alive (waiting number) e stopped = stopped
 open_alive (writing left) e stopped = stopped
 
-pub still_whole : (s : RunSetting) (v : Serving) (run : Run) → cause_of run.conn.phase ≡ None → IsRunUnderWay s v run → v.torn ≡ false
+pub still_whole : (s : RunSetting) (v : Serving) (run : ServedRun) → cause_of run.conn.phase ≡ None → IsServingUnderWay s v run → v.torn ≡ false
 still_whole s v run e u = (u.serves.in_step (open_alive run.conn.phase e)).whole

@@ -13,10 +13,10 @@ use Rattle.host_model.proofs.Lists.{but_last-push}
 use Rattle.call_rules.specs.PlainCalls.{PlainCall, PlainAnswer}
 use Rattle.call_rules.specs.Entries.{CallEntry}
 use Rattle.call_rules.specs.Handling.{ServiceState, handled, service_after, handler_rules}
-use Rattle.recorded_calls.specs.declared.run.Run.{Run}
+use Rattle.recorded_calls.specs.declared.run.ServedRun.{ServedRun}
 use Rattle.recorded_calls.specs.Serving.{Serving, IsToldAs}
 use Rattle.recorded_calls.specs.Settling.{entry_of, IsHandled}
-use Rattle.recorded_calls.specs.Run.{RunSetting, setting_rules, IsInStep, IsRunUnderWay, PhaseStands, AreWrittenFor, settled_frames}
+use Rattle.recorded_calls.specs.Run.{RunSetting, setting_rules, IsInStep, IsServingUnderWay, ServedPhaseStands, AreWrittenInServing, frames_settled}
 use Rattle.recorded_calls.proofs.Numbers.{answer_added, numbers_below}
 use Rattle.recorded_calls.proofs.Writes.{wrote_entered}
 use Rattle.recorded_calls.proofs.Acts.{Before}
@@ -62,8 +62,8 @@ entered_world w e =
     record { tape = w.tape; journal = w.journal ++ e ∷ []; endpoints = with_endpoint w.endpoints 0 (record (w.endpoints 0) { stage = entered }) }
 
 -- the call is entered
-pub enters_call : (s : RunSetting) (v : Serving) (run : Run) (number : ℕ) (payload : List ℕ) (call : PlainCall) (answer : PlainAnswer) (new : List ServiceState)
-    → run.conn.phase ≡ ready number payload → s.desk.decide payload ≡ Invoke call → (u : IsRunUnderWay s v run) → IsInStep s v u.world.journal
+pub enters_call : (s : RunSetting) (v : Serving) (run : ServedRun) (number : ℕ) (payload : List ℕ) (call : PlainCall) (answer : PlainAnswer) (new : List ServiceState)
+    → run.conn.phase ≡ ready number payload → s.desk.decide payload ≡ Invoke call → (u : IsServingUnderWay s v run) → IsInStep s v u.world.journal
     → IsHandled v.services new call answer
     → ReachedBy (setting_rules s) handler_rules s.first (enters (entry_of number call answer) ∷ u.acts) (entered_world u.world (entry_of number call answer))
 enters_call s v run number payload call answer new was_ready decided u step h =
@@ -84,8 +84,8 @@ enters_call s v run number payload call answer new was_ready decided u step h =
     )
 
 -- the run before the move of a payload whose call is entered
-abbrev pub entered_before : (s : RunSetting) (v : Serving) (run : Run) (number : ℕ) (payload : List ℕ) (e : CallEntry) → e.key.c ≡ 0 → e.key.i ≡ number
-    → run.conn.phase ≡ ready number payload → (u : IsRunUnderWay s v run)
+abbrev pub entered_before : (s : RunSetting) (v : Serving) (run : ServedRun) (number : ℕ) (payload : List ℕ) (e : CallEntry) → e.key.c ≡ 0 → e.key.i ≡ number
+    → run.conn.phase ≡ ready number payload → (u : IsServingUnderWay s v run)
     → ReachedBy (setting_rules s) handler_rules s.first (enters e ∷ u.acts) (entered_world u.world e) → Before s run
 entered_before s v run number payload e own numbered was_ready u reached =
     record {
@@ -95,15 +95,15 @@ entered_before s v run number payload e own numbered was_ready u reached =
       same_tape = u.same_tape;
       others = λ c other. ap (λ t. cond t (record (u.world.endpoints 0) { stage = entered }) (u.world.endpoints c)) (ne_eqb c 0 other) ∙ u.others c other;
       wrote =
-          let is : settled_frames run.conn.frames run.conn.phase ≡ e.key.i = ap (settled_frames run.conn.frames) was_ready ∙ sym numbered in
-          subst (λ n. AreWrittenFor (setting_rules s) (entries_of 0 (u.world.journal ++ e ∷ [])) n u.world.tape) (sym is)
+          let is : frames_settled run.conn.frames run.conn.phase ≡ e.key.i = ap (frames_settled run.conn.frames) was_ready ∙ sym numbered in
+          subst (λ n. AreWrittenInServing (setting_rules s) (entries_of 0 (u.world.journal ++ e ∷ [])) n u.world.tape) (sym is)
           (wrote_entered (setting_rules s) u.world.journal e u.world.tape own
-          (subst (λ n. AreWrittenFor (setting_rules s) (entries_of 0 u.world.journal) n u.world.tape) is u.wrote));
+          (subst (λ n. AreWrittenInServing (setting_rules s) (entries_of 0 u.world.journal) n u.world.tape) is u.wrote));
     }
 
 -- the answer that the journal has once the call is entered
-pub answer_is : (s : RunSetting) (v : Serving) (run : Run) (number : ℕ) (payload : List ℕ) (call : PlainCall) (answer : PlainAnswer) (u : IsRunUnderWay s v run)
-    → Moment (setting_rules s) handler_rules s.first u.world → (at : PhaseStands s.desk.max_frame (ready number payload) (u.world.endpoints 0))
+pub answer_is : (s : RunSetting) (v : Serving) (run : ServedRun) (number : ℕ) (payload : List ℕ) (call : PlainCall) (answer : PlainAnswer) (u : IsServingUnderWay s v run)
+    → Moment (setting_rules s) handler_rules s.first u.world → (at : ServedPhaseStands s.desk.max_frame (ready number payload) (u.world.endpoints 0))
     → answer_at (entries_of 0 (u.world.journal ++ entry_of number call answer ∷ [])) (length at.0) ≡ Some answer
 answer_is s v run number payload call answer u moment at =
     let line = u.world.endpoints 0 in

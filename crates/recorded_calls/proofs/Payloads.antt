@@ -18,10 +18,10 @@ use Rattle.call_rules.specs.Entries.{CallEntry}
 use Rattle.call_rules.specs.Desks.{IsDesk, IsWholeFrame, IsAnsweredCall, longest_payload}
 use Rattle.call_rules.specs.Handling.{handler_rules}
 use Rattle.run_report.specs.Entries.{IsPlainEntry}
-use Rattle.recorded_calls.specs.declared.run.Run.{Run}
+use Rattle.recorded_calls.specs.declared.run.ServedRun.{ServedRun}
 use Rattle.recorded_calls.specs.Serving.{Serving, IsToldAs}
-use Rattle.recorded_calls.specs.Settling.{entry_of, StaysServing, GoesBack, IsEnteredAs, IsCalled, ComesWithoutCall, FollowsDecision, ComesOf}
-use Rattle.recorded_calls.specs.Run.{RunSetting, setting_rules, IsServing, IsInStep, IsStopped, IsRunUnderWay, MovesOn, after_outcome}
+use Rattle.recorded_calls.specs.Settling.{entry_of, StaysServing, GoesBack, IsEnteredAs, IsCalled, ComesWithoutCall, FollowsDecision, PayloadComesTo}
+use Rattle.recorded_calls.specs.Run.{RunSetting, setting_rules, IsServing, IsInStep, IsStopped, IsServingUnderWay, ServingMovesOn, after_outcome}
 use Rattle.recorded_calls.proofs.Acts.{Before, before}
 use Rattle.recorded_calls.proofs.Settled.{Settles, SettledBy, settled_by, ready_line}
 use Rattle.recorded_calls.proofs.Entering.{told_on, in_step_on, enters_call, entered_before, answer_is}
@@ -41,13 +41,13 @@ stays_on s v w old new journal k a b i =
     }
 
 -- a run in which a payload is ready isn't stopped
-ready_alive : (run : Run) (number : ℕ) (payload : List ℕ) → run.conn.phase ≡ ready number payload → IsStopped run.conn.phase → ⊥
+ready_alive : (run : ServedRun) (number : ℕ) (payload : List ℕ) → run.conn.phase ≡ ready number payload → IsStopped run.conn.phase → ⊥
 ready_alive run number payload was_ready e = subst IsStopped was_ready e
 
 -- what a case below is of
-record Case (s : RunSetting) (v w : Serving) (run new : Run) (number : ℕ) (payload : List ℕ) (outcome : Result Settled Failed) : Type 0 where
+record Case (s : RunSetting) (v w : Serving) (run new : ServedRun) (number : ℕ) (payload : List ℕ) (outcome : Result Settled Failed) : Type 0 where
   kept : Settles run new number payload outcome
-  under_way : IsRunUnderWay s v run
+  under_way : IsServingUnderWay s v run
   desk : IsDesk s.desk
   short : length payload ≤ longest_payload
   moment : Moment (setting_rules s) handler_rules s.first under_way.world
@@ -58,8 +58,8 @@ frame_some bytes f e =
     absurd (omega (arith, ap length e, ap length f.whole, length-append (to_be_bytes w32 (length f.payload)) f.payload, f.is.some))
 
 -- there is no memory
-no_memory : (s : RunSetting) (v w : Serving) (run new : Run) (number : ℕ) (payload : List ℕ) (outcome : Result Settled Failed)
-    → Case s v w run new number payload outcome → ComesWithoutCall v w outcome settled.NoMemory → MovesOn s w run new
+no_memory : (s : RunSetting) (v w : Serving) (run new : ServedRun) (number : ℕ) (payload : List ℕ) (outcome : Result Settled Failed)
+    → Case s v w run new number payload outcome → ComesWithoutCall v w outcome settled.NoMemory → ServingMovesOn s w run new
 no_memory s v w run new number payload outcome k o =
     let u = k.under_way in
     let at = ready_line s v run number payload k.kept.was_ready u in
@@ -80,8 +80,8 @@ no_memory s v w run new number payload outcome k o =
     })
 
 -- the head is refused
-closes_it : (s : RunSetting) (v w : Serving) (run new : Run) (number : ℕ) (payload : List ℕ) (outcome : Result Settled Failed) (fault : EnvelopeFault)
-    → Case s v w run new number payload outcome → s.desk.decide payload ≡ Close fault → ComesWithoutCall v w outcome (settled.Close fault) → MovesOn s w run new
+closes_it : (s : RunSetting) (v w : Serving) (run new : ServedRun) (number : ℕ) (payload : List ℕ) (outcome : Result Settled Failed) (fault : EnvelopeFault)
+    → Case s v w run new number payload outcome → s.desk.decide payload ≡ Close fault → ComesWithoutCall v w outcome (settled.Close fault) → ServingMovesOn s w run new
 closes_it s v w run new number payload outcome fault k d o =
     let u = k.under_way in
     let at = ready_line s v run number payload k.kept.was_ready u in
@@ -102,8 +102,8 @@ closes_it s v w run new number payload outcome fault k d o =
     })
 
 -- nothing is asked for
-stays_silent : (s : RunSetting) (v w : Serving) (run new : Run) (number : ℕ) (payload : List ℕ) (outcome : Result Settled Failed)
-    → Case s v w run new number payload outcome → s.desk.decide payload ≡ Silent → ComesWithoutCall v w outcome settled.Nothing → MovesOn s w run new
+stays_silent : (s : RunSetting) (v w : Serving) (run new : ServedRun) (number : ℕ) (payload : List ℕ) (outcome : Result Settled Failed)
+    → Case s v w run new number payload outcome → s.desk.decide payload ≡ Silent → ComesWithoutCall v w outcome settled.Nothing → ServingMovesOn s w run new
 stays_silent s v w run new number payload outcome k d o =
     let u = k.under_way in
     let at = ready_line s v run number payload k.kept.was_ready u in
@@ -124,8 +124,8 @@ stays_silent s v w run new number payload outcome k d o =
     })
 
 -- a reply goes back without a call
-replies_at_once : (s : RunSetting) (v w : Serving) (run new : Run) (number : ℕ) (payload : List ℕ) (outcome : Result Settled Failed) (reply : List ℕ)
-    → Case s v w run new number payload outcome → s.desk.decide payload ≡ Reply reply → ComesWithoutCall v w outcome (settled.Reply reply) → MovesOn s w run new
+replies_at_once : (s : RunSetting) (v w : Serving) (run new : ServedRun) (number : ℕ) (payload : List ℕ) (outcome : Result Settled Failed) (reply : List ℕ)
+    → Case s v w run new number payload outcome → s.desk.decide payload ≡ Reply reply → ComesWithoutCall v w outcome (settled.Reply reply) → ServingMovesOn s w run new
 replies_at_once s v w run new number payload outcome reply k d o =
     let u = k.under_way in
     let at = ready_line s v run number payload k.kept.was_ready u in
@@ -148,8 +148,8 @@ replies_at_once s v w run new number payload outcome reply k d o =
 -- 2. a call is made
 
 -- the journal failed, so the run stops
-stops : (s : RunSetting) (v w : Serving) (run new : Run) (number : ℕ) (payload : List ℕ) (failed : Failed)
-    → Case s v w run new number payload (Err failed) → w.told ≡ v.told → v.faults ≤ w.faults → Rose v.faults w.faults → MovesOn s w run new
+stops : (s : RunSetting) (v w : Serving) (run new : ServedRun) (number : ℕ) (payload : List ℕ) (failed : Failed)
+    → Case s v w run new number payload (Err failed) → w.told ≡ v.told → v.faults ≤ w.faults → Rose v.faults w.faults → ServingMovesOn s w run new
 stops s v w run new number payload failed k same_told grows risen =
     let u = k.under_way in
     let at = ready_line s v run number payload k.kept.was_ready u in
@@ -176,8 +176,8 @@ stops s v w run new number payload failed k same_told grows risen =
     })
 
 -- what serves the run once the call is entered
-entered_on : (s : RunSetting) (v w : Serving) (run new : Run) (number : ℕ) (payload : List ℕ) (call : PlainCall) (outcome : Result Settled Failed) (phase : Phase)
-    → Case s v w run new number payload outcome → (u : IsRunUnderWay s v run) → s.desk.decide payload ≡ Invoke call
+entered_on : (s : RunSetting) (v w : Serving) (run new : ServedRun) (number : ℕ) (payload : List ℕ) (call : PlainCall) (outcome : Result Settled Failed) (phase : Phase)
+    → Case s v w run new number payload outcome → (u : IsServingUnderWay s v run) → s.desk.decide payload ≡ Invoke call
     → (o : IsCalled s.desk number payload call v w outcome) → (IsStopped phase → ⊥)
     → IsToldAs w.told (u.world.journal ++ entry_of number call o.answer ∷ []) → w.torn ≡ false → v.faults ≤ w.faults
     → IsServing s w phase (u.world.journal ++ entry_of number call o.answer ∷ [])
@@ -194,7 +194,7 @@ entered_on s v w run new number payload call outcome phase k u d o alive is_told
     }
 
 -- a call that is entered, and what goes back for it
-record Entered (s : RunSetting) (v w : Serving) (run new : Run) (number : ℕ) (payload : List ℕ) (call : PlainCall) (outcome : Result Settled Failed) : Type 0 where
+record Entered (s : RunSetting) (v w : Serving) (run new : ServedRun) (number : ℕ) (payload : List ℕ) (call : PlainCall) (outcome : Result Settled Failed) : Type 0 where
   of_run : Case s v w run new number payload outcome
   decided : s.desk.decide payload ≡ Invoke call
   called : IsCalled s.desk number payload call v w outcome
@@ -202,9 +202,9 @@ record Entered (s : RunSetting) (v w : Serving) (run new : Run) (number : ℕ) (
   whole : w.torn ≡ false
   grows : v.faults ≤ w.faults
 
-module _ (s : RunSetting) (v w : Serving) (run new : Run) (number : ℕ) (payload : List ℕ) (call : PlainCall) (outcome : Result Settled Failed)
+module _ (s : RunSetting) (v w : Serving) (run new : ServedRun) (number : ℕ) (payload : List ℕ) (call : PlainCall) (outcome : Result Settled Failed)
     (k : Entered s v w run new number payload call outcome) where
-  abbrev u : IsRunUnderWay s v run
+  abbrev u : IsServingUnderWay s v run
   u = k.of_run.under_way
 
   abbrev entry : CallEntry
@@ -227,7 +227,7 @@ module _ (s : RunSetting) (v w : Serving) (run new : Run) (number : ℕ) (payloa
       ∙ ap (λ b. cond b [] (s.desk.reply payload k.called.answer)) is
 
   -- nothing goes back, since the call is silent
-  replies_nothing : call.silent ≡ true → outcome ≡ Ok settled.Nothing → MovesOn s w run new
+  replies_nothing : call.silent ≡ true → outcome ≡ Ok settled.Nothing → ServingMovesOn s w run new
   replies_nothing silent is =
       let at = ready_line s v run number payload k.of_run.kept.was_ready u in
       let found = answer_is s v run number payload call k.called.answer u k.of_run.moment at in
@@ -250,7 +250,7 @@ module _ (s : RunSetting) (v w : Serving) (run new : Run) (number : ℕ) (payloa
       })
 
   -- the reply goes back
-  replies_frame : call.silent ≡ false → outcome ≡ Ok (settled.Reply (s.desk.reply payload k.called.answer)) → MovesOn s w run new
+  replies_frame : call.silent ≡ false → outcome ≡ Ok (settled.Reply (s.desk.reply payload k.called.answer)) → ServingMovesOn s w run new
   replies_frame loud is =
       let at = ready_line s v run number payload k.of_run.kept.was_ready u in
       let found = answer_is s v run number payload call k.called.answer u k.of_run.moment at in
@@ -278,7 +278,7 @@ module _ (s : RunSetting) (v w : Serving) (run new : Run) (number : ℕ) (payloa
       })
 
   -- there is no memory for the reply
-  no_reply : outcome ≡ Ok settled.NoMemory → MovesOn s w run new
+  no_reply : outcome ≡ Ok settled.NoMemory → ServingMovesOn s w run new
   no_reply is =
       settled_by s v w run new number payload outcome k.of_run.kept u world_before (ended NoMemory) (ap after_outcome is) (gives_up NoMemory)
       (record {
@@ -296,14 +296,14 @@ module _ (s : RunSetting) (v w : Serving) (run new : Run) (number : ℕ) (payloa
         serves = entered_on s v w run new number payload call outcome (ended NoMemory) k.of_run u k.decided k.called (λ e. e) k.is_told k.whole k.grows;
       })
 
-  goes_back : (silent : Bool) → call.silent ≡ silent → (is : Settled) → outcome ≡ Ok is → GoesBack silent (s.desk.reply payload k.called.answer) is → MovesOn s w run new
+  goes_back : (silent : Bool) → call.silent ≡ silent → (is : Settled) → outcome ≡ Ok is → GoesBack silent (s.desk.reply payload k.called.answer) is → ServingMovesOn s w run new
   goes_back true e is same back = replies_nothing e (same ∙ ap Ok back)
   goes_back false e is same (inl back) = replies_frame e (same ∙ ap Ok back)
   goes_back false e is same (inr back) = no_reply (same ∙ ap Ok back)
 
 -- a call was made
-calls_it : (s : RunSetting) (v w : Serving) (run new : Run) (number : ℕ) (payload : List ℕ) (call : PlainCall) (outcome : Result Settled Failed)
-    → Case s v w run new number payload outcome → s.desk.decide payload ≡ Invoke call → IsCalled s.desk number payload call v w outcome → MovesOn s w run new
+calls_it : (s : RunSetting) (v w : Serving) (run new : ServedRun) (number : ℕ) (payload : List ℕ) (call : PlainCall) (outcome : Result Settled Failed)
+    → Case s v w run new number payload outcome → s.desk.decide payload ≡ Invoke call → IsCalled s.desk number payload call v w outcome → ServingMovesOn s w run new
 calls_it s v w run new number payload call (Ok is) k d c =
     goes_back s v w run new number payload call (Ok is)
     (record {
@@ -318,17 +318,17 @@ calls_it s v w run new number payload call (Err failed) k d c = stops s v w run 
 
 -- 3. each decision
 
-follows : (s : RunSetting) (v w : Serving) (run new : Run) (number : ℕ) (payload : List ℕ) (outcome : Result Settled Failed) (decision : DeskDecision PlainCall)
-    → s.desk.decide payload ≡ decision → Case s v w run new number payload outcome → FollowsDecision s.desk number payload v w outcome decision → MovesOn s w run new
+follows : (s : RunSetting) (v w : Serving) (run new : ServedRun) (number : ℕ) (payload : List ℕ) (outcome : Result Settled Failed) (decision : DeskDecision PlainCall)
+    → s.desk.decide payload ≡ decision → Case s v w run new number payload outcome → FollowsDecision s.desk number payload v w outcome decision → ServingMovesOn s w run new
 follows s v w run new number payload outcome (Close fault) d k o = closes_it s v w run new number payload outcome fault k d o
 follows s v w run new number payload outcome Silent d k o = stays_silent s v w run new number payload outcome k d o
 follows s v w run new number payload outcome (Reply reply) d k o = replies_at_once s v w run new number payload outcome reply k d o
 follows s v w run new number payload outcome (Invoke call) d k o = calls_it s v w run new number payload call outcome k d o
 
 -- a payload is handed out and settled
-pub settles_payload : (s : RunSetting) (v w : Serving) (run new : Run) (number : ℕ) (payload : List ℕ) (outcome : Result Settled Failed) → Settles run new number payload outcome
-    → IsDesk s.desk → length payload ≤ longest_payload → ComesOf s.desk number payload v w outcome (s.desk.decide payload)
-    → (u : IsRunUnderWay s v run) → Moment (setting_rules s) handler_rules s.first u.world → MovesOn s w run new
+pub settles_payload : (s : RunSetting) (v w : Serving) (run new : ServedRun) (number : ℕ) (payload : List ℕ) (outcome : Result Settled Failed) → Settles run new number payload outcome
+    → IsDesk s.desk → length payload ≤ longest_payload → PayloadComesTo s.desk number payload v w outcome (s.desk.decide payload)
+    → (u : IsServingUnderWay s v run) → Moment (setting_rules s) handler_rules s.first u.world → ServingMovesOn s w run new
 settles_payload s v w run new number payload outcome k desk short (inl none) u moment =
     no_memory s v w run new number payload outcome (record { kept = k; under_way = u; desk = desk; short = short; moment = moment }) none
 settles_payload s v w run new number payload outcome k desk short (inr o) u moment =

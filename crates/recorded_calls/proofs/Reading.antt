@@ -10,13 +10,13 @@ use Rattle.conn_state.specs.Split.{Splits, PhaseSays}
 use Rattle.host_model.specs.Frames.{Frames}
 use Rattle.host_model.specs.Marks.{marks_of, input}
 use Rattle.host_model.specs.World.{Moment}
-use Rattle.recorded_calls.specs.declared.run.Run.{Run}
+use Rattle.recorded_calls.specs.declared.run.ServedRun.{ServedRun}
 use Rattle.call_rules.specs.Handling.{handler_rules}
 use Rattle.recorded_calls.specs.Serving.{Serving}
-use Rattle.recorded_calls.specs.Pieces.{AreEnds}
+use Rattle.recorded_calls.specs.Pieces.{ArePieceEnds}
 use Rattle.script_model.specs.Feeding.{Completes, TakesItsPart, EachReadTakesItsPart, piece_end}
-use Rattle.recorded_calls.specs.Run.{RunSetting, setting_rules, IsRunUnderWay, closed_tape}
-use Rattle.recorded_calls.specs.Pieces.{IsInPiece, AddsNoRead, IsFed}
+use Rattle.recorded_calls.specs.Run.{RunSetting, setting_rules, IsServingUnderWay, tape_if_closed}
+use Rattle.recorded_calls.specs.Pieces.{StandsInPiece, LeavesReads, IsServedByPieces}
 use Rattle.recorded_calls.proofs.Moves.{reads_at}
 use Rattle.recorded_calls.proofs.Fed.{fed_on, fed_all, read_parts, adds_close, ends_there, some_piece, numbers_below}
 
@@ -33,7 +33,7 @@ completes max payloads rest out (writing left) h s some = absurd h
 completes max payloads rest out (ended cause) h s some = absurd h
 
 -- a read takes its part
-pub takes_part : (s : RunSetting) (v : Serving) (ends : List ℕ) (run : Run) (bytes : List ℕ) (end : ℕ) → IsReading run.conn.phase → (u : IsRunUnderWay s v run)
+pub takes_part : (s : RunSetting) (v : Serving) (ends : List ℕ) (run : ServedRun) (bytes : List ℕ) (end : ℕ) → IsReading run.conn.phase → (u : IsServingUnderWay s v run)
     → Moment (setting_rules s) handler_rules s.first u.world → Splits s.desk.max_frame (taken u.events) (given u.events) run.conn
     → 0 < length bytes → 0 < missing run.conn.phase → end ≡ piece_end ends run.at → length bytes ≡ min (wanted run.conn.phase) (end - run.at)
     → TakesItsPart s.desk.max_frame ends (input (marks_of 0 run.tape.items)) bytes
@@ -54,8 +54,8 @@ takes_part s v ends run bytes end h u moment splits some_bytes some end_is count
     }
 
 -- the piece is counted that is read to its end
-behind_it : (ends : List ℕ) (size piece at now : ℕ) (is_read : Bool) → AreEnds ends size → IsInPiece ends piece at → piece < length ends
-    → at ≤ now → now ≤ get_or ends piece 0 → (now == get_or ends piece 0) ≡ is_read → IsInPiece ends (cond is_read (suc piece) piece) now
+behind_it : (ends : List ℕ) (size piece at now : ℕ) (is_read : Bool) → ArePieceEnds ends size → StandsInPiece ends piece at → piece < length ends
+    → at ≤ now → now ≤ get_or ends piece 0 → (now == get_or ends piece 0) ≡ is_read → StandsInPiece ends (cond is_read (suc piece) piece) now
 behind_it ends size piece at now true are is inside more within test =
     let e : now ≡ get_or ends piece 0 = eqb-true now (get_or ends piece 0) test in
     record {
@@ -75,20 +75,20 @@ behind_it ends size piece at now false are is inside more within test =
     }
 
 -- what a read makes of a run
-pub record TakesBytes (ends : List ℕ) (run new : Run) (bytes : List ℕ) (end : ℕ) : Type 0 where
+pub record TakesBytes (ends : List ℕ) (run new : ServedRun) (bytes : List ℕ) (end : ℕ) : Type 0 where
   pub reading : IsReading run.conn.phase
   pub some : 0 < length bytes
   pub asked : length bytes ≡ min (wanted run.conn.phase) (end - run.at)
   pub ahead : run.at < end
   pub end_is : end ≡ piece_end ends run.at
-  pub tape_is : new.tape.items ≡ closed_tape new.conn.phase (run.tape.items ++ Read 0 bytes ∷ [])
+  pub tape_is : new.tape.items ≡ tape_if_closed new.conn.phase (run.tape.items ++ Read 0 bytes ∷ [])
   pub at_is : new.at ≡ run.at + length bytes
   pub piece_is : run.piece < 2 ^ 62 → new.piece ≡ cond (new.at == end) (suc run.piece) run.piece
 
 -- a run that reads stays fed
-pub reads_fed : (s : RunSetting) (v : Serving) (ends : List ℕ) (run new : Run) (bytes : List ℕ) (end : ℕ) → TakesBytes ends run new bytes end → run.at < length s.all → length s.all < 2 ^ 62
-    → AreEnds ends (length s.all) → (u : IsRunUnderWay s v run) → Moment (setting_rules s) handler_rules s.first u.world
-    → Splits s.desk.max_frame (taken u.events) (given u.events) run.conn → IsFed s.desk.max_frame ends run → IsFed s.desk.max_frame ends new
+pub reads_fed : (s : RunSetting) (v : Serving) (ends : List ℕ) (run new : ServedRun) (bytes : List ℕ) (end : ℕ) → TakesBytes ends run new bytes end → run.at < length s.all → length s.all < 2 ^ 62
+    → ArePieceEnds ends (length s.all) → (u : IsServingUnderWay s v run) → Moment (setting_rules s) handler_rules s.first u.world
+    → Splits s.desk.max_frame (taken u.events) (given u.events) run.conn → IsServedByPieces s.desk.max_frame ends run → IsServedByPieces s.desk.max_frame ends new
 reads_fed s v ends run new bytes end t left small are u moment splits fed =
     elim (cases_lt run.piece (length ends)) [
       | inr over ↦ absurd (some_piece ends (length s.all) run.piece run.at are fed.in_piece left over)
@@ -101,13 +101,13 @@ reads_fed s v ends run new bytes end t left small are u moment splits fed =
     takes : TakesItsPart s.desk.max_frame ends (input (marks_of 0 run.tape.items)) bytes
     takes = takes_part s v ends run bytes end t.reading u moment splits t.some (omega (arith, t.some, t.asked)) t.end_is t.asked
 
-    adds : AddsNoRead (run.tape.items ++ read ∷ []) new.tape.items
-    adds = subst (AddsNoRead (run.tape.items ++ read ∷ [])) (sym t.tape_is) (adds_close new.conn.phase (run.tape.items ++ read ∷ []))
+    adds : LeavesReads (run.tape.items ++ read ∷ []) new.tape.items
+    adds = subst (LeavesReads (run.tape.items ++ read ∷ [])) (sym t.tape_is) (adds_close new.conn.phase (run.tape.items ++ read ∷ []))
 
     with_read : EachReadTakesItsPart s.desk.max_frame 0 ends (run.tape.items ++ read ∷ [])
     with_read = fed_on s.desk.max_frame ends run.tape.items read fed.fed (λ more e. subst (TakesItsPart s.desk.max_frame ends (input (marks_of 0 run.tape.items))) (read_parts bytes more e) takes)
 
-    go : run.piece < length ends → IsFed s.desk.max_frame ends new
+    go : run.piece < length ends → IsServedByPieces s.desk.max_frame ends new
     go inside =
         let there : end ≡ get_or ends run.piece 0 = t.end_is ∙ ends_there ends run.piece run.at fed.in_piece inside in
         let few : run.piece < get_or ends run.piece 0 = numbers_below ends (length s.all) run.piece are inside in
@@ -115,7 +115,7 @@ reads_fed s v ends run new bytes end t left small are u moment splits fed =
         let piece_is = t.piece_is (omega arith) ∙ ap (λ e. cond (new.at == e) (suc run.piece) run.piece) there in
         record {
           fed = fed_all s.desk.max_frame ends (run.tape.items ++ read ∷ []) new.tape.items with_read adds;
-          in_piece = subst (λ p. IsInPiece ends p new.at) (sym piece_is)
+          in_piece = subst (λ p. StandsInPiece ends p new.at) (sym piece_is)
               (behind_it ends (length s.all) run.piece run.at new.at (new.at == get_or ends run.piece 0) are fed.in_piece inside
               (omega (arith, t.at_is)) (omega (arith, t.at_is, t.asked, t.ahead, there)) refl);
         }

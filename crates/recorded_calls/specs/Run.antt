@@ -24,7 +24,7 @@ use Rattle.call_rules.specs.Entries.{CallEntry}
 use Rattle.call_rules.specs.Desks.{DeskMeaning, desk_rules, longest_payload}
 use Rattle.call_rules.specs.Handling.{ServiceState, handler_rules}
 use Rattle.run_report.specs.Entries.{IsPlainEntry}
-use Rattle.recorded_calls.specs.declared.run.Run.{Run}
+use Rattle.recorded_calls.specs.declared.run.ServedRun.{ServedRun}
 use Rattle.recorded_calls.specs.Causes.{is_served_or_stopped}
 use Rattle.recorded_calls.specs.Serving.{Serving, IsToldAs}
 
@@ -46,36 +46,36 @@ IsOver (over_pending given) cause = cause ≡ given
 IsOver _ cause = ⊥
 
 -- what a connection's phase says of where it stands in the world, where this is the longest payload
-abbrev pub PhaseStands : ℕ → Phase → Endpoint → Type 0
-PhaseStands max (sizing bytes) line = (line.held ≡ bytes) × (line.stage ≡ open_ [])
-PhaseStands max (held size) line = (line.held ≡ bytes_held (held size)) × (line.stage ≡ open_ [])
-PhaseStands max (framing size bytes) line = (line.held ≡ bytes_held (framing size bytes)) × (line.stage ≡ open_ [])
-PhaseStands max (ready number payload) line =
+abbrev pub ServedPhaseStands : ℕ → Phase → Endpoint → Type 0
+ServedPhaseStands max (sizing bytes) line = (line.held ≡ bytes) × (line.stage ≡ open_ [])
+ServedPhaseStands max (held size) line = (line.held ≡ bytes_held (held size)) × (line.stage ≡ open_ [])
+ServedPhaseStands max (framing size bytes) line = (line.held ≡ bytes_held (framing size bytes)) × (line.stage ≡ open_ [])
+ServedPhaseStands max (ready number payload) line =
     (before : List (List ℕ)) × IsLast line.payloads before payload × (number ≡ length before) × (line.held ≡ []) × (line.stage ≡ pending) × IsPayload max payload
-PhaseStands max (waiting number) line = ⊥
-PhaseStands max (writing left) line = (left ≢ []) × (line.held ≡ []) × (line.stage ≡ open_ left)
-PhaseStands max (ended cause) line = IsOver line.stage cause
+ServedPhaseStands max (waiting number) line = ⊥
+ServedPhaseStands max (writing left) line = (left ≢ []) × (line.held ≡ []) × (line.stage ≡ open_ left)
+ServedPhaseStands max (ended cause) line = IsOver line.stage cause
 
 -- a connection that has ended has done so by a cause that may come, behind all bytes where it found their end
-abbrev pub EndsWell : Phase → List ℕ → List ℕ → Type 0
-EndsWell (ended cause) read all = (is_served_or_stopped cause ≡ true) × IsReadToItsEnd cause read all
-EndsWell _ read all = Unit {0}
+abbrev pub ServedEndsWell : Phase → List ℕ → List ℕ → Type 0
+ServedEndsWell (ended cause) read all = (is_served_or_stopped cause ≡ true) × IsReadToItsEnd cause read all
+ServedEndsWell _ read all = Unit {0}
 
 -- of so many whole frames, how many are settled
-abbrev pub settled_frames : ℕ → Phase → ℕ
-settled_frames frames (ready number payload) = number
-settled_frames frames (waiting number) = number
-settled_frames frames _ = frames
+abbrev pub frames_settled : ℕ → Phase → ℕ
+frames_settled frames (ready number payload) = number
+frames_settled frames (waiting number) = number
+frames_settled frames _ = frames
 
 -- these bytes are the rest of what is to be sent for at most so many frames
-pub record WritesFor (d : DeskRules PlainCall PlainAnswer) (es : List CallEntry) (most : ℕ) (marks : List Mark) (bytes : List ℕ) : Type 0 where
+pub record WritesInServing (d : DeskRules PlainCall PlainAnswer) (es : List CallEntry) (most : ℕ) (marks : List Mark) (bytes : List ℕ) : Type 0 where
   pub rest : WritesTheRest d es marks bytes
   pub few : length rest.payloads ≤ most
 
 -- each write of connection 0 is such a one
-abbrev pub AreWrittenFor : DeskRules PlainCall PlainAnswer → List CallEntry → ℕ → List Mark → Type 0
-AreWrittenFor d es most tape =
-    (front back : List Mark) (bytes : List ℕ) → tape ≡ front ++ Wrote 0 bytes ∷ back → WritesFor d es most (marks_of 0 front) bytes
+abbrev pub AreWrittenInServing : DeskRules PlainCall PlainAnswer → List CallEntry → ℕ → List Mark → Type 0
+AreWrittenInServing d es most tape =
+    (front back : List Mark) (bytes : List ℕ) → tape ≡ front ++ Wrote 0 bytes ∷ back → WritesInServing d es most (marks_of 0 front) bytes
 
 -- the cause of a run whose journal failed
 abbrev pub IsStopping : EndCause → Type 0
@@ -110,7 +110,7 @@ pub record IsFirstServing (s : RunSetting) (v : Serving) : Type 0 where
 
 -- The run's tape is that of a world that acts have reached, in which connection 0 stands as the run's says and no other was opened; its journal and the
 -- services are what serves the run. The first `at` of all bytes are read, and what is written is what the tape says.
-pub record IsRunUnderWay (s : RunSetting) (v : Serving) (run : Run) : Type 0 where
+pub record IsServingUnderWay (s : RunSetting) (v : Serving) (run : ServedRun) : Type 0 where
   pub acts : List (Act PlainCall PlainAnswer)
   pub world : World PlainCall PlainAnswer
   pub reached : ReachedBy (setting_rules s) handler_rules s.first acts world
@@ -118,34 +118,34 @@ pub record IsRunUnderWay (s : RunSetting) (v : Serving) (run : Run) : Type 0 whe
   pub serves : IsServing s v run.conn.phase world.journal
   pub events : List ConnCall
   pub calls : CallsLead s.desk.max_frame fresh_conn events run.conn
-  pub stands : PhaseStands s.desk.max_frame run.conn.phase (world.endpoints 0)
+  pub stands : ServedPhaseStands s.desk.max_frame run.conn.phase (world.endpoints 0)
   pub counted : run.conn.frames ≡ length (world.endpoints 0).payloads
   pub others : (c : ℕ) → c ≢ 0 → world.endpoints c ≡ unopened_endpoint
   pub read : input (marks_of 0 run.tape.items) ≡ take run.at s.all
   pub sent : output (marks_of 0 run.tape.items) ≡ run.written.items
   pub within : run.at ≤ length s.all
   pub few : run.conn.frames ≤ run.at
-  pub ends_well : EndsWell run.conn.phase (take run.at s.all) s.all
-  pub wrote : AreWrittenFor (setting_rules s) (entries_of 0 world.journal) (settled_frames run.conn.frames run.conn.phase) world.tape
+  pub ends_well : ServedEndsWell run.conn.phase (take run.at s.all) s.all
+  pub wrote : AreWrittenInServing (setting_rules s) (entries_of 0 world.journal) (frames_settled run.conn.frames run.conn.phase) world.tape
 
 -- how much a connection has to do before it reads again
-abbrev pub work_of : Phase → ℕ
-work_of (sizing bytes) = 1
-work_of (held size) = 2
-work_of (framing size bytes) = 1
-work_of (ready number payload) = 3
-work_of (waiting number) = 3
-work_of (writing left) = 2
-work_of (ended cause) = 0
+abbrev pub moves_owed : Phase → ℕ
+moves_owed (sizing bytes) = 1
+moves_owed (held size) = 2
+moves_owed (framing size bytes) = 1
+moves_owed (ready number payload) = 3
+moves_owed (waiting number) = 3
+moves_owed (writing left) = 2
+moves_owed (ended cause) = 0
 
 -- how much a run has to do
-abbrev pub work_left : List ℕ → Run → ℕ
-work_left all run = 8 * (length all - run.at) + work_of run.conn.phase
+abbrev pub moves_left_over : List ℕ → ServedRun → ℕ
+moves_left_over all run = 8 * (length all - run.at) + moves_owed run.conn.phase
 
 -- a move of a run keeps it under way, and leaves less to do
-pub record MovesOn (s : RunSetting) (v : Serving) (old new : Run) : Type 0 where
-  pub under_way : IsRunUnderWay s v new
-  pub less : suc (work_left s.all new) ≤ work_left s.all old
+pub record ServingMovesOn (s : RunSetting) (v : Serving) (old new : ServedRun) : Type 0 where
+  pub under_way : IsServingUnderWay s v new
+  pub less : suc (moves_left_over s.all new) ≤ moves_left_over s.all old
 
 -- a connection that has something to do, and no payload that a desk isn't asked about
 abbrev pub IsAtWork : Phase → Type 0
@@ -163,9 +163,9 @@ IsAskable (ready number payload) = length payload ≤ longest_payload
 IsAskable _ = ⊥
 
 -- the tape of a connection that is closed in the move in which it ends
-abbrev pub closed_tape : Phase → List Mark → List Mark
-closed_tape (ended cause) tape = tape ++ Closed 0 ∷ []
-closed_tape _ tape = tape
+abbrev pub tape_if_closed : Phase → List Mark → List Mark
+tape_if_closed (ended cause) tape = tape ++ Closed 0 ∷ []
+tape_if_closed _ tape = tape
 
 -- where a connection stands behind an outcome
 abbrev pub after_outcome : Result Settled Failed → Phase

@@ -62,6 +62,6 @@ FollowsDecision desk number payload old new outcome (Reply reply) = ComesWithout
 FollowsDecision desk number payload old new outcome (Invoke call) = IsCalled desk number payload call old new outcome
 
 -- A payload is settled as was decided; or there was no memory, and nothing was called.
-abbrev pub ComesOf : DeskMeaning → ℕ → List ℕ → Serving → Serving → Result Settled Failed → DeskDecision PlainCall → Type 0
-ComesOf desk number payload old new outcome decision =
+abbrev pub PayloadComesTo : DeskMeaning → ℕ → List ℕ → Serving → Serving → Result Settled Failed → DeskDecision PlainCall → Type 0
+PayloadComesTo desk number payload old new outcome decision =
     ComesWithoutCall old new outcome settled.NoMemory ⊎ FollowsDecision desk number payload old new outcome decision

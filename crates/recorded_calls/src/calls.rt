@@ -7,7 +7,7 @@ ghost use Rattle.call_rules.specs.PlainCalls.{IsPlainCall, IsPlainAnswer, IsPlai
 ghost use Rattle.call_rules.specs.Answers.{plain_answer, plain_decision};
 ghost use Rattle.call_rules.specs.Desks.{IsAnsweredCall, longest_payload};
 ghost use Rattle.recorded_calls.specs.Serving.{Serving};
-ghost use Rattle.recorded_calls.specs.Settling.{ComesOf, GoesBack, IsHandled};
+ghost use Rattle.recorded_calls.specs.Settling.{PayloadComesTo, GoesBack, IsHandled};
 ghost use Rattle.recorded_calls.specs.Run.{after_outcome};
 
 use call_rules::{Answer, Call, Decision, Desk, Entry, Handler, Journal, Key};
@@ -30,7 +30,7 @@ pub(crate) fn settle<D: Desk, H: Handler, J: Journal>(
     requires short { length payload.now ≤ longest_payload }
     requires slots { length handlers.old ≡ (D.meaning desk.now).slots }
     requires whole { J.torn journal.old ≡ false }
-    ensures comes { ComesOf (D.meaning desk.now) number payload.now
+    ensures comes { PayloadComesTo (D.meaning desk.now) number payload.now
         (record { told = J.told journal.old; faults = J.faults journal.old; torn = J.torn journal.old; services = map H.service handlers.old })
         (record { told = J.told journal.new; faults = J.faults journal.new; torn = J.torn journal.new; services = map H.service handlers.new })
         result ((D.meaning desk.now).decide payload.now) }
@@ -56,7 +56,7 @@ fn follow<D: Desk, H: Handler, J: Journal>(
     requires short { length payload.now ≤ longest_payload }
     requires slots { length handlers.old ≡ (D.meaning desk.now).slots }
     requires whole { J.torn journal.old ≡ false }
-    ensures comes { ComesOf (D.meaning desk.now) number payload.now
+    ensures comes { PayloadComesTo (D.meaning desk.now) number payload.now
         (record { told = J.told journal.old; faults = J.faults journal.old; torn = J.torn journal.old; services = map H.service handlers.old })
         (record { told = J.told journal.new; faults = J.faults journal.new; torn = J.torn journal.new; services = map H.service handlers.new })
         result (plain_decision decision) }
@@ -84,7 +84,7 @@ fn make_call<D: Desk, H: Handler, J: Journal>(
     requires short { length payload.now ≤ longest_payload }
     requires slots { length handlers.old ≡ (D.meaning desk.now).slots }
     requires whole { J.torn journal.old ≡ false }
-    ensures comes { ComesOf (D.meaning desk.now) number payload.now
+    ensures comes { PayloadComesTo (D.meaning desk.now) number payload.now
         (record { told = J.told journal.old; faults = J.faults journal.old; torn = J.torn journal.old; services = map H.service handlers.old })
         (record { told = J.told journal.new; faults = J.faults journal.new; torn = J.torn journal.new; services = map H.service handlers.new })
         result (Invoke call) }

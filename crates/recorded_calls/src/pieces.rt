@@ -2,9 +2,9 @@
 
 ghost use Rattle.std.specs.Prelude.{◌≡◌, suc, if◌then◌else◌, ◌+◌, ◌<◌, ◌≤◌, ◌^◌, length, take, drop, OnOk};
 ghost use Rattle.script_model.specs.Feeding.{piece_end};
-ghost use Rattle.recorded_calls.specs.Pieces.{AreEnds};
-ghost use Rattle.recorded_calls.specs.Run.{closed_tape};
-ghost use Rattle.recorded_calls.specs.Pieces.{IsInPiece};
+ghost use Rattle.recorded_calls.specs.Pieces.{ArePieceEnds};
+ghost use Rattle.recorded_calls.specs.Run.{tape_if_closed};
+ghost use Rattle.recorded_calls.specs.Pieces.{StandsInPiece};
 
 use conn_state::Conn;
 use outside::Mark;
@@ -15,7 +15,7 @@ pub(crate) fn end_of_piece(all: usize, ends: &[usize], piece: usize, at: usize) 
     requires { at < all }
     ensures some { at < result }
     ensures within { result ≤ all }
-    ensures end { AreEnds ends.now all → IsInPiece ends.now piece at → result ≡ piece_end ends.now at }
+    ensures end { ArePieceEnds ends.now all → StandsInPiece ends.now piece at → result ≡ piece_end ends.now at }
 {
     match ends.get(piece) {
         Some(end) if at < *end && *end <= all => *end,
@@ -36,7 +36,7 @@ pub(crate) fn piece_behind(piece: usize, is_read: bool) -> usize
 
 /// Marks the end of a connection that has ended.
 pub(crate) fn close_if_ended(conn: &Conn, tape: &mut Vec<Mark>) -> Result<(), AllocError>
-    ensures { OnOk result (tape.new.items ≡ closed_tape conn.now.phase tape.old.items) }
+    ensures { OnOk result (tape.new.items ≡ tape_if_closed conn.now.phase tape.old.items) }
 {
     if conn.cause().is_some() {
         tape.push(Mark::Closed(0))?;

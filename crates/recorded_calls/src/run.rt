@@ -4,10 +4,10 @@ ghost use Rattle.std.specs.Prelude.{◌≡◌, ℕ, false, ◌+◌, ◌<◌, ◌
 ghost use Rattle.conn_state.specs.Phase.{left_to_write, IsReading, IsHeld};
 ghost use Rattle.call_rules.specs.Desks.{longest_payload};
 ghost use Rattle.call_rules.specs.Handling.{ServiceState};
-ghost use Rattle.recorded_calls.specs.Pieces.{AreEnds};
+ghost use Rattle.recorded_calls.specs.Pieces.{ArePieceEnds};
 ghost use Rattle.recorded_calls.specs.Serving.{Serving};
-ghost use Rattle.recorded_calls.specs.Run.{RunSetting, IsFirstServing, IsRunUnderWay, MovesOn, IsAskable};
-ghost use Rattle.recorded_calls.specs.Pieces.{IsFed, StaysFed};
+ghost use Rattle.recorded_calls.specs.Run.{RunSetting, IsFirstServing, IsServingUnderWay, ServingMovesOn, IsAskable};
+ghost use Rattle.recorded_calls.specs.Pieces.{IsServedByPieces, StaysServedByPieces};
 
 use crate::calls::{settle, take_outcome};
 use crate::pieces::{close_if_ended, end_of_piece, part_of, piece_behind};
@@ -20,7 +20,7 @@ use std::alloc::{AllocError, Global};
 
 /// What a run has come to.
 #[derive(Drop)]
-pub(crate) struct Run {
+pub(crate) struct ServedRun {
     /// The connection.
     pub conn: Conn,
     /// What the connection was seen to do, in order.
@@ -33,15 +33,15 @@ pub(crate) struct Run {
     pub piece: usize,
 }
 
-impl Run {
+impl ServedRun {
     /// A run whose connection is open, and of which nothing is read.
-    pub(crate) fn open(alloc: Global) -> Result<Run, AllocError>
-        ensures under_way { IfOk result (λ run. (s : RunSetting) (v : Serving) → IsFirstServing s v → IsRunUnderWay s v run) }
-        ensures fed { IfOk result (λ run. (max : ℕ) (ends : List ℕ) (size : ℕ) → AreEnds ends size → IsFed max ends run) }
+    pub(crate) fn open(alloc: Global) -> Result<ServedRun, AllocError>
+        ensures under_way { IfOk result (λ run. (s : RunSetting) (v : Serving) → IsFirstServing s v → IsServingUnderWay s v run) }
+        ensures fed { IfOk result (λ run. (max : ℕ) (ends : List ℕ) (size : ℕ) → ArePieceEnds ends size → IsServedByPieces max ends run) }
     {
         let mut tape = Vec::new(alloc);
         tape.push(Mark::Opened(0))?;
-        Ok(Run {
+        Ok(ServedRun {
             conn: Conn::new(),
             tape,
             written: Vec::new(alloc),
@@ -53,8 +53,8 @@ impl Run {
     /// Takes room for the frame whose size is whole. Without it the connection ends.
     pub(crate) fn admit(&mut self, alloc: Global) -> Result<(), AllocError>
         requires { IsHeld self.old.conn.phase }
-        ensures moved { OnOk result ((s : RunSetting) (v : Serving) → IsRunUnderWay s v self.old → MovesOn s v self.old self.new) }
-        ensures still { OnOk result (StaysFed self.old self.new) }
+        ensures moved { OnOk result ((s : RunSetting) (v : Serving) → IsServingUnderWay s v self.old → ServingMovesOn s v self.old self.new) }
+        ensures still { OnOk result (StaysServedByPieces self.old self.new) }
     {
         if self.conn.admit(alloc).is_err() {
             self.conn.end(EndCause::NoMemory);
@@ -77,10 +77,10 @@ impl Run {
         requires small { length bytes.now < 2 ^ 62 }
         requires short { max_frame < 2 ^ 31 }
         ensures moved { OnOk result ((s : RunSetting) (v : Serving) → s.desk.max_frame ≡ max_frame → s.all ≡ bytes.now →
-            IsRunUnderWay s v self.old → MovesOn s v self.old self.new) }
+            IsServingUnderWay s v self.old → ServingMovesOn s v self.old self.new) }
         ensures fed { OnOk result ((s : RunSetting) (v : Serving) → s.desk.max_frame ≡ max_frame → s.all ≡ bytes.now →
-            AreEnds ends.now (length s.all) → IsRunUnderWay s v self.old →
-            IsFed s.desk.max_frame ends.now self.old → IsFed s.desk.max_frame ends.now self.new) }
+            ArePieceEnds ends.now (length s.all) → IsServingUnderWay s v self.old →
+            IsServedByPieces s.desk.max_frame ends.now self.old → IsServedByPieces s.desk.max_frame ends.now self.new) }
     {
         every_piece_stays_within();
         every_run_splits();
@@ -99,8 +99,8 @@ impl Run {
     /// Ends the connection behind all bytes of the script.
     pub(crate) fn find_end(&mut self) -> Result<(), AllocError>
         requires { IsReading self.old.conn.phase }
-        ensures moved { OnOk result ((s : RunSetting) (v : Serving) → self.old.at ≡ length s.all → IsRunUnderWay s v self.old → MovesOn s v self.old self.new) }
-        ensures still { OnOk result (StaysFed self.old self.new) }
+        ensures moved { OnOk result ((s : RunSetting) (v : Serving) → self.old.at ≡ length s.all → IsServingUnderWay s v self.old → ServingMovesOn s v self.old self.new) }
+        ensures still { OnOk result (StaysServedByPieces self.old self.new) }
     {
         self.conn.end_of_input();
         self.tape.push(Mark::Ended(0))?;
@@ -122,11 +122,11 @@ impl Run {
         requires whole { J.torn journal.old ≡ false }
         requires short { (D.meaning desk.now).max_frame ≤ longest_payload }
         ensures moved { OnOk result ((first : List ServiceState) (faults : ℕ) (all : List ℕ) →
-            IsRunUnderWay (record { desk = D.meaning desk.now; first = first; faults = faults; all = all })
+            IsServingUnderWay (record { desk = D.meaning desk.now; first = first; faults = faults; all = all })
             (record { told = J.told journal.old; faults = J.faults journal.old; torn = J.torn journal.old; services = map H.service handlers.old }) self.old →
-            MovesOn (record { desk = D.meaning desk.now; first = first; faults = faults; all = all })
+            ServingMovesOn (record { desk = D.meaning desk.now; first = first; faults = faults; all = all })
             (record { told = J.told journal.new; faults = J.faults journal.new; torn = J.torn journal.new; services = map H.service handlers.new }) self.old self.new) }
-        ensures still { OnOk result (StaysFed self.old self.new) }
+        ensures still { OnOk result (StaysServedByPieces self.old self.new) }
         ensures slots { length handlers.new ≡ length handlers.old }
     {
         let (number, payload) = self.conn.give();
@@ -139,8 +139,8 @@ impl Run {
     /// Writes the whole reply.
     pub(crate) fn write(&mut self, alloc: Global) -> Result<(), AllocError>
         requires { 0 < length (left_to_write self.old.conn.phase) }
-        ensures moved { OnOk result ((s : RunSetting) (v : Serving) → s.desk.max_frame < 2 ^ 31 → IsRunUnderWay s v self.old → MovesOn s v self.old self.new) }
-        ensures still { OnOk result (StaysFed self.old self.new) }
+        ensures moved { OnOk result ((s : RunSetting) (v : Serving) → s.desk.max_frame < 2 ^ 31 → IsServingUnderWay s v self.old → ServingMovesOn s v self.old self.new) }
+        ensures still { OnOk result (StaysServedByPieces self.old self.new) }
     {
         let reply = Vec::from_slice(alloc, self.conn.pending())?;
         let count = reply.len();

@@ -3,13 +3,13 @@
 ghost use Rattle.std.specs.Prelude.{◌≡◌, ℕ, false, ◌<◌, ◌≤◌, ◌^◌, [], List, length, map, IfOk, OnOk};
 ghost use Rattle.call_rules.specs.Desks.{longest_payload};
 ghost use Rattle.call_rules.specs.Handling.{ServiceState};
-ghost use Rattle.recorded_calls.specs.Pieces.{AreEnds};
+ghost use Rattle.recorded_calls.specs.Pieces.{ArePieceEnds};
 ghost use Rattle.recorded_calls.specs.Serving.{IsToldAs};
 ghost use Rattle.recorded_calls.specs.Served.{IsServed};
-ghost use Rattle.recorded_calls.specs.Run.{IsRunUnderWay, MovesOn, IsAtWork};
-ghost use Rattle.recorded_calls.specs.Pieces.{IsFed};
+ghost use Rattle.recorded_calls.specs.Run.{IsServingUnderWay, ServingMovesOn, IsAtWork};
+ghost use Rattle.recorded_calls.specs.Pieces.{IsServedByPieces};
 
-use crate::run::Run;
+use crate::run::ServedRun;
 use call_rules::{Desk, Handler, Journal};
 use host_model::EndCause;
 use outside::{Bytes, Mark};
@@ -43,7 +43,7 @@ pub fn serve_recorded<D: Desk, H: Handler, J: Journal>(
     journal: &mut J,
 ) -> Result<Served, AllocError>
     requires small { length bytes.now < 2 ^ 62 }
-    requires ends { AreEnds ends.now (length bytes.now) }
+    requires ends { ArePieceEnds ends.now (length bytes.now) }
     requires longest { max_frame ≡ (D.meaning desk.now).max_frame }
     requires short { max_frame ≤ longest_payload }
     requires slots { length handlers.old ≡ (D.meaning desk.now).slots }
@@ -54,7 +54,7 @@ pub fn serve_recorded<D: Desk, H: Handler, J: Journal>(
         (record { told = J.told journal.new; faults = J.faults journal.new; torn = J.torn journal.new; services = map H.service handlers.new })
         run.tape.items run.written run.cause) }
 {
-    let mut run = Run::open(alloc)?;
+    let mut run = ServedRun::open(alloc)?;
     'run: loop {
         if let Some(cause) = run.conn.cause() {
             return Ok(Served {
@@ -71,7 +71,7 @@ pub fn serve_recorded<D: Desk, H: Handler, J: Journal>(
 
 /// One move of the connection.
 fn move_on<D: Desk, H: Handler, J: Journal>(
-    run: &mut Run,
+    run: &mut ServedRun,
     alloc: Global,
     bytes: &[u8],
     ends: &[usize],
@@ -89,14 +89,14 @@ fn move_on<D: Desk, H: Handler, J: Journal>(
     requires slots { length handlers.old ≡ (D.meaning desk.now).slots }
     requires whole { J.torn journal.old ≡ false }
     ensures moved { OnOk result ((first : List ServiceState) (faults : ℕ) →
-        IsRunUnderWay (record { desk = D.meaning desk.now; first = first; faults = faults; all = bytes.now })
+        IsServingUnderWay (record { desk = D.meaning desk.now; first = first; faults = faults; all = bytes.now })
         (record { told = J.told journal.old; faults = J.faults journal.old; torn = J.torn journal.old; services = map H.service handlers.old }) run.old →
-        MovesOn (record { desk = D.meaning desk.now; first = first; faults = faults; all = bytes.now })
+        ServingMovesOn (record { desk = D.meaning desk.now; first = first; faults = faults; all = bytes.now })
         (record { told = J.told journal.new; faults = J.faults journal.new; torn = J.torn journal.new; services = map H.service handlers.new }) run.old run.new) }
-    ensures fed { OnOk result ((first : List ServiceState) (faults : ℕ) → AreEnds ends.now (length bytes.now) →
-        IsRunUnderWay (record { desk = D.meaning desk.now; first = first; faults = faults; all = bytes.now })
+    ensures fed { OnOk result ((first : List ServiceState) (faults : ℕ) → ArePieceEnds ends.now (length bytes.now) →
+        IsServingUnderWay (record { desk = D.meaning desk.now; first = first; faults = faults; all = bytes.now })
         (record { told = J.told journal.old; faults = J.faults journal.old; torn = J.torn journal.old; services = map H.service handlers.old }) run.old →
-        IsFed (D.meaning desk.now).max_frame ends.now run.old → IsFed (D.meaning desk.now).max_frame ends.now run.new) }
+        IsServedByPieces (D.meaning desk.now).max_frame ends.now run.old → IsServedByPieces (D.meaning desk.now).max_frame ends.now run.new) }
     ensures slots { length handlers.new ≡ length handlers.old }
 {
     if run.conn.asks().is_some() {

@@ -4,7 +4,7 @@ use Rattle.std.specs.Prelude.{option_map}
 use Rattle.rehearsal_words.specs.declared.options.LimitOption.{LimitOption}
 use Rattle.rehearsal_words.specs.declared.options.LimitOption.TheVariants.{MaxFrame, ReadBudget}
 use Rattle.bind_words.specs.Equals.{at_equals}
-use Rattle.rehearsal_words.specs.Options.{SortedWords, dashed_word, is_dashed, next_word, no_words, with_plain, with_option}
+use Rattle.rehearsal_words.specs.Options.{SortedWords, dashed_word, is_dashed, following_word, no_words, with_plain, with_option}
 use Rattle.rehearsal_words.specs.Sorting.{put_behind, plus_plain, plus_value}
 
 -- a word in front of the others is one behind those before
@@ -35,6 +35,6 @@ nothing_behind front =
 
 -- a word with `-` where no option waits
 pub dashed_first : (waiting : Option LimitOption) (word : List ℕ) (others : Option LimitOption → Option SortedWords) → waiting ≡ None → is_dashed word ≡ true
-    → next_word waiting word others ≡ dashed_word (at_equals word) word others
+    → following_word waiting word others ≡ dashed_word (at_equals word) word others
 dashed_first waiting word others is dashed =
-    ap (λ w. next_word w word others) is ∙ ap (λ b. cond b (dashed_word (at_equals word) word others) (option_map (with_plain word) (others None))) dashed
+    ap (λ w. following_word w word others) is ∙ ap (λ b. cond b (dashed_word (at_equals word) word others) (option_map (with_plain word) (others None))) dashed

@@ -40,9 +40,9 @@ dashed_word (Some parts) word others = option_and_then (λ option. option_map (w
 dashed_word None word others = option_and_then (λ option. others (Some option)) (option_named word)
 
 -- A word in front of others, which are sorted by whether an option waits for its value. The value of an option doesn't begin with `-`.
-abbrev pub next_word : Option LimitOption → List ℕ → (Option LimitOption → Option SortedWords) → Option SortedWords
-next_word (Some option) word others = if is_dashed word then None else option_map (with_option option word) (others None)
-next_word None word others = if is_dashed word then dashed_word (at_equals word) word others else option_map (with_plain word) (others None)
+abbrev pub following_word : Option LimitOption → List ℕ → (Option LimitOption → Option SortedWords) → Option SortedWords
+following_word (Some option) word others = if is_dashed word then None else option_map (with_option option word) (others None)
+following_word None word others = if is_dashed word then dashed_word (at_equals word) word others else option_map (with_plain word) (others None)
 
 -- what is left where no word follows: an option has to have its value
 abbrev pub at_the_end : Option LimitOption → Option SortedWords
@@ -53,4 +53,4 @@ at_the_end (Some option) = None
 -- where an option has no value.
 abbrev pub sorted_words : List (List ℕ) → Option LimitOption → Option SortedWords
 sorted_words [] waiting = at_the_end waiting
-sorted_words (word ∷ words) waiting = next_word waiting word (sorted_words words)
+sorted_words (word ∷ words) waiting = following_word waiting word (sorted_words words)

@@ -4,7 +4,7 @@ ghost use Rattle.std.specs.Prelude.{◌≡◌, ◌++◌, ◌∷◌, [], None, So
 ghost use Rattle.rehearsal_words.specs.declared.options.LimitOption.{LimitOption};
 ghost use Rattle.bind_words.specs.Equals.{at_equals};
 ghost use Rattle.rehearsal_words.specs.Lent.{plain_sorted};
-ghost use Rattle.rehearsal_words.specs.Options.{SortedWords, dashed_word, next_word, sorted_words};
+ghost use Rattle.rehearsal_words.specs.Options.{SortedWords, dashed_word, following_word, sorted_words};
 ghost use Rattle.rehearsal_words.specs.Sorting.{put_behind, plus_plain, plus_value};
 
 use crate::options::{LimitOption, is_dashed, option_named};
@@ -69,7 +69,7 @@ impl<'a> Sorted<'a> {
         word: &'a str,
     ) -> Result<Waiting, AllocError>
         ensures { (others : Option LimitOption → Option SortedWords) → IfOk result (λ after.
-            put_behind (plain_sorted self.old) (next_word waiting word.now others)
+            put_behind (plain_sorted self.old) (following_word waiting word.now others)
             ≡ option_and_then (λ next. put_behind (plain_sorted self.new) (others next)) after) }
     {
         match (waiting, is_dashed(word)) {

@@ -5,6 +5,6 @@ use Rattle.run_report.specs.declared.fault.ReportFault.{ReportFault}
 use Rattle.run_report.specs.declared.fault.ReportFault.TheVariants.{Failed}
 
 -- the count of faults never falls, and the sink is said to have failed only where it rose
-pub record HasSinkCause {A : Type 0} (before now : ℕ) (result : Result A ReportFault) : Type 0 where
+pub record HasReportCause {A : Type 0} (before now : ℕ) (result : Result A ReportFault) : Type 0 where
   pub later : before ≤ now
   pub failed : result ≡ Err Failed → Rose before now

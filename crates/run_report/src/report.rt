@@ -8,7 +8,7 @@ ghost use Rattle.text_out.specs.Line.{line_of};
 ghost use Rattle.host_model.specs.Report.{end_text, hex_or_dash, journal_lines, mark_text, numbered, report, tape_lines};
 ghost use Rattle.run_report.specs.Entries.{IsPlainEntry};
 ghost use Rattle.run_report.specs.Written.{outputs, ended_lines};
-ghost use Rattle.run_report.specs.Pieces.{HasSinkCause};
+ghost use Rattle.run_report.specs.Pieces.{HasReportCause};
 
 use crate::entries::EntryLine;
 use crate::fault::ReportFault;
@@ -40,7 +40,7 @@ pub fn write_report<L: EntryLine, K: Sink>(
     ensures told { MatchResult result
         (λ _. K.taken out.new ≡ told_more (K.taken out.old) (report L.line tape.now journal.now causes.now))
         (λ _. (n : ℕ) × (K.taken out.new ≡ told_more (K.taken out.old) (take n (report L.line tape.now journal.now causes.now)))) }
-    ensures cause { HasSinkCause (K.faults out.old) (K.faults out.new) result }
+    ensures cause { HasReportCause (K.faults out.old) (K.faults out.new) result }
 {
     let mut pending = Vec::new(alloc);
     write_lines::<L, K>(out, &mut pending, tape, journal, causes, written)?;
@@ -61,7 +61,7 @@ fn write_lines<L: EntryLine, K: Sink>(
     requires written { written.now ≡ outputs tape.now 0 causes.now }
     ensures told { TakesText (K.taken out.old) (K.taken out.new)
         (pending.old.items ++ report L.line tape.now journal.now causes.now) pending.new.items result }
-    ensures cause { HasSinkCause (K.faults out.old) (K.faults out.new) result }
+    ensures cause { HasReportCause (K.faults out.old) (K.faults out.new) result }
 {
     write_tape(out, pending, tape)?;
     write_journal::<L, K>(out, pending, journal)?;
@@ -74,7 +74,7 @@ fn write_lines<L: EntryLine, K: Sink>(
 fn write_tape<K: Sink>(out: &mut K, pending: &mut Vec<u8>, tape: &[Mark]) -> Result<(), ReportFault>
     ensures told { TakesText (K.taken out.old) (K.taken out.new)
         (pending.old.items ++ (tape_lines tape.now)) pending.new.items result }
-    ensures cause { HasSinkCause (K.faults out.old) (K.faults out.new) result }
+    ensures cause { HasReportCause (K.faults out.old) (K.faults out.new) result }
 {
     for mark in tape {
         write_mark(out, pending, mark)?;
@@ -88,7 +88,7 @@ fn write_mark<K: Sink>(out: &mut K, pending: &mut Vec<u8>, mark: &Mark) -> Resul
     ensures told { TakesText (K.taken out.old) (K.taken out.new)
         (pending.old.items ++ (line_of (mark_text mark.now))) pending.new.items result }
     ensures few { OnOk result (length pending.new.items < PIECE) }
-    ensures cause { HasSinkCause (K.faults out.old) (K.faults out.new) result }
+    ensures cause { HasReportCause (K.faults out.old) (K.faults out.new) result }
 {
     put_mark(pending, mark)?;
     settle(out, pending)
@@ -104,7 +104,7 @@ fn write_journal<L: EntryLine, K: Sink>(
     requires plain { All IsPlainEntry journal.now }
     ensures told { TakesText (K.taken out.old) (K.taken out.new)
         (pending.old.items ++ (journal_lines L.line journal.now)) pending.new.items result }
-    ensures cause { HasSinkCause (K.faults out.old) (K.faults out.new) result }
+    ensures cause { HasReportCause (K.faults out.old) (K.faults out.new) result }
 {
     for entry in journal {
         write_entry::<L, K>(out, pending, entry)?;
@@ -123,7 +123,7 @@ fn write_entry<L: EntryLine, K: Sink>(
     ensures told { TakesText (K.taken out.old) (K.taken out.new)
         (pending.old.items ++ (line_of (L.line entry.now))) pending.new.items result }
     ensures few { OnOk result (length pending.new.items < PIECE) }
-    ensures cause { HasSinkCause (K.faults out.old) (K.faults out.new) result }
+    ensures cause { HasReportCause (K.faults out.old) (K.faults out.new) result }
 {
     L::put(pending, entry)?;
     settle(out, pending)
@@ -140,7 +140,7 @@ fn write_ends<K: Sink>(
     requires { length written.now ≡ length causes.now }
     ensures told { TakesText (K.taken out.old) (K.taken out.new)
         (pending.old.items ++ ended_lines 0 causes.now written.now) pending.new.items result }
-    ensures cause { HasSinkCause (K.faults out.old) (K.faults out.new) result }
+    ensures cause { HasReportCause (K.faults out.old) (K.faults out.new) result }
 {
     let mut c = 0;
     'ends: while c < causes.len() {
@@ -161,7 +161,7 @@ fn write_end<K: Sink>(
 ) -> Result<(), ReportFault>
     ensures told { TakesText (K.taken out.old) (K.taken out.new)
         (pending.old.items ++ line_of (end_text c cause written.now)) pending.new.items result }
-    ensures cause { HasSinkCause (K.faults out.old) (K.faults out.new) result }
+    ensures cause { HasReportCause (K.faults out.old) (K.faults out.new) result }
 {
     put_end(pending, c, cause)?;
     write_sent(out, pending, written.as_slice())
@@ -172,7 +172,7 @@ fn write_end<K: Sink>(
 fn write_sent<K: Sink>(out: &mut K, pending: &mut Vec<u8>, bytes: &[u8]) -> Result<(), ReportFault>
     ensures told { TakesText (K.taken out.old) (K.taken out.new)
         (pending.old.items ++ line_of (hex_or_dash bytes.now)) pending.new.items result }
-    ensures cause { HasSinkCause (K.faults out.old) (K.faults out.new) result }
+    ensures cause { HasReportCause (K.faults out.old) (K.faults out.new) result }
 {
     write_bytes(out, pending, bytes)?;
     pending.push(b'\n')?;
@@ -184,7 +184,7 @@ fn write_sent<K: Sink>(out: &mut K, pending: &mut Vec<u8>, bytes: &[u8]) -> Resu
 fn write_bytes<K: Sink>(out: &mut K, pending: &mut Vec<u8>, bytes: &[u8]) -> Result<(), ReportFault>
     ensures told { TakesText (K.taken out.old) (K.taken out.new)
         (pending.old.items ++ (hex_or_dash bytes.now)) pending.new.items result }
-    ensures cause { HasSinkCause (K.faults out.old) (K.faults out.new) result }
+    ensures cause { HasReportCause (K.faults out.old) (K.faults out.new) result }
 {
     if !bytes.is_empty() {
         return write_hex(out, pending, bytes);
@@ -198,7 +198,7 @@ fn write_bytes<K: Sink>(out: &mut K, pending: &mut Vec<u8>, bytes: &[u8]) -> Res
 fn write_hex<K: Sink>(out: &mut K, pending: &mut Vec<u8>, bytes: &[u8]) -> Result<(), ReportFault>
     ensures told { TakesText (K.taken out.old) (K.taken out.new)
         (pending.old.items ++ (hex_of bytes.now)) pending.new.items result }
-    ensures cause { HasSinkCause (K.faults out.old) (K.faults out.new) result }
+    ensures cause { HasReportCause (K.faults out.old) (K.faults out.new) result }
 {
     let mut rest = bytes;
     'chunks: while !rest.is_empty() {
@@ -215,7 +215,7 @@ fn write_chunk<K: Sink>(out: &mut K, pending: &mut Vec<u8>, chunk: &[u8]) -> Res
     ensures told { TakesText (K.taken out.old) (K.taken out.new)
         (pending.old.items ++ (hex_of chunk.now)) pending.new.items result }
     ensures few { OnOk result (length pending.new.items < PIECE) }
-    ensures cause { HasSinkCause (K.faults out.old) (K.faults out.new) result }
+    ensures cause { HasReportCause (K.faults out.old) (K.faults out.new) result }
 {
     hex(pending, chunk)?;
     settle(out, pending)
@@ -227,7 +227,7 @@ fn write_count<K: Sink>(out: &mut K, pending: &mut Vec<u8>, count: usize) -> Res
     ensures told { TakesText (K.taken out.old) (K.taken out.new)
         (pending.old.items ++ (line_of (numbered (codes "calls") count))) pending.new.items result }
     ensures few { OnOk result (length pending.new.items < PIECE) }
-    ensures cause { HasSinkCause (K.faults out.old) (K.faults out.new) result }
+    ensures cause { HasReportCause (K.faults out.old) (K.faults out.new) result }
 {
     put_count(pending, count)?;
     settle(out, pending)
@@ -238,7 +238,7 @@ fn write_count<K: Sink>(out: &mut K, pending: &mut Vec<u8>, count: usize) -> Res
 fn settle<K: Sink>(out: &mut K, pending: &mut Vec<u8>) -> Result<(), ReportFault>
     ensures told { TakesText (K.taken out.old) (K.taken out.new) pending.old.items pending.new.items result }
     ensures few { OnOk result (length pending.new.items < PIECE) }
-    ensures cause { HasSinkCause (K.faults out.old) (K.faults out.new) result }
+    ensures cause { HasReportCause (K.faults out.old) (K.faults out.new) result }
 {
     if pending.len() < PIECE {
         Ok(())
@@ -252,7 +252,7 @@ fn settle<K: Sink>(out: &mut K, pending: &mut Vec<u8>) -> Result<(), ReportFault
 fn flush<K: Sink>(out: &mut K, pending: &mut Vec<u8>) -> Result<(), ReportFault>
     ensures told { TakesText (K.taken out.old) (K.taken out.new) pending.old.items [] result }
     ensures empty { OnOk result (pending.new.items ≡ []) }
-    ensures cause { HasSinkCause (K.faults out.old) (K.faults out.new) result }
+    ensures cause { HasReportCause (K.faults out.old) (K.faults out.new) result }
 {
     write_all(out, pending.as_slice())?;
     pending.clear();

@@ -24,6 +24,6 @@ answers_read (Ok x) so = Ok so
 answers_read (Err kind) so = Err kind
 
 -- a draft as what was read, or a fault
-abbrev pub read_as : Result Draft ScriptFault → Result ScriptSoFar ScriptFault
-read_as (Ok draft) = Ok (so_far draft)
-read_as (Err fault) = Err fault
+abbrev pub read_so_far_as : Result Draft ScriptFault → Result ScriptSoFar ScriptFault
+read_so_far_as (Ok draft) = Ok (so_far draft)
+read_so_far_as (Err fault) = Err fault

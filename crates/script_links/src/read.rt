@@ -4,7 +4,7 @@ ghost use Rattle.std.specs.Prelude.{◌≡◌, ◌≢◌, ◌≤◌, length, Ok,
 ghost use Rattle.script_links.specs.declared.fault.ScriptKind.TheVariants.{NoMemory};
 ghost use Rattle.script_links.specs.TextLines.{most_script_bytes, text_lines};
 ghost use Rattle.script_links.specs.Reading.{nothing_read, plan_so_far, at_end, read_from, script_of_text};
-ghost use Rattle.script_links.specs.Drafts.{so_far, read_as};
+ghost use Rattle.script_links.specs.Drafts.{so_far, read_so_far_as};
 ghost use Rattle.script_links.specs.Sound.{IsKeptScript, most_workers};
 
 use crate::draft::{Draft, has_open_input};
@@ -57,7 +57,7 @@ fn read_lines(
     schedule: bool,
 ) -> Result<Result<Draft, ScriptFault>, AllocError>
     requires { length text.now ≤ most_script_bytes }
-    ensures { IfOk result (λ answer. read_as answer ≡ read_from workers schedule 1 nothing_read (text_lines text.now)) }
+    ensures { IfOk result (λ answer. read_so_far_as answer ≡ read_from workers schedule 1 nothing_read (text_lines text.now)) }
 {
     let mut draft = Draft::new(alloc);
     let mut number: u32 = 1;
@@ -76,7 +76,7 @@ fn read_lines(
 
 /// What was read, where the input of each connection has an end.
 fn ended(draft: Draft, number: u32) -> Result<Draft, ScriptFault>
-    ensures { read_as result ≡ at_end number (so_far draft) }
+    ensures { read_so_far_as result ≡ at_end number (so_far draft) }
 {
     if has_open_input(draft.over.as_slice()) {
         return Err(ScriptFault {

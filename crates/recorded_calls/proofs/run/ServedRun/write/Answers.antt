@@ -6,7 +6,7 @@ use Rattle.host_model.proofs.Runs.{stands}
 use Rattle.call_rules.specs.Handling.{handler_rules}
 use Rattle.recorded_calls.specs.Run.{setting_rules}
 use Rattle.recorded_calls.proofs.Moves.{writes_all}
-use Rattle.recorded_calls.proofs.run.Run.write.Goals as goal
+use Rattle.recorded_calls.proofs.run.ServedRun.write.Goals as goal
 
 pub returns-clause-moved : goal.returns-clause-moved
 returns-clause-moved c = λ s v short u.

@@ -3,12 +3,12 @@ use Rattle.conn_state.specs.Phase.{ConnView}
 use Rattle.host_model.proofs.Runs.{stands}
 use Rattle.call_rules.specs.Handling.{handler_rules}
 use Rattle.recorded_calls.specs.Serving.{Serving}
-use Rattle.recorded_calls.specs.Settling.{ComesOf}
-use Rattle.recorded_calls.specs.Pieces.{AddsNoRead}
+use Rattle.recorded_calls.specs.Settling.{PayloadComesTo}
+use Rattle.recorded_calls.specs.Pieces.{LeavesReads}
 use Rattle.recorded_calls.specs.Run.{RunSetting, setting_rules, after_outcome, IsAskable}
 use Rattle.recorded_calls.proofs.Payloads.{settles_payload}
 use Rattle.recorded_calls.proofs.Fed.{adds_close}
-use Rattle.recorded_calls.proofs.run.Run.call.Goals as goal
+use Rattle.recorded_calls.proofs.run.ServedRun.call.Goals as goal
 
 pub returns-clause-moved : goal.returns-clause-moved
 returns-clause-moved g c = λ first faults all u.
@@ -35,7 +35,7 @@ returns-clause-moved g c = λ first faults all u.
       same_at = refl;
     })
     (g.met.D.Desk.holds c.args.desk.now) (subst IsAskable c.give-number.ensures.given c.requires.askable)
-    (subst (λ p. ComesOf s.desk c.give-number.result.0 p v w c.settle-outcome.result (s.desk.decide p)) c.deref.ensures.value c.settle-outcome.ensures.comes)
+    (subst (λ p. PayloadComesTo s.desk c.give-number.result.0 p v w c.settle-outcome.result (s.desk.decide p)) c.deref.ensures.value c.settle-outcome.ensures.comes)
     u moment
 
 pub returns-clause-still : goal.returns-clause-still
@@ -43,5 +43,5 @@ returns-clause-still g c =
     record {
       same_at = refl;
       same_piece = refl;
-      adds = subst (AddsNoRead c.args.self.now.tape.items) (sym c.in_ok-close_if_ended.ensures) (adds_close _ c.args.self.now.tape.items);
+      adds = subst (LeavesReads c.args.self.now.tape.items) (sym c.in_ok-close_if_ended.ensures) (adds_close _ c.args.self.now.tape.items);
     }

@@ -1,7 +1,7 @@
 use Rattle.std.proofs.Common.{[], ◌∷◌, ◌++◌, refl, ap, ◌∙◌, append_assoc}
 use Rattle.outside.specs.declared.marks.Mark.TheVariants.{Ended, Closed}
 use Rattle.recorded_calls.proofs.Moves.{finds_end}
-use Rattle.recorded_calls.proofs.run.Run.find_end.Goals as goal
+use Rattle.recorded_calls.proofs.run.ServedRun.find_end.Goals as goal
 
 pub returns-clause-moved : goal.returns-clause-moved
 returns-clause-moved c = λ s v at_end u.

@@ -5,7 +5,7 @@ use Rattle.host_model.specs.declared.cause.EndCause.TheVariants.{NoMemory}
 use Rattle.recorded_calls.proofs.Results.{on_ok, on_err}
 use Rattle.recorded_calls.proofs.Moves.{admits, refuses}
 use Rattle.recorded_calls.proofs.Fed.{adds_none}
-use Rattle.recorded_calls.proofs.run.Run.admit.Goals as goal
+use Rattle.recorded_calls.proofs.run.ServedRun.admit.Goals as goal
 
 pub returns-in_ok-push-clause-moved : goal.returns-in_ok-push-clause-moved
 returns-in_ok-push-clause-moved c = λ s v u.

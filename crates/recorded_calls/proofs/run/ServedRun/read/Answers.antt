@@ -5,11 +5,11 @@ use Rattle.conn_state.specs.Phase.{wanted}
 use Rattle.conn_state.specs.Step.{after_took}
 use Rattle.host_model.proofs.Runs.{stands}
 use Rattle.call_rules.specs.Handling.{handler_rules}
-use Rattle.recorded_calls.specs.Pieces.{AreEnds}
-use Rattle.recorded_calls.specs.Run.{setting_rules, closed_tape}
+use Rattle.recorded_calls.specs.Pieces.{ArePieceEnds}
+use Rattle.recorded_calls.specs.Run.{setting_rules, tape_if_closed}
 use Rattle.recorded_calls.proofs.Moves.{reads_bytes}
 use Rattle.recorded_calls.proofs.Reading.{reads_fed}
-use Rattle.recorded_calls.proofs.run.Run.read.Goals as goal
+use Rattle.recorded_calls.proofs.run.ServedRun.read.Goals as goal
 
 pub returns-clause-moved : goal.returns-clause-moved
 returns-clause-moved c = λ s v longest whole u.
@@ -24,7 +24,7 @@ returns-clause-moved c = λ s v longest whole u.
     (c.part_of-part.ensures ∙ ap (λ xs. take c.min-count.result (drop run.at xs)) (sym whole))
     asked c.took.ensures.bytes (c.took.ensures.after ∙ ap (λ m. after_took m run.conn bytes) (sym longest))
     (c.in_ok-close_if_ended.ensures
-    ∙ ap (closed_tape c.took.new.self.phase) (c.in_ok-push.ensures.items ∙ ap (λ b. run.tape.items ++ Read 0 b ∷ []) (c.new.ensures ∙ c.in_ok-from_slice.ensures.items)))
+    ∙ ap (tape_if_closed c.took.new.self.phase) (c.in_ok-push.ensures.items ∙ ap (λ b. run.tape.items ++ Read 0 b ∷ []) (c.new.ensures ∙ c.in_ok-from_slice.ensures.items)))
     refl refl
     (λ events old view runs does. c.every_piece_stays_within.ensures s.desk.max_frame events old view bytes short runs does) u
 
@@ -48,10 +48,10 @@ returns-clause-fed c = λ s v longest whole are u fed.
       some = omega (arith, long, some);
       asked = long ∙ c.min-count.ensures ∙ ap (λ n. min n (c.end_of_piece-end.result - run.at)) c.want.ensures.count;
       ahead = c.end_of_piece-end.ensures.some;
-      end_is = c.end_of_piece-end.ensures.end (subst (λ n. AreEnds ends n) size are) fed.in_piece;
+      end_is = c.end_of_piece-end.ensures.end (subst (λ n. ArePieceEnds ends n) size are) fed.in_piece;
       tape_is =
           c.in_ok-close_if_ended.ensures
-          ∙ ap (closed_tape c.took.new.self.phase) (c.in_ok-push.ensures.items ∙ ap (λ b. run.tape.items ++ Read 0 b ∷ []) (c.new.ensures ∙ c.in_ok-from_slice.ensures.items));
+          ∙ ap (tape_if_closed c.took.new.self.phase) (c.in_ok-push.ensures.items ∙ ap (λ b. run.tape.items ++ Read 0 b ∷ []) (c.new.ensures ∙ c.in_ok-from_slice.ensures.items));
       at_is = ap (λ n. run.at + n) (sym long);
       piece_is = c.piece_behind-self.ensures;
     }) (omega (arith, size, c.requires.some)) (omega (arith, size, c.requires.small)) are u moment splits fed
