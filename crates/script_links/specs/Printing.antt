@@ -26,6 +26,7 @@ rule_text c (takes_most count) = codes "write " ++ (natural_of c ++ space_byte �
 rule_text c blocks = codes "block " ++ natural_of c
 rule_text c fails = codes "writefail " ++ natural_of c
 
+-- the text of what is said
 abbrev pub said_text : SaidLine → List ℕ
 said_text (runs line) = line_text line
 said_text (rules_so c rule) = rule_text c rule

@@ -34,6 +34,7 @@ conn_of_line (input_fault c) = Some c
 conn_of_line (turn_of_conn c) = Some c
 conn_of_line _ = None
 
+-- the same of what is said
 abbrev pub conn_said : SaidLine → Option ℕ
 conn_said (runs line) = conn_of_line line
 conn_said (rules_so c rule) = Some c
@@ -45,6 +46,7 @@ is_turn (turn_of_worker w) = true
 is_turn turn_of_outcome = true
 is_turn _ = false
 
+-- what is said is one
 abbrev pub is_turn_said : SaidLine → Bool
 is_turn_said (runs line) = is_turn line
 is_turn_said (rules_so c rule) = false

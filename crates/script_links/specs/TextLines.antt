@@ -10,6 +10,7 @@ most_script_bytes = 67108864
 abbrev pub space_byte : ℕ
 space_byte = 32
 
+-- a byte is a space
 abbrev pub is_space : ℕ → Bool
 is_space b = b == space_byte
 
