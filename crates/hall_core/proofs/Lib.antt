@@ -1,0 +1,4 @@
+pub mod Placing
+pub mod Serving
+pub mod Stepping
+pub mod Legally

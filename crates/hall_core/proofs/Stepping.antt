@@ -1,0 +1,123 @@
+-- What each operation does to a hall, as the machine's rule has it.
+use Rattle.std.proofs.Common.{◌≡◌, ℕ, ◌≤◌, Bool, true, false, None, Some, Option, Result, Ok, Err, List, [], ◌∷◌, ◌++◌, option_map, refl, sym, ap, ◌∙◌, subst, inl, inr, arith}
+use Rattle.std.specs.Prelude.{MatchResult, IfOk, is_err}
+use Rattle.outside.specs.declared.outcomes.Settled.{Settled}
+use Rattle.outside.specs.Cause.{HasCause}
+use Rattle.host_model.specs.declared.key.Key.{Key}
+use Rattle.host_model.specs.Journal.{after_call}
+use Rattle.call_rules.specs.declared.call.Answer.{Answer}
+use Rattle.call_rules.specs.PlainCalls.{PlainCall, PlainAnswer}
+use Rattle.call_rules.specs.Answers.{plain_answer}
+use Rattle.call_rules.specs.Entries.{CallEntry}
+use Rattle.call_rules.specs.Handling.{ServiceState, handler_rules}
+use Rattle.machine_model.specs.HallState.{without}
+use Rattle.machine_model.specs.HallRule.{job_of, outcome_of, entry_under, TakesEffect, HallOperation, submit, take_job, apply, put, collect, close, HallAnswer, done, job, empty, is_closed, no_memory, is_broken, outcome}
+use Rattle.machine_model.specs.SeenHall.{MayHave, filled, SeenGives}
+use Rattle.hall_core.specs.Queues.{QueueView}
+use Rattle.hall_core.specs.Meant.{PlainHall, with_queue}
+use Rattle.hall_core.specs.Answered.{IsAnswerOf, answered_so}
+
+-- a step of a hall with this view
+abbrev Gives : PlainHall → HallOperation PlainCall → HallAnswer PlainAnswer → PlainHall → Type 0
+Gives old op answer new = SeenGives handler_rules old op answer new
+
+-- a hall is seen by its value
+pub from_view : (view old : PlainHall) → view ≡ old → (op : HallOperation PlainCall) (answer : HallAnswer PlainAnswer) (new : PlainHall) → Gives view op answer new → Gives old op answer new
+from_view view old same op answer new g = subst (λ (h : PlainHall). Gives h op answer new) same g
+
+pub shut : (view old : PlainHall) → view ≡ old → Gives old close done (record view { closed = true })
+shut view old same = from_view view old same close done _ (λ entries may. (entries, may, refl))
+
+module _ (hall : PlainHall) (old q : QueueView) where
+  queued : (op : HallOperation PlainCall) (answer : HallAnswer PlainAnswer) (to : QueueView) → q ≡ to → Gives (with_queue hall old) op answer (with_queue hall to)
+      → Gives (with_queue hall old) op answer (with_queue hall q)
+  queued op answer to is g = subst (λ (k : QueueView). Gives (with_queue hall old) op answer (with_queue hall k)) (sym is) g
+
+  pub submitted : (key : Key) (payload : List ℕ) → hall.closed ≡ false → q ≡ record old { jobs = old.jobs ++ job_of key payload ∷ [] } → Gives (with_queue hall old) (submit key payload) done (with_queue hall q)
+  submitted key payload opens is = queued (submit key payload) done _ is (λ entries may. (entries, may, (opens, refl)))
+
+  pub refused : (key : Key) (payload : List ℕ) → hall.closed ≡ true → q ≡ old → Gives (with_queue hall old) (submit key payload) is_closed (with_queue hall q)
+  refused key payload shut is = queued (submit key payload) is_closed _ is (λ entries may. (entries, may, (shut, refl)))
+
+  pub job_taken : (key : Key) (payload : List ℕ) → (old.jobs ≡ job_of key payload ∷ q.jobs) × (q ≡ record old { jobs = q.jobs; taken = old.taken ++ key ∷ [] })
+      → Gives (with_queue hall old) take_job (job key payload) (with_queue hall q)
+  job_taken key payload k = queued take_job (job key payload) _ k.1 (λ entries may. (entries, may, (q.jobs, k.0, refl)))
+
+  pub no_job_left : hall.closed ≡ true → (old.jobs ≡ []) × (q ≡ old) → Gives (with_queue hall old) take_job is_closed (with_queue hall q)
+  no_job_left shut k = queued take_job is_closed _ k.1 (λ entries may. (entries, may, (k.0, shut, refl)))
+
+  pub no_job_yet : hall.closed ≡ false → (old.jobs ≡ []) × (q ≡ old) → Gives (with_queue hall old) take_job empty (with_queue hall q)
+  no_job_yet opens k = queued take_job empty _ k.1 (λ entries may. (entries, may, (k.0, opens, refl)))
+
+  pub outcome_put : (key : Key) (settled : Settled) → q ≡ record old { taken = without key old.taken; outcomes = old.outcomes ++ outcome_of key settled ∷ [] }
+      → Gives (with_queue hall old) (put key settled) done (with_queue hall q)
+  outcome_put key settled is = queued (put key settled) done _ is (λ entries may. (entries, may, refl))
+
+  pub outcome_collected : (key : Key) (settled : Settled) → (old.outcomes ≡ outcome_of key settled ∷ q.outcomes) × (q ≡ record old { outcomes = q.outcomes })
+      → Gives (with_queue hall old) collect (outcome key settled) (with_queue hall q)
+  outcome_collected key settled k = queued collect (outcome key settled) _ k.1 (λ entries may. (entries, may, (q.outcomes, k.0, refl)))
+
+  pub no_outcome_left : hall.closed ≡ true → (old.outcomes ≡ []) × (q ≡ old) → Gives (with_queue hall old) collect is_closed (with_queue hall q)
+  no_outcome_left shut k = queued collect is_closed _ k.1 (λ entries may. (entries, may, (k.0, shut, refl)))
+
+  pub no_outcome_yet : hall.closed ≡ false → (old.outcomes ≡ []) × (q ≡ old) → Gives (with_queue hall old) collect empty (with_queue hall q)
+  no_outcome_yet opens k = queued collect empty _ k.1 (λ entries may. (entries, may, (k.0, opens, refl)))
+
+module _ (view : PlainHall) where
+  pub broken_before : (key : Key) (call : PlainCall) → view.broken ≡ true → Gives view (apply key call) is_broken view
+  broken_before key call b = λ entries may. (entries, may, (view.faults, omega arith, (b, refl)))
+
+  -- a call for which there was no memory before it was answered
+  pub not_answered : (key : Key) (call : PlainCall) (services : List ServiceState) (told : Option (List CallEntry)) (faults : ℕ)
+      → view.broken ≡ false → services ≡ view.memories → told ≡ view.told → faults ≡ view.faults
+      → Gives view (apply key call) no_memory (record view { memories = services; told = told; faults = faults })
+  not_answered key call services told faults b s t f =
+      subst (λ (p : List ServiceState × (Option (List CallEntry) × ℕ)). Gives view (apply key call) no_memory (record view { memories = p.0; told = p.1.0; faults = p.1.1 }))
+      (λ i. (sym s i, (sym t i, sym f i)))
+      (λ entries may. (entries, may, (view.faults, omega arith, (b, inl refl))))
+
+  -- what a journal tells once an entry is added
+  abbrev entered_in : CallEntry → Option (List CallEntry)
+  entered_in e = option_map (λ (es : List CallEntry). es ++ e ∷ []) view.told
+
+  may_have : (e : CallEntry) (told : Option (List CallEntry)) (entries : List CallEntry) → MayHave told entries
+      → MayHave (option_map (λ (es : List CallEntry). es ++ e ∷ []) told) (entries ++ e ∷ [])
+  may_have e None entries may = tt
+  may_have e (Some es) entries may = ap (λ (l : List CallEntry). l ++ e ∷ []) may
+
+  -- a call that was answered: it is entered, or the journal failed
+  pub answered_call : {U E F : Type 0} (key : Key) (call : PlainCall) (answer : PlainAnswer) (entered : Result U E) (copy : Result Answer F)
+      (services : List ServiceState) (told : Option (List CallEntry)) (faults : ℕ) (broken : Bool)
+      → view.broken ≡ false → IsAnswerOf view.memories call answer → services ≡ after_call handler_rules view.memories call
+      → MatchResult entered (λ _. told ≡ entered_in (entry_under key call answer)) (λ _. told ≡ view.told)
+      → MatchResult entered (λ _. broken ≡ false) (λ _. broken ≡ true) → HasCause view.faults faults entered → IfOk copy (λ c. plain_answer c ≡ answer)
+      → Gives view (apply key call) (answered_so entered copy) (record view { memories = services; told = told; faults = faults; broken = broken })
+  answered_call {U = U} {E = E} {F = F} key call answer entered copy services told faults broken b is moved tells breaks cause copies =
+      go entered copy tells breaks cause copies
+    where
+      e : CallEntry
+      e = entry_under key call answer
+
+      target : PlainHall
+      target = record view { memories = services; told = told; faults = faults; broken = broken }
+
+      took : (entries : List CallEntry) → broken ≡ view.broken → TakesEffect handler_rules (filled view entries) key call answer faults (filled target (entries ++ e ∷ []))
+      took entries stays = (is, (λ i. record (filled view entries) { journal = entries ++ e ∷ []; memories = moved i; faults = faults; broken = stays i }))
+
+      go : (entered : Result U E) (copy : Result Answer F) → MatchResult entered (λ _. told ≡ entered_in e) (λ _. told ≡ view.told)
+          → MatchResult entered (λ _. broken ≡ false) (λ _. broken ≡ true) → HasCause view.faults faults entered → IfOk copy (λ c. plain_answer c ≡ answer)
+          → Gives view (apply key call) (answered_so entered copy) target
+      go (Ok u) (Ok c) tells breaks cause copies = λ entries may.
+          (entries ++ e ∷ [], subst (λ (t : Option (List CallEntry)). MayHave t (entries ++ e ∷ [])) (sym tells) (may_have e view.told entries may),
+          (faults, cause.later, (b, subst (λ (a : PlainAnswer). TakesEffect handler_rules (filled view entries) key call a faults (filled target (entries ++ e ∷ []))) (sym copies) (took entries (breaks ∙ sym b)))))
+      go (Ok u) (Err f) tells breaks cause copies = λ entries may.
+          (entries ++ e ∷ [], subst (λ (t : Option (List CallEntry)). MayHave t (entries ++ e ∷ [])) (sym tells) (may_have e view.told entries may),
+          (faults, cause.later, (b, inr (answer, took entries (breaks ∙ sym b)))))
+      go (Err f) copy tells breaks cause copies = λ entries may.
+          (entries, subst (λ (t : Option (List CallEntry)). MayHave t entries) (sym tells) may,
+          (faults, cause.later, (b, cause.failed refl, (λ i. record (filled view entries) { memories = moved i; faults = faults; broken = breaks i }))))
+
+-- a hall breaks where its journal failed
+pub breaks_with : {U E : Type 0} (entered : Result U E) (b : Bool) → b ≡ is_err entered → MatchResult entered (λ _. b ≡ false) (λ _. b ≡ true)
+breaks_with (Ok u) b e = e
+breaks_with (Err f) b e = e

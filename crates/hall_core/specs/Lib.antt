@@ -1,0 +1,5 @@
+pub mod Queues
+pub mod Meant
+pub mod Answered
+pub mod Asked
+pub mod Following
