@@ -1,7 +1,6 @@
--- What each operation does to a hall, as the machine's rule has it.
+-- What a call that is applied does to a hall, as the machine's rule has it.
 use Rattle.std.proofs.Common.{◌≡◌, ℕ, ◌≤◌, Bool, true, false, None, Some, Option, Result, Ok, Err, List, [], ◌∷◌, ◌++◌, option_map, refl, sym, ap, ◌∙◌, subst, inl, inr, arith}
 use Rattle.std.specs.Prelude.{MatchResult, IfOk, is_err}
-use Rattle.outside.specs.declared.outcomes.Settled.{Settled}
 use Rattle.outside.specs.Cause.{HasCause}
 use Rattle.host_model.specs.declared.key.Key.{Key}
 use Rattle.host_model.specs.Journal.{after_call}
@@ -10,11 +9,9 @@ use Rattle.call_rules.specs.PlainCalls.{PlainCall, PlainAnswer}
 use Rattle.call_rules.specs.Answers.{plain_answer}
 use Rattle.call_rules.specs.Entries.{CallEntry}
 use Rattle.call_rules.specs.Handling.{ServiceState, handler_rules}
-use Rattle.machine_model.specs.HallState.{without}
-use Rattle.machine_model.specs.HallRule.{job_of, outcome_of, entry_under, TakesEffect, HallOperation, submit, take_job, apply, put, collect, close, HallAnswer, done, job, empty, is_closed, no_memory, is_broken, outcome}
+use Rattle.machine_model.specs.HallRule.{entry_under, TakesEffect, HallOperation, apply, HallAnswer, no_memory}
 use Rattle.machine_model.specs.SeenHall.{MayHave, filled, SeenGives}
-use Rattle.hall_core.specs.Queues.{QueueView}
-use Rattle.hall_core.specs.Meant.{PlainHall, with_queue}
+use Rattle.hall_core.specs.Meant.{PlainHall}
 use Rattle.hall_core.specs.Answered.{IsAnswerOf, answered_so}
 
 -- a step of a hall with this view
@@ -25,48 +22,7 @@ Gives old op answer new = SeenGives handler_rules old op answer new
 pub from_view : (view old : PlainHall) → view ≡ old → (op : HallOperation PlainCall) (answer : HallAnswer PlainAnswer) (new : PlainHall) → Gives view op answer new → Gives old op answer new
 from_view view old same op answer new g = subst (λ (h : PlainHall). Gives h op answer new) same g
 
-pub shut : (view old : PlainHall) → view ≡ old → Gives old close done (record view { closed = true })
-shut view old same = from_view view old same close done _ (λ entries may. (entries, may, refl))
-
-module _ (hall : PlainHall) (old q : QueueView) where
-  queued : (op : HallOperation PlainCall) (answer : HallAnswer PlainAnswer) (to : QueueView) → q ≡ to → Gives (with_queue hall old) op answer (with_queue hall to)
-      → Gives (with_queue hall old) op answer (with_queue hall q)
-  queued op answer to is g = subst (λ (k : QueueView). Gives (with_queue hall old) op answer (with_queue hall k)) (sym is) g
-
-  pub submitted : (key : Key) (payload : List ℕ) → hall.closed ≡ false → q ≡ record old { jobs = old.jobs ++ job_of key payload ∷ [] } → Gives (with_queue hall old) (submit key payload) done (with_queue hall q)
-  submitted key payload opens is = queued (submit key payload) done _ is (λ entries may. (entries, may, (opens, refl)))
-
-  pub refused : (key : Key) (payload : List ℕ) → hall.closed ≡ true → q ≡ old → Gives (with_queue hall old) (submit key payload) is_closed (with_queue hall q)
-  refused key payload shut is = queued (submit key payload) is_closed _ is (λ entries may. (entries, may, (shut, refl)))
-
-  pub job_taken : (key : Key) (payload : List ℕ) → (old.jobs ≡ job_of key payload ∷ q.jobs) × (q ≡ record old { jobs = q.jobs; taken = old.taken ++ key ∷ [] })
-      → Gives (with_queue hall old) take_job (job key payload) (with_queue hall q)
-  job_taken key payload k = queued take_job (job key payload) _ k.1 (λ entries may. (entries, may, (q.jobs, k.0, refl)))
-
-  pub no_job_left : hall.closed ≡ true → (old.jobs ≡ []) × (q ≡ old) → Gives (with_queue hall old) take_job is_closed (with_queue hall q)
-  no_job_left shut k = queued take_job is_closed _ k.1 (λ entries may. (entries, may, (k.0, shut, refl)))
-
-  pub no_job_yet : hall.closed ≡ false → (old.jobs ≡ []) × (q ≡ old) → Gives (with_queue hall old) take_job empty (with_queue hall q)
-  no_job_yet opens k = queued take_job empty _ k.1 (λ entries may. (entries, may, (k.0, opens, refl)))
-
-  pub outcome_put : (key : Key) (settled : Settled) → q ≡ record old { taken = without key old.taken; outcomes = old.outcomes ++ outcome_of key settled ∷ [] }
-      → Gives (with_queue hall old) (put key settled) done (with_queue hall q)
-  outcome_put key settled is = queued (put key settled) done _ is (λ entries may. (entries, may, refl))
-
-  pub outcome_collected : (key : Key) (settled : Settled) → (old.outcomes ≡ outcome_of key settled ∷ q.outcomes) × (q ≡ record old { outcomes = q.outcomes })
-      → Gives (with_queue hall old) collect (outcome key settled) (with_queue hall q)
-  outcome_collected key settled k = queued collect (outcome key settled) _ k.1 (λ entries may. (entries, may, (q.outcomes, k.0, refl)))
-
-  pub no_outcome_left : hall.closed ≡ true → (old.outcomes ≡ []) × (q ≡ old) → Gives (with_queue hall old) collect is_closed (with_queue hall q)
-  no_outcome_left shut k = queued collect is_closed _ k.1 (λ entries may. (entries, may, (k.0, shut, refl)))
-
-  pub no_outcome_yet : hall.closed ≡ false → (old.outcomes ≡ []) × (q ≡ old) → Gives (with_queue hall old) collect empty (with_queue hall q)
-  no_outcome_yet opens k = queued collect empty _ k.1 (λ entries may. (entries, may, (k.0, opens, refl)))
-
 module _ (view : PlainHall) where
-  pub broken_before : (key : Key) (call : PlainCall) → view.broken ≡ true → Gives view (apply key call) is_broken view
-  broken_before key call b = λ entries may. (entries, may, (view.faults, omega arith, (b, refl)))
-
   -- a call for which there was no memory before it was answered
   pub not_answered : (key : Key) (call : PlainCall) (services : List ServiceState) (told : Option (List CallEntry)) (faults : ℕ)
       → view.broken ≡ false → services ≡ view.memories → told ≡ view.told → faults ≡ view.faults
