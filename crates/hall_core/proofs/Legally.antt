@@ -16,7 +16,7 @@ use Rattle.machine_model.specs.SeenHall.{MayHave, filled, SeenCall}
 use Rattle.machine_model.proofs.Lists.{after_push}
 use Rattle.machine_model.proofs.Filling.{IsFilled, fill}
 use Rattle.machine_model.proofs.Breaking.{broken_rose}
-use Rattle.hall_core.specs.Meant.{PlainHall}
+use Rattle.hall_core.specs.Meant.{ServedHall}
 use Rattle.hall_core.specs.Asked.{StepGives, StepCall}
 use Rattle.hall_core.specs.Following.{call_seen, same_end, seen_history}
 
@@ -70,18 +70,18 @@ module _ {C A M : Type 0} (r : ServiceRules C A M) (first : List M) where
   kept hall (e ∷ log) k history = kept e.after log (stepping hall e.after e.op e.reply history.0 k) history.1
 
 -- a hall that was newly opened over an empty journal
-pub tells : (opening : PlainHall) (log : List StepCall) → IsNewlyOpened (filled opening []) → MayHave opening.told [] → IsHistory StepGives opening log
+pub tells : (opening : ServedHall) (log : List StepCall) → IsNewlyOpened (filled opening []) → MayHave opening.told [] → IsHistory StepGives opening log
     → (entries : List CallEntry) × MayHave (meaning_after opening log).told entries × Legal handler_rules opening.memories entries
     × (((meaning_after opening log).memories ≡ after handler_rules opening.memories entries) ⊎ Rose opening.faults (meaning_after opening log).faults)
 tells opening log opened may history =
-    subst (λ (hall : PlainHall). (entries : List CallEntry) × MayHave hall.told entries × Legal handler_rules opening.memories entries
-        × ((hall.memories ≡ after handler_rules opening.memories entries) ⊎ Rose opening.faults hall.faults)) (same_end opening log)
+    subst (λ (hall : ServedHall). (entries : List CallEntry) × MayHave hall.told entries × Legal handler_rules opening.memories entries
+    × ((hall.memories ≡ after handler_rules opening.memories entries) ⊎ Rose opening.faults hall.faults)) (same_end opening log)
     (full.1, full.4, legal.0, either last.broken refl)
   where
     seen : List (SeenCall PlainCall PlainAnswer ServiceState)
     seen = map call_seen log
 
-    last : PlainHall
+    last : ServedHall
     last = meaning_after opening seen
 
     full : IsFilled handler_rules opening [] seen

@@ -11,18 +11,18 @@ use Rattle.call_rules.specs.Entries.{CallEntry}
 use Rattle.call_rules.specs.Handling.{ServiceState, handler_rules}
 use Rattle.machine_model.specs.HallRule.{entry_under, TakesEffect, HallOperation, apply, HallAnswer, no_memory}
 use Rattle.machine_model.specs.SeenHall.{MayHave, filled, SeenGives}
-use Rattle.hall_core.specs.Meant.{PlainHall}
+use Rattle.hall_core.specs.Meant.{ServedHall}
 use Rattle.hall_core.specs.Answered.{IsAnswerOf, answered_so}
 
 -- a step of a hall with this view
-abbrev Gives : PlainHall → HallOperation PlainCall → HallAnswer PlainAnswer → PlainHall → Type 0
+abbrev Gives : ServedHall → HallOperation PlainCall → HallAnswer PlainAnswer → ServedHall → Type 0
 Gives old op answer new = SeenGives handler_rules old op answer new
 
 -- a hall is seen by its value
-pub from_view : (view old : PlainHall) → view ≡ old → (op : HallOperation PlainCall) (answer : HallAnswer PlainAnswer) (new : PlainHall) → Gives view op answer new → Gives old op answer new
-from_view view old same op answer new g = subst (λ (h : PlainHall). Gives h op answer new) same g
+pub from_view : (view old : ServedHall) → view ≡ old → (op : HallOperation PlainCall) (answer : HallAnswer PlainAnswer) (new : ServedHall) → Gives view op answer new → Gives old op answer new
+from_view view old same op answer new g = subst (λ (h : ServedHall). Gives h op answer new) same g
 
-module _ (view : PlainHall) where
+module _ (view : ServedHall) where
   -- a call for which there was no memory before it was answered
   pub not_answered : (key : Key) (call : PlainCall) (services : List ServiceState) (told : Option (List CallEntry)) (faults : ℕ)
       → view.broken ≡ false → services ≡ view.memories → told ≡ view.told → faults ≡ view.faults
@@ -54,7 +54,7 @@ module _ (view : PlainHall) where
       e : CallEntry
       e = entry_under key call answer
 
-      target : PlainHall
+      target : ServedHall
       target = record view { memories = services; told = told; faults = faults; broken = broken }
 
       took : (entries : List CallEntry) → broken ≡ view.broken → TakesEffect handler_rules (filled view entries) key call answer faults (filled target (entries ++ e ∷ []))
@@ -63,15 +63,21 @@ module _ (view : PlainHall) where
       go : (entered : Result U E) (copy : Result Answer F) → MatchResult entered (λ _. told ≡ entered_in e) (λ _. told ≡ view.told)
           → MatchResult entered (λ _. broken ≡ false) (λ _. broken ≡ true) → HasCause view.faults faults entered → IfOk copy (λ c. plain_answer c ≡ answer)
           → Gives view (apply key call) (answered_so entered copy) target
-      go (Ok u) (Ok c) tells breaks cause copies = λ entries may.
-          (entries ++ e ∷ [], subst (λ (t : Option (List CallEntry)). MayHave t (entries ++ e ∷ [])) (sym tells) (may_have e view.told entries may),
-          (faults, cause.later, (b, subst (λ (a : PlainAnswer). TakesEffect handler_rules (filled view entries) key call a faults (filled target (entries ++ e ∷ []))) (sym copies) (took entries (breaks ∙ sym b)))))
-      go (Ok u) (Err f) tells breaks cause copies = λ entries may.
-          (entries ++ e ∷ [], subst (λ (t : Option (List CallEntry)). MayHave t (entries ++ e ∷ [])) (sym tells) (may_have e view.told entries may),
-          (faults, cause.later, (b, inr (answer, took entries (breaks ∙ sym b)))))
-      go (Err f) copy tells breaks cause copies = λ entries may.
-          (entries, subst (λ (t : Option (List CallEntry)). MayHave t entries) (sym tells) may,
-          (faults, cause.later, (b, cause.failed refl, (λ i. record (filled view entries) { memories = moved i; faults = faults; broken = breaks i }))))
+      go (Ok u) (Ok c) tells breaks cause copies = λ entries may. (
+        entries ++ e ∷ [],
+        subst (λ (t : Option (List CallEntry)). MayHave t (entries ++ e ∷ [])) (sym tells) (may_have e view.told entries may),
+        (faults, cause.later, (b, subst (λ (a : PlainAnswer). TakesEffect handler_rules (filled view entries) key call a faults (filled target (entries ++ e ∷ []))) (sym copies) (took entries (breaks ∙ sym b)))),
+      )
+      go (Ok u) (Err f) tells breaks cause copies = λ entries may. (
+        entries ++ e ∷ [],
+        subst (λ (t : Option (List CallEntry)). MayHave t (entries ++ e ∷ [])) (sym tells) (may_have e view.told entries may),
+        (faults, cause.later, (b, inr (answer, took entries (breaks ∙ sym b)))),
+      )
+      go (Err f) copy tells breaks cause copies = λ entries may. (
+        entries,
+        subst (λ (t : Option (List CallEntry)). MayHave t entries) (sym tells) may,
+        (faults, cause.later, (b, cause.failed refl, (λ i. record (filled view entries) { memories = moved i; faults = faults; broken = breaks i }))),
+      )
 
 -- a hall breaks where its journal failed
 pub breaks_with : {U E : Type 0} (entered : Result U E) (b : Bool) → b ≡ is_err entered → MatchResult entered (λ _. b ≡ false) (λ _. b ≡ true)

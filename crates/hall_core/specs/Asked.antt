@@ -14,7 +14,7 @@ use Rattle.hall_core.specs.declared.operation.HallOp.{HallOp}
 use Rattle.hall_core.specs.declared.operation.HallOp.TheVariants.{Submit, Take, Apply, Put, Collect, Close}
 use Rattle.hall_core.specs.declared.operation.HallReply.{HallReply}
 use Rattle.hall_core.specs.declared.operation.HallReply.TheVariants.{Done, Job, Empty, Closed, Applied, NoMemory, JournalFault, Broken, Settled as Outcome}
-use Rattle.hall_core.specs.Meant.{PlainHall}
+use Rattle.hall_core.specs.Meant.{ServedHall}
 
 -- what is asked
 abbrev pub operation_of : HallOp → HallOperation PlainCall
@@ -43,21 +43,21 @@ AsksPlainly (Apply key call) = IsPlainCall call
 AsksPlainly _ = Unit {0}
 
 -- a hall's step is one of the machine's hall
-abbrev pub StepGives : PlainHall → HallOp → HallReply → PlainHall → Type 0
+abbrev pub StepGives : ServedHall → HallOp → HallReply → ServedHall → Type 0
 StepGives old op reply new = SeenGives handler_rules old (operation_of op) (answer_of reply) new
 
 -- its condition: that of the machine's hall, and that the call is plain
-abbrev pub StepCan : PlainHall → HallOp → Type 0
+abbrev pub StepCan : ServedHall → HallOp → Type 0
 StepCan hall op = SeenCan handler_rules hall (operation_of op) × AsksPlainly op
 
 -- a call of a booth round a hall
 abbrev pub StepCall : Type 0
-StepCall = SeatCall HallOp HallReply PlainHall
+StepCall = SeatCall HallOp HallReply ServedHall
 
 -- what was asked and answered there
 abbrev pub ask_seen : StepCall → HallAsk PlainCall PlainAnswer
 ask_seen e = seat_ask e.seat (operation_of e.op) (answer_of e.reply)
 
 -- the condition of a seat's call: that of the machine's hall, of its own earlier asks, and that the call is plain
-abbrev pub StepMay : PlainHall → ℕ → List StepCall → HallOp → Type 0
+abbrev pub StepMay : ServedHall → ℕ → List StepCall → HallOp → Type 0
 StepMay first seat own op = SeenMay handler_rules first seat (map ask_seen own) (operation_of op) × AsksPlainly op

@@ -10,7 +10,7 @@ use Rattle.machine_model.specs.OwnCalls.{HallAsk}
 use Rattle.machine_model.specs.SeenHall.{SeenCall, SeenGives, SeenCan, SeenMay}
 use Rattle.machine_model.proofs.Filling.{seen_suffices}
 use Rattle.hall_core.specs.declared.operation.HallOp.{HallOp}
-use Rattle.hall_core.specs.Meant.{PlainHall}
+use Rattle.hall_core.specs.Meant.{ServedHall}
 use Rattle.hall_core.specs.Asked.{operation_of, answer_of, StepGives, StepCan, StepCall, ask_seen, StepMay}
 
 -- a call of the machine's hall
@@ -18,12 +18,12 @@ abbrev pub call_seen : StepCall → SeenCall PlainCall PlainAnswer ServiceState
 call_seen e = seat_call e.seat (operation_of e.op) (answer_of e.reply) e.after
 
 -- both leave the same hall
-pub same_end : (first : PlainHall) (log : List StepCall) → meaning_after first (map call_seen log) ≡ meaning_after first log
+pub same_end : (first : ServedHall) (log : List StepCall) → meaning_after first (map call_seen log) ≡ meaning_after first log
 same_end first [] = refl
 same_end first (e ∷ log) = same_end e.after log
 
 -- and the history is one of the machine's hall
-pub seen_history : (first : PlainHall) (log : List StepCall) → IsHistory StepGives first log → IsHistory (SeenGives handler_rules) first (map call_seen log)
+pub seen_history : (first : ServedHall) (log : List StepCall) → IsHistory StepGives first log → IsHistory (SeenGives handler_rules) first (map call_seen log)
 seen_history first [] h = tt
 seen_history first (e ∷ log) h = (h.0, seen_history e.after log h.1)
 
@@ -69,20 +69,20 @@ split_asks (e ∷ log) (x ∷ front) back ask is =
     }
 
 -- each call of the machine's hall was allowed
-pub seen_allowed : (first : PlainHall) (log : List StepCall) → AllAllowed StepMay first log → AllAllowed (SeenMay handler_rules) first (asks_of (map call_seen log))
+pub seen_allowed : (first : ServedHall) (log : List StepCall) → AllAllowed StepMay first log → AllAllowed (SeenMay handler_rules) first (asks_of (map call_seen log))
 seen_allowed first log allowed front back e is =
     let s : Split log front e = split_asks log front back e (sym (same_asks log) ∙ is) in
     let may : SeenMay handler_rules first s.call.seat (map ask_seen (calls_by s.call.seat s.before)) (operation_of s.call.op) = (allowed s.before s.behind s.call s.whole).0 in
     let own : SeenMay handler_rules first s.call.seat (calls_by s.call.seat (map ask_seen s.before)) (operation_of s.call.op) =
-        subst (λ (l : List (HallAsk PlainCall PlainAnswer)). SeenMay handler_rules first s.call.seat l (operation_of s.call.op)) (sym (asks_by s.call.seat s.before)) may in
+    subst (λ (l : List (HallAsk PlainCall PlainAnswer)). SeenMay handler_rules first s.call.seat l (operation_of s.call.op)) (sym (asks_by s.call.seat s.before)) may in
     subst (λ (p : List (HallAsk PlainCall PlainAnswer) × HallAsk PlainCall PlainAnswer). SeenMay handler_rules first p.1.seat (calls_by p.1.seat p.0) p.1.op) (λ i. (s.front_is i, s.ask_is i)) own
 
 -- what a seat may ask the hall can do
-pub steps_follow : (first : PlainHall) (seat : ℕ) (log : List StepCall) (op : HallOp) → IsHistory StepGives first log → AllAllowed StepMay first log
+pub steps_follow : (first : ServedHall) (seat : ℕ) (log : List StepCall) (op : HallOp) → IsHistory StepGives first log → AllAllowed StepMay first log
     → StepMay first seat (calls_by seat log) op → StepCan (meaning_after first log) op
 steps_follow first seat log op history allowed may =
     let mine : calls_by seat (asks_of (map call_seen log)) ≡ map ask_seen (calls_by seat log) = ap (calls_by seat) (same_asks log) ∙ asks_by seat log in
     let can : SeenCan handler_rules (meaning_after first (map call_seen log)) (operation_of op) =
-        seen_suffices handler_rules first seat (map call_seen log) (operation_of op) (seen_history first log history) (seen_allowed first log allowed)
-        (subst (λ (l : List (HallAsk PlainCall PlainAnswer)). SeenMay handler_rules first seat l (operation_of op)) (sym mine) may.0) in
-    (subst (λ (h : PlainHall). SeenCan handler_rules h (operation_of op)) (same_end first log) can, may.1)
+    seen_suffices handler_rules first seat (map call_seen log) (operation_of op) (seen_history first log history) (seen_allowed first log allowed)
+    (subst (λ (l : List (HallAsk PlainCall PlainAnswer)). SeenMay handler_rules first seat l (operation_of op)) (sym mine) may.0) in
+    (subst (λ (h : ServedHall). SeenCan handler_rules h (operation_of op)) (same_end first log) can, may.1)

@@ -7,22 +7,22 @@ use Rattle.machine_model.specs.SeenHall.{SeenHall}
 use Rattle.hall_core.specs.Queues.{QueueView}
 
 -- a hall of services
-abbrev pub PlainHall : Type 0
-PlainHall = SeenHall PlainCall PlainAnswer ServiceState
+abbrev pub ServedHall : Type 0
+ServedHall = SeenHall PlainCall PlainAnswer ServiceState
 
 -- a newly opened one, with these services and this journal
-abbrev pub opened : List ServiceState → Option (List CallEntry) → ℕ → PlainHall
-opened services told faults =
+abbrev pub opened_hall : List ServiceState → Option (List CallEntry) → ℕ → ServedHall
+opened_hall services told faults =
     record { jobs = []; taken = []; outcomes = []; memories = services; told = told; faults = faults; closed = false; broken = false }
 
 -- what its queue holds
-abbrev pub queue_of : PlainHall → QueueView
+abbrev pub queue_of : ServedHall → QueueView
 queue_of hall = record { jobs = hall.jobs; taken = hall.taken; outcomes = hall.outcomes }
 
 -- the hall with another queue
-abbrev pub with_queue : PlainHall → QueueView → PlainHall
+abbrev pub with_queue : ServedHall → QueueView → ServedHall
 with_queue hall q = record hall { jobs = q.jobs; taken = q.taken; outcomes = q.outcomes }
 
 -- the hall with other services and another journal
-abbrev pub with_services : PlainHall → List ServiceState → Option (List CallEntry) → ℕ → Bool → PlainHall
+abbrev pub with_services : ServedHall → List ServiceState → Option (List CallEntry) → ℕ → Bool → ServedHall
 with_services hall services told faults broken = record hall { memories = services; told = told; faults = faults; broken = broken }

@@ -8,7 +8,7 @@ ghost use Rattle.call_rules.specs.PlainCalls.{IsPlainCall, IsPlainValue, IsPlain
 ghost use Rattle.call_rules.specs.Handling.{ServiceState, handled, service_after, handler_rules};
 ghost use Rattle.machine_model.specs.HallRule as rule;
 ghost use Rattle.machine_model.specs.SeenHall.{SeenGives};
-ghost use Rattle.hall_core.specs.Meant.{PlainHall, with_services};
+ghost use Rattle.hall_core.specs.Meant.{ServedHall, with_services};
 ghost use Rattle.hall_core.specs.Answered.{IsAnswerOf, answered_so};
 ghost use Rattle.hall_core.specs.Asked.{answer_of};
 
@@ -24,7 +24,12 @@ pub(crate) trait Answers: Drop {
     ghost state: { Self → ServiceState };
 
     /// Answers a call.
-    fn answer_to(&mut self, alloc: Global, method: &[u8], args: &Value) -> Result<Answer, AllocError>
+    fn answer_to(
+        &mut self,
+        alloc: Global,
+        method: &[u8],
+        args: &Value,
+    ) -> Result<Answer, AllocError>
         ensures answered { IfOk result (λ answer. plain_answer answer ≡ (handled (state self.old) method.now (tree_of args.now)).answer) }
         ensures moved { OnOk result (state self.new ≡ service_after (state self.old) method.now (tree_of args.now)) }
         ensures plain { IsPlainValue (tree_of args.now) → IfOk result (λ answer. IsPlainAnswer (plain_answer answer)) }
@@ -34,13 +39,22 @@ pub(crate) trait Answers: Drop {
 impl<H: Handler> Answers for H {
     ghost state = { λ h. H.service h };
 
-    fn answer_to(&mut self, alloc: Global, method: &[u8], args: &Value) -> Result<Answer, AllocError> {
+    fn answer_to(
+        &mut self,
+        alloc: Global,
+        method: &[u8],
+        args: &Value,
+    ) -> Result<Answer, AllocError> {
         self.answer(alloc, method, args)
     }
 }
 
 /// Lets the handler of the call's slot answer it.
-fn answered<A: Answers>(alloc: Global, handlers: &mut [A], call: &Call) -> Result<Answer, AllocError>
+fn answered<A: Answers>(
+    alloc: Global,
+    handlers: &mut [A],
+    call: &Call,
+) -> Result<Answer, AllocError>
     requires slot { call.now.slot < length handlers.old }
     requires plain { IsPlainCall call.now }
     ensures answer { IfOk result (λ answer. IsAnswerOf (map A.state handlers.old) call.now (plain_answer answer)) }
@@ -88,7 +102,7 @@ pub(crate) fn apply<A: Answers, J: Journal>(
     requires slot { call.slot < length handlers.old }
     requires plain { IsPlainCall call }
     ensures torn { broken.new ≡ J.torn journal.new }
-    ensures gives { (hall : PlainHall) → SeenGives handler_rules
+    ensures gives { (hall : ServedHall) → SeenGives handler_rules
         (with_services hall (map A.state handlers.old) (J.told journal.old) (J.faults journal.old) broken.old) (rule.apply key call) (answer_of result)
         (with_services hall (map A.state handlers.new) (J.told journal.new) (J.faults journal.new) broken.new) }
 {

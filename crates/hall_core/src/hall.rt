@@ -2,7 +2,7 @@
 
 ghost use Rattle.std.specs.Prelude.{◌≡◌, ◌<◌, ◌^◌, [], length, map, false, IfOk, IfErr};
 ghost use Rattle.machine_model.specs.SeenHall.{MayHave};
-ghost use Rattle.hall_core.specs.Meant.{opened};
+ghost use Rattle.hall_core.specs.Meant.{opened_hall};
 
 use crate::answering::apply;
 use crate::operation::{HallOp, HallReply};
@@ -31,9 +31,9 @@ impl<H: Handler, J: Journal> Model for Hall<H, J> {
     ghost use Rattle.std.specs.Coded.{codes};
     ghost use Rattle.thrift_value.specs.Codes.{tree_code};
     ghost use Rattle.call_rules.specs.PlainCalls.{plain_call_code, plain_answer_code};
-    ghost use Rattle.hall_core.specs.Meant.{PlainHall};
+    ghost use Rattle.hall_core.specs.Meant.{ServedHall};
 
-    ghost Value = { PlainHall };
+    ghost Value = { ServedHall };
 
     ghost coded = { Prim.hlevel (codes, tree_code, plain_call_code, plain_answer_code) };
 
@@ -50,13 +50,13 @@ impl Model for HallMeaning {
     ghost use Rattle.std.specs.Coded.{codes};
     ghost use Rattle.thrift_value.specs.Codes.{tree_code};
     ghost use Rattle.call_rules.specs.PlainCalls.{plain_call_code, plain_answer_code};
-    ghost use Rattle.hall_core.specs.Meant.{PlainHall, opened};
+    ghost use Rattle.hall_core.specs.Meant.{ServedHall, opened_hall};
 
-    ghost Value = { PlainHall };
+    ghost Value = { ServedHall };
 
     ghost coded = { Prim.hlevel (codes, tree_code, plain_call_code, plain_answer_code) };
 
-    ghost view = { λ _. opened [] None 0 };
+    ghost view = { λ _. opened_hall [] None 0 };
 }
 
 /// There was no memory for a hall. What it was to be made of comes back.
@@ -72,7 +72,7 @@ impl<H: Handler, J: Journal> Hall<H, J> {
         requires few { length handlers.items < 2 ^ 32 }
         requires whole { J.torn journal ≡ false }
         requires empty { MayHave (J.told journal) [] }
-        ensures hall { IfOk result (λ hall. hall ≡ opened (map H.service handlers.items) (J.told journal) (J.faults journal)) }
+        ensures hall { IfOk result (λ hall. hall ≡ opened_hall (map H.service handlers.items) (J.told journal) (J.faults journal)) }
         ensures empty { IfOk result (λ hall. MayHave hall.told []) }
         ensures err { IfErr result (λ no. (no.handlers ≡ handlers) × (no.journal ≡ journal)) }
     {
@@ -133,7 +133,14 @@ impl<H: Handler, J: Journal> Object for Hall<H, J> {
             HallOp::Take => take(&mut self.queue, self.closed),
             HallOp::Apply(key, call) => {
                 let handlers = self.handlers.as_mut_slice();
-                apply(self.alloc, handlers, &mut self.journal, &mut self.broken, key, call)
+                apply(
+                    self.alloc,
+                    handlers,
+                    &mut self.journal,
+                    &mut self.broken,
+                    key,
+                    call,
+                )
             }
             HallOp::Put(key, settled) => put(&mut self.queue, key, settled),
             HallOp::Collect => collect(&mut self.queue, self.closed),

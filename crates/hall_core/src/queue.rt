@@ -114,7 +114,7 @@ impl Queue {
         ensures { MatchOption result
             ((self.old.jobs ≡ []) × (self.new ≡ self.old))
             (λ job. (self.old.jobs ≡ job_of job.0 job.1 ∷ self.new.jobs)
-                × (self.new ≡ record self.old { jobs = self.new.jobs; taken = self.old.taken ++ job.0 ∷ [] })) }
+            × (self.new ≡ record self.old { jobs = self.new.jobs; taken = self.old.taken ++ job.0 ∷ [] })) }
     {
         let JobRow { key, payload } = self.jobs.pop_front()?;
         self.taken.push_reserved(key);
@@ -128,7 +128,8 @@ impl Queue {
     {
         let place = place_of(self.taken.as_slice(), key);
         self.taken.remove(place);
-        self.outcomes.push_back_reserved(OutcomeRow { key, settled });
+        self.outcomes
+            .push_back_reserved(OutcomeRow { key, settled });
     }
 
     /// Takes the oldest outcome out.
@@ -136,7 +137,7 @@ impl Queue {
         ensures { MatchOption result
             ((self.old.outcomes ≡ []) × (self.new ≡ self.old))
             (λ outcome. (self.old.outcomes ≡ outcome_of outcome.0 outcome.1 ∷ self.new.outcomes)
-                × (self.new ≡ record self.old { outcomes = self.new.outcomes })) }
+            × (self.new ≡ record self.old { outcomes = self.new.outcomes })) }
     {
         let OutcomeRow { key, settled } = self.outcomes.pop_front()?;
         Some((key, settled))

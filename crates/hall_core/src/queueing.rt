@@ -7,7 +7,7 @@ ghost use Rattle.machine_model.specs.HallRule as rule;
 ghost use Rattle.machine_model.specs.OwnCalls.{most_keys};
 ghost use Rattle.machine_model.specs.SeenHall.{SeenGives};
 ghost use Rattle.hall_core.specs.Queues.{keys_held};
-ghost use Rattle.hall_core.specs.Meant.{PlainHall, with_queue};
+ghost use Rattle.hall_core.specs.Meant.{ServedHall, with_queue};
 ghost use Rattle.hall_core.specs.Asked.{answer_of};
 
 use crate::operation::HallReply;
@@ -18,7 +18,7 @@ use outside::{Bytes, Settled};
 /// Submits a job.
 pub(crate) fn submit(queue: &mut Queue, closed: bool, key: Key, payload: Bytes) -> HallReply
     requires { keys_held queue.old < most_keys }
-    ensures { (hall : PlainHall) → hall.closed ≡ closed → SeenGives handler_rules (with_queue hall queue.old) (rule.submit key payload) (answer_of result) (with_queue hall queue.new) }
+    ensures { (hall : ServedHall) → hall.closed ≡ closed → SeenGives handler_rules (with_queue hall queue.old) (rule.submit key payload) (answer_of result) (with_queue hall queue.new) }
 {
     if closed {
         return HallReply::Closed;
@@ -29,7 +29,7 @@ pub(crate) fn submit(queue: &mut Queue, closed: bool, key: Key, payload: Bytes) 
 
 /// Takes the oldest job.
 pub(crate) fn take(queue: &mut Queue, closed: bool) -> HallReply
-    ensures { (hall : PlainHall) → hall.closed ≡ closed → SeenGives handler_rules (with_queue hall queue.old) rule.take_job (answer_of result) (with_queue hall queue.new) }
+    ensures { (hall : ServedHall) → hall.closed ≡ closed → SeenGives handler_rules (with_queue hall queue.old) rule.take_job (answer_of result) (with_queue hall queue.new) }
 {
     if let Some((key, payload)) = queue.take() {
         return HallReply::Job(key, payload);
@@ -43,7 +43,7 @@ pub(crate) fn take(queue: &mut Queue, closed: bool) -> HallReply
 /// Puts the outcome of a job.
 pub(crate) fn put(queue: &mut Queue, key: Key, settled: Settled) -> HallReply
     requires { has_key key queue.old.taken ≡ true }
-    ensures { (hall : PlainHall) → SeenGives handler_rules (with_queue hall queue.old) (rule.put key settled) (answer_of result) (with_queue hall queue.new) }
+    ensures { (hall : ServedHall) → SeenGives handler_rules (with_queue hall queue.old) (rule.put key settled) (answer_of result) (with_queue hall queue.new) }
 {
     queue.put(key, settled);
     HallReply::Done
@@ -51,7 +51,7 @@ pub(crate) fn put(queue: &mut Queue, key: Key, settled: Settled) -> HallReply
 
 /// Collects the oldest outcome.
 pub(crate) fn collect(queue: &mut Queue, closed: bool) -> HallReply
-    ensures { (hall : PlainHall) → hall.closed ≡ closed → SeenGives handler_rules (with_queue hall queue.old) rule.collect (answer_of result) (with_queue hall queue.new) }
+    ensures { (hall : ServedHall) → hall.closed ≡ closed → SeenGives handler_rules (with_queue hall queue.old) rule.collect (answer_of result) (with_queue hall queue.new) }
 {
     if let Some((key, settled)) = queue.collect() {
         return HallReply::Settled(key, settled);

@@ -13,7 +13,7 @@ returns-clause-moved g c =
     let within : view.slot < length c.args.handlers.now = subst (λ (p : PlainCall). p.slot < length c.args.handlers.now) (sym c.call.view_is) c.requires.slot in
     on_ok_weaker c.answer_to.result
     (λ m. subst (λ (p : PlainCall). map g.A.Answers.state (slice_set c.args.handlers.now view.slot c.answer_to.new.self) ≡ after_call handler_rules (map g.A.Answers.state c.args.handlers.now) p) c.call.view_is
-        (moved_from g.A.Answers.state c.args.handlers.now view c.index-handlers-call.result within c.index-handlers-call.is c.as_slice.result.now c.as_slice.ensures c.answer_to.new.self m))
+    (moved_from g.A.Answers.state c.args.handlers.now view c.index-handlers-call.result within c.index-handlers-call.is c.as_slice.result.now c.as_slice.ensures c.answer_to.new.self m))
     c.answer_to.ensures.moved
 
 pub returns-clause-err : goal.returns-clause-err

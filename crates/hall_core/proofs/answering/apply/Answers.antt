@@ -27,10 +27,10 @@ returns-clause-gives g c = λ hall.
     let services : List ServiceState = map g.A.Answers.state c.answered.new.handlers in
     let new = with_services hall services (g.J.Journal.told c.append-entered.new.self) (g.J.Journal.faults c.append-entered.new.self) c.is_err.result in
     subst (λ (a : HallAnswer PlainAnswer). SeenGives handler_rules
-        (with_services hall (map g.A.Answers.state c.args.handlers.now) (g.J.Journal.told c.args.journal.now) (g.J.Journal.faults c.args.journal.now) c.args.broken.now) (rule.apply c.args.key c.args.call) a new)
+    (with_services hall (map g.A.Answers.state c.args.handlers.now) (g.J.Journal.told c.args.journal.now) (g.J.Journal.faults c.args.journal.now) c.args.broken.now) (rule.apply c.args.key c.args.call) a new)
     (sym c.replied.ensures)
     (subst (λ (p : Option (List CallEntry) × ℕ). SeenGives handler_rules (with_services hall (map g.A.Answers.state c.args.handlers.now) p.0 p.1 c.args.broken.now) (rule.apply c.args.key c.args.call)
-        (answered_so c.append-entered.result c.copied-copy.result) new)
+    (answered_so c.append-entered.result c.copied-copy.result) new)
     (λ i. (c.reserve.ensures.told i, c.reserve.ensures.faults i))
     (answered_call (with_services hall (map g.A.Answers.state c.args.handlers.now) (g.J.Journal.told c.reserve.new.self) (g.J.Journal.faults c.reserve.new.self) c.args.broken.now) c.args.key c.args.call
     (plain_answer c.in-Ok-answered.answer) c.append-entered.result c.copied-copy.result services (g.J.Journal.told c.append-entered.new.self) (g.J.Journal.faults c.append-entered.new.self) c.is_err.result
