@@ -19,7 +19,7 @@ use std::alloc::{AllocError, Global};
 use thrift_value::Value;
 
 /// What a handler does for a hall. A handler may be sent to other threads, which a step asks nothing of.
-pub(crate) trait Answers: Drop {
+pub(crate) trait AnswersCalls: Drop {
     // Its service.
     ghost state: { Self → ServiceState };
 
@@ -36,7 +36,7 @@ pub(crate) trait Answers: Drop {
         ensures err { OnErr result (state self.new ≡ state self.old) };
 }
 
-impl<H: Handler> Answers for H {
+impl<H: Handler> AnswersCalls for H {
     ghost state = { λ h. H.service h };
 
     fn answer_to(
@@ -50,7 +50,7 @@ impl<H: Handler> Answers for H {
 }
 
 /// Lets the handler of the call's slot answer it.
-fn answered<A: Answers>(
+fn answered<A: AnswersCalls>(
     alloc: Global,
     handlers: &mut [A],
     call: &Call,
@@ -90,7 +90,7 @@ fn replied(entered: Result<(), Failed>, copy: Result<Answer, AllocError>) -> Hal
 }
 
 /// Lets the call be answered, and enters it in the journal. The answer is copied before, since the entry takes it.
-pub(crate) fn apply<A: Answers, J: Journal>(
+pub(crate) fn apply<A: AnswersCalls, J: Journal>(
     alloc: Global,
     handlers: &mut [A],
     journal: &mut J,

@@ -12,12 +12,12 @@ returns-clause-moved g c =
     let view : PlainCall = record { slot = c.call.inside.slot; method = c.call.inside.method; args = tree_of c.call.inside.args; silent = c.call.inside.silent } in
     let within : view.slot < length c.args.handlers.now = subst (λ (p : PlainCall). p.slot < length c.args.handlers.now) (sym c.call.view_is) c.requires.slot in
     on_ok_weaker c.answer_to.result
-    (λ m. subst (λ (p : PlainCall). map g.A.Answers.state (slice_set c.args.handlers.now view.slot c.answer_to.new.self) ≡ after_call handler_rules (map g.A.Answers.state c.args.handlers.now) p) c.call.view_is
-    (moved_from g.A.Answers.state c.args.handlers.now view c.index-handlers-call.result within c.index-handlers-call.is c.as_slice.result.now c.as_slice.ensures c.answer_to.new.self m))
+    (λ m. subst (λ (p : PlainCall). map g.A.AnswersCalls.state (slice_set c.args.handlers.now view.slot c.answer_to.new.self) ≡ after_call handler_rules (map g.A.AnswersCalls.state c.args.handlers.now) p) c.call.view_is
+    (moved_from g.A.AnswersCalls.state c.args.handlers.now view c.index-handlers-call.result within c.index-handlers-call.is c.as_slice.result.now c.as_slice.ensures c.answer_to.new.self m))
     c.answer_to.ensures.moved
 
 pub returns-clause-err : goal.returns-clause-err
 returns-clause-err g c =
     let view : PlainCall = record { slot = c.call.inside.slot; method = c.call.inside.method; args = tree_of c.call.inside.args; silent = c.call.inside.silent } in
     let within : view.slot < length c.args.handlers.now = subst (λ (p : PlainCall). p.slot < length c.args.handlers.now) (sym c.call.view_is) c.requires.slot in
-    on_err_weaker c.answer_to.result (kept_from g.A.Answers.state c.args.handlers.now view c.index-handlers-call.result within c.index-handlers-call.is c.answer_to.new.self) c.answer_to.ensures.err
+    on_err_weaker c.answer_to.result (kept_from g.A.AnswersCalls.state c.args.handlers.now view c.index-handlers-call.result within c.index-handlers-call.is c.answer_to.new.self) c.answer_to.ensures.err
