@@ -1,0 +1,5 @@
+pub mod Tutorial
+pub mod FaultKinds
+pub mod Lines
+pub mod Verdicts
+pub mod Telling
