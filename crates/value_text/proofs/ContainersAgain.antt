@@ -1,19 +1,17 @@
 -- Structs, maps, sets and lists are read back, and so all values that have a text.
-use Rattle.std.proofs.Common.{◌≡◌, ℕ, zero, suc, ◌+◌, ◌<◌, ◌≤◌, Bool, true, false, cond, ℤ, codes, List, [], ◌∷◌, ◌++◌, length, flat_map, Option, Some, None, Result, Ok, Err, refl, sym, ap, subst, ◌∙◌, append_assoc, length-append, arith, inl, inr}
+use Rattle.std.proofs.Common.{◌≡◌, ℕ, zero, suc, ◌+◌, ◌<◌, Bool, true, false, ℤ, codes, List, [], ◌∷◌, ◌++◌, length, flat_map, None, Result, Ok, refl, ap, subst, ◌∙◌, append_assoc, length-append, arith}
 use Rattle.std.proofs.lemmas.List.Elements.{recursion_from_All}
 use Rattle.thrift_value.specs.declared.tag.Tag.{Tag}
 use Rattle.thrift_value.specs.declared.tag.Tag.TheVariants as tags
-use Rattle.thrift_value.specs.Tags.{tag_of}
 use Rattle.thrift_value.specs.Tree.{Tree, of_bool, of_i8, of_i16, of_i32, of_i64, of_double, of_bytes, of_struct, of_map, of_set, of_list, FieldTrees, ItemTrees, PairTrees}
 use Rattle.thrift_value.specs.TreeOf.{field_trees, item_trees, pair_trees}
 use Rattle.text_out.specs.Quoted.{quoted_byte}
-use Rattle.value_text.specs.declared.form.Container.{Container}
 use Rattle.value_text.specs.declared.form.Container.TheVariants.{Struct, Map, Set, List as ListForm}
 use Rattle.value_text.specs.declared.form.Form.TheVariants.{Holding}
 use Rattle.value_text.specs.ValueText.{tree_text, tag_word, listed_fields, listed_items, listed_pairs}
 use Rattle.value_text.specs.Fronts.{◌>>=◌, behind_word, tag_at}
 use Rattle.value_text.specs.Rows.{list_at}
-use Rattle.value_text.specs.Reading.{is_wanted, value_text_at, deeper_at, value_by, struct_text_at, map_at, set_at, list_value_at, head_text_at, map_head_at, field_text_at, item_at, pair_text_at}
+use Rattle.value_text.specs.Reading.{value_text_at, deeper_at, struct_text_at, map_at, set_at, list_value_at, head_text_at, map_head_at, field_text_at, item_at, pair_text_at}
 use Rattle.value_text.proofs.RowLaws.{AreChained, shown, list_again}
 use Rattle.value_text.proofs.GoodTrees.{IsGood, FieldFits, ItemFits, PairFits, chained_fields, chained_items, chained_pairs}
 use Rattle.value_text.proofs.LeafLaws.{i8_again, i16_again, i32_again, i64_again}

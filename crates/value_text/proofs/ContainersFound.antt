@@ -1,32 +1,27 @@
 -- What is read as a struct, a map, a set or a list is the text of that value, and so with all values.
-use Rattle.std.proofs.Common.{◌≡◌, ◌⊎◌, ℕ, zero, suc, ◌+◌, ◌-◌, ◌^◌, ◌<◌, ◌≤◌, min, Bool, true, false, cond, not, eqb, ℤ, pos, negsuc, codes, List, [], ◌∷◌, ◌++◌, length, flat_map, get_or, Option, Some, None, Result, Ok, Err, refl, sym, ap, subst, ◌∙◌, append_assoc, arith, inl, inr, eqb-true}
-use Rattle.std.proofs.lemmas.Nat.{be_bytes_8}
-use Rattle.std.proofs.lemmas.List.Elements.{All-from_recursion}
+use Rattle.std.proofs.Common.{◌≡◌, ℕ, zero, suc, min, Bool, true, false, cond, ℤ, codes, List, [], ◌∷◌, ◌++◌, length, Option, Some, None, Result, Ok, Err, refl, sym, ap, subst, ◌∙◌, append_assoc, arith}
 use Rattle.std.specs.Prelude.{FitsSigned}
-use Rattle.std.specs.Int.{w8, w16, w32, w64, to_be_bytes, from_be_bytes}
+use Rattle.std.specs.Int.{w16}
 use Rattle.thrift_value.specs.declared.tag.Tag.{Tag}
 use Rattle.thrift_value.specs.declared.tag.Tag.TheVariants as tags
 use Rattle.thrift_value.specs.Tags.{tag_of}
-use Rattle.thrift_value.specs.Tree.{Tree, of_bool, of_i8, of_i16, of_i32, of_i64, of_double, of_bytes, of_struct, of_map, of_set, of_list}
+use Rattle.thrift_value.specs.Tree.{Tree, of_struct, of_map, of_set, of_list}
 use Rattle.thrift_value.specs.TreeOf.{field_trees, item_trees, pair_trees}
 use Rattle.text_out.specs.Decimal.{decimal_of}
-use Rattle.text_out.specs.Hex.{hex_of}
-use Rattle.text_out.specs.Quoted.{quoted_byte}
 use Rattle.value_text.specs.declared.form.Form.{Form}
 use Rattle.value_text.specs.declared.form.Form.TheVariants.{Alone, Holding}
 use Rattle.value_text.specs.declared.form.Leaf.TheVariants.{Yes, No, Number, Double, Quoted}
 use Rattle.value_text.specs.declared.form.Container.{Container}
 use Rattle.value_text.specs.declared.form.Container.TheVariants.{Struct, Map, Set, List as ListForm}
 use Rattle.value_text.specs.ValueText.{tree_text, tag_word, listed_fields, listed_items, listed_pairs}
-use Rattle.value_text.specs.Fronts.{◌>>=◌, behind_word, tag_or, tag_among, all_tags, tag_at, integer_at, hex_at, quoted_at}
-use Rattle.value_text.specs.Rows.{list_at, found_or}
-use Rattle.value_text.specs.Reading.{form_of, form_or, form_at, is_form_wanted, is_wanted, greatest, fits_bits, typed_as, lettered, typed_at, number_text_at, bool_at, double_at, bytes_at, leaf_at, id_comes_behind, id_at, assigned_at, field_text_at, comes_behind, item_at, last_key, has_level, pair_text_at, struct_text_at, head_text_at, map_head_at, map_at, set_at, list_value_at, container_tag, container_at, formed_at, value_by, deeper_at, value_text_at}
-use Rattle.value_text.proofs.Choices.{went_on, chosen, held, one_ok, had_to}
-use Rattle.value_text.proofs.RowLaws.{AreChained, shown, list_found}
-use Rattle.value_text.proofs.Numbers.{IsWithin, integer_found}
-use Rattle.value_text.proofs.QuotedLaws.{AreBytes, hex_found, quoted_found}
+use Rattle.value_text.specs.Fronts.{◌>>=◌, behind_word, tag_or, tag_among, all_tags, tag_at, integer_at}
+use Rattle.value_text.specs.Rows.{list_at}
+use Rattle.value_text.specs.Reading.{form_at, is_form_wanted, is_wanted, id_comes_behind, id_at, assigned_at, field_text_at, comes_behind, item_at, last_key, has_level, pair_text_at, struct_text_at, head_text_at, map_head_at, map_at, set_at, list_value_at, container_tag, formed_at, value_by, deeper_at, value_text_at}
+use Rattle.value_text.proofs.Choices.{went_on, held, one_ok}
+use Rattle.value_text.proofs.RowLaws.{shown, list_found}
+use Rattle.value_text.proofs.Numbers.{integer_found}
 use Rattle.value_text.proofs.GoodTrees.{IsGood, FieldFits, ItemFits, PairFits, good_fields, good_items, good_pairs}
-use Rattle.value_text.proofs.LeafLaws.{bits_tell, kind_is}
+use Rattle.value_text.proofs.LeafLaws.{kind_is}
 use Rattle.value_text.proofs.Shows.{show_field, show_pair, listed_fields_is, listed_items_is, listed_pairs_is}
 use Rattle.value_text.proofs.ContainersAgain.{items_text, pairs_text}
 use Rattle.value_text.proofs.TextsFound.{IsFound, FindsValues, past_found, form_found, bool_found, number_found, double_found, bytes_found, signed16}

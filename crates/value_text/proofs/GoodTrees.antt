@@ -1,6 +1,6 @@
 -- Values that have a text, and what holds of the entries of one.
-use Rattle.std.proofs.Common.{◌≡◌, ℕ, zero, suc, ◌+◌, ◌<◌, ◌≤◌, ◌<ℤ◌, Bool, true, false, T, ℤ, List, [], ◌∷◌, Option, Some, None, Less, refl, sym, ap, subst, ◌∙◌, arith}
-use Rattle.std.specs.Prelude.{FitsSigned, ⊤}
+use Rattle.std.proofs.Common.{◌≡◌, ℕ, ◌≤◌, ◌<ℤ◌, Bool, true, false, T, ℤ, List, [], ◌∷◌, Option, Some, None, Less, refl, ap, arith}
+use Rattle.std.specs.Prelude.{FitsSigned}
 use Rattle.std.specs.Int.{w16}
 use Rattle.std.specs.Ordering.{is_lt}
 use Rattle.std.specs.Bool.{passes}
@@ -8,10 +8,10 @@ use Rattle.std.specs.declared.cmp.Ordering.{Ordering}
 use Rattle.std.specs.declared.cmp.Ordering.TheVariants as order
 use Rattle.std.proofs.lemmas.Int.{ints}
 use Rattle.thrift_value.specs.declared.tag.Tag.{Tag}
-use Rattle.thrift_value.specs.Tree.{Tree, of_struct, of_map, of_set, of_list, FieldTrees, no_fields, field, ItemTrees, no_items, item, PairTrees, no_pairs, pair}
+use Rattle.thrift_value.specs.Tree.{Tree, FieldTrees, no_fields, field, ItemTrees, no_items, item, PairTrees, no_pairs, pair}
 use Rattle.thrift_value.specs.Tags.{tag_of}
 use Rattle.thrift_value.specs.Order.{tree_cmp}
-use Rattle.thrift_value.specs.Tidy.{IsTidy, IsWellTagged, IsInOrder, AreWellTaggedFields, AreWellTaggedItems, AreWellTaggedPairs, AreFieldsInOrder, AreItemsInOrder, ArePairsInOrder, IsBelowIds, IsBelowItems, IsBelowKeys, AreRisingFields, AreRisingItems, AreRisingPairs}
+use Rattle.thrift_value.specs.Tidy.{IsWellTagged, IsInOrder, AreWellTaggedFields, AreWellTaggedItems, AreWellTaggedPairs, AreFieldsInOrder, AreItemsInOrder, ArePairsInOrder, IsBelowIds, IsBelowItems, IsBelowKeys, AreRisingFields, AreRisingItems, AreRisingPairs}
 use Rattle.thrift_value.specs.Measures.{depth_of, fields_depth, items_depth, pairs_depth}
 use Rattle.thrift_value.specs.Ranges.{IsInRange, AreFieldsInRange, AreItemsInRange, ArePairsInRange}
 use Rattle.thrift_value.specs.TreeOf.{field_trees, item_trees, pair_trees}

@@ -1,28 +1,21 @@
 -- Values that hold no others are read back, and what is read stands there.
-use Rattle.std.proofs.Common.{◌≡◌, ◌==◌, if◌then◌else◌, ◌⊎◌, ℕ, zero, suc, ◌+◌, ◌*◌, ◌-◌, ◌^◌, ◌<◌, ◌≤◌, Bool, true, false, cond, eqb, leb, ◌&&◌, ℤ, pos, negsuc, codes, List, [], ◌∷◌, ◌++◌, length, flat_map, get_or, All, Option, Some, None, Result, Ok, Err, refl, sym, ap, subst, ◌∙◌, append_assoc, arith, inl, inr, eqb-true, eq-eqb}
-use Rattle.std.proofs.lemmas.Bool.{and_parts, and_from}
+use Rattle.std.proofs.Common.{◌≡◌, ◌==◌, if◌then◌else◌, ◌⊎◌, ℕ, zero, suc, ◌+◌, ◌-◌, ◌^◌, ◌<◌, ◌≤◌, true, false, cond, ℤ, pos, negsuc, List, [], ◌∷◌, ◌++◌, length, Option, Some, None, Ok, Err, refl, sym, ap, subst, ◌∙◌, append_assoc, arith, inl, inr, eqb-true, eq-eqb}
 use Rattle.std.proofs.lemmas.Fmt.{decimal_digit}
 use Rattle.std.proofs.lemmas.Int.{ints}
-use Rattle.std.proofs.lemmas.Nat.{be_bytes_8, from_be_bytes-to_be_bytes_8}
-use Rattle.std.proofs.lemmas.List.Elements.{All-from_recursion, recursion_from_All}
-use Rattle.std.specs.List.{AllByRecursion}
-use Rattle.std.specs.Prelude.{FitsSigned, ⊤}
-use Rattle.std.specs.Int.{w8, w16, w32, w64, to_be_bytes, from_be_bytes}
+use Rattle.std.specs.Prelude.{FitsSigned}
+use Rattle.std.specs.Int.{w8, w16, w32, w64}
 use Rattle.thrift_value.specs.declared.tag.Tag.{Tag}
 use Rattle.thrift_value.specs.declared.tag.Tag.TheVariants as tags
-use Rattle.thrift_value.specs.Tags.{rank, tag_of}
-use Rattle.thrift_value.specs.Tree.{Tree, of_bool, of_i8, of_i16, of_i32, of_i64, of_double, of_bytes}
+use Rattle.thrift_value.specs.Tags.{rank}
+use Rattle.thrift_value.specs.Tree.{Tree, of_i8, of_i16, of_i32, of_i64}
 use Rattle.text_out.specs.Decimal.{natural_of, decimal_of}
-use Rattle.text_out.specs.Quoted.{quoted_byte}
-use Rattle.value_text.specs.declared.form.Form.{Form}
 use Rattle.value_text.specs.declared.form.Form.TheVariants.{Alone}
 use Rattle.value_text.specs.declared.form.Leaf.TheVariants.{Number}
 use Rattle.value_text.specs.ValueText.{tree_text}
-use Rattle.value_text.specs.Fronts.{◌>>=◌, is_digit, integer_at}
+use Rattle.value_text.specs.Fronts.{◌>>=◌, is_digit}
 use Rattle.value_text.specs.Rows.{found_or}
 use Rattle.value_text.specs.Reading.{form_of, form_or, form_at, is_wanted, is_number_wanted, greatest, fits_bits, typed_as, lettered, typed_at, number_text_at}
-use Rattle.value_text.proofs.Choices.{went_on, chosen, held, one_ok, had_to}
-use Rattle.value_text.proofs.Numbers.{IsWithin, integer_again, integer_found, decimal_begins}
+use Rattle.value_text.proofs.Numbers.{IsWithin, integer_again, decimal_begins}
 
 -- the tag of each rank
 abbrev tag_ranked : ℕ → Tag

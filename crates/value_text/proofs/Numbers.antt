@@ -1,10 +1,10 @@
 -- Decimals are read back, and what is read as a number is its decimal.
-use Rattle.std.proofs.Common.{◌≡◌, ℕ, zero, suc, ◌+◌, ◌*◌, ◌-◌, ◌/◌, ◌%◌, ◌^◌, ◌<◌, ◌≤◌, Bool, true, false, cond, eqb, leb, ◌&&◌, ℤ, pos, negsuc, neg_ℤ, List, [], ◌∷◌, ◌++◌, length, Result, Ok, Err, refl, sym, ap, subst, ◌∙◌, append_assoc, arith, inl, inr, ⊎_elim, le-leb, leb-true, leb-false, ne_eqb, eqb-true}
-use Rattle.std.proofs.lemmas.Bool.{and_parts, and_from, cases_lt}
+use Rattle.std.proofs.Common.{◌≡◌, ℕ, zero, suc, ◌+◌, ◌*◌, ◌-◌, ◌/◌, ◌%◌, ◌^◌, ◌<◌, ◌≤◌, true, false, cond, eqb, leb, ◌&&◌, ℤ, pos, negsuc, neg_ℤ, List, [], ◌∷◌, ◌++◌, length, Ok, Err, refl, sym, ap, subst, ◌∙◌, append_assoc, arith, inl, inr, le-leb, leb-true, ne_eqb, eqb-true}
+use Rattle.std.proofs.lemmas.Bool.{and_parts, and_from}
 use Rattle.std.proofs.lemmas.Fmt.{decimal_by_steps_wide, decimal_step_wide, decimal_digit}
 use Rattle.text_out.specs.Decimal.{natural_of, decimal_of}
 use Rattle.value_text.specs.Fronts.{◌>>=◌, is_digit, digits_at, positive_at, integer_at}
-use Rattle.value_text.proofs.Choices.{went_on, chosen, held, one_ok, first_ok, second_ok}
+use Rattle.value_text.proofs.Choices.{went_on, chosen, held, one_ok}
 
 -- a digit passes the test, and its number is what it adds
 pub digit_passes : (d : ℕ) → d < 10 → is_digit (48 + d) ≡ true

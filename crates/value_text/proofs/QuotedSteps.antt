@@ -1,5 +1,5 @@
 -- Reading quoted bytes one after another, as a loop does.
-use Rattle.std.proofs.Common.{◌≡◌, ℕ, suc, List, [], ◌∷◌, ◌++◌, Option, Some, None, Result, Ok, Err, refl, sym, ap, ◌∙◌, append-nil}
+use Rattle.std.proofs.Common.{◌≡◌, ℕ, suc, List, [], ◌∷◌, ◌++◌, Option, Some, None, Result, Ok, sym, ap, ◌∙◌, append-nil}
 use Rattle.value_text.specs.declared.stop.TextStop.{TextStop}
 use Rattle.value_text.specs.declared.stop.TextStop.TheVariants as stop
 use Rattle.value_text.specs.Answering.{LeavesAs}

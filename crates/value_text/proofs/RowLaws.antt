@@ -2,7 +2,7 @@
 use Rattle.std.proofs.Common.{◌≡◌, ℕ, zero, suc, ◌<◌, Bool, true, false, cond, eqb, List, [], ◌∷◌, ◌++◌, length, Option, Some, None, Result, Ok, Err, refl, sym, ap, subst, ◌∙◌, append_assoc, arith, inl, inr, eq-eqb, eqb-true}
 use Rattle.value_text.specs.Fronts.{◌>>=◌}
 use Rattle.value_text.specs.Rows.{rest_behind, found_or, next_at, row_at, entries_behind, rows_at, list_at}
-use Rattle.value_text.proofs.Choices.{went_on, chosen, held, one_ok, was_found, had_to}
+use Rattle.value_text.proofs.Choices.{went_on, chosen, one_ok, was_found, had_to}
 
 some_same : (x y : List ℕ) → Some x ≡ Some y → x ≡ y
 some_same x y e = cc

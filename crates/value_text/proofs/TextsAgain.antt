@@ -1,34 +1,30 @@
 -- The text of each value that has one is read as that value, whatever follows.
-use Rattle.std.proofs.Common.{◌≡◌, ℕ, zero, suc, ◌+◌, ◌^◌, ◌<◌, ◌≤◌, eqb, ne_eqb, pos, negsuc, Bool, true, false, cond, ℤ, codes, List, [], ◌∷◌, ◌++◌, length, flat_map, Option, Some, None, Result, Ok, Err, refl, sym, ap, subst, ◌∙◌, append_assoc, length-append, arith, inl, inr}
-use Rattle.std.proofs.lemmas.Bool.{cases_Bool, cases_cond}
+use Rattle.std.proofs.Common.{◌≡◌, ℕ, ◌+◌, ◌^◌, ◌<◌, ◌≤◌, eqb, ne_eqb, pos, negsuc, Bool, true, false, cond, ℤ, codes, List, [], ◌∷◌, ◌++◌, length, flat_map, Option, Some, None, Ok, Err, refl, sym, ap, subst, ◌∙◌, append_assoc, length-append, arith, inl, inr}
+use Rattle.std.proofs.lemmas.Bool.{cases_Bool}
 use Rattle.std.proofs.lemmas.Nat.{from_be_bytes-to_be_bytes_8}
-use Rattle.std.proofs.lemmas.List.Elements.{recursion_from_All}
 use Rattle.std.specs.Prelude.{FitsSigned}
 use Rattle.std.specs.Int.{w16, w64, to_be_bytes, from_be_bytes}
 use Rattle.thrift_value.specs.declared.tag.Tag.{Tag}
 use Rattle.thrift_value.specs.declared.tag.Tag.TheVariants as tags
 use Rattle.thrift_value.specs.Tags.{tag_of}
-use Rattle.thrift_value.specs.Tree.{Tree, of_bool, of_i8, of_i16, of_i32, of_i64, of_double, of_bytes, of_struct, of_map, of_set, of_list, FieldTrees, no_fields, field, ItemTrees, no_items, item, PairTrees, no_pairs, pair}
+use Rattle.thrift_value.specs.Tree.{Tree, of_bool, of_i8, of_i16, of_i32, of_i64, of_double, of_bytes, of_struct, of_map, of_set, of_list}
 use Rattle.thrift_value.specs.Measures.{depth_of, fields_depth, items_depth, pairs_depth}
 use Rattle.thrift_value.specs.Ranges.{IsInRange}
-use Rattle.thrift_value.specs.TreeOf.{field_trees, item_trees, pair_trees}
 use Rattle.text_out.specs.Decimal.{decimal_of}
 use Rattle.text_out.specs.Hex.{hex_of}
 use Rattle.text_out.specs.Quoted.{quoted_byte}
 use Rattle.value_text.specs.declared.form.Form.{Form}
-use Rattle.value_text.specs.declared.form.Form.TheVariants.{Alone, Holding}
+use Rattle.value_text.specs.declared.form.Form.TheVariants.{Alone}
 use Rattle.value_text.specs.declared.form.Leaf.TheVariants.{Yes, No, Number, Double, Quoted}
-use Rattle.value_text.specs.declared.form.Container.TheVariants.{Struct, Map, Set, List as ListForm}
-use Rattle.value_text.specs.ValueText.{tree_text, tag_word, listed_fields, further_fields, listed_items, further_items, listed_pairs, further_pairs}
-use Rattle.value_text.specs.Fronts.{◌>>=◌, behind_word, tag_at, quoted_at, integer_at}
-use Rattle.value_text.specs.Rows.{rest_behind, list_at}
-use Rattle.value_text.specs.Reading.{form_of, form_or, form_at, is_form_wanted, is_wanted, id_comes_behind, is_leaf_tag, bool_at, double_at, bytes_at, number_text_at, leaf_at, formed_at, value_by, value_text_at, deeper_at, struct_text_at, map_at, set_at, list_value_at, head_text_at, map_head_at, field_text_at, id_at, assigned_at, item_at, pair_text_at, has_level, comes_behind, last_key}
-use Rattle.value_text.proofs.RowLaws.{AreChained, shown, shown_behind, list_again}
-use Rattle.value_text.proofs.GoodTrees.{IsGood, FieldFits, ItemFits, PairFits, chained_fields, chained_items, chained_pairs}
+use Rattle.value_text.specs.ValueText.{tree_text, tag_word, listed_fields, listed_items, listed_pairs}
+use Rattle.value_text.specs.Fronts.{◌>>=◌, quoted_at}
+use Rattle.value_text.specs.Rows.{rest_behind}
+use Rattle.value_text.specs.Reading.{form_of, form_or, form_at, is_form_wanted, is_wanted, id_comes_behind, bool_at, double_at, bytes_at, formed_at, value_by, value_text_at, deeper_at, field_text_at, id_at, assigned_at, item_at, pair_text_at, has_level, comes_behind, last_key}
+use Rattle.value_text.proofs.GoodTrees.{IsGood, FieldFits, ItemFits, PairFits}
 use Rattle.value_text.proofs.QuotedLaws.{AreBytes, hex_again, quoted_again}
 use Rattle.value_text.proofs.Numbers.{IsWithin, integer_again}
-use Rattle.value_text.proofs.LeafLaws.{number_begins, fits8, fits16, fits32, IsNumberAgain, i8_again, i16_again, i32_again, i64_again, same_wanted}
-use Rattle.value_text.proofs.Shows.{show_field, show_pair, listed_fields_is, listed_items_is, listed_pairs_is, as_fields, as_items, as_pairs, FitsShort, roomy, few}
+use Rattle.value_text.proofs.LeafLaws.{number_begins, fits8, fits16, fits32, IsNumberAgain, same_wanted}
+use Rattle.value_text.proofs.Shows.{show_field, show_pair, FitsShort}
 
 -- values of so many levels are read back, where so long a text may be read
 abbrev pub ReadsValues : ℕ → ℕ → Type 0

@@ -1,5 +1,5 @@
 -- Reading entries with commas between them: fields, elements or pairs.
-use Rattle.std.specs.Prelude.{ℕ, zero, suc, ◌==◌, Bool, true, false, List, [], ◌∷◌, ◌++◌, Option, Some, None, Result, Ok, Err, if◌then◌else◌}
+use Rattle.std.specs.Prelude.{ℕ, zero, suc, ◌==◌, Bool, true, false, List, [], ◌∷◌, Option, Some, None, Result, Ok, if◌then◌else◌}
 use Rattle.value_text.specs.Fronts.{◌>>=◌, stuck}
 
 -- what stands behind this byte, where it stands in front

@@ -1,4 +1,4 @@
-use Rattle.std.proofs.Common.{◌≡◌, ◌<◌, length, subst, arith, rules}
+use Rattle.std.proofs.Common.{◌<◌, length, subst, rules}
 use Rattle.thrift_value.specs.TreeOf.{tree_of}
 use Rattle.value_text.specs.Answering.{Answers}
 use Rattle.value_text.proofs.Places.{text_is, text_again}

@@ -1,4 +1,4 @@
-use Rattle.std.proofs.Common.{◌≡◌, ◌∙◌, ap, sym}
+use Rattle.std.proofs.Common.{◌∙◌, ap, sym}
 use Rattle.std.specs.Ordering.{is_lt}
 use Rattle.thrift_value.specs.TreeOf.{tree_of}
 use Rattle.value_text.specs.Reading.{comes_behind}

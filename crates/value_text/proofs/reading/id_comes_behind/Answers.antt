@@ -1,4 +1,4 @@
-use Rattle.std.proofs.Common.{◌≡◌, ◌∙◌, ap, sym, int_lt, w16}
+use Rattle.std.proofs.Common.{◌∙◌, ap, sym, int_lt, w16}
 use Rattle.std.proofs.lemmas.Int.{to_z-of_z}
 use Rattle.thrift_value.specs.TreeOf.{field_tree}
 use Rattle.value_text.specs.Reading.{id_comes_behind}
