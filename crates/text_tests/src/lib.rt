@@ -1,0 +1,5 @@
+//! Tests of texts of values, read and refused.
+#![tactic(auto)]
+
+#[cfg(test)]
+mod value_texts;

@@ -1,0 +1,118 @@
+//! Value texts that are read, and the places at which others are refused.
+
+use std::alloc::{AllocError, Global};
+use std::test::Fail;
+use value_text::{TextFault, print, read, read_front};
+
+// A text of each kind of value.
+const TEXT: &[u8] = b"{1=map<bytes,i32>{\"a\"=1i},2=set<i16>[1s,2s]}";
+
+// Texts that are read and printed to themselves.
+const READ: [&[u8]; 14] = [
+    TEXT,
+    b"true",
+    b"-128b",
+    b"127b",
+    b"-32768s",
+    b"2147483647i",
+    b"-9223372036854775808l",
+    b"d3ff0000000000000",
+    b"\"a\\\"\\\\\\x00\\x7f\\xff\"",
+    b"{}",
+    b"{-32768=0b,0=false,32767=0l}",
+    b"list<struct>[{},{}]",
+    b"map<struct,list>{{}=list<map>[],{1=0b}=list<i8>[1b,1b]}",
+    b"set<bool>[false,true]",
+];
+
+// Texts that are none, with the place of the fault.
+const REFUSED: [(&[u8], usize); 20] = [
+    (b"{1=1i,1=2i}", 7),
+    (b"{2=1i,1=2i}", 7),
+    (b"{32767=1b,5=1b}", 11),
+    (b"{32768=1b}", 5),
+    (b"set<bool>[true,false]", 20),
+    (b"set<i8>[5b,3b]", 13),
+    (b"map<i8,i8>{1b=1b,1b=2b}", 19),
+    (b"list<i8>[128b]", 11),
+    (b"list<i8>[1s]", 10),
+    (b"300b", 3),
+    (b"9223372036854775808l", 18),
+    (b"-0b", 1),
+    (b"01b", 1),
+    (b"1i ", 2),
+    (b"dABCDEF0123456789", 1),
+    (b"\"\\x41\"", 3),
+    (b"\"\\x7e\"", 4),
+    (b"list<list>[1b]", 11),
+    (b"list<in", 6),
+    (b"map<i8,i8>{1b,", 13),
+];
+
+// Whether a text is read and printed to itself.
+fn is_read(alloc: Global, text: &[u8]) -> Result<bool, AllocError> {
+    let Ok(value) = read(alloc, text) else {
+        return Ok(false);
+    };
+    let again = print(alloc, &value)?;
+    Ok(again.as_slice() == text)
+}
+
+// Whether a text is refused at a place.
+fn is_refused(alloc: Global, text: &[u8], place: usize) -> bool {
+    match read(alloc, text) {
+        Err(TextFault::At(found)) => found == place,
+        _ => false,
+    }
+}
+
+#[test]
+fn texts_are_read(rt: HostRuntime) -> Result<(), Fail> {
+    for text in READ {
+        assert!(rt; is_read(rt.alloc(), text)?);
+    }
+    Ok(())
+}
+
+#[test]
+fn texts_are_refused(rt: HostRuntime) {
+    for (text, place) in REFUSED {
+        assert!(rt; is_refused(rt.alloc(), text, place));
+    }
+}
+
+// Lists in lists, as many as there are levels.
+fn nested(alloc: Global, levels: u32) -> Result<Vec<u8>, AllocError> {
+    let mut text = Vec::new(alloc);
+    for _ in 1..levels {
+        text.extend_from_slice(b"list<list>[")?;
+    }
+    text.extend_from_slice(b"list<bool>[]")?;
+    for _ in 1..levels {
+        text.push(b']')?;
+    }
+    Ok(text)
+}
+
+#[test]
+fn levels_end(rt: HostRuntime) -> Result<(), Fail> {
+    let deepest = nested(rt.alloc(), 64)?;
+    assert!(rt; is_read(rt.alloc(), deepest.as_slice())?);
+    let deeper = nested(rt.alloc(), 65)?;
+    assert!(rt; is_refused(rt.alloc(), deeper.as_slice(), 64 * 11));
+    Ok(())
+}
+
+#[test]
+fn parts_are_refused_at_their_end(rt: HostRuntime) {
+    for size in 0..TEXT.len() {
+        let (part, _) = TEXT.split_at(size);
+        assert!(rt; is_refused(rt.alloc(), part, size));
+    }
+}
+
+#[test]
+fn a_front_is_read(rt: HostRuntime) {
+    let read = read_front(rt.alloc(), b"ok 5i", 3);
+    assert!(rt; matches!(read, Ok((_, 5))));
+}
