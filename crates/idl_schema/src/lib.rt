@@ -19,4 +19,4 @@ mod tutorial;
 
 pub use kinds::IdlFaultKind;
 pub use program::{program_schema, program_text};
-pub use refusal::{NoSchema, IdlRefusal};
+pub use refusal::{IdlRefusal, NoSchema};

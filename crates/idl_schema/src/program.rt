@@ -15,7 +15,7 @@ ghost use Rattle.idl_schema.specs.Verdicts.{IsIdlVerdictOn, IsVerdictIn, IsVerdi
 ghost use Rattle.idl_schema.specs.Telling.{TellsWhy, TellsSchema, RefusesIn, is_file_fault};
 
 use crate::kinds::{IdlFaultKind, check_kind, load_kind};
-use crate::refusal::{NoSchema, IdlRefusal};
+use crate::refusal::{IdlRefusal, NoSchema};
 use crate::tutorial::TutorialFiles;
 use idl_check::check;
 use idl_include::{IdlFile, LoadFault, LoadKind, Sources, load};

@@ -58,6 +58,7 @@ module _ {C A M : Type 0} (d : DeskRules C A) (r : ServiceRules C A M) (memory :
     where
       wanted : (cell : Cell C A M) → Play C A M
       wanted cell = record play { cell = cell; moves = suc play.moves; wants = suc play.wants }
+
       go : (found : Option (Cell C A M)) → IsAlike (or_else (option_map (λ cell. record play { cell = cell; moves = suc play.moves; wants = suc play.wants }) found) o) o
       go None = alike_self o
       go (Some cell) =
@@ -154,8 +155,8 @@ module _ {C A M : Type 0} (d : DeskRules C A) (r : ServiceRules C A M) (memory :
   pass_same fuel budget workers play =
       and_same _ _ (λ next. until_still fuel (collect_move d r) next) (λ next. until_still fuel (collect_move d r) next)
       (and_same _ _ (λ next. all_work d r memory (count_up 0 (workers_among workers)) next) (λ next. all_work d r always_ample (count_up 0 (workers_among workers)) next)
-        (read_same fuel budget (count_up 0 play.cell.loop.count) play) (λ next. all_work_leads d r memory computes (count_up 0 (workers_among workers)) next)
-        (λ next. work_same (count_up 0 (workers_among workers)) next))
+      (read_same fuel budget (count_up 0 play.cell.loop.count) play) (λ next. all_work_leads d r memory computes (count_up 0 (workers_among workers)) next)
+      (λ next. work_same (count_up 0 (workers_among workers)) next))
       (λ next. still_leads d r memory computes fuel (collect_move d r) (collect_leads d r memory computes) next) (λ next. same_self _)
 
   drained_same : (play : Play C A M) (again again' : Play C A M → Option (Play C A M)) (o o' : Option (Play C A M)) → Led play o → Same o o'
@@ -167,6 +168,7 @@ module _ {C A M : Type 0} (d : DeskRules C A) (r : ServiceRules C A M) (memory :
       further : (w : next.wants ≡ 0) → (if next.moves == play.moves then Some play else again' next) ≡ Some x
           → option_and_then (λ next. if next.moves == play.moves then Some play else again' next) o' ≡ Some x
       further w f = ap (option_and_then (λ (next : Play C A M). if next.moves == play.moves then Some play else again' next)) (a next refl w) ∙ f
+
       go : (b : Bool) → (next.moves == play.moves) ≡ b → (if b then Some play else again next) ≡ Some x
           → option_and_then (λ next. if next.moves == play.moves then Some play else again' next) o' ≡ Some x
       go true same f =
