@@ -4,4 +4,3 @@ pub mod ListsGiven
 pub mod Tabled
 pub mod InTables
 pub mod GivenWorths
-pub mod ValuesShown

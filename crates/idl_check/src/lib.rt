@@ -9,7 +9,6 @@
 #![tactic(auto)]
 
 mod checking;
-pub mod laws;
 mod values;
 
 pub use checking::check;

@@ -34,7 +34,6 @@ mod marks;
 mod progress;
 mod rows;
 mod scalars;
-mod texts;
 mod tidy;
 mod walk;
 
