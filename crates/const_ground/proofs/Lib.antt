@@ -4,3 +4,4 @@ pub mod ListsGiven
 pub mod Tabled
 pub mod InTables
 pub mod GivenWorths
+pub mod ValuesShown

@@ -13,10 +13,12 @@
 //! Want of memory is also the answer where the ids of a struct's fields do not rise, and past 4,000,000 types.
 #![tactic(auto)]
 
+mod evaluation;
 mod evaluator;
 mod given_fields;
 mod ground;
 mod struct_tables;
 
+pub use evaluation::evaluate;
 pub use evaluator::{ProgramEvaluator, program_evaluator};
 pub use ground::{ProgramGround, program_ground};

@@ -1,10 +1,9 @@
 -- A schema that no pass refuses is that of its program, and a fault behind the others is its first.
-use Rattle.std.proofs.Common.{◌≡◌, List, [], ◌∷◌, Result, Ok, Err, inl, ap}
-use Rattle.std.specs.List.{AllByRecursion, filter_map}
+use Rattle.std.proofs.Common.{◌≡◌, List, [], ◌∷◌, Result, Ok, Err, inl}
+use Rattle.std.specs.List.{AllByRecursion}
 use Rattle.idl_include.specs.declared.sources.IdlFile.{IdlFile}
 use Rattle.idl_include.specs.SourcesOf.{program_in}
 use Rattle.idl_model.specs.Program.{Program}
-use Rattle.idl_model.specs.Spots.{Spot, value_at, spots_of, values_of}
 use Rattle.schema.specs.declared.types.Schema.{Schema}
 use Rattle.schema.specs.SchemaOf.{schema_of}
 use Rattle.schema.specs.PlainSchema.{PlainSchema}
@@ -42,8 +41,3 @@ checked_behind files (Err fault) sound none h =
 -- a fault at spots is the first
 pub checked_before : (program : Program) (fault : CheckFault) → TellsFlaw (IsFirstAmong program spot_passes) fault → TellsFlaw (IsFirstFlaw program) fault
 checked_before program fault h = first_of_all program fault (stops program spot_passes (bad_constant ∷ []) fault h)
-
--- the values at the spots of a program are those that it gives
-pub values_shown : (program : Program) (spots : List Spot) → spots ≡ spots_of program → filter_map (λ (s : Spot). value_at s.file s.shows) spots ≡ values_of program
-unfolding values_of
-values_shown program spots same = ap (filter_map (λ (s : Spot). value_at s.file s.shows)) same

@@ -34,6 +34,7 @@ mod marks;
 mod progress;
 mod rows;
 mod scalars;
+mod texts;
 mod tidy;
 mod walk;
 

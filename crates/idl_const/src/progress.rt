@@ -1,6 +1,6 @@
 //! How far an evaluation has come: values counted, and those under evaluation.
 
-ghost use Rattle.std.specs.Prelude.{◌≡◌, suc, true, false, is_ok, OnOk, IfOk, MatchResult, ℕ};
+ghost use Rattle.std.specs.Prelude.{◌≡◌, ◌+◌, ◌/◌, suc, true, false, is_ok, OnOk, IfOk, IfErr, MatchResult, ℕ};
 ghost use Rattle.thrift_value.specs.Tree.{Tree};
 ghost use Rattle.thrift_value.specs.TreeOf.{tree_of};
 ghost use Rattle.check_model.specs.Worths.{Worth, one_more, seen_at};
@@ -48,6 +48,29 @@ fn count_value(work: &mut Progress, at: Place) -> Result<(), ConstStop>
     }
     work.steps -= 1;
     work.values += 1;
+    Ok(())
+}
+
+/// A text of some length is to be copied or looked up: each 64 bytes of it are one step, beside that of its value or name.
+pub(crate) fn charge(work: &mut Progress, at: Place, length: usize) -> Result<(), ConstStop>
+    ensures free { work.new.free ≡ work.old.free }
+    ensures values { work.new.values ≡ work.old.values }
+    ensures steps { OnOk result (work.old.steps ≡ work.new.steps + length / 64) }
+    ensures memory { IfErr result (λ stop. stop.fault ≡ ConstFault.NoMemory) }
+{
+    let Ok(cost) = u32::try_from(length / 64) else {
+        return Err(ConstStop {
+            at,
+            fault: ConstFault::NoMemory,
+        });
+    };
+    if cost > work.steps {
+        return Err(ConstStop {
+            at,
+            fault: ConstFault::NoMemory,
+        });
+    }
+    work.steps -= cost;
     Ok(())
 }
 

@@ -22,8 +22,9 @@ use crate::keeping::{
     entry_id, field_of_key, keep, keep_beside, keep_field, missing, some, union_fields,
 };
 use crate::marks::leave;
-use crate::progress::{Progress, opened, put_at, single, unfit};
-use crate::scalars::{double_value, enum_value, int_value, literal_value};
+use crate::progress::{Progress, charge, opened, put_at, single, unfit};
+use crate::scalars::{double_value, enum_value, int_value};
+use crate::texts::{charge_keys, copied_literal};
 use idl_names::ConstName;
 use idl_parser::{ConstTree, Name};
 use idl_token::Place;
@@ -73,9 +74,7 @@ fn unnamed<G: Ground>(
     match tree {
         ConstTree::Int(int) => single(work, int.at, int_value(kind, int.value)),
         ConstTree::Double(double) => single(work, double.at, double_value(kind, &double.text)),
-        ConstTree::Literal(literal) => {
-            single(work, literal.at, literal_value(alloc, kind, &literal.bytes))
-        }
+        ConstTree::Literal(literal) => copied_literal(alloc, work, kind, literal),
         ConstTree::Name(name) => Err(ConstStop {
             at: name.at,
             fault: ConstFault::NoMemory,
@@ -123,6 +122,7 @@ fn named<G: Ground>(
         (worth_by (G.setting ground.now) (worth_where (G.setting ground.now) work.old.free.items) file (kind_of kind.now) levels work.old.values (name_const (name_in name.now))) }
     ensures free { OnOk result (work.new.free.items ≡ work.old.free.items) }
 {
+    charge(work, name.at, name.text.as_slice().len())?;
     match ground.meaning(file, name.text.as_slice()) {
         None => Err(ConstStop {
             at: name.at,
@@ -365,6 +365,7 @@ fn fields<G: Ground>(
         made_fields named (default_of s.program which) at levels (struct_numbered s.schema which).kind (struct_numbered s.schema which).fields given m)) }
     ensures free { OnOk result (work.new.free.items ≡ work.old.free.items) }
 {
+    charge_keys(work, entries)?;
     let given = given_fields(ground, alloc, work, file, which, levels, entries)?;
     if ground.fields_kind(which) == StructKind::Union {
         return union_fields(at, given);
