@@ -9,6 +9,7 @@
 #![tactic(auto)]
 
 mod checking;
+pub mod laws;
 mod values;
 
 pub use checking::check;
