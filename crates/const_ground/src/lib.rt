@@ -4,6 +4,7 @@
 //! let ground = program_ground(alloc, &constants, &definitions, &places, values.as_slice(), &schema)?;
 //! let mut evaluator = program_evaluator(alloc, &ground, &types)?;
 //! let made = evaluate_all(alloc, &mut evaluator, values.as_slice())?;
+//! let value = evaluate(alloc, &sources, &partial, 0, &kind, &tree)?;     // one value alone: the tables are made for this call
 //! ```
 //!
 //! [`ProgramGround`] is what `idl_const` asks of a program, over its names, its given values and its schema without defaults;

@@ -11,8 +11,8 @@
 //!
 //! The modules, bottom up: integers, literals and enums against a type (`scalars`), doubles, decided on their digits (`decimals`,
 //! `doubles`), members and pairs in order (`rows`, `tidy`), containers by their types (`containers`), marks of what is under evaluation
-//! and chains of names (`marks`, `chains`), and the walk (`walk`), which recurses once a level, at most 64 levels deep. More than
-//! 16,000,000 values and names, in one evaluation alone or in those of a program's values together, are answered as want of memory.
+//! and chains of names (`marks`, `chains`), texts, which are work by their length (`texts`), and the walk (`walk`), which recurses once a level, at
+//! most 64 levels deep. More than 16,000,000 values and names, each 64 bytes of a text counted as one more, in one evaluation alone or in those of a program's values together, are answered as want of memory.
 //! `field_names` finds a struct's fields by name, and `field_rows` makes the row of a literal's fields, for who implements `Ground`; `laws` says that what is evaluated may be written as
 //! its type.
 //!
