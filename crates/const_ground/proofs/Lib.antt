@@ -5,3 +5,4 @@ pub mod Tabled
 pub mod InTables
 pub mod GivenWorths
 pub mod ValuesShown
+pub mod ChainTabled

@@ -9,6 +9,7 @@ use Rattle.idl_names.specs.SpotsIn.{filed_value}
 use Rattle.schema.specs.SchemaOf.{schema_of, plain_struct}
 use Rattle.check_model.specs.Evaluation.{Setting, default_of}
 use Rattle.check_model.specs.SchemaParts.{IsPartialSchema}
+use Rattle.const_ground.specs.ChainTables.{TellsEnds}
 use Rattle.const_ground.specs.StructTables.{struct_in_table, AreStructTables}
 use Rattle.const_ground.specs.declared.ground.ProgramGround.{ProgramGround}
 
@@ -32,3 +33,4 @@ pub record IsProgramGround (g : ProgramGround) : Type 0 where
   pub made : IsPartialSchema (ground_program g) (schema_of g.schema.now)
   pub structs : map struct_in_table g.structs.items ≡ map plain_struct g.schema.now.structs
   pub tables : AreStructTables (default_of (ground_program g)) g.structs.items
+  pub ends : TellsEnds (ground_program g) g.ends.items

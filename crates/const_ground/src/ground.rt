@@ -11,10 +11,11 @@ ghost use Rattle.check_model.specs.SchemaParts.{IsPartialSchema};
 ghost use Rattle.const_tables.specs.Places.{ArePlaces};
 ghost use Rattle.const_ground.specs.ProgramGrounds.{ground_program, ground_setting, IsProgramGround};
 
+use crate::chain_ends::{chain_ends, end_in};
 use crate::given_fields::given_fields;
 use crate::struct_tables::{StructTable, struct_tables};
 use const_tables::{ConstNames, ValuePlaces};
-use idl_const::{FieldEntry, Ground, field_of_name, field_row};
+use idl_const::{ChainEnd, FieldEntry, Ground, field_of_name, field_row};
 use idl_names::{ConstName, Definitions, GivenTree};
 use idl_parser::ConstTree;
 use schema::{FieldDesc, Schema, StructKind};
@@ -33,6 +34,8 @@ pub struct ProgramGround<'n, 'a> {
     schema: &'n Schema,
     // The table of each struct of the schema.
     structs: Vec<StructTable<'n>>,
+    // Where the chain of mere names ends that begins with each given value.
+    ends: Vec<Option<ChainEnd>>,
 }
 
 /// A program by its tables: what its names stand for, its definitions, the values that it gives with their places, and its schema
@@ -55,11 +58,13 @@ pub fn program_ground<'n, 'a>(
     let structs = definitions.structs.as_slice();
     let lists = given_fields(alloc, structs, definitions.services.as_slice())?;
     let structs = struct_tables(alloc, places, lists.as_slice(), schema.structs.as_slice())?;
+    let ends = chain_ends(alloc, constants, values)?;
     Ok(ProgramGround {
         constants,
         values,
         schema,
         structs,
+        ends,
     })
 }
 
@@ -92,6 +97,10 @@ impl<'n, 'a> Ground for ProgramGround<'n, 'a> {
             Some(value) => Some((value.file, value.tree)),
             None => None,
         }
+    }
+
+    fn chain_end(&self, which: u32) -> Option<ChainEnd> {
+        end_in(self.ends.as_slice(), which)
     }
 
     fn fields_kind(&self, which: u32) -> StructKind {

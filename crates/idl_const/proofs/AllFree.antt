@@ -11,13 +11,6 @@ pub marks_are : {A : Type 0} (xs : List A) (n : ℕ) → n ≡ length xs → rep
 marks_are [] n e = ap (λ m. replicate m true) e
 marks_are (x ∷ xs) n e = ap (λ m. replicate m true) e ∙ ap (λ l. true ∷ l) (marks_are xs (length xs) refl)
 
-count_all : {A : Type 0} (xs : List A) → free_count (map (λ (x : A). true) xs) ≡ length xs
+pub count_all : {A : Type 0} (xs : List A) → free_count (map (λ (x : A). true) xs) ≡ length xs
 count_all [] = refl
 count_all (x ∷ xs) = ap suc (count_all xs)
-
-pub evaluated_is : (s : Setting) (file : ℕ) (kind : PlainKind) (tree : ConstExpr) (free : List Bool) → free ≡ all_free s.program
-    → worth_by s (worth_where s free) file kind 64 0 tree ≡ evaluated s file kind tree
-unfolding evaluated worth_where most_levels
-evaluated_is s file kind tree free is =
-    (λ i. worth_by s (worth_where s (is i)) file kind 64 0 tree)
-    ∙ (λ i. worth_by s (named_worth s (count_all (values_of s.program) i) (all_free s.program)) file kind 64 0 tree)

@@ -12,7 +12,7 @@ use Rattle.idl_const.specs.Given.{FiledTree, tree_given, tree_numbered}
 use Rattle.idl_const.specs.Marks.{free_count, worth_where}
 use Rattle.idl_const.proofs.Entering.{count_entered, cycle_by}
 
-none_free : (free : List Bool) (which : ℕ) → free_count free ≡ 0 → is_free free which ≡ false
+pub none_free : (free : List Bool) (which : ℕ) → free_count free ≡ 0 → is_free free which ≡ false
 none_free [] which e = refl
 none_free (true ∷ more) which e = absurd (omega (arith, e))
 none_free (false ∷ more) zero e = refl
@@ -36,27 +36,14 @@ enough s (suc n) (suc left) free which kind levels count few most =
     enough_by s n left free which kind levels count (is_free free which) refl
     (λ is w k l c. enough s n left (slice_set free which false) w k l c (omega (arith, few, count_entered free which is)) (omega (arith, most)))
 
-count_le : (free : List Bool) → free_count free ≤ length free
+pub count_le : (free : List Bool) → free_count free ≤ length free
 count_le [] = omega arith
 count_le (true ∷ more) = omega (arith, count_le more)
 count_le (false ∷ more) = omega (arith, count_le more)
 
-marks_length : {A : Type 0} (xs : List A) → length (map (λ (x : A). true) xs) ≡ length xs
+pub marks_length : {A : Type 0} (xs : List A) → length (map (λ (x : A). true) xs) ≡ length xs
 marks_length [] = refl
 marks_length (x ∷ xs) = ap suc (marks_length xs)
-
--- a given value that is under evaluation itself, by the marks
-pub given_worth_is : (s : Setting) (which : ℕ) (kind : PlainKind) (v : Filed GivenValue) (t : FiledTree) (free : List Bool)
-    → tree_numbered s.program which ≡ Some t → slice_get (values_of s.program) which ≡ Some v → free ≡ slice_set (all_free s.program) which false
-    → worth_by s (worth_where s free) t.file kind 64 0 t.item ≡ given_worth s which kind v
-unfolding given_worth worth_where most_levels tree_numbered
-given_worth_is s which kind v t free tree given is =
-    let after = slice_set (all_free s.program) which false in
-    let same : t ≡ tree_given v = (let there : option_map tree_given (slice_get (values_of s.program) which) ≡ Some (tree_given v) = ap (option_map tree_given) given in cc) in
-    let size : length after ≡ length (values_of s.program) = length-set (all_free s.program) which false ∙ marks_length (values_of s.program) in
-    let few : free_count after ≤ length (values_of s.program) = omega (arith, count_le after, size) in
-    (λ i. worth_by s (named_worth s (free_count (is i)) (is i)) (same i).file kind 64 0 (same i).item)
-    ∙ (λ i. worth_by s (λ w k l c. sym (enough s (free_count after) (length (values_of s.program)) after w k l c refl few) i) v.file kind 64 0 v.item.tree)
 
 -- a value that is given is free where all are
 pub given_free : (xs : List (Filed GivenValue)) (which : ℕ) (t : FiledTree) → option_map tree_given (slice_get xs which) ≡ Some t → is_free (map (λ v. true) xs) which ≡ true

@@ -23,3 +23,7 @@ pub mod ValuesWritten
 pub mod AlikeSchemas
 pub mod FieldRowLaws
 pub mod FieldPlaces
+pub mod SeenAlike
+pub mod ChainLinks
+pub mod ByEnds
+pub mod Beginnings

@@ -1,4 +1,4 @@
-pub mod Chains
+pub mod ChainEnds
 pub mod Digits
 pub mod FieldEntries
 pub mod FieldRows

@@ -1,19 +1,24 @@
 //! Constant values, each evaluated from its beginning: one that stands anywhere, and those that a program gives, one after another.
 
-ghost use Rattle.std.specs.Prelude.{◌≡◌, Some, slice_get, IfOk, OnOk};
+ghost use Rattle.std.specs.Prelude.{◌≡◌, ℕ, true, false, Some, slice_get, slice_set, is_ok, IfOk, OnOk};
+ghost use Rattle.thrift_value.specs.Tree.{Tree};
+ghost use Rattle.thrift_value.specs.TreeOf.{tree_of};
 ghost use Rattle.schema.specs.PlainKind.{kind_of};
 ghost use Rattle.idl_model.specs.DeclaredIn.{value_in};
 ghost use Rattle.idl_model.specs.Numbering.{Filed};
 ghost use Rattle.idl_model.specs.Spots.{GivenValue, values_of};
-ghost use Rattle.check_model.specs.Evaluation.{evaluated, given_worth, all_free};
-ghost use Rattle.idl_const.specs.Flaws.{IsEvaluated};
+ghost use Rattle.check_model.specs.Worths.{Worth};
+ghost use Rattle.check_model.specs.Evaluation.{worth_by, evaluated, given_worth, all_free};
+ghost use Rattle.idl_const.specs.Flaws.{AnswersWorth, IsEvaluated};
 ghost use Rattle.idl_const.specs.Idle.{NoneEntered};
+ghost use Rattle.idl_const.specs.Marks.{worth_where};
 
-use crate::faults::ConstFault;
+use crate::chains::name_place;
+use crate::faults::{ConstFault, ConstStop};
 use crate::ground::Ground;
 use crate::marks::mark;
 use crate::progress::Progress;
-use crate::walk::value;
+use crate::walk::{given, value};
 use idl_parser::ConstTree;
 use idl_token::Place;
 use schema::TypeDesc;
@@ -48,8 +53,18 @@ pub fn no_progress<G: Ground>(ground: &G, alloc: Global) -> Result<Progress, All
     })
 }
 
+/// What evaluating answers by what it came to.
+fn told(made: Result<Value, ConstStop>) -> Result<Value, (Place, ConstFault)>
+    ensures worth { (worth : Worth Tree) (count : ℕ) → AnswersWorth tree_of made count worth → IsEvaluated worth result }
+    ensures ok { is_ok result ≡ is_ok made }
+{
+    match made {
+        Ok(value) => Ok(value),
+        Err(stop) => Err((stop.at, stop.fault)),
+    }
+}
+
 /// A value that stands in the file of some number, against a type, where none is under evaluation.
-#[tactic(auto, unfolding(check_model::specs::Evaluation::evaluated))]
 pub fn evaluate_in<G: Ground>(
     ground: &G,
     alloc: Global,
@@ -69,10 +84,37 @@ pub fn evaluate_in<G: Ground>(
         values: 0,
         steps: MOST_STEPS,
     };
-    match value(ground, alloc, &mut work, file, kind, MOST_LEVELS, tree) {
-        Ok(made) => Ok(made),
-        Err(stop) => Err((stop.at, stop.fault)),
-    }
+    let made = value(
+        ground,
+        alloc,
+        &mut work,
+        file,
+        kind,
+        MOST_LEVELS,
+        tree,
+    );
+    told(made)
+}
+
+/// The given value of some number, which is no name, against a type, under evaluation itself.
+fn value_itself<G: Ground>(
+    ground: &G,
+    alloc: Global,
+    work: &mut Progress,
+    which: u32,
+    file: u32,
+    kind: &TypeDesc,
+    tree: &ConstTree,
+) -> Result<Value, ConstStop>
+    requires { G.right ground.now }
+    ensures worth { AnswersWorth tree_of result work.new.values (worth_by (G.setting ground.now)
+        (worth_where (G.setting ground.now) (slice_set work.old.free.items which false)) file (kind_of kind.now) 64 work.old.values (value_in tree.now)) }
+    ensures free { OnOk result (work.new.free.items ≡ slice_set (slice_set work.old.free.items which false) which true) }
+{
+    mark(&mut work.free, which, false);
+    let made = value(ground, alloc, work, file, kind, MOST_LEVELS, tree);
+    mark(&mut work.free, which, true);
+    made
 }
 
 /// The given value of some number, against its type, under evaluation itself. Behind a fault there is no going on.
@@ -92,13 +134,15 @@ pub fn evaluate_given<G: Ground>(
     let Some((file, tree)) = ground.given(which) else {
         return Err((Place { line: 0, column: 0 }, ConstFault::NoMemory));
     };
-    mark(&mut work.free, which, false);
     work.values = 0;
-    match value(ground, alloc, work, file, kind, MOST_LEVELS, tree) {
-        Ok(made) => {
-            mark(&mut work.free, which, true);
-            Ok(made)
+    match name_place(tree) {
+        Some(at) => {
+            let made = given(ground, alloc, work, at, which, kind, MOST_LEVELS);
+            told(made)
         }
-        Err(stop) => Err((stop.at, stop.fault)),
+        None => {
+            let made = value_itself(ground, alloc, work, which, file, kind, tree);
+            told(made)
+        }
     }
 }

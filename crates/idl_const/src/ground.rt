@@ -9,10 +9,12 @@ ghost use Rattle.idl_model.specs.ConstNames.{const_meaning};
 ghost use Rattle.schema.specs.PlainSchema.{PlainField};
 ghost use Rattle.schema.specs.SchemaOf.{plain_field};
 ghost use Rattle.check_model.specs.Evaluation.{struct_numbered, default_of, fields_worth};
+ghost use Rattle.idl_const.specs.ChainEnds.{chain_end_of};
 ghost use Rattle.idl_const.specs.FieldEntries.{entry_in, given_in_memory, entries_worth, AreGivenFor};
 ghost use Rattle.idl_const.specs.Given.{tree_filed, tree_numbered};
 ghost use Rattle.idl_names.specs.Meanings.{const_meant};
 
+use crate::chains::ChainEnd;
 use idl_names::ConstName;
 use idl_parser::ConstTree;
 use schema::{FieldDesc, StructKind};
@@ -52,6 +54,11 @@ pub trait Ground {
     fn given(&self, which: u32) -> Option<(u32, &ConstTree)>
         requires { right self.now }
         ensures { option_map tree_filed result ≡ tree_numbered (setting self.now).program which };
+
+    /// Where the chain of mere names ends that begins with the given value of some number; none where it leads round.
+    fn chain_end(&self, which: u32) -> Option<ChainEnd>
+        requires { right self.now }
+        ensures { result ≡ chain_end_of (setting self.now).program which };
 
     /// Which kind of fields the struct of some number has.
     fn fields_kind(&self, which: u32) -> StructKind

@@ -1,31 +1,30 @@
 //! Given values that are entered and left.
 
-ghost use Rattle.std.specs.Prelude.{◌≡◌, ◌∷◌, [], true, false, ℕ, Some, OnOk, MatchResult, MatchOption, ⊤, slice_set};
+ghost use Rattle.std.specs.Prelude.{◌≡◌, slice_set};
 ghost use Rattle.check_model.specs.Evaluation.{is_free};
-ghost use Rattle.idl_const.specs.Marks.{left_again, EntersGiven};
+ghost use Rattle.idl_const.specs.Marks.{EntersGiven};
 
-use crate::faults::ConstFault;
+use crate::faults::{ConstFault, ConstStop};
 use crate::progress::Progress;
-use std::collections::VecDeque;
+use idl_token::Place;
 
-/// The given value of some number is under evaluation from now on.
-pub(crate) fn enter(
-    work: &mut Progress,
-    entered: &mut VecDeque<u32>,
-    which: u32,
-) -> Result<(), ConstFault>
+/// The given value of some number is under evaluation from now on, for who looks from a place.
+pub(crate) fn enter(work: &mut Progress, which: u32, at: Place) -> Result<(), ConstStop>
     ensures values { work.new.values ≡ work.old.values }
-    ensures entered { EntersGiven which result work.old.free.items work.new.free.items entered.old.items entered.new.items }
+    ensures entered { EntersGiven which at result work.old.free.items work.new.free.items }
 {
     if work.steps == 0 {
-        return Err(ConstFault::NoMemory);
+        return Err(ConstStop {
+            at,
+            fault: ConstFault::NoMemory,
+        });
     }
     work.steps -= 1;
     if !is_free(&work.free, which) {
-        return Err(ConstFault::ConstCycle);
-    }
-    if entered.push_front(which).is_err() {
-        return Err(ConstFault::NoMemory);
+        return Err(ConstStop {
+            at,
+            fault: ConstFault::ConstCycle,
+        });
     }
     mark(&mut work.free, which, false);
     Ok(())
@@ -46,15 +45,5 @@ pub(crate) fn mark(free: &mut Vec<bool>, which: u32, is: bool)
     let which = which as usize;
     if which < free.len() {
         free[which] = is;
-    }
-}
-
-/// The given values that were entered aren't under evaluation any longer.
-pub(crate) fn leave(work: &mut Progress, mut entered: VecDeque<u32>)
-    ensures values { work.new.values ≡ work.old.values }
-    ensures left { work.new.free.items ≡ left_again work.old.free.items entered.items }
-{
-    while let Some(which) = entered.pop_front() {
-        mark(&mut work.free, which, true);
     }
 }

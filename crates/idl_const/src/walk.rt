@@ -8,20 +8,19 @@ ghost use Rattle.idl_model.specs.ConstExpr.{name_const, list_const, map_const};
 ghost use Rattle.idl_model.specs.DeclaredIn.{value_in, name_in, items_in, entries_in};
 ghost use Rattle.check_model.specs.Worths.{and_next, seen_at};
 ghost use Rattle.check_model.specs.Evaluation.{worth_by, items_by, pairs_by, given_by, struct_numbered, made_fields, default_of};
-ghost use Rattle.idl_const.specs.Chains.{meant_worth};
 ghost use Rattle.idl_const.specs.FieldEntries.{entry_in, given_in_memory, entry_worth, entries_worth, AreGivenFor};
 ghost use Rattle.idl_const.specs.Flaws.{AnswersWorth};
 ghost use Rattle.idl_const.specs.Given.{both_in};
-ghost use Rattle.idl_const.specs.Marks.{worth_where};
+ghost use Rattle.idl_const.specs.Marks.{entered_where, worth_where};
 
-use crate::chains::{Meant, follow};
+use crate::chains::ChainEnd;
 use crate::containers::{element_kind, map_value, row_value, takes_braces, takes_brackets};
 use crate::faults::{ConstFault, ConstStop};
 use crate::ground::{FieldEntry, Ground};
 use crate::keeping::{
     entry_id, field_of_key, keep, keep_beside, keep_field, missing, some, union_fields,
 };
-use crate::marks::leave;
+use crate::marks::{enter, mark};
 use crate::progress::{Progress, charge, opened, put_at, single, unfit};
 use crate::scalars::{double_value, enum_value, int_value};
 use crate::texts::{charge_keys, copied_literal};
@@ -137,9 +136,9 @@ fn named<G: Ground>(
     }
 }
 
-/// The given value of some number, for who looks from a place.
+/// The given value of some number, for who looks from a place: what stands at the end of its chain.
 #[cycle(walk)]
-fn given<G: Ground>(
+pub(crate) fn given<G: Ground>(
     ground: &G,
     alloc: Global,
     work: &mut Progress,
@@ -153,40 +152,49 @@ fn given<G: Ground>(
         (seen_at at (worth_where (G.setting ground.now) work.old.free.items which (kind_of kind.now) levels work.old.values)) }
     ensures free { OnOk result (work.new.free.items ≡ work.old.free.items) }
 {
-    let mut entered = VecDeque::new(alloc);
-    match follow(ground, work, &mut entered, which) {
-        Err(fault) => Err(ConstStop { at, fault }),
-        Ok(meant) => {
-            let made = meant_value(ground, alloc, work, at, &meant, kind, levels);
-            leave(work, entered);
-            made
-        }
+    match ground.chain_end(which) {
+        None => Err(ConstStop {
+            at,
+            fault: ConstFault::ConstCycle,
+        }),
+        Some(ChainEnd::Unknown) => Err(ConstStop {
+            at,
+            fault: ConstFault::UnknownName,
+        }),
+        Some(ChainEnd::Number(of, number)) => single(work, at, enum_value(kind, of, number)),
+        Some(ChainEnd::Value(last)) => entered(ground, alloc, work, at, last, kind, levels),
     }
 }
 
-/// What stands behind a chain of names, for who looks from a place.
+/// The given value of some number, which is no name, for who looks from a place. It is under evaluation meanwhile.
 #[cycle(walk)]
-fn meant_value<G: Ground>(
+fn entered<G: Ground>(
     ground: &G,
     alloc: Global,
     work: &mut Progress,
     at: Place,
-    meant: &Meant<'_>,
+    which: u32,
     kind: &TypeDesc,
     levels: u32,
 ) -> Result<Value, ConstStop>
     requires { G.right ground.now }
     ensures worth { AnswersWorth tree_of result work.new.values
-        (meant_worth (G.setting ground.now) (worth_where (G.setting ground.now) work.old.free.items) (kind_of kind.now) levels work.old.values at meant.now) }
+        (seen_at at (entered_where (G.setting ground.now) work.old.free.items which (kind_of kind.now) levels work.old.values)) }
     ensures free { OnOk result (work.new.free.items ≡ work.old.free.items) }
 {
-    match meant {
-        Meant::Number(which, number) => single(work, at, enum_value(kind, *which, *number)),
-        Meant::Tree(file, tree) => put_at(
+    let Some((file, tree)) = ground.given(which) else {
+        return Err(ConstStop {
             at,
-            unnamed(ground, alloc, work, *file, kind, levels, tree),
-        ),
-    }
+            fault: ConstFault::ConstCycle,
+        });
+    };
+    enter(work, which, at)?;
+    let made = put_at(
+        at,
+        unnamed(ground, alloc, work, file, kind, levels, tree),
+    );
+    mark(&mut work.free, which, true);
+    made
 }
 
 /// A list in brackets.

@@ -25,4 +25,5 @@ returns-clause-right c = record {
       (ap (λ (ss : List (InFile Struct)). filed_structs ss) c.as_slice-structs.ensures.value ∙ ap (λ (l : Listing). l.structs) c.requires.definitions)
       (ap (λ (ss : List (InFile Service)). filed_services ss) c.as_slice.ensures.value ∙ ap (λ (l : Listing). l.services) c.requires.definitions))
       c.in_ok-structs.ensures.right;
+  ends = c.in_ok-ends.ensures;
 }

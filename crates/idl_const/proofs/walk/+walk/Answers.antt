@@ -1,6 +1,7 @@
-use Rattle.std.proofs.Common.{map, FitsSigned, sym, ap, ◌∙◌, subst, arith, rules}
+use Rattle.std.proofs.Common.{◌≡◌, Some, None, map, FitsSigned, sym, ap, ◌∙◌, subst, arith, rules}
 use Rattle.std.specs.Int.{w16}
 use Rattle.std.proofs.lemmas.Int.{to_z-of_z}
+use Rattle.std.proofs.lemmas.Result.{err_from_is_err_and}
 use Rattle.thrift_value.specs.TreeOf.{tree_of, field_tree, field_trees}
 use Rattle.thrift_value.specs.Tree.{of_struct}
 use Rattle.thrift_value.proofs.Trees.{tree_of-Struct}
@@ -9,12 +10,17 @@ use Rattle.schema.specs.PlainKind.{kind_of}
 use Rattle.schema.specs.SchemaOf.{plain_field}
 use Rattle.idl_model.specs.ConstExpr.{map_const}
 use Rattle.idl_model.specs.DeclaredIn.{value_in, entries_in}
+use Rattle.check_model.specs.Worths.{seen_at}
+use Rattle.check_model.specs.Scalars.{enum_worth}
 use Rattle.check_model.specs.Evaluation.{worth_by, struct_numbered}
+use Rattle.idl_const.specs.declared.chains.ChainEnd.TheVariants as ends
 use Rattle.idl_const.specs.FieldEntries.{entry_in}
 use Rattle.idl_const.specs.Flaws.{AnswersWorth}
-use Rattle.idl_const.specs.Given.{both_in}
-use Rattle.idl_const.specs.Marks.{worth_where}
+use Rattle.idl_const.specs.Given.{FiledTree, both_in}
+use Rattle.idl_const.specs.Marks.{no_place, entered_where, worth_where}
 use Rattle.idl_const.proofs.Braces.{map_is, unfit_worth, struct_where}
+use Rattle.idl_const.proofs.ChainLinks.{seen_own}
+use Rattle.idl_const.proofs.Entering.{ended_at, worth_absent, worth_entered, refused, left_again}
 use Rattle.idl_const.proofs.InFront.{items_step, items_end, pairs_step, pairs_end, given_step, known_step, fields_end, free_step, none_mapped}
 use Rattle.idl_const.proofs.walk.+walk.Goals as goal
 
@@ -92,3 +98,59 @@ unnamed-returns-in-Map-clause-worth g t c =
     subst (λ e. AnswersWorth tree_of c.braced.result c.braced.new.work.values (worth_by s (worth_where s c.args.work.now.free.items) c.args.file (kind_of c.args.kind.now) c.args.levels c.args.work.now.values e))
     (ap (λ es. map_const c.in-Map.at (entries_in (map both_in es))) c.as_slice-in-Map.ensures.value ∙ sym (map_is c.args.tree.now c.in-Map.at c.in-Map.entries c.in-Map.is))
     c.braced.ensures.worth
+
+pub given-returns-in-None-clause-worth : goal.given-returns-in-None-clause-worth
+given-returns-in-None-clause-worth g t c =
+    let s = g.G.Ground.setting c.args.ground.now in
+    ap (seen_at c.args.at) (ended_at s c.args.work.now.free.items c.args.which None (kind_of c.args.kind.now) c.args.levels c.args.work.now.values c.in-None.ensures)
+
+pub given-returns-in-Unknown-clause-worth : goal.given-returns-in-Unknown-clause-worth
+given-returns-in-Unknown-clause-worth g t c =
+    let s = g.G.Ground.setting c.args.ground.now in
+    ap (seen_at c.args.at) (ended_at s c.args.work.now.free.items c.args.which (Some ends.Unknown) (kind_of c.args.kind.now) c.args.levels c.args.work.now.values c.in-Unknown.ensures)
+
+pub given-returns-in-Number-clause-worth : goal.given-returns-in-Number-clause-worth
+given-returns-in-Number-clause-worth g t c =
+    let s = g.G.Ground.setting c.args.ground.now in
+    let worth = enum_worth (kind_of c.args.kind.now) c.in-Number.of c.in-Number.number in
+    subst (AnswersWorth tree_of c.single.result c.single.new.work.values)
+    (sym (ap (seen_at c.args.at) (ended_at s c.args.work.now.free.items c.args.which (Some (ends.Number c.in-Number.of c.in-Number.number)) (kind_of c.args.kind.now) c.args.levels c.args.work.now.values c.in-Number.ensures)
+    ∙ seen_own no_place c.args.at c.args.work.now.values worth))
+    (c.single.ensures.worth worth c.enum_value.ensures)
+
+pub given-returns-in-Value-clause-worth : goal.given-returns-in-Value-clause-worth
+given-returns-in-Value-clause-worth g t c =
+    let s = g.G.Ground.setting c.args.ground.now in
+    subst (λ w. AnswersWorth tree_of c.entered.result c.entered.new.work.values (seen_at c.args.at w))
+    (sym (ended_at s c.args.work.now.free.items c.args.which (Some (ends.Value c.in-Value.last)) (kind_of c.args.kind.now) c.args.levels c.args.work.now.values c.in-Value.ensures))
+    c.entered.ensures.worth
+
+pub entered-returns-in-None-clause-worth : goal.entered-returns-in-None-clause-worth
+entered-returns-in-None-clause-worth g t c =
+    let s = g.G.Ground.setting c.args.ground.now in
+    worth_absent s c.args.work.now.free.items c.args.which (kind_of c.args.kind.now) c.args.levels c.args.work.now.values c.args.at (sym c.in-None.ensures)
+
+pub entered-returns-in_err-enter-clause-worth : goal.entered-returns-in_err-enter-clause-worth
+entered-returns-in_err-enter-clause-worth g t c =
+    let s = g.G.Ground.setting c.args.ground.now in
+    let p = err_from_is_err_and c.from_residual.result c.from_residual.ensures.1 in
+    rw (p.1, p.2)
+    (refused s c.args.work.now.free.items c.enter.new.work.free.items c.args.which (kind_of c.args.kind.now) c.args.levels c.args.work.now.values c.args.at
+    c.in_err-enter.field-0.0 c.in_err-enter.ensures.entered)
+
+pub entered-returns-clause-worth : goal.entered-returns-clause-worth
+entered-returns-clause-worth g t c =
+    let s = g.G.Ground.setting c.args.ground.now in
+    let t : FiledTree = record { file = c.in-Some.file; item = value_in c.in-Some.tree.now } in
+    let kind = kind_of c.args.kind.now in
+    let same : entered_where s c.args.work.now.free.items c.args.which kind c.args.levels c.args.work.now.values
+        ≡ worth_by s (worth_where s c.enter.new.work.free.items) c.in-Some.file kind c.args.levels c.enter.new.work.values (value_in c.in-Some.tree.now) =
+        worth_entered s c.args.work.now.free.items c.args.which t kind c.args.levels c.args.work.now.values c.in_ok-enter.ensures.entered.0 (sym c.in-Some.ensures)
+        ∙ (λ i. worth_by s (worth_where s (sym c.in_ok-enter.ensures.entered.1 i)) c.in-Some.file kind c.args.levels (sym c.in_ok-enter.ensures.values i) (value_in c.in-Some.tree.now)) in
+    subst (λ w. AnswersWorth tree_of c.put_at.result c.unnamed.new.work.values (seen_at c.args.at w)) (sym same)
+    (c.put_at.ensures.seen _ c.unnamed.new.work.values c.unnamed.ensures.worth)
+
+pub entered-returns-clause-free : goal.entered-returns-clause-free
+entered-returns-clause-free g t c =
+    left_again c.unnamed.result c.put_at.result c.args.work.now.free.items c.enter.new.work.free.items c.unnamed.new.work.free.items c.mark.new.free.items c.args.which
+    c.put_at.ensures.ok c.in_ok-enter.ensures.entered.0 c.in_ok-enter.ensures.entered.1 c.unnamed.ensures.free c.mark.ensures

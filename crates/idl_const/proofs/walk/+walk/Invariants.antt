@@ -19,8 +19,8 @@ decreases-named g l = 16 * l.levels + 6
 abbrev pub decreases-given : goal.decreases-given
 decreases-given g l = 16 * l.levels + 5
 
-abbrev pub decreases-meant_value : goal.decreases-meant_value
-decreases-meant_value g l = 16 * l.levels + 4
+abbrev pub decreases-entered : goal.decreases-entered
+decreases-entered g l = 16 * l.levels + 4
 
 abbrev pub decreases-unnamed : goal.decreases-unnamed
 decreases-unnamed g l = 16 * l.levels + 3
