@@ -1,6 +1,6 @@
 -- Tables of the ends of chains, found link by link.
-use Rattle.std.proofs.Common.{◌≡◌, ◌+◌, ◌++◌, ◌≤◌, ◌<◌, ◌⊎◌, inl, inr, ℕ, zero, suc, List, [], ◌∷◌, map, length, get_or, drop, slice_get, Option, Some, None, refl, sym, ap, ◌∙◌, subst, arith, append_assoc}
-use Rattle.std.specs.Prelude.{slice_set}
+use Rattle.std.proofs.Common.{◌≡◌, ◌+◌, ◌++◌, ◌≤◌, ◌<◌, ◌⊎◌, inl, inr, ℕ, zero, suc, List, [], ◌∷◌, map, length, get_or, drop, slice_get, Option, Some, None, Result, Ok, Err, refl, sym, ap, ◌∙◌, subst, arith, append_assoc}
+use Rattle.std.specs.Prelude.{slice_set, IfOk}
 use Rattle.std.specs.Option.{option_map, option_and_then}
 use Rattle.std.proofs.lemmas.Bool.{cases_lt}
 use Rattle.std.proofs.lemmas.List.{append-nil}
@@ -72,6 +72,10 @@ unfolding chain_end_of
 tells_ends program values links ends are h told which =
     told which ∙ same_ends program values links are h (length links) which
     ∙ ap (λ n. end_within program n which) (as_many program 0 values links h ∙ ap length are)
+
+pub if_told : {A E : Type 0} (r : Result A E) (P Q : A → Type 0) → IfOk r P → ((x : A) → P x → Q x) → IfOk r Q
+if_told (Ok x) P Q h then_told = then_told x h
+if_told (Err e) P Q h then_told = tt
 
 -- ---- ends, one more at a time
 

@@ -1,4 +1,4 @@
-use Rattle.std.proofs.Common.{rules, search}
+use Rattle.std.proofs.Common.{rules}
 use Rattle.const_ground.proofs.ChainTabled.{settled_more, settled_end}
 use Rattle.const_ground.proofs.chain_ends.are_settled.Goals as goal
 

@@ -1,8 +1,8 @@
 use Rattle.const_ground.proofs.ChainTabled.{right_more, none_right}
 use Rattle.const_ground.proofs.chain_ends.ends_along.Goals as goal
 
-pub loop-which-entry : goal.loop-which-entry
-loop-which-entry c = none_right c.args.links.now c.in_ok-ends.ends.items c.in_ok-ends.ensures
+pub loop-which-init : goal.loop-which-init
+loop-which-init c = none_right c.args.links.now c.in_ok-ends.ends.items c.in_ok-ends.ensures
 
 pub loop-which-preserved : goal.loop-which-preserved
 loop-which-preserved c =

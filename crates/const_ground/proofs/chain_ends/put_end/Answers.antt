@@ -5,6 +5,6 @@ use Rattle.const_ground.proofs.chain_ends.put_end.Goals as goal
 
 pub returns : goal.returns
 returns c = λ other e h.
-    put_told c.args.links.now c.args.ends.now.items c.args.which c.end_at_link.result other e
-    (c.end_at_link.ensures ∙ ap (λ es. end_at_link c.args.links.now (end_in es) c.args.which) c.as_slice.ensures.value)
+    put_told c.args.links.now c.args.ends.now.items c.args.which c.end_at_link-end.result other e
+    (c.end_at_link-end.ensures ∙ ap (λ es. end_at_link c.args.links.now (end_in es) c.args.which) c.as_slice.ensures.value)
     (sym (ap (λ es. end_in es other) c.set_end.ensures) ∙ h)
