@@ -115,6 +115,12 @@ set_back (true ∷ more) zero is = refl
 set_back (false ∷ more) zero is = absurd (false≢true is)
 set_back (b ∷ more) (suc which) is = ap (λ l. b ∷ l) (set_back more which is)
 
+-- what holds where something was made holds where that is told
+pub told_too : {A B E F P : Type 0} (made : Result A E) (result : Result B F) → is_ok result ≡ is_ok made → OnOk made P → OnOk result P
+told_too (Ok value) (Ok other) same h = h
+told_too (Err stop) (Ok other) same h = absurd (false≢true (sym same))
+told_too made (Err stop) same h = tt
+
 -- what is left again
 pub left_again : (made result : Result Value ConstStop) (free inside behind back : List Bool) (which : ℕ) → is_ok result ≡ is_ok made → is_free free which ≡ true
     → inside ≡ slice_set free which false → OnOk made (behind ≡ inside) → back ≡ slice_set behind which true → OnOk result (back ≡ free)

@@ -104,31 +104,34 @@ given-returns-in-None-clause-worth g t c =
     let s = g.G.Ground.setting c.args.ground.now in
     ap (seen_at c.args.at) (ended_at s c.args.work.now.free.items c.args.which None (kind_of c.args.kind.now) c.args.levels c.args.work.now.values c.in-None.ensures)
 
-pub given-returns-in-Unknown-clause-worth : goal.given-returns-in-Unknown-clause-worth
-given-returns-in-Unknown-clause-worth g t c =
+pub given-returns-in-Some-Unknown-clause-worth : goal.given-returns-in-Some-Unknown-clause-worth
+given-returns-in-Some-Unknown-clause-worth g t c =
     let s = g.G.Ground.setting c.args.ground.now in
-    ap (seen_at c.args.at) (ended_at s c.args.work.now.free.items c.args.which (Some ends.Unknown) (kind_of c.args.kind.now) c.args.levels c.args.work.now.values c.in-Unknown.ensures)
+    ap (seen_at c.args.at) (ended_at s c.args.work.now.free.items c.args.which (Some ends.Unknown) (kind_of c.args.kind.now) c.args.levels c.args.work.now.values
+    (sym (ap (λ e. Some e) c.in-Some-Unknown.field-0-is) ∙ c.in-Some-Unknown.ensures))
 
-pub given-returns-in-Number-clause-worth : goal.given-returns-in-Number-clause-worth
-given-returns-in-Number-clause-worth g t c =
+pub given-returns-in-Some-Number-clause-worth : goal.given-returns-in-Some-Number-clause-worth
+given-returns-in-Some-Number-clause-worth g t c =
     let s = g.G.Ground.setting c.args.ground.now in
-    let worth = enum_worth (kind_of c.args.kind.now) c.in-Number.of c.in-Number.number in
+    let worth = enum_worth (kind_of c.args.kind.now) c.in-Some-Number.of c.in-Some-Number.number in
     subst (AnswersWorth tree_of c.single.result c.single.new.work.values)
-    (sym (ap (seen_at c.args.at) (ended_at s c.args.work.now.free.items c.args.which (Some (ends.Number c.in-Number.of c.in-Number.number)) (kind_of c.args.kind.now) c.args.levels c.args.work.now.values c.in-Number.ensures)
+    (sym (ap (seen_at c.args.at) (ended_at s c.args.work.now.free.items c.args.which (Some (ends.Number c.in-Some-Number.of c.in-Some-Number.number)) (kind_of c.args.kind.now) c.args.levels c.args.work.now.values
+    (sym (ap (λ e. Some e) c.in-Some-Number.field-0-is) ∙ c.in-Some-Number.ensures))
     ∙ seen_own no_place c.args.at c.args.work.now.values worth))
     (c.single.ensures.worth worth c.enum_value.ensures)
 
-pub given-returns-in-Value-clause-worth : goal.given-returns-in-Value-clause-worth
-given-returns-in-Value-clause-worth g t c =
+pub given-returns-in-Some-Value-clause-worth : goal.given-returns-in-Some-Value-clause-worth
+given-returns-in-Some-Value-clause-worth g t c =
     let s = g.G.Ground.setting c.args.ground.now in
     subst (λ w. AnswersWorth tree_of c.entered.result c.entered.new.work.values (seen_at c.args.at w))
-    (sym (ended_at s c.args.work.now.free.items c.args.which (Some (ends.Value c.in-Value.last)) (kind_of c.args.kind.now) c.args.levels c.args.work.now.values c.in-Value.ensures))
+    (sym (ended_at s c.args.work.now.free.items c.args.which (Some (ends.Value c.in-Some-Value.last)) (kind_of c.args.kind.now) c.args.levels c.args.work.now.values
+    (sym (ap (λ e. Some e) c.in-Some-Value.field-0-is) ∙ c.in-Some-Value.ensures)))
     c.entered.ensures.worth
 
-pub entered-returns-in-None-clause-worth : goal.entered-returns-in-None-clause-worth
-entered-returns-in-None-clause-worth g t c =
+pub entered-returns-in_default-clause-worth : goal.entered-returns-in_default-clause-worth
+entered-returns-in_default-clause-worth g t c =
     let s = g.G.Ground.setting c.args.ground.now in
-    worth_absent s c.args.work.now.free.items c.args.which (kind_of c.args.kind.now) c.args.levels c.args.work.now.values c.args.at (sym c.in-None.ensures)
+    worth_absent s c.args.work.now.free.items c.args.which (kind_of c.args.kind.now) c.args.levels c.args.work.now.values c.args.at (search (rules, c.in_default.ensures))
 
 pub entered-returns-in_err-enter-clause-worth : goal.entered-returns-in_err-enter-clause-worth
 entered-returns-in_err-enter-clause-worth g t c =
@@ -147,10 +150,10 @@ entered-returns-clause-worth g t c =
         ≡ worth_by s (worth_where s c.enter.new.work.free.items) c.in-Some.file kind c.args.levels c.enter.new.work.values (value_in c.in-Some.tree.now) =
         worth_entered s c.args.work.now.free.items c.args.which t kind c.args.levels c.args.work.now.values c.in_ok-enter.ensures.entered.0 (sym c.in-Some.ensures)
         ∙ (λ i. worth_by s (worth_where s (sym c.in_ok-enter.ensures.entered.1 i)) c.in-Some.file kind c.args.levels (sym c.in_ok-enter.ensures.values i) (value_in c.in-Some.tree.now)) in
-    subst (λ w. AnswersWorth tree_of c.put_at.result c.unnamed.new.work.values (seen_at c.args.at w)) (sym same)
-    (c.put_at.ensures.seen _ c.unnamed.new.work.values c.unnamed.ensures.worth)
+    subst (λ w. AnswersWorth tree_of c.put_at-made.result c.unnamed.new.work.values (seen_at c.args.at w)) (sym same)
+    (c.put_at-made.ensures.seen _ c.unnamed.new.work.values c.unnamed.ensures.worth)
 
 pub entered-returns-clause-free : goal.entered-returns-clause-free
 entered-returns-clause-free g t c =
-    left_again c.unnamed.result c.put_at.result c.args.work.now.free.items c.enter.new.work.free.items c.unnamed.new.work.free.items c.mark.new.free.items c.args.which
-    c.put_at.ensures.ok c.in_ok-enter.ensures.entered.0 c.in_ok-enter.ensures.entered.1 c.unnamed.ensures.free c.mark.ensures
+    left_again c.unnamed.result c.put_at-made.result c.args.work.now.free.items c.enter.new.work.free.items c.unnamed.new.work.free.items c.mark.new.free.items c.args.which
+    c.put_at-made.ensures.ok c.in_ok-enter.ensures.entered.0 c.in_ok-enter.ensures.entered.1 c.unnamed.ensures.free c.mark.ensures
