@@ -116,10 +116,10 @@ set_back (false ∷ more) zero is = absurd (false≢true is)
 set_back (b ∷ more) (suc which) is = ap (λ l. b ∷ l) (set_back more which is)
 
 -- what holds where something was made holds where that is told
-pub told_too : {A B E F P : Type 0} (made : Result A E) (result : Result B F) → is_ok result ≡ is_ok made → OnOk made P → OnOk result P
-told_too (Ok value) (Ok other) same h = h
-told_too (Err stop) (Ok other) same h = absurd (false≢true (sym same))
-told_too made (Err stop) same h = tt
+pub told_too : {A B E F : Type 0} (P : Type 0) (made : Result A E) (result : Result B F) → is_ok result ≡ is_ok made → OnOk made P → OnOk result P
+told_too P (Ok value) (Ok other) same h = h
+told_too P (Err stop) (Ok other) same h = absurd (false≢true (sym same))
+told_too P made (Err stop) same h = tt
 
 -- what is left again
 pub left_again : (made result : Result Value ConstStop) (free inside behind back : List Bool) (which : ℕ) → is_ok result ≡ is_ok made → is_free free which ≡ true

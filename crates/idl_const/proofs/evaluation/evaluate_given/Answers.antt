@@ -37,7 +37,7 @@ unfolding tree_numbered
 returns-in-None-clause-idle g c =
     let s = g.G.Ground.setting c.args.ground.now in
     let t : FiledTree = record { file = c.in-Some.file; item = value_in c.in-Some.tree.now } in
-    told_too c.value_itself-made.result c.told-in-None.result c.told-in-None.ensures.ok
+    told_too (c.value_itself-made.new.work.free.items ≡ all_free s.program) c.value_itself-made.result c.told-in-None.result c.told-in-None.ensures.ok
     (on_ok_weaker c.value_itself-made.result
     (λ h. h ∙ ap (λ l. slice_set (slice_set l c.args.which false) c.args.which true) c.requires.idle
     ∙ set_back (all_free s.program) c.args.which (given_free (values_of s.program) c.args.which t (sym c.in-Some.ensures)))

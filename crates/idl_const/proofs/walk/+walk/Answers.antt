@@ -1,5 +1,5 @@
 use Rattle.std.proofs.Common.{◌≡◌, Some, None, map, FitsSigned, sym, ap, ◌∙◌, subst, arith, rules}
-use Rattle.std.specs.Int.{w16}
+use Rattle.std.specs.Int.{w16, w64}
 use Rattle.std.proofs.lemmas.Int.{to_z-of_z}
 use Rattle.std.proofs.lemmas.Result.{err_from_is_err_and}
 use Rattle.thrift_value.specs.TreeOf.{tree_of, field_tree, field_trees}
@@ -15,7 +15,7 @@ use Rattle.check_model.specs.Scalars.{enum_worth}
 use Rattle.check_model.specs.Evaluation.{worth_by, struct_numbered}
 use Rattle.idl_const.specs.declared.chains.ChainEnd.TheVariants as ends
 use Rattle.idl_const.specs.FieldEntries.{entry_in}
-use Rattle.idl_const.specs.Flaws.{AnswersWorth}
+use Rattle.idl_const.specs.Flaws.{IsOneWorth, AnswersWorth}
 use Rattle.idl_const.specs.Given.{FiledTree, both_in}
 use Rattle.idl_const.specs.Marks.{no_place, entered_where, worth_where}
 use Rattle.idl_const.proofs.Braces.{map_is, unfit_worth, struct_where}
@@ -114,11 +114,13 @@ pub given-returns-in-Some-Number-clause-worth : goal.given-returns-in-Some-Numbe
 given-returns-in-Some-Number-clause-worth g t c =
     let s = g.G.Ground.setting c.args.ground.now in
     let worth = enum_worth (kind_of c.args.kind.now) c.in-Some-Number.of c.in-Some-Number.number in
+    let fits : FitsSigned w64 c.in-Some-Number.number = search rules in
+    let told = subst (λ n. IsOneWorth (enum_worth (kind_of c.args.kind.now) c.in-Some-Number.of n) c.enum_value.result) (to_z-of_z w64 c.in-Some-Number.number fits) c.enum_value.ensures in
     subst (AnswersWorth tree_of c.single.result c.single.new.work.values)
     (sym (ap (seen_at c.args.at) (ended_at s c.args.work.now.free.items c.args.which (Some (ends.Number c.in-Some-Number.of c.in-Some-Number.number)) (kind_of c.args.kind.now) c.args.levels c.args.work.now.values
     (sym (ap (λ e. Some e) c.in-Some-Number.field-0-is) ∙ c.in-Some-Number.ensures))
     ∙ seen_own no_place c.args.at c.args.work.now.values worth))
-    (c.single.ensures.worth worth c.enum_value.ensures)
+    (c.single.ensures.worth worth told)
 
 pub given-returns-in-Some-Value-clause-worth : goal.given-returns-in-Some-Value-clause-worth
 given-returns-in-Some-Value-clause-worth g t c =
