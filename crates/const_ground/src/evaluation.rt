@@ -18,7 +18,9 @@ use const_tables::{const_names, value_places};
 use idl_const::{ConstFault, evaluate_in};
 use idl_include::{IdlFile, Sources};
 use idl_names::laws::files_of_a_program_have_their_own_bases;
-use idl_names::{Definitions, GivenTree, NameTables, all_definitions, name_tables, program_spots, values_at};
+use idl_names::{
+    Definitions, GivenTree, NameTables, all_definitions, name_tables, program_spots, values_at,
+};
 use idl_parser::ConstTree;
 use idl_token::Place;
 use schema::{Schema, TypeDesc};

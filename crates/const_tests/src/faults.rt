@@ -68,7 +68,12 @@ fn last_worth(
 }
 
 // Whether the last constant of a text has this fault at this column.
-fn is_fault(alloc: Global, text: &str, column: usize, fault: ConstFault) -> Result<bool, AllocError> {
+fn is_fault(
+    alloc: Global,
+    text: &str,
+    column: usize,
+    fault: ConstFault,
+) -> Result<bool, AllocError> {
     let Ok(sources) = loaded(alloc, text)? else {
         return Ok(false);
     };
@@ -83,10 +88,16 @@ fn each_type_has_its_faults(rt: HostRuntime) -> Result<(), Fail> {
     for (kind, value, inside, fault) in &FAULTS {
         let front = format!(in rt.alloc(); "{TYPES} const {kind} A = ")?;
         let text = format!(in rt.alloc(); "{front}{value}")?;
-        assert!(rt; is_fault(rt.alloc(), text.as_str(), front.len() + inside + 1, *fault)?, "{text}");
+        assert!(rt;
+            is_fault(rt.alloc(), text.as_str(), front.len() + inside + 1, *fault)?,
+            "{text}"
+        );
         let front = format!(in rt.alloc(); "{TYPES} const {kind} N = {value} const {kind} A = ")?;
         let text = format!(in rt.alloc(); "{front}N")?;
-        assert!(rt; is_fault(rt.alloc(), text.as_str(), front.len() + 1, *fault)?, "{text}");
+        assert!(rt;
+            is_fault(rt.alloc(), text.as_str(), front.len() + 1, *fault)?,
+            "{text}"
+        );
     }
     Ok(())
 }

@@ -67,11 +67,11 @@ cycles s (suc k) which (suc left) free h few kind levels count at =
     elim (cases_Bool (is_free free which)) [
       | inr f ↦ ap (seen_at at) (cycle_by s (suc left) free which kind levels count f)
       | inl f ↦ elim (linked s which) [
-          | absent none ↦ ap (seen_at at) (none_by s (suc left) free which kind levels count none)
-          | leads n l ↦ l.worth left free f kind levels count at
-              ∙ cycles s k n left (slice_set free which false) (sym (l.within k) ∙ h) (omega (arith, few, count_entered free which f)) kind levels count at
-          | stops e l ↦ absurd (none-some e (sym h ∙ l.within k))
-        ]
+        | absent none ↦ ap (seen_at at) (none_by s (suc left) free which kind levels count none)
+        | leads n l ↦ l.worth left free f kind levels count at
+            ∙ cycles s k n left (slice_set free which false) (sym (l.within k) ∙ h) (omega (arith, few, count_entered free which f)) kind levels count at
+        | stops e l ↦ absurd (none-some e (sym h ∙ l.within k))
+      ]
     ]
 
 -- a chain whose end is under evaluation
@@ -84,13 +84,13 @@ shut_cycles s (suc k) which last (suc left) free h shut kind levels count at =
     elim (cases_Bool (is_free free which)) [
       | inr f ↦ ap (seen_at at) (cycle_by s (suc left) free which kind levels count f)
       | inl f ↦ elim (linked s which) [
-          | absent none ↦ ap (seen_at at) (none_by s (suc left) free which kind levels count none)
-          | leads n l ↦ l.worth left free f kind levels count at
-              ∙ shut_cycles s k n last left (slice_set free which false) (sym (l.within k) ∙ h) (still_shut free which last shut) kind levels count at
-          | stops e l ↦ (
-              let here : last ≡ which = l.own last (same_Some e (ends.Value last) (sym (l.within k) ∙ h)) in
-              absurd (false≢true (sym shut ∙ ap (is_free free) here ∙ f)))
-        ]
+        | absent none ↦ ap (seen_at at) (none_by s (suc left) free which kind levels count none)
+        | leads n l ↦ l.worth left free f kind levels count at
+            ∙ shut_cycles s k n last left (slice_set free which false) (sym (l.within k) ∙ h) (still_shut free which last shut) kind levels count at
+        | stops e l ↦ (
+            let here : last ≡ which = l.own last (same_Some e (ends.Value last) (sym (l.within k) ∙ h)) in
+            absurd (false≢true (sym shut ∙ ap (is_free free) here ∙ f)))
+      ]
     ]
 
 -- ---- chains that are free
@@ -113,7 +113,7 @@ keeps_free s free x (suc k) which e apart h is = (
 module _ (s : Setting) (e : ChainEnd) (Q : List Bool → Type 0) (keep : (free : List Bool) (x k : ℕ) → end_within s.program k x ≡ Some e → Q free → Q (slice_set free x false))
     (kind : PlainKind) (levels count : ℕ) (at : Place) (worth : Worth Tree)
     (finish : (last left : ℕ) (free : List Bool) → Q free → EndsAs s last e → free_count (slice_set free last false) ≤ left
-        → seen_at at (end_worth (λ other. on_entering s (named_worth s left (slice_set free last false)) true (slice_get (values_of s.program) other)) kind levels count (Some e)) ≡ worth) where
+    → seen_at at (end_worth (λ other. on_entering s (named_worth s left (slice_set free last false)) true (slice_get (values_of s.program) other)) kind levels count (Some e)) ≡ worth) where
   ended : (which left : ℕ) (free : List Bool) (d : ChainEnd) → EndsAs s which d → d ≡ e → is_free free which ≡ true → free_count free ≤ suc left → Q free
       → seen_at at (named_worth s (suc left) free which kind levels count) ≡ worth
   ended which left free d l same f most q =
@@ -178,8 +178,8 @@ pub still_clear : (s : Setting) (free marks : List Bool) (x last i : ℕ) → is
 still_clear s free marks x last i closed to clear k which e h unshut =
     keeps_free s free x k which e
     (λ j other less some same.
-        let here : e ≡ ends.Value last = one_end s.program j i x e (ends.Value last) (subst (λ v. end_within s.program j v ≡ Some e) same some) to in
-        false≢true (sym closed ∙ subst (IsOpen marks) here unshut))
+    let here : e ≡ ends.Value last = one_end s.program j i x e (ends.Value last) (subst (λ v. end_within s.program j v ≡ Some e) same some) to in
+    false≢true (sym closed ∙ subst (IsOpen marks) here unshut))
     h (clear k which e h unshut)
 
 was_free : (marks : List Bool) (x which : ℕ) → is_free (slice_set marks x false) which ≡ true → is_free marks which ≡ true
@@ -249,10 +249,10 @@ module _ (s : Setting) (left : ℕ) (free marks : List Bool) (a : Agrees s free 
   at_value k which last h f kind levels count at =
       followed s (ends.Value last) (Nearly s marks last) (kept s marks last) kind levels count at (seen_at at (entered_worth s m marks last kind levels count))
       (λ v n now q l few.
-          let here : last ≡ v = l.own last refl in
-          let P : ℕ → Type 0 = λ u. EndsAs s u (ends.Value last) → free_count (slice_set now u false) ≤ n
-              → seen_at at (on_entering s (named_worth s n (slice_set now u false)) true (slice_get (values_of s.program) last) kind levels count) ≡ seen_at at (entered_worth s m marks last kind levels count) in
-          subst P here (λ own less. ap (seen_at at) (alike last f n now (done s marks last now own q) less kind levels count)) l few)
+      let here : last ≡ v = l.own last refl in
+      let P : ℕ → Type 0 = λ u. EndsAs s u (ends.Value last) → free_count (slice_set now u false) ≤ n
+      → seen_at at (on_entering s (named_worth s n (slice_set now u false)) true (slice_get (values_of s.program) last) kind levels count) ≡ seen_at at (entered_worth s m marks last kind levels count) in
+      subst P here (λ own less. ap (seen_at at) (alike last f n now (done s marks last now own q) less kind levels count)) l few)
       k which left free h (λ j to. a.clear j which (ends.Value last) to f) most (begun s free marks last a)
 
   at_end : (k which : ℕ) (e : ChainEnd) → end_within s.program k which ≡ Some e → (kind : PlainKind) (levels count : ℕ) (at : Place)
@@ -285,7 +285,7 @@ by_ends s zero left free marks a most few =
     each_end s left free marks a most zero (λ last f. absurd (omega (arith, few, count_entered marks last f)))
 by_ends s (suc m) left free marks a most few =
     each_end s left free marks a most (suc m) (λ last f n now agrees less kind levels count.
-        entering_alike s (named_worth s n (slice_set now last false)) (worth_by_end s (entered_worth s m (slice_set marks last false)))
-        (by_ends s m n (slice_set now last false) (slice_set marks last false) agrees less (omega (arith, few, count_entered marks last f)))
-        (slice_get (values_of s.program) last) kind levels count
-        ∙ sym (entered_free s m marks last f kind levels count))
+    entering_alike s (named_worth s n (slice_set now last false)) (worth_by_end s (entered_worth s m (slice_set marks last false)))
+    (by_ends s m n (slice_set now last false) (slice_set marks last false) agrees less (omega (arith, few, count_entered marks last f)))
+    (slice_get (values_of s.program) last) kind levels count
+    ∙ sym (entered_free s m marks last f kind levels count))

@@ -84,15 +84,7 @@ pub fn evaluate_in<G: Ground>(
         values: 0,
         steps: MOST_STEPS,
     };
-    let made = value(
-        ground,
-        alloc,
-        &mut work,
-        file,
-        kind,
-        MOST_LEVELS,
-        tree,
-    );
+    let made = value(ground, alloc, &mut work, file, kind, MOST_LEVELS, tree);
     told(made)
 }
 

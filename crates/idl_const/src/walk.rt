@@ -189,10 +189,7 @@ fn entered<G: Ground>(
         });
     };
     enter(work, which, at)?;
-    let made = put_at(
-        at,
-        unnamed(ground, alloc, work, file, kind, levels, tree),
-    );
+    let made = put_at(at, unnamed(ground, alloc, work, file, kind, levels, tree));
     mark(&mut work.free, which, true);
     made
 }

@@ -149,9 +149,9 @@ entered-returns-clause-worth g t c =
     let t : FiledTree = record { file = c.in-Some.file; item = value_in c.in-Some.tree.now } in
     let kind = kind_of c.args.kind.now in
     let same : entered_where s c.args.work.now.free.items c.args.which kind c.args.levels c.args.work.now.values
-        ≡ worth_by s (worth_where s c.enter.new.work.free.items) c.in-Some.file kind c.args.levels c.enter.new.work.values (value_in c.in-Some.tree.now) =
-        worth_entered s c.args.work.now.free.items c.args.which t kind c.args.levels c.args.work.now.values c.in_ok-enter.ensures.entered.0 (sym c.in-Some.ensures)
-        ∙ (λ i. worth_by s (worth_where s (sym c.in_ok-enter.ensures.entered.1 i)) c.in-Some.file kind c.args.levels (sym c.in_ok-enter.ensures.values i) (value_in c.in-Some.tree.now)) in
+    ≡ worth_by s (worth_where s c.enter.new.work.free.items) c.in-Some.file kind c.args.levels c.enter.new.work.values (value_in c.in-Some.tree.now) =
+    worth_entered s c.args.work.now.free.items c.args.which t kind c.args.levels c.args.work.now.values c.in_ok-enter.ensures.entered.0 (sym c.in-Some.ensures)
+    ∙ (λ i. worth_by s (worth_where s (sym c.in_ok-enter.ensures.entered.1 i)) c.in-Some.file kind c.args.levels (sym c.in_ok-enter.ensures.values i) (value_in c.in-Some.tree.now)) in
     subst (λ w. AnswersWorth tree_of c.put_at-made.result c.unnamed.new.work.values (seen_at c.args.at w)) (sym same)
     (c.put_at-made.ensures.seen _ c.unnamed.new.work.values c.unnamed.ensures.worth)
 
