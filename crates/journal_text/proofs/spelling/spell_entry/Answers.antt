@@ -2,7 +2,7 @@ use Rattle.std.proofs.Common.{◌++◌, codes, ap, ◌∙◌}
 use Rattle.call_rules.specs.Answers.{plain_answer}
 use Rattle.journal_text.specs.EntryText.{front_text, asked_text, answered_text, next_word, call_line}
 use Rattle.journal_text.proofs.Handing.{line_parts}
-use Rattle.value_text.proofs.Handed.{goes_on, breaks, hands_same}
+use Rattle.journal_text.proofs.HandedOn.{goes_on, breaks, hands_same}
 use Rattle.journal_text.proofs.spelling.spell_entry.Goals as goal
 
 pub returns-in_err-spell_front : goal.returns-in_err-spell_front

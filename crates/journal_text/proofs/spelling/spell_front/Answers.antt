@@ -2,7 +2,7 @@ use Rattle.std.proofs.Common.{◌++◌, ap}
 use Rattle.text_out.specs.Decimal.{natural_of}
 use Rattle.call_rules.specs.PlainCalls.{PlainCall}
 use Rattle.journal_text.specs.EntryText.{call_word, next_word, front_text}
-use Rattle.value_text.proofs.Handed.{goes_on, breaks, hands_same}
+use Rattle.journal_text.proofs.HandedOn.{goes_on, breaks, hands_same}
 use Rattle.journal_text.proofs.spelling.spell_front.Goals as goal
 
 pub returns-in_err-spell_word : goal.returns-in_err-spell_word

@@ -1,5 +1,5 @@
 use Rattle.std.proofs.Common.{codes}
-use Rattle.value_text.proofs.Handed.{goes_on, breaks}
+use Rattle.journal_text.proofs.HandedOn.{goes_on, breaks}
 use Rattle.journal_text.proofs.spelling.spell_next.Goals as goal
 
 pub returns-in_err-hand : goal.returns-in_err-hand

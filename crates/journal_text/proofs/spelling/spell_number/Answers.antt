@@ -1,6 +1,6 @@
 use Rattle.std.proofs.Common.{codes}
 use Rattle.text_out.specs.Decimal.{natural_of}
-use Rattle.value_text.proofs.Handed.{goes_on, breaks}
+use Rattle.journal_text.proofs.HandedOn.{goes_on, breaks}
 use Rattle.journal_text.proofs.spelling.spell_number.Goals as goal
 
 pub returns-in_err-hand : goal.returns-in_err-hand
