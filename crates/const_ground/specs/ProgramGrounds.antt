@@ -6,6 +6,7 @@ use Rattle.idl_model.specs.Spots.{GivenValue, values_of}
 use Rattle.idl_model.specs.ConstNames.{value_number}
 use Rattle.idl_include.specs.SourcesOf.{program_in}
 use Rattle.idl_names.specs.SpotsIn.{filed_value}
+use Rattle.schema.specs.PlainSchema.{PlainSchema}
 use Rattle.schema.specs.SchemaOf.{schema_of, plain_struct}
 use Rattle.check_model.specs.Evaluation.{Setting, default_of}
 use Rattle.check_model.specs.SchemaParts.{IsPartialSchema}
@@ -22,15 +23,19 @@ HaveOwnNumbers program =
 abbrev pub ground_program : ProgramGround → Program
 ground_program g = program_in g.constants.now
 
+-- its schema without defaults and constants
+abbrev pub ground_schema : ProgramGround → PlainSchema
+ground_schema g = schema_of g.schema.now
+
 -- the program and its schema
 abbrev pub ground_setting : ProgramGround → Setting
-ground_setting g = record { program = ground_program g; schema = schema_of g.schema.now }
+ground_setting g = record { program = ground_program g; schema = ground_schema g }
 
 -- the tables are right about the program
 pub record IsProgramGround (g : ProgramGround) : Type 0 where
   pub values : map filed_value g.values.now ≡ values_of (ground_program g)
   pub own : HaveOwnNumbers (ground_program g)
-  pub made : IsPartialSchema (ground_program g) (schema_of g.schema.now)
+  pub made : IsPartialSchema (ground_program g) (ground_schema g)
   pub structs : map struct_in_table g.structs.items ≡ map plain_struct g.schema.now.structs
   pub tables : AreStructTables (default_of (ground_program g)) g.structs.items
   pub ends : TellsEnds (ground_program g) g.ends.items

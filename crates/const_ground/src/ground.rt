@@ -9,7 +9,7 @@ ghost use Rattle.idl_names.specs.SpotsIn.{filed_value};
 ghost use Rattle.schema.specs.SchemaOf.{schema_of};
 ghost use Rattle.check_model.specs.SchemaParts.{IsPartialSchema};
 ghost use Rattle.const_tables.specs.Places.{ArePlaces};
-ghost use Rattle.const_ground.specs.ProgramGrounds.{ground_program, ground_setting, IsProgramGround};
+ghost use Rattle.const_ground.specs.ProgramGrounds.{ground_program, ground_schema, ground_setting, IsProgramGround};
 
 use crate::chain_ends::{chain_ends, end_in};
 use crate::given_fields::given_fields;
@@ -53,6 +53,7 @@ pub fn program_ground<'n, 'a>(
     requires values { map filed_value values.now ≡ values_of (program_in constants.now) }
     requires schema { IsPartialSchema (program_in constants.now) (schema_of schema.now) }
     ensures program { IfOk result (λ made. ground_program made ≡ program_in constants.now) }
+    ensures schema { IfOk result (λ made. ground_schema made ≡ schema_of schema.now) }
     ensures right { IfOk result (λ made. IsProgramGround made) }
 {
     let structs = definitions.structs.as_slice();

@@ -67,18 +67,22 @@ fn last_worth(
     Ok(Some(evaluate(alloc, sources, &partial, last.file, &kind, tree)))
 }
 
-// Whether the last constant of a text has this fault at this column.
+// Whether the last constant of a text, which is behind so many bytes, has this fault so far inside it.
 fn is_fault(
     alloc: Global,
     text: &str,
-    column: usize,
+    behind: usize,
+    inside: usize,
     fault: ConstFault,
 ) -> Result<bool, AllocError> {
     let Ok(sources) = loaded(alloc, text)? else {
         return Ok(false);
     };
     match last_worth(alloc, &sources)? {
-        Some(Err((at, found))) => Ok(at.column as usize == column && found == fault),
+        Some(Err((at, found))) => {
+            let column = behind.saturating_add(inside).saturating_add(1);
+            Ok(at.column as usize == column && found == fault)
+        }
         Some(Ok(_)) | None => Ok(false),
     }
 }
@@ -89,13 +93,13 @@ fn each_type_has_its_faults(rt: HostRuntime) -> Result<(), Fail> {
         let front = format!(in rt.alloc(); "{TYPES} const {kind} A = ")?;
         let text = format!(in rt.alloc(); "{front}{value}")?;
         assert!(rt;
-            is_fault(rt.alloc(), text.as_str(), front.len() + inside + 1, *fault)?,
+            is_fault(rt.alloc(), text.as_str(), front.len(), *inside, *fault)?,
             "{text}"
         );
         let front = format!(in rt.alloc(); "{TYPES} const {kind} N = {value} const {kind} A = ")?;
         let text = format!(in rt.alloc(); "{front}N")?;
         assert!(rt;
-            is_fault(rt.alloc(), text.as_str(), front.len() + 1, *fault)?,
+            is_fault(rt.alloc(), text.as_str(), front.len(), 0, *fault)?,
             "{text}"
         );
     }
