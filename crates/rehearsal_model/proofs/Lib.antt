@@ -3,3 +3,6 @@ pub mod Leading
 pub mod Sufficing
 pub mod Ample
 pub mod NotFed
+pub mod Growing
+pub mod Written
+pub mod Ruling

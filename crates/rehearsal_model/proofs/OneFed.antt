@@ -24,7 +24,7 @@ use Rattle.rehearsal_model.specs.RestLines.{opened_by, opened_in}
 use Rattle.rehearsal_model.specs.Fed.{IsReadFrom, IsFedBy, script_of_one}
 
 -- what holds of all elements holds of one among them
-all_at : {X : Type 0} (P : X → Type 0) (xs ys : List X) (x : X) → AllByRecursion P (xs ++ x ∷ ys) → P x
+pub all_at : {X : Type 0} (P : X → Type 0) (xs ys : List X) (x : X) → AllByRecursion P (xs ++ x ∷ ys) → P x
 all_at P [] ys x a = a.0
 all_at P (z ∷ xs) ys x a = all_at P xs ys x a.1
 

@@ -3,18 +3,19 @@
 ghost use Rattle.std.specs.Prelude.{◌≡◌, ℕ, ◌<◌, ◌^◌, true, List, [], ◌∷◌};
 ghost use Rattle.outside.specs.declared.marks.Mark.{Mark};
 ghost use Rattle.host_model.specs.declared.cause.EndCause.{EndCause};
-ghost use Rattle.host_model.specs.Journal.{JournalEntry, ServiceRules};
+ghost use Rattle.host_model.specs.Journal.{JournalEntry, ServiceRules, entries_of};
 ghost use Rattle.host_model.specs.DeskRules.{DeskRules};
 ghost use Rattle.host_model.specs.Headline.{Headline};
 ghost use Rattle.script_model.specs.Arrival.{arrival_of};
 ghost use Rattle.script_model.specs.Rehearsal.{is_scripted, IsRunOn};
 ghost use Rattle.machine_model.specs.Machine.{Cell, MachineEvent, EventsLead, IsFirst, HaveAllEnded};
 ghost use Rattle.rehearsal_model.specs.ScriptLines.{ScriptPlan};
+ghost use Rattle.rehearsal_model.specs.Writing.{KeepsItsRules};
 ghost use Rattle.rehearsal_model.specs.Fed.{IsFedBy, script_of_one};
 ghost use Rattle.rehearsal_model.specs.Playing.{MemoryAt, always_ample};
 ghost use Rattle.rehearsal_model.specs.Rehearsing.{IsRehearsalOf};
 
-use machine_model::laws::{every_run_meets, plain_machine_runs};
+use machine_model::laws::{every_cell_keeps, every_run_meets, plain_machine_runs};
 
 /// A run on the pieces of one connection is one that the script of these pieces feeds; and a run that it feeds, which meets the headline and ended as such
 /// scripts can, is a run on these pieces.
@@ -43,4 +44,16 @@ pub fn a_rehearsal_is_a_run<C, A, M>()
 {
     plain_machine_runs::<C, A, M>();
     every_run_meets::<C, A, M>();
+}
+
+/// In a rehearsal, however memory is, each write is under the rule of its connection whose turn it is: it takes all that is left of what was to be sent by
+/// then, or as much of it as the rule allows, or it fails where the rule says so. The journal is that of the end, whatever was called behind the write.
+pub fn rehearsed_writes_keep_their_rules<C, A, M>()
+    ensures { (d : DeskRules C A) (r : ServiceRules C A M) (memories : List M) (memory : ℕ → MemoryAt) (budget workers : ℕ) (script : ScriptPlan) (wants : ℕ)
+        (first last : Cell C A M) (c : ℕ) →
+        d.max < 2 ^ 31 → IsFirst memories first → IsRehearsalOf d r memory budget workers script wants first last →
+        KeepsItsRules d script c (entries_of c last.hall.journal) last.loop.tape }
+{
+    plain_machine_runs::<C, A, M>();
+    every_cell_keeps::<C, A, M>();
 }
