@@ -3,6 +3,7 @@ pub mod Leading
 pub mod Sufficing
 pub mod Ample
 pub mod NotFed
+pub mod Stepping
 pub mod Growing
 pub mod Written
 pub mod Ruling

@@ -1,6 +1,5 @@
 -- In a rehearsal each write is by the rule whose turn it is.
-use Rattle.std.proofs.Common.{◌≡◌, ℕ, zero, suc, ◌+◌, ◌-◌, ◌<◌, ◌≤◌, ◌⊎◌, inl, inr, min, not, nat_lt, nat_le, Bool, true, false, ◌==◌, if◌then◌else◌, Option, None, Some, List, [], ◌∷◌, ◌++◌, map, filter, length, take, drop, refl, sym, ap, ◌∙◌, subst, option_map, arith, append-nil, length-take, take_all}
-use Rattle.std.specs.Prelude.{option_and_then}
+use Rattle.std.proofs.Common.{◌≡◌, ℕ, suc, ◌+◌, ◌-◌, ◌<◌, ◌≤◌, ◌⊎◌, inl, inr, min, not, nat_lt, nat_le, if◌then◌else◌, Option, None, Some, List, [], ◌∷◌, ◌++◌, map, filter, length, take, drop, refl, sym, ap, ◌∙◌, subst, option_map, arith, append-nil, length-take, take_all}
 use Rattle.std.proofs.lemmas.Bool.{cases_eq, cases_lt}
 use Rattle.outside.specs.declared.marks.Mark.{Mark}
 use Rattle.outside.specs.declared.marks.Mark.TheVariants.{Wrote, WriteFailed, Closed}
@@ -20,11 +19,12 @@ use Rattle.machine_model.proofs.Lists.{put_same, put_other}
 use Rattle.machine_model.proofs.Merging.{runs-append}
 use Rattle.machine_model.proofs.Standing.{clear_by_left}
 use Rattle.machine_model.proofs.Taping.{AllOf}
-use Rattle.rehearsal_model.specs.ScriptLines.{PlanLine, opening, piece, input_end, input_fault, resting, turn_of_conn, turn_of_worker, turn_of_outcome, PlanRule, takes_most, blocks, fails, ScriptPlan, rules_of, governs, rule_of, count_up}
+use Rattle.rehearsal_model.specs.ScriptLines.{PlanLine, opening, piece, input_end, input_fault, resting, turn_of_conn, turn_of_worker, turn_of_outcome, PlanRule, takes_most, blocks, fails, ScriptPlan, rules_of, governs, rule_of}
 use Rattle.rehearsal_model.specs.Writing.{writes_in, KeepsItsRules}
 use Rattle.rehearsal_model.specs.Playing.{InputFinish, finishes, faults, MemoryAt, ample, lacking, lacking_for_call, lacking_for_answer, is_ample, Play, most_read, at_number, pieces_left, moved_on, all_admitted, event_on, or_else, told_without, told_wanting, by_memory, admission, freed, freed_if_over, with_rules, with_unread, told_in, on_one, read_behind, read_move, write_move, size_move, open_move, conn_move, step_of_worker, worker_move, collect_first, collect_move}
-use Rattle.rehearsal_model.specs.Rehearsing.{workers_among, is_idle, left_by, goes_on_with, until_still, work_through, all_read, all_work, pass, drain, line_done, lines_done, before_all, IsRehearsalOf}
+use Rattle.rehearsal_model.specs.Rehearsing.{drain, line_done, lines_done, before_all, IsRehearsalOf}
 use Rattle.rehearsal_model.proofs.Growing.{AreNoWrites, TellsNoWrite, Grows, Growing, grows_so}
+use Rattle.rehearsal_model.proofs.Stepping.{Holds, mapped, either, or_keeps, and_keeps, left_keeps, drain_keeps}
 use Rattle.rehearsal_model.proofs.Written.{EachMark, none_there, writes-append, next_left, none_left, IsPartUnder, IsRuled, ruled_on, ruled_first, keeps_rules, AreRulesLeft, rules_stay, rules_changed}
 
 -- so many at most of what is left
@@ -50,11 +50,6 @@ module _ {C A M : Type 0} (d : DeskRules C A) (r : ServiceRules C A M) (memory :
   -- it is so of a play
   abbrev Kept : Play C A M → Type 0
   Kept play = Ruled play.cell play.rules
-
-  -- where there is a play, this holds of it
-  abbrev Holds : (Play C A M → Type 0) → Option (Play C A M) → Type 0
-  Holds Q None = Unit {0}
-  Holds Q (Some play) = Q play
 
   abbrev Keeping : Option (Play C A M) → Type 0
   Keeping o = Holds Kept o
@@ -153,31 +148,6 @@ module _ {C A M : Type 0} (d : DeskRules C A) (r : ServiceRules C A M) (memory :
           writes_on old new (goes (on_conn (fails_write c))) c (WriteFailed c) (Closed c ∷ []) rules others e (ap (λ (cell : Cell C A M). cell.loop.tape) is)
           (ap (λ (cell : Cell C A M). cell.hall.journal) is) (refl, (refl, tt)) refl (refl, tt) same after so k
 
-  either : (b : Bool) (x y : Option (Play C A M)) → Keeping x → Keeping y → Keeping (if b then x else y)
-  either true x y a b = a
-  either false x y a b = b
-
-  mapped : (Q R : Play C A M → Type 0) (f : Play C A M → Play C A M) (o : Option (Play C A M)) → ((play : Play C A M) → Q play → R (f play)) → Holds Q o → Holds R (option_map f o)
-  mapped Q R f None on a = tt
-  mapped Q R f (Some play) on a = on play a
-
-  or_keeps : (x y : Option (Play C A M)) → Keeping x → Keeping y → Keeping (or_else x y)
-  or_keeps None y a b = b
-  or_keeps (Some x) y a b = a
-
-  and_keeps : (f : Play C A M → Option (Play C A M)) (o : Option (Play C A M)) → Keeping o → ((play : Play C A M) → Kept play → Keeping (f play)) → Keeping (option_and_then f o)
-  and_keeps f None a each = tt
-  and_keeps f (Some play) a each = each play a
-
-  goes_keeps : (play : Play C A M) (o : Option (Play C A M)) (again : Play C A M → Option (Play C A M)) → Kept play → Keeping o → ((next : Play C A M) → Kept next → Keeping (again next))
-      → Keeping (goes_on_with play o again)
-  goes_keeps play None again k a each = k
-  goes_keeps play (Some next) again k a each = each next a
-
-  left_keeps : (play : Play C A M) (o : Option (Play C A M)) → Kept play → Keeping o → Kept (left_by play o)
-  left_keeps play None k a = k
-  left_keeps play (Some next) k a = a
-
   told_keeps : (play : Play C A M) (told : Told) → TellsNoWrite told → Kept play → Keeping (told_in d r play told)
   told_keeps play told q k = go (told_plain d r play.cell told) refl
     where
@@ -193,7 +163,7 @@ module _ {C A M : Type 0} (d : DeskRules C A) (r : ServiceRules C A M) (memory :
       go (Some cell) e = quiet play.cell cell told play.rules q e k
 
   memory_keeps : (play : Play C A M) (at : MemoryAt) (told : Told) (o : Option (Play C A M)) → TellsNoWrite told → Kept play → Keeping o → Keeping (by_memory d r at play told o)
-  memory_keeps play at told o q k a = either (is_ample at) o (or_else (told_wanting d r play told) o) a (or_keeps (told_wanting d r play told) o (wanting_keeps play told q k) a)
+  memory_keeps play at told o q k a = either Kept (is_ample at) o (or_else (told_wanting d r play told) o) a (or_keeps Kept (told_wanting d r play told) o (wanting_keeps play told q k) a)
 
   one_keeps : (play : Play C A M) (c : ℕ) (conn_event : ConnEvent) → TellsNoWrite (goes (on_conn conn_event)) → Kept play → Keeping (on_one d r play c conn_event)
   one_keeps play c conn_event q k = mapped Kept Kept (freed_if_over c) (told_in d r play (goes (on_conn conn_event))) (λ p a. a) (told_keeps play (goes (on_conn conn_event)) q k)
@@ -263,7 +233,7 @@ module _ {C A M : Type 0} (d : DeskRules C A) (r : ServiceRules C A M) (memory :
   size_keeps : (budget : ℕ) (play : Play C A M) (c : ℕ) (held : List ℕ) (size : Option ℕ) → Kept play → Keeping (size_move d r memory budget play c held size)
   size_keeps budget play c held (Some size) k = read_keeps play c ((4 + size) - length held) (play.unread c) k
   size_keeps budget play c held None k =
-      either (nat_le (all_admitted play + size_in held) budget) (admission d r memory play c (size_in held)) None (admission_keeps play c (size_in held) k) tt
+      either Kept (nat_le (all_admitted play + size_in held) budget) (admission d r memory play c (size_in held)) None (admission_keeps play c (size_in held) k) tt
 
   open_keeps : (budget c : ℕ) (play : Play C A M) → Kept play → Keeping (open_move d r memory budget play c (play.cell.loop.conns c))
   open_keeps budget c play k =
@@ -273,13 +243,13 @@ module _ {C A M : Type 0} (d : DeskRules C A) (r : ServiceRules C A M) (memory :
       let reading : Option (Play C A M) = if nat_lt (length conn.held) 4 then sizing else sized in
       let waiting : Option (Play C A M) = if nat_lt conn.collected conn.submitted then None else reading in
       let submitting : Option (Play C A M) = if nat_lt conn.submitted (length conn.payloads) then told_in d r play (goes (submits c)) else waiting in
-      either (not (is_empty conn.left)) (write_move d r play c conn.left (play.rules c)) submitting (write_keeps play c (play.rules c) refl k)
-      (either (nat_lt conn.submitted (length conn.payloads)) (told_in d r play (goes (submits c))) waiting (told_keeps play (goes (submits c)) tt k)
-      (either (nat_lt conn.collected conn.submitted) None reading tt
-      (either (nat_lt (length conn.held) 4) sizing sized (read_keeps play c (4 - length conn.held) (play.unread c) k) (size_keeps budget play c conn.held (play.admitted c) k))))
+      either Kept (not (is_empty conn.left)) (write_move d r play c conn.left (play.rules c)) submitting (write_keeps play c (play.rules c) refl k)
+      (either Kept (nat_lt conn.submitted (length conn.payloads)) (told_in d r play (goes (submits c))) waiting (told_keeps play (goes (submits c)) tt k)
+      (either Kept (nat_lt conn.collected conn.submitted) None reading tt
+      (either Kept (nat_lt (length conn.held) 4) sizing sized (read_keeps play c (4 - length conn.held) (play.unread c) k) (size_keeps budget play c conn.held (play.admitted c) k))))
 
   conn_keeps : (budget c : ℕ) (play : Play C A M) → Kept play → Keeping (conn_move d r memory budget c play)
-  conn_keeps budget c play k = either (is_open play.cell.loop c) (open_move d r memory budget play c (play.cell.loop.conns c)) None (open_keeps budget c play k) tt
+  conn_keeps budget c play k = either Kept (is_open play.cell.loop c) (open_move d r memory budget play c (play.cell.loop.conns c)) None (open_keeps budget c play k) tt
 
   no_write_on : (w : ℕ) (decision : DeskDecision C) → TellsNoWrite (goes (event_on d r w decision))
   no_write_on w (Invoke call) = tt
@@ -320,56 +290,23 @@ module _ {C A M : Type 0} (d : DeskRules C A) (r : ServiceRules C A M) (memory :
   collect_keeps : (play : Play C A M) → Kept play → Keeping (collect_move d r play)
   collect_keeps play k = first_keeps play play.cell.hall.outcomes k
 
-  still_keeps : (n : ℕ) (move : Play C A M → Option (Play C A M)) → ((play : Play C A M) → Kept play → Keeping (move play)) → (play : Play C A M) → Kept play → Keeping (until_still n move play)
-  still_keeps zero move each play k = goes_keeps play (move play) (λ next. None) k (each play k) (λ next a. tt)
-  still_keeps (suc n) move each play k = goes_keeps play (move play) (λ next. until_still n move next) k (each play k) (λ next a. still_keeps n move each next a)
-
-  through_keeps : (n w : ℕ) (play : Play C A M) → Kept play → Keeping (work_through d r memory n w play)
-  through_keeps zero w play k = k
-  through_keeps (suc n) w play k =
-      goes_keeps play (worker_move d r memory w play) (λ next. if is_idle (next.cell.workers w) then Some next else work_through d r memory n w next) k (worker_keeps w play k)
-      (λ next a. either (is_idle (next.cell.workers w)) (Some next) (work_through d r memory n w next) a (through_keeps n w next a))
-
-  all_read_keeps : (fuel budget : ℕ) (cs : List ℕ) (play : Play C A M) → Kept play → Keeping (all_read d r memory fuel budget cs play)
-  all_read_keeps fuel budget [] play k = k
-  all_read_keeps fuel budget (c ∷ cs) play k =
-      and_keeps (λ next. all_read d r memory fuel budget cs next) (until_still fuel (conn_move d r memory budget c) play)
-      (still_keeps fuel (conn_move d r memory budget c) (conn_keeps budget c) play k) (λ next a. all_read_keeps fuel budget cs next a)
-
-  all_work_keeps : (ws : List ℕ) (play : Play C A M) → Kept play → Keeping (all_work d r memory ws play)
-  all_work_keeps [] play k = k
-  all_work_keeps (w ∷ ws) play k =
-      and_keeps (λ next. all_work d r memory ws next) (work_through d r memory 3 w play) (through_keeps 3 w play k) (λ next a. all_work_keeps ws next a)
-
-  pass_keeps : (fuel budget workers : ℕ) (play : Play C A M) → Kept play → Keeping (pass d r memory fuel budget workers play)
-  pass_keeps fuel budget workers play k =
-      and_keeps (λ next. until_still fuel (collect_move d r) next)
-      (option_and_then (λ next. all_work d r memory (count_up 0 (workers_among workers)) next) (all_read d r memory fuel budget (count_up 0 play.cell.loop.count) play))
-      (and_keeps (λ next. all_work d r memory (count_up 0 (workers_among workers)) next) (all_read d r memory fuel budget (count_up 0 play.cell.loop.count) play)
-      (all_read_keeps fuel budget (count_up 0 play.cell.loop.count) play k) (λ next a. all_work_keeps (count_up 0 (workers_among workers)) next a))
-      (λ next a. still_keeps fuel (collect_move d r) collect_keeps next a)
-
-  drain_keeps : (n fuel budget workers : ℕ) (play : Play C A M) → Kept play → Keeping (drain d r memory n fuel budget workers play)
-  drain_keeps zero fuel budget workers play k = tt
-  drain_keeps (suc n) fuel budget workers play k =
-      and_keeps (λ next. if next.moves == play.moves then Some play else drain d r memory n fuel budget workers next) (pass d r memory fuel budget workers play)
-      (pass_keeps fuel budget workers play k)
-      (λ next a. either (next.moves == play.moves) (Some play) (drain d r memory n fuel budget workers next) k (drain_keeps n fuel budget workers next a))
+  drained : (fuel budget workers : ℕ) (play : Play C A M) → Kept play → Keeping (drain d r memory fuel fuel budget workers play)
+  drained fuel budget workers play k = drain_keeps d r memory Kept conn_keeps worker_keeps collect_keeps fuel fuel budget workers play k
 
   line_keeps : (fuel budget workers : ℕ) (play : Play C A M) (line : PlanLine) → Kept play → Keeping (line_done d r memory fuel budget workers play line)
-  line_keeps fuel budget workers play opening k = left_keeps play (told_in d r play (goes (on_conn opens))) k (told_keeps play (goes (on_conn opens)) tt k)
+  line_keeps fuel budget workers play opening k = left_keeps Kept play (told_in d r play (goes (on_conn opens))) k (told_keeps play (goes (on_conn opens)) tt k)
   line_keeps fuel budget workers play (piece c bytes) k = k
   line_keeps fuel budget workers play (input_end c) k = k
   line_keeps fuel budget workers play (input_fault c) k = k
-  line_keeps fuel budget workers play resting k = drain_keeps fuel fuel budget workers play k
-  line_keeps fuel budget workers play (turn_of_conn c) k = left_keeps play (conn_move d r memory budget c play) k (conn_keeps budget c play k)
-  line_keeps fuel budget workers play (turn_of_worker w) k = left_keeps play (worker_move d r memory w play) k (worker_keeps w play k)
-  line_keeps fuel budget workers play turn_of_outcome k = left_keeps play (collect_move d r play) k (collect_keeps play k)
+  line_keeps fuel budget workers play resting k = drained fuel budget workers play k
+  line_keeps fuel budget workers play (turn_of_conn c) k = left_keeps Kept play (conn_move d r memory budget c play) k (conn_keeps budget c play k)
+  line_keeps fuel budget workers play (turn_of_worker w) k = left_keeps Kept play (worker_move d r memory w play) k (worker_keeps w play k)
+  line_keeps fuel budget workers play turn_of_outcome k = left_keeps Kept play (collect_move d r play) k (collect_keeps play k)
 
   lines_keep : (fuel budget workers : ℕ) (lines : List PlanLine) (play : Play C A M) → Kept play → Keeping (lines_done d r memory fuel budget workers lines play)
-  lines_keep fuel budget workers [] play k = drain_keeps fuel fuel budget workers play k
+  lines_keep fuel budget workers [] play k = drained fuel budget workers play k
   lines_keep fuel budget workers (line ∷ lines) play k =
-      and_keeps (λ next. lines_done d r memory fuel budget workers lines next) (line_done d r memory fuel budget workers play line) (line_keeps fuel budget workers play line k)
+      and_keeps Kept (λ next. lines_done d r memory fuel budget workers lines next) (line_done d r memory fuel budget workers play line) (line_keeps fuel budget workers play line k)
       (λ next a. lines_keep fuel budget workers lines next a)
 
   -- at the start no write was made, and all rules are left
