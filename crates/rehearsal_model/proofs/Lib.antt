@@ -7,3 +7,5 @@ pub mod Stepping
 pub mod Growing
 pub mod Written
 pub mod Ruling
+pub mod Remaining
+pub mod FedSoFar

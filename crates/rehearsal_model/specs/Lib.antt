@@ -5,3 +5,4 @@ pub mod Fed
 pub mod Playing
 pub mod Rehearsing
 pub mod Rows
+pub mod InputEnds

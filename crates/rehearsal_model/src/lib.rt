@@ -12,3 +12,4 @@
 
 pub mod examples;
 pub mod laws;
+pub mod reading;
