@@ -42,7 +42,7 @@ back_nil (x ∷ xs) ys e = absurd (cons_nil x (xs ++ ys) e)
     cons_nil x xs e = cc
 
 -- The size that is admitted is that of the frame under way, or its payload is whole and isn't collected.
-abbrev HasItsSize : LoopConn → ℕ → Type 0
+abbrev pub HasItsSize : LoopConn → ℕ → Type 0
 HasItsSize conn n = (conn.collected < length conn.payloads) ⊎ ((4 ≤ length conn.held) × (n ≡ size_in conn.held))
 
 module _ (max : ℕ) (script : ScriptPlan) where
@@ -261,7 +261,7 @@ module _ (max : ℕ) (script : ScriptPlan) where
           (fed c (λ n a. (l, none, inr (four, sym (same_Some _ n (sym (put_same admitted c (Some (size_in (loop.conns c).held))) ∙ a))))))
       go x (inr n) = fed x (λ k a. (f.each x).size k (sym (put_other admitted c (Some (size_in (loop.conns c).held)) x n) ∙ a))
 
-  kept_open : (cause : Option EndCause) (size : Option ℕ) (n : ℕ) → kept_while_open cause size ≡ Some n → size ≡ Some n
+  pub kept_open : (cause : Option EndCause) (size : Option ℕ) (n : ℕ) → kept_while_open cause size ≡ Some n → size ≡ Some n
   kept_open None size n e = e
   kept_open (Some cause) size n e = absurd (none-some n e)
 

@@ -9,3 +9,4 @@ pub mod Written
 pub mod Ruling
 pub mod Remaining
 pub mod FedSoFar
+pub mod FedReads
