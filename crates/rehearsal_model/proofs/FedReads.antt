@@ -1,5 +1,5 @@
 -- A rehearsal opens its connections in order, and reads what its script brings.
-use Rattle.std.proofs.Common.{◌≡◌, ◌≢◌, ℕ, zero, suc, ◌+◌, ◌-◌, ◌^◌, ◌<◌, ◌≤◌, ◌⊎◌, min, not, nat_lt, nat_le, Bool, true, false, ◌==◌, if◌then◌else◌, Option, None, Some, List, [], ◌∷◌, ◌++◌, map, length, take, drop, slice_get, refl, sym, ap, ◌∙◌, subst, inl, inr, option_map, arith, append_assoc, append-nil}
+use Rattle.std.proofs.Common.{◌≡◌, ◌≢◌, ℕ, zero, suc, ◌+◌, ◌-◌, ◌^◌, ◌<◌, ◌≤◌, ◌⊎◌, min, not, nat_lt, nat_le, Bool, true, false, ◌||◌, ◌==◌, if◌then◌else◌, Option, None, Some, List, [], ◌∷◌, ◌++◌, map, length, take, drop, slice_get, refl, sym, ap, ◌∙◌, subst, inl, inr, option_map, arith, append_assoc, append-nil, eq-eqb, ne_eqb}
 use Rattle.std.specs.Prelude.{option_and_then}
 use Rattle.std.proofs.lemmas.Bool.{cases_eq, and_parts, ltb-true, ltb-false, lt-ltb, false≢true}
 use Rattle.std.proofs.lemmas.Option.{none-some, same_Some}
@@ -14,21 +14,23 @@ use Rattle.host_model.specs.World.{end_behind}
 use Rattle.machine_model.specs.HallState.{Job, JobOutcome}
 use Rattle.machine_model.specs.Loop.{LoopConn, Loop, most_open, open_among, count_if_open, OwesNothing, FrameProgress, read_more, marks_read, changed, with_cause, submitted_more, conn_settled, conn_marks_settled, ConnEvent, opens, reads, ends, fails_read, writes, fails_write, gives_up}
 use Rattle.machine_model.specs.Worker.{WorkerState, idle, holds, has_answer, has_none}
-use Rattle.machine_model.specs.Machine.{Cell, MachineEvent, on_conn, submits, takes, applies, puts, collects, closes, Steps, EventsLead}
+use Rattle.machine_model.specs.Machine.{Cell, MachineEvent, on_conn, submits, takes, applies, puts, collects, closes, Steps, EventsLead, IsFirst}
 use Rattle.machine_model.specs.Plain.{when, is_empty, has_none_yet, is_open, progress_by, Moved, progress_plain, reads_plain, moved_plain, opened_plain, conn_event_plain, Told, goes, applies_so, puts_none, lacks_for_call, lacks_for_answer, event_told, with_loop, submit_plain, collect_plain, told_plain, run_plain}
 use Rattle.machine_model.specs.AtFronts.{size_in}
 use Rattle.machine_model.proofs.Computing.{passed}
 use Rattle.machine_model.proofs.Lists.{put_same, put_other}
-use Rattle.machine_model.proofs.Taping.{AllOf, TapeTells}
+use Rattle.machine_model.proofs.Taping.{AllOf, TapeTells, nothing_told}
 use Rattle.machine_model.proofs.Budgeting.{step_told}
 use Rattle.script_model.specs.Arrival.{bytes_of_pieces}
 use Rattle.script_model.specs.Feeding.{Completes}
-use Rattle.rehearsal_model.specs.ScriptLines.{PlanLine, opening, piece, input_end, input_fault, resting, turn_of_conn, turn_of_worker, turn_of_outcome, PlanRule, takes_most, blocks, fails, ScriptPlan, openings, piece_by, pieces_on, ends_input, fails_input, some_line, count_up}
+use Rattle.rehearsal_model.specs.ScriptLines.{PlanLine, opening, piece, input_end, input_fault, resting, turn_of_conn, turn_of_worker, turn_of_outcome, PlanRule, takes_most, blocks, fails, ScriptPlan, one_if_opens, openings, piece_by, pieces_on, ends_input, fails_input, some_line, count_up}
 use Rattle.rehearsal_model.specs.InputEnds.{EndsBehindPieces}
 use Rattle.rehearsal_model.specs.RestLines.{opened_in}
+use Rattle.rehearsal_model.specs.Fed.{IsReadFrom}
 use Rattle.rehearsal_model.specs.Playing.{InputFinish, finishes, faults, MemoryAt, ample, lacking, lacking_for_call, lacking_for_answer, is_ample, Play, most_read, at_number, kept_while_open, pieces_left, moved_on, all_admitted, event_on, or_else, told_without, told_wanting, by_memory, admission, freed, freed_if_over, with_rules, with_unread, told_in, on_one, read_behind, read_move, write_move, size_move, open_move, conn_move, step_of_worker, worker_move, collect_first, collect_move}
-use Rattle.rehearsal_model.proofs.Remaining.{Remains, remains_read, part_read, left-append, size_completes, frame_completes}
-use Rattle.rehearsal_model.proofs.FedSoFar.{HasItsSize, MarkIsFed, MarksAreFed, fed_push, fed_two, Finishing, ConnIsFed, IsFedSoFar, one_fed, changed_fed, ended_conn, opened_fed, line_fed, finish_on, nothing_left, settled_fed, admitted_fed, kept_open, read_conn, read_marks}
+use Rattle.rehearsal_model.specs.Rehearsing.{workers_among, is_idle, left_by, goes_on_with, until_still, work_through, all_read, all_work, pass, drain, line_done, lines_done, before_all, IsRehearsalOf}
+use Rattle.rehearsal_model.proofs.Remaining.{Remains, all_remains, remains_read, part_read, left-append, size_completes, frame_completes}
+use Rattle.rehearsal_model.proofs.FedSoFar.{HasItsSize, MarkIsFed, MarksAreFed, no_marks, fed_push, fed_two, Finishing, ConnIsFed, IsFedSoFar, one_fed, changed_fed, ended_conn, opened_fed, line_fed, finish_on, nothing_left, settled_fed, admitted_fed, kept_open, read_conn, read_marks}
 
 module _ {X : Type 0} where
   -- what holds of an option's value, where there is one
@@ -74,6 +76,16 @@ read_is max loop new c bytes e =
     go true None e = absurd (none-some new e)
     go true (Some progress) e = (progress, refl, sym (same_Some _ new e))
 
+-- a line that passes the test is one that does
+some_at : (test : PlanLine → Bool) (above : List PlanLine) (line : PlanLine) (behind : List PlanLine) → test line ≡ true → some_line test (above ++ line ∷ behind) ≡ true
+some_at test [] line behind e = ap (λ b. b || some_line test behind) e
+some_at test (x ∷ above) line behind e = ap (λ b. test x || b) (some_at test above line behind e) ∙ or_true (test x)
+  where
+    or_true : (b : Bool) → (b || true) ≡ true
+    or_true true = refl
+    or_true false = refl
+
+-- of the first n, no more than n are open
 open_within : (conns : ℕ → LoopConn) (n : ℕ) → open_among conns n ≤ n
 open_within conns zero = omega arith
 open_within conns (suc n) =
@@ -341,3 +353,239 @@ module _ {C A M : Type 0} (d : DeskRules C A) (r : ServiceRules C A M) (memory :
     write_fed play c left (takes_most count ∷ rules) f = mapped_holds Fed (with_rules c rules) (on_one d r play c (writes c (min count (length left)))) (wrote_fed play c (min count (length left)) f)
     write_fed play c left (blocks ∷ rules) f = f
     write_fed play c left (fails ∷ rules) f = mapped_holds Fed (with_rules c rules) (on_one d r play c (fails_write c)) (write_fails_fed play c f)
+
+    -- a frame is admitted, or its connection is given up
+    admission_fed : (play : Play C A M) (c : ℕ) → Fed play → c < play.cell.loop.count → (play.cell.loop.conns c).cause ≡ None → play.admitted c ≡ None → 4 ≤ length (play.cell.loop.conns c).held
+        → Holds Fed (admission d r memory play c (size_in (play.cell.loop.conns c).held))
+    admission_fed play c f within is_open none four =
+        by_memory_fed play (memory play.moves) (goes (on_conn (gives_up c NoMemory))) _ (wanting_holds Fed play (goes (on_conn (gives_up c NoMemory))) (λ cell e s. go cell s))
+        (admitted_fed d.max script rest play.cell.loop play.unread play.finish play.admitted c f within is_open four)
+      where
+        go : (cell : Cell C A M) → Steps d r play.cell (on_conn (gives_up c NoMemory)) cell → IsFedSoFar d.max script rest cell.loop play.unread play.finish play.admitted
+        go cell s =
+            let old : Loop = play.cell.loop in
+            let read : List ℕ = input (marks_of c old.tape) in
+            let conn : LoopConn = with_cause (old.conns c) NoMemory in
+            let is : cell.loop ≡ changed old c conn (Closed c ∷ []) = ap (λ (x : Cell C A M). x.loop) s.2 ∙ s.1.2 in
+            subst (λ (x : Loop). IsFedSoFar d.max script rest x play.unread play.finish play.admitted) (sym is)
+            (changed_fed d.max script rest old play.unread play.unread play.finish play.admitted play.admitted c conn (Closed c ∷ []) f (refl, tt) refl
+            (subst (TapeTells d.max) is (step_told d r play.cell (on_conn (gives_up c NoMemory)) cell f.tells s)) (fed_push d.max script old.tape (Closed c) f.marks tt) (λ x n. refl) (λ x n. refl)
+            (subst (ConnIsFed d.max script rest c old.count conn (read ++ input (Closed c ∷ [])) (play.unread c) (play.finish c)) (sym none)
+            (ended_conn d.max script rest c old.count conn NoMemory (read ++ input (Closed c ∷ [])) (play.unread c) (play.finish c) refl
+            (subst (λ b. Remains (pieces_on c script.lines) b (play.unread c ++ pieces_on c rest)) (sym (append-nil read)) (f.each c).remains) (f.each c).finishing)))
+
+    size_fed : (budget : ℕ) (play : Play C A M) (c : ℕ) → Fed play → c < play.cell.loop.count → (play.cell.loop.conns c).cause ≡ None → 4 ≤ length (play.cell.loop.conns c).held
+        → Holds Fed (size_move d r memory budget play c (play.cell.loop.conns c).held (play.admitted c))
+    size_fed budget play c f within is_open four = go (play.admitted c) refl
+      where
+        held_now : List ℕ
+        held_now = (play.cell.loop.conns c).held
+        go : (size : Option ℕ) → play.admitted c ≡ size
+            → Holds (λ (p : Play C A M). IsFedSoFar d.max script rest p.cell.loop p.unread p.finish p.admitted) (size_move d r memory budget play c (play.cell.loop.conns c).held size)
+        go None is =
+            either_holds (λ (p : Play C A M). IsFedSoFar d.max script rest p.cell.loop p.unread p.finish p.admitted) (nat_le (all_admitted play + size_in (play.cell.loop.conns c).held) budget)
+            (admission d r memory play c (size_in (play.cell.loop.conns c).held)) None (λ e. admission_fed play c f within is_open is four) (λ e. tt)
+        go (Some size) is = read_fed play c ((4 + size) - length (play.cell.loop.conns c).held) f (λ none l owes. by owes ((f.each c).size size is).2)
+          where
+            by : OwesNothing (play.cell.loop.conns c) → HasItsSize (play.cell.loop.conns c) size
+                → Completes d.max (play.cell.loop.conns c).held ((4 + size) - length (play.cell.loop.conns c).held)
+            by owes (inl less) = let all : (play.cell.loop.conns c).collected ≡ length (play.cell.loop.conns c).payloads = owes.0 in absurd (let g : ⊥ = omega arith in g)
+            by owes (inr t) = frame_completes d.max size (play.cell.loop.conns c).held small four ((f.each c).holds_less within is_open) t.1
+
+    open_fed : (budget : ℕ) (play : Play C A M) (c : ℕ) → Fed play → c < play.cell.loop.count → (play.cell.loop.conns c).cause ≡ None
+        → Holds Fed (open_move d r memory budget play c (play.cell.loop.conns c))
+    open_fed budget play c f within is_open =
+        let conn : LoopConn = play.cell.loop.conns c in
+        let sizing : Option (Play C A M) = read_move d r play c (4 - length conn.held) (play.unread c) in
+        let sized : Option (Play C A M) = size_move d r memory budget play c conn.held (play.admitted c) in
+        let reading : Option (Play C A M) = if nat_lt (length conn.held) 4 then sizing else sized in
+        let waiting : Option (Play C A M) = if nat_lt conn.collected conn.submitted then None else reading in
+        let submitting : Option (Play C A M) = if nat_lt conn.submitted (length conn.payloads) then told_in d r play (goes (submits c)) else waiting in
+        either_holds Fed (not (is_empty conn.left)) (write_move d r play c conn.left (play.rules c)) submitting (λ e. write_fed play c conn.left (play.rules c) f)
+        (λ e. either_holds Fed (nat_lt conn.submitted (length conn.payloads)) (told_in d r play (goes (submits c))) waiting (λ k. submit_fed play c f)
+        (λ k. either_holds Fed (nat_lt conn.collected conn.submitted) None reading (λ m. tt)
+        (λ m. either_holds Fed (nat_lt (length conn.held) 4) sizing sized (λ l. read_fed play c (4 - length conn.held) f (λ n b owes. size_completes d.max conn.held (ltb-true (length conn.held) 4 l)))
+        (λ l. size_fed budget play c f within is_open (ltb-false (length conn.held) 4 l)))))
+
+    conn_fed : (budget c : ℕ) (play : Play C A M) → Fed play → Holds Fed (conn_move d r memory budget c play)
+    conn_fed budget c play f =
+        either_holds Fed (is_open play.cell.loop c) (open_move d r memory budget play c (play.cell.loop.conns c)) None
+        (λ e. let t : (c < play.cell.loop.count) × ((play.cell.loop.conns c).cause ≡ None) = is_open_so play.cell.loop c e in open_fed budget play c f t.0 t.1) (λ e. tt)
+
+    -- moves one after another
+    goes_fed : (play : Play C A M) (o : Option (Play C A M)) (again : Play C A M → Option (Play C A M)) → Fed play → Holds Fed o → ((next : Play C A M) → Fed next → Holds Fed (again next))
+        → Holds Fed (goes_on_with play o again)
+    goes_fed play None again f a each = f
+    goes_fed play (Some next) again f a each = each next a
+
+    left_fed : (play : Play C A M) (o : Option (Play C A M)) → Fed play → Holds Fed o → Fed (left_by play o)
+    left_fed play None f a = f
+    left_fed play (Some next) f a = a
+
+    still_fed : (n : ℕ) (move : Play C A M → Option (Play C A M)) → ((play : Play C A M) → Fed play → Holds Fed (move play)) → (play : Play C A M) → Fed play → Holds Fed (until_still n move play)
+    still_fed zero move each play f = goes_fed play (move play) (λ next. None) f (each play f) (λ next a. tt)
+    still_fed (suc n) move each play f = goes_fed play (move play) (λ next. until_still n move next) f (each play f) (λ next a. still_fed n move each next a)
+
+    through_fed : (n w : ℕ) (play : Play C A M) → Fed play → Holds Fed (work_through d r memory n w play)
+    through_fed zero w play f = f
+    through_fed (suc n) w play f =
+        goes_fed play (worker_move d r memory w play) (λ next. if is_idle (next.cell.workers w) then Some next else work_through d r memory n w next) f (worker_fed w play f)
+        (λ next a. either_holds Fed (is_idle (next.cell.workers w)) (Some next) (work_through d r memory n w next) (λ e. a) (λ e. through_fed n w next a))
+
+    all_read_fed : (fuel budget : ℕ) (cs : List ℕ) (play : Play C A M) → Fed play → Holds Fed (all_read d r memory fuel budget cs play)
+    all_read_fed fuel budget [] play f = f
+    all_read_fed fuel budget (c ∷ cs) play f =
+        and_holds Fed Fed (λ next. all_read d r memory fuel budget cs next) (until_still fuel (conn_move d r memory budget c) play)
+        (still_fed fuel (conn_move d r memory budget c) (conn_fed budget c) play f) (λ next a. all_read_fed fuel budget cs next a)
+
+    all_work_fed : (ws : List ℕ) (play : Play C A M) → Fed play → Holds Fed (all_work d r memory ws play)
+    all_work_fed [] play f = f
+    all_work_fed (w ∷ ws) play f =
+        and_holds Fed Fed (λ next. all_work d r memory ws next) (work_through d r memory 3 w play) (through_fed 3 w play f) (λ next a. all_work_fed ws next a)
+
+    pass_fed : (fuel budget workers : ℕ) (play : Play C A M) → Fed play → Holds Fed (pass d r memory fuel budget workers play)
+    pass_fed fuel budget workers play f =
+        and_holds Fed Fed (λ next. until_still fuel (collect_move d r) next) _
+        (and_holds Fed Fed (λ next. all_work d r memory (count_up 0 (workers_among workers)) next) _ (all_read_fed fuel budget (count_up 0 play.cell.loop.count) play f)
+        (λ next a. all_work_fed (count_up 0 (workers_among workers)) next a)) (λ next a. still_fed fuel (collect_move d r) collect_fed next a)
+
+    drain_fed : (n fuel budget workers : ℕ) (play : Play C A M) → Fed play → Holds Fed (drain d r memory n fuel budget workers play)
+    drain_fed zero fuel budget workers play f = tt
+    drain_fed (suc n) fuel budget workers play f =
+        and_holds Fed Fed (λ next. if next.moves == play.moves then Some play else drain d r memory n fuel budget workers next) (pass d r memory fuel budget workers play)
+        (pass_fed fuel budget workers play f)
+        (λ next a. either_holds Fed (next.moves == play.moves) (Some play) (drain d r memory n fuel budget workers next) (λ e. f) (λ e. drain_fed n fuel budget workers next a))
+
+  -- the lines of a script
+  module _ (small : d.max < 2 ^ 31) (script : ScriptPlan) where
+    -- a line that only has its turn
+    abbrev IsTurn : PlanLine → Type 0
+    IsTurn line = (one_if_opens line ≡ 0) × ((c : ℕ) → piece_by c line ≡ [])
+
+    turn_done : (line : PlanLine) (rest : List PlanLine) (play : Play C A M) → IsTurn line → Fed small script (line ∷ rest) play → Fed small script rest play
+    turn_done line rest play t f =
+        line_fed d.max script line rest play.cell.loop play.unread play.unread play.finish play.finish play.admitted f t.0
+        (λ c. sym (ap (λ p. play.unread c ++ p) (t.1 c) ∙ append-nil (play.unread c))) (λ c. finish_on d.max script line rest c (play.finish c) (f.each c).finishing)
+
+    -- one more connection is opened; that none may be is so only where the lines open too many
+    opening_done : (rest : List PlanLine) (play : Play C A M) → Fed small script (opening ∷ rest) play → Fed small script rest (left_by play (told_in d r play (goes (on_conn opens))))
+    opening_done rest play f = go (nat_lt (open_among play.cell.loop.conns play.cell.loop.count) most_open) refl
+      where
+        go : (b : Bool) → nat_lt (open_among play.cell.loop.conns play.cell.loop.count) most_open ≡ b
+            → IsFedSoFar d.max script rest (left_by play (option_map (come_to play) (with_loop play.cell (when b (Some (opened_plain play.cell.loop)))))).cell.loop
+            (left_by play (option_map (come_to play) (with_loop play.cell (when b (Some (opened_plain play.cell.loop)))))).unread
+            (left_by play (option_map (come_to play) (with_loop play.cell (when b (Some (opened_plain play.cell.loop)))))).finish
+            (left_by play (option_map (come_to play) (with_loop play.cell (when b (Some (opened_plain play.cell.loop)))))).admitted
+        go true e =
+            let cell : Cell C A M = record play.cell { loop = opened_plain play.cell.loop } in
+            let l : open_among play.cell.loop.conns play.cell.loop.count < most_open = ltb-true (open_among play.cell.loop.conns play.cell.loop.count) most_open e in
+            opened_fed d.max script rest play.cell.loop play.unread play.finish play.admitted f (step_told d r play.cell (on_conn opens) cell f.tells (opened_plain play.cell.loop, (l, refl), refl))
+        go false e =
+            record {
+              opened = f.opened;
+              count = λ few.
+                  let many : most_open ≤ open_among play.cell.loop.conns play.cell.loop.count = ltb-false (open_among play.cell.loop.conns play.cell.loop.count) most_open e in
+                  let within : open_among play.cell.loop.conns play.cell.loop.count ≤ play.cell.loop.count = open_within play.cell.loop.conns play.cell.loop.count in
+                  let all : play.cell.loop.count + (1 + openings rest) ≡ openings script.lines = f.count few in
+                  absurd (let g : ⊥ = omega (arith, few) in g);
+              tells = f.tells;
+              marks = f.marks;
+              each = λ x.
+                  record { remains = (f.each x).remains; finishing = finish_on d.max script opening rest x (play.finish x) (f.each x).finishing; holds_less = (f.each x).holds_less; size = (f.each x).size };
+            }
+
+    -- a piece arrives
+    piece_done : (rest : List PlanLine) (play : Play C A M) (c : ℕ) (bytes : List ℕ) → Fed small script (piece c bytes ∷ rest) play
+        → Fed small script rest (record play { unread = at_number play.unread c (play.unread c ++ bytes ∷ []) })
+    piece_done rest play c bytes f =
+        line_fed d.max script (piece c bytes) rest play.cell.loop play.unread (at_number play.unread c (play.unread c ++ bytes ∷ [])) play.finish play.finish play.admitted f refl (λ x. go x (cases_eq x c))
+        (λ x. finish_on d.max script (piece c bytes) rest x (play.finish x) (f.each x).finishing)
+      where
+        go : (x : ℕ) → (x ≡ c) ⊎ (x ≡ c → ⊥) → at_number play.unread c (play.unread c ++ bytes ∷ []) x ≡ play.unread x ++ (if c == x then bytes ∷ [] else [])
+        go x (inl e) =
+            ap (at_number play.unread c (play.unread c ++ bytes ∷ [])) e ∙ put_same play.unread c (play.unread c ++ bytes ∷ []) ∙ ap (λ y. play.unread y ++ bytes ∷ []) (sym e)
+            ∙ ap (λ b. play.unread x ++ (if b then bytes ∷ [] else [])) (sym (eq-eqb c x (sym e)))
+        go x (inr n) =
+            put_other play.unread c (play.unread c ++ bytes ∷ []) x n ∙ sym (append-nil (play.unread x)) ∙ ap (λ b. play.unread x ++ (if b then bytes ∷ [] else [])) (sym (ne_eqb c x (λ e. n (sym e))))
+
+    -- a line that says how an input goes out
+    finish_done : (line : PlanLine) (rest : List PlanLine) (play : Play C A M) (c : ℕ) (finish : InputFinish) → IsTurn line → Fed small script (line ∷ rest) play → Finishing d.max script rest c (Some finish)
+        → Fed small script rest (record play { finish = at_number play.finish c (Some finish) })
+    finish_done line rest play c finish t f so =
+        line_fed d.max script line rest play.cell.loop play.unread play.unread play.finish (at_number play.finish c (Some finish)) play.admitted f t.0
+        (λ x. sym (ap (λ p. play.unread x ++ p) (t.1 x) ∙ append-nil (play.unread x))) (λ x. go x (cases_eq x c))
+      where
+        go : (x : ℕ) → (x ≡ c) ⊎ (x ≡ c → ⊥) → Finishing d.max script rest x (at_number play.finish c (Some finish) x)
+        go x (inl e) =
+            subst (λ y. Finishing d.max script rest y (at_number play.finish c (Some finish) y)) (sym e) (subst (Finishing d.max script rest c) (sym (put_same play.finish c (Some finish))) so)
+        go x (inr n) = subst (Finishing d.max script rest x) (sym (put_other play.finish c (Some finish) x n)) (finish_on d.max script line rest x (play.finish x) (f.each x).finishing)
+
+    line_keeps : (fuel budget workers : ℕ) (above : List PlanLine) (line : PlanLine) (rest : List PlanLine) (play : Play C A M) → script.lines ≡ above ++ line ∷ rest → Fed small script (line ∷ rest) play
+        → Holds (Fed small script rest) (line_done d r memory fuel budget workers play line)
+    line_keeps fuel budget workers above opening rest play is f = opening_done rest play f
+    line_keeps fuel budget workers above (piece c bytes) rest play is f = piece_done rest play c bytes f
+    line_keeps fuel budget workers above (input_end c) rest play is f =
+        finish_done (input_end c) rest play c finishes (refl, λ x. refl) f
+        (ap (some_line (ends_input c)) is ∙ some_at (ends_input c) above (input_end c) rest (eq-eqb c c refl), λ b. b.ended above rest c is)
+    line_keeps fuel budget workers above (input_fault c) rest play is f =
+        finish_done (input_fault c) rest play c faults (refl, λ x. refl) f
+        (ap (some_line (fails_input c)) is ∙ some_at (fails_input c) above (input_fault c) rest (eq-eqb c c refl), λ b. b.failed above rest c is)
+    line_keeps fuel budget workers above resting rest play is f = drain_fed small script rest fuel fuel budget workers play (turn_done resting rest play (refl, λ x. refl) f)
+    line_keeps fuel budget workers above (turn_of_conn c) rest play is f =
+        let g : Fed small script rest play = turn_done (turn_of_conn c) rest play (refl, λ x. refl) f in
+        left_fed small script rest play (conn_move d r memory budget c play) g (conn_fed small script rest budget c play g)
+    line_keeps fuel budget workers above (turn_of_worker w) rest play is f =
+        let g : Fed small script rest play = turn_done (turn_of_worker w) rest play (refl, λ x. refl) f in
+        left_fed small script rest play (worker_move d r memory w play) g (worker_fed small script rest w play g)
+    line_keeps fuel budget workers above turn_of_outcome rest play is f =
+        let g : Fed small script rest play = turn_done turn_of_outcome rest play (refl, λ x. refl) f in
+        left_fed small script rest play (collect_move d r play) g (collect_fed small script rest play g)
+
+    lines_keep : (fuel budget workers : ℕ) (above lines : List PlanLine) (play : Play C A M) → script.lines ≡ above ++ lines → Fed small script lines play
+        → Holds (Fed small script []) (lines_done d r memory fuel budget workers lines play)
+    lines_keep fuel budget workers above [] play is f = drain_fed small script [] fuel fuel budget workers play f
+    lines_keep fuel budget workers above (line ∷ rest) play is f =
+        and_holds (Fed small script rest) (Fed small script []) (λ next. lines_done d r memory fuel budget workers rest next) (line_done d r memory fuel budget workers play line)
+        (line_keeps fuel budget workers above line rest play is f) (λ next a. lines_keep fuel budget workers (above ++ line ∷ []) rest next (is ∙ sym (append_assoc above (line ∷ []) rest)) a)
+
+    -- before the first line nothing was opened or read
+    first_fed : (memories : List M) (first : Cell C A M) → IsFirst memories first → Fed small script script.lines (before_all first script)
+    first_fed memories first is_first =
+        record {
+          opened = ap opened_in is_first.tape ∙ ap (count_up 0) (sym is_first.count);
+          count = λ few. let e : first.loop.count ≡ 0 = is_first.count in omega arith;
+          tells = nothing_told d.max first.loop is_first.tape is_first.count;
+          marks = subst (MarksAreFed d.max script) (sym is_first.tape) (no_marks d.max script);
+          each = λ c.
+              record {
+                remains = subst (λ b. Remains (pieces_on c script.lines) b (pieces_on c script.lines)) (sym (ap (λ t. input (marks_of c t)) is_first.tape)) (all_remains (pieces_on c script.lines));
+                finishing = tt;
+                holds_less = λ l n. let e : first.loop.count ≡ 0 = is_first.count in absurd (let g : ⊥ = omega arith in g);
+                size = λ n e. absurd (none-some n e);
+              };
+        }
+
+    last_fed : (memories : List M) (budget workers wants : ℕ) (first last : Cell C A M) → IsFirst memories first → (t : IsRehearsalOf d r memory budget workers script wants first last)
+        → Fed small script [] t.play
+    last_fed memories budget workers wants first last is_first t =
+        subst (Holds (Fed small script [])) t.done (lines_keep t.fuel budget workers [] script.lines (before_all first script) refl (first_fed memories first is_first))
+
+    pub opens_all : (memories : List M) (budget workers wants : ℕ) (first last : Cell C A M) → IsFirst memories first → IsRehearsalOf d r memory budget workers script wants first last
+        → openings script.lines ≤ most_open → opened_in last.loop.tape ≡ count_up 0 (openings script.lines)
+    opens_all memories budget workers wants first last is_first t few =
+        let f : Fed small script [] t.play = last_fed memories budget workers wants first last is_first t in
+        let e : t.play.cell.loop.count + 0 ≡ openings script.lines = f.count few in
+        let n : t.play.cell.loop.count ≡ openings script.lines = omega arith in
+        ap (λ (x : Cell C A M). opened_in x.loop.tape) t.same ∙ f.opened ∙ ap (count_up 0) n
+
+    pub reads_all : (memories : List M) (budget workers wants : ℕ) (first last : Cell C A M) → IsFirst memories first → IsRehearsalOf d r memory budget workers script wants first last
+        → EndsBehindPieces script.lines → (c : ℕ) → IsReadFrom d.max script last.loop.tape c
+    reads_all memories budget workers wants first last is_first t behind c =
+        let f : Fed small script [] t.play = last_fed memories budget workers wants first last is_first t in
+        subst (λ (x : Cell C A M). IsReadFrom d.max script x.loop.tape c) (sym t.same)
+        (record {
+          bytes = (bytes_of_pieces (t.play.unread c ++ []), sym (f.each c).remains.bytes);
+          reads = λ front back bytes e. f.marks front back (Read c bytes) e;
+          ended = λ front back e. let g : _ × _ = f.marks front back (Ended c) e in (g.0, g.1 behind);
+          failed = λ front back e. let g : _ × _ = f.marks front back (ReadFailed c) e in (g.0, g.1 behind);
+        })
