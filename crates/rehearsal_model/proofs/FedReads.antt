@@ -1,7 +1,7 @@
 -- A rehearsal opens its connections in order, and reads what its script brings.
-use Rattle.std.proofs.Common.{◌≡◌, ◌≢◌, ℕ, zero, suc, ◌+◌, ◌-◌, ◌^◌, ◌<◌, ◌≤◌, ◌⊎◌, min, not, nat_lt, nat_le, Bool, true, false, ◌||◌, ◌==◌, if◌then◌else◌, Option, None, Some, List, [], ◌∷◌, ◌++◌, map, length, take, drop, slice_get, refl, sym, ap, ◌∙◌, subst, inl, inr, option_map, arith, append_assoc, append-nil, eq-eqb, ne_eqb}
+use Rattle.std.proofs.Common.{◌≡◌, ℕ, zero, suc, ◌+◌, ◌-◌, ◌^◌, ◌<◌, ◌≤◌, ◌⊎◌, min, not, nat_lt, nat_le, Bool, true, false, ◌||◌, ◌==◌, if◌then◌else◌, Option, None, Some, List, [], ◌∷◌, ◌++◌, map, length, take, drop, refl, sym, ap, ◌∙◌, subst, inl, inr, option_map, arith, append_assoc, append-nil, eq-eqb, ne_eqb}
 use Rattle.std.specs.Prelude.{option_and_then}
-use Rattle.std.proofs.lemmas.Bool.{cases_eq, and_parts, ltb-true, ltb-false, lt-ltb, false≢true}
+use Rattle.std.proofs.lemmas.Bool.{cases_eq, and_parts, ltb-true, ltb-false, false≢true}
 use Rattle.std.proofs.lemmas.Option.{none-some, same_Some}
 use Rattle.outside.specs.declared.marks.Mark.{Mark}
 use Rattle.outside.specs.declared.marks.Mark.TheVariants.{Read, Ended, Wrote, ReadFailed, WriteFailed, Closed}
@@ -12,10 +12,10 @@ use Rattle.host_model.specs.DeskRules.{DeskRules, DeskDecision, Close, Silent, R
 use Rattle.host_model.specs.Marks.{marks_of, input}
 use Rattle.host_model.specs.World.{end_behind}
 use Rattle.machine_model.specs.HallState.{Job, JobOutcome}
-use Rattle.machine_model.specs.Loop.{LoopConn, Loop, most_open, open_among, count_if_open, OwesNothing, FrameProgress, read_more, marks_read, changed, with_cause, submitted_more, conn_settled, conn_marks_settled, ConnEvent, opens, reads, ends, fails_read, writes, fails_write, gives_up}
+use Rattle.machine_model.specs.Loop.{LoopConn, Loop, most_open, open_among, count_if_open, OwesNothing, FrameProgress, read_more, marks_read, changed, with_cause, submitted_more, ConnEvent, opens, reads, ends, fails_read, writes, fails_write, gives_up}
 use Rattle.machine_model.specs.Worker.{WorkerState, idle, holds, has_answer, has_none}
 use Rattle.machine_model.specs.Machine.{Cell, MachineEvent, on_conn, submits, takes, applies, puts, collects, closes, Steps, EventsLead, IsFirst}
-use Rattle.machine_model.specs.Plain.{when, is_empty, has_none_yet, is_open, progress_by, Moved, progress_plain, reads_plain, moved_plain, opened_plain, conn_event_plain, Told, goes, applies_so, puts_none, lacks_for_call, lacks_for_answer, event_told, with_loop, submit_plain, collect_plain, told_plain, run_plain}
+use Rattle.machine_model.specs.Plain.{when, is_empty, has_none_yet, is_open, progress_by, progress_plain, reads_plain, moved_plain, opened_plain, conn_event_plain, Told, goes, puts_none, event_told, with_loop, submit_plain, collect_plain, told_plain, run_plain}
 use Rattle.machine_model.specs.AtFronts.{size_in}
 use Rattle.machine_model.proofs.Computing.{passed}
 use Rattle.machine_model.proofs.Lists.{put_same, put_other}
@@ -27,7 +27,7 @@ use Rattle.rehearsal_model.specs.ScriptLines.{PlanLine, opening, piece, input_en
 use Rattle.rehearsal_model.specs.InputEnds.{EndsBehindPieces}
 use Rattle.rehearsal_model.specs.RestLines.{opened_in}
 use Rattle.rehearsal_model.specs.Fed.{IsReadFrom}
-use Rattle.rehearsal_model.specs.Playing.{InputFinish, finishes, faults, MemoryAt, ample, lacking, lacking_for_call, lacking_for_answer, is_ample, Play, most_read, at_number, kept_while_open, pieces_left, moved_on, all_admitted, event_on, or_else, told_without, told_wanting, by_memory, admission, freed, freed_if_over, with_rules, with_unread, told_in, on_one, read_behind, read_move, write_move, size_move, open_move, conn_move, step_of_worker, worker_move, collect_first, collect_move}
+use Rattle.rehearsal_model.specs.Playing.{InputFinish, finishes, faults, MemoryAt, ample, lacking, lacking_for_call, lacking_for_answer, is_ample, Play, most_read, at_number, kept_while_open, pieces_left, all_admitted, event_on, or_else, told_without, told_wanting, by_memory, admission, freed, freed_if_over, with_rules, with_unread, told_in, on_one, read_behind, read_move, write_move, size_move, open_move, conn_move, step_of_worker, worker_move, collect_first, collect_move}
 use Rattle.rehearsal_model.specs.Rehearsing.{workers_among, is_idle, left_by, goes_on_with, until_still, work_through, all_read, all_work, pass, drain, line_done, lines_done, before_all, IsRehearsalOf}
 use Rattle.rehearsal_model.proofs.Remaining.{Remains, all_remains, remains_read, part_read, left-append, size_completes, frame_completes}
 use Rattle.rehearsal_model.proofs.FedSoFar.{HasItsSize, MarkIsFed, MarksAreFed, no_marks, fed_push, fed_two, Finishing, ConnIsFed, IsFedSoFar, one_fed, changed_fed, ended_conn, opened_fed, line_fed, finish_on, nothing_left, settled_fed, admitted_fed, kept_open, read_conn, read_marks}
@@ -222,9 +222,9 @@ module _ {C A M : Type 0} (d : DeskRules C A) (r : ServiceRules C A M) (memory :
             mapped_holds (λ (p : Play C A M). IsFedSoFar d.max script rest p.cell.loop p.unread p.finish p.admitted) (freed outcome.key.c) (told_in d r play (goes collects))
             (told_holds (λ (p : Play C A M). IsFedSoFar d.max script rest p.cell.loop p.unread p.finish (at_number p.admitted outcome.key.c None)) play (goes collects)
             (λ cell e s.
-                let t : _ × (_ ≡ Some cell) = passed _ _ cell (sym (ap (collect_plain play.cell) is) ∙ e) in
-                settled_fed d.max script rest play.cell.loop cell.loop play.unread play.finish play.admitted outcome.key.c outcome.settled (play.cell.loop.conns outcome.key.c).cause f refl
-                (ap (λ (x : Cell C A M). x.loop) (sym (same_Some _ cell t.1))) (step_told d r play.cell collects cell f.tells s)))
+            let t : _ × (_ ≡ Some cell) = passed _ _ cell (sym (ap (collect_plain play.cell) is) ∙ e) in
+            settled_fed d.max script rest play.cell.loop cell.loop play.unread play.finish play.admitted outcome.key.c outcome.settled (play.cell.loop.conns outcome.key.c).cause f refl
+            (ap (λ (x : Cell C A M). x.loop) (sym (same_Some _ cell t.1))) (step_told d r play.cell collects cell f.tells s)))
 
     -- a payload is submitted
     submit_fed : (play : Play C A M) (c : ℕ) → Fed play → Holds Fed (told_in d r play (goes (submits c)))
@@ -266,19 +266,20 @@ module _ {C A M : Type 0} (d : DeskRules C A) (r : ServiceRules C A M) (memory :
       where
         read_all : (EndsBehindPieces script.lines → pieces_on c rest ≡ []) → EndsBehindPieces script.lines → input (marks_of c play.cell.loop.tape) ≡ bytes_of_pieces (pieces_on c script.lines)
         read_all no_more b = nothing_left d.max script rest c (input (marks_of c play.cell.loop.tape)) (play.unread c) (f.each c).remains none (no_more b)
+
         go : (finish : Option InputFinish) → Finishing d.max script rest c finish
             → Holds (λ (p : Play C A M). IsFedSoFar d.max script rest p.cell.loop p.unread p.finish p.admitted) (read_behind d r play c finish)
         go None t = tt
         go (Some finishes) t =
             one_holds (λ (p : Play C A M). IsFedSoFar d.max script rest p.cell.loop p.unread p.finish p.admitted) play c (ends c)
             (λ cell e s.
-                ends_fed play c (ends c) cell (with_cause (play.cell.loop.conns c) (end_behind (play.cell.loop.conns c).held)) _ (Ended c) (Closed c) f s
-                (ap (λ (x : Cell C A M). x.loop) s.2 ∙ s.1.2) refl (refl, (refl, tt)) refl refl (t.0, read_all t.1) tt)
+            ends_fed play c (ends c) cell (with_cause (play.cell.loop.conns c) (end_behind (play.cell.loop.conns c).held)) _ (Ended c) (Closed c) f s
+            (ap (λ (x : Cell C A M). x.loop) s.2 ∙ s.1.2) refl (refl, (refl, tt)) refl refl (t.0, read_all t.1) tt)
         go (Some faults) t =
             one_holds (λ (p : Play C A M). IsFedSoFar d.max script rest p.cell.loop p.unread p.finish p.admitted) play c (fails_read c)
             (λ cell e s.
-                ends_fed play c (fails_read c) cell (with_cause (play.cell.loop.conns c) ReadFault) ReadFault (ReadFailed c) (Closed c) f s
-                (ap (λ (x : Cell C A M). x.loop) s.2 ∙ s.1.2) refl (refl, (refl, tt)) refl refl (t.0, read_all t.1) tt)
+            ends_fed play c (fails_read c) cell (with_cause (play.cell.loop.conns c) ReadFault) ReadFault (ReadFailed c) (Closed c) f s
+            (ap (λ (x : Cell C A M). x.loop) s.2 ∙ s.1.2) refl (refl, (refl, tt)) refl refl (t.0, read_all t.1) tt)
 
     -- a read of the first piece that is left
     piece_fed : (play : Play C A M) (c missing : ℕ) (bytes : List ℕ) (pieces : List (List ℕ)) → Fed play → play.unread c ≡ bytes ∷ pieces
@@ -345,8 +346,8 @@ module _ {C A M : Type 0} (d : DeskRules C A) (r : ServiceRules C A M) (memory :
     write_fails_fed play c f =
         one_holds Fed play c (fails_write c)
         (λ cell e s.
-            ends_fed play c (fails_write c) cell (with_cause (play.cell.loop.conns c) WriteFault) WriteFault (WriteFailed c) (Closed c) f s
-            (ap (λ (x : Cell C A M). x.loop) s.2 ∙ s.1.2) refl (refl, (refl, tt)) refl refl tt tt)
+        ends_fed play c (fails_write c) cell (with_cause (play.cell.loop.conns c) WriteFault) WriteFault (WriteFailed c) (Closed c) f s
+        (ap (λ (x : Cell C A M). x.loop) s.2 ∙ s.1.2) refl (refl, (refl, tt)) refl refl tt tt)
 
     write_fed : (play : Play C A M) (c : ℕ) (left : List ℕ) (rules : List PlanRule) → Fed play → Holds Fed (write_move d r play c left rules)
     write_fed play c left [] f = wrote_fed play c (length left) f
@@ -380,6 +381,7 @@ module _ {C A M : Type 0} (d : DeskRules C A) (r : ServiceRules C A M) (memory :
       where
         held_now : List ℕ
         held_now = (play.cell.loop.conns c).held
+
         go : (size : Option ℕ) → play.admitted c ≡ size
             → Holds (λ (p : Play C A M). IsFedSoFar d.max script rest p.cell.loop p.unread p.finish p.admitted) (size_move d r memory budget play c (play.cell.loop.conns c).held size)
         go None is =

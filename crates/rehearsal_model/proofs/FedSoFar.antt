@@ -1,7 +1,7 @@
 -- What was opened and read so far, in mid-run, and what the script still brings.
-use Rattle.std.proofs.Common.{◌≡◌, ◌≢◌, ℕ, ℤ, zero, suc, ◌+◌, ◌^◌, ◌<◌, ◌≤◌, ◌⊎◌, nat_lt, nat_le, Bool, true, false, ◌&&◌, ◌==◌, if◌then◌else◌, Option, None, Some, List, [], ◌∷◌, ◌++◌, length, take, drop, refl, sym, ap, ◌∙◌, subst, inl, inr, arith, append_assoc, append-nil, eq-eqb, length-append}
+use Rattle.std.proofs.Common.{◌≡◌, ℕ, zero, suc, ◌+◌, ◌<◌, ◌≤◌, ◌⊎◌, nat_lt, nat_le, Bool, true, false, ◌&&◌, if◌then◌else◌, Option, None, Some, List, [], ◌∷◌, ◌++◌, length, take, drop, refl, sym, ap, ◌∙◌, subst, inl, inr, arith, append_assoc, append-nil, length-append}
 use Rattle.std.specs.Int.{w32, to_be_bytes, from_be_bytes, cast_signed}
-use Rattle.std.proofs.lemmas.Bool.{cases_eq, and_parts, ltb-true, ltb-false, leb-true}
+use Rattle.std.proofs.lemmas.Bool.{cases_eq, and_parts, ltb-true, leb-true}
 use Rattle.std.proofs.lemmas.Grind.{flat_map-append}
 use Rattle.std.proofs.lemmas.List.{same_from_push}
 use Rattle.std.proofs.lemmas.Option.{none-some, same_Some}
@@ -12,8 +12,8 @@ use Rattle.outside.specs.declared.marks.Mark.TheVariants.{Opened, Read, Ended, W
 use Rattle.host_model.specs.declared.cause.EndCause.{EndCause}
 use Rattle.host_model.specs.declared.cause.EndCause.TheVariants.{SizeFault}
 use Rattle.host_model.specs.Marks.{marks_of, input}
-use Rattle.host_model.proofs.Lists.{ends as empty_or_pushed, front_nil}
-use Rattle.machine_model.specs.Loop.{LoopConn, new_conn, Loop, most_open, open_among, count_if_open, OwesNothing, FrameProgress, part, bad_size, whole, read_more, marks_read, with_conn, changed, with_cause, submitted_more, conn_settled, conn_marks_settled}
+use Rattle.host_model.proofs.Lists.{ends as empty_or_pushed}
+use Rattle.machine_model.specs.Loop.{LoopConn, new_conn, Loop, most_open, OwesNothing, FrameProgress, part, bad_size, whole, read_more, marks_read, with_conn, changed, conn_settled, conn_marks_settled}
 use Rattle.machine_model.specs.AtFronts.{size_in}
 use Rattle.machine_model.specs.Plain.{are_same, is_size, progress_behind, progress_by, opened_plain, when, is_whole, is_bad_size}
 use Rattle.machine_model.proofs.Computing.{same_lists}
@@ -25,7 +25,7 @@ use Rattle.rehearsal_model.specs.ScriptLines.{PlanLine, opening, one_if_opens, S
 use Rattle.rehearsal_model.specs.InputEnds.{EndsBehindPieces}
 use Rattle.rehearsal_model.specs.RestLines.{opened_by, opened_in}
 use Rattle.rehearsal_model.specs.Playing.{InputFinish, finishes, faults, at_number, kept_while_open}
-use Rattle.rehearsal_model.proofs.Remaining.{Remains, IsUnderWay, HoldsLess, size_stays}
+use Rattle.rehearsal_model.proofs.Remaining.{Remains, HoldsLess, size_stays}
 
 count_behind : (from n : ℕ) → count_up from (suc n) ≡ count_up from n ++ (from + n) ∷ []
 count_behind from zero = let e : from ≡ from + 0 = omega arith in ap (λ x. x ∷ []) e
@@ -156,6 +156,7 @@ module _ (max : ℕ) (script : ScriptPlan) where
               ap input (marks_here x old.tape (Opened old.count ∷ []) (sym e, tt)) ∙ input-append (marks_of x old.tape) (Opened old.count ∷ [])
               ∙ append-nil (input (marks_of x old.tape))
           by (inr n) = ap input (marks_elsewhere old.count x old.tape (Opened old.count ∷ []) n (refl, tt))
+
       go : (x : ℕ) → (x ≡ old.count) ⊎ (x ≡ old.count → ⊥)
           → ConnIsFed rest x (suc old.count) (with_conn old.conns old.count new_conn x) (input (marks_of x (old.tape ++ Opened old.count ∷ []))) (unread x) (finish x) (admitted x)
       go x (inl e) =
@@ -234,8 +235,10 @@ module _ (max : ℕ) (script : ScriptPlan) where
             holds_less = less;
             size = λ n a. absurd (none-some n (sym (put_same admitted c None) ∙ a));
           }))
+
       unmarked : MarksAreFed (old.tape ++ [])
       unmarked = subst MarksAreFed (sym (append-nil old.tape)) f.marks
+
       go : (settled : Settled) (cause : Option EndCause) → (old.conns c).cause ≡ cause → new ≡ changed old c (conn_settled cause settled (old.conns c)) (conn_marks_settled cause c settled)
           → IsFedSoFar rest new unread finish (at_number admitted c None)
       go (Reply reply) None k e = here _ _ e tt refl refl unmarked (λ l n. (f.each c).holds_less l n)
@@ -254,6 +257,7 @@ module _ (max : ℕ) (script : ScriptPlan) where
       fed : (x : ℕ) → ((n : ℕ) → at_number admitted c (Some (size_in (loop.conns c).held)) x ≡ Some n → (x < loop.count) × ((loop.conns x).cause ≡ None) × HasItsSize (loop.conns x) n)
           → ConnIsFed rest x loop.count (loop.conns x) (input (marks_of x loop.tape)) (unread x) (finish x) (at_number admitted c (Some (size_in (loop.conns c).held)) x)
       fed x s = record { remains = (f.each x).remains; finishing = (f.each x).finishing; holds_less = (f.each x).holds_less; size = s }
+
       go : (x : ℕ) → (x ≡ c) ⊎ (x ≡ c → ⊥)
           → ConnIsFed rest x loop.count (loop.conns x) (input (marks_of x loop.tape)) (unread x) (finish x) (at_number admitted c (Some (size_in (loop.conns c).held)) x)
       go x (inl e) =
@@ -276,6 +280,7 @@ module _ (max : ℕ) (script : ScriptPlan) where
           bad : (b : Bool) → when b (Some (bad_size (cast_signed w32 (from_be_bytes w32 (take 4 bytes))))) ≡ Some part → ⊥
           bad true f = let g : bad_size (cast_signed w32 (from_be_bytes w32 (take 4 bytes))) ≡ part = same_Some (bad_size (cast_signed w32 (from_be_bytes w32 (take 4 bytes)))) part f in let h : ⊥ = cc in h
           bad false f = none-some part f
+
       behind : (b : Bool) → (is_size max (from_be_bytes w32 (take 4 bytes)) bytes && nat_lt (length (drop 4 bytes)) (from_be_bytes w32 (take 4 bytes))) ≡ b
           → (if b then Some part else if is_whole max bytes then Some (whole (drop 4 bytes)) else when (is_bad_size max (from_be_bytes w32 (take 4 bytes)) bytes) (Some (bad_size (cast_signed w32 (from_be_bytes w32 (take 4 bytes)))))) ≡ Some part
           → HoldsLess max bytes
@@ -286,6 +291,7 @@ module _ (max : ℕ) (script : ScriptPlan) where
           let b : (nat_le n max ≡ true) × (are_same bytes (to_be_bytes w32 n ++ drop 4 bytes) ≡ true) = and_parts (nat_le n max) (are_same bytes (to_be_bytes w32 n ++ drop 4 bytes)) a.1 in
           inr (record { size = n; bytes = drop 4 bytes; same = same_lists bytes (to_be_bytes w32 n ++ drop 4 bytes) b.1; within = leb-true n max b.0; less = ltb-true (length (drop 4 bytes)) n t.1 })
       behind false s f = absurd (other (is_whole max bytes) f)
+
       go : (b : Bool) → nat_lt (length bytes) 4 ≡ b → (if b then Some part else progress_behind max (from_be_bytes w32 (take 4 bytes)) bytes) ≡ Some part → HoldsLess max bytes
       go true s f = inl (ltb-true (length bytes) 4 s)
       go false s f = behind (is_size max (from_be_bytes w32 (take 4 bytes)) bytes && nat_lt (length (drop 4 bytes)) (from_be_bytes w32 (take 4 bytes))) refl f

@@ -1,13 +1,13 @@
 -- What was read of pieces and what is left of them, and the front of a frame under way.
-use Rattle.std.proofs.Common.{◌≡◌, ◌≢◌, ℕ, zero, suc, ◌+◌, ◌-◌, ◌^◌, ◌<◌, ◌≤◌, ◌⊎◌, min, nat_lt, Bool, true, false, if◌then◌else◌, List, [], ◌∷◌, ◌++◌, length, take, drop, refl, sym, ap, ◌∙◌, subst, inl, inr, arith, append_assoc, append-nil, length-append, take-append-drop, take_at}
+use Rattle.std.proofs.Common.{◌≡◌, ◌≢◌, ℕ, zero, suc, ◌+◌, ◌-◌, ◌^◌, ◌<◌, ◌≤◌, ◌⊎◌, min, if◌then◌else◌, List, [], ◌∷◌, ◌++◌, length, take, drop, refl, sym, ap, ◌∙◌, inl, inr, arith, append_assoc, length-append, take-append-drop, take_at}
 use Rattle.std.specs.Int.{w32, to_be_bytes, from_be_bytes}
 use Rattle.std.proofs.lemmas.Bool.{lt-ltb, le-ltb}
-use Rattle.std.proofs.lemmas.List.{length-take, length-take-le, length-drop}
+use Rattle.std.proofs.lemmas.List.{length-take-le, length-drop}
 use Rattle.std.proofs.lemmas.Nat.{from_be_bytes-to_be_bytes_4}
 use Rattle.host_model.specs.Frames.{Frames}
 use Rattle.machine_model.specs.AtFronts.{size_in}
 use Rattle.script_model.specs.Arrival.{bytes_of_pieces, ends_from}
-use Rattle.script_model.specs.Feeding.{IsInPayload, Completes, piece_end, TakesItsPart}
+use Rattle.script_model.specs.Feeding.{Completes, piece_end, TakesItsPart}
 use Rattle.rehearsal_model.specs.Playing.{pieces_left}
 
 -- Of all these pieces these bytes were read, and these are left: they end where the pieces end.

@@ -1,9 +1,10 @@
 //! What a script of many connections makes of a run, by definitions and laws alone: its lines and write rules as plain data,
 //! and which runs it feeds. Desk and services are given, so that it stands for any. It reads no text, and nothing runs.
 //!
-//! The files of `specs/`, in reading order: the lines of a script, and what they say of each connection; how much each write
-//! takes under its rule; what a line of rest asks of a run; the run that a script feeds; the moves of a machine in rehearsal;
-//! and the whole rehearsal. A crate that runs scripts says that its run is fed, and is the rehearsal where memory is ample:
+//! The files of `specs/`, in reading order: the lines of a script, and what they say of each connection; what lets inputs end
+//! behind all pieces; how much each write takes under its rule; what a line of rest asks of a run; the run that a script feeds;
+//! the moves of a machine in rehearsal; and the whole rehearsal. A crate that runs scripts says that its run is fed, and is the
+//! rehearsal where memory is ample:
 //!
 //! ```rust
 //! ensures fed { IsFedBy desk budget (plain_script script.now) result.tape.items (journal_of result) }
