@@ -9,4 +9,6 @@ pub mod Written
 pub mod Ruling
 pub mod Remaining
 pub mod FedSoFar
+pub mod Meeting
+pub mod FedMoves
 pub mod FedReads
