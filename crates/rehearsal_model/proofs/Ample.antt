@@ -9,13 +9,13 @@ use Rattle.host_model.specs.DeskRules.{DeskRules}
 use Rattle.machine_model.specs.HallState.{Job}
 use Rattle.machine_model.specs.Loop.{LoopConn, gives_up}
 use Rattle.machine_model.specs.Worker.{WorkerState, idle, holds, has_answer, has_none}
-use Rattle.machine_model.specs.Machine.{Cell, MachineEvent, on_conn, submits, puts, EventsLead}
+use Rattle.machine_model.specs.Machine.{Cell, on_conn, submits, puts, EventsLead}
 use Rattle.machine_model.specs.Plain.{is_empty, is_open, Told, goes, puts_none, event_told, told_plain, run_plain}
 use Rattle.machine_model.specs.AtFronts.{size_in}
 use Rattle.rehearsal_model.specs.ScriptLines.{PlanLine, opening, piece, input_end, input_fault, resting, turn_of_conn, turn_of_worker, turn_of_outcome, ScriptPlan, count_up}
 use Rattle.rehearsal_model.specs.Playing.{MemoryAt, ample, lacking, lacking_for_call, lacking_for_answer, always_ample, Play, at_number, moved_on, all_admitted, event_on, or_else, told_without, told_wanting, by_memory, admission, told_in, read_move, write_move, size_move, open_move, conn_move, step_of_worker, worker_move, collect_move}
 use Rattle.rehearsal_model.specs.Rehearsing.{workers_among, is_idle, left_by, goes_on_with, until_still, work_through, all_read, all_work, pass, drain, line_done, lines_done, before_all, IsRehearsalOf}
-use Rattle.rehearsal_model.proofs.Leading.{Leads, Leading, stays, either, conn_leads, worker_leads, collect_leads, still_leads, through_leads, all_read_leads, all_work_leads, pass_leads, drain_leads, line_leads, lines_lead}
+use Rattle.rehearsal_model.proofs.Leading.{Leads, Leading, stays, either, conn_leads, collect_leads, still_leads, through_leads, all_read_leads, all_work_leads, pass_leads, drain_leads, lines_lead}
 
 module _ {C A M : Type 0} (d : DeskRules C A) (r : ServiceRules C A M) (memory : ℕ → MemoryAt)
     (computes : (first cell : Cell C A M) (told : List Told) → run_plain d r told (Some first) ≡ Some cell → EventsLead d r first (map event_told told) cell) where

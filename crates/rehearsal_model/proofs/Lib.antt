@@ -12,3 +12,8 @@ pub mod FedSoFar
 pub mod Meeting
 pub mod FedMoves
 pub mod FedReads
+pub mod Stilling
+pub mod Holding
+pub mod Keeping
+pub mod Concluding
+pub mod Ended

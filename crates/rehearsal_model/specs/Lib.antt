@@ -6,3 +6,4 @@ pub mod Fed
 pub mod Playing
 pub mod Rehearsing
 pub mod Rows
+pub mod Ending

@@ -31,6 +31,11 @@ RehearsesWith memory budget workers script tape journal causes =
 abbrev pub RehearsesTo : ℕ → ℕ → ScriptPlan → List Mark → List (JournalEntry ℕ ℕ) → List EndCause → Type 0
 RehearsesTo budget workers script tape journal causes = RehearsesWith always_ample budget workers script tape journal causes
 
+-- the causes of its connections, where memory is ample; those that haven't ended have none
+abbrev pub EndsWith : ℕ → ℕ → ScriptPlan → List (Option EndCause) → Type 0
+EndsWith budget workers script causes =
+    option_map (λ play. causes_from play.cell.loop.conns 0 play.cell.loop.count) (rehearsal tiny_desk counting always_ample 20 budget workers script (cell_at_first tiny_hall)) ≡ Some causes
+
 -- memory is so at move number n, and ample at the others
 abbrev pub once : ℕ → MemoryAt → ℕ → MemoryAt
 once n memory move = if move == n then memory else ample

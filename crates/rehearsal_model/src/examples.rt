@@ -1,6 +1,6 @@
 //! Scripts of a tiny desk and what their rehearsals come to, each the contract of a function that does nothing.
 
-ghost use Rattle.std.specs.Prelude.{ℕ, List, [], ◌∷◌};
+ghost use Rattle.std.specs.Prelude.{ℕ, None, List, [], ◌∷◌};
 ghost use Rattle.outside.specs.declared.marks.Mark.{Mark};
 ghost use Rattle.outside.specs.declared.marks.Mark.TheVariants.{Opened, Read, Ended, Wrote, ReadFailed, WriteFailed, Closed};
 ghost use Rattle.host_model.specs.declared.cause.EndCause.TheVariants.{End, Cut, ReadFault, WriteFault, NoMemory};
@@ -10,7 +10,7 @@ ghost use Rattle.rehearsal_model.specs.ScriptLines.{opening, piece, input_end, i
 ghost use Rattle.rehearsal_model.specs.RestLines.{IsOverBudget};
 ghost use Rattle.rehearsal_model.specs.Fed.{IsFedBy};
 ghost use Rattle.rehearsal_model.specs.Playing.{lacking, lacking_for_call, lacking_for_answer};
-ghost use Rattle.rehearsal_model.specs.Rows.{tiny_script, frame_of_one, RehearsesTo, RehearsesWith, once};
+ghost use Rattle.rehearsal_model.specs.Rows.{tiny_script, frame_of_one, RehearsesTo, RehearsesWith, EndsWith, once};
 
 /// Rehearsals as they go: no line; an input that ends inside a size; a budget of one frame, for which a second connection is held until the first one's call is
 /// collected; a write of one byte and one that fails, with a block between them; two workers that overtake each other, on schedule; a rest between two calls; and
@@ -53,6 +53,18 @@ pub fn rehearsals_without_memory()
         (Opened 0 ∷ Read 0 size_of_one ∷ Read 0 (1 ∷ []) ∷ Closed 0 ∷ []) (tiny_entry 0 5 ∷ []) (NoMemory ∷ []) }
     ensures for_a_reply { RehearsesWith (once 7 lacking) 2 1 (tiny_script (opening ∷ piece 0 (frame_of_one 1) ∷ input_end 0 ∷ []) [])
         (Opened 0 ∷ Read 0 size_of_one ∷ Read 0 (1 ∷ []) ∷ Closed 0 ∷ []) (tiny_entry 0 5 ∷ []) (NoMemory ∷ []) }
+{}
+
+/// Rehearsals that leave a connection open, each for one thing that its script or the budget lacks: its input never ends; a piece is empty, or of what is no
+/// byte; a write may take nothing; a worker that there isn't has its job; and no budget has room for its frame.
+pub fn rehearsals_that_leave_one_open()
+    ensures no_end { EndsWith 2 1 (tiny_script (opening ∷ piece 0 (frame_of_one 1) ∷ []) []) (None ∷ []) }
+    ensures empty_piece { EndsWith 2 1 (tiny_script (opening ∷ piece 0 [] ∷ input_end 0 ∷ []) []) (None ∷ []) }
+    ensures no_bytes { EndsWith 2 1 (tiny_script (opening ∷ piece 0 (0 ∷ 0 ∷ 0 ∷ 256 ∷ []) ∷ input_end 0 ∷ []) []) (None ∷ []) }
+    ensures empty_write { EndsWith 2 1 (tiny_script (opening ∷ piece 0 (frame_of_one 1) ∷ input_end 0 ∷ []) (takes_most 0 ∷ [])) (None ∷ []) }
+    ensures no_such_worker { EndsWith 2 1 (tiny_script (opening ∷ piece 0 (frame_of_one 1) ∷ input_end 0 ∷ turn_of_conn 0 ∷ turn_of_conn 0 ∷ turn_of_conn 0 ∷ turn_of_conn 0
+        ∷ turn_of_worker 1 ∷ []) []) (None ∷ []) }
+    ensures no_room { EndsWith 0 1 (tiny_script (opening ∷ piece 0 (frame_of_one 1) ∷ input_end 0 ∷ []) []) (None ∷ []) }
 {}
 
 /// Runs that their scripts don't feed: a read goes over a piece's end; a write passes over its rule; an input ends that the script says fails; a connection
