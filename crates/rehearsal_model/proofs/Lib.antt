@@ -17,3 +17,9 @@ pub mod Holding
 pub mod Keeping
 pub mod Concluding
 pub mod Ended
+pub mod Waiting
+pub mod Clearing
+pub mod Lasting
+pub mod Wanting
+pub mod Settling
+pub mod NoWants

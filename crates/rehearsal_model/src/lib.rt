@@ -15,3 +15,4 @@ pub mod ending;
 pub mod examples;
 pub mod laws;
 pub mod reading;
+pub mod wants;
