@@ -12,7 +12,7 @@ use Rattle.const_ground.proofs.evaluation.evaluated_by.Goals as goal
 pub returns : goal.returns
 returns c =
     let P : Program → Type 0 =
-            λ program. IsEvaluated (evaluated (record { program = program; schema = ground_schema c.in_ok-ground.ground }) c.args.file (kind_of c.args.kind.now) (value_in c.args.tree.now)) c.evaluate_in.result in
+    λ program. IsEvaluated (evaluated (record { program = program; schema = ground_schema c.in_ok-ground.ground }) c.args.file (kind_of c.args.kind.now) (value_in c.args.tree.now)) c.evaluate_in.result in
     let Q : PlainSchema → Type 0 =
-            λ schema. IsEvaluated (evaluated (record { program = program_in c.args.names.now; schema = schema }) c.args.file (kind_of c.args.kind.now) (value_in c.args.tree.now)) c.evaluate_in.result in
+    λ schema. IsEvaluated (evaluated (record { program = program_in c.args.names.now; schema = schema }) c.args.file (kind_of c.args.kind.now) (value_in c.args.tree.now)) c.evaluate_in.result in
     subst Q c.in_ok-ground.ensures.schema (subst P (c.in_ok-ground.ensures.program ∙ ap program_in c.in_ok-constants.ensures) c.evaluate_in.ensures)

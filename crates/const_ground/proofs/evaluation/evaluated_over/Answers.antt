@@ -21,6 +21,6 @@ evaluated_by-requires-clause-values c =
 pub returns : goal.returns
 returns c =
     let P : List IdlFile → Type 0 =
-            λ files. IfOk c.evaluated_by.result
-            (IsEvaluated (evaluated (record { program = program_in files; schema = schema_of c.args.partial.now }) c.args.file (kind_of c.args.kind.now) (value_in c.args.tree.now))) in
+    λ files. IfOk c.evaluated_by.result
+    (IsEvaluated (evaluated (record { program = program_in files; schema = schema_of c.args.partial.now }) c.args.file (kind_of c.args.kind.now) (value_in c.args.tree.now))) in
     subst P c.in_ok-names.ensures c.evaluated_by.ensures
