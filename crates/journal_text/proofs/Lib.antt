@@ -1,5 +1,8 @@
-mod Walks
+pub mod EntryAgain
+pub mod EntryFound
+pub mod EntryPlaces
 mod HandedOn
 pub mod Handing
 pub mod OneLine
+mod Walks
 pub mod Written

@@ -1,3 +1,5 @@
+pub mod EntryReading
 pub mod EntryText
 pub mod JournalStates
+pub mod LineOf
 pub mod Lines

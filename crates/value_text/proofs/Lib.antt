@@ -2,7 +2,7 @@ pub mod Choices
 pub mod ContainersAgain
 pub mod ContainersFound
 pub mod GoodTrees
-mod Handed
+pub mod Handed
 pub mod LeafLaws
 pub mod Numbers
 pub mod Places

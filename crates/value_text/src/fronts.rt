@@ -11,8 +11,9 @@ use crate::stop::TextStop;
 use std::alloc::Global;
 use thrift_value::Tag;
 
-/// What stands behind bytes that have to stand in front.
-pub(crate) fn past<'a>(word: &[u8], text: &'a [u8]) -> Result<&'a [u8], TextStop>
+/// What stands behind bytes that have to stand in front, or how many bytes are left at the first that is another. It recurses once a
+/// byte of the word.
+pub fn past<'a>(word: &[u8], text: &'a [u8]) -> Result<&'a [u8], TextStop>
     ensures { Gives (λ rest. rest.now) result (behind_word word.now text.now) }
 {
     let [wanted, more @ ..] = word else {
@@ -121,8 +122,8 @@ fn digits_at(most: u64, n: u64, text: &[u8]) -> Result<(u64, &[u8]), TextStop>
     digits_at(most, next as u64, rest)
 }
 
-/// A number from 1 up to `most`, with no zero in front.
-fn positive_at(most: u64, text: &[u8]) -> Result<(u64, &[u8]), TextStop>
+/// A number from 1 up to `most`, with no zero in front, and what is left behind its digits; or how many bytes are left at the fault.
+pub fn positive_at(most: u64, text: &[u8]) -> Result<(u64, &[u8]), TextStop>
     requires { 9 ≤ most }
     ensures exact { Gives (λ r. (r.0, r.1.now)) result (positive_at most text.now) }
     ensures bound { IfOk result (λ r. r.0 ≤ most) }
@@ -136,9 +137,10 @@ fn positive_at(most: u64, text: &[u8]) -> Result<(u64, &[u8]), TextStop>
     digits_at(most, u64::from(*byte - b'0'), rest)
 }
 
-/// An integer up to `most`, or down to one below the negative of it.
+/// An integer up to `most`, or down to one below the negative of it, and what is left behind its digits; or how many bytes are left
+/// at the fault.
 #[tactic(auto, unfolding(crate::specs::Fronts::integer_at))]
-pub(crate) fn integer_at(most: u64, text: &[u8]) -> Result<(i128, &[u8]), TextStop>
+pub fn integer_at(most: u64, text: &[u8]) -> Result<(i128, &[u8]), TextStop>
     requires some { 9 ≤ most }
     requires low { most < 2 ^ 63 }
     ensures exact { Gives (λ r. (r.0, r.1.now)) result (integer_at most text.now) }

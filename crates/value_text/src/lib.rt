@@ -10,6 +10,8 @@
 //! let (value, behind) = read_front(alloc, b"ok 5i", 3)?;
 //! ```
 //!
+//! A text with values in it, as a line of a journal, is read part by part with `value_at`, `past`, `positive_at` and `integer_at`.
+//!
 //! Integers have the letter of their type behind them (`b`, `s`, `i`, `l`), a double is `d` and its 64 bits in hexadecimal, bytes
 //! stand between quotation marks, and a container names its tags. Not here: names of an IDL, which a value doesn't have.
 #![tactic(auto)]
@@ -24,8 +26,6 @@ ghost use Rattle.value_text.specs.Reading.{front_at, read_as, reading_of};
 ghost use Rattle.value_text.specs.Texts.{HasText, IsTextAt, IsTextOf};
 ghost use Rattle.value_text.specs.ValueText.{tree_text};
 
-use crate::reading::value_at;
-use crate::stop::TextStop;
 use std::alloc::{AllocError, Global};
 use thrift_value::Value;
 
@@ -41,9 +41,12 @@ mod spelling;
 mod stop;
 
 pub use fault::TextFault;
+pub use fronts::{integer_at, past, positive_at};
 pub use printer::put_value;
+pub use reading::value_at;
 pub use rows::worked_texts;
 pub use spelling::spell;
+pub use stop::TextStop;
 
 /// The text of a value.
 pub fn print(alloc: Global, value: &Value) -> Result<Vec<u8>, AllocError>

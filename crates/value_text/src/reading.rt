@@ -13,10 +13,11 @@ use crate::stop::TextStop;
 use std::alloc::{AllocError, Global};
 use thrift_value::{Fields, Items, Pairs, Tag, Value};
 
-/// The value in front, of the tag that is wanted or of any, where so many levels may be opened. It recurses once a level.
+/// The value in front, of the tag that is wanted or of any, where so many levels may be opened, and what is left behind it; or how
+/// many bytes are left at the fault. It recurses once a level.
 #[cycle(reading)]
 #[tactic(auto, unfolding(crate::specs::Reading::value_text_at, crate::specs::Reading::value_by))]
-pub(crate) fn value_at(
+pub fn value_at(
     alloc: Global,
     levels: u32,
     wanted: Option<Tag>,

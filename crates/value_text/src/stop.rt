@@ -4,7 +4,7 @@ use std::alloc::{AllocError, AllocFailed};
 
 /// Why a reading stopped.
 #[derive(Clone, Copy)]
-pub(crate) enum TextStop {
+pub enum TextStop {
     /// The text doesn't go on so. This many bytes are left, the one at fault in front.
     Left(usize),
     /// There was no room in memory.
