@@ -27,6 +27,11 @@ impl Ended {
         self.status == status && self.errors.as_slice() == line && self.output.is_empty()
     }
 
+    /// Whether it was done, wrote this and said nothing.
+    pub(crate) fn is_done(&self, output: &[u8]) -> bool {
+        self.status == Status::Done && self.output.as_slice() == output && self.errors.is_empty()
+    }
+
     /// Whether it was done, and what it wrote ends so.
     pub(crate) fn is_done_with(&self, end: &[u8]) -> bool {
         self.status == Status::Done && self.output.as_slice().ends_with(end)
@@ -91,15 +96,19 @@ fn owned(alloc: Global, words: &[&str]) -> Result<Vec<String>, AllocError> {
     Ok(all)
 }
 
-/// Files of which one has this name and holds this text; the calls with these numbers fail.
-pub(crate) fn one_file(
+/// A file's name and what it holds.
+pub(crate) type Held = (&'static str, &'static [u8]);
+
+/// These files; the calls with these numbers fail.
+pub(crate) fn files_of(
     alloc: Global,
-    name: &str,
-    text: Vec<u8>,
+    held: &[Held],
     fails: &[u64],
 ) -> Result<MemFiles, AllocError> {
-    let file = (String::from_str(alloc, name)?, text);
-    let files = vec![in alloc; file]?;
+    let mut files = Vec::new(alloc);
+    for (name, text) in held {
+        files.push((String::from_str(alloc, name)?, text.to_vec(alloc)?))?;
+    }
     Ok(MemFiles::new(files, fails.to_vec(alloc)?))
 }
 
@@ -112,8 +121,8 @@ pub(crate) fn run_script<R>(rt: &R, alloc: Global, script: Vec<u8>) -> Result<En
 
 /// Checks `a.thrift`, which holds this text.
 pub(crate) fn check_text<R>(rt: &R, alloc: Global, text: Vec<u8>) -> Result<Ended, AllocError> {
-    let files = one_file(alloc, "a.thrift", text, &[])?;
+    let file = (String::from_str(alloc, "a.thrift")?, text);
     let mut given = Given::empty(alloc);
-    given.files = files;
+    given.files = MemFiles::new(vec![in alloc; file]?, Vec::new(alloc));
     given.run(rt, alloc, &["check", "a.thrift"])
 }

@@ -6,7 +6,6 @@ use std::alloc::{AllocError, Global};
 use std::process::Abort;
 use std::test::Fail;
 use text_out::{decimal, hex};
-use thrift_host::Status;
 
 /// The longest payload, in bytes.
 const LONGEST_FRAME: u32 = 16_384_000;
@@ -103,8 +102,7 @@ fn a_script_of_many_frames_runs(rt: HostRuntime) -> Result<(), Fail> {
 
 #[test]
 fn an_idl_of_many_tokens_is_checked(rt: HostRuntime) -> Result<(), Fail> {
-    let text = repeated(rt.alloc(), b"", b"const i32 a = 1\n", 20_000, b"")?;
-    let ended = check_text(&rt, rt.alloc(), text)?;
-    assert!(rt; ended.status == Status::Done);
+    let text = repeated(rt.alloc(), b"const list<i32> A = [", b"1\n", 50_000, b"2]")?;
+    assert!(rt; check_text(&rt, rt.alloc(), text)?.is_done_with(b",1i,1i,2i]\n"));
     Ok(())
 }

@@ -2,6 +2,7 @@
 use Rattle.std.specs.Prelude.{◌≡◌, ℕ, ◌⊎◌, List, [], Option, Some, None, take, codes, MatchOption}
 use Rattle.outside.specs.Cause.{Rose}
 use Rattle.outside.specs.Content.{told_more}
+use Rattle.outside.specs.Taken.{IsTakenInPart}
 use Rattle.outside.specs.Files.{File}
 use Rattle.text_out.specs.Line.{line_of}
 use Rattle.idl_token.specs.declared.Place.{Place}
@@ -9,10 +10,12 @@ use Rattle.host_model.specs.Report.{numbered}
 use Rattle.recording.specs.Recorded.{Streams, IsUnwritten, IsReported, IsReportedInPart, IsNoScript, IsUnbuiltAt}
 use Rattle.thrift_host.specs.declared.status.Status.{Status}
 use Rattle.thrift_host.specs.declared.status.Status.TheVariants.{Done, Usage, IdlRefused, ScriptRefused, FileFault, ReadFault, WriteFault, NoMemory, Unbuilt}
-use Rattle.idl_verdict.specs.declared.refusal.IdlKind.{IdlKind}
+use Rattle.schema.specs.PlainSchema.{PlainSchema}
+use Rattle.schema.specs.SchemaText.{schema_text}
+use Rattle.idl_schema.specs.declared.kinds.IdlFaultKind.{IdlFaultKind}
+use Rattle.idl_schema.specs.Lines.{idl_refusal_text}
+use Rattle.idl_schema.specs.Verdicts.{accepted, refused, IsIdlVerdict, IsUnreadIdl}
 use Rattle.thrift_host.specs.Words.{Command, no_command, checks, rehearses}
-use Rattle.idl_verdict.specs.Check.{accepted, including, refused, IsChecked, IsReadable}
-use Rattle.idl_verdict.specs.Refusals.{refusal_text}
 
 -- What a call did to its errors: what they had taken before and after it, and how often they had failed.
 pub record Errors : Type 0 where
@@ -25,16 +28,35 @@ pub record Errors : Type 0 where
 abbrev pub AreUntouched : Streams → Type 0
 AreUntouched s = (s.left ≡ s.left_before) × (s.taken ≡ s.taken_before)
 
--- What a status says of the command's files, input and output. A command that checks an IDL touches neither stream; a rehearsal writes nothing but with Done,
--- WriteFault and NoMemory.
+-- the IDL is accepted, nothing was read, and the text of its schema was written
+pub record IsPrinted (files : Option (List File)) (idl : List ℕ) (s : Streams) : Type 0 where
+  pub schema : PlainSchema
+  pub verdict : IsIdlVerdict files idl (accepted schema)
+  pub unread : s.left ≡ s.left_before
+  pub written : s.taken ≡ told_more s.taken_before (schema_text schema)
+
+-- the same of a beginning of the text
+pub record IsPrintedInPart (files : Option (List File)) (idl : List ℕ) (s : Streams) : Type 0 where
+  pub schema : PlainSchema
+  pub verdict : IsIdlVerdict files idl (accepted schema)
+  pub unread : s.left ≡ s.left_before
+  pub written : IsTakenInPart s.taken_before s.taken (schema_text schema)
+
+-- the IDL is refused for a fault of which this holds
+abbrev pub IsRefusedWith : Option (List File) → List ℕ → (List ℕ → Place → IdlFaultKind → Type 0) → Type 0
+IsRefusedWith files idl Holds =
+    (file : List ℕ) × (at : Place) × (kind : IdlFaultKind) × IsIdlVerdict files idl (refused file at kind) × Holds file at kind
+
+-- What a status says of the command's files, input and output. A command that checks an IDL reads no input, and writes nothing but with Done and
+-- WriteFault; a rehearsal writes nothing but with these and NoMemory.
 abbrev pub Means : Command → Option (List File) → Status → Streams → Type 0
 Means no_command files Usage s = AreUntouched s
 Means no_command files _ s = ⊥
-Means (checks idl) files Done s = IsChecked files idl accepted × AreUntouched s
-Means (checks idl) files IdlRefused s = ((at : Place) × (kind : IdlKind) × IsChecked files idl (refused at kind)) × AreUntouched s
-Means (checks idl) files FileFault s = IsReadable files idl × AreUntouched s
+Means (checks idl) files Done s = IsPrinted files idl s
+Means (checks idl) files IdlRefused s = IsRefusedWith files idl (λ _ _ _. AreUntouched s)
+Means (checks idl) files FileFault s = IsUnreadIdl files idl × AreUntouched s
+Means (checks idl) files WriteFault s = IsPrintedInPart files idl s
 Means (checks idl) files NoMemory s = AreUntouched s
-Means (checks idl) files Unbuilt s = IsChecked files idl including × AreUntouched s
 Means (checks idl) files _ s = ⊥
 Means rehearses files Done s = IsReported s
 Means rehearses files ScriptRefused s = IsNoScript s.left_before × IsUnwritten s
@@ -60,10 +82,6 @@ error_text Unbuilt = None
 abbrev pub unbuilt_frame_text : ℕ → List ℕ
 unbuilt_frame_text i = line_of (numbered (codes "thriftd: unbuilt frame") i)
 
--- the errors' line of an `include` header
-abbrev pub unbuilt_include_text : List ℕ
-unbuilt_include_text = line_of (codes "thriftd: unbuilt include")
-
 -- the text was added to the errors, or a beginning of it where a write failed
 pub record IsSaid (e : Errors) (text : List ℕ) : Type 0 where
   pub front : ℕ
@@ -76,8 +94,6 @@ IsLineSaid status e = MatchOption (error_text status) ⊥ (λ text. IsSaid e tex
 
 -- The line of a status was added to the errors. A refused IDL's has the file, the place and the kind, and an unbuilt frame's has its number.
 abbrev pub Says : Command → Option (List File) → Option (List ℕ) → Status → Errors → Type 0
-Says (checks idl) files left_before IdlRefused e =
-    (at : Place) × (kind : IdlKind) × IsChecked files idl (refused at kind) × IsSaid e (refusal_text idl at kind)
-Says (checks idl) files left_before Unbuilt e = IsSaid e unbuilt_include_text
+Says (checks idl) files left_before IdlRefused e = IsRefusedWith files idl (λ file at kind. IsSaid e (idl_refusal_text file at kind))
 Says rehearses files left_before Unbuilt e = (i : ℕ) × IsUnbuiltAt left_before i × IsSaid e (unbuilt_frame_text i)
 Says any files left_before status e = IsLineSaid status e

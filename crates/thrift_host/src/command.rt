@@ -1,25 +1,26 @@
 //! The top call.
 
-ghost use Rattle.std.specs.Prelude.{◌≡◌, ◌≢◌, ◌↔◌, ℕ, ◌++◌, List, Option, Some, None, map, string_bytes, MatchOption, IfSome, OnOk};
+ghost use Rattle.std.specs.Prelude.{◌≡◌, ◌≢◌, ◌↔◌, ℕ, true, ◌++◌, List, Option, Some, None, map, string_bytes, MatchOption, MatchResult, IfSome, OnOk};
 ghost use Rattle.outside.specs.Cause.{Rose};
 ghost use Rattle.outside.specs.Files.{File};
 ghost use Rattle.recording.specs.Recorded.{MeansRecorded, Streams};
 ghost use Rattle.thrift_host.specs.Words.{checks, command_of, no_command, rehearses};
-ghost use Rattle.idl_verdict.specs.Check.{IsChecked, IsReadable};
-ghost use Rattle.thrift_host.specs.Top.{Means, Says, AreUntouched, IsSaid, error_text, unbuilt_frame_text, unbuilt_include_text};
-ghost use Rattle.idl_verdict.specs.Checking.{OnVerdict};
-ghost use Rattle.thrift_host.specs.Steps.{EndsUnbuilt, EndsRefused};
+ghost use Rattle.idl_schema.specs.Verdicts.{IsIdlVerdict, IsSchemaTextOf, IsUnreadIdl};
+ghost use Rattle.idl_schema.specs.Telling.{TellsWhy, is_file_fault};
+ghost use Rattle.thrift_host.specs.Top.{Means, Says, IsSaid, IsLineSaid, error_text, unbuilt_frame_text};
+ghost use Rattle.thrift_host.specs.Steps.{EndsUnbuilt, EndsRefused, EndsWithout, EndsWriting};
 
 use crate::status::Status;
 use crate::words::{Asked, read_words};
-use idl_verdict::{Checked, Refusal, check, put_refusal};
+use idl_schema::{NoSchema, IdlRefusal, program_text};
 use outside::{Files, Sink, Source, write_all};
 use recording::{RecordingFault, answer_recorded};
 use std::alloc::{AllocError, Global};
 use text_out::decimal;
 
-/// Runs the command of these words, which leave the program's name out: it checks an IDL, or it reads its input and writes its report to the
-/// output. Where it isn't done it says why on the errors, in one line. A write of that line that fails changes nothing.
+/// Runs the command of these words, which leave the program's name out: it checks an IDL and writes the text of its schema to the output, or it
+/// reads its input and writes its report there. Where it isn't done it says why on the errors, in one line. A write of that line that fails changes
+/// nothing.
 pub fn host<R, F: Files, S: Source, K: Sink, E: Sink>(
     rt: &R,
     alloc: Global,
@@ -29,8 +30,8 @@ pub fn host<R, F: Files, S: Source, K: Sink, E: Sink>(
     output: &mut K,
     errors: &mut E,
 ) -> Status
-    // An IDL is checked: Done, IdlRefused and Unbuilt come exactly by the text of its file, since each text has one verdict; nothing is read of the
-    // input, and nothing is written.
+    // An IDL is checked: Done says that the text of its schema was added to the output, and nothing else. It and IdlRefused come exactly by the
+    // files, since each IDL has one verdict. Nothing is read of the input.
     // A connection is answered: Done says that the input is a script, read to its end, and that the bytes added to the output are the report of a run of
     // it, whose tape, journal and cause meet the headline. ScriptRefused and Unbuilt come exactly by the input, since no
     // input is two of no script, a script with an unbuilt frame, and one without.
@@ -47,8 +48,8 @@ pub fn host<R, F: Files, S: Source, K: Sink, E: Sink>(
     match read_words(words) {
         None => end(errors, Status::Usage),
         Some(Asked::Check(idl)) => {
-            let checked = check(alloc, files, idl);
-            end_check(alloc, errors, idl, checked)
+            let checked = program_text(alloc, files, idl);
+            end_check(alloc, output, errors, checked)
         }
         Some(Asked::Rehearse) => {
             let answered = answer_recorded(alloc, input, output);
@@ -70,47 +71,74 @@ fn end<E: Sink>(errors: &mut E, status: Status) -> Status
     status
 }
 
-/// Ends the command with what became of its IDL.
-fn end_check<E: Sink>(alloc: Global, errors: &mut E, idl: &str, checked: Checked) -> Status
-    ensures means { (files : Option (List File)) (s : Streams) → OnVerdict checked (λ verdict. IsChecked files idl.now verdict)
-        → (checked ≡ Checked.FileFault → IsReadable files idl.now) → AreUntouched s → Means (checks idl.now) files result s }
-    ensures said { (files : Option (List File)) (left : Option (List ℕ)) → OnVerdict checked (λ verdict. IsChecked files idl.now verdict)
-        → Says (checks idl.now) files left result
+/// Ends the command with what became of its IDL: the text of its schema goes to the output.
+fn end_check<K: Sink, E: Sink>(
+    alloc: Global,
+    output: &mut K,
+    errors: &mut E,
+    checked: Result<Vec<u8>, NoSchema>,
+) -> Status
+    ensures means { (files : Option (List File)) (idl : List ℕ) (left : Option (List ℕ))
+        → MatchResult checked (λ text. IsSchemaTextOf files idl text.items) (TellsWhy (IsIdlVerdict files idl) (IsUnreadIdl files idl))
+        → Means (checks idl) files result
+        (record { left_before = left; left = left; taken_before = K.taken output.old; taken = K.taken output.new }) }
+    ensures said { (files : Option (List File)) (idl : List ℕ) (left : Option (List ℕ))
+        → MatchResult checked (λ text. IsSchemaTextOf files idl text.items) (TellsWhy (IsIdlVerdict files idl) (IsUnreadIdl files idl))
+        → Says (checks idl) files left result
         (record { taken_before = E.taken errors.old; taken = E.taken errors.new; faults_before = E.faults errors.old; faults = E.faults errors.new }) }
     ensures no_usage { result ≢ Status.Usage }
-    ensures no_input { (result ≢ Status.ReadFault) × (result ≢ Status.WriteFault) }
-    ensures fault { result ≡ Status.FileFault → checked ≡ Checked.FileFault }
+    ensures no_input { result ≢ Status.ReadFault }
+    ensures file_fault { result ≡ Status.FileFault → MatchResult checked (λ _. ⊥) (λ reason. is_file_fault reason ≡ true) }
+    ensures write_fault { result ≡ Status.WriteFault → Rose (K.faults output.old) (K.faults output.new) }
 {
     match checked {
-        Checked::Accepted => end(errors, Status::Done),
-        Checked::HasInclude => end_include(errors),
-        Checked::Refused(refusal) => end_refused(alloc, errors, idl, refusal),
-        Checked::FileFault => end(errors, Status::FileFault),
-        Checked::NoMemory => end(errors, Status::NoMemory),
+        Ok(text) => end_text(output, errors, &text),
+        Err(reason) => end_without_schema(alloc, errors, reason),
     }
 }
 
-/// Ends the command at an `include` header, which isn't built.
-fn end_include<E: Sink>(errors: &mut E) -> Status
-    ensures same { result ≡ Status.Unbuilt }
-    ensures said { IsSaid
-        (record { taken_before = E.taken errors.old; taken = E.taken errors.new; faults_before = E.faults errors.old; faults = E.faults errors.new }) unbuilt_include_text }
+/// Ends the command at an IDL that has no schema.
+fn end_without_schema<E: Sink>(alloc: Global, errors: &mut E, reason: NoSchema) -> Status
+    ensures no_usage { result ≢ Status.Usage }
+    ensures no_stream { (result ≢ Status.ReadFault) × (result ≢ Status.WriteFault) }
+    ensures file_fault { result ≡ Status.FileFault → is_file_fault reason ≡ true }
+    ensures ends { EndsWithout reason result
+        (record { taken_before = E.taken errors.old; taken = E.taken errors.new; faults_before = E.faults errors.old; faults = E.faults errors.new }) }
 {
-    say(errors, b"thriftd: unbuilt include\n");
-    Status::Unbuilt
+    match reason {
+        NoSchema::Refused(refusal) => end_refused(alloc, errors, refusal),
+        NoSchema::FileFault => end(errors, Status::FileFault),
+        NoSchema::NoMemory => end(errors, Status::NoMemory),
+    }
+}
+
+/// Ends the command with a text for the output.
+fn end_text<K: Sink, E: Sink>(output: &mut K, errors: &mut E, text: &[u8]) -> Status
+    ensures no_usage { result ≢ Status.Usage }
+    ensures no_read { (result ≢ Status.ReadFault) × (result ≢ Status.FileFault) }
+    ensures written { EndsWriting result (K.taken output.old) (K.taken output.new) text.now }
+    ensures said { IsLineSaid result
+        (record { taken_before = E.taken errors.old; taken = E.taken errors.new; faults_before = E.faults errors.old; faults = E.faults errors.new }) }
+    ensures write_fault { result ≡ Status.WriteFault → Rose (K.faults output.old) (K.faults output.new) }
+{
+    match write_all(output, text) {
+        Ok(()) => end(errors, Status::Done),
+        Err(_) => end(errors, Status::WriteFault),
+    }
 }
 
 /// Ends the command at an IDL that is refused; without memory for its line with NoMemory.
-fn end_refused<E: Sink>(alloc: Global, errors: &mut E, idl: &str, refusal: Refusal) -> Status
-    ensures { EndsRefused result idl.now refusal
+fn end_refused<E: Sink>(alloc: Global, errors: &mut E, refusal: IdlRefusal) -> Status
+    ensures { EndsRefused result refusal
         (record { taken_before = E.taken errors.old; taken = E.taken errors.new; faults_before = E.faults errors.old; faults = E.faults errors.new }) }
 {
-    let mut line = Vec::new(alloc);
-    if put_refusal(&mut line, idl, refusal).is_err() {
-        return end(errors, Status::NoMemory);
+    match refusal.error_line(alloc) {
+        Ok(line) => {
+            say(errors, &line);
+            Status::IdlRefused
+        }
+        Err(_) => end(errors, Status::NoMemory),
     }
-    say(errors, &line);
-    Status::IdlRefused
 }
 
 /// Ends the command with what became of its recorded connection.

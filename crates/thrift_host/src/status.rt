@@ -7,11 +7,11 @@ pub enum Status {
     Done = 0,
     /// The words are no command.
     Usage = 1,
-    /// The IDL's file is absent or too long, or its text is no document.
+    /// The IDL's files give no schema.
     IdlRefused = 2,
     /// The input is no script.
     ScriptRefused = 3,
-    /// The IDL's file couldn't be read.
+    /// A file of the IDL's couldn't be read.
     FileFault = 5,
     /// A read of the input failed.
     ReadFault = 6,
@@ -19,6 +19,6 @@ pub enum Status {
     WriteFault = 7,
     /// Memory ran out.
     NoMemory = 10,
-    /// The script has a frame, or the IDL an `include` header, of a form that isn't built yet.
+    /// The script has a frame of a form that isn't built yet.
     Unbuilt = 12,
 }

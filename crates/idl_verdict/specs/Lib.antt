@@ -1,4 +1,0 @@
-pub mod Tutorial
-pub mod Check
-pub mod Checking
-pub mod Refusals
