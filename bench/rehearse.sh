@@ -1,36 +1,43 @@
 #!/usr/bin/env bash
-# Times the program on recorded connections of 1, 4, 15 and 60 MB, whose every piece is one call of add, and prints for each its seconds, its
-# calls a second and its peak memory. It is no test. Give another list of sizes in MB as words.
+# Times the program on recorded connections of 1, 4, 15 and 60 MB, whose every piece is one call: `add`, `calculate` with a struct, puts and gets of a store,
+# and lists of a hundred structs to the mirror, in both protocols. Prints for each its seconds (the least of three runs), microseconds a call and peak
+# memory. It is no test. Give another list of sizes in MB as words. Where THRIFTD_BEFORE names another program, `add` in the binary protocol is timed with it too.
 set -euo pipefail
 top=$(cd "$(dirname "$0")/.." && pwd)
 program="$top/crates/thriftd/out/thriftd"
 if [ ! -x "$program" ]; then
-  (cd "$top/crates/thriftd" && rt run -- rehearse @tutorial binary 0 Calculator=calculator < stdin > /dev/null)
+  "$top/thriftd" rehearse @tutorial binary 0 Calculator=calculator < "$top/crates/thriftd/stdin" > /dev/null
 fi
 work=$(mktemp -d)
 trap 'rm -rf "$work"' EXIT
-printf '%8s %10s %9s %12s %9s\n' MB calls seconds calls/s 'peak MB'
-for size in "${@:-1 4 15 60}"; do for megabytes in $size; do
-  calls=$((megabytes * 1000000 / 76))
-  python3 - "$calls" > "$work/script" <<'PY'
-import sys
-out = sys.stdout
-out.write("open\n")
-for k in range(int(sys.argv[1])):
-    a, b = (k * 7919) & 0x7fffffff, (k * 104729) & 0xffffffff
-    out.write("data 0 0000001e8001000100000003616464%08x080001%08x080002%08x00\n" % (k & 0xffffffff, a, b))
-out.write("end 0\n")
+
+# timed PROGRAM TEXT WORDS..
+timed() {
+  python3 - "$work/script" "$@" <<'PY'
+import os, sys, time
+script, program, text, calls, words = sys.argv[1], sys.argv[2], sys.argv[3], int(sys.argv[4]), sys.argv[5:]
+runs = []
+for _ in range(3):
+    begin = time.monotonic()
+    child = os.fork()
+    if child == 0:
+        os.dup2(os.open(script, os.O_RDONLY), 0)
+        os.dup2(os.open(os.devnull, os.O_WRONLY), 1)
+        os.execv(program, [program, "rehearse"] + words)
+    _, status, usage = os.wait4(child, 0)
+    if status != 0:
+        sys.exit("%s ended with status %d" % (" ".join(words), os.waitstatus_to_exitcode(status)))
+    runs.append((time.monotonic() - begin, usage.ru_maxrss * 1024))
+seconds, peak = min(r[0] for r in runs), max(r[1] for r in runs)
+print("%-30s %9d %9.2f %9.2f %9.0f %9.1f" % (text, calls, seconds, seconds / calls * 1e6, peak / 1e6, peak / os.path.getsize(script)))
 PY
-  python3 - "$program" "$work/script" "$calls" "$megabytes" <<'PY'
-import os, resource, subprocess, sys, time
-program, script, calls, megabytes = sys.argv[1], sys.argv[2], int(sys.argv[3]), int(sys.argv[4])
-begin = time.monotonic()
-with open(script, "rb") as source, open(os.devnull, "wb") as sink:
-    status = subprocess.run([program, "rehearse", "@tutorial", "binary", "0", "Calculator=calculator"], stdin=source, stdout=sink).returncode
-seconds = time.monotonic() - begin
-peak = resource.getrusage(resource.RUSAGE_CHILDREN).ru_maxrss / 1000
-if status != 0:
-    sys.exit("the program ended with status %d" % status)
-print("%8d %10d %9.2f %12.0f %9.0f" % (megabytes, calls, seconds, calls / seconds, peak))
-PY
-done; done
+}
+
+printf '%-30s %9s %9s %9s %9s %9s\n' '' calls seconds us/call 'peak MB' 'B/byte'
+for mix in ${MIXES:-add calculate store mirror}; do for protocol in binary compact; do for size in ${@:-1 4 15 60}; do
+  read -r -a given < <(python3 "$top/bench/mixes.py" "$work" "$mix" "$protocol" "$size")
+  timed "$program" "$mix $protocol $size MB" "${given[@]}"
+  if [ -n "${THRIFTD_BEFORE:-}" ] && [ "$mix $protocol" = "add binary" ]; then
+    timed "$THRIFTD_BEFORE" "$mix $protocol $size MB, before" "${given[@]}"
+  fi
+done; done; done
