@@ -1,7 +1,8 @@
 -- At a play that is still, no worker holds a job, no outcome is left, and each connection that has its end in sight has ended.
 use Rattle.std.proofs.Common.{◌≡◌, ◌≢◌, ℕ, zero, suc, ◌+◌, ◌-◌, ◌<◌, ◌≤◌, ◌⊎◌, min, Bool, true, false, cond, ◌&&◌, not, nat_lt, nat_le, ◌==◌, if◌then◌else◌, Option, None, Some, List, [], ◌∷◌, ◌++◌, length, take, drop, slice_get, refl, sym, ap, ◌∙◌, subst, inl, inr, option_map, arith, length-append}
 use Rattle.std.specs.List.{AllByRecursion}
-use Rattle.std.proofs.lemmas.Bool.{eq-eqb, lt-ltb, le-ltb, le-leb, cases_lt}
+use Rattle.std.specs.Int.{w32, from_be_bytes}
+use Rattle.std.proofs.lemmas.Bool.{eq-eqb, lt-ltb, le-ltb, le-leb, leb-false, cases_lt}
 use Rattle.std.proofs.lemmas.List.{length-take-le}
 use Rattle.std.proofs.lemmas.Option.{none-some}
 use Rattle.outside.specs.declared.outcomes.Settled.{Settled}
@@ -23,7 +24,7 @@ use Rattle.rehearsal_model.specs.ScriptLines.{PlanRule, takes_most, blocks, fail
 use Rattle.rehearsal_model.specs.Playing.{InputFinish, finishes, faults, MemoryAt, ample, lacking, lacking_for_call, lacking_for_answer, Play, most_read, at_number, size_or_zero, pieces_left, moved_on, all_admitted, event_on, or_else, told_without, told_wanting, by_memory, admission, freed, freed_if_over, with_rules, with_unread, told_in, on_one, read_behind, read_move, write_move, size_move, open_move, step_of_worker, collect_first}
 use Rattle.rehearsal_model.specs.Rehearsing.{workers_among}
 use Rattle.rehearsal_model.specs.Ending.{IsStill}
-use Rattle.rehearsal_model.proofs.Holding.{AreBytes, bytes_taken, Fits, IsAdmitted, MayRead, goes_on}
+use Rattle.rehearsal_model.proofs.Holding.{AreBytes, bytes_taken, Fits, MayRead, goes_on}
 use Rattle.rehearsal_model.proofs.Keeping.{IsArrival, MayWrite, KeptSo}
 
 mapped_none : {X Y : Type 0} (f : X → Y) (o : Option X) → option_map f o ≡ None → o ≡ None
@@ -101,6 +102,19 @@ listed cause from (suc n) some unstopped =
         none : (i : ℕ) → slice_get (x ∷ t.0) i ≢ Some Stopped
         none zero f = unstopped from (omega arith) (omega arith) (e ∙ f)
         none (suc i) f = t.3 i f
+
+-- connection c is held: the budget has no room for its size beside those that are admitted
+pub record IsHeld {C A M : Type 0} (budget : ℕ) (play : Play C A M) (c : ℕ) : Type 0 where
+  pub none : play.admitted c ≡ None
+  pub more : budget < all_admitted play + size_in (play.cell.loop.conns c).held
+
+-- It stands still though it is open: it owes nothing, a size that is admitted is that of its frame under way, and all that has arrived is read, or it is held.
+pub record IsStalled {C A M : Type 0} (max budget : ℕ) (play : Play C A M) (c : ℕ) : Type 0 where
+  pub collected : (play.cell.loop.conns c).collected ≡ length (play.cell.loop.conns c).payloads
+  pub left : (play.cell.loop.conns c).left ≡ []
+  pub within : size_in (play.cell.loop.conns c).held ≤ max
+  pub admitted : (size : ℕ) → play.admitted c ≡ Some size → size ≡ size_in (play.cell.loop.conns c).held
+  pub reads : (play.unread c ≡ []) ⊎ IsHeld budget play c
 
 module _ {C A M : Type 0} (d : DeskRules C A) (r : ServiceRules C A M) (memory : ℕ → MemoryAt) (budget workers bound : ℕ) (opening : List M) (play : Play C A M)
     (still : IsStill d r memory budget workers play) (kept : KeptSo d.max workers bound play.cell.loop play.cell.workers play.rules play.unread play.admitted)
@@ -208,7 +222,7 @@ module _ {C A M : Type 0} (d : DeskRules C A) (r : ServiceRules C A M) (memory :
   no_outcomes = outcomes_none play.cell.hall.outcomes refl still.collected
 
   -- each payload was submitted and collected, or the last one isn't submitted
-  settled_or : (c : ℕ) → c < play.cell.loop.count
+  pub settled_or : (c : ℕ) → c < play.cell.loop.count
       → (((play.cell.loop.conns c).submitted ≡ length (play.cell.loop.conns c).payloads) × ((play.cell.loop.conns c).collected ≡ length (play.cell.loop.conns c).payloads))
       ⊎ ((play.cell.loop.conns c).submitted < length (play.cell.loop.conns c).payloads)
   settled_or c l = go (keeps.place c) (keeps.at c l)
@@ -337,46 +351,81 @@ module _ {C A M : Type 0} (d : DeskRules C A) (r : ServiceRules C A M) (memory :
         (both (owes_nothing (play.cell.loop.conns c)) _ owes_none (both (not (is_empty bytes)) _ (is_filled bytes some) (stays_so bytes may)))
         (moved_none (reads_plain d.max c bytes (play.cell.loop.conns c)) e)))
 
-    behind_some : (finish : Option InputFinish) → finish ≢ None → read_behind d r play c finish ≡ None → ⊥
-    behind_some None n e = n refl
-    behind_some (Some finishes) n e = none-some _ (sym (when_true (owes_nothing (play.cell.loop.conns c)) _ owes_none (moved_none (ends_plain c (play.cell.loop.conns c)) e)))
-    behind_some (Some faults) n e = none-some _ (sym (when_true (owes_nothing (play.cell.loop.conns c)) _ owes_none (moved_none (fails_read_plain c (play.cell.loop.conns c)) e)))
+    behind_none : (finish : Option InputFinish) → read_behind d r play c finish ≡ None → finish ≡ None
+    behind_none None e = refl
+    behind_none (Some finishes) e = absurd (none-some _ (sym (when_true (owes_nothing (play.cell.loop.conns c)) _ owes_none (moved_none (ends_plain c (play.cell.loop.conns c)) e))))
+    behind_none (Some faults) e = absurd (none-some _ (sym (when_true (owes_nothing (play.cell.loop.conns c)) _ owes_none (moved_none (fails_read_plain c (play.cell.loop.conns c)) e))))
 
-    read_some : (missing : ℕ) → 1 ≤ missing → ((n : ℕ) → n ≤ missing → MayRead d.max (play.cell.loop.conns c).held n) → play.finish c ≢ None → (pieces : List (List ℕ)) → AllByRecursion IsArrival pieces
-        → read_move d r play c missing pieces ≡ None → ⊥
-    read_some missing some may n [] all e = behind_some (play.finish c) n e
-    read_some missing some may n (bytes ∷ pieces) all e =
+    -- where no read can be made, all that has arrived is read, and nothing comes behind it
+    read_none : (missing : ℕ) → 1 ≤ missing → ((n : ℕ) → n ≤ missing → MayRead d.max (play.cell.loop.conns c).held n) → (pieces : List (List ℕ)) → AllByRecursion IsArrival pieces
+        → read_move d r play c missing pieces ≡ None → (pieces ≡ []) × (play.finish c ≡ None)
+    read_none missing some may [] all e = (refl, behind_none (play.finish c) e)
+    read_none missing some may (bytes ∷ pieces) all e =
         let long : 0 < length bytes = all.0.0 in
         let count : ℕ = min (min missing most_read) (length bytes) in
         let less : min (min missing most_read) (length bytes) ≤ length bytes = omega arith in
         let same : length (take (min (min missing most_read) (length bytes)) bytes) ≡ min (min missing most_read) (length bytes) = length-take-le (min (min missing most_read) (length bytes)) bytes less in
-        reads_some (take (min (min missing most_read) (length bytes)) bytes) (bytes_taken (min (min missing most_read) (length bytes)) bytes all.0.1) (omega arith)
+        absurd (reads_some (take (min (min missing most_read) (length bytes)) bytes) (bytes_taken (min (min missing most_read) (length bytes)) bytes all.0.1) (omega arith)
         (may (length (take (min (min missing most_read) (length bytes)) bytes)) (omega arith))
-        (mapped_none (with_unread c (pieces_left (drop (min (min missing most_read) (length bytes)) bytes) pieces)) (on_one d r play c (reads c (take (min (min missing most_read) (length bytes)) bytes))) e)
+        (mapped_none (with_unread c (pieces_left (drop (min (min missing most_read) (length bytes)) bytes) pieces)) (on_one d r play c (reads c (take (min (min missing most_read) (length bytes)) bytes))) e))
 
-    short_ends : length (play.cell.loop.conns c).held < 4 → play.finish c ≢ None → ⊥
-    short_ends m n =
-        read_some (4 - length (play.cell.loop.conns c).held) (omega arith) (λ k s. inl (m, omega arith)) n (play.unread c) (kept.pieces c)
+    short_reads : length (play.cell.loop.conns c).held < 4 → (play.unread c ≡ []) × (play.finish c ≡ None)
+    short_reads m =
+        read_none (4 - length (play.cell.loop.conns c).held) (omega arith) (λ k s. inl (m, omega arith)) (play.unread c) (kept.pieces c)
         (first_arm (nat_lt (length (play.cell.loop.conns c).held) 4) (read_move d r play c (4 - length (play.cell.loop.conns c).held) (play.unread c)) _ None (lt-ltb (length (play.cell.loop.conns c).held) 4 m) waits)
 
     sizes : 4 ≤ length (play.cell.loop.conns c).held → size_move d r memory budget play c (play.cell.loop.conns c).held (play.admitted c) ≡ None
     sizes m = second_arm (nat_lt (length (play.cell.loop.conns c).held) 4) (read_move d r play c (4 - length (play.cell.loop.conns c).held) (play.unread c)) _ None (le-ltb (length (play.cell.loop.conns c).held) 4 m) waits
 
-    -- a connection whose size is admitted can move
-    admitted_ends : (size : ℕ) → play.admitted c ≡ Some size → play.finish c ≢ None → ⊥
-    admitted_ends size e n = go ((kept.each c l).admits size e)
+    -- a size that is admitted is that of the frame under way
+    admitted_is : (size : ℕ) → play.admitted c ≡ Some size → (4 ≤ length (play.cell.loop.conns c).held) × (size ≡ size_in (play.cell.loop.conns c).held)
+    admitted_is size e = go ((kept.each c l).admits size e).1
       where
-        go : IsAdmitted d.max (play.cell.loop.conns c) size → ⊥
-        go t = by t.1
+        go : ((play.cell.loop.conns c).collected < length (play.cell.loop.conns c).payloads) ⊎ ((4 ≤ length (play.cell.loop.conns c).held) × (size ≡ size_in (play.cell.loop.conns c).held))
+            → (4 ≤ length (play.cell.loop.conns c).held) × (size ≡ size_in (play.cell.loop.conns c).held)
+        go (inl m) = let k : (play.cell.loop.conns c).collected ≡ length (play.cell.loop.conns c).payloads = all_settled.1 in absurd (let f : ⊥ = omega arith in f)
+        go (inr s) = s
+
+    -- where one is admitted, what has arrived is read as well
+    admitted_reads : (size : ℕ) → play.admitted c ≡ Some size → (play.unread c ≡ []) × (play.finish c ≡ None)
+    admitted_reads size e =
+        let s : (4 ≤ length (play.cell.loop.conns c).held) × (size ≡ size_in (play.cell.loop.conns c).held) = admitted_is size e in
+        let four : 4 ≤ length (play.cell.loop.conns c).held = s.0 in
+        let same : size ≡ size_in (play.cell.loop.conns c).held = s.1 in
+        let within : length (play.cell.loop.conns c).held < 4 + size_in (play.cell.loop.conns c).held = (fits.size four).2 in
+        read_none ((4 + size) - length (play.cell.loop.conns c).held) (omega arith) (λ k m. inr (four, omega arith)) (play.unread c) (kept.pieces c)
+        (ap (size_move d r memory budget play c (play.cell.loop.conns c).held) (sym e) ∙ sizes four)
+
+    -- where none is, the budget has no room for it
+    none_fits : 4 ≤ length (play.cell.loop.conns c).held → play.admitted c ≡ None → budget < all_admitted play + size_in (play.cell.loop.conns c).held
+    none_fits four e = go (nat_le (all_admitted play + size_in (play.cell.loop.conns c).held) budget) refl (ap (size_move d r memory budget play c (play.cell.loop.conns c).held) (sym e) ∙ sizes four)
+      where
+        next : Play C A M
+        next = moved_on (record play { admitted = at_number play.admitted c (Some (size_in (play.cell.loop.conns c).held)) })
+
+        go : (b : Bool) → nat_le (all_admitted play + size_in (play.cell.loop.conns c).held) budget ≡ b
+            → (if b then admission d r memory play c (size_in (play.cell.loop.conns c).held) else None) ≡ None → budget < all_admitted play + size_in (play.cell.loop.conns c).held
+        go true t s = absurd (none-some next (sym (memory_none (memory play.moves) (goes (on_conn (gives_up c NoMemory))) (Some next) s)))
+        go false t s = leb-false (all_admitted play + size_in (play.cell.loop.conns c).held) budget t
+
+    -- it owes nothing, and has read all that has arrived, or is held
+    pub stalls : IsStalled d.max budget play c
+    stalls =
+        record { collected = all_settled.1; left = none_left; within = within; admitted = λ size e. (admitted_is size e).1; reads = go (cases_lt (length (play.cell.loop.conns c).held) 4) (play.admitted c) refl }
+      where
+        within : size_in (play.cell.loop.conns c).held ≤ d.max
+        within = by (cases_lt (length (play.cell.loop.conns c).held) 4)
           where
-            by : ((play.cell.loop.conns c).collected < length (play.cell.loop.conns c).payloads) ⊎ ((4 ≤ length (play.cell.loop.conns c).held) × (size ≡ size_in (play.cell.loop.conns c).held)) → ⊥
-            by (inl m) = let k : (play.cell.loop.conns c).collected ≡ length (play.cell.loop.conns c).payloads = all_settled.1 in let f : ⊥ = omega arith in f
-            by (inr s) =
-                let four : 4 ≤ length (play.cell.loop.conns c).held = s.0 in
-                let same : size ≡ size_in (play.cell.loop.conns c).held = s.1 in
-                let within : length (play.cell.loop.conns c).held < 4 + size_in (play.cell.loop.conns c).held = (fits.size four).2 in
-                read_some ((4 + size) - length (play.cell.loop.conns c).held) (omega arith) (λ k m. inr (four, omega arith)) n (play.unread c) (kept.pieces c)
-                (ap (size_move d r memory budget play c (play.cell.loop.conns c).held) (sym e) ∙ sizes four)
+            by : (length (play.cell.loop.conns c).held < 4) ⊎ (4 ≤ length (play.cell.loop.conns c).held) → size_in (play.cell.loop.conns c).held ≤ d.max
+            by (inl m) =
+                let none : size_in (play.cell.loop.conns c).held ≡ 0 = ap (λ b. if b then 0 else from_be_bytes w32 (take 4 (play.cell.loop.conns c).held)) (lt-ltb (length (play.cell.loop.conns c).held) 4 m) in
+                omega arith
+            by (inr m) = (fits.size m).1
+
+        go : (length (play.cell.loop.conns c).held < 4) ⊎ (4 ≤ length (play.cell.loop.conns c).held) → (admitted : Option ℕ) → play.admitted c ≡ admitted → (play.unread c ≡ []) ⊎ IsHeld budget play c
+        go (inl m) admitted e = inl (short_reads m).0
+        go (inr m) (Some size) e = inl (admitted_reads size e).0
+        go (inr m) None e = inr (record { none = e; more = none_fits m e })
 
   module _ (room : d.max ≤ budget) (finished : (c : ℕ) → c < play.cell.loop.count → play.finish c ≢ None) where
     -- no size is admitted
@@ -385,7 +434,7 @@ module _ {C A M : Type 0} (d : DeskRules C A) (r : ServiceRules C A M) (memory :
       where
         go : (admitted : Option ℕ) → play.admitted c ≡ admitted → size_or_zero admitted ≡ 0
         go None e = refl
-        go (Some size) e = absurd (admitted_ends c l ((kept.each c l).admits size e).0 size e (finished c l))
+        go (Some size) e = absurd (finished c l (admitted_reads c l ((kept.each c l).admits size e).0 size e).1)
 
     nothing_admitted : all_admitted play ≡ 0
     nothing_admitted = go (cases_lt 0 (all_admitted play))
@@ -400,27 +449,20 @@ module _ {C A M : Type 0} (d : DeskRules C A) (r : ServiceRules C A M) (memory :
     held_ends : (c : ℕ) → c < play.cell.loop.count → (play.cell.loop.conns c).cause ≡ None → 4 ≤ length (play.cell.loop.conns c).held → ⊥
     held_ends c l o four = go (play.admitted c) refl
       where
-        size : ℕ
-        size = size_in (play.cell.loop.conns c).held
-
-        next : Play C A M
-        next = moved_on (record play { admitted = at_number play.admitted c (Some (size_in (play.cell.loop.conns c).held)) })
-
         go : (admitted : Option ℕ) → play.admitted c ≡ admitted → ⊥
-        go (Some n) e = admitted_ends c l o n e (finished c l)
+        go (Some n) e = finished c l (admitted_reads c l o n e).1
         go None e =
             let none : all_admitted play ≡ 0 = nothing_admitted in
             let within : size_in (play.cell.loop.conns c).held ≤ d.max = ((fits c l o).size four).1 in
-            let test : nat_le (all_admitted play + size_in (play.cell.loop.conns c).held) budget ≡ true = le-leb (all_admitted play + size_in (play.cell.loop.conns c).held) budget (omega arith) in
-            let s : size_move d r memory budget play c (play.cell.loop.conns c).held None ≡ None = ap (size_move d r memory budget play c (play.cell.loop.conns c).held) (sym e) ∙ sizes c l o four in
-            none-some next (sym (memory_none (memory play.moves) (goes (on_conn (gives_up c NoMemory))) (Some next)
-            (first_arm (nat_le (all_admitted play + size_in (play.cell.loop.conns c).held) budget) (admission d r memory play c (size_in (play.cell.loop.conns c).held)) None None test s)))
+            let more : budget < all_admitted play + size_in (play.cell.loop.conns c).held = none_fits c l o four e in
+            let f : ⊥ = omega arith in
+            f
 
     has_ended : (c : ℕ) → c < play.cell.loop.count → (play.cell.loop.conns c).cause ≢ None
     has_ended c l o = go (cases_lt (length (play.cell.loop.conns c).held) 4)
       where
         go : (length (play.cell.loop.conns c).held < 4) ⊎ (4 ≤ length (play.cell.loop.conns c).held) → ⊥
-        go (inl m) = short_ends c l o m (finished c l)
+        go (inl m) = finished c l (short_reads c l o m).1
         go (inr m) = held_ends c l o m
 
     -- each connection has ended, and none by a stop

@@ -50,7 +50,7 @@ module _ {C A M : Type 0} (d : DeskRules C A) (r : ServiceRules C A M) (memory :
     (computes : (first cell : Cell C A M) (told : List Told) → run_plain d r told (Some first) ≡ Some cell → EventsLead d r first (map event_told told) cell)
     (small : d.max < 2 ^ 31) (script : ScriptPlan) where
   -- a play is fed before these lines
-  abbrev FedBefore : List PlanLine → Play C A M → Type 0
+  abbrev pub FedBefore : List PlanLine → Play C A M → Type 0
   FedBefore rest play = Fed d r memory computes small script rest play
 
   -- a line that only has its turn
@@ -160,7 +160,7 @@ module _ {C A M : Type 0} (d : DeskRules C A) (r : ServiceRules C A M) (memory :
             };
       }
 
-  last_fed : (memories : List M) (budget workers wants : ℕ) (first last : Cell C A M) → IsFirst memories first → (t : IsRehearsalOf d r memory budget workers script wants first last)
+  pub last_fed : (memories : List M) (budget workers wants : ℕ) (first last : Cell C A M) → IsFirst memories first → (t : IsRehearsalOf d r memory budget workers script wants first last)
       → FedBefore [] t.play
   last_fed memories budget workers wants first last is_first t =
       subst (Meets (FedBefore [])) t.done (lines_keep t.fuel budget workers [] script.lines (before_all first script) refl (first_fed memories first is_first))

@@ -23,3 +23,8 @@ pub mod Lasting
 pub mod Wanting
 pub mod Settling
 pub mod NoWants
+pub mod Cutting
+pub mod Tracing
+pub mod Stalling
+pub mod Placing
+pub mod Unrested

@@ -1,8 +1,9 @@
 -- What runs that aren't fed contradict.
 use Rattle.std.proofs.Common.{◌≡◌, ℕ, zero, suc, ◌+◌, ◌-◌, ◌<◌, ◌≤◌, ◌⊎◌, Bool, true, false, cond, ◌==◌, min, List, [], ◌∷◌, ◌++◌, length, take, refl, sym, ap, ◌∙◌, subst, inl, inr, arith, length-take, length-append, ne_eqb}
 use Rattle.std.specs.List.{AllByRecursion, flat_map}
+use Rattle.std.proofs.lemmas.Bool.{true≢false}
 use Rattle.outside.specs.declared.marks.Mark.{Mark}
-use Rattle.outside.specs.declared.marks.Mark.TheVariants.{Opened, Read, Closed}
+use Rattle.outside.specs.declared.marks.Mark.TheVariants.{Opened, Read, Ended, Closed}
 use Rattle.host_model.specs.Frames.{Frames, frame}
 use Rattle.host_model.specs.Marks.{connection_of, marks_of, read_by, input}
 use Rattle.host_model.specs.Journal.{JournalEntry}
@@ -11,7 +12,7 @@ use Rattle.host_model.proofs.Lists.{cons_parts, nil-cons}
 use Rattle.machine_model.specs.AtFronts.{IsOpenBehind, size_in, IsSizeBehind, AreSizesBehind, summed}
 use Rattle.script_model.specs.Feeding.{piece_end, TakesItsPart}
 use Rattle.script_model.specs.Arrival.{bytes_of_pieces}
-use Rattle.rehearsal_model.specs.ScriptLines.{opening, piece, pieces_on}
+use Rattle.rehearsal_model.specs.ScriptLines.{PlanLine, opening, piece, openings, pieces_on, ends_input, some_line, count_up}
 use Rattle.rehearsal_model.specs.Writing.{WritesAtMost}
 use Rattle.rehearsal_model.specs.RestLines.{opened_in, IsOverBudget, HasPlaceFor}
 
@@ -56,13 +57,13 @@ one_opened (x ∷ y ∷ front) back more e o =
     let k : 0 ∷ 1 ∷ opened_in front ≡ 0 ∷ [] = (λ i. opened_in (p.0 i ∷ q.0 i ∷ front)) ∙ o in
     absurd (nil-cons 1 (opened_in front) (sym (cons_parts 0 0 (1 ∷ opened_in front) [] k).1))
 
--- a second opening is no place of rest before the first connection's piece was read
-pub no_place : {C A : Type 0} (d : DeskRules C A) (budget : ℕ) (bytes : List ℕ) (byte : ℕ) (more : List Mark) (journal : List (JournalEntry C A))
-    → HasPlaceFor d budget (opening ∷ piece 0 (byte ∷ bytes) ∷ []) (Opened 0 ∷ Opened 1 ∷ more) journal → ⊥
-no_place d budget bytes byte more journal h = go h.all_read
+-- a second opening is no place of rest before the first connection's pieces were read
+pub no_place : {C A : Type 0} (d : DeskRules C A) (budget : ℕ) (lines : List PlanLine) (bytes : List ℕ) (byte : ℕ) (more : List Mark) (journal : List (JournalEntry C A))
+    → openings lines ≡ 1 → bytes_of_pieces (pieces_on 0 lines) ≡ byte ∷ bytes → HasPlaceFor d budget lines (Opened 0 ∷ Opened 1 ∷ more) journal → ⊥
+no_place d budget lines bytes byte more journal one some h = go h.all_read
   where
     is : h.front ≡ Opened 0 ∷ []
-    is = one_opened h.front h.back more h.split h.opened
+    is = one_opened h.front h.back more h.split (h.opened ∙ ap (count_up 0) one)
 
     either : (b : Bool) → input (cond b (Opened 0 ∷ []) []) ≡ []
     either true = refl
@@ -71,17 +72,17 @@ no_place d budget bytes byte more journal h = go h.all_read
     none : (c : ℕ) → input (marks_of c h.front) ≡ []
     none c = ap (λ f. input (marks_of c f)) is ∙ either (0 == c)
 
-    go : ((c : ℕ) → IsOpenBehind c h.front → input (marks_of c h.front) ≡ bytes_of_pieces (pieces_on c (opening ∷ piece 0 (byte ∷ bytes) ∷ []))) ⊎ IsOverBudget d.max budget h.front → ⊥
-    go (inl read) = nil-cons byte (bytes ++ []) (sym (none 0) ∙ read 0 (subst (IsOpenBehind 0) (sym is) (omega arith)))
+    go : ((c : ℕ) → IsOpenBehind c h.front → input (marks_of c h.front) ≡ bytes_of_pieces (pieces_on c lines)) ⊎ IsOverBudget d.max budget h.front → ⊥
+    go (inl read) = nil-cons byte bytes (sym (none 0) ∙ read 0 (subst (IsOpenBehind 0) (sym is) (omega arith)) ∙ some)
     go (inr o) = let z : summed o.sizes o.count ≡ 0 = no_sizes d.max h.front o.sizes none o.each o.count in let m : budget < summed o.sizes o.count = o.more in let g : ⊥ = omega arith in g
 
 -- a front is taken from the whole
-taken_front : {X : Type 0} (front back : List X) → take (length front) (front ++ back) ≡ front
+pub taken_front : {X : Type 0} (front back : List X) → take (length front) (front ++ back) ≡ front
 taken_front [] back = refl
 taken_front (x ∷ front) back = ap (λ l. x ∷ l) (taken_front front back)
 
 -- where bytes were read on connection 0 alone, the sizes under way add up to one that a frame may have
-one_size : (max : ℕ) (front : List Mark) (sizes : ℕ → ℕ) → ((c : ℕ) → input (marks_of (suc c) front) ≡ []) → AreSizesBehind max size_in front sizes → ((c : ℕ) → sizes c ≤ max)
+pub one_size : (max : ℕ) (front : List Mark) (sizes : ℕ → ℕ) → ((c : ℕ) → input (marks_of (suc c) front) ≡ []) → AreSizesBehind max size_in front sizes → ((c : ℕ) → sizes c ≤ max)
     → (n : ℕ) → summed sizes n ≤ max
 one_size max front sizes none are within zero = omega arith
 one_size max front sizes none are within (suc zero) = let l : sizes 0 ≤ max = within 0 in omega arith
@@ -104,7 +105,7 @@ abbrev ended_first : List ℕ → List Mark → List Mark
 ended_first bytes more = Opened 0 ∷ Opened 1 ∷ Read 0 bytes ∷ Closed 0 ∷ Opened 2 ∷ more
 
 -- nothing is read by marks of which each is of connection 0, or tells of no bytes
-unread : (c : ℕ) (marks : List Mark) → AllByRecursion (λ m. (connection_of m ≡ 0) ⊎ (read_by m ≡ [])) marks → input (marks_of (suc c) marks) ≡ []
+pub unread : (c : ℕ) (marks : List Mark) → AllByRecursion (λ m. (connection_of m ≡ 0) ⊎ (read_by m ≡ [])) marks → input (marks_of (suc c) marks) ≡ []
 unread c [] a = refl
 unread c (m ∷ marks) a = go a.0 (unread c marks a.1)
   where
@@ -144,3 +145,37 @@ no_place_beside d budget one bytes byte more journal room h = go h.all_read
         let l : summed o.sizes o.count ≤ d.max = one_size d.max h.front o.sizes there.none o.each o.within o.count in
         let m : budget < summed o.sizes o.count = o.more in
         let g : ⊥ = omega arith in g
+
+-- two are opened, and the input of the second has ended
+abbrev ended_second : List Mark → List Mark
+ended_second more = Opened 0 ∷ Opened 1 ∷ Ended 1 ∷ more
+
+-- an input that ends behind the lines has no place behind its end, nor before it, where the first connection's pieces weren't read
+pub no_place_past_an_end : {C A : Type 0} (d : DeskRules C A) (budget : ℕ) (lines : List PlanLine) (bytes : List ℕ) (byte : ℕ) (more : List Mark) (journal : List (JournalEntry C A))
+    → openings lines ≡ 2 → bytes_of_pieces (pieces_on 0 lines) ≡ byte ∷ bytes → some_line (ends_input 1) lines ≡ false → HasPlaceFor d budget lines (ended_second more) journal → ⊥
+no_place_past_an_end d budget lines bytes byte more journal two some none_ends h =
+    go (length h.front) (ap (take (length h.front)) h.split ∙ taken_front h.front h.back)
+  where
+    either : (b e : Bool) → input (cond b (Opened 0 ∷ cond e (Opened 1 ∷ []) []) (cond e (Opened 1 ∷ []) [])) ≡ []
+    either true true = refl
+    either true false = refl
+    either false true = refl
+    either false false = refl
+
+    unread_there : Opened 0 ∷ Opened 1 ∷ [] ≡ h.front → (c : ℕ) → input (marks_of c h.front) ≡ []
+    unread_there is c = ap (λ f. input (marks_of c f)) (sym is) ∙ either (0 == c) (1 == c)
+
+    behind_both : Opened 0 ∷ Opened 1 ∷ [] ≡ h.front
+        → ((c : ℕ) → IsOpenBehind c h.front → input (marks_of c h.front) ≡ bytes_of_pieces (pieces_on c lines)) ⊎ IsOverBudget d.max budget h.front → ⊥
+    behind_both is (inl read) = nil-cons byte bytes (sym (unread_there is 0) ∙ read 0 (subst (IsOpenBehind 0) is (omega arith)) ∙ some)
+    behind_both is (inr o) =
+        let z : summed o.sizes o.count ≡ 0 = no_sizes d.max h.front o.sizes (unread_there is) o.each o.count in let m : budget < summed o.sizes o.count = o.more in let g : ⊥ = omega arith in g
+
+    opened_there : (front : List Mark) → front ≡ h.front → opened_in front ≡ 0 ∷ 1 ∷ []
+    opened_there front is = ap opened_in is ∙ h.opened ∙ ap (count_up 0) two
+
+    go : (n : ℕ) → take n (ended_second more) ≡ h.front → ⊥
+    go zero is = nil-cons 0 (1 ∷ []) (opened_there [] is)
+    go (suc zero) is = nil-cons 1 [] (cons_parts 0 0 [] (1 ∷ []) (opened_there (Opened 0 ∷ []) is)).1
+    go (suc (suc zero)) is = behind_both is h.all_read
+    go (suc (suc (suc n))) is = true≢false (sym ((h.no_more 1).ended (Opened 0 ∷ Opened 1 ∷ []) (take n more) (sym is)) ∙ none_ends)

@@ -1,5 +1,5 @@
 -- In a rehearsal in which each connection has ended nothing is left under way; so just where memory ran out, some cause is want of memory.
-use Rattle.std.proofs.Common.{◌≡◌, ◌≢◌, ◌↔◌, ℕ, suc, ◌<◌, ◌≤◌, ◌⊎◌, Some, List, [], ◌∷◌, map, length, slice_get, sym, ap, ◌∙◌, subst, inl, inr, refl, arith}
+use Rattle.std.proofs.Common.{◌≡◌, ◌≢◌, ◌↔◌, ℕ, ◌+◌, ◌<◌, ◌≤◌, ◌⊎◌, Some, List, [], ◌∷◌, map, length, slice_get, sym, ap, ◌∙◌, subst, inl, inr, refl, arith, length-append}
 use Rattle.std.proofs.lemmas.Bool.{cases_lt}
 use Rattle.std.proofs.lemmas.Option.{none-some, slice_get_past}
 use Rattle.host_model.specs.declared.key.Key.{Key}
@@ -12,7 +12,7 @@ use Rattle.machine_model.specs.HallState.{Job, JobOutcome}
 use Rattle.machine_model.specs.Worker.{WorkerState, idle, holds, has_answer, has_none, key_held}
 use Rattle.machine_model.specs.Machine.{Cell, MachineEvent, EventsLead, IsFirst, HaveAllEnded}
 use Rattle.machine_model.specs.Plain.{Told, event_told, run_plain}
-use Rattle.machine_model.specs.Places.{PayloadPlace, collected_all, ready, queued, held_by, put_out, jobs_of, outcomes_of, PayloadIsAt, CellKeeps}
+use Rattle.machine_model.specs.Places.{PayloadPlace, collected_all, ready, queued, held_by, put_out, jobs_of, outcomes_of, IsUncollected, PayloadIsAt, CellKeeps}
 use Rattle.machine_model.proofs.Lists.{get_within, own_first}
 use Rattle.rehearsal_model.specs.ScriptLines.{ScriptPlan}
 use Rattle.rehearsal_model.specs.Playing.{MemoryAt}
@@ -21,9 +21,15 @@ use Rattle.rehearsal_model.proofs.Waiting.{first_outcome}
 use Rattle.rehearsal_model.proofs.Wanting.{ShowsAt, shown, at_its_end}
 
 module _ {C A M : Type 0} (d : DeskRules C A) (r : ServiceRules C A M) (opening : List M) (cell : Cell C A M) (s : CellKeeps d r opening cell) where
-  -- a connection's payload is submitted and not collected
+  -- a connection's last payload isn't collected
   abbrev IsUnderWay : ℕ → Type 0
-  IsUnderWay c = (cell.loop.conns c).collected < (cell.loop.conns c).submitted
+  IsUnderWay c = (cell.loop.conns c).collected < length (cell.loop.conns c).payloads
+
+  under_way : (c : ℕ) (before : List (List ℕ)) (p : List ℕ) → IsUncollected (cell.loop.conns c) before p → IsUnderWay c
+  under_way c before p u =
+      let m : length (cell.loop.conns c).payloads ≡ length before + 1 = ap length u.last ∙ length-append before (p ∷ []) in
+      let n : (cell.loop.conns c).collected ≡ length before = u.collected in
+      omega arith
 
   abbrev IsAt : ℕ → PayloadPlace → Type 0
   IsAt c place = PayloadIsAt d cell.workers (jobs_of c cell.hall.jobs) (outcomes_of c cell.hall.outcomes) (entries_of c cell.hall.journal) c (cell.loop.conns c) place
@@ -31,7 +37,7 @@ module _ {C A M : Type 0} (d : DeskRules C A) (r : ServiceRules C A M) (opening 
   job_under_way : (c : ℕ) (j : Job) (js : List Job) → jobs_of c cell.hall.jobs ≡ j ∷ js → (place : PayloadPlace) → IsAt c place → IsUnderWay c
   job_under_way c j js e collected_all a = absurd (nil-cons j js (sym a.0 ∙ e))
   job_under_way c j js e ready a = absurd (nil-cons j js (sym a.3 ∙ e))
-  job_under_way c j js e queued a = let m : (cell.loop.conns c).submitted ≡ suc (length a.0) = a.5 in let n : (cell.loop.conns c).collected ≡ length a.0 = a.2.collected in omega arith
+  job_under_way c j js e queued a = under_way c a.0 a.1 a.2
   job_under_way c j js e (held_by w) a = absurd (nil-cons j js (sym a.3 ∙ e))
   job_under_way c j js e (put_out settled) a = absurd (nil-cons j js (sym a.3 ∙ e))
 
@@ -42,7 +48,7 @@ module _ {C A M : Type 0} (d : DeskRules C A) (r : ServiceRules C A M) (opening 
       t = s.workers w key e
 
       go : IsAt key.c (held_by w) → IsUnderWay key.c
-      go a = let m : (cell.loop.conns key.c).submitted ≡ suc (length a.0) = a.5 in let n : (cell.loop.conns key.c).collected ≡ length a.0 = a.2.collected in omega arith
+      go a = under_way key.c a.0 a.1 a.2
 
   -- where nothing is under way, no job waits, no outcome is left, and no worker has a job
   module _ (none : (c : ℕ) → c < cell.loop.count → IsUnderWay c → ⊥) where
@@ -90,7 +96,7 @@ module _ {C A M : Type 0} (d : DeskRules C A) (r : ServiceRules C A M) (memory :
   only_then z c l e = at_end.only z (inl (c, l, e))
 
   module _ (causes : List EndCause) (ended : HaveAllEnded last.loop causes) where
-    none_left : (c : ℕ) → c < last.loop.count → (last.loop.conns c).collected < (last.loop.conns c).submitted → ⊥
+    none_left : (c : ℕ) → c < last.loop.count → (last.loop.conns c).collected < length (last.loop.conns c).payloads → ⊥
     none_left c l f =
         let n : length causes ≡ last.loop.count = ended.count in
         let k : (x : EndCause) × (slice_get causes c ≡ Some x) = get_within causes c (omega arith) in

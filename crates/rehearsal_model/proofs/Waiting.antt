@@ -1,4 +1,4 @@
--- In a rehearsal a connection with a payload under way is open, and nothing is left to write of it; and what tells that memory ran out goes on to tell it.
+-- In a rehearsal a connection whose last payload isn't collected is open, and nothing is left to write of it; and what tells that memory ran out goes on to tell it.
 use Rattle.std.proofs.Common.{◌≡◌, ℕ, suc, ◌+◌, ◌<◌, ◌≤◌, ◌⊎◌, Bool, true, false, Option, None, Some, List, [], ◌∷◌, ◌++◌, length, refl, sym, ap, ◌∙◌, subst, inl, inr, arith, length-append}
 use Rattle.std.proofs.lemmas.Bool.{cases_eq, cases_lt, true≢false}
 use Rattle.std.proofs.lemmas.Option.{none-some}
@@ -13,22 +13,22 @@ use Rattle.host_model.specs.DeskRules.{DeskRules}
 use Rattle.host_model.proofs.Lists.{nil-cons}
 use Rattle.machine_model.specs.HallState.{key_of, Job, JobOutcome, HallState}
 use Rattle.machine_model.specs.HallRule.{HallOperation, submit, take_job, apply, put, collect, close, HallAnswer, done, job, empty, is_closed, applied, no_memory, journal_fault, is_broken, outcome, outcome_of, TakesEffect, ApplyGives, HallGives}
-use Rattle.machine_model.specs.Loop.{LoopConn, new_conn, Loop, FrameProgress, part, bad_size, whole, read_more, with_conn, changed, ConnEvent, opens, reads, ends, fails_read, writes, fails_write, gives_up, Happens, conn_settled, LoopAsks}
+use Rattle.machine_model.specs.Loop.{LoopConn, new_conn, Loop, OwesNothing, FrameProgress, part, bad_size, whole, read_more, with_conn, changed, ConnEvent, opens, reads, ends, fails_read, writes, fails_write, gives_up, Happens, conn_settled, LoopAsks}
 use Rattle.machine_model.specs.Worker.{WorkerState, idle, holds, has_answer, has_none, settlement}
 use Rattle.machine_model.specs.Machine.{Cell, with_worker, MachineEvent, on_conn, submits, takes, applies, puts, collects, closes, Steps}
 use Rattle.machine_model.specs.Places.{PayloadPlace, collected_all, ready, queued, held_by, put_out, jobs_of, outcomes_of, IsUncollected, PayloadIsAt, CellKeeps}
 use Rattle.machine_model.proofs.Lists.{put_same, put_other, own_first}
 
--- a connection with a payload under way is open, and nothing is left to write of it
+-- a connection whose last payload isn't collected is open, and nothing is left to write of it
 abbrev pub WaitsOpen : LoopConn → Type 0
-WaitsOpen conn = conn.collected < conn.submitted → (conn.cause ≡ None) × (conn.left ≡ [])
+WaitsOpen conn = conn.collected < length conn.payloads → (conn.cause ≡ None) × (conn.left ≡ [])
 
 pub record AllWait (loop : Loop) : Type 0 where
   pub each : (c : ℕ) → c < loop.count → WaitsOpen (loop.conns c)
 
 -- what is asked of the loop where a connection is given up, and where a payload is submitted
 abbrev pub Allowed : Loop → MachineEvent → Type 0
-Allowed loop (on_conn (gives_up c cause)) = (loop.conns c).collected < (loop.conns c).submitted → ⊥
+Allowed loop (on_conn (gives_up c cause)) = (loop.conns c).collected < length (loop.conns c).payloads → ⊥
 Allowed loop (submits c) = ((loop.conns c).cause ≡ None) × ((loop.conns c).left ≡ [])
 Allowed loop _ = Unit {0}
 
@@ -36,7 +36,7 @@ Allowed loop _ = Unit {0}
 pub record Counted (conn : LoopConn) : Type 0 where
   pub submitted : conn.submitted ≤ length conn.payloads
   pub collected : conn.collected ≤ conn.submitted
-  pub few : conn.submitted ≤ suc conn.collected
+  pub few : length conn.payloads ≤ suc conn.collected
 
 -- causes stay
 record KeepsCauses (old new : Loop) : Type 0 where
@@ -86,33 +86,33 @@ module _ (old : Loop) where
             (subst (λ (z : LoopConn). WaitsOpen z) (sym (put_same old.conns old.count new_conn)) (λ f. absurd (let g : ⊥ = omega arith in g)))
         go x l (inr n) = subst (λ (z : LoopConn). WaitsOpen z) (sym (put_other old.conns old.count new_conn x n)) (w.each x (omega arith))
 
-    read_waits : (c : ℕ) (bytes : List ℕ) (progress : FrameProgress) (marks : List Mark) → ((old.conns c).collected < (old.conns c).submitted → ⊥)
+    -- of a connection that owes nothing, each payload is collected
+    none_under_way : (c : ℕ) → (old.conns c).collected ≡ length (old.conns c).payloads → (old.conns c).collected < length (old.conns c).payloads → ⊥
+    none_under_way c e f = omega arith
+
+    read_waits : (c : ℕ) (bytes : List ℕ) (progress : FrameProgress) (marks : List Mark) → (old.conns c).cause ≡ None → OwesNothing (old.conns c)
         → AllWait (changed old c (read_more (old.conns c) bytes progress) marks)
-    read_waits c bytes part marks n = changed_waits c _ marks (λ f. absurd (n f))
-    read_waits c bytes (bad_size size) marks n = changed_waits c _ marks (λ f. absurd (n f))
-    read_waits c bytes (whole payload) marks n = changed_waits c _ marks (λ f. absurd (n f))
+    read_waits c bytes part marks o owes = changed_waits c _ marks (λ f. absurd (none_under_way c owes.0 f))
+    read_waits c bytes (bad_size size) marks o owes = changed_waits c _ marks (λ f. absurd (none_under_way c owes.0 f))
+    read_waits c bytes (whole payload) marks o owes = changed_waits c _ marks (λ f. (o, owes.1))
 
-    -- of a connection that owes nothing, nothing is under way
-    none_under_way : (c : ℕ) → Counted (old.conns c) → (old.conns c).collected ≡ length (old.conns c).payloads → (old.conns c).collected < (old.conns c).submitted → ⊥
-    none_under_way c k e f = let g : (old.conns c).submitted ≤ length (old.conns c).payloads = k.submitted in omega arith
-
-    event_waits : (max : ℕ) (conn_event : ConnEvent) (new : Loop) → ((c : ℕ) → c < old.count → Counted (old.conns c)) → Allowed old (on_conn conn_event) → Happens max old conn_event new → AllWait new
-    event_waits max opens new k may h = subst AllWait (sym h.1) (opened_waits _)
-    event_waits max (reads c bytes) new k may h = subst AllWait (sym h.6) (read_waits c bytes h.0 _ (none_under_way c (k c h.1.0) h.2.0))
-    event_waits max (ends c) new k may h = subst AllWait (sym h.2) (changed_waits c _ _ (λ f. absurd (none_under_way c (k c h.0.0) h.1.0 f)))
-    event_waits max (fails_read c) new k may h = subst AllWait (sym h.2) (changed_waits c _ _ (λ f. absurd (none_under_way c (k c h.0.0) h.1.0 f)))
-    event_waits max (writes c count) new k may h =
+    event_waits : (max : ℕ) (conn_event : ConnEvent) (new : Loop) → Allowed old (on_conn conn_event) → Happens max old conn_event new → AllWait new
+    event_waits max opens new may h = subst AllWait (sym h.1) (opened_waits _)
+    event_waits max (reads c bytes) new may h = subst AllWait (sym h.6) (read_waits c bytes h.0 _ h.1.1 h.2)
+    event_waits max (ends c) new may h = subst AllWait (sym h.2) (changed_waits c _ _ (λ f. absurd (none_under_way c h.1.0 f)))
+    event_waits max (fails_read c) new may h = subst AllWait (sym h.2) (changed_waits c _ _ (λ f. absurd (none_under_way c h.1.0 f)))
+    event_waits max (writes c count) new may h =
         subst AllWait (sym h.3)
         (changed_waits c _ _
         (λ f. absurd (let e : length (old.conns c).left ≡ 0 = ap length (w.each c h.0.0 f).1 in let a : 1 ≤ count = h.1 in let b : count ≤ length (old.conns c).left = h.2 in omega arith)))
-    event_waits max (fails_write c) new k may h = subst AllWait (sym h.2) (changed_waits c _ _ (λ f. absurd (h.1 (w.each c h.0.0 f).1)))
-    event_waits max (gives_up c cause) new k may h = subst AllWait (sym h.2) (changed_waits c _ _ (λ f. absurd (may f)))
+    event_waits max (fails_write c) new may h = subst AllWait (sym h.2) (changed_waits c _ _ (λ f. absurd (h.1 (w.each c h.0.0 f).1)))
+    event_waits max (gives_up c cause) new may h = subst AllWait (sym h.2) (changed_waits c _ _ (λ f. absurd (may f)))
 
     settled_waits : (c : ℕ) (settled : Settled) (marks : List Mark) (cause : Option EndCause) → Counted (old.conns c) → AllWait (changed old c (conn_settled cause settled (old.conns c)) marks)
     settled_waits c settled marks cause k = changed_waits c _ marks (go cause settled)
       where
-        past : suc (old.conns c).collected < (old.conns c).submitted → ⊥
-        past f = let g : (old.conns c).submitted ≤ suc (old.conns c).collected = k.few in omega arith
+        past : suc (old.conns c).collected < length (old.conns c).payloads → ⊥
+        past f = let g : length (old.conns c).payloads ≤ suc (old.conns c).collected = k.few in omega arith
 
         go : (cause : Option EndCause) (settled : Settled) → WaitsOpen (conn_settled cause settled (old.conns c))
         go None (Replied reply) = λ f. absurd (past f)
@@ -208,32 +208,35 @@ module _ {C A M : Type 0} (d : DeskRules C A) (r : ServiceRules C A M) (opening 
   counts_at workers jobs outs es c conn (put_out settled) a = let s : conn.submitted ≡ suc (length a.0) = a.5 in one_under conn a.0 a.1 a.2 (omega arith) (omega arith)
 
   module _ (cell : Cell C A M) (s : CellKeeps d r opening cell) where
-    counted : (c : ℕ) → c < cell.loop.count → Counted (cell.loop.conns c)
+    pub counted : (c : ℕ) → c < cell.loop.count → Counted (cell.loop.conns c)
     counted c l =
         counts_at cell.workers (jobs_of c cell.hall.jobs) (outcomes_of c cell.hall.outcomes) (entries_of c cell.hall.journal) c (cell.loop.conns c) (s.place c) (s.at c l)
 
-    -- where an outcome stands, the payload of its connection is under way
+    -- where an outcome stands, the last payload of its connection isn't collected
     outcome_under_way : (c : ℕ) (o : JobOutcome) (outs : List JobOutcome) → c < cell.loop.count → outcomes_of c cell.hall.outcomes ≡ o ∷ outs
-        → (cell.loop.conns c).collected < (cell.loop.conns c).submitted
+        → (cell.loop.conns c).collected < length (cell.loop.conns c).payloads
     outcome_under_way c o outs l e = go (s.place c) (s.at c l)
       where
         go : (place : PayloadPlace) → PayloadIsAt d cell.workers (jobs_of c cell.hall.jobs) (outcomes_of c cell.hall.outcomes) (entries_of c cell.hall.journal) c (cell.loop.conns c) place
-            → (cell.loop.conns c).collected < (cell.loop.conns c).submitted
+            → (cell.loop.conns c).collected < length (cell.loop.conns c).payloads
         go collected_all a = absurd (nil-cons o outs (sym a.1 ∙ e))
         go ready a = absurd (nil-cons o outs (sym a.4 ∙ e))
         go queued a = absurd (nil-cons o outs (sym a.4 ∙ e))
         go (held_by w) a = absurd (nil-cons o outs (sym a.4 ∙ e))
-        go (put_out settled) a = let m : (cell.loop.conns c).submitted ≡ suc (length a.0) = a.5 in let n : (cell.loop.conns c).collected ≡ length a.0 = a.2.collected in omega arith
+        go (put_out settled) a =
+            let m : length (cell.loop.conns c).payloads ≡ length a.0 + 1 = ap length a.2.last ∙ length-append a.0 (a.1 ∷ []) in
+            let n : (cell.loop.conns c).collected ≡ length a.0 = a.2.collected in
+            omega arith
 
-    -- the first outcome is of a connection that was opened, and whose payload is under way
+    -- the first outcome is of a connection that was opened, and whose last payload isn't collected
     pub first_outcome : (o : JobOutcome) (outs : List JobOutcome) → cell.hall.outcomes ≡ o ∷ outs
-        → (o.key.c < cell.loop.count) × ((cell.loop.conns o.key.c).collected < (cell.loop.conns o.key.c).submitted)
+        → (o.key.c < cell.loop.count) × ((cell.loop.conns o.key.c).collected < length (cell.loop.conns o.key.c).payloads)
     first_outcome o outs e =
         let own : outcomes_of o.key.c cell.hall.outcomes ≡ o ∷ outcomes_of o.key.c outs = ap (outcomes_of o.key.c) e ∙ own_first (λ (x : JobOutcome). x.key.c) o.key.c o outs refl in
         go own (cases_lt o.key.c cell.loop.count)
       where
         go : outcomes_of o.key.c cell.hall.outcomes ≡ o ∷ outcomes_of o.key.c outs → (o.key.c < cell.loop.count) ⊎ (cell.loop.count ≤ o.key.c)
-            → (o.key.c < cell.loop.count) × ((cell.loop.conns o.key.c).collected < (cell.loop.conns o.key.c).submitted)
+            → (o.key.c < cell.loop.count) × ((cell.loop.conns o.key.c).collected < length (cell.loop.conns o.key.c).payloads)
         go own (inl l) = (l, outcome_under_way o.key.c o (outcomes_of o.key.c outs) l own)
         go own (inr l) = absurd (nil-cons o (outcomes_of o.key.c outs) (sym (s.nobody o.key.c l).1 ∙ own))
 
@@ -254,7 +257,7 @@ module _ {C A M : Type 0} (d : DeskRules C A) (r : ServiceRules C A M) (opening 
 
     -- each event of a rehearsal leaves open what waits
     pub step_waits : AllWait cell.loop → (event : MachineEvent) (new : Cell C A M) → Allowed cell.loop event → Steps d r cell event new → AllWait new.loop
-    step_waits w (on_conn conn_event) new may t = subst (λ (x : Cell C A M). AllWait x.loop) (sym t.2) (event_waits cell.loop w d.max conn_event t.0 counted may t.1)
+    step_waits w (on_conn conn_event) new may t = subst (λ (x : Cell C A M). AllWait x.loop) (sym t.2) (event_waits cell.loop w d.max conn_event t.0 may t.1)
     step_waits w (submits c) new may t = subst (λ (x : Cell C A M). AllWait x.loop) (sym t.2.5) (submitted_waits w c t.0 t.1 t.2.0 t.2.1 t.2.2 may t.2.3 t.2.4)
     step_waits w (takes k) new may t = subst (λ (x : Cell C A M). AllWait x.loop) (sym t.5) w
     step_waits w (applies k) new may t = subst (λ (x : Cell C A M). AllWait x.loop) (sym t.2.5) w
@@ -330,14 +333,14 @@ module _ {C A M : Type 0} (d : DeskRules C A) (r : ServiceRules C A M) (opening 
       where
         ends_so : settled ≡ NoMemory → (loop.conns key.c).cause ≡ Some LackOfMemory
         ends_so lack =
-            let u : (key.c < cell.loop.count) × ((cell.loop.conns key.c).collected < (cell.loop.conns key.c).submitted) = first_outcome (outcome_of key settled) t.0 t.1 in
+            let u : (key.c < cell.loop.count) × ((cell.loop.conns key.c).collected < length (cell.loop.conns key.c).payloads) = first_outcome (outcome_of key settled) t.0 t.1 in
             ap (λ (x : Loop). (x.conns key.c).cause) h ∙ ap (λ (x : LoopConn). x.cause) (put_same cell.loop.conns key.c (conn_settled (cell.loop.conns key.c).cause settled (cell.loop.conns key.c)))
             ∙ ap (λ (x : Option EndCause). (conn_settled x settled (cell.loop.conns key.c)).cause) (w.each key.c u.0 u.1).0
             ∙ ap (λ (x : Settled). (conn_settled None x (cell.loop.conns key.c)).cause) lack
 
         go : (settled ≡ NoMemory) ⊎ HasLack t.0 → Tells (by_loop loop hall)
         go (inl lack) =
-            let u : (key.c < cell.loop.count) × ((cell.loop.conns key.c).collected < (cell.loop.conns key.c).submitted) = first_outcome (outcome_of key settled) t.0 t.1 in
+            let u : (key.c < cell.loop.count) × ((cell.loop.conns key.c).collected < length (cell.loop.conns key.c).payloads) = first_outcome (outcome_of key settled) t.0 t.1 in
             inl (key.c, subst (λ (x : Loop). key.c < x.count) (sym h) u.0, ends_so lack)
         go (inr l) = inr (inr (subst HasLack (sym (ap outcomes_in t.2)) l))
     collect_tells w empty loop hall h t = carry (by_loop loop hall) (asked_keeps collect empty loop hall h t) (λ x k p e. inr (inl (x, k, p, e))) (lack_kept (by_loop loop hall) (ap outcomes_in t.2))

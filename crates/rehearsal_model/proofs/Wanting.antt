@@ -97,7 +97,7 @@ module _ {C A M : Type 0} (d : DeskRules C A) (r : ServiceRules C A M) where
   without_wants cell w lacking_for_answer (Invoke call) = answer_wants cell w
   without_wants cell w _ decision = put_wants cell w
 
-  give_wants : (cell : Cell C A M) (c : ℕ) → ((cell.loop.conns c).collected < (cell.loop.conns c).submitted → ⊥) → Wants cell (goes (on_conn (gives_up c NoMemory)))
+  give_wants : (cell : Cell C A M) (c : ℕ) → ((cell.loop.conns c).collected < length (cell.loop.conns c).payloads → ⊥) → Wants cell (goes (on_conn (gives_up c NoMemory)))
   give_wants cell c none = record { may = none; wanted = λ next e s. given next s }
     where
       given : (next : Cell C A M) → Steps d r cell (on_conn (gives_up c NoMemory)) next → Wanted cell next
@@ -198,7 +198,7 @@ module _ {C A M : Type 0} (d : DeskRules C A) (r : ServiceRules C A M) (memory :
   write_shows play c left (blocks ∷ rules) s = s
   write_shows play c left (fails ∷ rules) s = mapped_holds Shows (with_rules c rules) (on_one d r play c (fails_write c)) (λ p h. h) (one_shows play c (fails_write c) s tt tt)
 
-  size_shows : (budget : ℕ) (play : Play C A M) (c : ℕ) (held : List ℕ) (size : Option ℕ) → Shows play → ((play.cell.loop.conns c).collected < (play.cell.loop.conns c).submitted → ⊥)
+  size_shows : (budget : ℕ) (play : Play C A M) (c : ℕ) (held : List ℕ) (size : Option ℕ) → Shows play → ((play.cell.loop.conns c).collected < length (play.cell.loop.conns c).payloads → ⊥)
       → Showing (size_move d r memory budget play c held size)
   size_shows budget play c held (Some size) s none = read_shows play c ((4 + size) - length held) (play.unread c) s
   size_shows budget play c held None s none =
@@ -217,10 +217,14 @@ module _ {C A M : Type 0} (d : DeskRules C A) (r : ServiceRules C A M) (memory :
       by_test Shows (not (is_empty conn.left)) (write_move d r play c conn.left (play.rules c)) submitting (λ e. write_shows play c conn.left (play.rules c) s)
       (λ left. by_test Shows (nat_lt conn.submitted (length conn.payloads)) (told_in d r play (goes (submits c))) waiting
       (λ e. event_shows play (submits c) s (is_open, none_left conn.left left) tt)
-      (λ e. by_test Shows (nat_lt conn.collected conn.submitted) None reading (λ f. tt)
+      (λ submitted. by_test Shows (nat_lt conn.collected conn.submitted) None reading (λ f. tt)
       (λ still. by_test Shows (nat_lt (length conn.held) 4) sizing sized (λ f. read_shows play c (4 - length conn.held) (play.unread c) s)
       (λ f. size_shows budget play c conn.held (play.admitted c) s
-      (λ l. let m : conn.submitted ≤ conn.collected = ltb-false conn.collected conn.submitted still in let g : ⊥ = omega arith in g)))))
+      (λ l.
+      let k : length conn.payloads ≤ conn.submitted = ltb-false conn.submitted (length conn.payloads) submitted in
+      let m : conn.submitted ≤ conn.collected = ltb-false conn.collected conn.submitted still in
+      let g : ⊥ = omega arith in
+      g)))))
 
   conn_shows : (budget c : ℕ) (play : Play C A M) → Shows play → Showing (conn_move d r memory budget c play)
   conn_shows budget c play s =

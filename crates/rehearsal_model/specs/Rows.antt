@@ -7,6 +7,7 @@ use Rattle.host_model.specs.TinyDesk.{tiny_desk, counting, size_of_one}
 use Rattle.machine_model.specs.Tiny.{tiny_hall, causes_from}
 use Rattle.machine_model.specs.Merge.{cell_at_first}
 use Rattle.rehearsal_model.specs.ScriptLines.{PlanLine, PlanRule, ScriptPlan}
+use Rattle.rehearsal_model.specs.Fed.{IsFedBy}
 use Rattle.rehearsal_model.specs.Playing.{MemoryAt, ample, always_ample, Play}
 use Rattle.rehearsal_model.specs.Rehearsing.{rehearsal}
 
@@ -39,3 +40,14 @@ EndsWith budget workers script causes =
 -- memory is so at move number n, and ample at the others
 abbrev pub once : ℕ → MemoryAt → ℕ → MemoryAt
 once n memory move = if move == n then memory else ample
+
+-- the tape and the journal of a play
+abbrev pub told_by : Play ℕ ℕ ℕ → List Mark × List (JournalEntry ℕ ℕ)
+told_by play = (play.cell.loop.tape, play.cell.hall.journal)
+
+-- The tiny desk's rehearsal of a script comes to this tape and this journal, where memory is ample and its services have these memories; but the script
+-- doesn't feed this run.
+abbrev pub ComesToNoRest : List ℕ → ℕ → ℕ → ScriptPlan → List Mark → List (JournalEntry ℕ ℕ) → Type 0
+ComesToNoRest memories budget workers script tape journal =
+    (option_map told_by (rehearsal tiny_desk counting always_ample 20 budget workers script (cell_at_first (record tiny_hall { memories = memories }))) ≡ Some (tape, journal))
+    × (IsFedBy tiny_desk budget script tape journal → ⊥)

@@ -12,7 +12,7 @@ ghost use Rattle.machine_model.specs.Bounds.{HasItsService};
 ghost use Rattle.rehearsal_model.specs.ScriptLines.{ScriptPlan};
 ghost use Rattle.rehearsal_model.specs.Playing.{MemoryAt, Play};
 ghost use Rattle.rehearsal_model.specs.Rehearsing.{pass, IsRehearsalOf};
-ghost use Rattle.rehearsal_model.specs.Ending.{LetsAllEnd, IsStill};
+ghost use Rattle.rehearsal_model.specs.Ending.{LetsAllMove, LetsAllEnd, IsStill};
 
 use machine_model::laws::{every_cell_keeps, every_run_meets, every_step_can, plain_machine_runs};
 
@@ -22,12 +22,12 @@ pub fn a_still_pass<C, A, M>()
         pass d r memory fuel budget workers play ≡ Some next → next.moves ≡ play.moves → (next ≡ play) × IsStill d r memory budget workers play }
 {}
 
-/// Where a script lets each of its connections end, and each call has its service, a rehearsal of it ends with nothing under way, however memory is at its
-/// moves: no worker holds a job, and no job and no outcome is left. Where the budget has room for the longest frame, each connection that was opened has
-/// ended then, and none since the host stopped; so the rehearsal meets the headline.
+/// Where nothing in a script stops for good, and each call has its service, a rehearsal of it ends with nothing under way, however memory is at its moves: no
+/// worker holds a job, and no job and no outcome is left. Where each input ends or fails besides, and the budget has room for the longest frame, each connection
+/// that was opened has ended then, and none since the host stopped; so the rehearsal meets the headline.
 pub fn a_rehearsal_ends<C, A, M>()
     ensures rests { (d : DeskRules C A) (r : ServiceRules C A M) (memories : List M) (memory : ℕ → MemoryAt) (budget workers : ℕ) (script : ScriptPlan) (wants : ℕ) (first last : Cell C A M) →
-        d.max < 2 ^ 31 → IsFirst memories first → HasItsService d r (length memories) → LetsAllEnd workers script →
+        d.max < 2 ^ 31 → IsFirst memories first → HasItsService d r (length memories) → LetsAllMove workers script →
         IsRehearsalOf d r memory budget workers script wants first last → ((w : ℕ) → last.workers w ≡ idle) × (last.hall.jobs ≡ []) × (last.hall.outcomes ≡ []) }
     ensures ended { (d : DeskRules C A) (r : ServiceRules C A M) (memories : List M) (memory : ℕ → MemoryAt) (budget workers : ℕ) (script : ScriptPlan) (wants : ℕ) (first last : Cell C A M) →
         d.max < 2 ^ 31 → IsFirst memories first → HasItsService d r (length memories) → LetsAllEnd workers script → d.max ≤ budget →

@@ -1,6 +1,6 @@
 //! Scripts of a tiny desk and what their rehearsals come to, each the contract of a function that does nothing.
 
-ghost use Rattle.std.specs.Prelude.{ℕ, None, List, [], ◌∷◌};
+ghost use Rattle.std.specs.Prelude.{ℕ, None, List, [], ◌∷◌, ◌++◌};
 ghost use Rattle.outside.specs.declared.marks.Mark.{Mark};
 ghost use Rattle.outside.specs.declared.marks.Mark.TheVariants.{Opened, Read, Ended, Wrote, ReadFailed, WriteFailed, Closed};
 ghost use Rattle.host_model.specs.declared.cause.EndCause.TheVariants.{End, Cut, ReadFault, WriteFault, NoMemory};
@@ -10,11 +10,11 @@ ghost use Rattle.rehearsal_model.specs.ScriptLines.{opening, piece, input_end, i
 ghost use Rattle.rehearsal_model.specs.RestLines.{IsOverBudget};
 ghost use Rattle.rehearsal_model.specs.Fed.{IsFedBy};
 ghost use Rattle.rehearsal_model.specs.Playing.{lacking, lacking_for_call, lacking_for_answer};
-ghost use Rattle.rehearsal_model.specs.Rows.{tiny_script, frame_of_one, RehearsesTo, RehearsesWith, EndsWith, once};
+ghost use Rattle.rehearsal_model.specs.Rows.{tiny_script, frame_of_one, RehearsesTo, RehearsesWith, EndsWith, once, ComesToNoRest};
 
 /// Rehearsals as they go: no line; an input that ends inside a size; a budget of one frame, for which a second connection is held until the first one's call is
-/// collected; a write of one byte and one that fails, with a block between them; two workers that overtake each other, on schedule; a rest between two calls; and
-/// a read that fails behind its pieces.
+/// collected; a write of one byte and one that fails, with a block between them; two workers that overtake each other, on schedule; a rest between two calls;
+/// a read that fails behind its pieces; and a rest at which the second connection is held, so that its piece is read behind the opening of a third.
 pub fn rehearsals()
     ensures nothing { RehearsesTo 2 0 (tiny_script [] []) [] [] [] }
     ensures cut_in_a_size { RehearsesTo 2 1 (tiny_script (opening ∷ piece 0 (0 ∷ 0 ∷ []) ∷ input_end 0 ∷ []) [])
@@ -38,6 +38,11 @@ pub fn rehearsals()
         (tiny_entry 1 5 ∷ tiny_entry 0 6 ∷ []) (End ∷ End ∷ []) }
     ensures read_fails { RehearsesTo 2 1 (tiny_script (opening ∷ piece 0 (0 ∷ []) ∷ input_fault 0 ∷ turn_of_outcome ∷ []) [])
         (Opened 0 ∷ Read 0 (0 ∷ []) ∷ ReadFailed 0 ∷ Closed 0 ∷ []) [] (ReadFault ∷ []) }
+    ensures held_at_a_rest { RehearsesTo 1 1 (tiny_script (opening ∷ opening ∷ piece 0 size_of_one ∷ piece 1 (frame_of_one 1) ∷ resting ∷ opening ∷ piece 0 (1 ∷ [])
+        ∷ input_end 0 ∷ input_end 1 ∷ input_end 2 ∷ []) [])
+        (Opened 0 ∷ Opened 1 ∷ Read 0 size_of_one ∷ Read 1 size_of_one ∷ Opened 2 ∷ Read 0 (1 ∷ []) ∷ Ended 2 ∷ Closed 2 ∷ Wrote 0 (5 ∷ 5 ∷ []) ∷ Ended 0 ∷ Closed 0
+        ∷ Read 1 (1 ∷ []) ∷ Wrote 1 (6 ∷ 6 ∷ []) ∷ Ended 1 ∷ Closed 1 ∷ [])
+        (tiny_entry 0 5 ∷ tiny_entry 1 6 ∷ []) (End ∷ End ∷ End ∷ []) }
 {}
 
 /// Rehearsals in which memory runs out: for the only frame, when it is to be admitted; for a decision, or a reply, after which the connection ends; for a call,
@@ -69,7 +74,7 @@ pub fn rehearsals_that_leave_one_open()
 
 /// Runs that their scripts don't feed: a read goes over a piece's end; a write passes over its rule; an input ends that the script says fails; a connection
 /// that is opened behind a rest is opened before what came before the rest was read; and the same where a size that no frame has was read on another one,
-/// which is no size to be over the budget by.
+/// which is no size to be over the budget by; and an input that ends behind a rest has ended before what came before the rest was read.
 pub fn runs_that_are_not_fed()
     ensures read_over_a_piece { (journal : List (JournalEntry ℕ ℕ)) (back : List Mark) →
         IsFedBy tiny_desk 2 (tiny_script (opening ∷ piece 0 (0 ∷ 0 ∷ []) ∷ piece 0 (0 ∷ 1 ∷ 1 ∷ []) ∷ input_end 0 ∷ []) []) (Opened 0 ∷ Read 0 size_of_one ∷ back) journal → ⊥ }
@@ -84,9 +89,29 @@ pub fn runs_that_are_not_fed()
         IsFedBy tiny_desk 2 (tiny_script (opening ∷ opening ∷ piece 0 (255 ∷ 255 ∷ 255 ∷ 255 ∷ []) ∷ piece 1 (frame_of_one 1) ∷ resting ∷ opening ∷ piece 2 (frame_of_one 1)
         ∷ input_end 0 ∷ input_end 1 ∷ input_end 2 ∷ []) [])
         (Opened 0 ∷ Opened 1 ∷ Read 0 (255 ∷ 255 ∷ 255 ∷ 255 ∷ []) ∷ Closed 0 ∷ Opened 2 ∷ back) journal → ⊥ }
+    ensures ended_before_the_rest { (journal : List (JournalEntry ℕ ℕ)) (back : List Mark) →
+        IsFedBy tiny_desk 2 (tiny_script (opening ∷ opening ∷ piece 0 (frame_of_one 1) ∷ resting ∷ input_end 0 ∷ input_end 1 ∷ []) [])
+        (Opened 0 ∷ Opened 1 ∷ Ended 1 ∷ Closed 1 ∷ back) journal → ⊥ }
 {}
 
 /// Behind the sizes of two frames of one byte, on a budget of one byte, a line of rest asks nothing of what was read.
 pub fn a_front_over_the_budget()
     ensures { IsOverBudget 1 1 (Opened 0 ∷ Opened 1 ∷ Read 0 size_of_one ∷ Read 1 size_of_one ∷ []) }
+{}
+
+/// Rehearsals that don't come to rest at a line of rest, each for one thing that `a_rehearsal_is_fed` asks of the script or the services: a piece is empty, or
+/// of what is no byte, so that what stands behind it is never read; a write may take nothing; a worker that there isn't has the job; and a call has no service.
+/// The connection is open, and its bytes aren't read or its reply isn't written, when the next one is opened.
+pub fn rehearsals_without_rest()
+    ensures empty_piece { ComesToNoRest (5 ∷ []) 2 1 (tiny_script (opening ∷ piece 0 [] ∷ piece 0 (frame_of_one 1) ∷ resting ∷ opening ∷ input_end 0 ∷ input_end 1 ∷ []) [])
+        (Opened 0 ∷ Opened 1 ∷ Ended 1 ∷ Closed 1 ∷ []) [] }
+    ensures no_bytes { ComesToNoRest (5 ∷ []) 2 1 (tiny_script (opening ∷ piece 0 (0 ∷ 0 ∷ 0 ∷ 256 ∷ []) ∷ resting ∷ opening ∷ input_end 0 ∷ input_end 1 ∷ []) [])
+        (Opened 0 ∷ Opened 1 ∷ Ended 1 ∷ Closed 1 ∷ []) [] }
+    ensures empty_write { ComesToNoRest (5 ∷ []) 2 1 (tiny_script (opening ∷ piece 0 (frame_of_one 1) ∷ resting ∷ opening ∷ input_end 0 ∷ input_end 1 ∷ []) (takes_most 0 ∷ []))
+        (Opened 0 ∷ Read 0 size_of_one ∷ Read 0 (1 ∷ []) ∷ Opened 1 ∷ Ended 1 ∷ Closed 1 ∷ []) (tiny_entry 0 5 ∷ []) }
+    ensures no_such_worker { ComesToNoRest (5 ∷ []) 2 1 (tiny_script (opening ∷ piece 0 (frame_of_one 1 ++ 0 ∷ []) ∷ turn_of_conn 0 ∷ turn_of_conn 0 ∷ turn_of_conn 0 ∷ turn_of_conn 0
+        ∷ turn_of_worker 1 ∷ resting ∷ opening ∷ input_end 0 ∷ input_end 1 ∷ []) [])
+        (Opened 0 ∷ Read 0 size_of_one ∷ Read 0 (1 ∷ []) ∷ Opened 1 ∷ Ended 1 ∷ Closed 1 ∷ []) [] }
+    ensures no_service { ComesToNoRest [] 2 1 (tiny_script (opening ∷ piece 0 (frame_of_one 1 ++ 0 ∷ []) ∷ resting ∷ opening ∷ input_end 0 ∷ input_end 1 ∷ []) [])
+        (Opened 0 ∷ Read 0 size_of_one ∷ Read 0 (1 ∷ []) ∷ Opened 1 ∷ Ended 1 ∷ Closed 1 ∷ []) [] }
 {}

@@ -21,3 +21,6 @@ returns-clause-rest_between c = refl
 
 pub returns-clause-read_fails : goal.returns-clause-read_fails
 returns-clause-read_fails c = refl
+
+pub returns-clause-held_at_a_rest : goal.returns-clause-held_at_a_rest
+returns-clause-held_at_a_rest c = refl

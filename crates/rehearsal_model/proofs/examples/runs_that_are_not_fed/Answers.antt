@@ -1,11 +1,11 @@
 use Rattle.std.proofs.Common.{◌≤◌, [], ◌∷◌, refl, arith}
 use Rattle.std.proofs.lemmas.Bool.{false≢true}
-use Rattle.outside.specs.declared.marks.Mark.TheVariants.{Opened, Read}
+use Rattle.outside.specs.declared.marks.Mark.TheVariants.{Opened, Read, Closed}
 use Rattle.host_model.specs.Journal.{entries_of}
 use Rattle.host_model.specs.TinyDesk.{tiny_desk, size_of_one}
 use Rattle.rehearsal_model.specs.ScriptLines.{opening, piece, input_end}
 use Rattle.rehearsal_model.specs.Rows.{frame_of_one}
-use Rattle.rehearsal_model.proofs.NotFed.{not_over, not_more, no_place, no_place_beside}
+use Rattle.rehearsal_model.proofs.NotFed.{not_over, not_more, no_place, no_place_beside, no_place_past_an_end}
 use Rattle.rehearsal_model.proofs.examples.runs_that_are_not_fed.Goals as goal
 
 pub returns-clause-read_over_a_piece : goal.returns-clause-read_over_a_piece
@@ -25,7 +25,7 @@ returns-clause-ended_in_place_of_a_fault c = λ journal back fed. false≢true (
 
 pub returns-clause-opened_before_the_rest : goal.returns-clause-opened_before_the_rest
 returns-clause-opened_before_the_rest c = λ journal back fed.
-    no_place tiny_desk 2 (0 ∷ 0 ∷ 1 ∷ 1 ∷ []) 0 back journal
+    no_place tiny_desk 2 (opening ∷ piece 0 (frame_of_one 1) ∷ []) (0 ∷ 0 ∷ 1 ∷ 1 ∷ []) 0 back journal refl refl
     (fed.rests (opening ∷ piece 0 (frame_of_one 1) ∷ []) (opening ∷ input_end 0 ∷ input_end 1 ∷ []) refl)
 
 pub returns-clause-rest_beside_a_bad_size : goal.returns-clause-rest_beside_a_bad_size
@@ -33,3 +33,8 @@ returns-clause-rest_beside_a_bad_size c = λ journal back fed.
     no_place_beside tiny_desk 2 (255 ∷ 255 ∷ 255 ∷ 255 ∷ []) (0 ∷ 0 ∷ 1 ∷ 1 ∷ []) 0 back journal (omega arith)
     (fed.rests (opening ∷ opening ∷ piece 0 (255 ∷ 255 ∷ 255 ∷ 255 ∷ []) ∷ piece 1 (frame_of_one 1) ∷ [])
     (opening ∷ piece 2 (frame_of_one 1) ∷ input_end 0 ∷ input_end 1 ∷ input_end 2 ∷ []) refl)
+
+pub returns-clause-ended_before_the_rest : goal.returns-clause-ended_before_the_rest
+returns-clause-ended_before_the_rest c = λ journal back fed.
+    no_place_past_an_end tiny_desk 2 (opening ∷ opening ∷ piece 0 (frame_of_one 1) ∷ []) (0 ∷ 0 ∷ 1 ∷ 1 ∷ []) 0 (Closed 1 ∷ back) journal refl refl refl
+    (fed.rests (opening ∷ opening ∷ piece 0 (frame_of_one 1) ∷ []) (input_end 0 ∷ input_end 1 ∷ []) refl)
