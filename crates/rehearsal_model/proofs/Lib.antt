@@ -28,3 +28,9 @@ pub mod Tracing
 pub mod Stalling
 pub mod Placing
 pub mod Unrested
+pub mod Weighing
+pub mod Spending
+pub mod Draining
+pub mod Baring
+pub mod BarePlays
+pub mod Unending

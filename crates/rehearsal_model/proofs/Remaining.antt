@@ -18,7 +18,7 @@ pub record Remains (pieces : List (List ℕ)) (read : List ℕ) (left : List (Li
 pub all_remains : (pieces : List (List ℕ)) → Remains pieces [] pieces
 all_remains pieces = record { bytes = refl; ends = λ at l. refl }
 
-left_bytes : (bytes : List ℕ) (pieces : List (List ℕ)) → bytes_of_pieces (pieces_left bytes pieces) ≡ bytes ++ bytes_of_pieces pieces
+pub left_bytes : (bytes : List ℕ) (pieces : List (List ℕ)) → bytes_of_pieces (pieces_left bytes pieces) ≡ bytes ++ bytes_of_pieces pieces
 left_bytes [] pieces = refl
 left_bytes (byte ∷ bytes) pieces = refl
 

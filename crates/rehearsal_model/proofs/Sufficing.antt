@@ -52,7 +52,7 @@ module _ {C A M : Type 0} (d : DeskRules C A) (r : ServiceRules C A M) (memory :
   drain_agrees (suc m) zero l play = absurd (let f : ⊥ = omega arith in f)
   drain_agrees (suc m) (suc n) l play = and_agrees _ _ _ _ (pass_agrees play) (λ next. either_agrees (next.moves == play.moves) (Some play) _ _ (drain_agrees m n (omega arith) next))
 
-  line_agrees : (play : Play C A M) (line : PlanLine) → Agrees (line_done d r memory fuel budget workers play line) (line_done d r memory more budget workers play line)
+  pub line_agrees : (play : Play C A M) (line : PlanLine) → Agrees (line_done d r memory fuel budget workers play line) (line_done d r memory more budget workers play line)
   line_agrees play opening = agrees_same _
   line_agrees play (piece c bytes) = agrees_same _
   line_agrees play (input_end c) = agrees_same _
@@ -62,7 +62,7 @@ module _ {C A M : Type 0} (d : DeskRules C A) (r : ServiceRules C A M) (memory :
   line_agrees play (turn_of_worker w) = agrees_same _
   line_agrees play turn_of_outcome = agrees_same _
 
-  lines_agree : (lines : List PlanLine) (play : Play C A M) → Agrees (lines_done d r memory fuel budget workers lines play) (lines_done d r memory more budget workers lines play)
+  pub lines_agree : (lines : List PlanLine) (play : Play C A M) → Agrees (lines_done d r memory fuel budget workers lines play) (lines_done d r memory more budget workers lines play)
   lines_agree [] play = drain_agrees fuel more less play
   lines_agree (line ∷ lines) play = and_agrees _ _ _ _ (line_agrees play line) (λ next. lines_agree lines next)
 

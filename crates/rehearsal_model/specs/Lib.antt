@@ -5,5 +5,6 @@ pub mod RestLines
 pub mod Fed
 pub mod Playing
 pub mod Rehearsing
+pub mod Showing
 pub mod Rows
 pub mod Ending

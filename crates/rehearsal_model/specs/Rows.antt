@@ -1,15 +1,17 @@
 -- Scripts of a tiny desk, for examples.
-use Rattle.std.specs.Prelude.{◌≡◌, ℕ, ◌==◌, if◌then◌else◌, Option, Some, List, [], ◌∷◌, ◌++◌, map, option_map}
+use Rattle.std.specs.Prelude.{◌≡◌, ℕ, true, ◌==◌, if◌then◌else◌, Option, Some, List, [], ◌∷◌, ◌++◌, map, option_map}
 use Rattle.outside.specs.declared.marks.Mark.{Mark}
 use Rattle.host_model.specs.declared.cause.EndCause.{EndCause}
 use Rattle.host_model.specs.Journal.{JournalEntry}
 use Rattle.host_model.specs.TinyDesk.{tiny_desk, counting, size_of_one}
 use Rattle.machine_model.specs.Tiny.{tiny_hall, causes_from}
+use Rattle.machine_model.specs.Machine.{Cell}
 use Rattle.machine_model.specs.Merge.{cell_at_first}
 use Rattle.rehearsal_model.specs.ScriptLines.{PlanLine, PlanRule, ScriptPlan}
 use Rattle.rehearsal_model.specs.Fed.{IsFedBy}
 use Rattle.rehearsal_model.specs.Playing.{MemoryAt, ample, always_ample, Play}
 use Rattle.rehearsal_model.specs.Rehearsing.{rehearsal}
+use Rattle.rehearsal_model.specs.Showing.{IsRehearsedTo}
 
 -- a script with these lines, and these rules of connection 0
 abbrev pub tiny_script : List PlanLine → List PlanRule → ScriptPlan
@@ -51,3 +53,11 @@ abbrev pub ComesToNoRest : List ℕ → ℕ → ℕ → ScriptPlan → List Mark
 ComesToNoRest memories budget workers script tape journal =
     (option_map told_by (rehearsal tiny_desk counting always_ample 20 budget workers script (cell_at_first (record tiny_hall { memories = memories }))) ≡ Some (tape, journal))
     × (IsFedBy tiny_desk budget script tape journal → ⊥)
+
+-- the tiny desk's machine before it has done anything, with a hall that is closed
+abbrev pub closed_at_first : Cell ℕ ℕ ℕ
+closed_at_first = cell_at_first (record tiny_hall { closed = true })
+
+-- its rehearsal shows this tape, this journal and these causes, where memory is ample
+abbrev pub ShowsAll : ℕ → ℕ → ScriptPlan → List Mark → List (JournalEntry ℕ ℕ) → List EndCause → Type 0
+ShowsAll budget workers script tape journal causes = IsRehearsedTo tiny_desk counting (5 ∷ []) always_ample budget workers script 0 tape journal causes

@@ -1,16 +1,18 @@
 //! Scripts of a tiny desk and what their rehearsals come to, each the contract of a function that does nothing.
 
-ghost use Rattle.std.specs.Prelude.{ℕ, None, List, [], ◌∷◌, ◌++◌};
+ghost use Rattle.std.specs.Prelude.{◌≡◌, ℕ, None, List, [], ◌∷◌, ◌++◌};
+ghost use Rattle.host_model.specs.declared.cause.EndCause.{EndCause};
 ghost use Rattle.outside.specs.declared.marks.Mark.{Mark};
 ghost use Rattle.outside.specs.declared.marks.Mark.TheVariants.{Opened, Read, Ended, Wrote, ReadFailed, WriteFailed, Closed};
 ghost use Rattle.host_model.specs.declared.cause.EndCause.TheVariants.{End, Cut, ReadFault, WriteFault, NoMemory};
 ghost use Rattle.host_model.specs.Journal.{JournalEntry};
-ghost use Rattle.host_model.specs.TinyDesk.{tiny_desk, tiny_entry, size_of_one};
+ghost use Rattle.host_model.specs.TinyDesk.{tiny_desk, counting, tiny_entry, size_of_one};
 ghost use Rattle.rehearsal_model.specs.ScriptLines.{opening, piece, input_end, input_fault, resting, turn_of_conn, turn_of_worker, turn_of_outcome, takes_most, blocks, fails};
 ghost use Rattle.rehearsal_model.specs.RestLines.{IsOverBudget};
 ghost use Rattle.rehearsal_model.specs.Fed.{IsFedBy};
-ghost use Rattle.rehearsal_model.specs.Playing.{lacking, lacking_for_call, lacking_for_answer};
-ghost use Rattle.rehearsal_model.specs.Rows.{tiny_script, frame_of_one, RehearsesTo, RehearsesWith, EndsWith, once, ComesToNoRest};
+ghost use Rattle.rehearsal_model.specs.Playing.{always_ample, lacking, lacking_for_call, lacking_for_answer};
+ghost use Rattle.rehearsal_model.specs.Rehearsing.{rehearsal};
+ghost use Rattle.rehearsal_model.specs.Rows.{tiny_script, frame_of_one, RehearsesTo, RehearsesWith, EndsWith, ShowsAll, closed_at_first, once, ComesToNoRest};
 
 /// Rehearsals as they go: no line; an input that ends inside a size; a budget of one frame, for which a second connection is held until the first one's call is
 /// collected; a write of one byte and one that fails, with a block between them; two workers that overtake each other, on schedule; a rest between two calls;
@@ -114,4 +116,20 @@ pub fn rehearsals_without_rest()
         (Opened 0 ∷ Read 0 size_of_one ∷ Read 0 (1 ∷ []) ∷ Opened 1 ∷ Ended 1 ∷ Closed 1 ∷ []) [] }
     ensures no_service { ComesToNoRest [] 2 1 (tiny_script (opening ∷ piece 0 (frame_of_one 1 ++ 0 ∷ []) ∷ resting ∷ opening ∷ input_end 0 ∷ input_end 1 ∷ []) [])
         (Opened 0 ∷ Read 0 size_of_one ∷ Read 0 (1 ∷ []) ∷ Opened 1 ∷ Ended 1 ∷ Closed 1 ∷ []) [] }
+{}
+
+/// On a hall that is closed a script with one call has no rehearsal, whatever number of steps: its payload is submitted for ever. So the law asks for one that
+/// isn't.
+pub fn a_closed_hall_has_no_rehearsal()
+    ensures { (fuel : ℕ) →
+        rehearsal tiny_desk counting always_ample fuel 2 1 (tiny_script (opening ∷ piece 0 (frame_of_one 1) ∷ input_end 0 ∷ []) []) closed_at_first ≡ None }
+{}
+
+/// What shows of the rehearsal of one call (`shows`), and nothing else does (`no_other`).
+pub fn what_shows_of_a_call()
+    ensures shows { ShowsAll 2 1 (tiny_script (opening ∷ piece 0 (frame_of_one 1) ∷ input_end 0 ∷ []) [])
+        (Opened 0 ∷ Read 0 size_of_one ∷ Read 0 (1 ∷ []) ∷ Wrote 0 (5 ∷ 5 ∷ []) ∷ Ended 0 ∷ Closed 0 ∷ []) (tiny_entry 0 5 ∷ []) (End ∷ []) }
+    ensures no_other { (tape : List Mark) (journal : List (JournalEntry ℕ ℕ)) (causes : List EndCause) →
+        ShowsAll 2 1 (tiny_script (opening ∷ piece 0 (frame_of_one 1) ∷ input_end 0 ∷ []) []) tape journal causes →
+        (tape ≡ Opened 0 ∷ Read 0 size_of_one ∷ Read 0 (1 ∷ []) ∷ Wrote 0 (5 ∷ 5 ∷ []) ∷ Ended 0 ∷ Closed 0 ∷ []) × (journal ≡ tiny_entry 0 5 ∷ []) × (causes ≡ End ∷ []) }
 {}

@@ -3,8 +3,9 @@
 //!
 //! The files of `specs/`, in reading order: the lines of a script, and what they say of each connection; what lets inputs end
 //! behind all pieces; how much each write takes under its rule; what a line of rest asks of a run; the run that a script feeds;
-//! the moves of a machine in rehearsal; the whole rehearsal; and what a script gives for its connections to move and to end. A
-//! crate that runs scripts says that its run is fed, and is the rehearsal where memory is ample:
+//! the moves of a machine in rehearsal; the whole rehearsal; what a script gives for its connections to move and to end; and a
+//! rehearsal told by what shows of it. Every script has a rehearsal (`steps`), which the script feeds (`feeding`), and what shows
+//! of it is one (`showing`). A crate that runs scripts says that its run is fed, and is the rehearsal where memory is ample:
 //!
 //! ```rust
 //! ensures fed { IsFedBy desk budget (plain_script script.now) result.tape.items (journal_of result) }
@@ -16,4 +17,6 @@ pub mod examples;
 pub mod feeding;
 pub mod laws;
 pub mod reading;
+pub mod showing;
+pub mod steps;
 pub mod wants;

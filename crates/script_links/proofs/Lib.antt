@@ -5,4 +5,5 @@ pub mod OneLine
 pub mod Standing
 pub mod ReadBack
 pub mod Soundness
+pub mod AllEnding
 pub mod Steps

@@ -1,16 +1,18 @@
 -- What every script is sound by.
-use Rattle.std.proofs.Common.{◌≡◌, ℕ, zero, suc, ◌+◌, ◌<◌, ◌≤◌, ◌||◌, Bool, true, false, not, cond, nat_le, List, [], ◌∷◌, ◌++◌, length, get_or, set, map, Option, Some, None, refl, sym, ap, subst, ◌∙◌, ⊎_elim, arith, get_or-set_other, get_or-set_same}
+use Rattle.std.proofs.Common.{◌≡◌, ℕ, zero, suc, ◌+◌, ◌<◌, ◌≤◌, ◌||◌, Bool, true, false, not, cond, nat_le, max, List, [], ◌∷◌, ◌++◌, length, get_or, set, map, Option, Some, None, refl, sym, ap, subst, ◌∙◌, ⊎_elim, arith, get_or-set_other, get_or-set_same}
 use Rattle.std.proofs.lemmas.Bool.{leb-false, eq-eqb, ne_eqb, cases_eq, true≢false}
 use Rattle.std.specs.List.{list_any}
 use Rattle.rehearsal_model.specs.ScriptLines.{PlanLine, opening, piece, input_end, input_fault, resting, turn_of_conn, turn_of_worker, turn_of_outcome, PlanRule, takes_most, one_if_opens, openings, ScriptPlan, piece_by, pieces_on, some_line}
+use Rattle.rehearsal_model.specs.Rehearsing.{workers_among}
 use Rattle.script_links.specs.declared.fault.ScriptKind.{ScriptKind}
-use Rattle.script_links.specs.declared.fault.ScriptKind.TheVariants.{NoConnection, AfterEnd}
+use Rattle.script_links.specs.declared.fault.ScriptKind.TheVariants.{NoConnection, AfterEnd, NoWorker, Schedule}
 use Rattle.script_links.specs.LineForms.{runs}
 use Rattle.script_links.specs.Reading.{conn_of_line, is_unopened, fault_of_line, over_behind}
 use Rattle.script_links.specs.Printing.{said_text, said_in}
-use Rattle.script_links.specs.Sound.{IsKeptScript, closes_input, EndsOnce, IsSoundPlan}
+use Rattle.script_links.specs.Sound.{IsKeptScript, closes_input, EndsOnce, IsSoundPlan, MovesItsWorkers}
+use Rattle.script_links.proofs.Numbers.{bytes_at}
 use Rattle.script_links.proofs.Written.{IsWritable}
-use Rattle.script_links.proofs.Standing.{over_all, Pass, AreRules, rules_at, over_count, unscheduled, plan_stands}
+use Rattle.script_links.proofs.Standing.{over_all, Pass, AreRules, rules_at, over_count, unscheduled, working, IsReadTo, plan_stands}
 use Rattle.script_links.proofs.ReadBack.{few_opened}
 
 -- tests that a line without fault doesn't pass
@@ -146,6 +148,12 @@ at_split : (workers : ℕ) (schedule : Bool) (over : List Bool) (above behind : 
 at_split workers schedule over [] behind line pass = pass.0
 at_split workers schedule over (x ∷ above) behind line pass = at_split workers schedule (over_behind x over) above behind line pass.1
 
+-- and what stands behind it passes
+pass_behind : (workers : ℕ) (schedule : Bool) (over : List Bool) (above behind : List PlanLine) (line : PlanLine) → Pass workers schedule over (above ++ line ∷ behind)
+    → Pass workers schedule (over_behind line (over_all over above)) behind
+pass_behind workers schedule over [] behind line pass = pass.1
+pass_behind workers schedule over (x ∷ above) behind line pass = pass_behind workers schedule (over_behind x over) above behind line pass.1
+
 -- a connection that a line speaks of is opened
 opened_by : (over : List Bool) (of_line : Option ℕ) (c : ℕ) → of_line ≡ Some c → is_unopened (length over) of_line ≡ false → c < length over
 opened_by over None c is clear = absurd (cc)
@@ -176,22 +184,51 @@ rule_in : (above behind : List PlanRule) (count : ℕ) → AreRules (above ++ ta
 rule_in [] behind count are = are.0.0
 rule_in (x ∷ above) behind count are = rule_in above behind count are.1
 
--- what every script is sound by
-pub sound : (script : ScriptPlan) → IsKeptScript script → IsSoundPlan script
-sound script back =
-    let to = plan_stands 8 true (map said_text (said_in script)) script back in
+-- A worker that a line moves is there.
+worker_by : (schedule : Bool) (workers w : ℕ) → cond (not schedule) (Some Schedule) (cond (nat_le (max workers 1) w) (Some NoWorker) None) ≡ None → w < workers_among workers
+worker_by schedule workers w clear = go workers (leb-false (max workers 1) w (working (nat_le (max workers 1) w) (unscheduled (not schedule) _ clear)))
+  where
+    go : (n : ℕ) → w < max n 1 → w < workers_among n
+    go zero l = omega (arith, l)
+    go (suc n) l = omega (arith, l)
+
+-- a connection that a line in the middle speaks of is opened above it
+pub opened_at : (workers : ℕ) (schedule : Bool) (c : ℕ) (above behind : List PlanLine) (line : PlanLine) → Pass workers schedule [] (above ++ line ∷ behind) → conn_of_line line ≡ Some c
+    → c < length (over_all [] above)
+opened_at workers schedule c above behind line pass of_line =
+    let clear : is_unopened (length (over_all [] above)) (conn_of_line line) ≡ false =
+    (connected (is_unopened (length (over_all [] above)) (conn_of_line line)) _ (unscheduled _ _ (at_split workers schedule [] above behind line pass).0)).0 in
+    opened_by (over_all [] above) (conn_of_line line) c of_line clear
+
+-- behind a line that lets the input of a connection end there is no piece of it
+pub behind_end : (workers : ℕ) (schedule : Bool) (c : ℕ) (above behind : List PlanLine) (line : PlanLine) → Pass workers schedule [] (above ++ line ∷ behind) → over_behind line (over_all [] above) ≡ set (over_all [] above) c true
+    → c < length (over_all [] above) → pieces_on c behind ≡ []
+behind_end workers schedule c above behind line pass is opened =
+    let over : List Bool = over_all [] above in
+    let later : Pass workers schedule (set over c true) behind = subst (λ now. Pass workers schedule now behind) is (pass_behind workers schedule [] above behind line pass) in
+    (past_end workers schedule (set over c true) behind c later (get_or-set_same over c true false opened)).no_piece
+
+-- what every script is sound by, by what it was read to
+pub sound_by : (workers : ℕ) (schedule : Bool) (script : ScriptPlan) → IsReadTo workers schedule script → IsSoundPlan script
+sound_by workers schedule script to =
     let passes : (above behind : List PlanLine) (line : PlanLine) → script.lines ≡ above ++ line ∷ behind
-    → (fault_of_line 8 true (over_all [] above) (runs line) ≡ None) × IsWritable (runs line) =
-    λ above behind line is. at_split 8 true [] above behind line (subst (λ lines. Pass 8 true [] lines) is to.pass) in
+    → (fault_of_line workers schedule (over_all [] above) (runs line) ≡ None) × IsWritable (runs line) =
+    λ above behind line is. at_split workers schedule [] above behind line (subst (λ lines. Pass workers schedule [] lines) is to.pass) in
     record {
       opened = λ above behind line c is of_line.
-          let clear : is_unopened (length (over_all [] above)) (conn_of_line line) ≡ false =
-          (connected (is_unopened (length (over_all [] above)) (conn_of_line line)) _ (unscheduled _ _ (passes above behind line is).0)).0 in
-          omega (arith, opened_by (over_all [] above) (conn_of_line line) c of_line clear, over_all_count [] above);
-      few = omega (arith, few_lines 8 true [] script.lines to.pass (omega arith));
+          omega (arith, opened_at workers schedule c above behind line (subst (λ lines. Pass workers schedule [] lines) is to.pass) of_line, over_all_count [] above);
+      few = omega (arith, few_lines workers schedule [] script.lines to.pass (omega arith));
       with_rules = to.count;
-      ends = λ c within. ends_once 8 true [] script.lines c to.pass refl
+      ends = λ c within. ends_once workers schedule [] script.lines c to.pass refl
           (ap (λ over. get_or over c false) to.over_is ∙ over_at to.over c to.ended (omega (arith, within, to.opened)));
-      pieces = λ above behind c bytes is. (passes above behind (piece c bytes) is).1.1.0;
+      pieces = λ above behind c bytes is. ((passes above behind (piece c bytes) is).1.1.0, bytes_at bytes (passes above behind (piece c bytes) is).1.1.1);
       writes = λ c count above behind is. rule_in above behind count (subst AreRules is (rules_at script.rules c to.rules));
     }
+
+pub sound : (script : ScriptPlan) → IsKeptScript script → IsSoundPlan script
+sound script back = sound_by 8 true script (plan_stands 8 true (map said_text (said_in script)) script back)
+
+-- and whom its lines move
+pub workers_by : (workers : ℕ) (schedule : Bool) (script : ScriptPlan) → IsReadTo workers schedule script → MovesItsWorkers workers script
+workers_by workers schedule script to above behind w is =
+    worker_by schedule workers w (at_split workers schedule [] above behind (turn_of_worker w) (subst (λ lines. Pass workers schedule [] lines) is to.pass)).0

@@ -178,7 +178,7 @@ pub unscheduled : (test : Bool) (fault : Option ScriptKind) → cond test (Some 
 unscheduled true fault is = absurd (cc)
 unscheduled false fault is = is
 
-working : (test : Bool) → cond test (Some NoWorker) None ≡ None → test ≡ false
+pub working : (test : Bool) → cond test (Some NoWorker) None ≡ None → test ≡ false
 working true is = absurd (cc)
 working false is = refl
 

@@ -1,7 +1,8 @@
 //! Scripts of many connections: the text of a script read to its lines and rules, or to its first fault, and printed again.
 //! It runs no script; what a script makes of a run is said in `rehearsal_model`.
 //!
-//! A script that was read is sound: its print is read as itself, so no line of it has a fault (`laws`).
+//! A script that was read is sound: its print is read as itself, so no line of it has a fault; and it lets each of its
+//! connections end, with as many workers as it was read for (`laws`).
 //!
 //! ```rust
 //! let script = read_script(alloc, b"open\ndata 0 00000001\nwrite 0 5\nend 0\n", 0, true)?;
