@@ -1,4 +1,4 @@
-//! Tests of calls: what an office decides and replies, and what handlers answer.
+//! Tests of calls: what an office decides and replies, what handlers answer, and a recorded connection that both serve.
 #![tactic(auto)]
 
 #[cfg(test)]
@@ -9,5 +9,7 @@ mod kept_texts;
 mod mirrored;
 #[cfg(test)]
 mod offices;
+#[cfg(test)]
+mod recordings;
 #[cfg(test)]
 mod values;

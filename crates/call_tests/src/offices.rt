@@ -1,6 +1,7 @@
 //! What an office of the example decides and replies, in both protocols: service V { list<S> f() }, and no field of S has to be there.
 
-ghost use Rattle.std.specs.Prelude.{◌≡◌, ◌∷◌, [], codes, IfOk};
+ghost use Rattle.std.specs.Prelude.{◌≡◌, ◌∷◌, [], codes, length, IfOk};
+ghost use Rattle.processor.specs.Offices.{plain_office};
 
 use call_rules::{Answer, Decision, Desk};
 use envelope::Protocol;
@@ -77,7 +78,10 @@ fn named(alloc: Global) -> Result<BoundNames, AllocError>
     Ok(BoundNames::new(names))
 }
 
-fn office(alloc: Global, protocol: Protocol) -> Result<Office, AllocError> {
+pub(crate) fn office(alloc: Global, protocol: Protocol) -> Result<Office, AllocError>
+    ensures one { IfOk result (λ office. length (plain_office office).bindings ≡ 1) }
+    ensures longest { IfOk result (λ office. (plain_office office).max_frame ≡ 268435456) }
+{
     let schema = example(alloc)?;
     let bindings = Bindings::new(alloc, &schema, named(alloc)?)?;
     Ok(Office::new(schema, bindings, protocol, 268_435_456))

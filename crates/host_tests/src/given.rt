@@ -1,5 +1,8 @@
 //! What the tests share: the command, run over files and streams in memory.
 
+use calculator::Calculator;
+use call_rules::Handler;
+use house_handlers::{Mirror, Store};
 use outside::{MemFiles, MemSink, MemSource};
 use std::alloc::{AllocError, Global};
 use thrift_host::{Status, host};
@@ -58,13 +61,23 @@ impl Given {
         }
     }
 
-    /// Runs the command of these words.
+    /// Runs the command of these words, with a calculator, a store and a mirror.
     pub(crate) fn run<R>(self, rt: &R, alloc: Global, words: &[&str]) -> Result<Ended, AllocError> {
         let words = owned(alloc, words)?;
-        Ok(self.run_owned(rt, alloc, words.as_slice()))
+        let calculator: Box<dyn Handler> = Box::new(alloc, Calculator::new(alloc))?;
+        let store: Box<dyn Handler> = Box::new(alloc, Store::new(alloc))?;
+        let mirror: Box<dyn Handler> = Box::new(alloc, Mirror::new())?;
+        let handlers = vec![in alloc; calculator, store, mirror]?;
+        Ok(self.run_with(rt, alloc, words.as_slice(), handlers))
     }
 
-    fn run_owned<R>(self, rt: &R, alloc: Global, words: &[String]) -> Ended {
+    fn run_with<R, H: Handler>(
+        self,
+        rt: &R,
+        alloc: Global,
+        words: &[String],
+        handlers: Vec<H>,
+    ) -> Ended {
         let Given {
             mut files,
             mut input,
@@ -79,6 +92,7 @@ impl Given {
             &mut input,
             &mut output,
             &mut errors,
+            handlers,
         );
         Ended {
             status,

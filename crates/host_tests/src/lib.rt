@@ -1,5 +1,5 @@
-//! Tests of the program through its top call, and nothing else: recorded connections with their reports and refusals, texts that are scripts or
-//! none, IDLs that are accepted or refused, and runs at size.
+//! Tests of the program through its top call, and nothing else: recorded connections with their reports and refusals, services of many IDLs, texts
+//! that are scripts or none, IDLs that are accepted or refused, and runs at size.
 #![tactic(auto)]
 
 #[cfg(test)]
@@ -10,5 +10,7 @@ mod idls;
 mod recordings;
 #[cfg(test)]
 mod scripts;
+#[cfg(test)]
+mod services;
 #[cfg(test)]
 mod sizes;

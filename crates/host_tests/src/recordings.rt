@@ -30,7 +30,7 @@ const PING_REPORT: &[u8] =
 call 0 0 0 ping {} empty\nconn 0 End 00000011800100020000000470696e670000000000\ncalls 1\n";
 
 /// Scripts with the last two lines of their reports, or all where they are two.
-const REPORTS: [(&[u8], &[u8]); 9] = [
+const REPORTS: [(&[u8], &[u8]); 10] = [
     (
         b"# both calls in one piece\nopen\n\ndata 0 00000011800100010000000470696e6700000000000000001E80010001000000036164640000000108000100000001080002000000010\
 0\nend 0",
@@ -62,6 +62,10 @@ const REPORTS: [(&[u8], &[u8]); 9] = [
     (
         b"open\ndata 0 00fa0000\nend 0\n",
         b"conn 0 Cut -\ncalls 0\n",
+    ),
+    (
+        b"open\ndata 0 00000011800100010000000470696e67000000000000000001ff\nend 0\n",
+        b"conn 0 Envelope Short 00000011800100020000000470696e670000000000\ncalls 1\n",
     ),
 ];
 
@@ -115,35 +119,6 @@ fn bytes_may_come_one_by_one(rt: HostRuntime) -> Result<(), Fail> {
     let ended = run_script(&rt, rt.alloc(), byte_by_byte(rt.alloc())?)?;
     assert!(rt; ended.status == Status::Done);
     assert!(rt; ended.output.as_slice() == report.as_slice());
-    Ok(())
-}
-
-/// Scripts that are refused, with their statuses and lines.
-const REFUSED: [(&[u8], Status, &[u8]); 4] = [
-    (b"open\n", Status::ScriptRefused, b"thriftd: script\n"),
-    (
-        b"open\ndata 0 0\nend 0\n",
-        Status::ScriptRefused,
-        b"thriftd: script\n",
-    ),
-    (
-        b"data 0 00\nend 0\n",
-        Status::ScriptRefused,
-        b"thriftd: script\n",
-    ),
-    (
-        b"open\ndata 0 00000011800100010000000470696e6700000000000000000100\nend 0\n",
-        Status::Unbuilt,
-        b"thriftd: unbuilt frame 1\n",
-    ),
-];
-
-#[test]
-fn refusals_are_named(rt: HostRuntime) -> Result<(), Fail> {
-    for (script, status, line) in &REFUSED {
-        let ended = run_script(&rt, rt.alloc(), script.to_vec(rt.alloc())?)?;
-        assert!(rt; ended.is_refused(*status, line));
-    }
     Ok(())
 }
 

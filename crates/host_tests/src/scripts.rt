@@ -1,10 +1,9 @@
 //! Texts that are scripts, with the pieces that are read of them, and texts that are none.
 
-use outside::{MemSink, MemSource};
-use recording::{RecordingFault, answer_recorded};
-use std::alloc::{AllocError, Global};
+use crate::given::run_script;
 use std::process::Abort;
 use std::test::Fail;
+use thrift_host::Status;
 
 /// Scripts with the beginnings of their reports, which have a read for each piece.
 const SCRIPTS: [(&[u8], &[u8]); 6] = [
@@ -53,23 +52,12 @@ const NO_SCRIPTS: [&[u8]; 24] = [
     b"Open\nend 0\n",
 ];
 
-/// What answering a recording came to, and what was written.
-type Answered = (Result<(), RecordingFault>, Vec<u8>);
-
-/// Answers the recording that a text is.
-fn answer(alloc: Global, text: &[u8]) -> Result<Answered, AllocError> {
-    let mut input = MemSource::new(text.to_vec(alloc)?, Vec::new(alloc));
-    let mut output = MemSink::new(alloc, Vec::new(alloc));
-    let answered = answer_recorded(alloc, &mut input, &mut output);
-    Ok((answered, output.into_bytes()))
-}
-
 #[test]
 fn scripts_are_read_in_pieces(rt: HostRuntime) -> Result<(), Fail> {
     for (text, front) in &SCRIPTS {
-        let (answered, output) = answer(rt.alloc(), text)?;
+        let ended = run_script(&rt, rt.alloc(), text.to_vec(rt.alloc())?)?;
         assert!(rt;
-            answered == Ok(()) && output.as_slice().starts_with(front),
+            ended.status == Status::Done && ended.output.as_slice().starts_with(front),
             "{text:?}"
         );
     }
@@ -79,9 +67,9 @@ fn scripts_are_read_in_pieces(rt: HostRuntime) -> Result<(), Fail> {
 #[test]
 fn other_texts_are_refused(rt: HostRuntime) -> Result<(), Fail> {
     for text in NO_SCRIPTS {
-        let (answered, output) = answer(rt.alloc(), text)?;
+        let ended = run_script(&rt, rt.alloc(), text.to_vec(rt.alloc())?)?;
         assert!(rt;
-            answered == Err(RecordingFault::NoScript) && output.is_empty(),
+            ended.is_refused(Status::ScriptRefused, b"thriftd: script\n"),
             "{text:?}"
         );
     }

@@ -1,5 +1,5 @@
 -- One service of several answers a call.
-use Rattle.std.proofs.Common.{◌≡◌, ℕ, zero, suc, ◌<◌, Some, List, [], ◌∷◌, length, map, get_or, slice_get, Result, Ok, Err, OnOk, OnErr, refl, sym, ap, ◌∙◌, subst, arith}
+use Rattle.std.proofs.Common.{◌≡◌, ℕ, zero, suc, ◌<◌, Some, List, [], ◌∷◌, length, map, get_or, slice_get, Result, Ok, Err, OnOk, OnErr, refl, ap, ◌∙◌, arith}
 use Rattle.std.specs.Prelude.{slice_set, IfOk}
 use Rattle.call_rules.specs.PlainCalls.{PlainCall}
 use Rattle.call_rules.specs.declared.call.Answer.{Answer}

@@ -1,5 +1,5 @@
 -- A run whose connection has ended is a whole one.
-use Rattle.std.proofs.Common.{◌≡◌, ◌≢◌, ℕ, zero, suc, ◌<◌, ◌≤◌, ◌^◌, Option, Some, Bool, true, false, true≢false, List, [], ◌∷◌, ◌++◌, length, get_or, take, drop, slice_get, refl, sym, ap, ◌∙◌, subst, arith, suc-ne-zero}
+use Rattle.std.proofs.Common.{◌≡◌, ◌≢◌, ℕ, zero, suc, ◌<◌, ◌≤◌, ◌^◌, Option, Some, Bool, true, false, true≢false, List, [], ◌∷◌, ◌++◌, length, take, drop, slice_get, refl, sym, ap, ◌∙◌, subst, arith, suc-ne-zero}
 use Rattle.std.specs.Prelude.{None, All}
 use Rattle.std.specs.List.{AllByRecursion}
 use Rattle.std.proofs.lemmas.Option.{same_Some}
@@ -8,20 +8,18 @@ use Rattle.outside.specs.declared.marks.Mark.{Mark}
 use Rattle.conn_state.specs.Phase.{Phase, ended, cause_of, sizing, held, framing, ready, waiting, writing}
 use Rattle.host_model.specs.declared.cause.EndCause.{EndCause}
 use Rattle.host_model.specs.declared.cause.EndCause.TheVariants.{End, Cut, SizeFault, Envelope, ReadFault, WriteFault, NoMemory, Stopped}
-use Rattle.host_model.specs.Marks.{marks_of}
 use Rattle.host_model.specs.Journal.{entries_of}
 use Rattle.host_model.specs.Headline.{Headline}
 use Rattle.host_model.specs.World.{Endpoint, Stage, HasEnded, unopened_endpoint, over, over_pending, unopened, open_, pending, answered}
 use Rattle.host_model.proofs.Runs.{meets}
 use Rattle.script_model.specs.Arrival.{Arrival}
-use Rattle.script_model.specs.Sending.{EachWriteTakesTheRest, WritesTheRest}
-use Rattle.script_model.specs.Rehearsal.{IsReadToItsEnd, FollowsArrival, IsRunOn}
+use Rattle.script_model.specs.Rehearsal.{is_scripted, IsReadToItsEnd, FollowsArrival, IsRunOn}
 use Rattle.call_rules.specs.Entries.{CallEntry}
 use Rattle.call_rules.specs.Desks.{DeskMeaning, desk_rules, longest_payload}
 use Rattle.call_rules.specs.Handling.{ServiceState, handler_rules}
 use Rattle.run_report.specs.Entries.{IsPlainEntry}
 use Rattle.recorded_calls.specs.declared.run.ServedRun.{ServedRun}
-use Rattle.recorded_calls.specs.Causes.{is_served, is_served_or_stopped, is_stopped}
+use Rattle.recorded_calls.specs.Causes.{is_scripted_or_stopped, is_stopped}
 use Rattle.recorded_calls.specs.Serving.{Serving}
 use Rattle.recorded_calls.specs.Served.{IsServed}
 use Rattle.recorded_calls.specs.Pieces.{IsServedByPieces}
@@ -75,7 +73,7 @@ stops_not WriteFault other e = e
 stops_not NoMemory other e = e
 
 -- a cause of a run that wasn't stopped
-served_alone : (cause : EndCause) → is_stopped cause ≡ false → is_served_or_stopped cause ≡ true → is_served cause ≡ true
+served_alone : (cause : EndCause) → is_stopped cause ≡ false → is_scripted_or_stopped cause ≡ true → is_scripted cause ≡ true
 served_alone Stopped alive e = absurd (true≢false alive)
 served_alone End alive e = e
 served_alone Cut alive e = e
@@ -87,13 +85,13 @@ served_alone NoMemory alive e = e
 
 -- a run that wasn't stopped ended by a cause of its script
 pub run_alone : (desk : DeskMeaning) (first : List ServiceState) (arrival : Arrival) (tape : List Mark) (journal : List CallEntry) (cause : EndCause) → is_stopped cause ≡ false
-    → IsRunOn (desk_rules desk) handler_rules first is_served_or_stopped (λ c. arrival) tape journal (cause ∷ [])
-    → IsRunOn (desk_rules desk) handler_rules first is_served (λ c. arrival) tape journal (cause ∷ [])
+    → IsRunOn (desk_rules desk) handler_rules first is_scripted_or_stopped (λ c. arrival) tape journal (cause ∷ [])
+    → IsRunOn (desk_rules desk) handler_rules first is_scripted (λ c. arrival) tape journal (cause ∷ [])
 run_alone desk first arrival tape journal cause alive run =
     record {
       headline = run.headline;
-      served = only_one (λ c given. FollowsArrival (desk_rules desk) is_served c arrival tape (entries_of c journal) given) cause
-          (let f : FollowsArrival (desk_rules desk) is_served_or_stopped 0 arrival tape (entries_of 0 journal) cause = run.served 0 cause refl in
+      served = only_one (λ c given. FollowsArrival (desk_rules desk) is_scripted c arrival tape (entries_of c journal) given) cause
+          (let f : FollowsArrival (desk_rules desk) is_scripted_or_stopped 0 arrival tape (entries_of 0 journal) cause = run.served 0 cause refl in
           record { allowed = served_alone cause alive f.allowed; front = f.front; to_its_end = f.to_its_end; fed = f.fed; written = f.written });
     }
 
@@ -106,12 +104,12 @@ served s told torn v ends run cause short e u fed =
     let is_over : IsOver (u.world.endpoints 0).stage cause = subst (λ ph. ServedPhaseStands s.desk.max_frame ph (u.world.endpoints 0)) phase u.stands in
     let well : ServedEndsWell (ended cause) (take run.at s.all) s.all = subst (λ ph. ServedEndsWell ph (take run.at s.all) s.all) phase u.ends_well in
     let journal = u.world.journal in
-    let run_on : IsRunOn (setting_rules s) handler_rules s.first is_served_or_stopped (λ c. record { bytes = s.all; ends = ends }) run.tape.items journal (cause ∷ []) =
+    let run_on : IsRunOn (setting_rules s) handler_rules s.first is_scripted_or_stopped (λ c. record { bytes = s.all; ends = ends }) run.tape.items journal (cause ∷ []) =
     record {
       headline =
           subst (λ t. Headline (setting_rules s) handler_rules s.first t journal (cause ∷ [])) (sym u.same_tape)
           (meets (setting_rules s) handler_rules s.first u.acts u.world (cause ∷ []) short u.reached (all_ended u.world.endpoints cause is_over u.others));
-      served = only_one (λ c given. FollowsArrival (setting_rules s) is_served_or_stopped c (record { bytes = s.all; ends = ends }) run.tape.items (entries_of c journal) given) cause
+      served = only_one (λ c given. FollowsArrival (setting_rules s) is_scripted_or_stopped c (record { bytes = s.all; ends = ends }) run.tape.items (entries_of c journal) given) cause
           (record {
             allowed = well.0;
             front = (drop run.at s.all, sym (take-append-drop run.at s.all) ∙ ap (λ front. front ++ drop run.at s.all) (sym u.read));

@@ -1,13 +1,17 @@
 pub mod Acts
 pub mod Asked
+pub mod Cuts
+pub mod Digits
 pub mod Each
 pub mod Ends
 pub mod Entering
 pub mod Fed
 pub mod Moves
 pub mod Numbers
+pub mod OneReport
 pub mod Payloads
 pub mod Reading
 pub mod Results
+pub mod ScriptPieces
 pub mod Settled
 pub mod Writes

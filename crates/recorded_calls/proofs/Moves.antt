@@ -13,13 +13,13 @@ use Rattle.host_model.specs.declared.cause.EndCause.{EndCause}
 use Rattle.host_model.specs.declared.cause.EndCause.TheVariants.{End, Cut, SizeFault, Envelope, ReadFault, WriteFault, NoMemory, Stopped}
 use Rattle.host_model.specs.Marks.{marks_of, input, output}
 use Rattle.host_model.specs.Frames.{IsPartial}
-use Rattle.host_model.specs.Journal.{JournalEntry, entries_of}
+use Rattle.host_model.specs.Journal.{entries_of}
 use Rattle.call_rules.specs.Entries.{CallEntry}
 use Rattle.call_rules.specs.Handling.{handler_rules}
 use Rattle.host_model.specs.World.{Endpoint, Move, Moves, reads, reads_frame, reads_bad_size, ends, writes, gives_up, GivesUp, open_, pending, over, end_behind, marks_by, Moment, StageSays}
 use Rattle.recorded_calls.specs.declared.run.ServedRun.{ServedRun}
 use Rattle.script_model.specs.Rehearsal.{IsReadToItsEnd}
-use Rattle.recorded_calls.specs.Causes.{is_served_or_stopped}
+use Rattle.recorded_calls.specs.Causes.{is_scripted_or_stopped}
 use Rattle.recorded_calls.specs.Serving.{Serving}
 use Rattle.recorded_calls.specs.Run.{RunSetting, setting_rules, IsServingUnderWay, IsServing, IsStopped, IsStopping, ServedPhaseStands, ServedEndsWell, ServingMovesOn, frames_settled, moves_owed, tape_if_closed}
 use Rattle.script_model.specs.Sending.{WritesTheRest}
@@ -191,7 +191,7 @@ refuses s v run new h same u =
 -- an input that ends in this phase, behind the bytes that are held
 abbrev EndsAs : Phase → Endpoint → Type 0
 EndsAs phase line =
-    (cause : EndCause) × (after_end_of_input phase ≡ ended cause) × (end_behind line.held ≡ cause) × (is_served_or_stopped cause ≡ true)
+    (cause : EndCause) × (after_end_of_input phase ≡ ended cause) × (end_behind line.held ≡ cause) × (is_scripted_or_stopped cause ≡ true)
     × ((xs all : List ℕ) → xs ≡ all → IsReadToItsEnd cause xs all) × (IsStopping cause → ⊥)
 
 ends_as : (max : ℕ) (phase : Phase) (line : Endpoint) → IsReading phase → ServedPhaseStands max phase line → (line.stage ≡ open_ []) × EndsAs phase line

@@ -1,5 +1,5 @@
 -- What a payload comes to keeps a run under way: its decision is followed, or there was no memory.
-use Rattle.std.proofs.Common.{◌≡◌, ◌≢◌, ℕ, ◌+◌, ◌≤◌, ◌⊎◌, inl, inr, Bool, true, false, cond, Option, None, Some, List, [], ◌∷◌, ◌++◌, length, take, Result, Ok, Err, length-append, refl, sym, ap, ◌∙◌, subst, arith, append-nil}
+use Rattle.std.proofs.Common.{◌≡◌, ◌≢◌, ℕ, ◌≤◌, inl, inr, Bool, true, false, cond, None, Some, List, [], ◌∷◌, ◌++◌, length, Result, Ok, Err, length-append, refl, sym, ap, ◌∙◌, subst, arith, append-nil}
 use Rattle.std.specs.Int.{w32, to_be_bytes}
 use Rattle.outside.specs.Cause.{Rose}
 use Rattle.outside.specs.declared.outcomes.EnvelopeFault.{EnvelopeFault}
@@ -13,17 +13,17 @@ use Rattle.host_model.specs.DeskRules.{DeskDecision, Close, Silent, Reply, Invok
 use Rattle.host_model.specs.Conversation.{answer_at, reply_for}
 use Rattle.host_model.specs.World.{settles, replies, closes, gives_up, GivesUp, open_, over, over_pending, NeedsNoCall, Moment}
 use Rattle.host_model.proofs.Lists.{all_push}
-use Rattle.call_rules.specs.PlainCalls.{PlainCall, PlainAnswer}
+use Rattle.call_rules.specs.PlainCalls.{PlainCall}
 use Rattle.call_rules.specs.Entries.{CallEntry}
 use Rattle.call_rules.specs.Desks.{IsDesk, IsWholeFrame, IsAnsweredCall, longest_payload}
 use Rattle.call_rules.specs.Handling.{handler_rules}
 use Rattle.run_report.specs.Entries.{IsPlainEntry}
 use Rattle.recorded_calls.specs.declared.run.ServedRun.{ServedRun}
 use Rattle.recorded_calls.specs.Serving.{Serving, IsToldAs}
-use Rattle.recorded_calls.specs.Settling.{entry_of, StaysServing, GoesBack, IsEnteredAs, IsCalled, ComesWithoutCall, FollowsDecision, PayloadComesTo}
-use Rattle.recorded_calls.specs.Run.{RunSetting, setting_rules, IsServing, IsInStep, IsStopped, IsServingUnderWay, ServingMovesOn, after_outcome}
+use Rattle.recorded_calls.specs.Settling.{entry_of, StaysServing, GoesBack, IsCalled, ComesWithoutCall, FollowsDecision, PayloadComesTo}
+use Rattle.recorded_calls.specs.Run.{RunSetting, setting_rules, IsServing, IsStopped, IsServingUnderWay, ServingMovesOn, after_outcome}
 use Rattle.recorded_calls.proofs.Acts.{Before, before}
-use Rattle.recorded_calls.proofs.Settled.{Settles, SettledBy, settled_by, ready_line}
+use Rattle.recorded_calls.proofs.Settled.{Settles, settled_by, ready_line}
 use Rattle.recorded_calls.proofs.Entering.{told_on, in_step_on, enters_call, entered_before, answer_is}
 
 -- 1. nothing is called

@@ -2,8 +2,7 @@
 use Rattle.std.proofs.Common.{◌≡◌, ℕ, ◌+◌, ◌≤◌, List, [], ◌∷◌, ◌++◌, length, take, Result, Ok, Err, length-append, refl, sym, ap, ◌∙◌, subst, arith, append-nil}
 use Rattle.outside.specs.declared.outcomes.Settled.{Settled}
 use Rattle.outside.specs.declared.streams.Failed.{Failed}
-use Rattle.conn_state.specs.Phase.{Phase, ConnView, fresh_conn, ready, waiting, ended}
-use Rattle.conn_state.specs.Step.{after_answer}
+use Rattle.conn_state.specs.Phase.{Phase, ConnView, fresh_conn, ready, waiting}
 use Rattle.conn_state.specs.Run.{ConnCall, CallsLead, gave, answered as settled_event, ended_by}
 use Rattle.host_model.specs.declared.cause.EndCause.TheVariants.{Stopped}
 use Rattle.host_model.specs.Journal.{entries_of}
@@ -13,7 +12,7 @@ use Rattle.recorded_calls.specs.declared.run.ServedRun.{ServedRun}
 use Rattle.recorded_calls.specs.Serving.{Serving}
 use Rattle.recorded_calls.specs.Run.{RunSetting, setting_rules, IsServing, IsServingUnderWay, ServedPhaseStands, ServedEndsWell, ServingMovesOn, frames_settled, tape_if_closed, moves_owed, after_outcome}
 use Rattle.recorded_calls.proofs.Writes.{Sends}
-use Rattle.recorded_calls.proofs.Acts.{one_more, moved, Before, Behind}
+use Rattle.recorded_calls.proofs.Acts.{one_more, moved, Before}
 
 -- a payload that was handed out and settled
 pub record Settles (run new : ServedRun) (number : ℕ) (payload : List ℕ) (outcome : Result Settled Failed) : Type 0 where

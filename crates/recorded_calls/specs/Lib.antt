@@ -4,3 +4,6 @@ pub mod Served
 pub mod Settling
 pub mod Pieces
 pub mod Run
+pub mod Script
+pub mod Answered
+pub mod Steps

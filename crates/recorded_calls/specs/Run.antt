@@ -1,5 +1,5 @@
 -- A run of one connection under way, as the acts of a world. No part of the promise: no public clause cites this.
-use Rattle.std.specs.Prelude.{◌≡◌, ◌≢◌, ℕ, true, false, suc, ◌+◌, ◌*◌, ◌-◌, ◌<◌, ◌≤◌, List, [], ◌∷◌, ◌++◌, length, take, Result, Ok, Err}
+use Rattle.std.specs.Prelude.{◌≡◌, ◌≢◌, ℕ, true, false, suc, ◌+◌, ◌*◌, ◌-◌, ◌≤◌, List, [], ◌∷◌, ◌++◌, length, take, Result, Ok, Err}
 use Rattle.std.specs.List.{AllByRecursion}
 use Rattle.outside.specs.Cause.{Rose}
 use Rattle.outside.specs.declared.outcomes.Settled.{Settled}
@@ -13,7 +13,7 @@ use Rattle.host_model.specs.declared.cause.EndCause.{EndCause}
 use Rattle.host_model.specs.declared.cause.EndCause.TheVariants.{Stopped}
 use Rattle.host_model.specs.Frames.{IsPayload}
 use Rattle.host_model.specs.Marks.{marks_of, input, output}
-use Rattle.host_model.specs.Journal.{JournalEntry, entries_of, after}
+use Rattle.host_model.specs.Journal.{entries_of, after}
 use Rattle.host_model.specs.DeskRules.{DeskRules}
 use Rattle.host_model.specs.Conversation.{IsLast}
 use Rattle.host_model.specs.World.{World, Act, Endpoint, Stage, ReachedBy, unopened_endpoint, open_, pending, over, over_pending}
@@ -25,7 +25,7 @@ use Rattle.call_rules.specs.Desks.{DeskMeaning, desk_rules, longest_payload}
 use Rattle.call_rules.specs.Handling.{ServiceState, handler_rules}
 use Rattle.run_report.specs.Entries.{IsPlainEntry}
 use Rattle.recorded_calls.specs.declared.run.ServedRun.{ServedRun}
-use Rattle.recorded_calls.specs.Causes.{is_served_or_stopped}
+use Rattle.recorded_calls.specs.Causes.{is_scripted_or_stopped}
 use Rattle.recorded_calls.specs.Serving.{Serving, IsToldAs}
 
 -- what a run is of: the desk, the services and the journal's count of faults at first, and all bytes that arrive
@@ -58,7 +58,7 @@ ServedPhaseStands max (ended cause) line = IsOver line.stage cause
 
 -- a connection that has ended has done so by a cause that may come, behind all bytes where it found their end
 abbrev pub ServedEndsWell : Phase → List ℕ → List ℕ → Type 0
-ServedEndsWell (ended cause) read all = (is_served_or_stopped cause ≡ true) × IsReadToItsEnd cause read all
+ServedEndsWell (ended cause) read all = (is_scripted_or_stopped cause ≡ true) × IsReadToItsEnd cause read all
 ServedEndsWell _ read all = Unit {0}
 
 -- of so many whole frames, how many are settled

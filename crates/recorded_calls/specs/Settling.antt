@@ -1,12 +1,12 @@
 -- What a payload that is handed out comes to.
-use Rattle.std.specs.Prelude.{◌≡◌, ℕ, ◌≤◌, ◌⊎◌, Bool, true, false, List, [], ◌∷◌, ◌++◌, Option, Some, slice_get, slice_set, Result, Ok, Err}
+use Rattle.std.specs.Prelude.{◌≡◌, ℕ, ◌≤◌, ◌⊎◌, Bool, true, false, List, [], ◌∷◌, ◌++◌, Some, slice_get, slice_set, Result, Ok, Err}
 use Rattle.std.specs.Option.{option_map}
 use Rattle.outside.specs.Cause.{Rose}
 use Rattle.outside.specs.declared.outcomes.Settled.{Settled}
 use Rattle.outside.specs.declared.outcomes.Settled.TheVariants as settled
 use Rattle.outside.specs.declared.streams.Failed.{Failed}
 use Rattle.host_model.specs.DeskRules.{DeskDecision, Close, Silent, Reply, Invoke}
-use Rattle.call_rules.specs.PlainCalls.{PlainCall, PlainAnswer, IsPlainCall, IsPlainAnswer}
+use Rattle.call_rules.specs.PlainCalls.{PlainCall, PlainAnswer, IsPlainAnswer}
 use Rattle.call_rules.specs.Entries.{CallEntry}
 use Rattle.call_rules.specs.Desks.{DeskMeaning}
 use Rattle.call_rules.specs.Handling.{ServiceState, handled, service_after}

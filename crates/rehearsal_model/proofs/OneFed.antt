@@ -88,7 +88,7 @@ never_fails k End s e c = (e, (c, tt))
 never_fails k Cut s e c = (e, (c, tt))
 never_fails k (SizeFault size) s e c = (c, tt)
 never_fails k NoMemory s e c = (c, tt)
-never_fails k (Envelope fault) s e c = absurd (false≢true s)
+never_fails k (Envelope fault) s e c = (c, tt)
 never_fails k ReadFault s e c = absurd (false≢true s)
 never_fails k WriteFault s e c = absurd (false≢true s)
 never_fails k Stopped s e c = absurd (false≢true s)
@@ -101,7 +101,8 @@ read_all (SizeFault size) read all ws ys s r e =
     absurd (true≢false (all_at (λ t. (kind_of t == 2) ≡ false) ws ys (Ended 0) (subst (AllByRecursion (λ t. (kind_of t == 2) ≡ false)) e (refl, tt))))
 read_all NoMemory read all ws ys s r e =
     absurd (true≢false (all_at (λ t. (kind_of t == 2) ≡ false) ws ys (Ended 0) (subst (AllByRecursion (λ t. (kind_of t == 2) ≡ false)) e (refl, tt))))
-read_all (Envelope fault) read all ws ys s r e = absurd (false≢true s)
+read_all (Envelope fault) read all ws ys s r e =
+    absurd (true≢false (all_at (λ t. (kind_of t == 2) ≡ false) ws ys (Ended 0) (subst (AllByRecursion (λ t. (kind_of t == 2) ≡ false)) e (refl, tt))))
 read_all ReadFault read all ws ys s r e = absurd (false≢true s)
 read_all WriteFault read all ws ys s r e = absurd (false≢true s)
 read_all Stopped read all ws ys s r e = absurd (false≢true s)
@@ -247,6 +248,7 @@ module _ {C A M : Type 0} (d : DeskRules C A) (r : ServiceRules C A M) (memories
     to_its_end End is s = ended_there (Closed 0 ∷ []) (ap (ending 0) is)
     to_its_end Cut is s = ended_there (Closed 0 ∷ []) (ap (ending 0) is)
     to_its_end (SizeFault size) is s = tt
+    to_its_end (Envelope fault) is s = tt
     to_its_end NoMemory is s = tt
     to_its_end _ is s = absurd (false≢true s)
 

@@ -15,6 +15,7 @@ use Rattle.host_model.specs.DeskRules.{DeskRules}
 use Rattle.host_model.specs.Conversation.{EndsBy, IsBrokenOff}
 use Rattle.script_model.specs.Rehearsal.{is_scripted}
 use Rattle.script_model.proofs.Marked.{kind_of}
+use Rattle.script_model.proofs.Closing.{one_fault}
 
 -- how many marks say that the input ended
 abbrev pub ended_marks : List Mark → ℕ
@@ -55,43 +56,60 @@ no_bad_rest d ps rest es out z is outside broken =
     let some : rest ≢ [] = λ none. let long : 0 ≡ 4 = ap length (sym none ∙ is) in let f : ⊥ = omega (arith, long) in f in
     (broken.behind some).1 z [] outside (is ∙ sym (append-nil (size_bytes z)))
 
+-- no size is in no bytes
+no_size : (z : ℤ) (rest : List ℕ) → rest ≡ size_bytes z → rest ≡ [] → ⊥
+no_size z rest is none = let long : 0 ≡ 4 = ap length (sym none ∙ is) in let f : ⊥ = omega (arith, long) in f
+
+-- want of memory where a head is refused, which the tape doesn't tell apart
+abbrev pub MayMix : EndCause → EndCause → Type 0
+MayMix (Envelope fault) NoMemory = Unit {0}
+MayMix NoMemory (Envelope fault) = Unit {0}
+MayMix _ _ = ⊥
+
 module _ {C A : Type 0} (d : DeskRules C A) (rest : List ℕ) (ps ps' : List (List ℕ)) (es es' : List (JournalEntry C A)) (out out' : List ℕ) where
-  -- two runs that have read the same, with as many marks of an ended input, ended by the same cause
-  pub one_cause : (cause cause' : EndCause) → is_scripted cause ≡ true → is_scripted cause' ≡ true → ended_marks (ending 0 cause) ≡ ended_marks (ending 0 cause')
-      → EndsBy d ps rest es out cause → EndsBy d ps' rest es' out' cause' → cause ≡ cause'
-  one_cause End End s s' n x y = refl
-  one_cause End Cut s s' n x y = absurd (y.1 x.1)
-  one_cause End (SizeFault z') s s' n x y = absurd (let f : ⊥ = omega (arith, n) in f)
-  one_cause End NoMemory s s' n x y = absurd (let f : ⊥ = omega (arith, n) in f)
-  one_cause End (Envelope fault) s s' n x y = absurd (true≢false (sym s'))
-  one_cause End ReadFault s s' n x y = absurd (true≢false (sym s'))
-  one_cause End WriteFault s s' n x y = absurd (true≢false (sym s'))
-  one_cause End Stopped s s' n x y = absurd (true≢false (sym s'))
-  one_cause Cut End s s' n x y = absurd (x.1 y.1)
-  one_cause Cut Cut s s' n x y = refl
-  one_cause Cut (SizeFault z') s s' n x y = absurd (let f : ⊥ = omega (arith, n) in f)
-  one_cause Cut NoMemory s s' n x y = absurd (let f : ⊥ = omega (arith, n) in f)
-  one_cause Cut (Envelope fault) s s' n x y = absurd (true≢false (sym s'))
-  one_cause Cut ReadFault s s' n x y = absurd (true≢false (sym s'))
-  one_cause Cut WriteFault s s' n x y = absurd (true≢false (sym s'))
-  one_cause Cut Stopped s s' n x y = absurd (true≢false (sym s'))
-  one_cause (SizeFault z) End s s' n x y = absurd (let f : ⊥ = omega (arith, n) in f)
-  one_cause (SizeFault z) Cut s s' n x y = absurd (let f : ⊥ = omega (arith, n) in f)
-  one_cause (SizeFault z) (SizeFault z') s s' n x y = ap SizeFault (one_size z z' x.2.0 y.2.0 (sym x.1 ∙ y.1))
-  one_cause (SizeFault z) NoMemory s s' n x y = absurd (no_bad_rest d ps' rest es' out' z x.1 x.2 y)
-  one_cause (SizeFault z) (Envelope fault) s s' n x y = absurd (true≢false (sym s'))
-  one_cause (SizeFault z) ReadFault s s' n x y = absurd (true≢false (sym s'))
-  one_cause (SizeFault z) WriteFault s s' n x y = absurd (true≢false (sym s'))
-  one_cause (SizeFault z) Stopped s s' n x y = absurd (true≢false (sym s'))
-  one_cause NoMemory End s s' n x y = absurd (let f : ⊥ = omega (arith, n) in f)
-  one_cause NoMemory Cut s s' n x y = absurd (let f : ⊥ = omega (arith, n) in f)
-  one_cause NoMemory (SizeFault z') s s' n x y = absurd (no_bad_rest d ps rest es out z' y.1 y.2 x)
-  one_cause NoMemory NoMemory s s' n x y = refl
-  one_cause NoMemory (Envelope fault) s s' n x y = absurd (true≢false (sym s'))
-  one_cause NoMemory ReadFault s s' n x y = absurd (true≢false (sym s'))
-  one_cause NoMemory WriteFault s s' n x y = absurd (true≢false (sym s'))
-  one_cause NoMemory Stopped s s' n x y = absurd (true≢false (sym s'))
-  one_cause (Envelope fault) cause' s s' n x y = absurd (true≢false (sym s))
-  one_cause ReadFault cause' s s' n x y = absurd (true≢false (sym s))
-  one_cause WriteFault cause' s s' n x y = absurd (true≢false (sym s))
-  one_cause Stopped cause' s s' n x y = absurd (true≢false (sym s))
+  -- two runs that have read the same, with as many marks of an ended input, ended by the same cause, where the text tells what the tape doesn't
+  pub one_cause : (cause cause' : EndCause) → ps ≡ ps' → (MayMix cause cause' → ⊥) → is_scripted cause ≡ true → is_scripted cause' ≡ true
+      → ended_marks (ending 0 cause) ≡ ended_marks (ending 0 cause') → EndsBy d ps rest es out cause → EndsBy d ps' rest es' out' cause' → cause ≡ cause'
+  one_cause End End q a s s' n x y = refl
+  one_cause End Cut q a s s' n x y = absurd (y.1 x.1)
+  one_cause End (SizeFault z') q a s s' n x y = absurd (let f : ⊥ = omega (arith, n) in f)
+  one_cause End NoMemory q a s s' n x y = absurd (let f : ⊥ = omega (arith, n) in f)
+  one_cause End (Envelope fault') q a s s' n x y = absurd (let f : ⊥ = omega (arith, n) in f)
+  one_cause End ReadFault q a s s' n x y = absurd (true≢false (sym s'))
+  one_cause End WriteFault q a s s' n x y = absurd (true≢false (sym s'))
+  one_cause End Stopped q a s s' n x y = absurd (true≢false (sym s'))
+  one_cause Cut End q a s s' n x y = absurd (x.1 y.1)
+  one_cause Cut Cut q a s s' n x y = refl
+  one_cause Cut (SizeFault z') q a s s' n x y = absurd (let f : ⊥ = omega (arith, n) in f)
+  one_cause Cut NoMemory q a s s' n x y = absurd (let f : ⊥ = omega (arith, n) in f)
+  one_cause Cut (Envelope fault') q a s s' n x y = absurd (let f : ⊥ = omega (arith, n) in f)
+  one_cause Cut ReadFault q a s s' n x y = absurd (true≢false (sym s'))
+  one_cause Cut WriteFault q a s s' n x y = absurd (true≢false (sym s'))
+  one_cause Cut Stopped q a s s' n x y = absurd (true≢false (sym s'))
+  one_cause (SizeFault z) End q a s s' n x y = absurd (let f : ⊥ = omega (arith, n) in f)
+  one_cause (SizeFault z) Cut q a s s' n x y = absurd (let f : ⊥ = omega (arith, n) in f)
+  one_cause (SizeFault z) (SizeFault z') q a s s' n x y = ap SizeFault (one_size z z' x.2.0 y.2.0 (sym x.1 ∙ y.1))
+  one_cause (SizeFault z) NoMemory q a s s' n x y = absurd (no_bad_rest d ps' rest es' out' z x.1 x.2 y)
+  one_cause (SizeFault z) (Envelope fault') q a s s' n x y = absurd (no_size z rest x.1 y.1)
+  one_cause (SizeFault z) ReadFault q a s s' n x y = absurd (true≢false (sym s'))
+  one_cause (SizeFault z) WriteFault q a s s' n x y = absurd (true≢false (sym s'))
+  one_cause (SizeFault z) Stopped q a s s' n x y = absurd (true≢false (sym s'))
+  one_cause NoMemory End q a s s' n x y = absurd (let f : ⊥ = omega (arith, n) in f)
+  one_cause NoMemory Cut q a s s' n x y = absurd (let f : ⊥ = omega (arith, n) in f)
+  one_cause NoMemory (SizeFault z') q a s s' n x y = absurd (no_bad_rest d ps rest es out z' y.1 y.2 x)
+  one_cause NoMemory NoMemory q a s s' n x y = refl
+  one_cause NoMemory (Envelope fault') q a s s' n x y = absurd (a tt)
+  one_cause NoMemory ReadFault q a s s' n x y = absurd (true≢false (sym s'))
+  one_cause NoMemory WriteFault q a s s' n x y = absurd (true≢false (sym s'))
+  one_cause NoMemory Stopped q a s s' n x y = absurd (true≢false (sym s'))
+  one_cause (Envelope fault) End q a s s' n x y = absurd (let f : ⊥ = omega (arith, n) in f)
+  one_cause (Envelope fault) Cut q a s s' n x y = absurd (let f : ⊥ = omega (arith, n) in f)
+  one_cause (Envelope fault) (SizeFault z') q a s s' n x y = absurd (no_size z' rest y.1 x.1)
+  one_cause (Envelope fault) NoMemory q a s s' n x y = absurd (a tt)
+  one_cause (Envelope fault) (Envelope fault') q a s s' n x y = ap Envelope (one_fault d ps ps' fault fault' q x.0 y.0)
+  one_cause (Envelope fault) ReadFault q a s s' n x y = absurd (true≢false (sym s'))
+  one_cause (Envelope fault) WriteFault q a s s' n x y = absurd (true≢false (sym s'))
+  one_cause (Envelope fault) Stopped q a s s' n x y = absurd (true≢false (sym s'))
+  one_cause ReadFault cause' q a s s' n x y = absurd (true≢false (sym s))
+  one_cause WriteFault cause' q a s s' n x y = absurd (true≢false (sym s))
+  one_cause Stopped cause' q a s s' n x y = absurd (true≢false (sym s))

@@ -1,4 +1,5 @@
 pub mod Causes
+pub mod Closing
 pub mod Determined
 pub mod Marked
 pub mod OneRun

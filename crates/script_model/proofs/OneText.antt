@@ -13,9 +13,10 @@ use Rattle.host_model.specs.Frames.{Frames, frame, size_bytes, IsOutside, IsRest
 use Rattle.host_model.specs.Marks.{connection_of, marks_of, IsTransfer, ending, input, output}
 use Rattle.host_model.specs.Journal.{JournalEntry, ServiceRules, entries_of}
 use Rattle.host_model.specs.DeskRules.{DeskRules}
-use Rattle.host_model.specs.Conversation.{EndsBy, IsFinished, IsPrefix, IsInTurn, called, sent}
+use Rattle.outside.specs.declared.outcomes.EnvelopeFault.{EnvelopeFault}
+use Rattle.host_model.specs.Conversation.{EndsBy, IsFinished, IsPrefix, IsInTurn, AllGoOn, LastCloses, but_last, called, sent}
 use Rattle.host_model.specs.Report.{report}
-use Rattle.host_model.proofs.Framing.{only_split, frames_read}
+use Rattle.host_model.proofs.Framing.{only_split, frames_read, a_split}
 use Rattle.host_model.proofs.Filters.{marks_append}
 use Rattle.host_model.proofs.Lists.{append_parts, nil-cons}
 use Rattle.script_model.specs.Feeding.{Completes}
@@ -25,6 +26,7 @@ use Rattle.script_model.specs.Rehearsal.{IsReadToItsEnd, IsReportOfOneConnection
 use Rattle.script_model.proofs.Marked.{read_of, wrote_of, read_append, wrote_append, own_filter}
 use Rattle.script_model.proofs.Determined.{RunOf, own_marks, own_entries, calls_of, two_reads, two_writes, same_split, same_journal}
 use Rattle.script_model.proofs.Causes.{one_size, unsigned_small}
+use Rattle.script_model.proofs.Closing.{all_front, joined, no_front_closes, one_close, one_fault}
 
 -- no payload has a size that no frame has
 not_outside : (max : ℕ) (z : ℤ) (size : ℕ) → max < 2 ^ 31 → 1 ≤ size → size ≤ max → IsOutside max z → cast_unsigned w32 z ≡ size → ⊥
@@ -61,7 +63,7 @@ finished d ps rest es out End s n e = e.2
 finished d ps rest es out Cut s n e = e.3
 finished d ps rest es out (SizeFault z) s n e = e.3
 finished d ps rest es out NoMemory s n e = absurd (n refl)
-finished d ps rest es out (Envelope fault) s n e = absurd (true≢false (sym s))
+finished d ps rest es out (Envelope fault) s n e = e.2
 finished d ps rest es out ReadFault s n e = absurd (true≢false (sym s))
 finished d ps rest es out WriteFault s n e = absurd (true≢false (sym s))
 finished d ps rest es out Stopped s n e = absurd (true≢false (sym s))
@@ -89,72 +91,121 @@ module _ {C A : Type 0} (d : DeskRules C A) (small : d.max < 2 ^ 31) (all a a' :
 module _ {C A : Type 0} (d : DeskRules C A) (small : d.max < 2 ^ 31) (all a a' : List ℕ) (p : IsPrefix a all) (p' : IsPrefix a' all)
     (ps ps' : List (List ℕ)) (rest rest' : List ℕ) (f : Frames d.max a ps rest) (f' : Frames d.max a' ps' rest')
     (es es' : List (JournalEntry C A)) (out out' : List ℕ) where
+  -- all bytes, where the one run has read whole frames alone
+  behind_close : rest ≡ [] → (more : List (List ℕ)) × (left : List ℕ) × Frames d.max all (ps ++ more) left
+  behind_close none =
+      let s = a_split d.max p.0 small in
+      (s.0, s.1, subst (λ t. Frames d.max t (ps ++ s.0) s.1) (sym p.1) (joined d.max a p.0 rest s.1 ps s.0 none f s.2))
+
+  -- no run that goes on to the end passes a head that is refused
+  closes_before : (fault : EnvelopeFault) (left : List ℕ) → rest ≡ [] → LastCloses d ps fault → AllGoOn d ps' → Frames d.max all ps' left → ⊥
+  closes_before fault left none c on g =
+      let b = behind_close none in
+      no_front_closes d ps b.0 fault (subst (AllGoOn d) (only_split d.max all left b.1 ps' (ps ++ b.0) small g b.2).0 on) c
+
+module _ {C A : Type 0} (d : DeskRules C A) (small : d.max < 2 ^ 31) (all a a' : List ℕ) (p : IsPrefix a all) (p' : IsPrefix a' all)
+    (ps ps' : List (List ℕ)) (rest rest' : List ℕ) (f : Frames d.max a ps rest) (f' : Frames d.max a' ps' rest')
+    (es es' : List (JournalEntry C A)) (out out' : List ℕ) where
+  -- two that end at a head that is refused have read the same
+  both_close : (fault fault' : EnvelopeFault) → rest ≡ [] → rest' ≡ [] → LastCloses d ps fault → LastCloses d ps' fault' → AllGoOn d (but_last ps)
+      → AllGoOn d (but_last ps') → a ≡ a'
+  both_close fault fault' none none' c c' on on' =
+      let b = behind_close d small all a a' p p' ps ps' rest rest' f f' es es' out out' none in
+      let b' = behind_close d small all a' a p' p ps' ps rest' rest f' f es' es out' out none' in
+      let split = only_split d.max all b.1 b'.1 (ps ++ b.0) (ps' ++ b'.0) small b.2 b'.2 in
+      let same = one_close d ps ps' b.0 b'.0 fault fault' on on' c c' split.0 in
+      let ends : rest ≡ rest' = none ∙ sym none' in
+      f.whole ∙ (λ i. flat_map frame (same i) ++ ends i) ∙ sym f'.whole
+
+module _ {C A : Type 0} (d : DeskRules C A) (small : d.max < 2 ^ 31) (all a a' : List ℕ) (p : IsPrefix a all) (p' : IsPrefix a' all)
+    (ps ps' : List (List ℕ)) (rest rest' : List ℕ) (f : Frames d.max a ps rest) (f' : Frames d.max a' ps' rest')
+    (es es' : List (JournalEntry C A)) (out out' : List ℕ) where
   -- two runs on the same bytes have read the same
   same_reads : (cause cause' : EndCause) → is_scripted cause ≡ true → is_scripted cause' ≡ true → cause ≢ NoMemory → cause' ≢ NoMemory
-      → IsReadToItsEnd cause a all → IsReadToItsEnd cause' a' all → EndsBy d ps rest es out cause → EndsBy d ps' rest' es' out' cause' → a ≡ a'
-  same_reads End End s s' n n' w w' x y = w ∙ sym w'
-  same_reads End Cut s s' n n' w w' x y = w ∙ sym w'
-  same_reads End (SizeFault z') s s' n n' w w' x y = absurd (no_size_in_none d small all a' a p' p ps' ps rest' rest f' f es' es out' out z' (sym x.1 ∙ bad_behind d small all a' a p' p ps' ps rest' rest f' f es' es out' out z' w y.1 y.2))
-  same_reads End NoMemory s s' n n' w w' x y = absurd (n' refl)
-  same_reads End (Envelope fault) s s' n n' w w' x y = absurd (true≢false (sym s'))
-  same_reads End ReadFault s s' n n' w w' x y = absurd (true≢false (sym s'))
-  same_reads End WriteFault s s' n n' w w' x y = absurd (true≢false (sym s'))
-  same_reads End Stopped s s' n n' w w' x y = absurd (true≢false (sym s'))
-  same_reads Cut End s s' n n' w w' x y = w ∙ sym w'
-  same_reads Cut Cut s s' n n' w w' x y = w ∙ sym w'
-  same_reads Cut (SizeFault z') s s' n n' w w' x y = absurd (x.2 z' p'.0 y.2 (bad_behind d small all a' a p' p ps' ps rest' rest f' f es' es out' out z' w y.1 y.2))
-  same_reads Cut NoMemory s s' n n' w w' x y = absurd (n' refl)
-  same_reads Cut (Envelope fault) s s' n n' w w' x y = absurd (true≢false (sym s'))
-  same_reads Cut ReadFault s s' n n' w w' x y = absurd (true≢false (sym s'))
-  same_reads Cut WriteFault s s' n n' w w' x y = absurd (true≢false (sym s'))
-  same_reads Cut Stopped s s' n n' w w' x y = absurd (true≢false (sym s'))
-  same_reads (SizeFault z) End s s' n n' w w' x y = absurd (no_size_in_none d small all a a' p p' ps ps' rest rest' f f' es es' out out' z (sym y.1 ∙ bad_behind d small all a a' p p' ps ps' rest rest' f f' es es' out out' z w' x.1 x.2))
-  same_reads (SizeFault z) Cut s s' n n' w w' x y = absurd (y.2 z p.0 x.2 (bad_behind d small all a a' p p' ps ps' rest rest' f f' es es' out out' z w' x.1 x.2))
-  same_reads (SizeFault z) (SizeFault z') s s' n n' w w' x y = both_bad d small all a a' p p' ps ps' rest rest' f f' es es' out out' z z' x.1 x.2 y.1 y.2
-  same_reads (SizeFault z) NoMemory s s' n n' w w' x y = absurd (n' refl)
-  same_reads (SizeFault z) (Envelope fault) s s' n n' w w' x y = absurd (true≢false (sym s'))
-  same_reads (SizeFault z) ReadFault s s' n n' w w' x y = absurd (true≢false (sym s'))
-  same_reads (SizeFault z) WriteFault s s' n n' w w' x y = absurd (true≢false (sym s'))
-  same_reads (SizeFault z) Stopped s s' n n' w w' x y = absurd (true≢false (sym s'))
-  same_reads NoMemory cause' s s' n n' w w' x y = absurd (n refl)
-  same_reads (Envelope fault) cause' s s' n n' w w' x y = absurd (true≢false (sym s))
-  same_reads ReadFault cause' s s' n n' w w' x y = absurd (true≢false (sym s))
-  same_reads WriteFault cause' s s' n n' w w' x y = absurd (true≢false (sym s))
-  same_reads Stopped cause' s s' n n' w w' x y = absurd (true≢false (sym s))
+      → IsReadToItsEnd cause a all → IsReadToItsEnd cause' a' all → AllGoOn d (but_last ps) → AllGoOn d (but_last ps')
+      → EndsBy d ps rest es out cause → EndsBy d ps' rest' es' out' cause' → a ≡ a'
+  same_reads End End s s' n n' w w' o o' x y = w ∙ sym w'
+  same_reads End Cut s s' n n' w w' o o' x y = w ∙ sym w'
+  same_reads End (SizeFault z') s s' n n' w w' o o' x y = absurd (no_size_in_none d small all a' a p' p ps' ps rest' rest f' f es' es out' out z' (sym x.1 ∙ bad_behind d small all a' a p' p ps' ps rest' rest f' f es' es out' out z' w y.1 y.2))
+  same_reads End NoMemory s s' n n' w w' o o' x y = absurd (n' refl)
+  same_reads End (Envelope fault') s s' n n' w w' o o' x y = absurd (closes_before d small all a' a p' p ps' ps rest' rest f' f es' es out' out fault' rest y.1 y.0 x.0 (subst (λ t. Frames d.max t ps rest) w f))
+  same_reads End ReadFault s s' n n' w w' o o' x y = absurd (true≢false (sym s'))
+  same_reads End WriteFault s s' n n' w w' o o' x y = absurd (true≢false (sym s'))
+  same_reads End Stopped s s' n n' w w' o o' x y = absurd (true≢false (sym s'))
+  same_reads Cut End s s' n n' w w' o o' x y = w ∙ sym w'
+  same_reads Cut Cut s s' n n' w w' o o' x y = w ∙ sym w'
+  same_reads Cut (SizeFault z') s s' n n' w w' o o' x y = absurd (x.2 z' p'.0 y.2 (bad_behind d small all a' a p' p ps' ps rest' rest f' f es' es out' out z' w y.1 y.2))
+  same_reads Cut NoMemory s s' n n' w w' o o' x y = absurd (n' refl)
+  same_reads Cut (Envelope fault') s s' n n' w w' o o' x y = absurd (closes_before d small all a' a p' p ps' ps rest' rest f' f es' es out' out fault' rest y.1 y.0 x.0 (subst (λ t. Frames d.max t ps rest) w f))
+  same_reads Cut ReadFault s s' n n' w w' o o' x y = absurd (true≢false (sym s'))
+  same_reads Cut WriteFault s s' n n' w w' o o' x y = absurd (true≢false (sym s'))
+  same_reads Cut Stopped s s' n n' w w' o o' x y = absurd (true≢false (sym s'))
+  same_reads (SizeFault z) End s s' n n' w w' o o' x y = absurd (no_size_in_none d small all a a' p p' ps ps' rest rest' f f' es es' out out' z (sym y.1 ∙ bad_behind d small all a a' p p' ps ps' rest rest' f f' es es' out out' z w' x.1 x.2))
+  same_reads (SizeFault z) Cut s s' n n' w w' o o' x y = absurd (y.2 z p.0 x.2 (bad_behind d small all a a' p p' ps ps' rest rest' f f' es es' out out' z w' x.1 x.2))
+  same_reads (SizeFault z) (SizeFault z') s s' n n' w w' o o' x y = both_bad d small all a a' p p' ps ps' rest rest' f f' es es' out out' z z' x.1 x.2 y.1 y.2
+  same_reads (SizeFault z) NoMemory s s' n n' w w' o o' x y = absurd (n' refl)
+  same_reads (SizeFault z) (Envelope fault') s s' n n' w w' o o' x y = absurd (closes_before d small all a' a p' p ps' ps rest' rest f' f es' es out' out fault' (size_bytes z ++ p.0) y.1 y.0 x.0 (split_bad d.max all a ps rest z small f x.1 x.2 p))
+  same_reads (SizeFault z) ReadFault s s' n n' w w' o o' x y = absurd (true≢false (sym s'))
+  same_reads (SizeFault z) WriteFault s s' n n' w w' o o' x y = absurd (true≢false (sym s'))
+  same_reads (SizeFault z) Stopped s s' n n' w w' o o' x y = absurd (true≢false (sym s'))
+  same_reads NoMemory cause' s s' n n' w w' o o' x y = absurd (n refl)
+  same_reads (Envelope fault) End s s' n n' w w' o o' x y = absurd (closes_before d small all a a' p p' ps ps' rest rest' f f' es es' out out' fault rest' x.1 x.0 y.0 (subst (λ t. Frames d.max t ps' rest') w' f'))
+  same_reads (Envelope fault) Cut s s' n n' w w' o o' x y = absurd (closes_before d small all a a' p p' ps ps' rest rest' f f' es es' out out' fault rest' x.1 x.0 y.0 (subst (λ t. Frames d.max t ps' rest') w' f'))
+  same_reads (Envelope fault) (SizeFault z') s s' n n' w w' o o' x y = absurd (closes_before d small all a a' p p' ps ps' rest rest' f f' es es' out out' fault (size_bytes z' ++ p'.0) x.1 x.0 y.0 (split_bad d.max all a' ps' rest' z' small f' y.1 y.2 p'))
+  same_reads (Envelope fault) NoMemory s s' n n' w w' o o' x y = absurd (n' refl)
+  same_reads (Envelope fault) (Envelope fault') s s' n n' w w' o o' x y = both_close d small all a a' p p' ps ps' rest rest' f f' es es' out out' fault fault' x.1 y.1 x.0 y.0 o o'
+  same_reads (Envelope fault) ReadFault s s' n n' w w' o o' x y = absurd (true≢false (sym s'))
+  same_reads (Envelope fault) WriteFault s s' n n' w w' o o' x y = absurd (true≢false (sym s'))
+  same_reads (Envelope fault) Stopped s s' n n' w w' o o' x y = absurd (true≢false (sym s'))
+  same_reads ReadFault cause' s s' n n' w w' o o' x y = absurd (true≢false (sym s))
+  same_reads WriteFault cause' s s' n n' w w' o o' x y = absurd (true≢false (sym s))
+  same_reads Stopped cause' s s' n n' w w' o o' x y = absurd (true≢false (sym s))
+
+module _ {C A : Type 0} (d : DeskRules C A) (ps ps' : List (List ℕ)) where
+  -- what goes on ends at no head that is refused
+  goes_on_alone : (fault : EnvelopeFault) → ps ≡ ps' → AllGoOn d ps → LastCloses d ps' fault → ⊥
+  goes_on_alone fault q on c = no_front_closes d ps' [] fault (subst (AllGoOn d) (q ∙ sym (append-nil ps')) on) c
 
 module _ {C A : Type 0} (d : DeskRules C A) (ps ps' : List (List ℕ)) (rest : List ℕ) (es es' : List (JournalEntry C A)) (out out' : List ℕ) where
   -- and ended by the same cause
-  same_cause : (cause cause' : EndCause) → is_scripted cause ≡ true → is_scripted cause' ≡ true → cause ≢ NoMemory → cause' ≢ NoMemory
+  same_cause : (cause cause' : EndCause) → ps ≡ ps' → is_scripted cause ≡ true → is_scripted cause' ≡ true → cause ≢ NoMemory → cause' ≢ NoMemory
       → EndsBy d ps rest es out cause → EndsBy d ps' rest es' out' cause' → cause ≡ cause'
-  same_cause End End s s' n n' x y = refl
-  same_cause End Cut s s' n n' x y = absurd (y.1 x.1)
-  same_cause End (SizeFault z') s s' n n' x y = absurd (let long : 0 ≡ 4 = ap length (sym x.1 ∙ y.1) in let f : ⊥ = omega (arith, long) in f)
-  same_cause End NoMemory s s' n n' x y = absurd (n' refl)
-  same_cause End (Envelope fault) s s' n n' x y = absurd (true≢false (sym s'))
-  same_cause End ReadFault s s' n n' x y = absurd (true≢false (sym s'))
-  same_cause End WriteFault s s' n n' x y = absurd (true≢false (sym s'))
-  same_cause End Stopped s s' n n' x y = absurd (true≢false (sym s'))
-  same_cause Cut End s s' n n' x y = absurd (x.1 y.1)
-  same_cause Cut Cut s s' n n' x y = refl
-  same_cause Cut (SizeFault z') s s' n n' x y = absurd (x.2 z' [] y.2 (y.1 ∙ sym (append-nil (size_bytes z'))))
-  same_cause Cut NoMemory s s' n n' x y = absurd (n' refl)
-  same_cause Cut (Envelope fault) s s' n n' x y = absurd (true≢false (sym s'))
-  same_cause Cut ReadFault s s' n n' x y = absurd (true≢false (sym s'))
-  same_cause Cut WriteFault s s' n n' x y = absurd (true≢false (sym s'))
-  same_cause Cut Stopped s s' n n' x y = absurd (true≢false (sym s'))
-  same_cause (SizeFault z) End s s' n n' x y = absurd (let long : 0 ≡ 4 = ap length (sym y.1 ∙ x.1) in let f : ⊥ = omega (arith, long) in f)
-  same_cause (SizeFault z) Cut s s' n n' x y = absurd (y.2 z [] x.2 (x.1 ∙ sym (append-nil (size_bytes z))))
-  same_cause (SizeFault z) (SizeFault z') s s' n n' x y = ap SizeFault (one_size z z' x.2.0 y.2.0 (sym x.1 ∙ y.1))
-  same_cause (SizeFault z) NoMemory s s' n n' x y = absurd (n' refl)
-  same_cause (SizeFault z) (Envelope fault) s s' n n' x y = absurd (true≢false (sym s'))
-  same_cause (SizeFault z) ReadFault s s' n n' x y = absurd (true≢false (sym s'))
-  same_cause (SizeFault z) WriteFault s s' n n' x y = absurd (true≢false (sym s'))
-  same_cause (SizeFault z) Stopped s s' n n' x y = absurd (true≢false (sym s'))
-  same_cause NoMemory cause' s s' n n' x y = absurd (n refl)
-  same_cause (Envelope fault) cause' s s' n n' x y = absurd (true≢false (sym s))
-  same_cause ReadFault cause' s s' n n' x y = absurd (true≢false (sym s))
-  same_cause WriteFault cause' s s' n n' x y = absurd (true≢false (sym s))
-  same_cause Stopped cause' s s' n n' x y = absurd (true≢false (sym s))
+  same_cause End End q s s' n n' x y = refl
+  same_cause End Cut q s s' n n' x y = absurd (y.1 x.1)
+  same_cause End (SizeFault z') q s s' n n' x y = absurd (let long : 0 ≡ 4 = ap length (sym x.1 ∙ y.1) in let f : ⊥ = omega (arith, long) in f)
+  same_cause End NoMemory q s s' n n' x y = absurd (n' refl)
+  same_cause End (Envelope fault') q s s' n n' x y = absurd (goes_on_alone d ps ps' fault' q x.0 y.0)
+  same_cause End ReadFault q s s' n n' x y = absurd (true≢false (sym s'))
+  same_cause End WriteFault q s s' n n' x y = absurd (true≢false (sym s'))
+  same_cause End Stopped q s s' n n' x y = absurd (true≢false (sym s'))
+  same_cause Cut End q s s' n n' x y = absurd (x.1 y.1)
+  same_cause Cut Cut q s s' n n' x y = refl
+  same_cause Cut (SizeFault z') q s s' n n' x y = absurd (x.2 z' [] y.2 (y.1 ∙ sym (append-nil (size_bytes z'))))
+  same_cause Cut NoMemory q s s' n n' x y = absurd (n' refl)
+  same_cause Cut (Envelope fault') q s s' n n' x y = absurd (goes_on_alone d ps ps' fault' q x.0 y.0)
+  same_cause Cut ReadFault q s s' n n' x y = absurd (true≢false (sym s'))
+  same_cause Cut WriteFault q s s' n n' x y = absurd (true≢false (sym s'))
+  same_cause Cut Stopped q s s' n n' x y = absurd (true≢false (sym s'))
+  same_cause (SizeFault z) End q s s' n n' x y = absurd (let long : 0 ≡ 4 = ap length (sym y.1 ∙ x.1) in let f : ⊥ = omega (arith, long) in f)
+  same_cause (SizeFault z) Cut q s s' n n' x y = absurd (y.2 z [] x.2 (x.1 ∙ sym (append-nil (size_bytes z))))
+  same_cause (SizeFault z) (SizeFault z') q s s' n n' x y = ap SizeFault (one_size z z' x.2.0 y.2.0 (sym x.1 ∙ y.1))
+  same_cause (SizeFault z) NoMemory q s s' n n' x y = absurd (n' refl)
+  same_cause (SizeFault z) (Envelope fault') q s s' n n' x y = absurd (goes_on_alone d ps ps' fault' q x.0 y.0)
+  same_cause (SizeFault z) ReadFault q s s' n n' x y = absurd (true≢false (sym s'))
+  same_cause (SizeFault z) WriteFault q s s' n n' x y = absurd (true≢false (sym s'))
+  same_cause (SizeFault z) Stopped q s s' n n' x y = absurd (true≢false (sym s'))
+  same_cause NoMemory cause' q s s' n n' x y = absurd (n refl)
+  same_cause (Envelope fault) End q s s' n n' x y = absurd (goes_on_alone d ps' ps fault (sym q) y.0 x.0)
+  same_cause (Envelope fault) Cut q s s' n n' x y = absurd (goes_on_alone d ps' ps fault (sym q) y.0 x.0)
+  same_cause (Envelope fault) (SizeFault z') q s s' n n' x y = absurd (goes_on_alone d ps' ps fault (sym q) y.0 x.0)
+  same_cause (Envelope fault) NoMemory q s s' n n' x y = absurd (n' refl)
+  same_cause (Envelope fault) (Envelope fault') q s s' n n' x y = ap Envelope (one_fault d ps ps' fault fault' q x.0 y.0)
+  same_cause (Envelope fault) ReadFault q s s' n n' x y = absurd (true≢false (sym s'))
+  same_cause (Envelope fault) WriteFault q s s' n n' x y = absurd (true≢false (sym s'))
+  same_cause (Envelope fault) Stopped q s s' n n' x y = absurd (true≢false (sym s'))
+  same_cause ReadFault cause' q s s' n n' x y = absurd (true≢false (sym s))
+  same_cause WriteFault cause' q s s' n n' x y = absurd (true≢false (sym s))
+  same_cause Stopped cause' q s s' n n' x y = absurd (true≢false (sym s))
 
 -- the last marks of a connection read nothing, and write nothing
 ending_reads : (cause : EndCause) → read_of (ending 0 cause) ≡ []
@@ -320,10 +371,6 @@ module _ {C A M : Type 0} (d : DeskRules C A) (r : ServiceRules C A M) (memories
   same_transfers f (WriteFailed c ∷ t) t' e e' i i' o o' = absurd i.0
   same_transfers f (Closed c ∷ t) t' e e' i i' o o' = absurd i.0
 
-all_behind : {X : Type 0} (P : X → Type 0) (xs ys : List X) → AllByRecursion P (xs ++ ys) → AllByRecursion P xs
-all_behind P [] ys a = tt
-all_behind P (x ∷ xs) ys a = (a.0, all_behind P xs ys a.1)
-
 -- Two runs on the same bytes, neither of which ended for want of memory, are one run.
 pub same_run_of_bytes : {C A M : Type 0} (d : DeskRules C A) (r : ServiceRules C A M) (memories : List M) (arrival : Arrival) (small : d.max < 2 ^ 31)
     (tape tape' : List Mark) (journal journal' : List (JournalEntry C A)) (cause cause' : EndCause)
@@ -340,7 +387,7 @@ same_run_of_bytes d r memories arrival small tape tape' journal journal' cause c
     let es' = entries_of 0 journal' in
     let reads : read_of tape ≡ read_of tape' =
     same_reads d small arrival.bytes (read_of tape) (read_of tape') s.front s'.front t.payloads t'.payloads t.rest t'.rest t.frames t'.frames es es' (wrote_of tape)
-    (wrote_of tape') cause cause' s.allowed s'.allowed fin fin' s.to_its_end s'.to_its_end t.ended t'.ended in
+    (wrote_of tape') cause cause' s.allowed s'.allowed fin fin' s.to_its_end s'.to_its_end t.open_before t'.open_before t.ended t'.ended in
     let split = same_split d r memories arrival small tape tape' journal journal' cause cause' x y reads in
     let done = finished d t.payloads t.rest es (wrote_of tape) cause s.allowed fin t.ended in
     let done' = finished d t'.payloads t'.rest es' (wrote_of tape') cause' s'.allowed fin' t'.ended in
@@ -356,12 +403,12 @@ same_run_of_bytes d r memories arrival small tape tape' journal journal' cause c
     let own' = own_marks d r memories arrival tape' journal' cause' y in
     let e : tape ≡ Opened 0 ∷ (m.transfers ++ ending 0 cause) = sym (own_filter connection_of tape own) ∙ m.shape in
     let e' : tape' ≡ Opened 0 ∷ (m'.transfers ++ ending 0 cause') = sym (own_filter connection_of tape' own') ∙ m'.shape in
-    let o = all_behind (λ k. connection_of k ≡ 0) m.transfers (ending 0 cause) (subst (AllByRecursion (λ k. connection_of k ≡ 0)) e own).1 in
-    let o' = all_behind (λ k. connection_of k ≡ 0) m'.transfers (ending 0 cause') (subst (AllByRecursion (λ k. connection_of k ≡ 0)) e' own').1 in
+    let o = all_front (λ k. connection_of k ≡ 0) m.transfers (ending 0 cause) (subst (AllByRecursion (λ k. connection_of k ≡ 0)) e own).1 in
+    let o' = all_front (λ k. connection_of k ≡ 0) m'.transfers (ending 0 cause') (subst (AllByRecursion (λ k. connection_of k ≡ 0)) e' own').1 in
     let transfers : m.transfers ≡ m'.transfers =
     same_transfers d r memories arrival small tape tape' journal journal' cause cause' x y reads same fin fin' (Opened 0 ∷ []) m.transfers m'.transfers e e' m.only m'.only o o' in
     let causes : cause ≡ cause' =
-    same_cause d t.payloads t'.payloads t'.rest es es' (wrote_of tape) (wrote_of tape') cause cause' s.allowed s'.allowed fin fin'
+    same_cause d t.payloads t'.payloads t'.rest es es' (wrote_of tape) (wrote_of tape') cause cause' split.0 s.allowed s'.allowed fin fin'
     (subst (λ rest. EndsBy d t.payloads rest es (wrote_of tape) cause) split.1 t.ended) t'.ended in
     (e ∙ (λ i. Opened 0 ∷ (transfers i ++ ending 0 (causes i))) ∙ sym e', same, causes)
 

@@ -3,7 +3,7 @@ use Rattle.std.specs.Prelude.{◌≡◌, ◌≢◌, ℕ, Bool, true, false, List
 use Rattle.std.specs.List.{AllByRecursion}
 use Rattle.outside.specs.declared.marks.Mark.{Mark}
 use Rattle.host_model.specs.declared.cause.EndCause.{EndCause}
-use Rattle.host_model.specs.declared.cause.EndCause.TheVariants.{End, Cut, SizeFault, NoMemory}
+use Rattle.host_model.specs.declared.cause.EndCause.TheVariants.{End, Cut, SizeFault, Envelope, NoMemory}
 use Rattle.host_model.specs.Marks.{marks_of, input}
 use Rattle.host_model.specs.Journal.{JournalEntry, ServiceRules, entries_of}
 use Rattle.host_model.specs.DeskRules.{DeskRules}
@@ -19,6 +19,7 @@ abbrev pub is_scripted : EndCause → Bool
 is_scripted End = true
 is_scripted Cut = true
 is_scripted (SizeFault z) = true
+is_scripted (Envelope fault) = true
 is_scripted NoMemory = true
 is_scripted _ = false
 

@@ -1,2 +1,6 @@
-pub mod Printing
-pub mod Saying
+pub mod Lines
+pub mod Bounds
+pub mod Endings
+pub mod Checked
+pub mod Rehearsed
+pub mod Told

@@ -1,3 +1,6 @@
 pub mod Words
+pub mod Errors
+pub mod Checks
+pub mod Rehearsals
 pub mod Top
 pub mod Steps

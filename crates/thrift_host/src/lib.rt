@@ -1,11 +1,20 @@
-//! The program's top call: it reads its words, checks an IDL or answers a recorded connection, and says why where it isn't done.
+//! The top call: it reads its words, checks an IDL or serves a recorded connection, and says why where it isn't done.
 //!
-//! `host` takes the files and the streams that it reads and writes, so that a test or `main` hands in its own; it opens nothing by
-//! itself. So far it prints the schema of an IDL, and it answers one recorded connection that asks for `ping` and `add` over the strict binary
-//! protocol.
+//! ```rust
+//! // rehearse a.thrift binary 0 V=store
+//! let status = host(&rt, alloc, &words, &mut files, &mut input, &mut output, &mut errors, handlers);
+//! ExitCode::from(status as u8)
+//! ```
+//!
+//! `host` takes the files, the streams and the handlers that it works with, so that a test or `main` hands in its own; it opens nothing by itself. It
+//! prints the schema of an IDL, and it serves the services of any IDL on one recorded connection, in either protocol.
 #![tactic(auto)]
 
+mod checking;
 mod command;
+mod journal;
+mod rehearsing;
+mod saying;
 mod status;
 mod words;
 

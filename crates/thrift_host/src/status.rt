@@ -11,6 +11,8 @@ pub enum Status {
     IdlRefused = 2,
     /// The input is no script.
     ScriptRefused = 3,
+    /// A pair of the words can't be bound to a service and a handler.
+    BindRefused = 4,
     /// A file of the IDL's couldn't be read.
     FileFault = 5,
     /// A read of the input failed.
@@ -19,6 +21,4 @@ pub enum Status {
     WriteFault = 7,
     /// Memory ran out.
     NoMemory = 10,
-    /// The script has a frame of a form that isn't built yet.
-    Unbuilt = 12,
 }

@@ -1,42 +1,28 @@
-//! The program's words.
+//! The words of a check.
 
-ghost use Rattle.std.specs.Prelude.{◌≡◌, false, true, map, string_bytes, MatchOption};
+ghost use Rattle.std.specs.Prelude.{◌≡◌, ◌∷◌, [], map, option_map, string_bytes};
 ghost use Rattle.std.specs.Str.{bytes_eq};
-ghost use Rattle.thrift_host.specs.Words.{checks, command_of, is_check, is_file_name, is_rehearse, no_command, rehearses};
-ghost use Rattle.thrift_host.specs.Steps.{command_asked};
+ghost use Rattle.thrift_host.specs.Words.{checked_idl, is_check, is_file_name};
 
-/// What the words ask for.
-#[derive(Clone, Copy)]
-pub(crate) enum Asked<'a> {
-    /// The IDL of this name is checked.
-    Check(&'a str),
-    /// A recorded connection is answered.
-    Rehearse,
-}
-
-/// What the words ask for, or nothing where they are no command.
-pub(crate) fn read_words(words: &[String]) -> Option<Asked<'_>>
-    ensures { MatchOption result (command_of (map string_bytes words.now) ≡ no_command)
-        (λ asked. command_of (map string_bytes words.now) ≡ command_asked asked) }
+/// The name of the IDL that the words check, where they are such a command.
+pub(crate) fn checked_idl(words: &[String]) -> Option<&str>
+    ensures { option_map (λ idl. idl.now) result ≡ checked_idl (map string_bytes words.now) }
 {
     match words {
-        [command, idl] => asked_check(command, idl),
-        [command, idl, protocol, workers, service] => {
-            asked_rehearse(command, idl, protocol, workers, service)
-        }
+        [command, idl] => idl_of_check(command, idl),
         _ => None,
     }
 }
 
-/// What two words ask for.
-fn asked_check<'a>(command: &String, idl: &'a String) -> Option<Asked<'a>>
-    ensures { MatchOption result (is_check (string_bytes command.now) (string_bytes idl.now) ≡ false)
-        (λ asked. (is_check (string_bytes command.now) (string_bytes idl.now) ≡ true) × (command_asked asked ≡ checks (string_bytes idl.now))) }
+/// The name of the IDL that two words check.
+fn idl_of_check<'a>(command: &String, idl: &'a String) -> Option<&'a str>
+    ensures { option_map (λ name. name.now) result ≡ checked_idl (string_bytes command.now ∷ string_bytes idl.now ∷ []) }
 {
-    if !is_check(command, idl) {
-        return None;
+    if is_check(command, idl) {
+        Some(idl.as_str())
+    } else {
+        None
     }
-    Some(Asked::Check(idl.as_str()))
 }
 
 /// Whether two words check an IDL.
@@ -56,31 +42,6 @@ fn is_file_name(word: &String) -> bool
     match word.as_bytes().first() {
         None => false,
         Some(byte) => *byte != b'-',
-    }
-}
-
-/// What five words ask for.
-fn asked_rehearse<'a>(
-    command: &String,
-    idl: &String,
-    protocol: &String,
-    workers: &String,
-    service: &String,
-) -> Option<Asked<'a>>
-    ensures { MatchOption result
-        (is_rehearse (string_bytes command.now) (string_bytes idl.now) (string_bytes protocol.now) (string_bytes workers.now) (string_bytes service.now) ≡ false)
-        (λ asked. (is_rehearse (string_bytes command.now) (string_bytes idl.now) (string_bytes protocol.now) (string_bytes workers.now)
-        (string_bytes service.now) ≡ true) × (command_asked asked ≡ rehearses)) }
-{
-    if is_word(command, "rehearse")
-        && is_word(idl, "@tutorial")
-        && is_word(protocol, "binary")
-        && is_word(workers, "0")
-        && is_word(service, "Calculator=calculator")
-    {
-        Some(Asked::Rehearse)
-    } else {
-        None
     }
 }
 

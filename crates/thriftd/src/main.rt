@@ -1,7 +1,11 @@
-//! The program: it hands its words, the system's files and the standard streams to the top call, and ends with its status.
+//! The program: it hands its words, the system's files, the standard streams and its handlers to the top call, and ends with its status.
 #![tactic(auto)]
 
+use calculator::Calculator;
+use call_rules::Handler;
+use house_handlers::{Mirror, Store};
 use outside::{RealFiles, RealIn, RealOut};
+use std::alloc::AllocError;
 use std::io::ErrorKind;
 use std::process::ExitCode;
 use std::{env, io};
@@ -10,27 +14,14 @@ use thrift_host::{Status, host};
 fn main(rt: HostRuntime) -> ExitCode {
     let words = match words(&rt) {
         Ok(words) => words,
-        Err(error) if error.kind() == ErrorKind::OutOfMemory => {
-            let _ = eprintln!(rt; "thriftd: no memory");
-            return ExitCode::from(Status::NoMemory as u8);
-        }
+        Err(error) if error.kind() == ErrorKind::OutOfMemory => return end_without_memory(&rt),
         // A word that isn't UTF-8 makes no command, as no word does.
         Err(_) => Vec::new(rt.alloc()),
     };
-    let mut files = RealFiles::new(&rt);
-    let mut input = RealIn::new(&rt);
-    let mut output = RealOut::output(&rt);
-    let mut errors = RealOut::errors(&rt);
-    let status = host(
-        &rt,
-        rt.alloc(),
-        &words,
-        &mut files,
-        &mut input,
-        &mut output,
-        &mut errors,
-    );
-    ExitCode::from(status as u8)
+    match run(&rt, &words) {
+        Ok(status) => ExitCode::from(status as u8),
+        Err(AllocError) => end_without_memory(&rt),
+    }
 }
 
 /// The program's words, without its name.
@@ -40,4 +31,32 @@ fn words(rt: &HostRuntime) -> io::Result<Vec<String>> {
         words.push(word)?;
     }
     Ok(words)
+}
+
+/// Says that memory ran out before the command began.
+fn end_without_memory(rt: &HostRuntime) -> ExitCode {
+    let _ = eprintln!(rt; "thriftd: no memory");
+    ExitCode::from(Status::NoMemory as u8)
+}
+
+/// Runs the command of these words with a calculator, a store and a mirror.
+fn run(rt: &HostRuntime, words: &[String]) -> Result<Status, AllocError> {
+    let calculator: Box<dyn Handler> = Box::new(rt.alloc(), Calculator::new(rt.alloc()))?;
+    let store: Box<dyn Handler> = Box::new(rt.alloc(), Store::new(rt.alloc()))?;
+    let mirror: Box<dyn Handler> = Box::new(rt.alloc(), Mirror::new())?;
+    let handlers = vec![in rt.alloc(); calculator, store, mirror]?;
+    let mut files = RealFiles::new(rt);
+    let mut input = RealIn::new(rt);
+    let mut output = RealOut::output(rt);
+    let mut errors = RealOut::errors(rt);
+    Ok(host(
+        rt,
+        rt.alloc(),
+        words,
+        &mut files,
+        &mut input,
+        &mut output,
+        &mut errors,
+        handlers,
+    ))
 }

@@ -1,4 +1,4 @@
-use Rattle.std.proofs.Common.{◌≡◌, ◌<◌, OnOk, length, map, get_or, refl, sym, ap, subst}
+use Rattle.std.proofs.Common.{◌≡◌, ◌<◌, OnOk, length, map, get_or, refl, sym, subst}
 use Rattle.std.specs.Prelude.{slice_set, IfOk}
 use Rattle.thrift_value.specs.TreeOf.{tree_of}
 use Rattle.call_rules.specs.PlainCalls.{PlainCall}

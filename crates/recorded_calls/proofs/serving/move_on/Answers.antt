@@ -1,4 +1,4 @@
-use Rattle.std.proofs.Common.{◌≡◌, ◌<◌, ◌≤◌, ◌^◌, length, refl, sym, ap, ◌∙◌, arith}
+use Rattle.std.proofs.Common.{refl, sym, arith}
 use Rattle.recorded_calls.proofs.Results.{ok_then}
 use Rattle.recorded_calls.proofs.Fed.{stays_fed}
 use Rattle.recorded_calls.proofs.serving.move_on.Goals as goal

@@ -1,6 +1,6 @@
-use Rattle.std.proofs.Common.{◌≡◌, length, map, refl, sym, ap, ◌∙◌, subst, arith}
+use Rattle.std.proofs.Common.{map, refl, sym, ◌∙◌, subst, arith}
 use Rattle.recorded_calls.specs.Served.{IsServed}
-use Rattle.recorded_calls.proofs.Ends.{served, at_work, still_whole}
+use Rattle.recorded_calls.proofs.Ends.{served}
 use Rattle.recorded_calls.proofs.serving.serve_recorded.Goals as goal
 
 pub returns-in-Some : goal.returns-in-Some

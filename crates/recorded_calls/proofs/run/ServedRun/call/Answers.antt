@@ -1,4 +1,4 @@
-use Rattle.std.proofs.Common.{◌≡◌, ◌<◌, ◌≤◌, ◌^◌, length, map, ◌∙◌, refl, sym, ap, subst, arith}
+use Rattle.std.proofs.Common.{map, ◌∙◌, refl, sym, ap, subst, arith}
 use Rattle.conn_state.specs.Phase.{ConnView}
 use Rattle.host_model.proofs.Runs.{stands}
 use Rattle.call_rules.specs.Handling.{handler_rules}

@@ -1,0 +1,151 @@
+//! A recorded connection that an office of the example and a mirror answer: the report of a call and of two messages that are none, a journal that fails, and
+//! an output that fails.
+
+use crate::offices::office;
+use call_rules::{Entry, Journal};
+use envelope::Protocol;
+use house_handlers::Mirror;
+use journal_text::{ListJournal, put_entry};
+use outside::{Failed, MemSink, MemSource};
+use recorded_calls::{ServingFault, answer_recorded};
+use run_report::{EntryLine, ReportedJournal};
+use std::alloc::{AllocError, Global};
+use std::test::Fail;
+
+// A call of `f`, which the mirror answers with nothing, though a list is to come back; and one of `g`, which there isn't.
+const CALLS: &[u8] = b"open\ndata 0 00000006822101016600000000068221\ndata 0 02016700\nend 0\n";
+
+const CALLS_REPORT: &[u8] =
+    b"tape open 0\ntape read 0 4\ntape read 0 6\ntape wrote 0 41\ntape read 0 4\ntape read 0 2\ntape read 0 4\ntape wrote 0 38\ntape end 0\ntape close 0\n\
+call 0 0 0 f {} empty\nconn 0 End 000000258261010166181b496e7465726e616c206572726f722070726f63657373696e672066150c00\
+0000002282610201671818496e76616c6964206d6574686f64206e616d653a20276727150200\ncalls 1\n";
+
+// A head that is refused, with a byte behind it.
+const CLOSED: &[u8] = b"open\ndata 0 000000048001000100\nend 0\n";
+
+const CLOSED_REPORT: &[u8] =
+    b"tape open 0\ntape read 0 4\ntape read 0 4\ntape close 0\nconn 0 Envelope Version 80010001 -\ncalls 0\n";
+
+// The lines of entries.
+struct Lines {}
+
+impl EntryLine for Lines {
+    ghost use Rattle.journal_text.specs.EntryText.{entry_text};
+
+    ghost line = { entry_text };
+
+    fn put(into: &mut Vec<u8>, entry: &Entry) -> Result<(), AllocError> {
+        put_entry(into, entry)
+    }
+}
+
+// A journal in memory that fails at each entry, or at none.
+#[derive(Drop)]
+struct GivenJournal {
+    list: ListJournal,
+    fails: bool,
+    faults: u64,
+    torn: bool,
+}
+
+impl Journal for GivenJournal {
+    ghost use Rattle.std.specs.Prelude.{Some};
+
+    ghost told = { λ j. Some j.list.entries };
+
+    ghost faults = { λ j. j.faults };
+
+    ghost torn = { λ j. j.torn };
+
+    ghost room = { λ j. j.list.room };
+
+    fn reserve(&mut self) -> Result<(), AllocError> {
+        self.list.reserve()
+    }
+
+    fn append(&mut self, entry: Entry) -> Result<(), Failed> {
+        if self.fails {
+            self.torn = true;
+            self.faults = self.faults.saturating_add(1);
+            return Err(Failed);
+        }
+        self.list.append(entry)
+    }
+}
+
+impl ReportedJournal for GivenJournal {
+    fn entries(&self) -> &[Entry] {
+        self.list.entries()
+    }
+}
+
+// What answering a recording came to, and what was written.
+type Answered = (Result<(), ServingFault>, Vec<u8>);
+
+// Answers a recording, where the journal fails or doesn't, and the output takes a byte at a time and fails at these writes.
+fn answer(
+    alloc: Global,
+    script: &[u8],
+    fails: bool,
+    writes: &[u64],
+) -> Result<Answered, AllocError> {
+    let desk = office(alloc, Protocol::Compact)?;
+    let mut handlers = [Mirror::new()];
+    let mut journal = GivenJournal {
+        list: ListJournal::new(alloc),
+        fails,
+        faults: 0,
+        torn: false,
+    };
+    let mut input = MemSource::new(script.to_vec(alloc)?, Vec::new(alloc));
+    let mut output = MemSink::in_pieces(alloc, writes.to_vec(alloc)?, 1);
+    let answered = answer_recorded::<Lines, _, _, _, _, _>(
+        alloc,
+        &mut input,
+        &mut output,
+        &desk,
+        268_435_456,
+        &mut handlers,
+        &mut journal,
+    );
+    Ok((answered, output.into_bytes()))
+}
+
+// Whether a recording has this report.
+fn is_report(alloc: Global, script: &[u8], report: &[u8]) -> Result<bool, AllocError> {
+    let (answered, output) = answer(alloc, script, false, &[])?;
+    Ok(answered == Ok(()) && output.as_slice() == report)
+}
+
+// Whether an output that takes so many bytes has these of the report.
+fn is_cut(alloc: Global, most: u64, front: &[u8]) -> Result<bool, AllocError> {
+    let (answered, output) = answer(alloc, CALLS, false, &[most])?;
+    Ok(answered == Err(ServingFault::WriteFault) && output.as_slice() == front)
+}
+
+#[test]
+fn recordings_have_their_reports(rt: HostRuntime) -> Result<(), Fail> {
+    assert!(rt; is_report(rt.alloc(), CALLS, CALLS_REPORT)?);
+    assert!(rt; is_report(rt.alloc(), CLOSED, CLOSED_REPORT)?);
+    Ok(())
+}
+
+#[test]
+fn a_journal_that_fails_ends_the_run(rt: HostRuntime) -> Result<(), Fail> {
+    let (answered, output) = answer(rt.alloc(), CALLS, true, &[])?;
+    assert!(rt; answered == Err(ServingFault::JournalFault) && output.is_empty());
+    Ok(())
+}
+
+#[test]
+fn an_output_that_fails_has_a_beginning(rt: HostRuntime) -> Result<(), Fail> {
+    for (most, front) in [
+        (0, b"".as_slice()),
+        (1, b"t".as_slice()),
+        (11, b"tape open 0".as_slice()),
+        (26, b"tape open 0\ntape read 0 4\n".as_slice()),
+    ] {
+        assert!(rt; is_cut(rt.alloc(), most, front)?);
+    }
+    Ok(())
+}

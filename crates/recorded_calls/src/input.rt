@@ -1,0 +1,80 @@
+//! The program's input, read as a whole.
+
+ghost use Rattle.std.specs.Prelude.{◌≡◌, ℕ, ◌<◌, ◌≤◌, length, IfOk, OnOk};
+ghost use Rattle.outside.specs.Cause.{Rose};
+ghost use Rattle.outside.specs.Content.{told_before, IsSpent};
+ghost use Rattle.recorded_calls.specs.Script.{longest_script};
+ghost use Rattle.recorded_calls.specs.declared.input.InputError.TheVariants.{Failed as ReadFailed, NoMemory};
+
+use crate::script::LONGEST_SCRIPT;
+use outside::{Failed, Source};
+use std::alloc::{AllocError, Global};
+
+/// The most bytes that one read asks for.
+const READ_SIZE: usize = 65_536;
+
+/// Why an input couldn't be read.
+#[derive(Clone, Copy)]
+pub(crate) enum InputError {
+    /// A read failed.
+    Failed,
+    /// The bytes found no room in memory.
+    NoMemory,
+}
+
+impl From<AllocError> for InputError {
+    ghost from_gives = { λ _ e. e ≡ NoMemory };
+
+    fn from(_: AllocError) -> InputError {
+        InputError::NoMemory
+    }
+}
+
+impl From<Failed> for InputError {
+    ghost from_gives = { λ _ e. e ≡ ReadFailed };
+
+    fn from(_: Failed) -> InputError {
+        InputError::Failed
+    }
+}
+
+/// The bytes of a source up to its end, or more than the longest script has where the end isn't reached by then.
+pub(crate) fn read_whole<S: Source>(alloc: Global, source: &mut S) -> Result<Vec<u8>, InputError>
+    ensures read { IfOk result (λ text. S.left source.old ≡ told_before text.items (S.left source.new)) }
+    ensures whole { IfOk result (λ text. length text.items ≤ longest_script → IsSpent (S.left source.new)) }
+    ensures later { S.faults source.old ≤ S.faults source.new }
+    ensures failed { result ≡ Err InputError.Failed → Rose (S.faults source.old) (S.faults source.new) }
+{
+    let mut room = make_room(alloc)?;
+    read_through(alloc, source, room.as_mut_slice())
+}
+
+/// Bytes to read into.
+fn make_room(alloc: Global) -> Result<Vec<u8>, AllocError>
+    ensures { IfOk result (λ room. 0 < length room.items) }
+{
+    vec![in alloc; 0u8; READ_SIZE]
+}
+
+/// `read_whole`, by reads into `room`.
+fn read_through<S: Source>(
+    alloc: Global,
+    source: &mut S,
+    room: &mut [u8],
+) -> Result<Vec<u8>, InputError>
+    requires { 0 < length room.old }
+    ensures read { IfOk result (λ text. S.left source.old ≡ told_before text.items (S.left source.new)) }
+    ensures whole { IfOk result (λ text. length text.items ≤ longest_script → IsSpent (S.left source.new)) }
+    ensures later { S.faults source.old ≤ S.faults source.new }
+    ensures failed { result ≡ Err InputError.Failed → Rose (S.faults source.old) (S.faults source.new) }
+{
+    let mut text = Vec::new(alloc);
+    'reads: while text.len() <= LONGEST_SCRIPT {
+        let count = source.read(room)?;
+        if count == 0 {
+            return Ok(text);
+        }
+        text.extend_from_slice(&room[..count])?;
+    }
+    Ok(text)
+}

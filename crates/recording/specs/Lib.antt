@@ -1,9 +1,0 @@
-pub mod Script
-pub mod Message
-pub mod Office
-pub mod Lines
-pub mod Unbuilt
-pub mod Recorded
-pub mod Run
-pub mod Pieces
-pub mod Steps

@@ -1,5 +1,0 @@
-use Rattle.thrift_host.proofs.Saying.{said}
-use Rattle.thrift_host.proofs.command.say.Goals as goal
-
-pub returns : goal.returns
-returns g c = said _ _ _ _ c.args.line.now c.write_all.result c.write_all.ensures.told c.write_all.ensures.cause

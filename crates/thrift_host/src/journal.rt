@@ -1,0 +1,65 @@
+//! The journal of a rehearsal: entries in memory, and their lines in a report.
+
+ghost use Rattle.journal_text.specs.EntryText.{entry_text};
+
+use call_rules::{Entry, Journal};
+use journal_text::{ListJournal, put_entry};
+use outside::Failed;
+use run_report::{EntryLine, ReportedJournal};
+use std::alloc::{AllocError, Global};
+
+/// The lines of entries, as journals print them.
+pub(crate) struct JournalLines;
+
+impl EntryLine for JournalLines {
+    ghost line = { entry_text };
+
+    fn put(into: &mut Vec<u8>, entry: &Entry) -> Result<(), AllocError> {
+        put_entry(into, entry)
+    }
+}
+
+/// A list of entries, to be reported. It never fails.
+#[derive(Drop)]
+pub(crate) struct ReportedList {
+    pub(crate) list: ListJournal,
+}
+
+impl ReportedList {
+    ghost use Rattle.std.specs.Prelude.{◌≡◌, []};
+
+    /// No entries; takes no memory.
+    pub(crate) fn new(alloc: Global) -> Self
+        ensures { result.list.entries ≡ [] }
+    {
+        ReportedList {
+            list: ListJournal::new(alloc),
+        }
+    }
+}
+
+impl Journal for ReportedList {
+    ghost use Rattle.std.specs.Prelude.{false, Some};
+
+    ghost told = { λ j. Some j.list.entries };
+
+    ghost faults = { λ _. 0 };
+
+    ghost torn = { λ _. false };
+
+    ghost room = { λ j. j.list.room };
+
+    fn reserve(&mut self) -> Result<(), AllocError> {
+        self.list.reserve()
+    }
+
+    fn append(&mut self, entry: Entry) -> Result<(), Failed> {
+        self.list.append(entry)
+    }
+}
+
+impl ReportedJournal for ReportedList {
+    fn entries(&self) -> &[Entry] {
+        self.list.entries()
+    }
+}

@@ -1,0 +1,198 @@
+//! A rehearsal: a recorded connection, served by handlers of an IDL's services.
+
+ghost use Rattle.std.specs.Prelude.{◌≡◌, ◌≤◌, true, false, List, length, map, Option, Err, IfOk};
+ghost use Rattle.outside.specs.Cause.{Rose};
+ghost use Rattle.outside.specs.Files.{File};
+ghost use Rattle.call_rules.specs.Desks.{longest_payload};
+ghost use Rattle.call_model.specs.Desk.{desk_of};
+ghost use Rattle.journal_text.specs.EntryText.{entry_text};
+ghost use Rattle.processor.specs.Offices.{plain_office};
+ghost use Rattle.schema.specs.SchemaOf.{schema_of};
+ghost use Rattle.schema.specs.Sound.{IsSound};
+ghost use Rattle.pair_binding.specs.Refusals.{refused_pair_text};
+ghost use Rattle.rehearsal_words.specs.Answering.{plain_rehearsal};
+ghost use Rattle.recorded_calls.specs.Answered.{MeansAnswered};
+ghost use Rattle.recorded_calls.specs.declared.fault.ServingFault.TheVariants as serving_faults;
+ghost use Rattle.thrift_host.specs.Rehearsals.{HasSchema};
+ghost use Rattle.thrift_host.specs.Steps.{EndsRehearsed, EndsUnbound, EndsAs, KeepsWordBounds, TellsRehearsal, is_unread_file, status_of_serving};
+ghost use Rattle.thrift_host.specs.declared.rehearsing.RehearsalFault.TheVariants as faults;
+
+use crate::checking::end_without_schema;
+use crate::journal::{JournalLines, ReportedList};
+use crate::saying::{end, end_saying};
+use crate::status::Status;
+use bind_words::BindWords;
+use call_rules::Handler;
+use idl_schema::{NoSchema, program_schema};
+use outside::{Files, Sink, Source};
+use pair_binding::{BindKind, put_refused_pair};
+use processor::Office;
+use recorded_calls::{ServingFault, answer_recorded};
+use rehearsal_words::Rehearsal;
+use schema::Schema;
+use service_binding::{BindFault, bind};
+use std::alloc::{AllocError, Global};
+
+/// Why a rehearsal has no report, or no whole one.
+#[derive(Drop)]
+pub(crate) enum RehearsalFault {
+    /// The IDL has no schema.
+    NoSchema(NoSchema),
+    /// The pairs aren't bound.
+    Unbound(BindFault),
+    /// The recorded connection isn't answered.
+    Unanswered(ServingFault),
+}
+
+/// Serves the recorded connection that the input is, as the words say, and writes the report of the run to the output.
+pub(crate) fn rehearse<F: Files, S: Source, K: Sink, H: Handler>(
+    alloc: Global,
+    files: &mut F,
+    input: &mut S,
+    output: &mut K,
+    rehearsal: &Rehearsal,
+    handlers: Vec<H>,
+) -> Result<(), RehearsalFault>
+    requires { KeepsWordBounds (plain_rehearsal rehearsal.now) }
+    ensures tells { TellsRehearsal
+        (record { says = plain_rehearsal rehearsal.now; files = F.files files.old; handlers = map H.service handlers.items }) result
+        (record { left_before = S.left input.old; left = S.left input.new; taken_before = K.taken output.old; taken = K.taken output.new }) }
+    ensures files { F.files files.new ≡ F.files files.old }
+    ensures file_fault { is_unread_file result ≡ true → Rose (F.faults files.old) (F.faults files.new) }
+    ensures read_fault { result ≡ Err (faults.Unanswered serving_faults.ReadFault) → Rose (S.faults input.old) (S.faults input.new) }
+    ensures write_fault { result ≡ Err (faults.Unanswered serving_faults.WriteFault) → Rose (K.faults output.old) (K.faults output.new) }
+{
+    match program_schema(alloc, files, rehearsal.idl.as_str()) {
+        Ok(schema) => arrange(alloc, input, output, rehearsal, schema, handlers),
+        Err(reason) => Err(RehearsalFault::NoSchema(reason)),
+    }
+}
+
+/// Binds the pairs to services of the schema and to handlers, and serves.
+fn arrange<S: Source, K: Sink, H: Handler>(
+    alloc: Global,
+    input: &mut S,
+    output: &mut K,
+    rehearsal: &Rehearsal,
+    schema: Schema,
+    handlers: Vec<H>,
+) -> Result<(), RehearsalFault>
+    requires sound { IsSound (schema_of schema) }
+    requires bounds { KeepsWordBounds (plain_rehearsal rehearsal.now) }
+    ensures tells { (files : Option (List File)) → HasSchema files rehearsal.now.idl (schema_of schema) → TellsRehearsal
+        (record { says = plain_rehearsal rehearsal.now; files = files; handlers = map H.service handlers.items }) result
+        (record { left_before = S.left input.old; left = S.left input.new; taken_before = K.taken output.old; taken = K.taken output.new }) }
+    ensures no_file { is_unread_file result ≡ false }
+    ensures read_fault { result ≡ Err (faults.Unanswered serving_faults.ReadFault) → Rose (S.faults input.old) (S.faults input.new) }
+    ensures write_fault { result ≡ Err (faults.Unanswered serving_faults.WriteFault) → Rose (K.faults output.old) (K.faults output.new) }
+{
+    match bind(alloc, &schema, &rehearsal.pairs, handlers) {
+        Ok((bindings, handlers)) => {
+            let most = rehearsal.limits.max_frame;
+            let office = Office::new(schema, bindings, rehearsal.protocol, most);
+            match serve(alloc, input, output, &office, most, handlers) {
+                Ok(()) => Ok(()),
+                Err(fault) => Err(RehearsalFault::Unanswered(fault)),
+            }
+        }
+        Err(fault) => Err(RehearsalFault::Unbound(fault)),
+    }
+}
+
+/// Serves at an office whose slots are these handlers.
+fn serve<S: Source, K: Sink, H: Handler>(
+    alloc: Global,
+    input: &mut S,
+    output: &mut K,
+    office: &Office,
+    max_frame: u32,
+    handlers: Vec<H>,
+) -> Result<(), ServingFault>
+    requires longest { max_frame ≡ (plain_office office.now).max_frame }
+    requires short { max_frame ≤ longest_payload }
+    requires slots { length handlers.items ≡ length (plain_office office.now).bindings }
+    ensures means { MeansAnswered
+        (record { desk = desk_of (plain_office office.now); services = map H.service handlers.items; line = entry_text }) result
+        (record { left_before = S.left input.old; left = S.left input.new; taken_before = K.taken output.old; taken = K.taken output.new }) }
+    ensures read_fault { result ≡ Err ServingFault.ReadFault → Rose (S.faults input.old) (S.faults input.new) }
+    ensures write_fault { result ≡ Err ServingFault.WriteFault → Rose (K.faults output.old) (K.faults output.new) }
+{
+    let mut handlers = handlers;
+    let mut journal = ReportedList::new(alloc);
+    answer_recorded::<JournalLines, Office, H, ReportedList, S, K>(
+        alloc,
+        input,
+        output,
+        office,
+        max_frame,
+        &mut handlers,
+        &mut journal,
+    )
+}
+
+/// Ends the command with what became of a rehearsal of these pairs.
+pub(crate) fn end_rehearsed<E: Sink>(
+    alloc: Global,
+    errors: &mut E,
+    pairs: &BindWords,
+    rehearsed: Result<(), RehearsalFault>,
+) -> Status
+    ensures { EndsRehearsed pairs.now rehearsed result
+        (record { taken_before = E.taken errors.old; taken = E.taken errors.new; faults_before = E.faults errors.old; faults = E.faults errors.new }) }
+{
+    match rehearsed {
+        Ok(()) => end(errors, Status::Done),
+        Err(RehearsalFault::NoSchema(reason)) => end_without_schema(alloc, errors, reason),
+        Err(RehearsalFault::Unbound(fault)) => end_unbound(alloc, errors, pairs, fault),
+        Err(RehearsalFault::Unanswered(fault)) => end(errors, status_of_serving(fault)),
+    }
+}
+
+/// The status of a recorded connection that isn't answered.
+fn status_of_serving(fault: ServingFault) -> Status
+    ensures { result ≡ status_of_serving fault }
+{
+    match fault {
+        ServingFault::NoScript => Status::ScriptRefused,
+        ServingFault::ReadFault => Status::ReadFault,
+        ServingFault::WriteFault => Status::WriteFault,
+        // A journal that is a list never fails.
+        ServingFault::JournalFault | ServingFault::NoMemory => Status::NoMemory,
+    }
+}
+
+/// Ends the command at pairs that aren't bound.
+fn end_unbound<E: Sink>(
+    alloc: Global,
+    errors: &mut E,
+    pairs: &BindWords,
+    fault: BindFault,
+) -> Status
+    ensures { EndsUnbound pairs.now fault result
+        (record { taken_before = E.taken errors.old; taken = E.taken errors.new; faults_before = E.faults errors.old; faults = E.faults errors.new }) }
+{
+    match fault {
+        BindFault::Refused(place, kind) => {
+            end_saying(
+                errors,
+                Status::BindRefused,
+                refused_pair_line(alloc, pairs, place, kind),
+            )
+        }
+        BindFault::NoMemory => end(errors, Status::NoMemory),
+    }
+}
+
+/// The errors' line of the pair at a place, which is refused.
+fn refused_pair_line(
+    alloc: Global,
+    pairs: &BindWords,
+    place: u32,
+    kind: BindKind,
+) -> Result<Vec<u8>, AllocError>
+    ensures { IfOk result (λ line. line.items ≡ refused_pair_text pairs.now place kind) }
+{
+    let mut line = Vec::new(alloc);
+    put_refused_pair(&mut line, pairs, place, kind)?;
+    Ok(line)
+}
