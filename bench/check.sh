@@ -1,9 +1,12 @@
 #!/usr/bin/env bash
-# Times `check` on an IDL of 4 MB (about 1,000 structs, enums, constants and services), whose schema is printed to nowhere, and prints its seconds (the least of five runs),
-# its peak memory, and its bytes of memory for each byte of the text. Where Apache's compiler `thrift` is installed, the same of it on the same file, for its cheapest generators. It is no test.
+# Times `check` on an IDL of 4 MB (about 1,000 structs, enums, constants and services) and on the hard files of trap_files.py, their schemas printed to nowhere.
+# For each it prints the seconds by the clock and of the processor (the least of five runs), the peak memory, its bytes for each byte of the text, and how many
+# times the processor's seconds of the file of 4 MB it took. Where Apache's compiler `thrift` is installed, the same of it on the file of 4 MB, for its cheapest
+# generators. It ends with status 1 where a hard file takes more than 4 times the time, where more than 80 bytes a byte are taken, or where Apache's compiler was
+# faster. check.sh [PROGRAM]: the program, if not the one that is built here.
 set -euo pipefail
 top=$(cd "$(dirname "$0")/.." && pwd)
-program="$top/crates/thriftd/out/thriftd"
+program=${1:-$top/crates/thriftd/out/thriftd}
 if [ ! -x "$program" ]; then
   (cd "$top/crates/thriftd" && rt run -- check @tutorial > /dev/null 2>&1) || [ -x "$program" ]
 fi
@@ -31,33 +34,46 @@ while True:
     k += 1
 print("".join(parts), end="")
 PY
+python3 "$top/bench/trap_files.py" "$work" > /dev/null
 python3 - "$program" "$work" <<'PY'
 import os, shutil, sys, time
 program, work = sys.argv[1], sys.argv[2]
-idl = os.path.join(work, "large.thrift")
-size = os.path.getsize(idl)
+HARD = ["typedefs", "empty_structs", "services", "includes", "enum_values", "constants"]
 
 def run(words):
     begin = time.monotonic()
     child = os.fork()
     if child == 0:
         os.chdir(work)
-        quiet = os.open(os.devnull, os.O_WRONLY)
-        os.dup2(quiet, 1)
-        os.dup2(quiet, 2)
+        quiet = os.open(os.devnull, os.O_RDWR)
+        for stream in (0, 1, 2):
+            os.dup2(quiet, stream)
         os.execvp(words[0], words)
     _, status, usage = os.wait4(child, 0)
     if status != 0:
         sys.exit("%s ended with status %d" % (" ".join(words), os.waitstatus_to_exitcode(status)))
-    return time.monotonic() - begin, usage.ru_maxrss * 1024
+    return time.monotonic() - begin, usage.ru_utime + usage.ru_stime, usage.ru_maxrss * 1024
 
-print("%d bytes" % size)
-print("%-24s %9s %9s %12s" % ("", "seconds", "peak MB", "bytes a byte"))
-rows = [("thriftd check", [program, "check", idl])]
-if shutil.which("thrift"):
-    rows += [("thrift -gen %s" % kind, ["thrift", "-gen", kind, "-o", work, idl]) for kind in ("json", "gv")]
-for name, words in rows:
+def measure(name, words, size):
     runs = [run(words) for _ in range(5)]
-    peak = max(memory for _, memory in runs)
-    print("%-24s %9.2f %9.0f %12.1f" % (name, min(seconds for seconds, _ in runs), peak / 1e6, peak / size))
+    clock, processor, peak = min(r[0] for r in runs), min(r[1] for r in runs), max(r[2] for r in runs)
+    times = processor / measured["large"][0] if measured else 1.0
+    print("%-22s %9d %7.2f %9.2f %9.0f %12.1f %6.1f" % (name, size, clock, processor, peak / 1e6, peak / size, times))
+    measured[name] = (processor, peak / size)
+
+measured = {}
+print("%-22s %9s %7s %9s %9s %12s %6s" % ("", "bytes", "clock", "processor", "peak MB", "bytes a byte", "times"))
+for name in ["large"] + HARD:
+    idl = name + ".thrift"
+    measure(name, [program, "check", idl], os.path.getsize(os.path.join(work, idl)))
+if shutil.which("thrift"):
+    for kind in ("json", "gv"):
+        idl = os.path.join(work, "large.thrift")
+        measure("thrift -gen %s" % kind, ["thrift", "-gen", kind, "-o", work, idl], os.path.getsize(idl))
+large = measured["large"]
+slow = ["%s is slow" % name for name in HARD if measured[name][0] > 4 * large[0]]
+slow += ["%s takes much memory" % name for name in ["large"] + HARD if measured[name][1] > 80]
+slow += ["%s is faster" % name for name in measured if name.startswith("thrift") and measured[name][0] < large[0]]
+print("\n".join(slow) or "all is within what is asked")
+sys.exit(1 if slow else 0)
 PY
