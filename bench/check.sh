@@ -1,9 +1,9 @@
 #!/usr/bin/env bash
-# Times `check` on an IDL of 4 MB (about 1,000 structs, enums, constants and services) and on the hard files of trap_files.py, their schemas printed to nowhere.
-# For each it prints the seconds by the clock and of the processor (the least of five runs), the peak memory, its bytes for each byte of the text, and how many
-# times the processor's seconds of the file of 4 MB it took. Where Apache's compiler `thrift` is installed, the same of it on the file of 4 MB, for its cheapest
-# generators. It ends with status 1 where a hard file takes more than 4 times the time, where more than 80 bytes a byte are taken, or where Apache's compiler was
-# faster. check.sh [PROGRAM]: the program, if not the one that is built here.
+# Times `check` on an IDL of 4 MB (about 1,000 structs, enums, constants and services) and on the hard files of trap_files.py, their schemas
+# printed to nowhere. For each it prints the seconds by the clock and of the processor (the least of five runs), the peak memory, its bytes for
+# each byte of the text, and how many times the processor's seconds of the file of 4 MB it took. Where Apache's compiler `thrift` is installed,
+# the same of it on the file of 4 MB, for its cheapest generators. It ends with status 1 where a hard file takes more than 4 times the time, where
+# more than 80 bytes a byte are taken, or where Apache's compiler was faster. check.sh [PROGRAM]: the program, if not the one that is built here.
 set -euo pipefail
 top=$(cd "$(dirname "$0")/.." && pwd)
 program=${1:-$top/crates/thriftd/out/thriftd}

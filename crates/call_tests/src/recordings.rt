@@ -1,10 +1,10 @@
-//! A recorded connection that an office of the example and a mirror answer: the report of a call and of two messages that are none, a journal that fails, and
-//! an output that fails.
+//! A recorded connection that an office of the example answers with a handler of the house: the reports of a call, of a message that is none and of a head that
+//! is refused, a journal that fails, and an output that fails.
 
 use crate::offices::office;
-use call_rules::{Entry, Journal};
+use call_rules::{Entry, Handler, Journal};
 use envelope::Protocol;
-use house_handlers::Mirror;
+use house_handlers::{Mirror, Store};
 use journal_text::{ListJournal, put_entry};
 use outside::{Failed, MemSink, MemSource};
 use recorded_calls::{ServingFault, answer_recorded};
@@ -12,19 +12,26 @@ use run_report::{EntryLine, ReportedJournal};
 use std::alloc::{AllocError, Global};
 use std::test::Fail;
 
-// A call of `f`, which the mirror answers with nothing, though a list is to come back; and one of `g`, which there isn't.
+// A call of `f`, and one of `g`, which there isn't.
 const CALLS: &[u8] = b"open\ndata 0 00000006822101016600000000068221\ndata 0 02016700\nend 0\n";
 
-const CALLS_REPORT: &[u8] =
+// A mirror has no argument to give back.
+const MIRRORED: &[u8] =
+    b"tape open 0\ntape read 0 4\ntape read 0 6\ntape wrote 0 10\ntape read 0 4\ntape read 0 2\ntape read 0 4\ntape wrote 0 38\ntape end 0\ntape close 0\n\
+call 0 0 0 f {} empty\nconn 0 End 00000006824101016600\
+0000002282610201671818496e76616c6964206d6574686f64206e616d653a20276727150200\ncalls 1\n";
+
+// A store has no such function.
+const STORED: &[u8] =
     b"tape open 0\ntape read 0 4\ntape read 0 6\ntape wrote 0 41\ntape read 0 4\ntape read 0 2\ntape read 0 4\ntape wrote 0 38\ntape end 0\ntape close 0\n\
-call 0 0 0 f {} empty\nconn 0 End 000000258261010166181b496e7465726e616c206572726f722070726f63657373696e672066150c00\
+call 0 0 0 f {} broken\nconn 0 End 000000258261010166181b496e7465726e616c206572726f722070726f63657373696e672066150c00\
 0000002282610201671818496e76616c6964206d6574686f64206e616d653a20276727150200\ncalls 1\n";
 
 // A head that is refused, with a byte behind it.
 const CLOSED: &[u8] = b"open\ndata 0 000000048001000100\nend 0\n";
 
 const CLOSED_REPORT: &[u8] =
-    b"tape open 0\ntape read 0 4\ntape read 0 4\ntape close 0\nconn 0 Envelope Version 80010001 -\ncalls 0\n";
+    b"tape open 0\ntape read 0 4\ntape read 0 4\ntape close 0\nconn 0 Envelope Version 00000080 -\ncalls 0\n";
 
 // The lines of entries.
 struct Lines {}
@@ -82,15 +89,16 @@ impl ReportedJournal for GivenJournal {
 // What answering a recording came to, and what was written.
 type Answered = (Result<(), ServingFault>, Vec<u8>);
 
-// Answers a recording, where the journal fails or doesn't, and the output takes a byte at a time and fails at these writes.
-fn answer(
+// Answers a recording with one handler, where the journal fails or doesn't, and the output takes a byte at a time and fails at these writes.
+fn answer<H: Handler>(
     alloc: Global,
+    handler: H,
     script: &[u8],
     fails: bool,
     writes: &[u64],
 ) -> Result<Answered, AllocError> {
     let desk = office(alloc, Protocol::Compact)?;
-    let mut handlers = [Mirror::new()];
+    let mut handlers = [handler];
     let mut journal = GivenJournal {
         list: ListJournal::new(alloc),
         fails,
@@ -112,27 +120,34 @@ fn answer(
 }
 
 // Whether a recording has this report.
-fn is_report(alloc: Global, script: &[u8], report: &[u8]) -> Result<bool, AllocError> {
-    let (answered, output) = answer(alloc, script, false, &[])?;
+fn is_report<H: Handler>(
+    alloc: Global,
+    handler: H,
+    script: &[u8],
+    report: &[u8],
+) -> Result<bool, AllocError> {
+    let (answered, output) = answer(alloc, handler, script, false, &[])?;
     Ok(answered == Ok(()) && output.as_slice() == report)
 }
 
 // Whether an output that takes so many bytes has these of the report.
 fn is_cut(alloc: Global, most: u64, front: &[u8]) -> Result<bool, AllocError> {
-    let (answered, output) = answer(alloc, CALLS, false, &[most])?;
+    let (answered, output) = answer(alloc, Mirror::new(), CALLS, false, &[most])?;
     Ok(answered == Err(ServingFault::WriteFault) && output.as_slice() == front)
 }
 
 #[test]
 fn recordings_have_their_reports(rt: HostRuntime) -> Result<(), Fail> {
-    assert!(rt; is_report(rt.alloc(), CALLS, CALLS_REPORT)?);
-    assert!(rt; is_report(rt.alloc(), CLOSED, CLOSED_REPORT)?);
+    let alloc = rt.alloc();
+    assert!(rt; is_report(alloc, Mirror::new(), CALLS, MIRRORED)?);
+    assert!(rt; is_report(alloc, Store::new(alloc), CALLS, STORED)?);
+    assert!(rt; is_report(alloc, Mirror::new(), CLOSED, CLOSED_REPORT)?);
     Ok(())
 }
 
 #[test]
 fn a_journal_that_fails_ends_the_run(rt: HostRuntime) -> Result<(), Fail> {
-    let (answered, output) = answer(rt.alloc(), CALLS, true, &[])?;
+    let (answered, output) = answer(rt.alloc(), Mirror::new(), CALLS, true, &[])?;
     assert!(rt; answered == Err(ServingFault::JournalFault) && output.is_empty());
     Ok(())
 }

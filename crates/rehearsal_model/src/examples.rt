@@ -15,8 +15,13 @@ ghost use Rattle.rehearsal_model.specs.Rehearsing.{rehearsal};
 ghost use Rattle.rehearsal_model.specs.Rows.{tiny_script, frame_of_one, RehearsesTo, RehearsesWith, EndsWith, ShowsAll, closed_at_first, once, ComesToNoRest};
 
 /// Rehearsals as they go: no line; an input that ends inside a size; a budget of one frame, for which a second connection is held until the first one's call is
+<<<<<<< ours
 /// collected; a write of one byte and one that fails, with a block between them; two workers that overtake each other, on schedule; a rest between two calls;
 /// a read that fails behind its pieces; and a rest at which the second connection is held, so that its piece is read behind the opening of a third.
+=======
+/// collected; a write of one byte and one that fails, with a block between them; two workers that overtake each other, on schedule; a worker that does a whole job
+/// while another one holds its own; a rest between two calls; and a read that fails behind its pieces.
+>>>>>>> theirs
 pub fn rehearsals()
     ensures nothing { RehearsesTo 2 0 (tiny_script [] []) [] [] [] }
     ensures cut_in_a_size { RehearsesTo 2 1 (tiny_script (opening ∷ piece 0 (0 ∷ 0 ∷ []) ∷ input_end 0 ∷ []) [])
@@ -34,6 +39,11 @@ pub fn rehearsals()
         (Opened 0 ∷ Opened 1 ∷ Read 0 size_of_one ∷ Read 0 (1 ∷ []) ∷ Read 1 size_of_one ∷ Read 1 (1 ∷ []) ∷ Wrote 0 (6 ∷ 6 ∷ []) ∷ Ended 0 ∷ Closed 0
         ∷ Wrote 1 (5 ∷ 5 ∷ []) ∷ Ended 1 ∷ Closed 1 ∷ [])
         (tiny_entry 1 5 ∷ tiny_entry 0 6 ∷ []) (End ∷ End ∷ []) }
+    ensures whole_job { RehearsesTo 2 2 (tiny_script (opening ∷ opening ∷ piece 0 (frame_of_one 1) ∷ piece 1 (frame_of_one 1) ∷ input_end 0 ∷ input_end 1
+        ∷ turn_of_conn 1 ∷ turn_of_conn 1 ∷ turn_of_conn 1 ∷ turn_of_conn 1 ∷ turn_of_conn 0 ∷ turn_of_conn 0 ∷ turn_of_conn 0 ∷ turn_of_conn 0 ∷ turn_of_worker 1 ∷ []) [])
+        (Opened 0 ∷ Opened 1 ∷ Read 1 size_of_one ∷ Read 1 (1 ∷ []) ∷ Read 0 size_of_one ∷ Read 0 (1 ∷ []) ∷ Wrote 0 (5 ∷ 5 ∷ []) ∷ Ended 0 ∷ Closed 0
+        ∷ Wrote 1 (6 ∷ 6 ∷ []) ∷ Ended 1 ∷ Closed 1 ∷ [])
+        (tiny_entry 0 5 ∷ tiny_entry 1 6 ∷ []) (End ∷ End ∷ []) }
     ensures rest_between { RehearsesTo 2 1 (tiny_script (opening ∷ opening ∷ piece 1 (frame_of_one 1) ∷ resting ∷ piece 0 (frame_of_one 1) ∷ input_end 0 ∷ input_end 1 ∷ []) [])
         (Opened 0 ∷ Opened 1 ∷ Read 1 size_of_one ∷ Read 1 (1 ∷ []) ∷ Wrote 1 (5 ∷ 5 ∷ []) ∷ Read 0 size_of_one ∷ Read 0 (1 ∷ []) ∷ Ended 1 ∷ Closed 1 ∷ Wrote 0 (6 ∷ 6 ∷ [])
         ∷ Ended 0 ∷ Closed 0 ∷ [])

@@ -16,6 +16,9 @@ returns-clause-write_rules c = refl
 pub returns-clause-on_schedule : goal.returns-clause-on_schedule
 returns-clause-on_schedule c = refl
 
+pub returns-clause-whole_job : goal.returns-clause-whole_job
+returns-clause-whole_job c = refl
+
 pub returns-clause-rest_between : goal.returns-clause-rest_between
 returns-clause-rest_between c = refl
 
