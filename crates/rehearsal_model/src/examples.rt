@@ -15,13 +15,9 @@ ghost use Rattle.rehearsal_model.specs.Rehearsing.{rehearsal};
 ghost use Rattle.rehearsal_model.specs.Rows.{tiny_script, frame_of_one, RehearsesTo, RehearsesWith, EndsWith, ShowsAll, closed_at_first, once, ComesToNoRest};
 
 /// Rehearsals as they go: no line; an input that ends inside a size; a budget of one frame, for which a second connection is held until the first one's call is
-<<<<<<< ours
-/// collected; a write of one byte and one that fails, with a block between them; two workers that overtake each other, on schedule; a rest between two calls;
-/// a read that fails behind its pieces; and a rest at which the second connection is held, so that its piece is read behind the opening of a third.
-=======
 /// collected; a write of one byte and one that fails, with a block between them; two workers that overtake each other, on schedule; a worker that does a whole job
-/// while another one holds its own; a rest between two calls; and a read that fails behind its pieces.
->>>>>>> theirs
+/// while another one holds its own; a rest between two calls; a read that fails behind its pieces; and a rest at which the second connection is held, so that its
+/// piece is read behind the opening of a third.
 pub fn rehearsals()
     ensures nothing { RehearsesTo 2 0 (tiny_script [] []) [] [] [] }
     ensures cut_in_a_size { RehearsesTo 2 1 (tiny_script (opening ∷ piece 0 (0 ∷ 0 ∷ []) ∷ input_end 0 ∷ []) [])
