@@ -10,6 +10,7 @@ pub mod Moves
 pub mod Numbers
 pub mod OneReport
 pub mod Payloads
+pub mod PlainRuns
 pub mod Reading
 pub mod Results
 pub mod ScriptPieces

@@ -8,7 +8,7 @@
 //! let script = b"open\ndata 0 00000011800100010000000470696e670000000000\nend 0\n".to_vec(alloc)?;
 //! let mut input = MemSource::new(script, Vec::new(alloc));
 //! let mut output = MemSink::new(alloc, Vec::new(alloc));
-//! match answer_recorded::<Lines, ..>(alloc, &mut input, &mut output, &office, 16_384_000, &mut handlers, &mut journal) {
+//! match answer_recorded::<Lines, _, _, _, _, _>(alloc, &mut input, &mut output, &office, 16_384_000, &mut handlers, &mut journal) {
 //!     Ok(()) => assert!(rt; output.bytes().ends_with(b"\ncalls 1\n")),
 //!     Err(fault) => println!(rt; "{fault}")?,
 //! }

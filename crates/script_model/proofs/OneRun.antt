@@ -12,7 +12,7 @@ use Rattle.host_model.proofs.Lists.{append_parts}
 use Rattle.text_out.specs.Line.{line_of}
 use Rattle.host_model.specs.declared.cause.EndCause.TheVariants.{End, Cut, SizeFault, Envelope, ReadFault, WriteFault, NoMemory, Stopped}
 use Rattle.script_model.specs.Arrival.{Arrival}
-use Rattle.script_model.specs.Rehearsal.{IsCallLine, IsReportOfOneConnection, is_scripted}
+use Rattle.script_model.specs.Rehearsal.{HaveCallLines, IsReportOfOneConnection, is_scripted}
 use Rattle.script_model.proofs.Marked.{kind_of, read_of, wrote_of}
 use Rattle.script_model.proofs.Determined.{RunOf, own_marks, same_inputs, same_split, same_journal, same_marks}
 use Rattle.script_model.proofs.ReportLines.{same_lines}
@@ -81,10 +81,10 @@ told_apart line tape journal NoMemory Stopped e m = m
 told_apart line tape journal Stopped cause' e m = m
 
 pub one_run : {C A M : Type 0} (d : DeskRules C A) (r : ServiceRules C A M) (memories : List M) (line : JournalEntry C A → List ℕ) (arrival : Arrival) (text : List ℕ)
-    → d.max < 2 ^ 31 → ((e : JournalEntry C A) → IsCallLine (line e))
-    → (x y : IsReportOfOneConnection d r memories is_scripted line arrival text) → (x.tape ≡ y.tape) × (x.journal ≡ y.journal) × (x.cause ≡ y.cause)
-one_run d r memories line arrival text small lines x y =
-    let told = same_lines line x.tape y.tape x.journal y.journal x.cause y.cause lines (sym x.printed ∙ y.printed) in
+    → d.max < 2 ^ 31 → (x y : IsReportOfOneConnection d r memories is_scripted line arrival text) → HaveCallLines line x.journal → HaveCallLines line y.journal
+    → (x.tape ≡ y.tape) × (x.journal ≡ y.journal) × (x.cause ≡ y.cause)
+one_run d r memories line arrival text small x y lines lines' =
+    let told = same_lines line x.tape y.tape x.journal y.journal x.cause y.cause lines lines' (sym x.printed ∙ y.printed) in
     same_run d r memories arrival small x.tape y.tape x.journal y.journal x.cause y.cause x.run y.run told.0 told.1
     (λ tapes journals mix. told_apart line x.tape x.journal x.cause y.cause
     (sym x.printed ∙ y.printed ∙ (λ i. report line (sym tapes i) (sym journals i) (y.cause ∷ []))) mix)

@@ -1,5 +1,5 @@
 -- The lines of a report are told: how many marks of which kind it has, and how many entries.
-use Rattle.std.proofs.Common.{◌≡◌, ◌≢◌, ℕ, zero, suc, ◌+◌, ◌/◌, ◌%◌, ◌==◌, nat_lt, ◌&&◌, not, Bool, true, false, cond, if◌then◌else◌, List, [], ◌∷◌, ◌++◌, length, map, codes, get_or, refl, sym, ap, ◌∙◌, arith, append_assoc}
+use Rattle.std.proofs.Common.{◌≡◌, ◌≢◌, ℕ, zero, suc, ◌⊎◌, inl, inr, ◌+◌, ◌/◌, ◌%◌, ◌==◌, nat_lt, ◌&&◌, not, Bool, true, false, cond, if◌then◌else◌, List, [], ◌∷◌, ◌++◌, length, map, codes, get_or, refl, sym, ap, ◌∙◌, arith, append_assoc}
 use Rattle.std.specs.Fmt.{digits, digits_onto, digit_glyph}
 use Rattle.std.specs.List.{AllByRecursion, list_all}
 use Rattle.std.proofs.lemmas.Bool.{eqb-false, true≢false}
@@ -9,9 +9,10 @@ use Rattle.text_out.specs.Decimal.{natural_of}
 use Rattle.text_out.specs.Line.{line_of}
 use Rattle.host_model.specs.declared.cause.EndCause.{EndCause}
 use Rattle.host_model.specs.Journal.{JournalEntry}
+use Rattle.host_model.specs.Conversation.{IsPrefix}
 use Rattle.host_model.specs.Report.{numbered, mark_text, tape_lines, journal_lines, end_lines, report}
 use Rattle.host_model.proofs.Lists.{cons_parts, all-append}
-use Rattle.script_model.specs.Rehearsal.{IsCallLine}
+use Rattle.script_model.specs.Rehearsal.{IsCallLine, HaveCallLines}
 use Rattle.script_model.proofs.Marked.{kind_of}
 
 -- a text of one line
@@ -116,23 +117,38 @@ same_tape_lines (m ∷ tape) (m' ∷ tape') rest rest' n n' e =
     let kind : kind_of m ≡ kind_of m' = sym (kind_told m) ∙ ap kind_read p.0 ∙ kind_told m' in
     ((λ i. kind i ∷ q.0 i), q.1)
 
--- each entry's line has an `a` in the second place
-call_begins : (text more : List ℕ) → IsCallLine text → get_or (text ++ more) 1 0 ≡ 97
-call_begins text more c = ap (λ t. get_or (t ++ more) 1 0) c.named.1
+-- a text that begins with one of two words has the byte of one of them at a place
+begins_so : (at a b : ℕ) (one other text more : List ℕ) → ((t : List ℕ) → get_or ((one ++ t) ++ more) at 0 ≡ a) → ((t : List ℕ) → get_or ((other ++ t) ++ more) at 0 ≡ b)
+    → IsPrefix one text ⊎ IsPrefix other text → (get_or (text ++ more) at 0 ≡ a) ⊎ (get_or (text ++ more) at 0 ≡ b)
+begins_so at a b one other text more x y (inl p) = inl (ap (λ t. get_or (t ++ more) at 0) p.1 ∙ x p.0)
+begins_so at a b one other text more x y (inr p) = inr (ap (λ t. get_or (t ++ more) at 0) p.1 ∙ y p.0)
 
--- where the entries' lines end, if what follows them has no `a` there
+neither : (a b c n : ℕ) → (n ≡ a) ⊎ (n ≡ b) → (a ≡ c → ⊥) → (b ≡ c → ⊥) → n ≢ c
+neither a b c n (inl e) x y is = x (sym e ∙ is)
+neither a b c n (inr e) x y is = y (sym e ∙ is)
+
+-- no entry's line has an `o` in the second place
+call_begins : (text more : List ℕ) → IsCallLine text → get_or (text ++ more) 1 0 ≢ 111
+call_begins text more c =
+    neither 97 110 111 (get_or (text ++ more) 1 0)
+    (begins_so 1 97 110 (codes "call ") (codes "oneway ") text more (λ t. refl) (λ t. refl) c.named)
+    (λ e. omega (arith, e)) (λ e. omega (arith, e))
+
+-- where the entries' lines end, if what follows them has an `o` there
 pub same_call_lines : {C A : Type 0} (line : JournalEntry C A → List ℕ) (js ks : List (JournalEntry C A)) (rest rest' : List ℕ)
-    → ((e : JournalEntry C A) → IsCallLine (line e)) → get_or rest 1 0 ≢ 97 → get_or rest' 1 0 ≢ 97
+    → HaveCallLines line js → HaveCallLines line ks → get_or rest 1 0 ≡ 111 → get_or rest' 1 0 ≡ 111
     → journal_lines line js ++ rest ≡ journal_lines line ks ++ rest' → length js ≡ length ks
-same_call_lines line [] [] rest rest' lines n n' e = refl
-same_call_lines line [] (k ∷ ks) rest rest' lines n n' e =
-    absurd (n (ap (λ t. get_or t 1 0) (e ∙ line_behind (line k) (journal_lines line ks) rest') ∙ call_begins (line k) (10 ∷ (journal_lines line ks ++ rest')) (lines k)))
-same_call_lines line (j ∷ js) [] rest rest' lines n n' e =
-    absurd (n' (ap (λ t. get_or t 1 0) (sym e ∙ line_behind (line j) (journal_lines line js) rest) ∙ call_begins (line j) (10 ∷ (journal_lines line js ++ rest)) (lines j)))
-same_call_lines line (j ∷ js) (k ∷ ks) rest rest' lines n n' e =
-    let p = one_line_cut (line j) (line k) (journal_lines line js ++ rest) (journal_lines line ks ++ rest') (lines j).one (lines k).one
+same_call_lines line [] [] rest rest' a b o o' e = refl
+same_call_lines line [] (k ∷ ks) rest rest' a b o o' e =
+    absurd (call_begins (line k) (10 ∷ (journal_lines line ks ++ rest')) b.0
+    (sym (ap (λ t. get_or t 1 0) (e ∙ line_behind (line k) (journal_lines line ks) rest')) ∙ o))
+same_call_lines line (j ∷ js) [] rest rest' a b o o' e =
+    absurd (call_begins (line j) (10 ∷ (journal_lines line js ++ rest)) a.0
+    (sym (ap (λ t. get_or t 1 0) (sym e ∙ line_behind (line j) (journal_lines line js) rest)) ∙ o'))
+same_call_lines line (j ∷ js) (k ∷ ks) rest rest' a b o o' e =
+    let p = one_line_cut (line j) (line k) (journal_lines line js ++ rest) (journal_lines line ks ++ rest') a.0.one b.0.one
     (sym (line_behind (line j) (journal_lines line js) rest) ∙ e ∙ line_behind (line k) (journal_lines line ks) rest') in
-    ap suc (same_call_lines line js ks rest rest' lines n n' p.1)
+    ap suc (same_call_lines line js ks rest rest' a.1 b.1 o o' p.1)
 
 -- a report in two parts: the lines of the tape, and behind them those of the journal and of the one connection
 abbrev end_and_count : {C A : Type 0} → List Mark → List (JournalEntry C A) → EndCause → List ℕ
@@ -145,31 +161,36 @@ in_parts line tape journal cause =
     ∙ append_assoc (tape_lines tape) (journal_lines line journal) (end_and_count tape journal cause)
 
 -- behind the tape no line begins with `t`
-call_first : (text more : List ℕ) → IsCallLine text → get_or (text ++ more) 0 0 ≡ 99
-call_first text more c = ap (λ t. get_or (t ++ more) 0 0) c.named.1
+call_first : (text more : List ℕ) → IsCallLine text → get_or (text ++ more) 0 0 ≢ 116
+call_first text more c =
+    neither 99 111 116 (get_or (text ++ more) 0 0)
+    (begins_so 0 99 111 (codes "call ") (codes "oneway ") text more (λ t. refl) (λ t. refl) c.named)
+    (λ e. omega (arith, e)) (λ e. omega (arith, e))
+
+end_at_first : {C A : Type 0} (tape : List Mark) (journal : List (JournalEntry C A)) (cause : EndCause) → get_or (end_and_count tape journal cause) 0 0 ≡ 99
+end_at_first tape journal cause = refl
 
 no_mark_first : {C A : Type 0} (line : JournalEntry C A → List ℕ) (tape : List Mark) (journal js : List (JournalEntry C A)) (cause : EndCause)
-    → ((e : JournalEntry C A) → IsCallLine (line e)) → get_or (journal_lines line js ++ end_and_count tape journal cause) 0 0 ≡ 99
-no_mark_first line tape journal [] cause lines = refl
-no_mark_first line tape journal (j ∷ js) cause lines =
-    ap (λ t. get_or t 0 0) (line_behind (line j) (journal_lines line js) (end_and_count tape journal cause)) ∙ call_first (line j) _ (lines j)
+    → HaveCallLines line js → get_or (journal_lines line js ++ end_and_count tape journal cause) 0 0 ≢ 116
+no_mark_first line tape journal [] cause lines is =
+    let first : get_or (end_and_count tape journal cause) 0 0 ≡ 99 = end_at_first tape journal cause in
+    let f : ⊥ = omega (arith, first, is) in f
+no_mark_first line tape journal (j ∷ js) cause lines is =
+    call_first (line j) (10 ∷ (journal_lines line js ++ end_and_count tape journal cause)) lines.0
+    (sym (ap (λ t. get_or t 0 0) (line_behind (line j) (journal_lines line js) (end_and_count tape journal cause))) ∙ is)
 
-end_first : {C A : Type 0} (tape : List Mark) (journal : List (JournalEntry C A)) (cause : EndCause) → get_or (end_and_count tape journal cause) 1 0 ≡ 111
-end_first tape journal cause = refl
+end_at_second : {C A : Type 0} (tape : List Mark) (journal : List (JournalEntry C A)) (cause : EndCause) → get_or (end_and_count tape journal cause) 1 0 ≡ 111
+end_at_second tape journal cause = refl
 
 -- Two reports that are one text have marks of the same kinds, and as many entries.
 pub same_lines : {C A : Type 0} (line : JournalEntry C A → List ℕ) (tape tape' : List Mark) (journal journal' : List (JournalEntry C A)) (cause cause' : EndCause)
-    → ((e : JournalEntry C A) → IsCallLine (line e))
+    → HaveCallLines line journal → HaveCallLines line journal'
     → report line tape journal (cause ∷ []) ≡ report line tape' journal' (cause' ∷ []) → (map kind_of tape ≡ map kind_of tape') × (length journal ≡ length journal')
-same_lines line tape tape' journal journal' cause cause' lines e =
-    let first = no_mark_first line tape journal journal cause lines in
-    let first' = no_mark_first line tape' journal' journal' cause' lines in
+same_lines line tape tape' journal journal' cause cause' lines lines' e =
     let p = same_tape_lines tape tape' (journal_lines line journal ++ end_and_count tape journal cause) (journal_lines line journal' ++ end_and_count tape' journal' cause')
-    (λ t. let f : ⊥ = omega (arith, first, t) in f) (λ t. let f : ⊥ = omega (arith, first', t) in f)
-    (sym (in_parts line tape journal cause) ∙ e ∙ in_parts line tape' journal' cause') in
-    let second : get_or (end_and_count tape journal cause) 1 0 ≡ 111 = end_first tape journal cause in
-    let second' : get_or (end_and_count tape' journal' cause') 1 0 ≡ 111 = end_first tape' journal' cause' in (
+    (no_mark_first line tape journal journal cause lines) (no_mark_first line tape' journal' journal' cause' lines')
+    (sym (in_parts line tape journal cause) ∙ e ∙ in_parts line tape' journal' cause') in (
       p.0,
-      same_call_lines line journal journal' (end_and_count tape journal cause) (end_and_count tape' journal' cause') lines
-          (λ t. let f : ⊥ = omega (arith, second, t) in f) (λ t. let f : ⊥ = omega (arith, second', t) in f) p.1,
+      same_call_lines line journal journal' (end_and_count tape journal cause) (end_and_count tape' journal' cause') lines lines'
+          (end_at_second tape journal cause) (end_at_second tape' journal' cause') p.1,
     )

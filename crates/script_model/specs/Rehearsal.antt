@@ -1,5 +1,5 @@
 -- A run on bytes that arrive in pieces, and its report. A desk, services and causes are given, so that this stands for any service.
-use Rattle.std.specs.Prelude.{◌≡◌, ◌≢◌, ℕ, Bool, true, false, List, [], ◌∷◌, codes, Some, slice_get}
+use Rattle.std.specs.Prelude.{◌≡◌, ◌≢◌, ◌⊎◌, ℕ, Bool, true, false, List, [], ◌∷◌, codes, Some, slice_get}
 use Rattle.std.specs.List.{AllByRecursion}
 use Rattle.outside.specs.declared.marks.Mark.{Mark}
 use Rattle.host_model.specs.declared.cause.EndCause.{EndCause}
@@ -53,7 +53,11 @@ pub record IsReportOfOneConnection {C A M : Type 0} (d : DeskRules C A) (r : Ser
   pub run : IsRunOn d r memories may_end (λ c. arrival) tape journal (cause ∷ [])
   pub printed : text ≡ report line tape journal (cause ∷ [])
 
--- a line of a call, told from a report's other lines: it begins with `call ` and has no newline
+-- a line of a call, told from a report's other lines: it begins with `call ` or `oneway ` and has no newline
 pub record IsCallLine (line : List ℕ) : Type 0 where
-  pub named : IsPrefix (codes "call ") line
+  pub named : IsPrefix (codes "call ") line ⊎ IsPrefix (codes "oneway ") line
   pub one : AllByRecursion (λ b. b ≢ 10) line
+
+-- each of these entries has such a line
+abbrev pub HaveCallLines : {C A : Type 0} → (JournalEntry C A → List ℕ) → List (JournalEntry C A) → Type 0
+HaveCallLines line journal = AllByRecursion (λ e. IsCallLine (line e)) journal
