@@ -30,7 +30,7 @@ input_closes lines c once = go (or_cases (ends_input c once.line) (fails_input c
 
 pub lets_by : (workers : ℕ) (script : ScriptPlan) → IsSoundPlan script → MovesItsWorkers workers script → LetsAllEnd workers script
 lets_by workers script sound moves = record {
-  moves = record { pieces = sound.pieces; writes = sound.writes; turns = moves; };
+  moves = record { pieces = sound.pieces; writes = sound.writes; turns = moves };
   inputs = λ c within. input_closes script.lines c (sound.ends c within);
 }
 

@@ -1,5 +1,5 @@
 -- What a status says of a rehearsal.
-use Rattle.std.proofs.Common.{◌≡◌, ℕ, List, Option, Result, Ok, Err, refl, sym, subst, inl, inr}
+use Rattle.std.proofs.Common.{◌≡◌, Result, Ok, Err, sym, subst, inl, inr}
 use Rattle.idl_schema.specs.declared.refusal.NoSchema.{NoSchema}
 use Rattle.idl_schema.specs.declared.refusal.NoSchema.TheVariants as reasons
 use Rattle.idl_schema.specs.Verdicts.{IsIdlVerdict, IsUnreadIdl}

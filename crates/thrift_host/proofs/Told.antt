@@ -1,20 +1,11 @@
 -- What answers say of values that are known.
-use Rattle.std.proofs.Common.{◌≡◌, ℕ, List, Option, Some, None, option_map, Result, Ok, Err, MatchResult, IfErr, IfSome, sym, ap, ◌∙◌, subst, inl}
+use Rattle.std.proofs.Common.{◌≡◌, ℕ, List, Option, Some, None, option_map, IfSome, sym, ap, ◌∙◌, subst, inl}
 use Rattle.outside.specs.Files.{File}
-use Rattle.schema.specs.declared.types.Schema.{Schema}
-use Rattle.schema.specs.SchemaOf.{schema_of}
-use Rattle.schema.specs.Sound.{IsSound}
-use Rattle.idl_schema.specs.declared.refusal.NoSchema.{NoSchema}
-use Rattle.idl_schema.specs.Verdicts.{IdlVerdict, accepted}
-use Rattle.idl_schema.specs.Telling.{TellsWhy, TellsSchema}
 use Rattle.call_rules.specs.Handling.{ServiceState}
 use Rattle.call_model.specs.Offices.{PlainOffice}
 use Rattle.call_model.specs.Desk.{desk_of}
 use Rattle.journal_text.specs.EntryText.{entry_text}
-use Rattle.rehearsal_words.specs.declared.reading.Rehearsal.{Rehearsal}
-use Rattle.rehearsal_words.specs.declared.reading.WordsFault.{WordsFault}
 use Rattle.rehearsal_words.specs.Rehearsals.{PlainRehearsal}
-use Rattle.rehearsal_words.specs.Answering.{AnswersWords, plain_rehearsal}
 use Rattle.recorded_calls.specs.Answered.{Answering, Streams}
 use Rattle.thrift_host.specs.declared.status.Status.{Status}
 use Rattle.thrift_host.specs.declared.status.Status.TheVariants.{NoMemory}
@@ -25,31 +16,7 @@ use Rattle.thrift_host.specs.Top.{Means, Says}
 use Rattle.thrift_host.specs.Rehearsals.{AskedRehearsal, IsArranged, arranged_office, answering_of}
 use Rattle.thrift_host.specs.Steps.{KeepsWordBounds}
 
--- a result that is known
-pub of_ok : {A : Type 0} (P : A → Type 0) (Q : NoSchema → Type 0) (r : Result A NoSchema) (x : A) → r ≡ Ok x → MatchResult r P Q → P x
-of_ok {A = A} P Q r x is h = subst (λ (r : Result A NoSchema). MatchResult r P Q) is h
-
-pub of_err : {A : Type 0} (P : A → Type 0) (Q : NoSchema → Type 0) (r : Result A NoSchema) (reason : NoSchema) → r ≡ Err reason → MatchResult r P Q → Q reason
-of_err {A = A} P Q r reason is h = subst (λ (r : Result A NoSchema). MatchResult r P Q) is h
-
-pub of_reason : {A : Type 0} (P : NoSchema → Type 0) (r : Result A NoSchema) (reason : NoSchema) → r ≡ Err reason → IfErr r P → P reason
-of_reason {A = A} P r reason is h = subst (λ (r : Result A NoSchema). IfErr r P) is h
-
--- a schema
-pub of_schema : (V : IdlVerdict → Type 0) (U : Type 0) (r : Result Schema NoSchema) (schema : Schema) → r ≡ Ok schema → TellsSchema V U r
-    → V (accepted (schema_of schema)) × IsSound (schema_of schema)
-of_schema V U r schema is h = subst (λ (r : Result Schema NoSchema). TellsSchema V U r) is h
-
-pub of_no_schema : (V : IdlVerdict → Type 0) (U : Type 0) (r : Result Schema NoSchema) (reason : NoSchema) → r ≡ Err reason → TellsSchema V U r
-    → TellsWhy V U reason
-of_no_schema V U r reason is h = subst (λ (r : Result Schema NoSchema). TellsSchema V U r) is h
-
--- the words of a rehearsal that was read
-pub of_words : (meant : Option PlainRehearsal) (r : Result Rehearsal WordsFault) (read : Rehearsal) → r ≡ Ok read → AnswersWords r meant
-    → meant ≡ Some (plain_rehearsal read)
-of_words meant r read is h = subst (λ (r : Result Rehearsal WordsFault). AnswersWords r meant) is h
-
--- keep their bounds
+-- the words of every rehearsal keep their bounds
 pub of_bounds : (meant : Option PlainRehearsal) (says : PlainRehearsal) → meant ≡ Some says → IfSome meant KeepsWordBounds → KeepsWordBounds says
 of_bounds meant says is h = subst (λ (o : Option PlainRehearsal). IfSome o KeepsWordBounds) is h
 

@@ -1,5 +1,5 @@
 -- What is promised of a rehearsal: a recorded connection that services of an IDL are served on.
-use Rattle.std.specs.Prelude.{◌≡◌, ℕ, ◌⊎◌, List, Option}
+use Rattle.std.specs.Prelude.{ℕ, ◌⊎◌, List, Option}
 use Rattle.outside.specs.Files.{File}
 use Rattle.call_rules.specs.Handling.{ServiceState}
 use Rattle.call_model.specs.Offices.{Binding, PlainOffice}

@@ -1,5 +1,5 @@
 -- Steps of the program on the way to what it promises. No part of the promise: no clause of `host` cites them.
-use Rattle.std.specs.Prelude.{◌≡◌, ⊤, ℕ, ◌≤◌, ◌⊎◌, Bool, true, false, List, length, Option, Result, Ok, Err}
+use Rattle.std.specs.Prelude.{◌≡◌, ℕ, ◌≤◌, ◌⊎◌, Bool, false, List, length, Option, Result, Ok, Err}
 use Rattle.outside.specs.Content.{told_more}
 use Rattle.outside.specs.Taken.{IsTakenInPart}
 use Rattle.call_rules.specs.Desks.{longest_payload}
