@@ -9,7 +9,8 @@ import struct
 import sys
 
 IDLS = {
-    "store": "service Store {\n  void put(1: binary key, 2: binary value),\n  binary get(1: binary key)\n}\n",
+    "store": "service Store {\n  void put(1: binary key, 2: binary value),\n  binary get(1: binary key),\n  binary swap(1: binary key, 2: binary value),\n"
+    "  list<binary> keys(),\n  oneway void forget(1: binary key)\n}\n",
     "mirror": "struct Point { 1: i32 x, 2: i32 y }\nservice Points { list<Point> same(1: list<Point> points) }\n",
 }
 CODES = {"binary": {"i32": 8, "bytes": 11, "struct": 12, "list": 15}, "compact": {"i32": 5, "bytes": 8, "struct": 12, "list": 9}}
