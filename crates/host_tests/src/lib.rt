@@ -1,7 +1,9 @@
-//! Tests of the program through its top call, and nothing else: recorded connections with their reports and refusals, services of many IDLs, texts
-//! that are scripts or none, IDLs that are accepted or refused, and runs at size.
+//! Tests of the program through its top call, and nothing else: recorded connections with their reports and refusals, services of
+//! many IDLs, the calls of Apache's Python client, texts that are scripts or none, IDLs that are accepted or refused, and runs at size.
 #![tactic(auto)]
 
+#[cfg(test)]
+mod apache;
 #[cfg(test)]
 mod given;
 #[cfg(test)]

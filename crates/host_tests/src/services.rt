@@ -241,7 +241,7 @@ fn script_of_frames(alloc: Global, frames: &[u8]) -> Result<Vec<u8>, AllocError>
 }
 
 /// Runs a rehearsal of these frames.
-fn serve<R>(
+pub(crate) fn serve<R>(
     rt: &R,
     alloc: Global,
     words: &[&str],
