@@ -391,9 +391,10 @@ fn serve_until<R>(rt: &R, alloc: Global, fails: u64) -> Result<Ended, AllocError
 
 /// Whether it ended with a write fault behind so many pieces of a hundred bytes of this report.
 fn broke_behind(ended: &Ended, report: &[u8], pieces: usize) -> bool {
+    let count = pieces.saturating_mul(100).min(report.len());
     ended.status == Status::WriteFault
         && ended.errors.as_slice() == b"thriftd: write fault\n".as_slice()
-        && ended.output.as_slice() == report.split_at(100 * pieces).0
+        && ended.output.as_slice() == report.split_at(count).0
 }
 
 #[test]
