@@ -35,6 +35,13 @@ impl Ended {
         self.status == Status::Done && self.output.as_slice() == output && self.errors.is_empty()
     }
 
+    /// Whether it ended with a write fault behind so many bytes of this text.
+    pub(crate) fn is_broken_behind(&self, text: &[u8], count: usize) -> bool {
+        self.status == Status::WriteFault
+            && self.errors.as_slice() == b"thriftd: write fault\n".as_slice()
+            && self.output.as_slice() == text.split_at(count.min(text.len())).0
+    }
+
     /// Whether it was done, and what it wrote ends so.
     pub(crate) fn is_done_with(&self, end: &[u8]) -> bool {
         self.status == Status::Done && self.output.as_slice().ends_with(end)

@@ -275,18 +275,11 @@ fn print_until<R>(rt: &R, alloc: Global, fails: u64) -> Result<Ended, AllocError
     given.run(rt, alloc, &["check", "a.thrift"])
 }
 
-/// Whether it ended with a write fault behind so many pieces of ten bytes.
-fn broke_behind(ended: &Ended, pieces: usize) -> bool {
-    ended.status == Status::WriteFault
-        && ended.errors.as_slice() == b"thriftd: write fault\n".as_slice()
-        && ended.output.as_slice() == TWO_SCHEMAS.split_at(10 * pieces).0
-}
-
 #[test]
 fn each_write_may_fail(rt: HostRuntime) -> Result<(), Fail> {
     for number in 0..12 {
         let ended = print_until(&rt, rt.alloc(), number)?;
-        assert!(rt; broke_behind(&ended, number as usize));
+        assert!(rt; ended.is_broken_behind(TWO_SCHEMAS, (number as usize).saturating_mul(10)));
     }
     assert!(rt; print_until(&rt, rt.alloc(), 12)?.is_done(TWO_SCHEMAS));
     Ok(())

@@ -389,21 +389,18 @@ fn serve_until<R>(rt: &R, alloc: Global, fails: u64) -> Result<Ended, AllocError
     given.run(rt, alloc, TUTORIAL)
 }
 
-/// Whether it ended with a write fault behind so many pieces of a hundred bytes of this report.
-fn broke_behind(ended: &Ended, report: &[u8], pieces: usize) -> bool {
-    let count = pieces.saturating_mul(100).min(report.len());
-    ended.status == Status::WriteFault
-        && ended.errors.as_slice() == b"thriftd: write fault\n".as_slice()
-        && ended.output.as_slice() == report.split_at(count).0
-}
-
 #[test]
 fn each_write_of_a_report_may_fail(rt: HostRuntime) -> Result<(), Fail> {
     let whole = serve(&rt, rt.alloc(), TUTORIAL, NO_FILES, DIVISION)?;
     let pieces = (whole.output.len() as u64 + 99) / 100;
     for number in 0..pieces {
         let ended = serve_until(&rt, rt.alloc(), number)?;
-        assert!(rt; broke_behind(&ended, whole.output.as_slice(), number as usize));
+        assert!(rt;
+            ended.is_broken_behind(
+                whole.output.as_slice(),
+                (number as usize).saturating_mul(100)
+            )
+        );
     }
     assert!(rt; serve_until(&rt, rt.alloc(), pieces)?.is_done(whole.output.as_slice()));
     Ok(())
