@@ -71,8 +71,15 @@ impl Given {
     /// Runs the command of these words, with a calculator, a store and a mirror.
     pub(crate) fn run<R>(self, rt: &R, alloc: Global, words: &[&str]) -> Result<Ended, AllocError> {
         let words = owned(alloc, words)?;
-        let handlers = new_handlers(alloc)?;
-        Ok(self.run_with(rt, alloc, words.as_slice(), handlers))
+        self.run_boxed(rt, alloc, words.as_slice())
+    }
+
+    fn run_boxed<R>(self, rt: &R, alloc: Global, words: &[String]) -> Result<Ended, AllocError> {
+        let calculator: Box<dyn Handler> = Box::new(alloc, Calculator::new(alloc))?;
+        let store: Box<dyn Handler> = Box::new(alloc, Store::new(alloc))?;
+        let mirror: Box<dyn Handler> = Box::new(alloc, Mirror::new())?;
+        let handlers = vec![in alloc; calculator, store, mirror]?;
+        Ok(self.run_with(rt, alloc, words, handlers))
     }
 
     fn run_with<R, H: Handler>(
@@ -104,30 +111,6 @@ impl Given {
             errors: errors.into_bytes(),
         }
     }
-}
-
-/// A calculator, a store and a mirror.
-fn new_handlers(alloc: Global) -> Result<Vec<Box<dyn Handler>>, AllocError> {
-    let mut handlers = Vec::new(alloc);
-    handlers.push(new_calculator(alloc)?)?;
-    handlers.push(new_store(alloc)?)?;
-    handlers.push(new_mirror(alloc)?)?;
-    Ok(handlers)
-}
-
-fn new_calculator(alloc: Global) -> Result<Box<dyn Handler>, AllocError> {
-    let calculator: Box<dyn Handler> = Box::new(alloc, Calculator::new(alloc))?;
-    Ok(calculator)
-}
-
-fn new_store(alloc: Global) -> Result<Box<dyn Handler>, AllocError> {
-    let store: Box<dyn Handler> = Box::new(alloc, Store::new(alloc))?;
-    Ok(store)
-}
-
-fn new_mirror(alloc: Global) -> Result<Box<dyn Handler>, AllocError> {
-    let mirror: Box<dyn Handler> = Box::new(alloc, Mirror::new())?;
-    Ok(mirror)
 }
 
 fn owned(alloc: Global, words: &[&str]) -> Result<Vec<String>, AllocError> {

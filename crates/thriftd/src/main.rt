@@ -5,7 +5,7 @@ use calculator::Calculator;
 use call_rules::Handler;
 use house_handlers::{Mirror, Store};
 use outside::{RealFiles, RealIn, RealOut};
-use std::alloc::{AllocError, Global};
+use std::alloc::AllocError;
 use std::io::ErrorKind;
 use std::process::ExitCode;
 use std::{env, io};
@@ -41,32 +41,11 @@ fn end_without_memory(rt: &HostRuntime) -> ExitCode {
 
 /// Runs the command of these words with a calculator, a store and a mirror.
 fn run(rt: &HostRuntime, words: &[String]) -> Result<Status, AllocError> {
-    let handlers = new_handlers(rt.alloc())?;
+    let calculator: Box<dyn Handler> = Box::new(rt.alloc(), Calculator::new(rt.alloc()))?;
+    let store: Box<dyn Handler> = Box::new(rt.alloc(), Store::new(rt.alloc()))?;
+    let mirror: Box<dyn Handler> = Box::new(rt.alloc(), Mirror::new())?;
+    let handlers = vec![in rt.alloc(); calculator, store, mirror]?;
     Ok(run_with(rt, words, handlers))
-}
-
-/// The handlers that services are bound to, all of them new.
-fn new_handlers(alloc: Global) -> Result<Vec<Box<dyn Handler>>, AllocError> {
-    let mut handlers = Vec::new(alloc);
-    handlers.push(new_calculator(alloc)?)?;
-    handlers.push(new_store(alloc)?)?;
-    handlers.push(new_mirror(alloc)?)?;
-    Ok(handlers)
-}
-
-fn new_calculator(alloc: Global) -> Result<Box<dyn Handler>, AllocError> {
-    let calculator: Box<dyn Handler> = Box::new(alloc, Calculator::new(alloc))?;
-    Ok(calculator)
-}
-
-fn new_store(alloc: Global) -> Result<Box<dyn Handler>, AllocError> {
-    let store: Box<dyn Handler> = Box::new(alloc, Store::new(alloc))?;
-    Ok(store)
-}
-
-fn new_mirror(alloc: Global) -> Result<Box<dyn Handler>, AllocError> {
-    let mirror: Box<dyn Handler> = Box::new(alloc, Mirror::new())?;
-    Ok(mirror)
 }
 
 /// Runs the command of these words with these handlers, on the system's files and the standard streams.
