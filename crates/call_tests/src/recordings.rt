@@ -1,6 +1,8 @@
 //! A recorded connection that an office of the example answers with a handler of the house: the reports of a call, of a message that is none and of a head that
 //! is refused, a journal that fails, and an output that fails.
 
+ghost use Rattle.std.specs.Prelude.{◌≡◌, length, IfOk};
+
 use crate::offices::office;
 use call_rules::{Entry, Handler, Journal};
 use envelope::Protocol;
@@ -89,16 +91,36 @@ impl ReportedJournal for GivenJournal {
 // What answering a recording came to, and what was written.
 type Answered = (Result<(), ServingFault>, Vec<u8>);
 
+// One mirror.
+fn one_mirror(alloc: Global) -> Result<Vec<Mirror>, AllocError>
+    ensures { IfOk result (λ handlers. length handlers.items ≡ 1) }
+{
+    let mut handlers = Vec::new(alloc);
+    handlers.push(Mirror::new())?;
+    Ok(handlers)
+}
+
+// One store.
+fn one_store(alloc: Global) -> Result<Vec<Store>, AllocError>
+    ensures { IfOk result (λ handlers. length handlers.items ≡ 1) }
+{
+    let mut handlers = Vec::new(alloc);
+    handlers.push(Store::new(alloc))?;
+    Ok(handlers)
+}
+
 // Answers a recording with one handler, where the journal fails or doesn't, and the output takes a byte at a time and fails at these writes.
 fn answer<H: Handler>(
     alloc: Global,
-    handler: H,
+    handlers: Vec<H>,
     script: &[u8],
     fails: bool,
     writes: &[u64],
-) -> Result<Answered, AllocError> {
+) -> Result<Answered, AllocError>
+    requires { length handlers.items ≡ 1 }
+{
+    let mut handlers = handlers;
     let desk = office(alloc, Protocol::Compact)?;
-    let mut handlers = [handler];
     let mut journal = GivenJournal {
         list: ListJournal::new(alloc),
         fails,
@@ -122,32 +144,34 @@ fn answer<H: Handler>(
 // Whether a recording has this report.
 fn is_report<H: Handler>(
     alloc: Global,
-    handler: H,
+    handlers: Vec<H>,
     script: &[u8],
     report: &[u8],
-) -> Result<bool, AllocError> {
-    let (answered, output) = answer(alloc, handler, script, false, &[])?;
+) -> Result<bool, AllocError>
+    requires { length handlers.items ≡ 1 }
+{
+    let (answered, output) = answer(alloc, handlers, script, false, &[])?;
     Ok(answered == Ok(()) && output.as_slice() == report)
 }
 
 // Whether an output that takes so many bytes has these of the report.
 fn is_cut(alloc: Global, most: u64, front: &[u8]) -> Result<bool, AllocError> {
-    let (answered, output) = answer(alloc, Mirror::new(), CALLS, false, &[most])?;
+    let (answered, output) = answer(alloc, one_mirror(alloc)?, CALLS, false, &[most])?;
     Ok(answered == Err(ServingFault::WriteFault) && output.as_slice() == front)
 }
 
 #[test]
 fn recordings_have_their_reports(rt: HostRuntime) -> Result<(), Fail> {
     let alloc = rt.alloc();
-    assert!(rt; is_report(alloc, Mirror::new(), CALLS, MIRRORED)?);
-    assert!(rt; is_report(alloc, Store::new(alloc), CALLS, STORED)?);
-    assert!(rt; is_report(alloc, Mirror::new(), CLOSED, CLOSED_REPORT)?);
+    assert!(rt; is_report(alloc, one_mirror(alloc)?, CALLS, MIRRORED)?);
+    assert!(rt; is_report(alloc, one_store(alloc)?, CALLS, STORED)?);
+    assert!(rt; is_report(alloc, one_mirror(alloc)?, CLOSED, CLOSED_REPORT)?);
     Ok(())
 }
 
 #[test]
 fn a_journal_that_fails_ends_the_run(rt: HostRuntime) -> Result<(), Fail> {
-    let (answered, output) = answer(rt.alloc(), Mirror::new(), CALLS, true, &[])?;
+    let (answered, output) = answer(rt.alloc(), one_mirror(rt.alloc())?, CALLS, true, &[])?;
     assert!(rt; answered == Err(ServingFault::JournalFault) && output.is_empty());
     Ok(())
 }
