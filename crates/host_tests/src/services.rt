@@ -307,7 +307,7 @@ const REFUSED: [(&[&str], &[Held], Status, &[u8]); 11] = [
         REQUIRED,
         &[("r.thrift", b"service R extends Q {}")],
         Status::IdlRefused,
-        b"thriftd: idl r.thrift 1:9 UnknownType\n",
+        b"thriftd: idl r.thrift 1:19 UnknownType\n",
     ),
     (
         &["rehearse", "@tutorial", "binary", "0", "Calculator=store"],
