@@ -1,0 +1,7 @@
+use Rattle.std.proofs.Common.{◌≡◌, replicate}
+use Rattle.cell_turn.specs.declared.worker.Worker.TheVariants.{Idle}
+use Rattle.cell_core.proofs.rehearsal.opened.Given as goal
+
+-- so many workers without a job
+abbrev pub invariant-loop : goal.invariant-loop
+invariant-loop l = l.all.items ≡ replicate l.counter Idle

@@ -1,0 +1,78 @@
+//! What was written to each connection of a run.
+
+ghost use Rattle.std.specs.Prelude.{◌≡◌, ◌++◌, [], map, replicate, slice_index_or, slice_set, IfOk, OnOk};
+ghost use Rattle.cell_core.specs.Rehearsed.{AreWritten};
+
+use outside::{Bytes, Mark};
+use std::alloc::{AllocError, Global};
+use std::marker::Model;
+
+/// The bytes that were written to each connection, by number; contracts see a list of lists.
+#[derive(Drop)]
+pub struct Outs {
+    /// The bytes.
+    items: Vec<Bytes>,
+}
+
+impl Model for Outs {
+    ghost use Rattle.std.specs.Prelude.{List, ℕ};
+
+    ghost Value = { List (List ℕ) };
+
+    ghost view = { λ o. o.items.items };
+}
+
+impl Outs {
+    /// Those of these lists; takes no memory.
+    pub fn new(items: Vec<Bytes>) -> Self
+        ensures { result ≡ items.items }
+    {
+        Outs { items }
+    }
+
+    /// The bytes, connection by connection.
+    pub fn as_slice(&self) -> &[Bytes]
+        ensures { result.now ≡ self.now }
+    {
+        self.items.as_slice()
+    }
+}
+
+/// The bytes that the tape says were written to each of so many connections.
+pub(crate) fn written(alloc: Global, tape: &[Mark], count: usize) -> Result<Outs, AllocError>
+    ensures { IfOk result (λ outs. AreWritten count tape.now outs) }
+{
+    let mut all = rows(alloc, count)?;
+    for mark in tape {
+        if let Mark::Wrote(c, bytes) = mark {
+            add(&mut all, *c as usize, bytes.as_slice())?;
+        }
+    }
+    let mut items = Vec::with_capacity(alloc, count)?;
+    for row in all {
+        items.push(Bytes::new(row))?;
+    }
+    Ok(Outs::new(items))
+}
+
+/// So many empty rows.
+fn rows(alloc: Global, count: usize) -> Result<Vec<Vec<u8>>, AllocError>
+    ensures { IfOk result (λ all. map (λ row. row.items) all.items ≡ replicate count []) }
+{
+    let mut all = Vec::with_capacity(alloc, count)?;
+    for _ in 0..count {
+        all.push(Vec::new(alloc))?;
+    }
+    Ok(all)
+}
+
+/// Bytes more in a row, where there is one.
+fn add(all: &mut Vec<Vec<u8>>, c: usize, bytes: &[u8]) -> Result<(), AllocError>
+    ensures { OnOk result (map (λ row. row.items) all.new.items ≡ slice_set (map (λ row. row.items) all.old.items) c
+        (slice_index_or (map (λ row. row.items) all.old.items) c [] ++ bytes.now)) }
+{
+    if let Some(row) = all.get_mut(c) {
+        row.extend_from_slice(bytes)?;
+    }
+    Ok(())
+}

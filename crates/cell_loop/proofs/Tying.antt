@@ -1,0 +1,212 @@
+-- The loop's part stays tied to a play where one connection changes on both sides.
+use Rattle.std.proofs.Common.{◌≡◌, ℕ, ◌<◌, ◌≤◌, ◌⊎◌, Option, Some, List, [], ◌++◌, length, slice_get, slice_index_or, slice_set, unwrap_or, refl, sym, ap, ◌∙◌, subst, inl, inr, arith, IsSome}
+use Rattle.std.specs.List.{AllByRecursion}
+use Rattle.std.proofs.lemmas.Bool.{cases_eq, cases_lt}
+use Rattle.std.proofs.lemmas.Option.{none-some, slice_get_past, slice_get-get_or, get_or_from_slice_get}
+use Rattle.std.proofs.lemmas.List.{get_or-set_same, get_or-set_other, length-set}
+use Rattle.outside.specs.declared.marks.Mark.{Mark}
+use Rattle.conn_state.specs.Phase.{Phase}
+use Rattle.conn_state.specs.Run.{EachIsByte}
+use Rattle.conn_table.specs.declared.places.Slot.{Slot}
+use Rattle.conn_table.specs.Slots.{slot_in, with_slot, with_added, without_number}
+use Rattle.conn_table.specs.Table.{TableView, slot_of, fresh_slot}
+use Rattle.conn_table.proofs.Sizing.{other_put, other_more, other_without, of_found}
+use Rattle.machine_model.specs.Loop.{LoopConn, Loop, changed}
+use Rattle.machine_model.proofs.Lists.{put_same, put_other}
+use Rattle.rehearsal_model.specs.ScriptLines.{PlanRule}
+use Rattle.rehearsal_model.specs.Playing.{InputFinish, at_number}
+use Rattle.cell_loop.specs.declared.feed.Feed.{Feed}
+use Rattle.cell_loop.specs.declared.loop_part.Stand.{Stand}
+use Rattle.cell_loop.specs.declared.loop_part.Stand.TheVariants.{Lean, Framed, Whole, Asked, Over}
+use Rattle.cell_loop.specs.declared.loop_part.LoopPart.{LoopPart}
+use Rattle.cell_model.specs.Settings.{CellSetting, ServedPlay}
+use Rattle.cell_loop.specs.Feeds.{unread_in, finish_in, rules_in, HasSomePieces, BoundsSome}
+use Rattle.cell_loop.specs.LoopTied.{IsOpenTied, IsInTable, IsAdmittedSo, StandTells, IsLoopTied}
+use Rattle.cell_loop.specs.Closing.{IsSameBut, HasStand}
+
+-- no byte is one
+pub no_bytes : EachIsByte []
+no_bytes i = omega arith
+
+-- tables that differ in one connection
+pub but_put : (table : TableView) (c : ℕ) (new : Slot) → new.number ≡ c → IsSameBut c table (record table { slots = with_slot new table.slots })
+but_put table c new is = record { budget = refl; others = λ x n. other_put new x table.slots (λ e. n (sym is ∙ e)) }
+
+pub but_more : (table : TableView) (c : ℕ) (new : Slot) → new.number ≡ c → IsSameBut c table (record table { slots = with_added new table.slots })
+but_more table c new is = record { budget = refl; others = λ x n. other_more new x table.slots (λ e. n (sym is ∙ e)) }
+
+pub but_gone : (table : TableView) (c : ℕ) → IsSameBut c table (record table { slots = without_number c table.slots })
+but_gone table c = record { budget = refl; others = λ x n. other_without c x table.slots n }
+
+pub but_then : (c : ℕ) (old mid new : TableView) → IsSameBut c old mid → IsSameBut c mid new → IsSameBut c old new
+but_then c old mid new a b = record { budget = b.budget ∙ a.budget; others = λ x n. b.others x n ∙ a.others x n }
+
+-- stands that differ in one connection
+pub stand_set : (stands : List Stand) (c : ℕ) (stand : Stand) → c < length stands → HasStand c stand stands (slice_set stands c stand)
+stand_set stands c stand l =
+    record {
+      count = length-set stands c stand;
+      own = get_or-set_same stands c stand Lean l;
+      others = λ x n. get_or-set_other stands c x stand Lean (λ e. n (sym e));
+    }
+
+pub stand_then : (c : ℕ) (first last : Stand) (old mid new : List Stand) → HasStand c first old mid → HasStand c last mid new → HasStand c last old new
+stand_then c first last old mid new a b = record { count = b.count ∙ a.count; own = b.own; others = λ x n. b.others x n ∙ a.others x n }
+
+pub stand_same : (stands : List Stand) (c : ℕ) (stand : Stand) → slice_index_or stands c Lean ≡ stand → HasStand c stand stands stands
+stand_same stands c stand is = record { count = refl; own = is; others = λ x n. refl }
+
+-- a place of a list that has an element
+pub place_of : {X : Type 0} (xs : List X) (c : ℕ) (x : X) → slice_get xs c ≡ Some x → c < length xs
+place_of xs c x e = go (cases_lt c (length xs))
+  where
+    go : (c < length xs) ⊎ (length xs ≤ c) → c < length xs
+    go (inl l) = l
+    go (inr l) = absurd (none-some x (sym (slice_get_past xs c l) ∙ e))
+
+-- an element that was put there, and others
+pub got_same : {X : Type 0} (xs : List X) (c : ℕ) (x : X) → c < length xs → slice_get (slice_set xs c x) c ≡ Some x
+got_same xs c x l =
+    let k : length (slice_set xs c x) ≡ length xs = length-set xs c x in
+    slice_get-get_or (slice_set xs c x) c x (omega arith) ∙ ap Some (get_or-set_same xs c x x l)
+
+pub got_other : {X : Type 0} (xs : List X) (c i : ℕ) (x : X) → (c ≡ i → ⊥) → slice_get (slice_set xs c x) i ≡ slice_get xs i
+got_other xs c i x n = go (cases_lt i (length xs))
+  where
+    k : length (slice_set xs c x) ≡ length xs
+    k = length-set xs c x
+
+    go : (i < length xs) ⊎ (length xs ≤ i) → slice_get (slice_set xs c x) i ≡ slice_get xs i
+    go (inl l) =
+        let m : length (slice_set xs c x) ≡ length xs = k in
+        slice_get-get_or (slice_set xs c x) i x (omega arith) ∙ ap Some (get_or-set_other xs c i x x (λ e. n (sym e))) ∙ sym (slice_get-get_or xs i x l)
+    go (inr l) =
+        let m : length (slice_set xs c x) ≡ length xs = k in
+        slice_get_past (slice_set xs c x) i (omega arith) ∙ sym (slice_get_past xs i l)
+
+-- a value at one number that is the one that was there
+pub kept_at : {X : Type 0} (f : ℕ → X) (c x : ℕ) → f x ≡ at_number f c (f c) x
+kept_at f c x = go (cases_eq x c)
+  where
+    go : (x ≡ c) ⊎ (x ≡ c → ⊥) → f x ≡ at_number f c (f c) x
+    go (inl e) = ap f e ∙ sym (ap (at_number f c (f c)) e ∙ put_same f c (f c))
+    go (inr n) = sym (put_other f c (f c) x n)
+
+-- a connection that is in the table now
+pub in_table : (max : ℕ) (P : Phase → Type 0) (table : TableView) (c : ℕ) (slot : Slot) (conn : LoopConn) → slot_in c table.slots ≡ Some slot → P slot.conn.phase → IsOpenTied max slot.conn conn
+    → IsInTable max P table c conn
+in_table max P table c slot conn is p tied =
+    let same : slot_of c table.slots ≡ slot = of_found c table.slots slot is in
+    record {
+      there = subst (λ o. IsSome o) (sym is) refl;
+      in_its_phase = subst (λ (k : Slot). P k.conn.phase) (sym same) p;
+      tied = subst (λ (k : Slot). IsOpenTied max k.conn conn) (sym same) tied;
+    }
+
+pub size_now : (table : TableView) (c : ℕ) (slot : Slot) → slot_in c table.slots ≡ Some slot → (slot_of c table.slots).size ≡ slot.size
+size_now table c slot is = ap (λ (k : Slot). k.size) (of_found c table.slots slot is)
+
+-- a connection of which nothing has changed stands as it did
+module _ (max x : ℕ) (old new : TableView) (same : slot_in x new.slots ≡ slot_in x old.slots) where
+  slots_same : slot_of x new.slots ≡ slot_of x old.slots
+  slots_same = ap (λ o. unwrap_or o (fresh_slot x)) same
+
+  in_moved : (P : Phase → Type 0) (conn : LoopConn) → IsInTable max P old x conn → IsInTable max P new x conn
+  in_moved P conn t =
+      record {
+        there = subst (λ o. IsSome o) (sym same) t.there;
+        in_its_phase = subst (λ (k : Slot). P k.conn.phase) (sym slots_same) t.in_its_phase;
+        tied = subst (λ (k : Slot). IsOpenTied max k.conn conn) (sym slots_same) t.tied;
+      }
+
+  admitted_moved : (admitted : Option ℕ) → IsAdmittedSo old x admitted → IsAdmittedSo new x admitted
+  admitted_moved admitted t =
+      (subst (λ (k : Slot). IsSome k.size) (sym slots_same) t.0, t.1 ∙ ap (λ (k : Slot). k.size) (sym slots_same))
+
+  pub stand_moved : (conn : LoopConn) (admitted : Option ℕ) (stand : Stand) → StandTells max old x conn admitted stand → StandTells max new x conn admitted stand
+  stand_moved conn admitted Lean t = (in_moved _ conn t.0, ap (λ (k : Slot). k.size) slots_same ∙ t.1, t.2)
+  stand_moved conn admitted Framed t = (in_moved _ conn t.0, admitted_moved admitted t.1)
+  stand_moved conn admitted Whole t = (in_moved _ conn t.0, admitted_moved admitted t.1)
+  stand_moved conn admitted Asked t = (in_moved _ conn t.0, admitted_moved admitted t.1)
+  stand_moved conn admitted (Over cause) t = (same ∙ t.0, t.1, t.2)
+
+-- the same stand, told of equal parts
+pub told_same : (max : ℕ) (table : TableView) (x : ℕ) (conn conn_now : LoopConn) (admitted admitted_now : Option ℕ) (stand stand_now : Stand) → conn_now ≡ conn → admitted_now ≡ admitted
+    → stand_now ≡ stand → StandTells max table x conn admitted stand → StandTells max table x conn_now admitted_now stand_now
+told_same max table x conn conn_now admitted admitted_now stand stand_now a b e t =
+    subst (λ k. StandTells max table x k admitted_now stand_now) (sym a)
+    (subst (λ k. StandTells max table x conn k stand_now) (sym b) (subst (λ k. StandTells max table x conn admitted k) (sym e) t))
+
+-- what feeds are tied to
+pub record AreFeedsTied (feeds : List Feed) (unread : ℕ → List (List ℕ)) (finish : ℕ → Option InputFinish) (rules : ℕ → List PlanRule) : Type 0 where
+  pub unread_is : (c : ℕ) → unread c ≡ unread_in feeds c
+  pub finish_is : (c : ℕ) → finish c ≡ finish_in feeds c
+  pub rules_are : (c : ℕ) → rules c ≡ rules_in feeds c
+  pub pieces : AllByRecursion HasSomePieces feeds
+  pub writes : (c : ℕ) → AllByRecursion BoundsSome (rules_in feeds c)
+
+pub feeds_of : (s : CellSetting) (part : LoopPart) (play : ServedPlay) → IsLoopTied s part play → AreFeedsTied part.feeds.items play.unread play.finish play.rules
+feeds_of s part play t = record { unread_is = t.unread; finish_is = t.finish; rules_are = t.rules; pieces = t.pieces; writes = t.writes }
+
+-- connection c has changed in a play: to this, with this size admitted, and these marks more
+pub record HasChanged (c : ℕ) (conn : LoopConn) (admitted : Option ℕ) (marks : List Mark) (old new : ServedPlay) : Type 0 where
+  pub tape : new.cell.loop.tape ≡ old.cell.loop.tape ++ marks
+  pub count : new.cell.loop.count ≡ old.cell.loop.count
+  pub own : new.cell.loop.conns c ≡ conn
+  pub others : (x : ℕ) → (c ≡ x → ⊥) → new.cell.loop.conns x ≡ old.cell.loop.conns x
+  pub size : (x : ℕ) → new.admitted x ≡ at_number old.admitted c admitted x
+
+pub loop_changed : (c : ℕ) (conn : LoopConn) (admitted : Option ℕ) (marks : List Mark) (old new : ServedPlay) → new.cell.loop ≡ changed old.cell.loop c conn marks
+    → ((x : ℕ) → new.admitted x ≡ at_number old.admitted c admitted x) → HasChanged c conn admitted marks old new
+loop_changed c conn admitted marks old new loop size =
+    record {
+      tape = ap (λ (k : Loop). k.tape) loop;
+      count = ap (λ (k : Loop). k.count) loop;
+      own = ap (λ (k : Loop). k.conns c) loop ∙ put_same old.cell.loop.conns c conn;
+      others = λ x n. ap (λ (k : Loop). k.conns x) loop ∙ put_other old.cell.loop.conns c conn x (λ e. n (sym e));
+      size = size;
+    }
+
+pub changed_tied : (s : CellSetting) (c : ℕ) (old new : LoopPart) (play next : ServedPlay) (conn : LoopConn) (admitted : Option ℕ) (stand : Stand) (marks : List Mark) → IsLoopTied s old play
+    → c < length old.stands.items → IsSameBut c old.table new.table → HasStand c stand old.stands.items new.stands.items → new.tape.items ≡ old.tape.items ++ marks
+    → HasChanged c conn admitted marks play next → length new.feeds.items ≡ length old.feeds.items → AreFeedsTied new.feeds.items next.unread next.finish next.rules
+    → StandTells s.desk.max_frame new.table c conn admitted stand → IsLoopTied s new next
+changed_tied s c old new play next conn admitted stand marks t l table stands tape play_is count feeds tells =
+    let fed : length old.stands.items ≤ length old.feeds.items = t.fed in
+    let same : length new.stands.items ≡ length old.stands.items = stands.count in
+    record {
+      budget = table.budget ∙ t.budget;
+      tape = play_is.tape ∙ ap (λ tape. tape ++ marks) t.tape ∙ sym tape;
+      count = play_is.count ∙ t.count ∙ sym stands.count;
+      stands = λ x below. each x (omega arith) (cases_eq c x);
+      unopened = λ x beyond.
+          let n : c ≡ x → ⊥ = λ e. let e2 : c ≡ x = e in let f : ⊥ = omega arith in f in
+          let m : length old.stands.items ≤ x = omega arith in
+          (table.others x n ∙ (t.unopened x m).0, play_is.size x ∙ put_other play.admitted c admitted x (λ e. n (sym e)) ∙ (t.unopened x m).1);
+      unread = feeds.unread_is;
+      finish = feeds.finish_is;
+      rules = feeds.rules_are;
+      pieces = feeds.pieces;
+      writes = feeds.writes;
+      fed = omega arith;
+    }
+  where
+    each : (x : ℕ) → x < length old.stands.items → (c ≡ x) ⊎ (c ≡ x → ⊥)
+        → StandTells s.desk.max_frame new.table x (next.cell.loop.conns x) (next.admitted x) (slice_index_or new.stands.items x Lean)
+    each x below (inl e) =
+        subst (λ x. StandTells s.desk.max_frame new.table x (next.cell.loop.conns x) (next.admitted x) (slice_index_or new.stands.items x Lean)) e
+        (told_same s.desk.max_frame new.table c conn (next.cell.loop.conns c) admitted (next.admitted c) stand (slice_index_or new.stands.items c Lean)
+        play_is.own (play_is.size c ∙ put_same play.admitted c admitted) stands.own tells)
+    each x below (inr n) =
+        told_same s.desk.max_frame new.table x (play.cell.loop.conns x) (next.cell.loop.conns x) (play.admitted x) (next.admitted x)
+        (slice_index_or old.stands.items x Lean) (slice_index_or new.stands.items x Lean)
+        (play_is.others x n)
+        (play_is.size x ∙ put_other play.admitted c admitted x (λ e. n (sym e))) (stands.others x n)
+        (stand_moved s.desk.max_frame x old.table new.table (table.others x n) (play.cell.loop.conns x) (play.admitted x) (slice_index_or old.stands.items x Lean) (t.stands x below))
+
+-- how a connection stands that is tied
+pub stands_so : (s : CellSetting) (c : ℕ) (part : LoopPart) (play : ServedPlay) (stand : Stand) → IsLoopTied s part play → slice_get part.stands.items c ≡ Some stand
+    → StandTells s.desk.max_frame part.table c (play.cell.loop.conns c) (play.admitted c) stand
+stands_so s c part play stand t is =
+    subst (λ k. StandTells s.desk.max_frame part.table c (play.cell.loop.conns c) (play.admitted c) k) (get_or_from_slice_get part.stands.items c stand Lean is)
+    (t.stands c (place_of part.stands.items c stand is))

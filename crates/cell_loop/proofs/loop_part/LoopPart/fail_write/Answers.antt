@@ -1,0 +1,39 @@
+use Rattle.std.proofs.Common.{◌≡◌, ◌+◌, ◌<◌, length, ap, ◌∙◌, sym, refl, subst, arith}
+use Rattle.std.specs.Vec.{vec_capacity}
+use Rattle.std.proofs.lemmas.List.{length_push}
+use Rattle.std.proofs.lemmas.Option.{get_or_from_slice_get}
+use Rattle.outside.specs.declared.marks.Mark.TheVariants.{WriteFailed}
+use Rattle.host_model.specs.declared.cause.EndCause.TheVariants.{WriteFault}
+use Rattle.conn_table.specs.Table.{slot_of}
+use Rattle.cell_loop.specs.declared.loop_part.Stand.TheVariants.{Lean}
+use Rattle.cell_loop.specs.Closing.{HasSizeSo, ClosesBehind}
+use Rattle.cell_loop.proofs.Tying.{place_of}
+use Rattle.cell_loop.proofs.ClosingOff.{has_room, two_room, same_but}
+use Rattle.cell_loop.proofs.Behind.{closes_on, closed_room}
+use Rattle.cell_loop.proofs.loop_part.LoopPart.fail_write.Goals as goal
+
+pub push_reserved-requires : goal.push_reserved-requires
+push_reserved-requires c = omega (arith, has_room c.args.self.now c.args.c c.requires.room c.requires.there, c.args.self.now.tape.ok.0)
+
+pub give_up-requires : goal.give_up-requires
+give_up-requires c =
+    let marks : length c.push_reserved.new.self.items ≡ length c.args.self.now.tape.items + 1 = ap length c.push_reserved.ensures.items ∙ length_push _ _ in
+    let room : length c.args.self.now.tape.items + 1 < vec_capacity c.args.self.now.tape = two_room c.args.self.now c.args.c c.requires.room c.requires.there in
+    let same : vec_capacity c.push_reserved.new.self ≡ vec_capacity c.args.self.now.tape = c.push_reserved.ensures.capacity in
+    record {
+      there = c.requires.there;
+      going = c.requires.going;
+      outside = tt;
+      size =
+          subst (λ k. HasSizeSo k (slot_of c.args.c c.args.self.now.table.slots).size) (sym (get_or_from_slice_get c.args.self.now.stands.items c.args.c Lean Lean c.requires.lean))
+          c.requires.none;
+      opened = place_of c.args.self.now.stands.items c.args.c Lean c.requires.lean;
+      room = omega arith;
+    }
+
+pub returns : goal.returns
+returns c =
+    let closed : ClosesBehind c.args.c (WriteFailed c.args.c) WriteFault c.args.self.now c.give_up.new.self =
+    closes_on c.args.c (WriteFailed c.args.c) WriteFault c.args.self.now (record c.args.self.now { tape = c.push_reserved.new.self }) c.give_up.new.self
+    (same_but c.args.c c.args.self.now.table) refl refl c.push_reserved.ensures.items c.push_reserved.ensures.capacity refl refl c.give_up.ensures.closed in
+    record { closed = closed; room = closed_room c.args.c (WriteFailed c.args.c) WriteFault c.args.self.now c.give_up.new.self closed c.requires.room }

@@ -1,0 +1,11 @@
+use Rattle.std.proofs.Common.{◌≡◌, ℕ, ◌<◌, length, slice_index_or}
+use Rattle.cell_loop.specs.declared.loop_part.Stand.TheVariants.{Lean}
+use Rattle.cell_loop.specs.LoopTied.{HasRoomToClose}
+use Rattle.cell_loop.specs.LoopMoves.{StandIsOver, LoopLeads}
+use Rattle.cell_loop.proofs.loop_part.LoopPart.stop_all.Given as goal
+
+-- events lead to where the connections before number c have ended
+abbrev pub invariant-loop-c : goal.invariant-loop-c
+invariant-loop-c l =
+    LoopLeads l.fn.self l.self × (length l.self.stands.items ≡ length l.fn.self.stands.items)
+    × ((x : ℕ) → x < l.c → StandIsOver (slice_index_or l.self.stands.items x Lean)) × HasRoomToClose l.self

@@ -1,0 +1,4 @@
+pub mod Feeds
+pub mod LoopTied
+pub mod Closing
+pub mod LoopMoves

@@ -1,0 +1,113 @@
+-- What is kept of the loop's part, tied to a machine in rehearsal: each connection's phase tells of what was read, submitted and collected of it.
+use Rattle.std.specs.Prelude.{◌≡◌, ◌≢◌, ℕ, suc, ◌+◌, ◌*◌, ◌^◌, ◌<◌, ◌≤◌, IsSome, Option, None, Some, [], ◌++◌, length, slice_get, slice_index_or}
+use Rattle.std.specs.List.{AllByRecursion}
+use Rattle.std.specs.Int.{w32, to_be_bytes}
+use Rattle.std.specs.Vec.{vec_capacity}
+use Rattle.conn_state.specs.Phase.{Phase, ConnView, sizing, held, framing, ready, waiting, writing, ended, IsReady, IsWaiting, IsReading}
+use Rattle.conn_state.specs.Run.{EachIsByte}
+use Rattle.conn_table.specs.Slots.{slot_in}
+use Rattle.conn_table.specs.Table.{TableView, slot_of}
+use Rattle.machine_model.specs.Loop.{LoopConn}
+use Rattle.rehearsal_model.specs.ScriptLines.{ScriptPlan, rules_of}
+use Rattle.cell_loop.specs.declared.loop_part.Stand.{Stand}
+use Rattle.cell_loop.specs.declared.loop_part.Stand.TheVariants.{Lean, Framed, Whole, Asked, Over}
+use Rattle.cell_loop.specs.declared.loop_part.LoopPart.{LoopPart}
+use Rattle.cell_model.specs.Settings.{CellSetting, ServedPlay}
+use Rattle.cell_loop.specs.Feeds.{unread_in, finish_in, rules_in, HasSomePieces, BoundsSome}
+
+-- each payload was submitted and collected
+abbrev pub HasAllCollected : LoopConn → Type 0
+HasAllCollected conn = (conn.submitted ≡ length conn.payloads) × (conn.collected ≡ length conn.payloads)
+
+-- nothing is held of a frame, and nothing is left to be written
+abbrev pub HoldsNothing : LoopConn → Type 0
+HoldsNothing conn = (conn.held ≡ []) × (conn.left ≡ [])
+
+-- A phase tells what is held, what is left to be written, and how far the last payload has come; the longest payload is max.
+abbrev pub PhaseTells : ℕ → Phase → LoopConn → Type 0
+PhaseTells max (sizing bytes) conn = HasAllCollected conn × (conn.held ≡ bytes) × (length bytes < 4) × (conn.left ≡ []) × EachIsByte bytes
+PhaseTells max (held size) conn = HasAllCollected conn × (conn.held ≡ to_be_bytes w32 size) × (1 ≤ size) × (size ≤ max) × (size < 2 ^ 32) × (conn.left ≡ [])
+PhaseTells max (framing size bytes) conn =
+    HasAllCollected conn × (conn.held ≡ to_be_bytes w32 size ++ bytes) × (length bytes < size) × (size ≤ max) × (size < 2 ^ 32) × (conn.left ≡ [])
+PhaseTells max (ready number payload) conn =
+    HoldsNothing conn × (conn.submitted ≡ number) × (conn.collected ≡ number) × (length conn.payloads ≡ suc number)
+    × (slice_get conn.payloads number ≡ Some payload) × (length payload ≤ max)
+PhaseTells max (waiting number) conn =
+    HoldsNothing conn × (conn.submitted ≡ suc number) × (conn.collected ≡ number) × (length conn.payloads ≡ suc number)
+PhaseTells max (writing left) conn = HasAllCollected conn × (conn.held ≡ []) × (conn.left ≡ left) × (left ≢ [])
+PhaseTells max (ended cause) conn = ⊥
+
+-- a connection that is open, tied to its state: as many payloads were read as frames are counted, and the phase tells the rest
+pub record IsOpenTied (max : ℕ) (state : ConnView) (conn : LoopConn) : Type 0 where
+  pub going : conn.cause ≡ None
+  pub counted : state.frames ≡ length conn.payloads
+  pub tells : PhaseTells max state.phase conn
+
+-- a payload is read
+abbrev pub IsFraming : Phase → Type 0
+IsFraming (framing size bytes) = Unit {0}
+IsFraming _ = ⊥
+
+-- a phase in which no size is admitted
+abbrev pub IsLean : Phase → Type 0
+IsLean (sizing bytes) = Unit {0}
+IsLean (held size) = Unit {0}
+IsLean (writing left) = Unit {0}
+IsLean _ = ⊥
+
+-- a connection is open, in the table, and in such a phase
+pub record IsInTable (max : ℕ) (in_phase : Phase → Type 0) (table : TableView) (c : ℕ) (conn : LoopConn) : Type 0 where
+  pub there : IsSome (slot_in c table.slots)
+  pub in_its_phase : in_phase (slot_of c table.slots).conn.phase
+  pub tied : IsOpenTied max (slot_of c table.slots).conn conn
+
+-- a size of it is admitted, the same on both sides
+abbrev pub IsAdmittedSo : TableView → ℕ → Option ℕ → Type 0
+IsAdmittedSo table c admitted = IsSome (slot_of c table.slots).size × (admitted ≡ (slot_of c table.slots).size)
+
+-- How connection c stands: it is in the table, in a phase that the stand tells, with a size that is admitted or without one; or it has ended by this cause, and is
+-- gone.
+abbrev pub StandTells : ℕ → TableView → ℕ → LoopConn → Option ℕ → Stand → Type 0
+StandTells max table c conn admitted Lean = IsInTable max IsLean table c conn × ((slot_of c table.slots).size ≡ None) × (admitted ≡ None)
+StandTells max table c conn admitted Framed = IsInTable max IsFraming table c conn × IsAdmittedSo table c admitted
+StandTells max table c conn admitted Whole = IsInTable max IsReady table c conn × IsAdmittedSo table c admitted
+StandTells max table c conn admitted Asked = IsInTable max IsWaiting table c conn × IsAdmittedSo table c admitted
+StandTells max table c conn admitted (Over cause) = (slot_in c table.slots ≡ None) × (admitted ≡ None) × (conn.cause ≡ Some cause)
+
+-- connection c reads on: it is open, in a phase in which a size or a payload is read
+abbrev pub ReadsOn : ℕ → LoopPart → Type 0
+ReadsOn c part = (c < length part.stands.items) × IsSome (slot_in c part.table.slots) × IsReading (slot_of c part.table.slots).conn.phase
+
+-- The loop's part is tied to a play: tape and number of connections are the same; each connection stands as is told; none that isn't opened is in the table; and
+-- the same pieces, ends and rules are left.
+pub record IsLoopTied (s : CellSetting) (part : LoopPart) (play : ServedPlay) : Type 0 where
+  pub budget : part.table.budget ≡ s.budget
+  pub tape : play.cell.loop.tape ≡ part.tape.items
+  pub count : play.cell.loop.count ≡ length part.stands.items
+  pub stands : (c : ℕ) → c < length part.stands.items
+      → StandTells s.desk.max_frame part.table c (play.cell.loop.conns c) (play.admitted c) (slice_index_or part.stands.items c Lean)
+  pub unopened : (c : ℕ) → length part.stands.items ≤ c → (slot_in c part.table.slots ≡ None) × (play.admitted c ≡ None)
+  pub unread : (c : ℕ) → play.unread c ≡ unread_in part.feeds.items c
+  pub finish : (c : ℕ) → play.finish c ≡ finish_in part.feeds.items c
+  pub rules : (c : ℕ) → play.rules c ≡ rules_in part.feeds.items c
+  pub pieces : AllByRecursion HasSomePieces part.feeds.items
+  pub writes : (c : ℕ) → AllByRecursion BoundsSome (rules_in part.feeds.items c)
+  pub fed : length part.stands.items ≤ length part.feeds.items
+
+-- There is room for two marks of each connection that is open, and for a cause of each that was opened; and each that was opened has a number of 32 bits.
+pub record HasRoomToClose (part : LoopPart) : Type 0 where
+  pub for_marks : length part.tape.items + 2 * length part.table.slots ≤ vec_capacity part.tape
+  pub for_causes : length part.stands.items ≤ vec_capacity part.ends
+  pub none_yet : part.ends.items ≡ []
+  pub numbered : length part.stands.items ≤ 2 ^ 32
+
+-- the loop's part before the first line: nothing is open, nothing has happened, and each connection of the script has its rules
+pub record IsFreshPart (s : CellSetting) (script : ScriptPlan) (part : LoopPart) : Type 0 where
+  pub table : part.table ≡ record { budget = s.budget; slots = [] }
+  pub tape : part.tape.items ≡ []
+  pub stands : part.stands.items ≡ []
+  pub unread : (c : ℕ) → unread_in part.feeds.items c ≡ []
+  pub finish : (c : ℕ) → finish_in part.feeds.items c ≡ None
+  pub rules : (c : ℕ) → rules_in part.feeds.items c ≡ rules_of c script
+  pub pieces : AllByRecursion HasSomePieces part.feeds.items
+  pub writes : (c : ℕ) → AllByRecursion BoundsSome (rules_in part.feeds.items c)

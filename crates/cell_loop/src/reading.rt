@@ -1,0 +1,184 @@
+//! How a connection reads on: a read, what comes behind all pieces, and an admission.
+
+ghost use Rattle.std.specs.Prelude.{◌≡◌, ◌+◌, ◌*◌, ◌<◌, ◌≤◌, ◌^◌, IsTrue, IsSome, true, false, Some, [], length, min, take, drop, slice_get, IfOk, OnOk, OnErr};
+ghost use Rattle.std.specs.List.{AllByRecursion};
+ghost use Rattle.std.specs.Vec.{vec_capacity};
+ghost use Rattle.conn_state.specs.Phase.{wanted, IsHeld};
+ghost use Rattle.conn_table.specs.Slots.{slot_in};
+ghost use Rattle.conn_table.specs.Table.{slot_of};
+ghost use Rattle.rehearsal_model.specs.Playing.{pieces_left};
+ghost use Rattle.cell_loop.specs.declared.loop_part.Stand.TheVariants.{Lean};
+ghost use Rattle.cell_model.specs.Moving.{one_of_conn};
+ghost use Rattle.cell_loop.specs.Feeds.{unread_in, finish_in, rules_in, front_in, later_in, HasSomePieces, HasFeed};
+ghost use Rattle.cell_loop.specs.LoopTied.{HasRoomToClose, ReadsOn};
+ghost use Rattle.cell_loop.specs.LoopMoves.{IsLoopUnderWay, StaysTied, LoopMoves, AnySetting, HasLongest};
+
+use crate::feed::Finish;
+use crate::loop_part::{LoopPart, Stand};
+use conn_state::EndCause;
+use outside::{Bytes, Mark};
+use std::alloc::{AllocError, Global};
+
+/// So many frames are counted at most.
+const MOST_FRAMES: u64 = 1 << 62;
+
+impl<'a> LoopPart<'a> {
+    /// One read of the oldest piece, or of what comes behind all pieces, where something does.
+    pub fn read(&mut self, alloc: Global, c: u32, max_frame: u32) -> Result<bool, AllocError>
+        requires under_way { IsLoopUnderWay self.old }
+        requires reads { ReadsOn c self.old }
+        requires fed { c < length self.old.feeds.items }
+        requires small { max_frame ≤ 268435456 }
+        ensures moved { IfOk result (λ moved. LoopMoves (HasLongest max_frame) (λ s. one_of_conn s c) self.old moved self.new) }
+        ensures err { OnErr result (StaysTied self.old self.new) }
+        ensures feeds { length self.new.feeds.items ≡ length self.old.feeds.items }
+        ensures room { HasRoomToClose self.new }
+    {
+        if self.begin_piece(c) {
+            self.read_piece(alloc, c, max_frame)?;
+            return Ok(true);
+        }
+        Ok(self.read_behind(c))
+    }
+
+    /// Begins the oldest piece, where none is under way; tells whether a byte is left of it.
+    fn begin_piece(&mut self, c: u32) -> bool
+        requires fed { c < length self.old.feeds.items }
+        requires pieces { AllByRecursion HasSomePieces self.old.feeds.items }
+        ensures some { IsTrue result → 0 < length (front_in self.new.feeds.items c) }
+        ensures none { result ≡ false → unread_in self.new.feeds.items c ≡ [] }
+        ensures fed { HasFeed c (unread_in self.old.feeds.items c) (finish_in self.old.feeds.items c) (rules_in self.old.feeds.items c)
+            self.old.feeds.items self.new.feeds.items }
+        ensures table { self.new.table ≡ self.old.table }
+        ensures tape { self.new.tape ≡ self.old.tape }
+        ensures stands { self.new.stands ≡ self.old.stands }
+        ensures ends { self.new.ends ≡ self.old.ends }
+    {
+        !self.feeds[c as usize].oldest().is_empty()
+    }
+
+    /// Reads what is asked for of the piece under way, as far as it goes.
+    fn read_piece(&mut self, alloc: Global, c: u32, max_frame: u32) -> Result<(), AllocError>
+        requires under_way { IsLoopUnderWay self.old }
+        requires reads { ReadsOn c self.old }
+        requires some { 0 < length (front_in self.old.feeds.items c) }
+        requires small { max_frame ≤ 268435456 }
+        ensures moved { OnOk result (LoopMoves (HasLongest max_frame) (λ s. one_of_conn s c) self.old true self.new) }
+        ensures err { OnErr result (StaysTied self.old self.new) }
+        ensures feeds { length self.new.feeds.items ≡ length self.old.feeds.items }
+        ensures room { HasRoomToClose self.new }
+    {
+        if self.table.conn(c).frames() >= MOST_FRAMES {
+            return Err(AllocError);
+        }
+        self.make_room()?;
+        let bytes = self.copy_front(alloc, c)?;
+        self.take_in(c, bytes, max_frame);
+        Ok(())
+    }
+
+    /// A copy of the bytes that are read next.
+    fn copy_front(&self, alloc: Global, c: u32) -> Result<Vec<u8>, AllocError>
+        requires there { IsSome (slot_in c self.now.table.slots) }
+        requires fed { c < length self.now.feeds.items }
+        ensures { IfOk result (λ bytes. bytes.items ≡ take (min (wanted (slot_of c self.now.table.slots).conn.phase) (length (front_in self.now.feeds.items c)))
+            (front_in self.now.feeds.items c)) }
+    {
+        let front = self.feeds[c as usize].front;
+        let count = self.table.conn(c).want().min(front.len());
+        Vec::from_slice(alloc, front.split_at(count).0)
+    }
+
+    /// Takes in the bytes that are read.
+    fn take_in(&mut self, c: u32, bytes: Vec<u8>, max_frame: u32)
+        requires under_way { IsLoopUnderWay self.old }
+        requires reads { ReadsOn c self.old }
+        requires some { 0 < length (front_in self.old.feeds.items c) }
+        requires small { max_frame ≤ 268435456 }
+        requires front { bytes.items ≡ take (min (wanted (slot_of c self.old.table.slots).conn.phase) (length (front_in self.old.feeds.items c)))
+            (front_in self.old.feeds.items c) }
+        requires counted { (slot_of c self.old.table.slots).conn.frames < 2 ^ 62 }
+        requires room { length self.old.tape.items + 1 + 2 * length self.old.table.slots ≤ vec_capacity self.old.tape }
+        ensures moved { LoopMoves (HasLongest max_frame) (λ s. one_of_conn s c) self.old true self.new }
+        ensures feeds { length self.new.feeds.items ≡ length self.old.feeds.items }
+        ensures room { HasRoomToClose self.new }
+    {
+        let frames = self.table.conn(c).frames();
+        self.table.took(c, bytes.as_slice(), max_frame);
+        self.pass_front(c, bytes.len());
+        self.tape.push_reserved(Mark::Read(c, Bytes::new(bytes)));
+        if self.table.conn(c).cause().is_some() {
+            self.close(c);
+            return;
+        }
+        if self.table.conn(c).frames() > frames {
+            self.stands[c as usize] = Stand::Whole;
+            return;
+        }
+    }
+
+    /// So many bytes of the piece under way are read.
+    fn pass_front(&mut self, c: u32, count: usize)
+        requires fed { c < length self.old.feeds.items }
+        requires within { count ≤ length (front_in self.old.feeds.items c) }
+        requires pieces { AllByRecursion HasSomePieces self.old.feeds.items }
+        ensures fed { HasFeed c (pieces_left (drop count (front_in self.old.feeds.items c)) (later_in self.old.feeds.items c)) (finish_in self.old.feeds.items c)
+            (rules_in self.old.feeds.items c) self.old.feeds.items self.new.feeds.items }
+        ensures table { self.new.table ≡ self.old.table }
+        ensures tape { self.new.tape ≡ self.old.tape }
+        ensures stands { self.new.stands ≡ self.old.stands }
+        ensures ends { self.new.ends ≡ self.old.ends }
+    {
+        self.feeds[c as usize].read(count);
+    }
+
+    /// The end of the input, or a read that fails, where it is known which.
+    fn read_behind(&mut self, c: u32) -> bool
+        requires under_way { IsLoopUnderWay self.old }
+        requires reads { ReadsOn c self.old }
+        requires fed { c < length self.old.feeds.items }
+        requires none { unread_in self.old.feeds.items c ≡ [] }
+        ensures moved { LoopMoves AnySetting (λ s. one_of_conn s c) self.old result self.new }
+        ensures feeds { length self.new.feeds.items ≡ length self.old.feeds.items }
+        ensures room { HasRoomToClose self.new }
+    {
+        match self.feeds[c as usize].finish {
+            None => false,
+            Some(Finish::Ends) => {
+                self.table.end_of_input(c);
+                self.tape.push_reserved(Mark::Ended(c));
+                self.let_go(c);
+                true
+            }
+            Some(Finish::Fails) => {
+                self.tape.push_reserved(Mark::ReadFailed(c));
+                self.give_up(c, EndCause::ReadFault);
+                true
+            }
+        }
+    }
+
+    /// Admits the frame that waits, where the budget has room; without memory for it the connection ends.
+    pub fn admit(&mut self, alloc: Global, c: u32) -> bool
+        requires under_way { IsLoopUnderWay self.old }
+        requires lean { slice_get self.old.stands.items c ≡ Some Lean }
+        requires held { IsHeld (slot_of c self.old.table.slots).conn.phase }
+        ensures moved { LoopMoves AnySetting (λ s. one_of_conn s c) self.old result self.new }
+        ensures feeds { length self.new.feeds.items ≡ length self.old.feeds.items }
+        ensures room { HasRoomToClose self.new }
+    {
+        // The numbers in the table rise, so its sizes are those of the connections.
+        let _ = self.table.full();
+        match self.table.admit(alloc, c) {
+            Ok(true) => {
+                self.stands[c as usize] = Stand::Framed;
+                true
+            }
+            Ok(false) => false,
+            Err(_) => {
+                self.give_up(c, EndCause::NoMemory);
+                true
+            }
+        }
+    }
+}

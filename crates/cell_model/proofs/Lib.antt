@@ -1,0 +1,4 @@
+pub mod Composing
+pub mod Reaching
+pub mod Arriving
+pub mod Going

@@ -1,0 +1,4 @@
+pub mod Settings
+pub mod Moving
+pub mod Reached
+pub mod Replies

@@ -1,0 +1,4 @@
+pub mod Asking
+pub mod Permitting
+pub mod HallTying
+pub mod Turning

@@ -1,0 +1,57 @@
+-- What is kept of the hall and of the workers, tied to a machine in rehearsal.
+use Rattle.std.specs.Prelude.{◌≡◌, ℕ, ◌⊎◌, Bool, false, Some, List, slice_index_or}
+use Rattle.std.specs.List.{AllByRecursion}
+use Rattle.outside.specs.declared.outcomes.Settled.{Settled}
+use Rattle.outside.specs.declared.outcomes.Settled.TheVariants.{NoMemory}
+use Rattle.host_model.specs.DeskRules.{DeskDecision, Invoke}
+use Rattle.call_rules.specs.PlainCalls.{PlainCall, PlainAnswer}
+use Rattle.call_rules.specs.Desks.{DeskMeaning, desk_rules}
+use Rattle.call_rules.specs.Answers.{plain_answer}
+use Rattle.machine_model.specs.HallState.{JobOutcome}
+use Rattle.machine_model.specs.Determined.{IsSameButFaults}
+use Rattle.machine_model.specs.Worker.{idle, holds, has_answer, has_none, settled_with}
+use Rattle.machine_model.specs.SeenHall.{MayHave, filled}
+use Rattle.hall_core.specs.Meant.{ServedHall}
+use Rattle.cell_turn.specs.declared.worker.Worker.{Worker}
+use Rattle.cell_turn.specs.declared.worker.Worker.TheVariants.{Idle, Holds, Answered, Unanswered}
+use Rattle.cell_model.specs.Settings.{HallInCell, PlainWorker}
+use Rattle.cell_model.specs.Replies.{IsReplySome}
+
+-- what a worker holds
+abbrev pub plain_worker : Worker → PlainWorker
+plain_worker Idle = idle
+plain_worker (Holds job) = holds job.key job.payload
+plain_worker (Answered job given) = has_answer job.key job.payload (plain_answer given.answer)
+plain_worker (Unanswered job) = has_none job.key job.payload
+
+-- what worker w holds; one that there isn't holds no job
+abbrev pub worker_in : List Worker → ℕ → PlainWorker
+worker_in workers w = plain_worker (slice_index_or workers w Idle)
+
+-- a call is made that is silent or isn't, as is said
+abbrev pub IsCallSo : Bool → DeskDecision PlainCall → Type 0
+IsCallSo silent (Invoke call) = call.silent ≡ silent
+IsCallSo silent _ = ⊥
+
+-- of a call that was answered it is kept whether it is silent
+abbrev pub KnowsItsCall : DeskMeaning → Worker → Type 0
+KnowsItsCall desk (Answered job given) = IsCallSo given.silent (desk.decide job.payload)
+KnowsItsCall desk _ = Unit {0}
+
+-- the workers are tied to those of a machine
+pub record AreWorkersTied (desk : DeskMeaning) (workers : List Worker) (states : ℕ → PlainWorker) : Type 0 where
+  pub each : (w : ℕ) → states w ≡ worker_in workers w
+  pub known : AllByRecursion (KnowsItsCall desk) workers
+
+-- What an answered job comes to: what the desk says of it, or want of memory.
+abbrev pub RepliesSo : DeskMeaning → List ℕ → PlainAnswer → Settled → Type 0
+RepliesSo desk payload answer settled = (settled_with (desk_rules desk) payload answer (desk.decide payload) ≡ Some settled) ⊎ (settled ≡ NoMemory)
+
+-- The hall is tied to that of a machine, but for the count of faults, which is free: its journal has these entries, where it tells; it is open, and hasn't
+-- failed; and each reply that waits has a byte at least.
+pub record IsHallTied (seen : ServedHall) (hall : HallInCell) : Type 0 where
+  pub told : MayHave seen.told hall.journal
+  pub same : IsSameButFaults hall (filled seen hall.journal)
+  pub unclosed : seen.closed ≡ false
+  pub whole : seen.broken ≡ false
+  pub replies : AllByRecursion (λ (o : JobOutcome). IsReplySome o.settled) seen.outcomes

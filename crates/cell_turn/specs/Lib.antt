@@ -1,0 +1,3 @@
+pub mod HallTied
+pub mod Turns
+pub mod TurnMoves

@@ -1,0 +1,53 @@
+//! What a worker holds.
+
+ghost use Rattle.std.specs.Prelude.{◌≡◌, ◌<◌, length, slice_index_or, slice_set};
+ghost use Rattle.cell_turn.specs.declared.worker.Worker.TheVariants.{Idle};
+
+use call_rules::{Answer, Key};
+use outside::Bytes;
+use std::mem;
+
+/// A job: a payload under the key of its frame.
+#[derive(Drop)]
+pub struct JobHeld {
+    pub key: Key,
+    pub payload: Bytes,
+}
+
+/// What a call was answered with.
+#[derive(Drop)]
+pub struct Given {
+    pub answer: Answer,
+    /// Whether the call gets no reply.
+    pub silent: bool,
+}
+
+/// What a worker holds.
+#[derive(Drop)]
+pub enum Worker {
+    /// No job.
+    Idle,
+    /// A job of which nothing was done.
+    Holds(JobHeld),
+    /// A job whose call was answered.
+    Answered(JobHeld, Given),
+    /// A job whose call was applied and has no answer.
+    Unanswered(JobHeld),
+}
+
+/// Takes out what a worker holds, so that it holds no job.
+pub fn take_out(workers: &mut Vec<Worker>, place: usize) -> Worker
+    requires there { place < length workers.old.items }
+    ensures taken { result ≡ slice_index_or workers.old.items place Idle }
+    ensures left { workers.new.items ≡ slice_set workers.old.items place Idle }
+{
+    mem::replace(&mut workers[place], Worker::Idle)
+}
+
+/// Gives a worker what it holds from now on.
+pub fn put_back(workers: &mut Vec<Worker>, place: usize, worker: Worker)
+    requires there { place < length workers.old.items }
+    ensures { workers.new.items ≡ slice_set workers.old.items place worker }
+{
+    workers[place] = worker;
+}

@@ -1,0 +1,2 @@
+pub mod GivenShown
+pub mod Placed
