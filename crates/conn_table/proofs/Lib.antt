@@ -1,4 +1,5 @@
 pub mod Ranks
 pub mod Placing
 pub mod Sizing
+pub mod Lending
 pub mod Rising

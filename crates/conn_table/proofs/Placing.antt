@@ -19,7 +19,8 @@ value_of (Some x) s = (x, refl)
 pub has_value : {X : Type 0} (o : Option X) (x : X) → o ≡ Some x → IsSome o
 has_value o x e = ap is_some e
 
-abbrev under : Slab Slot → Option ℕ → Option Slot
+-- what is under a key, where there is one
+abbrev pub under : Slab Slot → Option ℕ → Option Slot
 under slab None = None
 under slab (Some key) = get slab key
 
@@ -65,6 +66,12 @@ module _ (slab : Slab Slot) where
               (p.0.0, subst (λ x. get slab x ≡ Some p.0.0) k p.0.1)
           go (inr other) again = again (sym (ap (λ t. if t then Some row.key else key_in c rows) (ne_eqb row.number c other)) ∙ is)
 
+  pub has_key : (c : ℕ) (rows : List Row) (slots : List Slot) → Placed rows → kept_in slab rows ≡ slots → IsSome (slot_in c slots) → IsSome (key_in c rows)
+  has_key c rows slots p is there =
+      let v : (x : Slot) × (slot_in c slots ≡ Some x) = value_of (slot_in c slots) there in
+      let t : (key : ℕ) × (key_in c rows ≡ Some key) × (get slab key ≡ Some v.0) = key_of_kept c rows v.0 p (ap (slot_in c) is ∙ v.1) in
+      has_value (key_in c rows) t.0 t.1
+
   -- one that isn't kept has none
   pub none_kept : (c : ℕ) (rows : List Row) → Placed rows → slot_in c (kept_in slab rows) ≡ None → key_in c rows ≡ None
   none_kept c rows p e = none_there c rows (key_in c rows) p refl (sym (slot_under c rows p) ∙ e)
@@ -79,6 +86,9 @@ module _ (slab : Slab Slot) where
           let k : row.key ≡ key = same_Some row.key key (sym (ap (λ t. if t then Some row.key else key_in c rows) (eq-eqb row.number c same)) ∙ e) in
           (p.0.0, subst (λ x. get slab x ≡ Some p.0.0) k p.0.1, p.0.2 ∙ same)
       go (inr other) again = again (sym (ap (λ t. if t then Some row.key else key_in c rows) (ne_eqb row.number c other)) ∙ e)
+
+  pub has_slot : (c key : ℕ) (rows : List Row) → Placed rows → key_in c rows ≡ Some key → IsSome (get slab key)
+  has_slot c key rows p e = let t : (slot : Slot) × (get slab key ≡ Some slot) × (slot.number ≡ c) = placed_key c key rows p e in has_value (get slab key) t.0 t.1
 
   -- a row of another number has another key
   other_key : (c key : ℕ) (row : Row) → (slot : Slot) × (get slab key ≡ Some slot) × (slot.number ≡ c) → IsPlaced slab row → (row.number ≡ c → ⊥) → row.key ≡ key → ⊥

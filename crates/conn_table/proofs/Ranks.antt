@@ -2,7 +2,7 @@
 use Rattle.std.proofs.Common.{◌≡◌, ℕ, zero, suc, ◌+◌, ◌<◌, ◌≤◌, ◌⊎◌, if◌then◌else◌, Some, List, [], ◌∷◌, length, slice_get, refl, sym, ap, ◌∙◌, subst, inl, inr, arith, eq-eqb, ne_eqb}
 use Rattle.std.specs.List.{AllByRecursion}
 use Rattle.std.proofs.lemmas.Bool.{cases_eq, cases_lt, lt-ltb, le-ltb}
-use Rattle.std.proofs.lemmas.Option.{none-some, same_Some, slice_get_past}
+use Rattle.std.proofs.lemmas.Option.{none-some, same_Some, slice_get_past, slice_get_within}
 use Rattle.conn_table.specs.declared.places.Row.{Row}
 use Rattle.conn_table.specs.Rows.{key_in, IsRising, rank_below}
 
@@ -77,6 +77,17 @@ rank_between c (x ∷ rows) (suc i) b =
       above = λ k row e l. b.above (suc k) row e (omega arith);
     }) in
     ap suc t ∙ sym (ap (λ t. if t then suc (rank_below c rows) else 0) (lt-ltb x.number c (b.below 0 x refl (omega arith))))
+
+-- a number that stands at place k has the rank k
+pub rank_at : (c k : ℕ) (row : Row) (rows : List Row) → IsRising rows → slice_get rows k ≡ Some row → row.number ≡ c → k ≡ rank_below c rows
+rank_at c k row rows r at own =
+    let w : k < length rows = slice_get_within rows k row at in
+    rank_between c rows k (record {
+      order = omega arith;
+      within = omega arith;
+      below = λ j x e l. let h : x.number < row.number = rising_at rows j k x row r e at l in omega arith;
+      above = λ j x e l. let h : row.number ≤ x.number = rising_to rows k j row x r at e l in omega arith;
+    })
 
 -- a row of a number is at its rank
 pub rank_found : (c key : ℕ) (rows : List Row) → IsRising rows → key_in c rows ≡ Some key → (row : Row) × (slice_get rows (rank_below c rows) ≡ Some row) × (row.number ≡ c) × (row.key ≡ key)

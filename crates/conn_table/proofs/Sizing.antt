@@ -11,7 +11,7 @@ use Rattle.conn_state.specs.Phase.{Phase, ConnView, wanted, size_asked, sizing, 
 use Rattle.conn_state.specs.Step.{after_admission, after_size, after_payload_bytes, after_bytes, after_took, after_answer, after_wrote, after_end_of_input}
 use Rattle.conn_table.specs.declared.places.Slot.{Slot}
 use Rattle.conn_table.specs.Slots.{slot_in, with_slot, with_added, without_number}
-use Rattle.conn_table.specs.Table.{TableView, fresh_slot, slot_of, with_state, size_given, sizes_given, TakesRoom, HasItsSize, IsAdmitted, IsSoundTable}
+use Rattle.conn_table.specs.Table.{TableView, fresh_slot, slot_of, with_state, with_size, size_given, sizes_given, TakesRoom, HasItsSize, IsAdmitted, IsSoundTable}
 use Rattle.conn_table.proofs.Placing.{value_of, has_value}
 
 -- what is kept of an open connection
@@ -46,7 +46,7 @@ found_put new (x ∷ slots) s = go (cases_eq x.number new.number) (λ f. found_p
         ∙ again (subst (λ t. IsSome (if t then Some x else slot_in new.number slots)) (ne_eqb x.number new.number n) s)
 
 -- the last of two that are put there stays
-pub put_twice : (one two : Slot) (slots : List Slot) → one.number ≡ two.number → with_slot two (with_slot one slots) ≡ with_slot two slots
+put_twice : (one two : Slot) (slots : List Slot) → one.number ≡ two.number → with_slot two (with_slot one slots) ≡ with_slot two slots
 put_twice one two [] e = refl
 put_twice one two (x ∷ slots) e = go (cases_eq x.number one.number) (put_twice one two slots e)
   where
@@ -111,30 +111,19 @@ changed_sound slots budget admitted c new s there number size room =
       each = all_put IsAdmitted new slots s.each (subst (HasItsSize new.conn.phase) (sym size) (room (all_found IsAdmitted c slots (slot_of c slots) s.each (slot_is c slots there))));
     }
 
--- and what was taken out and put back is what was changed
-pub changed_slots : (slots : List Slot) (c : ℕ) (new : Slot) → new.number ≡ c → with_slot new (with_slot (fresh_slot c) slots) ≡ with_slot new slots
-changed_slots slots c new e = put_twice (fresh_slot c) new slots (sym e)
-
--- A call of one connection's state, through a slot that is taken out and put back: the table stays sound, and nothing but the state is changed.
-pub in_place : (old : TableView) (places left last : List Slot) (budget admitted c : ℕ) (slot : Slot) (conn : ConnView) → IsSoundTable places budget admitted
-    → record { budget = budget; slots = places } ≡ old → IsSome (slot_in c old.slots) → slot ≡ slot_of c places → slot.number ≡ c → left ≡ with_slot (fresh_slot c) places
-    → last ≡ with_slot (record { number = slot.number; conn = conn; size = slot.size }) left → ((size : Option ℕ) → HasItsSize (slot_of c old.slots).conn.phase size → HasItsSize conn.phase size)
-    → IsSoundTable last budget admitted × (record { budget = budget; slots = last } ≡ record old { slots = with_state c conn old.slots })
-in_place old places left last budget admitted c slot conn sound view there taken own is put room =
-    let new : Slot = record { number = slot.number; conn = conn; size = slot.size } in
-    let target : Slot = record { number = c; conn = conn; size = (slot_of c places).size } in
-    let same : new ≡ target = (λ i. record { number = own i; conn = conn; size = (taken i).size }) in
-    let all : last ≡ with_slot target places = put ∙ ap (with_slot new) is ∙ changed_slots places c new own ∙ ap (λ k. with_slot k places) same in
+-- A call of one connection's state in its place: the table stays sound, and nothing but the state is changed.
+pub in_place : (old : TableView) (places : List Slot) (budget admitted c : ℕ) (conn : ConnView) → IsSoundTable places budget admitted
+    → record { budget = budget; slots = places } ≡ old → IsSome (slot_in c old.slots)
+    → ((size : Option ℕ) → HasItsSize (slot_of c old.slots).conn.phase size → HasItsSize conn.phase size)
+    → IsSoundTable (with_state c conn places) budget admitted × (record { budget = budget; slots = with_state c conn places } ≡ record old { slots = with_state c conn old.slots })
+in_place old places budget admitted c conn sound view there room =
     let open_there : IsSome (slot_in c places) = subst (λ (o : TableView). IsSome (slot_in c o.slots)) (sym view) there in
     let room_there : (size : Option ℕ) → HasItsSize (slot_of c places).conn.phase size → HasItsSize conn.phase size =
     subst (λ (o : TableView). (size : Option ℕ) → HasItsSize (slot_of c o.slots).conn.phase size → HasItsSize conn.phase size) (sym view) room in
-    let ended : IsSoundTable (with_slot target places) budget admitted = changed_sound places budget admitted c target sound open_there refl refl (room_there (slot_of c places).size) in (
-      subst (λ l. IsSoundTable l budget admitted) (sym all) ended,
-      ap (λ l. tabled budget l) all ∙ ap (λ (o : TableView). record o { slots = with_state c conn o.slots }) view,
+    let new : Slot = record { number = c; conn = conn; size = (slot_of c places).size } in (
+      changed_sound places budget admitted c new sound open_there refl refl (room_there (slot_of c places).size),
+      ap (λ (o : TableView). record o { slots = with_state c conn o.slots }) view,
     )
-  where
-    tabled : ℕ → List Slot → TableView
-    tabled b l = record { budget = b; slots = l }
 
 -- which phases take no room
 pub answer_room : (settled : Settled) (size : Option ℕ) → HasItsSize (after_answer settled) size
@@ -224,13 +213,6 @@ took_room max view bytes some asked size has = go view.phase asked has
     go (waiting number) few has = has
     go (writing left) few has = tt
     go (ended cause) few has = tt
-
--- what was put back is what was taken out, with this state and this size
-pub put_is : (places left last : List Slot) (c : ℕ) (slot : Slot) (conn : ConnView) (size : Option ℕ) → slot.number ≡ c → left ≡ with_slot (fresh_slot c) places
-    → last ≡ with_slot (record { number = slot.number; conn = conn; size = size }) left → last ≡ with_slot (record { number = c; conn = conn; size = size }) places
-put_is places left last c slot conn size own is put =
-    let new : Slot = record { number = slot.number; conn = conn; size = size } in
-    put ∙ ap (with_slot new) is ∙ changed_slots places c new own ∙ ap (λ k. with_slot (record { number = k; conn = conn; size = size }) places) own
 
 -- the same put back changes nothing
 put_same : (new : Slot) (slots : List Slot) → slot_in new.number slots ≡ Some new → with_slot new slots ≡ slots
@@ -373,3 +355,16 @@ pub conn_put : (c : ℕ) (conn : ConnView) (slots : List Slot) → IsSome (slot_
 conn_put c conn slots there =
     let new : Slot = record { number = c; conn = conn; size = (slot_of c slots).size } in
     ap (λ (s : Slot). s.conn) (of_found c (with_slot new slots) new (found_put new slots there))
+
+-- a state and then a size, put in the place of both
+pub both_put : (c : ℕ) (conn : ConnView) (size : Option ℕ) (slots : List Slot) → IsSome (slot_in c slots)
+    → with_size c size (with_state c conn slots) ≡ with_slot (record { number = c; conn = conn; size = size }) slots
+both_put c conn size slots there =
+    ap (λ (v : ConnView). with_slot (record { number = c; conn = v; size = size }) (with_state c conn slots)) (conn_put c conn slots there)
+    ∙ put_twice (record { number = c; conn = conn; size = (slot_of c slots).size }) (record { number = c; conn = conn; size = size }) slots refl
+
+-- a connection is open whatever its state
+pub still_open : (c : ℕ) (conn : ConnView) (slots : List Slot) → IsSome (slot_in c slots) → IsSome (slot_in c (with_state c conn slots))
+still_open c conn slots there =
+    let new : Slot = record { number = c; conn = conn; size = (slot_of c slots).size } in
+    has_value (slot_in c (with_state c conn slots)) new (found_put new slots there)

@@ -2,3 +2,4 @@ pub mod Rows
 pub mod Slots
 pub mod Places
 pub mod Table
+pub mod Lending

@@ -2,8 +2,8 @@
 
 ghost use Rattle.std.specs.Prelude.{◌≡◌, ◌<◌, ◌≤◌, IsSome, Some, None, IfOk, [], length};
 ghost use Rattle.conn_table.specs.Rows.{key_in, IsRising, rank_below};
-ghost use Rattle.conn_table.specs.Table.{slot_of, fresh_slot};
-ghost use Rattle.conn_table.specs.Slots.{most_places, slot_in, with_slot, with_added, without_number, HaveRisingNumbers};
+ghost use Rattle.conn_table.specs.Table.{slot_of, with_size};
+ghost use Rattle.conn_table.specs.Slots.{most_places, slot_in, with_added, without_number, HaveRisingNumbers};
 
 use conn_state::Conn;
 use slab::Slab;
@@ -56,7 +56,7 @@ impl Model for Places {
 }
 
 /// How many rows are in front of this number.
-fn rank_of(rows: &[Row], number: u32) -> usize
+fn rank_by_search(rows: &[Row], number: u32) -> usize
     requires { IsRising rows.now }
     ensures rank_below { result ≡ rank_below number rows.now }
     ensures within { result ≤ length rows.now }
@@ -74,6 +74,19 @@ fn rank_of(rows: &[Row], number: u32) -> usize
     low
 }
 
+/// How many rows are in front of this number. One whose number is its place is found without a search.
+fn rank_of(rows: &[Row], number: u32) -> usize
+    requires { IsRising rows.now }
+    ensures rank_below { result ≡ rank_below number rows.now }
+    ensures within { result ≤ length rows.now }
+{
+    let place = number as usize;
+    if place < rows.len() && rows[place].number == number {
+        return place;
+    }
+    rank_by_search(rows, number)
+}
+
 /// The key of a connection.
 fn key_of(rows: &[Row], number: u32) -> usize
     requires rising { IsRising rows.now }
@@ -84,6 +97,9 @@ fn key_of(rows: &[Row], number: u32) -> usize
 }
 
 impl Places {
+    ghost use Rattle.std.specs.Borrow.{sem};
+    ghost use Rattle.conn_table.specs.Lending.{LendsState};
+
     /// No connection, with room for the most.
     pub(crate) fn new(alloc: Global) -> Result<Places, AllocError>
         ensures { IfOk result (λ p. p ≡ []) }
@@ -111,39 +127,24 @@ impl Places {
         &self.slots[key_of(self.rows.as_slice(), number)]
     }
 
-    /// Puts something else in the place of what is kept of a connection.
-    pub(crate) fn replace(&mut self, slot: Slot) -> Slot
-        requires { IsSome (slot_in slot.number self.old) }
-        ensures old { slot_in slot.number self.old ≡ Some result }
-        ensures new { self.new ≡ with_slot slot self.old }
-    {
-        let key = key_of(self.rows.as_slice(), slot.number);
-        let old = self.slots.remove(key);
-        self.slots.insert_reserved(slot);
-        old
-    }
-
-    /// Takes what is kept of a connection, and leaves one at its beginning in its place.
-    pub(crate) fn take(&mut self, number: u32) -> Slot
+    /// Lends the state of a connection, to be changed in its place.
+    pub(crate) fn conn_mut(&mut self, number: u32) -> &mut Conn
         requires { IsSome (slot_in number self.old) }
-        ensures taken { result ≡ slot_of number self.old }
-        ensures own { result.number ≡ number }
-        ensures left { self.new ≡ with_slot (fresh_slot number) self.old }
-        ensures open { IsSome (slot_in result.number self.new) }
+        ensures* writes_back { sem 𝓛 (LendsState self.entry number result) }
+        ensures state { result.now ≡ (slot_of number self.old).conn }
     {
-        self.replace(Slot {
-            number,
-            conn: Conn::new(),
-            size: None,
-        })
+        let key = key_of(self.rows.as_slice(), number);
+        let slot = &mut self.slots[key];
+        &mut slot.conn
     }
 
-    /// Puts back what was taken, changed.
-    pub(crate) fn put(&mut self, slot: Slot)
-        requires { IsSome (slot_in slot.number self.old) }
-        ensures { self.new ≡ with_slot slot self.old }
+    /// Sets the size that is admitted of a connection.
+    pub(crate) fn set_size(&mut self, number: u32, size: Option<u32>)
+        requires { IsSome (slot_in number self.old) }
+        ensures { self.new ≡ with_size number size self.old }
     {
-        let _ = self.replace(slot);
+        let key = key_of(self.rows.as_slice(), number);
+        self.slots[key].size = size;
     }
 
     /// Adds a connection.

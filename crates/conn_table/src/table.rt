@@ -88,9 +88,7 @@ impl Table {
         ensures bytes { EachIsByte bytes.now }
         ensures whole { (slot_of c self.old.slots).conn.frames < (slot_of c self.new.slots).conn.frames ↔ IsReady (slot_of c self.new.slots).conn.phase }
     {
-        let mut slot = self.places.take(c);
-        slot.conn.took(bytes, max_frame);
-        self.places.put(slot);
+        self.places.conn_mut(c).took(bytes, max_frame);
     }
 
     /// Hands out the whole payload and the number of its frame.
@@ -100,10 +98,7 @@ impl Table {
         ensures given { (slot_of c self.old.slots).conn.phase ≡ ready result.0 result.1.items }
         ensures after { self.new ≡ record self.old { slots = with_state c (record (slot_of c self.old.slots).conn { phase = waiting result.0 }) self.old.slots } }
     {
-        let mut slot = self.places.take(c);
-        let given = slot.conn.give();
-        self.places.put(slot);
-        given
+        self.places.conn_mut(c).give()
     }
 
     /// Takes the outcome of the frame that was handed out.
@@ -112,9 +107,7 @@ impl Table {
         requires awaited { IsWaiting (slot_of c self.old.slots).conn.phase }
         ensures { self.new ≡ record self.old { slots = with_state c (record (slot_of c self.old.slots).conn { phase = after_answer settled }) self.old.slots } }
     {
-        let mut slot = self.places.take(c);
-        slot.conn.answered(settled);
-        self.places.put(slot);
+        self.places.conn_mut(c).answered(settled);
     }
 
     /// Takes note that `count` bytes of the reply were written.
@@ -124,9 +117,7 @@ impl Table {
         requires pending { count ≤ length (left_to_write (slot_of c self.old.slots).conn.phase) }
         ensures { self.new ≡ record self.old { slots = with_state c (record (slot_of c self.old.slots).conn { phase = after_wrote (drop count (left_to_write (slot_of c self.old.slots).conn.phase)) }) self.old.slots } }
     {
-        let mut slot = self.places.take(c);
-        slot.conn.wrote(count);
-        self.places.put(slot);
+        self.places.conn_mut(c).wrote(count);
     }
 
     /// Takes note that the input ended.
@@ -135,9 +126,7 @@ impl Table {
         requires reading { IsReading (slot_of c self.old.slots).conn.phase }
         ensures { self.new ≡ record self.old { slots = with_state c (record (slot_of c self.old.slots).conn { phase = after_end_of_input (slot_of c self.old.slots).conn.phase }) self.old.slots } }
     {
-        let mut slot = self.places.take(c);
-        slot.conn.end_of_input();
-        self.places.put(slot);
+        self.places.conn_mut(c).end_of_input();
     }
 
     /// Ends a connection for a cause that its bytes don't show.
@@ -147,9 +136,7 @@ impl Table {
         requires outside { IsFromOutside cause }
         ensures { self.new ≡ record self.old { slots = with_state c (record (slot_of c self.old.slots).conn { phase = ended cause }) self.old.slots } }
     {
-        let mut slot = self.places.take(c);
-        slot.conn.end(cause);
-        self.places.put(slot);
+        self.places.conn_mut(c).end(cause);
     }
 
     /// Gives back the size of a connection whose payload takes no room any more.
@@ -159,10 +146,8 @@ impl Table {
         requires idle { TakesRoom (slot_of c self.old.slots).conn.phase → ⊥ }
         ensures { self.new ≡ record self.old { slots = with_size c None self.old.slots } }
     {
-        let mut slot = self.places.take(c);
-        let size = slot.size.unwrap();
-        slot.size = None;
-        self.places.put(slot);
+        let size = self.places.get(c).size.unwrap();
+        self.places.set_size(c, None);
         self.admitted -= size as u64;
     }
 
@@ -190,13 +175,8 @@ impl Table {
         if self.read_budget - self.admitted < size as u64 {
             return Ok(false);
         }
-        let mut slot = self.places.take(c);
-        if let Err(error) = slot.conn.admit(alloc) {
-            self.places.put(slot);
-            return Err(error);
-        }
-        slot.size = Some(size);
-        self.places.put(slot);
+        self.places.conn_mut(c).admit(alloc)?;
+        self.places.set_size(c, Some(size));
         self.admitted += size as u64;
         Ok(true)
     }

@@ -7,3 +7,4 @@ pub mod ReadBack
 pub mod Soundness
 pub mod AllEnding
 pub mod Steps
+pub mod Finding

@@ -6,6 +6,7 @@ ghost use Rattle.script_links.specs.LineForms.{decimal_read, spelled_bytes, take
 ghost use Rattle.script_links.specs.Drafts.{plain_said};
 
 use crate::lines::{ScriptLine, WriteRule};
+use memchr::memchr;
 use outside::Bytes;
 use std::alloc::{AllocError, Global};
 use text_out::{HexFault, read_hex};
@@ -222,5 +223,5 @@ pub(crate) fn cut_line(text: &[u8]) -> (&[u8], &[u8])
 fn newline(text: &[u8]) -> Option<usize>
     ensures { result ≡ position is_line_end text.now }
 {
-    text.iter().position(|byte| *byte == b'\n')
+    memchr(b'\n', text)
 }

@@ -73,7 +73,12 @@ pub fn decimal(into: &mut Vec<u8>, n: i128) -> Result<(), AllocError>
     ensures err { OnErr result (into.new.items ≡ into.old.items) }
 {
     let mut buffer = Buffer::new();
-    into.extend_from_slice(buffer.format(n).as_bytes())
+    // The digits of 128 bits cost six times those of 64, which nearly every number fits.
+    let text = match i64::try_from(n) {
+        Ok(small) => buffer.format(small),
+        Err(_) => buffer.format(n),
+    };
+    into.extend_from_slice(text.as_bytes())
 }
 
 /// Appends each byte as two hexadecimal digits in lower case.
