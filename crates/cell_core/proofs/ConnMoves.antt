@@ -20,10 +20,10 @@ use Rattle.cell_loop.specs.declared.loop_part.LoopPart.{LoopPart}
 use Rattle.cell_loop.specs.LoopTied.{IsFraming, PhaseTells, StandTells, HasRoomToClose, ReadsOn, IsLoopTied}
 use Rattle.cell_loop.specs.LoopMoves.{StaysTied, LoopMoves, HasLongest}
 use Rattle.cell_loop.proofs.Tying.{place_of, stands_so}
-use Rattle.cell_turn.specs.declared.worker.Worker.{Worker}
+use Rattle.cell_turn.specs.declared.worker.Holding.{Holding}
 use Rattle.cell_core.specs.Parts.{Parts}
 use Rattle.cell_core.specs.Machines.{AreUnderWay, SomeMachine, IsMachine, MachineMoves, StaysPlayed, MoveKeeps}
-use Rattle.cell_core.specs.MachineSteps.{IsConnStep}
+use Rattle.cell_core.specs.MachineSteps.{HasNoTurn, IsConnStep}
 use Rattle.cell_core.proofs.Lessening.{conn_lessens, stays_heavy}
 use Rattle.cell_core.proofs.Gathering.{ConnReaches, played_so}
 
@@ -58,7 +58,7 @@ framed_reads m c now is =
     let t : StandTells now.0.desk.max_frame m.part.table c (play.cell.loop.conns c) (play.admitted c) Framed = stands_so now.0 c m.part play Framed now.1.tied.loop_tied is in
     (place_of m.part.stands.items c Framed is, t.0.there, framing_reads (slot_of c m.part.table.slots).conn.phase t.0.in_its_phase)
 
-module _ (part : LoopPart) (hall : ServedHall) (workers : List Worker) (new_part : LoopPart) where
+module _ (part : LoopPart) (hall : ServedHall) (workers : List Holding) (new_part : LoopPart) where
   abbrev before : Parts
   before = record { part = part; hall = hall; workers = workers }
 
@@ -115,7 +115,7 @@ moved_steps max c old new false reaches now moves kept later =
     }
 
 -- A move of the loop's part, as far as it has come.
-pub part_steps : {E : Type 0} (max c : ℕ) (part : LoopPart) (hall : ServedHall) (workers : List Worker) (new_part : LoopPart) (result : Result Bool E)
+pub part_steps : {E : Type 0} (max c : ℕ) (part : LoopPart) (hall : ServedHall) (workers : List Holding) (new_part : LoopPart) (result : Result Bool E)
     → ConnReaches
     → IsMachine max (record { part = part; hall = hall; workers = workers })
     → IfOk result (λ moved. LoopMoves (HasLongest max) (λ s. one_of_conn s c) part moved new_part) → OnErr result (StaysTied part new_part)
@@ -173,13 +173,6 @@ waiting_rests s c play max (framing size bytes) waits tells going = absurd waits
 waiting_rests s c play max (ready number payload) waits tells going = absurd waits
 waiting_rests s c play max (writing left) waits tells going = absurd waits
 waiting_rests s c play max (ended cause) waits tells going = absurd waits
-
--- a connection that isn't there, has ended, or awaits an outcome
-abbrev pub HasNoTurn : Option Stand → Type 0
-HasNoTurn None = Unit {0}
-HasNoTurn (Some Asked) = Unit {0}
-HasNoTurn (Some (Over cause)) = Unit {0}
-HasNoTurn (Some _) = ⊥
 
 no_turn_rests : (s : CellSetting) (c : ℕ) (part : LoopPart) (play : ServedPlay) → IsLoopTied s part play → (stand : Option Stand) → slice_get part.stands.items c ≡ stand → HasNoTurn stand
     → HasNoMove (one_of_conn s c) play

@@ -20,7 +20,7 @@ use Rattle.cell_loop.specs.LoopTied.{IsLoopTied}
 use Rattle.cell_loop.specs.LoopMoves.{AreAllOver, IsEndedLoop, IsLoopUnderWay}
 use Rattle.cell_turn.specs.declared.stop.RunStop.{RunStop}
 use Rattle.cell_turn.specs.declared.stop.RunStop.TheVariants.{JournalFault, NoMemory}
-use Rattle.cell_turn.specs.declared.worker.Worker.{Worker}
+use Rattle.cell_turn.specs.declared.worker.Holding.{Holding}
 use Rattle.cell_model.specs.Settings.{CellSetting, ServedCell, ServedPlay, desk_of_setting}
 use Rattle.cell_model.specs.Moving.{GoesTo, memory_of, all_lines}
 use Rattle.cell_core.specs.Parts.{Parts}
@@ -53,7 +53,7 @@ led_to_end s cell part tape ends tape_is ends_are led =
       ended = subst (HaveAllEnded led.0) (sym (ends_are led.3.causes led.3.over)) led.3.ended;
     }
 
-module _ (s : CellSetting) (script : ScriptPlan) (part : LoopPart) (workers : List Worker) (told : Option (List CallEntry)) (count : ℕ) (sound : IsSoundPlan script)
+module _ (s : CellSetting) (script : ScriptPlan) (part : LoopPart) (workers : List Holding) (told : Option (List CallEntry)) (count : ℕ) (sound : IsSoundPlan script)
     (opened : IsOpenedPart s.budget script part) (first_workers : AreFirstWorkers s.workers workers) (empty : MayHave told []) (max : s.desk.max_frame ≤ 268435456)
     (hall : ServedHall) (hall_is : hall ≡ opened_hall s.opening told count) (slots : s.desk.slots ≡ length s.opening) where
   abbrev pub begun : Parts

@@ -17,7 +17,7 @@ use Rattle.cell_loop.specs.declared.loop_part.LoopPart.{LoopPart}
 use Rattle.cell_loop.specs.LoopTied.{IsLoopTied, HasRoomToClose}
 use Rattle.cell_loop.specs.LoopMoves.{IsLoopUnderWay, HandsOut, TakesOutcome}
 use Rattle.cell_loop.proofs.Tying.{place_of}
-use Rattle.cell_turn.specs.declared.worker.Worker.{Worker}
+use Rattle.cell_turn.specs.declared.worker.Holding.{Holding}
 use Rattle.cell_turn.specs.HallTied.{IsHallTied, AreWorkersTied}
 use Rattle.cell_turn.specs.Turns.{IsNoOutcome}
 use Rattle.cell_turn.proofs.HallTying.{still_open}
@@ -41,7 +41,7 @@ pub loop_under_way : (m : Parts) → SomeMachine m → IsLoopUnderWay m.part
 loop_under_way m now = record { setting = now.0; play = now.1.play; tied = now.1.tied.loop_tied; room = now.1.room }
 
 -- a machine that is tied to a play whose hall and workers are these
-pub played_so : (s : CellSetting) (part : LoopPart) (hall : ServedHall) (workers : List Worker) (next : ServedPlay) (states : ℕ → PlainWorker) (now : HallInCell) → IsLoopTied s part next
+pub played_so : (s : CellSetting) (part : LoopPart) (hall : ServedHall) (workers : List Holding) (next : ServedPlay) (states : ℕ → PlainWorker) (now : HallInCell) → IsLoopTied s part next
     → next.cell.workers ≡ states → next.cell.hall ≡ now → IsHallTied hall now → AreWorkersTied s.desk workers states → IsReached s next.cell
     → ArePlayed s (record { part = part; hall = hall; workers = workers }) next
 played_so s part hall workers next states now loop workers_are hall_is hall_tied workers_tied reached =
@@ -63,7 +63,7 @@ hands_to m c i payload new_part now whole handed =
     (subst (λ n. c < n) (sym now.1.tied.loop_tied.count) (place_of m.part.stands.items c Whole whole)) t.0 t.1
 
 -- a submit is the connection's move
-pub submit_moves : (part : LoopPart) (hall : ServedHall) (workers : List Worker) (c i : ℕ) (payload : List ℕ) (new_part : LoopPart) (new_hall : ServedHall) (answer : HallAnswer PlainAnswer)
+pub submit_moves : (part : LoopPart) (hall : ServedHall) (workers : List Holding) (c i : ℕ) (payload : List ℕ) (new_part : LoopPart) (new_hall : ServedHall) (answer : HallAnswer PlainAnswer)
     → HandsOut c i payload part new_part → SeenGives handler_rules hall (submit (key_of c i) payload) answer new_hall
     → ConnReaches → (max : ℕ)
     → MachineMoves max (λ s. one_of_conn s c) (record { part = part; hall = hall; workers = workers }) true (record { part = new_part; hall = new_hall; workers = workers })
@@ -88,7 +88,7 @@ settles_some m new_hall key settled now gives =
     )
 
 -- a collect is the move of an outcome
-pub collect_moves : (part : LoopPart) (hall : ServedHall) (workers : List Worker) (key : Key) (settled : Settled) (new_part : LoopPart) (new_hall : ServedHall)
+pub collect_moves : (part : LoopPart) (hall : ServedHall) (workers : List Holding) (key : Key) (settled : Settled) (new_part : LoopPart) (new_hall : ServedHall)
     → SeenGives handler_rules hall collect (outcome key settled) new_hall → TakesOutcome key settled part new_part
     → OutcomeReaches → (max : ℕ)
     → MachineMoves max one_of_outcome (record { part = part; hall = hall; workers = workers }) true (record { part = new_part; hall = new_hall; workers = workers })
@@ -104,7 +104,7 @@ collect_moves part hall workers key settled new_part new_hall gives taken reache
     )
 
 -- where there is none, there is no such move
-pub collect_rests : (part : LoopPart) (hall : ServedHall) (workers : List Worker) (new_hall : ServedHall) (answer : HallAnswer PlainAnswer)
+pub collect_rests : (part : LoopPart) (hall : ServedHall) (workers : List Holding) (new_hall : ServedHall) (answer : HallAnswer PlainAnswer)
     → SeenGives handler_rules hall collect answer new_hall → IsNoOutcome answer → (max : ℕ)
     → MachineMoves max one_of_outcome (record { part = part; hall = hall; workers = workers }) false (record { part = part; hall = new_hall; workers = workers })
 collect_rests part hall workers new_hall answer gives none max =

@@ -6,7 +6,7 @@ use Rattle.std.specs.Vec.{vec_capacity}
 use Rattle.std.proofs.lemmas.Option.{none-some, same_Some}
 use Rattle.host_model.specs.declared.cause.EndCause.{EndCause}
 use Rattle.call_rules.specs.Desks.{DeskMeaning}
-use Rattle.outside.specs.declared.marks.Mark.{Mark}
+use Rattle.run_tape.specs.Rows.{TapeView}
 use Rattle.conn_table.specs.Table.{TableView}
 use Rattle.rehearsal_model.specs.ScriptLines.{PlanLine, PlanRule, opening, piece, input_end, input_fault, resting, turn_of_conn, turn_of_worker, turn_of_outcome}
 use Rattle.rehearsal_model.specs.Playing.{InputFinish, finishes, faults, MemoryAt, at_number}
@@ -14,7 +14,7 @@ use Rattle.rehearsal_model.specs.Rehearsing.{left_by}
 use Rattle.hall_core.specs.Meant.{ServedHall}
 use Rattle.cell_turn.specs.declared.stop.RunStop.{RunStop}
 use Rattle.cell_turn.specs.declared.stop.RunStop.TheVariants.{NoMemory}
-use Rattle.cell_turn.specs.declared.worker.Worker.{Worker}
+use Rattle.cell_turn.specs.declared.worker.Holding.{Holding}
 use Rattle.cell_turn.specs.HallTied.{IsHallTied, AreWorkersTied}
 use Rattle.cell_loop.specs.declared.feed.Feed.{Feed}
 use Rattle.cell_loop.specs.declared.loop_part.Stand.{Stand}
@@ -68,13 +68,13 @@ module _ (old new : Parts) (kept : MoveKeeps old new) (later : old.hall.faults �
 -- ---- a connection is opened
 
 -- hall and workers of a play are tied where they are those of another
-pub played_as : (s : CellSetting) (part : LoopPart) (hall : ServedHall) (workers : List Worker) (old : Parts) (play next : ServedPlay) → old.hall ≡ hall → old.workers ≡ workers → ArePlayed s old play
+pub played_as : (s : CellSetting) (part : LoopPart) (hall : ServedHall) (workers : List Holding) (old : Parts) (play next : ServedPlay) → old.hall ≡ hall → old.workers ≡ workers → ArePlayed s old play
     → IsLoopTied s part next → HasSameHall play next → IsReached s next.cell → ArePlayed s (record { part = part; hall = hall; workers = workers }) next
 played_as s part hall workers old play next same_hall same_workers tied loop same reached =
     record {
       loop_tied = loop;
       hall_tied = subst (λ (h : ServedHall). IsHallTied h next.cell.hall) same_hall (subst (IsHallTied old.hall) (sym same.0) tied.hall_tied);
-      workers_tied = subst (λ (ws : List Worker). AreWorkersTied s.desk ws next.cell.workers) same_workers (subst (AreWorkersTied s.desk old.workers) (sym same.1) tied.workers_tied);
+      workers_tied = subst (λ (ws : List Holding). AreWorkersTied s.desk ws next.cell.workers) same_workers (subst (AreWorkersTied s.desk old.workers) (sym same.1) tied.workers_tied);
       reached = reached;
     }
 
@@ -162,7 +162,7 @@ pub record IsFedOnly (old new : LoopPart) : Type 0 where
 fed_room : (old new : LoopPart) → IsFedOnly old new → HasRoomToClose old → HasRoomToClose new
 fed_room old new only room =
     record {
-      for_marks = subst (λ (p : TableView × Vec Mark Global). length p.1.items + 2 * length p.0.slots ≤ vec_capacity p.1) (λ i. (sym only.table i, sym only.tape i)) room.for_marks;
+      for_marks = subst (λ (p : TableView × TapeView). length p.1.items + 2 * length p.0.slots ≤ p.1.capacity) (λ i. (sym only.table i, sym only.tape i)) room.for_marks;
       for_causes = subst (λ (p : Vec Stand Global × Vec EndCause Global). length p.0.items ≤ vec_capacity p.1) (λ i. (sym only.stands i, sym only.ends i)) room.for_causes;
       none_yet = ap (λ v. v.items) only.ends ∙ room.none_yet;
       numbered = subst (λ (v : Vec Stand Global). length v.items ≤ 2 ^ 32) (sym only.stands) room.numbered;

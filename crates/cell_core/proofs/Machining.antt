@@ -5,8 +5,8 @@ use Rattle.std.proofs.lemmas.List.{set-set}
 use Rattle.call_rules.specs.Desks.{DeskMeaning}
 use Rattle.hall_core.specs.Meant.{ServedHall}
 use Rattle.cell_loop.specs.declared.loop_part.LoopPart.{LoopPart}
-use Rattle.cell_turn.specs.declared.worker.Worker.{Worker}
-use Rattle.cell_turn.specs.declared.worker.Worker.TheVariants.{Idle}
+use Rattle.cell_turn.specs.declared.worker.Holding.{Holding}
+use Rattle.cell_turn.specs.declared.worker.Holding.TheVariants.{Idle}
 use Rattle.cell_turn.specs.declared.turn.Stepped.{Stepped}
 use Rattle.cell_turn.specs.declared.turn.Stepped.TheVariants.{Rests, Moves, Fails}
 use Rattle.cell_turn.specs.declared.stop.RunStop.{RunStop}
@@ -26,7 +26,7 @@ pub machine_may : (desk : DeskMeaning) (m : Parts) (w : ℕ) → IsOfDesk desk m
 machine_may desk m w now = worker_may now.0 m.part m.hall m.workers w desk now.1 now.2
 
 -- what was taken out and put back
-pub put_back_so : (old out back : List Worker) (w : ℕ) (next : Worker) → out ≡ set old w Idle → back ≡ set out w next → back ≡ set old w next
+pub put_back_so : (old out back : List Holding) (w : ℕ) (next : Holding) → out ≡ set old w Idle → back ≡ set out w next → back ≡ set old w next
 put_back_so old out back w next taken put = put ∙ ap (λ xs. set xs w next) taken ∙ set-set old w Idle next
 
 -- only the journal's failing stops a worker
@@ -35,7 +35,7 @@ only_faults Rests result tells = subst (λ r. IfErr r (λ stop. stop ≡ Journal
 only_faults Moves result tells = subst (λ r. IfErr r (λ stop. stop ≡ JournalFault)) (sym tells) tt
 only_faults Fails result tells = subst (λ r. IfErr r (λ stop. stop ≡ JournalFault)) (sym tells) refl
 
-module _ (desk : DeskMeaning) (w : ℕ) (part : LoopPart) (hall new_hall : ServedHall) (workers : List Worker) (next : Worker) (stepped : Stepped) (there : w < length workers)
+module _ (desk : DeskMeaning) (w : ℕ) (part : LoopPart) (hall new_hall : ServedHall) (workers : List Holding) (next : Holding) (stepped : Stepped) (there : w < length workers)
     (turned : IsWorkerTurn desk hall new_hall (get_or workers w Idle) next stepped)
     (reaches : (s : CellSetting) (v : ℕ) (one other : ServedPlay) → IsReached s one.cell → ComesTo (one_of_worker s v) one other → IsReachedFrom s one.cell other.cell) where
   -- the machine before the step, and behind it

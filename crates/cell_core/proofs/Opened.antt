@@ -27,8 +27,8 @@ use Rattle.cell_loop.specs.Feeds.{unread_in, finish_in, rules_in, HasSomePieces,
 use Rattle.cell_loop.specs.LoopTied.{StandTells, IsLoopTied, HasRoomToClose, IsFreshPart}
 use Rattle.cell_loop.specs.LoopMoves.{AreAllOver}
 use Rattle.cell_loop.proofs.Starting.{starts_tied}
-use Rattle.cell_turn.specs.declared.worker.Worker.{Worker}
-use Rattle.cell_turn.specs.declared.worker.Worker.TheVariants.{Idle}
+use Rattle.cell_turn.specs.declared.worker.Holding.{Holding}
+use Rattle.cell_turn.specs.declared.worker.Holding.TheVariants.{Idle}
 use Rattle.cell_turn.specs.HallTied.{worker_in, KnowsItsCall, AreWorkersTied}
 use Rattle.cell_model.specs.Settings.{CellSetting, ServedCell, ServedPlay, HallInCell, desk_of_setting}
 use Rattle.cell_model.specs.Moving.{ComesTo, memory_of, all_lines}
@@ -170,7 +170,7 @@ idle_count : (n : ℕ) → length (replicate n Idle) ≡ n
 idle_count zero = refl
 idle_count (suc n) = ap suc (idle_count n)
 
-module _ (s : CellSetting) (script : ScriptPlan) (part : LoopPart) (workers : List Worker) (told : Option (List CallEntry)) (count : ℕ) (sound : IsSoundPlan script)
+module _ (s : CellSetting) (script : ScriptPlan) (part : LoopPart) (workers : List Holding) (told : Option (List CallEntry)) (count : ℕ) (sound : IsSoundPlan script)
     (opened : IsOpenedPart s.budget script part) (first_workers : AreFirstWorkers s.workers workers) (empty : MayHave told []) (max : s.desk.max_frame ≤ 268435456) where
   abbrev pub opened_parts : Parts
   opened_parts = record { part = part; hall = opened_hall s.opening told count; workers = workers }

@@ -1,5 +1,5 @@
 -- The rounds and the ends of the loops over moves: what a connection does, each connection, a worker, each worker, the outcomes, passes.
-use Rattle.std.proofs.Common.{◌≡◌, ℕ, suc, ◌+◌, ◌-◌, ◌<◌, ◌≤◌, Bool, true, false, ◌||◌, Result, Ok, Err, length, refl, sym, ap, ◌∙◌, subst, arith}
+use Rattle.std.proofs.Common.{◌≡◌, ℕ, zero, suc, ◌+◌, ◌-◌, ◌<◌, ◌≤◌, Bool, true, false, ◌||◌, Result, Ok, Err, length, slice_get, refl, sym, ap, ◌∙◌, subst, arith}
 use Rattle.std.specs.Prelude.{OnErr, IfErr}
 use Rattle.std.specs.Result.{IsErrAnd}
 use Rattle.std.proofs.lemmas.Result.{err_from_is_err_and}
@@ -18,6 +18,9 @@ use Rattle.cell_loop.specs.LoopMoves.{AnySetting, HasLongest}
 use Rattle.cell_core.specs.Parts.{Parts}
 use Rattle.cell_core.specs.Work.{steps_left}
 use Rattle.cell_core.specs.Machines.{ArePlayed, AreUnderWay, SomeMachine, IsMachine, IsOfDesk, MachineMoves, DeskMoves, StaysPlayed, MoveKeeps, FailsAt, LeavesLess, MovesSo, IsDone, EndsEarly, StopsBy, StopsSo, ComesThrough, HasDesk, HasCrew}
+use Rattle.cell_core.specs.MachineSteps.{HasNoTurn}
+use Rattle.cell_core.proofs.Gathering.{ConnReaches}
+use Rattle.cell_core.proofs.ConnMoves.{none_steps}
 use Rattle.cell_core.proofs.Rounds.{IsGoing, IsGoingOn, moves_both, less_both, goes_further, done_as, reaches_so, begins, goes_on, goes_last, goes_still, goes_out, comes_last, breaks_off, so_far, stops_behind, under_way_on, kept_both, one_done, none_done, stays_early, or_some}
 
 -- ---- what is said where a call breaks off
@@ -125,6 +128,42 @@ conns_round max n c old mid new moved more both below g d e =
     subst (λ b. IsGoing (HasLongest max) (λ s. first_of_conns s n) (λ s. all_of_conns s (count_up (c + 1) (n - (c + 1)))) old b new) (sym e)
     (goes_on (HasLongest max) (λ s. first_of_conns s n) (λ s. all_of_conns s (count_up c (n - c))) (λ s. all_of_conn s c) (λ s. all_of_conns s (count_up (c + 1) (n - (c + 1))))
     old mid new moved more (λ s x y z w tied some one two. conns_step s n c below x y z one two) g d)
+
+or_none : (b : Bool) → b ≡ (b || false)
+or_none true = refl
+or_none false = refl
+
+-- a connection that has no turn has nothing to do
+still_done : (max c : ℕ) (m : Parts) → ConnReaches → IsMachine max m → HasNoTurn (slice_get m.part.stands.items c) → IsDone (HasLongest max) (λ s. all_of_conn s c) m false m
+still_done max c m reaches now still =
+    let steps = none_steps {E = Unit {0}} max c m reaches now still in
+    conn_last max c m m m false false (begins (HasLongest max) (λ s. all_of_conn s c) m now.2.room) steps.kept steps.later steps.moved steps.less refl
+
+-- those that have none are passed over
+pub conns_over : (max n : ℕ) (old mid : Parts) (moved : Bool) → ConnReaches → IsMachine max mid → (c d : ℕ) → c + d ≤ n
+    → ((k : ℕ) → c ≤ k → k < c + d → HasNoTurn (slice_get mid.part.stands.items k))
+    → IsGoing (HasLongest max) (λ s. first_of_conns s n) (λ s. all_of_conns s (count_up c (n - c))) old moved mid
+    → IsGoing (HasLongest max) (λ s. first_of_conns s n) (λ s. all_of_conns s (count_up (c + d) (n - (c + d)))) old moved mid
+conns_over max n old mid moved reaches now c zero fits still g =
+    let same : c ≡ c + 0 = omega arith in
+    subst (λ k. IsGoing (HasLongest max) (λ s. first_of_conns s n) (λ s. all_of_conns s (count_up k (n - k))) old moved mid) same g
+conns_over max n old mid moved reaches now c (suc d) fits still g =
+    let same : (c + 1) + d ≡ c + suc d = omega arith in
+    let below : c < n = omega arith in
+    let here : HasNoTurn (slice_get mid.part.stands.items c) = still c (omega arith) (omega arith) in
+    let next = conns_round max n c old mid mid moved false moved below g (still_done max c mid reaches now here) (or_none moved) in
+    subst (λ k. IsGoing (HasLongest max) (λ s. first_of_conns s n) (λ s. all_of_conns s (count_up k (n - k))) old moved mid) same
+    (conns_over max n old mid moved reaches now (c + 1) d (omega arith) (λ k from below. still k (omega arith) (omega arith)) next)
+
+-- up to the next that may have one
+pub conns_to : (max n : ℕ) (old mid : Parts) (moved : Bool) → ConnReaches → IsMachine max mid → (c next : ℕ) → c ≤ next → next ≤ n
+    → ((k : ℕ) → c ≤ k → k < next → HasNoTurn (slice_get mid.part.stands.items k))
+    → IsGoing (HasLongest max) (λ s. first_of_conns s n) (λ s. all_of_conns s (count_up c (n - c))) old moved mid
+    → IsGoing (HasLongest max) (λ s. first_of_conns s n) (λ s. all_of_conns s (count_up next (n - next))) old moved mid
+conns_to max n old mid moved reaches now c next from within still g =
+    let same : c + (next - c) ≡ next = omega arith in
+    subst (λ k. IsGoing (HasLongest max) (λ s. first_of_conns s n) (λ s. all_of_conns s (count_up k (n - k))) old moved mid) same
+    (conns_over max n old mid moved reaches now c (next - c) (omega arith) (λ k l below. still k l (omega arith)) g)
 
 pub conns_last : (max n c : ℕ) (old new : Parts) (moved : Bool) → n ≤ c → IsGoing (HasLongest max) (λ s. first_of_conns s n) (λ s. all_of_conns s (count_up c (n - c))) old moved new
     → IsDone (HasLongest max) (λ s. first_of_conns s n) old moved new

@@ -21,8 +21,8 @@ use Rattle.cell_loop.specs.declared.loop_part.Stand.{Stand}
 use Rattle.cell_loop.specs.declared.loop_part.Stand.TheVariants.{Lean, Framed, Whole, Asked, Over}
 use Rattle.cell_loop.specs.Feeds.{unread_in, rules_in}
 use Rattle.cell_loop.specs.LoopTied.{PhaseTells, IsLean, IsFraming, StandTells}
-use Rattle.cell_turn.specs.declared.worker.Worker.{Worker}
-use Rattle.cell_turn.specs.declared.worker.Worker.TheVariants.{Idle, Holds, Answered, Unanswered}
+use Rattle.cell_turn.specs.declared.worker.Holding.{Holding}
+use Rattle.cell_turn.specs.declared.worker.Holding.TheVariants.{Idle, Holds, Answered, Unanswered}
 use Rattle.cell_turn.specs.HallTied.{plain_worker}
 use Rattle.cell_turn.proofs.HallTying.{same_jobs, same_outcomes}
 use Rattle.cell_core.specs.Parts.{Parts}
@@ -186,7 +186,7 @@ summed_both a b p q r t (suc n) each =
     omega arith
 
 -- a worker
-worker_weighs : (worker : Worker) → steps_of_worker worker ≡ worker_weight (plain_worker worker)
+worker_weighs : (worker : Holding) → steps_of_worker worker ≡ worker_weight (plain_worker worker)
 worker_weighs Idle = refl
 worker_weighs (Holds job) = refl
 worker_weighs (Answered job given) = refl

@@ -15,8 +15,8 @@ use Rattle.rehearsal_model.specs.Playing.{InputFinish}
 use Rattle.hall_core.specs.Meant.{ServedHall}
 use Rattle.cell_loop.specs.declared.loop_part.Stand.TheVariants.{Lean}
 use Rattle.cell_loop.specs.declared.loop_part.LoopPart.{LoopPart}
-use Rattle.cell_turn.specs.declared.worker.Worker.{Worker}
-use Rattle.cell_turn.specs.declared.worker.Worker.TheVariants.{Idle}
+use Rattle.cell_turn.specs.declared.worker.Holding.{Holding}
+use Rattle.cell_turn.specs.declared.worker.Holding.TheVariants.{Idle}
 use Rattle.cell_turn.specs.declared.turn.Stepped.{Stepped}
 use Rattle.cell_turn.specs.declared.turn.Stepped.TheVariants.{Rests, Moves, Fails}
 use Rattle.cell_model.specs.Settings.{CellSetting, ServedCell, ServedPlay, PlainWorker, desk_of_setting}
@@ -49,19 +49,19 @@ loop_same s part old new tied loop unread finish rules admitted =
     }
 
 -- each worker knows its call, also where one is another
-known_set : (desk : DeskMeaning) (workers : List Worker) (w : ℕ) (next : Worker) → AllByRecursion (KnowsItsCall desk) workers → KnowsItsCall desk next
+known_set : (desk : DeskMeaning) (workers : List Holding) (w : ℕ) (next : Holding) → AllByRecursion (KnowsItsCall desk) workers → KnowsItsCall desk next
     → AllByRecursion (KnowsItsCall desk) (set workers w next)
 known_set desk [] w next all one = tt
 known_set desk (worker ∷ workers) zero next all one = (one, all.1)
 known_set desk (worker ∷ workers) (suc w) next all one = (all.0, known_set desk workers w next all.1 one)
 
-known_at : (desk : DeskMeaning) (workers : List Worker) (w : ℕ) → AllByRecursion (KnowsItsCall desk) workers → KnowsItsCall desk (get_or workers w Idle)
+known_at : (desk : DeskMeaning) (workers : List Holding) (w : ℕ) → AllByRecursion (KnowsItsCall desk) workers → KnowsItsCall desk (get_or workers w Idle)
 known_at desk [] w all = tt
 known_at desk (worker ∷ workers) zero all = all.0
 known_at desk (worker ∷ workers) (suc w) all = known_at desk workers w all.1
 
 -- workers stay tied where one is another on both sides
-pub tied_set : (desk : DeskMeaning) (workers : List Worker) (states : ℕ → PlainWorker) (w : ℕ) (next : Worker) → w < length workers → AreWorkersTied desk workers states → KnowsItsCall desk next
+pub tied_set : (desk : DeskMeaning) (workers : List Holding) (states : ℕ → PlainWorker) (w : ℕ) (next : Holding) → w < length workers → AreWorkersTied desk workers states → KnowsItsCall desk next
     → AreWorkersTied desk (set workers w next) (with_worker states w (plain_worker next))
 tied_set desk workers states w next there tied known =
     record { each = λ x. go x (cases_eq x w); known = known_set desk workers w next tied.known known }
@@ -73,7 +73,7 @@ tied_set desk workers states w next there tied known =
     go x (inr n) = put_other states w (plain_worker next) x n ∙ tied.each x ∙ sym (ap plain_worker (get_or-set_other workers w x next Idle n))
 
 -- workers stay tied where one that stands for the same is put back
-tied_still : (desk : DeskMeaning) (workers : List Worker) (states : ℕ → PlainWorker) (w : ℕ) (next : Worker) → w < length workers → AreWorkersTied desk workers states → KnowsItsCall desk next
+tied_still : (desk : DeskMeaning) (workers : List Holding) (states : ℕ → PlainWorker) (w : ℕ) (next : Holding) → w < length workers → AreWorkersTied desk workers states → KnowsItsCall desk next
     → states w ≡ plain_worker next → AreWorkersTied desk (set workers w next) states
 tied_still desk workers states w next there tied known same =
     record { each = λ x. go x (cases_eq x w); known = known_set desk workers w next tied.known known }
@@ -84,7 +84,7 @@ tied_still desk workers states w next there tied known same =
     go x (inr n) = tied.each x ∙ sym (ap plain_worker (get_or-set_other workers w x next Idle n))
 
 -- a worker of a machine may make a step
-pub worker_may : (s : CellSetting) (part : LoopPart) (hall : ServedHall) (workers : List Worker) (w : ℕ) (desk : DeskMeaning) → s.desk ≡ desk → IsUnderWay s part hall workers
+pub worker_may : (s : CellSetting) (part : LoopPart) (hall : ServedHall) (workers : List Holding) (w : ℕ) (desk : DeskMeaning) → s.desk ≡ desk → IsUnderWay s part hall workers
     → MayTurn desk hall (get_or workers w Idle)
 worker_may s part hall workers w desk same now =
     record {
@@ -101,12 +101,12 @@ worker_may s part hall workers w desk same now =
     }
 
 -- what a worker's step makes of a machine
-abbrev pub WorkMakes : CellSetting → ℕ → ServedPlay → LoopPart → ServedHall → ServedHall → List Worker → Worker → Stepped → Type 0
+abbrev pub WorkMakes : CellSetting → ℕ → ServedPlay → LoopPart → ServedHall → ServedHall → List Holding → Holding → Stepped → Type 0
 WorkMakes s w play part old new workers next Rests = HasNoMove (one_of_worker s w) play × IsPlayed s part new (set workers w next) play
 WorkMakes s w play part old new workers next Moves = GoesTo (one_of_worker s w) (IsPlayed s part new (set workers w next)) play
 WorkMakes s w play part old new workers next Fails = (cell : ServedCell) × IsRunTo s cell × (cell.loop ≡ play.cell.loop) × IsHallTorn old new cell.hall
 
-module _ (s : CellSetting) (w : ℕ) (play : ServedPlay) (part : LoopPart) (old new : ServedHall) (workers : List Worker) (next : Worker) (tied : IsPlayed s part old workers play)
+module _ (s : CellSetting) (w : ℕ) (play : ServedPlay) (part : LoopPart) (old new : ServedHall) (workers : List Holding) (next : Holding) (tied : IsPlayed s part old workers play)
     (there : w < length workers) where
   makes_so : ((now : ServedPlay) → IsReached s play.cell → ComesTo (one_of_worker s w) play now → IsReachedFrom s play.cell now.cell) → (stepped : Stepped) → TurnMakes s w play old new next stepped → WorkMakes s w play part old new workers next stepped
   makes_so reaches Rests t = (

@@ -1,8 +1,17 @@
 -- What a connection's move of a machine comes to, and what a collect does, all at once.
-use Rattle.std.specs.Prelude.{ℕ, ◌≤◌, Bool, Result, IfOk, OnErr}
+use Rattle.std.specs.Prelude.{ℕ, ◌≤◌, Bool, Option, None, Some, Result, IfOk, OnErr}
+use Rattle.cell_loop.specs.declared.loop_part.Stand.{Stand}
+use Rattle.cell_loop.specs.declared.loop_part.Stand.TheVariants.{Asked, Over}
 use Rattle.cell_model.specs.Moving.{one_of_conn, one_of_outcome}
 use Rattle.cell_core.specs.Parts.{Parts}
 use Rattle.cell_core.specs.Machines.{IsMachine, MachineMoves, StaysPlayed, MoveKeeps, LeavesLess}
+
+-- a connection that isn't there, has ended, or awaits an outcome
+abbrev pub HasNoTurn : Option Stand → Type 0
+HasNoTurn None = Unit {0}
+HasNoTurn (Some Asked) = Unit {0}
+HasNoTurn (Some (Over cause)) = Unit {0}
+HasNoTurn (Some _) = ⊥
 
 -- It has moved or it hasn't, as each play that the machine was tied to; and it is between two moves, with less to do where it has moved.
 pub record IsConnStep {E : Type 0} (max c : ℕ) (old new : Parts) (result : Result Bool E) : Type 0 where

@@ -2,14 +2,14 @@
 use Rattle.std.specs.Prelude.{List}
 use Rattle.hall_core.specs.Meant.{ServedHall}
 use Rattle.cell_loop.specs.declared.loop_part.LoopPart.{LoopPart}
-use Rattle.cell_turn.specs.declared.worker.Worker.{Worker}
+use Rattle.cell_turn.specs.declared.worker.Holding.{Holding}
 use Rattle.cell_core.specs.declared.machine.Machine.{Machine}
 
 -- the loop's part, the hall as it is seen, and what each worker holds
 pub record Parts : Type 0 where
   pub part : LoopPart
   pub hall : ServedHall
-  pub workers : List Worker
+  pub workers : List Holding
 
 -- those of a machine in memory
 abbrev pub parts_of : {H J : Type 0} → Machine H J → Parts

@@ -1,6 +1,7 @@
 -- What a rehearsal in memory comes to.
-use Rattle.std.specs.Prelude.{◌≡◌, ◌≢◌, ℕ, zero, suc, Option, List, [], ◌∷◌, replicate, slice_get, Some}
+use Rattle.std.specs.Prelude.{◌≡◌, ◌≢◌, ℕ, zero, suc, Option, List, [], ◌∷◌, ◌++◌, replicate, slice_get, slice_index_or, slice_set, Some}
 use Rattle.outside.specs.declared.marks.Mark.{Mark}
+use Rattle.outside.specs.declared.marks.Mark.TheVariants.{Wrote}
 use Rattle.host_model.specs.Marks.{marks_of, output}
 use Rattle.host_model.specs.declared.cause.EndCause.{EndCause}
 use Rattle.host_model.specs.declared.cause.EndCause.TheVariants.{Stopped, NoMemory}
@@ -15,8 +16,8 @@ use Rattle.rehearsal_model.specs.Rehearsing.{IsRehearsalOf, workers_among}
 use Rattle.rehearsal_model.specs.Fed.{IsFedBy}
 use Rattle.rehearsal_model.specs.Showing.{IsRehearsedTo}
 use Rattle.cell_loop.specs.declared.loop_part.LoopPart.{LoopPart}
-use Rattle.cell_turn.specs.declared.worker.Worker.{Worker}
-use Rattle.cell_turn.specs.declared.worker.Worker.TheVariants.{Idle}
+use Rattle.cell_turn.specs.declared.worker.Holding.{Holding}
+use Rattle.cell_turn.specs.declared.worker.Holding.TheVariants.{Idle}
 use Rattle.cell_loop.specs.Feeds.{AreFreshFeeds}
 use Rattle.cell_model.specs.Settings.{CellSetting, ServedCell, desk_of_setting}
 
@@ -75,7 +76,7 @@ pub record IsOpenedPart (budget : ℕ) (script : ScriptPlan) (part : LoopPart) :
   pub feeds : AreFreshFeeds script.rules part.feeds.items
 
 -- as many workers as move, each without a job
-abbrev pub AreFirstWorkers : ℕ → List Worker → Type 0
+abbrev pub AreFirstWorkers : ℕ → List Holding → Type 0
 AreFirstWorkers workers all = all ≡ replicate (workers_among workers) Idle
 
 -- what the tape says was written to connections from number c on, of which there are so many
@@ -86,3 +87,8 @@ written_from tape c (suc n) = output (marks_of c tape) ∷ written_from tape (su
 -- what it says was written to each of so many
 abbrev pub AreWritten : ℕ → List Mark → List (List ℕ) → Type 0
 AreWritten count tape outs = outs ≡ written_from tape 0 count
+
+-- what was written to each behind one mark more
+abbrev pub rows_behind : List (List ℕ) → Mark → List (List ℕ)
+rows_behind rows (Wrote c bytes) = slice_set rows c (slice_index_or rows c [] ++ bytes)
+rows_behind rows _ = rows

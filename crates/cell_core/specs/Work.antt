@@ -8,8 +8,8 @@ use Rattle.hall_core.specs.Meant.{ServedHall}
 use Rattle.cell_loop.specs.declared.loop_part.Stand.{Stand}
 use Rattle.cell_loop.specs.declared.loop_part.Stand.TheVariants.{Lean, Framed, Whole, Asked, Over}
 use Rattle.cell_loop.specs.declared.loop_part.LoopPart.{LoopPart}
-use Rattle.cell_turn.specs.declared.worker.Worker.{Worker}
-use Rattle.cell_turn.specs.declared.worker.Worker.TheVariants.{Idle, Holds, Answered, Unanswered}
+use Rattle.cell_turn.specs.declared.worker.Holding.{Holding}
+use Rattle.cell_turn.specs.declared.worker.Holding.TheVariants.{Idle, Holds, Answered, Unanswered}
 use Rattle.cell_loop.specs.Feeds.{unread_in, rules_in}
 
 -- two, where something is to be written
@@ -33,14 +33,14 @@ steps_of_conn part c =
     + 2 * length (rules_in part.feeds.items c)
 
 -- the steps of a worker's job, up to the collect of its outcome
-abbrev pub steps_of_worker : Worker → ℕ
+abbrev pub steps_of_worker : Holding → ℕ
 steps_of_worker Idle = 0
 steps_of_worker (Holds job) = 6
 steps_of_worker (Answered job given) = 5
 steps_of_worker (Unanswered job) = 5
 
 -- the steps of workers
-abbrev pub steps_of_workers : List Worker → ℕ
+abbrev pub steps_of_workers : List Holding → ℕ
 steps_of_workers workers = summed (λ w. steps_of_worker (slice_index_or workers w Idle)) (length workers)
 
 -- the steps of a hall: seven a job, and four an outcome
@@ -48,5 +48,5 @@ abbrev pub steps_of_hall : ServedHall → ℕ
 steps_of_hall hall = 7 * length hall.jobs + 4 * length hall.outcomes
 
 -- all that is to be done
-abbrev pub steps_left : LoopPart → ServedHall → List Worker → ℕ
+abbrev pub steps_left : LoopPart → ServedHall → List Holding → ℕ
 steps_left part hall workers = summed (λ c. steps_of_conn part c) (length part.stands.items) + steps_of_hall hall + steps_of_workers workers

@@ -15,7 +15,7 @@ use call_rules::{Desk, Handler, Journal, Key};
 use cell_loop::{LoopPart, Stand};
 use cell_model::laws::moves_are_reached;
 use cell_turn::turn::turn;
-use cell_turn::{RunStop, Turned, Worker, put_back, take_out, told};
+use cell_turn::{Holding, RunStop, Turned, put_back, take_out, told};
 use hall_core::{Hall, HallOp, HallReply};
 use outside::{Bytes, Settled};
 use seat_booth::Object;
@@ -29,7 +29,7 @@ pub(crate) struct Machine<'a, H: Handler, J: Journal> {
     /// The hall, which is open, and whose journal hasn't failed.
     pub hall: Hall<H, J>,
     /// What each worker holds, one at least.
-    pub workers: Vec<Worker>,
+    pub workers: Vec<Holding>,
 }
 
 impl<'a, H: Handler, J: Journal> Machine<'a, H, J> {
@@ -62,7 +62,7 @@ impl<'a, H: Handler, J: Journal> Machine<'a, H, J> {
                 self.submit(c);
                 Ok(true)
             }
-            Some(Stand::Framed) => self.part.read(alloc, c, max_frame),
+            Some(Stand::Framed) => self.part.read(c, max_frame),
             Some(Stand::Lean) => self.part.lean_move(alloc, c, max_frame),
             Some(Stand::Asked) => Ok(false),
             Some(Stand::Over(_)) => Ok(false),

@@ -1,9 +1,11 @@
 //! What was written to each connection of a run.
 
 ghost use Rattle.std.specs.Prelude.{◌≡◌, ◌++◌, [], map, replicate, slice_index_or, slice_set, IfOk, OnOk};
-ghost use Rattle.cell_core.specs.Rehearsed.{AreWritten};
+ghost use Rattle.run_tape.specs.Marks.{lent_mark};
+ghost use Rattle.cell_core.specs.Rehearsed.{AreWritten, rows_behind};
 
-use outside::{Bytes, Mark};
+use outside::Bytes;
+use run_tape::{MarkAt, TapeLog};
 use std::alloc::{AllocError, Global};
 use std::marker::Model;
 
@@ -39,14 +41,13 @@ impl Outs {
 }
 
 /// The bytes that the tape says were written to each of so many connections.
-pub(crate) fn written(alloc: Global, tape: &[Mark], count: usize) -> Result<Outs, AllocError>
-    ensures { IfOk result (λ outs. AreWritten count tape.now outs) }
+pub(crate) fn written(alloc: Global, tape: &TapeLog, count: usize) -> Result<Outs, AllocError>
+    ensures { IfOk result (λ outs. AreWritten count tape.now.items outs) }
 {
     let mut all = rows(alloc, count)?;
-    for mark in tape {
-        if let Mark::Wrote(c, bytes) = mark {
-            add(&mut all, *c as usize, bytes.as_slice())?;
-        }
+    let mut marks = tape.marks();
+    'walk: while let Some(mark) = marks.next() {
+        add_mark(&mut all, mark)?;
     }
     let mut items = Vec::with_capacity(alloc, count)?;
     for row in all {
@@ -64,6 +65,16 @@ fn rows(alloc: Global, count: usize) -> Result<Vec<Vec<u8>>, AllocError>
         all.push(Vec::new(alloc))?;
     }
     Ok(all)
+}
+
+/// What a mark says was written, where there is a row for it.
+fn add_mark(all: &mut Vec<Vec<u8>>, mark: MarkAt<'_>) -> Result<(), AllocError>
+    ensures { OnOk result (map (λ row. row.items) all.new.items ≡ rows_behind (map (λ row. row.items) all.old.items) (lent_mark mark.entry)) }
+{
+    match mark {
+        MarkAt::Wrote(c, bytes) => add(all, c as usize, bytes),
+        _ => Ok(()),
+    }
 }
 
 /// Bytes more in a row, where there is one.

@@ -1,6 +1,6 @@
 //! The loops over moves: a pass, a run that is drained, and the lines of a script.
 
-ghost use Rattle.std.specs.Prelude.{◌≡◌, ◌<◌, ◌||◌, length, map, IfOk, IfErr, OnOk, OnErr};
+ghost use Rattle.std.specs.Prelude.{◌≡◌, ℕ, ◌<◌, ◌≤◌, ◌||◌, IsTrue, length, map, slice_get, IfOk, IfErr, OnOk, OnErr};
 ghost use Rattle.std.specs.List.{AllByRecursion};
 ghost use Rattle.rehearsal_model.specs.ScriptLines.{piece, input_end, input_fault, resting, turn_of_conn, turn_of_worker, turn_of_outcome, opening};
 ghost use Rattle.rehearsal_model.specs.Rehearsing.{is_idle};
@@ -10,13 +10,14 @@ ghost use Rattle.cell_core.specs.Parts.{parts_of};
 ghost use Rattle.cell_model.specs.Moving.{all_of_conn, first_of_conns, all_of_worker, first_of_workers, all_of_outcomes};
 ghost use Rattle.cell_model.specs.Moving.{one_pass, all_passes, one_line, all_lines};
 ghost use Rattle.cell_loop.specs.LoopMoves.{AnySetting, HasLongest};
+ghost use Rattle.cell_core.specs.MachineSteps.{HasNoTurn};
 ghost use Rattle.cell_core.specs.Machines.{SomeMachine, IsMachine, IsOfDesk, HasDesk, HasCrew, IsDone, EndsEarly, StopsSo, ComesThrough, IsLineFor};
 
 use crate::machine::Machine;
 use call_rules::{Desk, Handler, Journal};
-use cell_loop::Finish;
+use cell_loop::{Finish, Stand};
 use cell_model::laws::moves_are_reached;
-use cell_turn::{RunStop, Worker};
+use cell_turn::{Holding, RunStop};
 use script_links::ScriptLine;
 use std::alloc::{AllocError, Global};
 
@@ -28,11 +29,37 @@ fn either(one: bool, other: bool) -> bool
 }
 
 /// Whether a worker holds no job.
-fn rests(workers: &[Worker], w: usize) -> bool
+fn rests(workers: &[Holding], w: usize) -> bool
     requires { w < length workers.now }
     ensures { result ≡ is_idle (worker_in workers.now w) }
 {
-    matches!(workers[w], Worker::Idle)
+    matches!(workers[w], Holding::Idle)
+}
+
+/// Whether a connection has no move, as how it stands tells: it awaits an outcome, or has ended.
+fn has_no_turn(stands: &[Stand], c: u32) -> bool
+    ensures { IsTrue result → HasNoTurn (slice_get stands.now c) }
+{
+    match stands.get(c as usize) {
+        Some(Stand::Asked) => true,
+        Some(Stand::Over(_)) => true,
+        Some(_) => false,
+        None => true,
+    }
+}
+
+/// The first connection from this one on that may have a move, or `count`, where there is none below it.
+fn next_turn(stands: &[Stand], from: u32, count: u32) -> u32
+    requires { from ≤ count }
+    ensures from { from ≤ result }
+    ensures within { result ≤ count }
+    ensures still { (k : ℕ) → from ≤ k → k < result → HasNoTurn (slice_get stands.now k) }
+{
+    let mut c = from;
+    'still: while c < count && has_no_turn(stands, c) {
+        c += 1;
+    }
+    c
 }
 
 impl<'a, H: Handler, J: Journal> Machine<'a, H, J> {
@@ -49,7 +76,7 @@ impl<'a, H: Handler, J: Journal> Machine<'a, H, J> {
         Ok(moved)
     }
 
-    /// Each connection does.
+    /// Each connection does; one that has no move, as how it stands tells, is passed over.
     fn all_read(&mut self, alloc: Global, max_frame: u32) -> Result<bool, AllocError>
         requires under_way { IsMachine max_frame (parts_of self.old) }
         ensures done { IfOk result (λ moved. IsDone (HasLongest max_frame) (λ s. first_of_conns s (length self.old.part.stands.items))
@@ -59,10 +86,13 @@ impl<'a, H: Handler, J: Journal> Machine<'a, H, J> {
         let Ok(count) = u32::try_from(self.part.stands.len()) else {
             return Err(AllocError);
         };
+        moves_are_reached();
         let mut moved = false;
-        'conns: for c in 0..count {
+        let mut c = next_turn(self.part.stands.as_slice(), 0, count);
+        'conns: while c < count {
             let read = self.read_through(alloc, c, max_frame)?;
             moved = either(moved, read);
+            c = next_turn(self.part.stands.as_slice(), c + 1, count);
         }
         Ok(moved)
     }

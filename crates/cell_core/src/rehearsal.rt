@@ -19,10 +19,10 @@ use crate::machine::Machine;
 use crate::outs::{Outs, written};
 use call_rules::{Desk, Handler, Journal};
 use cell_loop::LoopPart;
-use cell_turn::{RunStop, Worker};
+use cell_turn::{Holding, RunStop};
 use conn_table::{Ends, Limits, Outcome};
 use hall_core::Hall;
-use outside::Tape;
+use run_tape::RunTape;
 use script_links::Script;
 use script_links::laws::{kept_scripts_let_all_end, scripts_are_sound};
 use std::alloc::{AllocError, Global};
@@ -31,7 +31,7 @@ use std::alloc::{AllocError, Global};
 #[derive(Drop)]
 pub struct Rehearsed<H: Handler, J: Journal> {
     /// What happened on connections.
-    pub tape: Tape,
+    pub tape: RunTape,
     /// What was written to each connection, where the run came to its end.
     pub outs: Outs,
     /// By what each connection ended.
@@ -110,14 +110,14 @@ fn opened(
     script: &Script,
     workers: u32,
     read_budget: u64,
-) -> Result<(LoopPart<'_>, Vec<Worker>), AllocError>
+) -> Result<(LoopPart<'_>, Vec<Holding>), AllocError>
     ensures part { IfOk result (λ r. IsOpenedPart read_budget script.now r.0) }
     ensures workers { IfOk result (λ r. AreFirstWorkers workers r.1.items) }
 {
     let part = LoopPart::new(alloc, read_budget, script.rules().as_slice())?;
     let mut all = Vec::new(alloc);
     for _ in 0..workers.max(1) {
-        all.push(Worker::Idle)?;
+        all.push(Holding::Idle)?;
     }
     Ok((part, all))
 }
@@ -177,13 +177,13 @@ fn finished<'a, H: Handler, J: Journal>(
     } = machine;
     let (handlers, journal) = hall.into_parts();
     part.tell_ends();
-    let (outs, outcome) = match written(alloc, part.tape.as_slice(), part.stands.len()) {
+    let (outs, outcome) = match written(alloc, &part.tape, part.stands.len()) {
         Ok(outs) => (outs, outcome),
         Err(_) => (Outs::new(Vec::new(alloc)), without_memory(outcome)),
     };
     let LoopPart { tape, ends, .. } = part;
     Rehearsed {
-        tape: Tape::new(tape),
+        tape: tape.finish(),
         outs,
         ends: Ends::new(ends),
         handlers,
@@ -210,7 +210,7 @@ fn nothing<H: Handler, J: Journal>(alloc: Global, handlers: Vec<H>, journal: J) 
     ensures outcome { result.outcome ≡ NoMemory }
 {
     Rehearsed {
-        tape: Tape::new(Vec::new(alloc)),
+        tape: RunTape::empty(alloc),
         outs: Outs::new(Vec::new(alloc)),
         ends: Ends::new(Vec::new(alloc)),
         handlers,

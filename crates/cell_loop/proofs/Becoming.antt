@@ -4,6 +4,7 @@ use Rattle.std.specs.Vec.{vec_capacity}
 use Rattle.std.specs.List.{AllByRecursion}
 use Rattle.std.proofs.lemmas.Bool.{cases_eq}
 use Rattle.outside.specs.declared.marks.Mark.{Mark}
+use Rattle.run_tape.specs.Rows.{TapeView}
 use Rattle.host_model.specs.declared.cause.EndCause.{EndCause}
 use Rattle.conn_table.specs.Slots.{slot_in}
 use Rattle.conn_table.specs.Table.{TableView}
@@ -148,7 +149,7 @@ module _ (s : CellSetting) (c : ℕ) (old new : LoopPart) (play : ServedPlay) (t
       → AllByRecursion BoundsSome rules → next.cell.loop ≡ play.cell.loop → next.admitted ≡ play.admitted → ((x : ℕ) → next.unread x ≡ at_number play.unread c unread x)
       → ((x : ℕ) → next.finish x ≡ at_number play.finish c finish x) → ((x : ℕ) → next.rules x ≡ at_number play.rules c rules x) → IsLoopTied s new next
   fed_so unread finish rules next has bounds loop admitted a b e =
-      fed_only s old new play next t table (ap (λ (v : Vec Mark Global). v.items) tape) (ap (λ (v : Vec Stand Global). v.items) stands) has.count loop admitted
+      fed_only s old new play next t table (ap (λ (v : TapeView). v.items) tape) (ap (λ (v : Vec Stand Global). v.items) stands) has.count loop admitted
       (feeds_as new.feeds.items (at_number play.unread c unread) next.unread (at_number play.finish c finish) next.finish (at_number play.rules c rules) next.rules a b e
       (fed_put c unread finish rules old.feeds.items new.feeds.items play.unread play.finish play.rules (feeds_of s old play t) has bounds))
 
@@ -192,12 +193,12 @@ more_room_tied s old new play more t =
 
 pub more_room : (old new : LoopPart) → HasMoreRoom old new → HasRoomToClose old → HasRoomToClose new
 more_room old new more room =
-    let a : length old.tape.items + 2 * length old.table.slots ≤ vec_capacity old.tape = room.for_marks in
+    let a : length old.tape.items + 2 * length old.table.slots ≤ old.tape.capacity = room.for_marks in
     let b : length old.stands.items ≤ vec_capacity old.ends = room.for_causes in
     let n : length old.stands.items ≤ 2 ^ 32 = room.numbered in
     let tape : length new.tape.items ≡ length old.tape.items = ap length more.tape in
     let slots : length new.table.slots ≡ length old.table.slots = ap (λ (v : TableView). length v.slots) more.table in
     let stands : length new.stands.items ≡ length old.stands.items = ap length more.stands in
-    let marks : vec_capacity old.tape ≤ vec_capacity new.tape = more.for_marks in
+    let marks : old.tape.capacity ≤ new.tape.capacity = more.for_marks in
     let causes : vec_capacity old.ends ≤ vec_capacity new.ends = more.for_causes in
     record { for_marks = omega arith; for_causes = omega arith; none_yet = more.ends ∙ room.none_yet; numbered = subst (λ k. k ≤ 2 ^ 32) (sym stands) n }

@@ -31,7 +31,7 @@ use Rattle.cell_loop.proofs.ReadingOn.{Reading, reading, is_going, is_owing_noth
 
 -- What is closed in a part that has one mark more, and has changed in the table there alone, is closed behind that mark.
 pub closes_on : (c : ℕ) (mark : Mark) (cause : EndCause) (old mid new : LoopPart) → IsSameBut c old.table mid.table → length mid.table.slots ≡ length old.table.slots
-    → mid.stands.items ≡ old.stands.items → mid.tape.items ≡ old.tape.items ++ mark ∷ [] → vec_capacity mid.tape ≡ vec_capacity old.tape → mid.feeds ≡ old.feeds → mid.ends ≡ old.ends
+    → mid.stands.items ≡ old.stands.items → mid.tape.items ≡ old.tape.items ++ mark ∷ [] → mid.tape.capacity ≡ old.tape.capacity → mid.feeds ≡ old.feeds → mid.ends ≡ old.ends
     → IsClosed c cause mid new → ClosesBehind c mark cause old new
 closes_on c mark cause old mid new but count stands tape capacity feeds ends closed =
     record {
@@ -50,9 +50,9 @@ pub gone_room : (c : ℕ) (cause : EndCause) (old new : LoopPart) → IsClosed c
 gone_room c cause old new closed room =
     let marks : length new.tape.items ≡ length old.tape.items + 1 = ap length closed.tape ∙ length-append old.tape.items (Closed c ∷ []) in
     let fewer : suc (length new.table.slots) ≡ length old.table.slots = closed.fewer in
-    let same : vec_capacity new.tape ≡ vec_capacity old.tape = closed.capacity in
+    let same : new.tape.capacity ≡ old.tape.capacity = closed.capacity in
     let known : length new.stands.items ≡ length old.stands.items = ap length closed.stands ∙ length-set old.stands.items c (Over cause) in
-    let was : length old.tape.items + 2 * length old.table.slots ≤ vec_capacity old.tape = room.for_marks in
+    let was : length old.tape.items + 2 * length old.table.slots ≤ old.tape.capacity = room.for_marks in
     let few : length old.stands.items ≤ 2 ^ 32 = room.numbered in
     record {
       for_marks = omega arith;
@@ -65,9 +65,9 @@ pub closed_room : (c : ℕ) (mark : Mark) (cause : EndCause) (old new : LoopPart
 closed_room c mark cause old new closed room =
     let marks : length new.tape.items ≡ length old.tape.items + 2 = ap length closed.tape ∙ length-append old.tape.items (mark ∷ Closed c ∷ []) in
     let fewer : suc (length new.table.slots) ≡ length old.table.slots = closed.fewer in
-    let same : vec_capacity new.tape ≡ vec_capacity old.tape = closed.capacity in
+    let same : new.tape.capacity ≡ old.tape.capacity = closed.capacity in
     let known : length new.stands.items ≡ length old.stands.items = ap length closed.stands ∙ length-set old.stands.items c (Over cause) in
-    let was : length old.tape.items + 2 * length old.table.slots ≤ vec_capacity old.tape = room.for_marks in
+    let was : length old.tape.items + 2 * length old.table.slots ≤ old.tape.capacity = room.for_marks in
     let few : length old.stands.items ≤ 2 ^ 32 = room.numbered in
     record {
       for_marks = omega arith;

@@ -1,7 +1,6 @@
 -- How a connection is closed, and what is known of one that stands in a part under way.
 use Rattle.std.proofs.Common.{◌≡◌, ℕ, suc, ◌+◌, ◌*◌, ◌<◌, ◌≤◌, false, Option, None, Some, List, [], ◌∷◌, ◌++◌, length, slice_get, slice_index_or, slice_set, refl, sym, ap, ◌∙◌, subst, IsSome, arith}
 use Rattle.std.specs.Prelude.{is_some}
-use Rattle.std.specs.Vec.{vec_capacity}
 use Rattle.std.proofs.lemmas.Bool.{true≢false}
 use Rattle.std.proofs.lemmas.Option.{none-some}
 use Rattle.outside.specs.declared.marks.Mark.TheVariants.{Closed}
@@ -33,7 +32,7 @@ nothing_in (byte ∷ bytes) e = absurd (let f : ⊥ = omega arith in f)
 -- a connection is closed by what `close` says
 pub close_is : (c : ℕ) (cause : EndCause) (old new : LoopPart) → IsSome (slot_in c old.table.slots) → new.table ≡ record old.table { slots = without_number c old.table.slots }
     → slot_in c new.table.slots ≡ None → new.stands.items ≡ slice_set old.stands.items c (Over cause) → new.tape.items ≡ old.tape.items ++ Closed c ∷ []
-    → vec_capacity new.tape ≡ vec_capacity old.tape → new.feeds ≡ old.feeds → new.ends ≡ old.ends → IsClosed c cause old new
+    → new.tape.capacity ≡ old.tape.capacity → new.feeds ≡ old.feeds → new.ends ≡ old.ends → IsClosed c cause old new
 close_is c cause old new there table gone stands tape capacity feeds ends =
     record {
       table = subst (λ (t : TableView). IsSameBut c old.table t) (sym table) (but_gone old.table c);
@@ -65,17 +64,17 @@ closed_behind c cause old new table but count closed =
 pub some_open : (c : ℕ) (slots : List Slot) → IsSome (slot_in c slots) → 0 < length slots
 some_open c slots there = let fewer : suc (length (without_number c slots)) ≡ length slots = count_left c slots there in omega arith
 
-pub has_room : (part : LoopPart) (c : ℕ) → HasRoomToClose part → IsSome (slot_in c part.table.slots) → length part.tape.items < vec_capacity part.tape
+pub has_room : (part : LoopPart) (c : ℕ) → HasRoomToClose part → IsSome (slot_in c part.table.slots) → length part.tape.items < part.tape.capacity
 has_room part c room there =
     let open_one : 0 < length part.table.slots = some_open c part.table.slots there in
-    let marks : length part.tape.items + 2 * length part.table.slots ≤ vec_capacity part.tape = room.for_marks in
+    let marks : length part.tape.items + 2 * length part.table.slots ≤ part.tape.capacity = room.for_marks in
     omega arith
 
 -- and for two
-pub two_room : (part : LoopPart) (c : ℕ) → HasRoomToClose part → IsSome (slot_in c part.table.slots) → length part.tape.items + 1 < vec_capacity part.tape
+pub two_room : (part : LoopPart) (c : ℕ) → HasRoomToClose part → IsSome (slot_in c part.table.slots) → length part.tape.items + 1 < part.tape.capacity
 two_room part c room there =
     let open_one : 0 < length part.table.slots = some_open c part.table.slots there in
-    let marks : length part.tape.items + 2 * length part.table.slots ≤ vec_capacity part.tape = room.for_marks in
+    let marks : length part.tape.items + 2 * length part.table.slots ≤ part.tape.capacity = room.for_marks in
     omega arith
 
 -- a table is the same as itself

@@ -146,8 +146,8 @@ room_for_one full open_now told few vacant = by (cases_lt open_now most_places)
 
 -- room is left behind it
 pub opened_room : (old mid new : LoopPart) (c : ℕ) → HasMoreRoom old mid → HasRoomToClose old → length old.table.slots < most_places → length mid.stands.items ≡ c → c < 2 ^ 32
-    → length mid.tape.items + (1 + 2 * most_places) ≤ vec_capacity mid.tape → length mid.stands.items < vec_capacity mid.ends
-    → new.table ≡ record mid.table { slots = with_added (fresh_slot c) mid.table.slots } → new.tape.items ≡ mid.tape.items ++ Opened c ∷ [] → vec_capacity new.tape ≡ vec_capacity mid.tape
+    → length mid.tape.items + (1 + 2 * most_places) ≤ mid.tape.capacity → length mid.stands.items < vec_capacity mid.ends
+    → new.table ≡ record mid.table { slots = with_added (fresh_slot c) mid.table.slots } → new.tape.items ≡ mid.tape.items ++ Opened c ∷ [] → new.tape.capacity ≡ mid.tape.capacity
     → new.stands.items ≡ mid.stands.items ++ Lean ∷ [] → new.ends ≡ mid.ends → HasRoomToClose new
 opened_room old mid new c more room few is fits marks causes table tape capacity stands ends =
     let slots : length new.table.slots ≡ suc (length mid.table.slots) =

@@ -2,8 +2,8 @@
 use Rattle.std.proofs.Common.{◌≡◌, ◌↔◌, ℕ, ◌+◌, ◌*◌, ◌^◌, ◌<◌, ◌≤◌, true, Option, None, Some, IsSome, List, [], ◌∷◌, ◌++◌, length, take, drop, min, slice_set, Vec, Global, refl, sym, ap, ◌∙◌, subst, arith, append_assoc, length-append}
 use Rattle.std.proofs.lemmas.Bool.{false≢true}
 use Rattle.std.specs.Vec.{vec_capacity}
-use Rattle.outside.specs.declared.marks.Mark.{Mark}
 use Rattle.outside.specs.declared.marks.Mark.TheVariants.{Read, Closed}
+use Rattle.run_tape.specs.Rows.{TapeView}
 use Rattle.host_model.specs.declared.cause.EndCause.{EndCause}
 use Rattle.conn_state.specs.Phase.{ConnView, cause_of, wanted, IsReady}
 use Rattle.conn_state.specs.Run.{EachIsByte}
@@ -31,7 +31,7 @@ pub record HasTaken (c max : ℕ) (old mid : LoopPart) (bytes : List ℕ) : Type
   pub table : mid.table ≡ record old.table { slots = with_state c (after_took max (slot_of c old.table.slots).conn bytes) old.table.slots }
   pub stands : mid.stands.items ≡ old.stands.items
   pub tape : mid.tape.items ≡ old.tape.items ++ Read c bytes ∷ []
-  pub capacity : vec_capacity mid.tape ≡ vec_capacity old.tape
+  pub capacity : mid.tape.capacity ≡ old.tape.capacity
   pub ends : mid.ends ≡ old.ends
 
 module _ (c max : ℕ) (old mid : LoopPart) (bytes : List ℕ) (h : HasTaken c max old mid bytes) where
@@ -76,13 +76,13 @@ module _ (c max : ℕ) (old mid : LoopPart) (bytes : List ℕ) (h : HasTaken c m
       (closed.tape ∙ ap (λ k. k ++ Closed c ∷ []) h.tape ∙ append_assoc old.tape.items (Read c bytes ∷ []) (Closed c ∷ [])) (sym taken_cause ∙ is)
 
   -- there is room still
-  module _ (room : HasRoomToClose old) (one : length old.tape.items + 1 + 2 * length old.table.slots ≤ vec_capacity old.tape) where
+  module _ (room : HasRoomToClose old) (one : length old.tape.items + 1 + 2 * length old.table.slots ≤ old.tape.capacity) where
     pub taken_room : HasRoomToClose mid
     taken_room =
         let marks : length mid.tape.items ≡ length old.tape.items + 1 = ap length h.tape ∙ length-append old.tape.items (Read c bytes ∷ []) in
         let slots : length mid.table.slots ≡ length old.table.slots =
         state_count c (after_took max (slot_of c old.table.slots).conn bytes) old.table mid.table h.takes.reads.1 h.table in
-        let capacity : vec_capacity mid.tape ≡ vec_capacity old.tape = h.capacity in
+        let capacity : mid.tape.capacity ≡ old.tape.capacity = h.capacity in
         let causes : vec_capacity mid.ends ≡ vec_capacity old.ends = ap (λ (v : Vec EndCause Global). vec_capacity v) h.ends in
         let known : length mid.stands.items ≡ length old.stands.items = ap length h.stands in
         let had : length old.stands.items ≤ vec_capacity old.ends = room.for_causes in
@@ -99,23 +99,20 @@ some_cause None some = absurd (false≢true some)
 some_cause (Some cause) some = (cause, refl)
 
 -- what the calls of `take_in` say, put together
-pub has_taken : (c max : ℕ) (old mid : LoopPart) (bytes given : List ℕ) (count : ℕ) (mark : List ℕ) (before : Vec Mark Global) → ReadsOn c old
+pub has_taken : (c max : ℕ) (old mid : LoopPart) (bytes : List ℕ) (before : TapeView) → ReadsOn c old
     → HasItsSize (slot_of c old.table.slots).conn.phase (slot_of c old.table.slots).size → 0 < length (front_in old.feeds.items c) → max ≤ 268435456
-    → bytes ≡ take (min (wanted (slot_of c old.table.slots).conn.phase) (length (front_in old.feeds.items c))) (front_in old.feeds.items c) → given ≡ bytes → EachIsByte given
-    → count ≡ length bytes
-    → HasFeed c (pieces_left (drop count (front_in old.feeds.items c)) (later_in old.feeds.items c)) (finish_in old.feeds.items c) (rules_in old.feeds.items c) old.feeds.items mid.feeds.items
-    → mid.table ≡ record old.table { slots = with_state c (after_took max (slot_of c old.table.slots).conn given) old.table.slots } → mid.stands ≡ old.stands → mark ≡ bytes
-    → mid.tape.items ≡ before.items ++ Read c mark ∷ [] → vec_capacity mid.tape ≡ vec_capacity before → before ≡ old.tape → mid.ends ≡ old.ends → HasTaken c max old mid bytes
-has_taken c max old mid bytes given count mark before reads_on has some small front value are counted fed table stands mark_is items capacity tape ends =
+    → bytes ≡ take (min (wanted (slot_of c old.table.slots).conn.phase) (length (front_in old.feeds.items c))) (front_in old.feeds.items c) → EachIsByte bytes
+    → HasFeed c (pieces_left (drop (length bytes) (front_in old.feeds.items c)) (later_in old.feeds.items c)) (finish_in old.feeds.items c) (rules_in old.feeds.items c) old.feeds.items mid.feeds.items
+    → mid.table ≡ record old.table { slots = with_state c (after_took max (slot_of c old.table.slots).conn bytes) old.table.slots } → mid.stands ≡ old.stands
+    → mid.tape.items ≡ before.items ++ Read c bytes ∷ [] → mid.tape.capacity ≡ before.capacity → before ≡ old.tape → mid.ends ≡ old.ends → HasTaken c max old mid bytes
+has_taken c max old mid bytes before reads_on has some small front are fed table stands items capacity tape ends =
     record {
-      takes = record { reads = reads_on; has = has; some = some; small = small; is = front; are = subst EachIsByte value are };
-      fed = subst
-          (λ n. HasFeed c (pieces_left (drop n (front_in old.feeds.items c)) (later_in old.feeds.items c)) (finish_in old.feeds.items c) (rules_in old.feeds.items c) old.feeds.items mid.feeds.items)
-          counted fed;
-      table = table ∙ ap (λ b. record old.table { slots = with_state c (after_took max (slot_of c old.table.slots).conn b) old.table.slots }) value;
+      takes = record { reads = reads_on; has = has; some = some; small = small; is = front; are = are };
+      fed = fed;
+      table = table;
       stands = ap (λ (v : Vec Stand Global). v.items) stands;
-      tape = items ∙ (λ i. (tape i).items ++ Read c (mark_is i) ∷ []);
-      capacity = capacity ∙ ap (λ (v : Vec Mark Global). vec_capacity v) tape;
+      tape = items ∙ ap (λ (v : TapeView). v.items ++ Read c bytes ∷ []) tape;
+      capacity = capacity ∙ ap (λ (v : TapeView). v.capacity) tape;
       ends = ends;
     }
 

@@ -41,7 +41,7 @@ pub record IsClosed (c : ℕ) (cause : EndCause) (old new : LoopPart) : Type 0 w
   pub fewer : suc (length new.table.slots) ≡ length old.table.slots
   pub stands : new.stands.items ≡ slice_set old.stands.items c (Over cause)
   pub tape : new.tape.items ≡ old.tape.items ++ Closed c ∷ []
-  pub capacity : vec_capacity new.tape ≡ vec_capacity old.tape
+  pub capacity : new.tape.capacity ≡ old.tape.capacity
   pub feeds : new.feeds ≡ old.feeds
   pub ends : new.ends ≡ old.ends
 
@@ -52,7 +52,7 @@ pub record ClosesBehind (c : ℕ) (mark : Mark) (cause : EndCause) (old new : Lo
   pub fewer : suc (length new.table.slots) ≡ length old.table.slots
   pub stands : new.stands.items ≡ slice_set old.stands.items c (Over cause)
   pub tape : new.tape.items ≡ old.tape.items ++ mark ∷ Closed c ∷ []
-  pub capacity : vec_capacity new.tape ≡ vec_capacity old.tape
+  pub capacity : new.tape.capacity ≡ old.tape.capacity
   pub feeds : new.feeds ≡ old.feeds
   pub ends : new.ends ≡ old.ends
 
@@ -63,7 +63,7 @@ pub record HasMoreRoom (old new : LoopPart) : Type 0 where
   pub stands : new.stands.items ≡ old.stands.items
   pub feeds : new.feeds ≡ old.feeds
   pub ends : new.ends.items ≡ old.ends.items
-  pub for_marks : vec_capacity old.tape ≤ vec_capacity new.tape
+  pub for_marks : old.tape.capacity ≤ new.tape.capacity
   pub for_causes : vec_capacity old.ends ≤ vec_capacity new.ends
 
 -- connection c has written so many bytes of what was left

@@ -96,7 +96,7 @@ pub record IsLoopTied (s : CellSetting) (part : LoopPart) (play : ServedPlay) : 
 
 -- There is room for two marks of each connection that is open, and for a cause of each that was opened; and each that was opened has a number of 32 bits.
 pub record HasRoomToClose (part : LoopPart) : Type 0 where
-  pub for_marks : length part.tape.items + 2 * length part.table.slots ≤ vec_capacity part.tape
+  pub for_marks : length part.tape.items + 2 * length part.table.slots ≤ part.tape.capacity
   pub for_causes : length part.stands.items ≤ vec_capacity part.ends
   pub none_yet : part.ends.items ≡ []
   pub numbered : length part.stands.items ≤ 2 ^ 32

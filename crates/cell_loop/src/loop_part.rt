@@ -22,7 +22,8 @@ ghost use Rattle.cell_loop.specs.LoopMoves.{IsLoopUnderWay, StaysTied, LoopMoves
 use crate::feed::Feed;
 use conn_state::EndCause;
 use conn_table::Table;
-use outside::{Mark, Settled};
+use outside::Settled;
+use run_tape::{MarkAt, TapeLog};
 use script_links::RuleList;
 use std::alloc::{AllocError, Global};
 
@@ -50,7 +51,7 @@ pub struct LoopPart<'a> {
     /// The open connections, with the sizes that are admitted.
     pub table: Table,
     /// What happened, the oldest first; there is room for two marks of each open connection.
-    pub tape: Vec<Mark>,
+    pub tape: TapeLog,
     /// How each connection stands that was opened, by number.
     pub stands: Vec<Stand>,
     /// Empty, with room for a cause of each connection that was opened.
@@ -74,7 +75,7 @@ impl<'a> LoopPart<'a> {
         let feeds = fresh_feeds(alloc, rules)?;
         Ok(LoopPart {
             table: Table::new(alloc, read_budget)?,
-            tape: Vec::new(alloc),
+            tape: TapeLog::new(alloc),
             stands: Vec::new(alloc),
             ends: Vec::new(alloc),
             feeds,
@@ -95,8 +96,8 @@ impl<'a> LoopPart<'a> {
     pub fn make_room(&mut self) -> Result<(), AllocError>
         ensures few { length self.new.table.slots ≤ most_places }
         ensures tape { self.new.tape.items ≡ self.old.tape.items }
-        ensures room { OnOk result (length self.new.tape.items + (1 + 2 * most_places) ≤ vec_capacity self.new.tape) }
-        ensures more { vec_capacity self.old.tape ≤ vec_capacity self.new.tape }
+        ensures room { OnOk result (length self.new.tape.items + (1 + 2 * most_places) ≤ self.new.tape.capacity) }
+        ensures more { self.old.tape.capacity ≤ self.new.tape.capacity }
         ensures ends { self.new.ends ≡ self.old.ends }
         ensures table { self.new.table ≡ self.old.table }
         ensures stands { self.new.stands ≡ self.old.stands }
@@ -113,19 +114,19 @@ impl<'a> LoopPart<'a> {
         requires over { IsSome (cause_of (slot_of c self.old.table.slots).conn.phase) }
         requires given_back { (slot_of c self.old.table.slots).size ≡ None }
         requires opened { c < length self.old.stands.items }
-        requires room { length self.old.tape.items < vec_capacity self.old.tape }
+        requires room { length self.old.tape.items < self.old.tape.capacity }
         ensures table { self.new.table ≡ record self.old.table { slots = without_number c self.old.table.slots } }
         ensures gone { slot_in c self.new.table.slots ≡ None }
         ensures stands { (cause : EndCause) → cause_of (slot_of c self.old.table.slots).conn.phase ≡ Some cause →
             self.new.stands.items ≡ slice_set self.old.stands.items c (Over cause) }
         ensures tape { self.new.tape.items ≡ self.old.tape.items ++ Closed c ∷ [] }
-        ensures capacity { vec_capacity self.new.tape ≡ vec_capacity self.old.tape }
+        ensures capacity { self.new.tape.capacity ≡ self.old.tape.capacity }
         ensures feeds { self.new.feeds ≡ self.old.feeds }
         ensures ends { self.new.ends ≡ self.old.ends }
     {
         let cause = self.table.remove(c);
         self.stands[c as usize] = Stand::Over(cause);
-        self.tape.push_reserved(Mark::Closed(c));
+        self.tape.push(MarkAt::Closed(c));
     }
 
     /// Gives back the size of a connection that has ended, where one is admitted, and takes it out.
@@ -134,7 +135,7 @@ impl<'a> LoopPart<'a> {
         requires over { IsSome (cause_of (slot_of c self.old.table.slots).conn.phase) }
         requires size { HasSizeSo (slice_index_or self.old.stands.items c Lean) (slot_of c self.old.table.slots).size }
         requires opened { c < length self.old.stands.items }
-        requires room { length self.old.tape.items < vec_capacity self.old.tape }
+        requires room { length self.old.tape.items < self.old.tape.capacity }
         ensures closed { (cause : EndCause) → cause_of (slot_of c self.old.table.slots).conn.phase ≡ Some cause → IsClosed c cause self.old self.new }
     {
         if let Stand::Lean = self.stands[c as usize] {
@@ -152,7 +153,7 @@ impl<'a> LoopPart<'a> {
         requires outside { IsFromOutside cause }
         requires size { HasSizeSo (slice_index_or self.old.stands.items c Lean) (slot_of c self.old.table.slots).size }
         requires opened { c < length self.old.stands.items }
-        requires room { length self.old.tape.items < vec_capacity self.old.tape }
+        requires room { length self.old.tape.items < self.old.tape.capacity }
         ensures closed { IsClosed c cause self.old self.new }
     {
         self.table.end(c, cause);
@@ -198,7 +199,7 @@ impl<'a> LoopPart<'a> {
     /// Takes room for one more connection.
     fn make_way(&mut self) -> Result<(), AllocError>
         ensures more { HasMoreRoom self.old self.new }
-        ensures for_mark { OnOk result (length self.new.tape.items + (1 + 2 * most_places) ≤ vec_capacity self.new.tape) }
+        ensures for_mark { OnOk result (length self.new.tape.items + (1 + 2 * most_places) ≤ self.new.tape.capacity) }
         ensures for_stand { OnOk result (length self.new.stands.items < vec_capacity self.new.stands) }
         ensures for_cause { OnOk result (length self.new.stands.items < vec_capacity self.new.ends) }
     {
@@ -212,16 +213,16 @@ impl<'a> LoopPart<'a> {
         requires fits { length self.old.table.slots < most_places }
         requires next { length self.old.stands.items ≡ c }
         requires vacant { slot_in c self.old.table.slots ≡ None }
-        requires for_mark { length self.old.tape.items < vec_capacity self.old.tape }
+        requires for_mark { length self.old.tape.items < self.old.tape.capacity }
         requires for_stand { length self.old.stands.items < vec_capacity self.old.stands }
         ensures table { self.new.table ≡ record self.old.table { slots = with_added (fresh_slot c) self.old.table.slots } }
         ensures tape { self.new.tape.items ≡ self.old.tape.items ++ Opened c ∷ [] }
-        ensures capacity { vec_capacity self.new.tape ≡ vec_capacity self.old.tape }
+        ensures capacity { self.new.tape.capacity ≡ self.old.tape.capacity }
         ensures stands { self.new.stands.items ≡ self.old.stands.items ++ Lean ∷ [] }
         ensures feeds { self.new.feeds ≡ self.old.feeds }
         ensures ends { self.new.ends ≡ self.old.ends }
     {
-        self.tape.push_reserved(Mark::Opened(c));
+        self.tape.push(MarkAt::Opened(c));
         self.stands.push_reserved(Stand::Lean);
         self.table.add(c);
     }
@@ -249,13 +250,13 @@ impl<'a> LoopPart<'a> {
         ensures room { HasRoomToClose self.new }
     {
         if !self.table.conn(c).pending().is_empty() {
-            self.write(alloc, c)?;
+            self.write(c)?;
             return Ok(true);
         }
         if self.table.conn(c).asks().is_some() {
             return Ok(self.admit(alloc, c));
         }
-        self.read(alloc, c, max_frame)
+        self.read(c, max_frame)
     }
 
     /// Takes the outcome of the payload that was submitted.

@@ -16,7 +16,7 @@ ghost use Rattle.cell_loop.specs.LoopMoves.{IsLoopUnderWay, StaysTied, LoopMoves
 use crate::feed::Finish;
 use crate::loop_part::{LoopPart, Stand};
 use conn_state::EndCause;
-use outside::{Bytes, Mark};
+use run_tape::MarkAt;
 use std::alloc::{AllocError, Global};
 
 /// So many frames are counted at most.
@@ -24,7 +24,7 @@ const MOST_FRAMES: u64 = 1 << 62;
 
 impl<'a> LoopPart<'a> {
     /// One read of the oldest piece, or of what comes behind all pieces, where something does.
-    pub fn read(&mut self, alloc: Global, c: u32, max_frame: u32) -> Result<bool, AllocError>
+    pub fn read(&mut self, c: u32, max_frame: u32) -> Result<bool, AllocError>
         requires under_way { IsLoopUnderWay self.old }
         requires reads { ReadsOn c self.old }
         requires fed { c < length self.old.feeds.items }
@@ -35,7 +35,7 @@ impl<'a> LoopPart<'a> {
         ensures room { HasRoomToClose self.new }
     {
         if self.begin_piece(c) {
-            self.read_piece(alloc, c, max_frame)?;
+            self.read_piece(c, max_frame)?;
             return Ok(true);
         }
         Ok(self.read_behind(c))
@@ -58,7 +58,7 @@ impl<'a> LoopPart<'a> {
     }
 
     /// Reads what is asked for of the piece under way, as far as it goes.
-    fn read_piece(&mut self, alloc: Global, c: u32, max_frame: u32) -> Result<(), AllocError>
+    fn read_piece(&mut self, c: u32, max_frame: u32) -> Result<(), AllocError>
         requires under_way { IsLoopUnderWay self.old }
         requires reads { ReadsOn c self.old }
         requires some { 0 < length (front_in self.old.feeds.items c) }
@@ -72,41 +72,43 @@ impl<'a> LoopPart<'a> {
             return Err(AllocError);
         }
         self.make_room()?;
-        let bytes = self.copy_front(alloc, c)?;
+        let bytes = self.next_bytes(c);
+        self.tape.reserve_bytes(bytes.len())?;
         self.take_in(c, bytes, max_frame);
         Ok(())
     }
 
-    /// A copy of the bytes that are read next.
-    fn copy_front(&self, alloc: Global, c: u32) -> Result<Vec<u8>, AllocError>
+    /// The bytes that are read next.
+    fn next_bytes(&self, c: u32) -> &'a [u8]
         requires there { IsSome (slot_in c self.now.table.slots) }
         requires fed { c < length self.now.feeds.items }
-        ensures { IfOk result (λ bytes. bytes.items ≡ take (min (wanted (slot_of c self.now.table.slots).conn.phase) (length (front_in self.now.feeds.items c)))
-            (front_in self.now.feeds.items c)) }
+        ensures { result.now ≡ take (min (wanted (slot_of c self.now.table.slots).conn.phase) (length (front_in self.now.feeds.items c)))
+            (front_in self.now.feeds.items c) }
     {
         let front = self.feeds[c as usize].front;
         let count = self.table.conn(c).want().min(front.len());
-        Vec::from_slice(alloc, front.split_at(count).0)
+        front.split_at(count).0
     }
 
     /// Takes in the bytes that are read.
-    fn take_in(&mut self, c: u32, bytes: Vec<u8>, max_frame: u32)
+    fn take_in(&mut self, c: u32, bytes: &[u8], max_frame: u32)
         requires under_way { IsLoopUnderWay self.old }
         requires reads { ReadsOn c self.old }
         requires some { 0 < length (front_in self.old.feeds.items c) }
         requires small { max_frame ≤ 268435456 }
-        requires front { bytes.items ≡ take (min (wanted (slot_of c self.old.table.slots).conn.phase) (length (front_in self.old.feeds.items c)))
+        requires front { bytes.now ≡ take (min (wanted (slot_of c self.old.table.slots).conn.phase) (length (front_in self.old.feeds.items c)))
             (front_in self.old.feeds.items c) }
         requires counted { (slot_of c self.old.table.slots).conn.frames < 2 ^ 62 }
-        requires room { length self.old.tape.items + 1 + 2 * length self.old.table.slots ≤ vec_capacity self.old.tape }
+        requires room { length self.old.tape.items + 1 + 2 * length self.old.table.slots ≤ self.old.tape.capacity }
+        requires spare { length bytes.now ≤ self.old.tape.spare }
         ensures moved { LoopMoves (HasLongest max_frame) (λ s. one_of_conn s c) self.old true self.new }
         ensures feeds { length self.new.feeds.items ≡ length self.old.feeds.items }
         ensures room { HasRoomToClose self.new }
     {
         let frames = self.table.conn(c).frames();
-        self.table.took(c, bytes.as_slice(), max_frame);
+        self.table.took(c, bytes, max_frame);
         self.pass_front(c, bytes.len());
-        self.tape.push_reserved(Mark::Read(c, Bytes::new(bytes)));
+        self.tape.push(MarkAt::Read(c, bytes));
         if self.table.conn(c).cause().is_some() {
             self.close(c);
             return;
@@ -146,12 +148,12 @@ impl<'a> LoopPart<'a> {
             None => false,
             Some(Finish::Ends) => {
                 self.table.end_of_input(c);
-                self.tape.push_reserved(Mark::Ended(c));
+                self.tape.push(MarkAt::Ended(c));
                 self.let_go(c);
                 true
             }
             Some(Finish::Fails) => {
-                self.tape.push_reserved(Mark::ReadFailed(c));
+                self.tape.push(MarkAt::ReadFailed(c));
                 self.give_up(c, EndCause::ReadFault);
                 true
             }

@@ -16,13 +16,13 @@ ghost use Rattle.cell_loop.specs.LoopMoves.{IsLoopUnderWay, StaysTied, LoopMoves
 
 use crate::loop_part::LoopPart;
 use conn_state::EndCause;
-use outside::{Bytes, Mark};
+use run_tape::MarkAt;
 use script_links::WriteRule;
-use std::alloc::{AllocError, Global};
+use std::alloc::AllocError;
 
 impl<'a> LoopPart<'a> {
     /// One write of a reply that is left, by the next rule.
-    pub fn write(&mut self, alloc: Global, c: u32) -> Result<(), AllocError>
+    pub fn write(&mut self, c: u32) -> Result<(), AllocError>
         requires under_way { IsLoopUnderWay self.old }
         requires lean { slice_get self.old.stands.items c ≡ Some Lean }
         requires left { 0 < length (left_to_write (slot_of c self.old.table.slots).conn.phase) }
@@ -35,10 +35,10 @@ impl<'a> LoopPart<'a> {
         match self.feeds[c as usize].next_rule() {
             None => {
                 let left = self.table.conn(c).pending().len();
-                self.write_most(alloc, c, left)
+                self.write_most(c, left)
             }
             Some(WriteRule::Takes(most)) => {
-                self.write_most(alloc, c, most as usize)?;
+                self.write_most(c, most as usize)?;
                 self.pass_rule(c);
                 Ok(())
             }
@@ -55,7 +55,7 @@ impl<'a> LoopPart<'a> {
     }
 
     /// Writes so many bytes at most.
-    fn write_most(&mut self, alloc: Global, c: u32, most: usize) -> Result<(), AllocError>
+    fn write_most(&mut self, c: u32, most: usize) -> Result<(), AllocError>
         requires there { IsSome (slot_in c self.old.table.slots) }
         requires left { 0 < length (left_to_write (slot_of c self.old.table.slots).conn.phase) }
         requires some { 0 < most }
@@ -67,8 +67,9 @@ impl<'a> LoopPart<'a> {
         self.make_room()?;
         let left = self.table.conn(c).pending();
         let count = most.min(left.len());
-        let bytes = Vec::from_slice(alloc, left.split_at(count).0)?;
-        self.tape.push_reserved(Mark::Wrote(c, Bytes::new(bytes)));
+        let bytes = left.split_at(count).0;
+        self.tape.reserve_bytes(count)?;
+        self.tape.push(MarkAt::Wrote(c, bytes));
         self.table.wrote(c, count);
         Ok(())
     }
@@ -83,7 +84,7 @@ impl<'a> LoopPart<'a> {
         ensures closed { ClosesBehind c (WriteFailed c) WriteFault self.old self.new }
         ensures room { HasRoomToClose self.new }
     {
-        self.tape.push_reserved(Mark::WriteFailed(c));
+        self.tape.push(MarkAt::WriteFailed(c));
         self.give_up(c, EndCause::WriteFault);
     }
 

@@ -16,8 +16,8 @@ use Rattle.machine_model.specs.HallRule.{take_job, apply, put, HallAnswer, done,
 use Rattle.machine_model.specs.Worker.{holds, took, tried, settled_with, SettlesAs}
 use Rattle.machine_model.specs.SeenHall.{MayHave, filled, SeenGives}
 use Rattle.hall_core.specs.Meant.{ServedHall}
-use Rattle.cell_turn.specs.declared.worker.Worker.{Worker}
-use Rattle.cell_turn.specs.declared.worker.Worker.TheVariants.{Idle}
+use Rattle.cell_turn.specs.declared.worker.Holding.{Holding}
+use Rattle.cell_turn.specs.declared.worker.Holding.TheVariants.{Idle}
 use Rattle.cell_turn.specs.declared.turn.Stepped.{Stepped}
 use Rattle.cell_turn.specs.declared.turn.Stepped.TheVariants.{Moves}
 use Rattle.cell_turn.specs.HallTied.{plain_worker, IsCallSo, KnowsItsCall}
@@ -37,20 +37,20 @@ put_done old new key settled answer g entries may =
     go _ later h = absurd h
 
 -- a step that takes a job, where there is one
-pub take_turns : (desk : DeskMeaning) (old new : ServedHall) (next : Worker) (stepped : Stepped) (answer : HallAnswer PlainAnswer) → SeenGives handler_rules old take_job answer new
+pub take_turns : (desk : DeskMeaning) (old new : ServedHall) (next : Holding) (stepped : Stepped) (answer : HallAnswer PlainAnswer) → SeenGives handler_rules old take_job answer new
     → plain_worker next ≡ took answer → stepped ≡ stepped_by take_job answer → KnowsItsCall desk next → IsWorkerTurn desk old new Idle next stepped
 take_turns desk old new next stepped answer g w s k =
     record { op = take_job; answer = answer; in_turn = tt; gives = g; asks = (refl, w); tells = s; known = k }
 
 -- a step that applies the call of the job in the hand
-pub apply_turns : (desk : DeskMeaning) (old new : ServedHall) (worker next : Worker) (stepped : Stepped) (key : Key) (payload : List ℕ) (call : PlainCall) (answer : HallAnswer PlainAnswer)
+pub apply_turns : (desk : DeskMeaning) (old new : ServedHall) (worker next : Holding) (stepped : Stepped) (key : Key) (payload : List ℕ) (call : PlainCall) (answer : HallAnswer PlainAnswer)
     → plain_worker worker ≡ holds key payload → desk.decide payload ≡ Invoke call → SeenGives handler_rules old (apply key call) answer new → plain_worker next ≡ tried key payload answer
     → stepped ≡ stepped_by (apply key call) answer → KnowsItsCall desk next → IsWorkerTurn desk old new worker next stepped
 apply_turns desk old new worker next stepped key payload call answer h q g w s k =
     record { op = apply key call; answer = answer; in_turn = tt; gives = g; asks = (payload, h, q, w); tells = s; known = k }
 
 -- a step that puts what the job in the hand has come to
-pub put_turns : (desk : DeskMeaning) (old new : ServedHall) (worker next : Worker) (stepped : Stepped) (key : Key) (settled : Settled)
+pub put_turns : (desk : DeskMeaning) (old new : ServedHall) (worker next : Holding) (stepped : Stepped) (key : Key) (settled : Settled)
     → SettlesAs (desk_rules desk) (plain_worker worker) key settled → IsReplySome settled → SeenGives handler_rules old (put key settled) done new → next ≡ Idle → stepped ≡ Moves
     → IsWorkerTurn desk old new worker next stepped
 put_turns desk old new worker next stepped key settled so some g w s =

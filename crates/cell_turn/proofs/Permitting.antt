@@ -22,7 +22,7 @@ use Rattle.machine_model.proofs.Running.{keeps}
 use Rattle.hall_core.specs.Meant.{ServedHall}
 use Rattle.cell_model.specs.Settings.{CellSetting, ServedCell, PlainWorker, desk_of_setting}
 use Rattle.cell_model.specs.Reached.{IsReached}
-use Rattle.cell_turn.specs.declared.worker.Worker.{Worker}
+use Rattle.cell_turn.specs.declared.worker.Holding.{Holding}
 use Rattle.cell_turn.specs.HallTied.{plain_worker}
 use Rattle.cell_turn.specs.TurnMoves.{MayTurn}
 use Rattle.cell_turn.proofs.HallTying.{same_taken, same_memories}
@@ -78,7 +78,7 @@ module _ (s : CellSetting) (cell : ServedCell) (reached : IsReached s cell) wher
       worker_can (desk_of_setting s) handler_rules s.opening (λ acts world h. stands (desk_of_setting s) handler_rules s.opening acts world small h) small
       reached.run.first cell reached.run.events reached.run.is_first reached.run.lead w op answer next services asks
 
-module _ (desk : DeskMeaning) (is_desk : IsDesk desk) (hall : ServedHall) (worker : Worker) (may : MayTurn desk hall worker) where
+module _ (desk : DeskMeaning) (is_desk : IsDesk desk) (hall : ServedHall) (worker : Holding) (may : MayTurn desk hall worker) where
   -- the services of its calls are there
   has_services : HasItsService (desk_of_setting may.setting) handler_rules (length may.setting.opening)
   has_services payload call decided =

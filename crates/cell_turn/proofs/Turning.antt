@@ -20,7 +20,7 @@ use Rattle.machine_model.specs.Plain.{ApplyResult, answers, lacks_for_call, lack
 use Rattle.machine_model.specs.SeenHall.{MayHave, filled, SeenGives}
 use Rattle.rehearsal_model.specs.Playing.{MemoryAt, ample, lacking, lacking_for_call, lacking_for_answer, event_on, or_else, told_without, told_wanting, by_memory, told_in, step_of_worker, worker_move}
 use Rattle.hall_core.specs.Meant.{ServedHall}
-use Rattle.cell_turn.specs.declared.worker.Worker.{Worker}
+use Rattle.cell_turn.specs.declared.worker.Holding.{Holding}
 use Rattle.cell_turn.specs.declared.turn.Stepped.TheVariants.{Moves}
 use Rattle.cell_model.specs.Settings.{CellSetting, ServedCell, ServedPlay, HallInCell, PlainWorker, desk_of_setting}
 use Rattle.cell_model.specs.Moving.{Doing, ComesTo, HasNoMove, one_of_worker}
@@ -46,7 +46,7 @@ answered_by : (o : Option ServiceState) (P : ServiceState → Type 0) → MatchO
 answered_by None P h = absurd h
 answered_by (Some m) P h = (m, refl, h)
 
-module _ (s : CellSetting) (w : ℕ) (play : ServedPlay) (old new : ServedHall) (worker : Worker) (tied : IsHallTied old play.cell.hall) where
+module _ (s : CellSetting) (w : ℕ) (play : ServedPlay) (old new : ServedHall) (worker : Holding) (tied : IsHallTied old play.cell.hall) where
   -- the cell once the worker has made its step, and the play then
   abbrev cell_with : HallInCell → PlainWorker → ServedCell
   cell_with hall state = record play.cell { hall = hall; workers = with_worker play.cell.workers w state }

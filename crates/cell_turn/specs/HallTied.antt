@@ -12,20 +12,20 @@ use Rattle.machine_model.specs.Determined.{IsSameButFaults}
 use Rattle.machine_model.specs.Worker.{idle, holds, has_answer, has_none, settled_with}
 use Rattle.machine_model.specs.SeenHall.{MayHave, filled}
 use Rattle.hall_core.specs.Meant.{ServedHall}
-use Rattle.cell_turn.specs.declared.worker.Worker.{Worker}
-use Rattle.cell_turn.specs.declared.worker.Worker.TheVariants.{Idle, Holds, Answered, Unanswered}
+use Rattle.cell_turn.specs.declared.worker.Holding.{Holding}
+use Rattle.cell_turn.specs.declared.worker.Holding.TheVariants.{Idle, Holds, Answered, Unanswered}
 use Rattle.cell_model.specs.Settings.{HallInCell, PlainWorker}
 use Rattle.cell_model.specs.Replies.{IsReplySome}
 
 -- what a worker holds
-abbrev pub plain_worker : Worker → PlainWorker
+abbrev pub plain_worker : Holding → PlainWorker
 plain_worker Idle = idle
 plain_worker (Holds job) = holds job.key job.payload
 plain_worker (Answered job given) = has_answer job.key job.payload (plain_answer given.answer)
 plain_worker (Unanswered job) = has_none job.key job.payload
 
 -- what worker w holds; one that there isn't holds no job
-abbrev pub worker_in : List Worker → ℕ → PlainWorker
+abbrev pub worker_in : List Holding → ℕ → PlainWorker
 worker_in workers w = plain_worker (slice_index_or workers w Idle)
 
 -- a call is made that is silent or isn't, as is said
@@ -34,12 +34,12 @@ IsCallSo silent (Invoke call) = call.silent ≡ silent
 IsCallSo silent _ = ⊥
 
 -- of a call that was answered it is kept whether it is silent
-abbrev pub KnowsItsCall : DeskMeaning → Worker → Type 0
+abbrev pub KnowsItsCall : DeskMeaning → Holding → Type 0
 KnowsItsCall desk (Answered job given) = IsCallSo given.silent (desk.decide job.payload)
 KnowsItsCall desk _ = Unit {0}
 
 -- the workers are tied to those of a machine
-pub record AreWorkersTied (desk : DeskMeaning) (workers : List Worker) (states : ℕ → PlainWorker) : Type 0 where
+pub record AreWorkersTied (desk : DeskMeaning) (workers : List Holding) (states : ℕ → PlainWorker) : Type 0 where
   pub each : (w : ℕ) → states w ≡ worker_in workers w
   pub known : AllByRecursion (KnowsItsCall desk) workers
 

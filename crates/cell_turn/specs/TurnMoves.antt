@@ -6,7 +6,7 @@ use Rattle.call_rules.specs.Handling.{handler_rules}
 use Rattle.machine_model.specs.Machine.{with_worker, applies, Steps}
 use Rattle.machine_model.specs.SeenHall.{MayHave}
 use Rattle.hall_core.specs.Meant.{ServedHall}
-use Rattle.cell_turn.specs.declared.worker.Worker.{Worker}
+use Rattle.cell_turn.specs.declared.worker.Holding.{Holding}
 use Rattle.cell_turn.specs.declared.turn.Stepped.{Stepped}
 use Rattle.cell_turn.specs.declared.turn.Stepped.TheVariants.{Rests, Moves, Fails}
 use Rattle.cell_model.specs.Settings.{CellSetting, ServedCell, ServedPlay, HallInCell, desk_of_setting}
@@ -22,7 +22,7 @@ pub record IsHallTorn (old new : ServedHall) (hall : HallInCell) : Type 0 where
   pub rose : Rose old.faults new.faults
 
 -- What a worker's step makes of a play whose worker w held the old, by what it came to.
-abbrev pub TurnMakes : CellSetting → ℕ → ServedPlay → ServedHall → ServedHall → Worker → Stepped → Type 0
+abbrev pub TurnMakes : CellSetting → ℕ → ServedPlay → ServedHall → ServedHall → Holding → Stepped → Type 0
 TurnMakes s w play old new worker Rests =
     HasNoMove (one_of_worker s w) play × IsHallTied new play.cell.hall × (play.cell.workers w ≡ plain_worker worker) × KnowsItsCall s.desk worker
 TurnMakes s w play old new worker Moves =
@@ -33,7 +33,7 @@ TurnMakes s w play old new worker Fails =
     (cell : ServedCell) × Steps (desk_of_setting s) handler_rules play.cell (applies w) cell × (cell.loop ≡ play.cell.loop) × IsHallTorn old new cell.hall
 
 -- a worker that may make a step: in some play that is reached, it holds this, and the hall is that play's
-pub record MayTurn (desk : DeskMeaning) (hall : ServedHall) (worker : Worker) : Type 0 where
+pub record MayTurn (desk : DeskMeaning) (hall : ServedHall) (worker : Holding) : Type 0 where
   pub setting : CellSetting
   pub play : ServedPlay
   pub w : ℕ

@@ -7,7 +7,7 @@ use Rattle.machine_model.specs.HallRule.{HallOperation, take_job, apply, put, Ha
 use Rattle.machine_model.specs.Worker.{WorkerAsks}
 use Rattle.machine_model.specs.SeenHall.{SeenGives}
 use Rattle.hall_core.specs.Meant.{ServedHall}
-use Rattle.cell_turn.specs.declared.worker.Worker.{Worker}
+use Rattle.cell_turn.specs.declared.worker.Holding.{Holding}
 use Rattle.cell_turn.specs.declared.turn.Stepped.{Stepped}
 use Rattle.cell_turn.specs.declared.turn.Stepped.TheVariants.{Rests, Moves, Fails}
 use Rattle.cell_turn.specs.declared.stop.RunStop.{RunStop}
@@ -30,7 +30,7 @@ stepped_by (apply key call) journal_fault = Fails
 stepped_by _ _ = Moves
 
 -- A worker's step: it asks the hall what a worker may that holds this, and holds what comes of the answer.
-pub record IsWorkerTurn (desk : DeskMeaning) (old new : ServedHall) (worker next : Worker) (stepped : Stepped) : Type 0 where
+pub record IsWorkerTurn (desk : DeskMeaning) (old new : ServedHall) (worker next : Holding) (stepped : Stepped) : Type 0 where
   pub op : HallOperation PlainCall
   pub answer : HallAnswer PlainAnswer
   pub in_turn : IsAskedInTurn op

@@ -6,7 +6,7 @@
 //! ```rust
 //! let worker = take_out(&mut workers, place);
 //! let Turned { worker, stepped } = turn(alloc, desk, &mut hall, worker);     // it held a job, whose call is applied now
-//! put_back(&mut workers, place, worker);                                     // Worker::Answered(job, given)
+//! put_back(&mut workers, place, worker);                                     // Holding::Answered(job, given)
 //! let moved = told(stepped)?;                                                // true, unless the journal has failed
 //! ```
 //!
@@ -21,4 +21,4 @@ mod worker;
 
 pub use stop::RunStop;
 pub use turn::{Stepped, Turned, told};
-pub use worker::{Given, JobHeld, Worker, put_back, take_out};
+pub use worker::{Given, Holding, JobHeld, put_back, take_out};

@@ -10,7 +10,7 @@ ghost use Rattle.machine_model.specs.HallRule as rule;
 ghost use Rattle.machine_model.specs.Worker.{took, tried};
 ghost use Rattle.machine_model.specs.SeenHall.{SeenGives};
 ghost use Rattle.hall_core.specs.Asked.{answer_of};
-ghost use Rattle.cell_turn.specs.declared.worker.Worker.TheVariants.{Idle, Holds};
+ghost use Rattle.cell_turn.specs.declared.worker.Holding.TheVariants.{Idle, Holds};
 ghost use Rattle.cell_turn.specs.declared.turn.Stepped.TheVariants.{Moves};
 ghost use Rattle.cell_turn.specs.HallTied.{plain_worker, IsCallSo, KnowsItsCall, RepliesSo};
 ghost use Rattle.cell_model.specs.Replies.{IsReplySome};
@@ -18,7 +18,7 @@ ghost use Rattle.cell_turn.specs.TurnMoves.{MayTurn};
 ghost use Rattle.cell_turn.specs.Turns.{stepped_by, IsWorkerTurn, AnswersStep};
 
 use crate::stop::RunStop;
-use crate::worker::{Given, JobHeld, Worker};
+use crate::worker::{Given, Holding, JobHeld};
 use call_rules::{Decision, Desk, Handler, Journal, Key};
 use hall_core::{Hall, HallOp, HallReply};
 use outside::{Bytes, Settled};
@@ -39,7 +39,7 @@ pub enum Stepped {
 /// A worker's step, and what it holds behind it.
 #[derive(Drop)]
 pub struct Turned {
-    pub worker: Worker,
+    pub worker: Holding,
     pub stepped: Stepped,
 }
 
@@ -48,19 +48,19 @@ pub fn turn<D: Desk, H: Handler, J: Journal>(
     alloc: Global,
     desk: &D,
     hall: &mut Hall<H, J>,
-    worker: Worker,
+    worker: Holding,
 ) -> Turned
     requires { MayTurn (D.meaning desk.now) hall.old worker }
     ensures { IsWorkerTurn (D.meaning desk.now) hall.old hall.new worker result.worker result.stepped }
 {
     match worker {
-        Worker::Idle => take(hall),
-        Worker::Holds(job) => decide(alloc, desk, hall, job),
-        Worker::Answered(job, given) => {
+        Holding::Idle => take(hall),
+        Holding::Holds(job) => decide(alloc, desk, hall, job),
+        Holding::Answered(job, given) => {
             let settled = reply(alloc, desk, &job, &given);
             put(hall, job.key, settled)
         }
-        Worker::Unanswered(job) => put(hall, job.key, Settled::NoMemory),
+        Holding::Unanswered(job) => put(hall, job.key, Settled::NoMemory),
     }
 }
 
@@ -80,11 +80,11 @@ fn taken(reply: HallReply) -> Turned
 {
     match reply {
         HallReply::Job(key, payload) => Turned {
-            worker: Worker::Holds(JobHeld { key, payload }),
+            worker: Holding::Holds(JobHeld { key, payload }),
             stepped: Stepped::Moves,
         },
         _ => Turned {
-            worker: Worker::Idle,
+            worker: Holding::Idle,
             stepped: Stepped::Rests,
         },
     }
@@ -121,15 +121,15 @@ fn applied(job: JobHeld, silent: bool, reply: HallReply) -> Turned
 {
     match reply {
         HallReply::Applied(answer) => Turned {
-            worker: Worker::Answered(job, Given { answer, silent }),
+            worker: Holding::Answered(job, Given { answer, silent }),
             stepped: Stepped::Moves,
         },
         HallReply::JournalFault => Turned {
-            worker: Worker::Unanswered(job),
+            worker: Holding::Unanswered(job),
             stepped: Stepped::Fails,
         },
         _ => Turned {
-            worker: Worker::Unanswered(job),
+            worker: Holding::Unanswered(job),
             stepped: Stepped::Moves,
         },
     }
@@ -160,7 +160,7 @@ fn put<H: Handler, J: Journal>(hall: &mut Hall<H, J>, key: Key, settled: Settled
 {
     let _ = hall.step(HallOp::Put(key, settled));
     Turned {
-        worker: Worker::Idle,
+        worker: Holding::Idle,
         stepped: Stepped::Moves,
     }
 }

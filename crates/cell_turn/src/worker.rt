@@ -1,7 +1,7 @@
 //! What a worker holds.
 
 ghost use Rattle.std.specs.Prelude.{◌≡◌, ◌<◌, length, slice_index_or, slice_set};
-ghost use Rattle.cell_turn.specs.declared.worker.Worker.TheVariants.{Idle};
+ghost use Rattle.cell_turn.specs.declared.worker.Holding.TheVariants.{Idle};
 
 use call_rules::{Answer, Key};
 use outside::Bytes;
@@ -24,7 +24,7 @@ pub struct Given {
 
 /// What a worker holds.
 #[derive(Drop)]
-pub enum Worker {
+pub enum Holding {
     /// No job.
     Idle,
     /// A job of which nothing was done.
@@ -36,16 +36,16 @@ pub enum Worker {
 }
 
 /// Takes out what a worker holds, so that it holds no job.
-pub fn take_out(workers: &mut Vec<Worker>, place: usize) -> Worker
+pub fn take_out(workers: &mut Vec<Holding>, place: usize) -> Holding
     requires there { place < length workers.old.items }
     ensures taken { result ≡ slice_index_or workers.old.items place Idle }
     ensures left { workers.new.items ≡ slice_set workers.old.items place Idle }
 {
-    mem::replace(&mut workers[place], Worker::Idle)
+    mem::replace(&mut workers[place], Holding::Idle)
 }
 
 /// Gives a worker what it holds from now on.
-pub fn put_back(workers: &mut Vec<Worker>, place: usize, worker: Worker)
+pub fn put_back(workers: &mut Vec<Holding>, place: usize, worker: Holding)
     requires there { place < length workers.old.items }
     ensures { workers.new.items ≡ slice_set workers.old.items place worker }
 {

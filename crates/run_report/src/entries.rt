@@ -1,9 +1,10 @@
 //! What a report asks of the journal: its entries, and the line of each.
 
-ghost use Rattle.std.specs.Prelude.{◌≡◌, ◌++◌, ℕ, List, Some, OnOk};
+ghost use Rattle.std.specs.Prelude.{◌≡◌, ◌++◌, ℕ, List, Some, All, OnOk};
 ghost use Rattle.text_out.specs.Line.{line_of};
 ghost use Rattle.call_rules.specs.Entries.{CallEntry};
 ghost use Rattle.call_rules.specs.PlainCalls.{IsPlainCall, IsPlainAnswer};
+ghost use Rattle.run_report.specs.Entries.{IsPlainEntry};
 
 use call_rules::{Entry, Journal};
 use std::alloc::AllocError;
@@ -24,5 +25,6 @@ pub trait EntryLine {
 pub trait ReportedJournal: Journal {
     /// The entries, in the order in which they took effect.
     fn entries(&self) -> &[Entry]
-        ensures { Self.told self.now ≡ Some result.now };
+        ensures told { Self.told self.now ≡ Some result.now }
+        ensures plain { All IsPlainEntry result.now };
 }

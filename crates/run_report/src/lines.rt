@@ -3,25 +3,27 @@
 ghost use Rattle.std.specs.Prelude.{◌≡◌, ◌∷◌, [], ◌++◌, codes, length, OnOk};
 ghost use Rattle.text_out.specs.Decimal.{decimal_of, natural_of};
 ghost use Rattle.text_out.specs.Line.{line_of};
+ghost use Rattle.run_tape.specs.Marks.{lent_mark};
 ghost use Rattle.host_model.specs.Report.{cause_text, fault_text, mark_text, numbered};
 
 use host_model::EndCause;
-use outside::{EnvelopeFault, Mark};
+use outside::EnvelopeFault;
+use run_tape::MarkAt;
 use std::alloc::AllocError;
 use text_out::{decimal, hex};
 
 /// Appends the line of a mark.
-pub(crate) fn put_mark(into: &mut Vec<u8>, mark: &Mark) -> Result<(), AllocError>
-    ensures { OnOk result (into.new.items ≡ into.old.items ++ line_of (mark_text mark.now)) }
+pub(crate) fn put_mark(into: &mut Vec<u8>, mark: MarkAt<'_>) -> Result<(), AllocError>
+    ensures { OnOk result (into.new.items ≡ into.old.items ++ line_of (mark_text (lent_mark mark.entry))) }
 {
     match mark {
-        Mark::Opened(c) => put_numbered(into, b"tape open", u64::from(*c))?,
-        Mark::Read(c, bytes) => put_moved(into, b"tape read", *c, bytes.as_slice())?,
-        Mark::Ended(c) => put_numbered(into, b"tape end", u64::from(*c))?,
-        Mark::Wrote(c, bytes) => put_moved(into, b"tape wrote", *c, bytes.as_slice())?,
-        Mark::ReadFailed(c) => put_numbered(into, b"tape readfail", u64::from(*c))?,
-        Mark::WriteFailed(c) => put_numbered(into, b"tape writefail", u64::from(*c))?,
-        Mark::Closed(c) => put_numbered(into, b"tape close", u64::from(*c))?,
+        MarkAt::Opened(c) => put_numbered(into, b"tape open", u64::from(c))?,
+        MarkAt::Read(c, bytes) => put_moved(into, b"tape read", c, bytes)?,
+        MarkAt::Ended(c) => put_numbered(into, b"tape end", u64::from(c))?,
+        MarkAt::Wrote(c, bytes) => put_moved(into, b"tape wrote", c, bytes)?,
+        MarkAt::ReadFailed(c) => put_numbered(into, b"tape readfail", u64::from(c))?,
+        MarkAt::WriteFailed(c) => put_numbered(into, b"tape writefail", u64::from(c))?,
+        MarkAt::Closed(c) => put_numbered(into, b"tape close", u64::from(c))?,
     }
     into.push(b'\n')?;
     Ok(())

@@ -6,6 +6,7 @@ ghost use Rattle.outside.specs.Taken.{TakesText};
 ghost use Rattle.text_out.specs.Hex.{hex_of};
 ghost use Rattle.text_out.specs.Line.{line_of};
 ghost use Rattle.host_model.specs.Report.{end_text, hex_or_dash, journal_lines, mark_text, numbered, report, tape_lines};
+ghost use Rattle.run_tape.specs.Marks.{lent_mark};
 ghost use Rattle.run_report.specs.Entries.{IsPlainEntry};
 ghost use Rattle.run_report.specs.Written.{outputs, ended_lines};
 ghost use Rattle.run_report.specs.Pieces.{HasReportCause};
@@ -15,7 +16,8 @@ use crate::fault::ReportFault;
 use crate::lines::{put_count, put_end, put_mark};
 use call_rules::Entry;
 use host_model::EndCause;
-use outside::{Bytes, Mark, Sink, write_all};
+use outside::{Bytes, Sink, write_all};
+use run_tape::{MarkAt, RunTape};
 use std::alloc::Global;
 use text_out::hex;
 
@@ -30,7 +32,7 @@ const CHUNK: usize = 32_768;
 pub fn write_report<L: EntryLine, K: Sink>(
     alloc: Global,
     out: &mut K,
-    tape: &[Mark],
+    tape: &RunTape,
     journal: &[Entry],
     causes: &[EndCause],
     written: &[Bytes],
@@ -52,7 +54,7 @@ pub fn write_report<L: EntryLine, K: Sink>(
 fn write_lines<L: EntryLine, K: Sink>(
     out: &mut K,
     pending: &mut Vec<u8>,
-    tape: &[Mark],
+    tape: &RunTape,
     journal: &[Entry],
     causes: &[EndCause],
     written: &[Bytes],
@@ -71,12 +73,17 @@ fn write_lines<L: EntryLine, K: Sink>(
 
 /// Writes the lines of the tape.
 #[tactic(auto, using(crate::proofs::Taking::taking))]
-fn write_tape<K: Sink>(out: &mut K, pending: &mut Vec<u8>, tape: &[Mark]) -> Result<(), ReportFault>
+fn write_tape<K: Sink>(
+    out: &mut K,
+    pending: &mut Vec<u8>,
+    tape: &RunTape,
+) -> Result<(), ReportFault>
     ensures told { TakesText (K.taken out.old) (K.taken out.new)
         (pending.old.items ++ (tape_lines tape.now)) pending.new.items result }
     ensures cause { HasReportCause (K.faults out.old) (K.faults out.new) result }
 {
-    for mark in tape {
+    let mut marks = tape.marks();
+    'tape: while let Some(mark) = marks.next() {
         write_mark(out, pending, mark)?;
     }
     Ok(())
@@ -84,9 +91,13 @@ fn write_tape<K: Sink>(out: &mut K, pending: &mut Vec<u8>, tape: &[Mark]) -> Res
 
 /// Writes the line of a mark.
 #[tactic(auto, using(crate::proofs::Taking::taking))]
-fn write_mark<K: Sink>(out: &mut K, pending: &mut Vec<u8>, mark: &Mark) -> Result<(), ReportFault>
+fn write_mark<K: Sink>(
+    out: &mut K,
+    pending: &mut Vec<u8>,
+    mark: MarkAt<'_>,
+) -> Result<(), ReportFault>
     ensures told { TakesText (K.taken out.old) (K.taken out.new)
-        (pending.old.items ++ (line_of (mark_text mark.now))) pending.new.items result }
+        (pending.old.items ++ (line_of (mark_text (lent_mark mark.entry)))) pending.new.items result }
     ensures few { OnOk result (length pending.new.items < PIECE) }
     ensures cause { HasReportCause (K.faults out.old) (K.faults out.new) result }
 {

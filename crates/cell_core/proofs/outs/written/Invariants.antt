@@ -1,10 +1,14 @@
-use Rattle.std.proofs.Common.{◌≡◌, map, take}
+use Rattle.std.proofs.Common.{◌≡◌, length, map}
 use Rattle.cell_core.specs.Rehearsed.{written_from}
+use Rattle.cell_core.proofs.OutRows.{rows_behind_all}
 use Rattle.cell_core.proofs.outs.written.Given as goal
 
--- the rows are what the marks so far say
-abbrev pub invariant-loop-mark : goal.invariant-loop-mark
-invariant-loop-mark l = map (λ row. row.items) l.all.items ≡ written_from (take l.mark-index l.tape) 0 l.count
+-- the rows so far, with what the marks that are left say, are what all marks say
+abbrev pub invariant-walk : goal.invariant-walk
+invariant-walk l = rows_behind_all (map (λ row. row.items) l.all.items) l.marks ≡ written_from l.tape.items 0 l.count
+
+abbrev pub decreases-walk : goal.decreases-walk
+decreases-walk l = length l.marks
 
 -- the items so far are the rows so far
 abbrev pub invariant-loop-row : goal.invariant-loop-row

@@ -7,7 +7,7 @@ use Rattle.call_rules.specs.Desks.{DeskMeaning, longest_payload, IsDesk}
 use Rattle.call_rules.specs.PlainCalls.{PlainCall}
 use Rattle.machine_model.specs.Worker.{settled_by}
 use Rattle.hall_core.specs.Asked.{answer_of}
-use Rattle.cell_turn.specs.declared.worker.Worker.TheVariants.{Holds}
+use Rattle.cell_turn.specs.declared.worker.Holding.TheVariants.{Holds}
 use Rattle.cell_turn.specs.HallTied.{IsCallSo}
 use Rattle.cell_turn.proofs.Asking.{apply_turns, put_turns, call_so, frame_some, decided_so}
 use Rattle.cell_turn.proofs.Permitting.{apply_can, put_can, held_short}

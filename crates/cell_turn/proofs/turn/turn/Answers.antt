@@ -1,7 +1,7 @@
 use Rattle.std.proofs.Common.{refl, sym, subst, inr}
 use Rattle.outside.specs.declared.outcomes.Settled.TheVariants.{NoMemory}
-use Rattle.cell_turn.specs.declared.worker.Worker.{Worker}
-use Rattle.cell_turn.specs.declared.worker.Worker.TheVariants.{Answered, Unanswered}
+use Rattle.cell_turn.specs.declared.worker.Holding.{Holding}
+use Rattle.cell_turn.specs.declared.worker.Holding.TheVariants.{Answered, Unanswered}
 use Rattle.cell_turn.specs.TurnMoves.{MayTurn}
 use Rattle.cell_turn.specs.Turns.{IsWorkerTurn}
 use Rattle.cell_turn.proofs.Asking.{put_turns}
@@ -25,13 +25,13 @@ put-requires-in-Unanswered-after_bounds g c κs within =
 
 pub returns-in-Answered : goal.returns-in-Answered
 returns-in-Answered g c =
-    subst (λ (x : Worker). IsWorkerTurn (g.D.Desk.meaning c.args.desk.now) c.args.hall.now c.put.new.hall x c.put.result.worker c.put.result.stepped) (sym c.in-Answered.is)
+    subst (λ (x : Holding). IsWorkerTurn (g.D.Desk.meaning c.args.desk.now) c.args.hall.now c.put.new.hall x c.put.result.worker c.put.result.stepped) (sym c.in-Answered.is)
     (put_turns (g.D.Desk.meaning c.args.desk.now) c.args.hall.now c.put.new.hall (Answered c.in-Answered.job c.in-Answered.given) c.put.result.worker c.put.result.stepped c.in-Answered.job.key
     c.reply-settled.result (refl, c.reply-settled.ensures.settled) c.reply-settled.ensures.some c.put.ensures.gives c.put.ensures.worker c.put.ensures.stepped)
 
 pub returns-in-Unanswered : goal.returns-in-Unanswered
 returns-in-Unanswered g c =
-    subst (λ (x : Worker). IsWorkerTurn (g.D.Desk.meaning c.args.desk.now) c.args.hall.now c.put-in-Unanswered.new.hall x c.put-in-Unanswered.result.worker c.put-in-Unanswered.result.stepped)
+    subst (λ (x : Holding). IsWorkerTurn (g.D.Desk.meaning c.args.desk.now) c.args.hall.now c.put-in-Unanswered.new.hall x c.put-in-Unanswered.result.worker c.put-in-Unanswered.result.stepped)
     (sym c.in-Unanswered.is)
     (put_turns (g.D.Desk.meaning c.args.desk.now) c.args.hall.now c.put-in-Unanswered.new.hall (Unanswered c.in-Unanswered.job) c.put-in-Unanswered.result.worker
     c.put-in-Unanswered.result.stepped c.in-Unanswered.job.key NoMemory (refl, inr refl) tt c.put-in-Unanswered.ensures.gives c.put-in-Unanswered.ensures.worker

@@ -1,23 +1,36 @@
-use Rattle.std.proofs.Common.{◌≤◌, arith}
-use Rattle.host_model.specs.Report.{mark_text}
+use Rattle.std.proofs.Common.{◌≡◌, ◌<◌, ◌≤◌, ◌++◌, suc, List, length, ap, subst, arith}
+use Rattle.outside.specs.declared.marks.Mark.{Mark}
+use Rattle.outside.specs.Taken.{IsTakenBut}
+use Rattle.host_model.specs.Report.{mark_text, tape_lines}
 use Rattle.text_out.specs.Line.{line_of}
-use Rattle.outside.proofs.Taking.{line_taken, line_in_part, err_takes}
+use Rattle.run_tape.specs.Marks.{lent_mark}
+use Rattle.outside.proofs.Taking.{next_taken, next_in_part, err_takes}
 use Rattle.run_report.proofs.report.write_tape.Goals as goal
 
 pub returns-in_err-write_mark-clause-told : goal.returns-in_err-write_mark-clause-told
 returns-in_err-write_mark-clause-told g c =
     err_takes _ _ _ _ c.from_residual.result c.from_residual.ensures.0
-    (line_in_part (λ mark. line_of (mark_text mark)) c.args.tape.now c.loop-mark.mark-index c.mark-item.result c.mark-item.result
-    _ (g.K.Sink.taken c.loop-mark.out) _ _ c.loop-mark.pending.items (omega arith) c.mark-item.is c.loop-mark.invariant.told
+    (next_in_part (g.K.Sink.taken c.args.out.now) (g.K.Sink.taken c.tape.out) (g.K.Sink.taken c.write_mark.new.out) (c.args.pending.now.items ++ tape_lines c.args.tape.now) c.tape.pending.items
+    (line_of (mark_text (lent_mark c.in-Some.mark))) (tape_lines c.next.new.self)
+    (subst (λ (marks : List Mark). IsTakenBut (g.K.Sink.taken c.args.out.now) (g.K.Sink.taken c.tape.out) (c.args.pending.now.items ++ tape_lines c.args.tape.now) (c.tape.pending.items ++ tape_lines marks))
+    c.in-Some.ensures c.tape.invariant.told)
     (c.in_err-write_mark.ensures {u = tt}).told)
 
-pub loop-mark-preserved : goal.loop-mark-preserved
-loop-mark-preserved g c =
+pub tape-preserved : goal.tape-preserved
+tape-preserved g c =
     let w = c.in_ok-write_mark.ensures {u = tt} in
-    let later : g.K.Sink.faults c.loop-mark.out ≤ g.K.Sink.faults c.write_mark.new.out = w.cause.later in
-    let before : g.K.Sink.faults c.args.out.now ≤ g.K.Sink.faults c.loop-mark.out = c.loop-mark.invariant.later in
+    let later : g.K.Sink.faults c.tape.out ≤ g.K.Sink.faults c.write_mark.new.out = w.cause.later in
+    let before : g.K.Sink.faults c.args.out.now ≤ g.K.Sink.faults c.tape.out = c.tape.invariant.later in
     record {
-      told = line_taken (λ mark. line_of (mark_text mark)) c.args.tape.now c.loop-mark.mark-index c.mark-item.result c.mark-item.result
-          _ (g.K.Sink.taken c.loop-mark.out) _ _ c.loop-mark.pending.items _ (omega arith) c.mark-item.is c.loop-mark.invariant.told w.told;
+      told = next_taken (g.K.Sink.taken c.args.out.now) (g.K.Sink.taken c.tape.out) (g.K.Sink.taken c.write_mark.new.out) (c.args.pending.now.items ++ tape_lines c.args.tape.now) c.tape.pending.items
+          (line_of (mark_text (lent_mark c.in-Some.mark))) (tape_lines c.next.new.self) c.write_mark.new.pending.items
+          (subst (λ (marks : List Mark). IsTakenBut (g.K.Sink.taken c.args.out.now) (g.K.Sink.taken c.tape.out) (c.args.pending.now.items ++ tape_lines c.args.tape.now) (c.tape.pending.items ++ tape_lines marks))
+          c.in-Some.ensures c.tape.invariant.told) w.told;
       later = omega arith;
     }
+
+pub tape-smaller : goal.tape-smaller
+tape-smaller g c =
+    let more : length c.tape.marks ≡ suc (length c.next.new.self) = ap length c.in-Some.ensures in
+    let less : length c.next.new.self < length c.tape.marks = omega arith in
+    less

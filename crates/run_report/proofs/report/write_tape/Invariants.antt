@@ -1,11 +1,14 @@
-use Rattle.std.proofs.Common.{◌≤◌, ◌++◌, drop}
+use Rattle.std.proofs.Common.{◌≤◌, ◌++◌, length}
 use Rattle.host_model.specs.Report.{tape_lines}
 use Rattle.outside.specs.Taken.{IsTakenBut}
 use Rattle.run_report.proofs.report.write_tape.Given as goal
 
-abbrev pub invariant-loop-mark : goal.invariant-loop-mark
-invariant-loop-mark g l = record {
-  told : IsTakenBut (g.K.Sink.taken l.fn.out) (g.K.Sink.taken l.out) (l.fn.pending.items ++ tape_lines l.tape)
-      (l.pending.items ++ tape_lines (drop l.mark-index l.tape));
+-- what is pending and the lines of the marks that are left are all that wasn't taken
+abbrev pub invariant-tape : goal.invariant-tape
+invariant-tape g l = record {
+  told : IsTakenBut (g.K.Sink.taken l.fn.out) (g.K.Sink.taken l.out) (l.fn.pending.items ++ tape_lines l.fn.tape) (l.pending.items ++ tape_lines l.marks);
   later : g.K.Sink.faults l.fn.out ≤ g.K.Sink.faults l.out;
 }
+
+abbrev pub decreases-tape : goal.decreases-tape
+decreases-tape g l = length l.marks

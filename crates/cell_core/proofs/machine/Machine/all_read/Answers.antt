@@ -1,14 +1,21 @@
-use Rattle.std.proofs.Common.{◌-◌, length, arith}
+use Rattle.std.proofs.Common.{◌-◌, ◌+◌, false, List, length, slice_get, subst, arith}
+use Rattle.cell_loop.specs.declared.loop_part.Stand.{Stand}
+use Rattle.cell_core.specs.MachineSteps.{HasNoTurn}
 use Rattle.rehearsal_model.specs.ScriptLines.{count_up}
 use Rattle.cell_model.specs.Moving.{all_of_conns, first_of_conns}
 use Rattle.cell_loop.specs.LoopMoves.{HasLongest}
 use Rattle.cell_core.specs.Parts.{parts_of}
 use Rattle.cell_core.proofs.Rounds.{breaks_off}
-use Rattle.cell_core.proofs.PassRounds.{on_err, machine_on, conns_begin, conns_round, conns_last}
+use Rattle.cell_core.proofs.PassRounds.{on_err, machine_on, conns_begin, conns_round, conns_to, conns_last}
 use Rattle.cell_core.proofs.machine.Machine.all_read.Goals as goal
 
 pub conns-init : goal.conns-init
-conns-init g c = conns_begin c.args.max_frame (length c.args.self.now.part.stands.items) (parts_of c.args.self.now) c.requires.under_way.2.room
+conns-init g c =
+    conns_to c.args.max_frame (length c.args.self.now.part.stands.items) (parts_of c.args.self.now) (parts_of c.args.self.now) false
+    (λ s x one other reached comes. c.moves_are_reached.ensures.conn s x one other reached comes) c.requires.under_way 0 c.next_turn-c.result
+    c.next_turn-c.ensures.from (omega (arith, c.next_turn-c.ensures.within, c.in-Ok.ensures, c.len.ensures))
+    (λ k from below. subst (λ (stands : List Stand). HasNoTurn (slice_get stands k)) c.as_slice.ensures.value (c.next_turn-c.ensures.still k from below))
+    (conns_begin c.args.max_frame (length c.args.self.now.part.stands.items) (parts_of c.args.self.now) c.requires.under_way.2.room)
 
 pub read_through-requires-clause-under_way : goal.read_through-requires-clause-under_way
 read_through-requires-clause-under_way g c κs within =
@@ -24,9 +31,17 @@ returns-in_err-read-clause-err g c =
 
 pub conns-preserved : goal.conns-preserved
 conns-preserved g c =
-    conns_round c.args.max_frame (length c.args.self.now.part.stands.items) c.conns.c (parts_of c.args.self.now) (parts_of c.conns.self) (parts_of c.read_through.new.self) c.conns.moved c.in_ok-read.read
+    let n = length c.args.self.now.part.stands.items in
+    let round =
+    conns_round c.args.max_frame n c.conns.c (parts_of c.args.self.now) (parts_of c.conns.self) (parts_of c.read_through.new.self) c.conns.moved c.in_ok-read.read
     c.either-moved.result (omega (arith, c.conns-test.true, c.in-Ok.ensures, c.len.ensures))
-    c.conns.invariant c.in_ok-read.ensures.done c.either-moved.ensures
+    c.conns.invariant c.in_ok-read.ensures.done c.either-moved.ensures in
+    conns_to c.args.max_frame n (parts_of c.args.self.now) (parts_of c.read_through.new.self) c.either-moved.result
+    (λ s x one other reached comes. c.moves_are_reached.ensures.conn s x one other reached comes)
+    (machine_on c.args.max_frame (λ s. first_of_conns s n) (λ s. all_of_conns s (count_up (c.conns.c + 1) (n - (c.conns.c + 1)))) (parts_of c.args.self.now) (parts_of c.read_through.new.self)
+    c.either-moved.result round c.requires.under_way)
+    (c.conns.c + 1) c.next_turn-c-in-conns.result c.next_turn-c-in-conns.ensures.from (omega (arith, c.next_turn-c-in-conns.ensures.within, c.in-Ok.ensures, c.len.ensures))
+    (λ k from below. subst (λ (stands : List Stand). HasNoTurn (slice_get stands k)) c.as_slice-in-conns.ensures.value (c.next_turn-c-in-conns.ensures.still k from below)) round
 
 pub returns-clause-done : goal.returns-clause-done
 returns-clause-done g c =

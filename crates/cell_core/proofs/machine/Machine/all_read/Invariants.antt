@@ -11,3 +11,6 @@ abbrev pub invariant-conns : goal.invariant-conns
 invariant-conns g l =
     IsGoing (HasLongest l.max_frame) (λ s. first_of_conns s (length l.fn.self.part.stands.items)) (λ s. all_of_conns s (count_up l.c (length l.fn.self.part.stands.items - l.c)))
     (parts_of l.fn.self) l.moved (parts_of l.self)
+
+abbrev pub decreases-conns : goal.decreases-conns
+decreases-conns g l = l.count - l.c

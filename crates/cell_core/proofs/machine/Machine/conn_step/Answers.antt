@@ -1,6 +1,7 @@
 use Rattle.std.proofs.Common.{true, Some, sym, ap, ◌∙◌, subst}
 use Rattle.cell_core.specs.Parts.{parts_of}
-use Rattle.cell_core.proofs.ConnMoves.{HasNoTurn, moved_steps, part_steps, none_steps}
+use Rattle.cell_core.specs.MachineSteps.{HasNoTurn}
+use Rattle.cell_core.proofs.ConnMoves.{moved_steps, part_steps, none_steps}
 use Rattle.cell_core.proofs.machine.Machine.conn_step.Goals as goal
 
 pub returns-in-Some-Whole : goal.returns-in-Some-Whole

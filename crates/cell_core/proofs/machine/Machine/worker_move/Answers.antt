@@ -1,8 +1,8 @@
 use Rattle.std.proofs.Common.{◌<◌, ℕ, List, length, get_or, length-set, refl, sym, ap, ◌∙◌, subst}
 use Rattle.std.specs.Prelude.{IfOk, OnErr}
 use Rattle.call_rules.specs.Desks.{DeskMeaning}
-use Rattle.cell_turn.specs.declared.worker.Worker.{Worker}
-use Rattle.cell_turn.specs.declared.worker.Worker.TheVariants.{Idle}
+use Rattle.cell_turn.specs.declared.worker.Holding.{Holding}
+use Rattle.cell_turn.specs.declared.worker.Holding.TheVariants.{Idle}
 use Rattle.cell_core.specs.Parts.{Parts, parts_of}
 use Rattle.cell_model.specs.Moving.{one_of_worker}
 use Rattle.cell_core.specs.Machines.{DeskMoves, FailsAt, LeavesLess, MoveKeeps}
@@ -26,8 +26,8 @@ returns-clause-moved g c =
     let desk : DeskMeaning = g.D.Desk.meaning c.args.desk.now in
     let old : Parts = parts_of c.args.self.now in
     let turned : IsWorkerTurn desk old.hall c.turn-worker.new.hall (get_or old.workers c.args.w Idle) c.turn-worker.result.worker c.turn-worker.result.stepped =
-    subst (λ (x : Worker). IsWorkerTurn desk old.hall c.turn-worker.new.hall x c.turn-worker.result.worker c.turn-worker.result.stepped) c.take_out-worker.ensures.taken c.turn-worker.ensures in
-    subst (λ (ws : List Worker). IfOk c.told.result (λ moved. DeskMoves desk (λ s. one_of_worker s c.args.w) old moved (record { part = old.part; hall = c.turn-worker.new.hall; workers = ws })))
+    subst (λ (x : Holding). IsWorkerTurn desk old.hall c.turn-worker.new.hall x c.turn-worker.result.worker c.turn-worker.result.stepped) c.take_out-worker.ensures.taken c.turn-worker.ensures in
+    subst (λ (ws : List Holding). IfOk c.told.result (λ moved. DeskMoves desk (λ s. one_of_worker s c.args.w) old moved (record { part = old.part; hall = c.turn-worker.new.hall; workers = ws })))
     (sym (put_back_so old.workers c.take_out-worker.new.workers.items c.put_back.new.workers.items c.args.w c.turn-worker.result.worker c.take_out-worker.ensures.left c.put_back.ensures))
     (worker_moved desk c.args.w old.part old.hall c.turn-worker.new.hall old.workers c.turn-worker.result.worker c.turn-worker.result.stepped c.requires.there turned
     (λ s v one other reached comes. c.moves_are_reached.ensures.worker s v one other reached comes) c.told.result c.turn-worker.result.stepped refl c.told.ensures)
@@ -37,8 +37,8 @@ returns-clause-failed g c =
     let desk : DeskMeaning = g.D.Desk.meaning c.args.desk.now in
     let old : Parts = parts_of c.args.self.now in
     let turned : IsWorkerTurn desk old.hall c.turn-worker.new.hall (get_or old.workers c.args.w Idle) c.turn-worker.result.worker c.turn-worker.result.stepped =
-    subst (λ (x : Worker). IsWorkerTurn desk old.hall c.turn-worker.new.hall x c.turn-worker.result.worker c.turn-worker.result.stepped) c.take_out-worker.ensures.taken c.turn-worker.ensures in
-    subst (λ (ws : List Worker). OnErr c.told.result (FailsAt desk old (record { part = old.part; hall = c.turn-worker.new.hall; workers = ws })))
+    subst (λ (x : Holding). IsWorkerTurn desk old.hall c.turn-worker.new.hall x c.turn-worker.result.worker c.turn-worker.result.stepped) c.take_out-worker.ensures.taken c.turn-worker.ensures in
+    subst (λ (ws : List Holding). OnErr c.told.result (FailsAt desk old (record { part = old.part; hall = c.turn-worker.new.hall; workers = ws })))
     (sym (put_back_so old.workers c.take_out-worker.new.workers.items c.put_back.new.workers.items c.args.w c.turn-worker.result.worker c.take_out-worker.ensures.left c.put_back.ensures))
     (worker_failed desk c.args.w old.part old.hall c.turn-worker.new.hall old.workers c.turn-worker.result.worker c.turn-worker.result.stepped c.requires.there turned
     (λ s v one other reached comes. c.moves_are_reached.ensures.worker s v one other reached comes) c.told.result c.turn-worker.result.stepped refl c.told.ensures)
@@ -51,8 +51,8 @@ returns-clause-less g c =
     let desk : DeskMeaning = g.D.Desk.meaning c.args.desk.now in
     let old : Parts = parts_of c.args.self.now in
     let turned : IsWorkerTurn desk old.hall c.turn-worker.new.hall (get_or old.workers c.args.w Idle) c.turn-worker.result.worker c.turn-worker.result.stepped =
-    subst (λ (x : Worker). IsWorkerTurn desk old.hall c.turn-worker.new.hall x c.turn-worker.result.worker c.turn-worker.result.stepped) c.take_out-worker.ensures.taken c.turn-worker.ensures in
-    subst (λ (ws : List Worker). IfOk c.told.result (λ moved. LeavesLess moved old (record { part = old.part; hall = c.turn-worker.new.hall; workers = ws })))
+    subst (λ (x : Holding). IsWorkerTurn desk old.hall c.turn-worker.new.hall x c.turn-worker.result.worker c.turn-worker.result.stepped) c.take_out-worker.ensures.taken c.turn-worker.ensures in
+    subst (λ (ws : List Holding). IfOk c.told.result (λ moved. LeavesLess moved old (record { part = old.part; hall = c.turn-worker.new.hall; workers = ws })))
     (sym (put_back_so old.workers c.take_out-worker.new.workers.items c.put_back.new.workers.items c.args.w c.turn-worker.result.worker c.take_out-worker.ensures.left c.put_back.ensures))
     (worker_less desk c.args.w old.part old.hall c.turn-worker.new.hall old.workers c.turn-worker.result.worker c.turn-worker.result.stepped c.requires.there turned
     (λ s v one other reached comes. c.moves_are_reached.ensures.worker s v one other reached comes) c.told.result c.requires.desk c.turn-worker.result.stepped refl c.told.ensures)
@@ -62,8 +62,8 @@ returns-clause-kept g c =
     let desk : DeskMeaning = g.D.Desk.meaning c.args.desk.now in
     let old : Parts = parts_of c.args.self.now in
     let turned : IsWorkerTurn desk old.hall c.turn-worker.new.hall (get_or old.workers c.args.w Idle) c.turn-worker.result.worker c.turn-worker.result.stepped =
-    subst (λ (x : Worker). IsWorkerTurn desk old.hall c.turn-worker.new.hall x c.turn-worker.result.worker c.turn-worker.result.stepped) c.take_out-worker.ensures.taken c.turn-worker.ensures in
-    subst (λ (ws : List Worker). MoveKeeps old (record { part = old.part; hall = c.turn-worker.new.hall; workers = ws }))
+    subst (λ (x : Holding). IsWorkerTurn desk old.hall c.turn-worker.new.hall x c.turn-worker.result.worker c.turn-worker.result.stepped) c.take_out-worker.ensures.taken c.turn-worker.ensures in
+    subst (λ (ws : List Holding). MoveKeeps old (record { part = old.part; hall = c.turn-worker.new.hall; workers = ws }))
     (sym (put_back_so old.workers c.take_out-worker.new.workers.items c.put_back.new.workers.items c.args.w c.turn-worker.result.worker c.take_out-worker.ensures.left c.put_back.ensures))
     (worker_kept desk c.args.w old.part old.hall c.turn-worker.new.hall old.workers c.turn-worker.result.worker c.turn-worker.result.stepped c.requires.there turned
     (λ s v one other reached comes. c.moves_are_reached.ensures.worker s v one other reached comes) c.requires.desk)

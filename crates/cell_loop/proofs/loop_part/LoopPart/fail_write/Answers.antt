@@ -1,5 +1,4 @@
 use Rattle.std.proofs.Common.{◌≡◌, ◌+◌, ◌<◌, length, ap, ◌∙◌, sym, refl, subst, arith}
-use Rattle.std.specs.Vec.{vec_capacity}
 use Rattle.std.proofs.lemmas.List.{length_push}
 use Rattle.std.proofs.lemmas.Option.{get_or_from_slice_get}
 use Rattle.outside.specs.declared.marks.Mark.TheVariants.{WriteFailed}
@@ -12,14 +11,14 @@ use Rattle.cell_loop.proofs.ClosingOff.{has_room, two_room, same_but}
 use Rattle.cell_loop.proofs.Behind.{closes_on, closed_room}
 use Rattle.cell_loop.proofs.loop_part.LoopPart.fail_write.Goals as goal
 
-pub push_reserved-requires : goal.push_reserved-requires
-push_reserved-requires c = omega (arith, has_room c.args.self.now c.args.c c.requires.room c.requires.there, c.args.self.now.tape.ok.0)
+pub push-requires-clause-room : goal.push-requires-clause-room
+push-requires-clause-room c = has_room c.args.self.now c.args.c c.requires.room c.requires.there
 
 pub give_up-requires : goal.give_up-requires
 give_up-requires c =
-    let marks : length c.push_reserved.new.self.items ≡ length c.args.self.now.tape.items + 1 = ap length c.push_reserved.ensures.items ∙ length_push _ _ in
-    let room : length c.args.self.now.tape.items + 1 < vec_capacity c.args.self.now.tape = two_room c.args.self.now c.args.c c.requires.room c.requires.there in
-    let same : vec_capacity c.push_reserved.new.self ≡ vec_capacity c.args.self.now.tape = c.push_reserved.ensures.capacity in
+    let marks : length c.push.new.self.items ≡ length c.args.self.now.tape.items + 1 = ap length c.push.ensures.items ∙ length_push _ _ in
+    let room : length c.args.self.now.tape.items + 1 < c.args.self.now.tape.capacity = two_room c.args.self.now c.args.c c.requires.room c.requires.there in
+    let same : c.push.new.self.capacity ≡ c.args.self.now.tape.capacity = c.push.ensures.capacity in
     record {
       there = c.requires.there;
       going = c.requires.going;
@@ -34,6 +33,6 @@ give_up-requires c =
 pub returns : goal.returns
 returns c =
     let closed : ClosesBehind c.args.c (WriteFailed c.args.c) WriteFault c.args.self.now c.give_up.new.self =
-    closes_on c.args.c (WriteFailed c.args.c) WriteFault c.args.self.now (record c.args.self.now { tape = c.push_reserved.new.self }) c.give_up.new.self
-    (same_but c.args.c c.args.self.now.table) refl refl c.push_reserved.ensures.items c.push_reserved.ensures.capacity refl refl c.give_up.ensures.closed in
+    closes_on c.args.c (WriteFailed c.args.c) WriteFault c.args.self.now (record c.args.self.now { tape = c.push.new.self }) c.give_up.new.self
+    (same_but c.args.c c.args.self.now.table) refl refl c.push.ensures.items c.push.ensures.capacity refl refl c.give_up.ensures.closed in
     record { closed = closed; room = closed_room c.args.c (WriteFailed c.args.c) WriteFault c.args.self.now c.give_up.new.self closed c.requires.room }

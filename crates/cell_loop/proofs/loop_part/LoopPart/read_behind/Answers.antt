@@ -46,9 +46,9 @@ returns-in-Some-Ends-clause-moved c = λ s play any t.
     let cause : (x : EndCause) × (cause_of (after_end_of_input (slot_of c.args.c c.args.self.now.table.slots).conn.phase) ≡ Some x) =
     value_of (cause_of (after_end_of_input (slot_of c.args.c c.args.self.now.table.slots).conn.phase)) (end_over (slot_of c.args.c c.args.self.now.table.slots).conn.phase) in
     let closed : ClosesBehind c.args.c (Ended c.args.c) cause.0 c.args.self.now c.let_go.new.self =
-    closes_on c.args.c (Ended c.args.c) cause.0 c.args.self.now (record c.args.self.now { table = c.end_of_input.new.self; tape = c.push_reserved.new.self }) c.let_go.new.self
+    closes_on c.args.c (Ended c.args.c) cause.0 c.args.self.now (record c.args.self.now { table = c.end_of_input.new.self; tape = c.push.new.self }) c.let_go.new.self
     (state_but c.args.c _ c.args.self.now.table c.end_of_input.new.self c.requires.reads.1 c.end_of_input.ensures)
-    (state_count c.args.c _ c.args.self.now.table c.end_of_input.new.self c.requires.reads.1 c.end_of_input.ensures) refl c.push_reserved.ensures.items c.push_reserved.ensures.capacity refl refl
+    (state_count c.args.c _ c.args.self.now.table c.end_of_input.new.self c.requires.reads.1 c.end_of_input.ensures) refl c.push.ensures.items c.push.ensures.capacity refl refl
     (c.let_go.ensures.closed cause.0
     (ap (λ (v : ConnView). cause_of v.phase) (state_is c.args.c _ c.args.self.now.table c.end_of_input.new.self c.requires.reads.1 c.end_of_input.ensures) ∙ cause.1)) in
     let own : c.in-Some-Ends.field-0 ≡ Ends = rw c.in-Some-Ends.is at c.in-Some-Ends.field-0-is in
@@ -63,9 +63,9 @@ returns-in-Some-Ends-clause-room c =
     let cause : (x : EndCause) × (cause_of (after_end_of_input (slot_of c.args.c c.args.self.now.table.slots).conn.phase) ≡ Some x) =
     value_of (cause_of (after_end_of_input (slot_of c.args.c c.args.self.now.table.slots).conn.phase)) (end_over (slot_of c.args.c c.args.self.now.table.slots).conn.phase) in
     let closed : ClosesBehind c.args.c (Ended c.args.c) cause.0 c.args.self.now c.let_go.new.self =
-    closes_on c.args.c (Ended c.args.c) cause.0 c.args.self.now (record c.args.self.now { table = c.end_of_input.new.self; tape = c.push_reserved.new.self }) c.let_go.new.self
+    closes_on c.args.c (Ended c.args.c) cause.0 c.args.self.now (record c.args.self.now { table = c.end_of_input.new.self; tape = c.push.new.self }) c.let_go.new.self
     (state_but c.args.c _ c.args.self.now.table c.end_of_input.new.self c.requires.reads.1 c.end_of_input.ensures)
-    (state_count c.args.c _ c.args.self.now.table c.end_of_input.new.self c.requires.reads.1 c.end_of_input.ensures) refl c.push_reserved.ensures.items c.push_reserved.ensures.capacity refl refl
+    (state_count c.args.c _ c.args.self.now.table c.end_of_input.new.self c.requires.reads.1 c.end_of_input.ensures) refl c.push.ensures.items c.push.ensures.capacity refl refl
     (c.let_go.ensures.closed cause.0
     (ap (λ (v : ConnView). cause_of v.phase) (state_is c.args.c _ c.args.self.now.table c.end_of_input.new.self c.requires.reads.1 c.end_of_input.ensures) ∙ cause.1)) in
     closed_room c.args.c (Ended c.args.c) cause.0 c.args.self.now c.let_go.new.self closed c.requires.under_way.room
@@ -81,8 +81,8 @@ returns-in-Some-Ends-clause-feeds c =
 pub returns-in-Some-Fails-clause-moved : goal.returns-in-Some-Fails-clause-moved
 returns-in-Some-Fails-clause-moved c = λ s play any t.
     let closed : ClosesBehind c.args.c (ReadFailed c.args.c) ReadFault c.args.self.now c.give_up.new.self =
-    closes_on c.args.c (ReadFailed c.args.c) ReadFault c.args.self.now (record c.args.self.now { tape = c.push_reserved-in-Some-Fails.new.self }) c.give_up.new.self
-    (same_but c.args.c c.args.self.now.table) refl refl c.push_reserved-in-Some-Fails.ensures.items c.push_reserved-in-Some-Fails.ensures.capacity refl refl c.give_up.ensures.closed in
+    closes_on c.args.c (ReadFailed c.args.c) ReadFault c.args.self.now (record c.args.self.now { tape = c.push-in-Some-Fails.new.self }) c.give_up.new.self
+    (same_but c.args.c c.args.self.now.table) refl refl c.push-in-Some-Fails.ensures.items c.push-in-Some-Fails.ensures.capacity refl refl c.give_up.ensures.closed in
     let own : c.in-Some-Fails.field-0 ≡ Fails = rw c.in-Some-Fails.is at c.in-Some-Fails.field-0-is in
     let known : c.index.result.now.finish ≡ Some Fails = c.in-Some-Fails.is ∙ ap (λ (k : Finish). Some k) own in
     fails_behind s c.args.c c.args.self.now play t c.requires.reads c.requires.none c.give_up.new.self

@@ -1,6 +1,6 @@
 use Rattle.std.proofs.Common.{Vec, Global, ◌≡◌, ◌++◌, ◌<◌, ◌≤◌, length, take, slice_index_or, ap, ◌∙◌, refl, arith}
 use Rattle.std.specs.Vec.{vec_capacity}
-use Rattle.outside.specs.declared.marks.Mark.{Mark}
+use Rattle.run_tape.specs.Rows.{TapeView}
 use Rattle.cell_loop.specs.declared.loop_part.Stand.{Stand}
 use Rattle.cell_loop.specs.declared.loop_part.Stand.TheVariants.{Lean}
 use Rattle.cell_loop.specs.Closing.{end_told}
@@ -35,6 +35,6 @@ returns c =
     let all : c.loop-c.c ≡ length c.args.self.now.stands.items = omega (arith, c.args.self.now.stands.ok.0) in
     record {
       ends = λ causes over. c.loop-c.invariant.0 ∙ all_told c.args.self.now causes c.loop-c.c all over;
-      tape = ap (λ (v : Vec Mark Global). v.items) c.loop-c.invariant.2;
+      tape = ap (λ (v : TapeView). v.items) c.loop-c.invariant.2;
       stands = c.loop-c.invariant.3;
     }
