@@ -175,7 +175,7 @@ impl Defined for Service {
 }
 
 /// The definitions of a kind, in order.
-fn all_of<'a, D: Defined>(files: Based<'a>) -> Made<Vec<InFile<'a, D>>>
+pub(crate) fn all_of<'a, D: Defined>(files: Based<'a>) -> Made<Vec<InFile<'a, D>>>
     ensures { IfOk result (λ found. map (filed_by D.declares) found.items ≡ picked_from D.pick 0 (program_in files.entry.all.now)) }
 {
     let mut found = Vec::new(files.alloc);

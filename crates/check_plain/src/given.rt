@@ -23,7 +23,7 @@ use std::alloc::AllocError;
 
 /// The values that a program gives, in reading order.
 #[tactic(auto, using(crate::proofs::GivenShown::values_given))]
-pub(crate) fn all_given<'a>(files: Based<'a>) -> Made<Vec<GivenTree<'a>>>
+pub fn all_given<'a>(files: Based<'a>) -> Made<Vec<GivenTree<'a>>>
     ensures { IfOk result (λ values. map filed_value values.items ≡ values_of (program_in files.entry.all.now)) }
 {
     let mut values = Vec::new(files.alloc);
@@ -168,7 +168,7 @@ fn first_given(values: &[GivenTree<'_>], file: u32, owner: Place) -> Option<usiz
 }
 
 /// The number of the value that a constant, or a field, of this place gives.
-pub(crate) fn value_number(files: Based<'_>, file: u32, owner: Place) -> Made<Option<u32>>
+pub fn value_number(files: Based<'_>, file: u32, owner: Place) -> Made<Option<u32>>
     ensures { IfOk result (λ number. number ≡ value_number (program_in files.entry.all.now) file owner) }
 {
     let values = all_given(files)?;

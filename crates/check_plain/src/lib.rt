@@ -17,11 +17,14 @@ mod defined;
 mod dots;
 mod given;
 mod kinds;
+mod listed;
 mod names;
 mod numbers;
 
 pub use based::{Based, Made};
 pub use const_names::const_named;
+pub use given::{all_given, value_number};
 pub use kinds::kind_of_type;
+pub use listed::{all_services, all_structs};
 pub use names::{service_named, type_named};
-pub use numbers::{enum_numbers, field_ids};
+pub use numbers::{enum_numbers, field_ids, id_behind, one_more_unnumbered};

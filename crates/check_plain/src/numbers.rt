@@ -32,7 +32,7 @@ fn put_ids(ids: &mut Vec<i64>, unnumbered: u32, fields: &[Field]) -> Made<()>
 
 /// The id of a field behind so many without a written number.
 #[tactic(auto, unfolding(idl_model::specs::DeclaredIn::field_in))]
-fn id_behind(unnumbered: u32, field: &Field) -> i64
+pub fn id_behind(unnumbered: u32, field: &Field) -> i64
     ensures { result ≡ id_behind unnumbered (field_in field.now).id }
 {
     match &field.id {
@@ -43,7 +43,7 @@ fn id_behind(unnumbered: u32, field: &Field) -> i64
 
 /// How many fields have no written number, once one more stands behind so many.
 #[tactic(auto, unfolding(idl_model::specs::DeclaredIn::field_in))]
-fn one_more_unnumbered(unnumbered: u32, field: &Field) -> Made<u32>
+pub fn one_more_unnumbered(unnumbered: u32, field: &Field) -> Made<u32>
     ensures { IfOk result (λ count. count ≡ one_more_unnumbered unnumbered (field_in field.now).id) }
 {
     match &field.id {

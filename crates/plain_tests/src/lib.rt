@@ -3,12 +3,24 @@
 #![tactic(auto)]
 
 #[cfg(test)]
+mod answers;
+#[cfg(test)]
+mod checked;
+#[cfg(test)]
 mod constants;
 #[cfg(test)]
 mod kinds;
+#[cfg(test)]
+mod levels;
 #[cfg(test)]
 mod loaded;
 #[cfg(test)]
 mod names;
 #[cfg(test)]
 mod numbers;
+#[cfg(test)]
+mod schemas;
+#[cfg(test)]
+mod worth_rows;
+#[cfg(test)]
+mod worths;

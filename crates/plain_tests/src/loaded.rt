@@ -37,7 +37,7 @@ pub(crate) fn loaded(alloc: Global, held: &[Held]) -> Result<Result<Sources, Loa
 pub(crate) fn loaded_beside(
     alloc: Global,
     text: &str,
-    other: Held,
+    other: (&str, &str),
 ) -> Result<Result<Sources, LoadFault>, AllocError>
     ensures { IfOk result (λ made. IfOk made (λ sources. AreFiles (sources_in sources))) }
 {

@@ -1,0 +1,9 @@
+pub mod Among
+pub mod Beginnings
+pub mod Braces
+pub mod Entering
+pub mod KindsOf
+pub mod OneMore
+pub mod Spelled
+pub mod WholeBits
+pub mod WholeParts

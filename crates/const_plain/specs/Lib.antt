@@ -1,0 +1,4 @@
+pub mod Answers
+pub mod InMemory
+pub mod Scopes
+pub mod Saturated

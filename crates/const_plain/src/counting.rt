@@ -1,0 +1,108 @@
+//! How many values were evaluated, and what is made of one value and of a container.
+
+ghost use Rattle.std.specs.Prelude.{◌≡◌, suc, true, false, is_ok, OnOk, IfOk, MatchResult, ℕ};
+ghost use Rattle.thrift_value.specs.Tree.{Tree};
+ghost use Rattle.thrift_value.specs.TreeOf.{tree_of};
+ghost use Rattle.check_model.specs.Worths.{Worth, one_more, seen_at};
+ghost use Rattle.check_model.specs.Scalars.{OneWorth};
+ghost use Rattle.check_model.specs.Evaluation.{single, opened};
+ghost use Rattle.const_plain.specs.Answers.{IsPlainOne, StopsPlainly, AnswersPlainly};
+
+use crate::faults::{PlainFault, PlainStop};
+use idl_token::Place;
+use thrift_value::Value;
+
+/// How many values a constant has at most, itself included.
+const MOST_VALUES: u32 = 4_000_000;
+
+/// How many values were evaluated.
+#[derive(Drop)]
+pub(crate) struct Counted {
+    /// The number.
+    pub(crate) values: u32,
+}
+
+/// One value more.
+fn count_value(work: &mut Counted, at: Place) -> Result<(), PlainStop>
+    ensures more { OnOk result (work.new.values ≡ suc work.old.values) }
+    ensures counted { (inside : ℕ → Worth Tree) → MatchResult result
+        (λ _. one_more at work.old.values inside ≡ inside (suc work.old.values))
+        (λ stop. StopsPlainly stop (one_more at work.old.values inside)) }
+{
+    if work.values >= MOST_VALUES {
+        return Err(PlainStop {
+            at,
+            fault: PlainFault::TooLarge,
+        });
+    }
+    work.values += 1;
+    Ok(())
+}
+
+/// One value, without others inside.
+pub(crate) fn single(
+    work: &mut Counted,
+    at: Place,
+    one: Result<Value, PlainFault>,
+) -> Result<Value, PlainStop>
+    ensures { (worth : OneWorth) → IsPlainOne worth one → AnswersPlainly tree_of result work.new.values (single at work.old.values worth) }
+{
+    count_value(work, at)?;
+    match one {
+        Ok(value) => Ok(value),
+        Err(fault) => Err(PlainStop { at, fault }),
+    }
+}
+
+/// A container is opened, where its form fits its type and a level is left. How many levels are left inside.
+pub(crate) fn opened(
+    work: &mut Counted,
+    at: Place,
+    fits: bool,
+    levels: u32,
+) -> Result<u32, PlainStop>
+    ensures fits { OnOk result (fits ≡ true) }
+    ensures less { IfOk result (λ left. levels ≡ suc left) }
+    ensures worth { (inside : ℕ → ℕ → Worth Tree) → MatchResult result
+        (λ left. opened at fits levels work.old.values inside ≡ inside left work.new.values)
+        (λ stop. StopsPlainly stop (opened at fits levels work.old.values inside)) }
+{
+    count_value(work, at)?;
+    if !fits {
+        return Err(PlainStop {
+            at,
+            fault: PlainFault::WrongKind,
+        });
+    }
+    if levels == 0 {
+        return Err(PlainStop {
+            at,
+            fault: PlainFault::TooLarge,
+        });
+    }
+    Ok(levels - 1)
+}
+
+/// A container whose form doesn't fit its type.
+pub(crate) fn unfit(work: &mut Counted, at: Place, levels: u32) -> Result<Value, PlainStop>
+    ensures { (inside : ℕ → ℕ → Worth Tree) → AnswersPlainly tree_of result work.new.values (opened at false levels work.old.values inside) }
+{
+    opened(work, at, false, levels)?;
+    Err(PlainStop {
+        at,
+        fault: PlainFault::NoMemory,
+    })
+}
+
+/// What looks from a place as if it stood there: a value as it is, and a fault as one at this place.
+pub(crate) fn seen_at(at: Place, made: Result<Value, PlainStop>) -> Result<Value, PlainStop>
+    ensures { (worth : Worth Tree) (count : ℕ) → AnswersPlainly tree_of made count worth → AnswersPlainly tree_of result count (seen_at at worth) }
+{
+    match made {
+        Ok(value) => Ok(value),
+        Err(stop) => Err(PlainStop {
+            at,
+            fault: stop.fault,
+        }),
+    }
+}
