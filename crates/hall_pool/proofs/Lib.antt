@@ -1,0 +1,5 @@
+pub mod Answering
+pub mod Shortness
+pub mod Taking
+pub mod Applying
+pub mod Adding

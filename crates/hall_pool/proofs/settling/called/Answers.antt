@@ -1,0 +1,10 @@
+use Rattle.hall_pool.proofs.Applying.{called_so}
+use Rattle.hall_pool.proofs.settling.called.Goals as goal
+
+pub apply-requires-clause-plain : goal.apply-requires-clause-plain
+apply-requires-clause-plain g c κs within = (g.met.D.Desk.holds c.args.desk.now).plain c.args.job.now.payload c.args.call c.requires.call
+
+pub returns-in-Answered-clause-settled : goal.returns-in-Answered-clause-settled
+returns-in-Answered-clause-settled g c =
+    called_so (g.D.Desk.meaning c.args.desk.now) c.args.seat.now c.apply.new.seat c.args.job.now.key c.args.job.now.payload c.as_slice-payload.result.now c.args.call c.in-Answered.answer
+    c.apply.result c.settled_with.result c.apply.ensures.applied c.in-Answered.is c.requires.call c.as_slice-payload.ensures c.settled_with.ensures
