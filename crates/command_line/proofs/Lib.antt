@@ -1,0 +1,11 @@
+mod Digits
+mod Pairing
+mod Rows
+mod Table
+mod Fitness
+mod Turns
+mod Telling
+mod Sorts
+mod OptionsNext
+mod Beside
+pub mod WordBounds

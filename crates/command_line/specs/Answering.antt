@@ -1,0 +1,27 @@
+-- What a call of the reader may answer, where a definition says what the words are.
+use Rattle.std.specs.Prelude.{◌≡◌, ⊤, Option, None, Some, Result, Ok, Err}
+use Rattle.command_line.specs.declared.command.Command.{Command}
+use Rattle.command_line.specs.declared.command.Command.TheVariants.{Check, Rehearse, Record, Serve, Workload}
+use Rattle.command_line.specs.declared.command.WordsFault.{WordsFault}
+use Rattle.command_line.specs.declared.command.WordsFault.TheVariants.{Usage, NoMemory}
+use Rattle.command_line.specs.declared.served.ServedIdl.{ServedIdl}
+use Rattle.command_line.specs.Served.{PlainServed}
+use Rattle.command_line.specs.Words.{PlainCommand, checks, rehearses, records, serves, runs}
+
+-- what is served, in memory, as plain data
+abbrev pub plain_served : ServedIdl → PlainServed
+plain_served s = record { idl = s.idl; protocol = s.protocol; workers = s.workers; pairs = s.pairs; limits = s.limits }
+
+-- a command in memory, as plain data
+abbrev pub plain_command : Command → PlainCommand
+plain_command (Check idl) = checks idl
+plain_command (Rehearse served) = rehearses (plain_served served)
+plain_command (Record served) = records (plain_served served)
+plain_command (Serve served port accept journal) = serves (plain_served served) port accept journal
+plain_command (Workload seed size workers) = runs seed size workers
+
+-- what was read is what the words are; Usage comes exactly where they are nothing, and want of memory is free
+abbrev pub AnswersWords : Result Command WordsFault → Option PlainCommand → Type 0
+AnswersWords (Ok read) meant = meant ≡ Some (plain_command read)
+AnswersWords (Err Usage) meant = meant ≡ None
+AnswersWords (Err NoMemory) meant = ⊤

@@ -1,0 +1,10 @@
+pub mod Lent
+pub mod Options
+pub mod Numbers
+pub mod CommandPairs
+pub mod Limits
+pub mod Served
+pub mod Words
+pub mod Bounds
+pub mod Answering
+pub mod Clapped
