@@ -114,5 +114,5 @@ def main():
         out.write("end 0\n")
     print(calls, *words(folder, mix, protocol))
 
-
-main()
+if __name__ == "__main__":
+    main()

@@ -1,7 +1,8 @@
 #!/usr/bin/env bash
 # Times the program on recorded connections of 1, 4, 15 and 60 MB, whose every piece is one call: `add`, `calculate` with a struct, puts and gets of a store,
 # and lists of a hundred structs to the mirror, in both protocols. Prints for each its seconds (the least of three runs), microseconds a call and peak
-# memory. It is no test. Give another list of sizes in MB as words. Where THRIFTD_BEFORE names another program, `add` in the binary protocol is timed with it too.
+# memory; and on scripts of 60 MB with `add` on 1, 64 and 1,000 connections, drained, and with a line of a schedule for each move. It is no test. Give another list of
+# sizes in MB as words. Where THRIFTD_BEFORE names another program, `add` in the binary protocol is timed with it too.
 set -euo pipefail
 top=$(cd "$(dirname "$0")/.." && pwd)
 program="$top/crates/thriftd/out/thriftd"
@@ -41,3 +42,7 @@ for mix in ${MIXES:-add calculate store mirror}; do for protocol in binary compa
     timed "$THRIFTD_BEFORE" "$mix $protocol $size MB, before" "${given[@]}"
   fi
 done; done; done
+for connections in 1 64 1000; do for order in '' schedule; do
+  read -r -a given < <(python3 "$top/bench/many.py" "$work" "$connections" "${MANY_MB:-60}" $order)
+  timed "$program" "add $connections connections $order" "${given[@]}"
+done; done

@@ -1,14 +1,20 @@
-//! Tests of calls: what an office decides and replies, what handlers answer, and a recorded connection that both serve.
+//! Tests of calls: what an office decides and replies, what handlers answer, a recorded connection that both serve, and runs of two beside the plain machine.
 #![tactic(auto)]
 
 #[cfg(test)]
 mod calculations;
 #[cfg(test)]
+mod faulty_journals;
+#[cfg(test)]
 mod kept_texts;
+#[cfg(test)]
+mod machines;
 #[cfg(test)]
 mod mirrored;
 #[cfg(test)]
 mod offices;
+#[cfg(test)]
+mod plain_runs;
 #[cfg(test)]
 mod recordings;
 #[cfg(test)]

@@ -3,14 +3,16 @@
 
 ghost use Rattle.std.specs.Prelude.{◌≡◌, length, IfOk};
 
+use crate::faulty_journals::FaultyJournal;
 use crate::offices::office;
-use call_rules::{Entry, Handler, Journal};
+use call_rules::{Entry, Handler};
+use conn_table::Limits;
 use envelope::Protocol;
 use house_handlers::{Mirror, Store};
-use journal_text::{ListJournal, put_entry};
-use outside::{Failed, MemSink, MemSource};
+use journal_text::put_entry;
+use outside::{MemSink, MemSource};
 use recorded_calls::{ServingFault, answer_recorded};
-use run_report::{EntryLine, ReportedJournal};
+use run_report::EntryLine;
 use std::alloc::{AllocError, Global};
 use std::test::Fail;
 
@@ -48,51 +50,14 @@ impl EntryLine for Lines {
     }
 }
 
-// A journal in memory that fails at each entry, or at none.
-#[derive(Drop)]
-struct GivenJournal {
-    list: ListJournal,
-    fails: bool,
-    faults: u64,
-    torn: bool,
-}
-
-impl Journal for GivenJournal {
-    ghost use Rattle.std.specs.Prelude.{Some};
-
-    ghost told = { λ j. Some j.list.entries };
-
-    ghost faults = { λ j. j.faults };
-
-    ghost torn = { λ j. j.torn };
-
-    ghost room = { λ j. j.list.room };
-
-    fn reserve(&mut self) -> Result<(), AllocError> {
-        self.list.reserve()
-    }
-
-    fn append(&mut self, entry: Entry) -> Result<(), Failed> {
-        if self.fails {
-            self.torn = true;
-            self.faults = self.faults.saturating_add(1);
-            return Err(Failed);
-        }
-        self.list.append(entry)
-    }
-}
-
-impl ReportedJournal for GivenJournal {
-    fn entries(&self) -> &[Entry] {
-        self.list.entries()
-    }
-}
+// More appends than there are.
+const NEVER: usize = 1_000;
 
 // What answering a recording came to, and what was written.
-type Answered = (Result<(), ServingFault>, Vec<u8>);
+type Came = (Result<(), ServingFault>, Vec<u8>);
 
 // One mirror.
-fn one_mirror(alloc: Global) -> Result<Vec<Mirror>, AllocError>
+pub(crate) fn one_mirror(alloc: Global) -> Result<Vec<Mirror>, AllocError>
     ensures { IfOk result (λ handlers. length handlers.items ≡ 1) }
 {
     let mut handlers = Vec::new(alloc);
@@ -109,23 +74,21 @@ fn one_store(alloc: Global) -> Result<Vec<Store>, AllocError>
     Ok(handlers)
 }
 
-// Answers a recording with one handler, where the journal fails or doesn't, and the output takes a byte at a time and fails at these writes.
+// Answers a recording with one handler, where the journal fails at this append, and the output takes a byte at a time and fails at these writes.
 fn answer<H: Handler>(
     alloc: Global,
     handlers: Vec<H>,
     script: &[u8],
-    fails: bool,
+    fails_at: usize,
     writes: &[u64],
-) -> Result<Answered, AllocError>
+) -> Result<Came, AllocError>
     requires { length handlers.items ≡ 1 }
 {
-    let mut handlers = handlers;
     let desk = office(alloc, Protocol::Compact)?;
-    let mut journal = GivenJournal {
-        list: ListJournal::new(alloc),
-        fails,
-        faults: 0,
-        torn: false,
+    let journal = FaultyJournal::new(alloc, fails_at);
+    let limits = Limits {
+        max_frame: 268_435_456,
+        read_budget: 268_435_456,
     };
     let mut input = MemSource::new(script.to_vec(alloc)?, Vec::new(alloc));
     let mut output = MemSink::in_pieces(alloc, writes.to_vec(alloc)?, 1);
@@ -134,11 +97,12 @@ fn answer<H: Handler>(
         &mut input,
         &mut output,
         &desk,
-        268_435_456,
-        &mut handlers,
-        &mut journal,
+        handlers,
+        journal,
+        0,
+        limits,
     );
-    Ok((answered, output.into_bytes()))
+    Ok((answered.result, output.into_bytes()))
 }
 
 // Whether a recording has this report.
@@ -150,13 +114,13 @@ fn is_report<H: Handler>(
 ) -> Result<bool, AllocError>
     requires { length handlers.items ≡ 1 }
 {
-    let (answered, output) = answer(alloc, handlers, script, false, &[])?;
+    let (answered, output) = answer(alloc, handlers, script, NEVER, &[])?;
     Ok(answered == Ok(()) && output.as_slice() == report)
 }
 
 // Whether an output that takes so many bytes has these of the report.
 fn is_cut(alloc: Global, most: u64, front: &[u8]) -> Result<bool, AllocError> {
-    let (answered, output) = answer(alloc, one_mirror(alloc)?, CALLS, false, &[most])?;
+    let (answered, output) = answer(alloc, one_mirror(alloc)?, CALLS, NEVER, &[most])?;
     Ok(answered == Err(ServingFault::WriteFault) && output.as_slice() == front)
 }
 
@@ -171,7 +135,7 @@ fn recordings_have_their_reports(rt: HostRuntime) -> Result<(), Fail> {
 
 #[test]
 fn a_journal_that_fails_ends_the_run(rt: HostRuntime) -> Result<(), Fail> {
-    let (answered, output) = answer(rt.alloc(), one_mirror(rt.alloc())?, CALLS, true, &[])?;
+    let (answered, output) = answer(rt.alloc(), one_mirror(rt.alloc())?, CALLS, 0, &[])?;
     assert!(rt; answered == Err(ServingFault::JournalFault) && output.is_empty());
     Ok(())
 }

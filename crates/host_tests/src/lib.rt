@@ -1,5 +1,5 @@
 //! Tests of the program through its top call, and nothing else: recorded connections with their reports and refusals, services of
-//! many IDLs, the calls of Apache's Python client, texts that are scripts or none, IDLs that are accepted or refused, and runs at size.
+//! many IDLs, scripts of many connections, the calls of Apache's Python client, texts that are scripts or none, IDLs that are accepted or refused, and runs at size.
 #![tactic(auto)]
 
 #[cfg(test)]
@@ -8,6 +8,8 @@ mod apache;
 mod given;
 #[cfg(test)]
 mod idls;
+#[cfg(test)]
+mod machines;
 #[cfg(test)]
 mod recordings;
 #[cfg(test)]

@@ -158,6 +158,7 @@ fn each_write_may_fail(rt: HostRuntime) -> Result<(), Fail> {
 fn a_line_that_is_not_written_changes_no_status(rt: HostRuntime) -> Result<(), Fail> {
     let errors = MemSink::new(rt.alloc(), vec![in rt.alloc(); 0]?);
     let mut given = Given::empty(rt.alloc());
+    given.input = MemSource::new(b"open".to_vec(rt.alloc())?, Vec::new(rt.alloc()));
     given.errors = errors;
     let ended = given.run(&rt, rt.alloc(), &REHEARSE)?;
     assert!(rt; ended.status == Status::ScriptRefused && ended.errors.is_empty());
@@ -176,6 +177,6 @@ fn scripts_have_a_longest(rt: HostRuntime) -> Result<(), Fail> {
     let longest = run_comment(&rt, rt.alloc(), LONGEST_SCRIPT - 12)?;
     assert!(rt; longest.status == Status::Done);
     let longer = run_comment(&rt, rt.alloc(), LONGEST_SCRIPT - 11)?;
-    assert!(rt; longer.is_refused(Status::ScriptRefused, b"thriftd: script\n"));
+    assert!(rt; longer.is_refused(Status::ScriptRefused, b"thriftd: script 0 TooLong\n"));
     Ok(())
 }

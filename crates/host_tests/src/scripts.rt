@@ -6,7 +6,9 @@ use std::test::Fail;
 use thrift_host::Status;
 
 /// Scripts with the beginnings of their reports, which have a read for each piece.
-const SCRIPTS: [(&[u8], &[u8]); 6] = [
+const SCRIPTS: [(&[u8], &[u8]); 8] = [
+    (b"", b"calls 0\n"),
+    (b"\n# none\n", b"calls 0\n"),
     (b"open\nend 0\n", b"tape open 0\ntape end 0\n"),
     (b"open\nend 0", b"tape open 0\ntape end 0\n"),
     (
@@ -24,32 +26,50 @@ const SCRIPTS: [(&[u8], &[u8]); 6] = [
     (b"\n\nopen\nend 0\n#", b"tape open 0\ntape end 0\n"),
 ];
 
-/// Texts that are no scripts.
-const NO_SCRIPTS: [&[u8]; 24] = [
-    b"",
-    b"\n",
-    b"open",
-    b"open\n",
-    b"open\ndata 0 41\n",
-    b"end 0\n",
-    b"end 0\nopen\n",
-    b"data 0 41\nopen\nend 0\n",
-    b"open\nend 0\ndata 0 41\n",
-    b"open\nend 0\nend 0\n",
-    b"open\nopen\nend 0\n",
-    b"open\ndata 0 4\nend 0\n",
-    b"open\ndata 0 4g\nend 0\n",
-    b"open\ndata 0 \nend 0\n",
-    b"open\ndata 0\nend 0\n",
-    b"open\ndata 00 41\nend 0\n",
-    b"open\ndata 1 41\nend 0\n",
-    b"open\ndata 0  41\nend 0\n",
-    b"open\ndata 0 41 \nend 0\n",
-    b"open\r\nend 0\n",
-    b"open\nend 0\r\n",
-    b"open\nend 00\n",
-    b"open\n end 0\n",
-    b"Open\nend 0\n",
+/// Texts that are no scripts, with the line of their first fault and what it is.
+const NO_SCRIPTS: [(&[u8], &[u8]); 27] = [
+    (b"open", b"thriftd: script 2 NoEnd\n"),
+    (b"open\n", b"thriftd: script 2 NoEnd\n"),
+    (b"open\ndata 0 41\n", b"thriftd: script 3 NoEnd\n"),
+    (b"end 0\n", b"thriftd: script 1 NoConnection\n"),
+    (b"end 0\nopen\n", b"thriftd: script 1 NoConnection\n"),
+    (
+        b"data 0 41\nopen\nend 0\n",
+        b"thriftd: script 1 NoConnection\n",
+    ),
+    (b"open\nend 0\ndata 0 41\n", b"thriftd: script 3 AfterEnd\n"),
+    (b"open\nend 0\nend 0\n", b"thriftd: script 3 AfterEnd\n"),
+    (
+        b"open\nreadfail 0\nend 0\n",
+        b"thriftd: script 3 AfterEnd\n",
+    ),
+    (b"open\nopen\nend 0\n", b"thriftd: script 4 NoEnd\n"),
+    (b"open\ndata 0 4\nend 0\n", b"thriftd: script 2 BadLine\n"),
+    (b"open\ndata 0 4g\nend 0\n", b"thriftd: script 2 BadLine\n"),
+    (b"open\ndata 0 \nend 0\n", b"thriftd: script 2 BadLine\n"),
+    (b"open\ndata 0\nend 0\n", b"thriftd: script 2 BadLine\n"),
+    (b"open\ndata 00 41\nend 0\n", b"thriftd: script 2 BadLine\n"),
+    (
+        b"open\ndata 1 41\nend 0\n",
+        b"thriftd: script 2 NoConnection\n",
+    ),
+    (b"open\ndata 0  41\nend 0\n", b"thriftd: script 2 BadLine\n"),
+    (b"open\ndata 0 41 \nend 0\n", b"thriftd: script 2 BadLine\n"),
+    (b"open\r\nend 0\n", b"thriftd: script 1 BadLine\n"),
+    (b"open\nend 0\r\n", b"thriftd: script 2 BadLine\n"),
+    (b"open\nend 00\n", b"thriftd: script 2 BadLine\n"),
+    (b"open\n end 0\n", b"thriftd: script 2 BadLine\n"),
+    (b"Open\nend 0\n", b"thriftd: script 1 BadLine\n"),
+    (b"open\nwrite 0 0\nend 0\n", b"thriftd: script 2 BadLine\n"),
+    (b"open\nwork 1\nend 0\n", b"thriftd: script 2 NoWorker\n"),
+    (
+        b"open\nloop 1\nend 0\n",
+        b"thriftd: script 2 NoConnection\n",
+    ),
+    (
+        b"# one\n\nopen\nend 1\nend 0\n",
+        b"thriftd: script 4 NoConnection\n",
+    ),
 ];
 
 #[test]
@@ -66,12 +86,9 @@ fn scripts_are_read_in_pieces(rt: HostRuntime) -> Result<(), Fail> {
 
 #[test]
 fn other_texts_are_refused(rt: HostRuntime) -> Result<(), Fail> {
-    for text in NO_SCRIPTS {
+    for (text, line) in &NO_SCRIPTS {
         let ended = run_script(&rt, rt.alloc(), text.to_vec(rt.alloc())?)?;
-        assert!(rt;
-            ended.is_refused(Status::ScriptRefused, b"thriftd: script\n"),
-            "{text:?}"
-        );
+        assert!(rt; ended.is_refused(Status::ScriptRefused, line), "{text:?}");
     }
     Ok(())
 }

@@ -358,13 +358,13 @@ const REFUSED: [(&[&str], &[Held], Status, &[u8]); 11] = [
         TUTORIAL,
         NO_FILES,
         Status::ScriptRefused,
-        b"thriftd: script\n",
+        b"thriftd: script 2 BadLine\n",
     ),
     (
         REQUIRED,
         R_FILE,
         Status::ScriptRefused,
-        b"thriftd: script\n",
+        b"thriftd: script 2 BadLine\n",
     ),
 ];
 

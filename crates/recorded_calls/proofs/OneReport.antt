@@ -1,43 +1,64 @@
 -- One input has one report.
-use Rattle.std.proofs.Common.{◌≡◌, ◌≢◌, ℕ, ◌<◌, ◌^◌, Option, Some, List, [], ◌∷◌, ◌++◌, sym, ap, ◌∙◌, subst, append-nil}
-use Rattle.std.specs.Prelude.{None}
+use Rattle.std.proofs.Common.{◌≡◌, ℕ, Option, Some, List, ◌++◌, sym, ap, ◌∙◌, subst, append-nil}
+use Rattle.std.specs.Prelude.{None, Result, Ok}
 use Rattle.std.proofs.lemmas.Option.{same_Some}
 use Rattle.outside.specs.Content.{told_before, IsSpent}
+use Rattle.outside.specs.declared.marks.Mark.{Mark}
+use Rattle.host_model.specs.declared.cause.EndCause.{EndCause}
 use Rattle.host_model.specs.declared.cause.EndCause.TheVariants.{NoMemory}
-use Rattle.script_model.specs.Arrival.{arrival_of}
-use Rattle.script_model.specs.Rehearsal.{is_scripted, IsRunOn}
-use Rattle.script_model.proofs.OneText.{one_text}
+use Rattle.host_model.specs.Report.{report}
 use Rattle.call_rules.specs.Desks.{desk_rules}
+use Rattle.call_rules.specs.Entries.{CallEntry}
 use Rattle.call_rules.specs.Handling.{handler_rules}
-use Rattle.recorded_calls.specs.Script.{script_of}
-use Rattle.recorded_calls.specs.Answered.{Answering, IsReportOf, ReportsRun, Streams}
+use Rattle.rehearsal_model.specs.ScriptLines.{ScriptPlan}
+use Rattle.rehearsal_model.specs.Playing.{always_ample}
+use Rattle.rehearsal_model.proofs.BarePlays.{shows_one}
+use Rattle.script_links.specs.declared.fault.ScriptFault.{ScriptFault}
+use Rattle.recorded_calls.specs.Answered.{Answering, IsRunOfScript, IsReportOf, ReportsScript, Streams, HasNone, script_for}
 
 -- what was read to the end is what was there
-all_read : (input : List ℕ) (left : Option (List ℕ)) (text : List ℕ) → told_before text left ≡ Some input → IsSpent left → text ≡ input
+pub all_read : (input : List ℕ) (left : Option (List ℕ)) (text : List ℕ) → told_before text left ≡ Some input → IsSpent left → text ≡ input
 all_read input None text e spent = absurd (let f : ⊥ = cc in f)
 all_read input (Some rest) text e spent = sym (append-nil text) ∙ ap (λ r. text ++ r) (sym spent) ∙ same_Some (text ++ rest) input e
 
--- reports over the same pieces are one text
-one_over : (a : Answering) (ps qs : List (List ℕ)) (text other : List ℕ) → a.desk.max_frame < 2 ^ 31 → ps ≡ qs
-    → (x : ReportsRun a (arrival_of ps) text) (y : ReportsRun a (arrival_of qs) other) → x.cause ≢ NoMemory → y.cause ≢ NoMemory → text ≡ other
-one_over a ps qs text other small same x y more less =
-    one_text (desk_rules a.desk) handler_rules a.services a.line (arrival_of ps) text other small x
-    (record {
-      tape = y.tape;
-      journal = y.journal;
-      cause = y.cause;
-      run = subst (λ pieces. IsRunOn (desk_rules a.desk) handler_rules a.services is_scripted (λ c. arrival_of pieces) y.tape y.journal (y.cause ∷ []))
-          (sym same) y.run;
-      printed = y.printed;
-    })
-    more less
+-- what a script determines is one run
+pub one_run : (a : Answering) (script : ScriptPlan) (text other : List ℕ) (x : ReportsScript a script text) (y : ReportsScript a script other)
+    → HasNone NoMemory x.causes → HasNone NoMemory y.causes → (x.tape ≡ y.tape) × (x.journal ≡ y.journal) × (x.causes ≡ y.causes)
+one_run a script text other x y more less =
+    let t = shows_one (desk_rules a.desk) handler_rules always_ample a.budget a.workers script a.services 0 0 x.tape y.tape x.journal y.journal x.causes y.causes
+    (x.run.determined more) (y.run.determined less) in
+    (t.1, t.2, t.3)
+
+-- and it has one text
+one_text : (a : Answering) (script : ScriptPlan) (text other : List ℕ) (x : ReportsScript a script text) (y : ReportsScript a script other)
+    → HasNone NoMemory x.causes → HasNone NoMemory y.causes → text ≡ other
+one_text a script text other x y more less =
+    let t = one_run a script text other x y more less in
+    x.printed ∙ ap (λ (tape : List Mark). report a.line tape x.journal x.causes) t.0 ∙ ap (λ (es : List CallEntry). report a.line y.tape es x.causes) t.1
+    ∙ ap (λ (cs : List EndCause). report a.line y.tape y.journal cs) t.2 ∙ sym y.printed
+
+-- a script that was read
+abbrev read_as : ScriptPlan → Result ScriptPlan ScriptFault
+read_as script = Ok script
+
+-- two scripts that one reading gives are one
+same_script : (script other : ScriptPlan) → read_as script ≡ read_as other → script ≡ other
+same_script script other e = cc
 
 -- one input has one report
-pub one_report : (a : Answering) (input : List ℕ) (s t : Streams) (text other : List ℕ) → a.desk.max_frame < 2 ^ 31
+pub one_report : (a : Answering) (input : List ℕ) (s t : Streams) (text other : List ℕ)
     → s.left_before ≡ Some input → t.left_before ≡ Some input → (x : IsReportOf a s text) (y : IsReportOf a t other)
-    → x.reports.cause ≢ NoMemory → y.reports.cause ≢ NoMemory → text ≡ other
-one_report a input s t text other small before before' x y more less =
+    → HasNone NoMemory x.reports.causes → HasNone NoMemory y.reports.causes → text ≡ other
+one_report a input s t text other before before' x y more less =
     let same : x.text ≡ y.text =
     all_read input s.left x.text (sym x.read ∙ before) x.to_its_end ∙ sym (all_read input t.left y.text (sym y.read ∙ before') y.to_its_end) in
-    let pieces : x.pieces ≡ y.pieces = same_Some x.pieces y.pieces (sym x.script ∙ ap script_of same ∙ y.script) in
-    one_over a x.pieces y.pieces text other small pieces x.reports y.reports more less
+    let scripts : x.script ≡ y.script = same_script x.script y.script (sym x.is_script ∙ ap (script_for a) same ∙ y.is_script) in
+    one_text a y.script text other
+    (record {
+      tape = x.reports.tape;
+      journal = x.reports.journal;
+      causes = x.reports.causes;
+      run = subst (λ script. IsRunOfScript a script x.reports.tape x.reports.journal x.reports.causes) scripts x.reports.run;
+      printed = x.reports.printed;
+    })
+    y.reports more less

@@ -1,5 +1,5 @@
 -- The calls of a run are plain where its desk makes plain calls alone, so each entry has the line of a call.
-use Rattle.std.proofs.Common.{◌≡◌, ℕ, ◌<◌, ◌^◌, suc, inl, inr, List, [], ◌∷◌, ◌++◌, map, refl, sym, subst}
+use Rattle.std.proofs.Common.{◌≡◌, ℕ, ◌<◌, ◌^◌, suc, inl, inr, List, [], ◌∷◌, refl, sym, subst}
 use Rattle.std.specs.List.{AllByRecursion}
 use Rattle.host_model.specs.DeskRules.{DeskDecision, Close, Silent, Reply, Invoke}
 use Rattle.host_model.specs.Conversation.{but_last, called, called_by}
@@ -14,7 +14,8 @@ use Rattle.call_rules.specs.PlainCalls.{PlainCall, IsPlainCall}
 use Rattle.call_rules.specs.Entries.{CallEntry}
 use Rattle.call_rules.specs.Desks.{DeskMeaning, IsDesk, desk_rules}
 use Rattle.call_rules.specs.Handling.{handler_rules}
-use Rattle.recorded_calls.specs.Answered.{Answering, ReportsRun}
+use Rattle.recorded_calls.specs.Answered.{Answering}
+use Rattle.recorded_calls.specs.OneConnection.{ReportsRun}
 
 -- a call under its number
 abbrev IsPlainNumbered : ℕ × PlainCall → Type 0

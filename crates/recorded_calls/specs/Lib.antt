@@ -1,9 +1,4 @@
-pub mod Causes
-pub mod Serving
-pub mod Served
-pub mod Settling
-pub mod Pieces
-pub mod Run
-pub mod Script
 pub mod Answered
+pub mod OneConnection
+pub mod Refusals
 pub mod Steps

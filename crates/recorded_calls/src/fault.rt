@@ -1,21 +1,21 @@
-//! Why a recorded connection isn't answered.
+//! Why a recording isn't answered.
 
 ghost use Rattle.std.specs.Prelude.{◌≡◌};
 ghost use Rattle.recorded_calls.specs.Steps.{fault_of_input, fault_of_report, fault_of_script};
 ghost use Rattle.recorded_calls.specs.declared.fault.ServingFault.TheVariants.{NoMemory as NoRoom};
 
 use crate::input::InputError;
-use crate::script::ScriptError;
 use run_report::ReportFault;
+use script_links::{ScriptFault, ScriptKind};
 use std::alloc::AllocError;
 use thiserror::Error;
 
-/// Why a recorded connection isn't answered, or not to its report's end.
+/// Why a recording isn't answered, or not to its report's end.
 #[derive(Clone, Copy, Debug, PartialEq, Eq, Error)]
 pub enum ServingFault {
     /// The input is no script.
-    #[error("no script")]
-    NoScript,
+    #[error("{0}")]
+    NoScript(ScriptFault),
     /// A read of the input failed.
     #[error("a read failed")]
     ReadFault,
@@ -49,13 +49,13 @@ impl From<InputError> for ServingFault {
     }
 }
 
-impl From<ScriptError> for ServingFault {
+impl From<ScriptFault> for ServingFault {
     ghost from_gives = { λ error fault. fault ≡ fault_of_script error };
 
-    fn from(error: ScriptError) -> ServingFault {
-        match error {
-            ScriptError::Refused => ServingFault::NoScript,
-            ScriptError::NoMemory => ServingFault::NoMemory,
+    fn from(error: ScriptFault) -> ServingFault {
+        match error.kind {
+            ScriptKind::NoMemory => ServingFault::NoMemory,
+            _ => ServingFault::NoScript(error),
         }
     }
 }

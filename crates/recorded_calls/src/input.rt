@@ -3,12 +3,14 @@
 ghost use Rattle.std.specs.Prelude.{◌≡◌, ℕ, ◌<◌, ◌≤◌, length, IfOk, OnOk};
 ghost use Rattle.outside.specs.Cause.{Rose};
 ghost use Rattle.outside.specs.Content.{told_before, IsSpent};
-ghost use Rattle.recorded_calls.specs.Script.{longest_script};
+ghost use Rattle.script_links.specs.TextLines.{most_script_bytes};
 ghost use Rattle.recorded_calls.specs.declared.input.InputError.TheVariants.{Failed as ReadFailed, NoMemory};
 
-use crate::script::LONGEST_SCRIPT;
 use outside::{Failed, Source};
 use std::alloc::{AllocError, Global};
+
+/// The longest script, in bytes.
+const LONGEST_SCRIPT: usize = 67_108_864;
 
 /// The most bytes that one read asks for.
 const READ_SIZE: usize = 65_536;
@@ -41,7 +43,7 @@ impl From<Failed> for InputError {
 /// The bytes of a source up to its end, or more than the longest script has where the end isn't reached by then.
 pub(crate) fn read_whole<S: Source>(alloc: Global, source: &mut S) -> Result<Vec<u8>, InputError>
     ensures read { IfOk result (λ text. S.left source.old ≡ told_before text.items (S.left source.new)) }
-    ensures whole { IfOk result (λ text. length text.items ≤ longest_script → IsSpent (S.left source.new)) }
+    ensures whole { IfOk result (λ text. length text.items ≤ most_script_bytes → IsSpent (S.left source.new)) }
     ensures later { S.faults source.old ≤ S.faults source.new }
     ensures failed { result ≡ Err InputError.Failed → Rose (S.faults source.old) (S.faults source.new) }
 {
@@ -64,7 +66,7 @@ fn read_through<S: Source>(
 ) -> Result<Vec<u8>, InputError>
     requires { 0 < length room.old }
     ensures read { IfOk result (λ text. S.left source.old ≡ told_before text.items (S.left source.new)) }
-    ensures whole { IfOk result (λ text. length text.items ≤ longest_script → IsSpent (S.left source.new)) }
+    ensures whole { IfOk result (λ text. length text.items ≤ most_script_bytes → IsSpent (S.left source.new)) }
     ensures later { S.faults source.old ≤ S.faults source.new }
     ensures failed { result ≡ Err InputError.Failed → Rose (S.faults source.old) (S.faults source.new) }
 {

@@ -10,34 +10,6 @@ use std::test::Fail;
 /// A text, the line of its first fault, and the fault's kind.
 type Row = (&'static [u8], u32, ScriptKind);
 
-/// Second lines that have none of the forms.
-const BAD_LINES: [&[u8]; 24] = [
-    b"opens",
-    b"open ",
-    b" rest",
-    b"open 0",
-    b"Open",
-    b"open\r",
-    b"end",
-    b"end 00",
-    b"end 4294967296",
-    b"end -0",
-    b"end 0 ",
-    b"readfail 0 1",
-    b"data 0",
-    b"data 0 ",
-    b"data 0 4",
-    b"data 0 4g",
-    b"data 0  41",
-    b"write 0 0",
-    b"write 0 01",
-    b"write 0",
-    b"block 0 1",
-    b"collect 1",
-    b"loop",
-    b"work x",
-];
-
 /// For 2 workers, with lines of a schedule.
 const ON_SCHEDULE: [Row; 20] = [
     (b"data 0 00\nopenx\n", 1, NoConnection),
@@ -89,14 +61,6 @@ fn has_fault(
     }
 }
 
-/// A script of one connection with this line between its opening and its end.
-fn with_line(alloc: Global, line: &[u8]) -> Result<Vec<u8>, AllocError> {
-    let mut text = b"open\n".to_vec(alloc)?;
-    text.extend_from_slice(line)?;
-    text.extend_from_slice(b"\nend 0\n")?;
-    Ok(text)
-}
-
 /// So many openings.
 fn openings(alloc: Global, count: usize) -> Result<Vec<u8>, AllocError> {
     let mut text = Vec::new(alloc);
@@ -106,25 +70,9 @@ fn openings(alloc: Global, count: usize) -> Result<Vec<u8>, AllocError> {
     Ok(text)
 }
 
-/// So many newlines.
-fn newlines(alloc: Global, count: usize) -> Result<Vec<u8>, AllocError> {
-    vec![in alloc; b'\n'; count]
-}
-
-#[test]
-fn a_line_without_a_form_is_bad(rt: HostRuntime) -> Result<(), Fail> {
-    for line in BAD_LINES {
-        let text = with_line(rt.alloc(), line)?;
-        let wanted = ScriptFault {
-            line: 2,
-            kind: BadLine,
-        };
-        assert!(rt;
-            has_fault(rt.alloc(), text.as_slice(), 2, true, wanted),
-            "{line:?}"
-        );
-    }
-    Ok(())
+/// A line of so many bytes, which has no form.
+fn long_line(alloc: Global, count: usize) -> Result<Vec<u8>, AllocError> {
+    vec![in alloc; b'x'; count]
 }
 
 #[test]
@@ -158,7 +106,7 @@ fn scripts_have_bounds(rt: HostRuntime) -> Result<(), Fail> {
         kind: TooMany,
     };
     assert!(rt; has_fault(rt.alloc(), more.as_slice(), 0, false, wanted));
-    let long = newlines(rt.alloc(), 67_108_865)?;
+    let long = long_line(rt.alloc(), 67_108_865)?;
     let wanted = ScriptFault {
         line: 0,
         kind: TooLong,

@@ -9,7 +9,8 @@ use Rattle.envelope.specs.declared.head.Protocol.{Protocol}
 use Rattle.bind_words.specs.Pairs.{NamedKind, pair_of_word}
 use Rattle.rehearsal_words.specs.Options.{sorted_words}
 use Rattle.rehearsal_words.specs.CommandPairs.{pairs_of_words, command_pairs, most_pairs}
-use Rattle.rehearsal_words.specs.Rehearsals.{PlainRehearsal, limits_of_numbers, limits_given, number_given, rehearsal_with, placed_words, rehearsal_of_sorted, idl_of_word, protocol_of_word, workers_of_word}
+use Rattle.rehearsal_words.specs.Rehearsals.{PlainRehearsal, limits_of_numbers, limits_given, number_given, rehearsal_with, placed_words, rehearsal_of_sorted, idl_of_word, protocol_of_word, workers_of_number, workers_of_word}
+use Rattle.rehearsal_words.specs.Numbers.{number_of_word}
 use Rattle.rehearsal_words.specs.Command.{rehearsal_behind, rehearsal_of_words}
 use Rattle.thrift_host.specs.Steps.{KeepsWordBounds}
 
@@ -65,9 +66,15 @@ pairs_are_few words =
         (omega (arith, least, is), omega (arith, most, is))
     few both None is = tt
 
+-- a number of workers
+workers_are_few : (word : List ℕ) → IfSome (workers_of_word word) (λ count. count ≤ 8)
+workers_are_few word =
+    and_then_keeps workers_of_number (number_of_word word) (λ _. Unit {0}) (λ count. count ≤ 8) (any (number_of_word word))
+    (λ n _. tested (nat_le n 8) (Some n) (λ count. count ≤ 8) (leb-true n 8))
+
 -- limits
 abbrev AreLimits : Limits → Type 0
-AreLimits limits = (1 ≤ limits.max_frame) × (limits.max_frame ≤ longest_payload)
+AreLimits limits = (1 ≤ limits.max_frame) × (limits.max_frame ≤ limits.read_budget) × (limits.read_budget ≤ longest_payload)
 
 numbers_are_limits : (most budget : ℕ) → IfSome (limits_of_numbers most budget) AreLimits
 numbers_are_limits most budget =
@@ -78,7 +85,7 @@ numbers_are_limits most budget =
     let least : 1 ≤ most = leb-true 1 most parts.0 in
     let within : most ≤ budget = leb-true most budget behind.0 in
     let bounded : budget ≤ longest_payload = leb-true budget longest_payload behind.1 in
-    (least, omega (arith, within, bounded)))
+    (least, within, bounded))
 
 given_are_limits : (most_words budget_words : List (List ℕ)) → IfSome (limits_given most_words budget_words) AreLimits
 given_are_limits ms bs =
@@ -99,9 +106,9 @@ with_limits idl protocol workers pairs limits are =
     option_map (made name spelling count) (command_pairs pairs)) (workers_of_word workers)) (protocol_of_word protocol)
     (λ _. Unit {0}) KeepsWordBounds (any (protocol_of_word protocol))
     (λ spelling _. and_then_keeps (λ (count : ℕ). option_map (made name spelling count) (command_pairs pairs)) (workers_of_word workers)
-    (λ _. Unit {0}) KeepsWordBounds (any (workers_of_word workers))
-    (λ count _. map_keeps (made name spelling count) (command_pairs pairs) AreFew KeepsWordBounds (pairs_are_few pairs)
-    (λ bound few. record { some = few.0; few = few.1; least = are.0; most = are.1 }))))
+    (λ count. count ≤ 8) KeepsWordBounds (workers_are_few workers)
+    (λ count crew. map_keeps (made name spelling count) (command_pairs pairs) AreFew KeepsWordBounds (pairs_are_few pairs)
+    (λ bound few. record { some = few.0; few = few.1; crew = crew; least = are.0; within = are.1; most = are.2 }))))
 
 placed_keep : (words : List (List ℕ)) (limits : Limits) → AreLimits limits → IfSome (placed_words words limits) KeepsWordBounds
 placed_keep (idl ∷ protocol ∷ workers ∷ pairs) limits are = with_limits idl protocol workers pairs limits are

@@ -22,8 +22,10 @@ of_bounds meant says is h = subst (λ (o : Option PlainRehearsal). IfSome o Keep
 
 -- what answers at an office answers at the one that is arranged
 pub at_office : (r : AskedRehearsal) (a : IsArranged r) (office : PlainOffice) → office ≡ arranged_office r a → (Holds : Answering → Type 0)
-    → Holds (record { desk = desk_of office; services = a.bound; line = entry_text }) → Holds (answering_of r a)
-at_office r a office is Holds h = subst (λ o. Holds (record { desk = desk_of o; services = a.bound; line = entry_text })) is h
+    → Holds (record { desk = desk_of office; services = a.bound; workers = r.says.workers; budget = r.says.limits.read_budget; line = entry_text })
+    → Holds (answering_of r a)
+at_office r a office is Holds h =
+    subst (λ o. Holds (record { desk = desk_of o; services = a.bound; workers = r.says.workers; budget = r.says.limits.read_budget; line = entry_text })) is h
 
 -- words that check no IDL
 pub not_checked : {A : Type 0} (found : Option A) (name : A → List ℕ) (checked : Option (List ℕ)) → option_map name found ≡ checked → found ≡ None
@@ -36,10 +38,10 @@ unread_means : (files : Option (List File)) (handlers : List ServiceState) (word
 unread_means files handlers None s untouched = untouched
 unread_means files handlers (Some says) s untouched = inl untouched.1
 
-unread_says : (files : Option (List File)) (handlers : List ServiceState) (words : Option PlainRehearsal) (e : Errors) → IsLineSaid NoMemory e
-    → Says (command_by None words) files handlers NoMemory e
-unread_says files handlers None e said = said
-unread_says files handlers (Some says) e said = said
+unread_says : (files : Option (List File)) (handlers : List ServiceState) (words : Option PlainRehearsal) (s : Streams) (e : Errors) → IsLineSaid NoMemory e
+    → Says (command_by None words) files handlers NoMemory s e
+unread_says files handlers None s e said = said
+unread_says files handlers (Some says) s e said = said
 
 pub means_no_memory : (files : Option (List File)) (handlers : List ServiceState) (checked : Option (List ℕ)) (words : Option PlainRehearsal)
     (ended : Status) (s : Streams) → AreUntouched s → ended ≡ NoMemory → checked ≡ None → Means (command_by checked words) files handlers ended s
@@ -48,7 +50,7 @@ means_no_memory files handlers checked words ended s untouched is none =
     (subst (λ o. Means (command_by o words) files handlers NoMemory s) (sym none) (unread_means files handlers words s untouched))
 
 pub says_no_memory : (files : Option (List File)) (handlers : List ServiceState) (checked : Option (List ℕ)) (words : Option PlainRehearsal)
-    (ended : Status) (e : Errors) → IsLineSaid NoMemory e → ended ≡ NoMemory → checked ≡ None → Says (command_by checked words) files handlers ended e
-says_no_memory files handlers checked words ended e said is none =
-    subst (λ status. Says (command_by checked words) files handlers status e) (sym is)
-    (subst (λ o. Says (command_by o words) files handlers NoMemory e) (sym none) (unread_says files handlers words e said))
+    (ended : Status) (s : Streams) (e : Errors) → IsLineSaid NoMemory e → ended ≡ NoMemory → checked ≡ None → Says (command_by checked words) files handlers ended s e
+says_no_memory files handlers checked words ended s e said is none =
+    subst (λ status. Says (command_by checked words) files handlers status s e) (sym is)
+    (subst (λ o. Says (command_by o words) files handlers NoMemory s e) (sym none) (unread_says files handlers words s e said))

@@ -24,7 +24,7 @@ abbrev pub error_text : Status → Option (List ℕ)
 error_text Done = Some []
 error_text Usage = Some (line_of (codes "thriftd: usage"))
 error_text IdlRefused = None
-error_text ScriptRefused = Some (line_of (codes "thriftd: script"))
+error_text ScriptRefused = None
 error_text BindRefused = None
 error_text FileFault = Some (line_of (codes "thriftd: file fault"))
 error_text ReadFault = Some (line_of (codes "thriftd: read fault"))

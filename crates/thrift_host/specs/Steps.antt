@@ -15,6 +15,7 @@ use Rattle.pair_binding.specs.FirstRefusal.{IsFirstRefusal, OnRefusal}
 use Rattle.pair_binding.specs.Refusals.{refused_pair_text}
 use Rattle.rehearsal_words.specs.Rehearsals.{PlainRehearsal}
 use Rattle.recorded_calls.specs.Answered.{Streams, IsReported, MeansFault}
+use Rattle.recorded_calls.specs.Refusals.{refused_script_text}
 use Rattle.recorded_calls.specs.declared.fault.ServingFault.{ServingFault}
 use Rattle.recorded_calls.specs.declared.fault.ServingFault.TheVariants as serving_faults
 use Rattle.thrift_host.specs.declared.status.Status.{Status}
@@ -49,20 +50,20 @@ abbrev pub EndsUnbound : List NamedKind → BindFault → Status → Errors → 
 EndsUnbound pairs (bind_faults.Refused place kind) ended e = EndsSaying status.BindRefused (refused_pair_text pairs place kind) ended e
 EndsUnbound pairs bind_faults.NoMemory ended e = EndsAs status.NoMemory ended e
 
--- the status of a recorded connection that isn't answered; the journal, which is a list, never fails
-abbrev pub status_of_serving : ServingFault → Status
-status_of_serving serving_faults.NoScript = status.ScriptRefused
-status_of_serving serving_faults.ReadFault = status.ReadFault
-status_of_serving serving_faults.WriteFault = status.WriteFault
-status_of_serving serving_faults.JournalFault = status.NoMemory
-status_of_serving serving_faults.NoMemory = status.NoMemory
+-- how it ends where a recording isn't answered; the journal, which is a list, never fails
+abbrev pub EndsUnanswered : ServingFault → Status → Errors → Type 0
+EndsUnanswered (serving_faults.NoScript fault) ended e = EndsSaying status.ScriptRefused (refused_script_text fault) ended e
+EndsUnanswered serving_faults.ReadFault ended e = EndsAs status.ReadFault ended e
+EndsUnanswered serving_faults.WriteFault ended e = EndsAs status.WriteFault ended e
+EndsUnanswered serving_faults.JournalFault ended e = EndsAs status.NoMemory ended e
+EndsUnanswered serving_faults.NoMemory ended e = EndsAs status.NoMemory ended e
 
 -- how it ends after a rehearsal of these pairs
 abbrev pub EndsRehearsed : {A : Type 0} → List NamedKind → Result A RehearsalFault → Status → Errors → Type 0
 EndsRehearsed pairs (Ok _) ended e = EndsAs status.Done ended e
 EndsRehearsed pairs (Err (faults.NoSchema reason)) ended e = EndsWithout reason ended e
 EndsRehearsed pairs (Err (faults.Unbound fault)) ended e = EndsUnbound pairs fault ended e
-EndsRehearsed pairs (Err (faults.Unanswered fault)) ended e = EndsAs (status_of_serving fault) ended e
+EndsRehearsed pairs (Err (faults.Unanswered fault)) ended e = EndsUnanswered fault ended e
 
 -- what a rehearsal says of its files, its input and its output
 abbrev pub TellsRehearsal : {A : Type 0} → AskedRehearsal → Result A RehearsalFault → Streams → Type 0
@@ -82,5 +83,7 @@ is_unread_file _ = false
 pub record KeepsWordBounds (r : PlainRehearsal) : Type 0 where
   pub some : 1 ≤ length r.pairs
   pub few : length r.pairs ≤ 16
+  pub crew : r.workers ≤ 8
   pub least : 1 ≤ r.limits.max_frame
-  pub most : r.limits.max_frame ≤ longest_payload
+  pub within : r.limits.max_frame ≤ r.limits.read_budget
+  pub most : r.limits.read_budget ≤ longest_payload

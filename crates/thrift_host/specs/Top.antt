@@ -20,7 +20,7 @@ Means (checks idl) files handlers status s = MeansCheck files idl status s
 Means (rehearses says) files handlers status s = MeansRehearsal (record { says = says; files = files; handlers = handlers }) status s
 
 -- The line of its status was added to the errors.
-abbrev pub Says : Command → Option (List File) → List ServiceState → Status → Errors → Type 0
-Says no_command files handlers status e = IsLineSaid status e
-Says (checks idl) files handlers status e = SaysCheck files idl status e
-Says (rehearses says) files handlers status e = SaysRehearsal (record { says = says; files = files; handlers = handlers }) status e
+abbrev pub Says : Command → Option (List File) → List ServiceState → Status → Streams → Errors → Type 0
+Says no_command files handlers status s e = IsLineSaid status e
+Says (checks idl) files handlers status s e = SaysCheck files idl status e
+Says (rehearses says) files handlers status s e = SaysRehearsal (record { says = says; files = files; handlers = handlers }) status s e

@@ -20,7 +20,7 @@ use rehearsal_words::{Rehearsal, WordsFault, read_words};
 use std::alloc::Global;
 
 /// Runs the command of these words, which leave the program's name out: it checks an IDL and writes the text of its schema to the output, or it
-/// serves the recorded connection that its input is, with these handlers, and writes the report there. Where it isn't done it says why on the
+/// runs the script of recorded connections that its input is, with these handlers, and writes the report there. Where it isn't done it says why on the
 /// errors, in one line. A write of that line that fails changes nothing.
 pub fn host<R, F: Files, S: Source, K: Sink, E: Sink, H: Handler>(
     rt: &R,
@@ -36,12 +36,13 @@ pub fn host<R, F: Files, S: Source, K: Sink, E: Sink, H: Handler>(
     // An IDL is checked: Done says that the text of its schema was added to the output, and nothing else. It and IdlRefused come exactly by the
     // files, since each IDL has one verdict. Nothing is read of the input.
     // A rehearsal is served: Done says that the IDL has a schema, to which and to handlers the pairs are bound, that the input is a script, read to its
-    // end, and that the bytes added to the output are the report of a run of it, whose tape, journal and cause meet the headline at the office of these,
-    // from the memories of the handlers. IdlRefused comes exactly by the files, BindRefused by the schema, the pairs and the handlers, and ScriptRefused
-    // by the input.
+    // end, and that the bytes added to the output are the report of a run of it, whose tape, journal and causes meet the headline at the office of
+    // these, from the memories of the handlers, and which the script feeds; where no connection has ended for want of memory, it is the one that the script
+    // determines. IdlRefused comes exactly by the files, BindRefused by the schema, the pairs and the handlers, and ScriptRefused by the input.
     ensures means { Means (command_of (map string_bytes words.now)) (F.files files.old) (map H.service handlers.items) result
         (record { left_before = S.left input.old; left = S.left input.new; taken_before = K.taken output.old; taken = K.taken output.new }) }
     ensures errors { Says (command_of (map string_bytes words.now)) (F.files files.old) (map H.service handlers.items) result
+        (record { left_before = S.left input.old; left = S.left input.new; taken_before = K.taken output.old; taken = K.taken output.new })
         (record { taken_before = E.taken errors.old; taken = E.taken errors.new; faults_before = E.faults errors.old; faults = E.faults errors.new }) }
     ensures files { F.files files.new ≡ F.files files.old }
     ensures file_fault { result ≡ Status.FileFault → Rose (F.faults files.old) (F.faults files.new) }
@@ -60,7 +61,7 @@ pub fn host<R, F: Files, S: Source, K: Sink, E: Sink, H: Handler>(
     }
 }
 
-/// Serves a recorded connection as the words say, and ends the command with what became of it.
+/// Serves recorded connections as the words say, and ends the command with what became of it.
 fn rehearse_and_say<F: Files, S: Source, K: Sink, E: Sink, H: Handler>(
     alloc: Global,
     files: &mut F,
@@ -76,6 +77,7 @@ fn rehearse_and_say<F: Files, S: Source, K: Sink, E: Sink, H: Handler>(
         (record { left_before = S.left input.old; left = S.left input.new; taken_before = K.taken output.old; taken = K.taken output.new }) }
     ensures errors { SaysRehearsal
         (record { says = plain_rehearsal rehearsal.now; files = F.files files.old; handlers = map H.service handlers.items }) result
+        (record { left_before = S.left input.old; left = S.left input.new; taken_before = K.taken output.old; taken = K.taken output.new })
         (record { taken_before = E.taken errors.old; taken = E.taken errors.new; faults_before = E.faults errors.old; faults = E.faults errors.new }) }
     ensures files { F.files files.new ≡ F.files files.old }
     ensures file_fault { result ≡ Status.FileFault → Rose (F.faults files.old) (F.faults files.new) }

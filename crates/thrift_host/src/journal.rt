@@ -1,5 +1,6 @@
 //! The journal of a rehearsal: entries in memory, and their lines in a report.
 
+ghost use Rattle.std.specs.Prelude.{◌≡◌, []};
 ghost use Rattle.journal_text.specs.EntryText.{entry_text};
 
 use call_rules::{Entry, Journal};
@@ -7,6 +8,7 @@ use journal_text::{ListJournal, put_entry};
 use outside::Failed;
 use run_report::{EntryLine, ReportedJournal};
 use std::alloc::{AllocError, Global};
+use std::marker::Model;
 
 /// The lines of entries, as journals print them.
 pub(crate) struct JournalLines;
@@ -22,15 +24,28 @@ impl EntryLine for JournalLines {
 /// A list of entries, to be reported. It never fails.
 #[derive(Drop)]
 pub(crate) struct ReportedList {
-    pub(crate) list: ListJournal,
+    /// The entries, each of which is plain.
+    list: ListJournal,
+}
+
+impl Model for ReportedList {
+    ghost use Rattle.std.specs.Prelude.{All};
+    ghost use Rattle.journal_text.specs.JournalStates.{ListedEntries, listed_entries_code};
+    ghost use Rattle.run_report.specs.Entries.{IsPlainEntry};
+
+    ghost Value = { ListedEntries };
+
+    ghost coded = { listed_entries_code };
+
+    ghost view = { λ j. j.list };
+
+    ghost invariant = { λ j. All IsPlainEntry j.list.entries };
 }
 
 impl ReportedList {
-    ghost use Rattle.std.specs.Prelude.{◌≡◌, []};
-
     /// No entries; takes no memory.
     pub(crate) fn new(alloc: Global) -> Self
-        ensures { result.list.entries ≡ [] }
+        ensures { result.entries ≡ [] }
     {
         ReportedList {
             list: ListJournal::new(alloc),
@@ -41,13 +56,13 @@ impl ReportedList {
 impl Journal for ReportedList {
     ghost use Rattle.std.specs.Prelude.{false, Some};
 
-    ghost told = { λ j. Some j.list.entries };
+    ghost told = { λ j. Some j.entries };
 
     ghost faults = { λ _. 0 };
 
     ghost torn = { λ _. false };
 
-    ghost room = { λ j. j.list.room };
+    ghost room = { λ j. j.room };
 
     fn reserve(&mut self) -> Result<(), AllocError> {
         self.list.reserve()

@@ -1,4 +1,4 @@
-//! A rehearsal: a recorded connection, served by handlers of an IDL's services.
+//! A rehearsal: recorded connections, served by handlers of an IDL's services.
 
 ghost use Rattle.std.specs.Prelude.{◌≡◌, ◌≤◌, true, false, List, length, map, Option, Err, IfOk};
 ghost use Rattle.outside.specs.Cause.{Rose};
@@ -12,9 +12,10 @@ ghost use Rattle.schema.specs.Sound.{IsSound};
 ghost use Rattle.pair_binding.specs.Refusals.{refused_pair_text};
 ghost use Rattle.rehearsal_words.specs.Answering.{plain_rehearsal};
 ghost use Rattle.recorded_calls.specs.Answered.{MeansAnswered};
+ghost use Rattle.recorded_calls.specs.Refusals.{refused_script_text};
 ghost use Rattle.recorded_calls.specs.declared.fault.ServingFault.TheVariants as serving_faults;
 ghost use Rattle.thrift_host.specs.Rehearsals.{HasSchema};
-ghost use Rattle.thrift_host.specs.Steps.{EndsRehearsed, EndsUnbound, EndsAs, KeepsWordBounds, TellsRehearsal, is_unread_file, status_of_serving};
+ghost use Rattle.thrift_host.specs.Steps.{EndsRehearsed, EndsUnbound, EndsUnanswered, KeepsWordBounds, TellsRehearsal, is_unread_file};
 ghost use Rattle.thrift_host.specs.declared.rehearsing.RehearsalFault.TheVariants as faults;
 
 use crate::checking::end_without_schema;
@@ -23,13 +24,15 @@ use crate::saying::{end, end_saying};
 use crate::status::Status;
 use bind_words::BindWords;
 use call_rules::Handler;
+use conn_table::Limits;
 use idl_schema::{NoSchema, program_schema};
 use outside::{Files, Sink, Source};
 use pair_binding::{BindKind, put_refused_pair};
 use processor::Office;
-use recorded_calls::{ServingFault, answer_recorded};
+use recorded_calls::{ServingFault, answer_recorded, put_refused_script};
 use rehearsal_words::Rehearsal;
 use schema::Schema;
+use script_links::ScriptFault;
 use service_binding::{BindFault, bind};
 use std::alloc::{AllocError, Global};
 
@@ -40,11 +43,11 @@ pub(crate) enum RehearsalFault {
     NoSchema(NoSchema),
     /// The pairs aren't bound.
     Unbound(BindFault),
-    /// The recorded connection isn't answered.
+    /// The recording isn't answered.
     Unanswered(ServingFault),
 }
 
-/// Serves the recorded connection that the input is, as the words say, and writes the report of the run to the output.
+/// Runs the script that the input is, as the words say, and writes the report of the run to the output.
 pub(crate) fn rehearse<F: Files, S: Source, K: Sink, H: Handler>(
     alloc: Global,
     files: &mut F,
@@ -88,9 +91,17 @@ fn arrange<S: Source, K: Sink, H: Handler>(
 {
     match bind(alloc, &schema, &rehearsal.pairs, handlers) {
         Ok((bindings, handlers)) => {
-            let most = rehearsal.limits.max_frame;
-            let office = Office::new(schema, bindings, rehearsal.protocol, most);
-            match serve(alloc, input, output, &office, most, handlers) {
+            let limits = rehearsal.limits;
+            let office = Office::new(schema, bindings, rehearsal.protocol, limits.max_frame);
+            match serve(
+                alloc,
+                input,
+                output,
+                &office,
+                handlers,
+                rehearsal.workers,
+                limits,
+            ) {
                 Ok(()) => Ok(()),
                 Err(fault) => Err(RehearsalFault::Unanswered(fault)),
             }
@@ -105,29 +116,27 @@ fn serve<S: Source, K: Sink, H: Handler>(
     input: &mut S,
     output: &mut K,
     office: &Office,
-    max_frame: u32,
     handlers: Vec<H>,
+    workers: u32,
+    limits: Limits,
 ) -> Result<(), ServingFault>
-    requires longest { max_frame ≡ (plain_office office.now).max_frame }
-    requires short { max_frame ≤ longest_payload }
+    requires workers { workers ≤ 8 }
+    requires some { 1 ≤ limits.max_frame }
+    requires within { limits.max_frame ≤ limits.read_budget }
+    requires budget { limits.read_budget ≤ longest_payload }
+    requires longest { (plain_office office.now).max_frame ≡ limits.max_frame }
     requires slots { length handlers.items ≡ length (plain_office office.now).bindings }
     ensures means { MeansAnswered
-        (record { desk = desk_of (plain_office office.now); services = map H.service handlers.items; line = entry_text }) result
+        (record { desk = desk_of (plain_office office.now); services = map H.service handlers.items; workers = workers; budget = limits.read_budget; line = entry_text }) result
         (record { left_before = S.left input.old; left = S.left input.new; taken_before = K.taken output.old; taken = K.taken output.new }) }
     ensures read_fault { result ≡ Err ServingFault.ReadFault → Rose (S.faults input.old) (S.faults input.new) }
     ensures write_fault { result ≡ Err ServingFault.WriteFault → Rose (K.faults output.old) (K.faults output.new) }
 {
-    let mut handlers = handlers;
-    let mut journal = ReportedList::new(alloc);
-    answer_recorded::<JournalLines, Office, H, ReportedList, S, K>(
-        alloc,
-        input,
-        output,
-        office,
-        max_frame,
-        &mut handlers,
-        &mut journal,
-    )
+    let journal = ReportedList::new(alloc);
+    let answered = answer_recorded::<JournalLines, Office, H, ReportedList, S, K>(
+        alloc, input, output, office, handlers, journal, workers, limits,
+    );
+    answered.result
 }
 
 /// Ends the command with what became of a rehearsal of these pairs.
@@ -144,21 +153,35 @@ pub(crate) fn end_rehearsed<E: Sink>(
         Ok(()) => end(errors, Status::Done),
         Err(RehearsalFault::NoSchema(reason)) => end_without_schema(alloc, errors, reason),
         Err(RehearsalFault::Unbound(fault)) => end_unbound(alloc, errors, pairs, fault),
-        Err(RehearsalFault::Unanswered(fault)) => end(errors, status_of_serving(fault)),
+        Err(RehearsalFault::Unanswered(fault)) => end_unanswered(alloc, errors, fault),
     }
 }
 
-/// The status of a recorded connection that isn't answered.
-fn status_of_serving(fault: ServingFault) -> Status
-    ensures { result ≡ status_of_serving fault }
+/// Ends the command at a recording that isn't answered.
+fn end_unanswered<E: Sink>(alloc: Global, errors: &mut E, fault: ServingFault) -> Status
+    ensures { EndsUnanswered fault result
+        (record { taken_before = E.taken errors.old; taken = E.taken errors.new; faults_before = E.faults errors.old; faults = E.faults errors.new }) }
 {
     match fault {
-        ServingFault::NoScript => Status::ScriptRefused,
-        ServingFault::ReadFault => Status::ReadFault,
-        ServingFault::WriteFault => Status::WriteFault,
+        ServingFault::NoScript(fault) => end_saying(
+            errors,
+            Status::ScriptRefused,
+            refused_script_line(alloc, fault),
+        ),
+        ServingFault::ReadFault => end(errors, Status::ReadFault),
+        ServingFault::WriteFault => end(errors, Status::WriteFault),
         // A journal that is a list never fails.
-        ServingFault::JournalFault | ServingFault::NoMemory => Status::NoMemory,
+        ServingFault::JournalFault | ServingFault::NoMemory => end(errors, Status::NoMemory),
     }
+}
+
+/// The errors' line of an input that is no script.
+fn refused_script_line(alloc: Global, fault: ScriptFault) -> Result<Vec<u8>, AllocError>
+    ensures { IfOk result (λ line. line.items ≡ refused_script_text fault) }
+{
+    let mut line = Vec::new(alloc);
+    put_refused_script(&mut line, fault)?;
+    Ok(line)
 }
 
 /// Ends the command at pairs that aren't bound.

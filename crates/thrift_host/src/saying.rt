@@ -58,11 +58,10 @@ fn error_line(status: Status) -> Option<&'static str>
     match status {
         Status::Done => Some(""),
         Status::Usage => Some("thriftd: usage\n"),
-        Status::ScriptRefused => Some("thriftd: script\n"),
         Status::FileFault => Some("thriftd: file fault\n"),
         Status::ReadFault => Some("thriftd: read fault\n"),
         Status::WriteFault => Some("thriftd: write fault\n"),
         Status::NoMemory => Some("thriftd: no memory\n"),
-        Status::IdlRefused | Status::BindRefused => None,
+        Status::IdlRefused | Status::ScriptRefused | Status::BindRefused => None,
     }
 }

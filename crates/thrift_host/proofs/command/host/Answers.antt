@@ -17,6 +17,6 @@ returns-clause-means g c =
 
 pub returns-clause-errors : goal.returns-clause-errors
 returns-clause-errors g c =
-    says_no_memory _ _ _ (rehearsal_of_words (map string_bytes c.args.words.now)) c.end-in-Err-NoMemory.result _
+    says_no_memory _ _ _ (rehearsal_of_words (map string_bytes c.args.words.now)) c.end-in-Err-NoMemory.result _ _
     c.end-in-Err-NoMemory.ensures.said c.end-in-Err-NoMemory.ensures.same
     (not_checked c.checked_idl.result _ _ c.checked_idl.ensures c.in_default.is)

@@ -1,4 +1,4 @@
-use Rattle.std.proofs.Common.{map}
+use Rattle.std.proofs.Common.{map, arith}
 use Rattle.processor.specs.Bound.{bound_names}
 use Rattle.processor.specs.Offices.{plain_office}
 use Rattle.schema.specs.SchemaOf.{schema_of}
@@ -10,7 +10,8 @@ use Rattle.thrift_host.proofs.rehearsing.arrange.Goals as goal
 
 pub new-office-requires-clause-sound : goal.new-office-requires-clause-sound
 new-office-requires-clause-sound g c =
-    c.in-Ok.ensures.served c.args.rehearsal.now.protocol c.args.rehearsal.now.limits.max_frame c.requires.bounds.least c.requires.bounds.most
+    c.in-Ok.ensures.served c.args.rehearsal.now.protocol c.args.rehearsal.now.limits.max_frame c.requires.bounds.least
+    (omega (arith, c.requires.bounds.within, c.requires.bounds.most))
 
 pub returns-in-Ok-serve-clause-tells : goal.returns-in-Ok-serve-clause-tells
 returns-in-Ok-serve-clause-tells g c = λ files has.

@@ -1,0 +1,56 @@
+use Rattle.std.proofs.Common.{map, refl}
+use Rattle.recorded_calls.specs.Answered.{Answering}
+use Rattle.recorded_calls.proofs.Coming.{answered, unread, no_write_fault, no_journal_fault}
+use Rattle.recorded_calls.proofs.answering.answer_recorded.Goals as goal
+
+pub returns-in-Ok-clause-means : goal.returns-in-Ok-clause-means
+returns-in-Ok-clause-means g c =
+    let a : Answering =
+    (record {
+      desk = g.D.Desk.meaning c.args.desk.now;
+      services = map g.H.Handler.service c.args.handlers.items;
+      workers = c.args.workers;
+      budget = c.args.limits.read_budget;
+      line = g.L.EntryLine.line;
+    })
+    in
+    answered a c.in-Ok.script _ _ _ _ c.run_and_report.result.result (c.in-Ok.ensures.input a refl) c.run_and_report.ensures.reported
+
+pub returns-in-Err-clause-means : goal.returns-in-Err-clause-means
+returns-in-Err-clause-means g c =
+    let a : Answering =
+    (record {
+      desk = g.D.Desk.meaning c.args.desk.now;
+      services = map g.H.Handler.service c.args.handlers.items;
+      workers = c.args.workers;
+      budget = c.args.limits.read_budget;
+      line = g.L.EntryLine.line;
+    })
+    in
+    unread a c.in-Err.fault _ _ _ (c.in-Err.ensures.input a refl)
+
+pub returns-in-Err-clause-write_fault : goal.returns-in-Err-clause-write_fault
+returns-in-Err-clause-write_fault g c is =
+    let a : Answering =
+    (record {
+      desk = g.D.Desk.meaning c.args.desk.now;
+      services = map g.H.Handler.service c.args.handlers.items;
+      workers = c.args.workers;
+      budget = c.args.limits.read_budget;
+      line = g.L.EntryLine.line;
+    })
+    in
+    no_write_fault a c.in-Err.fault _ (c.in-Err.ensures.input a refl) is
+
+pub returns-in-Err-clause-journal_fault : goal.returns-in-Err-clause-journal_fault
+returns-in-Err-clause-journal_fault g c is =
+    let a : Answering =
+    (record {
+      desk = g.D.Desk.meaning c.args.desk.now;
+      services = map g.H.Handler.service c.args.handlers.items;
+      workers = c.args.workers;
+      budget = c.args.limits.read_budget;
+      line = g.L.EntryLine.line;
+    })
+    in
+    no_journal_fault a c.in-Err.fault _ (c.in-Err.ensures.input a refl) is
