@@ -1,13 +1,12 @@
 -- What stands in braces.
-use Rattle.std.proofs.Common.{◌≡◌, ℕ, false, Result, sym, ap, ◌∙◌, subst}
-use Rattle.std.specs.Prelude.{true}
+use Rattle.std.proofs.Common.{◌≡◌, ℕ, false, Result, sym, subst}
 use Rattle.idl_token.specs.declared.Place.{Place}
 use Rattle.thrift_value.specs.declared.value.Value.{Value}
-use Rattle.thrift_value.specs.Tree.{Tree, FieldTrees, of_struct}
+use Rattle.thrift_value.specs.Tree.{Tree}
 use Rattle.thrift_value.specs.TreeOf.{tree_of}
 use Rattle.idl_model.specs.ConstExpr.{ConstEntries, map_const}
-use Rattle.schema.specs.PlainKind.{PlainKind, kind_struct}
-use Rattle.check_model.specs.Worths.{Worth, valued, and_next}
+use Rattle.schema.specs.PlainKind.{PlainKind}
+use Rattle.check_model.specs.Worths.{Worth, and_next}
 use Rattle.check_model.specs.Evaluation.{Setting, NamedWorth, worth_by, pairs_by, given_by, opened, takes_braces, braced, struct_numbered, made_fields, default_of}
 use Rattle.const_plain.specs.declared.faults.PlainStop.{PlainStop}
 use Rattle.const_plain.specs.Answers.{AnswersPlainly}
@@ -22,14 +21,5 @@ module _ (s : Setting) (named : NamedWorth) (file levels count : ℕ) (at : Plac
 
   -- a type that takes no braces
   pub unfit_worth : (kind : PlainKind) (r : Result Value PlainStop) (n : ℕ) → takes_braces kind ≡ false
-      → ((inner : ℕ → ℕ → Worth Tree) → AnswersPlainly tree_of r n (opened at false levels count inner)) → AnswersPlainly tree_of r n (worth_by s named file kind levels count (map_const at entries))
-  unfit_worth kind r n takes h = subst (λ b. AnswersPlainly tree_of r n (opened at b levels count (inside kind))) (sym takes) (h (inside kind))
-
-  -- a struct whose fields were made
-  pub struct_worth : (which left n m : ℕ) (fields : FieldTrees) (value : Value)
-      → ((inner : ℕ → ℕ → Worth Tree) → opened at true levels count inner ≡ inner left n)
-      → and_next (given_by s named file (struct_numbered s.schema which).fields left n entries) (λ given m.
-      made_fields named (default_of s.program which) at left (struct_numbered s.schema which).kind (struct_numbered s.schema which).fields given m) ≡ valued fields m
-      → tree_of value ≡ of_struct fields → worth_by s named file (kind_struct which) levels count (map_const at entries) ≡ valued (tree_of value) m
-  struct_worth which left n m fields value opening made is =
-      opening (inside (kind_struct which)) ∙ ap (λ w. and_next w (λ made n. valued (of_struct made) n)) made ∙ ap (λ t. valued t m) (sym is)
+      → ((most : ℕ) (inner : ℕ → ℕ → Worth Tree) → AnswersPlainly tree_of r n (opened at false most count inner)) → AnswersPlainly tree_of r n (worth_by s named file kind levels count (map_const at entries))
+  unfit_worth kind r n takes h = subst (λ b. AnswersPlainly tree_of r n (opened at b levels count (inside kind))) (sym takes) (h levels (inside kind))

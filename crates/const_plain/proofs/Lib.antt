@@ -1,9 +1,12 @@
 pub mod Among
 pub mod Beginnings
 pub mod Braces
+pub mod InBrackets
 pub mod Entering
 pub mod KindsOf
 pub mod OneMore
+pub mod RowTrees
 pub mod Spelled
+pub mod TableRows
 pub mod WholeBits
 pub mod WholeParts

@@ -1,16 +1,10 @@
 -- One value more, or too many.
-use Rattle.std.proofs.Common.{◌≡◌, ℕ, suc, ◌<◌, ◌≤◌, nat_le, Bool, true, false, Option, Some, None, Result, Ok, Err, MatchOption, sym, ap, ◌∙◌, subst, arith}
-use Rattle.std.specs.Prelude.{⊤}
+use Rattle.std.proofs.Common.{◌≡◌, ℕ, suc, ◌<◌, ◌≤◌, nat_le, Bool, true, false, ap, ◌∙◌, arith}
 use Rattle.std.proofs.lemmas.Bool.Decides.{nat_tests}
 use Rattle.idl_token.specs.declared.Place.{Place}
 use Rattle.thrift_value.specs.Tree.{Tree}
-use Rattle.thrift_value.specs.declared.value.Value.{Value}
-use Rattle.thrift_value.specs.TreeOf.{tree_of}
-use Rattle.check_model.specs.Worths.{ConstFlaw, Worth, valued, flawed, only_if, wrong_kind, too_large, most_values, one_more, one_level}
-use Rattle.check_model.specs.Scalars.{OneWorth}
-use Rattle.check_model.specs.Evaluation.{judged, single, opened}
-use Rattle.const_plain.specs.declared.faults.PlainFault.{PlainFault}
-use Rattle.const_plain.specs.Answers.{plain_flaw, IsPlainOne}
+use Rattle.check_model.specs.Worths.{Worth, flawed, only_if, wrong_kind, too_large, most_values, one_more, one_level}
+use Rattle.check_model.specs.Evaluation.{opened}
 
 in_room : (n : ℕ) → n ≤ 4000000 → nat_le n 4000000 ≡ true
 in_room n h = grind (arith, nat_tests)
@@ -27,22 +21,6 @@ one_more_inside at count h inside = ap (λ b. only_if b at too_large (inside (su
 pub one_more_past : (at : Place) (count : ℕ) → 4000000 ≤ count → (inside : ℕ → Worth Tree) → one_more at count inside ≡ flawed at too_large
 unfolding most_values
 one_more_past at count h inside = ap (λ b. only_if b at too_large (inside (suc count))) (past_room (suc count) (omega arith))
-
--- one value alone
-pub single_is : (at : Place) (count n : ℕ) (one : Result Value PlainFault) (worth : OneWorth) (value : Value) → one ≡ Ok value → IsPlainOne worth one
-    → single at count worth ≡ judged at (suc count) worth → n ≡ suc count → single at count worth ≡ valued (tree_of value) n
-single_is at count n one worth value is h made more =
-    let same : worth ≡ Ok (tree_of value) = subst (IsPlainOne worth) is h in
-    made ∙ ap (judged at (suc count)) same ∙ ap (valued (tree_of value)) (sym more)
-
-told_one : (at : Place) (count : ℕ) (worth : OneWorth) (o : Option ConstFlaw) → MatchOption o ⊤ (λ flaw. worth ≡ Err flaw)
-    → single at count worth ≡ judged at (suc count) worth → MatchOption o ⊤ (λ flaw. single at count worth ≡ flawed at flaw)
-told_one at count worth None h made = tt
-told_one at count worth (Some flaw) h made = made ∙ ap (judged at (suc count)) h
-
-pub single_stops : (at : Place) (count : ℕ) (one : Result Value PlainFault) (worth : OneWorth) (fault : PlainFault) → one ≡ Err fault → IsPlainOne worth one
-    → single at count worth ≡ judged at (suc count) worth → MatchOption (plain_flaw fault) ⊤ (λ flaw. single at count worth ≡ flawed at flaw)
-single_stops at count one worth fault is h made = told_one at count worth (plain_flaw fault) (subst (IsPlainOne worth) is h) made
 
 -- a form that doesn't fit
 pub form_refused : (at : Place) (fits : Bool) (levels count : ℕ) (inside : ℕ → ℕ → Worth Tree) → fits ≡ false

@@ -4,14 +4,10 @@ use Rattle.idl_token.specs.declared.Place.{Place}
 use Rattle.idl_parser.specs.declared.tree.ConstTree.{ConstTree}
 use Rattle.idl_parser.specs.declared.tree.ConstTree as of
 use Rattle.idl_parser.specs.declared.tree.ConstTree.TheFolds.{the_lemmas}
-use Rattle.idl_parser.specs.declared.tree.Literal.{Literal}
-use Rattle.idl_model.specs.ConstExpr.{map_const, literal_const}
-use Rattle.idl_model.specs.DeclaredIn.{value_in, entries_in, literal_in}
+use Rattle.idl_model.specs.ConstExpr.{map_const}
+use Rattle.idl_model.specs.DeclaredIn.{value_in, entries_in}
 use Rattle.const_plain.specs.InMemory.{key_and_value}
 
 pub map_is : (tree : ConstTree) (at : Place) (entries : Vec (ConstTree × ConstTree) Global) → tree ≡ of.Map at entries
     → value_in tree ≡ map_const at (entries_in (map key_and_value entries.items))
 map_is tree at entries is = ap value_in is ∙ search (rules, the_lemmas)
-
-pub key_is : (key : ConstTree) (literal : Literal) → key ≡ of.Literal literal → value_in key ≡ literal_const (literal_in literal)
-key_is key literal is = ap value_in is ∙ search (rules, the_lemmas)

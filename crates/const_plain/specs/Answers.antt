@@ -1,5 +1,6 @@
 -- What the answers of a plain evaluation say. Want of memory says nothing.
 use Rattle.std.specs.Prelude.{◌≡◌, ⊤, ℕ, Option, Some, None, MatchOption, Result, Ok, Err}
+use Rattle.idl_token.specs.declared.Place.{Place}
 use Rattle.thrift_value.specs.declared.value.Value.{Value}
 use Rattle.thrift_value.specs.Tree.{Tree}
 use Rattle.thrift_value.specs.TreeOf.{tree_of}
@@ -20,6 +21,10 @@ plain_flaw fault.UnknownField = Some unknown_field
 plain_flaw fault.MissingField = Some missing_field
 plain_flaw fault.TooLarge = Some too_large
 plain_flaw fault.NoMemory = None
+
+-- a fault at a place
+abbrev pub stop_at_place : Place → PlainFault → PlainStop
+stop_at_place at f = record { at = at; fault = f }
 
 -- the answer is what one value is worth
 abbrev pub IsPlainOne : OneWorth → Result Value PlainFault → Type 0

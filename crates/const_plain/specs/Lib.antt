@@ -2,3 +2,5 @@ pub mod Answers
 pub mod InMemory
 pub mod Scopes
 pub mod Saturated
+pub mod Table
+pub mod BracesOf

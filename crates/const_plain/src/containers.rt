@@ -1,45 +1,39 @@
-//! Containers: which types take which forms, and what is made of what stands in them.
+//! Containers: what stands in the brackets or the braces of a type, and what is made of that.
 
-ghost use Rattle.std.specs.Prelude.{◌≡◌, map, IfOk};
-ghost use Rattle.schema.specs.PlainKind.{kind_of, kind_set};
-ghost use Rattle.thrift_value.specs.Tree.{of_map};
+ghost use Rattle.std.specs.Prelude.{◌≡◌, map, is_some, IfOk, IfSome};
+ghost use Rattle.schema.specs.PlainKind.{kind_of};
+ghost use Rattle.thrift_value.specs.Tree.{of_map, of_set};
 ghost use Rattle.thrift_value.specs.TreeOf.{tree_of, pair_tree, item_trees, pair_trees};
 ghost use Rattle.check_model.specs.Evaluation.{kind_tag, takes_brackets, takes_braces, element_kind, row_tree};
-ghost use Rattle.check_model.specs.TidyRows.{tidy_pairs};
+ghost use Rattle.check_model.specs.TidyRows.{tidy_members, tidy_pairs};
+ghost use Rattle.const_plain.specs.BracesOf.{kind_in_braces};
 
+use crate::table::row_of;
 use crate::tidy::{tidy_members, tidy_pairs};
 use check_plain::Made;
 use schema::TypeDesc;
 use std::collections::VecDeque;
 use thrift_value::{Items, Pairs, Tag, Value};
 
-/// The tag of a type's values.
-#[tactic(auto, using(crate::proofs::KindsOf::kind_equations))]
-fn kind_tag(kind: &TypeDesc) -> Tag
-    ensures { result ≡ kind_tag (kind_of kind.now) }
-{
-    match kind {
-        TypeDesc::Bool => Tag::Bool,
-        TypeDesc::I8 => Tag::I8,
-        TypeDesc::I16 => Tag::I16,
-        TypeDesc::I32 | TypeDesc::Enum(_) => Tag::I32,
-        TypeDesc::I64 => Tag::I64,
-        TypeDesc::Double => Tag::Double,
-        TypeDesc::Text | TypeDesc::Binary => Tag::Bytes,
-        TypeDesc::Struct(_) => Tag::Struct,
-        TypeDesc::Map(_, _) => Tag::Map,
-        TypeDesc::Set(_) => Tag::Set,
-        TypeDesc::List(_) => Tag::List,
-    }
+/// What stands in braces.
+#[derive(Clone, Copy)]
+pub(crate) enum Braces<'a> {
+    /// Keys and values of a map, by the type of the keys and that of the values.
+    Pairs(&'a TypeDesc, &'a TypeDesc),
+    /// Fields of the struct of some number.
+    Fields(u32),
 }
 
-/// Whether a type takes a list in brackets.
+/// What stands in the braces of a type, where it takes them.
 #[tactic(auto, using(crate::proofs::KindsOf::kind_equations))]
-pub(crate) fn takes_brackets(kind: &TypeDesc) -> bool
-    ensures { result ≡ takes_brackets (kind_of kind.now) }
+pub(crate) fn braces_of(kind: &TypeDesc) -> Option<Braces<'_>>
+    ensures taken { is_some result ≡ takes_braces (kind_of kind.now) }
+    ensures kind { IfSome result (λ braces. kind_of kind.now ≡ kind_in_braces braces) }
 {
     match kind {
-        TypeDesc::Set(_) | TypeDesc::List(_) => true,
+        TypeDesc::Map(key, value) => Some(Braces::Pairs(key, value)),
+        TypeDesc::Struct(which) => Some(Braces::Fields(*which)),
+        TypeDesc::Set(_) | TypeDesc::List(_) | TypeDesc::Enum(_) => None,
         TypeDesc::Bool
         | TypeDesc::I8
         | TypeDesc::I16
@@ -47,20 +41,19 @@ pub(crate) fn takes_brackets(kind: &TypeDesc) -> bool
         | TypeDesc::I64
         | TypeDesc::Double
         | TypeDesc::Text
-        | TypeDesc::Binary
-        | TypeDesc::Enum(_)
-        | TypeDesc::Struct(_)
-        | TypeDesc::Map(_, _) => false,
+        | TypeDesc::Binary => None,
     }
 }
 
-/// Whether a type takes keys and values in braces.
+/// The type of what stands in the brackets of a type, where it takes them.
 #[tactic(auto, using(crate::proofs::KindsOf::kind_equations))]
-pub(crate) fn takes_braces(kind: &TypeDesc) -> bool
-    ensures { result ≡ takes_braces (kind_of kind.now) }
+pub(crate) fn element_of(kind: &TypeDesc) -> Option<&TypeDesc>
+    ensures taken { is_some result ≡ takes_brackets (kind_of kind.now) }
+    ensures element { IfSome result (λ element. kind_of element.now ≡ element_kind (kind_of kind.now)) }
 {
     match kind {
-        TypeDesc::Struct(_) | TypeDesc::Map(_, _) => true,
+        TypeDesc::Set(inner) | TypeDesc::List(inner) => Some(inner),
+        TypeDesc::Map(_, _) | TypeDesc::Struct(_) | TypeDesc::Enum(_) => None,
         TypeDesc::Bool
         | TypeDesc::I8
         | TypeDesc::I16
@@ -68,64 +61,30 @@ pub(crate) fn takes_braces(kind: &TypeDesc) -> bool
         | TypeDesc::I64
         | TypeDesc::Double
         | TypeDesc::Text
-        | TypeDesc::Binary
-        | TypeDesc::Enum(_)
-        | TypeDesc::Set(_)
-        | TypeDesc::List(_) => false,
+        | TypeDesc::Binary => None,
     }
 }
 
-/// The type of what stands in brackets.
-#[tactic(auto, using(crate::proofs::KindsOf::kind_equations))]
-pub(crate) fn element_kind(kind: &TypeDesc) -> &TypeDesc
-    ensures { kind_of result.now ≡ element_kind (kind_of kind.now) }
-{
-    match kind {
-        TypeDesc::Set(member) => member,
-        TypeDesc::List(element) => element,
-        TypeDesc::Bool
-        | TypeDesc::I8
-        | TypeDesc::I16
-        | TypeDesc::I32
-        | TypeDesc::I64
-        | TypeDesc::Double
-        | TypeDesc::Text
-        | TypeDesc::Binary
-        | TypeDesc::Enum(_)
-        | TypeDesc::Struct(_)
-        | TypeDesc::Map(_, _) => kind,
-    }
-}
-
-/// A set of members by rising order.
+/// A set of members of some tag.
 #[tactic(auto, using(thrift_value::proofs::Trees::tree_equations))]
-fn set_value(member: &TypeDesc, items: VecDeque<Value>) -> Made<Value>
-    ensures { IfOk result (λ value. tree_of value ≡ row_tree (kind_set (kind_of member.now)) (item_trees (map tree_of items.items))) }
+fn set_of(tag: Tag, items: VecDeque<Value>) -> Made<Value>
+    ensures { IfOk result (λ value. tree_of value ≡ of_set tag (tidy_members (item_trees (map tree_of items.items)))) }
 {
     let members = tidy_members(items)?;
-    Ok(Value::Set(kind_tag(member), Items::new(members.into_vec())))
+    Ok(Value::Set(tag, Items::new(members.into_vec())))
 }
 
 /// A list, or a set of the members by rising order.
-#[tactic(auto, using(thrift_value::proofs::Trees::tree_equations, crate::proofs::KindsOf::kind_equations))]
-pub(crate) fn row_value(kind: &TypeDesc, items: VecDeque<Value>) -> Made<Value>
+#[tactic(auto, using(thrift_value::proofs::Trees::tree_equations, crate::proofs::RowTrees::row_trees))]
+pub(crate) fn row_value(kind: &TypeDesc, element: &TypeDesc, items: VecDeque<Value>) -> Made<Value>
+    requires { kind_of element.now ≡ element_kind (kind_of kind.now) }
     ensures { IfOk result (λ value. tree_of value ≡ row_tree (kind_of kind.now) (item_trees (map tree_of items.items))) }
 {
-    match kind {
-        TypeDesc::Set(member) => set_value(member, items),
-        TypeDesc::List(element) => Ok(Value::List(kind_tag(element), Items::new(items.into_vec()))),
-        TypeDesc::Bool
-        | TypeDesc::I8
-        | TypeDesc::I16
-        | TypeDesc::I32
-        | TypeDesc::I64
-        | TypeDesc::Double
-        | TypeDesc::Text
-        | TypeDesc::Binary
-        | TypeDesc::Enum(_)
-        | TypeDesc::Struct(_)
-        | TypeDesc::Map(_, _) => Ok(Value::List(kind_tag(kind), Items::new(items.into_vec()))),
+    let tag = row_of(element).tag;
+    if row_of(kind).tag == Tag::Set {
+        return set_of(tag, items);
     }
+    Ok(Value::List(tag, Items::new(items.into_vec())))
 }
 
 /// A map of pairs by rising order of their keys.
@@ -137,7 +96,6 @@ pub(crate) fn map_value(
 ) -> Made<Value>
     ensures { IfOk result (λ made. tree_of made ≡ of_map (kind_tag (kind_of key.now)) (kind_tag (kind_of value.now)) (tidy_pairs (pair_trees (map pair_tree pairs.items)))) }
 {
-    let pairs = tidy_pairs(pairs)?;
-    let pairs = Pairs::new(pairs.into_vec());
-    Ok(Value::Map(kind_tag(key), kind_tag(value), pairs))
+    let kept = tidy_pairs(pairs)?.into_vec();
+    Ok(Value::Map(row_of(key).tag, row_of(value).tag, Pairs::new(kept)))
 }

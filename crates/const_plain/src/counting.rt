@@ -5,7 +5,7 @@ ghost use Rattle.thrift_value.specs.Tree.{Tree};
 ghost use Rattle.thrift_value.specs.TreeOf.{tree_of};
 ghost use Rattle.check_model.specs.Worths.{Worth, one_more, seen_at};
 ghost use Rattle.check_model.specs.Scalars.{OneWorth};
-ghost use Rattle.check_model.specs.Evaluation.{single, opened};
+ghost use Rattle.check_model.specs.Evaluation.{judged, single, opened};
 ghost use Rattle.const_plain.specs.Answers.{IsPlainOne, StopsPlainly, AnswersPlainly};
 
 use crate::faults::{PlainFault, PlainStop};
@@ -29,14 +29,18 @@ fn count_value(work: &mut Counted, at: Place) -> Result<(), PlainStop>
         (λ _. one_more at work.old.values inside ≡ inside (suc work.old.values))
         (λ stop. StopsPlainly stop (one_more at work.old.values inside)) }
 {
-    if work.values >= MOST_VALUES {
-        return Err(PlainStop {
-            at,
-            fault: PlainFault::TooLarge,
-        });
+    if work.values < MOST_VALUES {
+        work.values += 1;
+        return Ok(());
     }
-    work.values += 1;
-    Ok(())
+    Err(PlainFault::TooLarge.at(at))
+}
+
+/// What one value is worth, at its place.
+fn judged(at: Place, one: Result<Value, PlainFault>) -> Result<Value, PlainStop>
+    ensures { (worth : OneWorth) (count : ℕ) → IsPlainOne worth one → AnswersPlainly tree_of result count (judged at count worth) }
+{
+    one.map_err(|fault| fault.at(at))
 }
 
 /// One value, without others inside.
@@ -48,10 +52,7 @@ pub(crate) fn single(
     ensures { (worth : OneWorth) → IsPlainOne worth one → AnswersPlainly tree_of result work.new.values (single at work.old.values worth) }
 {
     count_value(work, at)?;
-    match one {
-        Ok(value) => Ok(value),
-        Err(fault) => Err(PlainStop { at, fault }),
-    }
+    judged(at, one)
 }
 
 /// A container is opened, where its form fits its type and a level is left. How many levels are left inside.
@@ -68,41 +69,24 @@ pub(crate) fn opened(
         (λ stop. StopsPlainly stop (opened at fits levels work.old.values inside)) }
 {
     count_value(work, at)?;
-    if !fits {
-        return Err(PlainStop {
-            at,
-            fault: PlainFault::WrongKind,
-        });
+    match levels.checked_sub(1) {
+        _ if !fits => Err(PlainFault::WrongKind.at(at)),
+        None => Err(PlainFault::TooLarge.at(at)),
+        Some(left) => Ok(left),
     }
-    if levels == 0 {
-        return Err(PlainStop {
-            at,
-            fault: PlainFault::TooLarge,
-        });
-    }
-    Ok(levels - 1)
 }
 
-/// A container whose form doesn't fit its type.
-pub(crate) fn unfit(work: &mut Counted, at: Place, levels: u32) -> Result<Value, PlainStop>
-    ensures { (inside : ℕ → ℕ → Worth Tree) → AnswersPlainly tree_of result work.new.values (opened at false levels work.old.values inside) }
+/// A container whose form doesn't fit its type, whatever is left of levels.
+pub(crate) fn unfit(work: &mut Counted, at: Place) -> Result<Value, PlainStop>
+    ensures { (levels : ℕ) (inside : ℕ → ℕ → Worth Tree) → AnswersPlainly tree_of result work.new.values (opened at false levels work.old.values inside) }
 {
-    opened(work, at, false, levels)?;
-    Err(PlainStop {
-        at,
-        fault: PlainFault::NoMemory,
-    })
+    count_value(work, at)?;
+    Err(PlainFault::WrongKind.at(at))
 }
 
 /// What looks from a place as if it stood there: a value as it is, and a fault as one at this place.
 pub(crate) fn seen_at(at: Place, made: Result<Value, PlainStop>) -> Result<Value, PlainStop>
     ensures { (worth : Worth Tree) (count : ℕ) → AnswersPlainly tree_of made count worth → AnswersPlainly tree_of result count (seen_at at worth) }
 {
-    match made {
-        Ok(value) => Ok(value),
-        Err(stop) => Err(PlainStop {
-            at,
-            fault: stop.fault,
-        }),
-    }
+    made.map_err(|stop| stop.fault.at(at))
 }

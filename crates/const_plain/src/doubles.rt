@@ -1,7 +1,7 @@
 //! Doubles of constants: which whole number is written, and its 64 bits.
 
 ghost use Rattle.check_model.specs.Scalars.{doubled};
-ghost use Rattle.check_model.specs.WholeDoubles.{double_number, signed_within, int_as_double};
+ghost use Rattle.check_model.specs.WholeDoubles.{double_number, signed_within};
 ghost use Rattle.const_plain.specs.Answers.{IsPlainOne};
 
 use crate::bits::double_bits;
@@ -14,33 +14,19 @@ use thrift_value::Value;
 /// The greatest number up to which each whole number is a double.
 const MOST: u64 = 1 << 53;
 
-/// An integer as a double.
-#[tactic(auto, using(thrift_value::proofs::Trees::tree_equations), unfolding(check_model::specs::WholeDoubles::int_as_double))]
-pub(crate) fn double_of(number: i64) -> Result<Value, PlainFault>
-    ensures { IsPlainOne (doubled (int_as_double number)) result }
-{
-    if number.unsigned_abs() > MOST {
-        return Err(PlainFault::DoubleConstant);
-    }
-    let bits = double_bits(number)?;
-    Ok(Value::Double(bits))
-}
-
 /// A number with its sign, where it is whole, as a double.
 #[tactic(auto, using(thrift_value::proofs::Trees::tree_equations))]
 fn whole_double(negative: bool, whole: Option<u64>) -> Result<Value, PlainFault>
     ensures { IsPlainOne (doubled (signed_within negative whole)) result }
 {
-    let Some(size) = whole else {
-        return Err(PlainFault::DoubleConstant);
-    };
-    if size > MOST {
-        return Err(PlainFault::DoubleConstant);
+    match whole {
+        Some(size) if size <= MOST => {
+            let size = size as i64;
+            let bits = double_bits(if negative { -size } else { size })?;
+            Ok(Value::Double(bits))
+        }
+        Some(_) | None => Err(PlainFault::DoubleConstant),
     }
-    let size = size as i64;
-    let number = if negative { -size } else { size };
-    let bits = double_bits(number)?;
-    Ok(Value::Double(bits))
 }
 
 /// A number that is written with a fraction or an exponent, as a double.

@@ -46,6 +46,18 @@ pub struct PlainStop {
     pub fault: PlainFault,
 }
 
+impl PlainFault {
+    ghost use Rattle.std.specs.Prelude.{◌≡◌};
+    ghost use Rattle.const_plain.specs.Answers.{stop_at_place};
+
+    /// This fault at a place.
+    pub(crate) fn at(self, at: Place) -> PlainStop
+        ensures { result ≡ stop_at_place at self }
+    {
+        PlainStop { at, fault: self }
+    }
+}
+
 /// No place.
 pub(crate) const NOWHERE: Place = Place { line: 0, column: 0 };
 
@@ -55,11 +67,8 @@ impl From<AllocError> for PlainStop {
 
     ghost from_gives = { λ _ stop. stop.fault ≡ NoMemory };
 
-    fn from(_error: AllocError) -> Self {
-        PlainStop {
-            at: NOWHERE,
-            fault: PlainFault::NoMemory,
-        }
+    fn from(error: AllocError) -> Self {
+        PlainFault::from(error).at(NOWHERE)
     }
 }
 
@@ -70,9 +79,6 @@ impl<T: Drop> From<AllocFailed<T>> for PlainStop {
     ghost from_gives = { λ _ stop. stop.fault ≡ NoMemory };
 
     fn from(_failed: AllocFailed<T>) -> Self {
-        PlainStop {
-            at: NOWHERE,
-            fault: PlainFault::NoMemory,
-        }
+        PlainFault::NoMemory.at(NOWHERE)
     }
 }

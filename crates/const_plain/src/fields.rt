@@ -1,21 +1,20 @@
 //! Fields of structs: which one a key names, what is given for one, and what is made of them.
 
-ghost use Rattle.std.specs.Prelude.{◌≡◌, ℕ, map, slice_get, IfOk};
+ghost use Rattle.std.specs.Prelude.{◌≡◌, ℕ, List, map, slice_get, IfOk, MatchResult};
 ghost use Rattle.std.specs.Option.{option_map, option_copied};
-ghost use Rattle.std.specs.List.{find};
-ghost use Rattle.std.specs.Str.{bytes_eq};
-ghost use Rattle.idl_model.specs.ConstExpr.{place_of_const};
-ghost use Rattle.idl_model.specs.DeclaredIn.{value_in};
+ghost use Rattle.idl_model.specs.ConstExpr.{literal_const};
+ghost use Rattle.idl_model.specs.DeclaredIn.{value_in, literal_in};
 ghost use Rattle.thrift_value.specs.TreeOf.{tree_of, field_tree, field_trees};
 ghost use Rattle.schema.specs.PlainSchema.{PlainField};
 ghost use Rattle.schema.specs.SchemaOf.{plain_field, plain_struct, schema_of};
+ghost use Rattle.check_model.specs.Worths.{flawed, wrong_kind};
 ghost use Rattle.check_model.specs.Evaluation.{field_of_key, struct_numbered, last_given, union_worth, with_field, missing_worth};
 ghost use Rattle.const_plain.specs.Answers.{AnswersPlainly};
 ghost use Rattle.const_plain.specs.InMemory.{value_for_field};
 
 use crate::faults::{PlainFault, PlainStop};
 use check_plain::Made;
-use idl_parser::ConstTree;
+use idl_parser::{ConstTree, Literal};
 use idl_token::Place;
 use schema::{FieldDesc, Need, Schema, StructDesc, StructKind};
 use std::collections::VecDeque;
@@ -48,31 +47,32 @@ pub(crate) fn kind_numbered(schema: &Schema, which: u32) -> StructKind
     }
 }
 
-/// The first field of a name.
-fn field_named<'a>(fields: &'a [FieldDesc], name: &[u8]) -> Option<&'a FieldDesc>
-    ensures { option_map plain_field (option_copied result) ≡ find (λ (f : PlainField). bytes_eq f.name name.now) (map plain_field fields.now) }
+/// The literal that a key is, or the place where another key begins.
+fn literal_of(key: &ConstTree) -> Result<&Literal, Place>
+    ensures { MatchResult result (λ name. value_in key.now ≡ literal_const (literal_in name.now))
+        (λ at. (items : List PlainField) (count : ℕ) → field_of_key items count (value_in key.now) ≡ flawed at wrong_kind) }
 {
-    let [first, rest @ ..] = fields else {
-        return None;
-    };
-    if first.name.as_slice() == name {
-        return Some(first);
+    match key {
+        ConstTree::Literal(name) => Ok(name),
+        ConstTree::Int(int) => Err(int.at),
+        ConstTree::Double(double) => Err(double.at),
+        ConstTree::Name(name) => Err(name.at),
+        ConstTree::List(at, _) | ConstTree::Map(at, _) => Err(*at),
     }
-    field_named(rest, name)
 }
 
-/// The place where a value begins.
-fn place_of(tree: &ConstTree) -> Place
-    ensures { result ≡ place_of_const (value_in tree.now) }
+/// The first field that a literal names.
+fn field_named<'a>(fields: &'a [FieldDesc], name: &Literal) -> Result<&'a FieldDesc, PlainStop>
+    ensures { (count : ℕ) → AnswersPlainly (λ f. plain_field f.now) result count
+        (field_of_key (map plain_field fields.now) count (literal_const (literal_in name.now))) }
 {
-    match tree {
-        ConstTree::Int(int) => int.at,
-        ConstTree::Double(double) => double.at,
-        ConstTree::Literal(literal) => literal.at,
-        ConstTree::Name(name) => name.at,
-        ConstTree::List(at, _) => *at,
-        ConstTree::Map(at, _) => *at,
+    let [first, rest @ ..] = fields else {
+        return Err(PlainFault::UnknownField.at(name.at));
+    };
+    if first.name.as_slice() == name.bytes.as_slice() {
+        return Ok(first);
     }
+    field_named(rest, name)
 }
 
 /// The field that a key names.
@@ -82,18 +82,9 @@ pub(crate) fn field_of_key<'a>(
 ) -> Result<&'a FieldDesc, PlainStop>
     ensures { (count : ℕ) → AnswersPlainly (λ f. plain_field f.now) result count (field_of_key (map plain_field fields.now) count (value_in key.now)) }
 {
-    let ConstTree::Literal(literal) = key else {
-        return Err(PlainStop {
-            at: place_of(key),
-            fault: PlainFault::WrongKind,
-        });
-    };
-    match field_named(fields, literal.bytes.as_slice()) {
-        Some(field) => Ok(field),
-        None => Err(PlainStop {
-            at: literal.at,
-            fault: PlainFault::UnknownField,
-        }),
+    match literal_of(key) {
+        Ok(name) => field_named(fields, name),
+        Err(at) => Err(PlainFault::WrongKind.at(at)),
     }
 }
 
@@ -132,27 +123,25 @@ pub(crate) fn with_field(
 pub(crate) fn missing(at: Place, need: Need) -> Result<Option<Value>, PlainStop>
     ensures { (count : ℕ) → AnswersPlainly (option_map tree_of) result count (missing_worth at count need) }
 {
-    match need {
-        Need::Required => Err(PlainStop {
-            at,
-            fault: PlainFault::MissingField,
-        }),
-        Need::Default | Need::Optional => Ok(None),
+    if need == Need::Required {
+        return Err(PlainFault::MissingField.at(at));
     }
+    Ok(None)
 }
 
-/// The fields of a union: exactly one that is given.
+/// The fields of a union: the first that is given, with none behind it.
 pub(crate) fn union_fields(
     at: Place,
-    given: VecDeque<(i16, Value)>,
+    mut given: VecDeque<(i16, Value)>,
 ) -> Result<VecDeque<(i16, Value)>, PlainStop>
     ensures { (count : ℕ) → AnswersPlainly (λ made. field_trees (map field_tree made.items)) result count (union_worth (map value_for_field given.items) at count) }
 {
-    if given.len() != 1 {
-        return Err(PlainStop {
-            at,
-            fault: PlainFault::WrongKind,
-        });
+    let Some(only) = given.pop_front() else {
+        return Err(PlainFault::WrongKind.at(at));
+    };
+    if !given.is_empty() {
+        return Err(PlainFault::WrongKind.at(at));
     }
+    given.push_front(only)?;
     Ok(given)
 }

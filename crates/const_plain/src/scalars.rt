@@ -1,94 +1,50 @@
-//! Constants of one value, against a type.
+//! Constants of one value against a type, by the type's row.
 
+ghost use Rattle.std.specs.Prelude.{◌≡◌, true};
 ghost use Rattle.schema.specs.PlainKind.{kind_of, kind_enum};
-ghost use Rattle.thrift_value.specs.Tree.{of_i8, of_i16, of_i32, of_i64, of_bytes};
-ghost use Rattle.check_model.specs.Scalars.{ranged, truth, int_worth, double_worth, literal_worth, enum_worth};
+ghost use Rattle.thrift_value.specs.Tree.{of_bytes};
+ghost use Rattle.check_model.specs.Scalars.{int_worth, double_worth, literal_worth, enum_worth};
 ghost use Rattle.const_plain.specs.Answers.{IsPlainOne};
+ghost use Rattle.const_plain.specs.Table.{has_room, integer_tree, is_sized, enum_of_kind};
 
-use crate::doubles::{double_of, double_written};
+use crate::bits::double_bits;
+use crate::doubles::double_written;
 use crate::faults::PlainFault;
+use crate::table::{is_within, row_of};
 use byte_text::ByteText;
 use schema::TypeDesc;
 use std::alloc::Global;
-use thrift_value::Value;
+use thrift_value::{Tag, Value};
 
-/// A number that is 0 or 1.
+/// An integer under a tag that has room for it.
 #[tactic(auto, using(thrift_value::proofs::Trees::tree_equations))]
-fn truth(number: i64) -> Result<Value, PlainFault>
-    ensures { IsPlainOne (truth number) result }
+fn under_tag(tag: Tag, number: i64) -> Result<Value, PlainFault>
+    requires { has_room tag number ≡ true }
+    ensures { IsPlainOne (Ok (integer_tree tag number)) result }
 {
-    match number {
-        0 => Ok(Value::Bool(false)),
-        1 => Ok(Value::Bool(true)),
-        _ => Err(PlainFault::OutOfRange),
+    match tag {
+        Tag::Bool => Ok(Value::Bool(number == 1)),
+        Tag::I8 => Ok(Value::I8(number as i8)),
+        Tag::I16 => Ok(Value::I16(number as i16)),
+        Tag::I32 => Ok(Value::I32(number as i32)),
+        Tag::I64 => Ok(Value::I64(number)),
+        Tag::Double => Ok(Value::Double(double_bits(number)?)),
+        Tag::Bytes | Tag::Struct | Tag::Map | Tag::Set | Tag::List => Err(PlainFault::NoMemory),
     }
-}
-
-/// A number of 8 bits.
-#[tactic(auto, using(thrift_value::proofs::Trees::tree_equations))]
-fn as_i8(number: i64) -> Result<Value, PlainFault>
-    ensures { IsPlainOne (ranged of_i8 8 number) result }
-{
-    if number < -0x80 || number > 0x7f {
-        return Err(PlainFault::OutOfRange);
-    }
-    Ok(Value::I8(number as i8))
-}
-
-/// A number of 16 bits.
-#[tactic(auto, using(thrift_value::proofs::Trees::tree_equations))]
-fn as_i16(number: i64) -> Result<Value, PlainFault>
-    ensures { IsPlainOne (ranged of_i16 16 number) result }
-{
-    if number < -0x8000 || number > 0x7fff {
-        return Err(PlainFault::OutOfRange);
-    }
-    Ok(Value::I16(number as i16))
-}
-
-/// A number of 32 bits.
-#[tactic(auto, using(thrift_value::proofs::Trees::tree_equations))]
-fn as_i32(number: i64) -> Result<Value, PlainFault>
-    ensures { IsPlainOne (ranged of_i32 32 number) result }
-{
-    if number < -0x8000_0000 || number > 0x7fff_ffff {
-        return Err(PlainFault::OutOfRange);
-    }
-    Ok(Value::I32(number as i32))
-}
-
-/// A number of 64 bits.
-#[tactic(auto, using(thrift_value::proofs::Trees::tree_equations))]
-fn as_i64(number: i64) -> Result<Value, PlainFault>
-    ensures { IsPlainOne (ranged of_i64 64 number) result }
-{
-    Ok(Value::I64(number))
 }
 
 /// An integer.
-#[tactic(auto, using(crate::proofs::KindsOf::kind_equations))]
 pub(crate) fn int_value(kind: &TypeDesc, number: i64) -> Result<Value, PlainFault>
     ensures { IsPlainOne (int_worth (kind_of kind.now) number) result }
 {
-    match kind {
-        TypeDesc::Bool => truth(number),
-        TypeDesc::I8 => as_i8(number),
-        TypeDesc::I16 => as_i16(number),
-        TypeDesc::I32 => as_i32(number),
-        TypeDesc::I64 => as_i64(number),
-        TypeDesc::Double => double_of(number),
-        TypeDesc::Enum(_) => as_i32(number),
-        TypeDesc::Text
-        | TypeDesc::Binary
-        | TypeDesc::Struct(_)
-        | TypeDesc::Map(_, _)
-        | TypeDesc::Set(_)
-        | TypeDesc::List(_) => Err(PlainFault::WrongKind),
+    let row = row_of(kind);
+    if !is_within(&row, number) {
+        return Err(row.otherwise);
     }
+    under_tag(row.tag, number)
 }
 
 /// A number with a fraction or an exponent, by its bytes.
-#[tactic(auto, using(crate::proofs::KindsOf::kind_equations))]
 pub(crate) fn double_value(
     alloc: Global,
     kind: &TypeDesc,
@@ -96,25 +52,14 @@ pub(crate) fn double_value(
 ) -> Result<Value, PlainFault>
     ensures { IsPlainOne (double_worth (kind_of kind.now) text.now) result }
 {
-    match kind {
-        TypeDesc::Double => double_written(alloc, text.as_slice()),
-        TypeDesc::Bool
-        | TypeDesc::I8
-        | TypeDesc::I16
-        | TypeDesc::I32
-        | TypeDesc::I64
-        | TypeDesc::Text
-        | TypeDesc::Binary
-        | TypeDesc::Enum(_)
-        | TypeDesc::Struct(_)
-        | TypeDesc::Map(_, _)
-        | TypeDesc::Set(_)
-        | TypeDesc::List(_) => Err(PlainFault::WrongKind),
+    if row_of(kind).tag != Tag::Double {
+        return Err(PlainFault::WrongKind);
     }
+    double_written(alloc, text.as_slice())
 }
 
 /// A literal.
-#[tactic(auto, using(thrift_value::proofs::Trees::tree_equations, crate::proofs::KindsOf::kind_equations))]
+#[tactic(auto, using(thrift_value::proofs::Trees::tree_equations))]
 pub(crate) fn literal_value(
     alloc: Global,
     kind: &TypeDesc,
@@ -122,63 +67,66 @@ pub(crate) fn literal_value(
 ) -> Result<Value, PlainFault>
     ensures { IsPlainOne (literal_worth (kind_of kind.now) bytes.now) result }
 {
+    if row_of(kind).tag != Tag::Bytes {
+        return Err(PlainFault::WrongKind);
+    }
+    let copy = bytes.try_clone(alloc)?;
+    Ok(Value::Bytes(copy))
+}
+
+/// The number of the enum that a type is.
+#[tactic(auto, using(crate::proofs::KindsOf::kind_equations))]
+fn enum_of(kind: &TypeDesc) -> Option<u32>
+    ensures { result ≡ enum_of_kind (kind_of kind.now) }
+{
     match kind {
-        TypeDesc::Text | TypeDesc::Binary => text_value(alloc, bytes),
+        TypeDesc::Enum(which) => Some(*which),
         TypeDesc::Bool
         | TypeDesc::I8
         | TypeDesc::I16
         | TypeDesc::I32
         | TypeDesc::I64
         | TypeDesc::Double
-        | TypeDesc::Enum(_)
-        | TypeDesc::Struct(_)
-        | TypeDesc::Map(_, _)
-        | TypeDesc::Set(_)
-        | TypeDesc::List(_) => Err(PlainFault::WrongKind),
-    }
-}
-
-/// A text in memory of its own.
-#[tactic(auto, using(thrift_value::proofs::Trees::tree_equations))]
-fn text_value(alloc: Global, bytes: &ByteText) -> Result<Value, PlainFault>
-    ensures { IsPlainOne (Ok (of_bytes bytes.now)) result }
-{
-    Ok(Value::Bytes(bytes.try_clone(alloc)?))
-}
-
-/// The number of a value of an enum, as one of this enum.
-#[tactic(auto, using(thrift_value::proofs::Trees::tree_equations))]
-fn number_of_enum(wanted: u32, which: u32, number: i64) -> Result<Value, PlainFault>
-    ensures { IsPlainOne (enum_worth (kind_enum wanted) which number) result }
-{
-    if wanted != which {
-        return Err(PlainFault::WrongKind);
-    }
-    if number < -0x8000_0000 || number > 0x7fff_ffff {
-        return Err(PlainFault::NoMemory);
-    }
-    Ok(Value::I32(number as i32))
-}
-
-/// The number of a value of the enum of some number. One that passes 32 bits, which a checker refuses before, is answered as want
-/// of memory where the enum is wanted.
-#[tactic(auto, using(crate::proofs::KindsOf::kind_equations))]
-pub(crate) fn enum_value(kind: &TypeDesc, which: u32, number: i64) -> Result<Value, PlainFault>
-    ensures { IsPlainOne (enum_worth (kind_of kind.now) which number) result }
-{
-    match kind {
-        TypeDesc::I8 => as_i8(number),
-        TypeDesc::I16 => as_i16(number),
-        TypeDesc::I32 => as_i32(number),
-        TypeDesc::I64 => as_i64(number),
-        TypeDesc::Enum(wanted) => number_of_enum(*wanted, which, number),
-        TypeDesc::Bool
-        | TypeDesc::Double
         | TypeDesc::Text
         | TypeDesc::Binary
         | TypeDesc::Struct(_)
         | TypeDesc::Map(_, _)
         | TypeDesc::Set(_)
-        | TypeDesc::List(_) => Err(PlainFault::WrongKind),
+        | TypeDesc::List(_) => None,
     }
+}
+
+/// Whether a tag is that of integers of so many bits.
+fn is_sized(tag: Tag) -> bool
+    ensures { result ≡ is_sized tag }
+{
+    matches!(tag, Tag::I8 | Tag::I16 | Tag::I32 | Tag::I64)
+}
+
+/// The number of a value of an enum, where an enum is wanted. One that passes 32 bits, which a checker refuses before, is answered
+/// as want of memory.
+#[tactic(auto, using(thrift_value::proofs::Trees::tree_equations))]
+fn value_of_enum(wanted: u32, which: u32, number: i64) -> Result<Value, PlainFault>
+    ensures { IsPlainOne (enum_worth (kind_enum wanted) which number) result }
+{
+    if wanted != which {
+        return Err(PlainFault::WrongKind);
+    }
+    match i32::try_from(number) {
+        Ok(small) => Ok(Value::I32(small)),
+        Err(_) => Err(PlainFault::NoMemory),
+    }
+}
+
+/// The number of a value of the enum of some number: an integer where integers of so many bits are wanted.
+pub(crate) fn enum_value(kind: &TypeDesc, which: u32, number: i64) -> Result<Value, PlainFault>
+    ensures { IsPlainOne (enum_worth (kind_of kind.now) which number) result }
+{
+    if let Some(wanted) = enum_of(kind) {
+        return value_of_enum(wanted, which, number);
+    }
+    if !is_sized(row_of(kind).tag) {
+        return Err(PlainFault::WrongKind);
+    }
+    int_value(kind, number)
 }

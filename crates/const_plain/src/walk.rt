@@ -2,20 +2,22 @@
 
 ghost use Rattle.std.specs.Prelude.{◌≡◌, ◌<◌, ◌-◌, ℕ, suc, Some, false, map, slice_get, slice_set, IfOk, IfErr};
 ghost use Rattle.std.specs.Option.{option_map};
-ghost use Rattle.schema.specs.PlainKind.{kind_of, kind_struct, kind_map};
+ghost use Rattle.schema.specs.PlainKind.{kind_of};
 ghost use Rattle.schema.specs.SchemaOf.{plain_field};
+ghost use Rattle.thrift_value.specs.Tree.{of_struct, of_map};
 ghost use Rattle.thrift_value.specs.TreeOf.{tree_of, pair_tree, field_tree, field_trees, item_trees, pair_trees};
 ghost use Rattle.idl_model.specs.ConstExpr.{name_const, list_const, map_const};
 ghost use Rattle.idl_model.specs.DeclaredIn.{value_in, name_in, items_in, entries_in};
 ghost use Rattle.idl_model.specs.Numbering.{Filed};
 ghost use Rattle.idl_model.specs.Spots.{GivenValue, values_of};
-ghost use Rattle.check_model.specs.Worths.{and_next, seen_at};
-ghost use Rattle.check_model.specs.Evaluation.{worth_by, items_by, pairs_by, given_by, struct_numbered, made_fields, fields_worth, field_worth, default_worth, default_of, last_given, named_worth, evaluated, given_worth};
+ghost use Rattle.check_model.specs.Worths.{valued, and_next, seen_at};
+ghost use Rattle.check_model.specs.TidyRows.{tidy_pairs};
+ghost use Rattle.check_model.specs.Evaluation.{kind_tag, worth_by, items_by, pairs_by, given_by, struct_numbered, made_fields, fields_worth, field_worth, default_worth, default_of, last_given, named_worth, evaluated, given_worth};
 ghost use Rattle.const_plain.specs.Answers.{AnswersPlainly, IsPlainWorth};
 ghost use Rattle.const_plain.specs.InMemory.{environment_setting, key_and_value, value_for_field};
 ghost use Rattle.const_plain.specs.Scopes.{scope_setting, scope_worth};
 
-use crate::containers::{element_kind, map_value, row_value, takes_braces, takes_brackets};
+use crate::containers::{Braces, braces_of, element_of, map_value, row_value};
 use crate::counting::{Counted, opened, seen_at, single, unfit};
 use crate::defaults::default_of;
 use crate::environment::Environment;
@@ -238,9 +240,12 @@ fn bracketed(
         (worth_by (scope_setting scope.now) (scope_worth scope.now) file (kind_of kind.now) levels work.old.values
         (list_const at (items_in (map value_in trees.now)))) }
 {
-    let left = opened(work, at, takes_brackets(kind), levels)?;
-    let made = items(scope, calls, file, element_kind(kind), left, work, trees)?;
-    Ok(row_value(kind, made)?)
+    let Some(element) = element_of(kind) else {
+        return unfit(work, at);
+    };
+    let left = opened(work, at, true, levels)?;
+    let made = items(scope, calls, file, element, left, work, trees)?;
+    Ok(row_value(kind, element, made)?)
 }
 
 /// The values of a list, each against one type.
@@ -283,24 +288,17 @@ fn braced(
         (worth_by (scope_setting scope.now) (scope_worth scope.now) file (kind_of kind.now) levels work.old.values
         (map_const at (entries_in (map key_and_value entries.now)))) }
 {
-    if !takes_braces(kind) {
-        return unfit(work, at, levels);
-    }
-    match kind {
-        TypeDesc::Map(key, held) => mapped(
-            scope, calls, file, key, held, levels, work, at, entries,
-        ),
-        TypeDesc::Struct(which) => structured(
-            scope, calls, file, *which, levels, work, at, entries,
-        ),
-        _ => Err(PlainStop {
-            at,
-            fault: PlainFault::NoMemory,
-        }),
+    let Some(braces) = braces_of(kind) else {
+        return unfit(work, at);
+    };
+    let left = opened(work, at, true, levels)?;
+    match braces {
+        Braces::Pairs(key, held) => mapped(scope, calls, file, key, held, left, work, entries),
+        Braces::Fields(which) => structured(scope, calls, file, which, left, work, at, entries),
     }
 }
 
-/// Pairs of a map.
+/// Pairs of a map that is open.
 #[cycle(walk)]
 fn mapped(
     scope: &Scope<'_, '_>,
@@ -310,15 +308,14 @@ fn mapped(
     held: &TypeDesc,
     levels: u32,
     work: &mut Counted,
-    at: Place,
     entries: &[(ConstTree, ConstTree)],
 ) -> Result<Value, PlainStop>
     ensures { AnswersPlainly tree_of result work.new.values
-        (worth_by (scope_setting scope.now) (scope_worth scope.now) file (kind_map (kind_of key.now) (kind_of held.now)) levels work.old.values
-        (map_const at (entries_in (map key_and_value entries.now)))) }
+        (and_next (pairs_by (scope_setting scope.now) (scope_worth scope.now) file (kind_of key.now) (kind_of held.now) levels work.old.values
+        (entries_in (map key_and_value entries.now))) (λ made n.
+        valued (of_map (kind_tag (kind_of key.now)) (kind_tag (kind_of held.now)) (tidy_pairs made)) n)) }
 {
-    let left = opened(work, at, true, levels)?;
-    let made = pairs(scope, calls, file, key, held, left, work, entries)?;
+    let made = pairs(scope, calls, file, key, held, levels, work, entries)?;
     Ok(map_value(key, held, made)?)
 }
 
@@ -349,7 +346,7 @@ fn pairs(
     Ok(made)
 }
 
-/// A struct, a union or an exception.
+/// A struct, a union or an exception that is open.
 #[cycle(walk)]
 fn structured(
     scope: &Scope<'_, '_>,
@@ -361,12 +358,13 @@ fn structured(
     at: Place,
     entries: &[(ConstTree, ConstTree)],
 ) -> Result<Value, PlainStop>
-    ensures { AnswersPlainly tree_of result work.new.values
-        (worth_by (scope_setting scope.now) (scope_worth scope.now) file (kind_struct which) levels work.old.values
-        (map_const at (entries_in (map key_and_value entries.now)))) }
+    ensures { let s = scope_setting scope.now in
+        AnswersPlainly tree_of result work.new.values
+        (and_next (and_next (given_by s (scope_worth scope.now) file (struct_numbered s.schema which).fields levels work.old.values (entries_in (map key_and_value entries.now))) (λ given m.
+        made_fields (scope_worth scope.now) (default_of s.program which) at levels (struct_numbered s.schema which).kind (struct_numbered s.schema which).fields given m))
+        (λ made n. valued (of_struct made) n)) }
 {
-    let left = opened(work, at, true, levels)?;
-    let made = fields(scope, calls, file, which, left, work, at, entries)?;
+    let made = fields(scope, calls, file, which, levels, work, at, entries)?;
     Ok(Value::Struct(Fields::new(made.into_vec())))
 }
 

@@ -1,6 +1,8 @@
+use Rattle.std.proofs.Common.{sym, ap, ◌∙◌, subst}
 use Rattle.std.proofs.lemmas.Result.{err_from_is_err_and}
+use Rattle.thrift_value.specs.TreeOf.{tree_of}
 use Rattle.check_model.specs.Evaluation.{judged}
-use Rattle.const_plain.proofs.OneMore.{single_is, single_stops}
+use Rattle.const_plain.specs.Answers.{AnswersPlainly}
 use Rattle.const_plain.proofs.counting.single.Goals as goal
 
 pub returns-in_err-count_value : goal.returns-in_err-count_value
@@ -8,12 +10,8 @@ returns-in_err-count_value c worth h =
     let p = err_from_is_err_and c.from_residual.result c.from_residual.ensures.1 in
     rw (p.1, p.2) (c.in_err-count_value.ensures.counted (λ n. judged c.args.at n worth))
 
-pub returns-in-Ok : goal.returns-in-Ok
-returns-in-Ok c worth h =
-    single_is c.args.at c.args.work.now.values c.count_value.new.work.values c.args.one worth c.in-Ok.value c.in-Ok.is h
-    (c.in_ok-count_value.ensures.counted (λ n. judged c.args.at n worth)) c.in_ok-count_value.ensures.more
-
-pub returns-in-Err : goal.returns-in-Err
-returns-in-Err c worth h =
-    single_stops c.args.at c.args.work.now.values c.args.one worth c.in-Err.fault c.in-Err.is h
-    (c.in_ok-count_value.ensures.counted (λ n. judged c.args.at n worth))
+pub returns : goal.returns
+returns c worth h =
+    subst (AnswersPlainly tree_of c.judged.result c.count_value.new.work.values)
+    (sym (c.in_ok-count_value.ensures.counted (λ n. judged c.args.at n worth) ∙ ap (λ n. judged c.args.at n worth) (sym c.in_ok-count_value.ensures.more)))
+    (c.judged.ensures worth c.count_value.new.work.values h)

@@ -3,24 +3,36 @@ use Rattle.std.specs.Option.{option_map}
 use Rattle.thrift_value.specs.TreeOf.{tree_of, field_tree, field_trees}
 use Rattle.thrift_value.specs.Tree.{of_struct}
 use Rattle.thrift_value.proofs.Trees.{tree_of-Struct}
-use Rattle.thrift_value.specs.declared.value.Value as value
 use Rattle.schema.specs.PlainKind.{kind_of}
 use Rattle.idl_model.specs.ConstExpr.{map_const}
-use Rattle.idl_model.specs.DeclaredIn.{entries_in}
+use Rattle.idl_model.specs.DeclaredIn.{value_in, items_in, entries_in}
 use Rattle.idl_names.specs.SpotsIn.{filed_value}
+use Rattle.check_model.specs.Worths.{valued, and_next}
 use Rattle.check_model.specs.Evaluation.{worth_by}
 use Rattle.const_plain.specs.Answers.{AnswersPlainly}
 use Rattle.const_plain.specs.InMemory.{key_and_value}
 use Rattle.const_plain.specs.Scopes.{scope_setting, scope_worth}
-use Rattle.const_plain.proofs.Braces.{unfit_worth, struct_worth}
+use Rattle.const_plain.proofs.Braces as braces
+use Rattle.const_plain.proofs.InBrackets as brackets
 use Rattle.const_plain.proofs.Entering.{shut, none_left, absent, entered}
 use Rattle.const_plain.proofs.Spelled.{map_is}
 use Rattle.const_plain.proofs.walk.+walk.Goals as goal
 
-pub braced-returns-then-not-takes_braces : goal.braced-returns-then-not-takes_braces
-braced-returns-then-not-takes_braces t c =
-    unfit_worth (scope_setting c.args.scope.now) (scope_worth c.args.scope.now) c.args.file c.args.levels c.args.work.now.values c.args.at (entries_in (map key_and_value c.args.entries.now))
-    (kind_of c.args.kind.now) c.unfit.result c.unfit.new.work.values (sym c.takes_braces.ensures ∙ c.if-not-takes_braces.true) c.unfit.ensures
+pub braced-returns-in_default : goal.braced-returns-in_default
+braced-returns-in_default t c =
+    braces.unfit_worth (scope_setting c.args.scope.now) (scope_worth c.args.scope.now) c.args.file c.args.levels c.args.work.now.values c.args.at (entries_in (map key_and_value c.args.entries.now))
+    (kind_of c.args.kind.now) c.unfit.result c.unfit.new.work.values (sym c.in_default.ensures.taken) c.unfit.ensures
+
+pub bracketed-returns-in_default : goal.bracketed-returns-in_default
+bracketed-returns-in_default t c =
+    brackets.unfit_worth (scope_setting c.args.scope.now) (scope_worth c.args.scope.now) c.args.file c.args.levels c.args.work.now.values c.args.at (items_in (map value_in c.args.trees.now))
+    (kind_of c.args.kind.now) c.unfit.result c.unfit.new.work.values (sym c.in_default.ensures.taken) c.unfit.ensures
+
+pub structured-returns : goal.structured-returns
+structured-returns t c =
+    ap (λ w. and_next w (λ made n. valued (of_struct made) n)) c.in_ok-made.ensures
+    ∙ ap (λ t. valued t c.fields.new.work.values)
+    (sym (tree_of-Struct c.new.result ∙ ap (λ fs. of_struct (field_trees (map field_tree fs))) (c.new.ensures ∙ c.into_vec.ensures.items)))
 
 pub entered-returns-then-scope-eq0 : goal.entered-returns-then-scope-eq0
 entered-returns-then-scope-eq0 t c =
@@ -43,13 +55,6 @@ entered-returns-in-Some t c =
     (kind_of c.args.kind.now) c.args.levels c.args.work.now.values (omega arith) (sym c.is_free.ensures ∙ c.if-not-is_free.false)
     (ap (option_map filed_value) (sym c.in-Some.is) ∙ c.in_ok-found.ensures)))
     c.inside.ensures
-
-pub structured-returns : goal.structured-returns
-structured-returns t c =
-    struct_worth (scope_setting c.args.scope.now) (scope_worth c.args.scope.now) c.args.file c.args.levels c.args.work.now.values c.args.at (entries_in (map key_and_value c.args.entries.now))
-    c.args.which c.in_ok-left.left c.opened.new.work.values c.fields.new.work.values (field_trees (map field_tree c.in_ok-made.made.items)) (value.Struct c.new.result)
-    c.in_ok-left.ensures.worth c.in_ok-made.ensures
-    (tree_of-Struct c.new.result ∙ ap (λ fs. of_struct (field_trees (map field_tree fs))) (c.new.ensures ∙ c.into_vec.ensures.items))
 
 pub value-returns-in-Map : goal.value-returns-in-Map
 value-returns-in-Map t c =
