@@ -16,9 +16,8 @@ use host_model::EndCause;
 use host_model::plain::{PlainEntry, marks_of, output};
 use house_handlers::Mirror;
 use machine_model::plain::{PlainCell, PlainConn};
-use outside::{Bytes, Mark};
+use outside::{Bytes, Mark, MarkAt, Tape};
 use run_report::ReportedJournal;
-use run_tape::{MarkAt, RunTape};
 use script_links::laws::scripts_are_sound;
 use script_links::{Script, read_script};
 use std::alloc::{AllocError, Global};
@@ -162,7 +161,7 @@ fn lent(mark: &Mark) -> MarkAt<'_> {
 }
 
 // Whether a run's tape has these marks.
-fn has_marks(tape: &RunTape, others: &[Mark]) -> bool {
+fn has_marks(tape: &Tape, others: &[Mark]) -> bool {
     let mut marks = tape.marks();
     for other in others {
         let Some(mark) = marks.next() else {

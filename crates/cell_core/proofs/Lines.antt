@@ -6,7 +6,7 @@ use Rattle.std.specs.Vec.{vec_capacity}
 use Rattle.std.proofs.lemmas.Option.{none-some, same_Some}
 use Rattle.host_model.specs.declared.cause.EndCause.{EndCause}
 use Rattle.call_rules.specs.Desks.{DeskMeaning}
-use Rattle.run_tape.specs.Rows.{TapeView}
+use Rattle.outside.specs.Rows.{TapeView}
 use Rattle.conn_table.specs.Table.{TableView}
 use Rattle.rehearsal_model.specs.ScriptLines.{PlanLine, PlanRule, opening, piece, input_end, input_fault, resting, turn_of_conn, turn_of_worker, turn_of_outcome}
 use Rattle.rehearsal_model.specs.Playing.{InputFinish, finishes, faults, MemoryAt, at_number}

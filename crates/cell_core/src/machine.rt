@@ -16,9 +16,8 @@ use cell_loop::{LoopPart, Stand};
 use cell_model::laws::moves_are_reached;
 use cell_turn::turn::turn;
 use cell_turn::{Holding, RunStop, Turned, put_back, take_out, told};
-use hall_core::{Hall, HallOp, HallReply};
+use hall_core::{Hall, HallReply};
 use outside::{Bytes, Settled};
-use seat_booth::Object;
 use std::alloc::{AllocError, Global};
 
 /// The machine of loop, hall and workers.
@@ -34,6 +33,7 @@ pub(crate) struct Machine<'a, H: Handler, J: Journal> {
 
 impl<'a, H: Handler, J: Journal> Machine<'a, H, J> {
     /// One move of a connection, where it has one.
+    #[inline(always)]
     pub(crate) fn conn_move(
         &mut self,
         alloc: Global,
@@ -80,12 +80,11 @@ impl<'a, H: Handler, J: Journal> Machine<'a, H, J> {
     {
         moves_are_reached();
         let (i, payload) = self.part.hand_out(c);
-        let _ = self
-            .hall
-            .step(HallOp::Submit(Key { c, i }, Bytes::new(payload)));
+        let _ = self.hall.submit(Key { c, i }, Bytes::new(payload));
     }
 
     /// One move of a worker, where it has one.
+    #[inline(always)]
     pub(crate) fn worker_move<D: Desk>(
         &mut self,
         alloc: Global,
@@ -110,6 +109,7 @@ impl<'a, H: Handler, J: Journal> Machine<'a, H, J> {
     }
 
     /// Collects the oldest outcome, where there is one.
+    #[inline(always)]
     pub(crate) fn collect_move(&mut self) -> bool
         requires under_way { SomeMachine (parts_of self.old) }
         ensures moved { (max : ℕ) → MachineMoves max one_of_outcome (parts_of self.old) result (parts_of self.new) }
@@ -126,7 +126,7 @@ impl<'a, H: Handler, J: Journal> Machine<'a, H, J> {
         ensures { IsOutcomeStep (parts_of self.old) (parts_of self.new) result }
     {
         moves_are_reached();
-        let reply = self.hall.step(HallOp::Collect);
+        let reply = self.hall.collect();
         match collected(reply) {
             None => false,
             Some((key, settled)) => {

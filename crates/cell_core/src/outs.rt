@@ -1,11 +1,10 @@
 //! What was written to each connection of a run.
 
 ghost use Rattle.std.specs.Prelude.{◌≡◌, ◌++◌, [], map, replicate, slice_index_or, slice_set, IfOk, OnOk};
-ghost use Rattle.run_tape.specs.Marks.{lent_mark};
+ghost use Rattle.outside.specs.Marks.{lent_mark};
 ghost use Rattle.cell_core.specs.Rehearsed.{AreWritten, rows_behind};
 
-use outside::Bytes;
-use run_tape::{MarkAt, TapeLog};
+use outside::{Bytes, MarkAt, TapeLog};
 use std::alloc::{AllocError, Global};
 use std::marker::Model;
 

@@ -22,7 +22,7 @@ use cell_loop::LoopPart;
 use cell_turn::{Holding, RunStop};
 use conn_table::{Ends, Limits, Outcome};
 use hall_core::Hall;
-use run_tape::RunTape;
+use outside::Tape;
 use script_links::Script;
 use script_links::laws::{kept_scripts_let_all_end, scripts_are_sound};
 use std::alloc::{AllocError, Global};
@@ -31,7 +31,7 @@ use std::alloc::{AllocError, Global};
 #[derive(Drop)]
 pub struct Rehearsed<H: Handler, J: Journal> {
     /// What happened on connections.
-    pub tape: RunTape,
+    pub tape: Tape,
     /// What was written to each connection, where the run came to its end.
     pub outs: Outs,
     /// By what each connection ended.
@@ -210,7 +210,7 @@ fn nothing<H: Handler, J: Journal>(alloc: Global, handlers: Vec<H>, journal: J) 
     ensures outcome { result.outcome ≡ NoMemory }
 {
     Rehearsed {
-        tape: RunTape::empty(alloc),
+        tape: Tape::empty(alloc),
         outs: Outs::new(Vec::new(alloc)),
         ends: Ends::new(Vec::new(alloc)),
         handlers,

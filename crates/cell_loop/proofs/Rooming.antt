@@ -2,7 +2,7 @@
 use Rattle.std.proofs.Common.{Vec, Global, ◌≡◌, ℕ, ◌+◌, ◌*◌, ◌^◌, ◌≤◌, List, [], ◌∷◌, ◌++◌, length, sym, ap, ◌∙◌, subst, length-append, arith}
 use Rattle.std.specs.Vec.{vec_capacity}
 use Rattle.outside.specs.declared.marks.Mark.{Mark}
-use Rattle.run_tape.specs.Rows.{TapeView}
+use Rattle.outside.specs.Rows.{TapeView}
 use Rattle.host_model.specs.declared.cause.EndCause.{EndCause}
 use Rattle.conn_table.specs.Slots.{most_places}
 use Rattle.cell_loop.specs.declared.loop_part.LoopPart.{LoopPart}

@@ -3,7 +3,7 @@ use Rattle.std.proofs.Common.{◌≡◌, ◌↔◌, ℕ, ◌+◌, ◌*◌, ◌^�
 use Rattle.std.proofs.lemmas.Bool.{false≢true}
 use Rattle.std.specs.Vec.{vec_capacity}
 use Rattle.outside.specs.declared.marks.Mark.TheVariants.{Read, Closed}
-use Rattle.run_tape.specs.Rows.{TapeView}
+use Rattle.outside.specs.Rows.{TapeView}
 use Rattle.host_model.specs.declared.cause.EndCause.{EndCause}
 use Rattle.conn_state.specs.Phase.{ConnView, cause_of, wanted, IsReady}
 use Rattle.conn_state.specs.Run.{EachIsByte}

@@ -22,8 +22,7 @@ ghost use Rattle.cell_loop.specs.LoopMoves.{IsLoopUnderWay, StaysTied, LoopMoves
 use crate::feed::Feed;
 use conn_state::EndCause;
 use conn_table::Table;
-use outside::Settled;
-use run_tape::{MarkAt, TapeLog};
+use outside::{MarkAt, Settled, TapeLog};
 use script_links::RuleList;
 use std::alloc::{AllocError, Global};
 

@@ -16,7 +16,7 @@ ghost use Rattle.cell_loop.specs.LoopMoves.{IsLoopUnderWay, StaysTied, LoopMoves
 use crate::feed::Finish;
 use crate::loop_part::{LoopPart, Stand};
 use conn_state::EndCause;
-use run_tape::MarkAt;
+use outside::MarkAt;
 use std::alloc::{AllocError, Global};
 
 /// So many frames are counted at most.

@@ -16,7 +16,7 @@ ghost use Rattle.cell_loop.specs.LoopMoves.{IsLoopUnderWay, StaysTied, LoopMoves
 
 use crate::loop_part::LoopPart;
 use conn_state::EndCause;
-use run_tape::MarkAt;
+use outside::MarkAt;
 use script_links::WriteRule;
 use std::alloc::AllocError;
 

@@ -44,6 +44,7 @@ pub struct Turned {
 }
 
 /// One step of a worker that holds this: it takes a job, applies its call, or puts what it came to.
+#[inline(always)]
 pub fn turn<D: Desk, H: Handler, J: Journal>(
     alloc: Global,
     desk: &D,
@@ -68,7 +69,7 @@ pub fn turn<D: Desk, H: Handler, J: Journal>(
 fn take<H: Handler, J: Journal>(hall: &mut Hall<H, J>) -> Turned
     ensures { (desk : DeskMeaning) → IsWorkerTurn desk hall.old hall.new Idle result.worker result.stepped }
 {
-    let reply = hall.step(HallOp::Take);
+    let reply = hall.take();
     taken(reply)
 }
 
@@ -152,13 +153,14 @@ fn reply<D: Desk>(alloc: Global, desk: &D, job: &JobHeld, given: &Given) -> Sett
 }
 
 /// Puts what a job came to.
+#[inline(always)]
 fn put<H: Handler, J: Journal>(hall: &mut Hall<H, J>, key: Key, settled: Settled) -> Turned
     requires { has_key key hall.old.taken ≡ true }
     ensures gives { SeenGives handler_rules hall.old (rule.put key settled) rule.done hall.new }
     ensures worker { result.worker ≡ Idle }
     ensures stepped { result.stepped ≡ Moves }
 {
-    let _ = hall.step(HallOp::Put(key, settled));
+    let _ = hall.put(key, settled);
     Turned {
         worker: Holding::Idle,
         stepped: Stepped::Moves,

@@ -1,7 +1,10 @@
 //! What a head is.
 
+ghost use Rattle.std.specs.Prelude.{◌≡◌};
+
 use outside::EnvelopeFault;
 use std::alloc::AllocError;
+use std::marker::Model;
 use thiserror::Error;
 use thrift_value::ByteText;
 use wire_num::NumFault;
@@ -35,6 +38,65 @@ pub struct Head {
     pub id: i32,
     /// The place behind the head, where the struct of the arguments begins.
     pub behind: usize,
+}
+
+/// The head of a call, whose name stands in the payload; contracts see the head.
+#[derive(Drop)]
+pub struct LentHead<'a> {
+    name: &'a [u8],
+    kind: u8,
+    id: i32,
+    behind: usize,
+}
+
+impl<'a> Model for LentHead<'a> {
+    ghost use Rattle.envelope.specs.declared.head.Head.{Head};
+
+    ghost Value = { Head };
+
+    ghost view = { λ h. record { name = h.name.now; kind = h.kind; id = h.id; behind = h.behind } };
+}
+
+impl<'a> LentHead<'a> {
+    /// The head of these parts.
+    pub(crate) fn new(name: &'a [u8], kind: u8, id: i32, behind: usize) -> LentHead<'a>
+        ensures { result ≡ record { name = name.now; kind = kind; id = id; behind = behind } }
+    {
+        LentHead {
+            name,
+            kind,
+            id,
+            behind,
+        }
+    }
+
+    /// The method's name, with the service's in front where several share a connection.
+    pub fn name(&self) -> &'a [u8]
+        ensures { result.now ≡ self.now.name }
+    {
+        self.name
+    }
+
+    /// The message's type: 1 is a call, 4 a call without a reply.
+    pub fn kind(&self) -> u8
+        ensures { result ≡ self.now.kind }
+    {
+        self.kind
+    }
+
+    /// The sequence id, which the reply repeats.
+    pub fn id(&self) -> i32
+        ensures { result ≡ self.now.id }
+    {
+        self.id
+    }
+
+    /// The place behind the head, where the struct of the arguments begins.
+    pub fn behind(&self) -> usize
+        ensures { result ≡ self.now.behind }
+    {
+        self.behind
+    }
 }
 
 /// Why no head was read.

@@ -24,7 +24,7 @@ mod read;
 mod write;
 
 pub use exception::write_exception;
-pub use head::{Head, HeadFault, Protocol};
+pub use head::{Head, HeadFault, LentHead, Protocol};
 pub use laws::{heads_are_read_back, no_head_is_a_prefix, written_heads_are_spelled};
-pub use read::read_head;
+pub use read::{lend_head, read_head};
 pub use write::write_head;

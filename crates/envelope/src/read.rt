@@ -7,7 +7,9 @@ ghost use Rattle.envelope.specs.Said.{Said, IsCall};
 ghost use Rattle.envelope.specs.Spelling.{IsSpelling};
 ghost use Rattle.envelope.specs.Readout.{name_of, strict_head, old_head, sized_name, compact_rest, compact_head, whole_head, head_at, MeansOrNoMemory, IsHeadOrNoMemory, IsEncodedIn};
 
-use super::head::{COMPACT_MARK, COMPACT_VERSION, Head, HeadFault, Protocol, STRICT_VERSION};
+use super::head::{
+    COMPACT_MARK, COMPACT_VERSION, Head, HeadFault, LentHead, Protocol, STRICT_VERSION,
+};
 use outside::EnvelopeFault;
 use std::alloc::Global;
 use thrift_value::ByteText;
@@ -28,8 +30,39 @@ pub fn read_head(alloc: Global, protocol: Protocol, payload: &[u8]) -> Result<He
 }
 
 /// The head, or the fault that comes first.
-#[tactic(auto, unfolding(crate::specs::Readout::head_at, crate::specs::Readout::call_type))]
 fn head_of(alloc: Global, protocol: Protocol, payload: &[u8]) -> Result<Head, HeadFault>
+    ensures { IsHeadOrNoMemory result (head_at protocol payload.now) }
+{
+    match lent(protocol, payload) {
+        Ok(head) => kept(alloc, &head),
+        Err(fault) => Err(fault),
+    }
+}
+
+/// A head with a name of its own.
+fn kept(alloc: Global, head: &LentHead<'_>) -> Result<Head, HeadFault>
+    ensures { IsHeadOrNoMemory result (Ok head.now) }
+{
+    let name = head.name().to_vec(alloc)?;
+    Ok(Head {
+        name: ByteText::new(name),
+        kind: head.kind(),
+        id: head.id(),
+        behind: head.behind(),
+    })
+}
+
+/// `read_head`, where the name stays in the payload; takes no memory.
+pub fn lend_head(protocol: Protocol, payload: &[u8]) -> Result<LentHead<'_>, HeadFault>
+    ensures found { IfOk result (λ head. IsEncodedIn protocol payload.now head) }
+    ensures exact { IsHeadOrNoMemory result (head_at protocol payload.now) }
+{
+    lent(protocol, payload)
+}
+
+/// The head, whose name is lent, or the fault that comes first.
+#[tactic(auto, unfolding(crate::specs::Readout::head_at, crate::specs::Readout::call_type))]
+fn lent(protocol: Protocol, payload: &[u8]) -> Result<LentHead<'_>, HeadFault>
     ensures { IsHeadOrNoMemory result (head_at protocol payload.now) }
 {
     let front = whole_head(protocol, payload)?;
@@ -37,13 +70,7 @@ fn head_of(alloc: Global, protocol: Protocol, payload: &[u8]) -> Result<Head, He
         return Err(HeadFault::Envelope(EnvelopeFault::MessageType(front.kind)));
     }
     let behind = payload.len() - front.rest.len();
-    let name = front.name.to_vec(alloc)?;
-    Ok(Head {
-        name: ByteText::new(name),
-        kind: front.kind,
-        id: front.id,
-        behind,
-    })
+    Ok(LentHead::new(front.name, front.kind, front.id, behind))
 }
 
 /// The type of a call.

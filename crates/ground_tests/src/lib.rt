@@ -6,6 +6,8 @@ mod cells;
 #[cfg(test)]
 mod connections;
 #[cfg(test)]
+mod made_files;
+#[cfg(test)]
 mod streams;
 #[cfg(test)]
 mod texts;

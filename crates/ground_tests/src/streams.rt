@@ -1,8 +1,8 @@
 //! Each public call once, with ample memory.
 
 use outside::{
-    Bytes, Failed, FileFail, Files, Mark, MemFiles, MemSink, MemSource, RealFiles, RealIn, RealOut,
-    Sink, Source, Tape,
+    Bytes, Failed, FileFail, Files, MarkAt, MemFiles, MemSink, MemSource, RealFiles, RealIn,
+    RealOut, Sink, Source, Tape, TapeLog,
 };
 use std::alloc::{AllocError, Global};
 use std::io;
@@ -62,20 +62,24 @@ fn the_streams_count_no_fault_of_their_own(rt: HostRuntime) -> Result<(), Fail> 
 }
 
 /// A tape that opens and reads these bytes.
-fn tape_of(alloc: Global, bytes: Bytes) -> Result<Tape, AllocError> {
-    let mut marks = Vec::new(alloc);
-    marks.push(Mark::Opened(0))?;
-    marks.push(Mark::Read(0, bytes))?;
-    Ok(Tape::new(marks))
+fn tape_of(alloc: Global, bytes: &[u8]) -> Result<Tape, AllocError> {
+    let mut log = TapeLog::new(alloc);
+    log.reserve(2)?;
+    log.reserve_bytes(bytes.len())?;
+    log.push(MarkAt::Opened(0));
+    log.push(MarkAt::Read(0, bytes));
+    Ok(log.finish())
 }
 
 #[test]
 fn lists_give_back_what_they_were_made_of(rt: HostRuntime) -> Result<(), Fail> {
     let bytes = Bytes::new(b"ab".to_vec(rt.alloc())?);
     assert!(rt; bytes.as_slice() == b"ab".as_slice());
-    let tape = tape_of(rt.alloc(), bytes)?;
-    assert!(rt; tape.as_slice().len() == 2);
-    assert!(rt; tape.into_vec().len() == 2);
+    let tape = tape_of(rt.alloc(), bytes.as_slice())?;
+    let mut marks = tape.marks();
+    assert!(rt; matches!(marks.next(), Some(MarkAt::Opened(0))));
+    assert!(rt; matches!(marks.next(), Some(MarkAt::Read(0, b"ab"))));
+    assert!(rt; marks.next().is_none());
     Ok(())
 }
 

@@ -8,7 +8,8 @@ use crate::answering::apply;
 use crate::operation::{HallOp, HallReply};
 use crate::queue::Queue;
 use crate::queueing::{collect, put, submit, take};
-use call_rules::{Handler, Journal};
+use call_rules::{Handler, Journal, Key};
+use outside::{Bytes, Settled};
 use seat_booth::Object;
 use std::alloc::Global;
 use std::marker::Model;
@@ -105,6 +106,42 @@ impl<H: Handler, J: Journal> Hall<H, J> {
             broken: _,
         } = self;
         (handlers, journal)
+    }
+}
+
+/// Operations that take no memory, each as its `step` is. Who knows which one it asks for stores neither the operation nor the reply.
+impl<H: Handler, J: Journal> Hall<H, J> {
+    ghost use Rattle.hall_core.specs.declared.operation.HallOp.TheVariants as op;
+    ghost use Rattle.hall_core.specs.Asked.{StepGives, StepCan};
+
+    /// Adds the job of this payload, as the newest.
+    pub fn submit(&mut self, key: Key, payload: Bytes) -> HallReply
+        requires { StepCan self.old (op.Submit key payload) }
+        ensures { StepGives self.old (op.Submit key payload) result self.new }
+    {
+        submit(&mut self.queue, self.closed, key, payload)
+    }
+
+    /// Takes the oldest job.
+    pub fn take(&mut self) -> HallReply
+        ensures { StepGives self.old op.Take result self.new }
+    {
+        take(&mut self.queue, self.closed)
+    }
+
+    /// Adds what a job came to, as the newest outcome.
+    pub fn put(&mut self, key: Key, settled: Settled) -> HallReply
+        requires { StepCan self.old (op.Put key settled) }
+        ensures { StepGives self.old (op.Put key settled) result self.new }
+    {
+        put(&mut self.queue, key, settled)
+    }
+
+    /// Collects the oldest outcome.
+    pub fn collect(&mut self) -> HallReply
+        ensures { StepGives self.old op.Collect result self.new }
+    {
+        collect(&mut self.queue, self.closed)
     }
 }
 

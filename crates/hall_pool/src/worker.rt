@@ -13,7 +13,7 @@ use crate::settling::settle;
 use crate::turn::Turn;
 use call_rules::{Desk, Handler, Journal};
 use hall_core::Hall;
-use links::{Bell, Gate};
+use outside::{Bell, Gate};
 use seat_booth::{Booth, Object, Seat};
 use std::alloc::Global;
 use std::marker::Model;

@@ -1,11 +1,11 @@
 -- The first fault of a program stands in one of its files, and has a kind.
-use Rattle.std.proofs.Common.{◌≡◌, ℕ, zero, suc, ◌+◌, ◌<◌, ◌≤◌, List, [], ◌∷◌, ◌++◌, length, slice_get, Option, Some, None, refl, sym, ap, subst, ◌∙◌, arith}
+use Rattle.std.proofs.Common.{◌≡◌, ℕ, zero, suc, ◌+◌, ◌<◌, ◌≤◌, List, [], ◌∷◌, length, slice_get, Some, refl, sym, ap, subst, ◌∙◌, arith}
 use Rattle.std.specs.List.{AllByRecursion}
 use Rattle.idl_model.specs.Program.{SourceFile, Program}
 use Rattle.idl_model.specs.Numbering.{Counts, none_counted, all_counted}
 use Rattle.idl_model.specs.Spots.{Spotted, given_name, type_use, parent_use, typedef_spot, field_spot, thrown_spot, enum_value_spot, struct_spot, service_spot, function_spot, value_spot, Spot, spots_in_declarations, in_file, spots_from, spots_of}
 use Rattle.check_model.specs.Passes.{Pass, dotted_name, duplicate_name, unknown_type, typedef_cycle, field_id, duplicate_id, enum_number, service_cycle, duplicate_function, oneway_not_void, oneway_throws, not_exception, struct_loop, bad_constant, place_shown}
-use Rattle.check_model.specs.FirstFlaw.{found_by, of_value, ProgramFlaw, IsValueFlaw, IsAtFault, IsFirstOf, IsFirstFlaw}
+use Rattle.check_model.specs.FirstFlaw.{found_by, ProgramFlaw, IsValueFlaw, IsAtFault, IsFirstOf, IsFirstFlaw}
 use Rattle.check_model.proofs.FirstOnes.{holds_at_split}
 use Rattle.check_model.proofs.Shown.{both_all}
 use Rattle.idl_schema.specs.declared.kinds.IdlFaultKind.{IdlFaultKind}

@@ -1,13 +1,12 @@
 -- What loading and checking answer, as what is told of the verdict.
-use Rattle.std.proofs.Common.{◌≡◌, ℕ, zero, suc, ◌<◌, ◌≤◌, Bool, true, false, List, [], ◌∷◌, length, map, get_or, slice_get, Option, Some, None, MatchOption, Result, Ok, Err, IfErr, refl, sym, ap, subst, ◌∙◌, arith}
+use Rattle.std.proofs.Common.{◌≡◌, ℕ, zero, suc, ◌<◌, true, false, List, [], ◌∷◌, length, get_or, slice_get, Option, Some, None, MatchOption, Result, Ok, Err, IfErr, refl, sym, ap, subst, ◌∙◌, arith}
 use Rattle.std.specs.Prelude.{⊤}
 use Rattle.std.specs.Option.{option_and_then, option_map}
 use Rattle.std.proofs.lemmas.Option.{slice_get-map}
 use Rattle.std.proofs.lemmas.List.{length-map}
-use Rattle.outside.specs.Cause.{Rose}
 use Rattle.outside.specs.Files.{File}
 use Rattle.idl_token.specs.declared.Place.{Place}
-use Rattle.idl_model.specs.Readings.{LoadFlawKind, FileReading, IsReaderOf}
+use Rattle.idl_model.specs.Readings.{LoadFlawKind, FileReading}
 use Rattle.idl_model.specs.Loading.{Loaded, loaded, stopped, program_of}
 use Rattle.schema.specs.declared.types.Schema.{Schema}
 use Rattle.schema.specs.SchemaOf.{schema_of}
@@ -118,27 +117,7 @@ of_file told idl (Err (Refused r)) test h = subst (λ b. IsVerdictBy b told idl 
 of_file told idl (Err FileFault) test h = (test, h)
 of_file told idl (Err NoMemory) test h = tt
 
--- no read of the tutorial fails
-no_rise : Rose 0 0 → ⊥
-no_rise h = let l : 1 ≤ 0 = h in omega arith
-
-never_fails : (reason : NoSchema) → (is_file_fault reason ≡ true → Rose 0 0) → is_file_fault reason ≡ false
-never_fails (Refused r) h = refl
-never_fails FileFault h = absurd (no_rise (h refl))
-never_fails NoMemory h = refl
-
-pub none_fails : (result : Result Schema NoSchema) → IfErr result (λ reason. is_file_fault reason ≡ true → Rose 0 0) → IfErr result (λ reason. is_file_fault reason ≡ false)
-none_fails (Ok schema) h = tt
-none_fails (Err reason) h = never_fails reason h
-
-pub none_told : (result : Result Schema NoSchema) → IfErr result (λ reason. is_file_fault reason ≡ false)
-    → TellsSchema (IsVerdictTold (Some tutorial_files) tutorial_name) (StopsAtRead (Some tutorial_files) tutorial_name) result
-    → TellsSchema (IsVerdictIn tutorial_files tutorial_name) ⊥ result
-none_told (Ok schema) no_fault h = h
-none_told (Err (Refused r)) no_fault h = h
-none_told (Err FileFault) no_fault h = let e : true ≡ false = no_fault in cc
-none_told (Err NoMemory) no_fault h = tt
-
+-- where no read fails, nothing is asked of a count
 pub never_rises : (P : Type 0) (result : Result Schema NoSchema) → IfErr result (λ reason. is_file_fault reason ≡ false)
     → IfErr result (λ reason. is_file_fault reason ≡ true → P)
 never_rises P (Ok schema) h = tt

@@ -1,5 +1,5 @@
 -- An IDL has a verdict, where files are told, and one alone.
-use Rattle.std.proofs.Common.{◌≡◌, ◌⊎◌, ℕ, Bool, true, false, List, slice_get, Option, Some, None, refl, sym, ap, subst, ◌∙◌, inl, inr}
+use Rattle.std.proofs.Common.{◌≡◌, ◌⊎◌, ℕ, Bool, true, false, List, slice_get, Some, refl, sym, ap, subst, ◌∙◌, inl, inr}
 use Rattle.outside.specs.Files.{File}
 use Rattle.idl_token.specs.declared.Place.{Place}
 use Rattle.idl_model.specs.Program.{SourceFile, Program}
@@ -12,7 +12,7 @@ use Rattle.check_model.proofs.FirstOnes.{somes}
 use Rattle.check_model.proofs.OneSchema.{one_schema}
 use Rattle.check_model.proofs.OneVerdict.{one_flaw, no_flaw_beside}
 use Rattle.idl_schema.specs.declared.kinds.IdlFaultKind.{IdlFaultKind}
-use Rattle.idl_schema.specs.FaultKinds.{kind_of_loading, kind_of_flaw}
+use Rattle.idl_schema.specs.FaultKinds.{kind_of_flaw}
 use Rattle.idl_schema.specs.Tutorial.{tutorial_name, tutorial_files}
 use Rattle.idl_schema.specs.Verdicts.{IdlVerdict, accepted, refused, IsLoadRefusal, IsCheckRefusal, IsIdlVerdictOn, IsVerdictIn, IsVerdictBy, IsIdlVerdict, is_the_tutorial}
 use Rattle.idl_schema.proofs.Named.{EndsNamed, program_named}

@@ -16,7 +16,7 @@ ghost use Rattle.idl_schema.specs.Telling.{TellsWhy, TellsSchema, RefusesIn, is_
 
 use crate::kinds::{IdlFaultKind, check_kind, load_kind};
 use crate::refusal::{IdlRefusal, NoSchema};
-use crate::tutorial::TutorialFiles;
+use crate::tutorial::tutorial_store;
 use idl_check::check;
 use idl_include::{IdlFile, LoadFault, LoadKind, Sources, load};
 use idl_model::laws::each_file_is_read_as_one_thing;
@@ -63,8 +63,13 @@ fn tutorial_schema(alloc: Global) -> Result<Schema, NoSchema>
     ensures schema { TellsSchema (IsVerdictIn tutorial_files tutorial_name) ⊥ result }
     ensures no_fault { IfErr result (λ reason. is_file_fault reason ≡ false) }
 {
-    let mut files = TutorialFiles;
-    schema_among(alloc, &mut files, "tutorial.thrift")
+    let mut files = tutorial_store(alloc)?;
+    match schema_among(alloc, &mut files, "tutorial.thrift") {
+        Ok(schema) => Ok(schema),
+        Err(NoSchema::Refused(refusal)) => Err(NoSchema::Refused(refusal)),
+        // A store's count is of all its calls, so it isn't known here that no read of this one fails.
+        Err(NoSchema::FileFault | NoSchema::NoMemory) => Err(NoSchema::NoMemory),
+    }
 }
 
 /// The schema of the program of this main file.

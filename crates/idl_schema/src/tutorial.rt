@@ -1,11 +1,10 @@
 //! The tutorial's files, which the program holds.
 
-ghost use Rattle.std.specs.Prelude.{◌≡◌, None, Some, MatchOption};
-ghost use Rattle.outside.specs.Files.{content_of};
+ghost use Rattle.std.specs.Prelude.{◌≡◌, string_bytes, IfOk};
 ghost use Rattle.idl_schema.specs.Tutorial.{tutorial_file_text, shared_text, tutorial_files};
 
-use outside::{FileFail, Files};
-use std::alloc::Global;
+use outside::MemFiles;
+use std::alloc::{AllocError, Global};
 
 /// The text of tutorial.thrift without its comments.
 const TUTORIAL: &[u8] = br#"include "shared.thrift"
@@ -66,38 +65,21 @@ fn shared() -> &'static [u8]
     SHARED
 }
 
-/// What the file of this name holds.
-fn held_text(name: &str) -> Option<&'static [u8]>
-    ensures { MatchOption result (content_of tutorial_files name.now ≡ None) (λ text. content_of tutorial_files name.now ≡ Some text.now) }
+/// One of the files, as a store has it.
+fn held(alloc: Global, name: &str, text: &[u8]) -> Result<(String, Vec<u8>), AllocError>
+    ensures { IfOk result (λ file. (string_bytes file.0 ≡ name.now) × (file.1.items ≡ text.now)) }
 {
-    if "tutorial.thrift" == name {
-        return Some(tutorial());
-    }
-    if "shared.thrift" == name {
-        return Some(shared());
-    }
-    None
+    let name = String::from_str(alloc, name)?;
+    let text = text.to_vec(alloc)?;
+    Ok((name, text))
 }
 
-/// The two files as a store, no read of which fails.
-#[derive(Drop)]
-pub(crate) struct TutorialFiles;
-
-impl Files for TutorialFiles {
-    ghost use Rattle.std.specs.Prelude.{Some};
-    ghost use Rattle.idl_schema.specs.Tutorial.{tutorial_files};
-
-    ghost files = { λ _. Some tutorial_files };
-
-    ghost faults = { λ _. 0 };
-
-    fn read_whole(&mut self, alloc: Global, name: &str, limit: usize) -> Result<Vec<u8>, FileFail> {
-        let Some(text) = held_text(name) else {
-            return Err(FileFail::Absent);
-        };
-        if text.len() > limit {
-            return Err(FileFail::TooLong);
-        }
-        Ok(Vec::from_slice(alloc, text)?)
-    }
+/// The two files as a store.
+pub(crate) fn tutorial_store(alloc: Global) -> Result<MemFiles, AllocError>
+    ensures { IfOk result (λ store. store.files ≡ tutorial_files) }
+{
+    let mut files = Vec::new(alloc);
+    files.push(held(alloc, "tutorial.thrift", tutorial())?)?;
+    files.push(held(alloc, "shared.thrift", shared())?)?;
+    Ok(MemFiles::new(files, Vec::new(alloc)))
 }

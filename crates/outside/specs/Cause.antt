@@ -1,9 +1,13 @@
 -- When an outside object may answer that it failed.
-use Rattle.std.specs.Prelude.{ℕ, ◌+◌, ◌-◌, ◌^◌, ◌≤◌, min, Result, IsErr}
+use Rattle.std.specs.Prelude.{ℕ, ◌+◌, ◌-◌, ◌^◌, ◌≤◌, min, nat_lt, if◌then◌else◌, Result, IsErr}
 
 -- one more fault than before; a count that stands at the end of its type stays there
 abbrev pub next_count : ℕ → ℕ
 next_count count = min (count + 1) (2 ^ 64 - 1)
+
+-- one fault more, where what was handed back has counted one itself
+abbrev pub next_if_faulty : ℕ → ℕ → ℕ
+next_if_faulty faults count = if nat_lt 0 faults then next_count count else count
 
 -- the count rose
 abbrev pub Rose : ℕ → ℕ → Type 0

@@ -1,6 +1,8 @@
 //! The outside as the program sees it: a source of bytes, a sink for bytes and a store of files, each with a meaning
 //! that may be untold and a count of faults; kinds in memory that tell everything, for tests and proofs; and thin
 //! adapters over the standard streams and the system's files that tell nothing. It decides nothing about their bytes.
+//! Of connections it has what a loop sees: links, the bell that wakes the loop, the binder that makes them, and the gate
+//! that a worker passes; and the tape of what happened, in two vectors, so that a mark takes no memory of its own.
 //!
 //! A layer above takes `S: Source`, `K: Sink` or `F: Files` and hands each `Failed` on with its cause: the count rose.
 //!
@@ -19,7 +21,14 @@
 
 #![tactic(auto)]
 
+mod answers;
+mod binder;
+mod cursor;
 mod files;
+mod gate;
+mod links;
+mod mark_at;
+mod mark_row;
 mod marks;
 mod mem_files;
 mod mem_sink;
@@ -29,9 +38,17 @@ mod outcomes;
 mod real;
 mod real_files;
 mod streams;
+mod tape;
+mod tape_log;
 
+pub use answers::{Ask, Hint, RestPlace, Taken};
+pub use binder::{BindFail, Binder};
+pub use cursor::Cursor;
 pub use files::{FileFail, Files};
-pub use marks::{Mark, Tape};
+pub use gate::{EmptyGate, Gate};
+pub use links::{Bell, Links};
+pub use mark_at::MarkAt;
+pub use marks::Mark;
 pub use mem_files::MemFiles;
 pub use mem_sink::MemSink;
 pub use mem_source::MemSource;
@@ -40,3 +57,5 @@ pub use outcomes::{EnvelopeFault, Settled};
 pub use real::{RealIn, RealOut};
 pub use real_files::RealFiles;
 pub use streams::{Failed, Sink, Source, write_all};
+pub use tape::Tape;
+pub use tape_log::TapeLog;

@@ -1,9 +1,6 @@
-//! What happened on connections, in order.
-
-ghost use Rattle.std.specs.Prelude.{◌≡◌};
+//! What happens on connections.
 
 use super::octets::Bytes;
-use std::marker::Model;
 
 /// One thing that happened on the connection of the number that it carries.
 #[derive(Drop)]
@@ -22,43 +19,4 @@ pub enum Mark {
     WriteFailed(u32),
     /// The connection was closed.
     Closed(u32),
-}
-
-/// A list of marks, the oldest first.
-#[derive(Drop)]
-pub struct Tape {
-    /// The marks, the oldest first.
-    marks: Vec<Mark>,
-}
-
-impl Model for Tape {
-    ghost use Rattle.std.specs.Prelude.{List};
-    ghost use Rattle.outside.specs.declared.marks.Mark.{Mark};
-
-    ghost Value = { List Mark };
-
-    ghost view = { λ t. t.marks.items };
-}
-
-impl Tape {
-    /// The tape of these marks; takes no memory.
-    pub fn new(items: Vec<Mark>) -> Self
-        ensures { result ≡ items.items }
-    {
-        Tape { marks: items }
-    }
-
-    /// The marks as a slice.
-    pub fn as_slice(&self) -> &[Mark]
-        ensures { result.now ≡ self.now }
-    {
-        self.marks.as_slice()
-    }
-
-    /// Gives the marks back; takes no memory.
-    pub fn into_vec(self) -> Vec<Mark>
-        ensures { result.items ≡ self }
-    {
-        self.marks
-    }
 }

@@ -3,6 +3,8 @@
 ghost use Rattle.std.specs.Prelude.{◌≡◌, ◌≤◌, length, IfOk};
 
 use super::files::{FileFail, Files};
+use super::real::RealOut;
+use super::streams::Failed;
 use std::alloc::Global;
 use std::fs;
 use std::io::Read;
@@ -13,40 +15,57 @@ use std::marker::Model;
 pub struct RealFiles<'a> {
     /// What opens them.
     rt: &'a HostRuntime,
-    /// How many reads failed; it stands still at its type's end.
+    /// How many calls failed; it stands still at its type's end.
     faults: u64,
+    /// How many sinks came back with a fault; it stands still at its type's end.
+    sink_faults: u64,
 }
 
 impl<'a> Model for RealFiles<'a> {
-    ghost use Rattle.std.specs.Prelude.{ℕ};
+    ghost use Rattle.outside.specs.Counts.{FaultCounts};
 
-    ghost Value = { ℕ };
+    ghost Value = { FaultCounts };
 
-    ghost view = { λ s. s.faults };
+    ghost view = { λ s. record { faults = s.faults; sink_faults = s.sink_faults } };
 }
 
 impl<'a> RealFiles<'a> {
     /// The files that the runtime opens.
     pub fn new(rt: &'a HostRuntime) -> Self
-        ensures { result ≡ 0 }
+        ensures { result ≡ record { faults = 0; sink_faults = 0 } }
     {
-        RealFiles { rt, faults: 0 }
+        RealFiles {
+            rt,
+            faults: 0,
+            sink_faults: 0,
+        }
     }
 
-    /// How many reads failed.
+    /// How many calls failed.
     pub fn faults(&self) -> u64
-        ensures { result ≡ self.now }
+        ensures { result ≡ self.now.faults }
     {
         self.faults
+    }
+
+    /// How many sinks came back with a fault.
+    pub fn sink_faults(&self) -> u64
+        ensures { result ≡ self.now.sink_faults }
+    {
+        self.sink_faults
     }
 }
 
 impl<'a> Files for RealFiles<'a> {
     ghost use Rattle.std.specs.Prelude.{None};
 
+    type Out = RealOut<fs::File>;
+
     ghost files = { λ _. None };
 
-    ghost faults = { λ s. s };
+    ghost faults = { λ s. s.faults };
+
+    ghost sink_faults = { λ s. s.sink_faults };
 
     fn read_whole(&mut self, alloc: Global, name: &str, limit: usize) -> Result<Vec<u8>, FileFail> {
         let read = read_to_limit(self.rt, alloc, name, limit);
@@ -54,6 +73,22 @@ impl<'a> Files for RealFiles<'a> {
             self.faults = self.faults.saturating_add(1);
         }
         read
+    }
+
+    fn create(&mut self, _alloc: Global, name: &str) -> Result<RealOut<fs::File>, Failed> {
+        match fs::create(self.rt, name) {
+            Ok(file) => Ok(RealOut::over(file)),
+            Err(_) => {
+                self.faults = self.faults.saturating_add(1);
+                Err(Failed)
+            }
+        }
+    }
+
+    fn take_back(&mut self, _name: &str, out: RealOut<fs::File>) {
+        if out.faults() > 0 {
+            self.sink_faults = self.sink_faults.saturating_add(1);
+        }
     }
 }
 

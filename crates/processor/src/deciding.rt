@@ -14,7 +14,7 @@ use crate::frames::failure_frame;
 use crate::names::{BoundService, method_part, service_asked};
 use crate::office::Office;
 use call_rules::{Call, Decision};
-use envelope::{Head, HeadFault, read_head};
+use envelope::{HeadFault, LentHead, lend_head};
 use outside::Bytes;
 use schema::FnDesc;
 use std::alloc::{AllocError, Global};
@@ -43,7 +43,7 @@ impl Office {
     fn refuse(
         &self,
         alloc: Global,
-        head: &Head,
+        head: &LentHead<'_>,
         failure: &FailureText,
     ) -> Result<Decision, AllocError>
         requires name { length head.now.name ≤ longest_payload }
@@ -56,27 +56,27 @@ impl Office {
 
     /// A message whose service isn't bound.
     #[tactic(auto, unfolding(call_model::specs::Decisions::refused))]
-    fn refuse_service(&self, alloc: Global, head: &Head) -> Result<Decision, AllocError>
+    fn refuse_service(&self, alloc: Global, head: &LentHead<'_>) -> Result<Decision, AllocError>
         requires name { length head.now.name ≤ longest_payload }
         ensures { IfOk result (λ d. plain_decision d ≡ refused self.now.protocol head.now (is_sent_oneway head.now) (no_service head.now.name)) }
     {
         if is_sent_oneway(head) {
             return Ok(Decision::Silent);
         }
-        let failure = no_service(alloc, head.name.as_slice())?;
+        let failure = no_service(alloc, head.name())?;
         self.refuse(alloc, head, &failure)
     }
 
     /// A message whose method its service hasn't.
     #[tactic(auto, unfolding(call_model::specs::Decisions::refused))]
-    fn refuse_method(&self, alloc: Global, head: &Head) -> Result<Decision, AllocError>
+    fn refuse_method(&self, alloc: Global, head: &LentHead<'_>) -> Result<Decision, AllocError>
         requires name { length head.now.name ≤ longest_payload }
         ensures { IfOk result (λ d. plain_decision d ≡ refused self.now.protocol head.now (is_sent_oneway head.now) (no_method (method_part head.now.name))) }
     {
         if is_sent_oneway(head) {
             return Ok(Decision::Silent);
         }
-        let failure = no_method(alloc, head.name.as_slice())?;
+        let failure = no_method(alloc, head.name())?;
         self.refuse(alloc, head, &failure)
     }
 
@@ -85,7 +85,7 @@ impl Office {
     fn refuse_arguments(
         &self,
         alloc: Global,
-        head: &Head,
+        head: &LentHead<'_>,
         silent: bool,
         fault: ArgumentFault,
     ) -> Result<Decision, AllocError>
@@ -107,7 +107,7 @@ impl Office {
         &self,
         alloc: Global,
         payload: &[u8],
-        head: &Head,
+        head: &LentHead<'_>,
         bound: BoundService,
         function: &FnDesc,
     ) -> Result<Decision, AllocError>
@@ -126,7 +126,7 @@ impl Office {
             self.protocol,
             function.args,
             payload,
-            head.behind,
+            head.behind(),
         )? {
             Ok(args) => invoked(alloc, bound.slot, head, args, silent),
             Err(fault) => self.refuse_arguments(alloc, head, silent, fault),
@@ -139,7 +139,7 @@ impl Office {
         &self,
         alloc: Global,
         payload: &[u8],
-        head: &Head,
+        head: &LentHead<'_>,
         bound: BoundService,
     ) -> Result<Decision, AllocError>
         requires sound { IsSound (schema_of self.now.schema) }
@@ -148,7 +148,7 @@ impl Office {
         ensures { IfOk result (λ d. plain_decision d ≡ decided_on_function (plain_office self.now) payload.now head.now (bound_of bound)
             (function_asked (plain_office self.now) (bound_of bound) head.now.name)) }
     {
-        let method = method_part(head.name.as_slice());
+        let method = method_part(head.name());
         match self.schema.function(bound.service, method) {
             Some(function) => self.call(alloc, payload, head, bound, function),
             None => self.refuse_method(alloc, head),
@@ -161,7 +161,7 @@ impl Office {
         &self,
         alloc: Global,
         payload: &[u8],
-        head: &Head,
+        head: &LentHead<'_>,
     ) -> Result<Decision, AllocError>
         requires sound { IsSound (schema_of self.now.schema) }
         requires few { length self.now.bindings.names < 2 ^ 32 }
@@ -170,7 +170,7 @@ impl Office {
         ensures { IfOk result (λ d. plain_decision d ≡ decided_on_service (plain_office self.now) payload.now head.now
             (service_asked self.now.bindings.names head.now.name)) }
     {
-        match service_asked(self.bindings.names.as_slice(), head.name.as_slice()) {
+        match service_asked(self.bindings.names.as_slice(), head.name()) {
             Some(bound) => self.decide_on_function(alloc, payload, head, bound),
             None => self.refuse_service(alloc, head),
         }
@@ -184,7 +184,7 @@ impl Office {
         requires short { length payload.now ≤ longest_payload }
         ensures { IfOk result (λ d. plain_decision d ≡ decision (plain_office self.now) payload.now) }
     {
-        match read_head(alloc, self.protocol, payload) {
+        match lend_head(self.protocol, payload) {
             Ok(head) => self.decide_on_service(alloc, payload, &head),
             Err(HeadFault::Envelope(fault)) => Ok(Decision::Close(fault)),
             Err(HeadFault::NoMemory) => Err(AllocError),
@@ -196,13 +196,13 @@ impl Office {
 fn invoked(
     alloc: Global,
     slot: u32,
-    head: &Head,
+    head: &LentHead<'_>,
     args: Value,
     silent: bool,
 ) -> Result<Decision, AllocError>
     ensures { IfOk result (λ d. plain_decision d ≡ Invoke (record { slot = slot; method = method_part head.now.name; args = tree_of args; silent = silent })) }
 {
-    let method = method_part(head.name.as_slice()).to_vec(alloc)?;
+    let method = method_part(head.name()).to_vec(alloc)?;
     Ok(Decision::Invoke(Call {
         slot,
         method: ByteText::new(method),
@@ -212,14 +212,14 @@ fn invoked(
 }
 
 /// Whether the sender of a message waits for no reply.
-fn is_sent_oneway(head: &Head) -> bool
+fn is_sent_oneway(head: &LentHead<'_>) -> bool
     ensures { result ≡ is_sent_oneway head.now }
 {
-    head.kind == ONEWAY
+    head.kind() == ONEWAY
 }
 
 /// Whether a call gets no reply.
-fn is_silent(head: &Head, function: &FnDesc) -> bool
+fn is_silent(head: &LentHead<'_>, function: &FnDesc) -> bool
     ensures { result ≡ is_silent head.now (plain_function function.now) }
 {
     if is_sent_oneway(head) {

@@ -9,7 +9,7 @@ ghost use Rattle.processor.specs.Seen.{failure_of};
 
 use crate::failures::FailureText;
 use crate::names::method_part;
-use envelope::{Head, Protocol, write_exception};
+use envelope::{LentHead, Protocol, write_exception};
 use std::alloc::{AllocError, Global};
 
 /// The bytes that a size has in front of a payload.
@@ -52,11 +52,11 @@ pub(crate) fn with_size(framed: Vec<u8>) -> Vec<u8>
 }
 
 /// How many bytes the frame of a failure has at most.
-fn failure_room(head: &Head, failure: &FailureText) -> usize
+fn failure_room(head: &LentHead<'_>, failure: &FailureText) -> usize
     requires name { length head.now.name ≤ longest_payload }
     requires text { length failure.now.text.items ≤ longest_payload + 100 }
 {
-    FAILURE_ROOM + head.name.as_slice().len() + failure.text.len()
+    FAILURE_ROOM + head.name().len() + failure.text.len()
 }
 
 /// The frame that tells a caller of a failure.
@@ -64,7 +64,7 @@ fn failure_room(head: &Head, failure: &FailureText) -> usize
 pub(crate) fn failure_frame(
     alloc: Global,
     protocol: Protocol,
-    head: &Head,
+    head: &LentHead<'_>,
     failure: &FailureText,
 ) -> Result<Vec<u8>, AllocError>
     requires name { length head.now.name ≤ longest_payload }
@@ -74,8 +74,8 @@ pub(crate) fn failure_frame(
     let mut framed = opened(alloc, failure_room(head, failure))?;
     write_exception(
         protocol,
-        method_part(head.name.as_slice()),
-        head.id,
+        method_part(head.name()),
+        head.id(),
         failure.text.as_slice(),
         failure.code,
         &mut framed,

@@ -6,7 +6,7 @@ use crate::names::{BoundService, method_part, service_asked};
 use crate::office::Office;
 use crate::results::{ResultField, bytes_in, put_result, result_field};
 use call_rules::Answer;
-use envelope::{Head, HeadFault, read_head, write_head};
+use envelope::{HeadFault, LentHead, lend_head, write_head};
 use schema::FnDesc;
 use std::alloc::{AllocError, Global};
 
@@ -31,16 +31,16 @@ impl Office {
     ghost use Rattle.processor.specs.Seen.{bound_of};
 
     /// The frame that tells that a call has no result.
-    fn without_result(&self, alloc: Global, head: &Head) -> Result<Vec<u8>, AllocError>
+    fn without_result(&self, alloc: Global, head: &LentHead<'_>) -> Result<Vec<u8>, AllocError>
         requires name { length head.now.name ≤ longest_payload }
         ensures { IfOk result (λ framed. framed.items ≡ failure_frame self.now.protocol head.now (no_result (method_part head.now.name))) }
     {
-        let failure = no_result(alloc, head.name.as_slice())?;
+        let failure = no_result(alloc, head.name())?;
         failure_frame(alloc, self.protocol, head, &failure)
     }
 
     /// The frame that tells that a result is too large.
-    fn above_frame(&self, alloc: Global, head: &Head) -> Result<Vec<u8>, AllocError>
+    fn above_frame(&self, alloc: Global, head: &LentHead<'_>) -> Result<Vec<u8>, AllocError>
         requires name { length head.now.name ≤ longest_payload }
         ensures { IfOk result (λ framed. framed.items ≡ failure_frame self.now.protocol head.now too_large) }
     {
@@ -53,7 +53,7 @@ impl Office {
     fn with_result(
         &self,
         alloc: Global,
-        head: &Head,
+        head: &LentHead<'_>,
         field: ResultField<'_>,
     ) -> Result<Vec<u8>, AllocError>
         requires most { self.now.max_frame ≤ longest_payload }
@@ -74,20 +74,20 @@ impl Office {
     fn open_reply(
         &self,
         alloc: Global,
-        head: &Head,
+        head: &LentHead<'_>,
         field: ResultField<'_>,
     ) -> Result<Vec<u8>, AllocError>
         requires name { length head.now.name ≤ longest_payload }
         requires sizes { HasSmallField field }
         ensures { IfOk result (λ framed. framed.items ≡ 0 ∷ 0 ∷ 0 ∷ 0 ∷ reply_text self.now.protocol head.now (lent_fields field.entry)) }
     {
-        let room = REPLY_ROOM + head.name.as_slice().len() + bytes_in(field);
+        let room = REPLY_ROOM + head.name().len() + bytes_in(field);
         let mut framed = opened(alloc, room)?;
         write_head(
             self.protocol,
-            method_part(head.name.as_slice()),
+            method_part(head.name()),
             REPLY,
-            head.id,
+            head.id(),
             &mut framed,
         )?;
         put_result(self.protocol, field, &mut framed)?;
@@ -99,7 +99,7 @@ impl Office {
     fn reply_to_answer(
         &self,
         alloc: Global,
-        head: &Head,
+        head: &LentHead<'_>,
         function: &FnDesc,
         answer: &Answer,
     ) -> Result<Vec<u8>, AllocError>
@@ -120,7 +120,7 @@ impl Office {
     fn reply_of_bound(
         &self,
         alloc: Global,
-        head: &Head,
+        head: &LentHead<'_>,
         bound: BoundService,
         answer: &Answer,
     ) -> Result<Vec<u8>, AllocError>
@@ -130,7 +130,7 @@ impl Office {
         ensures { IfOk result (λ framed. framed.items ≡ reply_of_function (plain_office self.now) head.now (plain_answer answer.now)
             (function_asked (plain_office self.now) (bound_of bound) head.now.name)) }
     {
-        let method = method_part(head.name.as_slice());
+        let method = method_part(head.name());
         match self.schema.function(bound.service, method) {
             Some(function) => self.reply_to_answer(alloc, head, function, answer),
             None => Ok(Vec::new(alloc)),
@@ -142,7 +142,7 @@ impl Office {
     fn reply_to_message(
         &self,
         alloc: Global,
-        head: &Head,
+        head: &LentHead<'_>,
         answer: &Answer,
     ) -> Result<Vec<u8>, AllocError>
         requires sound { IsSound (schema_of self.now.schema) }
@@ -152,7 +152,7 @@ impl Office {
         ensures { IfOk result (λ framed. framed.items ≡ reply_of_service (plain_office self.now) head.now (plain_answer answer.now)
             (service_asked self.now.bindings.names head.now.name)) }
     {
-        match service_asked(self.bindings.names.as_slice(), head.name.as_slice()) {
+        match service_asked(self.bindings.names.as_slice(), head.name()) {
             Some(bound) => self.reply_of_bound(alloc, head, bound, answer),
             None => Ok(Vec::new(alloc)),
         }
@@ -172,7 +172,7 @@ impl Office {
         requires short { length payload.now ≤ longest_payload }
         ensures { IfOk result (λ framed. framed.items ≡ reply_of (plain_office self.now) payload.now (plain_answer answer.now)) }
     {
-        match read_head(alloc, self.protocol, payload) {
+        match lend_head(self.protocol, payload) {
             Ok(head) => self.reply_to_message(alloc, &head, answer),
             Err(HeadFault::Envelope(_)) => Ok(Vec::new(alloc)),
             Err(HeadFault::NoMemory) => Err(AllocError),

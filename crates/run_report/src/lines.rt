@@ -3,12 +3,11 @@
 ghost use Rattle.std.specs.Prelude.{◌≡◌, ◌∷◌, [], ◌++◌, codes, length, OnOk};
 ghost use Rattle.text_out.specs.Decimal.{decimal_of, natural_of};
 ghost use Rattle.text_out.specs.Line.{line_of};
-ghost use Rattle.run_tape.specs.Marks.{lent_mark};
+ghost use Rattle.outside.specs.Marks.{lent_mark};
 ghost use Rattle.host_model.specs.Report.{cause_text, fault_text, mark_text, numbered};
 
 use host_model::EndCause;
-use outside::EnvelopeFault;
-use run_tape::MarkAt;
+use outside::{EnvelopeFault, MarkAt};
 use std::alloc::AllocError;
 use text_out::{decimal, hex};
 
@@ -50,6 +49,17 @@ fn put_next(into: &mut Vec<u8>, n: u64) -> Result<(), AllocError>
     ensures { OnOk result (into.new.items ≡ into.old.items ++ 32 ∷ natural_of n) }
 {
     into.push(b' ')?;
+    put_natural(into, n)
+}
+
+/// Appends a number, most of which have one digit.
+fn put_natural(into: &mut Vec<u8>, n: u64) -> Result<(), AllocError>
+    ensures { OnOk result (into.new.items ≡ into.old.items ++ natural_of n) }
+{
+    if n < 10 {
+        into.push(b'0' + n as u8)?;
+        return Ok(());
+    }
     decimal(into, i128::from(n))
 }
 

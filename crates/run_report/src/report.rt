@@ -6,7 +6,7 @@ ghost use Rattle.outside.specs.Taken.{TakesText};
 ghost use Rattle.text_out.specs.Hex.{hex_of};
 ghost use Rattle.text_out.specs.Line.{line_of};
 ghost use Rattle.host_model.specs.Report.{end_text, hex_or_dash, journal_lines, mark_text, numbered, report, tape_lines};
-ghost use Rattle.run_tape.specs.Marks.{lent_mark};
+ghost use Rattle.outside.specs.Marks.{lent_mark};
 ghost use Rattle.run_report.specs.Entries.{IsPlainEntry};
 ghost use Rattle.run_report.specs.Written.{outputs, ended_lines};
 ghost use Rattle.run_report.specs.Pieces.{HasReportCause};
@@ -16,8 +16,7 @@ use crate::fault::ReportFault;
 use crate::lines::{put_count, put_end, put_mark};
 use call_rules::Entry;
 use host_model::EndCause;
-use outside::{Bytes, Sink, write_all};
-use run_tape::{MarkAt, RunTape};
+use outside::{Bytes, MarkAt, Sink, Tape, write_all};
 use std::alloc::Global;
 use text_out::hex;
 
@@ -32,7 +31,7 @@ const CHUNK: usize = 32_768;
 pub fn write_report<L: EntryLine, K: Sink>(
     alloc: Global,
     out: &mut K,
-    tape: &RunTape,
+    tape: &Tape,
     journal: &[Entry],
     causes: &[EndCause],
     written: &[Bytes],
@@ -54,7 +53,7 @@ pub fn write_report<L: EntryLine, K: Sink>(
 fn write_lines<L: EntryLine, K: Sink>(
     out: &mut K,
     pending: &mut Vec<u8>,
-    tape: &RunTape,
+    tape: &Tape,
     journal: &[Entry],
     causes: &[EndCause],
     written: &[Bytes],
@@ -73,11 +72,7 @@ fn write_lines<L: EntryLine, K: Sink>(
 
 /// Writes the lines of the tape.
 #[tactic(auto, using(crate::proofs::Taking::taking))]
-fn write_tape<K: Sink>(
-    out: &mut K,
-    pending: &mut Vec<u8>,
-    tape: &RunTape,
-) -> Result<(), ReportFault>
+fn write_tape<K: Sink>(out: &mut K, pending: &mut Vec<u8>, tape: &Tape) -> Result<(), ReportFault>
     ensures told { TakesText (K.taken out.old) (K.taken out.new)
         (pending.old.items ++ (tape_lines tape.now)) pending.new.items result }
     ensures cause { HasReportCause (K.faults out.old) (K.faults out.new) result }

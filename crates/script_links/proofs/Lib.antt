@@ -8,3 +8,4 @@ pub mod Soundness
 pub mod AllEnding
 pub mod Steps
 pub mod Finding
+pub mod Pairing

@@ -1,3 +1,4 @@
+pub mod Pairs
 pub mod TextLines
 pub mod LineForms
 pub mod Reading

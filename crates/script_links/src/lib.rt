@@ -11,6 +11,7 @@
 //! ```
 #![tactic(auto)]
 
+mod digits;
 mod draft;
 mod fault;
 pub mod laws;

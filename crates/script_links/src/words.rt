@@ -5,11 +5,11 @@ ghost use Rattle.script_links.specs.TextLines.{is_space, is_line_end, parts_arou
 ghost use Rattle.script_links.specs.LineForms.{decimal_read, spelled_bytes, takes_some, word_alone, word_of_number, word_with_more, said_of, piece_on};
 ghost use Rattle.script_links.specs.Drafts.{plain_said};
 
+use crate::digits::bytes_of_pairs;
 use crate::lines::{ScriptLine, WriteRule};
 use memchr::memchr;
 use outside::Bytes;
 use std::alloc::{AllocError, Global};
-use text_out::{HexFault, read_hex};
 
 /// What a line says: a line of the run, or one more rule of a connection.
 #[derive(Drop)]
@@ -120,10 +120,9 @@ fn piece(alloc: Global, c: u32, digits: &[u8]) -> Result<Option<LineRead>, Alloc
     if digits.is_empty() {
         return Ok(None);
     }
-    match read_hex(alloc, digits) {
-        Ok(bytes) => Ok(Some(LineRead::Line(ScriptLine::Piece(c, Bytes::new(bytes))))),
-        Err(HexFault::Bad) => Ok(None),
-        Err(HexFault::NoMemory) => Err(AllocError),
+    match bytes_of_pairs(alloc, digits)? {
+        Some(bytes) => Ok(Some(LineRead::Line(ScriptLine::Piece(c, Bytes::new(bytes))))),
+        None => Ok(None),
     }
 }
 

@@ -13,6 +13,10 @@ use Rattle.std.proofs.lemmas.Int.{to_z-of_z}
 use Rattle.text_out.specs.Decimal.{natural_of, decimal_of, IsPlainNumeral, ReadsDecimal}
 use lib.IntN.{neg_ℤ}
 
+-- the decimal of a digit
+pub digit_is : (n : ℕ) → n < 10 → natural_of n ≡ (48 + n) ∷ []
+digit_is n small = decimal_digit n small
+
 -- what `parse` answers at the decimal of a number
 pub parse-decimal_of : {E : Type 0} (z : ℤ) (bs : List ℕ) (r : Result ℤ E) → FitsSigned w128 z → bs ≡ decimal_of z → ParsesSigned w128 10 bs r → r ≡ Ok z
 parse-decimal_of (pos n) bs r fits is h =

@@ -67,11 +67,26 @@ pub fn line(into: &mut Vec<u8>, text: &[u8]) -> Result<(), AllocError>
     Ok(())
 }
 
+/// Appends a number of one digit.
+#[tactic(auto, using(crate::proofs::DecimalLemmas::digit_is))]
+fn digit(into: &mut Vec<u8>, n: u8) -> Result<(), AllocError>
+    requires { n < 10 }
+    ensures ok { OnOk result (into.new.items ≡ into.old.items ++ natural_of n) }
+    ensures err { OnErr result (into.new.items ≡ into.old.items) }
+{
+    Ok(into.push(b'0' + n)?)
+}
+
 /// Appends a number as a decimal.
 pub fn decimal(into: &mut Vec<u8>, n: i128) -> Result<(), AllocError>
     ensures ok { OnOk result (into.new.items ≡ into.old.items ++ decimal_of n) }
     ensures err { OnErr result (into.new.items ≡ into.old.items) }
 {
+    if let Ok(small) = u8::try_from(n) {
+        if small < 10 {
+            return digit(into, small);
+        }
+    }
     let mut buffer = Buffer::new();
     // The digits of 128 bits cost six times those of 64, which nearly every number fits.
     let text = match i64::try_from(n) {

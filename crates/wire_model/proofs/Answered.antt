@@ -15,7 +15,7 @@ use Rattle.thrift_value.specs.TreeOf.{tree_of}
 use Rattle.wire_model.specs.Answering.{FaultsOrNoMemory, AnswersOrNoMemory}
 use Rattle.wire_model.specs.Decoder.{Unread}
 use Rattle.wire_model.specs.Format.{Format}
-use Rattle.wire_model.specs.Place.{found_struct, max_levels, max_values, placed, struct_at, Taken}
+use Rattle.wire_model.specs.Place.{found_struct, max_levels, max_values, placed, struct_at, TakenOff}
 use Rattle.wire_model.specs.Reading.{value}
 use Rattle.wire_model.specs.Wire.{Wire}
 
@@ -32,7 +32,7 @@ pub placed_here : (wire : Wire) (bytes : List ℕ) (at : ℕ) (x : Tree) (after 
 placed_here wire bytes at x after e = ap (placed (length bytes)) e
 
 pub taken_here : (wire : Wire) (format : Format) (bytes : List ℕ) (at : ℕ) (x : Tree) (after : Unread)
-    → ((levels : ℕ) (before after : Unread) (x : Tree) → AreByteSized before.bytes → value wire levels Struct before ≡ Ok (x, after) → Taken format levels Struct x before after)
+    → ((levels : ℕ) (before after : Unread) (x : Tree) → AreByteSized before.bytes → value wire levels Struct before ≡ Ok (x, after) → TakenOff format levels Struct x before after)
     → AreByteSized (drop at bytes) → struct_in_front wire (front bytes at) ≡ Ok (x, after) → length after.bytes ≤ length bytes
 taken_here wire format bytes at x after law fits e =
     let t = law max_levels (front bytes at) after x fits e in

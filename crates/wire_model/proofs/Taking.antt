@@ -14,7 +14,7 @@ use Rattle.wire_model.specs.Wire.{FieldHeader, stop, typed, flagged, Wire, IsSca
 use Rattle.wire_model.specs.Reading.{item_list, pair_list, field_behind, field_list, parts, layer, value}
 use Rattle.wire_model.specs.Format.{Format, TwoParts, Spells, SpellsFields, SpellsItems, SpellsPairs}
 use Rattle.thrift_value.specs.Sizes.{items_len, pairs_len}
-use Rattle.wire_model.specs.Place.{Taken}
+use Rattle.wire_model.specs.Place.{TakenOff}
 use Rattle.wire_num.specs.Encoded.{AreByteSized}
 use Rattle.wire_model.specs.Protocol.{IsInFront, IsProtocol}
 use Rattle.wire_model.specs.Encoder.{Encoder}
@@ -22,9 +22,9 @@ use Rattle.wire_model.proofs.Steps.{went_on, ok_is, Moved, Moved-none, Moved-the
 
 -- a reader of values takes spellings of them
 abbrev Takes : Format → ℕ → (Tag → Decoder Tree) → Type 0
-Takes format levels read = (tag : Tag) (before after : Unread) (x : Tree) → AreByteSized before.bytes → read tag before ≡ Ok (x, after) → Taken format levels tag x before after
+Takes format levels read = (tag : Tag) (before after : Unread) (x : Tree) → AreByteSized before.bytes → read tag before ≡ Ok (x, after) → TakenOff format levels tag x before after
 
-Moved_of_taken : (format : Format) (levels : ℕ) (tag : Tag) (x : Tree) (before after : Unread) (t : Taken format levels tag x before after) → Moved before after t.text (count_of x)
+Moved_of_taken : (format : Format) (levels : ℕ) (tag : Tag) (x : Tree) (before after : Unread) (t : TakenOff format levels tag x before after) → Moved before after t.text (count_of x)
 Moved_of_taken format levels tag x before after t = record { whole = t.whole; count_is = t.count; bytes = t.bytes }
 
 suc_is : {m n : ℕ} → suc m ≡ suc n → m ≡ n

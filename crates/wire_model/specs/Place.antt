@@ -50,7 +50,7 @@ pub record IsEncodedAt (format : Format) (bytes : List ℕ) (at : ℕ) (x : Tree
 
 -- What reading a value of a tag took: the bytes that spell it, and its number of values of those that may still come. It
 -- has no more levels than may be opened, and no more values than bytes.
-pub record Taken (format : Format) (levels : ℕ) (tag : Tag) (x : Tree) (before after : Unread) : Type 0 where
+pub record TakenOff (format : Format) (levels : ℕ) (tag : Tag) (x : Tree) (before after : Unread) : Type 0 where
   pub text : List ℕ
   pub whole : before.bytes ≡ text ++ after.bytes
   pub spells : Spells format x text

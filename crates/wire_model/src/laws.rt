@@ -12,7 +12,7 @@ ghost use Rattle.thrift_value.specs.Tidy.{IsWellTagged};
 ghost use Rattle.thrift_value.specs.Tree.{Tree};
 ghost use Rattle.wire_model.specs.Format.{Spells};
 ghost use Rattle.wire_model.specs.Answering.{AnswersOrNoMemory};
-ghost use Rattle.wire_model.specs.Place.{struct_at, IsWithinBounds, IsEncodedAt, Taken};
+ghost use Rattle.wire_model.specs.Place.{struct_at, IsWithinBounds, IsEncodedAt, TakenOff};
 ghost use Rattle.wire_num.specs.Encoded.{AreByteSized};
 ghost use Rattle.wire_model.specs.Protocol.{IsProtocol, and_more};
 ghost use Rattle.wire_model.specs.Decoder.{Unread};
@@ -26,7 +26,7 @@ use thrift_value::plain_value_is_alike;
 /// What is read of a value is spelled there, in no fewer bytes than it has values.
 pub fn value_read_is_spelled<P: WireProtocol>()
     ensures { IsProtocol P.wire P.format P.encoder → (levels : ℕ) (tag : Tag) (before after : Unread) (x : Tree) → AreByteSized before.bytes
-        → value P.wire levels tag before ≡ Ok (x, after) → Taken P.format levels tag x before after }
+        → value P.wire levels tag before ≡ Ok (x, after) → TakenOff P.format levels tag x before after }
 {}
 
 /// What is spelled and within the bounds is read, whatever follows.

@@ -96,14 +96,14 @@ pub follow-load_file-requires : goal.follow-load_file-requires
 follow-load_file-requires g t c κs within =
     let begun : AreBegun c.args.begun.now.items = search rules in
     let m = rw c.in-New.is at c.in_ok-meaning.ensures in
-    (omega (arith, c.requires.1.0), (search rules, (begun, new_name c.as_slice.result.now c.args.begun.now.items _ c.as_str.result.now c.as_slice.ensures.value (c.as_str.ensures.value ∙ m.1) m.2)))
+    (omega (arith, c.requires.1.0), (search rules, (search rules, (search rules, (begun, new_name c.as_slice.result.now c.args.begun.now.items _ c.as_str.result.now c.as_slice.ensures.value (c.as_str.ensures.value ∙ m.1) m.2)))))
 
 pub load_file-follow_all-followed-requires : goal.load_file-follow_all-followed-requires
 load_file-follow_all-followed-requires g t c κs within =
     let e : c.args.levels ≡ suc (c.args.levels - 1) = omega arith in
     let more = c.in_ok-wanted.ensures.one_more in
     let inside : c.len-of.result < length c.«open».new.begun.items = omega (arith, more, c.args.begun.now.ok.0, c.len-of.ensures) in
-    (omega (arith, c.requires.1.0, e), (search rules, ((c.in_ok-wanted.ensures.steps (c.args.levels - 1)).begun, inside)))
+    (omega (arith, c.requires.1.0, e), (search rules, (search rules, (search rules, ((c.in_ok-wanted.ensures.steps (c.args.levels - 1)).begun, inside)))))
 
 pub follow-link-requires-in-New : goal.follow-link-requires-in-New
 follow-link-requires-in-New g t c =

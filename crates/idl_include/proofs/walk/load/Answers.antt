@@ -1,4 +1,4 @@
-use Rattle.std.proofs.Common.{◌≡◌, List, sym, subst}
+use Rattle.std.proofs.Common.{◌≡◌, List, sym, subst, rules}
 use Rattle.idl_model.specs.Loading.{loaded, program_of}
 use Rattle.idl_include.specs.declared.sources.IdlFile.{IdlFile}
 use Rattle.idl_include.specs.SourcesOf.{program_in, AreFiles}
@@ -7,7 +7,9 @@ use Rattle.idl_include.proofs.Answered.{at_front, new_at_front, is_loaded, is_st
 use Rattle.idl_include.proofs.walk.load.Goals as goal
 
 pub load_file-requires : goal.load_file-requires
-load_file-requires g c = record { begun = at_front c.new-begun.result.items c.new-begun.ensures.items; fresh = new_at_front c.args.main.now c.new-begun.result.items c.new-begun.ensures.items }
+load_file-requires g c =
+    let files = c.new-begun.result.items in
+    (search rules, (at_front files c.new-begun.ensures.items, new_at_front c.args.main.now files c.new-begun.ensures.items))
 
 pub returns-in-Ok-clause-told : goal.returns-in-Ok-clause-told
 returns-in-Ok-clause-told g c = λ reader t.

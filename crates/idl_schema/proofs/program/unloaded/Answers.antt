@@ -1,4 +1,4 @@
-use Rattle.std.proofs.Common.{sym, ◌∙◌}
+use Rattle.std.proofs.Common.{sym}
 use Rattle.idl_include.specs.Loads.{flaw_kind}
 use Rattle.idl_schema.proofs.Telling.{loading_refused}
 use Rattle.idl_schema.proofs.program.unloaded.Goals as goal

@@ -3,7 +3,7 @@ use Rattle.outside.specs.declared.marks.Mark.{Mark}
 use Rattle.outside.specs.Taken.{IsTakenBut}
 use Rattle.host_model.specs.Report.{mark_text, tape_lines}
 use Rattle.text_out.specs.Line.{line_of}
-use Rattle.run_tape.specs.Marks.{lent_mark}
+use Rattle.outside.specs.Marks.{lent_mark}
 use Rattle.outside.proofs.Taking.{next_taken, next_in_part, err_takes}
 use Rattle.run_report.proofs.report.write_tape.Goals as goal
 

@@ -11,27 +11,27 @@ use Rattle.cell_core.proofs.machine.Machine.collect_step.Goals as goal
 
 pub settle-requires-clause-asked : goal.settle-requires-clause-asked
 settle-requires-clause-asked g c =
-    (settles_some (parts_of c.args.self.now) c.step-reply.new.self c.in-Some.key c.in-Some.settled c.requires.under_way
-    (subst (λ (answer : HallAnswer PlainAnswer). SeenGives handler_rules c.args.self.now.hall collect answer c.step-reply.new.self) c.in-Some.ensures c.step-reply.ensures)).0
+    (settles_some (parts_of c.args.self.now) c.collect-reply.new.self c.in-Some.key c.in-Some.settled c.requires.under_way
+    (subst (λ (answer : HallAnswer PlainAnswer). SeenGives handler_rules c.args.self.now.hall collect answer c.collect-reply.new.self) c.in-Some.ensures c.collect-reply.ensures)).0
 
 pub settle-requires-clause-some : goal.settle-requires-clause-some
 settle-requires-clause-some g c =
-    (settles_some (parts_of c.args.self.now) c.step-reply.new.self c.in-Some.key c.in-Some.settled c.requires.under_way
-    (subst (λ (answer : HallAnswer PlainAnswer). SeenGives handler_rules c.args.self.now.hall collect answer c.step-reply.new.self) c.in-Some.ensures c.step-reply.ensures)).1
+    (settles_some (parts_of c.args.self.now) c.collect-reply.new.self c.in-Some.key c.in-Some.settled c.requires.under_way
+    (subst (λ (answer : HallAnswer PlainAnswer). SeenGives handler_rules c.args.self.now.hall collect answer c.collect-reply.new.self) c.in-Some.ensures c.collect-reply.ensures)).1
 
 pub returns-in-Some : goal.returns-in-Some
 returns-in-Some g c =
-    let gives : SeenGives handler_rules c.args.self.now.hall collect (outcome c.in-Some.key c.in-Some.settled) c.step-reply.new.self =
-    subst (λ (answer : HallAnswer PlainAnswer). SeenGives handler_rules c.args.self.now.hall collect answer c.step-reply.new.self) c.in-Some.ensures c.step-reply.ensures in
-    outcome_steps (parts_of c.args.self.now) (record { part = c.settle.new.self; hall = c.step-reply.new.self; workers = c.args.self.now.workers.items }) true
+    let gives : SeenGives handler_rules c.args.self.now.hall collect (outcome c.in-Some.key c.in-Some.settled) c.collect-reply.new.self =
+    subst (λ (answer : HallAnswer PlainAnswer). SeenGives handler_rules c.args.self.now.hall collect answer c.collect-reply.new.self) c.in-Some.ensures c.collect-reply.ensures in
+    outcome_steps (parts_of c.args.self.now) (record { part = c.settle.new.self; hall = c.collect-reply.new.self; workers = c.args.self.now.workers.items }) true
     (λ s one other reached comes. c.moves_are_reached.ensures.outcome s one other reached comes) c.requires.under_way
-    (collect_moves c.args.self.now.part c.args.self.now.hall c.args.self.now.workers.items c.in-Some.key c.in-Some.settled c.settle.new.self c.step-reply.new.self gives
+    (collect_moves c.args.self.now.part c.args.self.now.hall c.args.self.now.workers.items c.in-Some.key c.in-Some.settled c.settle.new.self c.collect-reply.new.self gives
     (c.settle.ensures.taken c.in-Some.key.i) (λ s one other reached comes. c.moves_are_reached.ensures.outcome s one other reached comes)) c.settle.ensures.room refl c.settle.ensures.feeds
-    (faults_later c.args.self.now.hall c.step-reply.new.self collect (outcome c.in-Some.key c.in-Some.settled) gives)
+    (faults_later c.args.self.now.hall c.collect-reply.new.self collect (outcome c.in-Some.key c.in-Some.settled) gives)
 
 pub returns-in-None : goal.returns-in-None
 returns-in-None g c =
-    outcome_steps (parts_of c.args.self.now) (record { part = c.args.self.now.part; hall = c.step-reply.new.self; workers = c.args.self.now.workers.items }) false
+    outcome_steps (parts_of c.args.self.now) (record { part = c.args.self.now.part; hall = c.collect-reply.new.self; workers = c.args.self.now.workers.items }) false
     (λ s one other reached comes. c.moves_are_reached.ensures.outcome s one other reached comes) c.requires.under_way
-    (collect_rests c.args.self.now.part c.args.self.now.hall c.args.self.now.workers.items c.step-reply.new.self (answer_of c.step-reply.result) c.step-reply.ensures c.in-None.ensures)
-    c.requires.under_way.1.room refl refl (faults_later c.args.self.now.hall c.step-reply.new.self collect (answer_of c.step-reply.result) c.step-reply.ensures)
+    (collect_rests c.args.self.now.part c.args.self.now.hall c.args.self.now.workers.items c.collect-reply.new.self (answer_of c.collect-reply.result) c.collect-reply.ensures c.in-None.ensures)
+    c.requires.under_way.1.room refl refl (faults_later c.args.self.now.hall c.collect-reply.new.self collect (answer_of c.collect-reply.result) c.collect-reply.ensures)

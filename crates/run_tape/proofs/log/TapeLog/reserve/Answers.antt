@@ -1,6 +1,0 @@
-use Rattle.std.proofs.Common.{arith}
-use Rattle.run_tape.proofs.Growing.{as_many_marks}
-use Rattle.run_tape.proofs.log.TapeLog.reserve.Goals as goal
-
-pub returns-clause-room : goal.returns-clause-room
-returns-clause-room c = search (arith, as_many_marks, c.reserve.ensures.ok)
