@@ -1,4 +1,3 @@
 pub mod Lines
-pub mod Bounds
 pub mod Rehearsed
 pub mod Told

@@ -16,7 +16,7 @@ use Rattle.thrift_host.specs.declared.rehearsing.RehearsalFault.TheVariants as f
 use Rattle.thrift_host.specs.Errors.{Errors}
 use Rattle.thrift_host.specs.Checks.{AreUntouched}
 use Rattle.thrift_host.specs.Rehearsals.{AskedRehearsal, IsAccepted, IsAnsweredBy, MeansRehearsal, SaysRehearsal}
-use Rattle.thrift_host.specs.Steps.{EndsAs, EndsWithout, EndsUnbound, EndsUnanswered, EndsRehearsed, TellsRehearsal}
+use Rattle.thrift_host.specs.Steps.{EndsWithout, EndsUnbound, EndsUnanswered, EndsRehearsed, TellsRehearsal}
 
 module _ (r : AskedRehearsal) (ended : Status) (s : Streams) (e : Errors) where
   -- what a status means goes along with the status

@@ -1,4 +1,3 @@
-pub mod Words
 pub mod Errors
 pub mod Checks
 pub mod Rehearsals

@@ -11,7 +11,7 @@ use Rattle.pair_binding.specs.declared.fault.BindKind.{BindKind}
 use Rattle.pair_binding.specs.Binding.{AreBound}
 use Rattle.pair_binding.specs.FirstRefusal.{IsFirstRefusal}
 use Rattle.pair_binding.specs.Refusals.{refused_pair_text}
-use Rattle.rehearsal_words.specs.Rehearsals.{PlainRehearsal}
+use Rattle.command_line.specs.Served.{PlainServed}
 use Rattle.script_links.specs.declared.fault.ScriptFault.{ScriptFault}
 use Rattle.recorded_calls.specs.Answered.{Answering, Streams, IsUnwritten, IsNoScript, IsReported, IsReportedInPart}
 use Rattle.recorded_calls.specs.Refusals.{refused_script_text}
@@ -24,7 +24,7 @@ use Rattle.thrift_host.specs.Checks.{AreUntouched, IsRefusedWith}
 
 -- A rehearsal that is asked for: what its words say, the files that there are, and the handlers that were handed in, seen as their services.
 pub record AskedRehearsal : Type 0 where
-  pub says : PlainRehearsal
+  pub says : PlainServed
   pub files : Option (List File)
   pub handlers : List ServiceState
 

@@ -1,8 +1,7 @@
 -- Steps of the program on the way to what it promises. No part of the promise: no clause of `host` cites them.
-use Rattle.std.specs.Prelude.{◌≡◌, ℕ, ◌≤◌, ◌⊎◌, Bool, false, List, length, Option, Result, Ok, Err}
+use Rattle.std.specs.Prelude.{◌≡◌, ℕ, ◌⊎◌, Bool, false, List, Option, Result, Ok, Err}
 use Rattle.outside.specs.Content.{told_more}
 use Rattle.outside.specs.Taken.{IsTakenInPart}
-use Rattle.call_rules.specs.Desks.{longest_payload}
 use Rattle.idl_schema.specs.declared.refusal.NoSchema.{NoSchema}
 use Rattle.idl_schema.specs.declared.refusal.NoSchema.TheVariants as reasons
 use Rattle.idl_schema.specs.Lines.{idl_refusal_text}
@@ -13,7 +12,6 @@ use Rattle.pair_binding.specs.declared.fault.BindFault.{BindFault}
 use Rattle.pair_binding.specs.declared.fault.BindFault.TheVariants as bind_faults
 use Rattle.pair_binding.specs.FirstRefusal.{IsFirstRefusal, OnRefusal}
 use Rattle.pair_binding.specs.Refusals.{refused_pair_text}
-use Rattle.rehearsal_words.specs.Rehearsals.{PlainRehearsal}
 use Rattle.recorded_calls.specs.Answered.{Streams, IsReported, MeansFault}
 use Rattle.recorded_calls.specs.Refusals.{refused_script_text}
 use Rattle.recorded_calls.specs.declared.fault.ServingFault.{ServingFault}
@@ -78,12 +76,3 @@ TellsRehearsal r (Err (faults.Unanswered fault)) s = IsAnsweredBy r (λ a. Means
 abbrev pub is_unread_file : {A : Type 0} → Result A RehearsalFault → Bool
 is_unread_file (Err (faults.NoSchema reason)) = is_file_fault reason
 is_unread_file _ = false
-
--- bounds that the words of every rehearsal keep
-pub record KeepsWordBounds (r : PlainRehearsal) : Type 0 where
-  pub some : 1 ≤ length r.pairs
-  pub few : length r.pairs ≤ 16
-  pub crew : r.workers ≤ 8
-  pub least : 1 ≤ r.limits.max_frame
-  pub within : r.limits.max_frame ≤ r.limits.read_budget
-  pub most : r.limits.read_budget ≤ longest_payload

@@ -1,4 +1,4 @@
-//! The top call: it reads its words, checks an IDL or serves a recorded connection, and says why where it isn't done.
+//! The top call: it reads its words, checks an IDL or serves recorded connections, and says why where it isn't done.
 //!
 //! ```rust
 //! // rehearse a.thrift binary 0 V=store
@@ -7,7 +7,7 @@
 //! ```
 //!
 //! `host` takes the files, the streams and the handlers that it works with, so that a test or `main` hands in its own; it opens nothing by itself. It
-//! prints the schema of an IDL, and it serves the services of any IDL on one recorded connection, in either protocol.
+//! prints the schema of an IDL, and it serves the services of any IDL on recorded connections, in either protocol.
 #![tactic(auto)]
 
 mod checking;
@@ -16,7 +16,6 @@ mod journal;
 mod rehearsing;
 mod saying;
 mod status;
-mod words;
 
 pub use command::host;
 pub use status::Status;

@@ -5,17 +5,18 @@ ghost use Rattle.outside.specs.Cause.{Rose};
 ghost use Rattle.outside.specs.Files.{File};
 ghost use Rattle.call_rules.specs.Desks.{longest_payload};
 ghost use Rattle.call_model.specs.Desk.{desk_of};
+ghost use Rattle.command_line.specs.Answering.{plain_served};
+ghost use Rattle.command_line.specs.Bounds.{KeepsServedBounds};
 ghost use Rattle.journal_text.specs.EntryText.{entry_text};
 ghost use Rattle.processor.specs.Offices.{plain_office};
 ghost use Rattle.schema.specs.SchemaOf.{schema_of};
 ghost use Rattle.schema.specs.Sound.{IsSound};
 ghost use Rattle.pair_binding.specs.Refusals.{refused_pair_text};
-ghost use Rattle.rehearsal_words.specs.Answering.{plain_rehearsal};
 ghost use Rattle.recorded_calls.specs.Answered.{MeansAnswered};
 ghost use Rattle.recorded_calls.specs.Refusals.{refused_script_text};
 ghost use Rattle.recorded_calls.specs.declared.fault.ServingFault.TheVariants as serving_faults;
 ghost use Rattle.thrift_host.specs.Rehearsals.{HasSchema};
-ghost use Rattle.thrift_host.specs.Steps.{EndsRehearsed, EndsUnbound, EndsUnanswered, KeepsWordBounds, TellsRehearsal, is_unread_file};
+ghost use Rattle.thrift_host.specs.Steps.{EndsRehearsed, EndsUnbound, EndsUnanswered, TellsRehearsal, is_unread_file};
 ghost use Rattle.thrift_host.specs.declared.rehearsing.RehearsalFault.TheVariants as faults;
 
 use crate::checking::end_without_schema;
@@ -24,13 +25,13 @@ use crate::saying::{end, end_saying};
 use crate::status::Status;
 use bind_words::BindWords;
 use call_rules::Handler;
+use command_line::ServedIdl;
 use conn_table::Limits;
 use idl_schema::{NoSchema, program_schema};
 use outside::{Files, Sink, Source};
 use pair_binding::{BindKind, put_refused_pair};
 use processor::Office;
 use recorded_calls::{ServingFault, answer_recorded, put_refused_script};
-use rehearsal_words::Rehearsal;
 use schema::Schema;
 use script_links::ScriptFault;
 use service_binding::{BindFault, bind};
@@ -53,20 +54,20 @@ pub(crate) fn rehearse<F: Files, S: Source, K: Sink, H: Handler>(
     files: &mut F,
     input: &mut S,
     output: &mut K,
-    rehearsal: &Rehearsal,
+    served: &ServedIdl,
     handlers: Vec<H>,
 ) -> Result<(), RehearsalFault>
-    requires { KeepsWordBounds (plain_rehearsal rehearsal.now) }
+    requires { KeepsServedBounds (plain_served served.now) }
     ensures tells { TellsRehearsal
-        (record { says = plain_rehearsal rehearsal.now; files = F.files files.old; handlers = map H.service handlers.items }) result
+        (record { says = plain_served served.now; files = F.files files.old; handlers = map H.service handlers.items }) result
         (record { left_before = S.left input.old; left = S.left input.new; taken_before = K.taken output.old; taken = K.taken output.new }) }
     ensures files { F.files files.new ≡ F.files files.old }
     ensures file_fault { is_unread_file result ≡ true → Rose (F.faults files.old) (F.faults files.new) }
     ensures read_fault { result ≡ Err (faults.Unanswered serving_faults.ReadFault) → Rose (S.faults input.old) (S.faults input.new) }
     ensures write_fault { result ≡ Err (faults.Unanswered serving_faults.WriteFault) → Rose (K.faults output.old) (K.faults output.new) }
 {
-    match program_schema(alloc, files, rehearsal.idl.as_str()) {
-        Ok(schema) => arrange(alloc, input, output, rehearsal, schema, handlers),
+    match program_schema(alloc, files, served.idl.as_str()) {
+        Ok(schema) => arrange(alloc, input, output, served, schema, handlers),
         Err(reason) => Err(RehearsalFault::NoSchema(reason)),
     }
 }
@@ -76,30 +77,30 @@ fn arrange<S: Source, K: Sink, H: Handler>(
     alloc: Global,
     input: &mut S,
     output: &mut K,
-    rehearsal: &Rehearsal,
+    served: &ServedIdl,
     schema: Schema,
     handlers: Vec<H>,
 ) -> Result<(), RehearsalFault>
     requires sound { IsSound (schema_of schema) }
-    requires bounds { KeepsWordBounds (plain_rehearsal rehearsal.now) }
-    ensures tells { (files : Option (List File)) → HasSchema files rehearsal.now.idl (schema_of schema) → TellsRehearsal
-        (record { says = plain_rehearsal rehearsal.now; files = files; handlers = map H.service handlers.items }) result
+    requires bounds { KeepsServedBounds (plain_served served.now) }
+    ensures tells { (files : Option (List File)) → HasSchema files served.now.idl (schema_of schema) → TellsRehearsal
+        (record { says = plain_served served.now; files = files; handlers = map H.service handlers.items }) result
         (record { left_before = S.left input.old; left = S.left input.new; taken_before = K.taken output.old; taken = K.taken output.new }) }
     ensures no_file { is_unread_file result ≡ false }
     ensures read_fault { result ≡ Err (faults.Unanswered serving_faults.ReadFault) → Rose (S.faults input.old) (S.faults input.new) }
     ensures write_fault { result ≡ Err (faults.Unanswered serving_faults.WriteFault) → Rose (K.faults output.old) (K.faults output.new) }
 {
-    match bind(alloc, &schema, &rehearsal.pairs, handlers) {
+    match bind(alloc, &schema, &served.pairs, handlers) {
         Ok((bindings, handlers)) => {
-            let limits = rehearsal.limits;
-            let office = Office::new(schema, bindings, rehearsal.protocol, limits.max_frame);
+            let limits = served.limits;
+            let office = Office::new(schema, bindings, served.protocol, limits.max_frame);
             match serve(
                 alloc,
                 input,
                 output,
                 &office,
                 handlers,
-                rehearsal.workers,
+                served.workers,
                 limits,
             ) {
                 Ok(()) => Ok(()),

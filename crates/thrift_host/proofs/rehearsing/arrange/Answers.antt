@@ -2,7 +2,7 @@ use Rattle.std.proofs.Common.{map, arith}
 use Rattle.processor.specs.Bound.{bound_names}
 use Rattle.processor.specs.Offices.{plain_office}
 use Rattle.schema.specs.SchemaOf.{schema_of}
-use Rattle.rehearsal_words.specs.Answering.{plain_rehearsal}
+use Rattle.command_line.specs.Answering.{plain_served}
 use Rattle.recorded_calls.specs.Answered.{Streams, IsReported, MeansFault}
 use Rattle.thrift_host.specs.Rehearsals.{AskedRehearsal, IsArranged}
 use Rattle.thrift_host.proofs.Told.{at_office}
@@ -10,13 +10,13 @@ use Rattle.thrift_host.proofs.rehearsing.arrange.Goals as goal
 
 pub new-office-requires-clause-sound : goal.new-office-requires-clause-sound
 new-office-requires-clause-sound g c =
-    c.in-Ok.ensures.served c.args.rehearsal.now.protocol c.args.rehearsal.now.limits.max_frame c.requires.bounds.least
-    (omega (arith, c.requires.bounds.within, c.requires.bounds.most))
+    c.in-Ok.ensures.served c.args.served.now.protocol c.args.served.now.limits.max_frame c.requires.bounds.least
+    (omega (arith, c.requires.bounds.fits, c.requires.bounds.most))
 
 pub returns-in-Ok-serve-clause-tells : goal.returns-in-Ok-serve-clause-tells
 returns-in-Ok-serve-clause-tells g c = λ files has.
     let r : AskedRehearsal =
-    (record { says = plain_rehearsal c.args.rehearsal.now; files = files; handlers = map g.H.Handler.service c.args.handlers.items })
+    (record { says = plain_served c.args.served.now; files = files; handlers = map g.H.Handler.service c.args.handlers.items })
     in
     let a : IsArranged r =
     (record {
@@ -40,7 +40,7 @@ returns-in-Ok-serve-clause-tells g c = λ files has.
 pub returns-in-Ok-clause-tells : goal.returns-in-Ok-clause-tells
 returns-in-Ok-clause-tells g c = λ files has.
     let r : AskedRehearsal =
-    (record { says = plain_rehearsal c.args.rehearsal.now; files = files; handlers = map g.H.Handler.service c.args.handlers.items })
+    (record { says = plain_served c.args.served.now; files = files; handlers = map g.H.Handler.service c.args.handlers.items })
     in
     let a : IsArranged r =
     (record {
