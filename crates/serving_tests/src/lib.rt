@@ -1,0 +1,5 @@
+//! Tests of links over a script.
+#![tactic(auto)]
+
+#[cfg(test)]
+mod walks;
