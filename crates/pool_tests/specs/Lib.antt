@@ -1,0 +1,2 @@
+pub mod PingDesk
+pub mod Submitted
