@@ -1,0 +1,114 @@
+-- What each change of the account is to those who use the links.
+use Rattle.std.proofs.Common.{◌≡◌, ◌≢◌, ℕ, ◌+◌, ◌<◌, ◌≤◌, ◌^◌, Bool, true, false, not, ◌&&◌, ◌||◌, nat_eq, nat_lt, List, [], ◌∷◌, ◌++◌, length, filter, Option, Some, None, Result, Ok, Err, refl, ap, sym, subst, ◌∙◌, arith}
+use Rattle.std.specs.List.{list_any}
+use Rattle.std.proofs.lemmas.Bool.{and_parts, not-true, false≢true, eqb-true, eq-eqb, ne_eqb, ltb-true, or_right}
+use Rattle.std.proofs.lemmas.List.Folds.{list_any-append}
+use Rattle.std.proofs.lemmas.Map.Views.{any-filter_same}
+use Rattle.outside.specs.Memory.{is_listed}
+use Rattle.outside.specs.declared.answers.Ask.{Ask}
+use Rattle.outside.specs.declared.answers.Hint.{Hint}
+use Rattle.outside.specs.declared.answers.Hint.TheVariants.{Opened, Over}
+use Rattle.outside.specs.Asking.{AnswersAsk, says_over}
+use Rattle.outside.specs.Closing.{Closes}
+use Rattle.net_links.specs.Account.{LinksAccount, state_of, may_open, most_links, NumbersNext, after_opening, after_closing, after_net_fault}
+use Rattle.net_links.specs.Watching.{TellsWithin}
+
+or_false : (b : Bool) → b ≡ (b || false)
+or_false true = refl
+or_false false = refl
+
+-- a number that is put behind others is among them
+listed_last : (ns : List ℕ) (c : ℕ) → is_listed (ns ++ c ∷ []) c ≡ true
+listed_last ns c = list_any-append (λ n. nat_eq n c) ns (c ∷ []) ∙ or_right (is_listed ns c) (is_listed (c ∷ []) c) (ap (λ b. b || false) (eq-eqb c c refl))
+
+-- and nothing else changes
+listed_before : (ns : List ℕ) (c x : ℕ) → x ≢ c → is_listed (ns ++ c ∷ []) x ≡ is_listed ns x
+listed_before ns c x apart =
+    list_any-append (λ n. nat_eq n x) ns (c ∷ [])
+    ∙ (ap (λ b. is_listed ns x || (b || false)) (ne_eqb c x (λ e. apart (sym e))) ∙ sym (or_false (is_listed ns x)))
+
+-- a number that is taken out isn't among them
+gone : (c : ℕ) (ns : List ℕ) → is_listed (filter (λ n. not (nat_eq n c)) ns) c ≡ false
+gone c ns = any-filter_same (λ n. nat_eq n c) (λ n. not (nat_eq n c)) false (λ k same. ap not same) ns
+
+-- and all others are, as before
+kept : (c x : ℕ) (ns : List ℕ) → x ≢ c → is_listed (filter (λ n. not (nat_eq n c)) ns) x ≡ is_listed ns x
+kept c x ns apart = any-filter_same (λ n. nat_eq n x) (λ n. not (nat_eq n c)) true (λ k same. ap not (ne_eqb k c (λ e. apart (sym (eqb-true k x same) ∙ e)))) ns
+
+-- a connection that is closed
+pub closes : (c : ℕ) (old new : LinksAccount) → new ≡ after_closing c old → Closes c (state_of old) (state_of new)
+closes c old new is = subst (λ a. Closes c (state_of old) (state_of a)) (sym is) record {
+  others = record {
+    listens = refl;
+    opened = refl;
+    over = refl;
+    rests = refl;
+    net_faults = refl;
+    is_open = λ x apart. kept c x old.numbers apart;
+    left = λ x apart. refl;
+    arrived = λ x apart. refl;
+    faults = λ x apart. refl;
+  };
+  closed = gone c old.numbers;
+  tape = refl;
+  lengths = refl;
+  left = refl;
+  arrived = refl;
+  faults = refl;
+}
+
+module _ {E : Type 0} where
+  -- nothing could be told
+  pub fails : (ask : Ask) (old new : LinksAccount) (e : E) → new ≡ after_net_fault old → old.net_faults ≤ new.net_faults → AnswersAsk ask (state_of old) (state_of new) (Err e)
+  fails ask old new e is later = record {
+    listens = ap (λ a. Some a.listening) is;
+    opens = record { opened = ap (λ a. a.opened) is; is_open = λ x. ap (λ a. is_listed a.numbers x) is; tape = refl };
+    over = ap (λ a. a.over) is ∙ or_false old.over;
+    none_open = λ over. absurd (false≢true (ap says_over over));
+    rests = (0, refl, λ busy. refl);
+    lengths = refl;
+    left = λ x. refl;
+    arrived = λ x. tt;
+    faults = λ x. ap (λ a. (state_of a).faults x) is;
+    later = later;
+    failed = omega (arith, ap (λ a. a.net_faults) is);
+  }
+
+  -- the next connection was opened, where it may be
+  opens : (ask : Ask) (old new : LinksAccount) → (ask.room && may_open old) ≡ true → new ≡ after_opening old → new.opened < 2 ^ 32
+      → AnswersAsk {E = E} ask (state_of old) (state_of new) (Ok (Opened old.opened))
+  opens ask old new may is few =
+      let roomy = and_parts ask.room (may_open old) may in
+      let most = and_parts (not old.over && nat_lt old.opened old.listening.accept) (nat_lt (length old.numbers) most_links) roomy.1 in
+      let more = and_parts (not old.over) (nat_lt old.opened old.listening.accept) most.0 in
+      record {
+        listens = ap (λ a. Some a.listening) is;
+        opens = record {
+          room = roomy.0;
+          not_over = not-true old.over more.0;
+          number = refl;
+          opened = ap (λ a. a.opened) is ∙ omega arith;
+          few = few;
+          within = omega (arith, ltb-true old.opened old.listening.accept more.1, ap (λ a. a.opened) is);
+          is_open = ap (λ a. is_listed a.numbers old.opened) is ∙ listed_last old.numbers old.opened;
+          others = λ x apart. ap (λ a. is_listed a.numbers x) is ∙ listed_before old.numbers old.opened x apart;
+          tape = refl;
+        };
+        over = ap (λ a. a.over) is ∙ or_false old.over;
+        none_open = λ over. absurd (false≢true (ap says_over over));
+        rests = (0, refl, λ busy. refl);
+        lengths = refl;
+        left = λ x. refl;
+        arrived = λ x. tt;
+        faults = λ x. ap (λ a. (state_of a).faults x) is;
+        later = omega (arith, ap (λ a. a.net_faults) is);
+        failed = λ err. absurd (false≢true err);
+      }
+
+  -- the same of a number that was handed to the sockets, and that they tell of
+  pub opens_next : {F : Type 0} (ask : Ask) (old new : LinksAccount) (number : Option ℕ) (told : Result Hint F) (c : ℕ) → NumbersNext ask.room old number → TellsWithin number told
+      → told ≡ Ok (Opened c) → new ≡ after_opening old → new.opened < 2 ^ 32 → AnswersAsk {E = E} ask (state_of old) (state_of new) (Ok (Opened c))
+  opens_next ask old new number told c may within told-is is few =
+      let number-is : number ≡ Some c = subst (TellsWithin number) told-is within in
+      let next = subst (NumbersNext ask.room old) number-is may in
+      subst (λ n. AnswersAsk {E = E} ask (state_of old) (state_of new) (Ok (Opened n))) (sym next.0) (opens ask old new next.1 is few)

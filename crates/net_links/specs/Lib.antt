@@ -1,0 +1,4 @@
+pub mod Account
+pub mod Transfers
+pub mod Settling
+pub mod Watching

@@ -1,0 +1,12 @@
+-- What the account says once the answer of a read or a write is settled.
+use Rattle.std.specs.Prelude.{◌≡◌, ℕ}
+use Rattle.outside.specs.declared.answers.Taken.{Taken}
+use Rattle.outside.specs.declared.answers.Taken.TheVariants.{Bytes, End, NotYet, Failed, NoMemory}
+use Rattle.net_links.specs.Account.{LinksAccount, after_failing}
+
+-- A fault is counted of its connection, and where there is no memory for it the answer is want of memory. Any other answer stands, and leaves the account.
+abbrev pub SettlesSo : ℕ → LinksAccount → LinksAccount → Taken → Taken → Type 0
+SettlesSo c old new Failed Failed = new ≡ after_failing c old
+SettlesSo c old new Failed NoMemory = new ≡ old
+SettlesSo c old new Failed _ = ⊥
+SettlesSo c old new taken answer = (answer ≡ taken) × (new ≡ old)

@@ -1,0 +1,70 @@
+//! Makes links over sockets, and takes them back.
+
+ghost use Rattle.std.specs.Prelude.{◌≡◌};
+
+use crate::net_links::NetLinks;
+use outside::{BindFail, Binder};
+use std::alloc::Global;
+use std::io::ErrorKind;
+use std::marker::Model;
+use std::net::Net;
+
+/// Binds ports of the loopback address, 127.0.0.1.
+#[derive(Drop)]
+pub struct NetBinder<'a, N: Net> {
+    /// What binds them.
+    net: &'a N,
+    /// How many ports couldn't be listened at, and how many links came back with a fault; it stands still at its type's end.
+    faults: u64,
+}
+
+impl<'a, N: Net> Model for NetBinder<'a, N> {
+    ghost use Rattle.std.specs.Prelude.{ℕ};
+
+    ghost Value = { ℕ };
+
+    ghost view = { λ b. b.faults };
+}
+
+impl<'a, N: Net> NetBinder<'a, N> {
+    /// A binder that has bound nothing.
+    pub fn new(net: &'a N) -> Self
+        ensures { result ≡ 0 }
+    {
+        NetBinder { net, faults: 0 }
+    }
+
+    /// How many ports couldn't be listened at, and how many links came back with a fault.
+    pub fn faults(&self) -> u64
+        ensures { result ≡ self.now }
+    {
+        self.faults
+    }
+}
+
+impl<'a, N: Net> Binder for NetBinder<'a, N> {
+    ghost use Rattle.std.specs.Prelude.{None};
+
+    type L = NetLinks;
+
+    ghost past = { λ _. None };
+
+    ghost faults = { λ b. b };
+
+    fn listen(&mut self, alloc: Global, port: u16, accept: u32) -> Result<NetLinks, BindFail> {
+        match NetLinks::new(self.net, alloc, port, accept) {
+            Ok(links) => Ok(links),
+            Err(error) if error.kind() == ErrorKind::OutOfMemory => Err(BindFail::NoMemory),
+            Err(_) => {
+                self.faults = self.faults.saturating_add(1);
+                Err(BindFail::Failed)
+            }
+        }
+    }
+
+    fn take_back(&mut self, links: NetLinks) {
+        if links.net_faults() > 0 {
+            self.faults = self.faults.saturating_add(1);
+        }
+    }
+}

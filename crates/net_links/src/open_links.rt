@@ -1,0 +1,169 @@
+//! The links that are open, with the pool of their bytes, and which of them are to be told of or sent from.
+
+ghost use Rattle.std.specs.Prelude.{◌≡◌, ◌≢◌, ◌≤◌, ◌<◌, length, vec_len, IfSome};
+ghost use Rattle.outside.specs.Faults.{MovesWithin};
+ghost use Rattle.outside.specs.declared.answers.Taken.TheVariants.{End};
+
+use crate::account::MOST_OPEN;
+use crate::link::{Readiness, SocketLink};
+use crate::pool::Pool;
+use mio::event::Event;
+use mio::net::TcpStream;
+use outside::Taken;
+use std::alloc::{AllocError, Global};
+use std::collections::VecDeque;
+use std::mem;
+
+/// A block for the input and one for the output of each link.
+const BLOCKS: usize = 2 * MOST_OPEN;
+
+/// The open links, by rising number.
+#[derive(Drop)]
+pub(crate) struct OpenLinks {
+    alloc: Global,
+    links: Vec<SocketLink>,
+    pool: Pool,
+    /// The numbers of those of which something is to be told; a link that was closed may stand here still.
+    ready: VecDeque<u32>,
+    /// The numbers of those whose output is to be sent before the loop waits; a link that was closed may stand here still.
+    unsent: Vec<u32>,
+}
+
+impl OpenLinks {
+    /// None is open. Room for all is taken.
+    pub(crate) fn new(alloc: Global) -> Result<OpenLinks, AllocError> {
+        Ok(OpenLinks {
+            alloc,
+            links: Vec::with_capacity(alloc, MOST_OPEN)?,
+            pool: Pool::new(alloc, BLOCKS)?,
+            ready: VecDeque::with_capacity(alloc, MOST_OPEN)?,
+            unsent: Vec::with_capacity(alloc, MOST_OPEN)?,
+        })
+    }
+
+    /// Whether none is open.
+    pub(crate) fn is_empty(&self) -> bool {
+        self.links.is_empty()
+    }
+
+    /// Whether something is to be told of a link.
+    pub(crate) fn is_ready(&self) -> bool {
+        !self.ready.is_empty()
+    }
+
+    /// The place of a link.
+    fn place_of(&self, c: u32) -> Option<usize>
+        ensures { IfSome result (λ at. at < vec_len self.now.links) }
+    {
+        self.links
+            .as_slice()
+            .binary_search_by_key(&c, |link| link.number())
+            .ok()
+    }
+
+    /// One more is open, whose number is above all others.
+    pub(crate) fn add(&mut self, c: u32, stream: TcpStream) -> Result<(), AllocError> {
+        self.links.push(SocketLink::new(c, stream))?;
+        Ok(())
+    }
+
+    /// Reads bytes of a link to the front of `into`.
+    pub(crate) fn read(&mut self, c: u32, into: &mut [u8]) -> Taken
+        ensures { MovesWithin (length into.new) result }
+    {
+        let Some(at) = self.place_of(c) else {
+            return Taken::NotYet;
+        };
+        self.links[at].read(&mut self.pool, into)
+    }
+
+    /// Takes bytes off the front of `bytes`, to be sent on a link before the loop waits.
+    pub(crate) fn write(&mut self, c: u32, bytes: &[u8]) -> Taken
+        ensures within { MovesWithin (length bytes.now) result }
+        ensures no_end { result ≢ End }
+    {
+        let Some(at) = self.place_of(c) else {
+            return Taken::NotYet;
+        };
+        let link = &mut self.links[at];
+        let taken = link.write(&mut self.pool, bytes);
+        if link.has_output() && !link.unsent {
+            link.unsent = self.unsent.push(c).is_ok();
+        }
+        taken
+    }
+
+    /// A link isn't open any more. What the socket takes at once of its output is sent.
+    pub(crate) fn close(&mut self, c: u32) {
+        if let Some(at) = self.place_of(c) {
+            self.links.remove(at).close(&mut self.pool);
+        }
+    }
+
+    /// Sends the output that waits, as far as the sockets take it at once.
+    pub(crate) fn send_all(&mut self) {
+        let mut unsent = mem::replace(&mut self.unsent, Vec::new(self.alloc));
+        for c in unsent.iter() {
+            self.send_from(*c);
+        }
+        unsent.clear();
+        self.unsent = unsent;
+    }
+
+    /// Sends the output of a link that waits.
+    fn send_from(&mut self, c: u32) {
+        let Some(at) = self.place_of(c) else {
+            return;
+        };
+        let link = &mut self.links[at];
+        link.unsent = false;
+        if link.has_output() {
+            link.flush(&mut self.pool);
+        }
+        list(&mut self.ready, link);
+    }
+
+    /// An event came for a link.
+    pub(crate) fn note(&mut self, c: u32, event: &Event) {
+        let Some(at) = self.place_of(c) else {
+            return;
+        };
+        let link = &mut self.links[at];
+        let done = event.is_read_closed() || event.is_error();
+        if event.is_readable() || done {
+            link.note_readable(done);
+        }
+        if event.is_writable() || event.is_write_closed() {
+            link.note_writable(&mut self.pool);
+        }
+        list(&mut self.ready, link);
+    }
+
+    /// What is to be told next, and of which link.
+    pub(crate) fn tell(&mut self) -> Option<(u32, Readiness)> {
+        for _ in 0..self.ready.len() {
+            let c = self.ready.pop_front()?;
+            if let Some(readiness) = self.tell_of(c) {
+                return Some((c, readiness));
+            }
+        }
+        None
+    }
+
+    /// What is to be told of a link next. Where more is left, it is listed again.
+    fn tell_of(&mut self, c: u32) -> Option<Readiness> {
+        let at = self.place_of(c)?;
+        let link = &mut self.links[at];
+        let told = link.tell();
+        link.listed = false;
+        list(&mut self.ready, link);
+        told
+    }
+}
+
+/// Lists a link of which something is to be told, where it isn't listed yet. There is room for each link once.
+fn list(ready: &mut VecDeque<u32>, link: &mut SocketLink) {
+    if link.is_due() && !link.listed {
+        link.listed = ready.push_back(link.number()).is_ok();
+    }
+}
