@@ -6,9 +6,6 @@ import collections
 import glob
 import re
 
-# A crate that is to take the place of others shares their words until it does.
-REPLACED = {"crates/command_line/": ("crates/rehearsal_words/", "crates/thrift_host/specs/Words.antt")}
-
 DEFINITION = re.compile(r"^\s*(?:abbrev pub|unfoldable pub|pub record|pub data) ([A-Za-z_][\w'-]*)")
 TYPE = re.compile(r"^\s*pub(?:\(crate\))? (?:struct|enum|trait|type) (\w+)")
 
@@ -23,8 +20,5 @@ for pattern, shape in (("crates/*/specs/*.antt", DEFINITION), ("crates/*/src/**/
                 if found:
                     places[found.group(1)].add(path)
 for name, paths in sorted(places.items()):
-    for new, old in REPLACED.items():
-        if any(path.startswith(new) for path in paths):
-            paths = {path for path in paths if not path.startswith(old)}
     if len({path.split("/")[1] for path in paths}) > 1:
         print(name, *sorted(paths))
