@@ -17,9 +17,11 @@ use Rattle.cell_model.specs.Moving.{HasNoMove, one_of_conn}
 use Rattle.cell_loop.specs.declared.loop_part.Stand.{Stand}
 use Rattle.cell_loop.specs.declared.loop_part.Stand.TheVariants.{Lean, Framed, Whole, Asked, Over}
 use Rattle.cell_loop.specs.declared.loop_part.LoopPart.{LoopPart}
-use Rattle.cell_loop.specs.LoopTied.{IsFraming, PhaseTells, StandTells, HasRoomToClose, ReadsOn, IsLoopTied}
+use Rattle.conn_ties.specs.Phases.{IsFraming, PhaseTells}
+use Rattle.cell_loop.specs.LoopTied.{StandTells, HasRoomToClose, ReadsOn, IsLoopTied}
 use Rattle.cell_loop.specs.LoopMoves.{StaysTied, LoopMoves, HasLongest}
-use Rattle.cell_loop.proofs.Tying.{place_of, stands_so}
+use Rattle.conn_ties.proofs.Tables.{place_of}
+use Rattle.cell_loop.proofs.Tying.{stands_so}
 use Rattle.cell_turn.specs.declared.worker.Holding.{Holding}
 use Rattle.cell_core.specs.Parts.{Parts}
 use Rattle.cell_core.specs.Machines.{AreUnderWay, SomeMachine, IsMachine, MachineMoves, StaysPlayed, MoveKeeps}

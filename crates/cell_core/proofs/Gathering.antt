@@ -16,7 +16,7 @@ use Rattle.cell_loop.specs.declared.loop_part.Stand.TheVariants.{Whole, Asked}
 use Rattle.cell_loop.specs.declared.loop_part.LoopPart.{LoopPart}
 use Rattle.cell_loop.specs.LoopTied.{IsLoopTied, HasRoomToClose}
 use Rattle.cell_loop.specs.LoopMoves.{IsLoopUnderWay, HandsOut, TakesOutcome}
-use Rattle.cell_loop.proofs.Tying.{place_of}
+use Rattle.conn_ties.proofs.Tables.{place_of}
 use Rattle.cell_turn.specs.declared.worker.Holding.{Holding}
 use Rattle.cell_turn.specs.HallTied.{IsHallTied, AreWorkersTied}
 use Rattle.cell_turn.specs.Turns.{IsNoOutcome}

@@ -27,7 +27,8 @@ use Rattle.cell_model.specs.Replies.{IsReplySome}
 use Rattle.cell_loop.specs.declared.loop_part.Stand.{Stand}
 use Rattle.cell_loop.specs.declared.loop_part.Stand.TheVariants.{Lean, Framed, Whole, Asked, Over}
 use Rattle.cell_loop.specs.declared.loop_part.LoopPart.{LoopPart}
-use Rattle.cell_loop.specs.LoopTied.{PhaseTells, IsLean, IsFraming, StandTells, IsLoopTied}
+use Rattle.conn_ties.specs.Phases.{PhaseTells, IsLean, IsFraming}
+use Rattle.cell_loop.specs.LoopTied.{StandTells, IsLoopTied}
 use Rattle.cell_turn.specs.HallTied.{IsHallTied}
 use Rattle.cell_turn.specs.Turns.{IsNoOutcome}
 use Rattle.cell_turn.proofs.HallTying.{AreRepliesSome, GivesFrom, gives_from, same_outcomes, still_open, still_whole, step_tied, same_replies}

@@ -20,7 +20,8 @@ use Rattle.cell_model.specs.Reached.{IsReached}
 use Rattle.cell_loop.specs.declared.loop_part.Stand.{Stand}
 use Rattle.cell_loop.specs.declared.loop_part.Stand.TheVariants.{Lean, Framed, Whole, Asked, Over}
 use Rattle.cell_loop.specs.Feeds.{unread_in, rules_in}
-use Rattle.cell_loop.specs.LoopTied.{PhaseTells, IsLean, IsFraming, StandTells}
+use Rattle.conn_ties.specs.Phases.{PhaseTells, IsLean, IsFraming}
+use Rattle.cell_loop.specs.LoopTied.{StandTells}
 use Rattle.cell_turn.specs.declared.worker.Holding.{Holding}
 use Rattle.cell_turn.specs.declared.worker.Holding.TheVariants.{Idle, Holds, Answered, Unanswered}
 use Rattle.cell_turn.specs.HallTied.{plain_worker}

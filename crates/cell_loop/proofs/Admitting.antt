@@ -22,10 +22,13 @@ use Rattle.cell_loop.specs.declared.loop_part.Stand.TheVariants.{Lean, Framed}
 use Rattle.cell_loop.specs.declared.loop_part.LoopPart.{LoopPart}
 use Rattle.cell_model.specs.Settings.{CellSetting, ServedCell, ServedPlay, desk_of_setting}
 use Rattle.cell_model.specs.Moving.{HasNoMove, GoesTo, one_of_conn}
-use Rattle.cell_loop.specs.LoopTied.{HasAllCollected, PhaseTells, IsOpenTied, IsFraming, StandTells, IsLoopTied}
-use Rattle.cell_loop.specs.Closing.{IsSameBut, HasStand, IsClosed}
+use Rattle.conn_ties.specs.Phases.{HasAllCollected, PhaseTells, IsOpenTied, IsFraming}
+use Rattle.cell_loop.specs.LoopTied.{StandTells, IsLoopTied}
+use Rattle.conn_ties.specs.Tables.{IsSameBut}
+use Rattle.cell_loop.specs.Closing.{HasStand, IsClosed}
 use Rattle.cell_loop.specs.LoopMoves.{HasSameHall}
-use Rattle.cell_loop.proofs.Tying.{but_put, stand_set, place_of, kept_at, in_table, size_now, feeds_of, loop_changed, changed_tied, stands_so}
+use Rattle.conn_ties.proofs.Tables.{but_put, place_of}
+use Rattle.cell_loop.proofs.Tying.{stand_set, kept_at, in_table, size_now, feeds_of, loop_changed, changed_tied, stands_so}
 use Rattle.cell_loop.proofs.Ending.{same_feeds, as_many_feeds, over_tied}
 use Rattle.cell_loop.proofs.Counting.{sizes_summed}
 use Rattle.cell_loop.proofs.OneMove.{done_at, open_so, moves_to_size}

@@ -19,7 +19,8 @@ use Rattle.cell_loop.specs.declared.loop_part.LoopPart.{LoopPart}
 use Rattle.cell_model.specs.Settings.{CellSetting, ServedPlay}
 use Rattle.cell_loop.specs.Feeds.{unread_of, finish_of, rules_left, unread_in, finish_in, rules_in, HasFeed, BoundsSome}
 use Rattle.cell_loop.specs.LoopTied.{StandTells, IsLoopTied, HasRoomToClose}
-use Rattle.cell_loop.specs.Closing.{IsSameBut, HasStand, HasMoreRoom}
+use Rattle.conn_ties.specs.Tables.{IsSameBut}
+use Rattle.cell_loop.specs.Closing.{HasStand, HasMoreRoom}
 use Rattle.cell_loop.proofs.Tying.{stand_set, kept_at, AreFeedsTied, feeds_of, HasChanged, loop_changed, changed_tied, told_same, stand_moved}
 
 -- the play once connection c has come to this, with these marks

@@ -20,10 +20,12 @@ use Rattle.cell_loop.specs.declared.loop_part.LoopPart.{LoopPart}
 use Rattle.cell_model.specs.Settings.{CellSetting, ServedPlay, desk_of_setting}
 use Rattle.cell_model.specs.Moving.{HasNoMove, GoesTo, one_of_conn}
 use Rattle.cell_loop.specs.Feeds.{unread_in, finish_in}
-use Rattle.cell_loop.specs.LoopTied.{PhaseTells, ReadsOn, IsLoopTied, HasRoomToClose}
-use Rattle.cell_loop.specs.Closing.{IsSameBut, IsClosed, ClosesBehind}
+use Rattle.conn_ties.specs.Phases.{PhaseTells}
+use Rattle.cell_loop.specs.LoopTied.{ReadsOn, IsLoopTied, HasRoomToClose}
+use Rattle.conn_ties.specs.Tables.{IsSameBut}
+use Rattle.cell_loop.specs.Closing.{IsClosed, ClosesBehind}
 use Rattle.cell_loop.specs.LoopMoves.{HasSameHall}
-use Rattle.cell_loop.proofs.Tying.{but_then}
+use Rattle.conn_ties.proofs.Tables.{but_then}
 use Rattle.cell_loop.proofs.Ending.{once}
 use Rattle.cell_loop.proofs.Becoming.{after_one, ended_tied}
 use Rattle.cell_loop.proofs.OneMove.{ends_so, fails_so}

@@ -14,10 +14,13 @@ use Rattle.machine_model.specs.Loop.{LoopConn}
 use Rattle.cell_loop.specs.declared.loop_part.Stand.{Stand}
 use Rattle.cell_loop.specs.declared.loop_part.Stand.TheVariants.{Lean, Framed, Whole, Asked, Over}
 use Rattle.cell_loop.specs.declared.loop_part.LoopPart.{LoopPart}
-use Rattle.cell_loop.specs.LoopTied.{IsLean, IsFraming, PhaseTells, ReadsOn, StandTells, HasRoomToClose}
-use Rattle.cell_loop.specs.Closing.{IsSameBut, HasSizeSo, IsClosed}
+use Rattle.conn_ties.specs.Phases.{IsLean, IsFraming, PhaseTells}
+use Rattle.cell_loop.specs.LoopTied.{ReadsOn, StandTells, HasRoomToClose}
+use Rattle.conn_ties.specs.Tables.{IsSameBut}
+use Rattle.cell_loop.specs.Closing.{HasSizeSo, IsClosed}
 use Rattle.cell_loop.specs.LoopMoves.{IsLoopUnderWay, StandIsOver}
-use Rattle.cell_loop.proofs.Tying.{but_gone, but_then, place_of, stands_so}
+use Rattle.conn_ties.proofs.Tables.{but_gone, but_then, place_of}
+use Rattle.cell_loop.proofs.Tying.{stands_so}
 
 -- what has no value
 pub none_by : {X : Type 0} (o : Option X) → is_some o ≡ false → o ≡ None

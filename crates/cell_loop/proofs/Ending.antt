@@ -12,7 +12,8 @@ use Rattle.cell_loop.specs.declared.loop_part.LoopPart.{LoopPart}
 use Rattle.cell_model.specs.Settings.{CellSetting, ServedPlay}
 use Rattle.cell_model.specs.Moving.{Doing, ComesTo}
 use Rattle.cell_loop.specs.LoopTied.{IsLoopTied}
-use Rattle.cell_loop.specs.Closing.{IsSameBut, HasStand}
+use Rattle.conn_ties.specs.Tables.{IsSameBut}
+use Rattle.cell_loop.specs.Closing.{HasStand}
 use Rattle.cell_loop.proofs.Tying.{AreFeedsTied, HasChanged, changed_tied, stand_set}
 
 -- one move that is the same however memory is

@@ -10,7 +10,6 @@ pub mod RulesNext
 pub mod Opening
 pub mod Stopping
 pub mod Tying
-pub mod Tables
 pub mod Rooming
 pub mod ClosingOff
 pub mod Counting
@@ -18,7 +17,6 @@ pub mod Ending
 pub mod Settling
 pub mod Becoming
 pub mod OneMove
-pub mod Taking
 pub mod ReadingOn
 pub mod TakenIn
 pub mod TakingIn

@@ -13,7 +13,8 @@ use Rattle.cell_loop.specs.declared.loop_part.Stand.{Stand}
 use Rattle.cell_loop.specs.declared.loop_part.Stand.TheVariants.{Lean, Framed, Whole, Asked, Over}
 use Rattle.cell_loop.specs.declared.loop_part.LoopPart.{LoopPart}
 use Rattle.cell_model.specs.Settings.{CellSetting, ServedPlay, desk_of_setting}
-use Rattle.cell_loop.specs.LoopTied.{HasAllCollected, PhaseTells, IsOpenTied, IsFraming, IsLean, StandTells, ReadsOn, IsLoopTied}
+use Rattle.conn_ties.specs.Phases.{HasAllCollected, PhaseTells, IsOpenTied, IsFraming, IsLean}
+use Rattle.cell_loop.specs.LoopTied.{StandTells, ReadsOn, IsLoopTied}
 use Rattle.cell_loop.specs.Closing.{HasSizeSo}
 use Rattle.cell_loop.proofs.OneMove.{open_so, owes_so, moves_to_read, moves_to_size}
 

@@ -22,9 +22,12 @@ use Rattle.cell_loop.specs.declared.loop_part.LoopPart.{LoopPart}
 use Rattle.cell_model.specs.Settings.{CellSetting, ServedCell, ServedPlay, desk_of_setting}
 use Rattle.cell_model.specs.Moving.{GoesTo, one_of_outcome}
 use Rattle.cell_model.specs.Replies.{IsReplySome}
-use Rattle.cell_loop.specs.LoopTied.{HoldsNothing, PhaseTells, IsOpenTied, IsLean, StandTells, IsLoopTied}
-use Rattle.cell_loop.specs.Closing.{IsSameBut, HasStand}
-use Rattle.cell_loop.proofs.Tying.{no_bytes, stand_set, place_of, in_table, size_now, feeds_of, loop_changed, changed_tied, stands_so}
+use Rattle.conn_ties.specs.Phases.{HoldsNothing, PhaseTells, IsOpenTied, IsLean}
+use Rattle.cell_loop.specs.LoopTied.{StandTells, IsLoopTied}
+use Rattle.conn_ties.specs.Tables.{IsSameBut}
+use Rattle.cell_loop.specs.Closing.{HasStand}
+use Rattle.conn_ties.proofs.Tables.{no_bytes, place_of}
+use Rattle.cell_loop.proofs.Tying.{stand_set, in_table, size_now, feeds_of, loop_changed, changed_tied, stands_so}
 use Rattle.cell_loop.proofs.Ending.{once, same_feeds, as_many_feeds, over_tied}
 
 -- what settles a connection for good

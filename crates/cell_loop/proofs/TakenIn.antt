@@ -24,14 +24,17 @@ use Rattle.cell_loop.specs.declared.loop_part.LoopPart.{LoopPart}
 use Rattle.cell_model.specs.Settings.{CellSetting, ServedPlay, desk_of_setting}
 use Rattle.cell_model.specs.Moving.{ComesTo, one_of_conn}
 use Rattle.cell_loop.specs.Feeds.{lent_pieces, unread_of, unread_in, finish_in, rules_in, front_in, later_in, HasFeed}
-use Rattle.cell_loop.specs.LoopTied.{PhaseTells, IsOpenTied, IsFraming, IsLean, StandTells, ReadsOn, IsLoopTied}
-use Rattle.cell_loop.specs.Closing.{IsSameBut, HasStand}
+use Rattle.conn_ties.specs.Phases.{PhaseTells, IsOpenTied, IsFraming, IsLean}
+use Rattle.cell_loop.specs.LoopTied.{StandTells, ReadsOn, IsLoopTied}
+use Rattle.conn_ties.specs.Tables.{IsSameBut}
+use Rattle.cell_loop.specs.Closing.{HasStand}
 use Rattle.cell_loop.specs.LoopMoves.{LoopMoves, HasLongest}
 use Rattle.cell_loop.proofs.Tying.{in_table, size_now, stand_set, stand_same}
-use Rattle.cell_loop.proofs.Tables.{stated, state_found, state_but}
+use Rattle.conn_ties.proofs.Tables.{stated, state_found, state_but}
 use Rattle.cell_loop.proofs.Becoming.{after_one, ended_tied, open_tied, pieces_passed}
 use Rattle.cell_loop.proofs.OneMove.{done_at, some_counted, reads_so}
-use Rattle.cell_loop.proofs.Taking.{GoesOnFrom, MadeSo, took_is_read}
+use Rattle.conn_ties.specs.Progress.{GoesOnFrom, MadeSo}
+use Rattle.conn_ties.proofs.Taking.{took_is_read}
 use Rattle.cell_loop.proofs.ReadingOn.{StandsReading, Reading, reading, is_going, is_owing_nothing, reads_on}
 
 -- a piece under way is in front of the others

@@ -20,8 +20,8 @@ use Rattle.cell_loop.specs.Feeds.{finish_in, rules_in, front_in, later_in, HasFe
 use Rattle.cell_loop.specs.LoopTied.{HasRoomToClose, ReadsOn}
 use Rattle.cell_loop.specs.Closing.{IsClosed}
 use Rattle.cell_loop.specs.LoopMoves.{IsLoopUnderWay, LoopMoves, HasLongest}
-use Rattle.cell_loop.proofs.Tying.{but_then}
-use Rattle.cell_loop.proofs.Tables.{state_there, state_is, state_size, state_but, state_count}
+use Rattle.conn_ties.proofs.Tables.{but_then}
+use Rattle.conn_ties.proofs.Tables.{state_there, state_is, state_size, state_but, state_count}
 use Rattle.cell_loop.proofs.TakenIn.{TakesIn, IsPassed, reads_part, reads_whole, reads_over, over_size}
 
 -- Connection c has taken in bytes, which were read of its piece.

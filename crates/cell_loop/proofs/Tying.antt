@@ -15,31 +15,17 @@ use Rattle.machine_model.specs.Loop.{LoopConn, Loop, changed}
 use Rattle.machine_model.proofs.Lists.{put_same, put_other}
 use Rattle.rehearsal_model.specs.ScriptLines.{PlanRule}
 use Rattle.rehearsal_model.specs.Playing.{InputFinish, at_number}
+use Rattle.conn_ties.proofs.Tables.{place_of}
 use Rattle.cell_loop.specs.declared.feed.Feed.{Feed}
 use Rattle.cell_loop.specs.declared.loop_part.Stand.{Stand}
 use Rattle.cell_loop.specs.declared.loop_part.Stand.TheVariants.{Lean, Framed, Whole, Asked, Over}
 use Rattle.cell_loop.specs.declared.loop_part.LoopPart.{LoopPart}
 use Rattle.cell_model.specs.Settings.{CellSetting, ServedPlay}
 use Rattle.cell_loop.specs.Feeds.{unread_in, finish_in, rules_in, HasSomePieces, BoundsSome}
-use Rattle.cell_loop.specs.LoopTied.{IsOpenTied, IsInTable, IsAdmittedSo, StandTells, IsLoopTied}
-use Rattle.cell_loop.specs.Closing.{IsSameBut, HasStand}
-
--- no byte is one
-pub no_bytes : EachIsByte []
-no_bytes i = omega arith
-
--- tables that differ in one connection
-pub but_put : (table : TableView) (c : ℕ) (new : Slot) → new.number ≡ c → IsSameBut c table (record table { slots = with_slot new table.slots })
-but_put table c new is = record { budget = refl; others = λ x n. other_put new x table.slots (λ e. n (sym is ∙ e)) }
-
-pub but_more : (table : TableView) (c : ℕ) (new : Slot) → new.number ≡ c → IsSameBut c table (record table { slots = with_added new table.slots })
-but_more table c new is = record { budget = refl; others = λ x n. other_more new x table.slots (λ e. n (sym is ∙ e)) }
-
-pub but_gone : (table : TableView) (c : ℕ) → IsSameBut c table (record table { slots = without_number c table.slots })
-but_gone table c = record { budget = refl; others = λ x n. other_without c x table.slots n }
-
-pub but_then : (c : ℕ) (old mid new : TableView) → IsSameBut c old mid → IsSameBut c mid new → IsSameBut c old new
-but_then c old mid new a b = record { budget = b.budget ∙ a.budget; others = λ x n. b.others x n ∙ a.others x n }
+use Rattle.conn_ties.specs.Phases.{IsOpenTied}
+use Rattle.cell_loop.specs.LoopTied.{IsInTable, IsAdmittedSo, StandTells, IsLoopTied}
+use Rattle.conn_ties.specs.Tables.{IsSameBut}
+use Rattle.cell_loop.specs.Closing.{HasStand}
 
 -- stands that differ in one connection
 pub stand_set : (stands : List Stand) (c : ℕ) (stand : Stand) → c < length stands → HasStand c stand stands (slice_set stands c stand)
@@ -55,34 +41,6 @@ stand_then c first last old mid new a b = record { count = b.count ∙ a.count; 
 
 pub stand_same : (stands : List Stand) (c : ℕ) (stand : Stand) → slice_index_or stands c Lean ≡ stand → HasStand c stand stands stands
 stand_same stands c stand is = record { count = refl; own = is; others = λ x n. refl }
-
--- a place of a list that has an element
-pub place_of : {X : Type 0} (xs : List X) (c : ℕ) (x : X) → slice_get xs c ≡ Some x → c < length xs
-place_of xs c x e = go (cases_lt c (length xs))
-  where
-    go : (c < length xs) ⊎ (length xs ≤ c) → c < length xs
-    go (inl l) = l
-    go (inr l) = absurd (none-some x (sym (slice_get_past xs c l) ∙ e))
-
--- an element that was put there, and others
-pub got_same : {X : Type 0} (xs : List X) (c : ℕ) (x : X) → c < length xs → slice_get (slice_set xs c x) c ≡ Some x
-got_same xs c x l =
-    let k : length (slice_set xs c x) ≡ length xs = length-set xs c x in
-    slice_get-get_or (slice_set xs c x) c x (omega arith) ∙ ap Some (get_or-set_same xs c x x l)
-
-pub got_other : {X : Type 0} (xs : List X) (c i : ℕ) (x : X) → (c ≡ i → ⊥) → slice_get (slice_set xs c x) i ≡ slice_get xs i
-got_other xs c i x n = go (cases_lt i (length xs))
-  where
-    k : length (slice_set xs c x) ≡ length xs
-    k = length-set xs c x
-
-    go : (i < length xs) ⊎ (length xs ≤ i) → slice_get (slice_set xs c x) i ≡ slice_get xs i
-    go (inl l) =
-        let m : length (slice_set xs c x) ≡ length xs = k in
-        slice_get-get_or (slice_set xs c x) i x (omega arith) ∙ ap Some (get_or-set_other xs c i x x (λ e. n (sym e))) ∙ sym (slice_get-get_or xs i x l)
-    go (inr l) =
-        let m : length (slice_set xs c x) ≡ length xs = k in
-        slice_get_past (slice_set xs c x) i (omega arith) ∙ sym (slice_get_past xs i l)
 
 -- a value at one number that is the one that was there
 pub kept_at : {X : Type 0} (f : ℕ → X) (c x : ℕ) → f x ≡ at_number f c (f c) x

@@ -8,14 +8,10 @@ use Rattle.conn_state.specs.Phase.{left_to_write}
 use Rattle.conn_state.specs.Step.{after_wrote}
 use Rattle.conn_table.specs.Slots.{slot_in}
 use Rattle.conn_table.specs.Table.{TableView, slot_of, with_state}
+use Rattle.conn_ties.specs.Tables.{IsSameBut}
 use Rattle.cell_loop.specs.declared.loop_part.Stand.{Stand}
 use Rattle.cell_loop.specs.declared.loop_part.Stand.TheVariants.{Lean, Over}
 use Rattle.cell_loop.specs.declared.loop_part.LoopPart.{LoopPart}
-
--- two tables are the same but for connection c
-pub record IsSameBut (c : ℕ) (old new : TableView) : Type 0 where
-  pub budget : new.budget ≡ old.budget
-  pub others : (x : ℕ) → (c ≡ x → ⊥) → slot_in x new.slots ≡ slot_in x old.slots
 
 -- connection c stands so now, and each other one as it did
 pub record HasStand (c : ℕ) (stand : Stand) (old new : List Stand) : Type 0 where

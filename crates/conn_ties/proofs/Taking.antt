@@ -13,7 +13,8 @@ use Rattle.conn_state.specs.Step.{after_size, after_took}
 use Rattle.conn_state.proofs.Lists.{bytes_append}
 use Rattle.machine_model.specs.Loop.{LoopConn, FrameProgress, part, bad_size, whole, read_more}
 use Rattle.machine_model.specs.Plain.{when, are_same, is_size, is_whole, is_bad_size, progress_behind, progress_by}
-use Rattle.cell_loop.specs.LoopTied.{HasAllCollected, PhaseTells, IsOpenTied, IsFraming, IsLean}
+use Rattle.conn_ties.specs.Progress.{GoesOnFrom, MadeSo}
+use Rattle.conn_ties.specs.Phases.{HasAllCollected, PhaseTells, IsOpenTied, IsFraming, IsLean}
 
 -- bytes are the same as themselves
 same_bytes : (xs : List ℕ) → are_same xs xs ≡ true
@@ -84,21 +85,6 @@ size_refused max size fits out =
     is_out : (size ≡ 0) ⊎ (max < size) → (size == 0 || nat_lt max size) ≡ true
     is_out (inl e) = or_left (size == 0) (nat_lt max size) (eq-eqb size 0 e)
     is_out (inr l) = or_right (size == 0) (nat_lt max size) (lt-ltb max size l)
-
--- a phase in which the frame that was under way goes on
-abbrev pub GoesOnFrom : Phase → Phase → Type 0
-GoesOnFrom (sizing bytes) new = IsLean new
-GoesOnFrom (framing size bytes) new = IsFraming new
-GoesOnFrom _ new = ⊥
-
--- a phase after a read, with so many frames, is that of the connection that has made the same progress
-abbrev pub MadeSo : ℕ → LoopConn → List ℕ → Phase → ℕ → Phase → Type 0
-MadeSo max conn bytes old frames (ready number payload) =
-    IsFraming old × (progress_by max (conn.held ++ bytes) ≡ Some (whole payload))
-    × IsOpenTied max (record { frames = frames; phase = ready number payload }) (read_more conn bytes (whole payload))
-MadeSo max conn bytes old frames (ended cause) = (z : ℤ) × IsLean old × (cause ≡ SizeFault z) × (progress_by max (conn.held ++ bytes) ≡ Some (bad_size z))
-MadeSo max conn bytes old frames phase =
-    GoesOnFrom old phase × (progress_by max (conn.held ++ bytes) ≡ Some part) × IsOpenTied max (record { frames = frames; phase = phase }) (read_more conn bytes part)
 
 -- four bytes spell a number of 32 bits
 size_fits : (bytes : List ℕ) → EachIsByte bytes → from_be_bytes w32 bytes < 2 ^ 32

@@ -1,0 +1,4 @@
+pub mod Phases
+pub mod Tables
+pub mod Progress
+pub mod Weights
