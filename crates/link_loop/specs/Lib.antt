@@ -1,0 +1,5 @@
+pub mod Tied
+pub mod Woven
+pub mod Going
+pub mod Ended
+pub mod Stopped
