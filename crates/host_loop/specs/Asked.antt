@@ -1,0 +1,31 @@
+-- What the loop asks of the hall, and what it is answered.
+use Rattle.std.specs.Prelude.{Bool, true, false, ℕ, List}
+use Rattle.host_model.specs.declared.key.Key.{Key}
+use Rattle.machine_model.specs.HallRule.{submit, collect, done, empty, is_closed, outcome}
+use Rattle.hall_core.specs.declared.operation.HallReply.{HallReply}
+use Rattle.hall_core.specs.declared.operation.HallReply.TheVariants as reply
+use Rattle.hall_pool.specs.Jobs.{HallSeat, AddsAsk}
+use Rattle.host_loop.specs.declared.asking.Collected.{Collected}
+use Rattle.host_loop.specs.declared.asking.Collected.TheVariants.{Outcome, Empty, Closed}
+
+-- what a reply to Submit means: whether the hall took the job
+abbrev pub took_so : HallReply → Bool
+took_so reply.Done = true
+took_so _ = false
+
+-- a job was to be submitted, and the hall took it, or was closed
+abbrev pub SubmitsSo : HallSeat → HallSeat → Key → List ℕ → Bool → Type 0
+SubmitsSo old new key payload true = AddsAsk old new (submit key payload) done
+SubmitsSo old new key payload false = AddsAsk old new (submit key payload) is_closed
+
+-- what a reply to Collect means
+abbrev pub collected_so : HallReply → Collected
+collected_so (reply.Settled key settled) = Outcome key settled
+collected_so reply.Closed = Closed
+collected_so _ = Empty
+
+-- an outcome was to be collected, and this has come of it
+abbrev pub CollectsSo : HallSeat → HallSeat → Collected → Type 0
+CollectsSo old new (Outcome key settled) = AddsAsk old new collect (outcome key settled)
+CollectsSo old new Empty = AddsAsk old new collect empty
+CollectsSo old new Closed = AddsAsk old new collect is_closed

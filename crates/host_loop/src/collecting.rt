@@ -1,0 +1,137 @@
+//! How outcomes are collected, and what each allows.
+
+ghost use Rattle.std.specs.Prelude.{◌≡◌, OnOk, IfErr};
+ghost use Rattle.host_loop.specs.Going.{IsServing, IsHalted};
+
+use crate::asking::{Collected, collect};
+use crate::holdings::{Run, Serving};
+use call_rules::{Desk, Handler, Journal};
+use conn_table::Outcome;
+use hall_core::Hall;
+use hall_pool::Turn;
+use outside::{Gate, Links};
+use std::sync::Wait;
+
+impl<H: Handler, J: Journal> Serving<Hall<H, J>> {
+    /// Makes one turn with the loop's own worker.
+    fn make_turn<L: Links, D: Desk, G: Gate, R: Wait>(
+        &mut self,
+        rt: &R,
+        run: &Run<Hall<H, J>, D, G, L>,
+        links: &L,
+    ) -> Result<(), Outcome>
+        requires serving { IsServing (D.meaning run.now.desk.now) run.now.limits run.now.booth.now (L.state run.now.first.value) (L.state links.now) self.old.conns self.old.seat self.old.own }
+        ensures serving { OnOk result (IsServing (D.meaning run.now.desk.now) run.now.limits run.now.booth.now (L.state run.now.first.value) (L.state links.now) self.new.conns self.new.seat self.new.own) }
+        ensures halted { IfErr result (λ why. IsHalted (D.meaning run.now.desk.now) run.now.limits run.now.booth.now (L.state run.now.first.value) (L.state links.now) self.new.conns self.new.seat self.new.own why) }
+    {
+        match self.own.turn(rt, run.alloc, run.booth, run.desk, run.gate) {
+            Turn::Worked(_) => Ok(()),
+            Turn::Empty => Ok(()),
+            Turn::Closed => Ok(()),
+            Turn::Journal => Err(Outcome::JournalFault),
+        }
+    }
+
+    /// Makes one turn where no other worker runs.
+    fn make_turn_alone<L: Links, D: Desk, G: Gate, R: Wait>(
+        &mut self,
+        rt: &R,
+        run: &Run<Hall<H, J>, D, G, L>,
+        links: &L,
+    ) -> Result<(), Outcome>
+        requires serving { IsServing (D.meaning run.now.desk.now) run.now.limits run.now.booth.now (L.state run.now.first.value) (L.state links.now) self.old.conns self.old.seat self.old.own }
+        ensures serving { OnOk result (IsServing (D.meaning run.now.desk.now) run.now.limits run.now.booth.now (L.state run.now.first.value) (L.state links.now) self.new.conns self.new.seat self.new.own) }
+        ensures halted { IfErr result (λ why. IsHalted (D.meaning run.now.desk.now) run.now.limits run.now.booth.now (L.state run.now.first.value) (L.state links.now) self.new.conns self.new.seat self.new.own why) }
+    {
+        if run.crewed {
+            return Ok(());
+        }
+        self.make_turn(rt, run, links)
+    }
+
+    /// Collects the oldest outcome, where there is one, and takes it. It answers whose it was.
+    fn collect<L: Links, D: Desk, G, R: Wait>(
+        &mut self,
+        rt: &R,
+        run: &Run<Hall<H, J>, D, G, L>,
+        links: &mut L,
+    ) -> Result<Option<u32>, Outcome>
+        requires serving { IsServing (D.meaning run.now.desk.now) run.now.limits run.now.booth.now (L.state run.now.first.value) (L.state links.old) self.old.conns self.old.seat self.old.own }
+        ensures serving { OnOk result (IsServing (D.meaning run.now.desk.now) run.now.limits run.now.booth.now (L.state run.now.first.value) (L.state links.new) self.new.conns self.new.seat self.new.own) }
+        ensures halted { IfErr result (λ why. IsHalted (D.meaning run.now.desk.now) run.now.limits run.now.booth.now (L.state run.now.first.value) (L.state links.new) self.new.conns self.new.seat self.new.own why) }
+        ensures plan { L.plan links.new ≡ L.plan links.old }
+    {
+        match collect(rt, run.booth, &mut self.seat) {
+            Collected::Outcome(key, settled) => {
+                self.conns.settle(links, key, settled);
+                Ok(Some(key.c))
+            }
+            Collected::Empty => Ok(None),
+            Collected::Closed => Err(Outcome::JournalFault),
+        }
+    }
+
+    /// Collects the oldest outcome, and makes the moves that it allows. It answers whether there was one.
+    fn collect_next<L: Links, D: Desk, G: Gate, R: Wait>(
+        &mut self,
+        rt: &R,
+        run: &Run<Hall<H, J>, D, G, L>,
+        links: &mut L,
+    ) -> Result<bool, Outcome>
+        requires serving { IsServing (D.meaning run.now.desk.now) run.now.limits run.now.booth.now (L.state run.now.first.value) (L.state links.old) self.old.conns self.old.seat self.old.own }
+        ensures serving { OnOk result (IsServing (D.meaning run.now.desk.now) run.now.limits run.now.booth.now (L.state run.now.first.value) (L.state links.new) self.new.conns self.new.seat self.new.own) }
+        ensures halted { IfErr result (λ why. IsHalted (D.meaning run.now.desk.now) run.now.limits run.now.booth.now (L.state run.now.first.value) (L.state links.new) self.new.conns self.new.seat self.new.own why) }
+        ensures plan { L.plan links.new ≡ L.plan links.old }
+    {
+        self.make_turn_alone(rt, run, links)?;
+        let Some(c) = self.collect(rt, run, links)? else {
+            return Ok(false);
+        };
+        self.visit(rt, run, links, c)?;
+        self.relieve_all(rt, run, links)?;
+        Ok(true)
+    }
+
+    /// Collects outcomes until there is none. Where no other worker runs, a turn comes before each.
+    pub(crate) fn collect_all<L: Links, D: Desk, G: Gate, R: Wait>(
+        &mut self,
+        rt: &R,
+        run: &Run<Hall<H, J>, D, G, L>,
+        links: &mut L,
+    ) -> Result<(), Outcome>
+        requires serving { IsServing (D.meaning run.now.desk.now) run.now.limits run.now.booth.now (L.state run.now.first.value) (L.state links.old) self.old.conns self.old.seat self.old.own }
+        ensures serving { OnOk result (IsServing (D.meaning run.now.desk.now) run.now.limits run.now.booth.now (L.state run.now.first.value) (L.state links.new) self.new.conns self.new.seat self.new.own) }
+        ensures halted { IfErr result (λ why. IsHalted (D.meaning run.now.desk.now) run.now.limits run.now.booth.now (L.state run.now.first.value) (L.state links.new) self.new.conns self.new.seat self.new.own why) }
+        ensures plan { L.plan links.new ≡ L.plan links.old }
+    {
+        for _ in rt.forever() {
+            match self.collect_next(rt, run, links) {
+                Ok(true) => {}
+                Ok(false) => return Ok(()),
+                Err(why) => return Err(why),
+            }
+        }
+        unreachable!()
+    }
+
+    /// The same, where no other worker runs and something is owed.
+    pub(crate) fn collect_alone<L: Links, D: Desk, G: Gate, R: Wait>(
+        &mut self,
+        rt: &R,
+        run: &Run<Hall<H, J>, D, G, L>,
+        links: &mut L,
+    ) -> Result<(), Outcome>
+        requires serving { IsServing (D.meaning run.now.desk.now) run.now.limits run.now.booth.now (L.state run.now.first.value) (L.state links.old) self.old.conns self.old.seat self.old.own }
+        ensures serving { OnOk result (IsServing (D.meaning run.now.desk.now) run.now.limits run.now.booth.now (L.state run.now.first.value) (L.state links.new) self.new.conns self.new.seat self.new.own) }
+        ensures halted { IfErr result (λ why. IsHalted (D.meaning run.now.desk.now) run.now.limits run.now.booth.now (L.state run.now.first.value) (L.state links.new) self.new.conns self.new.seat self.new.own why) }
+        ensures plan { L.plan links.new ≡ L.plan links.old }
+    {
+        if run.crewed {
+            return Ok(());
+        }
+        if self.conns.owing == 0 {
+            return Ok(());
+        }
+        self.collect_all(rt, run, links)
+    }
+}

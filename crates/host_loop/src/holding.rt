@@ -1,0 +1,194 @@
+//! The frames that are held, since the budget had no room for them.
+
+ghost use Rattle.std.specs.Prelude.{◌≡◌, IsTrue, IsSome, IfOk, OnOk, IfErr};
+ghost use Rattle.conn_state.specs.Phase.{IsHeld};
+ghost use Rattle.conn_table.specs.Slots.{slot_in};
+ghost use Rattle.conn_table.specs.Table.{slot_of};
+ghost use Rattle.link_loop.specs.Going.{IsOpenAt, WaitsAt};
+ghost use Rattle.host_loop.specs.Going.{IsServing, IsHalted};
+ghost use Rattle.host_loop.specs.Held.{IsFoundSo, HeldLookTells, IsToldHeld, SomeIsHeld};
+
+use crate::holdings::{Run, Serving};
+use call_rules::{Desk, Handler, Journal};
+use conn_table::Outcome;
+use hall_core::Hall;
+use link_loop::{Admission, LoopConnections};
+use outside::Links;
+use std::sync::Wait;
+
+/// What has come of a try to admit a frame that is held.
+#[derive(Clone, Copy)]
+pub(crate) enum Found {
+    /// It is admitted.
+    Admitted,
+    /// There is no room for it.
+    NoRoom,
+    /// It waits no more.
+    Gone,
+}
+
+/// What has come of a look at those that are held.
+#[derive(Clone, Copy)]
+pub(crate) enum HeldLook {
+    /// The frame of this connection is admitted.
+    Admitted(u32),
+    /// Those that are held have changed.
+    Changed,
+    /// There is no room for any; so one is held, or none is.
+    Rests(bool),
+}
+
+/// Whether the frame of a connection waits to be admitted.
+fn waits(conns: &LoopConnections, c: u32) -> bool
+    requires { IsSome (slot_in c conns.now.table.slots) }
+    ensures { IsTrue result → IsHeld (slot_of c conns.now.table.slots).conn.phase }
+{
+    conns.table.conn(c).asks().is_some()
+}
+
+impl<H: Handler, J: Journal> Serving<Hall<H, J>> {
+    /// Tries to admit a frame that waits.
+    fn try_waiting<L: Links, D: Desk, G>(
+        &mut self,
+        run: &Run<Hall<H, J>, D, G, L>,
+        links: &mut L,
+        c: u32,
+    ) -> Found
+        requires serving { IsServing (D.meaning run.now.desk.now) run.now.limits run.now.booth.now (L.state run.now.first.value) (L.state links.old) self.old.conns self.old.seat self.old.own }
+        requires waits { WaitsAt c self.old.conns }
+        ensures serving { IsServing (D.meaning run.now.desk.now) run.now.limits run.now.booth.now (L.state run.now.first.value) (L.state links.new) self.new.conns self.new.seat self.new.own }
+        ensures plan { L.plan links.new ≡ L.plan links.old }
+        ensures found { IsFoundSo c self.new.conns result }
+    {
+        match self.conns.admit(run.alloc, links, c) {
+            Admission::Admitted => Found::Admitted,
+            Admission::Refused => Found::NoRoom,
+            Admission::Over => Found::Gone,
+        }
+    }
+
+    /// Tries to admit the frame of a connection that is open.
+    fn try_open<L: Links, D: Desk, G>(
+        &mut self,
+        run: &Run<Hall<H, J>, D, G, L>,
+        links: &mut L,
+        c: u32,
+    ) -> Found
+        requires serving { IsServing (D.meaning run.now.desk.now) run.now.limits run.now.booth.now (L.state run.now.first.value) (L.state links.old) self.old.conns self.old.seat self.old.own }
+        requires open { IsOpenAt c self.old.conns }
+        ensures serving { IsServing (D.meaning run.now.desk.now) run.now.limits run.now.booth.now (L.state run.now.first.value) (L.state links.new) self.new.conns self.new.seat self.new.own }
+        ensures plan { L.plan links.new ≡ L.plan links.old }
+        ensures found { IsFoundSo c self.new.conns result }
+    {
+        if waits(&self.conns, c) {
+            return self.try_waiting(run, links, c);
+        }
+        Found::Gone
+    }
+
+    /// Tries to admit the frame of a connection, if it is open.
+    fn try_one<L: Links, D: Desk, G>(
+        &mut self,
+        run: &Run<Hall<H, J>, D, G, L>,
+        links: &mut L,
+        c: u32,
+    ) -> Found
+        requires serving { IsServing (D.meaning run.now.desk.now) run.now.limits run.now.booth.now (L.state run.now.first.value) (L.state links.old) self.old.conns self.old.seat self.old.own }
+        ensures serving { IsServing (D.meaning run.now.desk.now) run.now.limits run.now.booth.now (L.state run.now.first.value) (L.state links.new) self.new.conns self.new.seat self.new.own }
+        ensures plan { L.plan links.new ≡ L.plan links.old }
+        ensures found { IsFoundSo c self.new.conns result }
+    {
+        if self.conns.is_open(c) {
+            return self.try_open(run, links, c);
+        }
+        Found::Gone
+    }
+
+    /// Takes out the connection at this place of those that are held.
+    fn let_out(&mut self, at: usize)
+        ensures conns { self.new.conns ≡ self.old.conns }
+        ensures seat { self.new.seat ≡ self.old.seat }
+        ensures own { self.new.own ≡ self.old.own }
+    {
+        if at < self.held.len() {
+            self.held.remove(at);
+        }
+    }
+
+    /// Admits the first of the frames that are held for which there is room.
+    fn look<L: Links, D: Desk, G>(
+        &mut self,
+        run: &Run<Hall<H, J>, D, G, L>,
+        links: &mut L,
+    ) -> HeldLook
+        requires serving { IsServing (D.meaning run.now.desk.now) run.now.limits run.now.booth.now (L.state run.now.first.value) (L.state links.old) self.old.conns self.old.seat self.old.own }
+        ensures serving { IsServing (D.meaning run.now.desk.now) run.now.limits run.now.booth.now (L.state run.now.first.value) (L.state links.new) self.new.conns self.new.seat self.new.own }
+        ensures plan { L.plan links.new ≡ L.plan links.old }
+        ensures look { HeldLookTells self.new.conns result }
+    {
+        let mut one = false;
+        for at in 0..self.held.len() {
+            let Some(&c) = self.held.get(at) else {
+                return HeldLook::Rests(one);
+            };
+            match self.try_one(run, links, c) {
+                Found::Admitted => {
+                    self.let_out(at);
+                    return HeldLook::Admitted(c);
+                }
+                Found::NoRoom => one = true,
+                Found::Gone => {
+                    self.let_out(at);
+                    return HeldLook::Changed;
+                }
+            }
+        }
+        HeldLook::Rests(one)
+    }
+
+    /// Looks once at those that are held, and visits the one that is admitted. It answers whether to look again, and else whether one is held.
+    pub(crate) fn relieve<L: Links, D: Desk, G, R: Wait>(
+        &mut self,
+        rt: &R,
+        run: &Run<Hall<H, J>, D, G, L>,
+        links: &mut L,
+    ) -> Result<Option<bool>, Outcome>
+        requires serving { IsServing (D.meaning run.now.desk.now) run.now.limits run.now.booth.now (L.state run.now.first.value) (L.state links.old) self.old.conns self.old.seat self.old.own }
+        ensures serving { OnOk result (IsServing (D.meaning run.now.desk.now) run.now.limits run.now.booth.now (L.state run.now.first.value) (L.state links.new) self.new.conns self.new.seat self.new.own) }
+        ensures halted { IfErr result (λ why. IsHalted (D.meaning run.now.desk.now) run.now.limits run.now.booth.now (L.state run.now.first.value) (L.state links.new) self.new.conns self.new.seat self.new.own why) }
+        ensures plan { L.plan links.new ≡ L.plan links.old }
+        ensures held { IfOk result (λ found. IsToldHeld self.new.conns found) }
+    {
+        match self.look(run, links) {
+            HeldLook::Admitted(c) => {
+                self.visit(rt, run, links, c)?;
+                Ok(None)
+            }
+            HeldLook::Changed => Ok(None),
+            HeldLook::Rests(one) => Ok(Some(one)),
+        }
+    }
+
+    /// Admits frames that are held as long as there is room for any. It answers whether one is held.
+    pub(crate) fn relieve_all<L: Links, D: Desk, G, R: Wait>(
+        &mut self,
+        rt: &R,
+        run: &Run<Hall<H, J>, D, G, L>,
+        links: &mut L,
+    ) -> Result<bool, Outcome>
+        requires serving { IsServing (D.meaning run.now.desk.now) run.now.limits run.now.booth.now (L.state run.now.first.value) (L.state links.old) self.old.conns self.old.seat self.old.own }
+        ensures serving { OnOk result (IsServing (D.meaning run.now.desk.now) run.now.limits run.now.booth.now (L.state run.now.first.value) (L.state links.new) self.new.conns self.new.seat self.new.own) }
+        ensures halted { IfErr result (λ why. IsHalted (D.meaning run.now.desk.now) run.now.limits run.now.booth.now (L.state run.now.first.value) (L.state links.new) self.new.conns self.new.seat self.new.own why) }
+        ensures plan { L.plan links.new ≡ L.plan links.old }
+        ensures held { IfOk result (λ one. IsTrue one → SomeIsHeld self.new.conns) }
+    {
+        for _ in rt.forever() {
+            match self.relieve(rt, run, links) {
+                Ok(Some(one)) => return Ok(one),
+                Ok(None) => {}
+                Err(why) => return Err(why),
+            }
+        }
+        unreachable!()
+    }
+}

@@ -1,0 +1,87 @@
+//! The loop in its thread, and its crew beside it.
+
+ghost use Rattle.std.specs.Prelude.{◌≡◌, ◌≤◌, All, vec_len, vec_capacity};
+ghost use Rattle.hall_crew.specs.Crew.{MayServe, HasServed};
+ghost use Rattle.host_loop.specs.Going.{IsServing, IsAtEnd};
+
+use crate::holdings::{Run, Serving};
+use call_rules::{Desk, Handler, Journal};
+use conn_table::{Limits, Outcome};
+use hall_core::Hall;
+use hall_crew::{Workplace, with_crew};
+use outside::{Bell, Gate, Links};
+use seat_booth::Seat;
+use std::snapshot::Snapshot;
+use std::sync::Wait;
+use std::thread::Threads;
+
+/// The loop, beside so many workers that were started. What it holds comes back, and how it came out.
+fn lead<L: Links, D: Desk, G: Gate, B, H: Handler, J: Journal, R: Wait>(
+    rt: &R,
+    place: &Workplace<Hall<H, J>, D, G, B>,
+    links: &mut L,
+    serving: Serving<Hall<H, J>>,
+    limits: Limits,
+    started: u32,
+) -> (Outcome, Serving<Hall<H, J>>)
+    requires serving { IsServing (D.meaning place.now.desk.now) limits place.now.booth.now (L.state links.old) (L.state links.old) serving.conns serving.seat serving.own }
+    ensures ended { IsAtEnd (D.meaning place.now.desk.now) limits place.now.booth.now (L.state links.old) (L.state links.new) result.1.conns result.1.seat result.1.own result.0 }
+    ensures plan { L.plan links.new ≡ L.plan links.old }
+{
+    let mut serving = serving;
+    let run = Run {
+        alloc: place.alloc,
+        booth: place.booth,
+        desk: place.desk,
+        gate: place.gate,
+        door: place.door,
+        first: Snapshot::of(links),
+        limits,
+        crewed: started > 0,
+    };
+    let outcome = serving.serve(rt, &run, links);
+    (outcome, serving)
+}
+
+/// The loop, and a crew with these seats beside it. The seats come back.
+pub(crate) fn lead_crew<
+    L: Links,
+    D: Desk + Sync,
+    G: Gate + Sync,
+    B: Bell,
+    H: Handler,
+    J: Journal + Send,
+    R: Threads + Wait + Sync,
+>(
+    rt: &R,
+    place: &Workplace<Hall<H, J>, D, G, B>,
+    links: &mut L,
+    serving: Serving<Hall<H, J>>,
+    crew: Vec<Seat<Hall<H, J>>>,
+    limits: Limits,
+) -> (Outcome, Serving<Hall<H, J>>, Vec<Seat<Hall<H, J>>>)
+    requires serving { IsServing (D.meaning place.now.desk.now) limits place.now.booth.now (L.state links.old) (L.state links.old) serving.conns serving.seat serving.own }
+    requires crew { All (MayServe (D.meaning place.now.desk.now) place.now.booth.now) crew.items }
+    requires few { vec_len crew ≤ 8 }
+    ensures ended { IsAtEnd (D.meaning place.now.desk.now) limits place.now.booth.now (L.state links.old) (L.state links.new) result.1.conns result.1.seat result.1.own result.0 }
+    ensures plan { L.plan links.new ≡ L.plan links.old }
+    ensures crew { All (HasServed (D.meaning place.now.desk.now) place.now.booth.now) result.2.items }
+    ensures room { (vec_len result.2 ≡ vec_len crew) × (vec_capacity result.2 ≡ vec_capacity crew) }
+{
+    let ((back, outcome, serving), crew) = with_crew(
+        rt,
+        place,
+        crew,
+        move |started| -> (&mut L, Outcome, Serving<Hall<H, J>>)
+            requires serving { IsServing (D.meaning place.now.desk.now) limits place.now.booth.now (L.state links.now) (L.state links.now) serving.conns serving.seat serving.own }
+            ensures same { result.0.ghost_name ≡ links.entry.ghost_name }
+            ensures ended { IsAtEnd (D.meaning place.entry.now.desk.now) limits place.entry.now.booth.now (L.state links.entry.now) (L.state result.0.now) result.2.conns result.2.seat result.2.own result.1 }
+            ensures plan { L.plan result.0.now ≡ L.plan links.entry.now }
+        {
+            let (outcome, serving) = lead(rt, place, links, serving, limits, started);
+            (links, outcome, serving)
+        },
+    );
+    let _ = back;
+    (outcome, serving, crew)
+}
