@@ -9,5 +9,5 @@ mod outs;
 mod passes;
 mod rehearsal;
 
-pub use outs::Outs;
+pub use outs::{Outs, written};
 pub use rehearsal::{Rehearsed, rehearse};

@@ -4,7 +4,7 @@ ghost use Rattle.std.specs.Prelude.{◌≡◌, ◌++◌, [], map, replicate, sli
 ghost use Rattle.outside.specs.Marks.{lent_mark};
 ghost use Rattle.cell_core.specs.Rehearsed.{AreWritten, rows_behind};
 
-use outside::{Bytes, MarkAt, TapeLog};
+use outside::{Bytes, Cursor, MarkAt};
 use std::alloc::{AllocError, Global};
 use std::marker::Model;
 
@@ -39,12 +39,11 @@ impl Outs {
     }
 }
 
-/// The bytes that the tape says were written to each of so many connections.
-pub(crate) fn written(alloc: Global, tape: &TapeLog, count: usize) -> Result<Outs, AllocError>
-    ensures { IfOk result (λ outs. AreWritten count tape.now.items outs) }
+/// The bytes that these marks say were written to each of so many connections.
+pub fn written(alloc: Global, mut marks: Cursor<'_>, count: usize) -> Result<Outs, AllocError>
+    ensures { IfOk result (λ outs. AreWritten count marks.entry outs) }
 {
     let mut all = rows(alloc, count)?;
-    let mut marks = tape.marks();
     'walk: while let Some(mark) = marks.next() {
         add_mark(&mut all, mark)?;
     }

@@ -177,7 +177,7 @@ fn finished<'a, H: Handler, J: Journal>(
     } = machine;
     let (handlers, journal) = hall.into_parts();
     part.tell_ends();
-    let (outs, outcome) = match written(alloc, &part.tape, part.stands.len()) {
+    let (outs, outcome) = match written(alloc, part.tape.marks(), part.stands.len()) {
         Ok(outs) => (outs, outcome),
         Err(_) => (Outs::new(Vec::new(alloc)), without_memory(outcome)),
     };

@@ -14,7 +14,8 @@ use Rattle.rehearsal_model.specs.ScriptLines.{ScriptPlan}
 use Rattle.rehearsal_model.specs.Playing.{always_ample}
 use Rattle.rehearsal_model.proofs.BarePlays.{shows_one}
 use Rattle.script_links.specs.declared.fault.ScriptFault.{ScriptFault}
-use Rattle.recorded_calls.specs.Answered.{Answering, IsRunOfScript, IsReportOf, ReportsScript, Streams, HasNone, script_for}
+use Rattle.recorded_calls.specs.Recorded.{Streams}
+use Rattle.recorded_calls.specs.Answered.{Answering, IsRunOfScript, IsReportOf, ReportsScript, HasNone, script_for}
 
 -- what was read to the end is what was there
 pub all_read : (input : List ℕ) (left : Option (List ℕ)) (text : List ℕ) → told_before text left ≡ Some input → IsSpent left → text ≡ input

@@ -1,3 +1,4 @@
+pub mod Recorded
 pub mod Answered
 pub mod OneConnection
 pub mod Refusals

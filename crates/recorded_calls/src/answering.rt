@@ -1,6 +1,6 @@
 //! A recording, answered from its input to its report.
 
-ghost use Rattle.std.specs.Prelude.{◌≡◌, ◌≢◌, ◌≤◌, false, [], List, length, map, Some, Err, MatchResult, IfOk};
+ghost use Rattle.std.specs.Prelude.{◌≡◌, ◌≢◌, ◌≤◌, false, [], List, length, map, Some, Err};
 ghost use Rattle.outside.specs.Cause.{Rose};
 ghost use Rattle.conn_table.specs.declared.limits.Outcome.TheVariants as outcomes;
 ghost use Rattle.call_rules.specs.Entries.{CallEntry};
@@ -8,17 +8,16 @@ ghost use Rattle.rehearsal_model.specs.ScriptLines.{ScriptPlan};
 ghost use Rattle.script_links.specs.Sound.{MovesItsWorkers};
 ghost use Rattle.cell_core.specs.Rehearsed.{AreWritten};
 ghost use Rattle.recorded_calls.specs.Answered.{Answering, IsRunOfScript, MeansAnswered};
-ghost use Rattle.recorded_calls.specs.Steps.{IsInput, EndsInput, ReportsServed};
+ghost use Rattle.recorded_calls.specs.Steps.{ReportsServed};
 
 use crate::fault::ServingFault;
-use crate::input::read_whole;
+use crate::input::read_input;
 use call_rules::{Desk, Handler};
 use cell_core::{Rehearsed, rehearse};
 use conn_table::{Limits, Outcome};
 use outside::{Sink, Source};
 use run_report::{EntryLine, ReportedJournal, write_report};
-use script_links::laws::scripts_are_sound;
-use script_links::{Script, read_script};
+use script_links::Script;
 use std::alloc::Global;
 
 /// What became of a recording: the handlers and the journal as they are behind the run, and whether its report was written.
@@ -65,7 +64,7 @@ pub fn answer_recorded<L: EntryLine, D: Desk, H: Handler, J: ReportedJournal, S:
     ensures write_fault { result.result ≡ Err ServingFault.WriteFault → Rose (K.faults output.old) (K.faults output.new) }
     ensures journal_fault { result.result ≡ Err ServingFault.JournalFault → Rose (J.faults journal) (J.faults result.journal) }
 {
-    match read_input(alloc, input, workers) {
+    match read_input(alloc, input, workers, true) {
         Ok(script) => run_and_report::<L, D, H, J, K>(
             alloc, &script, output, desk, handlers, journal, workers, limits,
         ),
@@ -75,21 +74,6 @@ pub fn answer_recorded<L: EntryLine, D: Desk, H: Handler, J: ReportedJournal, S:
             result: Err(fault),
         },
     }
-}
-
-/// The script that the input is, for so many workers.
-fn read_input<S: Source>(alloc: Global, input: &mut S, workers: u32) -> Result<Script, ServingFault>
-    requires { workers ≤ 8 }
-    ensures input { (a : Answering) → a.workers ≡ workers → MatchResult result
-        (λ script. IsInput a (S.left input.old) (S.left input.new) script)
-        (λ fault. EndsInput a fault (S.left input.old)) }
-    ensures moves { IfOk result (λ script. MovesItsWorkers workers script) }
-    ensures fault { result ≡ Err ServingFault.ReadFault → Rose (S.faults input.old) (S.faults input.new) }
-{
-    scripts_are_sound();
-    let text = read_whole(alloc, input)?;
-    let script = read_script(alloc, text.as_slice(), workers, true)?;
-    Ok(script)
 }
 
 /// Runs a script, and writes the report of the run.
@@ -113,8 +97,8 @@ fn run_and_report<L: EntryLine, D: Desk, H: Handler, J: ReportedJournal, K: Sink
     requires empty { J.told journal ≡ Some [] }
     requires whole { J.torn journal ≡ false }
     ensures reported { ReportsServed
-        (record { desk = D.meaning desk.now; services = map H.service handlers.items; workers = workers; budget = limits.read_budget; line = L.line })
-        script.now (K.taken output.old) (K.taken output.new) result.result }
+        (IsRunOfScript (record { desk = D.meaning desk.now; services = map H.service handlers.items; workers = workers; budget = limits.read_budget; line = L.line }))
+        L.line script.now (K.taken output.old) (K.taken output.new) result.result }
     ensures write_fault { result.result ≡ Err ServingFault.WriteFault → Rose (K.faults output.old) (K.faults output.new) }
     ensures journal_fault { result.result ≡ Err ServingFault.JournalFault → Rose (J.faults journal) (J.faults result.journal) }
     ensures no_read_fault { result.result ≢ Err ServingFault.ReadFault }
@@ -140,9 +124,9 @@ fn report_run<L: EntryLine, H: Handler, J: ReportedJournal, K: Sink>(
     run: &Rehearsed<H, J>,
 ) -> Result<(), ServingFault>
     requires outs { run.now.outcome ≡ outcomes.All → AreWritten (length run.now.ends) run.now.tape run.now.outs }
-    ensures reported { (a : Answering) (script : ScriptPlan) → a.line ≡ L.line
+    ensures reported { (a : Answering) (script : ScriptPlan)
         → (run.now.outcome ≡ outcomes.All → (entries : List CallEntry) → J.told run.now.journal ≡ Some entries → IsRunOfScript a script run.now.tape entries run.now.ends)
-        → ReportsServed a script (K.taken out.old) (K.taken out.new) result }
+        → ReportsServed (IsRunOfScript a) L.line script (K.taken out.old) (K.taken out.new) result }
     ensures write_fault { result ≡ Err ServingFault.WriteFault → Rose (K.faults out.old) (K.faults out.new) }
     ensures journal_fault { result ≡ Err ServingFault.JournalFault → run.now.outcome ≡ outcomes.JournalFault }
     ensures no_read_fault { result ≢ Err ServingFault.ReadFault }

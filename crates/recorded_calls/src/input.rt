@@ -1,12 +1,18 @@
-//! The program's input, read as a whole.
+//! The program's input, read as a whole, and as a script.
 
-ghost use Rattle.std.specs.Prelude.{◌≡◌, ℕ, ◌<◌, ◌≤◌, length, IfOk, OnOk};
+ghost use Rattle.std.specs.Prelude.{◌≡◌, ℕ, ◌<◌, ◌≤◌, length, Err, MatchResult, IfOk, OnOk};
 ghost use Rattle.outside.specs.Cause.{Rose};
 ghost use Rattle.outside.specs.Content.{told_before, IsSpent};
+ghost use Rattle.script_links.specs.Reading.{script_of_text};
+ghost use Rattle.script_links.specs.Sound.{MovesItsWorkers};
 ghost use Rattle.script_links.specs.TextLines.{most_script_bytes};
+ghost use Rattle.recorded_calls.specs.Recorded.{IsInputRead, EndsReading};
 ghost use Rattle.recorded_calls.specs.declared.input.InputError.TheVariants.{Failed as ReadFailed, NoMemory};
 
+use crate::fault::ServingFault;
 use outside::{Failed, Source};
+use script_links::laws::scripts_are_sound;
+use script_links::{Script, read_script};
 use std::alloc::{AllocError, Global};
 
 /// The longest script, in bytes.
@@ -40,8 +46,32 @@ impl From<Failed> for InputError {
     }
 }
 
+/// The script that an input is, for so many workers, and with lines of a schedule or without.
+///
+/// # Errors
+///
+/// NoScript exactly where the input is none, with its first fault; ReadFault only where the count of faults rose; and NoMemory.
+pub fn read_input<S: Source>(
+    alloc: Global,
+    input: &mut S,
+    workers: u32,
+    schedule: bool,
+) -> Result<Script, ServingFault>
+    requires { workers ≤ 8 }
+    ensures input { MatchResult result
+        (λ script. IsInputRead (script_of_text workers schedule) (S.left input.old) (S.left input.new) script)
+        (λ fault. EndsReading (script_of_text workers schedule) fault (S.left input.old)) }
+    ensures moves { IfOk result (λ script. MovesItsWorkers workers script) }
+    ensures fault { result ≡ Err ServingFault.ReadFault → Rose (S.faults input.old) (S.faults input.new) }
+{
+    scripts_are_sound();
+    let text = read_whole(alloc, input)?;
+    let script = read_script(alloc, text.as_slice(), workers, schedule)?;
+    Ok(script)
+}
+
 /// The bytes of a source up to its end, or more than the longest script has where the end isn't reached by then.
-pub(crate) fn read_whole<S: Source>(alloc: Global, source: &mut S) -> Result<Vec<u8>, InputError>
+fn read_whole<S: Source>(alloc: Global, source: &mut S) -> Result<Vec<u8>, InputError>
     ensures read { IfOk result (λ text. S.left source.old ≡ told_before text.items (S.left source.new)) }
     ensures whole { IfOk result (λ text. length text.items ≤ most_script_bytes → IsSpent (S.left source.new)) }
     ensures later { S.faults source.old ≤ S.faults source.new }

@@ -7,7 +7,8 @@ ghost use Rattle.script_model.specs.Rehearsal.{IsCallLine};
 ghost use Rattle.call_rules.specs.Desks.{IsDesk};
 ghost use Rattle.call_rules.specs.Entries.{CallEntry};
 ghost use Rattle.call_rules.specs.PlainCalls.{IsPlainCall};
-ghost use Rattle.recorded_calls.specs.Answered.{Answering, HasNone, IsReportOf, Streams};
+ghost use Rattle.recorded_calls.specs.Answered.{Answering, HasNone, IsReportOf};
+ghost use Rattle.recorded_calls.specs.Recorded.{Streams};
 ghost use Rattle.recorded_calls.specs.OneConnection.{ReportsRun};
 
 /// One input has one report, at one desk, by the same services, with one budget, as many workers and one line of an entry, where no connection of either run has

@@ -27,4 +27,5 @@ mod refusal;
 
 pub use answering::{Answered, answer_recorded};
 pub use fault::ServingFault;
+pub use input::read_input;
 pub use refusal::put_refused_script;

@@ -9,7 +9,8 @@ use Rattle.pair_binding.specs.declared.fault.BindFault.TheVariants as bind_fault
 use Rattle.pair_binding.specs.FirstRefusal.{IsFirstRefusal, OnRefusal}
 use Rattle.recorded_calls.specs.declared.fault.ServingFault.{ServingFault}
 use Rattle.recorded_calls.specs.declared.fault.ServingFault.TheVariants as serving_faults
-use Rattle.recorded_calls.specs.Answered.{Streams, MeansFault}
+use Rattle.recorded_calls.specs.Recorded.{Streams}
+use Rattle.recorded_calls.specs.Answered.{MeansFault}
 use Rattle.thrift_host.specs.declared.status.Status.{Status}
 use Rattle.thrift_host.specs.declared.rehearsing.RehearsalFault.{RehearsalFault}
 use Rattle.thrift_host.specs.declared.rehearsing.RehearsalFault.TheVariants as faults

@@ -4,7 +4,7 @@ use Rattle.outside.specs.Content.{told_more}
 use Rattle.outside.specs.Taken.{IsTakenInPart}
 use Rattle.outside.specs.Files.{File}
 use Rattle.idl_token.specs.declared.Place.{Place}
-use Rattle.recorded_calls.specs.Answered.{Streams}
+use Rattle.recorded_calls.specs.Recorded.{Streams}
 use Rattle.thrift_host.specs.declared.status.Status.{Status}
 use Rattle.thrift_host.specs.declared.status.Status.TheVariants.{Done, IdlRefused, FileFault, WriteFault, NoMemory}
 use Rattle.schema.specs.PlainSchema.{PlainSchema}

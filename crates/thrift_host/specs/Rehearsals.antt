@@ -13,7 +13,8 @@ use Rattle.pair_binding.specs.FirstRefusal.{IsFirstRefusal}
 use Rattle.pair_binding.specs.Refusals.{refused_pair_text}
 use Rattle.command_line.specs.Served.{PlainServed}
 use Rattle.script_links.specs.declared.fault.ScriptFault.{ScriptFault}
-use Rattle.recorded_calls.specs.Answered.{Answering, Streams, IsUnwritten, IsNoScript, IsReported, IsReportedInPart}
+use Rattle.recorded_calls.specs.Recorded.{Streams, IsUnwritten}
+use Rattle.recorded_calls.specs.Answered.{Answering, IsNoScript, IsReported, IsReportedInPart}
 use Rattle.recorded_calls.specs.Refusals.{refused_script_text}
 use Rattle.idl_schema.specs.Lines.{idl_refusal_text}
 use Rattle.idl_schema.specs.Verdicts.{accepted, IsIdlVerdict, IsUnreadIdl}

@@ -12,7 +12,8 @@ use Rattle.pair_binding.specs.declared.fault.BindFault.{BindFault}
 use Rattle.pair_binding.specs.declared.fault.BindFault.TheVariants as bind_faults
 use Rattle.pair_binding.specs.FirstRefusal.{IsFirstRefusal, OnRefusal}
 use Rattle.pair_binding.specs.Refusals.{refused_pair_text}
-use Rattle.recorded_calls.specs.Answered.{Streams, IsReported, MeansFault}
+use Rattle.recorded_calls.specs.Recorded.{Streams}
+use Rattle.recorded_calls.specs.Answered.{IsReported, MeansFault}
 use Rattle.recorded_calls.specs.Refusals.{refused_script_text}
 use Rattle.recorded_calls.specs.declared.fault.ServingFault.{ServingFault}
 use Rattle.recorded_calls.specs.declared.fault.ServingFault.TheVariants as serving_faults

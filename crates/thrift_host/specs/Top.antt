@@ -2,7 +2,7 @@
 use Rattle.std.specs.Prelude.{List, Option, Some}
 use Rattle.outside.specs.Files.{File}
 use Rattle.call_rules.specs.Handling.{ServiceState}
-use Rattle.recorded_calls.specs.Answered.{Streams}
+use Rattle.recorded_calls.specs.Recorded.{Streams}
 use Rattle.command_line.specs.Words.{PlainCommand, checks, rehearses}
 use Rattle.thrift_host.specs.declared.status.Status.{Status}
 use Rattle.thrift_host.specs.declared.status.Status.TheVariants.{Usage, NoMemory}

@@ -8,8 +8,7 @@ use Rattle.cell_core.proofs.outs.written.Goals as goal
 
 pub walk-init : goal.walk-init
 walk-init c =
-    ap (λ (marks : List Mark). rows_behind_all (map (λ row. row.items) c.in_ok-all.all.items) marks) c.marks-marks.ensures
-    ∙ rows_of_all (map (λ row. row.items) c.in_ok-all.all.items) c.args.tape.now.items c.args.count c.in_ok-all.ensures
+    rows_of_all (map (λ row. row.items) c.in_ok-all.all.items) c.args.marks c.args.count c.in_ok-all.ensures
 
 pub walk-preserved : goal.walk-preserved
 walk-preserved c =

@@ -5,7 +5,7 @@ use Rattle.cell_core.proofs.outs.written.Given as goal
 
 -- the rows so far, with what the marks that are left say, are what all marks say
 abbrev pub invariant-walk : goal.invariant-walk
-invariant-walk l = rows_behind_all (map (λ row. row.items) l.all.items) l.marks ≡ written_from l.tape.items 0 l.count
+invariant-walk l = rows_behind_all (map (λ row. row.items) l.all.items) l.marks ≡ written_from l.fn.marks 0 l.count
 
 abbrev pub decreases-walk : goal.decreases-walk
 decreases-walk l = length l.marks

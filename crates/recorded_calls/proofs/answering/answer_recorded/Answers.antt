@@ -1,5 +1,5 @@
-use Rattle.std.proofs.Common.{map, refl}
-use Rattle.recorded_calls.specs.Answered.{Answering}
+use Rattle.std.proofs.Common.{map}
+use Rattle.recorded_calls.specs.Answered.{Answering, IsRunOfScript, script_for}
 use Rattle.recorded_calls.proofs.Coming.{answered, unread, no_write_fault, no_journal_fault}
 use Rattle.recorded_calls.proofs.answering.answer_recorded.Goals as goal
 
@@ -14,7 +14,7 @@ returns-in-Ok-clause-means g c =
       line = g.L.EntryLine.line;
     })
     in
-    answered a c.in-Ok.script _ _ _ _ c.run_and_report.result.result (c.in-Ok.ensures.input a refl) c.run_and_report.ensures.reported
+    answered (script_for a) (IsRunOfScript a) a.line c.in-Ok.script _ _ _ _ c.run_and_report.result.result c.in-Ok.ensures.input c.run_and_report.ensures.reported
 
 pub returns-in-Err-clause-means : goal.returns-in-Err-clause-means
 returns-in-Err-clause-means g c =
@@ -27,7 +27,7 @@ returns-in-Err-clause-means g c =
       line = g.L.EntryLine.line;
     })
     in
-    unread a c.in-Err.fault _ _ _ (c.in-Err.ensures.input a refl)
+    unread (script_for a) (IsRunOfScript a) a.line c.in-Err.fault _ _ _ c.in-Err.ensures.input
 
 pub returns-in-Err-clause-write_fault : goal.returns-in-Err-clause-write_fault
 returns-in-Err-clause-write_fault g c is =
@@ -40,7 +40,7 @@ returns-in-Err-clause-write_fault g c is =
       line = g.L.EntryLine.line;
     })
     in
-    no_write_fault a c.in-Err.fault _ (c.in-Err.ensures.input a refl) is
+    no_write_fault (script_for a) c.in-Err.fault _ c.in-Err.ensures.input is
 
 pub returns-in-Err-clause-journal_fault : goal.returns-in-Err-clause-journal_fault
 returns-in-Err-clause-journal_fault g c is =
@@ -53,4 +53,4 @@ returns-in-Err-clause-journal_fault g c is =
       line = g.L.EntryLine.line;
     })
     in
-    no_journal_fault a c.in-Err.fault _ (c.in-Err.ensures.input a refl) is
+    no_journal_fault (script_for a) c.in-Err.fault _ c.in-Err.ensures.input is

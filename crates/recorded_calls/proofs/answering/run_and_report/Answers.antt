@@ -15,6 +15,6 @@ returns-clause-reported g c =
     })
     in
     let small : a.desk.max_frame < 2 ^ 31 = omega (arith, c.requires.longest, c.requires.within, c.requires.budget) in
-    c.report_run-result.ensures.reported a c.args.script.now refl
+    c.report_run-result.ensures.reported a c.args.script.now
     (λ all entries told. ran_script a c.args.script.now _ _ _ entries (map g.H.Handler.service c.rehearse-run.result.handlers.items) small told
     c.rehearse-run.ensures.run (c.rehearse-run.ensures.all all))

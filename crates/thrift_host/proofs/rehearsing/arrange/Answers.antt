@@ -3,7 +3,8 @@ use Rattle.processor.specs.Bound.{bound_names}
 use Rattle.processor.specs.Offices.{plain_office}
 use Rattle.schema.specs.SchemaOf.{schema_of}
 use Rattle.command_line.specs.Answering.{plain_served}
-use Rattle.recorded_calls.specs.Answered.{Streams, IsReported, MeansFault}
+use Rattle.recorded_calls.specs.Recorded.{Streams}
+use Rattle.recorded_calls.specs.Answered.{IsReported, MeansFault}
 use Rattle.thrift_host.specs.Rehearsals.{AskedRehearsal, IsArranged}
 use Rattle.thrift_host.proofs.Told.{at_office}
 use Rattle.thrift_host.proofs.rehearsing.arrange.Goals as goal

@@ -1,0 +1,4 @@
+pub mod Lending
+pub mod Pieces
+pub mod Served
+pub mod Sizes
