@@ -1,0 +1,7 @@
+use Rattle.std.proofs.Common.{◌≡◌, ◌++◌, map, replicate}
+use Rattle.rehearsal_model.specs.ScriptLines.{opening}
+use Rattle.script_links.specs.Plans.{plain_line}
+use Rattle.workload.proofs.lines.put_openings.Given as goal
+
+abbrev pub invariant-loop : goal.invariant-loop
+invariant-loop l = map plain_line l.into.items ≡ map plain_line l.fn.into.items ++ replicate l.counter opening

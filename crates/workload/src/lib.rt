@@ -1,0 +1,27 @@
+//! A large script that is made from a seed: calls of the tutorial's calculator on up to eight connections. And the summary of
+//! a run of it: how many frames there were, how many bytes were read and written, and the sum of the answers.
+//!
+//! ```rust
+//! let script = generate(alloc, 1, 1000)?;
+//! let (bytes_in, bytes_out) = (bytes_read(&tape), bytes_written(&tape));
+//! let summary = Summary { connections: 8, frames: 1000, calls, bytes_in, bytes_out, sum: sum_of_answers(journal) };
+//! let text = print_summary(alloc, &summary)?;
+//! ```
+#![tactic(auto)]
+
+pub mod examples;
+mod frames;
+pub mod laws;
+mod lines;
+mod making;
+mod streams;
+mod summary;
+mod traffic;
+
+pub use making::generate;
+pub use streams::connections_of;
+pub use summary::{Summary, print_summary, sum_of_answers};
+pub use traffic::{bytes_read, bytes_written};
+
+#[cfg(test)]
+mod tests;
