@@ -1,0 +1,122 @@
+//! One script, served over links of it and rehearsed.
+
+ghost use Rattle.std.specs.Prelude.{◌≡◌, ◌≤◌, IfSome, length};
+ghost use Rattle.script_links.specs.Sound.{MovesItsWorkers};
+
+use crate::desk::{ByteDesk, LIMITS};
+use crate::journal::KeyJournal;
+use cell_core::{Rehearsed, rehearse};
+use host_loop::{Served, serve};
+use house_handlers::Mirror;
+use outside::{Cursor, EmptyGate, MarkAt};
+use script_links::laws::scripts_are_sound;
+use script_links::{Script, read_script};
+use script_serving::ScriptLinks;
+use std::alloc::Global;
+use std::sync::Wait;
+use std::thread::Threads;
+
+/// No run has as many marks.
+const MOST_MARKS: u32 = 10_000;
+
+/// What serving a script has left.
+#[derive(Drop)]
+pub(crate) struct Run {
+    pub links: ScriptLinks,
+    pub served: Served<Mirror, KeyJournal>,
+}
+
+/// One mirror.
+pub(crate) fn one_mirror(alloc: Global) -> Option<Vec<Mirror>>
+    ensures { IfSome result (λ handlers. length handlers.items ≡ 1) }
+{
+    vec![in alloc; Mirror::new()].ok()
+}
+
+/// The script that a text is.
+pub(crate) fn script_of(alloc: Global, text: &[u8]) -> Option<Script>
+    ensures { IfSome result (λ script. MovesItsWorkers 0 script) }
+{
+    scripts_are_sound();
+    match read_script(alloc, text, 0, true) {
+        Ok(script) => Some(script),
+        Err(_) => None,
+    }
+}
+
+/// Serves a script with so many workers, where the journal fails at this append.
+pub(crate) fn served<R: Threads + Wait + Sync>(
+    rt: &R,
+    alloc: Global,
+    text: &[u8],
+    workers: u32,
+    fails_at: usize,
+) -> Option<Run>
+    requires { workers ≤ 8 }
+{
+    let mut links = ScriptLinks::new(alloc, script_of(alloc, text)?).ok()?;
+    let served = serve(
+        rt,
+        alloc,
+        &mut links,
+        &ByteDesk {},
+        one_mirror(alloc)?,
+        KeyJournal::new(alloc, fails_at),
+        workers,
+        &EmptyGate,
+        LIMITS,
+    );
+    Some(Run { links, served })
+}
+
+/// Rehearses a script without workers, where the journal fails at this append.
+pub(crate) fn rehearsed(
+    alloc: Global,
+    text: &[u8],
+    fails_at: usize,
+) -> Option<Rehearsed<Mirror, KeyJournal>> {
+    let script = script_of(alloc, text)?;
+    let handlers = one_mirror(alloc)?;
+    let journal = KeyJournal::new(alloc, fails_at);
+    Some(rehearse(alloc, &script, &ByteDesk {}, handlers, journal, 0, LIMITS))
+}
+
+/// What a mark is: its kind, its connection, and the bytes that it has.
+fn parts<'a>(mark: MarkAt<'a>) -> (u8, u32, &'a [u8]) {
+    match mark {
+        MarkAt::Opened(c) => (b'o', c, b"".as_slice()),
+        MarkAt::Read(c, bytes) => (b'r', c, bytes),
+        MarkAt::Ended(c) => (b'e', c, b"".as_slice()),
+        MarkAt::Wrote(c, bytes) => (b'w', c, bytes),
+        MarkAt::ReadFailed(c) => (b'f', c, b"".as_slice()),
+        MarkAt::WriteFailed(c) => (b'g', c, b"".as_slice()),
+        MarkAt::Closed(c) => (b'c', c, b"".as_slice()),
+    }
+}
+
+/// The next mark of a connection.
+fn next_of<'a>(marks: &mut Cursor<'a>, c: u32) -> Option<(u8, u32, &'a [u8])> {
+    for _ in 0..MOST_MARKS {
+        let mark = parts(marks.next()?);
+        if mark.1 == c {
+            return Some(mark);
+        }
+    }
+    None
+}
+
+/// Whether a connection has the same marks on both tapes.
+pub(crate) fn has_same_marks<'a>(mut marks: Cursor<'a>, mut others: Cursor<'a>, c: u32) -> bool {
+    for _ in 0..MOST_MARKS {
+        match (next_of(&mut marks, c), next_of(&mut others, c)) {
+            (None, None) => return true,
+            (Some(mark), Some(other)) => {
+                if mark != other {
+                    return false;
+                }
+            }
+            _ => return false,
+        }
+    }
+    false
+}
