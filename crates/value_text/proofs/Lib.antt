@@ -1,3 +1,4 @@
+pub mod Appended
 pub mod Choices
 pub mod ContainersAgain
 pub mod ContainersFound
@@ -13,3 +14,4 @@ pub mod RowSteps
 pub mod Shows
 pub mod TextsAgain
 pub mod TextsFound
+pub mod ValueTexts

@@ -1,8 +1,11 @@
-use Rattle.std.proofs.Common.{◌++◌, codes, map, sym, arith}
+use Rattle.std.proofs.Common.{to_z, of_z, FitsSigned, ◌++◌, ◌∙◌, codes, map, sym, arith, rules}
+use Rattle.std.specs.Int.{w8, w16, w32, w64, w128}
+use Rattle.std.proofs.lemmas.Int.{to_z-of_z}
 use Rattle.std.specs.List.{flat_map}
 use Rattle.thrift_value.specs.TreeOf.{tree_of, field_tree, pair_tree, field_trees, item_trees, pair_trees}
 use Rattle.value_text.specs.ValueText.{tag_word, number_and_letter, tree_text, listed_fields, listed_items, listed_pairs}
 use Rattle.value_text.proofs.Handed.{goes_on, hands_more, breaks, breaks_last, both_handed, hands_same, next_handed, next_fails, first_handed, next_field, next_item, next_pair, fields_begin, items_begin, pairs_begin}
+use Rattle.value_text.proofs.ValueTexts.{bool_text, i8_text, i16_text, i32_text, i64_text, bits_text, bytes_text, struct_text, map_text, set_text, list_text, map_opened, list_opened}
 use Rattle.value_text.proofs.spelling.+value_speller.Goals as goal
 
 pub spell_struct-returns-in_err-hand_over : goal.spell_struct-returns-in_err-hand_over
@@ -177,3 +180,69 @@ spell_pairs-returns-in_err-spell_mapped-2 g t c =
     (goes_on (g.K.Sink.taken c.loop-key.out) (g.K.Sink.taken c.spell_next_item.new.out) (g.K.Sink.taken c.spell_mapped-in-loop-key.new.out) (g.K.Sink.faults c.loop-key.out) (g.K.Sink.faults c.spell_next_item.new.out) (g.K.Sink.faults c.spell_mapped-in-loop-key.new.out) (codes "," ++ tree_text (tree_of c.loop-key-item.result.0)) (codes "=" ++ tree_text (tree_of c.loop-key-item.result.1)) c.from_residual-in_err-spell_mapped-2.result
     (c.in_ok-spell_next_item.ensures {u = tt})
     (breaks_last (g.K.Sink.taken c.spell_next_item.new.out) (g.K.Sink.taken c.spell_mapped-in-loop-key.new.out) (g.K.Sink.faults c.spell_next_item.new.out) (g.K.Sink.faults c.spell_mapped-in-loop-key.new.out) (codes "=" ++ tree_text (tree_of c.loop-key-item.result.1)) c.from_residual-in_err-spell_mapped-2.result c.from_residual-in_err-spell_mapped-2.ensures.0 (c.in_err-spell_mapped-2.ensures {u = tt})))
+
+pub spell_value-returns-in-Bool : goal.spell_value-returns-in-Bool
+spell_value-returns-in-Bool g t c =
+    hands_same (g.K.Sink.taken c.args.out.now) (g.K.Sink.taken c.spell_bool.new.out) (g.K.Sink.faults c.args.out.now) (g.K.Sink.faults c.spell_bool.new.out) _ (tree_text (tree_of c.args.value.now)) c.spell_bool.result
+    (bool_text c.args.value.now c.in-Bool.truth c.in-Bool.is) c.spell_bool.ensures
+
+pub spell_value-returns-in-I8 : goal.spell_value-returns-in-I8
+spell_value-returns-in-I8 g t c =
+    let fits : FitsSigned w8 c.in-I8.n = search rules in
+    let wide : FitsSigned w128 c.from.result = search rules in
+    hands_same (g.K.Sink.taken c.args.out.now) (g.K.Sink.taken c.spell_number.new.out) (g.K.Sink.faults c.args.out.now) (g.K.Sink.faults c.spell_number.new.out) _ (tree_text (tree_of c.args.value.now)) c.spell_number.result
+    (i8_text c.args.value.now c.in-I8.n (to_z w128 (of_z w128 c.from.result)) c.in-I8.is (to_z-of_z w128 c.from.result wide ∙ c.from.ensures ∙ to_z-of_z w8 c.in-I8.n fits)) c.spell_number.ensures
+
+pub spell_value-returns-in-I16 : goal.spell_value-returns-in-I16
+spell_value-returns-in-I16 g t c =
+    let fits : FitsSigned w16 c.in-I16.n = search rules in
+    let wide : FitsSigned w128 c.from-in-I16.result = search rules in
+    hands_same (g.K.Sink.taken c.args.out.now) (g.K.Sink.taken c.spell_number-in-I16.new.out) (g.K.Sink.faults c.args.out.now) (g.K.Sink.faults c.spell_number-in-I16.new.out) _ (tree_text (tree_of c.args.value.now)) c.spell_number-in-I16.result
+    (i16_text c.args.value.now c.in-I16.n (to_z w128 (of_z w128 c.from-in-I16.result)) c.in-I16.is (to_z-of_z w128 c.from-in-I16.result wide ∙ c.from-in-I16.ensures ∙ to_z-of_z w16 c.in-I16.n fits)) c.spell_number-in-I16.ensures
+
+pub spell_value-returns-in-I32 : goal.spell_value-returns-in-I32
+spell_value-returns-in-I32 g t c =
+    let fits : FitsSigned w32 c.in-I32.n = search rules in
+    let wide : FitsSigned w128 c.from-in-I32.result = search rules in
+    hands_same (g.K.Sink.taken c.args.out.now) (g.K.Sink.taken c.spell_number-in-I32.new.out) (g.K.Sink.faults c.args.out.now) (g.K.Sink.faults c.spell_number-in-I32.new.out) _ (tree_text (tree_of c.args.value.now)) c.spell_number-in-I32.result
+    (i32_text c.args.value.now c.in-I32.n (to_z w128 (of_z w128 c.from-in-I32.result)) c.in-I32.is (to_z-of_z w128 c.from-in-I32.result wide ∙ c.from-in-I32.ensures ∙ to_z-of_z w32 c.in-I32.n fits)) c.spell_number-in-I32.ensures
+
+pub spell_value-returns-in-I64 : goal.spell_value-returns-in-I64
+spell_value-returns-in-I64 g t c =
+    let fits : FitsSigned w64 c.in-I64.n = search rules in
+    let wide : FitsSigned w128 c.from-in-I64.result = search rules in
+    hands_same (g.K.Sink.taken c.args.out.now) (g.K.Sink.taken c.spell_number-in-I64.new.out) (g.K.Sink.faults c.args.out.now) (g.K.Sink.faults c.spell_number-in-I64.new.out) _ (tree_text (tree_of c.args.value.now)) c.spell_number-in-I64.result
+    (i64_text c.args.value.now c.in-I64.n (to_z w128 (of_z w128 c.from-in-I64.result)) c.in-I64.is (to_z-of_z w128 c.from-in-I64.result wide ∙ c.from-in-I64.ensures ∙ to_z-of_z w64 c.in-I64.n fits)) c.spell_number-in-I64.ensures
+
+pub spell_value-returns-in-Double : goal.spell_value-returns-in-Double
+spell_value-returns-in-Double g t c =
+    hands_same (g.K.Sink.taken c.args.out.now) (g.K.Sink.taken c.spell_double.new.out) (g.K.Sink.faults c.args.out.now) (g.K.Sink.faults c.spell_double.new.out) _ (tree_text (tree_of c.args.value.now)) c.spell_double.result
+    (bits_text c.args.value.now c.in-Double.bits c.in-Double.is) c.spell_double.ensures
+
+pub spell_value-returns-in-Bytes : goal.spell_value-returns-in-Bytes
+spell_value-returns-in-Bytes g t c =
+    hands_same (g.K.Sink.taken c.args.out.now) (g.K.Sink.taken c.spell_quoted.new.out) (g.K.Sink.faults c.args.out.now) (g.K.Sink.faults c.spell_quoted.new.out) _ (tree_text (tree_of c.args.value.now)) c.spell_quoted.result
+    (bytes_text c.args.value.now c.in-Bytes.text c.as_slice.result.now c.in-Bytes.is c.as_slice.ensures) c.spell_quoted.ensures
+
+pub spell_value-returns-in-Struct : goal.spell_value-returns-in-Struct
+spell_value-returns-in-Struct g t c =
+    hands_same (g.K.Sink.taken c.args.out.now) (g.K.Sink.taken c.spell_struct.new.out) (g.K.Sink.faults c.args.out.now) (g.K.Sink.faults c.spell_struct.new.out) _ (tree_text (tree_of c.args.value.now)) c.spell_struct.result
+    (struct_text c.args.value.now c.in-Struct.fields c.as_slice-in-Struct.result.now c.in-Struct.is c.as_slice-in-Struct.ensures) c.spell_struct.ensures
+
+pub spell_value-returns-in-Map : goal.spell_value-returns-in-Map
+spell_value-returns-in-Map g t c =
+    hands_same (g.K.Sink.taken c.args.out.now) (g.K.Sink.taken c.spell_map.new.out) (g.K.Sink.faults c.args.out.now) (g.K.Sink.faults c.spell_map.new.out) _ (tree_text (tree_of c.args.value.now)) c.spell_map.result
+    (map_opened (tag_word c.in-Map.key) (tag_word c.in-Map.value) (listed_pairs (pair_trees (map pair_tree c.as_slice-in-Map.result.now)) ++ codes "}")
+    ∙ map_text c.args.value.now c.in-Map.key c.in-Map.value c.in-Map.pairs c.as_slice-in-Map.result.now c.in-Map.is c.as_slice-in-Map.ensures) c.spell_map.ensures
+
+pub spell_value-returns-in-Set : goal.spell_value-returns-in-Set
+spell_value-returns-in-Set g t c =
+    hands_same (g.K.Sink.taken c.args.out.now) (g.K.Sink.taken c.spell_collection.new.out) (g.K.Sink.faults c.args.out.now) (g.K.Sink.faults c.spell_collection.new.out) _ (tree_text (tree_of c.args.value.now)) c.spell_collection.result
+    (list_opened (codes "set<") (tag_word c.in-Set.element) (listed_items (item_trees (map tree_of c.as_slice-in-Set.result.now)) ++ codes "]")
+    ∙ set_text c.args.value.now c.in-Set.element c.in-Set.items c.as_slice-in-Set.result.now c.in-Set.is c.as_slice-in-Set.ensures) c.spell_collection.ensures
+
+pub spell_value-returns-in-List : goal.spell_value-returns-in-List
+spell_value-returns-in-List g t c =
+    hands_same (g.K.Sink.taken c.args.out.now) (g.K.Sink.taken c.spell_collection-in-List.new.out) (g.K.Sink.faults c.args.out.now) (g.K.Sink.faults c.spell_collection-in-List.new.out) _ (tree_text (tree_of c.args.value.now)) c.spell_collection-in-List.result
+    (list_opened (codes "list<") (tag_word c.in-List.element) (listed_items (item_trees (map tree_of c.as_slice-in-List.result.now)) ++ codes "]")
+    ∙ list_text c.args.value.now c.in-List.element c.in-List.items c.as_slice-in-List.result.now c.in-List.is c.as_slice-in-List.ensures) c.spell_collection-in-List.ensures
