@@ -44,6 +44,7 @@ pub(crate) fn begin_file<F: Files>(
         (load_stage (F.files files.new) (F.faults files.new) begun.new.items) (file_left (suc levels) above name.now begun.old.items)
         (λ wanted. includes_left levels (name.now ∷ above) name.now (length begun.old.items) (wanted_in wanted.items) begun.new.items) }
     ensures one_more { OnOk result (length begun.new.items ≡ suc (length begun.old.items)) }
+    ensures sinks { F.sink_faults files.new ≡ F.sink_faults files.old }
 {
     a_document_declares_what_its_tree_does();
     if begun.len() >= MAX_FILES {

@@ -26,6 +26,7 @@ pub(crate) fn read_file<F: Files>(
     ensures failed { IfErr result (IsUnreadAt (F.files files.old) name.now) }
     ensures text { IfOk result IsOfSomeText }
     ensures same { F.files files.new ≡ F.files files.old }
+    ensures sinks { F.sink_faults files.new ≡ F.sink_faults files.old }
     ensures later { F.faults files.old ≤ F.faults files.new }
     ensures rose { IfErr result (λ stop. is_unread stop ≡ true → Rose (F.faults files.old) (F.faults files.new)) }
     ensures outer { IfErr result (λ stop. is_wrong_want stop ≡ false) }

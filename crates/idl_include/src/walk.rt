@@ -32,6 +32,7 @@ pub fn load<F: Files>(alloc: Global, files: &mut F, main: &str) -> Result<Source
     ensures sound { IfOk result (λ sources. AreFiles (sources_in sources)) }
     ensures read { IfErr result (λ fault. is_file fault.kind ≡ true → IsReadFault (F.files files.old) main.now fault) }
     ensures same { F.files files.new ≡ F.files files.old }
+    ensures sinks { F.sink_faults files.new ≡ F.sink_faults files.old }
     ensures later { F.faults files.old ≤ F.faults files.new }
     ensures rose { IfErr result (λ fault. is_file fault.kind ≡ true → Rose (F.faults files.old) (F.faults files.new)) }
     ensures outer { IfErr result (λ fault. is_inner_want fault.kind ≡ false) }
@@ -63,6 +64,7 @@ fn load_file<F: Files>(
         (file_left levels above.old.items name.now begun.old.items) (λ _. all_loaded begun.new.items) }
     ensures above { OnOk result (above.new.items ≡ above.old.items) }
     ensures more { OnOk result (length begun.old.items < length begun.new.items) }
+    ensures sinks { F.sink_faults files.new ≡ F.sink_faults files.old }
 {
     if levels == 0 {
         return Err(stop_at(alloc, name, NOWHERE, LoadKind::TooMany));
@@ -98,6 +100,7 @@ fn open<F: Files>(
         (λ wanted. includes_left levels above.new.items name.now (length begun.old.items) (wanted_in wanted.items) begun.new.items) }
     ensures above { OnOk result (above.new.items ≡ name.now ∷ above.old.items) }
     ensures one_more { OnOk result (length begun.new.items ≡ suc (length begun.old.items)) }
+    ensures sinks { F.sink_faults files.new ≡ F.sink_faults files.old }
 {
     let wanted = begin_file(alloc, files, begun, name)?;
     put_above(alloc, above, name)?;
@@ -131,6 +134,7 @@ fn follow_all<F: Files>(
         (load_stage (F.files files.new) (F.faults files.new) begun.new.items)
         (includes_left levels above.old.items file.now of (wanted_in wanted.now) begun.old.items) (λ _. all_loaded begun.new.items) }
     ensures above { OnOk result (above.new.items ≡ above.old.items) }
+    ensures sinks { F.sink_faults files.new ≡ F.sink_faults files.old }
 {
     for one in wanted {
         follow(alloc, files, begun, above, file, of, one, levels)?;
@@ -156,6 +160,7 @@ fn follow<F: Files>(
         (load_stage (F.files files.new) (F.faults files.new) begun.new.items)
         (include_left levels above.old.items file.now of (written_in wanted.now) begun.old.items) (λ _. all_loaded begun.new.items) }
     ensures above { OnOk result (above.new.items ≡ above.old.items) }
+    ensures sinks { F.sink_faults files.new ≡ F.sink_faults files.old }
 {
     let meaning = include_meaning(alloc, begun.as_slice(), above, file, wanted)?;
     match meaning {

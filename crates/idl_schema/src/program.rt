@@ -34,6 +34,7 @@ pub fn program_text<F: Files>(alloc: Global, files: &mut F, idl: &str) -> Result
     ensures text { MatchResult result (λ text. IsSchemaTextOf (F.files files.old) idl.now text.items)
         (TellsWhy (IsIdlVerdict (F.files files.old) idl.now) (IsUnreadIdl (F.files files.old) idl.now)) }
     ensures same { F.files files.new ≡ F.files files.old }
+    ensures sinks { F.sink_faults files.new ≡ F.sink_faults files.old }
     ensures later { F.faults files.old ≤ F.faults files.new }
     ensures rose { IfErr result (λ reason. is_file_fault reason ≡ true → Rose (F.faults files.old) (F.faults files.new)) }
 {
@@ -49,6 +50,7 @@ pub fn program_text<F: Files>(alloc: Global, files: &mut F, idl: &str) -> Result
 pub fn program_schema<F: Files>(alloc: Global, files: &mut F, idl: &str) -> Result<Schema, NoSchema>
     ensures schema { TellsSchema (IsIdlVerdict (F.files files.old) idl.now) (IsUnreadIdl (F.files files.old) idl.now) result }
     ensures same { F.files files.new ≡ F.files files.old }
+    ensures sinks { F.sink_faults files.new ≡ F.sink_faults files.old }
     ensures later { F.faults files.old ≤ F.faults files.new }
     ensures rose { IfErr result (λ reason. is_file_fault reason ≡ true → Rose (F.faults files.old) (F.faults files.new)) }
 {
@@ -76,6 +78,7 @@ fn tutorial_schema(alloc: Global) -> Result<Schema, NoSchema>
 fn schema_among<F: Files>(alloc: Global, files: &mut F, main: &str) -> Result<Schema, NoSchema>
     ensures schema { TellsSchema (IsVerdictTold (F.files files.old) main.now) (StopsAtRead (F.files files.old) main.now) result }
     ensures same { F.files files.new ≡ F.files files.old }
+    ensures sinks { F.sink_faults files.new ≡ F.sink_faults files.old }
     ensures later { F.faults files.old ≤ F.faults files.new }
     ensures rose { IfErr result (λ reason. is_file_fault reason ≡ true → Rose (F.faults files.old) (F.faults files.new)) }
 {

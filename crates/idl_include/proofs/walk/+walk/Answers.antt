@@ -44,13 +44,14 @@ load_file-returns-clause-more g t c =
 pub follow_all-loop-one-init : goal.follow_all-loop-one-init
 follow_all-loop-one-init g t c =
     let begun : AreBegun c.args.begun.now.items = search rules in
-    record { goes = goes_none _ _ begun; above = refl }
+    record { goes = goes_none _ _ begun; above = refl; sinks = refl }
 
 pub follow_all-loop-one-preserved : goal.follow_all-loop-one-preserved
 follow_all-loop-one-preserved g t c = record {
   goes = followed_goes c.args.levels c.args.above.now.items c.loop-one.above.items c.args.file.now c.args.of c.args.wanted.now c.loop-one.one-index c.one-item.result _ _ _ _
       c.loop-one-test.true c.one-item.is c.loop-one.invariant.above c.loop-one.invariant.goes c.in_ok-follow.ensures.steps;
   above = c.in_ok-follow.ensures.above ∙ c.loop-one.invariant.above;
+  sinks = c.in_ok-follow.ensures.sinks ∙ c.loop-one.invariant.sinks;
 }
 
 pub follow_all-returns-in_err-follow-clause-steps : goal.follow_all-returns-in_err-follow-clause-steps

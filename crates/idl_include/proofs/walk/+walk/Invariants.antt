@@ -21,4 +21,5 @@ invariant-follow_all-loop-one g l = record {
       (includes_left l.levels l.fn.above.items l.file l.of (wanted_in l.wanted) l.fn.begun.items)
       (includes_left l.levels l.fn.above.items l.file l.of (wanted_in (drop l.one-index l.wanted)) l.begun.items);
   above : l.above.items ≡ l.fn.above.items;
+  sinks : g.F.Files.sink_faults l.files ≡ g.F.Files.sink_faults l.fn.files;
 }
