@@ -9,8 +9,12 @@ use call_rules::{Desk, Handler, Journal};
 use conn_table::Outcome;
 use hall_core::Hall;
 use hall_pool::Turn;
-use outside::{Gate, Links};
+use outside::{Bell, Gate, Links};
 use std::sync::Wait;
+
+/// So many outcomes are collected in a round, at most. A client that sends one call behind the other hands over the next one with each outcome, and without
+/// a bound would keep all others waiting until it pauses.
+const MOST_OUTCOMES: u32 = 64;
 
 impl<H: Handler, J: Journal> Serving<Hall<H, J>> {
     /// Makes one turn with the loop's own worker.
@@ -92,7 +96,8 @@ impl<H: Handler, J: Journal> Serving<Hall<H, J>> {
         Ok(true)
     }
 
-    /// Collects outcomes until there is none. Where no other worker runs, a turn comes before each.
+    /// Collects outcomes until there is none, or until the most of a round were collected: then it rings the bell, so that the links don't wait when they
+    /// are asked what is next, and the rest is collected behind that. Where no other worker runs, a turn comes before each.
     pub(crate) fn collect_all<L: Links, D: Desk, G: Gate, R: Wait>(
         &mut self,
         rt: &R,
@@ -104,14 +109,15 @@ impl<H: Handler, J: Journal> Serving<Hall<H, J>> {
         ensures halted { IfErr result (λ why. IsHalted (D.meaning run.now.desk.now) run.now.limits run.now.booth.now (L.state run.now.first.value) (L.state links.new) self.new.conns self.new.seat self.new.own why) }
         ensures plan { L.plan links.new ≡ L.plan links.old }
     {
-        for _ in rt.forever() {
+        for _ in 0..MOST_OUTCOMES {
             match self.collect_next(rt, run, links) {
                 Ok(true) => {}
                 Ok(false) => return Ok(()),
                 Err(why) => return Err(why),
             }
         }
-        unreachable!()
+        run.bell.ring(rt);
+        Ok(())
     }
 
     /// The same, where no other worker runs and something is owed.

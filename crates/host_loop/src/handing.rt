@@ -16,7 +16,7 @@ use seat_booth::Object;
 use std::sync::Wait;
 
 /// Rings the door, where workers wait at it. It answers whether there was memory for the ring.
-fn announce<O: Object, D, G, L, R: Wait>(rt: &R, run: &Run<O, D, G, L>) -> bool {
+fn announce<O: Object, D, G, L: Links, R: Wait>(rt: &R, run: &Run<O, D, G, L>) -> bool {
     if run.crewed {
         return run.door.ring(rt).is_ok();
     }

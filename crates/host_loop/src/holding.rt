@@ -169,7 +169,8 @@ impl<H: Handler, J: Journal> Serving<Hall<H, J>> {
         }
     }
 
-    /// Admits frames that are held as long as there is room for any. It answers whether one is held.
+    /// Admits frames that are held as long as there is room for any. Each look that goes on takes one of them out, and none comes back before an outcome of its
+    /// connection is collected, so it ends. It answers whether one is held.
     pub(crate) fn relieve_all<L: Links, D: Desk, G, R: Wait>(
         &mut self,
         rt: &R,

@@ -4,13 +4,14 @@ use crate::buffer::Buffer;
 use conn_table::Limits;
 use hall_pool::{Door, Worker};
 use link_loop::LoopConnections;
+use outside::Links;
 use seat_booth::{Booth, Object, Seat};
 use std::alloc::Global;
 use std::snapshot::Snapshot;
 
 /// What a loop stands on, and doesn't change.
 #[derive(Drop)]
-pub(crate) struct Run<'a, O: Object, D, G, L> {
+pub(crate) struct Run<'a, O: Object, D, G, L: Links> {
     pub alloc: Global,
     /// The booth round the hall.
     pub booth: &'a Booth<O>,
@@ -18,6 +19,8 @@ pub(crate) struct Run<'a, O: Object, D, G, L> {
     pub gate: &'a G,
     /// The door at which workers wait.
     pub door: &'a Door,
+    /// The bell of the links, which the loop itself rings where it leaves outcomes for later.
+    pub bell: &'a L::Bell,
     /// The links as they came in.
     pub first: Snapshot<L>,
     pub limits: Limits,

@@ -9,16 +9,16 @@ use call_rules::{Desk, Handler, Journal};
 use conn_table::{Limits, Outcome};
 use hall_core::Hall;
 use hall_crew::{Workplace, with_crew};
-use outside::{Bell, Gate, Links};
+use outside::{Gate, Links};
 use seat_booth::Seat;
 use std::snapshot::Snapshot;
 use std::sync::Wait;
 use std::thread::Threads;
 
 /// The loop, beside so many workers that were started. What it holds comes back, and how it came out.
-fn lead<L: Links, D: Desk, G: Gate, B, H: Handler, J: Journal, R: Wait>(
+fn lead<L: Links, D: Desk, G: Gate, H: Handler, J: Journal, R: Wait>(
     rt: &R,
-    place: &Workplace<Hall<H, J>, D, G, B>,
+    place: &Workplace<Hall<H, J>, D, G, L::Bell>,
     links: &mut L,
     serving: Serving<Hall<H, J>>,
     limits: Limits,
@@ -35,6 +35,7 @@ fn lead<L: Links, D: Desk, G: Gate, B, H: Handler, J: Journal, R: Wait>(
         desk: place.desk,
         gate: place.gate,
         door: place.door,
+        bell: place.bell,
         first: Snapshot::of(links),
         limits,
         crewed: started > 0,
@@ -48,13 +49,12 @@ pub(crate) fn lead_crew<
     L: Links,
     D: Desk + Sync,
     G: Gate + Sync,
-    B: Bell,
     H: Handler,
     J: Journal + Send,
     R: Threads + Wait + Sync,
 >(
     rt: &R,
-    place: &Workplace<Hall<H, J>, D, G, B>,
+    place: &Workplace<Hall<H, J>, D, G, L::Bell>,
     links: &mut L,
     serving: Serving<Hall<H, J>>,
     crew: Vec<Seat<Hall<H, J>>>,

@@ -77,8 +77,8 @@ impl<H: Handler, J: Journal> Serving<Hall<H, J>> {
         }
     }
 
-    /// One round. Outcomes are collected where no worker runs, and frames that are held are looked at; where that has moved nothing, the
-    /// links are asked what is next, and it is done.
+    /// One round. Outcomes are collected where no worker runs, and frames that are held are looked at; where that look has moved nothing, the
+    /// links are asked what is next, and it is done. So where no worker runs and they are asked, no job is left, or the bell was rung.
     fn round<L: Links, D: Desk, G: Gate, R: Wait>(
         &mut self,
         rt: &R,

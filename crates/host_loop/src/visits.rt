@@ -151,7 +151,8 @@ impl<H: Handler, J: Journal> Serving<Hall<H, J>> {
         Ok(false)
     }
 
-    /// Makes the moves of a connection, as long as it has any.
+    /// Makes the moves of a connection, as long as it has any: at most what is left of a reply and one frame, since it waits for the outcome of a payload that
+    /// was submitted.
     pub(crate) fn visit<L: Links, D: Desk, G, R: Wait>(
         &mut self,
         rt: &R,

@@ -1,4 +1,4 @@
-//! Serving, run: scripts of several connections beside their rehearsal, with workers and without, and a client over loopback.
+//! Serving, run: scripts of several connections beside their rehearsal, with workers and without, a client that doesn't pause, and one over loopback.
 #![tactic(auto)]
 
 #[cfg(test)]
@@ -7,6 +7,8 @@ mod desk;
 mod journal;
 #[cfg(test)]
 mod loopback;
+#[cfg(test)]
+mod pipelining;
 #[cfg(test)]
 mod running;
 #[cfg(test)]
