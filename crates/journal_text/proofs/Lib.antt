@@ -4,5 +4,6 @@ pub mod EntryPlaces
 mod HandedOn
 pub mod Handing
 pub mod OneLine
+pub mod Sent
 mod Walks
 pub mod Written

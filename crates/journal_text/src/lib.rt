@@ -15,6 +15,7 @@
 
 mod appended;
 mod buffered;
+pub mod crossing;
 mod laws;
 mod list_journal;
 mod printing;

@@ -1,3 +1,4 @@
 pub mod Entries
 pub mod Written
 pub mod Pieces
+pub mod Summary

@@ -9,14 +9,18 @@
 //! write_report::<TextLines, K>(alloc, output, &tape, journal.entries(), &[EndCause::End], &written)?;
 //! ```
 //!
-//! What the report of a run is stands in `host_model` (`report`).
+//! Of what is served at a port a summary is written: `write_listening` once connections are awaited, and at the end `write_summary`.
+//!
+//! What the report of a run is stands in `host_model` (`report`), what a summary is in `specs/Summary.antt`.
 #![tactic(auto)]
 
 mod entries;
 mod fault;
 mod lines;
 mod report;
+mod summary;
 
 pub use entries::{EntryLine, ReportedJournal};
 pub use fault::ReportFault;
 pub use report::write_report;
+pub use summary::{write_listening, write_summary};

@@ -5,6 +5,7 @@ ghost use Rattle.text_out.specs.Decimal.{decimal_of, natural_of};
 ghost use Rattle.text_out.specs.Line.{line_of};
 ghost use Rattle.outside.specs.Marks.{lent_mark};
 ghost use Rattle.host_model.specs.Report.{cause_text, fault_text, mark_text, numbered};
+ghost use Rattle.run_report.specs.Summary.{conn_text, listening_line};
 
 use host_model::EndCause;
 use outside::{EnvelopeFault, MarkAt};
@@ -74,11 +75,18 @@ fn put_integer(into: &mut Vec<u8>, n: i32) -> Result<(), AllocError>
 pub(crate) fn put_end(into: &mut Vec<u8>, c: u64, cause: EndCause) -> Result<(), AllocError>
     ensures { OnOk result (into.new.items ≡ into.old.items ++ numbered (codes "conn") c ++ 32 ∷ cause_text cause ++ 32 ∷ []) }
 {
-    put_numbered(into, b"conn", c)?;
-    into.push(b' ')?;
-    put_cause(into, cause)?;
+    put_conn(into, c, cause)?;
     into.push(b' ')?;
     Ok(())
+}
+
+/// Appends a connection's number and what it ended by.
+pub(crate) fn put_conn(into: &mut Vec<u8>, c: u64, cause: EndCause) -> Result<(), AllocError>
+    ensures { OnOk result (into.new.items ≡ into.old.items ++ conn_text c cause) }
+{
+    put_numbered(into, b"conn", c)?;
+    into.push(b' ')?;
+    put_cause(into, cause)
 }
 
 /// Appends why a connection ended.
@@ -120,10 +128,36 @@ fn put_fault(into: &mut Vec<u8>, fault: EnvelopeFault) -> Result<(), AllocError>
 }
 
 /// Appends the line of the number of calls.
-pub(crate) fn put_count(into: &mut Vec<u8>, count: usize) -> Result<(), AllocError>
+pub(crate) fn put_count(into: &mut Vec<u8>, count: u64) -> Result<(), AllocError>
     ensures { OnOk result (into.new.items ≡ into.old.items ++ line_of (numbered (codes "calls") count)) }
 {
-    put_numbered(into, b"calls", count as u64)?;
+    put_numbered(into, b"calls", count)?;
     into.push(b'\n')?;
     Ok(())
+}
+
+/// Appends the line that tells at which port connections are awaited.
+#[tactic(auto, unfolding(crate::specs::Summary::listening_line))]
+pub(crate) fn put_listening(into: &mut Vec<u8>, port: u16) -> Result<(), AllocError>
+    ensures { OnOk result (into.new.items ≡ into.old.items ++ listening_line port) }
+{
+    put_address(into, port)?;
+    into.push(b'\n')?;
+    Ok(())
+}
+
+/// Appends what that line says.
+fn put_address(into: &mut Vec<u8>, port: u16) -> Result<(), AllocError>
+    ensures { OnOk result (into.new.items ≡ into.old.items ++ (codes "listening 127.0.0.1:" ++ natural_of port)) }
+{
+    into.extend_from_slice(b"listening 127.0.0.1:")?;
+    put_port(into, port)?;
+    Ok(())
+}
+
+/// Appends a port.
+fn put_port(into: &mut Vec<u8>, port: u16) -> Result<(), AllocError>
+    ensures { OnOk result (into.new.items ≡ into.old.items ++ natural_of port) }
+{
+    decimal(into, i128::from(port))
 }

@@ -21,7 +21,7 @@ use std::alloc::Global;
 use text_out::hex;
 
 /// How many bytes are pending at most before they are handed to the sink, a line aside.
-const PIECE: usize = 65_536;
+pub(crate) const PIECE: usize = 65_536;
 
 /// How many bytes are written in hexadecimal at a time.
 const CHUNK: usize = 32_768;
@@ -67,7 +67,7 @@ fn write_lines<L: EntryLine, K: Sink>(
     write_tape(out, pending, tape)?;
     write_journal::<L, K>(out, pending, journal)?;
     write_ends(out, pending, causes, written)?;
-    write_count(out, pending, journal.len())
+    write_count(out, pending, journal.len() as u64)
 }
 
 /// Writes the lines of the tape.
@@ -229,7 +229,11 @@ fn write_chunk<K: Sink>(out: &mut K, pending: &mut Vec<u8>, chunk: &[u8]) -> Res
 
 /// Writes the line of the number of calls.
 #[tactic(auto, using(crate::proofs::Taking::taking))]
-fn write_count<K: Sink>(out: &mut K, pending: &mut Vec<u8>, count: usize) -> Result<(), ReportFault>
+pub(crate) fn write_count<K: Sink>(
+    out: &mut K,
+    pending: &mut Vec<u8>,
+    count: u64,
+) -> Result<(), ReportFault>
     ensures told { TakesText (K.taken out.old) (K.taken out.new)
         (pending.old.items ++ (line_of (numbered (codes "calls") count))) pending.new.items result }
     ensures few { OnOk result (length pending.new.items < PIECE) }
@@ -241,7 +245,7 @@ fn write_count<K: Sink>(out: &mut K, pending: &mut Vec<u8>, count: usize) -> Res
 
 /// Hands what is pending to the sink where it is a piece or more.
 #[tactic(auto, using(crate::proofs::Taking::taking))]
-fn settle<K: Sink>(out: &mut K, pending: &mut Vec<u8>) -> Result<(), ReportFault>
+pub(crate) fn settle<K: Sink>(out: &mut K, pending: &mut Vec<u8>) -> Result<(), ReportFault>
     ensures told { TakesText (K.taken out.old) (K.taken out.new) pending.old.items pending.new.items result }
     ensures few { OnOk result (length pending.new.items < PIECE) }
     ensures cause { HasReportCause (K.faults out.old) (K.faults out.new) result }
@@ -255,7 +259,7 @@ fn settle<K: Sink>(out: &mut K, pending: &mut Vec<u8>) -> Result<(), ReportFault
 
 /// Hands all that is pending to the sink.
 #[tactic(auto, using(crate::proofs::Taking::taking))]
-fn flush<K: Sink>(out: &mut K, pending: &mut Vec<u8>) -> Result<(), ReportFault>
+pub(crate) fn flush<K: Sink>(out: &mut K, pending: &mut Vec<u8>) -> Result<(), ReportFault>
     ensures told { TakesText (K.taken out.old) (K.taken out.new) pending.old.items [] result }
     ensures empty { OnOk result (pending.new.items ≡ []) }
     ensures cause { HasReportCause (K.faults out.old) (K.faults out.new) result }
