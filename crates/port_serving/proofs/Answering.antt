@@ -1,0 +1,107 @@
+-- From what was done to what the answer says.
+use Rattle.std.proofs.Common.{◌≡◌, ◌⊎◌, inl, inr, ⊎_elim, ℕ, false, List, [], ◌++◌, Option, Result, Ok, Err, MatchResult, refl, sym, ap, ◌∙◌, subst}
+use Rattle.outside.specs.Content.{told_more}
+use Rattle.outside.specs.Taken.{IsTakenBut, IsTakenInPart}
+use Rattle.outside.proofs.Taking.{all_taken, all_told, taken_on, taken_of_more}
+use Rattle.outside.specs.Files.{File}
+use Rattle.outside.specs.LinksState.{Listening}
+use Rattle.outside.specs.Binding.{PastLinks}
+use Rattle.outside.specs.declared.binder.BindFail.{BindFail}
+use Rattle.outside.specs.declared.binder.BindFail.TheVariants as binds
+use Rattle.host_model.specs.declared.cause.EndCause.{EndCause}
+use Rattle.conn_table.specs.declared.limits.Outcome.{Outcome}
+use Rattle.conn_table.specs.declared.limits.Outcome.TheVariants as outcomes
+use Rattle.run_report.specs.declared.fault.ReportFault.{ReportFault}
+use Rattle.run_report.specs.declared.fault.ReportFault.TheVariants as reports
+use Rattle.run_report.specs.Summary.{listening_line, summary_lines, summary}
+use Rattle.host_loop.specs.Served.{ServerSetting}
+use Rattle.port_serving.specs.declared.fault.PortFault.{PortFault}
+use Rattle.port_serving.specs.declared.fault.PortFault.TheVariants as faults
+use Rattle.port_serving.specs.FileJournals.{HoldsInFile}
+use Rattle.port_serving.specs.Places.{PortPlace, PlaceChange, HasLinksBack}
+use Rattle.port_serving.specs.Served.{HasServedPort}
+use Rattle.port_serving.specs.Answered.{OutputChange, HasServedAll, HasServedTo, MeansPortFault}
+use Rattle.port_serving.specs.Steps.{fault_of_binding, fault_of_summary, EndsOpening, EndsListening}
+
+-- what a call took of a text is a beginning of it
+in_part : {A E : Type 0} (x y : Option (List ℕ)) (text : List ℕ) (result : Result A E)
+    → MatchResult result (λ _. y ≡ told_more x text) (λ _. IsTakenInPart x y text) → IsTakenInPart x y text
+in_part x y text (Ok a) e = record { lost = []; taken = all_taken x y text e }
+in_part x y text (Err e) f = f
+
+-- two texts, one behind the other
+both_told : (x y z : Option (List ℕ)) (text rest : List ℕ) → y ≡ told_more x text → z ≡ told_more y rest → z ≡ told_more x (text ++ rest)
+both_told x y z text rest first then_rest =
+    let a : IsTakenBut x y (text ++ rest) rest = taken_of_more x y text [] rest (all_taken x y text first) in
+    all_told x z (text ++ rest) (taken_on x y z (text ++ rest) rest [] a (all_taken y z rest then_rest))
+
+module _ (s : ServerSetting) (place : PortPlace) (change : PlaceChange) where
+  -- no journal was opened
+  pub unopened : (output : OutputChange) (fault : PortFault) → EndsOpening fault change.files_before change.files place.journal → change.past ≡ change.past_before
+      → output.taken ≡ output.taken_before → MeansPortFault s place change output fault
+  unopened output faults.FileFault files past taken = record { files = files; past = past; taken = taken }
+  unopened output faults.NoMemory file past taken = inl (record { file = file; past = past; taken = taken })
+  unopened output faults.NetFault never past taken = absurd never
+  unopened output faults.WriteFault never past taken = absurd never
+  unopened output faults.JournalFault never past taken = absurd never
+
+  -- nothing was served
+  pub unlistened : (output : OutputChange) (fault : PortFault) → HoldsInFile change.files_before change.files place.journal []
+      → EndsListening fault change.past_before change.past place.listening output.taken_before output.taken → MeansPortFault s place change output fault
+  unlistened output faults.NetFault file ends = inl (record { file = file; past = ends.0; taken = ends.1 })
+  unlistened output faults.WriteFault file ends = inl (record { file = file; back = ends.0; begun = ends.1 })
+  unlistened output faults.NoMemory file ends =
+      ⊎_elim (λ silent. inl (record { file = file; past = silent.0; taken = silent.1 }))
+      (λ broken. inr (inl (record { file = file; back = broken.0; begun = broken.1 }))) ends
+  unlistened output faults.FileFault file never = absurd never
+  unlistened output faults.JournalFault file never = absurd never
+
+  module _ (output : OutputChange) (between : Option (List ℕ)) (line : between ≡ told_more output.taken_before (listening_line place.listening.port))
+      (causes : List EndCause) (calls : ℕ) (outcome : Outcome) (served : HasServedPort s place change causes calls outcome) where
+    -- the summary was written whole
+    pub summed : outcome ≡ outcomes.All → output.taken ≡ told_more between (summary_lines causes calls) → HasServedAll s place change output
+    summed all rest =
+        record {
+          causes = causes;
+          calls = calls;
+          served = subst (HasServedPort s place change causes calls) all served;
+          written = both_told output.taken_before between output.taken (listening_line place.listening.port) (summary_lines causes calls) line rest;
+        }
+
+    -- or in part
+    pub begun : {A E : Type 0} (result : Result A E) (out : Outcome) → outcome ≡ out
+        → MatchResult result (λ _. output.taken ≡ told_more between (summary_lines causes calls)) (λ _. IsTakenInPart between output.taken (summary_lines causes calls))
+        → HasServedTo s place change output out
+    begun result out is written =
+        record {
+          causes = causes;
+          calls = calls;
+          served = subst (HasServedPort s place change causes calls) is served;
+          begun = subst (λ o. IsTakenInPart o output.taken (summary_lines causes calls)) line (in_part between output.taken (summary_lines causes calls) result written);
+        }
+
+  -- a fault of the summary's other lines, where all were served
+  pub unwritten : (output : OutputChange) (fault : ReportFault) → HasServedTo s place change output outcomes.All → MeansPortFault s place change output (fault_of_summary fault)
+  unwritten output reports.Failed h = inr h
+  unwritten output reports.NoMemory h = inr (inr (inr h))
+
+-- The port's fault is told by its kind.
+pub unbound : (error : BindFail) (before now : Option (List PastLinks)) (listening : Listening) (taken_before taken : Option (List ℕ)) → now ≡ before → taken ≡ taken_before
+    → EndsListening (fault_of_binding error) before now listening taken_before taken
+unbound binds.Failed before now listening taken_before taken past same = (past, same)
+unbound binds.NoMemory before now listening taken_before taken past same = inl (past, same)
+
+-- So is that of the line that isn't written.
+pub broken_off : (error : ReportFault) (before now : Option (List PastLinks)) (listening : Listening) (taken_before taken : Option (List ℕ))
+    → HasLinksBack before now listening [] false → IsTakenInPart taken_before taken (listening_line listening.port)
+    → EndsListening (fault_of_summary error) before now listening taken_before taken
+broken_off reports.Failed before now listening taken_before taken back begun_so = (back, begun_so)
+broken_off reports.NoMemory before now listening taken_before taken back begun_so = inr (back, begun_so)
+
+-- Where no journal was opened, the fault is the files' or want of memory.
+pub opening_other : {A : Type 0} (result : Result A PortFault) (fault error other : PortFault) (before now : Option (List File)) (name : List ℕ) → result ≡ Err fault
+    → fault ≡ error → result ≡ Err other → EndsOpening error before now name → EndsOpening other before now name
+opening_other result fault error other before now name first same then_other ends =
+    let two : Err fault ≡ Err other = sym first ∙ then_other in
+    let one : fault ≡ other = cc in
+    subst (λ f. EndsOpening f before now name) (sym same ∙ one) ends

@@ -1,0 +1,117 @@
+-- What a file holds whose sink came back.
+use Rattle.std.proofs.Common.{◌≡◌, ℕ, Bool, true, false, List, [], ◌∷◌, ◌++◌, Option, Some, None, IfSome, Result, Ok, Err, IfErr, MatchResult, if◌then◌else◌, refl, sym, ap, ◌∙◌, subst}
+use Rattle.std.specs.Str.{bytes_eq}
+use Rattle.std.proofs.lemmas.Option.{same_Some}
+use Rattle.std.proofs.lemmas.Slice.Eq.{bytes_eq-Decides}
+use Rattle.outside.specs.Content.{told_more}
+use Rattle.outside.specs.Told.{StartsEmpty}
+use Rattle.outside.specs.Files.{File}
+use Rattle.outside.specs.Making.{with_file, told_with_file, IsThere}
+use Rattle.host_model.specs.Report.{journal_lines}
+use Rattle.call_rules.specs.Entries.{CallEntry}
+use Rattle.journal_text.specs.EntryText.{entry_text}
+use Rattle.port_serving.specs.declared.fault.PortFault.{PortFault}
+use Rattle.port_serving.specs.declared.fault.PortFault.TheVariants as faults
+use Rattle.port_serving.specs.Steps.{BeginsJournal, OpensJournal, EndsOpening}
+use Rattle.port_serving.specs.FileJournals.{IsUnused, KeepsLines, HoldsInFile, KeepsJournal}
+
+-- the bytes that were put last are those that a file holds
+twice_by : (b : Bool) (file : File) (files : List File) (name x y : List ℕ) → bytes_eq file.name name ≡ b
+    → with_file (with_file files name x) name y ≡ with_file files name y
+    → with_file (if b then record file { bytes = x } ∷ files else file ∷ with_file files name x) name y
+    ≡ (if b then record file { bytes = y } ∷ files else file ∷ with_file files name y)
+twice_by true file files name x y same rest = ap (λ b. if b then record file { bytes = y } ∷ files else record file { bytes = x } ∷ with_file files name y) same
+twice_by false file files name x y other rest =
+    ap (λ b. if b then record file { bytes = y } ∷ with_file files name x else file ∷ with_file (with_file files name x) name y) other
+    ∙ ap (λ fs. file ∷ fs) rest
+
+abbrev file_of : List ℕ → List ℕ → File
+file_of name bytes = record { name = name; bytes = bytes }
+
+put_twice : (files : List File) (name x y : List ℕ) → with_file (with_file files name x) name y ≡ with_file files name y
+put_twice [] name x y = ap (λ b. if b then file_of name y ∷ [] else file_of name x ∷ file_of name y ∷ []) ((bytes_eq-Decides name name).1 refl)
+put_twice (file ∷ files) name x y = twice_by (bytes_eq file.name name) file files name x y refl (put_twice files name x y)
+
+told_twice : (before : Option (List File)) (name x : List ℕ) (taken : Option (List ℕ)) → told_with_file (told_with_file before name (Some x)) name taken ≡ told_with_file before name taken
+told_twice None name x taken = refl
+told_twice (Some files) name x None = refl
+told_twice (Some files) name x (Some y) = ap Some (put_twice files name x y)
+
+-- where the sink doesn't tell, neither do the files
+untold : (before : Option (List File)) (name bytes : List ℕ) → HoldsInFile before (told_with_file before name None) name bytes
+untold None name bytes = tt
+untold (Some files) name bytes = tt
+
+told : (before shown : Option (List File)) (name bytes : List ℕ) → told_with_file before name (Some bytes) ≡ shown → HoldsInFile before shown name bytes
+told before None name bytes is = tt
+told before (Some files) name bytes is = is
+
+-- the file of a journal whose sink came back
+kept_by : (before : Option (List File)) (name : List ℕ) (taken : Option (List ℕ)) (entries : List CallEntry) (torn : Bool) → KeepsLines taken entries torn
+    → KeepsJournal before (told_with_file before name taken) name entries torn
+kept_by before name None entries torn lines =
+    record { bytes = journal_lines entry_text entries; held = untold before name (journal_lines entry_text entries); lines = λ whole. refl }
+kept_by before name (Some bytes) entries torn lines =
+    record { bytes = bytes; held = told before (told_with_file before name (Some bytes)) name bytes refl; lines = λ whole. lines whole bytes refl }
+
+pub kept : (before between now : Option (List File)) (name : List ℕ) (taken : Option (List ℕ)) (entries : List CallEntry) (torn : Bool)
+    → between ≡ told_with_file before name (Some []) → now ≡ told_with_file between name taken → KeepsLines taken entries torn → KeepsJournal before now name entries torn
+kept before between now name taken entries torn made back lines =
+    subst (λ o. KeepsJournal before o name entries torn)
+    (sym (back ∙ ap (λ o. told_with_file o name taken) made ∙ told_twice before name [] taken))
+    (kept_by before name taken entries torn lines)
+
+-- without entries it is empty
+pub empty_file : (before now : Option (List File)) (name : List ℕ) (entries : List CallEntry) (torn : Bool) → entries ≡ [] → torn ≡ false
+    → KeepsJournal before now name entries torn → HoldsInFile before now name []
+empty_file before now name entries torn none whole k =
+    subst (HoldsInFile before now name) (k.lines whole ∙ ap (journal_lines entry_text) none) k.held
+
+-- A sink that starts empty is unused.
+unused_by : (taken : Option (List ℕ)) → IfSome taken (λ all. all ≡ []) → IsUnused taken
+unused_by None e = λ bytes is. absurd (let never : ⊥ = cc in never)
+unused_by (Some all) e = λ bytes is. sym (same_Some all bytes is) ∙ e
+
+pub unused : (before : Option (List File)) (taken : Option (List ℕ)) → StartsEmpty before taken → IsUnused taken
+unused None taken e = unused_by taken e
+unused (Some files) taken e = λ bytes is. sym (same_Some [] bytes (sym e ∙ is))
+
+-- a journal over an unused sink: it is unused still
+pub unused_still : (opening sink : Option (List ℕ)) → opening ≡ sink → IsUnused sink → IsUnused opening
+unused_still opening sink is u = subst IsUnused (sym is) u
+
+-- what such a sink has taken is the lines
+pub lines_alone : (opening now : Option (List ℕ)) (entries : List CallEntry) (torn : Bool) → IsUnused opening
+    → (torn ≡ false → now ≡ told_more opening (journal_lines entry_text entries)) → KeepsLines now entries torn
+lines_alone None now entries torn u h = λ whole bytes is. let told_none : Some bytes ≡ None = sym is ∙ h whole in absurd (let never : ⊥ = cc in never)
+lines_alone (Some front) now entries torn u h =
+    λ whole bytes is.
+    same_Some bytes (journal_lines entry_text entries) (sym is ∙ h whole ∙ ap (λ f. Some (f ++ journal_lines entry_text entries)) (u front refl))
+
+-- the file of a sink that was handed back unused is empty
+emptied : (before between now : Option (List File)) (name : List ℕ) (taken : Option (List ℕ)) → between ≡ told_with_file before name (Some [])
+    → now ≡ told_with_file between name taken → IsUnused taken → HoldsInFile before now name []
+emptied before between now name taken made back u =
+    empty_file before now name [] false refl refl (kept before between now name taken [] false made back (λ whole bytes is. u bytes is))
+
+-- A journal was opened, or the file is empty.
+pub opened_so : {A : Type 0} (result : Result A PortFault) (entries : A → List CallEntry) (torn : A → Bool) (count : A → ℕ) (before between now : Option (List File)) (name : List ℕ)
+    (taken : Option (List ℕ)) → between ≡ told_with_file before name (Some []) → IsThere between name → IsUnused taken
+    → MatchResult result (λ j. BeginsJournal between now (entries j) (torn j) (count j)) (λ _. now ≡ told_with_file between name taken)
+    → IfErr result (λ fault. fault ≡ faults.NoMemory)
+    → MatchResult result (λ j. OpensJournal before now name (entries j) (torn j) (count j)) (λ fault. EndsOpening fault before now name)
+opened_so (Ok j) entries torn count before between now name taken made there u begun only =
+    record {
+      files = begun.files ∙ made;
+      there = subst (λ o. IsThere o name) (sym begun.files) there;
+      none = begun.none;
+      whole = begun.whole;
+      faultless = begun.faultless;
+    }
+opened_so (Err fault) entries torn count before between now name taken made there u back only =
+    subst (λ f. EndsOpening f before now name) (sym only) (emptied before between now name taken made back u)
+
+-- Want of memory is no fault of the files.
+pub no_file_fault : {A : Type 0} (result : Result A PortFault) → IfErr result (λ fault. fault ≡ faults.NoMemory) → result ≡ Err faults.FileFault → ⊥
+no_file_fault (Ok j) only is = let never : ⊥ = cc in never
+no_file_fault (Err fault) only is = let never : ⊥ = cc in never

@@ -1,0 +1,5 @@
+mod Filing
+mod Linking
+mod PlaceServed
+mod Sent
+mod Answering

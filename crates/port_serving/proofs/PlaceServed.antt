@@ -1,0 +1,71 @@
+-- From a run of serving over links that listen here, and a journal in a file, to a place that was served.
+use Rattle.std.proofs.Common.{◌≡◌, ℕ, ◌<◌, ◌≤◌, if◌then◌else◌, true, Option, Some, List, refl, sym, ap, ◌∙◌, subst, arith}
+use Rattle.std.proofs.lemmas.Bool.{lt-ltb}
+use Rattle.outside.specs.Cause.{Rose, next_count, next_if_faulty}
+use Rattle.outside.specs.Binding.{StartListening, told_past}
+use Rattle.conn_table.specs.declared.limits.Outcome.{Outcome}
+use Rattle.conn_table.specs.declared.limits.Outcome.TheVariants as outcomes
+use Rattle.call_rules.specs.Entries.{CallEntry}
+use Rattle.machine_model.specs.SeenHall.{MayHave}
+use Rattle.journal_text.specs.JournalStates.{appended_count}
+use Rattle.host_loop.specs.Served.{ServerSetting, ServedRun, ComesOutBy, IsServed}
+use Rattle.port_serving.specs.FileJournals.{KeepsJournal}
+use Rattle.port_serving.specs.Places.{PortPlace, PlaceChange}
+use Rattle.port_serving.specs.Served.{HasServedPort}
+use Rattle.port_serving.proofs.Linking.{links_back}
+
+-- A count rises where what came back has counted a fault.
+faulty_rose : (faults count : ℕ) → Rose 0 faults → Rose count (next_if_faulty faults count)
+faulty_rose faults count rose =
+    let some : 0 < faults = (let rose_here : Rose 0 faults = rose in omega arith) in
+    let one_more : Rose count (next_count count) = omega arith in
+    subst (λ b. Rose count (if b then next_count count else count)) (sym (lt-ltb 0 faults some)) one_more
+
+pub rose_back : (before faults count now : ℕ) → before ≡ 0 → Rose before faults → now ≡ next_if_faulty faults count → Rose count now
+rose_back before faults count now none rose is =
+    subst (Rose count) (sym is) (faulty_rose faults count (subst (λ n. Rose n faults) none rose))
+
+-- It stays where what came back has counted none.
+pub same_count : (faults count now : ℕ) → faults ≡ 0 → now ≡ next_if_faulty faults count → now ≡ count
+same_count faults count now none is = is ∙ ap (λ n. next_if_faulty n count) none
+
+-- It rises over two calls where it does in the second.
+pub rose_later : (before between now : ℕ) → before ≤ between → Rose between now → Rose before now
+rose_later before between now later rose = omega arith
+
+module _ (s : ServerSetting) (place : PortPlace) (change : PlaceChange) (run : ServedRun) (entries : List CallEntry) (calls : ℕ) (served : IsServed s run)
+    (told : run.told ≡ Some entries) (none : run.faults_before ≡ 0) (starts : StartListening change.past_before place.listening run.first)
+    (back : change.past ≡ told_past change.past_before run.links) (sinks : change.sink_faults ≡ next_if_faulty run.faults change.sink_faults_before)
+    (file : KeepsJournal change.files_before change.files place.journal entries run.torn) (counted : calls ≡ appended_count entries) where
+  journal_is : entries ≡ served.journal
+  journal_is = subst (λ o. MayHave o served.journal) told served.journal_told
+
+  pub has_served : HasServedPort s place change run.causes calls run.outcome
+  has_served =
+      record {
+        run = run;
+        served = served;
+        causes_are = refl;
+        outcome_is = refl;
+        comes_out = served.comes_out;
+        first = starts;
+        back = links_back change.past_before change.past place.listening run.links served.tape back (served.left.listens ∙ starts.listens) served.tape_told;
+        told = told ∙ ap Some journal_is;
+        counted = counted ∙ ap appended_count journal_is;
+        file = subst (λ (es : List CallEntry). KeepsJournal change.files_before change.files place.journal es run.torn) journal_is file;
+        torn = λ is. rose_back run.faults_before run.faults change.sink_faults_before change.sink_faults none (served.torn is) sinks;
+      }
+
+-- The journal's fault is told of the files.
+pub journal_rose : (s : ServerSetting) (run : ServedRun) (before now : ℕ) → IsServed s run → run.faults_before ≡ 0 → now ≡ next_if_faulty run.faults before
+    → run.outcome ≡ outcomes.JournalFault → Rose before now
+journal_rose s run before now served none back is =
+    let comes : ComesOutBy run outcomes.JournalFault = subst (ComesOutBy run) is served.comes_out in
+    rose_back run.faults_before run.faults before now none comes.1 back
+
+-- The links' fault is told of the binder.
+pub net_rose : (s : ServerSetting) (run : ServedRun) (before now : ℕ) → IsServed s run → run.first.net_faults ≡ 0 → now ≡ next_if_faulty run.links.net_faults before
+    → run.outcome ≡ outcomes.NetFault → Rose before now
+net_rose s run before now served none back is =
+    let comes : ComesOutBy run outcomes.NetFault = subst (ComesOutBy run) is served.comes_out in
+    rose_back run.first.net_faults run.links.net_faults before now none comes back

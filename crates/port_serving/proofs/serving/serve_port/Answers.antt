@@ -1,0 +1,155 @@
+use Rattle.std.proofs.Common.{ℕ, List, Option, map, refl, sym, subst}
+use Rattle.std.proofs.lemmas.Result.{err_from_is_err_and}
+use Rattle.outside.specs.Cause.{Rose}
+use Rattle.outside.specs.Files.{File}
+use Rattle.outside.specs.LinksState.{Listening}
+use Rattle.outside.specs.Binding.{PastLinks, StartListening}
+use Rattle.host_loop.specs.Served.{ServerSetting}
+use Rattle.port_serving.specs.declared.fault.PortFault.TheVariants as faults
+use Rattle.port_serving.specs.Places.{PortPlace, PlaceChange}
+use Rattle.port_serving.specs.Served.{HasServedPort}
+use Rattle.port_serving.specs.Answered.{OutputChange}
+use Rattle.port_serving.proofs.Filing.{empty_file}
+use Rattle.port_serving.proofs.PlaceServed.{rose_later}
+use Rattle.port_serving.proofs.Answering.{unopened, unlistened, opening_other}
+use Rattle.port_serving.proofs.serving.serve_port.Goals as goal
+
+abbrev changed : (files_before files : Option (List File)) (sinks_before sinks : ℕ) (past_before past : Option (List PastLinks)) → PlaceChange
+changed files_before files sinks_before sinks past_before past =
+    record {
+      files_before = files_before;
+      files = files;
+      sink_faults_before = sinks_before;
+      sink_faults = sinks;
+      past_before = past_before;
+      past = past;
+    }
+
+pub serve_links-run-requires-clause-empty : goal.serve_links-run-requires-clause-empty
+serve_links-run-requires-clause-empty g c κs within = c.in_ok-journal.ensures.opened.none
+
+pub serve_links-run-requires-clause-whole : goal.serve_links-run-requires-clause-whole
+serve_links-run-requires-clause-whole g c κs within = c.in_ok-journal.ensures.opened.whole
+
+pub serve_links-run-requires-clause-faultless : goal.serve_links-run-requires-clause-faultless
+serve_links-run-requires-clause-faultless g c κs within = c.in_ok-journal.ensures.opened.faultless
+
+pub serve_links-run-requires-clause-there : goal.serve_links-run-requires-clause-there
+serve_links-run-requires-clause-there g c κs within = c.in_ok-journal.ensures.opened.there
+
+pub serve_links-run-requires-clause-starts : goal.serve_links-run-requires-clause-starts
+serve_links-run-requires-clause-starts g c κs within =
+    let at : Listening = record { port = c.args.place.now.port; accept = c.args.place.now.accept } in
+    subst (λ o. StartListening o at (g.B.L.Links.state c.in-Ok.links)) (sym c.in-Ok.ensures.listening.same) c.in-Ok.ensures.listening.starts
+
+pub close_journal-requires-clause-there : goal.close_journal-requires-clause-there
+close_journal-requires-clause-there g c κs within = c.in_ok-journal.ensures.opened.there
+
+pub returns-in_err-journal-clause-means : goal.returns-in_err-journal-clause-means
+returns-in_err-journal-clause-means g c =
+    let s : ServerSetting =
+    (record {
+      desk = g.D.Desk.meaning c.args.desk.now;
+      services = map g.H.Handler.service c.args.handlers.items;
+      budget = c.args.limits.read_budget;
+    })
+    in
+    let at : Listening = record { port = c.args.place.now.port; accept = c.args.place.now.accept } in
+    let place : PortPlace = record { listening = at; journal = c.args.place.now.journal.now } in
+    let files_before = g.F.Files.files c.args.files.now in
+    let sinks_before = g.F.Files.sink_faults c.args.files.now in
+    let past_before = g.B.Binder.past c.args.binder.now in
+    let taken_before = g.K.Sink.taken c.args.output.now in
+    let change : PlaceChange = changed files_before (g.F.Files.files c.open_journal.new.files) sinks_before (g.F.Files.sink_faults c.open_journal.new.files) past_before past_before in
+    let output : OutputChange = record { taken_before = taken_before; taken = taken_before } in
+    let p = err_from_is_err_and c.from_residual.result c.from_residual.ensures.1 in
+    rw (p.1, p.2) (unopened s place change output c.in_err-journal.field-0.0 c.in_err-journal.ensures.opened refl refl)
+
+pub returns-in_err-journal-clause-net_fault : goal.returns-in_err-journal-clause-net_fault
+returns-in_err-journal-clause-net_fault g c is =
+    let p = err_from_is_err_and c.from_residual.result c.from_residual.ensures.1 in
+    absurd
+    (opening_other c.from_residual.result p.0 c.in_err-journal.field-0.0 faults.NetFault (g.F.Files.files c.args.files.now) (g.F.Files.files c.open_journal.new.files)
+    c.args.place.now.journal.now p.1 p.2 is c.in_err-journal.ensures.opened)
+
+pub returns-in_err-journal-clause-write_fault : goal.returns-in_err-journal-clause-write_fault
+returns-in_err-journal-clause-write_fault g c is =
+    let p = err_from_is_err_and c.from_residual.result c.from_residual.ensures.1 in
+    absurd
+    (opening_other c.from_residual.result p.0 c.in_err-journal.field-0.0 faults.WriteFault (g.F.Files.files c.args.files.now) (g.F.Files.files c.open_journal.new.files)
+    c.args.place.now.journal.now p.1 p.2 is c.in_err-journal.ensures.opened)
+
+pub returns-in_err-journal-clause-journal_fault : goal.returns-in_err-journal-clause-journal_fault
+returns-in_err-journal-clause-journal_fault g c is =
+    let p = err_from_is_err_and c.from_residual.result c.from_residual.ensures.1 in
+    absurd
+    (opening_other c.from_residual.result p.0 c.in_err-journal.field-0.0 faults.JournalFault (g.F.Files.files c.args.files.now) (g.F.Files.files c.open_journal.new.files)
+    c.args.place.now.journal.now p.1 p.2 is c.in_err-journal.ensures.opened)
+
+pub returns-in-Ok-clause-means : goal.returns-in-Ok-clause-means
+returns-in-Ok-clause-means g c =
+    let s : ServerSetting =
+    (record {
+      desk = g.D.Desk.meaning c.args.desk.now;
+      services = map g.H.Handler.service c.args.handlers.items;
+      budget = c.args.limits.read_budget;
+    })
+    in
+    let at : Listening = record { port = c.args.place.now.port; accept = c.args.place.now.accept } in
+    let place : PortPlace = record { listening = at; journal = c.args.place.now.journal.now } in
+    let files_before = g.F.Files.files c.args.files.now in
+    let sinks_before = g.F.Files.sink_faults c.args.files.now in
+    let past_before = g.B.Binder.past c.args.binder.now in
+    let taken_before = g.K.Sink.taken c.args.output.now in
+    let files = g.F.Files.files c.serve_links-run.new.files in
+    let sinks = g.F.Files.sink_faults c.serve_links-run.new.files in
+    let past = g.B.Binder.past c.serve_links-run.new.binder in
+    let change : PlaceChange = changed files_before files sinks_before sinks past_before past in
+    let ends = c.serve_links-run.result.ends in
+    let calls = c.serve_links-run.result.calls in
+    let outcome = c.serve_links-run.result.outcome in
+    let served : HasServedPort s place change ends calls outcome =
+    subst (λ o. HasServedPort s place (changed files_before files sinks_before sinks o past) ends calls outcome) c.in-Ok.ensures.listening.same
+    (subst (λ n. HasServedPort s place (changed files_before files n sinks (g.B.Binder.past c.listen.new.binder) past) ends calls outcome) c.open_journal.ensures.sinks
+    (c.serve_links-run.ensures.served files_before c.in_ok-journal.ensures.opened.files))
+    in
+    c.finish.ensures.means s place change taken_before served c.in-Ok.ensures.listening.line
+
+pub returns-in-Ok-clause-net_fault : goal.returns-in-Ok-clause-net_fault
+returns-in-Ok-clause-net_fault g c is =
+    rose_later (g.B.Binder.faults c.args.binder.now) (g.B.Binder.faults c.listen.new.binder) (g.B.Binder.faults c.serve_links-run.new.binder) c.listen.ensures.binder_later
+    (c.serve_links-run.ensures.net_fault (c.finish.ensures.net_fault is))
+
+pub returns-in-Ok-clause-write_fault : goal.returns-in-Ok-clause-write_fault
+returns-in-Ok-clause-write_fault g c is =
+    rose_later (g.K.Sink.faults c.args.output.now) (g.K.Sink.faults c.listen.new.output) (g.K.Sink.faults c.finish.new.output) c.listen.ensures.output_later
+    (c.finish.ensures.write_fault is)
+
+pub returns-in-Ok-clause-journal_fault : goal.returns-in-Ok-clause-journal_fault
+returns-in-Ok-clause-journal_fault g c is =
+    subst (λ n. Rose n (g.F.Files.sink_faults c.serve_links-run.new.files)) c.open_journal.ensures.sinks
+    (c.serve_links-run.ensures.journal_fault (c.finish.ensures.journal_fault is))
+
+pub returns-in-Err-clause-means : goal.returns-in-Err-clause-means
+returns-in-Err-clause-means g c =
+    let s : ServerSetting =
+    (record {
+      desk = g.D.Desk.meaning c.args.desk.now;
+      services = map g.H.Handler.service c.args.handlers.items;
+      budget = c.args.limits.read_budget;
+    })
+    in
+    let at : Listening = record { port = c.args.place.now.port; accept = c.args.place.now.accept } in
+    let place : PortPlace = record { listening = at; journal = c.args.place.now.journal.now } in
+    let files_before = g.F.Files.files c.args.files.now in
+    let sinks_before = g.F.Files.sink_faults c.args.files.now in
+    let past_before = g.B.Binder.past c.args.binder.now in
+    let taken_before = g.K.Sink.taken c.args.output.now in
+    let files = g.F.Files.files c.close_journal.new.files in
+    let change : PlaceChange =
+    changed files_before files sinks_before (g.F.Files.sink_faults c.close_journal.new.files) past_before (g.B.Binder.past c.listen.new.binder) in
+    let output : OutputChange = record { taken_before = taken_before; taken = g.K.Sink.taken c.listen.new.output } in
+    unlistened s place change output c.in-Err.fault
+    (empty_file files_before files c.args.place.now.journal.now c.in_ok-journal.journal.entries c.in_ok-journal.journal.torn c.in_ok-journal.ensures.opened.none
+    c.in_ok-journal.ensures.opened.whole (c.close_journal.ensures.kept files_before c.in_ok-journal.ensures.opened.files))
+    c.in-Err.ensures.listening

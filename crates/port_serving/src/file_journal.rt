@@ -1,0 +1,152 @@
+//! A journal whose lines go into a file that was made for them.
+
+ghost use Rattle.std.specs.Prelude.{◌≡◌, ◌∷◌, ◌++◌, [], List, Option, Some, false, true, IsOk, IfOk, IfErr, Err, MatchResult};
+ghost use Rattle.outside.specs.Cause.{HasCause, Rose, next_if_faulty};
+ghost use Rattle.outside.specs.Files.{File};
+ghost use Rattle.outside.specs.Making.{told_with_file, IsThere};
+ghost use Rattle.call_rules.specs.PlainCalls.{IsPlainCall, IsPlainAnswer};
+ghost use Rattle.journal_text.specs.JournalStates.{appended_count};
+ghost use Rattle.port_serving.specs.FileJournals.{IsUnused, KeepsLines, KeepsJournal};
+ghost use Rattle.port_serving.specs.Steps.{BeginsJournal, OpensJournal, EndsOpening};
+
+use crate::fault::PortFault;
+use call_rules::{Entry, Journal};
+use journal_text::{NoJournal, SinkJournal};
+use outside::{Failed, Files, Sink};
+use std::alloc::{AllocError, Global};
+use std::marker::Model;
+
+/// A journal over a sink that had taken nothing when it was handed in.
+#[derive(Drop)]
+pub(crate) struct FileJournal<K: Sink> {
+    journal: SinkJournal<K>,
+}
+
+impl<K: Sink> Model for FileJournal<K> {
+    ghost use Rattle.journal_text.specs.JournalStates.{WrittenEntries, written_entries_code};
+    ghost use Rattle.port_serving.specs.FileJournals.{IsUnused};
+
+    ghost Value = { WrittenEntries K };
+
+    ghost coded = { written_entries_code K.code };
+
+    ghost view = { λ j. j.journal };
+
+    ghost invariant = { λ j. IsUnused (K.taken j.journal.opening) };
+}
+
+impl<K: Sink> FileJournal<K> {
+    /// A journal without entries over a sink that has taken nothing.
+    fn new(alloc: Global, sink: K) -> Result<Self, NoJournal<K>>
+        requires unused { IsUnused (K.taken sink) }
+        ensures ok { IfOk result (λ journal. journal ≡ record { sink = sink; opening = sink; entries = []; torn = false }) }
+        ensures err { IfErr result (λ no. no.0 ≡ sink) }
+    {
+        match SinkJournal::new(alloc, sink) {
+            Ok(journal) => Ok(FileJournal { journal }),
+            Err(no) => Err(no),
+        }
+    }
+
+    /// How many entries were appended; it stands still at 2^64 - 1.
+    pub(crate) fn count(&self) -> u64
+        ensures { result ≡ appended_count self.now.entries }
+    {
+        self.journal.count()
+    }
+
+    /// Gives the sink; takes no memory. Unless an append failed, the sink has taken the lines of the entries and nothing else, where it tells.
+    fn into_sink(self) -> K
+        ensures sink { result ≡ self.sink }
+        ensures lines { KeepsLines (K.taken result) self.entries self.torn }
+    {
+        self.journal.into_sink()
+    }
+}
+
+impl<K: Sink> Journal for FileJournal<K> {
+    ghost use Rattle.std.specs.Prelude.{Some};
+
+    ghost told = { λ j. Some j.entries };
+
+    ghost faults = { λ j. K.faults j.sink };
+
+    ghost torn = { λ j. j.torn };
+
+    ghost room = { λ _. 1 };
+
+    /// Takes nothing: there is always room.
+    fn reserve(&mut self) -> Result<(), AllocError>
+        ensures same { self.new ≡ self.old }
+        ensures done { IsOk result }
+    {
+        Ok(())
+    }
+
+    fn append(&mut self, entry: Entry) -> Result<(), Failed>
+        requires whole { self.old.torn ≡ false }
+        requires call { IsPlainCall entry.call }
+        requires answer { IsPlainAnswer entry.answer }
+        ensures entered { MatchResult result
+            (λ _. self.new.entries ≡ self.old.entries ++ entry ∷ [])
+            (λ _. self.new.entries ≡ self.old.entries) }
+        ensures torn { MatchResult result (λ _. self.new.torn ≡ false) (λ _. self.new.torn ≡ true) }
+        ensures cause { HasCause (K.faults self.old.sink) (K.faults self.new.sink) result }
+    {
+        self.journal.append(entry)
+    }
+}
+
+/// Opens a journal over a new file of this name.
+pub(crate) fn open_journal<F: Files>(
+    alloc: Global,
+    files: &mut F,
+    name: &str,
+) -> Result<FileJournal<F::Out>, PortFault>
+    ensures opened { MatchResult result
+        (λ journal. OpensJournal (F.files files.old) (F.files files.new) name.now journal.entries journal.torn (F.Out.faults journal.sink))
+        (λ fault. EndsOpening fault (F.files files.old) (F.files files.new) name.now) }
+    ensures sinks { F.sink_faults files.new ≡ F.sink_faults files.old }
+    ensures file_fault { result ≡ Err PortFault.FileFault → Rose (F.faults files.old) (F.faults files.new) }
+{
+    match files.create(alloc, name) {
+        Ok(sink) => begin_journal(alloc, files, name, sink),
+        Err(Failed) => Err(PortFault::FileFault),
+    }
+}
+
+/// Begins a journal over the sink of a file of this name. Where there is no memory, the sink is handed back.
+fn begin_journal<F: Files>(
+    alloc: Global,
+    files: &mut F,
+    name: &str,
+    sink: F::Out,
+) -> Result<FileJournal<F::Out>, PortFault>
+    requires there { IsThere (F.files files.old) name.now }
+    requires unused { IsUnused (F.Out.taken sink) }
+    requires faultless { F.Out.faults sink ≡ 0 }
+    ensures begun { MatchResult result
+        (λ journal. BeginsJournal (F.files files.old) (F.files files.new) journal.entries journal.torn (F.Out.faults journal.sink))
+        (λ _. F.files files.new ≡ told_with_file (F.files files.old) name.now (F.Out.taken sink)) }
+    ensures sinks { F.sink_faults files.new ≡ F.sink_faults files.old }
+    ensures faults { IfErr result (λ fault. fault ≡ PortFault.NoMemory) }
+{
+    match FileJournal::new(alloc, sink) {
+        Ok(journal) => Ok(journal),
+        Err(no) => {
+            files.take_back(name, no.0);
+            Err(PortFault::NoMemory)
+        }
+    }
+}
+
+/// Hands the sink of a journal back to the files; takes no memory.
+pub(crate) fn close_journal<F: Files>(files: &mut F, name: &str, journal: FileJournal<F::Out>)
+    requires there { IsThere (F.files files.old) name.now }
+    ensures kept { (before : Option (List File)) → F.files files.old ≡ told_with_file before name.now (Some [])
+        → KeepsJournal before (F.files files.new) name.now journal.entries journal.torn }
+    ensures sinks { F.sink_faults files.new ≡ next_if_faulty (F.Out.faults journal.sink) (F.sink_faults files.old) }
+    ensures same { F.faults files.new ≡ F.faults files.old }
+{
+    files.take_back(name, journal.into_sink());
+}
