@@ -1,0 +1,14 @@
+pub mod Pieces
+pub mod Payloads
+pub mod Plans
+pub mod Parts
+pub mod Kept
+pub mod Histories
+pub mod Talks
+pub mod Connections
+pub mod Totals
+pub mod Projected
+pub mod Decided
+pub mod Offices
+pub mod Bounds
+pub mod Tested

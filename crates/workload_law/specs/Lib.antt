@@ -1,0 +1,5 @@
+pub mod Payloads
+pub mod Calls
+pub mod Calculators
+pub mod CalculatorTests
+pub mod Summed
