@@ -3,9 +3,16 @@
 use calculator::Calculator;
 use call_rules::Handler;
 use house_handlers::{Mirror, Store};
-use outside::{MemFiles, MemSink, MemSource};
+use outside::{EmptyGate, Files, Gate, MemFiles, MemSink, MemSource};
+use script_binder::MemBinder;
+use script_links::read_script;
 use std::alloc::{AllocError, Global};
+use std::sync::Wait;
+use std::thread::Threads;
 use thrift_host::{Status, host};
+
+/// The name of a journal's file.
+pub(crate) const JOURNAL: &str = "calls.txt";
 
 /// The words of a rehearsal.
 pub(crate) const REHEARSE: [&str; 5] = [
@@ -22,6 +29,8 @@ pub(crate) struct Ended {
     pub(crate) status: Status,
     pub(crate) output: Vec<u8>,
     pub(crate) errors: Vec<u8>,
+    /// What the journal's file holds, where there is one.
+    pub(crate) journal: Vec<u8>,
 }
 
 impl Ended {
@@ -48,13 +57,16 @@ impl Ended {
     }
 }
 
-/// The files and streams that a command is given.
+/// The files and streams that a command is given, and a script of what comes to a port.
 #[derive(Drop)]
 pub(crate) struct Given {
     pub(crate) files: MemFiles,
     pub(crate) input: MemSource,
     pub(crate) output: MemSink,
     pub(crate) errors: MemSink,
+    pub(crate) port: &'static [u8],
+    /// The port can't be listened at.
+    pub(crate) is_taken: bool,
 }
 
 impl Given {
@@ -65,36 +77,54 @@ impl Given {
             input: MemSource::new(Vec::new(alloc), Vec::new(alloc)),
             output: MemSink::new(alloc, Vec::new(alloc)),
             errors: MemSink::new(alloc, Vec::new(alloc)),
+            port: b"",
+            is_taken: false,
         }
     }
 
-    /// Runs the command of these words, with a calculator, a store and a mirror.
-    pub(crate) fn run<R>(self, rt: &R, alloc: Global, words: &[&str]) -> Result<Ended, AllocError> {
-        let words = owned(alloc, words)?;
-        self.run_boxed(rt, alloc, words.as_slice())
+    /// Runs the command of these words, with a calculator, a store and a mirror, behind a gate that lets everyone pass.
+    pub(crate) fn run<R: Threads + Wait + Sync>(
+        self,
+        rt: &R,
+        alloc: Global,
+        words: &[&str],
+    ) -> Result<Ended, AllocError> {
+        self.run_behind(rt, alloc, words, &EmptyGate)
     }
 
-    fn run_boxed<R>(self, rt: &R, alloc: Global, words: &[String]) -> Result<Ended, AllocError> {
+    /// The same behind a gate.
+    pub(crate) fn run_behind<G: Gate + Sync, R: Threads + Wait + Sync>(
+        self,
+        rt: &R,
+        alloc: Global,
+        words: &[&str],
+        gate: &G,
+    ) -> Result<Ended, AllocError> {
+        let words = owned(alloc, words)?;
         let calculator: Box<dyn Handler> = Box::new(alloc, Calculator::new(alloc))?;
         let store: Box<dyn Handler> = Box::new(alloc, Store::new(alloc))?;
         let mirror: Box<dyn Handler> = Box::new(alloc, Mirror::new())?;
         let handlers = vec![in alloc; calculator, store, mirror]?;
-        Ok(self.run_with(rt, alloc, words, handlers))
+        self.run_with(rt, alloc, words.as_slice(), gate, handlers)
     }
 
-    fn run_with<R, H: Handler>(
+    fn run_with<G: Gate + Sync, H: Handler, R: Threads + Wait + Sync>(
         self,
         rt: &R,
         alloc: Global,
         words: &[String],
+        gate: &G,
         handlers: Vec<H>,
-    ) -> Ended {
+    ) -> Result<Ended, AllocError> {
         let Given {
             mut files,
             mut input,
             mut output,
             mut errors,
+            port,
+            is_taken,
         } = self;
+        let mut binder = binder_over(alloc, port, is_taken)?;
         let status = host(
             rt,
             alloc,
@@ -103,13 +133,29 @@ impl Given {
             &mut input,
             &mut output,
             &mut errors,
+            &mut binder,
+            gate,
             handlers,
         );
-        Ended {
+        let journal = files.read_whole(alloc, JOURNAL, 1_000_000);
+        Ok(Ended {
             status,
             output: output.into_bytes(),
             errors: errors.into_bytes(),
-        }
+            journal: journal.unwrap_or_else(|_| Vec::new(alloc)),
+        })
+    }
+}
+
+/// Links over a script, in place of a port.
+fn binder_over(alloc: Global, script: &[u8], is_taken: bool) -> Result<MemBinder, AllocError> {
+    let mut fails = Vec::new(alloc);
+    if is_taken {
+        fails.push(0u64)?;
+    }
+    match read_script(alloc, script, 0, false) {
+        Ok(script) => Ok(MemBinder::new(script, fails)),
+        Err(_) => Err(AllocError),
     }
 }
 
@@ -138,14 +184,22 @@ pub(crate) fn files_of(
 }
 
 /// Runs the command on a script, over streams that never fail.
-pub(crate) fn run_script<R>(rt: &R, alloc: Global, script: Vec<u8>) -> Result<Ended, AllocError> {
+pub(crate) fn run_script<R: Threads + Wait + Sync>(
+    rt: &R,
+    alloc: Global,
+    script: Vec<u8>,
+) -> Result<Ended, AllocError> {
     let mut given = Given::empty(alloc);
     given.input = MemSource::new(script, Vec::new(alloc));
     given.run(rt, alloc, &REHEARSE)
 }
 
 /// Checks `a.thrift`, which holds this text.
-pub(crate) fn check_text<R>(rt: &R, alloc: Global, text: Vec<u8>) -> Result<Ended, AllocError> {
+pub(crate) fn check_text<R: Threads + Wait + Sync>(
+    rt: &R,
+    alloc: Global,
+    text: Vec<u8>,
+) -> Result<Ended, AllocError> {
     let file = (String::from_str(alloc, "a.thrift")?, text);
     let mut given = Given::empty(alloc);
     given.files = MemFiles::new(vec![in alloc; file]?, Vec::new(alloc));

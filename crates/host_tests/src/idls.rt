@@ -4,7 +4,9 @@ use crate::given::{Ended, Given, Held, check_text, files_of};
 use outside::MemSink;
 use std::alloc::{AllocError, Global};
 use std::process::Abort;
+use std::sync::Wait;
 use std::test::Fail;
+use std::thread::Threads;
 use thrift_host::Status;
 
 /// Texts with their schemas.
@@ -154,7 +156,11 @@ fn texts_are_judged(rt: HostRuntime) -> Result<(), Fail> {
 }
 
 /// What a text of so many blanks comes to.
-fn check_blanks<R>(rt: &R, alloc: Global, count: usize) -> Result<Ended, AllocError> {
+fn check_blanks<R: Threads + Wait + Sync>(
+    rt: &R,
+    alloc: Global,
+    count: usize,
+) -> Result<Ended, AllocError> {
     check_text(rt, alloc, vec![in alloc; b' '; count]?)
 }
 
@@ -211,7 +217,7 @@ const PROGRAMS: [(&[Held], &[u64], Status, &[u8]); 6] = [
 ];
 
 /// Runs the program where these files are there, and the reads with these numbers fail.
-fn run_beside<R>(
+fn run_beside<R: Threads + Wait + Sync>(
     rt: &R,
     alloc: Global,
     words: &[&str],
@@ -268,7 +274,11 @@ fn schemas_are_printed(rt: HostRuntime) -> Result<(), Fail> {
 }
 
 /// Checks the two files over a sink that takes ten bytes at a time, and whose write of this number fails.
-fn print_until<R>(rt: &R, alloc: Global, fails: u64) -> Result<Ended, AllocError> {
+fn print_until<R: Threads + Wait + Sync>(
+    rt: &R,
+    alloc: Global,
+    fails: u64,
+) -> Result<Ended, AllocError> {
     let mut given = Given::empty(alloc);
     given.files = files_of(alloc, TWO_FILES, &[])?;
     given.output = MemSink::in_pieces(alloc, vec![in alloc; fails]?, 10);

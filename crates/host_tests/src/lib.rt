@@ -1,5 +1,5 @@
 //! Tests of the program through its top call, and nothing else: recorded connections with their reports and refusals, services of
-//! many IDLs, scripts of many connections, the calls of Apache's Python client, texts that are scripts or none, IDLs that are accepted or refused, and runs at size.
+//! many IDLs, scripts of many connections, without threads and with workers on them, a port that is served, the calls of Apache's Python client, texts that are scripts or none, IDLs that are accepted or refused, and runs at size.
 #![tactic(auto)]
 
 #[cfg(test)]
@@ -13,8 +13,14 @@ mod machines;
 #[cfg(test)]
 mod recordings;
 #[cfg(test)]
+mod records;
+#[cfg(test)]
 mod scripts;
+#[cfg(test)]
+mod serves;
 #[cfg(test)]
 mod services;
 #[cfg(test)]
 mod sizes;
+#[cfg(test)]
+mod works;

@@ -4,7 +4,9 @@ use crate::given::Given;
 use outside::MemSource;
 use std::alloc::{AllocError, Global};
 use std::process::Abort;
+use std::sync::Wait;
 use std::test::Fail;
+use std::thread::Threads;
 use thrift_host::Status;
 
 /// A run: its words, its script, and how its report ends.
@@ -146,7 +148,7 @@ adfail 3\n",
 ];
 
 /// Whether a run is done, and its report ends so.
-fn ends_so<R>(rt: &R, alloc: Global, run: &Run) -> Result<bool, AllocError> {
+fn ends_so<R: Threads + Wait + Sync>(rt: &R, alloc: Global, run: &Run) -> Result<bool, AllocError> {
     let mut given = Given::empty(alloc);
     given.input = MemSource::new(run.1.to_vec(alloc)?, Vec::new(alloc));
     Ok(given.run(rt, alloc, run.0)?.is_done_with(run.2))
@@ -171,9 +173,9 @@ fn opened(alloc: Global, count: usize) -> Result<Vec<u8>, AllocError> {
 }
 
 /// How the script of so many connections is refused.
-fn is_refused_so(
+fn is_refused_so<R: Threads + Wait + Sync>(
     alloc: Global,
-    rt: &HostRuntime,
+    rt: &R,
     count: usize,
     line: &[u8],
 ) -> Result<bool, AllocError> {

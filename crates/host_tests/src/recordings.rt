@@ -4,14 +4,21 @@ use crate::given::{Ended, Given, REHEARSE, run_script};
 use outside::{MemSink, MemSource};
 use std::alloc::{AllocError, Global};
 use std::process::Abort;
+use std::sync::Wait;
 use std::test::Fail;
+use std::thread::Threads;
 use thrift_host::Status;
 
 /// The longest script, in bytes.
 const LONGEST_SCRIPT: usize = 67_108_864;
 
 /// Runs the command on `PING`, given and taken a byte at a time, with these numbers of the reads and writes that fail.
-fn run_ping<R>(rt: &R, alloc: Global, reads: &[u64], writes: &[u64]) -> Result<Ended, AllocError> {
+fn run_ping<R: Threads + Wait + Sync>(
+    rt: &R,
+    alloc: Global,
+    reads: &[u64],
+    writes: &[u64],
+) -> Result<Ended, AllocError> {
     let mut given = Given::empty(alloc);
     given.input = ping_in_bytes(alloc, reads)?;
     given.output = MemSink::in_pieces(alloc, writes.to_vec(alloc)?, 1);
@@ -166,7 +173,11 @@ fn a_line_that_is_not_written_changes_no_status(rt: HostRuntime) -> Result<(), F
 }
 
 /// Runs the command on a comment of so many bytes, with a connection behind it that opens and ends.
-fn run_comment<R>(rt: &R, alloc: Global, count: usize) -> Result<Ended, AllocError> {
+fn run_comment<R: Threads + Wait + Sync>(
+    rt: &R,
+    alloc: Global,
+    count: usize,
+) -> Result<Ended, AllocError> {
     let mut script = vec![in alloc; b'#'; count]?;
     script.extend_from_slice(b"\nopen\nend 0\n")?;
     run_script(rt, alloc, script)

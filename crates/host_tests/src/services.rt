@@ -4,7 +4,9 @@ use crate::given::{Ended, Given, Held, files_of};
 use outside::{MemSink, MemSource};
 use std::alloc::{AllocError, Global};
 use std::process::Abort;
+use std::sync::Wait;
 use std::test::Fail;
+use std::thread::Threads;
 use thrift_host::Status;
 
 /// The words of rehearsals.
@@ -241,7 +243,7 @@ fn script_of_frames(alloc: Global, frames: &[u8]) -> Result<Vec<u8>, AllocError>
 }
 
 /// Runs a rehearsal of these frames.
-pub(crate) fn serve<R>(
+pub(crate) fn serve<R: Threads + Wait + Sync>(
     rt: &R,
     alloc: Global,
     words: &[&str],
@@ -382,7 +384,11 @@ const DIVISION: &[u8] =
     b"00000036800100010000000963616c63756c61746500000001080001000000010c00020800010000000108000200000000080003000000040000";
 
 /// Runs that over a sink that takes a hundred bytes at a time, and whose write of this number fails.
-fn serve_until<R>(rt: &R, alloc: Global, fails: u64) -> Result<Ended, AllocError> {
+fn serve_until<R: Threads + Wait + Sync>(
+    rt: &R,
+    alloc: Global,
+    fails: u64,
+) -> Result<Ended, AllocError> {
     let mut given = Given::empty(alloc);
     given.input = MemSource::new(script_of_frames(alloc, DIVISION)?, Vec::new(alloc));
     given.output = MemSink::in_pieces(alloc, vec![in alloc; fails]?, 100);

@@ -4,7 +4,9 @@ use crate::given::{check_text, run_script};
 use host_model::plain::split;
 use std::alloc::{AllocError, Global};
 use std::process::Abort;
+use std::sync::Wait;
 use std::test::Fail;
+use std::thread::Threads;
 use text_out::{decimal, hex};
 
 /// The longest payload, in bytes.
@@ -56,7 +58,11 @@ fn joined(alloc: Global, first: &[u8], second: &[u8], third: &[u8]) -> Result<Ve
 }
 
 /// Whether the report of these bytes ends as the plain split says.
-fn ends_plainly<R>(rt: &R, alloc: Global, bytes: &[u8]) -> Result<bool, AllocError> {
+fn ends_plainly<R: Threads + Wait + Sync>(
+    rt: &R,
+    alloc: Global,
+    bytes: &[u8],
+) -> Result<bool, AllocError> {
     let ended = run_script(rt, alloc, script_of(alloc, bytes)?)?;
     let end = plain_end(alloc, bytes)?;
     Ok(ended.is_done_with(end.as_slice()))

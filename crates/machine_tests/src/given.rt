@@ -1,8 +1,12 @@
 //! What the tests share: scripts and reports in short, and the command, run on a script in memory.
 
 use calculator::Calculator;
-use outside::{MemFiles, MemSink, MemSource};
+use outside::{EmptyGate, MemFiles, MemSink, MemSource};
+use script_binder::MemBinder;
+use script_links::read_script;
 use std::alloc::{AllocError, Global};
+use std::sync::Wait;
+use std::thread::Threads;
 use thrift_host::host;
 
 /// The workers, the longest payload and the read budget of a rehearsal, as its words.
@@ -83,7 +87,7 @@ fn words_of(alloc: Global, setting: Setting) -> Result<Vec<String>, AllocError> 
 }
 
 /// What a rehearsal of a script writes, to its output and then to its errors.
-fn written<R>(
+fn written<R: Threads + Wait + Sync>(
     rt: &R,
     alloc: Global,
     setting: Setting,
@@ -95,6 +99,10 @@ fn written<R>(
     let mut input = MemSource::new(script, Vec::new(alloc));
     let mut output = MemSink::new(alloc, Vec::new(alloc));
     let mut errors = MemSink::new(alloc, Vec::new(alloc));
+    let Ok(nothing) = read_script(alloc, b"", 0, false) else {
+        return Err(AllocError);
+    };
+    let mut binder = MemBinder::new(nothing, Vec::new(alloc));
     let _ = host(
         rt,
         alloc,
@@ -103,6 +111,8 @@ fn written<R>(
         &mut input,
         &mut output,
         &mut errors,
+        &mut binder,
+        &EmptyGate,
         handlers,
     );
     let mut all = output.into_bytes();
@@ -111,7 +121,7 @@ fn written<R>(
 }
 
 /// Whether the rehearsal of a script has this report, and no line of errors.
-pub(crate) fn reports<R>(
+pub(crate) fn reports<R: Threads + Wait + Sync>(
     rt: &R,
     alloc: Global,
     setting: Setting,
@@ -123,7 +133,11 @@ pub(crate) fn reports<R>(
 }
 
 /// Whether a run has its report.
-pub(crate) fn has_its_report<R>(rt: &R, alloc: Global, run: &Run) -> Result<bool, AllocError> {
+pub(crate) fn has_its_report<R: Threads + Wait + Sync>(
+    rt: &R,
+    alloc: Global,
+    run: &Run,
+) -> Result<bool, AllocError> {
     let script = whole(alloc, &[(1, run.1)])?;
     let report = whole(alloc, &[(1, run.2)])?;
     reports(rt, alloc, run.0, script, report.as_slice())

@@ -3,7 +3,9 @@
 use crate::given::{PLAIN, PONG, reports, whole};
 use std::alloc::{AllocError, Global};
 use std::process::Abort;
+use std::sync::Wait;
 use std::test::Fail;
+use std::thread::Threads;
 use text_out::decimal;
 
 /// How many bytes `ping` has, and its reply.
@@ -41,7 +43,11 @@ fn report_of(
 }
 
 /// Whether a connection whose write fails behind so many of one byte was sent these.
-fn fails_at<R>(rt: &R, alloc: Global, count: usize) -> Result<bool, AllocError> {
+fn fails_at<R: Threads + Wait + Sync>(
+    rt: &R,
+    alloc: Global,
+    count: usize,
+) -> Result<bool, AllocError> {
     let script = whole(
         alloc,
         &[
@@ -72,7 +78,7 @@ fn rest_of_reply(alloc: Global, count: usize) -> Result<Vec<u8>, AllocError> {
 }
 
 /// Whether a connection whose write is blocked behind so many of one byte gets its whole reply, and then its input ends so, or a read fails.
-fn goes_on_behind<R>(
+fn goes_on_behind<R: Threads + Wait + Sync>(
     rt: &R,
     alloc: Global,
     count: usize,
@@ -115,7 +121,11 @@ fn a_write_is_blocked_at_each_place(rt: HostRuntime) -> Result<(), Fail> {
 }
 
 /// Whether a reply that is written byte by byte, each write behind such lines, is whole.
-fn is_whole_behind<R>(rt: &R, alloc: Global, lines: &[u8]) -> Result<bool, AllocError> {
+fn is_whole_behind<R: Threads + Wait + Sync>(
+    rt: &R,
+    alloc: Global,
+    lines: &[u8],
+) -> Result<bool, AllocError> {
     let script = whole(
         alloc,
         &[
@@ -157,7 +167,7 @@ fn marks_of_front(alloc: Global, count: usize) -> Result<Vec<u8>, AllocError> {
 }
 
 /// Whether a connection to which so many bytes of the call came, fewer than all, ends so.
-fn ends_behind<R>(
+fn ends_behind<R: Threads + Wait + Sync>(
     rt: &R,
     alloc: Global,
     count: usize,

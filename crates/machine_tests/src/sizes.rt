@@ -3,7 +3,9 @@
 use crate::given::{Setting, reports, whole};
 use std::alloc::{AllocError, Global};
 use std::process::Abort;
+use std::sync::Wait;
 use std::test::Fail;
+use std::thread::Threads;
 use text_out::decimal;
 
 /// The most connections that a script opens.
@@ -42,7 +44,7 @@ fn each(alloc: Global, texts: &[&[u8]]) -> Result<Vec<u8>, AllocError> {
 }
 
 /// Whether as many connections as may be open at once are served, the first eight calls in the first pass, and so on.
-fn most_are_served<R>(rt: &R, alloc: Global) -> Result<bool, AllocError> {
+fn most_are_served<R: Threads + Wait + Sync>(rt: &R, alloc: Global) -> Result<bool, AllocError> {
     let script = each(alloc, &[b"open;", b"data # P;", b"end #;"])?;
     let mut report = each(
         alloc,
@@ -65,7 +67,7 @@ fn as_many_as_may_be_open_are_served(rt: HostRuntime) -> Result<(), Fail> {
 }
 
 /// Whether so many connections whose inputs end at once, and these openings behind them, have this report.
-fn ended_have<R>(
+fn ended_have<R: Threads + Wait + Sync>(
     rt: &R,
     alloc: Global,
     openings: &[u8],
@@ -97,7 +99,7 @@ fn openings_count_also_where_inputs_have_ended(rt: HostRuntime) -> Result<(), Fa
 
 /// Whether a payload of 65,537 bytes, a call of `add` with a text of 65,500 bytes that it doesn't know, comes in two reads where payloads may be as long as
 /// `longest`, or is refused where that is a byte less.
-fn is_read_so<R>(
+fn is_read_so<R: Threads + Wait + Sync>(
     rt: &R,
     alloc: Global,
     longest: &'static str,

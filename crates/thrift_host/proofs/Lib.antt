@@ -1,3 +1,7 @@
 pub mod Lines
-pub mod Rehearsed
+pub mod Ran
+pub mod Shared
 pub mod Told
+pub mod Served
+pub mod Worked
+pub mod Checked

@@ -1,5 +1,7 @@
 pub mod Errors
 pub mod Checks
-pub mod Rehearsals
+pub mod Runs
+pub mod Serving
+pub mod Workloads
 pub mod Top
 pub mod Steps

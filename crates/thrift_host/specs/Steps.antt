@@ -1,5 +1,5 @@
 -- Steps of the program on the way to what it promises. No part of the promise: no clause of `host` cites them.
-use Rattle.std.specs.Prelude.{◌≡◌, ℕ, ◌⊎◌, Bool, false, List, Option, Result, Ok, Err}
+use Rattle.std.specs.Prelude.{◌≡◌, ⊤, ℕ, ◌⊎◌, Bool, true, false, List, Option, Result, Ok, Err, MatchResult}
 use Rattle.outside.specs.Content.{told_more}
 use Rattle.outside.specs.Taken.{IsTakenInPart}
 use Rattle.idl_schema.specs.declared.refusal.NoSchema.{NoSchema}
@@ -12,18 +12,26 @@ use Rattle.pair_binding.specs.declared.fault.BindFault.{BindFault}
 use Rattle.pair_binding.specs.declared.fault.BindFault.TheVariants as bind_faults
 use Rattle.pair_binding.specs.FirstRefusal.{IsFirstRefusal, OnRefusal}
 use Rattle.pair_binding.specs.Refusals.{refused_pair_text}
-use Rattle.recorded_calls.specs.Recorded.{Streams}
-use Rattle.recorded_calls.specs.Answered.{IsReported, MeansFault}
+use Rattle.call_rules.specs.Handling.{ServiceState}
+use Rattle.call_model.specs.Offices.{PlainOffice}
+use Rattle.recorded_calls.specs.Recorded.{Streams, MeansRecordedFault}
 use Rattle.recorded_calls.specs.Refusals.{refused_script_text}
 use Rattle.recorded_calls.specs.declared.fault.ServingFault.{ServingFault}
 use Rattle.recorded_calls.specs.declared.fault.ServingFault.TheVariants as serving_faults
+use Rattle.workload.specs.ExpectedRun.{work_text}
+use Rattle.workload_serving.specs.Summaries.{EndsSummary}
+use Rattle.port_serving.specs.declared.fault.PortFault.{PortFault}
+use Rattle.port_serving.specs.declared.fault.PortFault.TheVariants as port_faults
 use Rattle.thrift_host.specs.declared.status.Status.{Status}
 use Rattle.thrift_host.specs.declared.status.Status.TheVariants as status
-use Rattle.thrift_host.specs.declared.rehearsing.RehearsalFault.{RehearsalFault}
-use Rattle.thrift_host.specs.declared.rehearsing.RehearsalFault.TheVariants as faults
+use Rattle.thrift_host.specs.declared.arranging.RunFault.{RunFault}
+use Rattle.thrift_host.specs.declared.arranging.RunFault.TheVariants as faults
+use Rattle.thrift_host.specs.declared.serving.ServeFault.{ServeFault}
+use Rattle.thrift_host.specs.declared.serving.ServeFault.TheVariants as serve_faults
 use Rattle.thrift_host.specs.Errors.{Errors, IsSaid, IsLineSaid}
 use Rattle.thrift_host.specs.Checks.{AreUntouched}
-use Rattle.thrift_host.specs.Rehearsals.{AskedRehearsal, IsAccepted, IsAnsweredBy}
+use Rattle.thrift_host.specs.Runs.{ScriptRunning, AskedRun, IsArranged, IsAccepted, IsAnsweredBy, IsRunReported, arranged_office}
+use Rattle.thrift_host.specs.Serving.{AskedServing, HostChange, IsAllUntouched, IsAllServed, IsUnservedFor}
 
 -- the command ended with this status, whose fixed line was said
 abbrev pub EndsAs : (meant ended : Status) → Errors → Type 0
@@ -57,23 +65,77 @@ EndsUnanswered serving_faults.WriteFault ended e = EndsAs status.WriteFault ende
 EndsUnanswered serving_faults.JournalFault ended e = EndsAs status.NoMemory ended e
 EndsUnanswered serving_faults.NoMemory ended e = EndsAs status.NoMemory ended e
 
--- how it ends after a rehearsal of these pairs
-abbrev pub EndsRehearsed : {A : Type 0} → List NamedKind → Result A RehearsalFault → Status → Errors → Type 0
-EndsRehearsed pairs (Ok _) ended e = EndsAs status.Done ended e
-EndsRehearsed pairs (Err (faults.NoSchema reason)) ended e = EndsWithout reason ended e
-EndsRehearsed pairs (Err (faults.Unbound fault)) ended e = EndsUnbound pairs fault ended e
-EndsRehearsed pairs (Err (faults.Unanswered fault)) ended e = EndsUnanswered fault ended e
+-- how it ends after a run with these pairs
+abbrev pub EndsAfterRun : {A : Type 0} → List NamedKind → Result A RunFault → Status → Errors → Type 0
+EndsAfterRun pairs (Ok _) ended e = EndsAs status.Done ended e
+EndsAfterRun pairs (Err (faults.NoSchema reason)) ended e = EndsWithout reason ended e
+EndsAfterRun pairs (Err (faults.Unbound fault)) ended e = EndsUnbound pairs fault ended e
+EndsAfterRun pairs (Err (faults.Unanswered fault)) ended e = EndsUnanswered fault ended e
 
--- what a rehearsal says of its files, its input and its output
-abbrev pub TellsRehearsal : {A : Type 0} → AskedRehearsal → Result A RehearsalFault → Streams → Type 0
-TellsRehearsal r (Ok _) s = IsAnsweredBy r (λ a. IsReported a s)
-TellsRehearsal r (Err (faults.NoSchema reason)) s =
-    TellsWhy (IsIdlVerdict r.files r.says.idl) (IsUnreadIdl r.files r.says.idl) reason × AreUntouched s
-TellsRehearsal r (Err (faults.Unbound fault)) s =
-    IsAccepted r (λ schema. OnRefusal fault (IsFirstRefusal schema r.handlers r.says.pairs)) × AreUntouched s
-TellsRehearsal r (Err (faults.Unanswered fault)) s = IsAnsweredBy r (λ a. MeansFault a fault s)
+-- an office, and the services in its slots, are those of an arrangement
+pub record IsArrangedAs (r : AskedRun) (office : PlainOffice) (services : List ServiceState) : Type 0 where
+  pub arranged : IsArranged r
+  pub office_is : office ≡ arranged_office r arranged
+  pub services_are : services ≡ arranged.bound
+
+-- why nothing is arranged
+abbrev pub TellsUnarranged : AskedRun → RunFault → Type 0
+TellsUnarranged r (faults.NoSchema reason) = TellsWhy (IsIdlVerdict r.files r.says.idl) (IsUnreadIdl r.files r.says.idl) reason
+TellsUnarranged r (faults.Unbound fault) = IsAccepted r (λ schema. OnRefusal fault (IsFirstRefusal schema r.handlers r.says.pairs))
+TellsUnarranged r (faults.Unanswered fault) = ⊥
+
+-- what a fault of a run says of its files, its input and its output
+abbrev pub TellsFault : ScriptRunning → AskedRun → RunFault → Streams → Type 0
+TellsFault way r (faults.Unanswered fault) s = IsAnsweredBy r (λ a. MeansRecordedFault (way.script_in a) (way.IsRunOf a) a.line fault s)
+TellsFault way r fault s = TellsUnarranged r fault × AreUntouched s
+
+-- what a run says of them
+abbrev pub TellsRun : {A : Type 0} → ScriptRunning → AskedRun → Result A RunFault → Streams → Type 0
+TellsRun way r result s = MatchResult result (λ _. IsRunReported way r s) (λ fault. TellsFault way r fault s)
 
 -- a file of the IDL's couldn't be read
-abbrev pub is_unread_file : {A : Type 0} → Result A RehearsalFault → Bool
-is_unread_file (Err (faults.NoSchema reason)) = is_file_fault reason
-is_unread_file _ = false
+abbrev pub is_unread_fault : RunFault → Bool
+is_unread_fault (faults.NoSchema reason) = is_file_fault reason
+is_unread_fault _ = false
+
+abbrev pub is_unread_file : {A : Type 0} → Result A RunFault → Bool
+is_unread_file (Ok _) = false
+is_unread_file (Err fault) = is_unread_fault fault
+
+-- the status of a port that isn't served
+abbrev pub status_of_port : PortFault → Status
+status_of_port port_faults.FileFault = status.FileFault
+status_of_port port_faults.NetFault = status.NetFault
+status_of_port port_faults.WriteFault = status.WriteFault
+status_of_port port_faults.JournalFault = status.JournalFault
+status_of_port port_faults.NoMemory = status.NoMemory
+
+-- how it ends after serving at a port with these pairs
+abbrev pub EndsAfterServing : {A : Type 0} → List NamedKind → Result A ServeFault → Status → Errors → Type 0
+EndsAfterServing pairs (Ok _) ended e = EndsAs status.Done ended e
+EndsAfterServing pairs (Err (serve_faults.Unarranged fault)) ended e = EndsAfterRun {A = Unit {0}} pairs (Err fault) ended e
+EndsAfterServing pairs (Err (serve_faults.Unserved fault)) ended e = EndsAs (status_of_port fault) ended e
+
+-- what serving at a port says of what it was given
+abbrev pub TellsServing : {A : Type 0} → AskedServing → Result A ServeFault → HostChange → Type 0
+TellsServing a (Ok _) c = IsAllServed a c
+TellsServing a (Err (serve_faults.Unarranged fault)) c = TellsUnarranged a.run fault × IsAllUntouched c
+TellsServing a (Err (serve_faults.Unserved fault)) c = IsUnservedFor a c fault
+
+-- a file of the IDL's couldn't be read, or that of the journal couldn't be made
+abbrev pub is_file_missed : {A : Type 0} → Result A ServeFault → Bool
+is_file_missed (Err (serve_faults.Unarranged fault)) = is_unread_fault fault
+is_file_missed (Err (serve_faults.Unserved port_faults.FileFault)) = true
+is_file_missed _ = false
+
+-- why a workload isn't begun: nothing is arranged, or the tutorial has no calculator, which is answered as want of memory
+abbrev pub TellsUnworked : AskedRun → RunFault → Type 0
+TellsUnworked r (faults.Unanswered serving_faults.NoMemory) = ⊤
+TellsUnworked r (faults.Unanswered _) = ⊥
+TellsUnworked r fault = TellsUnarranged r fault
+
+-- what a workload says of its input and its output
+abbrev pub TellsWorkload : {A : Type 0} → AskedRun → (seed size : ℕ) → Result A RunFault → Streams → Type 0
+TellsWorkload r seed size (Ok _) s = (s.left ≡ s.left_before) × (s.taken ≡ told_more s.taken_before (work_text seed size))
+TellsWorkload r seed size (Err (faults.Unanswered fault)) s = (s.left ≡ s.left_before) × EndsSummary fault (work_text seed size) s.taken_before s.taken
+TellsWorkload r seed size (Err fault) s = TellsUnarranged r fault × AreUntouched s

@@ -1,30 +1,55 @@
--- What the top call promises of its status, its input, its output and its errors' line.
-use Rattle.std.specs.Prelude.{List, Option, Some}
+-- What the top call promises of its status, of what it was given, and of its errors' line.
+use Rattle.std.specs.Prelude.{◌≡◌, ⊤, ℕ, List, Option, Some}
 use Rattle.outside.specs.Files.{File}
 use Rattle.call_rules.specs.Handling.{ServiceState}
-use Rattle.recorded_calls.specs.Recorded.{Streams}
-use Rattle.command_line.specs.Words.{PlainCommand, checks, rehearses}
+use Rattle.command_line.specs.Served.{PlainServed}
+use Rattle.command_line.specs.Words.{PlainCommand, checks, rehearses, records, serves, runs}
+use Rattle.port_serving.specs.Places.{PortPlace, PlaceChange}
 use Rattle.thrift_host.specs.declared.status.Status.{Status}
 use Rattle.thrift_host.specs.declared.status.Status.TheVariants.{Usage, NoMemory}
 use Rattle.thrift_host.specs.Errors.{Errors, IsLineSaid}
 use Rattle.thrift_host.specs.Checks.{AreUntouched, MeansCheck, SaysCheck}
-use Rattle.thrift_host.specs.Rehearsals.{MeansRehearsal, SaysRehearsal}
+use Rattle.thrift_host.specs.Runs.{AskedRun, SaysUnarranged, MeansRun, SaysRun, rehearsing, recording}
+use Rattle.thrift_host.specs.Serving.{HostChange, IsPlaceKept, MeansServing}
+use Rattle.thrift_host.specs.Workloads.{asked_workload, MeansWorkload}
+use Rattle.recorded_calls.specs.Recorded.{Streams}
 
--- What a status says where nothing is run: it is Usage, or want of memory.
+-- a run that is asked for by these words, with these files and handlers
+abbrev pub asked_run : PlainServed → Option (List File) → List ServiceState → AskedRun
+asked_run says files handlers = record { says = says; files = files; handlers = handlers }
+
+-- the place of these words
+abbrev pub asked_place : (port accept : ℕ) (journal : List ℕ) → PortPlace
+asked_place port accept journal = record { listening = record { port = port; accept = accept }; journal = journal }
+
+-- What a status says where the words are no command: it is Usage, or want of memory.
 abbrev pub MeansUsage : Status → Streams → Type 0
 MeansUsage Usage s = AreUntouched s
 MeansUsage NoMemory s = AreUntouched s
 MeansUsage _ s = ⊥
 
--- What a status says of the command that the words are, among these files and with these handlers: Usage comes for the words alone, where they are
--- no command, or one that isn't run yet (`record`, `serve` and `workload`).
-abbrev pub Means : Option PlainCommand → Option (List File) → List ServiceState → Status → Streams → Type 0
-Means (Some (checks idl)) files handlers status s = MeansCheck files idl status s
-Means (Some (rehearses says)) files handlers status s = MeansRehearsal (record { says = says; files = files; handlers = handlers }) status s
-Means _ files handlers status s = MeansUsage status s
+-- What a status says of the command that the words are, with these handlers: Usage comes for the words alone, where they are no command. Serving reads nothing
+-- of the input.
+abbrev pub Means : Option PlainCommand → List ServiceState → Status → HostChange → Type 0
+Means (Some (checks idl)) handlers status c = MeansCheck c.place.files_before idl status c.streams
+Means (Some (rehearses says)) handlers status c = MeansRun rehearsing (asked_run says c.place.files_before handlers) status c.streams
+Means (Some (records says)) handlers status c = MeansRun recording (asked_run says c.place.files_before handlers) status c.streams
+Means (Some (serves says port accept journal)) handlers status c =
+    (c.streams.left ≡ c.streams.left_before)
+    × MeansServing (record { run = asked_run says c.place.files_before handlers; place = asked_place port accept journal }) c status
+Means (Some (runs seed size workers)) handlers status c = MeansWorkload (asked_workload workers c.place.files_before handlers) seed size status c.streams
+Means _ handlers status c = MeansUsage status c.streams
+
+-- All commands but `serve` leave the files as they were, and bind nothing.
+abbrev pub KeepsPlace : Option PlainCommand → PlaceChange → Type 0
+KeepsPlace (Some (serves says port accept journal)) p = ⊤
+KeepsPlace _ p = IsPlaceKept p
 
 -- The line of its status was added to the errors.
-abbrev pub Says : Option PlainCommand → Option (List File) → List ServiceState → Status → Streams → Errors → Type 0
-Says (Some (checks idl)) files handlers status s e = SaysCheck files idl status e
-Says (Some (rehearses says)) files handlers status s e = SaysRehearsal (record { says = says; files = files; handlers = handlers }) status s e
-Says _ files handlers status s e = IsLineSaid status e
+abbrev pub Says : Option PlainCommand → List ServiceState → Status → HostChange → Errors → Type 0
+Says (Some (checks idl)) handlers status c e = SaysCheck c.place.files_before idl status e
+Says (Some (rehearses says)) handlers status c e = SaysRun rehearsing (asked_run says c.place.files_before handlers) status c.streams e
+Says (Some (records says)) handlers status c e = SaysRun recording (asked_run says c.place.files_before handlers) status c.streams e
+Says (Some (serves says port accept journal)) handlers status c e = SaysUnarranged (asked_run says c.place.files_before handlers) status e
+Says (Some (runs seed size workers)) handlers status c e = SaysUnarranged (asked_workload workers c.place.files_before handlers) status e
+Says _ handlers status c e = IsLineSaid status e

@@ -1,26 +1,47 @@
 //! The top call.
 
-ghost use Rattle.std.specs.Prelude.{◌≡◌, ℕ, List, map, string_bytes};
+ghost use Rattle.std.specs.Prelude.{◌≡◌, ◌≢◌, ◌≤◌, ℕ, List, Option, map, string_bytes};
 ghost use Rattle.outside.specs.Cause.{Rose};
 ghost use Rattle.command_line.specs.Answering.{plain_served};
 ghost use Rattle.command_line.specs.Bounds.{KeepsServedBounds};
 ghost use Rattle.command_line.specs.Words.{words_of};
-ghost use Rattle.thrift_host.specs.Top.{Means, Says};
-ghost use Rattle.thrift_host.specs.Rehearsals.{MeansRehearsal, SaysRehearsal};
+ghost use Rattle.thrift_host.specs.Top.{Means, Says, KeepsPlace, asked_run, asked_place};
+ghost use Rattle.thrift_host.specs.Runs.{MeansRun, SaysRun, SaysUnarranged, rehearsing, recording};
+ghost use Rattle.thrift_host.specs.Serving.{MeansServing, host_change, place_change};
+ghost use Rattle.thrift_host.specs.Workloads.{MeansWorkload, asked_workload};
 
 use crate::checking::check;
-use crate::rehearsing::{end_rehearsed, rehearse};
+use crate::ending::{end_run, end_serving};
+use crate::recording::serve_script;
+use crate::rehearsing::rehearse;
 use crate::saying::end;
+use crate::serving::serve_connections;
 use crate::status::Status;
+use crate::workloads::{work, workload_words};
 use call_rules::Handler;
 use command_line::{Command, ServedIdl, WordsFault, read_words};
-use outside::{Files, Sink, Source};
+use outside::{Binder, Files, Gate, Sink, Source};
+use port_serving::ServingPlace;
 use std::alloc::Global;
+use std::sync::Wait;
+use std::thread::Threads;
+use workload_serving::Work;
 
-/// Runs the command of these words, which leave the program's name out: it checks an IDL and writes the text of its schema to the output, or it
-/// runs the script of recorded connections that its input is, with these handlers, and writes the report there. Where it isn't done it says why on the
-/// errors, in one line. A write of that line that fails changes nothing.
-pub fn host<R, F: Files, S: Source, K: Sink, E: Sink, H: Handler>(
+/// Runs the command of these words, which leave the program's name out: it checks an IDL and writes the text of its schema to the output; it runs the
+/// script of recorded connections that its input is, with these handlers, and writes the report there, without threads, or by a loop with workers that pass the
+/// gate; it serves connections at a port that the binder listens at, with a journal among the files; or it runs a workload, whose script is made from a seed, on the
+/// tutorial's calculator, and writes its summary to the output. Where it isn't done it says why on the errors, in one
+/// line. A write of that line that fails changes nothing. It may wait.
+pub fn host<
+    F: Files,
+    S: Source,
+    K: Sink,
+    E: Sink,
+    B: Binder,
+    G: Gate + Sync,
+    H: Handler,
+    R: Threads + Wait + Sync,
+>(
     rt: &R,
     alloc: Global,
     words: &[String],
@@ -28,36 +49,79 @@ pub fn host<R, F: Files, S: Source, K: Sink, E: Sink, H: Handler>(
     input: &mut S,
     output: &mut K,
     errors: &mut E,
+    binder: &mut B,
+    gate: &G,
     handlers: Vec<H>,
 ) -> Status
-    // Usage comes exactly where the words are no command that is run, but for want of memory.
+    // Usage comes exactly where the words are no command, but for want of memory.
     // An IDL is checked: Done says that the text of its schema was added to the output, and nothing else. It and IdlRefused come exactly by the
     // files, since each IDL has one verdict. Nothing is read of the input.
-    // A rehearsal is served: Done says that the IDL has a schema, to which and to handlers the pairs are bound, that the input is a script, read to its
-    // end, and that the bytes added to the output are the report of a run of it, whose tape, journal and causes meet the headline at the office of
-    // these, from the memories of the handlers, and which the script feeds; where no connection has ended for want of memory, it is the one that the script
-    // determines. IdlRefused comes exactly by the files, BindRefused by the schema, the pairs and the handlers, and ScriptRefused by the input.
-    ensures means { Means (words_of (map string_bytes words.now)) (F.files files.old) (map H.service handlers.items) result
-        (record { left_before = S.left input.old; left = S.left input.new; taken_before = K.taken output.old; taken = K.taken output.new }) }
-    ensures errors { Says (words_of (map string_bytes words.now)) (F.files files.old) (map H.service handlers.items) result
-        (record { left_before = S.left input.old; left = S.left input.new; taken_before = K.taken output.old; taken = K.taken output.new })
+    // A script is run: Done says that the IDL has a schema, to which and to handlers the pairs are bound, that the input is a script, read to its end,
+    // and that the bytes added to the output are the report of a run of it, whose tape, journal and causes meet the headline at the office of these, from
+    // the memories of the handlers, and which the script feeds. Of a rehearsal, where no connection has ended for want of memory, it is the one that the
+    // script determines; by a loop with workers it is one of those that keep to the budget and to as many connections as may be open. IdlRefused comes
+    // exactly by the files, BindRefused by the schema, the pairs and the handlers, and ScriptRefused by the input.
+    // A port is served: Done says the same of IDL and pairs, that connections were served until all was over, that one tape more came back to the binder, that the
+    // journal's file holds the lines of the calls and nothing else, and that the summary was added to the output; and that tape, calls and causes meet the headline.
+    // A workload is run: Done says that the summary of its seed and size was added to the output, and nothing else.
+    ensures means { Means (words_of (map string_bytes words.now)) (map H.service handlers.items) result
+        (host_change (S.left input.old) (S.left input.new) (K.taken output.old) (K.taken output.new)
+        (place_change (F.files files.old) (F.files files.new) (F.sink_faults files.old) (F.sink_faults files.new) (B.past binder.old) (B.past binder.new))) }
+    ensures errors { Says (words_of (map string_bytes words.now)) (map H.service handlers.items) result
+        (host_change (S.left input.old) (S.left input.new) (K.taken output.old) (K.taken output.new)
+        (place_change (F.files files.old) (F.files files.new) (F.sink_faults files.old) (F.sink_faults files.new) (B.past binder.old) (B.past binder.new)))
         (record { taken_before = E.taken errors.old; taken = E.taken errors.new; faults_before = E.faults errors.old; faults = E.faults errors.new }) }
-    ensures files { F.files files.new ≡ F.files files.old }
+    ensures place { KeepsPlace (words_of (map string_bytes words.now))
+        (place_change (F.files files.old) (F.files files.new) (F.sink_faults files.old) (F.sink_faults files.new) (B.past binder.old) (B.past binder.new)) }
     ensures file_fault { result ≡ Status.FileFault → Rose (F.faults files.old) (F.faults files.new) }
     ensures read_fault { result ≡ Status.ReadFault → Rose (S.faults input.old) (S.faults input.new) }
     ensures write_fault { result ≡ Status.WriteFault → Rose (K.faults output.old) (K.faults output.new) }
+    ensures net_fault { result ≡ Status.NetFault → Rose (B.faults binder.old) (B.faults binder.new) }
+    ensures journal_fault { result ≡ Status.JournalFault → Rose (F.sink_faults files.old) (F.sink_faults files.new) }
 {
     match read_words(alloc, words) {
         Ok(Command::Check(idl)) => check(alloc, files, output, errors, idl.as_str()),
-        Ok(Command::Rehearse(served)) => {
-            rehearse_and_say(alloc, files, input, output, errors, &served, handlers)
+        Ok(Command::Rehearse(served)) => rehearse_and_say(
+            alloc, files, input, output, errors, &served, handlers,
+        ),
+        Ok(Command::Record(served)) => record_and_say(
+            rt, alloc, files, input, output, errors, &served, gate, handlers,
+        ),
+        Ok(
+            Command::Serve {
+                served,
+                port,
+                accept,
+                journal,
+            },
+        ) => {
+            let place = ServingPlace {
+                port,
+                accept,
+                journal: journal.as_str(),
+            };
+            serve_and_say(
+                rt, alloc, files, output, errors, binder, &served, &place, gate, handlers,
+            )
+        }
+        Ok(
+            Command::Workload {
+                seed,
+                size,
+                workers,
+            },
+        ) => {
+            let asked = Work { seed, size };
+            work_and_say(
+                rt, alloc, files, output, errors, asked, workers, gate, handlers,
+            )
         }
         Err(WordsFault::NoMemory) => end(errors, Status::NoMemory),
-        _ => end(errors, Status::Usage),
+        Err(WordsFault::Usage) => end(errors, Status::Usage),
     }
 }
 
-/// Serves recorded connections as the words say, and ends the command with what became of it.
+/// Rehearses recorded connections as the words say, and ends the command with what became of it.
 fn rehearse_and_say<F: Files, S: Source, K: Sink, E: Sink, H: Handler>(
     alloc: Global,
     files: &mut F,
@@ -68,10 +132,10 @@ fn rehearse_and_say<F: Files, S: Source, K: Sink, E: Sink, H: Handler>(
     handlers: Vec<H>,
 ) -> Status
     requires { KeepsServedBounds (plain_served served.now) }
-    ensures means { MeansRehearsal
+    ensures means { MeansRun rehearsing
         (record { says = plain_served served.now; files = F.files files.old; handlers = map H.service handlers.items }) result
         (record { left_before = S.left input.old; left = S.left input.new; taken_before = K.taken output.old; taken = K.taken output.new }) }
-    ensures errors { SaysRehearsal
+    ensures errors { SaysRun rehearsing
         (record { says = plain_served served.now; files = F.files files.old; handlers = map H.service handlers.items }) result
         (record { left_before = S.left input.old; left = S.left input.new; taken_before = K.taken output.old; taken = K.taken output.new })
         (record { taken_before = E.taken errors.old; taken = E.taken errors.new; faults_before = E.faults errors.old; faults = E.faults errors.new }) }
@@ -80,6 +144,119 @@ fn rehearse_and_say<F: Files, S: Source, K: Sink, E: Sink, H: Handler>(
     ensures read_fault { result ≡ Status.ReadFault → Rose (S.faults input.old) (S.faults input.new) }
     ensures write_fault { result ≡ Status.WriteFault → Rose (K.faults output.old) (K.faults output.new) }
 {
-    let rehearsed = rehearse(alloc, files, input, output, served, handlers);
-    end_rehearsed(alloc, errors, &served.pairs, rehearsed)
+    let came_to = rehearse(alloc, files, input, output, served, handlers);
+    end_run(alloc, errors, &served.pairs, came_to)
+}
+
+/// Serves recorded connections by a loop with workers, as the words say, and ends the command with what became of it. It may wait.
+fn record_and_say<
+    F: Files,
+    S: Source,
+    K: Sink,
+    E: Sink,
+    G: Gate + Sync,
+    H: Handler,
+    R: Threads + Wait + Sync,
+>(
+    rt: &R,
+    alloc: Global,
+    files: &mut F,
+    input: &mut S,
+    output: &mut K,
+    errors: &mut E,
+    served: &ServedIdl,
+    gate: &G,
+    handlers: Vec<H>,
+) -> Status
+    requires { KeepsServedBounds (plain_served served.now) }
+    ensures means { MeansRun recording
+        (record { says = plain_served served.now; files = F.files files.old; handlers = map H.service handlers.items }) result
+        (record { left_before = S.left input.old; left = S.left input.new; taken_before = K.taken output.old; taken = K.taken output.new }) }
+    ensures errors { SaysRun recording
+        (record { says = plain_served served.now; files = F.files files.old; handlers = map H.service handlers.items }) result
+        (record { left_before = S.left input.old; left = S.left input.new; taken_before = K.taken output.old; taken = K.taken output.new })
+        (record { taken_before = E.taken errors.old; taken = E.taken errors.new; faults_before = E.faults errors.old; faults = E.faults errors.new }) }
+    ensures files { F.files files.new ≡ F.files files.old }
+    ensures file_fault { result ≡ Status.FileFault → Rose (F.faults files.old) (F.faults files.new) }
+    ensures read_fault { result ≡ Status.ReadFault → Rose (S.faults input.old) (S.faults input.new) }
+    ensures write_fault { result ≡ Status.WriteFault → Rose (K.faults output.old) (K.faults output.new) }
+{
+    let came_to = serve_script(rt, alloc, files, input, output, served, gate, handlers);
+    end_run(alloc, errors, &served.pairs, came_to)
+}
+
+/// Serves connections at a place as the words say, by a loop with workers, and ends the command with what became of it. It may wait.
+fn serve_and_say<
+    F: Files,
+    K: Sink,
+    E: Sink,
+    B: Binder,
+    G: Gate + Sync,
+    H: Handler,
+    R: Threads + Wait + Sync,
+>(
+    rt: &R,
+    alloc: Global,
+    files: &mut F,
+    output: &mut K,
+    errors: &mut E,
+    binder: &mut B,
+    served: &ServedIdl,
+    place: &ServingPlace<'_>,
+    gate: &G,
+    handlers: Vec<H>,
+) -> Status
+    requires { KeepsServedBounds (plain_served served.now) }
+    ensures means { (left : Option (List ℕ)) → MeansServing
+        (record {
+          run = asked_run (plain_served served.now) (F.files files.old) (map H.service handlers.items);
+          place = asked_place place.now.port place.now.accept place.now.journal.now;
+        })
+        (host_change left left (K.taken output.old) (K.taken output.new)
+        (place_change (F.files files.old) (F.files files.new) (F.sink_faults files.old) (F.sink_faults files.new) (B.past binder.old) (B.past binder.new))) result }
+    ensures errors { SaysUnarranged (asked_run (plain_served served.now) (F.files files.old) (map H.service handlers.items)) result
+        (record { taken_before = E.taken errors.old; taken = E.taken errors.new; faults_before = E.faults errors.old; faults = E.faults errors.new }) }
+    ensures file_fault { result ≡ Status.FileFault → Rose (F.faults files.old) (F.faults files.new) }
+    ensures read_fault { result ≡ Status.ReadFault → ⊥ }
+    ensures write_fault { result ≡ Status.WriteFault → Rose (K.faults output.old) (K.faults output.new) }
+    ensures net_fault { result ≡ Status.NetFault → Rose (B.faults binder.old) (B.faults binder.new) }
+    ensures journal_fault { result ≡ Status.JournalFault → Rose (F.sink_faults files.old) (F.sink_faults files.new) }
+{
+    let came_to = serve_connections(
+        rt, alloc, files, output, binder, served, place, gate, handlers,
+    );
+    end_serving(alloc, errors, &served.pairs, came_to)
+}
+
+/// Runs a workload on the tutorial's calculator, by a loop with workers, and ends the command with what became of it. It may wait.
+fn work_and_say<F: Files, K: Sink, E: Sink, G: Gate + Sync, H: Handler, R: Threads + Wait + Sync>(
+    rt: &R,
+    alloc: Global,
+    files: &mut F,
+    output: &mut K,
+    errors: &mut E,
+    asked: Work,
+    workers: u32,
+    gate: &G,
+    handlers: Vec<H>,
+) -> Status
+    requires workers { workers ≤ 8 }
+    requires frames { 1 ≤ asked.size }
+    requires most { asked.size ≤ 1000000 }
+    ensures means { (left : Option (List ℕ)) → MeansWorkload (asked_workload workers (F.files files.old) (map H.service handlers.items)) asked.seed asked.size result
+        (record { left_before = left; left = left; taken_before = K.taken output.old; taken = K.taken output.new }) }
+    ensures errors { SaysUnarranged (asked_workload workers (F.files files.old) (map H.service handlers.items)) result
+        (record { taken_before = E.taken errors.old; taken = E.taken errors.new; faults_before = E.faults errors.old; faults = E.faults errors.new }) }
+    ensures files { F.files files.new ≡ F.files files.old }
+    ensures file_fault { result ≡ Status.FileFault → Rose (F.faults files.old) (F.faults files.new) }
+    ensures write_fault { result ≡ Status.WriteFault → Rose (K.faults output.old) (K.faults output.new) }
+    ensures no_read_fault { result ≢ Status.ReadFault }
+    ensures no_net_fault { result ≢ Status.NetFault }
+    ensures no_journal_fault { result ≢ Status.JournalFault }
+{
+    let Ok(served) = workload_words(alloc, workers) else {
+        return end(errors, Status::NoMemory);
+    };
+    let came_to = work(rt, alloc, files, output, &served, gate, handlers, asked);
+    end_run(alloc, errors, &served.pairs, came_to)
 }

@@ -1,4 +1,4 @@
-//! The journal of a rehearsal: entries in memory, and their lines in a report.
+//! The journal of a run: entries in memory, and their lines in a report.
 
 ghost use Rattle.std.specs.Prelude.{◌≡◌, []};
 ghost use Rattle.journal_text.specs.EntryText.{entry_text};

@@ -1,52 +1,28 @@
-//! A rehearsal: recorded connections, served by handlers of an IDL's services.
+//! A rehearsal: recorded connections, served by handlers of an IDL's services, without threads.
 
-ghost use Rattle.std.specs.Prelude.{◌≡◌, ◌≤◌, true, false, List, length, map, Option, Err, IfOk};
+ghost use Rattle.std.specs.Prelude.{◌≡◌, ◌≤◌, true, length, map, Err};
 ghost use Rattle.outside.specs.Cause.{Rose};
-ghost use Rattle.outside.specs.Files.{File};
 ghost use Rattle.call_rules.specs.Desks.{longest_payload};
 ghost use Rattle.call_model.specs.Desk.{desk_of};
 ghost use Rattle.command_line.specs.Answering.{plain_served};
 ghost use Rattle.command_line.specs.Bounds.{KeepsServedBounds};
 ghost use Rattle.journal_text.specs.EntryText.{entry_text};
 ghost use Rattle.processor.specs.Offices.{plain_office};
-ghost use Rattle.schema.specs.SchemaOf.{schema_of};
-ghost use Rattle.schema.specs.Sound.{IsSound};
-ghost use Rattle.pair_binding.specs.Refusals.{refused_pair_text};
 ghost use Rattle.recorded_calls.specs.Answered.{MeansAnswered};
-ghost use Rattle.recorded_calls.specs.Refusals.{refused_script_text};
 ghost use Rattle.recorded_calls.specs.declared.fault.ServingFault.TheVariants as serving_faults;
-ghost use Rattle.thrift_host.specs.Rehearsals.{HasSchema};
-ghost use Rattle.thrift_host.specs.Steps.{EndsRehearsed, EndsUnbound, EndsUnanswered, TellsRehearsal, is_unread_file};
-ghost use Rattle.thrift_host.specs.declared.rehearsing.RehearsalFault.TheVariants as faults;
+ghost use Rattle.thrift_host.specs.Runs.{rehearsing};
+ghost use Rattle.thrift_host.specs.Steps.{TellsRun, is_unread_file};
+ghost use Rattle.thrift_host.specs.declared.arranging.RunFault.TheVariants as faults;
 
-use crate::checking::end_without_schema;
+use crate::arranging::{RunFault, arrange};
 use crate::journal::{JournalLines, ReportedList};
-use crate::saying::{end, end_saying};
-use crate::status::Status;
-use bind_words::BindWords;
 use call_rules::Handler;
 use command_line::ServedIdl;
 use conn_table::Limits;
-use idl_schema::{NoSchema, program_schema};
 use outside::{Files, Sink, Source};
-use pair_binding::{BindKind, put_refused_pair};
 use processor::Office;
-use recorded_calls::{ServingFault, answer_recorded, put_refused_script};
-use schema::Schema;
-use script_links::ScriptFault;
-use service_binding::{BindFault, bind};
-use std::alloc::{AllocError, Global};
-
-/// Why a rehearsal has no report, or no whole one.
-#[derive(Drop)]
-pub(crate) enum RehearsalFault {
-    /// The IDL has no schema.
-    NoSchema(NoSchema),
-    /// The pairs aren't bound.
-    Unbound(BindFault),
-    /// The recording isn't answered.
-    Unanswered(ServingFault),
-}
+use recorded_calls::{ServingFault, answer_recorded};
+use std::alloc::Global;
 
 /// Runs the script that the input is, as the words say, and writes the report of the run to the output.
 pub(crate) fn rehearse<F: Files, S: Source, K: Sink, H: Handler>(
@@ -56,9 +32,9 @@ pub(crate) fn rehearse<F: Files, S: Source, K: Sink, H: Handler>(
     output: &mut K,
     served: &ServedIdl,
     handlers: Vec<H>,
-) -> Result<(), RehearsalFault>
+) -> Result<(), RunFault>
     requires { KeepsServedBounds (plain_served served.now) }
-    ensures tells { TellsRehearsal
+    ensures tells { TellsRun rehearsing
         (record { says = plain_served served.now; files = F.files files.old; handlers = map H.service handlers.items }) result
         (record { left_before = S.left input.old; left = S.left input.new; taken_before = K.taken output.old; taken = K.taken output.new }) }
     ensures files { F.files files.new ≡ F.files files.old }
@@ -66,48 +42,16 @@ pub(crate) fn rehearse<F: Files, S: Source, K: Sink, H: Handler>(
     ensures read_fault { result ≡ Err (faults.Unanswered serving_faults.ReadFault) → Rose (S.faults input.old) (S.faults input.new) }
     ensures write_fault { result ≡ Err (faults.Unanswered serving_faults.WriteFault) → Rose (K.faults output.old) (K.faults output.new) }
 {
-    match program_schema(alloc, files, served.idl.as_str()) {
-        Ok(schema) => arrange(alloc, input, output, served, schema, handlers),
-        Err(reason) => Err(RehearsalFault::NoSchema(reason)),
-    }
-}
-
-/// Binds the pairs to services of the schema and to handlers, and serves.
-fn arrange<S: Source, K: Sink, H: Handler>(
-    alloc: Global,
-    input: &mut S,
-    output: &mut K,
-    served: &ServedIdl,
-    schema: Schema,
-    handlers: Vec<H>,
-) -> Result<(), RehearsalFault>
-    requires sound { IsSound (schema_of schema) }
-    requires bounds { KeepsServedBounds (plain_served served.now) }
-    ensures tells { (files : Option (List File)) → HasSchema files served.now.idl (schema_of schema) → TellsRehearsal
-        (record { says = plain_served served.now; files = files; handlers = map H.service handlers.items }) result
-        (record { left_before = S.left input.old; left = S.left input.new; taken_before = K.taken output.old; taken = K.taken output.new }) }
-    ensures no_file { is_unread_file result ≡ false }
-    ensures read_fault { result ≡ Err (faults.Unanswered serving_faults.ReadFault) → Rose (S.faults input.old) (S.faults input.new) }
-    ensures write_fault { result ≡ Err (faults.Unanswered serving_faults.WriteFault) → Rose (K.faults output.old) (K.faults output.new) }
-{
-    match bind(alloc, &schema, &served.pairs, handlers) {
-        Ok((bindings, handlers)) => {
+    match arrange(alloc, files, served, handlers) {
+        Ok((office, handlers)) => {
             let limits = served.limits;
-            let office = Office::new(schema, bindings, served.protocol, limits.max_frame);
-            match serve(
-                alloc,
-                input,
-                output,
-                &office,
-                handlers,
-                served.workers,
-                limits,
-            ) {
+            let workers = served.workers;
+            match serve(alloc, input, output, &office, handlers, workers, limits) {
                 Ok(()) => Ok(()),
-                Err(fault) => Err(RehearsalFault::Unanswered(fault)),
+                Err(fault) => Err(RunFault::Unanswered(fault)),
             }
         }
-        Err(fault) => Err(RehearsalFault::Unbound(fault)),
+        Err(fault) => Err(fault),
     }
 }
 
@@ -138,85 +82,4 @@ fn serve<S: Source, K: Sink, H: Handler>(
         alloc, input, output, office, handlers, journal, workers, limits,
     );
     answered.result
-}
-
-/// Ends the command with what became of a rehearsal of these pairs.
-pub(crate) fn end_rehearsed<E: Sink>(
-    alloc: Global,
-    errors: &mut E,
-    pairs: &BindWords,
-    rehearsed: Result<(), RehearsalFault>,
-) -> Status
-    ensures { EndsRehearsed pairs.now rehearsed result
-        (record { taken_before = E.taken errors.old; taken = E.taken errors.new; faults_before = E.faults errors.old; faults = E.faults errors.new }) }
-{
-    match rehearsed {
-        Ok(()) => end(errors, Status::Done),
-        Err(RehearsalFault::NoSchema(reason)) => end_without_schema(alloc, errors, reason),
-        Err(RehearsalFault::Unbound(fault)) => end_unbound(alloc, errors, pairs, fault),
-        Err(RehearsalFault::Unanswered(fault)) => end_unanswered(alloc, errors, fault),
-    }
-}
-
-/// Ends the command at a recording that isn't answered.
-fn end_unanswered<E: Sink>(alloc: Global, errors: &mut E, fault: ServingFault) -> Status
-    ensures { EndsUnanswered fault result
-        (record { taken_before = E.taken errors.old; taken = E.taken errors.new; faults_before = E.faults errors.old; faults = E.faults errors.new }) }
-{
-    match fault {
-        ServingFault::NoScript(fault) => end_saying(
-            errors,
-            Status::ScriptRefused,
-            refused_script_line(alloc, fault),
-        ),
-        ServingFault::ReadFault => end(errors, Status::ReadFault),
-        ServingFault::WriteFault => end(errors, Status::WriteFault),
-        // A journal that is a list never fails.
-        ServingFault::JournalFault | ServingFault::NoMemory => end(errors, Status::NoMemory),
-    }
-}
-
-/// The errors' line of an input that is no script.
-fn refused_script_line(alloc: Global, fault: ScriptFault) -> Result<Vec<u8>, AllocError>
-    ensures { IfOk result (λ line. line.items ≡ refused_script_text fault) }
-{
-    let mut line = Vec::new(alloc);
-    put_refused_script(&mut line, fault)?;
-    Ok(line)
-}
-
-/// Ends the command at pairs that aren't bound.
-fn end_unbound<E: Sink>(
-    alloc: Global,
-    errors: &mut E,
-    pairs: &BindWords,
-    fault: BindFault,
-) -> Status
-    ensures { EndsUnbound pairs.now fault result
-        (record { taken_before = E.taken errors.old; taken = E.taken errors.new; faults_before = E.faults errors.old; faults = E.faults errors.new }) }
-{
-    match fault {
-        BindFault::Refused(place, kind) => {
-            end_saying(
-                errors,
-                Status::BindRefused,
-                refused_pair_line(alloc, pairs, place, kind),
-            )
-        }
-        BindFault::NoMemory => end(errors, Status::NoMemory),
-    }
-}
-
-/// The errors' line of the pair at a place, which is refused.
-fn refused_pair_line(
-    alloc: Global,
-    pairs: &BindWords,
-    place: u32,
-    kind: BindKind,
-) -> Result<Vec<u8>, AllocError>
-    ensures { IfOk result (λ line. line.items ≡ refused_pair_text pairs.now place kind) }
-{
-    let mut line = Vec::new(alloc);
-    put_refused_pair(&mut line, pairs, place, kind)?;
-    Ok(line)
 }

@@ -61,6 +61,8 @@ fn error_line(status: Status) -> Option<&'static str>
         Status::FileFault => Some("thriftd: file fault\n"),
         Status::ReadFault => Some("thriftd: read fault\n"),
         Status::WriteFault => Some("thriftd: write fault\n"),
+        Status::NetFault => Some("thriftd: net fault\n"),
+        Status::JournalFault => Some("thriftd: journal fault\n"),
         Status::NoMemory => Some("thriftd: no memory\n"),
         Status::IdlRefused | Status::ScriptRefused | Status::BindRefused => None,
     }

@@ -13,12 +13,16 @@ pub enum Status {
     ScriptRefused = 3,
     /// A pair of the words can't be bound to a service and a handler.
     BindRefused = 4,
-    /// A file of the IDL's couldn't be read.
+    /// A file of the IDL's couldn't be read, or that of the journal couldn't be made.
     FileFault = 5,
     /// A read of the input failed.
     ReadFault = 6,
     /// A write of the output failed.
     WriteFault = 7,
+    /// The port can't be listened at, or its links failed.
+    NetFault = 8,
+    /// A write of the journal failed.
+    JournalFault = 9,
     /// Memory ran out.
     NoMemory = 10,
 }

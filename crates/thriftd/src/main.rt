@@ -1,13 +1,17 @@
-//! The program: it hands its words, the system's files, the standard streams and its handlers to the top call, and ends with its status.
+//! The program: it hands its words, the system's files, the standard streams, its ports and its handlers to the top call, and ends with its status.
 #![tactic(auto)]
 
 use calculator::Calculator;
 use call_rules::Handler;
 use house_handlers::{Mirror, Store};
-use outside::{RealFiles, RealIn, RealOut};
+use net_links::NetBinder;
+use outside::{EmptyGate, RealFiles, RealIn, RealOut};
 use std::alloc::AllocError;
 use std::io::ErrorKind;
+use std::net::Net;
 use std::process::ExitCode;
+use std::sync::Wait;
+use std::thread::Threads;
 use std::{env, io};
 use thrift_host::{Status, host};
 
@@ -18,7 +22,7 @@ fn main(rt: HostRuntime) -> ExitCode {
         // A word that isn't UTF-8 makes no command, as no word does.
         Err(_) => Vec::new(rt.alloc()),
     };
-    match run(&rt, &words) {
+    match run(&rt, &rt, &words) {
         Ok(status) => ExitCode::from(status as u8),
         Err(AllocError) => end_without_memory(&rt),
     }
@@ -39,29 +43,41 @@ fn end_without_memory(rt: &HostRuntime) -> ExitCode {
     ExitCode::from(Status::NoMemory as u8)
 }
 
-/// Runs the command of these words with a calculator, a store and a mirror.
-fn run(rt: &HostRuntime, words: &[String]) -> Result<Status, AllocError> {
+/// Runs the command of these words with a calculator, a store and a mirror; threads and ports are those of `handle`.
+fn run<R: Threads + Wait + Net + Sync>(
+    rt: &HostRuntime,
+    handle: &R,
+    words: &[String],
+) -> Result<Status, AllocError> {
     let calculator: Box<dyn Handler> = Box::new(rt.alloc(), Calculator::new(rt.alloc()))?;
     let store: Box<dyn Handler> = Box::new(rt.alloc(), Store::new(rt.alloc()))?;
     let mirror: Box<dyn Handler> = Box::new(rt.alloc(), Mirror::new())?;
     let handlers = vec![in rt.alloc(); calculator, store, mirror]?;
-    Ok(run_with(rt, words, handlers))
+    Ok(run_with(rt, handle, words, handlers))
 }
 
-/// Runs the command of these words with these handlers, on the system's files and the standard streams.
-fn run_with<H: Handler>(rt: &HostRuntime, words: &[String], handlers: Vec<H>) -> Status {
+/// Runs the command of these words with these handlers, on the system's files, the standard streams and the ports of the loopback address.
+fn run_with<H: Handler, R: Threads + Wait + Net + Sync>(
+    rt: &HostRuntime,
+    handle: &R,
+    words: &[String],
+    handlers: Vec<H>,
+) -> Status {
     let mut files = RealFiles::new(rt);
     let mut input = RealIn::new(rt);
     let mut output = RealOut::output(rt);
     let mut errors = RealOut::errors(rt);
+    let mut binder = NetBinder::new(handle);
     host(
-        rt,
+        handle,
         rt.alloc(),
         words,
         &mut files,
         &mut input,
         &mut output,
         &mut errors,
+        &mut binder,
+        &EmptyGate,
         handlers,
     )
 }

@@ -1,0 +1,127 @@
+//! Scripts of many connections, served by a loop with two workers on threads.
+
+use crate::given::{Ended, Given};
+use outside::{EmptyGate, Gate, MemSource};
+use std::alloc::{AllocError, Global};
+use std::process::Abort;
+use std::sync::Wait;
+use std::sync::atomic::{AtomicU64, Ordering};
+use std::test::Fail;
+use std::thread::{Threads, yield_now};
+use thrift_host::Status;
+
+const RECORD: [&str; 5] = [
+    "record",
+    "@tutorial",
+    "binary",
+    "2",
+    "Calculator=calculator",
+];
+
+/// The same with a budget of one frame of thirty bytes.
+const RECORD_LEAST: [&str; 9] = [
+    "record",
+    "@tutorial",
+    "binary",
+    "2",
+    "Calculator=calculator",
+    "--max-frame",
+    "30",
+    "--read-budget",
+    "30",
+];
+
+/// A number that one connection keeps and another reads.
+const KEPT: &[u8] =
+    b"open\nopen\ndata 0 00000036800100010000000963616c63756c61746500000001080001000000070c0002080001000000140800020000001608000\
+3000000010000\nrest\ndata 1 0000001d8001000100000009676574537472756374000000010800010000000700\nend 0\nend 1\n";
+
+const KEPT_END: &[u8] =
+    b"call 0 0 0 calculate {1=7i,2={1=20i,2=22i,3=1i}} ok 42i\ncall 1 0 0 getStruct {1=7i} ok {1=7i,2=\"42\"}\nconn 0 End 000\
+0001d800100020000000963616c63756c617465000000010800000000002a00\nconn 1 End 0000002a80010002000000096765745374727563740000\
+00010c0000080001000000070b00020000000234320000\ncalls 2\n";
+
+/// A sum on each of two connections.
+const SUMS: &[u8] =
+    b"open\nopen\ndata 0 0000001e800100010000000361646400000001080001000000010800020000000100\ndata 1 0000001e8001000100000003\
+61646400000001080001000000010800020000000100\nend 0\nend 1\n";
+
+const SUMS_END: &[u8] =
+    b"conn 0 End 000000178001000200000003616464000000010800000000000200\nconn 1 End 00000017800100020000000361646400000001080000\
+0000000200\ncalls 2\n";
+
+/// `ping` on each of two connections.
+const PINGS: &[u8] =
+    b"open\nopen\ndata 0 00000011800100010000000470696e670000000000\ndata 1 00000011800100010000000470696e670000000000\nend 0\nend 1\n";
+
+const PINGS_END: &[u8] =
+    b"conn 0 End 00000011800100020000000470696e670000000000\nconn 1 End 00000011800100020000000470696e670000000000\ncalls 2\n";
+
+/// Runs the command of these words on a script.
+fn served<G: Gate + Sync, R: Threads + Wait + Sync>(
+    rt: &R,
+    alloc: Global,
+    words: &[&str],
+    script: &[u8],
+    gate: &G,
+) -> Result<Ended, AllocError> {
+    let mut given = Given::empty(alloc);
+    given.input = MemSource::new(script.to_vec(alloc)?, Vec::new(alloc));
+    given.run_behind(rt, alloc, words, gate)
+}
+
+#[test]
+fn recorded_runs_have_their_ends(rt: HostRuntime) -> Result<(), Fail> {
+    let kept = served(&rt, rt.alloc(), &RECORD, KEPT, &EmptyGate)?;
+    assert!(rt; kept.is_done_with(KEPT_END));
+    let summed = served(&rt, rt.alloc(), &RECORD_LEAST, SUMS, &EmptyGate)?;
+    assert!(rt; summed.is_done_with(SUMS_END));
+    Ok(())
+}
+
+#[test]
+fn recorded_scripts_have_no_schedule(rt: HostRuntime) -> Result<(), Fail> {
+    let ended = served(
+        &rt,
+        rt.alloc(),
+        &RECORD,
+        b"open\nloop 0\nend 0\n",
+        &EmptyGate,
+    )?;
+    assert!(rt; ended.is_refused(Status::ScriptRefused, b"thriftd: script 2 Schedule\n"));
+    Ok(())
+}
+
+/// Counts the jobs that came to it, and those that met another one there. A job waits until two have come, for 1,000,000 tries at most.
+#[derive(Drop)]
+struct Meeting {
+    came: AtomicU64,
+    met: AtomicU64,
+}
+
+impl Gate for Meeting {
+    fn pass<R: Wait>(&self, _rt: &R, _c: u32, _i: u64) {
+        self.came.fetch_add(1, Ordering::SeqCst);
+        for _ in 0..1_000_000u32 {
+            if self.came.load(Ordering::SeqCst) >= 2 {
+                self.met.fetch_add(1, Ordering::SeqCst);
+                break;
+            }
+            yield_now();
+        }
+    }
+
+    fn done<R: Wait>(&self, _rt: &R, _c: u32, _i: u64) {}
+}
+
+#[test]
+fn two_calls_are_under_way_at_once(rt: HostRuntime) -> Result<(), Fail> {
+    let gate = Meeting {
+        came: AtomicU64::new(0),
+        met: AtomicU64::new(0),
+    };
+    let ended = served(&rt, rt.alloc(), &RECORD, PINGS, &gate)?;
+    assert!(rt; gate.came.load(Ordering::SeqCst) == 2 && gate.met.load(Ordering::SeqCst) == 2);
+    assert!(rt; ended.is_done_with(PINGS_END));
+    Ok(())
+}

@@ -1,0 +1,11 @@
+use Rattle.std.proofs.Common.{refl}
+use denote.Param.Send.{sendable}
+use Rattle.processor.specs.Offices.{plain_office}
+use Rattle.thrift_host.proofs.Shared.{office_sync}
+use Rattle.thrift_host.proofs.workloads.serve.Goals as goal
+
+pub serve_workload-answered-requires-sync-D : goal.serve_workload-answered-requires-sync-D
+serve_workload-answered-requires-sync-D g c κs within = search (sendable, office_sync)
+
+pub serve_workload-answered-requires-clause-calculators : goal.serve_workload-answered-requires-clause-calculators
+serve_workload-answered-requires-clause-calculators g c κs within = (plain_office c.args.office.now, refl, c.requires.calculators)

@@ -1,0 +1,38 @@
+use Rattle.std.proofs.Common.{◌≡◌, Err, ap, map, refl, arith}
+use Rattle.command_line.specs.Answering.{plain_served}
+use Rattle.command_line.specs.Served.{PlainServed}
+use Rattle.thrift_host.specs.Runs.{AskedRun}
+use Rattle.thrift_host.proofs.Worked.{untouched_workload, not_unworked}
+use Rattle.thrift_host.proofs.workloads.work.Goals as goal
+
+pub serve-requires-clause-some : goal.serve-requires-clause-some
+serve-requires-clause-some g c =
+    let most : c.args.served.now.limits.max_frame ≡ 16384000 = ap (λ (p : PlainServed). p.limits.max_frame) c.requires.says in omega (arith, most)
+
+pub serve-requires-clause-within : goal.serve-requires-clause-within
+serve-requires-clause-within g c =
+    let most : c.args.served.now.limits.max_frame ≡ 16384000 = ap (λ (p : PlainServed). p.limits.max_frame) c.requires.says in
+    let budget : c.args.served.now.limits.read_budget ≡ 268435456 = ap (λ (p : PlainServed). p.limits.read_budget) c.requires.says in
+    omega (arith, most, budget)
+
+pub serve-requires-clause-budget : goal.serve-requires-clause-budget
+serve-requires-clause-budget g c =
+    let budget : c.args.served.now.limits.read_budget ≡ 268435456 = ap (λ (p : PlainServed). p.limits.read_budget) c.requires.says in omega (arith, budget)
+
+pub returns-in-Ok-serve-clause-tells : goal.returns-in-Ok-serve-clause-tells
+returns-in-Ok-serve-clause-tells g c = λ left. (refl, c.in-Ok-serve.ensures.summed)
+
+pub returns-in-Ok-clause-tells : goal.returns-in-Ok-clause-tells
+returns-in-Ok-clause-tells g c = λ left. (refl, c.in-Err-serve.ensures.summed)
+
+pub returns-clause-tells : goal.returns-clause-tells
+returns-clause-tells g c = λ left.
+    untouched_workload
+    (record { says = plain_served c.args.served.now; files = g.F.Files.files c.args.files.now; handlers = map g.H.Handler.service c.args.handlers.items })
+    c.args.work.seed c.args.work.size c.in-Err.fault left (g.K.Sink.taken c.args.output.now) c.in-Err.ensures.tells
+
+pub returns-clause-write_fault : goal.returns-clause-write_fault
+returns-clause-write_fault g c = λ is.
+    absurd (not_unworked
+    (record { says = plain_served c.args.served.now; files = g.F.Files.files c.args.files.now; handlers = map g.H.Handler.service c.args.handlers.items })
+    (Err c.in-Err.fault) c.in-Err.ensures.tells is)

@@ -1,0 +1,131 @@
+//! How a command that serves ends.
+
+ghost use Rattle.std.specs.Prelude.{◌≡◌, IfOk};
+ghost use Rattle.pair_binding.specs.Refusals.{refused_pair_text};
+ghost use Rattle.recorded_calls.specs.Refusals.{refused_script_text};
+ghost use Rattle.thrift_host.specs.Steps.{EndsAfterRun, EndsAfterServing, EndsUnbound, EndsUnanswered, status_of_port};
+
+use crate::arranging::RunFault;
+use crate::checking::end_without_schema;
+use crate::saying::{end, end_saying};
+use crate::serving::ServeFault;
+use crate::status::Status;
+use bind_words::BindWords;
+use outside::Sink;
+use pair_binding::{BindKind, put_refused_pair};
+use port_serving::PortFault;
+use recorded_calls::{ServingFault, put_refused_script};
+use script_links::ScriptFault;
+use service_binding::BindFault;
+use std::alloc::{AllocError, Global};
+
+/// Ends the command with what became of a run with these pairs.
+pub(crate) fn end_run<E: Sink>(
+    alloc: Global,
+    errors: &mut E,
+    pairs: &BindWords,
+    came_to: Result<(), RunFault>,
+) -> Status
+    ensures { EndsAfterRun pairs.now came_to result
+        (record { taken_before = E.taken errors.old; taken = E.taken errors.new; faults_before = E.faults errors.old; faults = E.faults errors.new }) }
+{
+    match came_to {
+        Ok(()) => end(errors, Status::Done),
+        Err(RunFault::NoSchema(reason)) => end_without_schema(alloc, errors, reason),
+        Err(RunFault::Unbound(fault)) => end_unbound(alloc, errors, pairs, fault),
+        Err(RunFault::Unanswered(fault)) => end_unanswered(alloc, errors, fault),
+    }
+}
+
+/// Ends the command with what became of serving at a port with these pairs.
+pub(crate) fn end_serving<E: Sink>(
+    alloc: Global,
+    errors: &mut E,
+    pairs: &BindWords,
+    came_to: Result<(), ServeFault>,
+) -> Status
+    ensures { EndsAfterServing pairs.now came_to result
+        (record { taken_before = E.taken errors.old; taken = E.taken errors.new; faults_before = E.faults errors.old; faults = E.faults errors.new }) }
+{
+    match came_to {
+        Ok(()) => end(errors, Status::Done),
+        Err(ServeFault::Unarranged(fault)) => end_run(alloc, errors, pairs, Err(fault)),
+        Err(ServeFault::Unserved(fault)) => end(errors, port_status(fault)),
+    }
+}
+
+/// The status of a port that isn't served.
+fn port_status(fault: PortFault) -> Status
+    ensures { result ≡ status_of_port fault }
+{
+    match fault {
+        PortFault::FileFault => Status::FileFault,
+        PortFault::NetFault => Status::NetFault,
+        PortFault::WriteFault => Status::WriteFault,
+        PortFault::JournalFault => Status::JournalFault,
+        PortFault::NoMemory => Status::NoMemory,
+    }
+}
+
+/// Ends the command at a recording that isn't answered.
+fn end_unanswered<E: Sink>(alloc: Global, errors: &mut E, fault: ServingFault) -> Status
+    ensures { EndsUnanswered fault result
+        (record { taken_before = E.taken errors.old; taken = E.taken errors.new; faults_before = E.faults errors.old; faults = E.faults errors.new }) }
+{
+    match fault {
+        ServingFault::NoScript(fault) => end_saying(
+            errors,
+            Status::ScriptRefused,
+            refused_script_line(alloc, fault),
+        ),
+        ServingFault::ReadFault => end(errors, Status::ReadFault),
+        ServingFault::WriteFault => end(errors, Status::WriteFault),
+        // A journal that is a list never fails.
+        ServingFault::JournalFault | ServingFault::NoMemory => end(errors, Status::NoMemory),
+    }
+}
+
+/// The errors' line of an input that is no script.
+fn refused_script_line(alloc: Global, fault: ScriptFault) -> Result<Vec<u8>, AllocError>
+    ensures { IfOk result (λ line. line.items ≡ refused_script_text fault) }
+{
+    let mut line = Vec::new(alloc);
+    put_refused_script(&mut line, fault)?;
+    Ok(line)
+}
+
+/// Ends the command at pairs that aren't bound.
+fn end_unbound<E: Sink>(
+    alloc: Global,
+    errors: &mut E,
+    pairs: &BindWords,
+    fault: BindFault,
+) -> Status
+    ensures { EndsUnbound pairs.now fault result
+        (record { taken_before = E.taken errors.old; taken = E.taken errors.new; faults_before = E.faults errors.old; faults = E.faults errors.new }) }
+{
+    match fault {
+        BindFault::Refused(place, kind) => {
+            end_saying(
+                errors,
+                Status::BindRefused,
+                refused_pair_line(alloc, pairs, place, kind),
+            )
+        }
+        BindFault::NoMemory => end(errors, Status::NoMemory),
+    }
+}
+
+/// The errors' line of the pair at a place, which is refused.
+fn refused_pair_line(
+    alloc: Global,
+    pairs: &BindWords,
+    place: u32,
+    kind: BindKind,
+) -> Result<Vec<u8>, AllocError>
+    ensures { IfOk result (λ line. line.items ≡ refused_pair_text pairs.now place kind) }
+{
+    let mut line = Vec::new(alloc);
+    put_refused_pair(&mut line, pairs, place, kind)?;
+    Ok(line)
+}

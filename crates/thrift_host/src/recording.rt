@@ -1,0 +1,104 @@
+//! A recorded run: recorded connections, served by handlers of an IDL's services, by a loop with workers on threads.
+
+ghost use Rattle.std.specs.Prelude.{◌≡◌, ◌≤◌, true, length, map, Err};
+ghost use Rattle.outside.specs.Cause.{Rose};
+ghost use Rattle.call_rules.specs.Desks.{longest_payload};
+ghost use Rattle.call_model.specs.Desk.{desk_of};
+ghost use Rattle.command_line.specs.Answering.{plain_served};
+ghost use Rattle.command_line.specs.Bounds.{KeepsServedBounds};
+ghost use Rattle.journal_text.specs.EntryText.{entry_text};
+ghost use Rattle.processor.specs.Offices.{plain_office};
+ghost use Rattle.recorded_calls.specs.Recorded.{MeansRecorded};
+ghost use Rattle.recorded_serving.specs.ServedScripts.{script_to_serve, IsServedScript};
+ghost use Rattle.recorded_calls.specs.declared.fault.ServingFault.TheVariants as serving_faults;
+ghost use Rattle.thrift_host.specs.Runs.{recording};
+ghost use Rattle.thrift_host.specs.Steps.{TellsRun, is_unread_file};
+ghost use Rattle.thrift_host.specs.declared.arranging.RunFault.TheVariants as faults;
+
+use crate::arranging::{RunFault, arrange};
+use crate::journal::{JournalLines, ReportedList};
+use call_rules::Handler;
+use command_line::ServedIdl;
+use conn_table::Limits;
+use outside::{Files, Gate, Sink, Source};
+use processor::Office;
+use recorded_calls::ServingFault;
+use recorded_serving::serve_recorded;
+use std::alloc::Global;
+use std::sync::Wait;
+use std::thread::Threads;
+
+/// Serves the connections of the script that the input is, as the words say, and writes the report of the run to the output. It may wait.
+pub(crate) fn serve_script<
+    F: Files,
+    S: Source,
+    K: Sink,
+    G: Gate + Sync,
+    H: Handler,
+    R: Threads + Wait + Sync,
+>(
+    rt: &R,
+    alloc: Global,
+    files: &mut F,
+    input: &mut S,
+    output: &mut K,
+    served: &ServedIdl,
+    gate: &G,
+    handlers: Vec<H>,
+) -> Result<(), RunFault>
+    requires { KeepsServedBounds (plain_served served.now) }
+    ensures tells { TellsRun recording
+        (record { says = plain_served served.now; files = F.files files.old; handlers = map H.service handlers.items }) result
+        (record { left_before = S.left input.old; left = S.left input.new; taken_before = K.taken output.old; taken = K.taken output.new }) }
+    ensures files { F.files files.new ≡ F.files files.old }
+    ensures file_fault { is_unread_file result ≡ true → Rose (F.faults files.old) (F.faults files.new) }
+    ensures read_fault { result ≡ Err (faults.Unanswered serving_faults.ReadFault) → Rose (S.faults input.old) (S.faults input.new) }
+    ensures write_fault { result ≡ Err (faults.Unanswered serving_faults.WriteFault) → Rose (K.faults output.old) (K.faults output.new) }
+{
+    match arrange(alloc, files, served, handlers) {
+        Ok((office, handlers)) => {
+            let limits = served.limits;
+            let workers = served.workers;
+            match serve(
+                rt, alloc, input, output, &office, gate, handlers, workers, limits,
+            ) {
+                Ok(()) => Ok(()),
+                Err(fault) => Err(RunFault::Unanswered(fault)),
+            }
+        }
+        Err(fault) => Err(fault),
+    }
+}
+
+/// Serves at an office whose slots are these handlers.
+fn serve<S: Source, K: Sink, G: Gate + Sync, H: Handler, R: Threads + Wait + Sync>(
+    rt: &R,
+    alloc: Global,
+    input: &mut S,
+    output: &mut K,
+    office: &Office,
+    gate: &G,
+    handlers: Vec<H>,
+    workers: u32,
+    limits: Limits,
+) -> Result<(), ServingFault>
+    requires workers { workers ≤ 8 }
+    requires some { 1 ≤ limits.max_frame }
+    requires within { limits.max_frame ≤ limits.read_budget }
+    requires budget { limits.read_budget ≤ longest_payload }
+    requires longest { (plain_office office.now).max_frame ≡ limits.max_frame }
+    requires slots { length handlers.items ≡ length (plain_office office.now).bindings }
+    ensures means { MeansRecorded
+        (script_to_serve (record { desk = desk_of (plain_office office.now); services = map H.service handlers.items; workers = workers; budget = limits.read_budget; line = entry_text }))
+        (IsServedScript (record { desk = desk_of (plain_office office.now); services = map H.service handlers.items; workers = workers; budget = limits.read_budget; line = entry_text }))
+        entry_text result
+        (record { left_before = S.left input.old; left = S.left input.new; taken_before = K.taken output.old; taken = K.taken output.new }) }
+    ensures read_fault { result ≡ Err ServingFault.ReadFault → Rose (S.faults input.old) (S.faults input.new) }
+    ensures write_fault { result ≡ Err ServingFault.WriteFault → Rose (K.faults output.old) (K.faults output.new) }
+{
+    let journal = ReportedList::new(alloc);
+    let answered = serve_recorded::<JournalLines, Office, H, ReportedList, S, K, G, R>(
+        rt, alloc, input, output, office, handlers, journal, workers, gate, limits,
+    );
+    answered.result
+}

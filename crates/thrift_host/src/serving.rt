@@ -1,0 +1,132 @@
+//! Connections at a port, served by handlers of an IDL's services, by a loop with workers on threads.
+
+ghost use Rattle.std.specs.Prelude.{◌≡◌, ◌≤◌, ℕ, List, Option, true, length, map, Err};
+ghost use Rattle.outside.specs.Cause.{Rose};
+ghost use Rattle.call_rules.specs.Desks.{longest_payload};
+ghost use Rattle.call_model.specs.Desk.{desk_of};
+ghost use Rattle.command_line.specs.Answering.{plain_served};
+ghost use Rattle.command_line.specs.Bounds.{KeepsServedBounds};
+ghost use Rattle.port_serving.specs.Answered.{MeansServedPort};
+ghost use Rattle.port_serving.specs.declared.fault.PortFault.TheVariants as port_faults;
+ghost use Rattle.processor.specs.Offices.{plain_office};
+ghost use Rattle.thrift_host.specs.Steps.{TellsServing, is_file_missed};
+ghost use Rattle.thrift_host.specs.declared.serving.ServeFault.TheVariants as faults;
+
+use crate::arranging::{RunFault, arrange};
+use call_rules::Handler;
+use command_line::ServedIdl;
+use conn_table::Limits;
+use outside::{Binder, Files, Gate, Sink};
+use port_serving::{PortFault, ServingPlace, serve_port};
+use processor::Office;
+use std::alloc::Global;
+use std::sync::Wait;
+use std::thread::Threads;
+
+/// Why connections at a port aren't served until all is over.
+#[derive(Drop)]
+pub(crate) enum ServeFault {
+    /// The IDL has no schema, or the pairs aren't bound.
+    Unarranged(RunFault),
+    /// The port isn't served to the end.
+    Unserved(PortFault),
+}
+
+/// Serves connections at a place, as the words say, and writes the summary to the output. It may wait.
+pub(crate) fn serve_connections<
+    F: Files,
+    K: Sink,
+    B: Binder,
+    G: Gate + Sync,
+    H: Handler,
+    R: Threads + Wait + Sync,
+>(
+    rt: &R,
+    alloc: Global,
+    files: &mut F,
+    output: &mut K,
+    binder: &mut B,
+    served: &ServedIdl,
+    place: &ServingPlace<'_>,
+    gate: &G,
+    handlers: Vec<H>,
+) -> Result<(), ServeFault>
+    requires { KeepsServedBounds (plain_served served.now) }
+    ensures tells { (left : Option (List ℕ)) → TellsServing
+        (record {
+          run = record { says = plain_served served.now; files = F.files files.old; handlers = map H.service handlers.items };
+          place = record { listening = record { port = place.now.port; accept = place.now.accept }; journal = place.now.journal.now };
+        })
+        result
+        (record {
+          streams = record { left_before = left; left = left; taken_before = K.taken output.old; taken = K.taken output.new };
+          place = record {
+            files_before = F.files files.old;
+            files = F.files files.new;
+            sink_faults_before = F.sink_faults files.old;
+            sink_faults = F.sink_faults files.new;
+            past_before = B.past binder.old;
+            past = B.past binder.new;
+          };
+        }) }
+    ensures file_fault { is_file_missed result ≡ true → Rose (F.faults files.old) (F.faults files.new) }
+    ensures net_fault { result ≡ Err (faults.Unserved port_faults.NetFault) → Rose (B.faults binder.old) (B.faults binder.new) }
+    ensures write_fault { result ≡ Err (faults.Unserved port_faults.WriteFault) → Rose (K.faults output.old) (K.faults output.new) }
+    ensures journal_fault { result ≡ Err (faults.Unserved port_faults.JournalFault) → Rose (F.sink_faults files.old) (F.sink_faults files.new) }
+{
+    match arrange(alloc, files, served, handlers) {
+        Ok((office, handlers)) => {
+            let limits = served.limits;
+            let workers = served.workers;
+            match serve(
+                rt, alloc, files, output, binder, &office, place, gate, handlers, workers, limits,
+            ) {
+                Ok(()) => Ok(()),
+                Err(fault) => Err(ServeFault::Unserved(fault)),
+            }
+        }
+        Err(fault) => Err(ServeFault::Unarranged(fault)),
+    }
+}
+
+/// Serves at an office whose slots are these handlers.
+fn serve<F: Files, K: Sink, B: Binder, G: Gate + Sync, H: Handler, R: Threads + Wait + Sync>(
+    rt: &R,
+    alloc: Global,
+    files: &mut F,
+    output: &mut K,
+    binder: &mut B,
+    office: &Office,
+    place: &ServingPlace<'_>,
+    gate: &G,
+    handlers: Vec<H>,
+    workers: u32,
+    limits: Limits,
+) -> Result<(), PortFault>
+    requires workers { workers ≤ 8 }
+    requires some { 1 ≤ limits.max_frame }
+    requires within { limits.max_frame ≤ limits.read_budget }
+    requires budget { limits.read_budget ≤ longest_payload }
+    requires longest { (plain_office office.now).max_frame ≡ limits.max_frame }
+    requires slots { length handlers.items ≡ length (plain_office office.now).bindings }
+    ensures means { MeansServedPort
+        (record { desk = desk_of (plain_office office.now); services = map H.service handlers.items; budget = limits.read_budget })
+        (record { listening = record { port = place.now.port; accept = place.now.accept }; journal = place.now.journal.now })
+        (record {
+          files_before = F.files files.old;
+          files = F.files files.new;
+          sink_faults_before = F.sink_faults files.old;
+          sink_faults = F.sink_faults files.new;
+          past_before = B.past binder.old;
+          past = B.past binder.new;
+        })
+        (record { taken_before = K.taken output.old; taken = K.taken output.new }) result }
+    ensures file_fault { result ≡ Err PortFault.FileFault → Rose (F.faults files.old) (F.faults files.new) }
+    ensures net_fault { result ≡ Err PortFault.NetFault → Rose (B.faults binder.old) (B.faults binder.new) }
+    ensures write_fault { result ≡ Err PortFault.WriteFault → Rose (K.faults output.old) (K.faults output.new) }
+    ensures journal_fault { result ≡ Err PortFault.JournalFault → Rose (F.sink_faults files.old) (F.sink_faults files.new) }
+{
+    serve_port(
+        rt, alloc, files, output, binder, office, handlers, gate, workers, limits, place,
+    )
+}

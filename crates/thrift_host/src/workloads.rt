@@ -1,0 +1,182 @@
+//! A workload: the tutorial's calculator, served on the connections of a script that is made from a seed, by a loop with workers on threads.
+
+ghost use Rattle.std.specs.Prelude.{◌≡◌, ◌≤◌, ℕ, List, Option, true, false, length, map, IfOk, MatchResult, Err};
+ghost use Rattle.outside.specs.Cause.{Rose};
+ghost use Rattle.outside.specs.Files.{File};
+ghost use Rattle.call_rules.specs.Desks.{longest_payload};
+ghost use Rattle.command_line.specs.Answering.{plain_served};
+ghost use Rattle.processor.specs.Offices.{plain_office};
+ghost use Rattle.schema.specs.SchemaOf.{schema_of};
+ghost use Rattle.schema.specs.Sound.{IsSound};
+ghost use Rattle.recorded_calls.specs.declared.fault.ServingFault.TheVariants as serving_faults;
+ghost use Rattle.workload.specs.ExpectedRun.{work_text};
+ghost use Rattle.workload_law.specs.Calculators.{IsCalculatorsOffice};
+ghost use Rattle.workload_law.specs.Summed.{HasCalculator};
+ghost use Rattle.workload_serving.specs.Summaries.{WritesSummary};
+ghost use Rattle.thrift_host.specs.Runs.{HasSchema};
+ghost use Rattle.thrift_host.specs.Steps.{TellsUnworked, TellsWorkload, is_unread_file};
+ghost use Rattle.thrift_host.specs.Workloads.{has_calculator, workload_says};
+ghost use Rattle.thrift_host.specs.declared.arranging.RunFault.TheVariants as faults;
+
+use crate::arranging::{RunFault, bind_pairs};
+use crate::journal::ReportedList;
+use bind_words::{BindWords, Word};
+use call_rules::{Handler, Kind};
+use command_line::ServedIdl;
+use conn_table::Limits;
+use envelope::Protocol;
+use idl_schema::program_schema;
+use outside::{Files, Gate, Sink};
+use processor::Office;
+use recorded_calls::ServingFault;
+use schema::Schema;
+use std::alloc::{AllocError, Global};
+use std::sync::Wait;
+use std::thread::Threads;
+use workload_law::is_calculator;
+use workload_serving::{Work, serve_workload};
+
+/// What a workload serves, as words would say it.
+pub(crate) fn workload_words(alloc: Global, workers: u32) -> Result<ServedIdl, AllocError>
+    ensures { IfOk result (λ served. plain_served served ≡ workload_says workers) }
+{
+    let idl = Word::copied(alloc, "@tutorial")?;
+    let name = Word::copied(alloc, "Calculator")?;
+    let pairs = vec![in alloc; (name, Kind::Calculator)]?;
+    Ok(ServedIdl {
+        idl,
+        protocol: Protocol::Binary,
+        workers,
+        pairs: BindWords::new(pairs),
+        limits: Limits {
+            max_frame: 16_384_000,
+            read_budget: 268_435_456,
+        },
+    })
+}
+
+/// Serves the workload, as these words say, and writes its summary to the output. It may wait.
+pub(crate) fn work<F: Files, K: Sink, G: Gate + Sync, H: Handler, R: Threads + Wait + Sync>(
+    rt: &R,
+    alloc: Global,
+    files: &mut F,
+    output: &mut K,
+    served: &ServedIdl,
+    gate: &G,
+    handlers: Vec<H>,
+    work: Work,
+) -> Result<(), RunFault>
+    requires says { plain_served served.now ≡ workload_says served.now.workers }
+    requires workers { served.now.workers ≤ 8 }
+    requires frames { 1 ≤ work.size }
+    requires most { work.size ≤ 1000000 }
+    ensures tells { (left : Option (List ℕ)) → TellsWorkload
+        (record { says = plain_served served.now; files = F.files files.old; handlers = map H.service handlers.items }) work.seed work.size result
+        (record { left_before = left; left = left; taken_before = K.taken output.old; taken = K.taken output.new }) }
+    ensures files { F.files files.new ≡ F.files files.old }
+    ensures file_fault { is_unread_file result ≡ true → Rose (F.faults files.old) (F.faults files.new) }
+    ensures write_fault { result ≡ Err (faults.Unanswered serving_faults.WriteFault) → Rose (K.faults output.old) (K.faults output.new) }
+{
+    match arrange_calculator(alloc, files, served, handlers) {
+        Ok((office, handlers)) => {
+            let limits = served.limits;
+            let workers = served.workers;
+            match serve(
+                rt, alloc, output, &office, gate, handlers, workers, limits, work,
+            ) {
+                Ok(()) => Ok(()),
+                Err(fault) => Err(RunFault::Unanswered(fault)),
+            }
+        }
+        Err(fault) => Err(fault),
+    }
+}
+
+/// Loads the tutorial, and binds its calculator to a handler.
+fn arrange_calculator<F: Files, H: Handler>(
+    alloc: Global,
+    files: &mut F,
+    served: &ServedIdl,
+    handlers: Vec<H>,
+) -> Result<(Office, Vec<H>), RunFault>
+    requires says { plain_served served.now ≡ workload_says served.now.workers }
+    requires workers { served.now.workers ≤ 8 }
+    ensures tells { MatchResult result
+        (λ made. IsCalculatorsOffice (plain_office made.0) × HasCalculator (map H.service made.1.items))
+        (λ fault. TellsUnworked (record { says = plain_served served.now; files = F.files files.old; handlers = map H.service handlers.items }) fault) }
+    ensures slots { IfOk result (λ made. length made.1.items ≡ length (plain_office made.0).bindings) }
+    ensures longest { IfOk result (λ made. (plain_office made.0).max_frame ≡ served.now.limits.max_frame) }
+    ensures files { F.files files.new ≡ F.files files.old }
+    ensures file_fault { is_unread_file result ≡ true → Rose (F.faults files.old) (F.faults files.new) }
+{
+    match program_schema(alloc, files, served.idl.as_str()) {
+        Ok(schema) => bind_calculator(alloc, served, schema, handlers),
+        Err(reason) => Err(RunFault::NoSchema(reason)),
+    }
+}
+
+/// Binds the calculator of the schema to a handler. Want of memory stands for a schema that has none.
+fn bind_calculator<H: Handler>(
+    alloc: Global,
+    served: &ServedIdl,
+    schema: Schema,
+    handlers: Vec<H>,
+) -> Result<(Office, Vec<H>), RunFault>
+    requires sound { IsSound (schema_of schema) }
+    requires says { plain_served served.now ≡ workload_says served.now.workers }
+    requires workers { served.now.workers ≤ 8 }
+    ensures tells { (files : Option (List File)) → HasSchema files served.now.idl (schema_of schema) → MatchResult result
+        (λ made. IsCalculatorsOffice (plain_office made.0) × HasCalculator (map H.service made.1.items))
+        (λ fault. TellsUnworked (record { says = plain_served served.now; files = files; handlers = map H.service handlers.items }) fault) }
+    ensures slots { IfOk result (λ made. length made.1.items ≡ length (plain_office made.0).bindings) }
+    ensures longest { IfOk result (λ made. (plain_office made.0).max_frame ≡ served.now.limits.max_frame) }
+    ensures no_file { is_unread_file result ≡ false }
+{
+    if has_calculator(&schema) {
+        return bind_pairs(alloc, served, schema, handlers);
+    }
+    Err(RunFault::Unanswered(ServingFault::NoMemory))
+}
+
+/// Whether the schema has the calculator that a workload calls.
+fn has_calculator(schema: &Schema) -> bool
+    requires { IsSound (schema_of schema.now) }
+    ensures { result ≡ has_calculator (schema_of schema.now) }
+{
+    match schema.service(b"Calculator") {
+        Some(service) => is_calculator(schema, service),
+        None => false,
+    }
+}
+
+/// Serves at the calculator's office, whose slot is this handler.
+fn serve<K: Sink, G: Gate + Sync, H: Handler, R: Threads + Wait + Sync>(
+    rt: &R,
+    alloc: Global,
+    output: &mut K,
+    office: &Office,
+    gate: &G,
+    handlers: Vec<H>,
+    workers: u32,
+    limits: Limits,
+    work: Work,
+) -> Result<(), ServingFault>
+    requires workers { workers ≤ 8 }
+    requires frames { 1 ≤ work.size }
+    requires most { work.size ≤ 1000000 }
+    requires some { 1 ≤ limits.max_frame }
+    requires within { limits.max_frame ≤ limits.read_budget }
+    requires budget { limits.read_budget ≤ longest_payload }
+    requires longest { (plain_office office.now).max_frame ≡ limits.max_frame }
+    requires slots { length handlers.items ≡ length (plain_office office.now).bindings }
+    requires calculators { IsCalculatorsOffice (plain_office office.now) }
+    requires service { HasCalculator (map H.service handlers.items) }
+    ensures summed { WritesSummary (work_text work.seed work.size) (K.taken output.old) (K.taken output.new) result }
+    ensures write_fault { result ≡ Err ServingFault.WriteFault → Rose (K.faults output.old) (K.faults output.new) }
+{
+    let journal = ReportedList::new(alloc);
+    let answered = serve_workload::<Office, H, ReportedList, K, G, R>(
+        rt, alloc, output, office, handlers, journal, workers, gate, limits, work,
+    );
+    answered.result
+}
