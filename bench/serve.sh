@@ -38,7 +38,7 @@ start() {
   esac
   server=$!
   for _ in $(seq 100); do
-    ! grep -q ":$(printf %04X "$port") 00000000:0000 0A" /proc/net/tcp || return 0
+    ! grep -qE ":$(printf %04X "$port") 0+:0000 0A" /proc/net/tcp /proc/net/tcp6 || return 0
     sleep 0.1
   done
   echo "serve: $1 doesn't listen" >&2
