@@ -97,6 +97,11 @@ impl SocketLink {
         self.readable || self.writable
     }
 
+    /// A read is put off: it is to be told that there may be something to read.
+    pub(crate) fn put_off(&mut self) {
+        self.readable = true;
+    }
+
     /// What is to be told of it next, which is told now.
     pub(crate) fn tell(&mut self) -> Option<Readiness> {
         if self.readable {

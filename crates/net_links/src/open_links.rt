@@ -17,6 +17,9 @@ use std::mem;
 /// A block for the input and one for the output of each link.
 const BLOCKS: usize = 2 * MOST_OPEN;
 
+/// So many bytes are handed on before events are looked for, about: then no link has more to read until they were.
+const MOST_HANDED: usize = 65_536;
+
 /// The open links, by rising number.
 #[derive(Drop)]
 pub(crate) struct OpenLinks {
@@ -27,6 +30,8 @@ pub(crate) struct OpenLinks {
     ready: VecDeque<u32>,
     /// The numbers of those whose output is to be sent before the loop waits; a link that was closed may stand here still.
     unsent: Vec<u32>,
+    /// How many bytes were handed on since events were looked for.
+    handed: usize,
 }
 
 impl OpenLinks {
@@ -38,6 +43,7 @@ impl OpenLinks {
             pool: Pool::new(alloc, BLOCKS)?,
             ready: VecDeque::with_capacity(alloc, MOST_OPEN)?,
             unsent: Vec::with_capacity(alloc, MOST_OPEN)?,
+            handed: 0,
         })
     }
 
@@ -74,7 +80,27 @@ impl OpenLinks {
         let Some(at) = self.place_of(c) else {
             return Taken::NotYet;
         };
-        self.links[at].read(&mut self.pool, into)
+        let link = &mut self.links[at];
+        if self.handed >= MOST_HANDED {
+            link.put_off();
+            list(&mut self.ready, link);
+            return Taken::NotYet;
+        }
+        let taken = link.read(&mut self.pool, into);
+        if let Taken::Bytes(count) = taken {
+            self.handed = self.handed.saturating_add(count);
+        }
+        taken
+    }
+
+    /// Whether nothing is read before events are looked for.
+    pub(crate) fn is_sated(&self) -> bool {
+        self.handed >= MOST_HANDED
+    }
+
+    /// Events were looked for.
+    pub(crate) fn renew(&mut self) {
+        self.handed = 0;
     }
 
     /// Takes bytes off the front of `bytes`, to be sent on a link before the loop waits.

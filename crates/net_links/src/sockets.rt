@@ -45,6 +45,8 @@ pub(crate) struct Sockets {
     links: OpenLinks,
     /// How often it was asked what is next since events were looked for.
     asked: u32,
+    /// Whether a ring is told before the next connection is accepted: they come in turn.
+    rings_first: bool,
 }
 
 impl Sockets {
@@ -67,6 +69,7 @@ impl Sockets {
             signal,
             links,
             asked: 0,
+            rings_first: false,
         })
     }
 
@@ -109,7 +112,7 @@ impl Sockets {
         ensures { TellsWithin number result }
     {
         self.asked = self.asked.saturating_add(1);
-        if self.asked > OFTEN {
+        if self.asked > OFTEN || self.links.is_sated() {
             self.refresh(Some(Duration::ZERO))?;
             if let Some(hint) = self.look_aside(number)? {
                 return Ok(hint);
@@ -139,9 +142,14 @@ impl Sockets {
     fn look_aside(&mut self, number: Option<u32>) -> io::Result<Option<Hint>>
         ensures { TellsAtOnce number result }
     {
+        if self.rings_first && self.signal.take() {
+            self.rings_first = false;
+            return Ok(Some(Hint::Woken));
+        }
         if let Some(c) = number
             && self.accept(c)?
         {
+            self.rings_first = true;
             return Ok(Some(Hint::Opened(c)));
         }
         if self.signal.take() {
@@ -170,6 +178,7 @@ impl Sockets {
     fn refresh(&mut self, timeout: Option<Duration>) -> io::Result<()> {
         self.links.send_all();
         self.asked = 0;
+        self.links.renew();
         self.poll.poll(&mut self.events, timeout)?;
         self.note_events();
         Ok(())

@@ -7,6 +7,7 @@ use house_handlers::{Mirror, Store};
 use net_links::NetBinder;
 use outside::{EmptyGate, RealFiles, RealIn, RealOut};
 use std::alloc::AllocError;
+use std::fs::{self, File};
 use std::io::ErrorKind;
 use std::net::Net;
 use std::process::ExitCode;
@@ -16,6 +17,7 @@ use std::{env, io};
 use thrift_host::{Status, host};
 
 fn main(rt: HostRuntime) -> ExitCode {
+    let _kept = [open_root(&rt), open_root(&rt), open_root(&rt)];
     let words = match words(&rt) {
         Ok(words) => words,
         Err(error) if error.kind() == ErrorKind::OutOfMemory => return end_without_memory(&rt),
@@ -26,6 +28,12 @@ fn main(rt: HostRuntime) -> ExitCode {
         Ok(status) => ExitCode::from(status as u8),
         Err(AllocError) => end_without_memory(&rt),
     }
+}
+
+/// The root folder, opened: it can be neither read nor written. Three such handles take the numbers of the standard streams that are closed, so that no
+/// file and no socket gets one, and each use of such a stream fails.
+fn open_root(rt: &HostRuntime) -> Option<File> {
+    fs::open(rt, "/").ok()
 }
 
 /// The program's words, without its name.
