@@ -84,7 +84,7 @@ def large_frame():
 def large_frames(bench, workers):
     """64 large frames at once, where the budget has room for two beside one that never comes whole: they come one behind the other."""
     whole = large_frame()
-    with Stage(bench, workers, CONNECTIONS + 1, budget=3 * FRAME, frame=FRAME, reply=FRAME) as stage:
+    with Stage(bench, workers, CONNECTIONS + 1, budget=3 * FRAME + 4096, frame=FRAME, reply=FRAME) as stage:
         stopping = connect(stage.server.port)
         stopping.sendall(whole[:FRAME // 2])
         clients = [connect(stage.server.port) for _ in range(CONNECTIONS)]

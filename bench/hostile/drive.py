@@ -19,9 +19,6 @@ class Bench:
 
     def __init__(self, program, room, milliseconds):
         self.program, self.room, self.milliseconds = program, room, milliseconds
-        with open(program, "rb") as code:
-            # What is built for finding faults of memory takes more of it.
-            self.sanitized = b"__asan" in code.read()
 
 
 def main():

@@ -65,6 +65,10 @@ class Server:
         """The most memory that it has had, in bytes."""
         return 1024 * self.status_line("VmHWM:")
 
+    def is_sanitized(self):
+        """Whether it was built to find faults of memory, and so takes more of it: such a program reserves terabytes of addresses."""
+        return self.status_line("VmSize:") > 2**30
+
     def descriptors(self):
         return len(os.listdir("/proc/%d/fd" % self.run.pid))
 

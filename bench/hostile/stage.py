@@ -44,7 +44,7 @@ class Stage:
         try:
             self.server.await_listening()
             self.canary = Canary(self.server.port, self.prefix)
-            self.base = self.server.memory()
+            self.base, self.is_sanitized = self.server.memory(), self.server.is_sanitized()
             self.descriptors = self.server.descriptors()
         except BaseException:
             self.__exit__()
@@ -68,7 +68,7 @@ class Stage:
         self.check_journal(journal, made, calls)
         check(longest <= self.bench.milliseconds, "an answer to the canary took %.0f ms (it woke up to %.0f ms late)" % (longest, late))
         allowed = self.base + self.allowed
-        check(self.bench.sanitized or memory <= allowed, "memory of %.1f MB, and %.1f MB are allowed" % (memory / 1e6, allowed / 1e6))
+        check(self.is_sanitized or memory <= allowed, "memory of %.1f MB, and %.1f MB are allowed" % (memory / 1e6, allowed / 1e6))
         return "%d connections, %d calls; canary %d calls, longest %.0f ms, woken late by %.0f ms; memory %.1f MB at first, %.1f MB at most of %.1f MB" % (
             self.clients + 1, len(journal), made, longest, late, self.base / 1e6, memory / 1e6, allowed / 1e6)
 
