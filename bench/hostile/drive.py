@@ -4,6 +4,7 @@ import sys
 import time
 
 from crowds import crowd, few_descriptors, full_budget, large_frames, pipelined
+from floods import come_and_go, flood
 from garbage import garbage
 from resets import half_closed, resets
 from server import Wrong, write_idl
@@ -11,7 +12,7 @@ from slow import slow
 from starts import failing, refusals
 from unread import unread
 
-PARTS = [refusals, failing, slow, garbage, unread, resets, half_closed, pipelined, large_frames, full_budget, crowd, few_descriptors]
+PARTS = [refusals, failing, slow, garbage, unread, resets, half_closed, pipelined, flood, come_and_go, large_frames, full_budget, crowd, few_descriptors]
 
 
 class Bench:

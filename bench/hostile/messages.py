@@ -47,9 +47,13 @@ def get(key):
     return call("Notes:get", text_field(1, key))
 
 
+def reply_frame(method, fields):
+    """The whole frame that answers the call with the number 0."""
+    return frame(struct.pack(">I", 0x80010000 | REPLY) + word(method.encode()) + struct.pack(">i", 0) + fields + b"\0")
+
+
 def text_reply(method, text):
-    """The whole frame that answers a `say` or a `get`."""
-    return frame(struct.pack(">I", 0x80010000 | REPLY) + word(method) + struct.pack(">i", 0) + text_field(0, text) + b"\0")
+    return reply_frame(method, text_field(0, text))
 
 
 def receive(s, count):

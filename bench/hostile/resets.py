@@ -5,7 +5,7 @@ import time
 from messages import add, connect, empty_reply, get, put, receive, reply, reset, sum_reply, text_reply
 from server import THREE_PAIRS, check
 from stage import Stage
-from unread import KEPT, Unread, block
+from unread import BROKEN, KEPT, Unread, block
 
 EACH = 8
 PIPELINED = 2000
@@ -22,12 +22,12 @@ def resets(bench, workers):
         for text, answered in ((b"", False), (whole[:len(whole) // 2], False), (whole, False), (whole, True)):
             for _ in range(EACH):
                 break_off(stage.server.port, text, answered)
-        blocked = [Unread(stage.server.port, get(b"k"), text_reply(b"get", KEPT)) for _ in range(EACH)]
+        blocked = [Unread(stage.server.port, get(b"k"), text_reply("get", KEPT)) for _ in range(EACH)]
         block(blocked)
         for client in blocked:
             reset(client.socket)
         keeper.close()
-        causes = [["End"]] + [["ReadFault"]] * 2 * EACH + [["ReadFault", "WriteFault"]] * EACH + [["ReadFault"]] * EACH + [["WriteFault"]] * EACH
+        causes = [["End"]] + [["ReadFault"]] * 2 * EACH + [BROKEN] * EACH + [["ReadFault"]] * EACH + [BROKEN] * EACH
         calls = [(1, 1)] + [(0, 0)] * 2 * EACH + [(0, 1)] * EACH + [(1, 1)] * EACH + [(1, client.begun()) for client in blocked]
         return stage.end(causes, calls)
 
@@ -56,7 +56,7 @@ def half_closed(bench, workers):
         for s in many + cut:
             check(all(reply(s) == sum_reply(2 * k, k) for k in range(PIPELINED)) and reply(s) is None, "a client that has shut its side down gets other replies")
         for s in late:
-            wanted = text_reply(b"get", KEPT) * LARGE
+            wanted = text_reply("get", KEPT) * LARGE
             check(receive(s, len(wanted)) == wanted and not s.recv(1), "a client that has shut its side down gets other large replies")
         for s in [keeper, *many, *late, *cut]:
             s.close()

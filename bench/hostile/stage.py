@@ -32,12 +32,12 @@ class Canary:
 class Stage:
     """What a part runs on. Its clients connect one behind the other, so that the connections have their numbers, from 1, in that order."""
 
-    def __init__(self, bench, workers, clients, pairs=ONE_PAIR, words=(), reply=4096, tree=65536, budget=1048576, frame=262144, kept=0, limit=None):
+    def __init__(self, bench, workers, clients, pairs=ONE_PAIR, words=(), reply=4096, tree=65536, budget=1048576, frame=262144, kept=0, at_once=None, limit=None):
         self.bench, self.workers, self.clients = bench, workers, clients
         self.prefix = "Calculator:" if len(pairs) > 1 else ""
         bounds = ["--read-budget", str(budget), "--max-frame", str(frame)]
         self.server = Server(bench.program, bench.room, workers, clients + 1, pairs, [*bounds, *words], limit=limit)
-        self.allowed = budget + (clients + 1) * (BLOCKS + reply) + max(1, workers) * tree + kept
+        self.allowed = budget + ((at_once or clients) + 1) * (BLOCKS + reply) + max(1, workers) * tree + kept
         self.canary = None
 
     def __enter__(self):
@@ -69,8 +69,8 @@ class Stage:
         check(longest <= self.bench.milliseconds, "an answer to the canary took %.0f ms (it woke up to %.0f ms late)" % (longest, late))
         allowed = self.base + self.allowed
         check(self.is_sanitized or memory <= allowed, "memory of %.1f MB, and %.1f MB are allowed" % (memory / 1e6, allowed / 1e6))
-        return "%d connections, %d calls; canary %d calls, longest %.0f ms, woken late by %.0f ms; memory %.1f MB at first, %.1f MB at most of %.1f MB" % (
-            self.clients + 1, len(journal), made, longest, late, self.base / 1e6, memory / 1e6, allowed / 1e6)
+        return "%d connections, %d calls; canary %d calls, %.0f ms at most, up to %d others between two, woken late by %.0f ms; memory %.1f MB at first, %.1f MB at most of %.1f MB" % (
+            self.clients + 1, len(journal), made, longest, most_between(journal), late, self.base / 1e6, memory / 1e6, allowed / 1e6)
 
     def check_causes(self, lines, causes):
         check(len(lines) == self.clients + 1, "the summary has %d connections" % len(lines))
@@ -89,3 +89,9 @@ class Stage:
             check(least <= len(own) <= most, "connection %d made %d calls, and not %d to %d" % (c, len(own), least, most))
             numbers = [int(line.split(" ", 3)[2]) for line in own]
             check(numbers == sorted(set(numbers)), "the calls of connection %d aren't in order" % c)
+
+
+def most_between(journal):
+    """How many calls of other connections stand between two of the canary's at most."""
+    places = [at for at, line in enumerate(journal) if line.startswith("call 0 ")]
+    return max(behind - before - 1 for before, behind in zip(places, places[1:]))

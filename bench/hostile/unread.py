@@ -11,6 +11,8 @@ KEPT = b"y" * 200_000
 # So many frames are sent at most by a client; their replies are more than the system keeps.
 MOST = 60
 EACH = 4
+# Which it is depends on whether the rest of a reply waits in the server or in the system.
+BROKEN = ["ReadFault", "WriteFault"]
 
 
 class Unread:
@@ -68,7 +70,7 @@ def block(clients):
 
 def unread(bench, workers):
     """A mirror that is sent long texts, and a store that is asked for one: some read in the end, some close, some break off."""
-    kinds = [(say(LONG), text_reply(b"say", LONG)), (get(b"k"), text_reply(b"get", KEPT))]
+    kinds = [(say(LONG), text_reply("say", LONG)), (get(b"k"), text_reply("get", KEPT))]
     with Stage(bench, workers, 1 + 6 * EACH, THREE_PAIRS, reply=len(KEPT) + 1000, tree=16 * len(LONG), kept=2 * len(KEPT)) as stage:
         keeper = connect(stage.server.port)
         keeper.sendall(put(b"k", KEPT))
@@ -85,7 +87,7 @@ def unread(bench, workers):
             reset(client.socket)
         keeper.close()
         calls = [(1, 1)] + [(client.begun(),) * 2 for client in late] + [(1, client.begun()) for client in closing + breaking]
-        return stage.end([["End"]] * (1 + 2 * EACH) + [["WriteFault"]] * 4 * EACH, calls)
+        return stage.end([["End"]] * (1 + 2 * EACH) + [BROKEN] * 4 * EACH, calls)
 
 
 def check_blocked(stage, clients):
