@@ -6,8 +6,9 @@ import socket
 from messages import add, connect, reply, sum_reply
 from server import Server, check
 
-# The journal of a disk that is full soon: so many bytes fit.
-ROOM = 400
+# The journal of a disk that is full soon: so many bytes fit, with one caller and with many.
+ROOM, ROOM_OF_MANY = 400, 4000
+CALLERS, CALLS = 8, 100
 
 
 def refusals(bench, workers):
@@ -38,6 +39,12 @@ def failing(bench, workers):
     check(full == 0, "a call was answered whose line found no room")
     some = failing_journal(bench, workers, None, (resource.RLIMIT_FSIZE, ROOM))
     check(0 < some < ROOM, "%d calls were answered whose lines have %d bytes" % (some, ROOM))
+    many = failing_journal_of_many(bench, workers)
+    closed_output(bench, workers)
+    return "a journal that is full at once 9, behind %d calls 9, behind %d of %d clients 9, an output that is closed behind its first line 7" % (some, many, CALLERS)
+
+
+def closed_output(bench, workers):
     server = Server(bench.program, bench.room, workers, 1)
     server.await_listening()
     with connect(server.port) as s:
@@ -47,7 +54,6 @@ def failing(bench, workers):
     server.run.stdout = None
     server.end(7)
     check(server.journal_lines() == ["call 0 0 0 add {1=1i,2=1i} ok 2i"], "an output that is closed: the journal isn't that of the call")
-    return "a journal that is full at once 9, behind %d calls 9, an output that is closed behind its first line 7" % some
 
 
 def failing_journal(bench, workers, journal, limit):
@@ -66,17 +72,22 @@ def failing_journal(bench, workers, journal, limit):
 def call_until_stopped(s):
     """How many calls were answered before the connection ended."""
     done = 0
-    try:
-        while done < ROOM:
-            s.sendall(add(done, 1, "", done))
-            got = reply(s)
-            if got is None:
-                break
-            check(got == sum_reply(done + 1, done), "a call is answered with %r" % (got,))
-            done += 1
-    except ConnectionError:
-        pass
+    while done < ROOM:
+        s.sendall(add(done, 1, "", done))
+        if not is_answered(s, done):
+            break
+        done += 1
     return done
+
+
+def is_answered(s, number):
+    """Whether a call is answered before the connection ends."""
+    try:
+        got = reply(s)
+    except ConnectionError:
+        return False
+    check(got is None or got == sum_reply(number + 1, number), "a call is answered with %r" % (got,))
+    return got is not None
 
 
 def receive_or_broken(s):
@@ -92,3 +103,27 @@ def check_lines(server, done):
     with open(server.journal) as kept:
         text = kept.read()
     check(lines.startswith(text) and text.count("\n") == done, "the journal isn't the lines of %d calls and a beginning" % done)
+
+
+def failing_journal_of_many(bench, workers):
+    """The same with many clients that send all their calls at once: each line is of a call that was made, and each reply has its line."""
+    server = Server(bench.program, bench.room, workers, CALLERS + 1, limit=(resource.RLIMIT_FSIZE, ROOM_OF_MANY))
+    server.await_listening()
+    clients = [connect(server.port) for _ in range(CALLERS)]
+    for s in clients:
+        s.sendall(add(0, 1, "", 0))
+        check(is_answered(s, 0), "a call isn't answered")
+    for s in clients:
+        s.sendall(b"".join(add(k, 1, "", k) for k in range(1, CALLS)))
+    answered = [next((k for k in range(1, CALLS) if not is_answered(s, k)), CALLS) for s in clients]
+    for s in clients:
+        s.close()
+    with open(server.journal) as kept:
+        whole = kept.read().split("\n")[:-1]
+    stopped = "".join("conn %d Stopped\n" % c for c in range(CALLERS))
+    check(server.end(9) == "%scalls %d\n" % (stopped, len(whole)), "the summary isn't that of %d clients that were stopped behind %d calls" % (CALLERS, len(whole)))
+    for c, count in enumerate(answered):
+        own = [line.split(" ", 3)[3] for line in whole if line.startswith("call %d " % c)]
+        wanted = ["0 add {1=%di,2=1i} ok %di" % (k, k + 1) for k in range(len(own))]
+        check(own == wanted and count <= len(own), "connection %d has %d replies, and the lines %s" % (c, count, own[-1:]))
+    return len(whole)
