@@ -75,6 +75,31 @@ def few_descriptors(bench, workers):
         return stage.end([["End"]] * 2 * FEW_DESCRIPTORS, [(1, 1)] * 2 * FEW_DESCRIPTORS)
 
 
+def beyond(bench, workers):
+    """Connections beyond those that are to be accepted aren't answered, and end with the server."""
+    server = Server(bench.program, bench.room, workers, 1)
+    try:
+        server.await_listening()
+        first, second = (connect(server.port) for _ in range(2))
+        call_once(second)
+        call_once(first)
+        await_sum(first)
+        check(not answered([second], 0.5), "a connection beyond those to be accepted is answered")
+        first.close()
+        check(server.end() == "conn 0 End\ncalls 1\n", "the summary isn't that of one connection")
+        check(is_broken(second), "a connection outlives the server")
+    finally:
+        server.kill()
+    return "one that isn't accepted isn't answered, and ends with the server"
+
+
+def is_broken(s):
+    try:
+        return not s.recv(1)
+    except ConnectionError:
+        return True
+
+
 def large_frame():
     """A call whose frame is as large as may be: bytes behind its arguments are ignored."""
     payload = add(20, 22, "")[4:]

@@ -46,12 +46,12 @@ def free_port():
 class Server:
     """A run of `thriftd serve` on an IDL in a folder of its own."""
 
-    def __init__(self, program, room, workers, accept, pairs=ONE_PAIR, words=(), journal=None, port=None, output=subprocess.PIPE, limit=None):
+    def __init__(self, program, room, workers, accept, pairs=ONE_PAIR, words=(), journal=None, port=None, output=subprocess.PIPE, limit=None, closed=None):
         self.port, self.accept = port or free_port(), accept
         self.journal = journal or os.path.join(room, "journal")
         idl = os.path.join(room, "hostile.thrift")
         line = [program, "serve", idl, "binary", str(workers), *pairs, "--listen", str(self.port), "--accept", str(accept), "--journal", self.journal, *words]
-        self.run = subprocess.Popen(line, stdout=output, stderr=subprocess.PIPE, text=True, preexec_fn=lambda: set_limit(limit))
+        self.run = subprocess.Popen(line, stdout=output, stderr=subprocess.PIPE, text=True, preexec_fn=lambda: prepare(limit, closed))
 
     def await_listening(self):
         line = self.run.stdout.readline()
@@ -83,12 +83,12 @@ class Server:
         with open(self.journal) as lines:
             return lines.read().splitlines()
 
-    def end(self, status=0):
+    def end(self, status=0, seconds=30):
         """What it has printed behind what was read, once it has ended with this status and the line that belongs to it."""
         try:
-            out, err = self.run.communicate(timeout=30)
+            out, err = self.run.communicate(timeout=seconds)
         except subprocess.TimeoutExpired:
-            raise Wrong("the server hasn't ended") from None
+            raise Wrong("the server doesn't end") from None
         check(self.run.returncode == status and err == LINES[status], "status %d, %r" % (self.run.returncode, err))
         return out
 
@@ -98,8 +98,10 @@ class Server:
             self.run.communicate()
 
 
-def set_limit(limit):
-    """Sets a limit of the system's for the server; a file that is too long is a fault of a write then, and no signal."""
+def prepare(limit, closed):
+    """Sets a limit of the system's for the server, and closes one of its streams. A file that is too long is a fault of a write then, and no signal."""
     if limit:
         signal.signal(signal.SIGXFSZ, signal.SIG_IGN)
         resource.setrlimit(limit[0], (limit[1], limit[1]))
+    if closed is not None:
+        os.close(closed)

@@ -4,7 +4,7 @@ import resource
 import socket
 
 from messages import add, connect, reply, sum_reply
-from server import Server, check
+from server import Server, Wrong, check
 
 # The journal of a disk that is full soon: so many bytes fit, with one caller and with many.
 ROOM, ROOM_OF_MANY = 400, 4000
@@ -27,6 +27,19 @@ def refusals(bench, workers):
     return "a port that is taken 8, a journal that is a folder or in none 5, an output that is full or closed 7"
 
 
+def no_output(bench, workers):
+    """No standard output at all: that is noticed before a connection is served, and nothing else is taken for it."""
+    server = Server(bench.program, bench.room, workers, 1, output=None, closed=1)
+    try:
+        server.end(7, seconds=3)
+        check(server.journal_lines() == [], "something stands in the journal")
+    except Wrong as wrong:
+        raise Wrong("%s, and the journal has %r" % (wrong, server.journal_lines())) from None
+    finally:
+        server.kill()
+    return "status 7"
+
+
 def closed_pipe():
     reading, writing = os.pipe()
     os.close(reading)
@@ -41,7 +54,7 @@ def failing(bench, workers):
     check(0 < some < ROOM, "%d calls were answered whose lines have %d bytes" % (some, ROOM))
     many = failing_journal_of_many(bench, workers)
     closed_output(bench, workers)
-    return "a journal that is full at once 9, behind %d calls 9, behind %d of %d clients 9, an output that is closed behind its first line 7" % (some, many, CALLERS)
+    return "a journal that is full at once 9, behind %d calls 9, behind %d calls of %d clients 9, an output that is closed behind its first line 7" % (some, many, CALLERS)
 
 
 def closed_output(bench, workers):
