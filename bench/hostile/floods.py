@@ -1,12 +1,15 @@
-"""Clients that send one call behind the other without a pause, and such that come and go one behind the other."""
+"""Clients that send one call behind the other without a pause, whose calls are dear, and such that come and go one behind the other."""
 import threading
 
-from messages import add, connect, number_field, receive, reply, reply_frame, say, sum_reply, text_reply
+from messages import add, call, connect, flags_field, number_field, receive, reply, reply_frame, say, sum_reply, text_reply
 from server import THREE_PAIRS, check
 from stage import Stage
 
 CALLERS, SHORT_CALLS, LONG_CALLS = 2, 40_000, 1_500
 TEXT = b"z" * 8_000
+FLAGS, HEAVY_CALLS = 50_000, 6
+# What a value takes, as it is read, by its type, as an answer, and while each of them grows.
+VALUE = 4 * 40
 COMERS = 3_000
 # What is kept of a connection that has ended, in bytes.
 KEPT_OF_EACH = 64
@@ -43,6 +46,21 @@ def flood(bench, workers):
         for caller in short + long:
             caller.end()
         return stage.end([["End"]] * 2 * CALLERS, [(SHORT_CALLS,) * 2] * CALLERS + [(LONG_CALLS,) * 2] * CALLERS)
+
+
+def heavy(bench, workers):
+    """Two that send lists of 50,000 values, which take much more memory than their frames."""
+    with Stage(bench, workers, CALLERS, THREE_PAIRS, reply=FLAGS + 1000, tree=VALUE * FLAGS) as stage:
+        clients = [connect(stage.server.port) for _ in range(CALLERS)]
+        for _ in range(HEAVY_CALLS):
+            for s in clients:
+                s.sendall(call("Echo:weigh", flags_field(1, FLAGS)))
+            for s in clients:
+                wanted = reply_frame("weigh", flags_field(0, FLAGS))
+                check(receive(s, len(wanted)) == wanted, "a list of many values isn't answered by itself")
+        for s in clients:
+            s.close()
+        return stage.end([["End"]] * CALLERS, [(HEAVY_CALLS,) * 2] * CALLERS)
 
 
 def come_and_go(bench, workers):

@@ -39,6 +39,11 @@ def say(text):
     return call("Echo:say", text_field(1, text))
 
 
+def flags_field(place, count):
+    """A list of so many bools."""
+    return struct.pack(">bhbi", 15, place, 2, count) + b"\1" * count
+
+
 def put(key, value):
     return call("Notes:put", text_field(1, key) + text_field(2, value))
 

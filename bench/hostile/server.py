@@ -10,7 +10,7 @@ import time
 sys.path.insert(0, os.path.join(os.path.dirname(os.path.abspath(__file__)), ".."))
 from tutorial import SHARED, TUTORIAL
 
-OWN = """service Echo { string say(1: string text) }
+OWN = """service Echo { string say(1: string text), list<bool> weigh(1: list<bool> flags) }
 service Notes {
   void put(1: binary key, 2: binary value), binary get(1: binary key), binary swap(1: binary key, 2: binary value),
   list<binary> keys(), oneway void forget(1: binary key)

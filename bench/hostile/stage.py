@@ -30,13 +30,16 @@ class Canary:
 
 
 class Stage:
-    """What a part runs on. Its clients connect one behind the other, so that the connections have their numbers, from 1, in that order."""
+    """What a part runs on. Its clients connect one behind the other, so that the connections have their numbers, from 1, in that order.
 
-    def __init__(self, bench, workers, clients, pairs=ONE_PAIR, words=(), reply=4096, tree=65536, budget=1048576, frame=262144, kept=0, at_once=None, limit=None):
+    The memory that is allowed is what there was with the canary alone, and the budget for frames, for each connection (of `at_once`, or all) two blocks and the
+    longest `reply`, for each call that is worked on its `tree`, in bytes, and what is `kept`."""
+
+    def __init__(self, bench, workers, clients, pairs=ONE_PAIR, reply=4096, tree=65536, budget=1048576, frame=262144, kept=0, at_once=None, limit=None):
         self.bench, self.workers, self.clients = bench, workers, clients
         self.prefix = "Calculator:" if len(pairs) > 1 else ""
         bounds = ["--read-budget", str(budget), "--max-frame", str(frame)]
-        self.server = Server(bench.program, bench.room, workers, clients + 1, pairs, [*bounds, *words], limit=limit)
+        self.server = Server(bench.program, bench.room, workers, clients + 1, pairs, bounds, limit=limit)
         self.allowed = budget + ((at_once or clients) + 1) * (BLOCKS + reply) + max(1, workers) * tree + kept
         self.canary = None
 
