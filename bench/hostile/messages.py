@@ -77,7 +77,9 @@ def reply(s):
     size = receive(s, 4)
     if not size:
         return None
-    payload = receive(s, struct.unpack(">i", size)[0])
+    payload = receive(s, struct.unpack(">i", size)[0]) if len(size) == 4 else b""
+    if frame(payload)[:4] != size:
+        raise ConnectionError("a reply is cut")
     kind = struct.unpack(">I", payload[:4])[0] & 0xFF
     behind = 8 + struct.unpack(">i", payload[4:8])[0]
     return kind, struct.unpack(">i", payload[behind:behind + 4])[0], payload[behind + 4:]

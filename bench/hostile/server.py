@@ -80,8 +80,9 @@ class Server:
             time.sleep(0.02)
 
     def journal_lines(self):
+        """Its whole lines."""
         with open(self.journal) as lines:
-            return lines.read().splitlines()
+            return lines.read().split("\n")[:-1]
 
     def end(self, status=0, seconds=30):
         """What it has printed behind what was read, once it has ended with this status and the line that belongs to it."""
