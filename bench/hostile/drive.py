@@ -4,7 +4,7 @@ import sys
 import time
 
 from crowds import beyond, crowd, few_descriptors, full_budget, large_frames, pipelined
-from floods import come_and_go, flood, heavy
+from floods import come_and_go, flood, heavy, storm
 from garbage import garbage
 from resets import half_closed, resets
 from server import Wrong, write_idl
@@ -12,7 +12,7 @@ from slow import slow
 from starts import failing, no_output, refusals
 from unread import unread
 
-PARTS = [refusals, no_output, failing, slow, garbage, unread, resets, half_closed, pipelined, flood, heavy, come_and_go, large_frames, full_budget, crowd, beyond, few_descriptors]
+PARTS = [refusals, no_output, failing, slow, garbage, unread, resets, half_closed, pipelined, flood, heavy, come_and_go, storm, large_frames, full_budget, crowd, beyond, few_descriptors]
 
 
 class Bench:

@@ -1,7 +1,8 @@
-"""Clients that send one call behind the other without a pause, whose calls are dear, and such that come and go one behind the other."""
+"""Clients that send one call behind the other without a pause, whose calls are dear, and such that come and go."""
+import multiprocessing
 import threading
 
-from messages import add, call, connect, flags_field, number_field, receive, reply, reply_frame, say, sum_reply, text_reply
+from messages import add, call, connect, flags_field, number_field, receive, reply, reply_frame, reset, say, sum_reply, text_reply
 from server import THREE_PAIRS, check
 from stage import Stage
 
@@ -10,7 +11,7 @@ TEXT = b"z" * 8_000
 FLAGS, HEAVY_CALLS = 50_000, 6
 # What a value takes, as it is read, by its type, as an answer, and while each of them grows.
 VALUE = 4 * 40
-COMERS = 3_000
+COMERS, STORMS, OF_EACH = 3_000, 3, 4_000
 # What is kept of a connection that has ended, in bytes.
 KEPT_OF_EACH = 64
 
@@ -71,3 +72,20 @@ def come_and_go(bench, workers):
                 s.sendall(add(1, 1, ""))
                 check(reply(s) == sum_reply(2), "a call of one that comes and goes isn't answered")
         return stage.end([["End"]] * COMERS, [(1, 1)] * COMERS)
+
+
+def storm(bench, workers):
+    """Three processes that connect and break off as fast as they can."""
+    with Stage(bench, workers, STORMS * OF_EACH, at_once=1024, kept=KEPT_OF_EACH * STORMS * OF_EACH) as stage:
+        runs = [multiprocessing.Process(target=connect_and_reset, args=(stage.server.port,)) for _ in range(STORMS)]
+        for run in runs:
+            run.start()
+        for run in runs:
+            run.join()
+            check(run.exitcode == 0, "a connection can't be made")
+        return stage.end([["ReadFault"]] * STORMS * OF_EACH, [(0, 0)] * STORMS * OF_EACH)
+
+
+def connect_and_reset(port):
+    for _ in range(OF_EACH):
+        reset(connect(port))
