@@ -8,7 +8,7 @@ from stage import Stage
 
 CALLERS, SHORT_CALLS, LONG_CALLS = 2, 40_000, 1_500
 TEXT = b"z" * 8_000
-FLAGS, HEAVY_CALLS = 50_000, 6
+FLAGS, HEAVY_CALLS = 10_000, 20
 # What a value takes, as it is read, by its type, as an answer, and while each of them grows.
 VALUE = 4 * 40
 COMERS, STORMS, OF_EACH = 3_000, 3, 4_000
@@ -50,7 +50,7 @@ def flood(bench, workers):
 
 
 def heavy(bench, workers):
-    """Two that send lists of 50,000 values, which take much more memory than their frames."""
+    """Two that send lists of 10,000 values, which take much more memory than their frames."""
     with Stage(bench, workers, CALLERS, THREE_PAIRS, reply=FLAGS + 1000, tree=VALUE * FLAGS) as stage:
         clients = [connect(stage.server.port) for _ in range(CALLERS)]
         for _ in range(HEAVY_CALLS):

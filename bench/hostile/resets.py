@@ -9,7 +9,7 @@ from unread import BROKEN, KEPT, Unread, block
 
 EACH = 8
 PIPELINED = 2000
-LARGE = 20
+LARGE = 100
 
 
 def resets(bench, workers):

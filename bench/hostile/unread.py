@@ -6,10 +6,10 @@ from messages import connect, empty_reply, get, put, reply, reset, say, text_rep
 from server import THREE_PAIRS, check
 from stage import Stage
 
-LONG = b"x" * 100_000
-KEPT = b"y" * 200_000
+LONG = b"x" * 20_000
+KEPT = b"y" * 40_000
 # So many frames are sent at most by a client; their replies are more than the system keeps.
-MOST = 60
+MOST = 300
 EACH = 4
 # Which it is depends on whether the rest of a reply waits in the server or in the system.
 BROKEN = ["ReadFault", "WriteFault"]
