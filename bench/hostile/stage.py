@@ -69,11 +69,12 @@ class Stage:
         self.check_causes(summary[:-1], causes)
         check(summary[-1] == "calls %d" % len(journal), "the summary ends with %r, the journal has %d lines" % (summary[-1], len(journal)))
         self.check_journal(journal, made, calls)
-        check(longest <= self.bench.milliseconds, "an answer to the canary took %.0f ms (it woke up to %.0f ms late)" % (longest, late))
         allowed = self.base + self.allowed
-        check(self.is_sanitized or memory <= allowed, "memory of %.1f MB, and %.1f MB are allowed" % (memory / 1e6, allowed / 1e6))
-        return "%d connections, %d calls; canary %d calls, %.0f ms at most, up to %d others between two, woken late by %.0f ms; memory %.1f MB at first, %.1f MB at most of %.1f MB" % (
+        said = "%d connections, %d calls; canary %d calls, %.0f ms at most, up to %d others between two, woken late by %.0f ms; memory %.1f MB at first, %.1f MB at most of %.1f MB" % (
             self.clients + 1, len(journal), made, longest, most_between(journal), late, self.base / 1e6, memory / 1e6, allowed / 1e6)
+        check(longest <= self.bench.milliseconds, "the canary waits too long: " + said)
+        check(self.is_sanitized or memory <= allowed, "too much memory is taken: " + said)
+        return said
 
     def check_causes(self, lines, causes):
         check(len(lines) == self.clients + 1, "the summary has %d connections" % len(lines))
