@@ -285,7 +285,7 @@ def goes_on(conn):
 
 
 def has_no_bad_size(conn):
-    return len(conn.rest) < 4 or 1 <= model.i32(conn.rest) <= conn.max_frame
+    return len(conn.rest) < 4 or 1 <= model.i32(conn.rest[:4]) <= conn.max_frame
 
 
 def conversation(conn):
