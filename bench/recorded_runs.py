@@ -8,6 +8,7 @@ twenty seconds. It prints a line for each part, how many runs there were, and en
 report. THRIFTD is crates/thriftd/out/thriftd where it isn't said. It is no test of the gate.
 """
 import concurrent.futures
+import contextlib
 import itertools
 import os
 import re
@@ -17,9 +18,11 @@ import tempfile
 import threading
 import time
 
+import failing_journal
 import judge
 import rehearsal_mixes as mixes
 import rehearsal_model as model
+import unstarted_threads
 
 TOP = os.path.dirname(os.path.dirname(os.path.abspath(__file__)))
 AT_ONCE, MOST_SECONDS = 2, 120
@@ -77,9 +80,15 @@ class Runs:
 
     def all_of(self, name, cases):
         """Records each of these, words behind a script, and tells of them."""
+        with self.part(name):
+            for _ in self.pool.map(lambda case: self.record(*case), cases):
+                pass
+
+    @contextlib.contextmanager
+    def part(self, name):
+        """Tells how many runs there were, and how long they took."""
         before, begin = self.count, time.monotonic()
-        for _ in self.pool.map(lambda case: self.record(*case), cases):
-            pass
+        yield
         print("%s: %d runs, %.0f s" % (name, self.count - before, time.monotonic() - begin), flush=True)
 
 
@@ -223,6 +232,16 @@ def random_runs(runs):
         yield "".join(line + "\n" for line in lines).encode(), workers, *limits
 
 
+def busy():
+    """Eight connections with calls enough that the threads can be counted meanwhile."""
+    return script([[add(c, k, k) for k in range(2_000)] for c in range(8)], ["end"] * 8)
+
+
+def clients():
+    """What clients send whose calls leave no others' answers longer or shorter."""
+    return [[calculate(c, 40 + c, 2, 1, 0), call(b"zip", 1), get_struct(c, 2), call(b"none", 3), add(c, 1, 4), calculate(c, 5, 0, 4, 5)] for c in range(4)]
+
+
 def main(words):
     is_quick = words[:1] == ["--quick"]
     words = words[is_quick:]
@@ -235,6 +254,12 @@ def main(words):
     runs.all_of("ends, cuts and bad sizes beside calls", runs_beside_calls(runs))
     runs.all_of("a thousand connections, in turn and at once", many_connections(runs))
     runs.all_of("random scripts", random_runs(runs))
+    with runs.part("threads that can't be started"):
+        if not unstarted_threads.all_of(runs, busy()):
+            runs.wrong += 1
+            print("not every number of threads was seen")
+    with runs.part("a journal whose n-th line fails"):
+        failing_journal.all_of(runs, clients())
     print("recorded runs: %d, %d wrong" % (runs.count, runs.wrong))
     return 1 if runs.wrong else 0
 
