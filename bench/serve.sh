@@ -4,7 +4,8 @@
 # One load program (serve/load.c) calls the tutorial's `add` in the binary protocol, on 1, 8 and 64 connections with one call under way on each, and on 64 with 16.
 # Beside the program stand Apache's TNonblockingServer without workers and with four (libthrift-dev), and its THsHaServer with four where Java is there
 # (libthrift-java, default-jdk-headless). It prints for each cell the calls a second, the server's processor time for a call, and the latency at the half and
-# the 99th of a hundred, in microseconds; then each server's memory at its start and with 1,000 connections that are idle.
+# the 99th of a hundred, in microseconds; then each server's memory at its start and with 1,000 connections that are idle,
+# and the milliseconds of a processor that it takes meanwhile, in two seconds.
 set -euo pipefail
 here=$(dirname "$(readlink -f "${BASH_SOURCE[0]}")")
 thriftd=${1:-$here/../thriftd} seconds=${2:-5}
@@ -61,10 +62,10 @@ for cell in "1 1" "8 1" "64 1" "64 16"; do
     stop
   done
 done
-printf '%-14s %10s %10s\n' server 'KB at start' 'KB, 1,000 idle'
+printf '%-14s %12s %15s %13s\n' server 'KB at start' 'KB, 1,000 idle' 'ms, 1,000 idle'
 for kind in "${kinds[@]}"; do
   read -r name workers <<< "$kind"
   start "$name" "$workers" 1000
-  printf '%-14s %10s %10s\n' "$kind" $("$room/load" "$port" 1000 1 0 "$server")
+  printf '%-14s %12s %15s %13s\n' "$kind" $("$room/load" "$port" 1000 1 0 "$server")
   stop
 done
