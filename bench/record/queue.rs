@@ -3,14 +3,14 @@
 //! It is what bench/record.sh measures beside `thriftd record`. The first thread keeps UNDER_WAY jobs under way, one for each connection, as the loop does: it hands over
 //! the next job of a connection once it has that one's outcome. With no workers it does the jobs itself, through the same queues. A job is what a worker does of a
 //! call of the calculator's `add`: it reads the head and the fields of the payload, adds, enters the call in a journal that all share, and makes the reply; and
-//! since the calculator finds types and names in a schema where this has them written out, it then goes through ROUNDS multiplications, each of which waits for the
-//! one before. Together that is half a microsecond or a little more, as are decision, answer and reply in the program; the 1.8 microseconds of a call of a
+//! since the calculator finds types and names in a schema where this has them written out, it then goes through ROUNDS of shifts, each of which waits for the one
+//! before. Together that is half a microsecond or a little more, as are decision, answer and reply in the program; the 1.8 microseconds of a call of a
 //! rehearsal have besides the reading of the script and the writing of the report, which aren't done here. It prints the nanoseconds that a job takes by itself.
 use std::collections::VecDeque;
 use std::sync::{Condvar, Mutex};
 use std::time::Instant;
 
-const ROUNDS: u32 = 300;
+const ROUNDS: u32 = 160;
 const ALONE: u32 = 200;
 
 /// Items that one side puts and the other takes, in order.
@@ -67,9 +67,11 @@ fn payload(k: u32) -> Vec<u8> {
 fn serve((c, payload): Item, journal: &Journal) -> Item {
     assert!(payload[..11] == [0x80, 1, 0, 1, 0, 0, 0, 3, b'a', b'd', b'd'] && payload[15] == 8 && payload[22] == 8);
     let (id, a, b) = (number_at(&payload, 11), number_at(&payload, 18), number_at(&payload, 25));
-    let mut state = id as u64;
+    let mut state = id as u64 | 1 << 63;
     for _ in 0..ROUNDS {
-        state = state.wrapping_mul(6_364_136_223_846_793_005).wrapping_add(1_442_695_040_888_963_407);
+        state ^= state << 13;
+        state ^= state >> 7;
+        state ^= state << 17;
     }
     std::hint::black_box(state);
     let sum = a.wrapping_add(b);
