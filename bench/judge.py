@@ -31,7 +31,8 @@ def demand(holds, what, *parts):
 MARK = re.compile(r"tape (open|end|readfail|writefail|close) (0|[1-9]\d*)|tape (read|wrote) (0|[1-9]\d*) ([1-9]\d*)")
 CALL = re.compile(r"(call|oneway) (0|[1-9]\d*) (0|[1-9]\d*) (0|[1-9]\d*) (\S+) ")
 CONN = re.compile(r"conn (0|[1-9]\d*) (\S.*) (-|(?:[0-9a-f]{2})+)")
-TEXT = re.compile(r'"([ -~]*?)"')
+TEXT = re.compile(r'"((?:[^"\\]|\\.)*)"')
+ESCAPE = re.compile(r"\\(x[0-9a-f]{2}|.)")
 NUMBER = re.compile(r"(-?\d+)i")
 FIELD = re.compile(r"(\d+)=")
 
@@ -43,7 +44,8 @@ def value_at(text, at):
         return int(found[1]), found.end()
     found = TEXT.match(text, at)
     if found:
-        return found[1].encode(), found.end()
+        text = ESCAPE.sub(lambda sign: sign[1] if len(sign[1]) == 1 else chr(int(sign[1][1:], 16)), found[1])
+        return text.encode("latin-1"), found.end()
     demand(text.startswith("{", at), "no value at %d of %s", at, text)
     fields, at = {}, at + 1
     while not text.startswith("}", at):

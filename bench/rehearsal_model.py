@@ -156,20 +156,31 @@ def head(payload):
     return name, kind, number_, left
 
 
+class BadSize(Exception):
+    """A length below 0."""
+
+
+def size_of(left):
+    size = i32(left.take(4))
+    if size < 0:
+        raise BadSize
+    return size
+
+
 def fields(left):
-    """A struct of numbers, texts and such structs: the fields by id, the last of each id."""
-    found = {}
+    """A struct of numbers, texts and such structs: its fields in order, with repeats."""
+    found = []
     while True:
         code = left.take(1)[0]
         if code == 0:
-            return dict(sorted(found.items()))
+            return found
         place = int.from_bytes(left.take(2), "big", signed=True)
         if code == 8:
-            found[place] = i32(left.take(4))
+            found.append((place, i32(left.take(4))))
         elif code == 11:
-            found[place] = left.take(i32(left.take(4)))
+            found.append((place, left.take(size_of(left))))
         elif code == 12:
-            found[place] = fields(left)
+            found.append((place, fields(left)))
         else:
             raise NotImplementedError("type %d" % code)
 
@@ -179,12 +190,13 @@ def text_of(value):
     if isinstance(value, int):
         return "%di" % value
     if isinstance(value, bytes):
-        return '"%s"' % value.decode()
+        return '"%s"' % "".join("\\" + chr(b) if b in b'"\\' else chr(b) if 0x20 <= b <= 0x7e else "\\x%02x" % b for b in value)
     return "{" + ",".join("%d=%s" % (place, text_of(inner)) for place, inner in value.items()) + "}"
 
 
-METHODS = {b"ping": {}, b"zip": {}, b"add": {1: int, 2: int}, b"calculate": {1: int, 2: dict}, b"getStruct": {1: int}}
-TEXTS = {"unknown": (1, "Invalid method name: '%s'"), "short": (7, "Bad arguments: Short"), "broken": (6, "Internal error processing %s"),
+METHODS = {b"ping": {}, b"zip": {}, b"add": {1: int, 2: int}, b"calculate": {1: int, 2: list}, b"getStruct": {1: int}}
+WORK = {1: int, 2: int, 3: int, 4: bytes}
+TEXTS = {"unknown": (1, "Invalid method name: '%s'"), "bad": (7, "Bad arguments: %s"), "broken": (6, "Internal error processing %s"),
          "large": (6, "Reply is too large")}
 
 
@@ -196,6 +208,11 @@ def message(name, kind, number_, body):
 def exception(name, number_, code, text):
     body = b"\x0b\x00\x01" + put32(len(text)) + text.encode() + b"\x08\x00\x02" + put32(code) + b"\x00"
     return message(name, 3, number_, body)
+
+
+def fitting(found, types):
+    """Of the fields that are declared, by id, the last one of the declared type."""
+    return {place: value for place, value in sorted(found, key=lambda field: field[0]) if isinstance(value, types.get(place, ()))}
 
 
 def decide(payload):
@@ -210,12 +227,11 @@ def decide(payload):
     silent = name == b"zip" or kind == 4
     try:
         read = fields(left)
-    except Short:
-        return ("silent",) if silent else ("reply", exception(name, number_, 7, TEXTS["short"][1]))
-    args = {place: value for place, value in read.items() if isinstance(value, METHODS[name].get(place, ()))}
+    except (Short, BadSize) as fault:
+        return ("silent",) if silent else ("reply", exception(name, number_, 7, TEXTS["bad"][1] % type(fault).__name__))
+    args = fitting(read, METHODS[name])
     if name == b"calculate" and 2 in args:
-        work = {place: value for place, value in args[2].items() if place in (1, 2, 3) and isinstance(value, int)}
-        args[2] = dict(sorted({1: 0, **work}.items()))
+        args[2] = dict(sorted({1: 0, **fitting(args[2], WORK)}.items()))
     return "invoke", name, args, silent, number_
 
 
