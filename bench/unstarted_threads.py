@@ -1,16 +1,26 @@
 """`thriftd record` where threads can't be started, for bench/recorded_runs.py: as a user who may have just so many.
 
-The user is `nobody`, and the limit is RLIMIT_NPROC, which counts the threads of all of a user's programs. For each limit the run has to end with status 0 and a right
+The user is one of whom there is no other program, since the limit, RLIMIT_NPROC, counts the threads of all of a user's programs. For each limit the run has to end with status 0 and a right
 report. How many threads there were is looked up while it runs, and each number from none to eight has to be seen.
 """
 import os
-import pwd
 import resource
 import shutil
 import subprocess
 import tempfile
 
-WORKERS, USER = 8, "nobody"
+WORKERS, FREE_USERS = 8, range(61_000, 62_000)
+
+
+def free_user():
+    """A user of whom there is no program."""
+    owners = set()
+    for pid in filter(str.isdigit, os.listdir("/proc")):
+        try:
+            owners.add(os.stat("/proc/" + pid).st_uid)
+        except OSError:
+            pass
+    return next(user for user in FREE_USERS if user not in owners)
 
 
 def count_of(pid):
@@ -25,8 +35,8 @@ def as_user(user, limit):
     """Makes the program that is started then one of this user's, who may have so many threads."""
     def become():
         os.setgroups([])
-        os.setgid(user.pw_gid)
-        os.setuid(user.pw_uid)
+        os.setgid(user)
+        os.setuid(user)
         resource.setrlimit(resource.RLIMIT_NPROC, (limit, limit))
     return become
 
@@ -38,7 +48,7 @@ def record(runs, folder, text, limit):
         out.write(text)
     with open(script, "rb") as given, open(os.path.join(folder, "out"), "w+b") as out, open(os.path.join(folder, "errors"), "w+b") as errors:
         command = [os.path.join(folder, os.path.basename(runs.program))] + runs.command(WORKERS)[1:]
-        run = subprocess.Popen(command, stdin=given, stdout=out, stderr=errors, cwd=folder, preexec_fn=as_user(pwd.getpwnam(USER), limit))
+        run = subprocess.Popen(command, stdin=given, stdout=out, stderr=errors, cwd=folder, preexec_fn=as_user(free_user(), limit))
         while run.poll() is None:
             seen = max(seen, count_of(run.pid) - 1)
         out.seek(0)
@@ -51,7 +61,7 @@ def record(runs, folder, text, limit):
 def all_of(runs, text):
     """Records the script with a limit of 1 to 9 threads; answers whether each number of them was seen."""
     if os.getuid() != 0:
-        print("threads that can't be started: left out, since only root may become %s" % USER)
+        print("threads that can't be started: left out, since only root may become another user")
         return True
     with tempfile.TemporaryDirectory() as folder:
         os.chmod(folder, 0o755)
