@@ -313,6 +313,13 @@ def neighbours_of_others_change_places(parts):
                 yield parts.replaced(name, moved(lines, k + 1, k))
 
 
+def calls_are_sorted_by_connection(parts):
+    for sign in (1, -1):
+        calls = sorted(parts.calls, key=lambda line: sign * int(line.split()[1]))
+        if calls != parts.calls:
+            yield parts.replaced("calls", calls)
+
+
 # --- the reports
 
 def add(a, b, number):
@@ -377,9 +384,10 @@ def main():
         for kind in BREAKS:
             for broken in some(rng, name, kind(parts)):
                 tally.judge(case, kind.__name__.replace("_", " "), False, broken)
-        for other in some(rng, name, neighbours_of_others_change_places(parts)):
-            is_right = is_lawful_still(text, other, numbers)
-            tally.judge(case, "neighbours change places, %s" % ("lawfully" if is_right else "unlawfully"), is_right, other)
+        for kind in (neighbours_of_others_change_places, calls_are_sorted_by_connection):
+            for other in some(rng, name, kind(parts)):
+                is_right = is_lawful_still(text, other, numbers)
+                tally.judge(case, "%s, %s" % (kind.__name__.replace("_", " "), "lawfully" if is_right else "unlawfully"), is_right, other)
     for kind, count in tally.counts.items():
         print("%6d %s" % (count, kind))
     print("judge: %d reports, %d judged wrongly" % (sum(tally.counts.values()), tally.wrong))
