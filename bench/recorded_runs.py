@@ -234,7 +234,7 @@ def random_runs(runs):
 
 def busy():
     """Eight connections with calls enough that the threads can be counted meanwhile."""
-    return script([[add(c, k, k) for k in range(2_000)] for c in range(8)], ["end"] * 8)
+    return script([[add(c, k, k) for k in range(500)] for c in range(8)], ["end"] * 8)
 
 
 def clients():

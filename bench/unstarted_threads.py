@@ -66,5 +66,5 @@ def all_of(runs, text):
     with tempfile.TemporaryDirectory() as folder:
         os.chmod(folder, 0o755)
         shutil.copy(runs.program, folder)
-        seen = {record(runs, folder, text, limit) for _ in range(1 if runs.is_quick else 5) for limit in range(1, WORKERS + 2)}
+        seen = {record(runs, folder, text, limit) for _ in range(1 if runs.is_quick else 3) for limit in range(1, WORKERS + 2)}
     return seen >= set(range(WORKERS + 1))
