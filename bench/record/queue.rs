@@ -3,14 +3,15 @@
 //! It is what bench/record.sh measures beside `thriftd record`. The first thread keeps UNDER_WAY jobs under way, one for each connection, as the loop does: it hands over
 //! the next job of a connection once it has that one's outcome. With no workers it does the jobs itself, through the same queues. A job is what a worker does of a
 //! call of the calculator's `add`: it reads the head and the fields of the payload, adds, enters the call in a journal that all share, and makes the reply; and
-//! since the calculator finds types and names in a schema where this has them written out, it then goes through ROUNDS of shifts, each of which waits for the one
-//! before. Together that is half a microsecond or a little more, as are decision, answer and reply in the program; the 1.8 microseconds of a call of a
-//! rehearsal have besides the reading of the script and the writing of the report, which aren't done here. It prints the nanoseconds that a job takes by itself.
+//! since the program finds types and names in a schema where this has them written out, it then goes through ROUNDS of shifts, each of which waits for the one
+//! before. Together that takes about what decision, answer and reply take in the program, three quarters of a microsecond: they are 4,700 of the 10,900 instructions
+//! of a call of a rehearsal (`valgrind --tool=callgrind`), which takes 1.8 microseconds with the script's reading and the report's writing; those aren't done
+//! here. It prints the nanoseconds that a job takes by itself.
 use std::collections::VecDeque;
 use std::sync::{Condvar, Mutex};
 use std::time::Instant;
 
-const ROUNDS: u32 = 160;
+const ROUNDS: u32 = 270;
 const ALONE: u32 = 200;
 
 /// Items that one side puts and the other takes, in order.
