@@ -17,8 +17,8 @@ use std::mem;
 /// A block for the input and one for the output of each link.
 const BLOCKS: usize = 2 * MOST_OPEN;
 
-/// So many bytes are handed on before events are looked for, about: then no link has more to read until they were.
-const MOST_HANDED: usize = 65_536;
+/// So many bytes are read and written before events are looked for, about: then no link has more to read until they were.
+const MOST_MOVED: usize = 65_536;
 
 /// The open links, by rising number.
 #[derive(Drop)]
@@ -30,8 +30,8 @@ pub(crate) struct OpenLinks {
     ready: VecDeque<u32>,
     /// The numbers of those whose output is to be sent before the loop waits; a link that was closed may stand here still.
     unsent: Vec<u32>,
-    /// How many bytes were handed on since events were looked for.
-    handed: usize,
+    /// How many bytes were read and written since events were looked for.
+    moved: usize,
 }
 
 impl OpenLinks {
@@ -43,7 +43,7 @@ impl OpenLinks {
             pool: Pool::new(alloc, BLOCKS)?,
             ready: VecDeque::with_capacity(alloc, MOST_OPEN)?,
             unsent: Vec::with_capacity(alloc, MOST_OPEN)?,
-            handed: 0,
+            moved: 0,
         })
     }
 
@@ -81,26 +81,26 @@ impl OpenLinks {
             return Taken::NotYet;
         };
         let link = &mut self.links[at];
-        if self.handed >= MOST_HANDED {
+        if self.moved >= MOST_MOVED {
             link.put_off();
             list(&mut self.ready, link);
             return Taken::NotYet;
         }
         let taken = link.read(&mut self.pool, into);
         if let Taken::Bytes(count) = taken {
-            self.handed = self.handed.saturating_add(count);
+            self.moved = self.moved.saturating_add(count);
         }
         taken
     }
 
     /// Whether nothing is read before events are looked for.
     pub(crate) fn is_sated(&self) -> bool {
-        self.handed >= MOST_HANDED
+        self.moved >= MOST_MOVED
     }
 
     /// Events were looked for.
     pub(crate) fn renew(&mut self) {
-        self.handed = 0;
+        self.moved = 0;
     }
 
     /// Takes bytes off the front of `bytes`, to be sent on a link before the loop waits.
@@ -113,6 +113,9 @@ impl OpenLinks {
         };
         let link = &mut self.links[at];
         let taken = link.write(&mut self.pool, bytes);
+        if let Taken::Bytes(count) = taken {
+            self.moved = self.moved.saturating_add(count);
+        }
         if link.has_output() && !link.unsent {
             link.unsent = self.unsent.push(c).is_ok();
         }
