@@ -1,1 +1,2 @@
 pub mod ByteDesk
+pub mod Untold

@@ -12,7 +12,7 @@ pub(crate) struct KeyJournal {
     pub keys: Vec<Key>,
     fails_at: usize,
     faults: u64,
-    torn: bool,
+    pub torn: bool,
 }
 
 impl KeyJournal {

@@ -1,6 +1,8 @@
-//! Serving, run: scripts of several connections beside their rehearsal, with workers and without, a client that doesn't pause, and one over loopback.
+//! Serving, run: scripts of several connections beside their rehearsal, with workers and without, journals and links that fail, a client that doesn't pause, and one over loopback.
 #![tactic(auto)]
 
+#[cfg(test)]
+mod breaking;
 #[cfg(test)]
 mod desk;
 #[cfg(test)]
@@ -13,3 +15,5 @@ mod pipelining;
 mod running;
 #[cfg(test)]
 mod scripts;
+#[cfg(test)]
+mod stops;

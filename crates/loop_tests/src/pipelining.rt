@@ -1,6 +1,6 @@
 //! A client that sends many calls at once doesn't keep another one waiting for all of them.
 
-use crate::running::served;
+use crate::running::{NEVER, served};
 use conn_table::Outcome;
 use outside::{Cursor, MarkAt};
 use std::alloc::{AllocError, Global};
@@ -8,9 +8,6 @@ use std::test::Fail;
 
 /// So many calls stand one behind the other on connection 0: more than rounds that a line of the script begins collect, so that the loop has to wake itself.
 const CALLS: usize = 3_000;
-
-/// More appends, and more marks, than there are.
-const NEVER: usize = 10_000;
 
 /// A script of two connections: all calls of the first come at once, and then the second is opened and calls once.
 fn script_text(alloc: Global) -> Result<Vec<u8>, AllocError> {
@@ -45,7 +42,7 @@ fn goes_on_behind_the_other<'a>(mut marks: Cursor<'a>) -> bool {
 fn many_calls_at_once_let_another_be_answered(rt: HostRuntime) -> Result<(), Fail> {
     let text = script_text(rt.alloc())?;
     for workers in [0, 2] {
-        let Some(run) = served(&rt, rt.alloc(), text.as_slice(), workers, NEVER) else {
+        let Some(run) = served(&rt, rt.alloc(), text.as_slice(), workers, NEVER, NEVER) else {
             panic!(rt; "it is served")
         };
         assert!(rt; run.served.outcome == Outcome::All);

@@ -3,6 +3,7 @@
 ghost use Rattle.std.specs.Prelude.{◌≡◌, ◌≤◌, IfSome, length};
 ghost use Rattle.script_links.specs.Sound.{MovesItsWorkers};
 
+use crate::breaking::BreakingLinks;
 use crate::desk::{ByteDesk, LIMITS};
 use crate::journal::KeyJournal;
 use cell_core::{Rehearsed, rehearse};
@@ -19,10 +20,15 @@ use std::thread::Threads;
 /// No run has as many marks.
 const MOST_MARKS: u32 = 10_000;
 
+/// No run has as many appends, or asks its links as often.
+pub(crate) const NEVER: usize = 1_000_000;
+
 /// What serving a script has left.
 #[derive(Drop)]
 pub(crate) struct Run {
     pub links: ScriptLinks,
+    /// The links failed when they were asked what is next.
+    pub is_broken: bool,
     pub served: Served<Mirror, KeyJournal>,
 }
 
@@ -44,29 +50,35 @@ pub(crate) fn script_of(alloc: Global, text: &[u8]) -> Option<Script>
     }
 }
 
-/// Serves a script with so many workers, where the journal fails at this append.
+/// Serves a script with so many workers, where the journal fails at this append, and the links at this ask.
 pub(crate) fn served<R: Threads + Wait + Sync>(
     rt: &R,
     alloc: Global,
     text: &[u8],
     workers: u32,
-    fails_at: usize,
+    append: usize,
+    ask: usize,
 ) -> Option<Run>
     requires { workers ≤ 8 }
 {
-    let mut links = ScriptLinks::new(alloc, script_of(alloc, text)?).ok()?;
+    let links = ScriptLinks::new(alloc, script_of(alloc, text)?).ok()?;
+    let mut links = BreakingLinks::new(links, ask);
     let served = serve(
         rt,
         alloc,
         &mut links,
         &ByteDesk {},
         one_mirror(alloc)?,
-        KeyJournal::new(alloc, fails_at),
+        KeyJournal::new(alloc, append),
         workers,
         &EmptyGate,
         LIMITS,
     );
-    Some(Run { links, served })
+    Some(Run {
+        is_broken: links.faults > 0,
+        links: links.links,
+        served,
+    })
 }
 
 /// Rehearses a script without workers, where the journal fails at this append.

@@ -1,14 +1,11 @@
 //! Scripts are served as they are rehearsed: each connection has the same marks and the same end, and as many calls are made.
 
 use crate::journal::KeyJournal;
-use crate::running::{Run, has_same_marks, rehearsed, served};
+use crate::running::{NEVER, Run, has_same_marks, rehearsed, served};
 use cell_core::Rehearsed;
 use conn_table::Outcome;
 use house_handlers::Mirror;
 use std::test::Fail;
-
-/// More appends than there are.
-const NEVER: usize = 1_000;
 
 pub(crate) const SCRIPTS: [&[u8]; 8] = [
     // Calls on one connection, with a silent one between them; the last one comes in two pieces.
@@ -55,7 +52,7 @@ fn scripts_are_served_as_they_are_rehearsed(rt: HostRuntime) -> Result<(), Fail>
         };
         assert!(rt; other.outcome == Outcome::All);
         for workers in [0, 1, 2, 8] {
-            let Some(run) = served(&rt, alloc, text, workers, NEVER) else {
+            let Some(run) = served(&rt, alloc, text, workers, NEVER, NEVER) else {
                 panic!(rt; "it is served")
             };
             assert!(rt;
@@ -65,24 +62,6 @@ fn scripts_are_served_as_they_are_rehearsed(rt: HostRuntime) -> Result<(), Fail>
                 run.served.ends.as_slice(),
                 run.served.journal.keys.len()
             );
-        }
-    }
-    Ok(())
-}
-
-#[test]
-fn a_journal_that_fails_stops_what_is_open(rt: HostRuntime) -> Result<(), Fail> {
-    for fails_at in 0..3 {
-        for workers in [0, 1, 2, 8] {
-            let Some(run) = served(&rt, rt.alloc(), SCRIPTS[1], workers, fails_at) else {
-                panic!(rt; "it is served")
-            };
-            assert!(rt;
-                run.served.outcome == Outcome::JournalFault,
-                "{fails_at} {workers} {:?}",
-                run.served.outcome
-            );
-            assert!(rt; run.served.journal.keys.len() == fails_at);
         }
     }
     Ok(())
