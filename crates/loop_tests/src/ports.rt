@@ -1,0 +1,109 @@
+//! A port, served from a script: what its output and its journal's file have behind it.
+
+use crate::desk::{ByteDesk, LIMITS};
+use crate::running::{one_mirror, script_of};
+use outside::{EmptyGate, Files, MemFiles, MemSink};
+use port_serving::{PortFault, ServingPlace, serve_port};
+use script_binder::MemBinder;
+use std::alloc::Global;
+use std::sync::Wait;
+use std::test::Fail;
+use std::thread::Threads;
+
+/// Two calls on one connection.
+const TWO_CALLS: &[u8] = b"open\ndata 0 00000001050000000106\nend 0\n";
+
+const PLACE: ServingPlace<'static> = ServingPlace {
+    port: 9090,
+    accept: 10,
+    journal: "calls.txt",
+};
+
+/// What fails: these calls that make a file, these writes of the journal, these writes of the summary, and these calls to listen.
+type Fails = [&'static [u64]; 4];
+
+/// What fails, to what it leads, the summary, and what the journal's file holds.
+type Row = (Fails, Result<(), PortFault>, &'static [u8], &'static [u8]);
+
+const ROWS: [Row; 6] = [
+    (
+        [&[], &[], &[], &[]],
+        Ok(()),
+        b"listening 127.0.0.1:9090\nconn 0 End\ncalls 2\n",
+        b"call 0 0 0 p {} empty\ncall 0 1 0 p {} empty\n",
+    ),
+    (
+        [&[], &[1], &[], &[]],
+        Err(PortFault::JournalFault),
+        b"listening 127.0.0.1:9090\nconn 0 Stopped\ncalls 1\n",
+        b"call 0 0 0 p {} empty\n",
+    ),
+    ([&[0], &[], &[], &[]], Err(PortFault::FileFault), b"", b""),
+    ([&[], &[], &[], &[0]], Err(PortFault::NetFault), b"", b""),
+    ([&[], &[], &[0], &[]], Err(PortFault::WriteFault), b"", b""),
+    (
+        [&[], &[], &[1], &[]],
+        Err(PortFault::WriteFault),
+        b"listening 127.0.0.1:9090\n",
+        b"call 0 0 0 p {} empty\ncall 0 1 0 p {} empty\n",
+    ),
+];
+
+/// What serving a port has left.
+#[derive(Drop)]
+struct Port {
+    result: Result<(), PortFault>,
+    summary: Vec<u8>,
+    journal: Vec<u8>,
+}
+
+/// Serves the two calls at a port, where this fails.
+fn served_port<R: Threads + Wait + Sync>(
+    rt: &R,
+    alloc: Global,
+    workers: u32,
+    fails: Fails,
+) -> Option<Port>
+    requires { workers ≤ 8 }
+{
+    let [files, sinks, output, binder] = fails;
+    let mut files = MemFiles::new(Vec::new(alloc), files.to_vec(alloc).ok()?)
+        .with_sink_fails(sinks.to_vec(alloc).ok()?);
+    let mut output = MemSink::new(alloc, output.to_vec(alloc).ok()?);
+    let mut binder = MemBinder::new(script_of(alloc, TWO_CALLS)?, binder.to_vec(alloc).ok()?);
+    let result = serve_port(
+        rt,
+        alloc,
+        &mut files,
+        &mut output,
+        &mut binder,
+        &ByteDesk {},
+        one_mirror(alloc)?,
+        &EmptyGate,
+        workers,
+        LIMITS,
+        &PLACE,
+    );
+    let journal = files.read_whole(alloc, PLACE.journal, 1_000);
+    Some(Port {
+        result,
+        summary: output.into_bytes(),
+        journal: journal.unwrap_or_else(|_| Vec::new(alloc)),
+    })
+}
+
+#[test]
+fn a_port_is_served_and_told_of(rt: HostRuntime) -> Result<(), Fail> {
+    for (fails, result, summary, journal) in ROWS {
+        for workers in [0, 2] {
+            let Some(port) = served_port(&rt, rt.alloc(), workers, fails) else {
+                panic!(rt; "it is served")
+            };
+            let right = port.result == result
+                && port.summary.as_slice() == summary
+                && port.journal.as_slice() == journal;
+            assert!(rt; right, "{workers} {result:?}");
+        }
+    }
+    Ok(())
+}

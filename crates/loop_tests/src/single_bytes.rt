@@ -1,0 +1,96 @@
+//! Inputs that come byte by byte, and writes that take a byte each.
+
+use crate::running::{NEVER, served};
+use conn_table::Outcome;
+use std::alloc::{AllocError, Global};
+use std::test::Fail;
+
+/// The digits of what comes on each of two connections, and what is written to them.
+type Row = [&'static [u8]; 4];
+
+const ROWS: [Row; 4] = [
+    // A call each.
+    [
+        b"0000000105",
+        b"0000000107",
+        b"\0\0\0\x01\x05",
+        b"\0\0\0\x01\x07",
+    ],
+    // Three calls, of which the second is silent, beside none.
+    [
+        b"00000001050000000201090000000106",
+        b"",
+        b"\0\0\0\x01\x05\0\0\0\x01\x06",
+        b"",
+    ],
+    // Calls with payloads of the most bytes and of one, the last one cut off inside a size and inside a payload.
+    [
+        b"0000000805060708090a0b0c0000000106000000",
+        b"000000010700000008070707070707070700000008aa",
+        b"\0\0\0\x01\x05\0\0\0\x01\x06",
+        b"\0\0\0\x01\x07\0\0\0\x01\x07",
+    ],
+    // A size that is too large behind a call, and one that is 0.
+    [
+        b"000000010500000009",
+        b"00000000",
+        b"\0\0\0\x01\x05",
+        b"",
+    ],
+];
+
+/// Adds an opened connection, to which so many bytes are written one at a time.
+fn open(text: &mut Vec<u8>, rule: &[u8], bytes: usize) -> Result<(), AllocError> {
+    text.extend_from_slice(b"open\n")?;
+    for _ in 0..bytes {
+        text.extend_from_slice(rule)?;
+    }
+    Ok(())
+}
+
+/// Adds a piece for each byte of two digits, of one connection and then of the other.
+fn add_pieces(text: &mut Vec<u8>, digits: &[u8], others: &[u8]) -> Result<(), AllocError> {
+    let mut bytes = digits.chunks(2);
+    let mut other_bytes = others.chunks(2);
+    for _ in 0..digits.len().max(others.len()) {
+        if let Some(byte) = bytes.next() {
+            text.extend_from_slice(b"data 0 ")?;
+            text.extend_from_slice(byte)?;
+            text.push(b'\n')?;
+        }
+        if let Some(byte) = other_bytes.next() {
+            text.extend_from_slice(b"data 1 ")?;
+            text.extend_from_slice(byte)?;
+            text.push(b'\n')?;
+        }
+    }
+    Ok(())
+}
+
+/// The script of a row.
+fn script_text(alloc: Global, row: Row) -> Result<Vec<u8>, AllocError> {
+    let [digits, others, out, other_out] = row;
+    let mut text = Vec::new(alloc);
+    open(&mut text, b"write 0 1\n", out.len())?;
+    open(&mut text, b"write 1 1\n", other_out.len())?;
+    add_pieces(&mut text, digits, others)?;
+    text.extend_from_slice(b"end 0\nend 1\n")?;
+    Ok(text)
+}
+
+#[test]
+fn bytes_that_come_and_go_one_by_one_are_calls_and_replies(rt: HostRuntime) -> Result<(), Fail> {
+    for row in ROWS {
+        let text = script_text(rt.alloc(), row)?;
+        for workers in [0, 2] {
+            let Some(run) = served(&rt, rt.alloc(), text.as_slice(), workers, NEVER, NEVER) else {
+                panic!(rt; "it is served")
+            };
+            let right = run.served.outcome == Outcome::All
+                && run.links.out(0) == row[2]
+                && run.links.out(1) == row[3];
+            assert!(rt; right, "{workers} {:?}", row[0]);
+        }
+    }
+    Ok(())
+}
