@@ -14,6 +14,12 @@ pub fn accepted_checks()
         ≡ Some (checks (codes "@tutorial")) }
     ensures c { words_of (split (codes "check a=b"))
         ≡ Some (checks (codes "a=b")) }
+    ensures d { words_of (split (codes "check ="))
+        ≡ Some (checks (codes "=")) }
+    ensures e { words_of (split (codes "check a-"))
+        ≡ Some (checks (codes "a-")) }
+    ensures f { words_of (split (codes "check check"))
+        ≡ Some (checks (codes "check")) }
 {}
 
 /// Words that are commands: rehearsals.
@@ -28,6 +34,10 @@ pub fn accepted_rehearsals()
         ≡ Some (rehearses (served (codes "a") protocols.Binary 0 ((codes "A", kinds.Calculator) ∷ (codes "A", kinds.Store) ∷ []) 16384000 268435456)) }
     ensures e { words_of (split (codes "rehearse a binary 0 A=store A=store A=store A=store A=store A=store A=store A=store A=store A=store A=store A=store A=store A=store A=store A=store"))
         ≡ Some (rehearses (served (codes "a") protocols.Binary 0 (many 16 (codes "A", kinds.Store)) 16384000 268435456)) }
+    ensures f { words_of (split (codes "record @tutorial compact 0000000008 Calculator=mirror"))
+        ≡ Some (records (served (codes "@tutorial") protocols.Compact 8 ((codes "Calculator", kinds.Mirror) ∷ []) 16384000 268435456)) }
+    ensures g { words_of (split (codes "rehearse rehearse binary 0 a-b=store"))
+        ≡ Some (rehearses (served (codes "rehearse") protocols.Binary 0 ((codes "a-b", kinds.Store) ∷ []) 16384000 268435456)) }
 {}
 
 /// Words that are commands: options.
@@ -48,6 +58,8 @@ pub fn accepted_options()
         ≡ Some (rehearses (served (codes "a") protocols.Binary 0 ((codes "A", kinds.Store) ∷ []) 268435456 268435456)) }
     ensures h { words_of (split (codes "rehearse a binary 0 A=store --max-frame 1 --read-budget 1"))
         ≡ Some (rehearses (served (codes "a") protocols.Binary 0 ((codes "A", kinds.Store) ∷ []) 1 1)) }
+    ensures i { words_of (split (codes "record --read-budget=30 --max-frame=30 a binary 0 A=store"))
+        ≡ Some (records (served (codes "a") protocols.Binary 0 ((codes "A", kinds.Store) ∷ []) 30 30)) }
 {}
 
 /// Words that are commands: serving.
@@ -64,6 +76,10 @@ pub fn accepted_serving()
         ≡ Some (serves (served (codes "a") protocols.Binary 0 ((codes "A", kinds.Store) ∷ []) 16384000 268435456) 1 2 (codes "-j")) }
     ensures f { words_of (split (codes "serve a binary 0 --max-frame 5 A=store --listen 0000000003 --read-budget=6 --accept=0000000002 --journal j.k"))
         ≡ Some (serves (served (codes "a") protocols.Binary 0 ((codes "A", kinds.Store) ∷ []) 5 6) 3 2 (codes "j.k")) }
+    ensures g { words_of (split (codes "serve @tutorial binary 0 A=store --listen=65535 --accept=1 --journal=--"))
+        ≡ Some (serves (served (codes "@tutorial") protocols.Binary 0 ((codes "A", kinds.Store) ∷ []) 16384000 268435456) 65535 1 (codes "--")) }
+    ensures h { words_of (split (codes "serve a --journal binary binary 0 --accept 1 A=store --listen 1 B=mirror"))
+        ≡ Some (serves (served (codes "a") protocols.Binary 0 ((codes "A", kinds.Store) ∷ (codes "B", kinds.Mirror) ∷ []) 16384000 268435456) 1 1 (codes "binary")) }
 {}
 
 /// Words that are commands: workloads.
@@ -73,6 +89,8 @@ pub fn accepted_workloads()
     ensures b { words_of (split (codes "workload 9999999999999999999 1000000 8"))
         ≡ Some (runs 9999999999999999999 1000000 8) }
     ensures c { words_of (split (codes "workload 0000000000000000000 0000000001 0000000000"))
+        ≡ Some (runs 0 1 0) }
+    ensures d { words_of (split (codes "workload 0 1 0"))
         ≡ Some (runs 0 1 0) }
 {}
 
@@ -99,6 +117,21 @@ pub fn refused_other_commands()
         ∷ codes "check a --help"
         ∷ codes "check a -h"
         ∷ codes " check a"
+        ∷ codes "chec a"
+        ∷ codes "checks a"
+        ∷ codes "--help"
+        ∷ codes "-h"
+        ∷ codes "help check"
+        ∷ codes "--version"
+        ∷ codes "--max-frame=3 rehearse a binary 0 A=store"
+        ∷ codes "--listen 1 serve a binary 0 A=store --accept 1 --journal j"
+        ∷ codes "- check a"
+        ∷ codes "-- check a"
+        ∷ codes "check -- a"
+        ∷ codes "check a --"
+        ∷ codes "check a -"
+        ∷ codes "check a "
+        ∷ codes "check a --max-frame=3"
         ∷ []) ≡ true }
 {}
 
@@ -118,6 +151,16 @@ pub fn refused_places()
         ∷ codes "rehearse a binary  A=store"
         ∷ codes "rehearse a binary 00000000000 A=store"
         ∷ codes "record a binary 0"
+        ∷ codes "rehearse -- a binary 0 A=store"
+        ∷ codes "rehearse -a binary 0 A=store"
+        ∷ codes "record a  0 A=store"
+        ∷ codes "record a binary compact 0 A=store"
+        ∷ codes "record a 0 binary A=store"
+        ∷ codes "record a binary 4294967296 A=store"
+        ∷ codes "record a binary 0 0 A=store"
+        ∷ codes "rehearse a binary - A=store"
+        ∷ codes "serve a binary --listen 1 --accept 1 --journal j A=store"
+        ∷ codes "serve a binary 0 --listen 1 --accept 1 --journal j"
         ∷ []) ≡ true }
 {}
 
@@ -132,6 +175,15 @@ pub fn refused_pairs()
         ∷ codes "rehearse a binary 0 A=store B"
         ∷ codes "rehearse a binary 0 A=store "
         ∷ codes "record a binary 0 A=store A=store A=store A=store A=store A=store A=store A=store A=store A=store A=store A=store A=store A=store A=store A=store A=store"
+        ∷ codes "rehearse a binary 0 ="
+        ∷ codes "rehearse a binary 0 A==store"
+        ∷ codes "rehearse a binary 0 A=store="
+        ∷ codes "rehearse a binary 0 A=store,B=store"
+        ∷ codes "rehearse a binary 0 A=-store"
+        ∷ codes "rehearse a binary 0 -A=store"
+        ∷ codes "rehearse a binary 0 --A=store"
+        ∷ codes "rehearse a binary 0 A=store A=store A=store A=store A=store A=store A=store A=store A=store A=store A=store A=store A=store A=store A=store A=store A=store"
+        ∷ codes "serve a binary 0 A=store A=store A=store A=store A=store A=store A=store A=store A=store A=store A=store A=store A=store A=store A=store A=store A=store --listen 1 --accept 1 --journal j"
         ∷ []) ≡ true }
 {}
 
@@ -163,6 +215,28 @@ pub fn refused_options()
         ∷ codes "rehearse a binary 0 A=store --read-budget=16383999"
         ∷ codes "rehearse a binary 0 A=store --max-frame 31 --read-budget 30"
         ∷ codes "rehearse a binary 0 A=store --read-budget 268435457"
+        ∷ codes "rehearse a binary 0 A=store --read-budget="
+        ∷ codes "rehearse a binary 0 A=store --read-budget 0"
+        ∷ codes "rehearse a binary 0 A=store --read-budget 12345678901"
+        ∷ codes "rehearse a binary 0 A=store --read-budget=30 --max-frame=30 --read-budget=30"
+        ∷ codes "rehearse a binary 0 A=store --max-frame=3 --max-frame=4"
+        ∷ codes "rehearse a binary 0 A=store --max-frame 9999999999"
+        ∷ codes "rehearse a binary 0 A=store --max-frame  3"
+        ∷ codes "rehearse a binary 0 A=store --max-frame "
+        ∷ codes "rehearse a binary 0 A=store --max-frame --"
+        ∷ codes "rehearse a binary 0 A=store --max-frame -"
+        ∷ codes "rehearse a binary 0 A=store --max-frame=3="
+        ∷ codes "rehearse a binary 0 A=store --max-frame==3"
+        ∷ codes "rehearse a binary 0 A=store --Max-frame 3"
+        ∷ codes "rehearse a binary 0 A=store --max_frame 3"
+        ∷ codes "rehearse a binary 0 A=store --max-frame3"
+        ∷ codes "rehearse a binary 0 A=store -max-frame=3"
+        ∷ codes "record a binary 0 A=store --journal j"
+        ∷ codes "record a binary 0 A=store --accept=1"
+        ∷ codes "record a binary 0 A=store --help"
+        ∷ codes "record a binary 0 A=store -"
+        ∷ codes "record -- a binary 0 A=store"
+        ∷ codes "record a binary 0 A=store --read-budget +30000000"
         ∷ []) ≡ true }
 {}
 
@@ -181,6 +255,25 @@ pub fn refused_serving()
         ∷ codes "serve a binary 0 A=store --listen 1 --accept 1 --journal --"
         ∷ codes "serve a binary 0 A=store --listen 1 --accept 1 --journal j --listen=1"
         ∷ codes "serve a binary 0 A=store --listen 1 --accept 1 --journal j -- B=store"
+        ∷ codes "serve a binary 0 A=store --listen= --accept 1 --journal j"
+        ∷ codes "serve a binary 0 A=store --listen 1 --accept= --journal j"
+        ∷ codes "serve a binary 0 A=store --listen -1 --accept 1 --journal j"
+        ∷ codes "serve a binary 0 A=store --listen +1 --accept 1 --journal j"
+        ∷ codes "serve a binary 0 A=store --listen 4294967297 --accept 1 --journal j"
+        ∷ codes "serve a binary 0 A=store --listen 00000000001 --accept 1 --journal j"
+        ∷ codes "serve a binary 0 A=store --listen 1 --accept -1 --journal j"
+        ∷ codes "serve a binary 0 A=store --listen 1 --accept 4294967297 --journal j"
+        ∷ codes "serve a binary 0 A=store --listen 1 --accept=00000000001 --journal j"
+        ∷ codes "serve a binary 0 A=store --listen 1 --accept 1 --journal "
+        ∷ codes "serve a binary 0 A=store --listen 1 --accept 1 --journal -"
+        ∷ codes "serve a binary 0 A=store --listen 1 --accept 1 --journal"
+        ∷ codes "serve a binary 0 A=store --listen 1 --accept 1 --journal j --journal=k"
+        ∷ codes "serve a binary 0 A=store --listen 1 --accept 1 --journal j --accept 1"
+        ∷ codes "serve a binary 0 A=store --listen 1 --accept 1 --journal j --port 1"
+        ∷ codes "serve a binary 0 A=store --listen 1 --accept 1 --journal j -"
+        ∷ codes "serve a binary 0 A=store --listen 1 --accept 1 --journal j --"
+        ∷ codes "serve a binary 0 A=store --listen 1 --accept 1 --journal j --read-budget 30"
+        ∷ codes "serve a binary 0 A=store --listen 1 --accept 1 --journal j k"
         ∷ []) ≡ true }
 {}
 
@@ -197,5 +290,21 @@ pub fn refused_workloads()
         ∷ codes "workload +1 1 0"
         ∷ codes "workload  1 0"
         ∷ codes "workload 1 1 0 --max-frame 3"
+        ∷ codes "workload 1 1 0 -"
+        ∷ codes "workload 1 1 0 --"
+        ∷ codes "workload -- 1 1 0"
+        ∷ codes "workload 1 1 0 --seed"
+        ∷ codes "workload --seed=1 1 0"
+        ∷ codes "workload 00000000000000000001 1 0"
+        ∷ codes "workload 1 +1 0"
+        ∷ codes "workload 1 -1 0"
+        ∷ codes "workload 1 00000000001 0"
+        ∷ codes "workload 1 4294967297 0"
+        ∷ codes "workload 1 1 +0"
+        ∷ codes "workload 1 1 00000000000"
+        ∷ codes "workload 1  0"
+        ∷ codes "workload 1 1 "
+        ∷ codes "workload x 1 0"
+        ∷ codes "workload 1 1x 0"
         ∷ []) ≡ true }
 {}

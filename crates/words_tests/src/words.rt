@@ -9,7 +9,7 @@ use std::test::Fail;
 // A line of words; the command with the words for its IDL, its protocol, its pairs and its journal; and its numbers.
 type Row = (&'static str, [&'static str; 5], [u64; 5]);
 
-const ACCEPTED: [Row; 25] = [
+const ACCEPTED: [Row; 34] = [
     ("check a", ["check", "a", "", "", ""], [0, 0, 0, 0, 0]),
     (
         "check @tutorial",
@@ -139,9 +139,47 @@ const ACCEPTED: [Row; 25] = [
         ["workload", "", "", "", ""],
         [0, 1, 0, 0, 0],
     ),
+    ("check =", ["check", "=", "", "", ""], [0, 0, 0, 0, 0]),
+    ("check a-", ["check", "a-", "", "", ""], [0, 0, 0, 0, 0]),
+    (
+        "check check",
+        ["check", "check", "", "", ""],
+        [0, 0, 0, 0, 0],
+    ),
+    (
+        "record @tutorial compact 0000000008 Calculator=mirror",
+        ["record", "@tutorial", "compact", "Calculator=mirror", ""],
+        [8, 16384000, 268435456, 0, 0],
+    ),
+    (
+        "rehearse rehearse binary 0 a-b=store",
+        ["rehearse", "rehearse", "binary", "a-b=store", ""],
+        [0, 16384000, 268435456, 0, 0],
+    ),
+    (
+        "record --read-budget=30 --max-frame=30 a binary 0 A=store",
+        ["record", "a", "binary", "A=store", ""],
+        [0, 30, 30, 0, 0],
+    ),
+    (
+        "serve @tutorial binary 0 A=store --listen=65535 --accept=1 --journal=--",
+        ["serve", "@tutorial", "binary", "A=store", "--"],
+        [0, 16384000, 268435456, 65535, 1],
+    ),
+    (
+        "serve a --journal binary binary 0 --accept 1 A=store --listen 1 B=mirror",
+        ["serve", "a", "binary", "A=store,B=mirror", "binary"],
+        [0, 16384000, 268435456, 1, 1],
+    ),
+    (
+        "workload 0 1 0",
+        ["workload", "", "", "", ""],
+        [0, 1, 0, 0, 0],
+    ),
 ];
 
-const REFUSED: [&str; 89] = [
+/// Words that are no command: other commands.
+const OTHER_COMMANDS: &[&str] = &[
     "",
     "help",
     "Check a",
@@ -158,6 +196,25 @@ const REFUSED: [&str; 89] = [
     "check a --help",
     "check a -h",
     " check a",
+    "chec a",
+    "checks a",
+    "--help",
+    "-h",
+    "help check",
+    "--version",
+    "--max-frame=3 rehearse a binary 0 A=store",
+    "--listen 1 serve a binary 0 A=store --accept 1 --journal j",
+    "- check a",
+    "-- check a",
+    "check -- a",
+    "check a --",
+    "check a -",
+    "check a ",
+    "check a --max-frame=3",
+];
+
+/// Words that are no command: places.
+const PLACES: &[&str] = &[
     "rehearse",
     "rehearse a",
     "rehearse a binary",
@@ -172,6 +229,20 @@ const REFUSED: [&str; 89] = [
     "rehearse a binary  A=store",
     "rehearse a binary 00000000000 A=store",
     "record a binary 0",
+    "rehearse -- a binary 0 A=store",
+    "rehearse -a binary 0 A=store",
+    "record a  0 A=store",
+    "record a binary compact 0 A=store",
+    "record a 0 binary A=store",
+    "record a binary 4294967296 A=store",
+    "record a binary 0 0 A=store",
+    "rehearse a binary - A=store",
+    "serve a binary --listen 1 --accept 1 --journal j A=store",
+    "serve a binary 0 --listen 1 --accept 1 --journal j",
+];
+
+/// Words that are no command: pairs.
+const PAIRS: &[&str] = &[
     "rehearse a binary 0 A",
     "rehearse a binary 0 =store",
     "rehearse a binary 0 A=",
@@ -181,6 +252,19 @@ const REFUSED: [&str; 89] = [
     "rehearse a binary 0 A=store B",
     "rehearse a binary 0 A=store ",
     "record a binary 0 A=store A=store A=store A=store A=store A=store A=store A=store A=store A=store A=store A=store A=store A=store A=store A=store A=store",
+    "rehearse a binary 0 =",
+    "rehearse a binary 0 A==store",
+    "rehearse a binary 0 A=store=",
+    "rehearse a binary 0 A=store,B=store",
+    "rehearse a binary 0 A=-store",
+    "rehearse a binary 0 -A=store",
+    "rehearse a binary 0 --A=store",
+    "rehearse a binary 0 A=store A=store A=store A=store A=store A=store A=store A=store A=store A=store A=store A=store A=store A=store A=store A=store A=store",
+    "serve a binary 0 A=store A=store A=store A=store A=store A=store A=store A=store A=store A=store A=store A=store A=store A=store A=store A=store A=store --listen 1 --accept 1 --journal j",
+];
+
+/// Words that are no command: options.
+const OPTIONS: &[&str] = &[
     "rehearse a binary 0 A=store -",
     "rehearse a binary 0 A=store --",
     "rehearse a binary 0 A=store --=x",
@@ -207,6 +291,32 @@ const REFUSED: [&str; 89] = [
     "rehearse a binary 0 A=store --read-budget=16383999",
     "rehearse a binary 0 A=store --max-frame 31 --read-budget 30",
     "rehearse a binary 0 A=store --read-budget 268435457",
+    "rehearse a binary 0 A=store --read-budget=",
+    "rehearse a binary 0 A=store --read-budget 0",
+    "rehearse a binary 0 A=store --read-budget 12345678901",
+    "rehearse a binary 0 A=store --read-budget=30 --max-frame=30 --read-budget=30",
+    "rehearse a binary 0 A=store --max-frame=3 --max-frame=4",
+    "rehearse a binary 0 A=store --max-frame 9999999999",
+    "rehearse a binary 0 A=store --max-frame  3",
+    "rehearse a binary 0 A=store --max-frame ",
+    "rehearse a binary 0 A=store --max-frame --",
+    "rehearse a binary 0 A=store --max-frame -",
+    "rehearse a binary 0 A=store --max-frame=3=",
+    "rehearse a binary 0 A=store --max-frame==3",
+    "rehearse a binary 0 A=store --Max-frame 3",
+    "rehearse a binary 0 A=store --max_frame 3",
+    "rehearse a binary 0 A=store --max-frame3",
+    "rehearse a binary 0 A=store -max-frame=3",
+    "record a binary 0 A=store --journal j",
+    "record a binary 0 A=store --accept=1",
+    "record a binary 0 A=store --help",
+    "record a binary 0 A=store -",
+    "record -- a binary 0 A=store",
+    "record a binary 0 A=store --read-budget +30000000",
+];
+
+/// Words that are no command: serving.
+const SERVING: &[&str] = &[
     "serve a binary 0 A=store",
     "serve a binary 0 A=store --accept 1 --journal j",
     "serve a binary 0 A=store --listen 1 --journal j",
@@ -220,6 +330,29 @@ const REFUSED: [&str; 89] = [
     "serve a binary 0 A=store --listen 1 --accept 1 --journal --",
     "serve a binary 0 A=store --listen 1 --accept 1 --journal j --listen=1",
     "serve a binary 0 A=store --listen 1 --accept 1 --journal j -- B=store",
+    "serve a binary 0 A=store --listen= --accept 1 --journal j",
+    "serve a binary 0 A=store --listen 1 --accept= --journal j",
+    "serve a binary 0 A=store --listen -1 --accept 1 --journal j",
+    "serve a binary 0 A=store --listen +1 --accept 1 --journal j",
+    "serve a binary 0 A=store --listen 4294967297 --accept 1 --journal j",
+    "serve a binary 0 A=store --listen 00000000001 --accept 1 --journal j",
+    "serve a binary 0 A=store --listen 1 --accept -1 --journal j",
+    "serve a binary 0 A=store --listen 1 --accept 4294967297 --journal j",
+    "serve a binary 0 A=store --listen 1 --accept=00000000001 --journal j",
+    "serve a binary 0 A=store --listen 1 --accept 1 --journal ",
+    "serve a binary 0 A=store --listen 1 --accept 1 --journal -",
+    "serve a binary 0 A=store --listen 1 --accept 1 --journal",
+    "serve a binary 0 A=store --listen 1 --accept 1 --journal j --journal=k",
+    "serve a binary 0 A=store --listen 1 --accept 1 --journal j --accept 1",
+    "serve a binary 0 A=store --listen 1 --accept 1 --journal j --port 1",
+    "serve a binary 0 A=store --listen 1 --accept 1 --journal j -",
+    "serve a binary 0 A=store --listen 1 --accept 1 --journal j --",
+    "serve a binary 0 A=store --listen 1 --accept 1 --journal j --read-budget 30",
+    "serve a binary 0 A=store --listen 1 --accept 1 --journal j k",
+];
+
+/// Words that are no command: workloads.
+const WORKLOADS: &[&str] = &[
     "workload",
     "workload 1 2",
     "workload 1 2 3 4",
@@ -231,7 +364,25 @@ const REFUSED: [&str; 89] = [
     "workload +1 1 0",
     "workload  1 0",
     "workload 1 1 0 --max-frame 3",
+    "workload 1 1 0 -",
+    "workload 1 1 0 --",
+    "workload -- 1 1 0",
+    "workload 1 1 0 --seed",
+    "workload --seed=1 1 0",
+    "workload 00000000000000000001 1 0",
+    "workload 1 +1 0",
+    "workload 1 -1 0",
+    "workload 1 00000000001 0",
+    "workload 1 4294967297 0",
+    "workload 1 1 +0",
+    "workload 1 1 00000000000",
+    "workload 1  0",
+    "workload 1 1 ",
+    "workload x 1 0",
+    "workload 1 1x 0",
 ];
+
+const REFUSED: [&[&str]; 6] = [OTHER_COMMANDS, PLACES, PAIRS, OPTIONS, SERVING, WORKLOADS];
 
 /// The words of a line.
 fn owned(alloc: Global, line: &str) -> Result<Vec<String>, AllocError> {
@@ -359,8 +510,10 @@ fn words_are_read(rt: HostRuntime) -> Result<(), Fail> {
 
 #[test]
 fn words_are_refused(rt: HostRuntime) -> Result<(), Fail> {
-    for line in REFUSED {
-        assert!(rt; is_refused(rt.alloc(), line)?);
+    for lines in REFUSED {
+        for line in lines {
+            assert!(rt; is_refused(rt.alloc(), line)?);
+        }
     }
     Ok(())
 }
