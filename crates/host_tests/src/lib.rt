@@ -11,6 +11,8 @@ mod idls;
 #[cfg(test)]
 mod machines;
 #[cfg(test)]
+mod meeting;
+#[cfg(test)]
 mod recordings;
 #[cfg(test)]
 mod records;

@@ -1,13 +1,13 @@
 //! Scripts of many connections, served by a loop with two workers on threads.
 
 use crate::given::{Ended, Given};
+use crate::meeting::Meeting;
 use outside::{EmptyGate, Gate, MemSource};
 use std::alloc::{AllocError, Global};
 use std::process::Abort;
 use std::sync::Wait;
-use std::sync::atomic::{AtomicU64, Ordering};
 use std::test::Fail;
-use std::thread::{Threads, yield_now};
+use std::thread::Threads;
 use thrift_host::Status;
 
 const RECORD: [&str; 5] = [
@@ -41,21 +41,38 @@ const KEPT_END: &[u8] =
 0001d800100020000000963616c63756c617465000000010800000000002a00\nconn 1 End 0000002a80010002000000096765745374727563740000\
 00010c0000080001000000070b00020000000234320000\ncalls 2\n";
 
+/// The same where the one that keeps it is the one that was opened last.
+const TURNED: &[u8] =
+    b"open\nopen\ndata 1 00000036800100010000000963616c63756c61746500000001080001000000070c0002080001000000140800020000001608000\
+3000000010000\nrest\ndata 0 0000001d8001000100000009676574537472756374000000010800010000000700\nend 0\nend 1\n";
+
+const TURNED_END: &[u8] =
+    b"call 1 0 0 calculate {1=7i,2={1=20i,2=22i,3=1i}} ok 42i\ncall 0 0 0 getStruct {1=7i} ok {1=7i,2=\"42\"}\nconn 0 End 000\
+0002a80010002000000096765745374727563740000000\
+10c0000080001000000070b00020000000234320000\nconn 1 End 0000001d800100020000000963616c63756c617465000000010800000000002a00\ncalls 2\n";
+
 /// A sum on each of two connections.
 const SUMS: &[u8] =
     b"open\nopen\ndata 0 0000001e800100010000000361646400000001080001000000010800020000000100\ndata 1 0000001e8001000100000003\
 61646400000001080001000000010800020000000100\nend 0\nend 1\n";
 
 const SUMS_END: &[u8] =
-    b"conn 0 End 000000178001000200000003616464000000010800000000000200\nconn 1 End 00000017800100020000000361646400000001080000\
+    b"call 0 0 0 add {1=1i,2=1i} ok 2i\ncall 1 0 0 add {1=1i,2=1i} ok 2i\nconn 0 End 000000178001000200000003616464000000010800000000000200\nconn 1 End 00000017800100020000000361646400000001080000\
 0000000200\ncalls 2\n";
 
 /// `ping` on each of two connections.
-const PINGS: &[u8] =
+pub(crate) const PINGS: &[u8] =
     b"open\nopen\ndata 0 00000011800100010000000470696e670000000000\ndata 1 00000011800100010000000470696e670000000000\nend 0\nend 1\n";
 
 const PINGS_END: &[u8] =
     b"conn 0 End 00000011800100020000000470696e670000000000\nconn 1 End 00000011800100020000000470696e670000000000\ncalls 2\n";
+
+/// The words of runs, their scripts, and how their reports end.
+const RUNS: [(&[&str], &[u8], &[u8]); 3] = [
+    (&RECORD, KEPT, KEPT_END),
+    (&RECORD, TURNED, TURNED_END),
+    (&RECORD_LEAST, SUMS, SUMS_END),
+];
 
 /// Runs the command of these words on a script.
 fn served<G: Gate + Sync, R: Threads + Wait + Sync>(
@@ -72,10 +89,10 @@ fn served<G: Gate + Sync, R: Threads + Wait + Sync>(
 
 #[test]
 fn recorded_runs_have_their_ends(rt: HostRuntime) -> Result<(), Fail> {
-    let kept = served(&rt, rt.alloc(), &RECORD, KEPT, &EmptyGate)?;
-    assert!(rt; kept.is_done_with(KEPT_END));
-    let summed = served(&rt, rt.alloc(), &RECORD_LEAST, SUMS, &EmptyGate)?;
-    assert!(rt; summed.is_done_with(SUMS_END));
+    for (words, script, end) in RUNS {
+        let ended = served(&rt, rt.alloc(), words, script, &EmptyGate)?;
+        assert!(rt; ended.is_done_with(end));
+    }
     Ok(())
 }
 
@@ -92,36 +109,11 @@ fn recorded_scripts_have_no_schedule(rt: HostRuntime) -> Result<(), Fail> {
     Ok(())
 }
 
-/// Counts the jobs that came to it, and those that met another one there. A job waits until two have come, for 1,000,000 tries at most.
-#[derive(Drop)]
-struct Meeting {
-    came: AtomicU64,
-    met: AtomicU64,
-}
-
-impl Gate for Meeting {
-    fn pass<R: Wait>(&self, _rt: &R, _c: u32, _i: u64) {
-        self.came.fetch_add(1, Ordering::SeqCst);
-        for _ in 0..1_000_000u32 {
-            if self.came.load(Ordering::SeqCst) >= 2 {
-                self.met.fetch_add(1, Ordering::SeqCst);
-                break;
-            }
-            yield_now();
-        }
-    }
-
-    fn done<R: Wait>(&self, _rt: &R, _c: u32, _i: u64) {}
-}
-
 #[test]
 fn two_calls_are_under_way_at_once(rt: HostRuntime) -> Result<(), Fail> {
-    let gate = Meeting {
-        came: AtomicU64::new(0),
-        met: AtomicU64::new(0),
-    };
+    let gate = Meeting::new();
     let ended = served(&rt, rt.alloc(), &RECORD, PINGS, &gate)?;
-    assert!(rt; gate.came.load(Ordering::SeqCst) == 2 && gate.met.load(Ordering::SeqCst) == 2);
+    assert!(rt; gate.has_met());
     assert!(rt; ended.is_done_with(PINGS_END));
     Ok(())
 }

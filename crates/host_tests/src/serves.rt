@@ -1,6 +1,8 @@
 //! A port that is served, with a journal among the files.
 
 use crate::given::{Ended, Given};
+use crate::meeting::Meeting;
+use crate::records::PINGS;
 use outside::MemFiles;
 use std::alloc::{AllocError, Global};
 use std::sync::Wait;
@@ -48,6 +50,19 @@ fn a_port_is_served(rt: HostRuntime) -> Result<(), Fail> {
         ended.journal.as_slice()
             == b"call 0 0 0 ping {} empty\ncall 0 1 0 ping {} empty\n".as_slice()
     );
+    Ok(())
+}
+
+#[test]
+fn two_calls_of_a_port_are_under_way_at_once(rt: HostRuntime) -> Result<(), Fail> {
+    let gate = Meeting::new();
+    let given = Given {
+        port: PINGS,
+        ..Given::empty(rt.alloc())
+    };
+    let ended = given.run_behind(&rt, rt.alloc(), &SERVE, &gate)?;
+    assert!(rt; gate.has_met());
+    assert!(rt; ended.is_done_with(b"\nconn 0 End\nconn 1 End\ncalls 2\n"));
     Ok(())
 }
 

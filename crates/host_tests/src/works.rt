@@ -81,15 +81,11 @@ impl Gate for Counting {
 }
 
 #[test]
-fn workers_put_each_outcome_once(rt: HostRuntime) -> Result<(), Fail> {
-    let gate = Counting::of(rt.alloc(), 1000)?;
-    let ended = Given::empty(rt.alloc()).run_behind(
-        &rt,
-        rt.alloc(),
-        &["workload", "7", "1000", "2"],
-        &gate,
-    )?;
-    assert!(rt; ended.is_done_with(b""));
-    assert!(rt; gate.has_each_once());
+fn each_outcome_is_put_once(rt: HostRuntime) -> Result<(), Fail> {
+    for (words, frames) in [(ROWS[0].0, 1), (["workload", "7", "1000", "2"], 1000)] {
+        let gate = Counting::of(rt.alloc(), frames)?;
+        let ended = Given::empty(rt.alloc()).run_behind(&rt, rt.alloc(), &words, &gate)?;
+        assert!(rt; ended.is_done_with(b"") && gate.has_each_once());
+    }
     Ok(())
 }

@@ -10,6 +10,8 @@ mod journal;
 #[cfg(test)]
 mod loopback;
 #[cfg(test)]
+mod meeting;
+#[cfg(test)]
 mod pipelining;
 #[cfg(test)]
 mod ports;

@@ -6,10 +6,11 @@ ghost use Rattle.script_links.specs.Sound.{MovesItsWorkers};
 use crate::breaking::BreakingLinks;
 use crate::desk::{ByteDesk, LIMITS};
 use crate::journal::KeyJournal;
+use crate::meeting::Meeting;
 use cell_core::{Rehearsed, rehearse};
 use host_loop::{Served, serve};
 use house_handlers::Mirror;
-use outside::{Cursor, EmptyGate, MarkAt};
+use outside::{Cursor, MarkAt};
 use script_links::laws::scripts_are_sound;
 use script_links::{Script, read_script};
 use script_serving::ScriptLinks;
@@ -61,6 +62,21 @@ pub(crate) fn served<R: Threads + Wait + Sync>(
 ) -> Option<Run>
     requires { workers ≤ 8 }
 {
+    served_behind(rt, alloc, &Meeting::of(0), text, workers, append, ask)
+}
+
+/// The same behind a gate.
+pub(crate) fn served_behind<R: Threads + Wait + Sync>(
+    rt: &R,
+    alloc: Global,
+    gate: &Meeting,
+    text: &[u8],
+    workers: u32,
+    append: usize,
+    ask: usize,
+) -> Option<Run>
+    requires { workers ≤ 8 }
+{
     let links = ScriptLinks::new(alloc, script_of(alloc, text)?).ok()?;
     let mut links = BreakingLinks::new(links, ask);
     let served = serve(
@@ -71,7 +87,7 @@ pub(crate) fn served<R: Threads + Wait + Sync>(
         one_mirror(alloc)?,
         KeyJournal::new(alloc, append),
         workers,
-        &EmptyGate,
+        gate,
         LIMITS,
     );
     Some(Run {

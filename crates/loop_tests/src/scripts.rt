@@ -1,7 +1,8 @@
 //! Scripts are served as they are rehearsed: each connection has the same marks and the same end, and as many calls are made.
 
 use crate::journal::KeyJournal;
-use crate::running::{NEVER, Run, has_same_marks, rehearsed, served};
+use crate::meeting::Meeting;
+use crate::running::{NEVER, Run, has_same_marks, rehearsed, served, served_behind};
 use cell_core::Rehearsed;
 use conn_table::Outcome;
 use house_handlers::Mirror;
@@ -64,5 +65,16 @@ fn scripts_are_served_as_they_are_rehearsed(rt: HostRuntime) -> Result<(), Fail>
             );
         }
     }
+    Ok(())
+}
+
+#[test]
+fn two_calls_are_under_way_at_once(rt: HostRuntime) -> Result<(), Fail> {
+    let gate = Meeting::of(2);
+    let text = b"open\nopen\ndata 0 0000000105\ndata 1 0000000107\nend 0\nend 1\n";
+    let Some(run) = served_behind(&rt, rt.alloc(), &gate, text, 2, NEVER, NEVER) else {
+        panic!(rt; "it is served")
+    };
+    assert!(rt; run.served.outcome == Outcome::All && gate.has_met());
     Ok(())
 }

@@ -101,3 +101,19 @@ fn a_journal_and_links_that_fail_stop_what_is_open(rt: HostRuntime) -> Result<()
     }
     Ok(())
 }
+
+#[test]
+fn a_call_whose_append_fails_has_no_reply(rt: HostRuntime) -> Result<(), Fail> {
+    let text = b"open\ndata 0 00000001050000000106\nend 0\n";
+    for workers in [0, 4] {
+        let Some(run) = served(&rt, rt.alloc(), text, workers, 1, NEVER) else {
+            panic!(rt; "it is served")
+        };
+        let right = run.served.outcome == Outcome::JournalFault
+            && run.served.journal.keys.len() == 1
+            && run.served.ends.as_slice() == [EndCause::Stopped].as_slice()
+            && run.links.out(0) == b"\0\0\0\x01\x05".as_slice();
+        assert!(rt; right, "{workers}");
+    }
+    Ok(())
+}

@@ -5,7 +5,7 @@ use crate::ping::PingDesk;
 use crate::serving::{close, opened, submit};
 use call_rules::Key;
 use hall_crew::Seating;
-use hall_pool::{Turn, Worker};
+use hall_pool::{Door, Turn, Worker};
 use std::test::Fail;
 
 #[test]
@@ -29,5 +29,18 @@ fn turns_find_a_job_or_none(rt: HostRuntime) -> Result<(), Fail> {
     assert!(rt; matches!(before, Turn::Empty));
     assert!(rt; matches!(at, Turn::Worked(Key { c: 3, i: 0 })));
     assert!(rt; matches!(behind, Turn::Closed));
+    Ok(())
+}
+
+#[test]
+fn a_door_has_room_for_its_rings(rt: HostRuntime) -> Result<(), Fail> {
+    let door = Door::new(rt.alloc(), 3)?;
+    for _ in 0..3 {
+        let rung = door.ring(&rt);
+        assert!(rt; rung.is_ok());
+    }
+    for _ in 0..3 {
+        door.wait(&rt);
+    }
     Ok(())
 }

@@ -1,6 +1,6 @@
-//! One connection of a script, from its opening to its closing, and a binder over a script of two.
+//! One connection of a script, from its opening to its closing, a binder over a script of two, and a bell.
 
-use outside::{Ask, Binder, Hint, Links, Taken};
+use outside::{Ask, Bell, Binder, Hint, Links, Taken};
 use script_binder::MemBinder;
 use script_links::read_script;
 use script_serving::ScriptLinks;
@@ -67,5 +67,25 @@ fn a_binder_makes_links_that_open_as_many_as_it_accepts(rt: HostRuntime) -> Resu
     binder.take_back(links);
     let refused = binder.listen(rt.alloc(), 9090, 1);
     assert!(rt; refused.is_err());
+    Ok(())
+}
+
+#[test]
+fn a_ring_ends_a_wait(rt: HostRuntime) -> Result<(), Fail> {
+    let Ok(script) = read_script(rt.alloc(), b"rest\n", 0, false) else {
+        panic!(rt; "it is a script")
+    };
+    let mut binder = MemBinder::new(script, Vec::new(rt.alloc()));
+    let Ok(mut links) = binder.listen(rt.alloc(), 9090, 1) else {
+        panic!(rt; "no call fails")
+    };
+    let bell = links.bell(rt.alloc())?;
+    bell.ring(&rt);
+    let busy = Ask {
+        idle: false,
+        ..IDLE
+    };
+    let hint = links.next(&rt, busy);
+    assert!(rt; matches!(hint, Ok(Hint::Woken)));
     Ok(())
 }

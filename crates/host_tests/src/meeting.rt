@@ -1,0 +1,43 @@
+//! A gate at which two jobs meet.
+
+use outside::Gate;
+use std::sync::Wait;
+use std::sync::atomic::{AtomicU64, Ordering};
+use std::thread::yield_now;
+
+/// Counts the jobs that came to it, and those that met another one there. A job waits until two have come, for 1,000,000 tries at most.
+#[derive(Drop)]
+pub(crate) struct Meeting {
+    came: AtomicU64,
+    met: AtomicU64,
+}
+
+impl Meeting {
+    /// No job has come.
+    pub(crate) fn new() -> Self {
+        Meeting {
+            came: AtomicU64::new(0),
+            met: AtomicU64::new(0),
+        }
+    }
+
+    /// Whether two jobs came, and each met the other.
+    pub(crate) fn has_met(&self) -> bool {
+        self.came.load(Ordering::SeqCst) == 2 && self.met.load(Ordering::SeqCst) == 2
+    }
+}
+
+impl Gate for Meeting {
+    fn pass<R: Wait>(&self, _rt: &R, _c: u32, _i: u64) {
+        self.came.fetch_add(1, Ordering::SeqCst);
+        for _ in 0..1_000_000u32 {
+            if self.came.load(Ordering::SeqCst) >= 2 {
+                self.met.fetch_add(1, Ordering::SeqCst);
+                break;
+            }
+            yield_now();
+        }
+    }
+
+    fn done<R: Wait>(&self, _rt: &R, _c: u32, _i: u64) {}
+}
