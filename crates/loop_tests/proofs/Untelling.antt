@@ -1,13 +1,13 @@
 -- Links that tell less of a script answer as links do.
-use Rattle.std.proofs.Common.{◌≡◌, ℕ, ◌≤◌, Bool, true, false, ◌||◌, Result, Ok, Err, Option, None, List, refl, absurd, arith}
+use Rattle.std.proofs.Common.{◌≡◌, ℕ, ◌≤◌, Bool, true, false, ◌||◌, Result, Ok, Err, List, refl, arith}
 use Rattle.outside.specs.Cause.{Rose}
 use Rattle.outside.specs.declared.streams.Failed.{Failed}
 use Rattle.outside.specs.declared.answers.Ask.{Ask}
 use Rattle.outside.specs.declared.answers.Hint.{Hint}
 use Rattle.outside.specs.declared.answers.Hint.TheVariants.{Opened, Readable, Writable, Woken, Over}
 use Rattle.outside.specs.declared.answers.Taken.{Taken}
-use Rattle.outside.specs.LinksState.{LinksState, ChangesOnly}
-use Rattle.outside.specs.Asking.{OpensNext, OpensNone, OpensSo, AnswersAsk}
+use Rattle.outside.specs.LinksState.{ChangesOnly}
+use Rattle.outside.specs.Asking.{OpensNext, OpensSo, AnswersAsk}
 use Rattle.outside.specs.Reading.{Reads}
 use Rattle.outside.specs.Writing.{WritesOn}
 use Rattle.outside.specs.Closing.{Closes}

@@ -35,7 +35,6 @@ impl BreakingLinks {
 }
 
 impl Links for BreakingLinks {
-    ghost use Rattle.std.specs.Prelude.{Unit, tt};
     ghost use Rattle.loop_tests.specs.Untold.{untold};
 
     type Bell = ScriptBell;

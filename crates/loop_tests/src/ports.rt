@@ -67,8 +67,9 @@ fn served_port<R: Threads + Wait + Sync>(
     requires { workers ≤ 8 }
 {
     let [files, sinks, output, binder] = fails;
-    let mut files = MemFiles::new(Vec::new(alloc), files.to_vec(alloc).ok()?)
-        .with_sink_fails(sinks.to_vec(alloc).ok()?);
+    let mut files = MemFiles::new(Vec::new(alloc), files.to_vec(alloc).ok()?).with_sink_fails(
+        sinks.to_vec(alloc).ok()?,
+    );
     let mut output = MemSink::new(alloc, output.to_vec(alloc).ok()?);
     let mut binder = MemBinder::new(script_of(alloc, TWO_CALLS)?, binder.to_vec(alloc).ok()?);
     let result = serve_port(

@@ -31,12 +31,7 @@ const ROWS: [Row; 4] = [
         b"\0\0\0\x01\x07\0\0\0\x01\x07",
     ],
     // A size that is too large behind a call, and one that is 0.
-    [
-        b"000000010500000009",
-        b"00000000",
-        b"\0\0\0\x01\x05",
-        b"",
-    ],
+    [b"000000010500000009", b"00000000", b"\0\0\0\x01\x05", b""],
 ];
 
 /// Adds an opened connection, to which so many bytes are written one at a time.

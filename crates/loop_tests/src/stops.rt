@@ -94,7 +94,9 @@ fn a_journal_and_links_that_fail_stop_what_is_open(rt: HostRuntime) -> Result<()
                 let Some(run) = served(&rt, rt.alloc(), TWELVE_CALLS, workers, append, ask) else {
                     panic!(rt; "it is served")
                 };
-                let right = came_out_so(&run, append) && has_its_ends(&run) && has_its_replies(&run);
+                let right = came_out_so(&run, append)
+                    && has_its_ends(&run)
+                    && has_its_replies(&run);
                 assert!(rt; right, "{workers} {append} {ask}");
             }
         }
