@@ -1,5 +1,7 @@
 //! A port, served from a script: what its output and its journal's file have behind it.
 
+ghost use Rattle.std.specs.Prelude.{◌≤◌};
+
 use crate::desk::{ByteDesk, LIMITS};
 use crate::running::{one_mirror, script_of};
 use outside::{EmptyGate, Files, MemFiles, MemSink};
