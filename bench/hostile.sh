@@ -3,7 +3,7 @@
 #
 # Each part starts a server on a port of 127.0.0.1, with no workers and with four. While its clients send slowly, stop, send garbage, don't read, break off or come
 # in crowds, a canary on a connection of its own calls every few milliseconds, and has to be answered each time within so many milliseconds, 100 unless it is said.
-# At the end the server's memory, its summary and the journal have to be what docs/RUNNING.md says. It takes some two minutes, and ends with status 1 where
+# At the end the server's memory, its summary and the journal have to be what docs/RUNNING.md says. It takes some minutes, and ends with status 1 where
 # something isn't as it has to be.
 set -euo pipefail
 here=$(dirname "$(readlink -f "${BASH_SOURCE[0]}")")
