@@ -51,24 +51,11 @@ const ROWS: [Row; 6] = [
     ),
 ];
 
-/// What serving a port has left.
-#[derive(Drop)]
-struct Port {
-    result: Result<(), PortFault>,
-    summary: Vec<u8>,
-    journal: Vec<u8>,
-}
-
-/// Serves the two calls at a port, where this fails.
-fn served_port<R: Threads + Wait + Sync>(
-    rt: &R,
-    alloc: Global,
-    workers: u32,
-    fails: Fails,
-) -> Option<Port>
+/// Whether serving the two calls at a port, where this fails, comes to that result, that summary and that journal.
+fn comes_to<R: Threads + Wait + Sync>(rt: &R, alloc: Global, workers: u32, row: Row) -> Option<bool>
     requires { workers ≤ 8 }
 {
-    let [files, sinks, output, binder] = fails;
+    let ([files, sinks, output, binder], wanted, summary, journal) = row;
     let mut files = MemFiles::new(Vec::new(alloc), files.to_vec(alloc).ok()?).with_sink_fails(
         sinks.to_vec(alloc).ok()?,
     );
@@ -87,25 +74,17 @@ fn served_port<R: Threads + Wait + Sync>(
         LIMITS,
         &PLACE,
     );
-    let journal = files.read_whole(alloc, PLACE.journal, 1_000);
-    Some(Port {
-        result,
-        summary: output.into_bytes(),
-        journal: journal.unwrap_or_else(|_| Vec::new(alloc)),
-    })
+    let written = files.read_whole(alloc, PLACE.journal, 1_000);
+    let written = written.unwrap_or_else(|_| Vec::new(alloc));
+    Some(result == wanted && output.bytes() == summary && written.as_slice() == journal)
 }
 
 #[test]
 fn a_port_is_served_and_told_of(rt: HostRuntime) -> Result<(), Fail> {
-    for (fails, result, summary, journal) in ROWS {
+    for row in ROWS {
         for workers in [0, 2] {
-            let Some(port) = served_port(&rt, rt.alloc(), workers, fails) else {
-                panic!(rt; "it is served")
-            };
-            let right = port.result == result
-                && port.summary.as_slice() == summary
-                && port.journal.as_slice() == journal;
-            assert!(rt; right, "{workers} {result:?}");
+            let right = comes_to(&rt, rt.alloc(), workers, row);
+            assert!(rt; right == Some(true), "{workers} {:?}", row.1);
         }
     }
     Ok(())

@@ -1,9 +1,14 @@
 //! A run that the journal or the links end: what is open is stopped, and no call is replied to that isn't in the journal.
 
+ghost use Rattle.std.specs.Prelude.{◌≤◌};
+
 use crate::running::{NEVER, Run, served};
 use conn_table::Outcome;
 use host_model::EndCause;
+use std::alloc::Global;
+use std::sync::Wait;
 use std::test::Fail;
+use std::thread::Threads;
 
 /// Four calls on each of three connections: the input of the first ends behind them, that of the second inside a size, and the third sends a size that is too large.
 const TWELVE_CALLS: &[u8] =
@@ -85,18 +90,29 @@ fn came_out_so(run: &Run, append: usize) -> bool {
     }
 }
 
+/// Whether a run comes out right where the journal fails at this append, and the links at this ask.
+fn stops_right<R: Threads + Wait + Sync>(
+    rt: &R,
+    alloc: Global,
+    workers: u32,
+    append: usize,
+    ask: usize,
+) -> bool
+    requires { workers ≤ 8 }
+{
+    match served(rt, alloc, TWELVE_CALLS, workers, append, ask) {
+        Some(run) => came_out_so(&run, append) && has_its_ends(&run) && has_its_replies(&run),
+        None => false,
+    }
+}
+
 #[test]
 fn a_journal_and_links_that_fail_stop_what_is_open(rt: HostRuntime) -> Result<(), Fail> {
     for workers in [0, 4] {
         for append in 0..=CALLS {
             for ask in 0..=ASKS {
                 let ask = if ask < ASKS { ask } else { NEVER };
-                let Some(run) = served(&rt, rt.alloc(), TWELVE_CALLS, workers, append, ask) else {
-                    panic!(rt; "it is served")
-                };
-                let right = came_out_so(&run, append)
-                    && has_its_ends(&run)
-                    && has_its_replies(&run);
+                let right = stops_right(&rt, rt.alloc(), workers, append, ask);
                 assert!(rt; right, "{workers} {append} {ask}");
             }
         }
@@ -104,17 +120,26 @@ fn a_journal_and_links_that_fail_stop_what_is_open(rt: HostRuntime) -> Result<()
     Ok(())
 }
 
+/// Whether the first of two calls on a connection is replied to, and the second, whose append fails, is not.
+fn replies_to_the_first<R: Threads + Wait + Sync>(rt: &R, alloc: Global, workers: u32) -> bool
+    requires { workers ≤ 8 }
+{
+    let text = b"open\ndata 0 00000001050000000106\nend 0\n";
+    match served(rt, alloc, text, workers, 1, NEVER) {
+        Some(run) => {
+            run.served.outcome == Outcome::JournalFault
+                && run.served.journal.keys.len() == 1
+                && run.served.ends.as_slice() == [EndCause::Stopped].as_slice()
+                && run.links.out(0) == b"\0\0\0\x01\x05".as_slice()
+        }
+        None => false,
+    }
+}
+
 #[test]
 fn a_call_whose_append_fails_has_no_reply(rt: HostRuntime) -> Result<(), Fail> {
-    let text = b"open\ndata 0 00000001050000000106\nend 0\n";
     for workers in [0, 4] {
-        let Some(run) = served(&rt, rt.alloc(), text, workers, 1, NEVER) else {
-            panic!(rt; "it is served")
-        };
-        let right = run.served.outcome == Outcome::JournalFault
-            && run.served.journal.keys.len() == 1
-            && run.served.ends.as_slice() == [EndCause::Stopped].as_slice()
-            && run.links.out(0) == b"\0\0\0\x01\x05".as_slice();
+        let right = replies_to_the_first(&rt, rt.alloc(), workers);
         assert!(rt; right, "{workers}");
     }
     Ok(())
