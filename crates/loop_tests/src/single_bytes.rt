@@ -47,21 +47,27 @@ fn open(text: &mut Vec<u8>, rule: &[u8], bytes: usize) -> Result<(), AllocError>
     Ok(())
 }
 
+/// Adds a piece of the byte whose two digits stand at this place, if there is one.
+fn add_piece(
+    text: &mut Vec<u8>,
+    line: &[u8],
+    digits: &[u8],
+    place: usize,
+) -> Result<(), AllocError> {
+    let from = place.saturating_mul(2);
+    if let Some(byte) = digits.get(from..from.saturating_add(2)) {
+        text.extend_from_slice(line)?;
+        text.extend_from_slice(byte)?;
+        text.push(b'\n')?;
+    }
+    Ok(())
+}
+
 /// Adds a piece for each byte of two digits, of one connection and then of the other.
 fn add_pieces(text: &mut Vec<u8>, digits: &[u8], others: &[u8]) -> Result<(), AllocError> {
-    let mut bytes = digits.chunks(2);
-    let mut other_bytes = others.chunks(2);
-    for _ in 0..digits.len().max(others.len()) {
-        if let Some(byte) = bytes.next() {
-            text.extend_from_slice(b"data 0 ")?;
-            text.extend_from_slice(byte)?;
-            text.push(b'\n')?;
-        }
-        if let Some(byte) = other_bytes.next() {
-            text.extend_from_slice(b"data 1 ")?;
-            text.extend_from_slice(byte)?;
-            text.push(b'\n')?;
-        }
+    for place in 0..digits.len().max(others.len()) {
+        add_piece(text, b"data 0 ", digits, place)?;
+        add_piece(text, b"data 1 ", others, place)?;
     }
     Ok(())
 }
