@@ -16,7 +16,6 @@
 mod appended;
 mod buffered;
 pub mod crossing;
-mod front;
 mod laws;
 mod list_journal;
 mod printing;
