@@ -1,14 +1,14 @@
 #!/usr/bin/env bash
-# Loads `thriftd serve` and Apache's own servers side by side, one at a time: serve.sh [THRIFTD] [SECONDS]
+# Loads `thriftd serve` and Apache's own servers side by side, one at a time: serve.sh [THRIFTD] [SECONDS] [ROUNDS]
 #
 # One load program (serve/load.c) calls the tutorial's `add` in the binary protocol, on 1, 8 and 64 connections with one call under way on each, and on 64 with 16.
 # Beside the program stand Apache's TNonblockingServer without workers and with four (libthrift-dev), and its THsHaServer with four where Java is there
 # (libthrift-java, default-jdk-headless). It prints for each cell the calls a second, the server's processor time for a call, and the latency at the half and
-# the 99th of a hundred, in microseconds; then each server's memory at its start and with 1,000 connections that are idle,
+# the 99th of a hundred, in microseconds, each the median of so many rounds (3 where none are given) in which the servers take turns; then each server's memory at its start and with 1,000 connections that are idle,
 # and the milliseconds of a processor that it takes meanwhile, in two seconds.
 set -euo pipefail
 here=$(dirname "$(readlink -f "${BASH_SOURCE[0]}")")
-thriftd=${1:-$here/../thriftd} seconds=${2:-5}
+thriftd=${1:-$here/../thriftd} seconds=${2:-5} rounds=${3:-3}
 room=$(mktemp -d)
 server=
 trap '[ -z "$server" ] || kill "$server" 2> /dev/null; rm -rf "$room"' EXIT
@@ -52,14 +52,26 @@ stop() {
   server=
 }
 
+# median COLUMN FILE
+median() {
+  awk -v column="$1" '{ print $column }' "$2" | sort -g | awk '{ value[NR] = $1 } END { print value[int((NR + 1) / 2)] }'
+}
+
 printf '%-14s %-6s %10s %8s %8s %8s\n' server cell calls/s us/call half 99th
 for cell in "1 1" "8 1" "64 1" "64 16"; do
+  read -r connections depth <<< "$cell"
+  rm -f "$room"/figures-*
+  for _ in $(seq "$rounds"); do
+    for kind in "${kinds[@]}"; do
+      read -r name workers <<< "$kind"
+      start "$name" "$workers" "$connections"
+      "$room/load" "$port" "$connections" "$depth" "$seconds" "$server" >> "$room/figures-$name-$workers"
+      stop
+    done
+  done
   for kind in "${kinds[@]}"; do
-    read -r name workers <<< "$kind"
-    read -r connections depth <<< "$cell"
-    start "$name" "$workers" "$connections"
-    printf '%-14s %-6s %10s %8s %8s %8s\n' "$kind" "${cell/ /x}" $("$room/load" "$port" "$connections" "$depth" "$seconds" "$server")
-    stop
+    figures=$room/figures-${kind/ /-}
+    printf '%-14s %-6s %10s %8s %8s %8s\n' "$kind" "${cell/ /x}" "$(median 1 "$figures")" "$(median 2 "$figures")" "$(median 3 "$figures")" "$(median 4 "$figures")"
   done
 done
 printf '%-14s %12s %15s %13s\n' server 'KB at start' 'KB, 1,000 idle' 'ms, 1,000 idle'

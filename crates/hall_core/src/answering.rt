@@ -90,6 +90,7 @@ fn replied(entered: Result<(), Failed>, copy: Result<Answer, AllocError>) -> Hal
 }
 
 /// Lets the call be answered, and enters it in the journal. The answer is copied before, since the entry takes it.
+#[inline(never)]
 pub(crate) fn apply<A: AnswersCalls, J: Journal>(
     alloc: Global,
     handlers: &mut [A],

@@ -164,6 +164,7 @@ impl<H: Handler, J: Journal> Object for Hall<H, J> {
     ghost may = { StepMay };
 
     /// Makes one step. Only what is applied may take memory: the handler's answer, a copy of it, and the journal's entry.
+    #[inline(always)]
     fn step(&mut self, op: HallOp) -> HallReply {
         match op {
             HallOp::Submit(key, payload) => submit(&mut self.queue, self.closed, key, payload),

@@ -75,7 +75,7 @@ impl<H: Handler, J: Journal> Serving<Hall<H, J>> {
         }
     }
 
-    /// Collects the oldest outcome, and makes the moves that it allows. It answers whether there was one.
+    /// Collects the oldest outcome, and makes the moves that it allows. It answers whether there may be one more: there was one, and something is owed still.
     fn collect_next<L: Links, D: Desk, G: Gate, R: Wait>(
         &mut self,
         rt: &R,
@@ -93,7 +93,7 @@ impl<H: Handler, J: Journal> Serving<Hall<H, J>> {
         };
         self.visit(rt, run, links, c)?;
         self.relieve_all(rt, run, links)?;
-        Ok(true)
+        Ok(self.conns.owing > 0)
     }
 
     /// Collects outcomes until there is none, or until the most of a round were collected: then it rings the bell, so that the links don't wait when they

@@ -1,5 +1,5 @@
 -- What a sink took in one call, as a part of a text.
-use Rattle.std.proofs.Common.{◌≡◌, ℕ, List, ◌++◌, Option, Result, Ok, Err, refl, sym, ap, ◌∙◌, append_assoc, append-nil}
+use Rattle.std.proofs.Common.{◌≡◌, ℕ, List, ◌++◌, codes, Option, Result, Ok, Err, refl, sym, ap, ◌∙◌, append_assoc, append-nil}
 use Rattle.std.specs.Prelude.{MatchResult}
 use Rattle.outside.specs.Cause.{HasCause}
 use Rattle.outside.specs.Content.{told_more}
@@ -27,3 +27,7 @@ hands_value x y f g text (Err e) part cause = part
 pub line_parts : (front asked answer newline : List ℕ) → front ++ (asked ++ (answer ++ newline)) ≡ (front ++ (asked ++ answer)) ++ newline
 line_parts front asked answer newline =
     sym (append_assoc front (asked ++ answer) newline ∙ ap (λ t. front ++ t) (append_assoc asked answer newline))
+
+-- the same, with the blank behind the front
+pub blank_parts : (front asked answer newline : List ℕ) → (front ++ codes " ") ++ (asked ++ (answer ++ newline)) ≡ (front ++ ((codes " " ++ asked) ++ answer)) ++ newline
+blank_parts front asked answer newline = append_assoc front (codes " ") (asked ++ (answer ++ newline)) ∙ line_parts front (codes " " ++ asked) answer newline

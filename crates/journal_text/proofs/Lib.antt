@@ -1,6 +1,7 @@
 pub mod EntryAgain
 pub mod EntryFound
 pub mod EntryPlaces
+pub mod FrontRoom
 mod HandedOn
 pub mod Handing
 pub mod OneLine

@@ -2,7 +2,7 @@
 
 ghost use Rattle.std.specs.Prelude.{◌≡◌, ◌+◌, ◌<◌, ◌≤◌, ℕ, [], ◌++◌, length, drop, OnOk, IfOk, IfErr, MatchResult, vec_len, vec_capacity};
 ghost use Rattle.outside.specs.Cause.{HasCause};
-ghost use Rattle.outside.specs.Content.{told_more};
+ghost use Rattle.outside.specs.Content.{HasWritten, told_more};
 ghost use Rattle.outside.specs.Taken.{IsTakenInPart};
 ghost use Rattle.call_rules.specs.PlainCalls.{IsPlainCall, IsPlainAnswer};
 ghost use Rattle.journal_text.specs.EntryText.{call_line};
@@ -85,6 +85,22 @@ impl<K: Sink> Buffered<K> {
         cut_front(&mut self.held, count);
         Ok(())
     }
+
+    /// Holds as many bytes as there is room for, and makes room before where there is none.
+    fn hold_some(&mut self, bytes: &[u8]) -> Result<usize, Failed>
+        ensures told { MatchResult result
+            (λ count. HasWritten (told_more (K.taken self.old.sink) self.old.held.items) (told_more (K.taken self.new.sink) self.new.held.items) bytes.now count)
+            (λ _. told_more (K.taken self.new.sink) self.new.held.items ≡ told_more (K.taken self.old.sink) self.old.held.items) }
+        ensures cause { HasCause (K.faults self.old.sink) (K.faults self.new.sink) result }
+    {
+        if self.held.len() == self.held.capacity() {
+            self.make_room()?;
+        }
+        let count = bytes.len().min(self.held.capacity() - self.held.len());
+        let (front, _) = bytes.split_at(count);
+        hold(&mut self.held, front);
+        Ok(count)
+    }
 }
 
 impl<K: Sink> Sink for Buffered<K> {
@@ -95,13 +111,11 @@ impl<K: Sink> Sink for Buffered<K> {
     ghost faults = { λ b. K.faults b.sink };
 
     fn write(&mut self, bytes: &[u8]) -> Result<usize, Failed> {
-        if self.held.len() == self.held.capacity() {
-            self.make_room()?;
+        if bytes.len() <= self.held.capacity() - self.held.len() {
+            hold(&mut self.held, bytes);
+            return Ok(bytes.len());
         }
-        let count = bytes.len().min(self.held.capacity() - self.held.len());
-        let (front, _) = bytes.split_at(count);
-        hold(&mut self.held, front);
-        Ok(count)
+        self.hold_some(bytes)
     }
 }
 

@@ -16,6 +16,7 @@
 mod appended;
 mod buffered;
 pub mod crossing;
+mod front;
 mod laws;
 mod list_journal;
 mod printing;

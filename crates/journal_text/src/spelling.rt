@@ -1,15 +1,15 @@
 //! Hands the lines of entries to a sink, and takes no memory.
 
 ghost use Rattle.std.specs.Prelude.{◌++◌, codes};
-ghost use Rattle.text_out.specs.Decimal.{natural_of, decimal_of};
+ghost use Rattle.text_out.specs.Decimal.{decimal_of};
 ghost use Rattle.thrift_value.specs.TreeOf.{tree_of};
 ghost use Rattle.value_text.specs.Handing.{HandsText};
 ghost use Rattle.value_text.specs.ValueText.{tree_text};
 ghost use Rattle.call_rules.specs.Answers.{plain_answer};
 ghost use Rattle.call_rules.specs.PlainCalls.{IsPlainCall, IsPlainValue, IsPlainAnswer};
-ghost use Rattle.journal_text.specs.EntryText.{next_word, call_word, front_text, asked_text, answered_text, call_line};
+ghost use Rattle.journal_text.specs.EntryText.{next_word, front_text, answered_text, call_line};
 
-use crate::words::word_of_call;
+use crate::front::{MOST_FRONT, put_front};
 use call_rules::{Answer, Call, Entry, Key};
 use itoa::Buffer;
 use outside::{Failed, Sink, write_all};
@@ -35,62 +35,25 @@ fn hand<K: Sink>(out: &mut K, bytes: &[u8]) -> Result<(), Failed>
     write_all(out, bytes)
 }
 
-/// Hands the words in front of the method.
+/// Hands the words in front of the method, and the blank behind them.
 fn spell_front<K: Sink>(out: &mut K, key: &Key, call: &Call) -> Result<(), Failed>
     ensures { HandsText (K.taken out.old) (K.taken out.new) (K.faults out.old) (K.faults out.new)
-        (front_text call.now.silent key.now call.now.slot) result }
+        (front_text call.now.silent key.now call.now.slot ++ codes " ") result }
 {
-    spell_word(out, call.silent)?;
-    spell_narrow(out, key.c)?;
-    spell_number(out, key.i)?;
-    spell_narrow(out, call.slot)
-}
-
-/// Hands the first word.
-fn spell_word<K: Sink>(out: &mut K, silent: bool) -> Result<(), Failed>
-    ensures { HandsText (K.taken out.old) (K.taken out.new) (K.faults out.old) (K.faults out.new) (call_word silent) result }
-{
-    hand(out, word_of_call(silent))
-}
-
-/// Hands a blank and a number of 32 bits.
-fn spell_narrow<K: Sink>(out: &mut K, n: u32) -> Result<(), Failed>
-    ensures { HandsText (K.taken out.old) (K.taken out.new) (K.faults out.old) (K.faults out.new) (next_word (natural_of n)) result }
-{
-    spell_number(out, u64::from(n))
-}
-
-/// Hands a blank and a number.
-fn spell_number<K: Sink>(out: &mut K, n: u64) -> Result<(), Failed>
-    ensures { HandsText (K.taken out.old) (K.taken out.new) (K.faults out.old) (K.faults out.new) (next_word (natural_of n)) result }
-{
-    hand(out, b" ")?;
-    spell_natural(out, n)
-}
-
-fn spell_natural<K: Sink>(out: &mut K, n: u64) -> Result<(), Failed>
-    ensures { HandsText (K.taken out.old) (K.taken out.new) (K.faults out.old) (K.faults out.new) (natural_of n) result }
-{
-    let mut buffer = Buffer::new();
-    hand(out, buffer.format(n).as_bytes())
+    let mut room = [0; MOST_FRONT];
+    let start = put_front(&mut room, key, call);
+    let (_, front) = room.split_at(start);
+    hand(out, front)
 }
 
 /// Hands the method and its arguments.
 fn spell_asked<K: Sink>(out: &mut K, call: &Call) -> Result<(), Failed>
     requires { IsPlainValue call.now.args }
     ensures { HandsText (K.taken out.old) (K.taken out.new) (K.faults out.old) (K.faults out.new)
-        (asked_text call.now.method call.now.args) result }
+        (call.now.method ++ next_word (tree_text call.now.args)) result }
 {
-    spell_next(out, call.method.as_slice())?;
+    hand(out, call.method.as_slice())?;
     spell_behind(out, b" ", &call.args)
-}
-
-/// Hands a blank and a word.
-fn spell_next<K: Sink>(out: &mut K, word: &[u8]) -> Result<(), Failed>
-    ensures { HandsText (K.taken out.old) (K.taken out.new) (K.faults out.old) (K.faults out.new) (next_word word.now) result }
-{
-    hand(out, b" ")?;
-    hand(out, word)
 }
 
 /// Hands a word and a value.

@@ -1,13 +1,12 @@
 -- What each change of the account is to those who use the links.
-use Rattle.std.proofs.Common.{◌≡◌, ◌≢◌, ℕ, ◌+◌, ◌<◌, ◌≤◌, ◌^◌, Bool, true, false, not, ◌&&◌, ◌||◌, nat_eq, nat_lt, List, [], ◌∷◌, ◌++◌, length, filter, Option, Some, None, Result, Ok, Err, refl, ap, sym, subst, ◌∙◌, arith}
-use Rattle.std.specs.List.{list_any}
+use Rattle.std.proofs.Common.{◌≡◌, ◌≢◌, ℕ, ◌<◌, ◌≤◌, ◌^◌, Bool, true, false, not, ◌&&◌, ◌||◌, nat_eq, nat_lt, List, [], ◌∷◌, ◌++◌, length, filter, Option, Some, Result, Ok, Err, refl, ap, sym, subst, ◌∙◌, arith}
 use Rattle.std.proofs.lemmas.Bool.{and_parts, not-true, false≢true, eqb-true, eq-eqb, ne_eqb, ltb-true, or_right}
 use Rattle.std.proofs.lemmas.List.Folds.{list_any-append}
 use Rattle.std.proofs.lemmas.Map.Views.{any-filter_same}
 use Rattle.outside.specs.Memory.{is_listed}
 use Rattle.outside.specs.declared.answers.Ask.{Ask}
 use Rattle.outside.specs.declared.answers.Hint.{Hint}
-use Rattle.outside.specs.declared.answers.Hint.TheVariants.{Opened, Over}
+use Rattle.outside.specs.declared.answers.Hint.TheVariants.{Opened}
 use Rattle.outside.specs.Asking.{AnswersAsk, says_over}
 use Rattle.outside.specs.Closing.{Closes}
 use Rattle.net_links.specs.Account.{LinksAccount, state_of, may_open, most_links, NumbersNext, after_opening, after_closing, after_net_fault}

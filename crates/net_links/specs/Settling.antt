@@ -1,7 +1,7 @@
 -- What the account says once the answer of a read or a write is settled.
 use Rattle.std.specs.Prelude.{◌≡◌, ℕ}
 use Rattle.outside.specs.declared.answers.Taken.{Taken}
-use Rattle.outside.specs.declared.answers.Taken.TheVariants.{Bytes, End, NotYet, Failed, NoMemory}
+use Rattle.outside.specs.declared.answers.Taken.TheVariants.{Failed, NoMemory}
 use Rattle.net_links.specs.Account.{LinksAccount, after_failing}
 
 -- A fault is counted of its connection, and where there is no memory for it the answer is want of memory. Any other answer stands, and leaves the account.

@@ -1,7 +1,7 @@
 -- How many bytes a read or a write of a socket moves.
-use Rattle.std.specs.Prelude.{ℕ, ◌<◌, ◌≤◌}
+use Rattle.std.specs.Prelude.{ℕ, ◌≤◌}
 use Rattle.net_links.specs.declared.socket.Transfer.{Transfer}
-use Rattle.net_links.specs.declared.socket.Transfer.TheVariants.{Bytes, Nothing, Blocked, Failed}
+use Rattle.net_links.specs.declared.socket.Transfer.TheVariants.{Bytes}
 
 -- bytes that were moved are one at least, and at most so many
 abbrev pub HasMovedWithin : ℕ → Transfer → Type 0

@@ -155,18 +155,18 @@ impl SocketLink {
 
     /// Reads what has arrived into a block, and says whether there was one.
     fn read_ahead(&mut self, pool: &mut Pool) -> bool {
-        let Some(block) = pool.take() else {
+        let Some(start) = pool.take() else {
             return false;
         };
-        let room = pool.room(block, 0);
+        let room = pool.room(start, start.saturating_add(BLOCK));
         let most = room.len();
         match receive(&self.stream, room) {
             Transfer::Bytes(count) => {
-                self.input.hold(block, count);
+                self.input.hold(start, count);
                 self.note_read(count, most);
             }
             other => {
-                pool.give(block);
+                pool.give(start);
                 self.note_none(pool, other);
             }
         }

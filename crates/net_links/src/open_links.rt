@@ -25,6 +25,8 @@ const MOST_MOVED: usize = 65_536;
 pub(crate) struct OpenLinks {
     alloc: Global,
     links: Vec<SocketLink>,
+    /// By the lowest bits of a link's number, the place at which the last one of these was found.
+    found: Vec<usize>,
     pool: Pool,
     /// The numbers of those of which something is to be told; a link that was closed may stand here still.
     ready: VecDeque<u32>,
@@ -40,6 +42,7 @@ impl OpenLinks {
         Ok(OpenLinks {
             alloc,
             links: Vec::with_capacity(alloc, MOST_OPEN)?,
+            found: vec![in alloc; 0usize; MOST_OPEN]?,
             pool: Pool::new(alloc, BLOCKS)?,
             ready: VecDeque::with_capacity(alloc, MOST_OPEN)?,
             unsent: Vec::with_capacity(alloc, MOST_OPEN)?,
@@ -57,14 +60,29 @@ impl OpenLinks {
         !self.ready.is_empty()
     }
 
-    /// The place of a link.
-    fn place_of(&self, c: u32) -> Option<usize>
-        ensures { IfSome result (λ at. at < vec_len self.now.links) }
+    /// The place of a link. One that stands where it was found last is found without a search.
+    fn place_of(&mut self, c: u32) -> Option<usize>
+        ensures { IfSome result (λ at. at < vec_len self.new.links) }
     {
-        self.links
-            .as_slice()
-            .binary_search_by_key(&c, |link| link.number())
-            .ok()
+        if let Some(&at) = self.found.get(slot_of(c))
+            && at < self.links.len()
+            && self.links[at].number() == c
+        {
+            return Some(at);
+        }
+        self.search(c)
+    }
+
+    /// The place of a link, by a search.
+    fn search(&mut self, c: u32) -> Option<usize>
+        ensures { IfSome result (λ at. at < vec_len self.new.links) }
+    {
+        let links = self.links.as_slice();
+        let at = links.binary_search_by_key(&c, |link| link.number()).ok()?;
+        if let Some(found) = self.found.get_mut(slot_of(c)) {
+            *found = at;
+        }
+        Some(at)
     }
 
     /// One more is open, whose number is above all others.
@@ -188,6 +206,11 @@ impl OpenLinks {
         list(&mut self.ready, link);
         told
     }
+}
+
+/// Where it is kept at which place a link was found.
+fn slot_of(c: u32) -> usize {
+    c as usize % MOST_OPEN
 }
 
 /// Lists a link of which something is to be told, where it isn't listed yet. There is room for each link once.

@@ -10,7 +10,8 @@ use std::sync::{Arc, Wait};
 /// What rings of any thread and the loop share.
 ///
 /// A ring leaves its word in `rung` before it looks at `sleeping`, and the loop puts its word into `sleeping` before it looks
-/// at `rung`: so one of the two sees the other's, and no ring is lost. Of many rings the first alone makes a system call.
+/// at `rung`: so one of the two sees the other's, and no ring is lost. Of many rings the first alone makes a system call, or writes
+/// at all: a ring that finds `rung` set was made before the loop looks, which then sees whatever the ring tells of.
 #[derive(Drop)]
 pub(crate) struct Signal {
     waker: Waker,
@@ -32,7 +33,9 @@ impl Signal {
 
     /// Rings, and wakes the loop where it waits.
     fn ring(&self) {
-        self.rung.store(true, Ordering::SeqCst);
+        if !self.rung.load(Ordering::SeqCst) {
+            self.rung.store(true, Ordering::SeqCst);
+        }
         if self.sleeping.load(Ordering::SeqCst) && self.sleeping.swap(false, Ordering::SeqCst) {
             self.wake();
         }

@@ -2,54 +2,55 @@
 
 ghost use Rattle.std.specs.Prelude.{◌≡◌, ◌≤◌, ◌<◌, length, min};
 
-use crate::pool::{BLOCK, Block, Pool};
+use crate::pool::{BLOCK, Pool};
 
-/// The bytes of a block from one place on to another. A block is held only while bytes stand in it.
+/// The bytes of a block from one place of the pool on to another. A block is held only while bytes stand in it.
 #[derive(Drop)]
 pub(crate) struct Waiting {
-    block: Option<Block>,
     /// The first byte that waits.
     from: usize,
     /// The place behind the last one.
     to: usize,
+    /// The place behind the last byte of the block; 0 where none is held.
+    end: usize,
     ghost ordered: { from ≤ to },
-    ghost within: { to ≤ 16384 },
+    ghost within: { to ≤ end },
 }
 
 impl Waiting {
     /// Nothing waits.
     pub(crate) fn new() -> Waiting {
         Waiting {
-            block: None,
             from: 0,
             to: 0,
+            end: 0,
         }
     }
 
     /// Whether nothing waits.
     pub(crate) fn is_empty(&self) -> bool {
-        self.block.is_none()
+        self.end == 0
     }
 
     /// The bytes that wait.
     pub(crate) fn bytes<'a>(&self, pool: &'a Pool) -> &'a [u8] {
-        match self.block {
-            Some(block) => pool.part(block, self.from, self.to),
-            None => &[],
-        }
+        pool.part(self.from, self.to)
     }
 
     /// How many more may be put behind them.
     pub(crate) fn room(&self) -> usize {
-        BLOCK - self.to
+        if self.is_empty() {
+            return BLOCK;
+        }
+        self.end - self.to
     }
 
-    /// The first bytes of this block wait now, in place of any before.
-    pub(crate) fn hold(&mut self, block: Block, count: usize) {
+    /// The first bytes of the block that starts here wait now, in place of any before.
+    pub(crate) fn hold(&mut self, start: usize, count: usize) {
         *self = Waiting {
-            block: Some(block),
-            from: 0,
-            to: count.min(BLOCK),
+            from: start,
+            to: start.saturating_add(count.min(BLOCK)),
+            end: start.saturating_add(BLOCK),
         };
     }
 
@@ -64,8 +65,8 @@ impl Waiting {
 
     /// Nothing waits any more, and the block is given back.
     pub(crate) fn let_go(&mut self, pool: &mut Pool) {
-        if let Some(block) = self.block {
-            pool.give(block);
+        if !self.is_empty() {
+            pool.give(self.end.saturating_sub(BLOCK));
         }
         *self = Waiting::new();
     }
@@ -85,14 +86,16 @@ impl Waiting {
     pub(crate) fn put(&mut self, pool: &mut Pool, bytes: &[u8]) -> usize
         ensures { result ≤ length bytes.now }
     {
-        let Some(block) = self.block.or_else(|| pool.take()) else {
-            return 0;
-        };
-        let room = pool.room(block, self.to);
+        if self.is_empty() {
+            let Some(start) = pool.take() else {
+                return 0;
+            };
+            self.hold(start, 0);
+        }
+        let room = pool.room(self.to, self.end);
         let count = bytes.len().min(room.len());
         room[..count].copy_from_slice(&bytes[..count]);
-        self.block = Some(block);
-        self.to = self.to.saturating_add(count).min(BLOCK);
+        self.to += count;
         count
     }
 }

@@ -138,6 +138,8 @@ impl<O: Object> Booth<O> {
     ghost use Rattle.seat_booth.specs.Seats.{IsSeatOf, MakesCall, EndsBooth};
 
     /// Makes one call. It waits for its turn, and gives the object's reply at this call's point of the one history.
+    // Who knows the operation so knows which step it is, and stores neither it nor the reply.
+    #[inline(always)]
     pub fn call<R: Wait>(&self, rt: &R, seat: &mut Seat<O>, op: O::Op) -> O::Reply
         requires seat { IsSeatOf self.now seat.old }
         requires may { O.may self.now.opening seat.old.number seat.old.mine op }

@@ -93,6 +93,7 @@ pub(crate) fn look<O: Object>(shared: &Shared<O>, token: &mut SeatToken<O>, tick
 }
 
 /// Makes the step on the object, which the token holds.
+#[inline(always)]
 pub(crate) fn step<O: Object>(shared: &Shared<O>, token: &mut SeatToken<O>, op: O::Op) -> O::Reply
     requires table { token.old.table_id ≡ shared.now.table_id }
     requires held { (object : O) × (token.old.me.1 ≡ (0, object) ∷ []) × O.can (O.meaning object) op }

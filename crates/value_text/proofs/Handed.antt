@@ -1,6 +1,7 @@
 -- How what a sink takes of a text in one call goes on in the next.
 use Rattle.std.proofs.Common.{◌≡◌, ℕ, ℤ, codes, ◌+◌, ◌<◌, ◌≤◌, List, [], ◌∷◌, ◌++◌, length, drop, get_or, map, Option, Some, None, Result, Ok, Err, refl, sym, ap, ◌∙◌, subst, arith, append_assoc, add-one, drop-cons}
 use Rattle.std.specs.List.{flat_map}
+use Rattle.std.specs.Prelude.{MatchResult}
 use Rattle.std.specs.Result.{IsErr}
 use Rattle.outside.specs.Cause.{Rose}
 use Rattle.outside.specs.Content.{told_more}
@@ -32,11 +33,11 @@ pub handed_of_more : (x y : Option (List ℕ)) (f g : ℕ) (text left more : Lis
 handed_of_more x y f g text left more one =
     record { front = one.front; taken = one.taken; whole = ap (λ t. t ++ more) one.whole ∙ append_assoc one.front left more; later = one.later }
 
-broken_of_more : (x y : Option (List ℕ)) (f g : ℕ) (text more : List ℕ) → BreaksOff x y f g text → BreaksOff x y f g (text ++ more)
+pub broken_of_more : (x y : Option (List ℕ)) (f g : ℕ) (text more : List ℕ) → BreaksOff x y f g text → BreaksOff x y f g (text ++ more)
 broken_of_more x y f g text more one =
     record { lost = one.lost ++ more; handed = handed_of_more x y f g text one.lost more one.handed; rose = one.rose }
 
-broken_on : (x y z : Option (List ℕ)) (f g h : ℕ) (text left : List ℕ) → HandsOver x y f g text left → BreaksOff y z g h left → BreaksOff x z f h text
+pub broken_on : (x y z : Option (List ℕ)) (f g h : ℕ) (text left : List ℕ) → HandsOver x y f g text left → BreaksOff y z g h left → BreaksOff x z f h text
 broken_on x y z f g h text left one two =
     let l : f ≤ g = one.later in
     let r : Rose g h = two.rose in
@@ -54,8 +55,23 @@ pub goes_on : {A E : Type 0} (x y z : Option (List ℕ)) (f g h : ℕ) (text mor
 goes_on x y z f g h text more (Ok a) one two = handed_on x y z f g h (text ++ more) more [] (handed_of_more x y f g text [] more one) two
 goes_on x y z f g h text more (Err e) one two = broken_on x y z f g h (text ++ more) more (handed_of_more x y f g text [] more one) two
 
+-- a text that broke off behind a part that was taken
+pub fails_on : {A E : Type 0} (x y z : Option (List ℕ)) (f g h : ℕ) (text left : List ℕ) (result : Result A E) → IsErr result → HandsOver x y f g text left
+    → BreaksOff y z g h left → HandsText x z f h text result
+fails_on x y z f g h text left (Ok a) e one two = absurd (let g : ⊥ = cc in g)
+fails_on x y z f g h text left (Err e) _ one two = broken_on x y z f g h text left one two
+
+-- a part in front was taken, or broke off
+pub part_handed : (x y : Option (List ℕ)) (f g : ℕ) (text part rest : List ℕ) → text ≡ part ++ rest → HandsOver x y f g part [] → HandsOver x y f g text rest
+part_handed x y f g text part rest is one = subst (λ t. HandsOver x y f g t rest) (sym is) (handed_of_more x y f g part [] rest one)
+
+pub part_breaks : {A E : Type 0} (x y : Option (List ℕ)) (f g : ℕ) (text part rest : List ℕ) (P : A → Type 0) (result : Result A E) → text ≡ part ++ rest → IsErr result
+    → BreaksOff x y f g part → MatchResult result P (λ _. BreaksOff x y f g text)
+part_breaks x y f g text part rest P (Ok a) is e one = absurd (let g : ⊥ = cc in g)
+part_breaks x y f g text part rest P (Err e) is _ one = subst (λ t. BreaksOff x y f g t) (sym is) (broken_of_more x y f g part rest one)
+
 -- the texts of what is left of a list begin with its first one
-texts_left : {X : Type 0} (t : X → List ℕ) (xs : List X) (i : ℕ) (d item : X) → i < length xs → item ≡ get_or xs i d
+pub texts_left : {X : Type 0} (t : X → List ℕ) (xs : List X) (i : ℕ) (d item : X) → i < length xs → item ≡ get_or xs i d
     → flat_map t (drop i xs) ≡ t item ++ flat_map t (drop (i + 1) xs)
 texts_left t xs i d item h is =
     ap (flat_map t) (drop-cons xs i d h) ∙ (λ k. t (sym is k) ++ flat_map t (drop (sym (add-one i) k) xs))
@@ -110,7 +126,7 @@ byte_hex b = hex_of (b ∷ [])
 
 -- a field, an element and a pair behind others
 abbrev pub next_field : ℤ × Value → List ℕ
-next_field f = codes "," ++ (number_and_letter f.0 (codes "=") ++ tree_text (tree_of f.1))
+next_field f = (codes "," ++ number_and_letter f.0 (codes "=")) ++ tree_text (tree_of f.1)
 
 abbrev pub next_item : Value → List ℕ
 next_item x = codes "," ++ tree_text (tree_of x)
@@ -142,14 +158,25 @@ pairs_are_flat (p ∷ pairs) =
     (append_assoc key (codes "=" ++ value) (flat_map next_pair pairs) ∙ ap (λ t. key ++ (codes "=" ++ (value ++ t))) (pairs_are_flat pairs))
 
 -- the text of all begins with that of the first
-pub fields_begin : (fields : List (ℤ × Value)) (first : ℤ × Value) (more : List (ℤ × Value)) → fields ≡ first ∷ more
+listed_begin : (fields : List (ℤ × Value)) (first : ℤ × Value) (more : List (ℤ × Value)) → fields ≡ first ∷ more
     → listed_fields (field_trees (map field_tree fields)) ≡ (number_and_letter first.0 (codes "=") ++ tree_text (tree_of first.1)) ++ flat_map next_field more
-fields_begin fields first more is =
+listed_begin fields first more is =
     let id : List ℕ = decimal_of first.0 in
     let value : List ℕ = tree_text (tree_of first.1) in
     ap (λ fs. listed_fields (field_trees (map field_tree fs))) is
     ∙ ap (λ t. id ++ (codes "=" ++ (value ++ t))) (sym (fields_are_flat more))
     ∙ sym (append_assoc (id ++ codes "=") value (flat_map next_field more) ∙ append_assoc id (codes "=") (value ++ flat_map next_field more))
+
+-- what opens a struct, and its fields
+abbrev pub opened_fields : List (ℤ × Value) → List ℕ
+opened_fields fields = codes "{" ++ listed_fields (field_trees (map field_tree fields))
+
+abbrev pub first_field : ℤ × Value → List ℕ
+first_field f = (codes "{" ++ number_and_letter f.0 (codes "=")) ++ tree_text (tree_of f.1)
+
+pub fields_begin : (fields : List (ℤ × Value)) (first : ℤ × Value) (more : List (ℤ × Value)) → fields ≡ first ∷ more
+    → opened_fields fields ≡ first_field first ++ flat_map next_field more
+fields_begin fields first more is = ap (λ t. codes "{" ++ t) (listed_begin fields first more is)
 
 pub items_begin : (items : List Value) (first : Value) (more : List Value) → items ≡ first ∷ more
     → listed_items (item_trees (map tree_of items)) ≡ tree_text (tree_of first) ++ flat_map next_item more

@@ -2,10 +2,12 @@ pub mod Appended
 pub mod Choices
 pub mod ContainersAgain
 pub mod ContainersFound
+pub mod Digits
 pub mod GoodTrees
 pub mod Handed
 pub mod LeafLaws
 pub mod Numbers
+pub mod PlainRuns
 pub mod Places
 pub mod QuotedLaws
 pub mod QuotedSteps

@@ -167,10 +167,10 @@ written_mark b is = ap quoted_byte is
 written_escape : (b : ℕ) → b ≡ 92 → quoted_byte b ≡ 92 ∷ 92 ∷ []
 written_escape b is = ap quoted_byte is
 
-abbrev written_digits : ℕ → List ℕ
+abbrev pub written_digits : ℕ → List ℕ
 written_digits b = 92 ∷ 120 ∷ hex_digit_of (b / 16) ∷ hex_digit_of (b % 16) ∷ []
 
-written_other : (b : ℕ) → (b ≡ 34 → ⊥) → (b ≡ 92 → ⊥) → quoted_byte b ≡ cond (is_printable b) (b ∷ []) (written_digits b)
+pub written_other : (b : ℕ) → (b ≡ 34 → ⊥) → (b ≡ 92 → ⊥) → quoted_byte b ≡ cond (is_printable b) (b ∷ []) (written_digits b)
 written_other b mark escape =
     ap (λ t. cond t (92 ∷ 34 ∷ []) (cond (eqb b 92) (92 ∷ 92 ∷ []) (cond (is_printable b) (b ∷ []) (written_digits b)))) (ne_eqb b 34 mark)
     ∙ ap (λ t. cond t (92 ∷ 92 ∷ []) (cond (is_printable b) (b ∷ []) (written_digits b))) (ne_eqb b 92 escape)

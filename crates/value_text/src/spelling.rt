@@ -1,7 +1,7 @@
 //! Hands the texts of values to a sink, and takes no memory.
-ghost use Rattle.std.specs.Prelude.{◌≡◌, ◌++◌, ◌≤◌, ◌∷◌, [], codes, map, MatchResult, if◌then◌else◌};
+ghost use Rattle.std.specs.Prelude.{◌≡◌, ◌++◌, ◌<◌, ◌≤◌, ◌∷◌, [], codes, drop, length, map, IfOk, IfSome, MatchResult, if◌then◌else◌};
 ghost use Rattle.std.specs.Int.{w64, to_be_bytes};
-ghost use Rattle.std.specs.List.{flat_map};
+ghost use Rattle.std.specs.List.{flat_map, prefix_len};
 ghost use Rattle.outside.specs.Cause.{HasCause};
 ghost use Rattle.outside.specs.Content.{told_more};
 ghost use Rattle.text_out.specs.Decimal.{decimal_of};
@@ -10,7 +10,8 @@ ghost use Rattle.text_out.specs.Quoted.{quoted_byte, quoted_of};
 ghost use Rattle.thrift_value.specs.Measures.{depth_of};
 ghost use Rattle.thrift_value.specs.Tidy.{IsTidy};
 ghost use Rattle.thrift_value.specs.TreeOf.{tree_of, field_tree, pair_tree, field_trees, item_trees, pair_trees};
-ghost use Rattle.value_text.specs.Handing.{HandsText, BreaksOff};
+ghost use Rattle.value_text.specs.Handing.{HandsOver, HandsText, BreaksOff};
+ghost use Rattle.value_text.specs.Plain.{is_plain};
 ghost use Rattle.value_text.specs.ValueText.{tag_word, number_and_letter, double_text, tree_text, listed_fields, listed_items, listed_pairs, further_fields, further_items, further_pairs};
 
 use crate::printer::word_of;
@@ -46,25 +47,58 @@ fn hand_over<K: Sink>(out: &mut K, bytes: &[u8]) -> Result<(), Failed>
 }
 
 /// Writes a number and the letter of its type.
-fn spell_number<K: Sink>(out: &mut K, number: i128, letter: &[u8]) -> Result<(), Failed>
-    ensures { HandsText (K.taken out.old) (K.taken out.new) (K.faults out.old) (K.faults out.new) (number_and_letter number letter.now) result }
+fn spell_number<K: Sink>(out: &mut K, number: i64, letter: u8) -> Result<(), Failed>
+    ensures { HandsText (K.taken out.old) (K.taken out.new) (K.faults out.old) (K.faults out.new) (number_and_letter number (letter ∷ [])) result }
 {
-    spell_decimal(out, number)?;
-    hand_over(out, letter)
+    match digit_of(number) {
+        Some(digit) => hand_over(out, &[digit, letter]),
+        None => spell_digits(out, number, letter),
+    }
 }
 
-fn spell_decimal<K: Sink>(out: &mut K, number: i128) -> Result<(), Failed>
+/// The digit of a number from 0 to 9.
+#[tactic(auto, using(crate::proofs::Digits::digit_is))]
+fn digit_of(number: i64) -> Option<u8>
+    ensures { IfSome result (λ digit. decimal_of number ≡ digit ∷ []) }
+{
+    match u8::try_from(number) {
+        Ok(small) if small < 10 => Some(b'0' + small),
+        _ => None,
+    }
+}
+
+/// Writes a number of any size and the letter of its type.
+fn spell_digits<K: Sink>(out: &mut K, number: i64, letter: u8) -> Result<(), Failed>
+    ensures { HandsText (K.taken out.old) (K.taken out.new) (K.faults out.old) (K.faults out.new) (number_and_letter number (letter ∷ [])) result }
+{
+    spell_decimal(out, number)?;
+    hand_over(out, &[letter])
+}
+
+fn spell_decimal<K: Sink>(out: &mut K, number: i64) -> Result<(), Failed>
     ensures { HandsText (K.taken out.old) (K.taken out.new) (K.faults out.old) (K.faults out.new) (decimal_of number) result }
 {
     let mut buffer = Buffer::new();
     hand_over(out, buffer.format(number).as_bytes())
 }
 
-/// Writes the id of a field.
-fn spell_id<K: Sink>(out: &mut K, id: &i16) -> Result<(), Failed>
-    ensures { HandsText (K.taken out.old) (K.taken out.new) (K.faults out.old) (K.faults out.new) (number_and_letter id.now (codes "=")) result }
+/// Writes a mark, and the id of a field with the `=` behind it.
+fn spell_id<K: Sink>(out: &mut K, mark: u8, id: &i16) -> Result<(), Failed>
+    ensures { HandsText (K.taken out.old) (K.taken out.new) (K.faults out.old) (K.faults out.new) (mark ∷ number_and_letter id.now (codes "=")) result }
 {
-    spell_number(out, i128::from(*id), b"=")
+    let number = i64::from(*id);
+    match digit_of(number) {
+        Some(digit) => hand_over(out, &[mark, digit, b'=']),
+        None => spell_long_id(out, mark, number),
+    }
+}
+
+/// The same of an id of any size.
+fn spell_long_id<K: Sink>(out: &mut K, mark: u8, number: i64) -> Result<(), Failed>
+    ensures { HandsText (K.taken out.old) (K.taken out.new) (K.faults out.old) (K.faults out.new) (mark ∷ number_and_letter number (codes "=")) result }
+{
+    hand_over(out, &[mark])?;
+    spell_digits(out, number, b'=')
 }
 
 fn spell_tag<K: Sink>(out: &mut K, tag: Tag) -> Result<(), Failed>
@@ -136,10 +170,49 @@ fn spell_quoted<K: Sink>(out: &mut K, bytes: &[u8]) -> Result<(), Failed>
 fn spell_each_byte<K: Sink>(out: &mut K, bytes: &[u8]) -> Result<(), Failed>
     ensures { HandsText (K.taken out.old) (K.taken out.new) (K.faults out.old) (K.faults out.new) (flat_map quoted_byte bytes.now) result }
 {
-    for byte in bytes {
-        spell_byte(out, *byte)?;
+    let mut rest = bytes;
+    'runs: while !rest.is_empty() {
+        let count = spell_run(out, rest)?;
+        let (_, more) = rest.split_at(count);
+        rest = more;
     }
     Ok(())
+}
+
+/// Writes the plain bytes in front, or where there are none the first byte; answers how many bytes that were.
+fn spell_run<K: Sink>(out: &mut K, bytes: &[u8]) -> Result<usize, Failed>
+    requires { 0 < length bytes.now }
+    ensures told { MatchResult result
+        (λ count. HandsOver (K.taken out.old) (K.taken out.new) (K.faults out.old) (K.faults out.new) (flat_map quoted_byte bytes.now) (flat_map quoted_byte (drop count bytes.now)))
+        (λ _. BreaksOff (K.taken out.old) (K.taken out.new) (K.faults out.old) (K.faults out.new) (flat_map quoted_byte bytes.now)) }
+    ensures count { IfOk result (λ count. 0 < count × count ≤ length bytes.now) }
+{
+    let count = plain_run(bytes);
+    if count == 0 {
+        spell_byte(out, bytes[0])?;
+        return Ok(1);
+    }
+    let (plain, _) = bytes.split_at(count);
+    hand_over(out, plain)?;
+    Ok(count)
+}
+
+/// How many bytes in front stand between quotation marks as they are.
+fn plain_run(bytes: &[u8]) -> usize
+    ensures exact { result ≡ prefix_len is_plain bytes.now }
+    ensures bound { result ≤ length bytes.now }
+{
+    bytes.iter().take_while(|byte| is_plain(**byte)).count()
+}
+
+fn is_plain(byte: u8) -> bool
+    ensures { result ≡ is_plain byte }
+{
+    match byte {
+        b'"' | b'\\' => false,
+        0x20..=0x7e => true,
+        _ => false,
+    }
 }
 
 /// Writes a byte as it stands between quotation marks.
@@ -166,10 +239,10 @@ fn spell_value<K: Sink>(out: &mut K, value: &Value) -> Result<(), Failed>
 {
     match value {
         Value::Bool(truth) => spell_bool(out, *truth),
-        Value::I8(n) => spell_number(out, i128::from(*n), b"b"),
-        Value::I16(n) => spell_number(out, i128::from(*n), b"s"),
-        Value::I32(n) => spell_number(out, i128::from(*n), b"i"),
-        Value::I64(n) => spell_number(out, i128::from(*n), b"l"),
+        Value::I8(n) => spell_number(out, i64::from(*n), b'b'),
+        Value::I16(n) => spell_number(out, i64::from(*n), b's'),
+        Value::I32(n) => spell_number(out, i64::from(*n), b'i'),
+        Value::I64(n) => spell_number(out, *n, b'l'),
         Value::Double(bits) => spell_double(out, *bits),
         Value::Bytes(text) => spell_quoted(out, text.as_slice()),
         Value::Struct(fields) => spell_struct(out, fields.as_slice()),
@@ -183,9 +256,8 @@ fn spell_value<K: Sink>(out: &mut K, value: &Value) -> Result<(), Failed>
 #[cycle(value_speller)]
 fn spell_struct<K: Sink>(out: &mut K, fields: &[(i16, Value)]) -> Result<(), Failed>
     ensures { HandsText (K.taken out.old) (K.taken out.new) (K.faults out.old) (K.faults out.new)
-        (codes "{" ++ (listed_fields (field_trees (map field_tree fields.now)) ++ codes "}")) result }
+        ((codes "{" ++ listed_fields (field_trees (map field_tree fields.now))) ++ codes "}") result }
 {
-    hand_over(out, b"{")?;
     spell_fields(out, fields)?;
     hand_over(out, b"}")
 }
@@ -245,39 +317,30 @@ fn spell_map_head<K: Sink>(out: &mut K, key: Tag, value: Tag) -> Result<(), Fail
     hand_over(out, b">{")
 }
 
-/// Writes fields with commas between them.
+/// Writes what opens a struct, and its fields with commas between them.
 #[cycle(value_speller)]
 fn spell_fields<K: Sink>(out: &mut K, fields: &[(i16, Value)]) -> Result<(), Failed>
-    ensures { HandsText (K.taken out.old) (K.taken out.new) (K.faults out.old) (K.faults out.new) (listed_fields (field_trees (map field_tree fields.now))) result }
+    ensures { HandsText (K.taken out.old) (K.taken out.new) (K.faults out.old) (K.faults out.new)
+        (codes "{" ++ listed_fields (field_trees (map field_tree fields.now))) result }
 {
     let Some((first, more)) = fields.split_first() else {
-        return Ok(());
+        return hand_over(out, b"{");
     };
     let (id, value) = first;
-    spell_field(out, id, value)?;
+    spell_field(out, b'{', id, value)?;
     for (id, value) in more {
-        spell_next_field(out, id, value)?;
+        spell_field(out, b',', id, value)?;
     }
     Ok(())
 }
 
-/// Writes a comma and a field.
+/// Writes a mark, and a field's id and its value.
 #[cycle(value_speller)]
-fn spell_next_field<K: Sink>(out: &mut K, id: &i16, value: &Value) -> Result<(), Failed>
+fn spell_field<K: Sink>(out: &mut K, mark: u8, id: &i16, value: &Value) -> Result<(), Failed>
     ensures { HandsText (K.taken out.old) (K.taken out.new) (K.faults out.old) (K.faults out.new)
-        (codes "," ++ (number_and_letter id.now (codes "=") ++ tree_text (tree_of value.now))) result }
+        ((mark ∷ number_and_letter id.now (codes "=")) ++ tree_text (tree_of value.now)) result }
 {
-    hand_over(out, b",")?;
-    spell_field(out, id, value)
-}
-
-/// Writes a field's id and its value.
-#[cycle(value_speller)]
-fn spell_field<K: Sink>(out: &mut K, id: &i16, value: &Value) -> Result<(), Failed>
-    ensures { HandsText (K.taken out.old) (K.taken out.new) (K.faults out.old) (K.faults out.new)
-        (number_and_letter id.now (codes "=") ++ tree_text (tree_of value.now)) result }
-{
-    spell_id(out, id)?;
+    spell_id(out, mark, id)?;
     spell_value(out, value)
 }
 

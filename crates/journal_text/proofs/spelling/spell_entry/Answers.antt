@@ -1,41 +1,42 @@
 use Rattle.std.proofs.Common.{◌++◌, codes, ap, ◌∙◌}
 use Rattle.call_rules.specs.Answers.{plain_answer}
-use Rattle.journal_text.specs.EntryText.{front_text, asked_text, answered_text, next_word, call_line}
-use Rattle.journal_text.proofs.Handing.{line_parts}
+use Rattle.value_text.specs.ValueText.{tree_text}
+use Rattle.journal_text.specs.EntryText.{front_text, answered_text, next_word, call_line}
+use Rattle.journal_text.proofs.Handing.{blank_parts}
 use Rattle.journal_text.proofs.HandedOn.{goes_on, breaks, hands_same}
 use Rattle.journal_text.proofs.spelling.spell_entry.Goals as goal
 
 pub returns-in_err-spell_front : goal.returns-in_err-spell_front
 returns-in_err-spell_front g c =
-    hands_same (g.K.Sink.taken c.args.out.now) (g.K.Sink.taken c.spell_front.new.out) (g.K.Sink.faults c.args.out.now) (g.K.Sink.faults c.spell_front.new.out) ((front_text c.entry.inside.call.silent c.entry.inside.key c.entry.inside.call.slot) ++ ((asked_text c.entry.inside.call.method c.entry.inside.call.args) ++ ((next_word (answered_text (plain_answer c.entry.inside.answer))) ++ (codes "\n")))) (call_line c.args.entry.now) c.from_residual.result
-    (line_parts (front_text c.entry.inside.call.silent c.entry.inside.key c.entry.inside.call.slot) (asked_text c.entry.inside.call.method c.entry.inside.call.args) (next_word (answered_text (plain_answer c.entry.inside.answer))) (codes "\n") ∙ ap call_line c.entry.view_is)
-    (breaks (g.K.Sink.taken c.args.out.now) (g.K.Sink.taken c.spell_front.new.out) (g.K.Sink.faults c.args.out.now) (g.K.Sink.faults c.spell_front.new.out) (front_text c.entry.inside.call.silent c.entry.inside.key c.entry.inside.call.slot) ((asked_text c.entry.inside.call.method c.entry.inside.call.args) ++ ((next_word (answered_text (plain_answer c.entry.inside.answer))) ++ (codes "\n"))) c.from_residual.result c.from_residual.ensures.0 (c.in_err-spell_front.ensures {u = tt}))
+    hands_same (g.K.Sink.taken c.args.out.now) (g.K.Sink.taken c.spell_front.new.out) (g.K.Sink.faults c.args.out.now) (g.K.Sink.faults c.spell_front.new.out) ((front_text c.entry.inside.call.silent c.entry.inside.key c.entry.inside.call.slot ++ codes " ") ++ ((c.entry.inside.call.method ++ next_word (tree_text c.entry.inside.call.args)) ++ ((next_word (answered_text (plain_answer c.entry.inside.answer))) ++ (codes "\n")))) (call_line c.args.entry.now) c.from_residual.result
+    (blank_parts (front_text c.entry.inside.call.silent c.entry.inside.key c.entry.inside.call.slot) (c.entry.inside.call.method ++ next_word (tree_text c.entry.inside.call.args)) (next_word (answered_text (plain_answer c.entry.inside.answer))) (codes "\n") ∙ ap call_line c.entry.view_is)
+    (breaks (g.K.Sink.taken c.args.out.now) (g.K.Sink.taken c.spell_front.new.out) (g.K.Sink.faults c.args.out.now) (g.K.Sink.faults c.spell_front.new.out) (front_text c.entry.inside.call.silent c.entry.inside.key c.entry.inside.call.slot ++ codes " ") ((c.entry.inside.call.method ++ next_word (tree_text c.entry.inside.call.args)) ++ ((next_word (answered_text (plain_answer c.entry.inside.answer))) ++ (codes "\n"))) c.from_residual.result c.from_residual.ensures.0 (c.in_err-spell_front.ensures {u = tt}))
 
 pub returns-in_err-spell_asked : goal.returns-in_err-spell_asked
 returns-in_err-spell_asked g c =
-    hands_same (g.K.Sink.taken c.args.out.now) (g.K.Sink.taken c.spell_asked.new.out) (g.K.Sink.faults c.args.out.now) (g.K.Sink.faults c.spell_asked.new.out) ((front_text c.entry.inside.call.silent c.entry.inside.key c.entry.inside.call.slot) ++ ((asked_text c.entry.inside.call.method c.entry.inside.call.args) ++ ((next_word (answered_text (plain_answer c.entry.inside.answer))) ++ (codes "\n")))) (call_line c.args.entry.now) c.from_residual-in_err-spell_asked.result
-    (line_parts (front_text c.entry.inside.call.silent c.entry.inside.key c.entry.inside.call.slot) (asked_text c.entry.inside.call.method c.entry.inside.call.args) (next_word (answered_text (plain_answer c.entry.inside.answer))) (codes "\n") ∙ ap call_line c.entry.view_is)
-    (goes_on (g.K.Sink.taken c.args.out.now) (g.K.Sink.taken c.spell_front.new.out) (g.K.Sink.taken c.spell_asked.new.out) (g.K.Sink.faults c.args.out.now) (g.K.Sink.faults c.spell_front.new.out) (g.K.Sink.faults c.spell_asked.new.out) (front_text c.entry.inside.call.silent c.entry.inside.key c.entry.inside.call.slot) ((asked_text c.entry.inside.call.method c.entry.inside.call.args) ++ ((next_word (answered_text (plain_answer c.entry.inside.answer))) ++ (codes "\n"))) c.from_residual-in_err-spell_asked.result
+    hands_same (g.K.Sink.taken c.args.out.now) (g.K.Sink.taken c.spell_asked.new.out) (g.K.Sink.faults c.args.out.now) (g.K.Sink.faults c.spell_asked.new.out) ((front_text c.entry.inside.call.silent c.entry.inside.key c.entry.inside.call.slot ++ codes " ") ++ ((c.entry.inside.call.method ++ next_word (tree_text c.entry.inside.call.args)) ++ ((next_word (answered_text (plain_answer c.entry.inside.answer))) ++ (codes "\n")))) (call_line c.args.entry.now) c.from_residual-in_err-spell_asked.result
+    (blank_parts (front_text c.entry.inside.call.silent c.entry.inside.key c.entry.inside.call.slot) (c.entry.inside.call.method ++ next_word (tree_text c.entry.inside.call.args)) (next_word (answered_text (plain_answer c.entry.inside.answer))) (codes "\n") ∙ ap call_line c.entry.view_is)
+    (goes_on (g.K.Sink.taken c.args.out.now) (g.K.Sink.taken c.spell_front.new.out) (g.K.Sink.taken c.spell_asked.new.out) (g.K.Sink.faults c.args.out.now) (g.K.Sink.faults c.spell_front.new.out) (g.K.Sink.faults c.spell_asked.new.out) (front_text c.entry.inside.call.silent c.entry.inside.key c.entry.inside.call.slot ++ codes " ") ((c.entry.inside.call.method ++ next_word (tree_text c.entry.inside.call.args)) ++ ((next_word (answered_text (plain_answer c.entry.inside.answer))) ++ (codes "\n"))) c.from_residual-in_err-spell_asked.result
     (c.in_ok-spell_front.ensures {u = tt})
-    (breaks (g.K.Sink.taken c.spell_front.new.out) (g.K.Sink.taken c.spell_asked.new.out) (g.K.Sink.faults c.spell_front.new.out) (g.K.Sink.faults c.spell_asked.new.out) (asked_text c.entry.inside.call.method c.entry.inside.call.args) ((next_word (answered_text (plain_answer c.entry.inside.answer))) ++ (codes "\n")) c.from_residual-in_err-spell_asked.result c.from_residual-in_err-spell_asked.ensures.0 (c.in_err-spell_asked.ensures {u = tt})))
+    (breaks (g.K.Sink.taken c.spell_front.new.out) (g.K.Sink.taken c.spell_asked.new.out) (g.K.Sink.faults c.spell_front.new.out) (g.K.Sink.faults c.spell_asked.new.out) (c.entry.inside.call.method ++ next_word (tree_text c.entry.inside.call.args)) ((next_word (answered_text (plain_answer c.entry.inside.answer))) ++ (codes "\n")) c.from_residual-in_err-spell_asked.result c.from_residual-in_err-spell_asked.ensures.0 (c.in_err-spell_asked.ensures {u = tt})))
 
 pub returns-in_err-spell_answer : goal.returns-in_err-spell_answer
 returns-in_err-spell_answer g c =
-    hands_same (g.K.Sink.taken c.args.out.now) (g.K.Sink.taken c.spell_answer.new.out) (g.K.Sink.faults c.args.out.now) (g.K.Sink.faults c.spell_answer.new.out) ((front_text c.entry.inside.call.silent c.entry.inside.key c.entry.inside.call.slot) ++ ((asked_text c.entry.inside.call.method c.entry.inside.call.args) ++ ((next_word (answered_text (plain_answer c.entry.inside.answer))) ++ (codes "\n")))) (call_line c.args.entry.now) c.from_residual-in_err-spell_answer.result
-    (line_parts (front_text c.entry.inside.call.silent c.entry.inside.key c.entry.inside.call.slot) (asked_text c.entry.inside.call.method c.entry.inside.call.args) (next_word (answered_text (plain_answer c.entry.inside.answer))) (codes "\n") ∙ ap call_line c.entry.view_is)
-    (goes_on (g.K.Sink.taken c.args.out.now) (g.K.Sink.taken c.spell_front.new.out) (g.K.Sink.taken c.spell_answer.new.out) (g.K.Sink.faults c.args.out.now) (g.K.Sink.faults c.spell_front.new.out) (g.K.Sink.faults c.spell_answer.new.out) (front_text c.entry.inside.call.silent c.entry.inside.key c.entry.inside.call.slot) ((asked_text c.entry.inside.call.method c.entry.inside.call.args) ++ ((next_word (answered_text (plain_answer c.entry.inside.answer))) ++ (codes "\n"))) c.from_residual-in_err-spell_answer.result
+    hands_same (g.K.Sink.taken c.args.out.now) (g.K.Sink.taken c.spell_answer.new.out) (g.K.Sink.faults c.args.out.now) (g.K.Sink.faults c.spell_answer.new.out) ((front_text c.entry.inside.call.silent c.entry.inside.key c.entry.inside.call.slot ++ codes " ") ++ ((c.entry.inside.call.method ++ next_word (tree_text c.entry.inside.call.args)) ++ ((next_word (answered_text (plain_answer c.entry.inside.answer))) ++ (codes "\n")))) (call_line c.args.entry.now) c.from_residual-in_err-spell_answer.result
+    (blank_parts (front_text c.entry.inside.call.silent c.entry.inside.key c.entry.inside.call.slot) (c.entry.inside.call.method ++ next_word (tree_text c.entry.inside.call.args)) (next_word (answered_text (plain_answer c.entry.inside.answer))) (codes "\n") ∙ ap call_line c.entry.view_is)
+    (goes_on (g.K.Sink.taken c.args.out.now) (g.K.Sink.taken c.spell_front.new.out) (g.K.Sink.taken c.spell_answer.new.out) (g.K.Sink.faults c.args.out.now) (g.K.Sink.faults c.spell_front.new.out) (g.K.Sink.faults c.spell_answer.new.out) (front_text c.entry.inside.call.silent c.entry.inside.key c.entry.inside.call.slot ++ codes " ") ((c.entry.inside.call.method ++ next_word (tree_text c.entry.inside.call.args)) ++ ((next_word (answered_text (plain_answer c.entry.inside.answer))) ++ (codes "\n"))) c.from_residual-in_err-spell_answer.result
     (c.in_ok-spell_front.ensures {u = tt})
-    (goes_on (g.K.Sink.taken c.spell_front.new.out) (g.K.Sink.taken c.spell_asked.new.out) (g.K.Sink.taken c.spell_answer.new.out) (g.K.Sink.faults c.spell_front.new.out) (g.K.Sink.faults c.spell_asked.new.out) (g.K.Sink.faults c.spell_answer.new.out) (asked_text c.entry.inside.call.method c.entry.inside.call.args) ((next_word (answered_text (plain_answer c.entry.inside.answer))) ++ (codes "\n")) c.from_residual-in_err-spell_answer.result
+    (goes_on (g.K.Sink.taken c.spell_front.new.out) (g.K.Sink.taken c.spell_asked.new.out) (g.K.Sink.taken c.spell_answer.new.out) (g.K.Sink.faults c.spell_front.new.out) (g.K.Sink.faults c.spell_asked.new.out) (g.K.Sink.faults c.spell_answer.new.out) (c.entry.inside.call.method ++ next_word (tree_text c.entry.inside.call.args)) ((next_word (answered_text (plain_answer c.entry.inside.answer))) ++ (codes "\n")) c.from_residual-in_err-spell_answer.result
     (c.in_ok-spell_asked.ensures {u = tt})
     (breaks (g.K.Sink.taken c.spell_asked.new.out) (g.K.Sink.taken c.spell_answer.new.out) (g.K.Sink.faults c.spell_asked.new.out) (g.K.Sink.faults c.spell_answer.new.out) (next_word (answered_text (plain_answer c.entry.inside.answer))) (codes "\n") c.from_residual-in_err-spell_answer.result c.from_residual-in_err-spell_answer.ensures.0 (c.in_err-spell_answer.ensures {u = tt}))))
 
 pub returns : goal.returns
 returns g c =
-    hands_same (g.K.Sink.taken c.args.out.now) (g.K.Sink.taken c.hand.new.out) (g.K.Sink.faults c.args.out.now) (g.K.Sink.faults c.hand.new.out) ((front_text c.entry.inside.call.silent c.entry.inside.key c.entry.inside.call.slot) ++ ((asked_text c.entry.inside.call.method c.entry.inside.call.args) ++ ((next_word (answered_text (plain_answer c.entry.inside.answer))) ++ (codes "\n")))) (call_line c.args.entry.now) c.hand.result
-    (line_parts (front_text c.entry.inside.call.silent c.entry.inside.key c.entry.inside.call.slot) (asked_text c.entry.inside.call.method c.entry.inside.call.args) (next_word (answered_text (plain_answer c.entry.inside.answer))) (codes "\n") ∙ ap call_line c.entry.view_is)
-    (goes_on (g.K.Sink.taken c.args.out.now) (g.K.Sink.taken c.spell_front.new.out) (g.K.Sink.taken c.hand.new.out) (g.K.Sink.faults c.args.out.now) (g.K.Sink.faults c.spell_front.new.out) (g.K.Sink.faults c.hand.new.out) (front_text c.entry.inside.call.silent c.entry.inside.key c.entry.inside.call.slot) ((asked_text c.entry.inside.call.method c.entry.inside.call.args) ++ ((next_word (answered_text (plain_answer c.entry.inside.answer))) ++ (codes "\n"))) c.hand.result
+    hands_same (g.K.Sink.taken c.args.out.now) (g.K.Sink.taken c.hand.new.out) (g.K.Sink.faults c.args.out.now) (g.K.Sink.faults c.hand.new.out) ((front_text c.entry.inside.call.silent c.entry.inside.key c.entry.inside.call.slot ++ codes " ") ++ ((c.entry.inside.call.method ++ next_word (tree_text c.entry.inside.call.args)) ++ ((next_word (answered_text (plain_answer c.entry.inside.answer))) ++ (codes "\n")))) (call_line c.args.entry.now) c.hand.result
+    (blank_parts (front_text c.entry.inside.call.silent c.entry.inside.key c.entry.inside.call.slot) (c.entry.inside.call.method ++ next_word (tree_text c.entry.inside.call.args)) (next_word (answered_text (plain_answer c.entry.inside.answer))) (codes "\n") ∙ ap call_line c.entry.view_is)
+    (goes_on (g.K.Sink.taken c.args.out.now) (g.K.Sink.taken c.spell_front.new.out) (g.K.Sink.taken c.hand.new.out) (g.K.Sink.faults c.args.out.now) (g.K.Sink.faults c.spell_front.new.out) (g.K.Sink.faults c.hand.new.out) (front_text c.entry.inside.call.silent c.entry.inside.key c.entry.inside.call.slot ++ codes " ") ((c.entry.inside.call.method ++ next_word (tree_text c.entry.inside.call.args)) ++ ((next_word (answered_text (plain_answer c.entry.inside.answer))) ++ (codes "\n"))) c.hand.result
     (c.in_ok-spell_front.ensures {u = tt})
-    (goes_on (g.K.Sink.taken c.spell_front.new.out) (g.K.Sink.taken c.spell_asked.new.out) (g.K.Sink.taken c.hand.new.out) (g.K.Sink.faults c.spell_front.new.out) (g.K.Sink.faults c.spell_asked.new.out) (g.K.Sink.faults c.hand.new.out) (asked_text c.entry.inside.call.method c.entry.inside.call.args) ((next_word (answered_text (plain_answer c.entry.inside.answer))) ++ (codes "\n")) c.hand.result
+    (goes_on (g.K.Sink.taken c.spell_front.new.out) (g.K.Sink.taken c.spell_asked.new.out) (g.K.Sink.taken c.hand.new.out) (g.K.Sink.faults c.spell_front.new.out) (g.K.Sink.faults c.spell_asked.new.out) (g.K.Sink.faults c.hand.new.out) (c.entry.inside.call.method ++ next_word (tree_text c.entry.inside.call.args)) ((next_word (answered_text (plain_answer c.entry.inside.answer))) ++ (codes "\n")) c.hand.result
     (c.in_ok-spell_asked.ensures {u = tt})
     (goes_on (g.K.Sink.taken c.spell_asked.new.out) (g.K.Sink.taken c.spell_answer.new.out) (g.K.Sink.taken c.hand.new.out) (g.K.Sink.faults c.spell_asked.new.out) (g.K.Sink.faults c.spell_answer.new.out) (g.K.Sink.faults c.hand.new.out) (next_word (answered_text (plain_answer c.entry.inside.answer))) (codes "\n") c.hand.result
     (c.in_ok-spell_answer.ensures {u = tt})

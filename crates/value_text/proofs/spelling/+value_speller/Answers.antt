@@ -1,30 +1,22 @@
-use Rattle.std.proofs.Common.{to_z, of_z, FitsSigned, ◌++◌, ◌∙◌, codes, map, sym, arith, rules}
-use Rattle.std.specs.Int.{w8, w16, w32, w64, w128}
+use Rattle.std.proofs.Common.{to_z, of_z, FitsSigned, ◌∷◌, ◌++◌, ◌∙◌, codes, map, sym, arith, rules}
+use Rattle.std.specs.Int.{w8, w16, w32, w64}
 use Rattle.std.proofs.lemmas.Int.{to_z-of_z}
 use Rattle.std.specs.List.{flat_map}
-use Rattle.thrift_value.specs.TreeOf.{tree_of, field_tree, pair_tree, field_trees, item_trees, pair_trees}
-use Rattle.value_text.specs.ValueText.{tag_word, number_and_letter, tree_text, listed_fields, listed_items, listed_pairs}
-use Rattle.value_text.proofs.Handed.{goes_on, hands_more, breaks, breaks_last, both_handed, hands_same, next_handed, next_fails, first_handed, next_field, next_item, next_pair, fields_begin, items_begin, pairs_begin}
+use Rattle.thrift_value.specs.TreeOf.{tree_of, pair_tree, item_trees, pair_trees}
+use Rattle.value_text.specs.ValueText.{tag_word, number_and_letter, tree_text, listed_items, listed_pairs}
+use Rattle.value_text.proofs.Handed.{goes_on, hands_more, breaks, breaks_last, both_handed, hands_same, next_handed, next_fails, first_handed, next_field, next_item, next_pair, opened_fields, first_field, fields_begin, items_begin, pairs_begin}
 use Rattle.value_text.proofs.ValueTexts.{bool_text, i8_text, i16_text, i32_text, i64_text, bits_text, bytes_text, struct_text, map_text, set_text, list_text, map_opened, list_opened}
 use Rattle.value_text.proofs.spelling.+value_speller.Goals as goal
 
-pub spell_struct-returns-in_err-hand_over : goal.spell_struct-returns-in_err-hand_over
-spell_struct-returns-in_err-hand_over g t c =
-    breaks (g.K.Sink.taken c.args.out.now) (g.K.Sink.taken c.hand_over.new.out) (g.K.Sink.faults c.args.out.now) (g.K.Sink.faults c.hand_over.new.out) (codes "{") ((listed_fields (field_trees (map field_tree c.args.fields.now))) ++ (codes "}")) c.from_residual.result c.from_residual.ensures.0 (c.in_err-hand_over.ensures {u = tt})
-
 pub spell_struct-returns-in_err-spell_fields : goal.spell_struct-returns-in_err-spell_fields
 spell_struct-returns-in_err-spell_fields g t c =
-    goes_on (g.K.Sink.taken c.args.out.now) (g.K.Sink.taken c.hand_over.new.out) (g.K.Sink.taken c.spell_fields.new.out) (g.K.Sink.faults c.args.out.now) (g.K.Sink.faults c.hand_over.new.out) (g.K.Sink.faults c.spell_fields.new.out) (codes "{") ((listed_fields (field_trees (map field_tree c.args.fields.now))) ++ (codes "}")) c.from_residual-in_err-spell_fields.result
-    (c.in_ok-hand_over.ensures {u = tt})
-    (breaks (g.K.Sink.taken c.hand_over.new.out) (g.K.Sink.taken c.spell_fields.new.out) (g.K.Sink.faults c.hand_over.new.out) (g.K.Sink.faults c.spell_fields.new.out) (listed_fields (field_trees (map field_tree c.args.fields.now))) (codes "}") c.from_residual-in_err-spell_fields.result c.from_residual-in_err-spell_fields.ensures.0 (c.in_err-spell_fields.ensures {u = tt}))
+    breaks (g.K.Sink.taken c.args.out.now) (g.K.Sink.taken c.spell_fields.new.out) (g.K.Sink.faults c.args.out.now) (g.K.Sink.faults c.spell_fields.new.out) (opened_fields c.args.fields.now) (codes "}") c.from_residual.result c.from_residual.ensures.0 (c.in_err-spell_fields.ensures {u = tt})
 
 pub spell_struct-returns : goal.spell_struct-returns
 spell_struct-returns g t c =
-    goes_on (g.K.Sink.taken c.args.out.now) (g.K.Sink.taken c.hand_over.new.out) (g.K.Sink.taken c.hand_over-2.new.out) (g.K.Sink.faults c.args.out.now) (g.K.Sink.faults c.hand_over.new.out) (g.K.Sink.faults c.hand_over-2.new.out) (codes "{") ((listed_fields (field_trees (map field_tree c.args.fields.now))) ++ (codes "}")) c.hand_over-2.result
-    (c.in_ok-hand_over.ensures {u = tt})
-    (goes_on (g.K.Sink.taken c.hand_over.new.out) (g.K.Sink.taken c.spell_fields.new.out) (g.K.Sink.taken c.hand_over-2.new.out) (g.K.Sink.faults c.hand_over.new.out) (g.K.Sink.faults c.spell_fields.new.out) (g.K.Sink.faults c.hand_over-2.new.out) (listed_fields (field_trees (map field_tree c.args.fields.now))) (codes "}") c.hand_over-2.result
+    goes_on (g.K.Sink.taken c.args.out.now) (g.K.Sink.taken c.spell_fields.new.out) (g.K.Sink.taken c.hand_over.new.out) (g.K.Sink.faults c.args.out.now) (g.K.Sink.faults c.spell_fields.new.out) (g.K.Sink.faults c.hand_over.new.out) (opened_fields c.args.fields.now) (codes "}") c.hand_over.result
     (c.in_ok-spell_fields.ensures {u = tt})
-    (c.hand_over-2.ensures))
+    (c.hand_over.ensures)
 
 pub spell_map-returns-in_err-spell_map_head : goal.spell_map-returns-in_err-spell_map_head
 spell_map-returns-in_err-spell_map_head g t c =
@@ -64,23 +56,13 @@ spell_collection-returns g t c =
 
 pub spell_field-returns-in_err-spell_id : goal.spell_field-returns-in_err-spell_id
 spell_field-returns-in_err-spell_id g t c =
-    breaks (g.K.Sink.taken c.args.out.now) (g.K.Sink.taken c.spell_id.new.out) (g.K.Sink.faults c.args.out.now) (g.K.Sink.faults c.spell_id.new.out) (number_and_letter c.args.id.now (codes "=")) (tree_text (tree_of c.args.value.now)) c.from_residual.result c.from_residual.ensures.0 (c.in_err-spell_id.ensures {u = tt})
+    breaks (g.K.Sink.taken c.args.out.now) (g.K.Sink.taken c.spell_id.new.out) (g.K.Sink.faults c.args.out.now) (g.K.Sink.faults c.spell_id.new.out) (c.args.mark ∷ number_and_letter c.args.id.now (codes "=")) (tree_text (tree_of c.args.value.now)) c.from_residual.result c.from_residual.ensures.0 (c.in_err-spell_id.ensures {u = tt})
 
 pub spell_field-returns : goal.spell_field-returns
 spell_field-returns g t c =
-    goes_on (g.K.Sink.taken c.args.out.now) (g.K.Sink.taken c.spell_id.new.out) (g.K.Sink.taken c.spell_value.new.out) (g.K.Sink.faults c.args.out.now) (g.K.Sink.faults c.spell_id.new.out) (g.K.Sink.faults c.spell_value.new.out) (number_and_letter c.args.id.now (codes "=")) (tree_text (tree_of c.args.value.now)) c.spell_value.result
+    goes_on (g.K.Sink.taken c.args.out.now) (g.K.Sink.taken c.spell_id.new.out) (g.K.Sink.taken c.spell_value.new.out) (g.K.Sink.faults c.args.out.now) (g.K.Sink.faults c.spell_id.new.out) (g.K.Sink.faults c.spell_value.new.out) (c.args.mark ∷ number_and_letter c.args.id.now (codes "=")) (tree_text (tree_of c.args.value.now)) c.spell_value.result
     (c.in_ok-spell_id.ensures {u = tt})
     (c.spell_value.ensures)
-
-pub spell_next_field-returns-in_err-hand_over : goal.spell_next_field-returns-in_err-hand_over
-spell_next_field-returns-in_err-hand_over g t c =
-    breaks (g.K.Sink.taken c.args.out.now) (g.K.Sink.taken c.hand_over.new.out) (g.K.Sink.faults c.args.out.now) (g.K.Sink.faults c.hand_over.new.out) (codes ",") (number_and_letter c.args.id.now (codes "=") ++ tree_text (tree_of c.args.value.now)) c.from_residual.result c.from_residual.ensures.0 (c.in_err-hand_over.ensures {u = tt})
-
-pub spell_next_field-returns : goal.spell_next_field-returns
-spell_next_field-returns g t c =
-    goes_on (g.K.Sink.taken c.args.out.now) (g.K.Sink.taken c.hand_over.new.out) (g.K.Sink.taken c.spell_field.new.out) (g.K.Sink.faults c.args.out.now) (g.K.Sink.faults c.hand_over.new.out) (g.K.Sink.faults c.spell_field.new.out) (codes ",") (number_and_letter c.args.id.now (codes "=") ++ tree_text (tree_of c.args.value.now)) c.spell_field.result
-    (c.in_ok-hand_over.ensures {u = tt})
-    (c.spell_field.ensures)
 
 pub spell_next_item-returns-in_err-hand_over : goal.spell_next_item-returns-in_err-hand_over
 spell_next_item-returns-in_err-hand_over g t c =
@@ -104,24 +86,24 @@ spell_mapped-returns g t c =
 
 pub spell_fields-returns-in_err-spell_field : goal.spell_fields-returns-in_err-spell_field
 spell_fields-returns-in_err-spell_field g t c =
-    hands_same (g.K.Sink.taken c.args.out.now) (g.K.Sink.taken c.spell_field.new.out) (g.K.Sink.faults c.args.out.now) (g.K.Sink.faults c.spell_field.new.out) ((number_and_letter c.in-Some.first.now.0 (codes "=") ++ tree_text (tree_of c.in-Some.first.now.1)) ++ (flat_map next_field c.in-Some.more.now)) (listed_fields (field_trees (map field_tree c.args.fields.now))) c.from_residual.result (sym (fields_begin c.args.fields.now c.in-Some.first.now c.in-Some.more.now c.in-Some.ensures.cases.0))
-    (breaks (g.K.Sink.taken c.args.out.now) (g.K.Sink.taken c.spell_field.new.out) (g.K.Sink.faults c.args.out.now) (g.K.Sink.faults c.spell_field.new.out) (number_and_letter c.in-Some.first.now.0 (codes "=") ++ tree_text (tree_of c.in-Some.first.now.1)) (flat_map next_field c.in-Some.more.now) c.from_residual.result c.from_residual.ensures.0 (c.in_err-spell_field.ensures {u = tt}))
+    hands_same (g.K.Sink.taken c.args.out.now) (g.K.Sink.taken c.spell_field.new.out) (g.K.Sink.faults c.args.out.now) (g.K.Sink.faults c.spell_field.new.out) (first_field c.in-Some.first.now ++ flat_map next_field c.in-Some.more.now) (opened_fields c.args.fields.now) c.from_residual.result (sym (fields_begin c.args.fields.now c.in-Some.first.now c.in-Some.more.now c.in-Some.ensures.cases.0))
+    (breaks (g.K.Sink.taken c.args.out.now) (g.K.Sink.taken c.spell_field.new.out) (g.K.Sink.faults c.args.out.now) (g.K.Sink.faults c.spell_field.new.out) (first_field c.in-Some.first.now) (flat_map next_field c.in-Some.more.now) c.from_residual.result c.from_residual.ensures.0 (c.in_err-spell_field.ensures {u = tt}))
 
 pub spell_fields-loop-id-init : goal.spell_fields-loop-id-init
 spell_fields-loop-id-init g t c =
-    first_handed next_field c.in-Some.more.now (g.K.Sink.taken c.args.out.now) (g.K.Sink.taken c.spell_field.new.out) (g.K.Sink.faults c.args.out.now) (g.K.Sink.faults c.spell_field.new.out) (number_and_letter c.in-Some.first.now.0 (codes "=") ++ tree_text (tree_of c.in-Some.first.now.1)) (listed_fields (field_trees (map field_tree c.args.fields.now)))
+    first_handed next_field c.in-Some.more.now (g.K.Sink.taken c.args.out.now) (g.K.Sink.taken c.spell_field.new.out) (g.K.Sink.faults c.args.out.now) (g.K.Sink.faults c.spell_field.new.out) (first_field c.in-Some.first.now) (opened_fields c.args.fields.now)
     (fields_begin c.args.fields.now c.in-Some.first.now c.in-Some.more.now c.in-Some.ensures.cases.0)
     (c.in_ok-spell_field.ensures {u = tt})
 
 pub spell_fields-loop-id-preserved : goal.spell_fields-loop-id-preserved
 spell_fields-loop-id-preserved g t c =
-    next_handed next_field c.in-Some.more.now c.loop-id.id-index c.loop-id-item.result c.loop-id-item.result (g.K.Sink.taken c.args.out.now) (g.K.Sink.taken c.loop-id.out) (g.K.Sink.taken c.spell_next_field.new.out) (g.K.Sink.faults c.args.out.now) (g.K.Sink.faults c.loop-id.out) (g.K.Sink.faults c.spell_next_field.new.out) (listed_fields (field_trees (map field_tree c.args.fields.now))) (omega arith) c.loop-id-item.is c.loop-id.invariant
-    (c.in_ok-spell_next_field.ensures {u = tt})
+    next_handed next_field c.in-Some.more.now c.loop-id.id-index c.loop-id-item.result c.loop-id-item.result (g.K.Sink.taken c.args.out.now) (g.K.Sink.taken c.loop-id.out) (g.K.Sink.taken c.spell_field-in-loop-id.new.out) (g.K.Sink.faults c.args.out.now) (g.K.Sink.faults c.loop-id.out) (g.K.Sink.faults c.spell_field-in-loop-id.new.out) (opened_fields c.args.fields.now) (omega arith) c.loop-id-item.is c.loop-id.invariant
+    (c.in_ok-spell_field-2.ensures {u = tt})
 
-pub spell_fields-returns-in_err-spell_next_field : goal.spell_fields-returns-in_err-spell_next_field
-spell_fields-returns-in_err-spell_next_field g t c =
-    next_fails next_field c.in-Some.more.now c.loop-id.id-index c.loop-id-item.result c.loop-id-item.result (g.K.Sink.taken c.args.out.now) (g.K.Sink.taken c.loop-id.out) (g.K.Sink.taken c.spell_next_field.new.out) (g.K.Sink.faults c.args.out.now) (g.K.Sink.faults c.loop-id.out) (g.K.Sink.faults c.spell_next_field.new.out) (listed_fields (field_trees (map field_tree c.args.fields.now))) c.from_residual-in_err-spell_next_field.result (omega arith) c.loop-id-item.is c.loop-id.invariant c.from_residual-in_err-spell_next_field.ensures.0
-    (breaks_last (g.K.Sink.taken c.loop-id.out) (g.K.Sink.taken c.spell_next_field.new.out) (g.K.Sink.faults c.loop-id.out) (g.K.Sink.faults c.spell_next_field.new.out) (next_field c.loop-id-item.result) c.from_residual-in_err-spell_next_field.result c.from_residual-in_err-spell_next_field.ensures.0 (c.in_err-spell_next_field.ensures {u = tt}))
+pub spell_fields-returns-in_err-spell_field-2 : goal.spell_fields-returns-in_err-spell_field-2
+spell_fields-returns-in_err-spell_field-2 g t c =
+    next_fails next_field c.in-Some.more.now c.loop-id.id-index c.loop-id-item.result c.loop-id-item.result (g.K.Sink.taken c.args.out.now) (g.K.Sink.taken c.loop-id.out) (g.K.Sink.taken c.spell_field-in-loop-id.new.out) (g.K.Sink.faults c.args.out.now) (g.K.Sink.faults c.loop-id.out) (g.K.Sink.faults c.spell_field-in-loop-id.new.out) (opened_fields c.args.fields.now) c.from_residual-in_err-spell_field-2.result (omega arith) c.loop-id-item.is c.loop-id.invariant c.from_residual-in_err-spell_field-2.ensures.0
+    (breaks_last (g.K.Sink.taken c.loop-id.out) (g.K.Sink.taken c.spell_field-in-loop-id.new.out) (g.K.Sink.faults c.loop-id.out) (g.K.Sink.faults c.spell_field-in-loop-id.new.out) (next_field c.loop-id-item.result) c.from_residual-in_err-spell_field-2.result c.from_residual-in_err-spell_field-2.ensures.0 (c.in_err-spell_field-2.ensures {u = tt}))
 
 pub spell_items-returns-in_err-spell_value : goal.spell_items-returns-in_err-spell_value
 spell_items-returns-in_err-spell_value g t c =
@@ -189,30 +171,29 @@ spell_value-returns-in-Bool g t c =
 pub spell_value-returns-in-I8 : goal.spell_value-returns-in-I8
 spell_value-returns-in-I8 g t c =
     let fits : FitsSigned w8 c.in-I8.n = search rules in
-    let wide : FitsSigned w128 c.from.result = search rules in
+    let wide : FitsSigned w64 c.from.result = search rules in
     hands_same (g.K.Sink.taken c.args.out.now) (g.K.Sink.taken c.spell_number.new.out) (g.K.Sink.faults c.args.out.now) (g.K.Sink.faults c.spell_number.new.out) _ (tree_text (tree_of c.args.value.now)) c.spell_number.result
-    (i8_text c.args.value.now c.in-I8.n (to_z w128 (of_z w128 c.from.result)) c.in-I8.is (to_z-of_z w128 c.from.result wide ∙ c.from.ensures ∙ to_z-of_z w8 c.in-I8.n fits)) c.spell_number.ensures
+    (i8_text c.args.value.now c.in-I8.n (to_z w64 (of_z w64 c.from.result)) c.in-I8.is (to_z-of_z w64 c.from.result wide ∙ c.from.ensures ∙ to_z-of_z w8 c.in-I8.n fits)) c.spell_number.ensures
 
 pub spell_value-returns-in-I16 : goal.spell_value-returns-in-I16
 spell_value-returns-in-I16 g t c =
     let fits : FitsSigned w16 c.in-I16.n = search rules in
-    let wide : FitsSigned w128 c.from-in-I16.result = search rules in
+    let wide : FitsSigned w64 c.from-in-I16.result = search rules in
     hands_same (g.K.Sink.taken c.args.out.now) (g.K.Sink.taken c.spell_number-in-I16.new.out) (g.K.Sink.faults c.args.out.now) (g.K.Sink.faults c.spell_number-in-I16.new.out) _ (tree_text (tree_of c.args.value.now)) c.spell_number-in-I16.result
-    (i16_text c.args.value.now c.in-I16.n (to_z w128 (of_z w128 c.from-in-I16.result)) c.in-I16.is (to_z-of_z w128 c.from-in-I16.result wide ∙ c.from-in-I16.ensures ∙ to_z-of_z w16 c.in-I16.n fits)) c.spell_number-in-I16.ensures
+    (i16_text c.args.value.now c.in-I16.n (to_z w64 (of_z w64 c.from-in-I16.result)) c.in-I16.is (to_z-of_z w64 c.from-in-I16.result wide ∙ c.from-in-I16.ensures ∙ to_z-of_z w16 c.in-I16.n fits)) c.spell_number-in-I16.ensures
 
 pub spell_value-returns-in-I32 : goal.spell_value-returns-in-I32
 spell_value-returns-in-I32 g t c =
     let fits : FitsSigned w32 c.in-I32.n = search rules in
-    let wide : FitsSigned w128 c.from-in-I32.result = search rules in
+    let wide : FitsSigned w64 c.from-in-I32.result = search rules in
     hands_same (g.K.Sink.taken c.args.out.now) (g.K.Sink.taken c.spell_number-in-I32.new.out) (g.K.Sink.faults c.args.out.now) (g.K.Sink.faults c.spell_number-in-I32.new.out) _ (tree_text (tree_of c.args.value.now)) c.spell_number-in-I32.result
-    (i32_text c.args.value.now c.in-I32.n (to_z w128 (of_z w128 c.from-in-I32.result)) c.in-I32.is (to_z-of_z w128 c.from-in-I32.result wide ∙ c.from-in-I32.ensures ∙ to_z-of_z w32 c.in-I32.n fits)) c.spell_number-in-I32.ensures
+    (i32_text c.args.value.now c.in-I32.n (to_z w64 (of_z w64 c.from-in-I32.result)) c.in-I32.is (to_z-of_z w64 c.from-in-I32.result wide ∙ c.from-in-I32.ensures ∙ to_z-of_z w32 c.in-I32.n fits)) c.spell_number-in-I32.ensures
 
 pub spell_value-returns-in-I64 : goal.spell_value-returns-in-I64
 spell_value-returns-in-I64 g t c =
     let fits : FitsSigned w64 c.in-I64.n = search rules in
-    let wide : FitsSigned w128 c.from-in-I64.result = search rules in
     hands_same (g.K.Sink.taken c.args.out.now) (g.K.Sink.taken c.spell_number-in-I64.new.out) (g.K.Sink.faults c.args.out.now) (g.K.Sink.faults c.spell_number-in-I64.new.out) _ (tree_text (tree_of c.args.value.now)) c.spell_number-in-I64.result
-    (i64_text c.args.value.now c.in-I64.n (to_z w128 (of_z w128 c.from-in-I64.result)) c.in-I64.is (to_z-of_z w128 c.from-in-I64.result wide ∙ c.from-in-I64.ensures ∙ to_z-of_z w64 c.in-I64.n fits)) c.spell_number-in-I64.ensures
+    (i64_text c.args.value.now c.in-I64.n (to_z w64 (of_z w64 c.in-I64.n)) c.in-I64.is (to_z-of_z w64 c.in-I64.n fits)) c.spell_number-in-I64.ensures
 
 pub spell_value-returns-in-Double : goal.spell_value-returns-in-Double
 spell_value-returns-in-Double g t c =

@@ -1,9 +1,9 @@
 use Rattle.std.proofs.Common.{map, drop}
 use Rattle.std.specs.List.{flat_map}
-use Rattle.thrift_value.specs.TreeOf.{tree_of, field_tree, pair_tree, field_trees, item_trees, pair_trees}
+use Rattle.thrift_value.specs.TreeOf.{tree_of, pair_tree, item_trees, pair_trees}
 use Rattle.value_text.specs.Handing.{HandsOver}
-use Rattle.value_text.specs.ValueText.{listed_fields, listed_items, listed_pairs}
-use Rattle.value_text.proofs.Handed.{next_field, next_item, next_pair}
+use Rattle.value_text.specs.ValueText.{listed_items, listed_pairs}
+use Rattle.value_text.proofs.Handed.{opened_fields, next_field, next_item, next_pair}
 use Rattle.value_text.proofs.spelling.+value_speller.Given as goal
 
 -- what is left to be taken is the text of what is left
@@ -11,7 +11,7 @@ use Rattle.value_text.proofs.spelling.+value_speller.Given as goal
 abbrev pub invariant-spell_fields-loop-id : goal.invariant-spell_fields-loop-id
 invariant-spell_fields-loop-id g l =
     HandsOver (g.K.Sink.taken l.fn.out) (g.K.Sink.taken l.out) (g.K.Sink.faults l.fn.out) (g.K.Sink.faults l.out)
-    (listed_fields (field_trees (map field_tree l.fn.fields))) (flat_map next_field (drop l.id-index l.more))
+    (opened_fields l.fn.fields) (flat_map next_field (drop l.id-index l.more))
 
 abbrev pub invariant-spell_items-loop-item : goal.invariant-spell_items-loop-item
 invariant-spell_items-loop-item g l =

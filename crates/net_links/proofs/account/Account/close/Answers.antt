@@ -1,6 +1,6 @@
-use Rattle.std.proofs.Common.{rules, ◌≡◌, ap, ◌∙◌, not, nat_eq}
+use Rattle.std.proofs.Common.{rules, ap, ◌∙◌, not, nat_eq}
 use Rattle.std.proofs.lemmas.Fn.{filter_same}
-use Rattle.net_links.specs.Account.{LinksAccount, after_closing}
+use Rattle.net_links.specs.Account.{after_closing}
 use Rattle.net_links.proofs.account.Account.close.Goals as goal
 
 pub returns : goal.returns
