@@ -8,14 +8,14 @@ ghost use Rattle.hall_pool.specs.Turns.{asked_in, AddsTurn, AddsRun};
 ghost use Rattle.hall_pool.specs.Jobs.{IsOpenedFor, HoldsJob};
 
 use crate::asking::{TakenJob, close, put, take};
-use crate::door::Door;
+use crate::door::{ChannelHandle, Door};
 use crate::settling::settle;
 use crate::turn::Turn;
 use call_rules::{Desk, Handler, Journal};
 use hall_core::Hall;
 use outside::{Bell, Gate};
 use seat_booth::{Booth, Object, Seat};
-use std::alloc::Global;
+use std::alloc::{AllocError, Global};
 use std::marker::Model;
 use std::sync::Wait;
 
@@ -58,6 +58,14 @@ fn work<D: Desk, G: Gate, H: Handler, J: Journal, R: Wait>(
     put(rt, booth, seat, job.key, settled);
     gate.done(rt, job.key.c, job.key.i);
     Turn::Worked(job.key)
+}
+
+/// Waits for a ring by the worker's own handle, if there was one for it.
+fn wait_at<R: Wait>(rt: &R, door: &Door, handle: &mut Result<ChannelHandle, AllocError>) {
+    match handle {
+        Ok(handle) => handle.wait(rt),
+        Err(_) => door.wait(rt),
+    }
 }
 
 impl<H: Handler, J: Journal> Worker<Hall<H, J>> {
@@ -113,8 +121,9 @@ impl<H: Handler, J: Journal> Worker<Hall<H, J>> {
         ensures turns { AddsRun (D.meaning desk.now) self.mine result.0.mine result.1 }
     {
         let mut worker = self;
+        let mut handle = door.handle(rt);
         for _ in rt.forever() {
-            door.wait(rt);
+            wait_at(rt, door, &mut handle);
             match worker.turn(rt, alloc, booth, desk, gate) {
                 Turn::Worked(_) => bell.ring(rt),
                 Turn::Empty => {}

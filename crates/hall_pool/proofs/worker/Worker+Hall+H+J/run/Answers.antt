@@ -1,7 +1,15 @@
-use Rattle.std.proofs.Common.{◌∙◌, sym, subst}
+use Rattle.std.proofs.Common.{◌∙◌, refl, sym, subst}
 use Rattle.hall_pool.specs.Turns.{KeepsRunning}
-use Rattle.hall_pool.proofs.Adding.{runs_next}
+use Rattle.hall_pool.proofs.Adding.{runs_first, runs_next}
 use Rattle.hall_pool.proofs.worker.Worker+Hall+H+J.run.Goals as goal
+
+pub loop-init : goal.loop-init
+loop-init g c =
+    record {
+      seat = c.requires.seat;
+      number = refl;
+      runs = runs_first (g.D.Desk.meaning c.args.desk.now) c.args.self.mine;
+    }
 
 pub loop-preserved-in-Worked : goal.loop-preserved-in-Worked
 loop-preserved-in-Worked g c =
