@@ -1,24 +1,27 @@
 """Prints each name that stands for two definitions of different crates, with the places of both; nothing where there is none.
 
-Run at the top of the repository. Looked at are the definitions of specs/ and the types and traits of src/, tests and examples left out.
+Looked at are the definitions of specs/, those in modules and mutual blocks too, and the types and traits of src/; tests are left out, and operators, which
+`do` needs for each kind of step.
 """
 import collections
 import glob
 import re
 
-DEFINITION = re.compile(r"^\s*(?:abbrev pub|unfoldable pub|pub record|pub data) ([A-Za-z_][\w'-]*)")
-TYPE = re.compile(r"^\s*pub(?:\(crate\))? (?:struct|enum|trait|type) (\w+)")
+import specs
+
+TYPE = re.compile(r"^\s*pub(?:\(crate\))? (?:struct|enum|trait|type) (\w+)", re.M)
 
 places = collections.defaultdict(set)
-for pattern, shape in (("crates/*/specs/*.antt", DEFINITION), ("crates/*/src/**/*.rt", TYPE)):
-    for path in glob.glob(pattern, recursive=True):
-        if re.search(r"test|testing", path):
-            continue
-        with open(path, encoding="utf-8") as lines:
-            for line in lines:
-                found = shape.match(line)
-                if found:
-                    places[found.group(1)].add(path)
+for file in specs.files().values():
+    for definition in file.definitions:
+        for name in definition.names:
+            if definition.is_pub and not specs.OPERATOR.match(name):
+                places[name].add(file.path)
+for path in glob.glob("crates/*/src/**/*.rt", root_dir=specs.TOP, recursive=True):
+    with open(f"{specs.TOP}/{path}", encoding="utf-8") as it:
+        for name in TYPE.findall(it.read()):
+            places[name].add(path)
 for name, paths in sorted(places.items()):
+    paths = sorted(it for it in paths if not re.search(r"test|testing", it))
     if len({path.split("/")[1] for path in paths}) > 1:
-        print(name, *sorted(paths))
+        print(name, *paths)
