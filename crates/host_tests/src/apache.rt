@@ -1,4 +1,4 @@
-//! What Apache's Python client sends for each method of the tutorial, and what comes of it: `bench/apache_calls.py` writes such frames, and gives the
+//! What Apache's Python client sends for each method of the tutorial, and what comes of it: `bench/trials/apache_calls.py` writes such frames, and gives the
 //! replies back to the client, which reads them as the calculator's results.
 
 use crate::services::serve;

@@ -1,4 +1,4 @@
-//! Messages as Apache Thrift's own library writes them. Printed by bench/compact_vectors.py, which says how.
+//! Messages as Apache Thrift's own library writes them. Printed by bench/vectors/compact_vectors.py, which says how.
 
 /// The bytes of a message with an empty struct; and of the head the name, the type, the sequence id and the place behind it.
 pub(crate) const MESSAGES: [(&[u8], &[u8], u8, i32, usize); 24] = [

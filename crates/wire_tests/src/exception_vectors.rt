@@ -1,4 +1,4 @@
-//! Exceptions as Apache Thrift's own library writes and reads them. Printed by bench/exception_vectors.py, which says how.
+//! Exceptions as Apache Thrift's own library writes and reads them. Printed by bench/vectors/exception_vectors.py, which says how.
 
 /// The bytes of the message; the name, the sequence id, the text and the code.
 pub(crate) type Row = (&'static [u8], &'static [u8], i32, &'static [u8], i32);

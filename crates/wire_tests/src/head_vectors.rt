@@ -1,4 +1,4 @@
-//! Messages as Apache Thrift's own library writes them. Printed by bench/binary_vectors.py, which says how.
+//! Messages as Apache Thrift's own library writes them. Printed by bench/vectors/binary_vectors.py, which says how.
 
 /// The bytes of a message with an empty struct, half of them with a strict head and half with an old one; and of the
 /// head the name, the type, the sequence id and the place behind it.

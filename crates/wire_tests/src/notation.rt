@@ -1,4 +1,4 @@
-//! The text of a tree, as bench/binary_vectors.py prints it.
+//! The text of a tree, as bench/vectors/binary_vectors.py prints it.
 
 use std::alloc::{AllocError, Global};
 use thrift_value::{ByteText, Fields, Tag, Value};

@@ -1,4 +1,4 @@
-//! Structs as Apache Thrift's own library writes and reads them. Printed by bench/binary_vectors.py, which says how.
+//! Structs as Apache Thrift's own library writes and reads them. Printed by bench/vectors/binary_vectors.py, which says how.
 
 /// The bytes of a struct, how many values it is, how many levels it has, and its tree as text.
 pub(crate) type Row = (&'static [u8], u64, u32, &'static [u8]);

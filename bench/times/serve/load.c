@@ -1,6 +1,6 @@
 /* Loads a Thrift server on the loopback address with calls of the tutorial's `add` (framed, strict binary): load PORT CONNECTIONS DEPTH SECONDS [PID [POINTS]]
  *
- * With POINTS it calls `same` of the service Points (bench/mixes.py), whose argument is a list of so many points, and which a mirror answers. It opens CONNECTIONS
+ * With POINTS it calls `same` of the service Points (bench/times/mixes.py), whose argument is a list of so many points, and which a mirror answers. It opens CONNECTIONS
  * connections, keeps DEPTH calls under way on each, and looks at each byte of each reply. It prints one line: calls a second, and with PID the server's processor time
  * for each call in microseconds, and the latency at the half and the 99th of a hundred in microseconds. With SECONDS 0 it opens the connections, lets them be idle
  * for two seconds, and prints the server's memory before and then, in kilobytes, and the milliseconds of a processor that it took meanwhile. It ends with status

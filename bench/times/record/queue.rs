@@ -1,6 +1,6 @@
 //! A plain queue of std's Mutex and Condvar, which hands jobs to threads and back: queue JOBS UNDER_WAY WORKERS
 //!
-//! It is what bench/record.sh measures beside `thriftd record`. The first thread keeps UNDER_WAY jobs under way, one for each connection, as the loop does: it hands over
+//! It is what bench/times/record.sh measures beside `thriftd record`. The first thread keeps UNDER_WAY jobs under way, one for each connection, as the loop does: it hands over
 //! the next job of a connection once it has that one's outcome. With no workers it does the jobs itself, through the same queues. A job is what a worker does of a
 //! call of the calculator's `add`: it reads the head and the fields of the payload, adds, enters the call in a journal that all share, and makes the reply; and
 //! since the program finds types and names in a schema where this has them written out, it then goes through ROUNDS of shifts, each of which waits for the one

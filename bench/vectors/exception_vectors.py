@@ -60,7 +60,7 @@ def print_rows(title, protocol):
 
 
 if __name__ == "__main__":
-    print("//! Exceptions as Apache Thrift's own library writes and reads them. Printed by bench/exception_vectors.py, which says how.\n")
+    print("//! Exceptions as Apache Thrift's own library writes and reads them. Printed by bench/vectors/exception_vectors.py, which says how.\n")
     print("/// The bytes of the message; the name, the sequence id, the text and the code.")
     print("pub(crate) type Row = (&'static [u8], &'static [u8], i32, &'static [u8], i32);")
     print_rows("In the binary protocol.", TBinaryProtocol)

@@ -1,6 +1,6 @@
-"""Breaks reports in many ways, to see that bench/judge.py finds each: judge.py --test
+"""Breaks reports in many ways, to see that bench/trials/judge.py finds each: judge.py --test
 
-The reports are those of the calculator that are kept in examples/, and the model's (bench/rehearsal_model.py) of the scripts below and of random ones. Each has to
+The reports are those of the calculator that are kept in examples/, and the model's (bench/trials/rehearsal_model.py) of the scripts below and of random ones. Each has to
 be found right, and each that is broken has to be found wrong. Two calls that change places may be lawful still: what the judge says of them is compared with
 the definitions, read slowly.
 """
@@ -13,7 +13,7 @@ import judge
 import rehearsal_mixes as mixes
 import rehearsal_model as model
 
-EXAMPLES = os.path.join(os.path.dirname(os.path.dirname(os.path.abspath(__file__))), "examples")
+EXAMPLES = os.path.join(os.path.dirname(os.path.dirname(os.path.dirname(os.path.abspath(__file__)))), "examples")
 RANDOM_SCRIPTS, SEED, MOST_OF_A_KIND = 60, 7, 8
 CAUSES = ["End", "Cut", "SizeFault 0", "SizeFault -1", "Envelope Short", "Envelope MessageType 2", "ReadFault", "WriteFault", "NoMemory", "Stopped"]
 

@@ -8,7 +8,7 @@
 # and the milliseconds of a processor that it takes meanwhile, in two seconds.
 set -euo pipefail
 here=$(dirname "$(readlink -f "${BASH_SOURCE[0]}")")
-thriftd=${1:-$here/../thriftd} seconds=${2:-5} rounds=${3:-3}
+thriftd=${1:-$(THRIFTD_PATH_ONLY=1 "$here/../../thriftd")} seconds=${2:-5} rounds=${3:-3}
 room=$(mktemp -d)
 server=
 trap '[ -z "$server" ] || kill "$server" 2> /dev/null; rm -rf "$room"' EXIT
@@ -17,7 +17,7 @@ jars=/usr/share/java/thrift.jar:/usr/share/java/slf4j-api.jar:/usr/share/java/ge
 gcc -O2 -o "$room/load" "$here/serve/load.c"
 kinds=("thriftd 0" "thriftd 4")
 if command -v thrift > /dev/null; then
-  python3 "$here/clients/idl.py" "$room"
+  python3 "$here/../trials/clients/idl.py" "$room"
   if command -v g++ > /dev/null && [ -e /usr/include/thrift/server/TNonblockingServer.h ]; then
     (cd "$room" && thrift -r -gen cpp tutorial.thrift && rm -f gen-cpp/*skeleton*)
     g++ -O2 -w -I"$room/gen-cpp" -o "$room/nonblocking" "$here/serve/nonblocking.cpp" "$room"/gen-cpp/*.cpp -lthriftnb -lthrift -levent

@@ -1,16 +1,16 @@
 #!/usr/bin/env bash
 # Times `thriftd record` with 0, 1, 2 and 4 workers beside `rehearse` of the same script: record.sh [THRIFTD [FRAMES [SECONDS]]]
 #
-# The scripts are a workload's (bench/record/workload.py) of FRAMES calls, 600,000 unless it is said, on 8 connections, and about so many calls of `add` on 64
-# (bench/many.py). It prints for each run, the quickest of three, its seconds, microseconds a call, microseconds of all processors' time a call, and peak memory.
-# Beside them stands a plain queue of std's Mutex and Condvar (bench/record/queue.rs), where there is a rustc: it hands as many jobs to as many threads and back, and
+# The scripts are a workload's (bench/times/record/workload.py) of FRAMES calls, 600,000 unless it is said, on 8 connections, and about so many calls of `add` on 64
+# (bench/times/many.py). It prints for each run, the quickest of three, its seconds, microseconds a call, microseconds of all processors' time a call, and peak memory.
+# Beside them stands a plain queue of std's Mutex and Condvar (bench/times/record/queue.rs), where there is a rustc: it hands as many jobs to as many threads and back, and
 # the nanoseconds that one of its jobs takes by itself are printed too. Where processors' time is about what the clock says, none was kept busy for nothing.
-# Then it serves calls of which reading and writing is dear, lists of a thousand points to a mirror (bench/serve/load.c), at a port, without script and report, with
+# Then it serves calls of which reading and writing is dear, lists of a thousand points to a mirror (bench/times/serve/load.c), at a port, without script and report, with
 # 1, 2 and 4 workers: on 8 connections with a call under way on each, for SECONDS, 5 unless it is said; and tells how much of a processor the server took in
 # two seconds in which eight connections were idle. Nothing else should run meanwhile. It is no test.
 set -euo pipefail
 here=$(dirname "$(readlink -f "${BASH_SOURCE[0]}")")
-thriftd=${1:-$here/../crates/thriftd/out/thriftd} frames=${2:-600000} seconds=${3:-5}
+thriftd=${1:-$(THRIFTD_PATH_ONLY=1 "$here/../../thriftd")} frames=${2:-600000} seconds=${3:-5}
 points=1000
 room=$(mktemp -d)
 server=

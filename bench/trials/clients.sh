@@ -6,7 +6,7 @@
 # It ends with status 1 where an answer, an end or the journal isn't as it has to be.
 set -euo pipefail
 here=$(dirname "$(readlink -f "${BASH_SOURCE[0]}")")
-thriftd=${1:-$here/../thriftd}
+thriftd=${1:-$(THRIFTD_PATH_ONLY=1 "$here/../../thriftd")}
 room=$(mktemp -d)
 trap 'rm -rf "$room"' EXIT
 

@@ -4,11 +4,8 @@
 # memory; and on scripts of 60 MB with `add` on 1, 64 and 1,000 connections, drained, and with a line of a schedule for each move. It is no test. Give another list of
 # sizes in MB as words. Where THRIFTD_BEFORE names another program, `add` in the binary protocol is timed with it too.
 set -euo pipefail
-top=$(cd "$(dirname "$0")/.." && pwd)
-program="$top/crates/thriftd/out/thriftd"
-if [ ! -x "$program" ]; then
-  "$top/thriftd" rehearse @tutorial binary 0 Calculator=calculator < "$top/crates/thriftd/stdin" > /dev/null
-fi
+here=$(dirname "$(readlink -f "${BASH_SOURCE[0]}")")
+program=$(THRIFTD_PATH_ONLY=1 "$here/../../thriftd")
 work=$(mktemp -d)
 trap 'rm -rf "$work"' EXIT
 
@@ -36,13 +33,13 @@ PY
 
 printf '%-30s %9s %9s %9s %9s %9s\n' '' calls seconds us/call 'peak MB' 'B/byte'
 for mix in ${MIXES:-add calculate store mirror}; do for protocol in binary compact; do for size in ${@:-1 4 15 60}; do
-  read -r -a given < <(python3 "$top/bench/mixes.py" "$work" "$mix" "$protocol" "$size")
+  read -r -a given < <(python3 "$here/mixes.py" "$work" "$mix" "$protocol" "$size")
   timed "$program" "$mix $protocol $size MB" "${given[@]}"
   if [ -n "${THRIFTD_BEFORE:-}" ] && [ "$mix $protocol" = "add binary" ]; then
     timed "$THRIFTD_BEFORE" "$mix $protocol $size MB, before" "${given[@]}"
   fi
 done; done; done
 for connections in 1 64 1000; do for order in '' schedule; do
-  read -r -a given < <(python3 "$top/bench/many.py" "$work" "$connections" "${MANY_MB:-60}" $order)
+  read -r -a given < <(python3 "$here/many.py" "$work" "$connections" "${MANY_MB:-60}" $order)
   timed "$program" "add $connections connections $order" "${given[@]}"
 done; done

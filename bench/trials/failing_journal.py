@@ -1,4 +1,4 @@
-"""`thriftd serve` with a journal of which each line fails in turn, for bench/recorded_runs.py.
+"""`thriftd serve` with a journal of which each line fails in turn, for bench/trials/recorded_runs.py.
 
 The journal's file may have so many bytes, by a limit of the system (RLIMIT_FSIZE), and the limit stands at every few bytes of a run's journal, so that each line is
 cut, in front and in the middle. Of clients that send all their calls at once each has to get a beginning of its replies; the file has to hold the lines of a legal

@@ -2,7 +2,7 @@
 """Prints structs (the default) or, with the word heads, message heads of the compact protocol as Rust tables.
 
 Each row is made by Apache Thrift's own Python library (Debian package python3-thrift, 0.17.0) with its TCompactProtocol, from
-the same values as bench/binary_vectors.py, which says what the rows are; the script ends with a failure where Apache's own
+the same values as bench/vectors/binary_vectors.py, which says what the rows are; the script ends with a failure where Apache's own
 reading of the bytes gives another text. The values are plain, but for those that are read otherwise here by own choice.
 """
 import sys
@@ -89,7 +89,7 @@ DIFFERENCES = [
 
 def print_structs():
     rows = structs()
-    print("//! Structs as Apache Thrift's own library writes and reads them. Printed by bench/compact_vectors.py, which says how.\n")
+    print("//! Structs as Apache Thrift's own library writes and reads them. Printed by bench/vectors/compact_vectors.py, which says how.\n")
     print("/// The bytes of a struct, how many values it is, how many levels it has, and its tree as text.")
     print("pub(crate) type Row = (&'static [u8], u64, u32, &'static [u8]);\n")
     tables = [rows[at:at + common.TABLE] for at in range(0, len(rows), common.TABLE)]
@@ -123,7 +123,7 @@ def print_heads():
             behind = len(buffer.getvalue())
             common.put(out, ("struct", []))
             rows += [f"    ({common.literal(buffer.getvalue())}, {common.literal(name.encode())}, {kind}, {number_}, {behind}),"]
-    print("//! Messages as Apache Thrift's own library writes them. Printed by bench/compact_vectors.py, which says how.\n")
+    print("//! Messages as Apache Thrift's own library writes them. Printed by bench/vectors/compact_vectors.py, which says how.\n")
     print("/// The bytes of a message with an empty struct; and of the head the name, the type, the sequence id and the place behind it.")
     print(f"pub(crate) const MESSAGES: [(&[u8], &[u8], u8, i32, usize); {len(rows)}] = [")
     print("\n".join(rows))

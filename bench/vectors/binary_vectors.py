@@ -4,7 +4,7 @@
 Each row is made by Apache Thrift's own Python library (Debian package python3-thrift, 0.17.0): a value or a head is
 written by its TBinaryProtocol, and the bytes are printed as a Rust byte string. Beside the bytes of a struct stands its
 tree as text, made from the value that was written; the script ends with a failure where Apache's own reading of the
-bytes gives another text. Run: bench/binary_vectors.py structs > crates/wire_tests/src/struct_vectors.rt, or with heads into
+bytes gives another text. Run: bench/vectors/binary_vectors.py structs > crates/wire_tests/src/struct_vectors.rt, or with heads into
 the other file, and then rt fmt in the crate.
 
 The text of a tree: its values in the order of the wire, with a blank between them. A number is its kind, a colon and its
@@ -235,7 +235,7 @@ TABLE = 21
 
 def print_structs():
     rows = structs()
-    print("//! Structs as Apache Thrift's own library writes and reads them. Printed by bench/binary_vectors.py, which says how.\n")
+    print("//! Structs as Apache Thrift's own library writes and reads them. Printed by bench/vectors/binary_vectors.py, which says how.\n")
     print("/// The bytes of a struct, how many values it is, how many levels it has, and its tree as text.")
     print("pub(crate) type Row = (&'static [u8], u64, u32, &'static [u8]);\n")
     # Several tables, each behind a function, since a proof that sees so long a table doesn't end.
@@ -271,7 +271,7 @@ def print_heads():
                 behind = len(buffer.getvalue())
                 put(out, ("struct", []))
                 rows += [f"    ({literal(buffer.getvalue())}, {literal(name.encode())}, {kind}, {number_}, {behind}),"]
-    print("//! Messages as Apache Thrift's own library writes them. Printed by bench/binary_vectors.py, which says how.\n")
+    print("//! Messages as Apache Thrift's own library writes them. Printed by bench/vectors/binary_vectors.py, which says how.\n")
     print("/// The bytes of a message with an empty struct, half of them with a strict head and half with an old one; and of the")
     print("/// head the name, the type, the sequence id and the place behind it.")
     print(f"pub(crate) const MESSAGES: [(&[u8], &[u8], u8, i32, usize); {len(rows)}] = [")

@@ -1,11 +1,11 @@
 #!/usr/bin/env python3
-"""Runs `thriftd record` where things go badly, and judges each report by bench/judge.py: recorded_runs.py [--quick] [THRIFTD]
+"""Runs `thriftd record` where things go badly, and judges each report by bench/trials/judge.py: recorded_runs.py [--quick] [THRIFTD]
 
 Worked scripts many times with two workers; writes of one byte, blocks, and writes, reads and inputs that fail or end at each place of three connections; ends, cuts
 and bad sizes while others have calls under way; a thousand connections one after the other and at once; threads that can't be started, for each number of them
-(as root alone); and of `thriftd serve` a journal whose n-th line fails, for each n (bench/failing_journal.py). All of it takes some minutes, with --quick some
+(as root alone); and of `thriftd serve` a journal whose n-th line fails, for each n (bench/trials/failing_journal.py). All of it takes some minutes, with --quick some
 twenty seconds. It prints a line for each part, how many runs there were, and ends with status 1 where a run ended otherwise than with status 0 and a right
-report. THRIFTD is crates/thriftd/out/thriftd where it isn't said. It is no test of the gate.
+report. THRIFTD is the program that ./thriftd runs where it isn't said. It is no test of the gate.
 """
 import concurrent.futures
 import contextlib
@@ -23,8 +23,8 @@ import judge
 import rehearsal_mixes as mixes
 import rehearsal_model as model
 import unstarted_threads
+from built import TOP, built_program
 
-TOP = os.path.dirname(os.path.dirname(os.path.abspath(__file__)))
 AT_ONCE, MOST_SECONDS = 2, 120
 LEAST = (30, 30)
 
@@ -247,7 +247,7 @@ def main(words):
     words = words[is_quick:]
     if len(words) > 1:
         sys.exit(__doc__)
-    runs = Runs(os.path.abspath(words[0] if words else os.path.join(TOP, "crates/thriftd/out/thriftd")), is_quick)
+    runs = Runs(os.path.abspath(words[0] if words else built_program()), is_quick)
     runs.all_of("worked scripts, two workers", worked_runs(runs))
     runs.all_of("a write of one byte, a block, a fault at each write", write_runs(runs))
     runs.all_of("an input that ends or fails at each byte", input_runs(runs))

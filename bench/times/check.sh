@@ -3,13 +3,10 @@
 # printed to nowhere. For each it prints the seconds by the clock and of the processor (the least of five runs), the peak memory, its bytes for
 # each byte of the text, and how many times the processor's seconds of the file of 4 MB it took. Where Apache's compiler `thrift` is installed,
 # the same of it on the file of 4 MB, for its cheapest generators. It ends with status 1 where a hard file takes more than 4 times the time, where
-# more than 80 bytes a byte are taken, or where Apache's compiler was faster. check.sh [PROGRAM]: the program, if not the one that is built here.
+# more than 80 bytes a byte are taken, or where Apache's compiler was faster. check.sh [PROGRAM]: the program, if not the one that ./thriftd runs.
 set -euo pipefail
-top=$(cd "$(dirname "$0")/.." && pwd)
-program=${1:-$top/crates/thriftd/out/thriftd}
-if [ ! -x "$program" ]; then
-  (cd "$top/crates/thriftd" && rt run -- check @tutorial > /dev/null 2>&1) || [ -x "$program" ]
-fi
+here=$(dirname "$(readlink -f "${BASH_SOURCE[0]}")")
+program=${1:-$(THRIFTD_PATH_ONLY=1 "$here/../../thriftd")}
 work=$(mktemp -d)
 trap 'rm -rf "$work"' EXIT
 python3 - > "$work/large.thrift" <<'PY'
@@ -34,7 +31,7 @@ while True:
     k += 1
 print("".join(parts), end="")
 PY
-python3 "$top/bench/trap_files.py" "$work" > /dev/null
+python3 "$here/trap_files.py" "$work" > /dev/null
 python3 - "$program" "$work" <<'PY'
 import os, shutil, sys, time
 program, work = sys.argv[1], sys.argv[2]

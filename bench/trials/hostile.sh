@@ -7,7 +7,7 @@
 # something isn't as it has to be.
 set -euo pipefail
 here=$(dirname "$(readlink -f "${BASH_SOURCE[0]}")")
-thriftd=${1:-$here/../crates/thriftd/out/thriftd} milliseconds=${2:-100}
+thriftd=${1:-$(THRIFTD_PATH_ONLY=1 "$here/../../thriftd")} milliseconds=${2:-100}
 room=$(mktemp -d)
 trap 'rm -rf "$room"' EXIT
 PYTHONDONTWRITEBYTECODE=1 python3 "$here/hostile/drive.py" "$thriftd" "$room" "$milliseconds" "${@:3}"

@@ -4,7 +4,7 @@
 The report is one of `thriftd record` or `thriftd rehearse` with `@tutorial binary WORKERS Calculator=calculator`. It ends with status 0 where the report is of a
 run that meets the headline and is fed by the script. Otherwise it prints a line, which part is broken and by what, and ends with status 1. Each part is a
 function below. What was read is the script's, since the tape tells sizes alone; what was written stands in the lines of the connections.
-`judge.py --test` breaks reports in many ways (bench/broken_reports.py), to see that the judge finds each.
+`judge.py --test` breaks reports in many ways (bench/trials/broken_reports.py), to see that the judge finds each.
 """
 import bisect
 import heapq

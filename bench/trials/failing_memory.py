@@ -1,9 +1,9 @@
 #!/usr/bin/env python3
 """Lets each allocation of a rehearsal fail in turn: failing_memory.py [SCRIPT [WORKERS [MAX_FRAME READ_BUDGET]]]
 
-Runs the built program (crates/thriftd/out/thriftd) on a script over and over, with a `malloc` in front of the system's that fails at the first, the second and
+Runs the program (the one that ./thriftd runs) on a script over and over, with a `malloc` in front of the system's that fails at the first, the second and
 each later call. Each run has to end in one of two ways: with status 0 and a report in which at most one connection ended with NoMemory, one of those that the
-model of bench/rehearsal_model.py gives for a want of memory at one of its places; or with status 10, and nothing written but the beginning of such a report
+model of bench/trials/rehearsal_model.py gives for a want of memory at one of its places; or with status 10, and nothing written but the beginning of such a report
 and the errors' line, for which there may be no memory either. Ends with status 1 where a run ended otherwise. It needs `cc`. It is no test of the gate.
 """
 import collections
@@ -13,9 +13,9 @@ import sys
 import tempfile
 
 import rehearsal_model as model
+from built import TOP, built_program
 
-TOP = os.path.dirname(os.path.dirname(os.path.abspath(__file__)))
-PROGRAM = os.path.join(TOP, "crates/thriftd/out/thriftd")
+PROGRAM = built_program()
 SHIM = r"""
 #define _GNU_SOURCE
 #include <dlfcn.h>

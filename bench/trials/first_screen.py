@@ -12,7 +12,8 @@ import subprocess
 import sys
 import tempfile
 
-TOP = os.path.join(os.path.dirname(os.path.abspath(__file__)), "..")
+from built import TOP, built_program
+
 COMMAND = "./thriftd serve"
 
 
@@ -58,7 +59,7 @@ def listen(block, program, room):
 
 
 def main():
-    program = os.path.abspath(sys.argv[1] if len(sys.argv) > 1 else os.path.join(TOP, "crates/thriftd/out/thriftd"))
+    program = os.path.abspath(sys.argv[1] if len(sys.argv) > 1 else built_program())
     with open(os.path.join(TOP, "README.md")) as readme:
         text = readme.read()
     blocks = re.findall(r"^```\n(.*?)^```$", text, re.MULTILINE | re.DOTALL)

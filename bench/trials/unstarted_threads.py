@@ -1,4 +1,4 @@
-"""`thriftd record` where threads can't be started, for bench/recorded_runs.py: as a user who may have just so many.
+"""`thriftd record` where threads can't be started, for bench/trials/recorded_runs.py: as a user who may have just so many.
 
 The user is one of whom there is no other program, since the limit, RLIMIT_NPROC, counts the threads of all of a user's programs. For each limit the run has to end with status 0 and a right
 report. How many threads there were is looked up while it runs, and each number from none to eight has to be seen.
