@@ -15,12 +15,9 @@
 mod codec;
 mod codes;
 pub mod examples;
-pub mod laws;
 mod numbers;
 mod protocol;
 mod structs;
-mod writing;
 
 pub use protocol::Binary;
-pub use structs::read_struct;
-pub use writing::write_struct;
+pub use structs::{read_struct, write_struct};

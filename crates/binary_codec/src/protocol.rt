@@ -15,4 +15,6 @@ impl WireProtocol for Binary {
     ghost format = { binary_format };
 
     ghost encoder = { binary_encoder };
+
+    fn parts_agree() {}
 }

@@ -16,12 +16,9 @@ mod codec;
 mod codes;
 pub mod examples;
 mod headers;
-pub mod laws;
 mod numbers;
 mod protocol;
 mod structs;
-mod writing;
 
 pub use protocol::Compact;
-pub use structs::read_struct;
-pub use writing::write_struct;
+pub use structs::{read_struct, write_struct};

@@ -15,4 +15,6 @@ impl WireProtocol for Compact {
     ghost format = { compact_format };
 
     ghost encoder = { compact_encoder };
+
+    fn parts_agree() {}
 }

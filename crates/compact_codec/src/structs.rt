@@ -1,28 +1,25 @@
 //! Whole structs.
 
-ghost use Rattle.std.specs.Prelude.{◌≡◌, ◌≤◌, ◌+◌, ◌-◌, ℕ, length, drop, Ok, IfOk};
-ghost use Rattle.thrift_value.specs.Measures.{count_of};
-ghost use Rattle.thrift_value.specs.Tidy.{IsWellTagged};
+ghost use Rattle.std.specs.Prelude.{◌≡◌, ◌≤◌, ◌+◌, ◌++◌, ℕ, List, length, IfOk, OnOk, OnErr};
+ghost use Rattle.thrift_value.specs.declared.tag.Tag.TheVariants as tags;
+ghost use Rattle.thrift_value.specs.Measures.{count_of, depth_of};
+ghost use Rattle.thrift_value.specs.Plain.{plain};
+ghost use Rattle.thrift_value.specs.Sizes.{HasSmallSizes};
+ghost use Rattle.thrift_value.specs.Tags.{tag_of};
+ghost use Rattle.thrift_value.specs.Tidy.{IsTidy, IsWellTagged};
 ghost use Rattle.thrift_value.specs.Tree.{Tree};
 ghost use Rattle.thrift_value.specs.TreeOf.{tree_of};
 ghost use Rattle.wire_model.specs.Answering.{AnswersOrNoMemory};
-ghost use Rattle.wire_model.specs.Place.{found_struct, struct_at, IsWithinBounds, IsEncodedAt};
-ghost use Rattle.thrift_value.specs.Sizes.{HasSmallSizes};
+ghost use Rattle.wire_model.specs.Encoder.{text};
+ghost use Rattle.wire_model.specs.Format.{Spells};
+ghost use Rattle.wire_model.specs.Place.{found_struct, max_levels, max_values, struct_at, IsWithinBounds, IsEncodedAt};
 ghost use Rattle.compact_codec.specs.Reading.{compact};
 ghost use Rattle.compact_codec.specs.Spelling.{compact_format};
+ghost use Rattle.compact_codec.specs.Written.{compact_encoder};
 
-use crate::laws::{compact_leaves_agree, spelled_struct_is_raw};
 use crate::protocol::Compact;
-use std::alloc::Global;
-use thrift_value::{Raw, Tag, WireFault};
-use wire_model::laws::{struct_read_is_spelled, struct_spelled_is_read, value_read_is_spelled};
-use wire_walk::{Input, read};
-
-/// How many levels a struct that is read may have, by own choice.
-const MAX_LEVELS: u32 = 64;
-
-/// How many values a struct that is read may be, by own choice.
-const MAX_VALUES: u32 = 4_000_000;
+use std::alloc::{AllocError, Global};
+use thrift_value::{Raw, Value, WireFault};
 
 /// The struct at `at` as it came, and the place behind it; or the fault that comes first (Thrift compact protocol,
 /// 'Struct'). Own choice: it has at most 64 levels and 4,000,000 values. It has no more values than bytes were read for it.
@@ -41,22 +38,23 @@ pub fn read_struct(alloc: Global, bytes: &[u8], at: usize) -> Result<(Raw, usize
     ensures only { (x : Tree) (behind : ℕ) → IsEncodedAt compact_format bytes.now at x behind → IsWithinBounds x
         → AnswersOrNoMemory (λ y. (tree_of y.0, y.1)) result (found_struct x behind) }
 {
-    struct_read_is_spelled::<Compact>();
-    struct_spelled_is_read::<Compact>();
-    compact_leaves_agree();
-    spelled_struct_is_raw();
-    struct_in(alloc, bytes, at)
+    wire_walk::read_struct::<Compact>(alloc, bytes, at)
 }
 
-/// The same, by its reading alone.
-fn struct_in(alloc: Global, bytes: &[u8], at: usize) -> Result<(Raw, usize), WireFault>
-    requires { at ≤ length bytes.now }
-    ensures { AnswersOrNoMemory (λ x. (tree_of x.0, x.1)) result (struct_at compact bytes.now at) }
+/// Appends a tidy struct (Thrift compact protocol, 'Struct'): each header and number in its shortest form, and the codes of the tags that
+/// the containers name. Own choice: it has no more levels than may be read. Where memory runs out, nothing was appended.
+pub fn write_struct(value: &Value, into: &mut Vec<u8>) -> Result<(), AllocError>
+    requires is_struct { tag_of (tree_of value.now) ≡ tags.Struct }
+    requires tidy { IsTidy (tree_of value.now) }
+    requires depth { depth_of (tree_of value.now) ≤ max_levels }
+    requires sizes { HasSmallSizes (tree_of value.now) }
+    ensures ok { OnOk result (into.new.items ≡ into.old.items ++ text compact_encoder (tree_of value.now)) }
+    ensures err { OnErr result (into.new.items ≡ into.old.items) }
+    // What it appends is a spelling of the value's plain form, and is read as that, whatever follows.
+    ensures spelled { OnOk result (Spells compact_format (plain (tree_of value.now)) (text compact_encoder (tree_of value.now))) }
+    ensures read_back { OnOk result (count_of (tree_of value.now) ≤ max_values → (more : List ℕ)
+        → struct_at compact (into.new.items ++ more) (length into.old.items)
+        ≡ found_struct (plain (tree_of value.now)) (length into.new.items)) }
 {
-    value_read_is_spelled::<Compact>();
-    compact_leaves_agree();
-    let (_, behind) = bytes.split_at(at);
-    let input = Input::new(behind, MAX_VALUES);
-    let (value, rest) = read::<Compact>(alloc, input, MAX_LEVELS, Tag::Struct)?;
-    Ok((value, bytes.len() - rest.bytes().len()))
+    wire_walk::write_struct::<Compact>(value, into)
 }

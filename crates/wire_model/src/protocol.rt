@@ -1,7 +1,8 @@
-//! A protocol, by its definitions alone.
+//! A protocol, by its definitions and the one law that it owes.
 
 ghost use Rattle.wire_model.specs.Format.{Format};
 ghost use Rattle.wire_model.specs.Encoder.{Encoder};
+ghost use Rattle.wire_model.specs.Protocol.{IsProtocol};
 ghost use Rattle.wire_model.specs.Wire.{Wire};
 
 /// A protocol: how it reads, how it spells, and what it writes.
@@ -14,4 +15,8 @@ pub trait WireProtocol {
 
     // Which of these bytes are written.
     ghost encoder: { Encoder };
+
+    /// Its parts are read and written as they are spelled.
+    fn parts_agree()
+        ensures { IsProtocol Self.wire Self.format Self.encoder };
 }

@@ -1,13 +1,14 @@
 //! Reading and writing values: one walk over structs and containers for every protocol of Thrift, for crates that have a
 //! protocol's own parts. It nests, counts values and levels, and keeps the order of faults. It knows no byte of any
-//! protocol, no message head and no IDL, and sets no bounds: who calls says how many levels and values may come.
+//! protocol, no message head and no IDL.
 //!
 //! ```
-//! // A struct in front of the bytes, of at most 64 levels and 4,000,000 values.
-//! let input = Input::new(bytes, 4_000_000);
-//! let (value, behind) = read::<Binary>(alloc, input, 64, Tag::Struct)?;
-//! // The same struct, appended; Ok tells a proof too that each number in it fits its type.
+//! // The struct at a place, of at most 64 levels and 4,000,000 values, and the same struct appended.
+//! let (value, behind) = read_struct::<Binary>(alloc, bytes, at)?;
 //! let mut copy = Vec::new(alloc);
+//! write_struct::<Binary>(&value, &mut copy)?;
+//! // A value of a tag, by bounds of the caller's own. Ok of put tells a proof too that each number in it fits its type.
+//! let (value, rest) = read::<Binary>(alloc, Input::new(bytes, 100), 3, Tag::List)?;
 //! put::<Binary>(&value, &mut copy)?;
 //! ```
 //!
@@ -20,10 +21,12 @@ mod codec;
 mod header;
 mod input;
 mod reading;
+mod structs;
 mod writing;
 
 pub use codec::Codec;
 pub use header::Header;
 pub use input::Input;
 pub use reading::read;
+pub use structs::{read_struct, write_struct};
 pub use writing::put;

@@ -1,4 +1,4 @@
-//! Encoder a value: level by level, from left to right.
+//! Writing a value: level by level, from left to right.
 
 ghost use Rattle.std.specs.Prelude.{◌≡◌, ◌++◌, map, pos, OnOk, OnErr};
 ghost use Rattle.thrift_value.specs.Ranges.{IsInRange, AreFieldsInRange, AreItemsInRange, ArePairsInRange};

@@ -1,6 +1,6 @@
 -- What a calculator's office decides on the payloads of a workload, and what it replies.
 use Rattle.std.proofs.Common.{◌≡◌, ℕ, ℤ, pos, ◌+◌, ◌^◌, ◌<◌, Bool, true, false, cond, codes, List, [], ◌∷◌, ◌++◌, length, Option, Some, None, Ok, refl, sym, ap, ◌∙◌, subst, inl, arith, append-nil}
-use Rattle.std.specs.Prelude.{All, FitsSigned, MatchOption, ◌<ℤ◌}
+use Rattle.std.specs.Prelude.{All, FitsSigned, MatchOption}
 use Rattle.std.specs.Int.{w16, w32}
 use Rattle.std.proofs.lemmas.Int.{ints}
 use Rattle.std.proofs.lemmas.List.Elements.{All-from_recursion}
@@ -15,7 +15,7 @@ use Rattle.envelope.specs.Readout.{head_at}
 use Rattle.thrift_value.specs.Plain.{plain}
 use Rattle.thrift_value.specs.Ranges.{IsInRange}
 use Rattle.thrift_value.specs.Sizes.{HasSmallSizes}
-use Rattle.thrift_value.specs.Tidy.{IsTidy}
+use Rattle.thrift_value.specs.Tidy.{IsWellTagged}
 use Rattle.thrift_value.specs.Tree.{Tree}
 use Rattle.wire_model.specs.Encoder.{text}
 use Rattle.wire_model.specs.Place.{struct_at, found_struct, IsWithinBounds}
@@ -42,25 +42,16 @@ HeadsAreRead = (p : Protocol) (it : Said) (more : List ℕ) → said.IsInRange p
 
 -- and so are structs
 abbrev pub StructsAreRead : Type 0
-StructsAreRead = (x : Tree) (front more : List ℕ) → IsTidy x → IsInRange x → HasSmallSizes x → IsWithinBounds x
+StructsAreRead = (x : Tree) (front more : List ℕ) → IsWellTagged x → IsInRange x → HasSmallSizes x → IsWithinBounds x
     → struct_at binary (front ++ (text binary_encoder x ++ more)) (length front) ≡ found_struct (plain x) (length front + length (text binary_encoder x))
 
 -- a struct that is written and read
 record IsPassed (x : Tree) : Type 0 where
-  tidy : IsTidy x
+  tagged : IsWellTagged x
   range : IsInRange x
   sizes : HasSmallSizes x
   bounds : IsWithinBounds x
   same : plain x ≡ x
-
-one_two : pos 1 <ℤ pos 2
-one_two = omega (arith, ints)
-
-one_three : pos 1 <ℤ pos 3
-one_three = omega (arith, ints)
-
-two_three : pos 2 <ℤ pos 3
-two_three = omega (arith, ints)
 
 first_id : FitsSigned w16 (pos 1)
 first_id = omega (arith, ints)
@@ -76,7 +67,7 @@ number_fits n small = omega (arith, ints)
 
 two_passed : (a b : ℕ) → a < 2 ^ 31 → b < 2 ^ 31 → IsPassed (two_numbers_passed (pos a) (pos b))
 two_passed a b few less = record {
-  tidy = record { tagged = (tt, (tt, tt)); in_order = (((one_two, tt), (tt, tt)), (tt, (tt, tt))) };
+  tagged = (tt, (tt, tt));
   range = (first_id, number_fits a few, (second_id, number_fits b less, tt));
   sizes = (tt, (tt, tt));
   bounds = record { is_struct = refl; depth = omega arith; count = omega arith };
@@ -85,10 +76,7 @@ two_passed a b few less = record {
 
 passed_work : (k a b : ℕ) → k < 2 ^ 31 → a < 2 ^ 31 → b < 2 ^ 31 → IsPassed (work_passed (pos k) (pos a) (pos b) (pos 2))
 passed_work k a b low few less = record {
-  tidy = record {
-    tagged = (tt, ((tt, (tt, (tt, tt))), tt));
-    in_order = (((one_two, tt), (tt, tt)), (tt, ((((one_two, (one_three, tt)), ((two_three, tt), (tt, tt))), (tt, (tt, (tt, tt)))), tt)));
-  };
+  tagged = (tt, ((tt, (tt, (tt, tt))), tt));
   range = (first_id, number_fits k low, (second_id, (first_id, number_fits a few, (second_id, number_fits b less, (third_id, number_fits 2 (omega arith), tt))), tt));
   sizes = (tt, ((tt, (tt, (tt, tt))), tt));
   bounds = record { is_struct = refl; depth = omega arith; count = omega arith };
@@ -126,7 +114,7 @@ module _ (heads : HeadsAreRead) (structs : StructsAreRead) where
       → struct_at binary (call_text method k x) (length (call_head method k)) ≡ found_struct x (length (call_head method k) + length (text binary_encoder x))
   args_back method k x is =
       ap (λ xs. struct_at binary (call_head method k ++ xs) (length (call_head method k))) (sym (append-nil (text binary_encoder x)))
-      ∙ structs x (call_head method k) [] is.tidy is.range is.sizes is.bounds
+      ∙ structs x (call_head method k) [] is.tagged is.range is.sizes is.bounds
       ∙ ap (λ y. found_struct y (length (call_head method k) + length (text binary_encoder x))) is.same
 
   module _ (office : PlainOffice) (is : IsCalculatorsOffice office) (k : ℕ) (low : k < 2 ^ 31) where

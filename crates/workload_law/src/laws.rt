@@ -28,9 +28,9 @@ ghost use Rattle.workload_law.specs.Calculators.{IsCalculator, IsCalculatorsOffi
 ghost use Rattle.workload_law.specs.CalculatorTests.{is_calculator};
 ghost use Rattle.workload_law.specs.Summed.{HasCalculator, ComesToSum};
 
-use binary_codec::laws::written_struct_is_read;
 use envelope::heads_are_read_back;
 use host_model::laws::less_than_a_frame;
+use wire_model::laws::written_is_read;
 use workload::laws::frames_are_answered;
 
 /// The pieces of a connection, one behind the other, are its bytes.
@@ -55,7 +55,7 @@ pub fn calls_are_decided()
         → reply_of office (payload_by k x) (answered n) ≡ reply_with k n }
 {
     heads_are_read_back();
-    written_struct_is_read();
+    written_is_read::<binary_codec::Binary>();
 }
 
 /// A run of a workload's script at a calculator's office, with a calculator in its slot, that meets the headline: where no connection has ended for want of memory, or
