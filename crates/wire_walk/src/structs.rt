@@ -1,6 +1,6 @@
 //! Whole structs: read at a place of the bytes, and appended.
 
-ghost use Rattle.std.specs.Prelude.{◌≡◌, ◌≤◌, ◌+◌, ◌-◌, ◌++◌, ℕ, List, length, drop, Ok, IfOk, OnOk, OnErr};
+ghost use Rattle.std.specs.Prelude.{◌≡◌, ◌≤◌, ◌+◌, ◌++◌, ℕ, List, length, IfOk, OnOk, OnErr};
 ghost use Rattle.thrift_value.specs.declared.tag.Tag.TheVariants as tags;
 ghost use Rattle.thrift_value.specs.Measures.{count_of, depth_of};
 ghost use Rattle.thrift_value.specs.Plain.{plain};
@@ -34,7 +34,11 @@ const MAX_VALUES: u32 = 4_000_000;
 
 /// The struct at `at` as it came, and the place behind it; or the fault that comes first. Own choice: it has at most 64
 /// levels and 4,000,000 values. It has no more values than bytes were read for it.
-pub fn read_struct<C: Codec>(alloc: Global, bytes: &[u8], at: usize) -> Result<(Raw, usize), WireFault>
+pub fn read_struct<C: Codec>(
+    alloc: Global,
+    bytes: &[u8],
+    at: usize,
+) -> Result<(Raw, usize), WireFault>
     requires { at ≤ length bytes.now }
     // Which struct or which fault it is; want of memory alone is free.
     ensures exact { AnswersOrNoMemory (λ x. (tree_of x.0, x.1)) result (struct_at C.wire bytes.now at) }
