@@ -15,7 +15,7 @@ use call_rules::{Desk, Handler, Journal, Key};
 use cell_loop::{LoopPart, Stand};
 use cell_model::laws::moves_are_reached;
 use cell_turn::turn::turn;
-use cell_turn::{Holding, RunStop, Turned, put_back, take_out, told};
+use cell_turn::{Holding, RunStop, Turned, moved, put_back, take_out};
 use hall_core::{Hall, HallReply};
 use outside::{Bytes, Settled};
 use std::alloc::{AllocError, Global};
@@ -105,7 +105,7 @@ impl<'a, H: Handler, J: Journal> Machine<'a, H, J> {
         let worker = take_out(&mut self.workers, w as usize);
         let Turned { worker, stepped } = turn(alloc, desk, &mut self.hall, worker);
         put_back(&mut self.workers, w as usize, worker);
-        told(stepped)
+        moved(stepped)
     }
 
     /// Collects the oldest outcome, where there is one.

@@ -28,24 +28,20 @@ plain_worker (Unanswered job) = has_none job.key job.payload
 abbrev pub worker_in : List Holding → ℕ → PlainWorker
 worker_in workers w = plain_worker (slice_index_or workers w Idle)
 
--- a call is made that is silent or isn't, as is said
-abbrev pub IsCallSo : Bool → DeskDecision PlainCall → Type 0
-IsCallSo silent (Invoke call) = call.silent ≡ silent
-IsCallSo silent _ = ⊥
+-- a call is made, and it is told whether it is silent
+abbrev pub TellsIfSilent : Bool → DeskDecision PlainCall → Type 0
+TellsIfSilent silent (Invoke call) = call.silent ≡ silent
+TellsIfSilent silent _ = ⊥
 
 -- of a call that was answered it is kept whether it is silent
 abbrev pub KnowsItsCall : DeskMeaning → Holding → Type 0
-KnowsItsCall desk (Answered job given) = IsCallSo given.silent (desk.decide job.payload)
+KnowsItsCall desk (Answered job given) = TellsIfSilent given.silent (desk.decide job.payload)
 KnowsItsCall desk _ = Unit {0}
 
 -- the workers are tied to those of a machine
 pub record AreWorkersTied (desk : DeskMeaning) (workers : List Holding) (states : ℕ → PlainWorker) : Type 0 where
   pub each : (w : ℕ) → states w ≡ worker_in workers w
   pub known : AllByRecursion (KnowsItsCall desk) workers
-
--- What an answered job comes to: what the desk says of it, or want of memory.
-abbrev pub RepliesSo : DeskMeaning → List ℕ → PlainAnswer → Settled → Type 0
-RepliesSo desk payload answer settled = (settled_with (desk_rules desk) payload answer (desk.decide payload) ≡ Some settled) ⊎ (settled ≡ NoMemory)
 
 -- The hall is tied to that of a machine, but for the count of faults, which is free: its journal has these entries, where it tells; it is open, and hasn't
 -- failed; and each reply that waits has a byte at least.

@@ -7,7 +7,7 @@
 //! let worker = take_out(&mut workers, place);
 //! let Turned { worker, stepped } = turn(alloc, desk, &mut hall, worker);     // it held a job, whose call is applied now
 //! put_back(&mut workers, place, worker);                                     // Holding::Answered(job, given)
-//! let moved = told(stepped)?;                                                // true, unless the journal has failed
+//! let moved = moved(stepped)?;                                               // true, unless the journal has failed
 //! ```
 //!
 //! It knows no connection, no tape and no script; what is decided on a payload is the desk's, and what a call is answered the
@@ -20,5 +20,5 @@ pub mod turn;
 mod worker;
 
 pub use stop::RunStop;
-pub use turn::{Stepped, Turned, told};
-pub use worker::{Given, Holding, JobHeld, put_back, take_out};
+pub use turn::{Stepped, Turned, moved};
+pub use worker::{Given, Holding, put_back, take_out};

@@ -1,8 +1,7 @@
 //! One step of a worker, by what it holds.
 
-ghost use Rattle.std.specs.Prelude.{◌≡◌, ◌≤◌, true, length};
-ghost use Rattle.call_rules.specs.Desks.{DeskMeaning, longest_payload};
-ghost use Rattle.call_rules.specs.Answers.{plain_answer};
+ghost use Rattle.std.specs.Prelude.{◌≡◌, true};
+ghost use Rattle.call_rules.specs.Desks.{DeskMeaning};
 ghost use Rattle.call_rules.specs.PlainCalls.{PlainCall};
 ghost use Rattle.call_rules.specs.Handling.{handler_rules};
 ghost use Rattle.machine_model.specs.HallState.{has_key};
@@ -12,16 +11,15 @@ ghost use Rattle.machine_model.specs.SeenHall.{SeenGives};
 ghost use Rattle.hall_core.specs.Asked.{answer_of};
 ghost use Rattle.cell_turn.specs.declared.worker.Holding.TheVariants.{Idle, Holds};
 ghost use Rattle.cell_turn.specs.declared.turn.Stepped.TheVariants.{Moves};
-ghost use Rattle.cell_turn.specs.HallTied.{plain_worker, IsCallSo, KnowsItsCall, RepliesSo};
-ghost use Rattle.cell_model.specs.Replies.{IsReplySome};
+ghost use Rattle.cell_turn.specs.HallTied.{plain_worker, TellsIfSilent, KnowsItsCall};
 ghost use Rattle.cell_turn.specs.TurnMoves.{MayTurn};
 ghost use Rattle.cell_turn.specs.Turns.{stepped_by, IsWorkerTurn, AnswersStep};
 
 use crate::stop::RunStop;
-use crate::worker::{Given, Holding, JobHeld};
-use call_rules::{Decision, Desk, Handler, Journal, Key};
-use hall_core::{Hall, HallOp, HallReply};
-use outside::{Bytes, Settled};
+use crate::worker::{Given, Holding};
+use call_rules::{Desk, Handler, Journal, Key};
+use hall_core::{Hall, HallOp, HallReply, Job, NextStep, next_step, settled_with};
+use outside::Settled;
 use seat_booth::Object;
 use std::alloc::Global;
 
@@ -36,7 +34,7 @@ pub enum Stepped {
     Fails,
 }
 
-/// A worker's step, and what it holds behind it.
+/// A worker's step, and what it holds after it.
 #[derive(Drop)]
 pub struct Turned {
     pub worker: Holding,
@@ -56,9 +54,9 @@ pub fn turn<D: Desk, H: Handler, J: Journal>(
 {
     match worker {
         Holding::Idle => take(hall),
-        Holding::Holds(job) => decide(alloc, desk, hall, job),
+        Holding::Holds(job) => apply_or_put(alloc, desk, hall, job),
         Holding::Answered(job, given) => {
-            let settled = reply(alloc, desk, &job, &given);
+            let settled = settled_with(alloc, desk, &job, given.silent, &given.answer);
             put(hall, job.key, settled)
         }
         Holding::Unanswered(job) => put(hall, job.key, Settled::NoMemory),
@@ -81,7 +79,7 @@ fn taken(reply: HallReply) -> Turned
 {
     match reply {
         HallReply::Job(key, payload) => Turned {
-            worker: Holding::Holds(JobHeld { key, payload }),
+            worker: Holding::Holds(Job { key, payload }),
             stepped: Stepped::Moves,
         },
         _ => Turned {
@@ -91,33 +89,30 @@ fn taken(reply: HallReply) -> Turned
     }
 }
 
-/// Does what is decided on a job's payload.
-fn decide<D: Desk, H: Handler, J: Journal>(
+/// Applies the call of a job of which nothing was done; or puts what it comes to with no call.
+fn apply_or_put<D: Desk, H: Handler, J: Journal>(
     alloc: Global,
     desk: &D,
     hall: &mut Hall<H, J>,
-    job: JobHeld,
+    job: Job,
 ) -> Turned
     requires { MayTurn (D.meaning desk.now) hall.old (Holds job) }
     ensures { IsWorkerTurn (D.meaning desk.now) hall.old hall.new (Holds job) result.worker result.stepped }
 {
-    match desk.decide(alloc, job.payload.as_slice()) {
-        Ok(Decision::Invoke(call)) => {
+    match next_step(alloc, desk, &job) {
+        NextStep::Apply(call) => {
             let silent = call.silent;
             let reply = hall.step(HallOp::Apply(job.key, call));
             applied(job, silent, reply)
         }
-        Ok(Decision::Close(fault)) => put(hall, job.key, Settled::Close(fault)),
-        Ok(Decision::Silent) => put(hall, job.key, Settled::Nothing),
-        Ok(Decision::Reply(frame)) => put(hall, job.key, Settled::Reply(frame)),
-        Err(_) => put(hall, job.key, Settled::NoMemory),
+        NextStep::Put(settled) => put(hall, job.key, settled),
     }
 }
 
 /// What a worker holds once its job's call was applied.
-fn applied(job: JobHeld, silent: bool, reply: HallReply) -> Turned
+fn applied(job: Job, silent: bool, reply: HallReply) -> Turned
     ensures worker { plain_worker result.worker ≡ tried job.key job.payload (answer_of reply) }
-    ensures silent { (desk : DeskMeaning) → IsCallSo silent (desk.decide job.payload) → KnowsItsCall desk result.worker }
+    ensures silent { (desk : DeskMeaning) → TellsIfSilent silent (desk.decide job.payload) → KnowsItsCall desk result.worker }
     ensures stepped { (call : PlainCall) → result.stepped ≡ stepped_by (rule.apply job.key call) (answer_of reply) }
 {
     match reply {
@@ -133,22 +128,6 @@ fn applied(job: JobHeld, silent: bool, reply: HallReply) -> Turned
             worker: Holding::Unanswered(job),
             stepped: Stepped::Moves,
         },
-    }
-}
-
-/// What an answered job comes to.
-fn reply<D: Desk>(alloc: Global, desk: &D, job: &JobHeld, given: &Given) -> Settled
-    requires short { length job.now.payload ≤ longest_payload }
-    requires called { IsCallSo given.now.silent ((D.meaning desk.now).decide job.now.payload) }
-    ensures settled { RepliesSo (D.meaning desk.now) job.now.payload (plain_answer given.now.answer) result }
-    ensures some { IsReplySome result }
-{
-    if given.silent {
-        return Settled::Nothing;
-    }
-    match desk.reply(alloc, job.payload.as_slice(), &given.answer) {
-        Ok(frame) => Settled::Reply(Bytes::new(frame)),
-        Err(_) => Settled::NoMemory,
     }
 }
 
@@ -168,7 +147,7 @@ fn put<H: Handler, J: Journal>(hall: &mut Hall<H, J>, key: Key, settled: Settled
 }
 
 /// Whether a step was made, unless the journal has failed in it.
-pub fn told(stepped: Stepped) -> Result<bool, RunStop>
+pub fn moved(stepped: Stepped) -> Result<bool, RunStop>
     ensures { AnswersStep stepped result }
 {
     match stepped {

@@ -3,16 +3,9 @@
 ghost use Rattle.std.specs.Prelude.{◌≡◌, ◌<◌, length, slice_index_or, slice_set};
 ghost use Rattle.cell_turn.specs.declared.worker.Holding.TheVariants.{Idle};
 
-use call_rules::{Answer, Key};
-use outside::Bytes;
+use call_rules::Answer;
+use hall_core::Job;
 use std::mem;
-
-/// A job: a payload under the key of its frame.
-#[derive(Drop)]
-pub struct JobHeld {
-    pub key: Key,
-    pub payload: Bytes,
-}
 
 /// What a call was answered with.
 #[derive(Drop)]
@@ -28,11 +21,11 @@ pub enum Holding {
     /// No job.
     Idle,
     /// A job of which nothing was done.
-    Holds(JobHeld),
+    Holds(Job),
     /// A job whose call was answered.
-    Answered(JobHeld, Given),
+    Answered(Job, Given),
     /// A job whose call was applied and has no answer.
-    Unanswered(JobHeld),
+    Unanswered(Job),
 }
 
 /// Takes out what a worker holds, so that it holds no job.

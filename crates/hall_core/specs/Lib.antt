@@ -3,3 +3,4 @@ pub mod Meant
 pub mod Answered
 pub mod Asked
 pub mod Following
+pub mod NextSteps

@@ -13,17 +13,30 @@
 //! let (handlers, journal) = hall.into_parts();
 //! ```
 //!
+//! What a job comes to, a worker finds out with its desk, and without the hall:
+//!
+//! ```
+//! match next_step(alloc, &desk, &job) {
+//!     NextStep::Apply(call) => ..,     // and, once it is answered: settled_with(alloc, &desk, &job, silent, &answer)
+//!     NextStep::Put(settled) => ..,
+//! }
+//! ```
+//!
 //! A hall is an [`Object`](seat_booth::Object), so a booth may keep it for many threads. It knows no connection, no desk and no
 //! frame, decides on no payload, and makes no reply.
 #![tactic(auto)]
 
 mod answering;
 mod hall;
+mod job;
 mod laws;
 mod operation;
 mod queue;
 mod queueing;
+mod settling;
 
 pub use hall::{Hall, HallMeaning, NoHall};
+pub use job::Job;
 pub use laws::journals_tell_of_services;
 pub use operation::{HallOp, HallReply};
+pub use settling::{NextStep, next_step, settled_with};

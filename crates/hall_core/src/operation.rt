@@ -33,7 +33,7 @@ pub enum HallReply {
     Closed,
     /// The call is answered so, and stands in the journal.
     Applied(Answer),
-    /// There was no memory: before the service answered, and nothing is changed; or behind it, and the call stands in the
+    /// There was no memory: before the service answered, and nothing is changed; or after it, and the call stands in the
     /// journal.
     NoMemory,
     /// The journal failed, and doesn't have the call that the service has answered.

@@ -6,6 +6,7 @@ ghost use Rattle.machine_model.specs.HallRule.{job_of, outcome_of};
 ghost use Rattle.machine_model.specs.OwnCalls.{most_keys};
 ghost use Rattle.hall_core.specs.Queues.{keys_held};
 
+use crate::job::Job;
 use call_rules::Key;
 use outside::{Bytes, Settled};
 use std::alloc::{AllocError, Global};
@@ -14,22 +15,6 @@ use std::marker::Model;
 
 /// The most keys that are submitted and not collected.
 const MOST: usize = 1024;
-
-/// A job.
-#[derive(Drop)]
-struct JobRow {
-    key: Key,
-    payload: Bytes,
-}
-
-impl Model for JobRow {
-    ghost use Rattle.machine_model.specs.HallState.{Job};
-    ghost use Rattle.machine_model.specs.HallRule.{job_of};
-
-    ghost Value = { Job };
-
-    ghost view = { λ j. job_of j.key j.payload };
-}
 
 /// A job's outcome.
 #[derive(Drop)]
@@ -50,7 +35,7 @@ impl Model for OutcomeRow {
 /// Jobs, taken keys and outcomes, the oldest first; at most 1,024 of all.
 #[derive(Drop)]
 pub(crate) struct Queue {
-    jobs: VecDeque<JobRow>,
+    jobs: VecDeque<Job>,
     taken: Vec<Key>,
     outcomes: VecDeque<OutcomeRow>,
 }
@@ -106,19 +91,19 @@ impl Queue {
         requires { keys_held self.old < most_keys }
         ensures { self.new ≡ record self.old { jobs = self.old.jobs ++ job_of key payload ∷ [] } }
     {
-        self.jobs.push_back_reserved(JobRow { key, payload });
+        self.jobs.push_back_reserved(Job { key, payload });
     }
 
     /// Takes the oldest job out, whose key is taken then.
-    pub(crate) fn take(&mut self) -> Option<(Key, Bytes)>
+    pub(crate) fn take(&mut self) -> Option<Job>
         ensures { MatchOption result
             ((self.old.jobs ≡ []) × (self.new ≡ self.old))
-            (λ job. (self.old.jobs ≡ job_of job.0 job.1 ∷ self.new.jobs)
-            × (self.new ≡ record self.old { jobs = self.new.jobs; taken = self.old.taken ++ job.0 ∷ [] })) }
+            (λ job. (self.old.jobs ≡ job ∷ self.new.jobs)
+            × (self.new ≡ record self.old { jobs = self.new.jobs; taken = self.old.taken ++ job.key ∷ [] })) }
     {
-        let JobRow { key, payload } = self.jobs.pop_front()?;
-        self.taken.push_reserved(key);
-        Some((key, payload))
+        let job = self.jobs.pop_front()?;
+        self.taken.push_reserved(job.key);
+        Some(job)
     }
 
     /// Adds an outcome of a key that is taken, and no longer then.

@@ -10,6 +10,7 @@ ghost use Rattle.hall_core.specs.Queues.{keys_held};
 ghost use Rattle.hall_core.specs.Meant.{ServedHall, with_queue};
 ghost use Rattle.hall_core.specs.Asked.{answer_of};
 
+use crate::job::Job;
 use crate::operation::HallReply;
 use crate::queue::Queue;
 use call_rules::Key;
@@ -31,7 +32,7 @@ pub(crate) fn submit(queue: &mut Queue, closed: bool, key: Key, payload: Bytes) 
 pub(crate) fn take(queue: &mut Queue, closed: bool) -> HallReply
     ensures { (hall : ServedHall) → hall.closed ≡ closed → SeenGives handler_rules (with_queue hall queue.old) rule.take_job (answer_of result) (with_queue hall queue.new) }
 {
-    if let Some((key, payload)) = queue.take() {
+    if let Some(Job { key, payload }) = queue.take() {
         return HallReply::Job(key, payload);
     }
     if closed {

@@ -22,7 +22,7 @@ use Rattle.hall_core.specs.Asked.{answer_of, StepGives, StepMay}
 use Rattle.hall_pool.specs.declared.asking.Tried.{Tried}
 use Rattle.hall_pool.specs.declared.asking.Tried.TheVariants.{Answered}
 use Rattle.hall_pool.specs.Turns.{asks_made}
-use Rattle.hall_pool.specs.Jobs.{HallSeat, AddsAsk, HoldsJob, tried_so, AppliesSo, SettlesJob}
+use Rattle.hall_pool.specs.Jobs.{HallSeat, AddsAsk, HoldsJob, tried_by, TriesCall, SettlesJob}
 use Rattle.hall_pool.proofs.Answering.{apply_step, put_step, close_step, step_made, one_more, one_so}
 
 module _ (booth : BoothView ServedHall) (old new : HallSeat) (key : Key) (call : PlainCall) where
@@ -34,7 +34,7 @@ module _ (booth : BoothView ServedHall) (old new : HallSeat) (key : Key) (call :
   may_answer : (found : HallReply) → Applies found → GoesOnAfter (answer_of found) ⊎ StopsAfter (answer_of found)
   may_answer found m = apply_step _ _ key call (answer_of found) (step_made booth old new (operation.Apply key call) found m)
 
-  applies_by : (found : HallReply) → Applies found → AppliesSo old new key call (tried_so found)
+  applies_by : (found : HallReply) → Applies found → TriesCall old new key call (tried_by found)
   applies_by (reply.Applied answer) m = one_more booth old new (operation.Apply key call) (reply.Applied answer) m
   applies_by reply.NoMemory m = one_more booth old new (operation.Apply key call) reply.NoMemory m
   applies_by reply.JournalFault m = (answer_of reply.JournalFault, one_more booth old new (operation.Apply key call) reply.JournalFault m, tt)
@@ -45,8 +45,8 @@ module _ (booth : BoothView ServedHall) (old new : HallSeat) (key : Key) (call :
   applies_by reply.Closed m = absurd (⊎_elim (λ f. f) (λ f. f) (may_answer reply.Closed m))
   applies_by (reply.Settled k settled) m = absurd (⊎_elim (λ f. f) (λ f. f) (may_answer (reply.Settled k settled) m))
 
-  pub applies : (found : HallReply) (result : Tried) → Applies found → result ≡ tried_so found → AppliesSo old new key call result
-  applies found result m is = subst (AppliesSo old new key call) (sym is) (applies_by found m)
+  pub applies : (found : HallReply) (result : Tried) → Applies found → result ≡ tried_by found → TriesCall old new key call result
+  applies found result m is = subst (TriesCall old new key call) (sym is) (applies_by found m)
 
 module _ (booth : BoothView ServedHall) (old new : HallSeat) where
   pub puts : (key : Key) (settled : Settled) (found : HallReply) → MakesCall StepGives StepMay booth old (operation.Put key settled) found new → AddsAsk old new (put key settled) done
@@ -57,18 +57,11 @@ module _ (booth : BoothView ServedHall) (old new : HallSeat) where
   closes found m = one_so booth old new operation.Close found m done (close_step _ _ (answer_of found) (step_made booth old new operation.Close found m))
 
 -- a job's call was applied and answered, and what it comes to is by that answer
-pub called_so : (desk : DeskMeaning) (old new : HallSeat) (key : Key) (payload now : List ℕ) (call : PlainCall) (answer : Answer) (tried : Tried) (settled : Settled)
-    → AppliesSo old new key call tried → tried ≡ Answered answer → desk.decide payload ≡ Invoke call → now ≡ payload
-    → ((k : Key) → SettlesAs (desk_rules desk) (has_answer k now (plain_answer answer)) k settled) → SettlesJob desk old new key payload (Some settled)
-called_so desk old new key payload now call answer tried settled more is decided same settles =
-    inr (
-      call,
-      applied (plain_answer answer),
-      subst (AppliesSo old new key call) is more,
-      decided,
-      tt,
-      subst (λ (p : List ℕ). SettlesAs (desk_rules desk) (has_answer key p (plain_answer answer)) key settled) same (settles key),
-    )
+pub settled_by_call : (desk : DeskMeaning) (old new : HallSeat) (key : Key) (payload : List ℕ) (call : PlainCall) (answer : Answer) (tried : Tried) (settled : Settled)
+    → TriesCall old new key call tried → tried ≡ Answered answer → desk.decide payload ≡ Invoke call → SettlesAs (desk_rules desk) (has_answer key payload (plain_answer answer)) key settled
+    → SettlesJob desk old new key payload (Some settled)
+settled_by_call desk old new key payload call answer tried settled tries is decided settles =
+    inr (call, applied (plain_answer answer), subst (TriesCall old new key call) is tries, decided, tt, settles)
 
 -- what a job comes to leaves its key held
 pub still_held : (desk : DeskMeaning) (booth : BoothView ServedHall) (old new : HallSeat) (key : Key) (payload : List ℕ) (settled : Settled) → HoldsJob booth old key payload

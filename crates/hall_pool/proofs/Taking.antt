@@ -7,6 +7,7 @@ use Rattle.call_history.specs.History.{meaning_after}
 use Rattle.call_rules.specs.PlainCalls.{PlainCall, PlainAnswer}
 use Rattle.call_rules.specs.Desks.{DeskMeaning}
 use Rattle.call_rules.specs.Handling.{handler_rules}
+use Rattle.machine_model.specs.HallState.{Job}
 use Rattle.machine_model.specs.HallRule.{take_job, apply, HallAnswer, job, empty, is_closed}
 use Rattle.machine_model.specs.OwnCalls.{HallAsk, holds_key, OwnAsksAllow, HallMay}
 use Rattle.machine_model.specs.SeenHall.{filled}
@@ -24,9 +25,8 @@ use Rattle.hall_core.specs.Asked.{answer_of, ask_seen, StepGives, StepMay}
 use Rattle.hall_core.specs.Following.{call_seen, seen_history, same_asks, asks_by, seen_allowed}
 use Rattle.hall_pool.specs.declared.turn.Turn.{Turn}
 use Rattle.hall_pool.specs.declared.turn.Turn.TheVariants.{Empty, Closed}
-use Rattle.hall_pool.specs.declared.asking.TakenJob.{TakenJob}
 use Rattle.hall_pool.specs.Turns.{asks_made, turn_told, AddsTurn}
-use Rattle.hall_pool.specs.Jobs.{HallSeat, IsOpenedNew, AddsAsk, HoldsJob, taken_so}
+use Rattle.hall_pool.specs.Jobs.{HallSeat, IsOpenedNew, AddsAsk, HoldsJob, job_replied}
 use Rattle.hall_pool.proofs.Answering.{IsStep, take_step, asked_more, call_made, calls_before, history_before, allowed_before, step_made, one_more}
 use Rattle.hall_pool.proofs.Shortness.{taken_short, jobs_short}
 
@@ -80,11 +80,11 @@ module _ (booth : BoothView ServedHall) (old new : HallSeat) (opened : IsOpenedN
   found_turn desk answer turn more none is = record { made = found_none answer; right = (none, tt); calls = asked_more old new take_job answer more; told = is }
 
   -- what has come of Take
-  abbrev pub TakesSo : Result TakenJob Turn → Type 0
-  TakesSo result =
+  abbrev pub TakeComesTo : Result Job Turn → Type 0
+  TakeComesTo result =
       MatchResult result (λ j. AddsAsk old new take_job (job j.key j.payload) × HoldsJob booth new j.key j.payload) (λ turn. (desk : DeskMeaning) → AddsTurn desk old.mine new.mine turn)
 
-  takes_by : (found : HallReply) → Asks booth old found new → TakesSo (taken_so found)
+  takes_by : (found : HallReply) → Asks booth old found new → TakeComesTo (job_replied found)
   takes_by (reply.Job key payload) m = (one_more booth old new Take (reply.Job key payload) m, holds_job key payload m)
   takes_by reply.Empty m = λ desk. found_turn desk empty Empty (one_more booth old new Take reply.Empty m) tt refl
   takes_by reply.Closed m = λ desk. found_turn desk is_closed Closed (one_more booth old new Take reply.Closed m) tt refl
@@ -95,5 +95,5 @@ module _ (booth : BoothView ServedHall) (old new : HallSeat) (opened : IsOpenedN
   takes_by reply.Broken m = absurd (take_step _ _ (answer_of reply.Broken) (step_made booth old new Take reply.Broken m))
   takes_by (reply.Settled key settled) m = absurd (take_step _ _ (answer_of (reply.Settled key settled)) (step_made booth old new Take (reply.Settled key settled) m))
 
-  pub takes : (found : HallReply) (result : Result TakenJob Turn) → Asks booth old found new → result ≡ taken_so found → TakesSo result
-  takes found result m is = subst TakesSo (sym is) (takes_by found m)
+  pub takes : (found : HallReply) (result : Result Job Turn) → Asks booth old found new → result ≡ job_replied found → TakeComesTo result
+  takes found result m is = subst TakeComesTo (sym is) (takes_by found m)

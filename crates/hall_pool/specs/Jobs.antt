@@ -8,8 +8,8 @@ use Rattle.call_rules.specs.Answers.{plain_answer}
 use Rattle.call_rules.specs.PlainCalls.{PlainCall, PlainAnswer}
 use Rattle.call_rules.specs.Desks.{DeskMeaning, desk_rules, longest_payload}
 use Rattle.call_rules.specs.Handling.{handler_rules}
-use Rattle.machine_model.specs.HallState.{IsNewlyOpened}
-use Rattle.machine_model.specs.HallRule.{HallOperation, apply, HallAnswer, applied, no_memory}
+use Rattle.machine_model.specs.HallState.{Job, IsNewlyOpened}
+use Rattle.machine_model.specs.HallRule.{HallOperation, apply, HallAnswer, applied, no_memory, job_of}
 use Rattle.machine_model.specs.OwnCalls.{holds_key, OwnAsksAllow}
 use Rattle.machine_model.specs.SeenHall.{MayHave, filled}
 use Rattle.machine_model.specs.Worker.{holds, tried, SettlesAs}
@@ -21,7 +21,6 @@ use Rattle.hall_core.specs.declared.operation.HallReply.TheVariants as reply
 use Rattle.hall_core.specs.Meant.{ServedHall}
 use Rattle.hall_pool.specs.declared.turn.Turn.{Turn}
 use Rattle.hall_pool.specs.declared.turn.Turn.TheVariants.{Empty, Closed}
-use Rattle.hall_pool.specs.declared.asking.TakenJob.{TakenJob}
 use Rattle.hall_pool.specs.declared.asking.Tried.{Tried}
 use Rattle.hall_pool.specs.declared.asking.Tried.TheVariants.{Answered, Unanswered, Failed}
 use Rattle.hall_pool.specs.Turns.{asks_made}
@@ -53,22 +52,22 @@ pub record HoldsJob (booth : BoothView ServedHall) (seat : HallSeat) (key : Key)
       → OwnAsksAllow handler_rules (filled booth.opening []) seat.number (asks_made seat.mine) (apply key call)
 
 -- what a reply to Take means: a job, or the answer of a turn that has none
-abbrev pub taken_so : HallReply → Result TakenJob Turn
-taken_so (reply.Job key payload) = Ok (record { key = key; payload = payload })
-taken_so reply.Closed = Err Closed
-taken_so _ = Err Empty
+abbrev pub job_replied : HallReply → Result Job Turn
+job_replied (reply.Job key payload) = Ok (job_of key payload)
+job_replied reply.Closed = Err Closed
+job_replied _ = Err Empty
 
 -- what a reply to Apply means
-abbrev pub tried_so : HallReply → Tried
-tried_so (reply.Applied answer) = Answered answer
-tried_so reply.NoMemory = Unanswered
-tried_so _ = Failed
+abbrev pub tried_by : HallReply → Tried
+tried_by (reply.Applied answer) = Answered answer
+tried_by reply.NoMemory = Unanswered
+tried_by _ = Failed
 
 -- a call was applied under this key, and this has come of it
-abbrev pub AppliesSo : HallSeat → HallSeat → Key → PlainCall → Tried → Type 0
-AppliesSo old new key call (Answered answer) = AddsAsk old new (apply key call) (applied (plain_answer answer))
-AppliesSo old new key call Unanswered = AddsAsk old new (apply key call) no_memory
-AppliesSo old new key call Failed = (answer : HallAnswer PlainAnswer) × AddsAsk old new (apply key call) answer × StopsAfter answer
+abbrev pub TriesCall : HallSeat → HallSeat → Key → PlainCall → Tried → Type 0
+TriesCall old new key call (Answered answer) = AddsAsk old new (apply key call) (applied (plain_answer answer))
+TriesCall old new key call Unanswered = AddsAsk old new (apply key call) no_memory
+TriesCall old new key call Failed = (answer : HallAnswer PlainAnswer) × AddsAsk old new (apply key call) answer × StopsAfter answer
 
 -- What a job comes to, with the seat's calls for that: by its decision, with no call; or by its call, which is applied once; or the journal has failed at
 -- that call.

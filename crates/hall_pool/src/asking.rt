@@ -9,21 +9,14 @@ ghost use Rattle.machine_model.specs.OwnCalls.{holds_key, OwnAsksAllow};
 ghost use Rattle.machine_model.specs.SeenHall.{filled};
 ghost use Rattle.seat_booth.specs.Seats.{IsSeatOf};
 ghost use Rattle.hall_pool.specs.Turns.{asks_made, AddsTurn};
-ghost use Rattle.hall_pool.specs.Jobs.{IsOpenedNew, AddsAsk, HoldsJob, AppliesSo, taken_so, tried_so};
+ghost use Rattle.hall_pool.specs.Jobs.{IsOpenedNew, AddsAsk, HoldsJob, TriesCall, job_replied, tried_by};
 
 use crate::turn::Turn;
 use call_rules::{Answer, Call, Handler, Journal, Key};
-use hall_core::{Hall, HallOp, HallReply};
-use outside::{Bytes, Settled};
+use hall_core::{Hall, HallOp, HallReply, Job};
+use outside::Settled;
 use seat_booth::{Booth, Seat};
 use std::sync::Wait;
-
-/// A job that was taken.
-#[derive(Drop)]
-pub(crate) struct TakenJob {
-    pub key: Key,
-    pub payload: Bytes,
-}
 
 /// What has come of a call that was applied.
 #[derive(Drop)]
@@ -37,11 +30,11 @@ pub(crate) enum Tried {
 }
 
 /// What a reply to Take means.
-fn taken(reply: HallReply) -> Result<TakenJob, Turn>
-    ensures { result ≡ taken_so reply }
+fn taken(reply: HallReply) -> Result<Job, Turn>
+    ensures { result ≡ job_replied reply }
 {
     match reply {
-        HallReply::Job(key, payload) => Ok(TakenJob { key, payload }),
+        HallReply::Job(key, payload) => Ok(Job { key, payload }),
         HallReply::Closed => Err(Turn::Closed),
         _ => Err(Turn::Empty),
     }
@@ -49,7 +42,7 @@ fn taken(reply: HallReply) -> Result<TakenJob, Turn>
 
 /// What a reply to Apply means.
 fn applied(reply: HallReply) -> Tried
-    ensures { result ≡ tried_so reply }
+    ensures { result ≡ tried_by reply }
 {
     match reply {
         HallReply::Applied(answer) => Tried::Answered(answer),
@@ -63,7 +56,7 @@ pub(crate) fn take<H: Handler, J: Journal, R: Wait>(
     rt: &R,
     booth: &Booth<Hall<H, J>>,
     seat: &mut Seat<Hall<H, J>>,
-) -> Result<TakenJob, Turn>
+) -> Result<Job, Turn>
     requires seat { IsSeatOf booth.now seat.old }
     requires hall { IsOpenedNew booth.now }
     ensures seat { IsSeatOf booth.now seat.new }
@@ -90,7 +83,7 @@ pub(crate) fn apply<H: Handler, J: Journal, R: Wait>(
     requires may { OwnAsksAllow handler_rules (filled booth.now.opening []) seat.old.number (asks_made seat.old.mine) (rule.apply key call) }
     ensures seat { IsSeatOf booth.now seat.new }
     ensures number { seat.new.number ≡ seat.old.number }
-    ensures applied { AppliesSo seat.old seat.new key call result }
+    ensures applied { TriesCall seat.old seat.new key call result }
 {
     let reply = booth.call(rt, seat, HallOp::Apply(key, call));
     applied(reply)

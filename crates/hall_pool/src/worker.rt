@@ -7,12 +7,12 @@ ghost use Rattle.hall_core.specs.Asked.{StepCall};
 ghost use Rattle.hall_pool.specs.Turns.{asked_in, AddsTurn, AddsRun};
 ghost use Rattle.hall_pool.specs.Jobs.{IsOpenedFor, HoldsJob};
 
-use crate::asking::{TakenJob, close, put, take};
+use crate::asking::{close, put, take};
 use crate::door::{ChannelHandle, Door};
 use crate::settling::settle;
 use crate::turn::Turn;
 use call_rules::{Desk, Handler, Journal};
-use hall_core::Hall;
+use hall_core::{Hall, Job};
 use outside::{Bell, Gate};
 use seat_booth::{Booth, Object, Seat};
 use std::alloc::{AllocError, Global};
@@ -41,7 +41,7 @@ fn work<D: Desk, G: Gate, H: Handler, J: Journal, R: Wait>(
     seat: &mut Seat<Hall<H, J>>,
     desk: &D,
     gate: &G,
-    job: TakenJob,
+    job: Job,
 ) -> Turn
     requires seat { IsSeatOf booth.now seat.old }
     requires hall { IsOpenedFor (D.meaning desk.now) booth.now }

@@ -1,17 +1,24 @@
 use Rattle.std.proofs.Common.{refl, sym, subst, inr}
 use Rattle.outside.specs.declared.outcomes.Settled.TheVariants.{NoMemory}
+use Rattle.call_rules.specs.Desks.{DeskMeaning, IsDesk}
 use Rattle.cell_turn.specs.declared.worker.Holding.{Holding}
 use Rattle.cell_turn.specs.declared.worker.Holding.TheVariants.{Answered, Unanswered}
 use Rattle.cell_turn.specs.TurnMoves.{MayTurn}
 use Rattle.cell_turn.specs.Turns.{IsWorkerTurn}
-use Rattle.cell_turn.proofs.Asking.{put_turns}
+use Rattle.cell_turn.proofs.Asking.{put_turns, told_call}
 use Rattle.cell_turn.proofs.Permitting.{put_can, held_short}
 use Rattle.cell_turn.proofs.turn.turn.Goals as goal
 
-pub reply-settled-requires-clause-short : goal.reply-settled-requires-clause-short
-reply-settled-requires-clause-short g c =
+pub settled_with-settled-requires-clause-short : goal.settled_with-settled-requires-clause-short
+settled_with-settled-requires-clause-short g c =
     held_short (g.D.Desk.meaning c.args.desk.now) (g.met.D.Desk.holds c.args.desk.now) c.args.hall.now (Answered c.in-Answered.job c.in-Answered.given)
     (subst (MayTurn (g.D.Desk.meaning c.args.desk.now) c.args.hall.now) c.in-Answered.is c.requires) c.in-Answered.job.key refl
+
+pub settled_with-settled-requires-clause-called : goal.settled_with-settled-requires-clause-called
+settled_with-settled-requires-clause-called g c =
+    let may : MayTurn (g.D.Desk.meaning c.args.desk.now) c.args.hall.now (Answered c.in-Answered.job c.in-Answered.given) =
+    subst (MayTurn (g.D.Desk.meaning c.args.desk.now) c.args.hall.now) c.in-Answered.is c.requires in
+    told_call c.in-Answered.given.silent ((g.D.Desk.meaning c.args.desk.now).decide c.in-Answered.job.payload) may.known
 
 pub put-requires-after_bounds : goal.put-requires-after_bounds
 put-requires-after_bounds g c κs within =
@@ -25,14 +32,16 @@ put-requires-in-Unanswered-after_bounds g c κs within =
 
 pub returns-in-Answered : goal.returns-in-Answered
 returns-in-Answered g c =
-    subst (λ (x : Holding). IsWorkerTurn (g.D.Desk.meaning c.args.desk.now) c.args.hall.now c.put.new.hall x c.put.result.worker c.put.result.stepped) (sym c.in-Answered.is)
-    (put_turns (g.D.Desk.meaning c.args.desk.now) c.args.hall.now c.put.new.hall (Answered c.in-Answered.job c.in-Answered.given) c.put.result.worker c.put.result.stepped c.in-Answered.job.key
-    c.reply-settled.result (refl, c.reply-settled.ensures.settled) c.reply-settled.ensures.some c.put.ensures.gives c.put.ensures.worker c.put.ensures.stepped)
+    let desk : DeskMeaning = g.D.Desk.meaning c.args.desk.now in
+    subst (λ (x : Holding). IsWorkerTurn desk c.args.hall.now c.put.new.hall x c.put.result.worker c.put.result.stepped) (sym c.in-Answered.is)
+    (put_turns desk (g.met.D.Desk.holds c.args.desk.now) c.args.hall.now c.put.new.hall (Answered c.in-Answered.job c.in-Answered.given) c.put.result.worker c.put.result.stepped
+    c.in-Answered.job.key c.settled_with-settled.result (subst (MayTurn desk c.args.hall.now) c.in-Answered.is c.requires) c.settled_with-settled.ensures c.put.ensures.gives c.put.ensures.worker
+    c.put.ensures.stepped)
 
 pub returns-in-Unanswered : goal.returns-in-Unanswered
 returns-in-Unanswered g c =
-    subst (λ (x : Holding). IsWorkerTurn (g.D.Desk.meaning c.args.desk.now) c.args.hall.now c.put-in-Unanswered.new.hall x c.put-in-Unanswered.result.worker c.put-in-Unanswered.result.stepped)
-    (sym c.in-Unanswered.is)
-    (put_turns (g.D.Desk.meaning c.args.desk.now) c.args.hall.now c.put-in-Unanswered.new.hall (Unanswered c.in-Unanswered.job) c.put-in-Unanswered.result.worker
-    c.put-in-Unanswered.result.stepped c.in-Unanswered.job.key NoMemory (refl, inr refl) tt c.put-in-Unanswered.ensures.gives c.put-in-Unanswered.ensures.worker
-    c.put-in-Unanswered.ensures.stepped)
+    let desk : DeskMeaning = g.D.Desk.meaning c.args.desk.now in
+    subst (λ (x : Holding). IsWorkerTurn desk c.args.hall.now c.put-in-Unanswered.new.hall x c.put-in-Unanswered.result.worker c.put-in-Unanswered.result.stepped) (sym c.in-Unanswered.is)
+    (put_turns desk (g.met.D.Desk.holds c.args.desk.now) c.args.hall.now c.put-in-Unanswered.new.hall (Unanswered c.in-Unanswered.job) c.put-in-Unanswered.result.worker
+    c.put-in-Unanswered.result.stepped c.in-Unanswered.job.key NoMemory (subst (MayTurn desk c.args.hall.now) c.in-Unanswered.is c.requires) (refl, inr refl) c.put-in-Unanswered.ensures.gives
+    c.put-in-Unanswered.ensures.worker c.put-in-Unanswered.ensures.stepped)

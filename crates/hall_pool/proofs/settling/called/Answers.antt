@@ -1,4 +1,7 @@
-use Rattle.hall_pool.proofs.Applying.{called_so}
+use Rattle.std.proofs.Common.{subst}
+use Rattle.machine_model.specs.HallState.{Job}
+use Rattle.hall_pool.specs.Jobs.{TriesCall}
+use Rattle.hall_pool.proofs.Applying.{settled_by_call}
 use Rattle.hall_pool.proofs.settling.called.Goals as goal
 
 pub apply-requires-clause-plain : goal.apply-requires-clause-plain
@@ -6,5 +9,6 @@ apply-requires-clause-plain g c κs within = (g.met.D.Desk.holds c.args.desk.now
 
 pub returns-in-Answered-clause-settled : goal.returns-in-Answered-clause-settled
 returns-in-Answered-clause-settled g c =
-    called_so (g.D.Desk.meaning c.args.desk.now) c.args.seat.now c.apply.new.seat c.args.job.now.key c.args.job.now.payload c.as_slice-payload.result.now c.args.call c.in-Answered.answer
-    c.apply.result c.settled_with.result c.apply.ensures.applied c.in-Answered.is c.requires.call c.as_slice-payload.ensures c.settled_with.ensures
+    settled_by_call (g.D.Desk.meaning c.args.desk.now) c.args.seat.now c.apply.new.seat c.args.job.now.key c.args.job.now.payload c.args.call c.in-Answered.answer c.apply.result
+    c.settled_with.result (subst (λ (job : Job). TriesCall c.args.seat.now c.apply.new.seat job.key c.args.call c.apply.result) c.job.view_is c.apply.ensures.applied) c.in-Answered.is
+    c.requires.call c.settled_with.ensures

@@ -27,10 +27,10 @@ returns-clause-moved g c =
     let old : Parts = parts_of c.args.self.now in
     let turned : IsWorkerTurn desk old.hall c.turn-worker.new.hall (get_or old.workers c.args.w Idle) c.turn-worker.result.worker c.turn-worker.result.stepped =
     subst (λ (x : Holding). IsWorkerTurn desk old.hall c.turn-worker.new.hall x c.turn-worker.result.worker c.turn-worker.result.stepped) c.take_out-worker.ensures.taken c.turn-worker.ensures in
-    subst (λ (ws : List Holding). IfOk c.told.result (λ moved. DeskMoves desk (λ s. one_of_worker s c.args.w) old moved (record { part = old.part; hall = c.turn-worker.new.hall; workers = ws })))
+    subst (λ (ws : List Holding). IfOk c.moved.result (λ moved. DeskMoves desk (λ s. one_of_worker s c.args.w) old moved (record { part = old.part; hall = c.turn-worker.new.hall; workers = ws })))
     (sym (put_back_so old.workers c.take_out-worker.new.workers.items c.put_back.new.workers.items c.args.w c.turn-worker.result.worker c.take_out-worker.ensures.left c.put_back.ensures))
     (worker_moved desk c.args.w old.part old.hall c.turn-worker.new.hall old.workers c.turn-worker.result.worker c.turn-worker.result.stepped c.requires.there turned
-    (λ s v one other reached comes. c.moves_are_reached.ensures.worker s v one other reached comes) c.told.result c.turn-worker.result.stepped refl c.told.ensures)
+    (λ s v one other reached comes. c.moves_are_reached.ensures.worker s v one other reached comes) c.moved.result c.turn-worker.result.stepped refl c.moved.ensures)
 
 pub returns-clause-failed : goal.returns-clause-failed
 returns-clause-failed g c =
@@ -38,13 +38,13 @@ returns-clause-failed g c =
     let old : Parts = parts_of c.args.self.now in
     let turned : IsWorkerTurn desk old.hall c.turn-worker.new.hall (get_or old.workers c.args.w Idle) c.turn-worker.result.worker c.turn-worker.result.stepped =
     subst (λ (x : Holding). IsWorkerTurn desk old.hall c.turn-worker.new.hall x c.turn-worker.result.worker c.turn-worker.result.stepped) c.take_out-worker.ensures.taken c.turn-worker.ensures in
-    subst (λ (ws : List Holding). OnErr c.told.result (FailsAt desk old (record { part = old.part; hall = c.turn-worker.new.hall; workers = ws })))
+    subst (λ (ws : List Holding). OnErr c.moved.result (FailsAt desk old (record { part = old.part; hall = c.turn-worker.new.hall; workers = ws })))
     (sym (put_back_so old.workers c.take_out-worker.new.workers.items c.put_back.new.workers.items c.args.w c.turn-worker.result.worker c.take_out-worker.ensures.left c.put_back.ensures))
     (worker_failed desk c.args.w old.part old.hall c.turn-worker.new.hall old.workers c.turn-worker.result.worker c.turn-worker.result.stepped c.requires.there turned
-    (λ s v one other reached comes. c.moves_are_reached.ensures.worker s v one other reached comes) c.told.result c.turn-worker.result.stepped refl c.told.ensures)
+    (λ s v one other reached comes. c.moves_are_reached.ensures.worker s v one other reached comes) c.moved.result c.turn-worker.result.stepped refl c.moved.ensures)
 
 pub returns-clause-only : goal.returns-clause-only
-returns-clause-only g c = only_faults c.turn-worker.result.stepped c.told.result c.told.ensures
+returns-clause-only g c = only_faults c.turn-worker.result.stepped c.moved.result c.moved.ensures
 
 pub returns-clause-less : goal.returns-clause-less
 returns-clause-less g c =
@@ -52,10 +52,10 @@ returns-clause-less g c =
     let old : Parts = parts_of c.args.self.now in
     let turned : IsWorkerTurn desk old.hall c.turn-worker.new.hall (get_or old.workers c.args.w Idle) c.turn-worker.result.worker c.turn-worker.result.stepped =
     subst (λ (x : Holding). IsWorkerTurn desk old.hall c.turn-worker.new.hall x c.turn-worker.result.worker c.turn-worker.result.stepped) c.take_out-worker.ensures.taken c.turn-worker.ensures in
-    subst (λ (ws : List Holding). IfOk c.told.result (λ moved. LeavesLess moved old (record { part = old.part; hall = c.turn-worker.new.hall; workers = ws })))
+    subst (λ (ws : List Holding). IfOk c.moved.result (λ moved. LeavesLess moved old (record { part = old.part; hall = c.turn-worker.new.hall; workers = ws })))
     (sym (put_back_so old.workers c.take_out-worker.new.workers.items c.put_back.new.workers.items c.args.w c.turn-worker.result.worker c.take_out-worker.ensures.left c.put_back.ensures))
     (worker_less desk c.args.w old.part old.hall c.turn-worker.new.hall old.workers c.turn-worker.result.worker c.turn-worker.result.stepped c.requires.there turned
-    (λ s v one other reached comes. c.moves_are_reached.ensures.worker s v one other reached comes) c.told.result c.requires.desk c.turn-worker.result.stepped refl c.told.ensures)
+    (λ s v one other reached comes. c.moves_are_reached.ensures.worker s v one other reached comes) c.moved.result c.requires.desk c.turn-worker.result.stepped refl c.moved.ensures)
 
 pub returns-clause-kept : goal.returns-clause-kept
 returns-clause-kept g c =
