@@ -1,15 +1,13 @@
 -- What is kept of the hall and of the workers, tied to a machine in rehearsal.
-use Rattle.std.specs.Prelude.{◌≡◌, ℕ, ◌⊎◌, Bool, false, Some, List, slice_index_or}
+use Rattle.std.specs.Prelude.{◌≡◌, ℕ, Bool, false, List, slice_index_or}
 use Rattle.std.specs.List.{AllByRecursion}
-use Rattle.outside.specs.declared.outcomes.Settled.{Settled}
-use Rattle.outside.specs.declared.outcomes.Settled.TheVariants.{NoMemory}
 use Rattle.host_model.specs.DeskRules.{DeskDecision, Invoke}
-use Rattle.call_rules.specs.PlainCalls.{PlainCall, PlainAnswer}
-use Rattle.call_rules.specs.Desks.{DeskMeaning, desk_rules}
+use Rattle.call_rules.specs.PlainCalls.{PlainCall}
+use Rattle.call_rules.specs.Desks.{DeskMeaning}
 use Rattle.call_rules.specs.Answers.{plain_answer}
 use Rattle.machine_model.specs.HallState.{JobOutcome}
 use Rattle.machine_model.specs.Determined.{IsSameButFaults}
-use Rattle.machine_model.specs.Worker.{idle, holds, has_answer, has_none, settled_with}
+use Rattle.machine_model.specs.Worker.{idle, holds, has_answer, has_none}
 use Rattle.machine_model.specs.SeenHall.{MayHave, filled}
 use Rattle.hall_core.specs.Meant.{ServedHall}
 use Rattle.cell_turn.specs.declared.worker.Holding.{Holding}

@@ -1,6 +1,5 @@
 -- What a hall in memory is asked and replies, as the machine's rule has it; and what a booth round it goes by.
 use Rattle.std.specs.Prelude.{ℕ, List, map}
-use Rattle.outside.specs.declared.outcomes.Settled.{Settled}
 use Rattle.call_rules.specs.PlainCalls.{PlainCall, PlainAnswer, IsPlainCall}
 use Rattle.call_rules.specs.Answers.{plain_answer}
 use Rattle.call_rules.specs.Handling.{handler_rules}

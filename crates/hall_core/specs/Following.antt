@@ -3,7 +3,6 @@ use Rattle.std.proofs.Common.{◌≡◌, ℕ, Bool, true, false, cond, List, [],
 use Rattle.host_model.proofs.Lists.{nil-cons}
 use Rattle.call_rules.specs.PlainCalls.{PlainCall, PlainAnswer}
 use Rattle.call_rules.specs.Handling.{ServiceState, handler_rules}
-use Rattle.call_history.specs.declared.seat_call.SeatCall.{SeatCall}
 use Rattle.call_history.specs.History.{seat_call, meaning_after, IsHistory}
 use Rattle.call_history.specs.Calls.{calls_by, asks_of, AllAllowed}
 use Rattle.machine_model.specs.OwnCalls.{HallAsk}

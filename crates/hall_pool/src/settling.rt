@@ -33,9 +33,7 @@ fn called<D: Desk, H: Handler, J: Journal, R: Wait>(
 {
     let silent = call.silent;
     match apply(rt, booth, seat, job.key, call) {
-        Tried::Answered(answer) => {
-            Some(settled_with(alloc, desk, job, silent, &answer))
-        }
+        Tried::Answered(answer) => { Some(settled_with(alloc, desk, job, silent, &answer)) }
         Tried::Unanswered => Some(Settled::NoMemory),
         Tried::Failed => None,
     }

@@ -23,7 +23,7 @@ step-reply-requires g c =
     let is_desk : IsDesk desk = g.met.D.Desk.holds c.args.desk.now in
     let q : desk.decide c.args.job.payload ≡ Invoke c.in-Apply.call = c.in-Apply.ensures in (
       subst (λ (job : Job). SeenCan handler_rules c.args.hall.now (apply job.key c.in-Apply.call)) (sym c.job.view_is)
-      (apply_can desk is_desk c.args.hall.now (Holds c.args.job) c.requires c.args.job.key c.args.job.payload c.in-Apply.call refl q),
+          (apply_can desk is_desk c.args.hall.now (Holds c.args.job) c.requires c.args.job.key c.args.job.payload c.in-Apply.call refl q),
       is_desk.plain c.args.job.payload c.in-Apply.call q,
     )
 
