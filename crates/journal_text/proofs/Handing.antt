@@ -4,7 +4,7 @@ use Rattle.std.specs.Prelude.{MatchResult}
 use Rattle.outside.specs.Cause.{HasCause}
 use Rattle.outside.specs.Content.{told_more}
 use Rattle.outside.specs.Taken.{IsTakenInPart}
-use Rattle.value_text.specs.Handing.{BreaksOff, HandsText}
+use Rattle.value_text.specs.Handing.{HandsText}
 
 -- bytes that are handed whole or in part
 pub hands_bytes : {A E : Type 0} (x y : Option (List ℕ)) (f g : ℕ) (text : List ℕ) (result : Result A E)
@@ -16,12 +16,6 @@ hands_bytes x y f g text (Err e) part cause =
       handed = record { front = part.taken.front; taken = part.taken.taken; whole = part.taken.whole; later = cause.later };
       rose = cause.failed refl;
     }
-
--- the text of a value, handed whole or broken off
-pub hands_value : {A E : Type 0} (x y : Option (List ℕ)) (f g : ℕ) (text : List ℕ) (result : Result A E)
-    → MatchResult result (λ _. y ≡ told_more x text) (λ _. BreaksOff x y f g text) → HasCause f g result → HandsText x y f g text result
-hands_value x y f g text (Ok a) told cause = record { front = text; taken = told; whole = sym (append-nil text); later = cause.later }
-hands_value x y f g text (Err e) part cause = part
 
 -- four parts, as a line has them
 pub line_parts : (front asked answer newline : List ℕ) → front ++ (asked ++ (answer ++ newline)) ≡ (front ++ (asked ++ answer)) ++ newline

@@ -4,7 +4,6 @@ ghost use Rattle.std.specs.Prelude.{◌≡◌, ◌+◌, ◌<◌, ◌≤◌, ℕ,
 ghost use Rattle.outside.specs.Cause.{HasCause};
 ghost use Rattle.outside.specs.Content.{HasWritten, told_more};
 ghost use Rattle.outside.specs.Taken.{IsTakenInPart};
-ghost use Rattle.call_rules.specs.PlainCalls.{IsPlainCall, IsPlainAnswer};
 ghost use Rattle.journal_text.specs.EntryText.{call_line};
 ghost use Rattle.journal_text.specs.JournalStates.{IsCutShort};
 
@@ -49,8 +48,6 @@ impl<K: Sink> Buffered<K> {
     /// Writes the line of an entry, and doesn't return before the sink has taken all of it or failed.
     pub(crate) fn write_line(&mut self, entry: &Entry) -> Result<(), Failed>
         requires none_held { self.old.held.items ≡ [] }
-        requires call { IsPlainCall entry.now.call }
-        requires answer { IsPlainAnswer entry.now.answer }
         ensures taken { MatchResult result
             (λ _. K.taken self.new.sink ≡ told_more (K.taken self.old.sink) (call_line entry.now))
             (λ _. IsCutShort (K.taken self.old.sink) (K.taken self.new.sink) (call_line entry.now)) }

@@ -23,7 +23,6 @@ mod printing;
 mod reading;
 mod sink_journal;
 mod spelling;
-mod words;
 
 pub use laws::{each_entry_is_one_line, lines_tell_entries};
 pub use list_journal::ListJournal;

@@ -6,7 +6,6 @@ ghost use Rattle.thrift_value.specs.TreeOf.{tree_of};
 ghost use Rattle.value_text.specs.Handing.{HandsText};
 ghost use Rattle.value_text.specs.ValueText.{tree_text};
 ghost use Rattle.call_rules.specs.Answers.{plain_answer};
-ghost use Rattle.call_rules.specs.PlainCalls.{IsPlainCall, IsPlainValue, IsPlainAnswer};
 ghost use Rattle.journal_text.specs.EntryText.{next_word, front_text, answered_text, call_line};
 
 use crate::front::{MOST_FRONT, put_front};
@@ -14,12 +13,10 @@ use call_rules::{Answer, Call, Entry, Key};
 use itoa::Buffer;
 use outside::{Failed, Sink, write_all};
 use thrift_value::Value;
-use value_text::spell;
+use value_text::spell_value;
 
 /// Hands the line of an entry to a sink.
 pub(crate) fn spell_entry<K: Sink>(out: &mut K, entry: &Entry) -> Result<(), Failed>
-    requires call { IsPlainCall entry.now.call }
-    requires answer { IsPlainAnswer entry.now.answer }
     ensures { HandsText (K.taken out.old) (K.taken out.new) (K.faults out.old) (K.faults out.new) (call_line entry.now) result }
 {
     spell_front(out, &entry.key, &entry.call)?;
@@ -48,7 +45,6 @@ fn spell_front<K: Sink>(out: &mut K, key: &Key, call: &Call) -> Result<(), Faile
 
 /// Hands the method and its arguments.
 fn spell_asked<K: Sink>(out: &mut K, call: &Call) -> Result<(), Failed>
-    requires { IsPlainValue call.now.args }
     ensures { HandsText (K.taken out.old) (K.taken out.new) (K.faults out.old) (K.faults out.new)
         (call.now.method ++ next_word (tree_text call.now.args)) result }
 {
@@ -58,7 +54,6 @@ fn spell_asked<K: Sink>(out: &mut K, call: &Call) -> Result<(), Failed>
 
 /// Hands a word and a value.
 fn spell_behind<K: Sink>(out: &mut K, word: &[u8], value: &Value) -> Result<(), Failed>
-    requires { IsPlainValue (tree_of value.now) }
     ensures { HandsText (K.taken out.old) (K.taken out.new) (K.faults out.old) (K.faults out.new)
         (word.now ++ tree_text (tree_of value.now)) result }
 {
@@ -66,16 +61,8 @@ fn spell_behind<K: Sink>(out: &mut K, word: &[u8], value: &Value) -> Result<(), 
     spell_value(out, value)
 }
 
-fn spell_value<K: Sink>(out: &mut K, value: &Value) -> Result<(), Failed>
-    requires { IsPlainValue (tree_of value.now) }
-    ensures { HandsText (K.taken out.old) (K.taken out.new) (K.faults out.old) (K.faults out.new) (tree_text (tree_of value.now)) result }
-{
-    spell(value, out)
-}
-
 /// Hands an answer.
 fn spell_answer<K: Sink>(out: &mut K, answer: &Answer) -> Result<(), Failed>
-    requires { IsPlainAnswer (plain_answer answer.now) }
     ensures { HandsText (K.taken out.old) (K.taken out.new) (K.faults out.old) (K.faults out.new)
         (next_word (answered_text (plain_answer answer.now))) result }
 {
@@ -89,7 +76,6 @@ fn spell_answer<K: Sink>(out: &mut K, answer: &Answer) -> Result<(), Failed>
 
 /// Hands an exception and its id.
 fn spell_thrown<K: Sink>(out: &mut K, id: &i16, exception: &Value) -> Result<(), Failed>
-    requires { IsPlainValue (tree_of exception.now) }
     ensures { HandsText (K.taken out.old) (K.taken out.new) (K.faults out.old) (K.faults out.new)
         (next_word (codes "throws " ++ (decimal_of id.now ++ next_word (tree_text (tree_of exception.now))))) result }
 {

@@ -2,12 +2,12 @@
 
 use std::alloc::{AllocError, Global};
 use std::test::Fail;
-use value_text::{TextFault, print, read, read_front};
+use value_text::{TextFault, VecSink, print, read, read_front, spell};
 
 // A text of each kind of value.
 const TEXT: &[u8] = b"{1=map<bytes,i32>{\"a\"=1i},2=set<i16>[1s,2s]}";
 
-// Texts that are read and printed to themselves.
+// Texts that are read, and printed and spelled to themselves.
 const READ: [&[u8]; 14] = [
     TEXT,
     b"true",
@@ -49,13 +49,17 @@ const REFUSED: [(&[u8], usize); 20] = [
     (b"map<i8,i8>{1b,", 13),
 ];
 
-// Whether a text is read and printed to itself.
+// Whether a text is read, and printed and spelled to itself.
 fn is_read(alloc: Global, text: &[u8]) -> Result<bool, AllocError> {
     let Ok(value) = read(alloc, text) else {
         return Ok(false);
     };
     let again = print(alloc, &value)?;
-    Ok(again.as_slice() == text)
+    let mut out = VecSink::take_from(&mut Vec::new(alloc));
+    if spell(&value, &mut out).is_err() {
+        return Err(AllocError);
+    }
+    Ok(again.as_slice() == text && out.content.as_slice() == text)
 }
 
 // Whether a text is refused at a place.

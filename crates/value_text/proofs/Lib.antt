@@ -1,4 +1,3 @@
-pub mod Appended
 pub mod Choices
 pub mod ContainersAgain
 pub mod ContainersFound

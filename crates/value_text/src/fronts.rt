@@ -6,8 +6,8 @@ ghost use Rattle.value_text.specs.Fronts.{digits_at, escaped_at, hex_at, hex_byt
 ghost use Rattle.value_text.specs.Reading.{most_rounds};
 ghost use Rattle.value_text.specs.Rows.{next_at, rest_behind};
 
-use crate::printer::word_of;
 use crate::stop::TextStop;
+use crate::words::word_of;
 use std::alloc::Global;
 use thrift_value::Tag;
 

@@ -1,7 +1,7 @@
 //! Values as text: one line a value, from which it can be told.
 //!
 //! `print(alloc, &value)` gives the text, `put_value(&mut text, &value)` appends it to a longer one, and `spell(&value, &mut out)`
-//! writes it into a sink, part by part, and takes no memory:
+//! writes it into a sink, part by part, and takes no memory. A vector is such a sink as a `VecSink`, so that one speller writes all:
 //!
 //! ```
 //! let text = print(alloc, &value)?;        // {1=5i,2="a",3=list<i8>[1b,-2b]}
@@ -10,7 +10,8 @@
 //! let (value, behind) = read_front(alloc, b"ok 5i", 3)?;
 //! ```
 //!
-//! A text with values in it, as a line of a journal, is read part by part with `value_at`, `past`, `positive_at` and `integer_at`.
+//! A text with values in it, as a line of a journal, is written part by part with `spell_value`, and read so with `value_at`, `past`,
+//! `positive_at` and `integer_at`.
 //!
 //! Integers have the letter of their type behind them (`b`, `s`, `i`, `l`), a double is `d` and its 64 bits in hexadecimal, bytes
 //! stand between quotation marks, and a container names its tags. Not here: names of an IDL, which a value doesn't have.
@@ -39,14 +40,17 @@ mod reading;
 mod rows;
 mod spelling;
 mod stop;
+mod vec_sink;
+mod words;
 
 pub use fault::TextFault;
 pub use fronts::{integer_at, past, positive_at};
 pub use printer::put_value;
 pub use reading::value_at;
 pub use rows::worked_texts;
-pub use spelling::spell;
+pub use spelling::{spell, spell_value};
 pub use stop::TextStop;
+pub use vec_sink::VecSink;
 
 /// The text of a value.
 pub fn print(alloc: Global, value: &Value) -> Result<Vec<u8>, AllocError>

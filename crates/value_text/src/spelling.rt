@@ -14,7 +14,7 @@ ghost use Rattle.value_text.specs.Handing.{HandsOver, HandsText, BreaksOff};
 ghost use Rattle.value_text.specs.Plain.{is_plain};
 ghost use Rattle.value_text.specs.ValueText.{tag_word, number_and_letter, double_text, tree_text, listed_fields, listed_items, listed_pairs, further_fields, further_items, further_pairs};
 
-use crate::printer::word_of;
+use crate::words::word_of;
 use itoa::Buffer;
 use outside::{Failed, Sink};
 use thrift_value::{Tag, Value};
@@ -231,10 +231,10 @@ fn spell_byte<K: Sink>(out: &mut K, byte: u8) -> Result<(), Failed>
     }
 }
 
-/// Writes the text of a value. It recurses once a level.
+/// Writes the text of any value, as a part of a longer text that a sink takes; takes no memory. It recurses once a level.
 #[tactic(auto, using(thrift_value::proofs::Trees::tree_equations))]
 #[cycle(value_speller)]
-fn spell_value<K: Sink>(out: &mut K, value: &Value) -> Result<(), Failed>
+pub fn spell_value<K: Sink>(out: &mut K, value: &Value) -> Result<(), Failed>
     ensures { HandsText (K.taken out.old) (K.taken out.new) (K.faults out.old) (K.faults out.new) (tree_text (tree_of value.now)) result }
 {
     match value {

@@ -3,7 +3,7 @@ use Rattle.thrift_value.specs.TreeOf.{tree_of}
 use Rattle.value_text.specs.ValueText.{tree_text}
 use Rattle.call_rules.specs.PlainCalls.{PlainCall}
 use Rattle.journal_text.specs.EntryText.{next_word}
-use Rattle.journal_text.proofs.HandedOn.{goes_on, breaks, hands_same}
+use Rattle.value_text.proofs.Handed.{goes_on, breaks, hands_same}
 use Rattle.journal_text.proofs.spelling.spell_asked.Goals as goal
 
 pub returns-in_err-hand : goal.returns-in_err-hand

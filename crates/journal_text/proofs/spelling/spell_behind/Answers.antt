@@ -1,6 +1,6 @@
 use Rattle.thrift_value.specs.TreeOf.{tree_of}
 use Rattle.value_text.specs.ValueText.{tree_text}
-use Rattle.journal_text.proofs.HandedOn.{goes_on, breaks}
+use Rattle.value_text.proofs.Handed.{goes_on, breaks}
 use Rattle.journal_text.proofs.spelling.spell_behind.Goals as goal
 
 pub returns-in_err-hand : goal.returns-in_err-hand

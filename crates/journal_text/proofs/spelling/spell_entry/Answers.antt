@@ -3,7 +3,7 @@ use Rattle.call_rules.specs.Answers.{plain_answer}
 use Rattle.value_text.specs.ValueText.{tree_text}
 use Rattle.journal_text.specs.EntryText.{front_text, answered_text, next_word, call_line}
 use Rattle.journal_text.proofs.Handing.{blank_parts}
-use Rattle.journal_text.proofs.HandedOn.{goes_on, breaks, hands_same}
+use Rattle.value_text.proofs.Handed.{goes_on, breaks, hands_same}
 use Rattle.journal_text.proofs.spelling.spell_entry.Goals as goal
 
 pub returns-in_err-spell_front : goal.returns-in_err-spell_front
