@@ -52,7 +52,7 @@ fn ring_out<R: Wait>(rt: &R, door: &Door, rings: u64) {
 
 /// Leads, and then rings once for each worker, so that it finds the hall closed; and once more, since an earlier ring may have
 /// been refused for memory.
-fn led<R: Wait, T, F: FnOnce(u32) -> T>(
+fn call_and_ring<R: Wait, T, F: FnOnce(u32) -> T>(
     rt: &R,
     door: &Door,
     workers: u32,
@@ -99,7 +99,7 @@ fn with_rest<
     ensures room { (vec_len result.1 ≡ vec_len seats) × (vec_capacity result.1 ≡ vec_capacity seats) }
 {
     let Some(seat) = seats.pop() else {
-        return (led(rt, place.door, workers, started, lead), seats);
+        return (call_and_ring(rt, place.door, workers, started, lead), seats);
     };
     let worker = Worker::new(seat);
     let (led, mut seats, worker) = thread::scope(

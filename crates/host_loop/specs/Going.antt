@@ -1,5 +1,5 @@
 -- What holds of a loop while it serves, and what is known of it where it has halted.
-use Rattle.std.specs.Prelude.{◌≡◌, ◌≤◌, ◌⊎◌, Bool, true, false}
+use Rattle.std.specs.Prelude.{◌≡◌, ◌≤◌, ◌⊎◌, Bool, true, false, Result, MatchResult, ℕ, []}
 use Rattle.outside.specs.Cause.{Rose}
 use Rattle.outside.specs.LinksState.{LinksState}
 use Rattle.conn_table.specs.declared.limits.Limits.{Limits}
@@ -11,13 +11,26 @@ use Rattle.machine_model.specs.OwnCalls.{any_of}
 use Rattle.machine_model.specs.OwnLoop.{CollectsItsOwn}
 use Rattle.machine_model.specs.Trouble.{is_close, any_fault_told}
 use Rattle.seat_booth.specs.Seats.{BoothView, IsSeatOf}
+use Rattle.hall_core.specs.declared.operation.HallOp.{HallOp}
+use Rattle.hall_core.specs.declared.operation.HallReply.{HallReply}
 use Rattle.hall_core.specs.Meant.{ServedHall}
 use Rattle.hall_pool.specs.Turns.{asks_made, HasMadeTurns}
 use Rattle.hall_pool.specs.Jobs.{HallSeat, IsOpenedFor}
+use Rattle.hall_crew.specs.declared.workplace.Workplace.{Workplace}
 use Rattle.link_loop.specs.declared.connections.LoopConnections.{LoopConnections}
 use Rattle.link_loop.specs.Woven.{HasWoven, IsGoingOn}
 use Rattle.link_loop.specs.Going.{most_payload, AreAllGone}
 use Rattle.host_loop.specs.Ending.{FindsItClosed}
+use Rattle.host_loop.specs.declared.opening.Tools.{Tools}
+use Rattle.host_loop.specs.declared.holdings.Run.{Run}
+use Rattle.host_loop.specs.declared.holdings.Serving.{Serving}
+
+-- tools with which nothing was done yet: no connection is known
+pub record AreNewTools {B : Type 0} (budget : ℕ) (tools : Tools B) : Type 0 where
+  pub table : tools.conns.table ≡ record { budget = budget; slots = [] }
+  pub places : tools.conns.places.items ≡ []
+  pub causes : tools.conns.causes.items ≡ []
+  pub owing : tools.conns.owing ≡ 0
 
 -- The loop serves, over links that were so when they came in: what it did is a part of a run, with its seat's calls, which are number 0's and have not closed the hall; and
 -- its own worker has made whole turns.
@@ -62,3 +75,45 @@ pub record IsHalted (desk : DeskMeaning) (limits : Limits) (booth : BoothView Se
 pub record IsAtEnd (desk : DeskMeaning) (limits : Limits) (booth : BoothView ServedHall) (first links : LinksState) (kept : LoopConnections) (loop_seat own_seat : HallSeat) (outcome : Outcome) : Type 0 where
   pub halted : IsHalted desk limits booth first links kept loop_seat own_seat outcome
   pub gone : AreAllGone kept
+
+-- a loop at a hall, of any handlers and any journal
+abbrev pub HallLoop : Type 0 → Type 0
+HallLoop O = Serving O HallOp HallReply ServedHall
+
+-- what such a loop stands on: a desk, a gate, and links with their bell
+abbrev pub HallRun : Type 0 → Type 0 → Type 0 → Type 0 → Type 0 → Type 0
+HallRun O D G L B = Run O D G L HallOp HallReply ServedHall B
+
+-- where workers of such a hall work: with a desk, a gate and a bell
+abbrev pub HallPlace : Type 0 → Type 0 → Type 0 → Type 0 → Type 0
+HallPlace O D G B = Workplace O D G B HallOp HallReply ServedHall
+
+-- What a loop in memory stands on is seen by what a desk means, and what links have told.
+module _ {O D G L B : Type 0} (meaning : D → DeskMeaning) (state : L → LinksState) where
+  -- the loop serves over these links, with all that it stands on
+  abbrev pub Serves : HallRun O D G L B → L → HallLoop O → Type 0
+  Serves run links loop = IsServing (meaning run.desk.now) run.limits run.booth.now (state run.first.value) (state links) loop.conns loop.seat loop.own
+
+  -- it has halted there, for this reason
+  abbrev pub Halts : HallRun O D G L B → L → HallLoop O → Outcome → Type 0
+  Halts run links loop why = IsHalted (meaning run.desk.now) run.limits run.booth.now (state run.first.value) (state links) loop.conns loop.seat loop.own why
+
+  -- it serves over some links
+  abbrev pub ServesSomewhere : HallRun O D G L B → HallLoop O → Type 0
+  ServesSomewhere run loop = (links : L) × Serves run links loop
+
+  -- Over whichever links it served, it serves on where this is Ok, and else it has halted, for the reason that is told.
+  abbrev pub KeepsServing : {T : Type 0} → HallRun O D G L B → HallLoop O → HallLoop O → Result T Outcome → Type 0
+  KeepsServing run old new result = (links : L) → Serves run links old → MatchResult result (λ _. Serves run links new) (λ why. Halts run links new why)
+
+  -- it has ended there, for this reason
+  abbrev pub EndsOver : HallRun O D G L B → L → HallLoop O → Outcome → Type 0
+  EndsOver run links loop why = IsAtEnd (meaning run.desk.now) run.limits run.booth.now (state run.first.value) (state links) loop.conns loop.seat loop.own why
+
+  -- the loop serves in this place, over links as they came in
+  abbrev pub BeginsToServe : HallPlace O D G B → Limits → L → HallLoop O → Type 0
+  BeginsToServe place limits links loop = IsServing (meaning place.desk.now) limits place.booth.now (state links) (state links) loop.conns loop.seat loop.own
+
+  -- it has ended in this place, over links that came in so, for this reason
+  abbrev pub EndsIn : HallPlace O D G B → Limits → L → L → HallLoop O → Outcome → Type 0
+  EndsIn place limits first links loop why = IsAtEnd (meaning place.desk.now) limits place.booth.now (state first) (state links) loop.conns loop.seat loop.own why

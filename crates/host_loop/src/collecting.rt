@@ -1,7 +1,7 @@
 //! How outcomes are collected, and what each allows.
 
 ghost use Rattle.std.specs.Prelude.{◌≡◌, OnOk, IfErr};
-ghost use Rattle.host_loop.specs.Going.{IsServing, IsHalted};
+ghost use Rattle.host_loop.specs.Going.{Serves, Halts, ServesSomewhere, KeepsServing};
 
 use crate::asking::{Collected, collect};
 use crate::holdings::{Run, Serving};
@@ -17,40 +17,24 @@ use std::sync::Wait;
 const MOST_OUTCOMES: u32 = 64;
 
 impl<H: Handler, J: Journal> Serving<Hall<H, J>> {
-    /// Makes one turn with the loop's own worker.
+    /// Makes one turn with the loop's own worker, where no other runs.
     fn make_turn<L: Links, D: Desk, G: Gate, R: Wait>(
         &mut self,
         rt: &R,
         run: &Run<Hall<H, J>, D, G, L>,
-        links: &L,
     ) -> Result<(), Outcome>
-        requires serving { IsServing (D.meaning run.now.desk.now) run.now.limits run.now.booth.now (L.state run.now.first.value) (L.state links.now) self.old.conns self.old.seat self.old.own }
-        ensures serving { OnOk result (IsServing (D.meaning run.now.desk.now) run.now.limits run.now.booth.now (L.state run.now.first.value) (L.state links.now) self.new.conns self.new.seat self.new.own) }
-        ensures halted { IfErr result (λ why. IsHalted (D.meaning run.now.desk.now) run.now.limits run.now.booth.now (L.state run.now.first.value) (L.state links.now) self.new.conns self.new.seat self.new.own why) }
+        requires serving { ServesSomewhere D.meaning L.state run.now self.old }
+        ensures kept { KeepsServing D.meaning L.state run.now self.old self.new result }
     {
+        if run.crewed {
+            return Ok(());
+        }
         match self.own.turn(rt, run.alloc, run.booth, run.desk, run.gate) {
             Turn::Worked(_) => Ok(()),
             Turn::Empty => Ok(()),
             Turn::Closed => Ok(()),
             Turn::Journal => Err(Outcome::JournalFault),
         }
-    }
-
-    /// Makes one turn where no other worker runs.
-    fn make_turn_alone<L: Links, D: Desk, G: Gate, R: Wait>(
-        &mut self,
-        rt: &R,
-        run: &Run<Hall<H, J>, D, G, L>,
-        links: &L,
-    ) -> Result<(), Outcome>
-        requires serving { IsServing (D.meaning run.now.desk.now) run.now.limits run.now.booth.now (L.state run.now.first.value) (L.state links.now) self.old.conns self.old.seat self.old.own }
-        ensures serving { OnOk result (IsServing (D.meaning run.now.desk.now) run.now.limits run.now.booth.now (L.state run.now.first.value) (L.state links.now) self.new.conns self.new.seat self.new.own) }
-        ensures halted { IfErr result (λ why. IsHalted (D.meaning run.now.desk.now) run.now.limits run.now.booth.now (L.state run.now.first.value) (L.state links.now) self.new.conns self.new.seat self.new.own why) }
-    {
-        if run.crewed {
-            return Ok(());
-        }
-        self.make_turn(rt, run, links)
     }
 
     /// Collects the oldest outcome, where there is one, and takes it. It answers whose it was.
@@ -60,9 +44,9 @@ impl<H: Handler, J: Journal> Serving<Hall<H, J>> {
         run: &Run<Hall<H, J>, D, G, L>,
         links: &mut L,
     ) -> Result<Option<u32>, Outcome>
-        requires serving { IsServing (D.meaning run.now.desk.now) run.now.limits run.now.booth.now (L.state run.now.first.value) (L.state links.old) self.old.conns self.old.seat self.old.own }
-        ensures serving { OnOk result (IsServing (D.meaning run.now.desk.now) run.now.limits run.now.booth.now (L.state run.now.first.value) (L.state links.new) self.new.conns self.new.seat self.new.own) }
-        ensures halted { IfErr result (λ why. IsHalted (D.meaning run.now.desk.now) run.now.limits run.now.booth.now (L.state run.now.first.value) (L.state links.new) self.new.conns self.new.seat self.new.own why) }
+        requires serving { Serves D.meaning L.state run.now links.old self.old }
+        ensures serving { OnOk result (Serves D.meaning L.state run.now links.new self.new) }
+        ensures halted { IfErr result (Halts D.meaning L.state run.now links.new self.new) }
         ensures plan { L.plan links.new ≡ L.plan links.old }
     {
         match collect(rt, run.booth, &mut self.seat) {
@@ -82,17 +66,17 @@ impl<H: Handler, J: Journal> Serving<Hall<H, J>> {
         run: &Run<Hall<H, J>, D, G, L>,
         links: &mut L,
     ) -> Result<bool, Outcome>
-        requires serving { IsServing (D.meaning run.now.desk.now) run.now.limits run.now.booth.now (L.state run.now.first.value) (L.state links.old) self.old.conns self.old.seat self.old.own }
-        ensures serving { OnOk result (IsServing (D.meaning run.now.desk.now) run.now.limits run.now.booth.now (L.state run.now.first.value) (L.state links.new) self.new.conns self.new.seat self.new.own) }
-        ensures halted { IfErr result (λ why. IsHalted (D.meaning run.now.desk.now) run.now.limits run.now.booth.now (L.state run.now.first.value) (L.state links.new) self.new.conns self.new.seat self.new.own why) }
+        requires serving { Serves D.meaning L.state run.now links.old self.old }
+        ensures serving { OnOk result (Serves D.meaning L.state run.now links.new self.new) }
+        ensures halted { IfErr result (Halts D.meaning L.state run.now links.new self.new) }
         ensures plan { L.plan links.new ≡ L.plan links.old }
     {
-        self.make_turn_alone(rt, run, links)?;
+        self.make_turn(rt, run)?;
         let Some(c) = self.collect(rt, run, links)? else {
             return Ok(false);
         };
         self.visit(rt, run, links, c)?;
-        self.relieve_all(rt, run, links)?;
+        self.retry_all_held(rt, run, links)?;
         Ok(self.conns.owing > 0)
     }
 
@@ -104,9 +88,9 @@ impl<H: Handler, J: Journal> Serving<Hall<H, J>> {
         run: &Run<Hall<H, J>, D, G, L>,
         links: &mut L,
     ) -> Result<(), Outcome>
-        requires serving { IsServing (D.meaning run.now.desk.now) run.now.limits run.now.booth.now (L.state run.now.first.value) (L.state links.old) self.old.conns self.old.seat self.old.own }
-        ensures serving { OnOk result (IsServing (D.meaning run.now.desk.now) run.now.limits run.now.booth.now (L.state run.now.first.value) (L.state links.new) self.new.conns self.new.seat self.new.own) }
-        ensures halted { IfErr result (λ why. IsHalted (D.meaning run.now.desk.now) run.now.limits run.now.booth.now (L.state run.now.first.value) (L.state links.new) self.new.conns self.new.seat self.new.own why) }
+        requires serving { Serves D.meaning L.state run.now links.old self.old }
+        ensures serving { OnOk result (Serves D.meaning L.state run.now links.new self.new) }
+        ensures halted { IfErr result (Halts D.meaning L.state run.now links.new self.new) }
         ensures plan { L.plan links.new ≡ L.plan links.old }
     {
         for _ in 0..MOST_OUTCOMES {
@@ -127,9 +111,9 @@ impl<H: Handler, J: Journal> Serving<Hall<H, J>> {
         run: &Run<Hall<H, J>, D, G, L>,
         links: &mut L,
     ) -> Result<(), Outcome>
-        requires serving { IsServing (D.meaning run.now.desk.now) run.now.limits run.now.booth.now (L.state run.now.first.value) (L.state links.old) self.old.conns self.old.seat self.old.own }
-        ensures serving { OnOk result (IsServing (D.meaning run.now.desk.now) run.now.limits run.now.booth.now (L.state run.now.first.value) (L.state links.new) self.new.conns self.new.seat self.new.own) }
-        ensures halted { IfErr result (λ why. IsHalted (D.meaning run.now.desk.now) run.now.limits run.now.booth.now (L.state run.now.first.value) (L.state links.new) self.new.conns self.new.seat self.new.own why) }
+        requires serving { Serves D.meaning L.state run.now links.old self.old }
+        ensures serving { OnOk result (Serves D.meaning L.state run.now links.new self.new) }
+        ensures halted { IfErr result (Halts D.meaning L.state run.now links.new self.new) }
         ensures plan { L.plan links.new ≡ L.plan links.old }
     {
         if run.crewed {

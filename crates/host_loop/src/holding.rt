@@ -4,8 +4,7 @@ ghost use Rattle.std.specs.Prelude.{◌≡◌, IsTrue, IsSome, IfOk, OnOk, IfErr
 ghost use Rattle.conn_state.specs.Phase.{IsHeld};
 ghost use Rattle.conn_table.specs.Slots.{slot_in};
 ghost use Rattle.conn_table.specs.Table.{slot_of};
-ghost use Rattle.link_loop.specs.Going.{IsOpenAt, WaitsAt};
-ghost use Rattle.host_loop.specs.Going.{IsServing, IsHalted};
+ghost use Rattle.host_loop.specs.Going.{Serves, Halts};
 ghost use Rattle.host_loop.specs.Held.{IsFoundSo, HeldLookTells, IsToldHeld, SomeIsHeld};
 
 use crate::holdings::{Run, Serving};
@@ -47,61 +46,29 @@ fn waits(conns: &LoopConnections, c: u32) -> bool
 }
 
 impl<H: Handler, J: Journal> Serving<Hall<H, J>> {
-    /// Tries to admit a frame that waits.
-    fn try_waiting<L: Links, D: Desk, G>(
-        &mut self,
-        run: &Run<Hall<H, J>, D, G, L>,
-        links: &mut L,
-        c: u32,
-    ) -> Found
-        requires serving { IsServing (D.meaning run.now.desk.now) run.now.limits run.now.booth.now (L.state run.now.first.value) (L.state links.old) self.old.conns self.old.seat self.old.own }
-        requires waits { WaitsAt c self.old.conns }
-        ensures serving { IsServing (D.meaning run.now.desk.now) run.now.limits run.now.booth.now (L.state run.now.first.value) (L.state links.new) self.new.conns self.new.seat self.new.own }
-        ensures plan { L.plan links.new ≡ L.plan links.old }
-        ensures found { IsFoundSo c self.new.conns result }
-    {
-        match self.conns.admit(run.alloc, links, c) {
-            Admission::Admitted => Found::Admitted,
-            Admission::Refused => Found::NoRoom,
-            Admission::Over => Found::Gone,
-        }
-    }
-
-    /// Tries to admit the frame of a connection that is open.
-    fn try_open<L: Links, D: Desk, G>(
-        &mut self,
-        run: &Run<Hall<H, J>, D, G, L>,
-        links: &mut L,
-        c: u32,
-    ) -> Found
-        requires serving { IsServing (D.meaning run.now.desk.now) run.now.limits run.now.booth.now (L.state run.now.first.value) (L.state links.old) self.old.conns self.old.seat self.old.own }
-        requires open { IsOpenAt c self.old.conns }
-        ensures serving { IsServing (D.meaning run.now.desk.now) run.now.limits run.now.booth.now (L.state run.now.first.value) (L.state links.new) self.new.conns self.new.seat self.new.own }
-        ensures plan { L.plan links.new ≡ L.plan links.old }
-        ensures found { IsFoundSo c self.new.conns result }
-    {
-        if waits(&self.conns, c) {
-            return self.try_waiting(run, links, c);
-        }
-        Found::Gone
-    }
-
-    /// Tries to admit the frame of a connection, if it is open.
+    /// Tries to admit the frame of a connection, if it is open, and its frame waits.
     fn try_one<L: Links, D: Desk, G>(
         &mut self,
         run: &Run<Hall<H, J>, D, G, L>,
         links: &mut L,
         c: u32,
     ) -> Found
-        requires serving { IsServing (D.meaning run.now.desk.now) run.now.limits run.now.booth.now (L.state run.now.first.value) (L.state links.old) self.old.conns self.old.seat self.old.own }
-        ensures serving { IsServing (D.meaning run.now.desk.now) run.now.limits run.now.booth.now (L.state run.now.first.value) (L.state links.new) self.new.conns self.new.seat self.new.own }
+        requires serving { Serves D.meaning L.state run.now links.old self.old }
+        ensures serving { Serves D.meaning L.state run.now links.new self.new }
         ensures plan { L.plan links.new ≡ L.plan links.old }
         ensures found { IsFoundSo c self.new.conns result }
     {
-        if self.conns.is_open(c) {
-            return self.try_open(run, links, c);
+        if !self.conns.is_open(c) {
+            return Found::Gone;
         }
-        Found::Gone
+        if !waits(&self.conns, c) {
+            return Found::Gone;
+        }
+        match self.conns.admit(run.alloc, links, c) {
+            Admission::Admitted => Found::Admitted,
+            Admission::Refused => Found::NoRoom,
+            Admission::Over => Found::Gone,
+        }
     }
 
     /// Takes out the connection at this place of those that are held.
@@ -121,8 +88,8 @@ impl<H: Handler, J: Journal> Serving<Hall<H, J>> {
         run: &Run<Hall<H, J>, D, G, L>,
         links: &mut L,
     ) -> HeldLook
-        requires serving { IsServing (D.meaning run.now.desk.now) run.now.limits run.now.booth.now (L.state run.now.first.value) (L.state links.old) self.old.conns self.old.seat self.old.own }
-        ensures serving { IsServing (D.meaning run.now.desk.now) run.now.limits run.now.booth.now (L.state run.now.first.value) (L.state links.new) self.new.conns self.new.seat self.new.own }
+        requires serving { Serves D.meaning L.state run.now links.old self.old }
+        ensures serving { Serves D.meaning L.state run.now links.new self.new }
         ensures plan { L.plan links.new ≡ L.plan links.old }
         ensures look { HeldLookTells self.new.conns result }
     {
@@ -147,15 +114,15 @@ impl<H: Handler, J: Journal> Serving<Hall<H, J>> {
     }
 
     /// Looks once at those that are held, and visits the one that is admitted. It answers whether to look again, and else whether one is held.
-    pub(crate) fn relieve<L: Links, D: Desk, G, R: Wait>(
+    pub(crate) fn retry_held<L: Links, D: Desk, G, R: Wait>(
         &mut self,
         rt: &R,
         run: &Run<Hall<H, J>, D, G, L>,
         links: &mut L,
     ) -> Result<Option<bool>, Outcome>
-        requires serving { IsServing (D.meaning run.now.desk.now) run.now.limits run.now.booth.now (L.state run.now.first.value) (L.state links.old) self.old.conns self.old.seat self.old.own }
-        ensures serving { OnOk result (IsServing (D.meaning run.now.desk.now) run.now.limits run.now.booth.now (L.state run.now.first.value) (L.state links.new) self.new.conns self.new.seat self.new.own) }
-        ensures halted { IfErr result (λ why. IsHalted (D.meaning run.now.desk.now) run.now.limits run.now.booth.now (L.state run.now.first.value) (L.state links.new) self.new.conns self.new.seat self.new.own why) }
+        requires serving { Serves D.meaning L.state run.now links.old self.old }
+        ensures serving { OnOk result (Serves D.meaning L.state run.now links.new self.new) }
+        ensures halted { IfErr result (Halts D.meaning L.state run.now links.new self.new) }
         ensures plan { L.plan links.new ≡ L.plan links.old }
         ensures held { IfOk result (λ found. IsToldHeld self.new.conns found) }
     {
@@ -171,20 +138,20 @@ impl<H: Handler, J: Journal> Serving<Hall<H, J>> {
 
     /// Admits frames that are held as long as there is room for any. Each look that goes on takes one of them out, and none comes back before an outcome of its
     /// connection is collected, so it ends. It answers whether one is held.
-    pub(crate) fn relieve_all<L: Links, D: Desk, G, R: Wait>(
+    pub(crate) fn retry_all_held<L: Links, D: Desk, G, R: Wait>(
         &mut self,
         rt: &R,
         run: &Run<Hall<H, J>, D, G, L>,
         links: &mut L,
     ) -> Result<bool, Outcome>
-        requires serving { IsServing (D.meaning run.now.desk.now) run.now.limits run.now.booth.now (L.state run.now.first.value) (L.state links.old) self.old.conns self.old.seat self.old.own }
-        ensures serving { OnOk result (IsServing (D.meaning run.now.desk.now) run.now.limits run.now.booth.now (L.state run.now.first.value) (L.state links.new) self.new.conns self.new.seat self.new.own) }
-        ensures halted { IfErr result (λ why. IsHalted (D.meaning run.now.desk.now) run.now.limits run.now.booth.now (L.state run.now.first.value) (L.state links.new) self.new.conns self.new.seat self.new.own why) }
+        requires serving { Serves D.meaning L.state run.now links.old self.old }
+        ensures serving { OnOk result (Serves D.meaning L.state run.now links.new self.new) }
+        ensures halted { IfErr result (Halts D.meaning L.state run.now links.new self.new) }
         ensures plan { L.plan links.new ≡ L.plan links.old }
         ensures held { IfOk result (λ one. IsTrue one → SomeIsHeld self.new.conns) }
     {
         for _ in rt.forever() {
-            match self.relieve(rt, run, links) {
+            match self.retry_held(rt, run, links) {
                 Ok(Some(one)) => return Ok(one),
                 Ok(None) => {}
                 Err(why) => return Err(why),

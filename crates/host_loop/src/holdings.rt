@@ -9,6 +9,15 @@ use seat_booth::{Booth, Object, Seat};
 use std::alloc::Global;
 use std::snapshot::Snapshot;
 
+/// What serves: a desk, a gate that jobs pass, and the limits.
+#[derive(Drop)]
+pub(crate) struct Host<'a, D, G> {
+    pub alloc: Global,
+    pub desk: &'a D,
+    pub gate: &'a G,
+    pub limits: Limits,
+}
+
 /// What a loop stands on, and doesn't change.
 #[derive(Drop)]
 pub(crate) struct Run<'a, O: Object, D, G, L: Links> {

@@ -2,7 +2,7 @@
 
 ghost use Rattle.std.specs.Prelude.{◌≡◌, ◌≤◌, All, vec_len, vec_capacity};
 ghost use Rattle.hall_crew.specs.Crew.{MayServe, HasServed};
-ghost use Rattle.host_loop.specs.Going.{IsServing, IsAtEnd};
+ghost use Rattle.host_loop.specs.Going.{BeginsToServe, EndsIn};
 
 use crate::holdings::{Run, Serving};
 use call_rules::{Desk, Handler, Journal};
@@ -16,7 +16,7 @@ use std::sync::Wait;
 use std::thread::Threads;
 
 /// The loop, beside so many workers that were started. What it holds comes back, and how it came out.
-fn lead<L: Links, D: Desk, G: Gate, H: Handler, J: Journal, R: Wait>(
+fn run_loop<L: Links, D: Desk, G: Gate, H: Handler, J: Journal, R: Wait>(
     rt: &R,
     place: &Workplace<Hall<H, J>, D, G, L::Bell>,
     links: &mut L,
@@ -24,8 +24,8 @@ fn lead<L: Links, D: Desk, G: Gate, H: Handler, J: Journal, R: Wait>(
     limits: Limits,
     started: u32,
 ) -> (Outcome, Serving<Hall<H, J>>)
-    requires serving { IsServing (D.meaning place.now.desk.now) limits place.now.booth.now (L.state links.old) (L.state links.old) serving.conns serving.seat serving.own }
-    ensures ended { IsAtEnd (D.meaning place.now.desk.now) limits place.now.booth.now (L.state links.old) (L.state links.new) result.1.conns result.1.seat result.1.own result.0 }
+    requires serving { BeginsToServe D.meaning L.state place.now limits links.old serving }
+    ensures ended { EndsIn D.meaning L.state place.now limits links.old links.new result.1 result.0 }
     ensures plan { L.plan links.new ≡ L.plan links.old }
 {
     let mut serving = serving;
@@ -40,7 +40,7 @@ fn lead<L: Links, D: Desk, G: Gate, H: Handler, J: Journal, R: Wait>(
         limits,
         crewed: started > 0,
     };
-    let outcome = serving.serve(rt, &run, links);
+    let outcome = serving.run_to_end(rt, &run, links);
     (outcome, serving)
 }
 
@@ -60,10 +60,10 @@ pub(crate) fn lead_crew<
     crew: Vec<Seat<Hall<H, J>>>,
     limits: Limits,
 ) -> (Outcome, Serving<Hall<H, J>>, Vec<Seat<Hall<H, J>>>)
-    requires serving { IsServing (D.meaning place.now.desk.now) limits place.now.booth.now (L.state links.old) (L.state links.old) serving.conns serving.seat serving.own }
+    requires serving { BeginsToServe D.meaning L.state place.now limits links.old serving }
     requires crew { All (MayServe (D.meaning place.now.desk.now) place.now.booth.now) crew.items }
     requires few { vec_len crew ≤ 8 }
-    ensures ended { IsAtEnd (D.meaning place.now.desk.now) limits place.now.booth.now (L.state links.old) (L.state links.new) result.1.conns result.1.seat result.1.own result.0 }
+    ensures ended { EndsIn D.meaning L.state place.now limits links.old links.new result.1 result.0 }
     ensures plan { L.plan links.new ≡ L.plan links.old }
     ensures crew { All (HasServed (D.meaning place.now.desk.now) place.now.booth.now) result.2.items }
     ensures room { (vec_len result.2 ≡ vec_len crew) × (vec_capacity result.2 ≡ vec_capacity crew) }
@@ -73,12 +73,12 @@ pub(crate) fn lead_crew<
         place,
         crew,
         move |started| -> (&mut L, Outcome, Serving<Hall<H, J>>)
-            requires serving { IsServing (D.meaning place.now.desk.now) limits place.now.booth.now (L.state links.now) (L.state links.now) serving.conns serving.seat serving.own }
+            requires serving { BeginsToServe D.meaning L.state place.now limits links.now serving }
             ensures same { result.0.ghost_name ≡ links.entry.ghost_name }
-            ensures ended { IsAtEnd (D.meaning place.entry.now.desk.now) limits place.entry.now.booth.now (L.state links.entry.now) (L.state result.0.now) result.2.conns result.2.seat result.2.own result.1 }
+            ensures ended { EndsIn D.meaning L.state place.entry.now limits links.entry.now result.0.now result.2 result.1 }
             ensures plan { L.plan result.0.now ≡ L.plan links.entry.now }
         {
-            let (outcome, serving) = lead(rt, place, links, serving, limits, started);
+            let (outcome, serving) = run_loop(rt, place, links, serving, limits, started);
             (links, outcome, serving)
         },
     );

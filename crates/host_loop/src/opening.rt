@@ -1,6 +1,7 @@
 //! What serving takes before it begins, and what it hands back where there was no memory for that.
 
 ghost use Rattle.std.specs.Prelude.{◌≡◌, [], IfSome};
+ghost use Rattle.host_loop.specs.Going.{AreNewTools};
 ghost use Rattle.conn_table.specs.declared.limits.Outcome.TheVariants.{NoMemory};
 
 use crate::buffer::Buffer;
@@ -30,8 +31,7 @@ pub(crate) fn make_tools<L: Links>(
     links: &L,
     read_budget: u64,
 ) -> Option<Tools<L::Bell>>
-    ensures table { IfSome result (λ tools. tools.conns.table ≡ record { budget = read_budget; slots = [] }) }
-    ensures none { IfSome result (λ tools. (tools.conns.places.items ≡ []) × (tools.conns.causes.items ≡ []) × (tools.conns.owing ≡ 0)) }
+    ensures { IfSome result (AreNewTools read_budget) }
 {
     let conns = LoopConnections::new(alloc, read_budget).ok()?;
     let buffer = Buffer::new(alloc).ok()?;

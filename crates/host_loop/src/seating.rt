@@ -8,22 +8,22 @@ ghost use Rattle.seat_booth.specs.Seats.{IsSeatOf};
 ghost use Rattle.hall_pool.specs.Jobs.{IsOpenedFor};
 ghost use Rattle.hall_crew.specs.Crew.{IsNewSeating};
 ghost use Rattle.link_loop.specs.Going.{most_payload};
+ghost use Rattle.host_loop.specs.Going.{AreNewTools};
 ghost use Rattle.host_loop.specs.Left.{IsLeftOf};
 ghost use Rattle.host_loop.specs.Served.{IsServed};
 
-use crate::holdings::Serving;
+use crate::holdings::{Host, Serving};
 use crate::laws::{nothing_is_served, what_ends_is_served};
 use crate::leading::lead_crew;
 use crate::opening::{Tools, unserved};
 use crate::serving::Served;
 use call_rules::{Desk, Handler, Journal};
-use conn_table::{Limits, Outcome};
+use conn_table::Outcome;
 use hall_core::Hall;
 use hall_crew::{Seating, Workplace, close_all, open_for_crew};
 use hall_pool::Worker;
 use outside::{Gate, Links};
 use seat_booth::{Booth, NoBooth, Seat};
-use std::alloc::Global;
 use std::sync::Wait;
 use std::thread::Threads;
 
@@ -70,27 +70,23 @@ fn serve_at<
     R: Threads + Wait + Sync,
 >(
     rt: &R,
-    alloc: Global,
+    host: &Host<D, G>,
     links: &mut L,
-    desk: &D,
-    gate: &G,
     booth: Booth<Hall<H, J>>,
     seating: Seating<Hall<H, J>>,
     tools: Tools<L::Bell>,
-    limits: Limits,
 ) -> Served<H, J>
     requires fresh { AreFreshLinks (L.state links.old) }
-    requires small { limits.max_frame ≤ most_payload }
-    requires longest { (D.meaning desk.now).max_frame ≡ limits.max_frame }
-    requires opened { IsOpenedFor (D.meaning desk.now) booth }
-    requires table { tools.conns.table ≡ record { budget = limits.read_budget; slots = [] } }
-    requires none { (tools.conns.places.items ≡ []) × (tools.conns.causes.items ≡ []) × (tools.conns.owing ≡ 0) }
+    requires small { host.now.limits.max_frame ≤ most_payload }
+    requires longest { (D.meaning host.now.desk.now).max_frame ≡ host.now.limits.max_frame }
+    requires opened { IsOpenedFor (D.meaning host.now.desk.now) booth }
+    requires tools { AreNewTools host.now.limits.read_budget tools }
     requires many { booth.seats ≤ 10 }
     requires seating { (workers : ℕ) × (booth.seats ≡ workers + 2) × IsNewSeating booth workers seating.first seating.own seating.crew.items }
     requires room { vec_len seating.crew + 2 ≤ vec_capacity seating.crew }
     ensures plan { L.plan links.new ≡ L.plan links.old }
     ensures served { IsServed
-        (record { desk = D.meaning desk.now; services = booth.opening.memories; budget = limits.read_budget })
+        (record { desk = D.meaning host.now.desk.now; services = booth.opening.memories; budget = host.now.limits.read_budget })
         (record {
           first = L.state links.old;
           links = L.state links.new;
@@ -115,18 +111,18 @@ fn serve_at<
         conns,
         seat: first,
         own: Worker::new(own),
-        held: Vec::new(alloc),
+        held: Vec::new(host.alloc),
         buffer,
     };
     let place = Workplace {
-        alloc,
+        alloc: host.alloc,
         booth: &booth,
-        desk,
-        gate,
+        desk: host.desk,
+        gate: host.gate,
         door: &door,
         bell: &bell,
     };
-    let (outcome, serving, crew) = lead_crew(rt, &place, links, serving, crew, limits);
+    let (outcome, serving, crew) = lead_crew(rt, &place, links, serving, crew, host.limits);
     end(booth, serving, crew, outcome)
 }
 
@@ -140,27 +136,23 @@ pub(crate) fn serve_hall<
     R: Threads + Wait + Sync,
 >(
     rt: &R,
-    alloc: Global,
+    host: &Host<D, G>,
     links: &mut L,
-    desk: &D,
-    gate: &G,
     hall: Hall<H, J>,
     tools: Tools<L::Bell>,
     workers: u32,
-    limits: Limits,
 ) -> Served<H, J>
     requires fresh { AreFreshLinks (L.state links.old) }
-    requires small { limits.max_frame ≤ most_payload }
-    requires longest { (D.meaning desk.now).max_frame ≡ limits.max_frame }
+    requires small { host.now.limits.max_frame ≤ most_payload }
+    requires longest { (D.meaning host.now.desk.now).max_frame ≡ host.now.limits.max_frame }
     requires newly { IsNewlyOpened (filled hall []) }
     requires empty { MayHave hall.told [] }
-    requires slots { length hall.memories ≡ (D.meaning desk.now).slots }
+    requires slots { length hall.memories ≡ (D.meaning host.now.desk.now).slots }
     requires workers { workers ≤ 8 }
-    requires table { tools.conns.table ≡ record { budget = limits.read_budget; slots = [] } }
-    requires none { (tools.conns.places.items ≡ []) × (tools.conns.causes.items ≡ []) × (tools.conns.owing ≡ 0) }
+    requires tools { AreNewTools host.now.limits.read_budget tools }
     ensures plan { L.plan links.new ≡ L.plan links.old }
     ensures served { IsServed
-        (record { desk = D.meaning desk.now; services = hall.memories; budget = limits.read_budget })
+        (record { desk = D.meaning host.now.desk.now; services = hall.memories; budget = host.now.limits.read_budget })
         (record {
           first = L.state links.old;
           links = L.state links.new;
@@ -174,13 +166,11 @@ pub(crate) fn serve_hall<
         }) }
 {
     nothing_is_served();
-    match open_for_crew(alloc, hall, workers) {
-        Ok((booth, seating)) => {
-            serve_at(rt, alloc, links, desk, gate, booth, seating, tools, limits)
-        }
+    match open_for_crew(host.alloc, hall, workers) {
+        Ok((booth, seating)) => serve_at(rt, host, links, booth, seating, tools),
         Err(NoBooth(hall)) => {
             let (handlers, journal) = hall.into_parts();
-            unserved(alloc, handlers, journal)
+            unserved(host.alloc, handlers, journal)
         }
     }
 }

@@ -5,6 +5,7 @@ ghost use Rattle.outside.specs.Opening.{AreFreshLinks};
 ghost use Rattle.machine_model.specs.SeenHall.{MayHave};
 ghost use Rattle.host_loop.specs.Served.{IsServed};
 
+use crate::holdings::Host;
 use crate::laws::nothing_is_served;
 use crate::opening::{make_tools, unserved};
 use crate::seating::serve_hall;
@@ -75,11 +76,17 @@ pub fn serve<
         }) }
 {
     nothing_is_served();
+    let host = Host {
+        alloc,
+        desk,
+        gate,
+        limits,
+    };
     let Some(tools) = make_tools(alloc, links, limits.read_budget) else {
         return unserved(alloc, handlers, journal);
     };
     match Hall::new(alloc, handlers, journal) {
-        Ok(hall) => serve_hall(rt, alloc, links, desk, gate, hall, tools, workers, limits),
+        Ok(hall) => serve_hall(rt, &host, links, hall, tools, workers),
         Err(NoHall { handlers, journal }) => unserved(alloc, handlers, journal),
     }
 }

@@ -4,8 +4,8 @@ ghost use Rattle.std.specs.Prelude.{◌≡◌, ◌<◌, IsTrue, IsSome, OnOk, If
 ghost use Rattle.conn_state.specs.Phase.{left_to_write, wanted, IsReading};
 ghost use Rattle.conn_table.specs.Slots.{slot_in};
 ghost use Rattle.conn_table.specs.Table.{slot_of};
-ghost use Rattle.link_loop.specs.Going.{IsOpenAt, ReadsAt, WritesAt, WaitsAt};
-ghost use Rattle.host_loop.specs.Going.{IsServing, IsHalted};
+ghost use Rattle.link_loop.specs.Going.{IsOpenAt, ReadsAt, WaitsAt};
+ghost use Rattle.host_loop.specs.Going.{Serves, Halts};
 
 use crate::holdings::{Run, Serving};
 use call_rules::{Desk, Handler, Journal};
@@ -32,6 +32,16 @@ fn want(conns: &LoopConnections, c: u32) -> usize
     conns.table.conn(c).want()
 }
 
+/// Whether a connection may move on that was written to.
+fn moves_on(step: WriteStep) -> bool {
+    match step {
+        WriteStep::Part => true,
+        WriteStep::All => true,
+        WriteStep::Rests => false,
+        WriteStep::Over => false,
+    }
+}
+
 impl<H: Handler, J: Journal> Serving<Hall<H, J>> {
     /// Admits the frame that waits, or else holds it. It answers whether the connection may move on.
     fn admit<L: Links, D: Desk, G>(
@@ -40,10 +50,10 @@ impl<H: Handler, J: Journal> Serving<Hall<H, J>> {
         links: &mut L,
         c: u32,
     ) -> Result<bool, Outcome>
-        requires serving { IsServing (D.meaning run.now.desk.now) run.now.limits run.now.booth.now (L.state run.now.first.value) (L.state links.old) self.old.conns self.old.seat self.old.own }
+        requires serving { Serves D.meaning L.state run.now links.old self.old }
         requires waits { WaitsAt c self.old.conns }
-        ensures serving { OnOk result (IsServing (D.meaning run.now.desk.now) run.now.limits run.now.booth.now (L.state run.now.first.value) (L.state links.new) self.new.conns self.new.seat self.new.own) }
-        ensures halted { IfErr result (λ why. IsHalted (D.meaning run.now.desk.now) run.now.limits run.now.booth.now (L.state run.now.first.value) (L.state links.new) self.new.conns self.new.seat self.new.own why) }
+        ensures serving { OnOk result (Serves D.meaning L.state run.now links.new self.new) }
+        ensures halted { IfErr result (Halts D.meaning L.state run.now links.new self.new) }
         ensures plan { L.plan links.new ≡ L.plan links.old }
     {
         match self.conns.admit(run.alloc, links, c) {
@@ -65,11 +75,11 @@ impl<H: Handler, J: Journal> Serving<Hall<H, J>> {
         c: u32,
         count: usize,
     ) -> Result<bool, Outcome>
-        requires serving { IsServing (D.meaning run.now.desk.now) run.now.limits run.now.booth.now (L.state run.now.first.value) (L.state links.old) self.old.conns self.old.seat self.old.own }
+        requires serving { Serves D.meaning L.state run.now links.old self.old }
         requires reads { ReadsAt c self.old.conns }
         requires count { count ≡ wanted (slot_of c self.old.conns.table.slots).conn.phase }
-        ensures serving { OnOk result (IsServing (D.meaning run.now.desk.now) run.now.limits run.now.booth.now (L.state run.now.first.value) (L.state links.new) self.new.conns self.new.seat self.new.own) }
-        ensures halted { IfErr result (λ why. IsHalted (D.meaning run.now.desk.now) run.now.limits run.now.booth.now (L.state run.now.first.value) (L.state links.new) self.new.conns self.new.seat self.new.own why) }
+        ensures serving { OnOk result (Serves D.meaning L.state run.now links.new self.new) }
+        ensures halted { IfErr result (Halts D.meaning L.state run.now links.new self.new) }
         ensures plan { L.plan links.new ≡ L.plan links.old }
     {
         let max_frame = run.limits.max_frame;
@@ -80,31 +90,11 @@ impl<H: Handler, J: Journal> Serving<Hall<H, J>> {
             ReadStep::More => Ok(true),
             ReadStep::Sized => self.admit(run, links, c),
             ReadStep::Whole => {
-                self.hand_over(rt, run, links, c)?;
+                self.submit_and_ring(rt, run, c)?;
                 Ok(false)
             }
             ReadStep::Rests => Ok(false),
             ReadStep::Over => Ok(false),
-        }
-    }
-
-    /// Writes once. It answers whether the connection may move on.
-    fn write<L: Links, D: Desk, G>(
-        &mut self,
-        run: &Run<Hall<H, J>, D, G, L>,
-        links: &mut L,
-        c: u32,
-    ) -> bool
-        requires serving { IsServing (D.meaning run.now.desk.now) run.now.limits run.now.booth.now (L.state run.now.first.value) (L.state links.old) self.old.conns self.old.seat self.old.own }
-        requires writes { WritesAt c self.old.conns }
-        ensures serving { IsServing (D.meaning run.now.desk.now) run.now.limits run.now.booth.now (L.state run.now.first.value) (L.state links.new) self.new.conns self.new.seat self.new.own }
-        ensures plan { L.plan links.new ≡ L.plan links.old }
-    {
-        match self.conns.write(links, c) {
-            WriteStep::Part => true,
-            WriteStep::All => true,
-            WriteStep::Rests => false,
-            WriteStep::Over => false,
         }
     }
 
@@ -116,14 +106,14 @@ impl<H: Handler, J: Journal> Serving<Hall<H, J>> {
         links: &mut L,
         c: u32,
     ) -> Result<bool, Outcome>
-        requires serving { IsServing (D.meaning run.now.desk.now) run.now.limits run.now.booth.now (L.state run.now.first.value) (L.state links.old) self.old.conns self.old.seat self.old.own }
+        requires serving { Serves D.meaning L.state run.now links.old self.old }
         requires open { IsOpenAt c self.old.conns }
-        ensures serving { OnOk result (IsServing (D.meaning run.now.desk.now) run.now.limits run.now.booth.now (L.state run.now.first.value) (L.state links.new) self.new.conns self.new.seat self.new.own) }
-        ensures halted { IfErr result (λ why. IsHalted (D.meaning run.now.desk.now) run.now.limits run.now.booth.now (L.state run.now.first.value) (L.state links.new) self.new.conns self.new.seat self.new.own why) }
+        ensures serving { OnOk result (Serves D.meaning L.state run.now links.new self.new) }
+        ensures halted { IfErr result (Halts D.meaning L.state run.now links.new self.new) }
         ensures plan { L.plan links.new ≡ L.plan links.old }
     {
         if has_reply(&self.conns, c) {
-            return Ok(self.write(run, links, c));
+            return Ok(moves_on(self.conns.write(links, c)));
         }
         let count = want(&self.conns, c);
         if count > 0 {
@@ -140,9 +130,9 @@ impl<H: Handler, J: Journal> Serving<Hall<H, J>> {
         links: &mut L,
         c: u32,
     ) -> Result<bool, Outcome>
-        requires serving { IsServing (D.meaning run.now.desk.now) run.now.limits run.now.booth.now (L.state run.now.first.value) (L.state links.old) self.old.conns self.old.seat self.old.own }
-        ensures serving { OnOk result (IsServing (D.meaning run.now.desk.now) run.now.limits run.now.booth.now (L.state run.now.first.value) (L.state links.new) self.new.conns self.new.seat self.new.own) }
-        ensures halted { IfErr result (λ why. IsHalted (D.meaning run.now.desk.now) run.now.limits run.now.booth.now (L.state run.now.first.value) (L.state links.new) self.new.conns self.new.seat self.new.own why) }
+        requires serving { Serves D.meaning L.state run.now links.old self.old }
+        ensures serving { OnOk result (Serves D.meaning L.state run.now links.new self.new) }
+        ensures halted { IfErr result (Halts D.meaning L.state run.now links.new self.new) }
         ensures plan { L.plan links.new ≡ L.plan links.old }
     {
         if self.conns.is_open(c) {
@@ -160,9 +150,9 @@ impl<H: Handler, J: Journal> Serving<Hall<H, J>> {
         links: &mut L,
         c: u32,
     ) -> Result<(), Outcome>
-        requires serving { IsServing (D.meaning run.now.desk.now) run.now.limits run.now.booth.now (L.state run.now.first.value) (L.state links.old) self.old.conns self.old.seat self.old.own }
-        ensures serving { OnOk result (IsServing (D.meaning run.now.desk.now) run.now.limits run.now.booth.now (L.state run.now.first.value) (L.state links.new) self.new.conns self.new.seat self.new.own) }
-        ensures halted { IfErr result (λ why. IsHalted (D.meaning run.now.desk.now) run.now.limits run.now.booth.now (L.state run.now.first.value) (L.state links.new) self.new.conns self.new.seat self.new.own why) }
+        requires serving { Serves D.meaning L.state run.now links.old self.old }
+        ensures serving { OnOk result (Serves D.meaning L.state run.now links.new self.new) }
+        ensures halted { IfErr result (Halts D.meaning L.state run.now links.new self.new) }
         ensures plan { L.plan links.new ≡ L.plan links.old }
     {
         for _ in rt.forever() {

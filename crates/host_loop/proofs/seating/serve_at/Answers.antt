@@ -7,11 +7,11 @@ use Rattle.host_loop.proofs.seating.serve_at.Goals as goal
 
 pub lead_crew-outcome-requires-clause-serving : goal.lead_crew-outcome-requires-clause-serving
 lead_crew-outcome-requires-clause-serving g c κs within =
-    serves_at_first c.args.limits c.requires.small (g.L.Links.state c.args.links.now) c.requires.fresh c.args.tools.conns c.requires.table c.requires.none.0 c.requires.none.1 c.requires.none.2
-    (g.D.Desk.meaning c.args.desk.now) c.args.booth c.args.seating.first c.new.result c.requires.opened c.requires.seating.2.zeroth (c.new.ensures ∙ c.requires.seating.2.oneth)
+    serves_at_first c.args.host.now.limits c.requires.small (g.L.Links.state c.args.links.now) c.requires.fresh c.args.tools.conns c.requires.tools.table c.requires.tools.places c.requires.tools.causes c.requires.tools.owing
+    (g.D.Desk.meaning c.args.host.now.desk.now) c.args.booth c.args.seating.first c.new.result c.requires.opened c.requires.seating.2.zeroth (c.new.ensures ∙ c.requires.seating.2.oneth)
 
 pub lead_crew-outcome-requires-clause-crew : goal.lead_crew-outcome-requires-clause-crew
-lead_crew-outcome-requires-clause-crew g c κs within = c.requires.seating.2.may_serve (g.D.Desk.meaning c.args.desk.now) c.requires.opened
+lead_crew-outcome-requires-clause-crew g c κs within = c.requires.seating.2.may_serve (g.D.Desk.meaning c.args.host.now.desk.now) c.requires.opened
 
 pub lead_crew-outcome-requires-clause-few : goal.lead_crew-outcome-requires-clause-few
 lead_crew-outcome-requires-clause-few g c =
@@ -50,9 +50,9 @@ pub returns-clause-served : goal.returns-clause-served
 returns-clause-served g c =
     let serving = c.lead_crew-outcome.result.1 in
     c.what_ends_is_served.ensures _ _
-    (ends_serving (g.D.Desk.meaning c.args.desk.now) c.args.limits c.args.booth _ serving.conns serving.seat serving.own c.requires.longest c.lead_crew-outcome.result.2.items
+    (ends_serving (g.D.Desk.meaning c.args.host.now.desk.now) c.args.host.now.limits c.args.booth _ serving.conns serving.seat serving.own c.requires.longest c.lead_crew-outcome.result.2.items
     (subst
-    (λ (o : Outcome). IsAtEnd (g.D.Desk.meaning c.args.desk.now) c.args.limits c.args.booth (g.L.Links.state c.args.links.now) (g.L.Links.state c.lead_crew-outcome.new.links) serving.conns serving.seat
+    (λ (o : Outcome). IsAtEnd (g.D.Desk.meaning c.args.host.now.desk.now) c.args.host.now.limits c.args.booth (g.L.Links.state c.args.links.now) (g.L.Links.state c.lead_crew-outcome.new.links) serving.conns serving.seat
     serving.own o)
     (sym c.end.ensures.outcome) c.lead_crew-outcome.ensures.ended)
     c.lead_crew-outcome.ensures.crew c.end.ensures.ended c.end.ensures.ends refl)

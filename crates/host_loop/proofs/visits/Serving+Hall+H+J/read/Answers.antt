@@ -15,14 +15,14 @@ admit-requires-clause-serving g c κs within = serves_on _ _ _ _ _ _ _ _ c.requi
 pub admit-requires-clause-waits : goal.admit-requires-clause-waits
 admit-requires-clause-waits g c κs within = subst (IsReadSo c.args.c c.read.new.conns) c.in-Sized.is c.read.ensures.step
 
-pub hand_over-requires-clause-serving : goal.hand_over-requires-clause-serving
-hand_over-requires-clause-serving g c κs within = serves_on _ _ _ _ _ _ _ _ c.requires.serving (g.L.Links.state c.read.new.links) c.read.new.conns c.read.ensures.going c.read.ensures.budget
+pub submit_and_ring-requires-clause-serving : goal.submit_and_ring-requires-clause-serving
+submit_and_ring-requires-clause-serving g c κs within = (c.read.new.links, serves_on _ _ _ _ _ _ _ _ c.requires.serving (g.L.Links.state c.read.new.links) c.read.new.conns c.read.ensures.going c.read.ensures.budget)
 
-pub hand_over-requires-clause-open : goal.hand_over-requires-clause-open
-hand_over-requires-clause-open g c κs within = (subst (IsReadSo c.args.c c.read.new.conns) c.in-Whole.is c.read.ensures.step).0
+pub submit_and_ring-requires-clause-open : goal.submit_and_ring-requires-clause-open
+submit_and_ring-requires-clause-open g c κs within = (subst (IsReadSo c.args.c c.read.new.conns) c.in-Whole.is c.read.ensures.step).0
 
-pub hand_over-requires-clause-whole : goal.hand_over-requires-clause-whole
-hand_over-requires-clause-whole g c κs within = (subst (IsReadSo c.args.c c.read.new.conns) c.in-Whole.is c.read.ensures.step).1
+pub submit_and_ring-requires-clause-whole : goal.submit_and_ring-requires-clause-whole
+submit_and_ring-requires-clause-whole g c κs within = (subst (IsReadSo c.args.c c.read.new.conns) c.in-Whole.is c.read.ensures.step).1
 
 pub returns-in-More-clause-serving : goal.returns-in-More-clause-serving
 returns-in-More-clause-serving g c = serves_on _ _ _ _ _ _ _ _ c.requires.serving (g.L.Links.state c.read.new.links) c.read.new.conns c.read.ensures.going c.read.ensures.budget
@@ -32,3 +32,8 @@ returns-in-Rests-clause-serving g c = serves_on _ _ _ _ _ _ _ _ c.requires.servi
 
 pub returns-in-Over-clause-serving : goal.returns-in-Over-clause-serving
 returns-in-Over-clause-serving g c = serves_on _ _ _ _ _ _ _ _ c.requires.serving (g.L.Links.state c.read.new.links) c.read.new.conns c.read.ensures.going c.read.ensures.budget
+
+pub returns-in_ok-submit_and_ring-in-Whole-clause-serving : goal.returns-in_ok-submit_and_ring-in-Whole-clause-serving
+returns-in_ok-submit_and_ring-in-Whole-clause-serving g c =
+    c.in_ok-submit_and_ring-in-Whole.ensures.kept c.read.new.links
+    (serves_on _ _ _ _ _ _ _ _ c.requires.serving (g.L.Links.state c.read.new.links) c.read.new.conns c.read.ensures.going c.read.ensures.budget)

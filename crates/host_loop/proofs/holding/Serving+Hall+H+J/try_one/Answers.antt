@@ -1,7 +1,7 @@
 use Rattle.std.proofs.Common.{subst}
 use Rattle.link_loop.specs.Going.{AdmissionTells}
 use Rattle.host_loop.proofs.Keeping.{some_goes_on, serves_on_all}
-use Rattle.host_loop.proofs.holding.Serving+Hall+H+J.try_waiting.Goals as goal
+use Rattle.host_loop.proofs.holding.Serving+Hall+H+J.try_one.Goals as goal
 
 pub admit-requires-clause-under_way : goal.admit-requires-clause-under_way
 admit-requires-clause-under_way g c κs within = some_goes_on _ _ _ _ _ _ _ _ c.requires.serving

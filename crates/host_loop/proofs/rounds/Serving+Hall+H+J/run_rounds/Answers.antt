@@ -1,0 +1,10 @@
+use Rattle.std.proofs.Common.{Ok, ap, ◌∙◌}
+use Rattle.conn_table.specs.declared.limits.Outcome.TheVariants.{All}
+use Rattle.link_loop.specs.Going.{IsAllOver}
+use Rattle.host_loop.proofs.Keeping.{halts}
+use Rattle.host_loop.proofs.rounds.Serving+Hall+H+J.run_rounds.Goals as goal
+
+pub returns-in-Ok-false-clause-halted : goal.returns-in-Ok-false-clause-halted
+returns-in-Ok-false-clause-halted g c =
+    let over : IsAllOver (g.L.Links.state c.round.new.links) c.round.new.self.conns = c.round.ensures.over (c.in-Ok-false.is ∙ ap Ok c.in-Ok-false.field-0-test) in
+    halts _ _ _ _ _ _ _ _ c.in-Ok-false.ensures.serving All (over.0, over.1, c.in-Ok-false.ensures.serving.going)
