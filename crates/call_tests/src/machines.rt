@@ -2,7 +2,7 @@
 //! the same order, the same bytes sent, and the same ends; also where the journal fails at each of its appends.
 
 ghost use Rattle.std.specs.Prelude.{◌≤◌, IfSome};
-ghost use Rattle.script_links.specs.Sound.{MovesItsWorkers};
+ghost use Rattle.script_text.specs.Sound.{MovesItsWorkers};
 
 use crate::faulty_journals::FaultyJournal;
 use crate::offices::office;
@@ -18,8 +18,8 @@ use house_handlers::Mirror;
 use machine_model::plain::{PlainCell, PlainConn};
 use outside::{Bytes, Mark, MarkAt, Tape};
 use run_report::ReportedJournal;
-use script_links::laws::scripts_are_sound;
-use script_links::{Script, read_script};
+use script_text::laws::scripts_are_sound;
+use script_text::{Script, read_script};
 use std::alloc::{AllocError, Global};
 use std::test::Fail;
 

@@ -11,7 +11,7 @@ use envelope::Protocol;
 use house_handlers::{Mirror, Store};
 use journal_text::put_entry;
 use outside::{MemSink, MemSource};
-use recorded_calls::{ServingFault, answer_recorded};
+use recorded_runs::{ServingFault, answer_recorded};
 use run_report::EntryLine;
 use std::alloc::{AllocError, Global};
 use std::test::Fail;

@@ -10,19 +10,19 @@ use Rattle.conn_table.specs.Table.{slot_of}
 use Rattle.machine_model.specs.Loop.{LoopConn}
 use Rattle.machine_model.specs.Machine.{submits}
 use Rattle.machine_model.specs.Plain.{is_empty, has_none_yet, is_open, goes}
-use Rattle.rehearsal_model.specs.Playing.{MemoryAt, told_in, read_move, write_move, size_move, open_move}
+use Rattle.script_model.specs.Playing.{MemoryAt, told_in, read_move, write_move, size_move, open_move}
 use Rattle.hall_core.specs.Meant.{ServedHall}
-use Rattle.cell_model.specs.Settings.{CellSetting, ServedPlay, desk_of_setting}
-use Rattle.cell_model.specs.Moving.{HasNoMove, one_of_conn}
+use Rattle.cell_loop.specs.Settings.{CellSetting, ServedPlay, desk_of_setting}
+use Rattle.cell_loop.specs.Moving.{HasNoMove, one_of_conn}
 use Rattle.cell_loop.specs.declared.loop_part.Stand.{Stand}
 use Rattle.cell_loop.specs.declared.loop_part.Stand.TheVariants.{Lean, Framed, Whole, Asked, Over}
 use Rattle.cell_loop.specs.declared.loop_part.LoopPart.{LoopPart}
-use Rattle.conn_ties.specs.Phases.{IsFraming, PhaseTells}
+use Rattle.conn_refinement.specs.Phases.{IsFraming, PhaseTells}
 use Rattle.cell_loop.specs.LoopTied.{StandTells, HasRoomToClose, ReadsOn, IsLoopTied}
 use Rattle.cell_loop.specs.LoopMoves.{StaysTied, LoopMoves, HasLongest}
-use Rattle.conn_ties.proofs.Tables.{place_of}
+use Rattle.conn_refinement.proofs.Tables.{place_of}
 use Rattle.cell_loop.proofs.Tying.{stands_so}
-use Rattle.cell_turn.specs.declared.worker.Holding.{Holding}
+use Rattle.cell_core.specs.declared.worker.Holding.{Holding}
 use Rattle.cell_core.specs.Parts.{Parts}
 use Rattle.cell_core.specs.Machines.{AreUnderWay, SomeMachine, IsMachine, MachineMoves, StaysPlayed, MoveKeeps}
 use Rattle.cell_core.specs.MachineSteps.{HasNoTurn, IsConnStep}

@@ -6,7 +6,7 @@ use Rattle.call_rules.specs.Handling.{handler_rules}
 use Rattle.machine_model.specs.HallRule.{HallOperation, submit, take_job, apply, put, collect, close, HallAnswer, done, job, empty, is_closed, applied, no_memory, journal_fault, is_broken, outcome, TakesEffect, HallGives}
 use Rattle.machine_model.specs.SeenHall.{MayHave, filled, SeenGives}
 use Rattle.hall_core.specs.Meant.{ServedHall}
-use Rattle.cell_model.specs.Settings.{HallInCell}
+use Rattle.cell_loop.specs.Settings.{HallInCell}
 
 -- a hall whose count is as it was
 as_was : (old new : HallInCell) → new.faults ≡ old.faults → old.faults ≤ new.faults

@@ -1,7 +1,7 @@
 -- What a line leaves of the feeds that changes one, and what its call says.
 use Rattle.std.proofs.Common.{◌≡◌, ℕ, ◌<◌, Option, None, Some, List, [], ◌∷◌, ◌++◌, length, set, slice_index_or, sym, ap, ◌∙◌}
 use Rattle.std.specs.List.{AllByRecursion}
-use Rattle.rehearsal_model.specs.Playing.{InputFinish}
+use Rattle.script_model.specs.Playing.{InputFinish}
 use Rattle.cell_loop.specs.declared.feed.Feed.{Feed}
 use Rattle.cell_loop.specs.Feeds.{unread_of, finish_of, rules_left, unread_in, finish_in, rules_in, HasSomePieces, HasFeed}
 use Rattle.cell_loop.proofs.Refeeding.{feed_at}

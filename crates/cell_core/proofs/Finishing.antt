@@ -9,20 +9,20 @@ use Rattle.call_rules.specs.Handling.{handler_rules}
 use Rattle.machine_model.specs.Loop.{Loop}
 use Rattle.machine_model.specs.Machine.{MachineEvent, EventsLead, IsFirst, HaveAllEnded}
 use Rattle.machine_model.specs.SeenHall.{MayHave}
-use Rattle.rehearsal_model.specs.ScriptLines.{ScriptPlan}
-use Rattle.rehearsal_model.specs.Playing.{MemoryAt, always_ample}
-use Rattle.rehearsal_model.specs.Rehearsing.{IsRehearsalOf}
-use Rattle.rehearsal_model.specs.Fed.{IsFedBy}
-use Rattle.script_links.specs.Sound.{IsSoundPlan}
+use Rattle.script_model.specs.ScriptLines.{ScriptPlan}
+use Rattle.script_model.specs.Playing.{MemoryAt, always_ample}
+use Rattle.script_model.specs.Rehearsing.{IsRehearsalOf}
+use Rattle.script_model.specs.Fed.{IsFedBy}
+use Rattle.script_text.specs.Sound.{IsSoundPlan}
 use Rattle.hall_core.specs.Meant.{ServedHall, opened_hall}
 use Rattle.cell_loop.specs.declared.loop_part.LoopPart.{LoopPart}
 use Rattle.cell_loop.specs.LoopTied.{IsLoopTied}
 use Rattle.cell_loop.specs.LoopMoves.{AreAllOver, IsEndedLoop, IsLoopUnderWay}
-use Rattle.cell_turn.specs.declared.stop.RunStop.{RunStop}
-use Rattle.cell_turn.specs.declared.stop.RunStop.TheVariants.{JournalFault, NoMemory}
-use Rattle.cell_turn.specs.declared.worker.Holding.{Holding}
-use Rattle.cell_model.specs.Settings.{CellSetting, ServedCell, ServedPlay, desk_of_setting}
-use Rattle.cell_model.specs.Moving.{GoesTo, memory_of, all_lines}
+use Rattle.cell_core.specs.declared.stop.RunStop.{RunStop}
+use Rattle.cell_core.specs.declared.stop.RunStop.TheVariants.{JournalFault, NoMemory}
+use Rattle.cell_core.specs.declared.worker.Holding.{Holding}
+use Rattle.cell_loop.specs.Settings.{CellSetting, ServedCell, ServedPlay, desk_of_setting}
+use Rattle.cell_loop.specs.Moving.{GoesTo, memory_of, all_lines}
 use Rattle.cell_core.specs.Parts.{Parts}
 use Rattle.cell_core.specs.Machines.{ArePlayed, AreUnderWay, IsOfDesk, HasFailed, HasCrew, StopsBy, StopsSo, ComesThrough}
 use Rattle.cell_core.specs.Rehearsed.{SeenRun, LooksSo, IsSeenRun, IsSeenRehearsal, IsOpenedPart, AreFirstWorkers, LeadsToEnd}

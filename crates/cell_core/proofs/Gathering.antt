@@ -8,19 +8,19 @@ use Rattle.machine_model.specs.HallState.{key_of, JobOutcome}
 use Rattle.machine_model.specs.HallRule.{submit, collect, HallAnswer, outcome, job_of, outcome_of}
 use Rattle.machine_model.specs.SeenHall.{SeenGives, SeenCan}
 use Rattle.hall_core.specs.Meant.{ServedHall}
-use Rattle.cell_model.specs.Settings.{CellSetting, ServedPlay, HallInCell, PlainWorker}
-use Rattle.cell_model.specs.Moving.{ComesTo, HasNoMove, one_of_conn, one_of_outcome}
-use Rattle.cell_model.specs.Reached.{IsReached, IsReachedFrom}
-use Rattle.cell_model.specs.Replies.{IsReplySome}
+use Rattle.cell_loop.specs.Settings.{CellSetting, ServedPlay, HallInCell, PlainWorker}
+use Rattle.cell_loop.specs.Moving.{ComesTo, HasNoMove, one_of_conn, one_of_outcome}
+use Rattle.cell_loop.specs.Reached.{IsReached, IsReachedFrom}
+use Rattle.cell_loop.specs.Replies.{IsReplySome}
 use Rattle.cell_loop.specs.declared.loop_part.Stand.TheVariants.{Whole, Asked}
 use Rattle.cell_loop.specs.declared.loop_part.LoopPart.{LoopPart}
 use Rattle.cell_loop.specs.LoopTied.{IsLoopTied, HasRoomToClose}
 use Rattle.cell_loop.specs.LoopMoves.{IsLoopUnderWay, HandsOut, TakesOutcome}
-use Rattle.conn_ties.proofs.Tables.{place_of}
-use Rattle.cell_turn.specs.declared.worker.Holding.{Holding}
-use Rattle.cell_turn.specs.HallTied.{IsHallTied, AreWorkersTied}
-use Rattle.cell_turn.specs.Turns.{IsNoOutcome}
-use Rattle.cell_turn.proofs.HallTying.{still_open}
+use Rattle.conn_refinement.proofs.Tables.{place_of}
+use Rattle.cell_core.specs.declared.worker.Holding.{Holding}
+use Rattle.cell_core.specs.HallTied.{IsHallTied, AreWorkersTied}
+use Rattle.cell_core.specs.Turns.{IsNoOutcome}
+use Rattle.cell_core.proofs.HallTying.{still_open}
 use Rattle.cell_core.specs.Parts.{Parts}
 use Rattle.cell_core.specs.Machines.{ArePlayed, SomeMachine, MachineMoves}
 use Rattle.cell_core.specs.MachineSteps.{IsOutcomeStep}

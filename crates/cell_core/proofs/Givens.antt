@@ -4,9 +4,9 @@ use Rattle.std.proofs.lemmas.List.{length-map}
 use Rattle.std.specs.List.{AllByRecursion}
 use Rattle.outside.specs.declared.marks.Mark.{Mark}
 use Rattle.outside.specs.Cause.{Rose}
-use Rattle.rehearsal_model.specs.ScriptLines.{PlanLine}
-use Rattle.cell_model.specs.Settings.{CellSetting}
-use Rattle.cell_model.specs.Moving.{all_lines}
+use Rattle.script_model.specs.ScriptLines.{PlanLine}
+use Rattle.cell_loop.specs.Settings.{CellSetting}
+use Rattle.cell_loop.specs.Moving.{all_lines}
 use Rattle.cell_core.specs.Parts.{Parts}
 use Rattle.cell_core.specs.Machines.{IsLineFor, HasCrew, ComesThrough}
 use Rattle.cell_core.specs.Rehearsed.{AreWritten}

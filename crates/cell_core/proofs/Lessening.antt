@@ -11,13 +11,13 @@ use Rattle.machine_model.specs.Loop.{LoopConn, new_conn, Loop, with_conn, change
 use Rattle.machine_model.specs.Machine.{MachineEvent, on_conn, submits, takes, applies, puts, collects, closes, Steps, EventsLead}
 use Rattle.machine_model.specs.AtFronts.{summed}
 use Rattle.machine_model.proofs.Lists.{put_same, put_other}
-use Rattle.rehearsal_model.specs.Playing.{MemoryAt}
-use Rattle.rehearsal_model.proofs.Spending.{play_weight, IsLess, Lessened, conn_less, worker_less, collect_less}
-use Rattle.cell_model.specs.Settings.{CellSetting, ServedCell, ServedPlay, desk_of_setting}
-use Rattle.cell_model.specs.Moving.{ComesTo, one_of_conn, one_of_worker, one_of_outcome}
-use Rattle.cell_model.specs.Reached.{IsReachedFrom}
-use Rattle.cell_model.proofs.Arriving.{came_so}
-use Rattle.cell_turn.proofs.HallTying.{still_open}
+use Rattle.script_model.specs.Playing.{MemoryAt}
+use Rattle.script_model.proofs.Spending.{play_weight, IsLess, Lessened, conn_less, worker_less, collect_less}
+use Rattle.cell_loop.specs.Settings.{CellSetting, ServedCell, ServedPlay, desk_of_setting}
+use Rattle.cell_loop.specs.Moving.{ComesTo, one_of_conn, one_of_worker, one_of_outcome}
+use Rattle.cell_loop.specs.Reached.{IsReachedFrom}
+use Rattle.cell_loop.proofs.Arriving.{came_so}
+use Rattle.cell_core.proofs.HallTying.{still_open}
 use Rattle.cell_core.specs.Parts.{Parts}
 use Rattle.cell_core.specs.Machines.{ArePlayed}
 use Rattle.cell_core.specs.Work.{steps_left}

@@ -16,3 +16,8 @@ pub mod Gathering
 pub mod ConnMoves
 pub mod FeedLines
 pub mod Givens
+pub mod Asking
+pub mod Permitting
+pub mod Replying
+pub mod HallTying
+pub mod Turning

@@ -8,14 +8,14 @@ use Rattle.host_model.specs.declared.cause.EndCause.{EndCause}
 use Rattle.call_rules.specs.Desks.{DeskMeaning}
 use Rattle.outside.specs.Rows.{TapeView}
 use Rattle.conn_table.specs.Table.{TableView}
-use Rattle.rehearsal_model.specs.ScriptLines.{PlanLine, PlanRule, opening, piece, input_end, input_fault, resting, turn_of_conn, turn_of_worker, turn_of_outcome}
-use Rattle.rehearsal_model.specs.Playing.{InputFinish, finishes, faults, MemoryAt, at_number}
-use Rattle.rehearsal_model.specs.Rehearsing.{left_by}
+use Rattle.script_model.specs.ScriptLines.{PlanLine, PlanRule, opening, piece, input_end, input_fault, resting, turn_of_conn, turn_of_worker, turn_of_outcome}
+use Rattle.script_model.specs.Playing.{InputFinish, finishes, faults, MemoryAt, at_number}
+use Rattle.script_model.specs.Rehearsing.{left_by}
 use Rattle.hall_core.specs.Meant.{ServedHall}
-use Rattle.cell_turn.specs.declared.stop.RunStop.{RunStop}
-use Rattle.cell_turn.specs.declared.stop.RunStop.TheVariants.{NoMemory}
-use Rattle.cell_turn.specs.declared.worker.Holding.{Holding}
-use Rattle.cell_turn.specs.HallTied.{IsHallTied, AreWorkersTied}
+use Rattle.cell_core.specs.declared.stop.RunStop.{RunStop}
+use Rattle.cell_core.specs.declared.stop.RunStop.TheVariants.{NoMemory}
+use Rattle.cell_core.specs.declared.worker.Holding.{Holding}
+use Rattle.cell_core.specs.HallTied.{IsHallTied, AreWorkersTied}
 use Rattle.cell_loop.specs.declared.feed.Feed.{Feed}
 use Rattle.cell_loop.specs.declared.loop_part.Stand.{Stand}
 use Rattle.cell_loop.specs.declared.loop_part.LoopPart.{LoopPart}
@@ -23,11 +23,11 @@ use Rattle.cell_loop.specs.Feeds.{unread_of, finish_of, rules_left, unread_in, f
 use Rattle.cell_loop.specs.LoopTied.{IsLoopTied, HasRoomToClose}
 use Rattle.cell_loop.specs.LoopMoves.{HasSameHall, StaysTied, LoopMoves, AnySetting, HasLongest}
 use Rattle.cell_loop.proofs.Becoming.{fed_so, kept_as, refed_tied, pieces_passed}
-use Rattle.cell_model.specs.Settings.{CellSetting, ServedPlay}
-use Rattle.cell_model.specs.Reached.{IsReached, IsReachedFrom}
-use Rattle.cell_model.specs.Moving.{Doing, ComesTo, HasNoMove, GoesTo, GoesOrStays, one_opening, one_of_conn, one_of_worker, one_of_outcome, all_passes, one_line, all_lines}
-use Rattle.cell_model.proofs.Composing.{then_comes}
-use Rattle.cell_model.proofs.Going.{comes_as, none_comes}
+use Rattle.cell_loop.specs.Settings.{CellSetting, ServedPlay}
+use Rattle.cell_loop.specs.Reached.{IsReached, IsReachedFrom}
+use Rattle.cell_loop.specs.Moving.{Doing, ComesTo, HasNoMove, GoesTo, GoesOrStays, one_opening, one_of_conn, one_of_worker, one_of_outcome, all_passes, one_line, all_lines}
+use Rattle.cell_loop.proofs.Composing.{then_comes}
+use Rattle.cell_loop.proofs.Going.{comes_as, none_comes}
 use Rattle.cell_core.specs.Parts.{Parts}
 use Rattle.cell_core.specs.Machines.{ArePlayed, SomeMachine, MachineMoves, DeskMoves, MoveKeeps, StopsSo, ComesThrough, HasDesk, HasCrew, IsLineFor}
 use Rattle.cell_core.proofs.Rounds.{IsGoingOn, comes_further, comes_last, narrowed_through, narrowed_stop, move_left}

@@ -5,17 +5,17 @@ use Rattle.std.proofs.lemmas.List.{set-set}
 use Rattle.call_rules.specs.Desks.{DeskMeaning}
 use Rattle.hall_core.specs.Meant.{ServedHall}
 use Rattle.cell_loop.specs.declared.loop_part.LoopPart.{LoopPart}
-use Rattle.cell_turn.specs.declared.worker.Holding.{Holding}
-use Rattle.cell_turn.specs.declared.worker.Holding.TheVariants.{Idle}
-use Rattle.cell_turn.specs.declared.turn.Stepped.{Stepped}
-use Rattle.cell_turn.specs.declared.turn.Stepped.TheVariants.{Rests, Moves, Fails}
-use Rattle.cell_turn.specs.declared.stop.RunStop.{RunStop}
-use Rattle.cell_turn.specs.declared.stop.RunStop.TheVariants.{JournalFault}
-use Rattle.cell_model.specs.Settings.{CellSetting, ServedPlay}
-use Rattle.cell_model.specs.Moving.{ComesTo, one_of_worker}
-use Rattle.cell_model.specs.Reached.{IsReached, IsReachedFrom}
-use Rattle.cell_turn.specs.TurnMoves.{MayTurn}
-use Rattle.cell_turn.specs.Turns.{IsWorkerTurn, AnswersStep}
+use Rattle.cell_core.specs.declared.worker.Holding.{Holding}
+use Rattle.cell_core.specs.declared.worker.Holding.TheVariants.{Idle}
+use Rattle.cell_core.specs.declared.turn.Stepped.{Stepped}
+use Rattle.cell_core.specs.declared.turn.Stepped.TheVariants.{Rests, Moves, Fails}
+use Rattle.cell_core.specs.declared.stop.RunStop.{RunStop}
+use Rattle.cell_core.specs.declared.stop.RunStop.TheVariants.{JournalFault}
+use Rattle.cell_loop.specs.Settings.{CellSetting, ServedPlay}
+use Rattle.cell_loop.specs.Moving.{ComesTo, one_of_worker}
+use Rattle.cell_loop.specs.Reached.{IsReached, IsReachedFrom}
+use Rattle.cell_core.specs.TurnMoves.{MayTurn}
+use Rattle.cell_core.specs.Turns.{IsWorkerTurn, AnswersStep}
 use Rattle.cell_core.specs.Parts.{Parts}
 use Rattle.cell_core.specs.Machines.{ArePlayed, IsOfDesk, DeskMoves, FailsAt, LeavesLess, MoveKeeps}
 use Rattle.cell_core.proofs.Working.{worker_may, WorkMakes, work_makes}

@@ -13,11 +13,11 @@ use Rattle.machine_model.specs.Worker.{idle}
 use Rattle.machine_model.specs.Machine.{IsFirst, HaveAllEnded}
 use Rattle.machine_model.specs.SeenHall.{MayHave, filled}
 use Rattle.machine_model.proofs.Merging.{runs-append}
-use Rattle.rehearsal_model.specs.ScriptLines.{PlanLine, opening, piece, input_end, input_fault, resting, turn_of_conn, turn_of_worker, turn_of_outcome, PlanRule, takes_most, blocks, fails, ScriptPlan, rules_of, openings}
-use Rattle.rehearsal_model.specs.Ending.{LetsAllEnd}
-use Rattle.rehearsal_model.specs.Rehearsing.{workers_among, before_all, IsRehearsalOf}
-use Rattle.script_links.specs.Reading.{conn_of_line}
-use Rattle.script_links.specs.Sound.{IsSoundPlan, MovesItsWorkers, most_workers}
+use Rattle.script_model.specs.ScriptLines.{PlanLine, opening, piece, input_end, input_fault, resting, turn_of_conn, turn_of_worker, turn_of_outcome, PlanRule, takes_most, blocks, fails, ScriptPlan, rules_of, openings}
+use Rattle.script_model.specs.Ending.{LetsAllEnd}
+use Rattle.script_model.specs.Rehearsing.{workers_among, before_all, IsRehearsalOf}
+use Rattle.script_text.specs.Reading.{conn_of_line}
+use Rattle.script_text.specs.Sound.{IsSoundPlan, MovesItsWorkers, most_workers}
 use Rattle.hall_core.specs.Meant.{ServedHall, opened_hall}
 use Rattle.cell_loop.specs.declared.feed.Feed.{Feed}
 use Rattle.cell_loop.specs.declared.loop_part.Stand.{Stand}
@@ -27,13 +27,13 @@ use Rattle.cell_loop.specs.Feeds.{unread_in, finish_in, rules_in, HasSomePieces,
 use Rattle.cell_loop.specs.LoopTied.{StandTells, IsLoopTied, HasRoomToClose, IsFreshPart}
 use Rattle.cell_loop.specs.LoopMoves.{AreAllOver}
 use Rattle.cell_loop.proofs.Starting.{starts_tied}
-use Rattle.cell_turn.specs.declared.worker.Holding.{Holding}
-use Rattle.cell_turn.specs.declared.worker.Holding.TheVariants.{Idle}
-use Rattle.cell_turn.specs.HallTied.{worker_in, KnowsItsCall, AreWorkersTied}
-use Rattle.cell_model.specs.Settings.{CellSetting, ServedCell, ServedPlay, HallInCell, desk_of_setting}
-use Rattle.cell_model.specs.Moving.{ComesTo, memory_of, all_lines}
-use Rattle.cell_model.specs.Reached.{IsRunTo, IsReached}
-use Rattle.cell_model.proofs.Going.{so_at_first}
+use Rattle.cell_core.specs.declared.worker.Holding.{Holding}
+use Rattle.cell_core.specs.declared.worker.Holding.TheVariants.{Idle}
+use Rattle.cell_core.specs.HallTied.{worker_in, KnowsItsCall, AreWorkersTied}
+use Rattle.cell_loop.specs.Settings.{CellSetting, ServedCell, ServedPlay, HallInCell, desk_of_setting}
+use Rattle.cell_loop.specs.Moving.{ComesTo, memory_of, all_lines}
+use Rattle.cell_loop.specs.Reached.{IsRunTo, IsReached}
+use Rattle.cell_loop.proofs.Going.{so_at_first}
 use Rattle.cell_core.specs.Parts.{Parts}
 use Rattle.cell_core.specs.Machines.{ArePlayed, AreUnderWay, IsLineFor}
 use Rattle.cell_core.specs.Rehearsed.{SeenRun, LooksSo, IsSeenRun, IsOpenedPart, AreFirstWorkers, LeadsToEnd}

@@ -18,20 +18,20 @@ use Rattle.machine_model.specs.Loop.{LoopConn}
 use Rattle.machine_model.specs.Places.{PayloadPlace, collected_all, ready as at_ready, queued, held_by, put_out, jobs_of, outcomes_of, PayloadIsAt, IsUncollected, CellKeeps}
 use Rattle.machine_model.specs.SeenHall.{MayHave, filled, SeenGives}
 use Rattle.machine_model.proofs.Lists.{own_first}
-use Rattle.rehearsal_model.specs.Playing.{collect_first}
+use Rattle.script_model.specs.Playing.{collect_first}
 use Rattle.hall_core.specs.Meant.{ServedHall}
-use Rattle.cell_model.specs.Settings.{CellSetting, ServedCell, ServedPlay, HallInCell, desk_of_setting}
-use Rattle.cell_model.specs.Moving.{HasNoMove, one_of_outcome}
-use Rattle.cell_model.specs.Reached.{IsReached}
-use Rattle.cell_model.specs.Replies.{IsReplySome}
+use Rattle.cell_loop.specs.Settings.{CellSetting, ServedCell, ServedPlay, HallInCell, desk_of_setting}
+use Rattle.cell_loop.specs.Moving.{HasNoMove, one_of_outcome}
+use Rattle.cell_loop.specs.Reached.{IsReached}
+use Rattle.cell_loop.specs.Replies.{IsReplySome}
 use Rattle.cell_loop.specs.declared.loop_part.Stand.{Stand}
 use Rattle.cell_loop.specs.declared.loop_part.Stand.TheVariants.{Lean, Framed, Whole, Asked, Over}
 use Rattle.cell_loop.specs.declared.loop_part.LoopPart.{LoopPart}
-use Rattle.conn_ties.specs.Phases.{PhaseTells, IsLean, IsFraming}
+use Rattle.conn_refinement.specs.Phases.{PhaseTells, IsLean, IsFraming}
 use Rattle.cell_loop.specs.LoopTied.{StandTells, IsLoopTied}
-use Rattle.cell_turn.specs.HallTied.{IsHallTied}
-use Rattle.cell_turn.specs.Turns.{IsNoOutcome}
-use Rattle.cell_turn.proofs.HallTying.{AreRepliesSome, GivesFrom, gives_from, same_outcomes, still_open, still_whole, step_tied, same_replies}
+use Rattle.cell_core.specs.HallTied.{IsHallTied}
+use Rattle.cell_core.specs.Turns.{IsNoOutcome}
+use Rattle.cell_core.proofs.HallTying.{AreRepliesSome, GivesFrom, gives_from, same_outcomes, still_open, still_whole, step_tied, same_replies}
 use Rattle.cell_core.proofs.Weights.{reached_keeps}
 
 -- a payload that was submitted and isn't collected

@@ -4,15 +4,15 @@ use Rattle.std.specs.Prelude.{OnErr, IfErr}
 use Rattle.std.specs.Result.{IsErrAnd}
 use Rattle.std.proofs.lemmas.Result.{err_from_is_err_and}
 use Rattle.call_rules.specs.Desks.{DeskMeaning}
-use Rattle.rehearsal_model.specs.ScriptLines.{count_up}
-use Rattle.rehearsal_model.specs.Rehearsing.{is_idle}
-use Rattle.cell_turn.specs.declared.stop.RunStop.{RunStop}
-use Rattle.cell_turn.specs.declared.stop.RunStop.TheVariants.{JournalFault, NoMemory}
-use Rattle.cell_turn.specs.HallTied.{worker_in}
-use Rattle.cell_model.specs.Settings.{CellSetting, ServedPlay}
-use Rattle.cell_model.specs.Moving.{Doing, ComesTo, GoesTo, ContinuesWith, followed_by, one_of_conn, one_of_worker, one_of_outcome, all_of_conn, all_of_conns, first_of_conns, all_of_worker, all_of_workers, first_of_workers, all_of_outcomes, one_pass, all_passes}
-use Rattle.cell_model.proofs.Composing.{then_comes}
-use Rattle.cell_model.proofs.Going.{conn_goes_on, conn_ends, outcomes_go_on, outcomes_end, worker_goes_on, worker_puts, worker_ends, worker_stops, pass_is, passes_go_on, passes_end, conn_counts, worker_counts, outcome_counts, conns_step, conns_end, workers_step, workers_end}
+use Rattle.script_model.specs.ScriptLines.{count_up}
+use Rattle.script_model.specs.Rehearsing.{is_idle}
+use Rattle.cell_core.specs.declared.stop.RunStop.{RunStop}
+use Rattle.cell_core.specs.declared.stop.RunStop.TheVariants.{JournalFault, NoMemory}
+use Rattle.cell_core.specs.HallTied.{worker_in}
+use Rattle.cell_loop.specs.Settings.{CellSetting, ServedPlay}
+use Rattle.cell_loop.specs.Moving.{Doing, ComesTo, GoesTo, ContinuesWith, followed_by, one_of_conn, one_of_worker, one_of_outcome, all_of_conn, all_of_conns, first_of_conns, all_of_worker, all_of_workers, first_of_workers, all_of_outcomes, one_pass, all_passes}
+use Rattle.cell_loop.proofs.Composing.{then_comes}
+use Rattle.cell_loop.proofs.Going.{conn_goes_on, conn_ends, outcomes_go_on, outcomes_end, worker_goes_on, worker_puts, worker_ends, worker_stops, pass_is, passes_go_on, passes_end, conn_counts, worker_counts, outcome_counts, conns_step, conns_end, workers_step, workers_end}
 use Rattle.cell_loop.specs.LoopTied.{HasRoomToClose}
 use Rattle.cell_loop.specs.LoopMoves.{AnySetting, HasLongest}
 use Rattle.cell_core.specs.Parts.{Parts}

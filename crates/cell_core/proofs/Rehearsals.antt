@@ -17,19 +17,19 @@ use Rattle.machine_model.proofs.Computing.{run_is}
 use Rattle.machine_model.proofs.Running.{keeps}
 use Rattle.machine_model.proofs.Fitting.{worker_can}
 use Rattle.machine_model.proofs.Pausing.{rests}
-use Rattle.rehearsal_model.specs.ScriptLines.{ScriptPlan, openings}
-use Rattle.rehearsal_model.specs.InputEnds.{EndsBehindPieces}
-use Rattle.rehearsal_model.specs.Ending.{LetsAllEnd}
-use Rattle.rehearsal_model.specs.Playing.{MemoryAt, always_ample}
-use Rattle.rehearsal_model.specs.Rehearsing.{IsRehearsalOf}
-use Rattle.rehearsal_model.specs.Fed.{IsFedBy}
-use Rattle.rehearsal_model.proofs.Ended.{ended}
-use Rattle.rehearsal_model.proofs.FedReads.{opens_all, reads_all}
-use Rattle.rehearsal_model.proofs.Placing.{place_at_rest}
-use Rattle.rehearsal_model.proofs.Ruling.{each_written}
-use Rattle.rehearsal_model.proofs.Settling.{exactly}
-use Rattle.rehearsal_model.proofs.Ample.{with_ample}
-use Rattle.cell_model.specs.Settings.{CellSetting, ServedCell, desk_of_setting}
+use Rattle.script_model.specs.ScriptLines.{ScriptPlan, openings}
+use Rattle.script_model.specs.InputEnds.{EndsBehindPieces}
+use Rattle.script_model.specs.Ending.{LetsAllEnd}
+use Rattle.script_model.specs.Playing.{MemoryAt, always_ample}
+use Rattle.script_model.specs.Rehearsing.{IsRehearsalOf}
+use Rattle.script_model.specs.Fed.{IsFedBy}
+use Rattle.script_model.proofs.Ended.{ended}
+use Rattle.script_model.proofs.FedReads.{opens_all, reads_all}
+use Rattle.script_model.proofs.Placing.{place_at_rest}
+use Rattle.script_model.proofs.Ruling.{each_written}
+use Rattle.script_model.proofs.Settling.{exactly}
+use Rattle.script_model.proofs.Ample.{with_ample}
+use Rattle.cell_loop.specs.Settings.{CellSetting, ServedCell, desk_of_setting}
 use Rattle.cell_core.specs.Whole.{IsFitting}
 
 module _ (s : CellSetting) (short : (bytes : List ℕ) → length bytes < 4 → IsPartial s.desk.max_frame bytes)

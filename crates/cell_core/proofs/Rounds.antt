@@ -3,10 +3,10 @@ use Rattle.std.proofs.Common.{◌≡◌, ℕ, suc, ◌≤◌, Bool, true, false,
 use Rattle.std.proofs.lemmas.Bool.{false≢true, true≢false}
 use Rattle.outside.specs.Cause.{Rose}
 use Rattle.cell_loop.specs.LoopTied.{HasRoomToClose}
-use Rattle.cell_turn.specs.declared.stop.RunStop.{RunStop}
-use Rattle.cell_turn.specs.declared.stop.RunStop.TheVariants.{JournalFault, NoMemory}
-use Rattle.cell_model.specs.Settings.{CellSetting, ServedPlay, HallInCell}
-use Rattle.cell_model.specs.Moving.{Doing, ComesTo, HasNoMove, GoesTo, GoesOrStays, ContinuesWith}
+use Rattle.cell_core.specs.declared.stop.RunStop.{RunStop}
+use Rattle.cell_core.specs.declared.stop.RunStop.TheVariants.{JournalFault, NoMemory}
+use Rattle.cell_loop.specs.Settings.{CellSetting, ServedPlay, HallInCell}
+use Rattle.cell_loop.specs.Moving.{Doing, ComesTo, HasNoMove, GoesTo, GoesOrStays, ContinuesWith}
 use Rattle.cell_core.specs.Parts.{Parts}
 use Rattle.cell_core.specs.Work.{steps_left}
 use Rattle.cell_core.specs.Machines.{ArePlayed, AreUnderWay, MoveKeeps, HasFailed, IsLess, LeavesLess, MovesSo, IsDone, StaysReached, EndsEarly, StopsBy, StopsSo, ComesThrough}

@@ -13,10 +13,10 @@ use Rattle.machine_model.specs.OwnCalls.{HallCan}
 use Rattle.machine_model.specs.SeenHall.{SeenGives, SeenCan}
 use Rattle.machine_model.proofs.Fitting.{loop_can}
 use Rattle.hall_core.specs.Meant.{ServedHall}
-use Rattle.cell_model.specs.Settings.{CellSetting, ServedPlay, HallInCell, desk_of_setting}
-use Rattle.cell_model.specs.Reached.{IsReached}
-use Rattle.cell_turn.specs.HallTied.{IsHallTied}
-use Rattle.cell_turn.proofs.HallTying.{GivesFrom, gives_from, still_open, still_whole, step_tied, same_replies}
+use Rattle.cell_loop.specs.Settings.{CellSetting, ServedPlay, HallInCell, desk_of_setting}
+use Rattle.cell_loop.specs.Reached.{IsReached}
+use Rattle.cell_core.specs.HallTied.{IsHallTied}
+use Rattle.cell_core.proofs.HallTying.{GivesFrom, gives_from, still_open, still_whole, step_tied, same_replies}
 
 -- What is a payload of a connection that isn't submitted, the hall can take.
 pub submit_can : (s : CellSetting) (hall : ServedHall) (play : ServedPlay) (c i : ℕ) (payload : List ℕ) → IsReached s play.cell → IsHallTied hall play.cell.hall

@@ -12,20 +12,20 @@ use Rattle.machine_model.specs.Bounds.{sum_among}
 use Rattle.machine_model.specs.Loop.{LoopConn, Loop}
 use Rattle.machine_model.specs.Places.{CellKeeps}
 use Rattle.machine_model.proofs.Running.{keeps}
-use Rattle.rehearsal_model.proofs.Waiting.{Counted, counted}
-use Rattle.rehearsal_model.proofs.Weighing.{open_weight, left_weight, conn_weight, worker_weight, workers_weight}
-use Rattle.rehearsal_model.proofs.Spending.{pieces_weight, rules_weight, size_weight, play_weight}
-use Rattle.cell_model.specs.Settings.{CellSetting, ServedCell, ServedPlay, desk_of_setting}
-use Rattle.cell_model.specs.Reached.{IsReached}
+use Rattle.script_model.proofs.Waiting.{Counted, counted}
+use Rattle.script_model.proofs.Weighing.{open_weight, left_weight, conn_weight, worker_weight, workers_weight}
+use Rattle.script_model.proofs.Spending.{pieces_weight, rules_weight, size_weight, play_weight}
+use Rattle.cell_loop.specs.Settings.{CellSetting, ServedCell, ServedPlay, desk_of_setting}
+use Rattle.cell_loop.specs.Reached.{IsReached}
 use Rattle.cell_loop.specs.declared.loop_part.Stand.{Stand}
 use Rattle.cell_loop.specs.declared.loop_part.Stand.TheVariants.{Lean, Framed, Whole, Asked, Over}
 use Rattle.cell_loop.specs.Feeds.{unread_in, rules_in}
-use Rattle.conn_ties.specs.Phases.{PhaseTells, IsLean, IsFraming}
+use Rattle.conn_refinement.specs.Phases.{PhaseTells, IsLean, IsFraming}
 use Rattle.cell_loop.specs.LoopTied.{StandTells}
-use Rattle.cell_turn.specs.declared.worker.Holding.{Holding}
-use Rattle.cell_turn.specs.declared.worker.Holding.TheVariants.{Idle, Holds, Answered, Unanswered}
-use Rattle.cell_turn.specs.HallTied.{plain_worker}
-use Rattle.cell_turn.proofs.HallTying.{same_jobs, same_outcomes}
+use Rattle.cell_core.specs.declared.worker.Holding.{Holding}
+use Rattle.cell_core.specs.declared.worker.Holding.TheVariants.{Idle, Holds, Answered, Unanswered}
+use Rattle.cell_core.specs.HallTied.{plain_worker}
+use Rattle.cell_core.proofs.HallTying.{same_jobs, same_outcomes}
 use Rattle.cell_core.specs.Parts.{Parts}
 use Rattle.cell_core.specs.Machines.{ArePlayed}
 use Rattle.cell_core.specs.Work.{steps_to_write, steps_of_stand, steps_of_conn, steps_of_worker, steps_of_workers, steps_of_hall, steps_left}

@@ -10,24 +10,24 @@ use Rattle.machine_model.specs.Worker.{WorkerAsks}
 use Rattle.machine_model.specs.Machine.{applies, with_worker, EventsLead}
 use Rattle.machine_model.proofs.Lists.{put_same, put_other}
 use Rattle.machine_model.proofs.Merging.{runs-append}
-use Rattle.rehearsal_model.specs.ScriptLines.{PlanRule}
-use Rattle.rehearsal_model.specs.Playing.{InputFinish}
+use Rattle.script_model.specs.ScriptLines.{PlanRule}
+use Rattle.script_model.specs.Playing.{InputFinish}
 use Rattle.hall_core.specs.Meant.{ServedHall}
 use Rattle.cell_loop.specs.declared.loop_part.Stand.TheVariants.{Lean}
 use Rattle.cell_loop.specs.declared.loop_part.LoopPart.{LoopPart}
-use Rattle.cell_turn.specs.declared.worker.Holding.{Holding}
-use Rattle.cell_turn.specs.declared.worker.Holding.TheVariants.{Idle}
-use Rattle.cell_turn.specs.declared.turn.Stepped.{Stepped}
-use Rattle.cell_turn.specs.declared.turn.Stepped.TheVariants.{Rests, Moves, Fails}
-use Rattle.cell_model.specs.Settings.{CellSetting, ServedCell, ServedPlay, PlainWorker, desk_of_setting}
-use Rattle.cell_model.specs.Moving.{ComesTo, HasNoMove, GoesTo, one_of_worker}
+use Rattle.cell_core.specs.declared.worker.Holding.{Holding}
+use Rattle.cell_core.specs.declared.worker.Holding.TheVariants.{Idle}
+use Rattle.cell_core.specs.declared.turn.Stepped.{Stepped}
+use Rattle.cell_core.specs.declared.turn.Stepped.TheVariants.{Rests, Moves, Fails}
+use Rattle.cell_loop.specs.Settings.{CellSetting, ServedCell, ServedPlay, PlainWorker, desk_of_setting}
+use Rattle.cell_loop.specs.Moving.{ComesTo, HasNoMove, GoesTo, one_of_worker}
 use Rattle.cell_loop.specs.LoopTied.{StandTells, IsLoopTied}
-use Rattle.cell_turn.specs.HallTied.{plain_worker, worker_in, KnowsItsCall, AreWorkersTied}
-use Rattle.cell_model.specs.Reached.{IsRunTo, IsReached, IsReachedFrom}
+use Rattle.cell_core.specs.HallTied.{plain_worker, worker_in, KnowsItsCall, AreWorkersTied}
+use Rattle.cell_loop.specs.Reached.{IsRunTo, IsReached, IsReachedFrom}
 use Rattle.cell_core.specs.Played.{IsPlayed, IsUnderWay}
-use Rattle.cell_turn.specs.TurnMoves.{IsHallTorn, TurnMakes, MayTurn}
-use Rattle.cell_turn.specs.Turns.{IsWorkerTurn}
-use Rattle.cell_turn.proofs.Turning.{turn_makes}
+use Rattle.cell_core.specs.TurnMoves.{IsHallTorn, TurnMakes, MayTurn}
+use Rattle.cell_core.specs.Turns.{IsWorkerTurn}
+use Rattle.cell_core.proofs.Turning.{turn_makes}
 
 -- where loop and rest of a play are as they were, the loop's part stays tied
 pub loop_same : (s : CellSetting) (part : LoopPart) (old new : ServedPlay) → IsLoopTied s part old → new.cell.loop ≡ old.cell.loop → new.unread ≡ old.unread → new.finish ≡ old.finish

@@ -5,3 +5,6 @@ pub mod Machines
 pub mod MachineSteps
 pub mod Rehearsed
 pub mod Whole
+pub mod HallTied
+pub mod Turns
+pub mod TurnMoves

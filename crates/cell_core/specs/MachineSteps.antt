@@ -2,7 +2,7 @@
 use Rattle.std.specs.Prelude.{ℕ, ◌≤◌, Bool, Option, None, Some, Result, IfOk, OnErr}
 use Rattle.cell_loop.specs.declared.loop_part.Stand.{Stand}
 use Rattle.cell_loop.specs.declared.loop_part.Stand.TheVariants.{Asked, Over}
-use Rattle.cell_model.specs.Moving.{one_of_conn, one_of_outcome}
+use Rattle.cell_loop.specs.Moving.{one_of_conn, one_of_outcome}
 use Rattle.cell_core.specs.Parts.{Parts}
 use Rattle.cell_core.specs.Machines.{IsMachine, MachineMoves, StaysPlayed, MoveKeeps, LeavesLess}
 

@@ -1,17 +1,17 @@
 -- What the machine's moves are, of whichever play it is tied to.
 use Rattle.std.specs.Prelude.{◌≡◌, ℕ, ◌<◌, ◌≤◌, Bool, true, false, length}
 use Rattle.call_rules.specs.Desks.{DeskMeaning}
-use Rattle.rehearsal_model.specs.ScriptLines.{PlanLine, piece, input_end, input_fault, turn_of_worker}
-use Rattle.rehearsal_model.specs.Rehearsing.{workers_among}
-use Rattle.cell_turn.specs.declared.stop.RunStop.{RunStop}
-use Rattle.cell_turn.specs.declared.stop.RunStop.TheVariants.{JournalFault, NoMemory}
-use Rattle.cell_model.specs.Settings.{CellSetting, ServedCell, ServedPlay}
+use Rattle.script_model.specs.ScriptLines.{PlanLine, piece, input_end, input_fault, turn_of_worker}
+use Rattle.script_model.specs.Rehearsing.{workers_among}
+use Rattle.cell_core.specs.declared.stop.RunStop.{RunStop}
+use Rattle.cell_core.specs.declared.stop.RunStop.TheVariants.{JournalFault, NoMemory}
+use Rattle.cell_loop.specs.Settings.{CellSetting, ServedCell, ServedPlay}
 use Rattle.cell_core.specs.Parts.{Parts}
-use Rattle.cell_model.specs.Moving.{Doing, GoesTo, GoesOrStays}
+use Rattle.cell_loop.specs.Moving.{Doing, GoesTo, GoesOrStays}
 use Rattle.cell_loop.specs.LoopTied.{IsLoopTied, HasRoomToClose}
 use Rattle.cell_core.specs.Played.{IsPlayed, IsUnderWay}
-use Rattle.cell_model.specs.Reached.{IsRunTo}
-use Rattle.cell_turn.specs.TurnMoves.{IsHallTorn}
+use Rattle.cell_loop.specs.Reached.{IsRunTo}
+use Rattle.cell_core.specs.TurnMoves.{IsHallTorn}
 use Rattle.cell_core.specs.Work.{steps_left}
 
 -- a machine's parts are tied to a play

@@ -1,13 +1,13 @@
 -- A machine in memory, tied to a play that a rehearsal has come to.
 use Rattle.std.specs.Prelude.{◌≡◌, ◌≤◌, List, length}
-use Rattle.rehearsal_model.specs.Rehearsing.{workers_among}
+use Rattle.script_model.specs.Rehearsing.{workers_among}
 use Rattle.hall_core.specs.Meant.{ServedHall}
 use Rattle.cell_loop.specs.declared.loop_part.LoopPart.{LoopPart}
-use Rattle.cell_turn.specs.declared.worker.Holding.{Holding}
-use Rattle.cell_model.specs.Settings.{CellSetting, ServedPlay}
-use Rattle.cell_model.specs.Reached.{IsReached}
+use Rattle.cell_core.specs.declared.worker.Holding.{Holding}
+use Rattle.cell_loop.specs.Settings.{CellSetting, ServedPlay}
+use Rattle.cell_loop.specs.Reached.{IsReached}
 use Rattle.cell_loop.specs.LoopTied.{IsLoopTied, HasRoomToClose}
-use Rattle.cell_turn.specs.HallTied.{IsHallTied, AreWorkersTied}
+use Rattle.cell_core.specs.HallTied.{IsHallTied, AreWorkersTied}
 
 -- what a machine in memory is tied to
 pub record IsPlayed (s : CellSetting) (part : LoopPart) (hall : ServedHall) (workers : List Holding) (play : ServedPlay) : Type 0 where

@@ -10,16 +10,16 @@ use Rattle.call_rules.specs.Handling.{ServiceState, handler_rules}
 use Rattle.machine_model.specs.Loop.{Loop}
 use Rattle.machine_model.specs.Machine.{MachineEvent, EventsLead, IsFirst, HaveAllEnded}
 use Rattle.machine_model.specs.SeenHall.{MayHave}
-use Rattle.rehearsal_model.specs.ScriptLines.{ScriptPlan}
-use Rattle.rehearsal_model.specs.Playing.{MemoryAt, always_ample}
-use Rattle.rehearsal_model.specs.Rehearsing.{IsRehearsalOf, workers_among}
-use Rattle.rehearsal_model.specs.Fed.{IsFedBy}
-use Rattle.rehearsal_model.specs.Showing.{IsRehearsedTo}
+use Rattle.script_model.specs.ScriptLines.{ScriptPlan}
+use Rattle.script_model.specs.Playing.{MemoryAt, always_ample}
+use Rattle.script_model.specs.Rehearsing.{IsRehearsalOf, workers_among}
+use Rattle.script_model.specs.Fed.{IsFedBy}
+use Rattle.script_model.specs.Showing.{IsRehearsedTo}
 use Rattle.cell_loop.specs.declared.loop_part.LoopPart.{LoopPart}
-use Rattle.cell_turn.specs.declared.worker.Holding.{Holding}
-use Rattle.cell_turn.specs.declared.worker.Holding.TheVariants.{Idle}
+use Rattle.cell_core.specs.declared.worker.Holding.{Holding}
+use Rattle.cell_core.specs.declared.worker.Holding.TheVariants.{Idle}
 use Rattle.cell_loop.specs.Feeds.{AreFreshFeeds}
-use Rattle.cell_model.specs.Settings.{CellSetting, ServedCell, desk_of_setting}
+use Rattle.cell_loop.specs.Settings.{CellSetting, ServedCell, desk_of_setting}
 
 -- what is seen of a run behind its end: the tape, the causes, what the journal tells, and the services
 pub record SeenRun : Type 0 where

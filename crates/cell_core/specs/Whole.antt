@@ -1,7 +1,7 @@
 -- What a setting is that rehearsals in memory are run with, and what a rehearsal comes to then.
 use Rattle.std.specs.Prelude.{◌≡◌, ◌≤◌, length}
 use Rattle.call_rules.specs.Desks.{IsDesk}
-use Rattle.cell_model.specs.Settings.{CellSetting}
+use Rattle.cell_loop.specs.Settings.{CellSetting}
 
 -- The desk keeps what each desk does, and has a slot for each service; the longest payload is no longer than payloads may be, and the budget has room for it.
 pub record IsFitting (s : CellSetting) : Type 0 where

@@ -8,8 +8,8 @@ use Rattle.hall_core.specs.Meant.{ServedHall}
 use Rattle.cell_loop.specs.declared.loop_part.Stand.{Stand}
 use Rattle.cell_loop.specs.declared.loop_part.Stand.TheVariants.{Lean, Framed, Whole, Asked, Over}
 use Rattle.cell_loop.specs.declared.loop_part.LoopPart.{LoopPart}
-use Rattle.cell_turn.specs.declared.worker.Holding.{Holding}
-use Rattle.cell_turn.specs.declared.worker.Holding.TheVariants.{Idle, Holds, Answered, Unanswered}
+use Rattle.cell_core.specs.declared.worker.Holding.{Holding}
+use Rattle.cell_core.specs.declared.worker.Holding.TheVariants.{Idle, Holds, Answered, Unanswered}
 use Rattle.cell_loop.specs.Feeds.{unread_in, rules_in}
 
 -- two, where something is to be written

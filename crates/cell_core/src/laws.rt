@@ -6,13 +6,13 @@ ghost use Rattle.host_model.specs.declared.cause.EndCause.TheVariants.{Stopped, 
 ghost use Rattle.call_rules.specs.Handling.{handler_rules};
 ghost use Rattle.machine_model.specs.Loop.{most_open};
 ghost use Rattle.machine_model.specs.Machine.{IsFirst, HaveAllEnded};
-ghost use Rattle.rehearsal_model.specs.ScriptLines.{ScriptPlan, openings};
-ghost use Rattle.rehearsal_model.specs.InputEnds.{EndsBehindPieces};
-ghost use Rattle.rehearsal_model.specs.Ending.{LetsAllEnd};
-ghost use Rattle.rehearsal_model.specs.Playing.{MemoryAt, always_ample};
-ghost use Rattle.rehearsal_model.specs.Rehearsing.{IsRehearsalOf};
-ghost use Rattle.rehearsal_model.specs.Fed.{IsFedBy};
-ghost use Rattle.cell_model.specs.Settings.{CellSetting, ServedCell, desk_of_setting};
+ghost use Rattle.script_model.specs.ScriptLines.{ScriptPlan, openings};
+ghost use Rattle.script_model.specs.InputEnds.{EndsBehindPieces};
+ghost use Rattle.script_model.specs.Ending.{LetsAllEnd};
+ghost use Rattle.script_model.specs.Playing.{MemoryAt, always_ample};
+ghost use Rattle.script_model.specs.Rehearsing.{IsRehearsalOf};
+ghost use Rattle.script_model.specs.Fed.{IsFedBy};
+ghost use Rattle.cell_loop.specs.Settings.{CellSetting, ServedCell, desk_of_setting};
 ghost use Rattle.cell_core.specs.Whole.{IsFitting};
 
 use host_model::laws::less_than_a_frame;

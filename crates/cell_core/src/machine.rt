@@ -4,18 +4,18 @@ ghost use Rattle.std.specs.Prelude.{◌≡◌, ℕ, ◌<◌, ◌≤◌, true, So
 ghost use Rattle.machine_model.specs.HallRule.{outcome};
 ghost use Rattle.hall_core.specs.Asked.{answer_of};
 ghost use Rattle.cell_core.specs.MachineSteps.{IsConnStep, IsOutcomeStep};
-ghost use Rattle.cell_turn.specs.Turns.{IsNoOutcome};
+ghost use Rattle.cell_core.specs.Turns.{IsNoOutcome};
 ghost use Rattle.cell_loop.specs.declared.loop_part.Stand.TheVariants.{Whole};
-ghost use Rattle.cell_turn.specs.declared.stop.RunStop.TheVariants.{JournalFault};
-ghost use Rattle.cell_model.specs.Moving.{one_of_conn, one_of_worker, one_of_outcome};
+ghost use Rattle.cell_core.specs.declared.stop.RunStop.TheVariants.{JournalFault};
+ghost use Rattle.cell_loop.specs.Moving.{one_of_conn, one_of_worker, one_of_outcome};
 ghost use Rattle.cell_core.specs.Parts.{parts_of};
 ghost use Rattle.cell_core.specs.Machines.{IsMachine, SomeMachine, IsOfDesk, MachineMoves, DeskMoves, StaysPlayed, MoveKeeps, FailsAt, LeavesLess};
 
 use call_rules::{Desk, Handler, Journal, Key};
 use cell_loop::{LoopPart, Stand};
-use cell_model::laws::moves_are_reached;
-use cell_turn::turn::turn;
-use cell_turn::{Holding, RunStop, Turned, moved, put_back, take_out};
+use cell_loop::move_laws::moves_are_reached;
+use crate::turn::turn;
+use crate::{Holding, RunStop, Turned, moved, put_back, take_out};
 use hall_core::{Hall, HallReply};
 use outside::{Bytes, Settled};
 use std::alloc::{AllocError, Global};

@@ -2,13 +2,13 @@
 
 ghost use Rattle.std.specs.Prelude.{◌≡◌, ℕ, ◌<◌, ◌≤◌, ◌||◌, IsTrue, length, map, slice_get, IfOk, IfErr, OnOk, OnErr};
 ghost use Rattle.std.specs.List.{AllByRecursion};
-ghost use Rattle.rehearsal_model.specs.ScriptLines.{piece, input_end, input_fault, resting, turn_of_conn, turn_of_worker, turn_of_outcome, opening};
-ghost use Rattle.rehearsal_model.specs.Rehearsing.{is_idle};
-ghost use Rattle.script_links.specs.Plans.{plain_line};
-ghost use Rattle.cell_turn.specs.HallTied.{worker_in};
+ghost use Rattle.script_model.specs.ScriptLines.{piece, input_end, input_fault, resting, turn_of_conn, turn_of_worker, turn_of_outcome, opening};
+ghost use Rattle.script_model.specs.Rehearsing.{is_idle};
+ghost use Rattle.script_text.specs.Plans.{plain_line};
+ghost use Rattle.cell_core.specs.HallTied.{worker_in};
 ghost use Rattle.cell_core.specs.Parts.{parts_of};
-ghost use Rattle.cell_model.specs.Moving.{all_of_conn, first_of_conns, all_of_worker, first_of_workers, all_of_outcomes};
-ghost use Rattle.cell_model.specs.Moving.{one_pass, all_passes, one_line, all_lines};
+ghost use Rattle.cell_loop.specs.Moving.{all_of_conn, first_of_conns, all_of_worker, first_of_workers, all_of_outcomes};
+ghost use Rattle.cell_loop.specs.Moving.{one_pass, all_passes, one_line, all_lines};
 ghost use Rattle.cell_loop.specs.LoopMoves.{AnySetting, HasLongest};
 ghost use Rattle.cell_core.specs.MachineSteps.{HasNoTurn};
 ghost use Rattle.cell_core.specs.Machines.{SomeMachine, IsMachine, IsOfDesk, HasDesk, HasCrew, IsDone, EndsEarly, StopsSo, ComesThrough, IsLineFor};
@@ -16,9 +16,9 @@ ghost use Rattle.cell_core.specs.Machines.{SomeMachine, IsMachine, IsOfDesk, Has
 use crate::machine::Machine;
 use call_rules::{Desk, Handler, Journal};
 use cell_loop::{Finish, Stand};
-use cell_model::laws::moves_are_reached;
-use cell_turn::{Holding, RunStop};
-use script_links::ScriptLine;
+use cell_loop::move_laws::moves_are_reached;
+use crate::{Holding, RunStop};
+use script_text::ScriptLine;
 use std::alloc::{AllocError, Global};
 
 /// Whether one of two things moved.

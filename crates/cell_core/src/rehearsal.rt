@@ -4,12 +4,12 @@ ghost use Rattle.std.specs.Prelude.{◌≡◌, ◌≢◌, ◌≤◌, List, false
 ghost use Rattle.std.specs.Vec.{vec_capacity};
 ghost use Rattle.outside.specs.Cause.{Rose};
 ghost use Rattle.conn_table.specs.declared.limits.Outcome.TheVariants.{All, JournalFault, NoMemory};
-ghost use Rattle.cell_turn.specs.declared.stop.RunStop.TheVariants.{JournalFault as Broken};
+ghost use Rattle.cell_core.specs.declared.stop.RunStop.TheVariants.{JournalFault as Broken};
 ghost use Rattle.host_model.specs.declared.cause.EndCause.{EndCause};
 ghost use Rattle.call_rules.specs.Handling.{ServiceState};
 ghost use Rattle.machine_model.specs.SeenHall.{MayHave};
-ghost use Rattle.script_links.specs.Sound.{MovesItsWorkers};
-ghost use Rattle.cell_model.specs.Settings.{CellSetting, ServedCell, ServedPlay};
+ghost use Rattle.script_text.specs.Sound.{MovesItsWorkers};
+ghost use Rattle.cell_loop.specs.Settings.{CellSetting, ServedCell, ServedPlay};
 ghost use Rattle.cell_loop.specs.LoopTied.{IsLoopTied};
 ghost use Rattle.cell_loop.specs.LoopMoves.{AreAllOver, IsLoopUnderWay};
 ghost use Rattle.cell_core.specs.Rehearsed.{SeenRun, IsSeenRun, IsSeenRehearsal, AreWritten, IsOpenedPart, AreFirstWorkers, LeadsToEnd};
@@ -19,12 +19,12 @@ use crate::machine::Machine;
 use crate::outs::{Outs, written};
 use call_rules::{Desk, Handler, Journal};
 use cell_loop::LoopPart;
-use cell_turn::{Holding, RunStop};
+use crate::{Holding, RunStop};
 use conn_table::{Ends, Limits, Outcome};
 use hall_core::Hall;
 use outside::Tape;
-use script_links::Script;
-use script_links::laws::{kept_scripts_let_all_end, scripts_are_sound};
+use script_text::Script;
+use script_text::laws::{kept_scripts_let_all_end, scripts_are_sound};
 use std::alloc::{AllocError, Global};
 
 /// What a rehearsal came to.

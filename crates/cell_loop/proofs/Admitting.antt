@@ -16,18 +16,18 @@ use Rattle.machine_model.specs.Loop.{LoopConn, Loop, changed, with_cause, gives_
 use Rattle.machine_model.specs.AtFronts.{size_in}
 use Rattle.machine_model.specs.Machine.{on_conn}
 use Rattle.machine_model.specs.Plain.{when, with_loop, moved_plain, gives_up_plain, goes}
-use Rattle.rehearsal_model.specs.Playing.{MemoryAt, ample, lacking, at_number, all_admitted, moved_on, or_else, by_memory, admission, size_move, conn_move}
-use Rattle.rehearsal_model.proofs.Holding.{size_long}
+use Rattle.script_model.specs.Playing.{MemoryAt, ample, lacking, at_number, all_admitted, moved_on, or_else, by_memory, admission, size_move, conn_move}
+use Rattle.script_model.proofs.Holding.{size_long}
 use Rattle.cell_loop.specs.declared.loop_part.Stand.TheVariants.{Lean, Framed}
 use Rattle.cell_loop.specs.declared.loop_part.LoopPart.{LoopPart}
-use Rattle.cell_model.specs.Settings.{CellSetting, ServedCell, ServedPlay, desk_of_setting}
-use Rattle.cell_model.specs.Moving.{HasNoMove, GoesTo, one_of_conn}
-use Rattle.conn_ties.specs.Phases.{HasAllCollected, PhaseTells, IsOpenTied, IsFraming}
+use Rattle.cell_loop.specs.Settings.{CellSetting, ServedCell, ServedPlay, desk_of_setting}
+use Rattle.cell_loop.specs.Moving.{HasNoMove, GoesTo, one_of_conn}
+use Rattle.conn_refinement.specs.Phases.{HasAllCollected, PhaseTells, IsOpenTied, IsFraming}
 use Rattle.cell_loop.specs.LoopTied.{StandTells, IsLoopTied}
-use Rattle.conn_ties.specs.Tables.{IsSameBut}
+use Rattle.conn_refinement.specs.Tables.{IsSameBut}
 use Rattle.cell_loop.specs.Closing.{HasStand, IsClosed}
 use Rattle.cell_loop.specs.LoopMoves.{HasSameHall}
-use Rattle.conn_ties.proofs.Tables.{but_put, place_of}
+use Rattle.conn_refinement.proofs.Tables.{but_put, place_of}
 use Rattle.cell_loop.proofs.Tying.{stand_set, kept_at, in_table, size_now, feeds_of, loop_changed, changed_tied, stands_so}
 use Rattle.cell_loop.proofs.Ending.{same_feeds, as_many_feeds, over_tied}
 use Rattle.cell_loop.proofs.Counting.{sizes_summed}

@@ -10,16 +10,16 @@ use Rattle.conn_table.specs.Slots.{slot_in}
 use Rattle.conn_table.specs.Table.{TableView}
 use Rattle.machine_model.specs.Loop.{LoopConn, changed}
 use Rattle.machine_model.proofs.Lists.{put_same, put_other}
-use Rattle.rehearsal_model.specs.ScriptLines.{PlanRule}
-use Rattle.rehearsal_model.specs.Playing.{InputFinish, at_number, kept_while_open, freed_if_over, with_rules, with_unread, moved_on}
+use Rattle.script_model.specs.ScriptLines.{PlanRule}
+use Rattle.script_model.specs.Playing.{InputFinish, at_number, kept_while_open, freed_if_over, with_rules, with_unread, moved_on}
 use Rattle.cell_loop.specs.declared.feed.Feed.{Feed}
 use Rattle.cell_loop.specs.declared.loop_part.Stand.{Stand}
 use Rattle.cell_loop.specs.declared.loop_part.Stand.TheVariants.{Lean, Over}
 use Rattle.cell_loop.specs.declared.loop_part.LoopPart.{LoopPart}
-use Rattle.cell_model.specs.Settings.{CellSetting, ServedPlay}
+use Rattle.cell_loop.specs.Settings.{CellSetting, ServedPlay}
 use Rattle.cell_loop.specs.Feeds.{unread_of, finish_of, rules_left, unread_in, finish_in, rules_in, HasFeed, BoundsSome}
 use Rattle.cell_loop.specs.LoopTied.{StandTells, IsLoopTied, HasRoomToClose}
-use Rattle.conn_ties.specs.Tables.{IsSameBut}
+use Rattle.conn_refinement.specs.Tables.{IsSameBut}
 use Rattle.cell_loop.specs.Closing.{HasStand, HasMoreRoom}
 use Rattle.cell_loop.proofs.Tying.{stand_set, kept_at, AreFeedsTied, feeds_of, HasChanged, loop_changed, changed_tied, told_same, stand_moved}
 

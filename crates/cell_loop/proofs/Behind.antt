@@ -14,18 +14,18 @@ use Rattle.conn_state.specs.Step.{after_end_of_input}
 use Rattle.conn_table.specs.Table.{slot_of}
 use Rattle.call_rules.specs.Handling.{handler_rules}
 use Rattle.machine_model.specs.Loop.{LoopConn, with_cause}
-use Rattle.rehearsal_model.specs.Playing.{finishes, faults, read_behind}
+use Rattle.script_model.specs.Playing.{finishes, faults, read_behind}
 use Rattle.cell_loop.specs.declared.loop_part.Stand.TheVariants.{Over}
 use Rattle.cell_loop.specs.declared.loop_part.LoopPart.{LoopPart}
-use Rattle.cell_model.specs.Settings.{CellSetting, ServedPlay, desk_of_setting}
-use Rattle.cell_model.specs.Moving.{HasNoMove, GoesTo, one_of_conn}
+use Rattle.cell_loop.specs.Settings.{CellSetting, ServedPlay, desk_of_setting}
+use Rattle.cell_loop.specs.Moving.{HasNoMove, GoesTo, one_of_conn}
 use Rattle.cell_loop.specs.Feeds.{unread_in, finish_in}
-use Rattle.conn_ties.specs.Phases.{PhaseTells}
+use Rattle.conn_refinement.specs.Phases.{PhaseTells}
 use Rattle.cell_loop.specs.LoopTied.{ReadsOn, IsLoopTied, HasRoomToClose}
-use Rattle.conn_ties.specs.Tables.{IsSameBut}
+use Rattle.conn_refinement.specs.Tables.{IsSameBut}
 use Rattle.cell_loop.specs.Closing.{IsClosed, ClosesBehind}
 use Rattle.cell_loop.specs.LoopMoves.{HasSameHall}
-use Rattle.conn_ties.proofs.Tables.{but_then}
+use Rattle.conn_refinement.proofs.Tables.{but_then}
 use Rattle.cell_loop.proofs.Ending.{once}
 use Rattle.cell_loop.proofs.Becoming.{after_one, ended_tied}
 use Rattle.cell_loop.proofs.OneMove.{ends_so, fails_so}

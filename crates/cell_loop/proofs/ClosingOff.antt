@@ -14,12 +14,12 @@ use Rattle.machine_model.specs.Loop.{LoopConn}
 use Rattle.cell_loop.specs.declared.loop_part.Stand.{Stand}
 use Rattle.cell_loop.specs.declared.loop_part.Stand.TheVariants.{Lean, Framed, Whole, Asked, Over}
 use Rattle.cell_loop.specs.declared.loop_part.LoopPart.{LoopPart}
-use Rattle.conn_ties.specs.Phases.{IsLean, IsFraming, PhaseTells}
+use Rattle.conn_refinement.specs.Phases.{IsLean, IsFraming, PhaseTells}
 use Rattle.cell_loop.specs.LoopTied.{ReadsOn, StandTells, HasRoomToClose}
-use Rattle.conn_ties.specs.Tables.{IsSameBut}
+use Rattle.conn_refinement.specs.Tables.{IsSameBut}
 use Rattle.cell_loop.specs.Closing.{HasSizeSo, IsClosed}
 use Rattle.cell_loop.specs.LoopMoves.{IsLoopUnderWay, StandIsOver}
-use Rattle.conn_ties.proofs.Tables.{but_gone, but_then, place_of}
+use Rattle.conn_refinement.proofs.Tables.{but_gone, but_then, place_of}
 use Rattle.cell_loop.proofs.Tying.{stands_so}
 
 -- what has no value

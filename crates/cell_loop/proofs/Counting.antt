@@ -8,13 +8,13 @@ use Rattle.conn_table.specs.Slots.{slot_in, HaveRisingNumbers}
 use Rattle.conn_table.specs.Table.{slot_of, size_given, sizes_given}
 use Rattle.conn_table.proofs.Sizing.{slot_is}
 use Rattle.machine_model.specs.Loop.{LoopConn, count_if_open, open_among}
-use Rattle.rehearsal_model.specs.Playing.{size_or_zero, all_admitted}
-use Rattle.conn_ties.specs.Weights.{weight_of}
-use Rattle.conn_ties.proofs.Counting.{counted, sizes_total, ones_total, open_summed}
+use Rattle.script_model.specs.Playing.{size_or_zero, all_admitted}
+use Rattle.conn_refinement.specs.Weights.{weight_of}
+use Rattle.conn_refinement.proofs.Counting.{counted, sizes_total, ones_total, open_summed}
 use Rattle.cell_loop.specs.declared.loop_part.Stand.{Stand}
 use Rattle.cell_loop.specs.declared.loop_part.Stand.TheVariants.{Lean, Framed, Whole, Asked, Over}
 use Rattle.cell_loop.specs.declared.loop_part.LoopPart.{LoopPart}
-use Rattle.cell_model.specs.Settings.{CellSetting, ServedPlay}
+use Rattle.cell_loop.specs.Settings.{CellSetting, ServedPlay}
 use Rattle.cell_loop.specs.LoopTied.{StandTells, IsLoopTied}
 
 same_size : (size : Option ℕ) → size_or_zero size ≡ size_given size

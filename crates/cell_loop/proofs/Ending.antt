@@ -4,15 +4,15 @@ use Rattle.outside.specs.declared.marks.Mark.{Mark}
 use Rattle.host_model.specs.declared.cause.EndCause.{EndCause}
 use Rattle.conn_table.specs.Slots.{slot_in}
 use Rattle.machine_model.specs.Loop.{LoopConn}
-use Rattle.rehearsal_model.specs.ScriptLines.{PlanRule}
-use Rattle.rehearsal_model.specs.Playing.{MemoryAt, ample, InputFinish}
+use Rattle.script_model.specs.ScriptLines.{PlanRule}
+use Rattle.script_model.specs.Playing.{MemoryAt, ample, InputFinish}
 use Rattle.cell_loop.specs.declared.feed.Feed.{Feed}
 use Rattle.cell_loop.specs.declared.loop_part.Stand.TheVariants.{Over}
 use Rattle.cell_loop.specs.declared.loop_part.LoopPart.{LoopPart}
-use Rattle.cell_model.specs.Settings.{CellSetting, ServedPlay}
-use Rattle.cell_model.specs.Moving.{Doing, ComesTo}
+use Rattle.cell_loop.specs.Settings.{CellSetting, ServedPlay}
+use Rattle.cell_loop.specs.Moving.{Doing, ComesTo}
 use Rattle.cell_loop.specs.LoopTied.{IsLoopTied}
-use Rattle.conn_ties.specs.Tables.{IsSameBut}
+use Rattle.conn_refinement.specs.Tables.{IsSameBut}
 use Rattle.cell_loop.specs.Closing.{HasStand}
 use Rattle.cell_loop.proofs.Tying.{AreFeedsTied, HasChanged, changed_tied, stand_set}
 

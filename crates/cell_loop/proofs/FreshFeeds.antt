@@ -1,6 +1,6 @@
 -- Feeds to which nothing has come, one after the other.
 use Rattle.std.proofs.Common.{◌≡◌, None, List, [], ◌∷◌, ◌++◌}
-use Rattle.rehearsal_model.specs.ScriptLines.{PlanRule}
+use Rattle.script_model.specs.ScriptLines.{PlanRule}
 use Rattle.cell_loop.specs.declared.feed.Feed.{Feed}
 use Rattle.cell_loop.specs.Feeds.{unread_of, finish_of, rules_left, HasSomePieces, AreFreshFeeds}
 

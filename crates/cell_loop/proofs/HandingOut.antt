@@ -8,17 +8,17 @@ use Rattle.machine_model.specs.HallState.{key_of}
 use Rattle.machine_model.specs.HallRule.{job_of}
 use Rattle.machine_model.specs.Loop.{LoopConn, changed, submitted_more}
 use Rattle.machine_model.specs.Plain.{when, submit_plain}
-use Rattle.rehearsal_model.specs.Playing.{MemoryAt}
+use Rattle.script_model.specs.Playing.{MemoryAt}
 use Rattle.cell_loop.specs.declared.loop_part.Stand.TheVariants.{Whole, Asked}
 use Rattle.cell_loop.specs.declared.loop_part.LoopPart.{LoopPart}
-use Rattle.cell_model.specs.Settings.{CellSetting, ServedCell, ServedPlay}
-use Rattle.cell_model.specs.Moving.{GoesTo, one_of_conn}
-use Rattle.conn_ties.specs.Phases.{PhaseTells, IsOpenTied}
+use Rattle.cell_loop.specs.Settings.{CellSetting, ServedCell, ServedPlay}
+use Rattle.cell_loop.specs.Moving.{GoesTo, one_of_conn}
+use Rattle.conn_refinement.specs.Phases.{PhaseTells, IsOpenTied}
 use Rattle.cell_loop.specs.LoopTied.{StandTells, IsLoopTied}
 use Rattle.cell_loop.specs.Closing.{HasStand}
-use Rattle.conn_ties.proofs.Tables.{place_of}
+use Rattle.conn_refinement.proofs.Tables.{place_of}
 use Rattle.cell_loop.proofs.Tying.{stand_set, kept_at, in_table, feeds_of, loop_changed, changed_tied, stands_so}
-use Rattle.conn_ties.proofs.Tables.{stated, state_found, state_size, state_but}
+use Rattle.conn_refinement.proofs.Tables.{stated, state_found, state_size, state_but}
 use Rattle.cell_loop.proofs.Ending.{once, same_feeds, as_many_feeds}
 use Rattle.cell_loop.proofs.OneMove.{open_so, moves_to_submit}
 

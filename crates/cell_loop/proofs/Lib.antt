@@ -21,3 +21,7 @@ pub mod ReadingOn
 pub mod TakenIn
 pub mod TakingIn
 pub mod Refeeding
+pub mod Composing
+pub mod Reaching
+pub mod Arriving
+pub mod Going

@@ -9,9 +9,9 @@ use Rattle.call_rules.specs.Handling.{handler_rules}
 use Rattle.machine_model.specs.Loop.{LoopConn, Loop, FrameProgress, read_more, marks_read, changed, with_cause, ConnEvent, reads, ends, fails_read, writes, fails_write}
 use Rattle.machine_model.specs.Plain.{when, is_empty, has_none_yet, is_open, owes_nothing, progress_by, stays_in_size, progress_plain, reads_plain, ends_plain, fails_read_plain, writes_plain, fails_write_plain, moved_plain, conn_event_plain, with_loop, goes}
 use Rattle.machine_model.specs.Machine.{submits}
-use Rattle.rehearsal_model.specs.Playing.{MemoryAt, freed_if_over, told_in, on_one, read_move, write_move, size_move, conn_move}
-use Rattle.cell_model.specs.Settings.{CellSetting, ServedPlay, desk_of_setting}
-use Rattle.cell_model.specs.Moving.{Doing, ComesTo}
+use Rattle.script_model.specs.Playing.{MemoryAt, freed_if_over, told_in, on_one, read_move, write_move, size_move, conn_move}
+use Rattle.cell_loop.specs.Settings.{CellSetting, ServedPlay, desk_of_setting}
+use Rattle.cell_loop.specs.Moving.{Doing, ComesTo}
 use Rattle.cell_loop.proofs.Becoming.{after_one}
 
 -- a move that looks at memory as it is then alone

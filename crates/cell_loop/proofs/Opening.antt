@@ -15,13 +15,13 @@ use Rattle.machine_model.specs.Plain.{when, with_loop, opened_plain}
 use Rattle.machine_model.proofs.Lists.{put_same, put_other}
 use Rattle.cell_loop.specs.declared.loop_part.Stand.TheVariants.{Lean}
 use Rattle.cell_loop.specs.declared.loop_part.LoopPart.{LoopPart}
-use Rattle.cell_model.specs.Settings.{CellSetting, ServedCell, ServedPlay}
-use Rattle.cell_model.specs.Moving.{HasNoMove, GoesTo, one_opening}
-use Rattle.conn_ties.specs.Phases.{IsLean, IsOpenTied}
+use Rattle.cell_loop.specs.Settings.{CellSetting, ServedCell, ServedPlay}
+use Rattle.cell_loop.specs.Moving.{HasNoMove, GoesTo, one_opening}
+use Rattle.conn_refinement.specs.Phases.{IsLean, IsOpenTied}
 use Rattle.cell_loop.specs.LoopTied.{StandTells, IsLoopTied, HasRoomToClose}
 use Rattle.cell_loop.specs.Closing.{HasMoreRoom}
 use Rattle.cell_loop.specs.LoopMoves.{HasSameHall}
-use Rattle.conn_ties.proofs.Tables.{no_bytes}
+use Rattle.conn_refinement.proofs.Tables.{no_bytes}
 use Rattle.cell_loop.proofs.Tying.{AreFeedsTied, feeds_of, in_table, size_now, stand_moved, told_same}
 use Rattle.cell_loop.proofs.Ending.{once, same_feeds, as_many_feeds}
 use Rattle.cell_loop.proofs.Counting.{open_counted}

@@ -8,12 +8,12 @@ use Rattle.conn_table.specs.Slots.{slot_in}
 use Rattle.conn_table.specs.Table.{slot_of, HasItsSize}
 use Rattle.conn_table.proofs.Placing.{value_of}
 use Rattle.machine_model.specs.Plain.{is_open, owes_nothing}
-use Rattle.rehearsal_model.specs.Playing.{MemoryAt, read_move, read_behind, size_move, conn_move}
+use Rattle.script_model.specs.Playing.{MemoryAt, read_move, read_behind, size_move, conn_move}
 use Rattle.cell_loop.specs.declared.loop_part.Stand.{Stand}
 use Rattle.cell_loop.specs.declared.loop_part.Stand.TheVariants.{Lean, Framed, Whole, Asked, Over}
 use Rattle.cell_loop.specs.declared.loop_part.LoopPart.{LoopPart}
-use Rattle.cell_model.specs.Settings.{CellSetting, ServedPlay, desk_of_setting}
-use Rattle.conn_ties.specs.Phases.{HasAllCollected, PhaseTells, IsOpenTied, IsFraming, IsLean}
+use Rattle.cell_loop.specs.Settings.{CellSetting, ServedPlay, desk_of_setting}
+use Rattle.conn_refinement.specs.Phases.{HasAllCollected, PhaseTells, IsOpenTied, IsFraming, IsLean}
 use Rattle.cell_loop.specs.LoopTied.{StandTells, ReadsOn, IsLoopTied}
 use Rattle.cell_loop.specs.Closing.{HasSizeSo}
 use Rattle.cell_loop.proofs.OneMove.{open_so, owes_so, moves_to_read, moves_to_size}

@@ -4,7 +4,7 @@ use Rattle.conn_state.specs.Phase.{HasNotEnded}
 use Rattle.conn_table.specs.Slots.{slot_in}
 use Rattle.conn_table.specs.Table.{TableView, slot_of, sizes_given, size_wanted, with_admitted, Admits}
 use Rattle.cell_loop.specs.declared.loop_part.Stand.{Stand}
-use Rattle.conn_ties.specs.Tables.{IsSameBut}
+use Rattle.conn_refinement.specs.Tables.{IsSameBut}
 use Rattle.cell_loop.specs.Closing.{HasSizeSo}
 use Rattle.cell_loop.proofs.ClosingOff.{same_but}
 

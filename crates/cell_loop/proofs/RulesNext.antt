@@ -2,9 +2,9 @@
 use Rattle.std.proofs.Common.{◌≡◌, ℕ, ◌<◌, Option, None, Some, List, [], ◌∷◌, Result, Ok, Err, OnOk, length, drop, slice_get, get_or, option_map, refl, sym, ap, ◌∙◌, subst}
 use Rattle.std.specs.List.{AllByRecursion}
 use Rattle.std.proofs.lemmas.Option.{none-some, same_Some, slice_get_read}
-use Rattle.rehearsal_model.specs.ScriptLines.{PlanRule, takes_most}
-use Rattle.script_links.specs.Plans.{plain_rule}
-use Rattle.script_links.specs.declared.lines.WriteRule.{WriteRule}
+use Rattle.script_model.specs.ScriptLines.{PlanRule, takes_most}
+use Rattle.script_text.specs.Plans.{plain_rule}
+use Rattle.script_text.specs.declared.lines.WriteRule.{WriteRule}
 use Rattle.cell_loop.specs.declared.feed.Feed.{Feed}
 use Rattle.cell_loop.specs.Feeds.{rules_left, rules_in, BoundsSome}
 

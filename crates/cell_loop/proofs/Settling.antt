@@ -16,17 +16,17 @@ use Rattle.machine_model.specs.HallState.{JobOutcome, key_of}
 use Rattle.machine_model.specs.HallRule.{outcome_of}
 use Rattle.machine_model.specs.Loop.{LoopConn, changed, open_conn_settled, open_marks_settled, conn_settled, conn_marks_settled}
 use Rattle.machine_model.specs.Plain.{when, collect_plain}
-use Rattle.rehearsal_model.specs.Playing.{MemoryAt, at_number, freed, collect_first}
+use Rattle.script_model.specs.Playing.{MemoryAt, at_number, freed, collect_first}
 use Rattle.cell_loop.specs.declared.loop_part.Stand.TheVariants.{Lean, Asked, Over}
 use Rattle.cell_loop.specs.declared.loop_part.LoopPart.{LoopPart}
-use Rattle.cell_model.specs.Settings.{CellSetting, ServedCell, ServedPlay, desk_of_setting}
-use Rattle.cell_model.specs.Moving.{GoesTo, one_of_outcome}
-use Rattle.cell_model.specs.Replies.{IsReplySome}
-use Rattle.conn_ties.specs.Phases.{HoldsNothing, PhaseTells, IsOpenTied, IsLean}
+use Rattle.cell_loop.specs.Settings.{CellSetting, ServedCell, ServedPlay, desk_of_setting}
+use Rattle.cell_loop.specs.Moving.{GoesTo, one_of_outcome}
+use Rattle.cell_loop.specs.Replies.{IsReplySome}
+use Rattle.conn_refinement.specs.Phases.{HoldsNothing, PhaseTells, IsOpenTied, IsLean}
 use Rattle.cell_loop.specs.LoopTied.{StandTells, IsLoopTied}
-use Rattle.conn_ties.specs.Tables.{IsSameBut}
+use Rattle.conn_refinement.specs.Tables.{IsSameBut}
 use Rattle.cell_loop.specs.Closing.{HasStand}
-use Rattle.conn_ties.proofs.Tables.{no_bytes, place_of}
+use Rattle.conn_refinement.proofs.Tables.{no_bytes, place_of}
 use Rattle.cell_loop.proofs.Tying.{stand_set, in_table, size_now, feeds_of, loop_changed, changed_tied, stands_so}
 use Rattle.cell_loop.proofs.Ending.{once, same_feeds, as_many_feeds, over_tied}
 

@@ -1,12 +1,12 @@
 -- The loop's part at its opening is tied to the play before the first line.
 use Rattle.std.proofs.Common.{◌≡◌, length, refl, sym, ap, ◌∙◌, arith}
 use Rattle.machine_model.specs.Machine.{IsFirst}
-use Rattle.rehearsal_model.specs.ScriptLines.{ScriptPlan}
-use Rattle.rehearsal_model.specs.Rehearsing.{before_all}
+use Rattle.script_model.specs.ScriptLines.{ScriptPlan}
+use Rattle.script_model.specs.Rehearsing.{before_all}
 use Rattle.conn_table.specs.Slots.{slot_in}
 use Rattle.conn_table.specs.Table.{TableView}
 use Rattle.cell_loop.specs.declared.loop_part.LoopPart.{LoopPart}
-use Rattle.cell_model.specs.Settings.{CellSetting, ServedCell}
+use Rattle.cell_loop.specs.Settings.{CellSetting, ServedCell}
 use Rattle.cell_loop.specs.LoopTied.{IsLoopTied, IsFreshPart}
 
 pub starts_tied : (s : CellSetting) (part : LoopPart) (first : ServedCell) (script : ScriptPlan) → IsFirst s.opening first → IsFreshPart s script part → IsLoopTied s part (before_all first script)

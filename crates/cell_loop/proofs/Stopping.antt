@@ -10,11 +10,11 @@ use Rattle.call_rules.specs.Handling.{handler_rules}
 use Rattle.machine_model.specs.Loop.{Loop, IsOpen, changed, with_cause, gives_up}
 use Rattle.machine_model.specs.Machine.{MachineEvent, on_conn, EventsLead}
 use Rattle.machine_model.proofs.Merging.{runs-append}
-use Rattle.rehearsal_model.specs.Playing.{at_number}
+use Rattle.script_model.specs.Playing.{at_number}
 use Rattle.cell_loop.specs.declared.loop_part.Stand.{Stand}
 use Rattle.cell_loop.specs.declared.loop_part.Stand.TheVariants.{Lean, Framed, Whole, Asked, Over}
 use Rattle.cell_loop.specs.declared.loop_part.LoopPart.{LoopPart}
-use Rattle.cell_model.specs.Settings.{CellSetting, ServedPlay, desk_of_setting}
+use Rattle.cell_loop.specs.Settings.{CellSetting, ServedPlay, desk_of_setting}
 use Rattle.cell_loop.specs.LoopTied.{StandTells, IsLoopTied, HasRoomToClose}
 use Rattle.cell_loop.specs.Closing.{IsClosed}
 use Rattle.cell_loop.specs.LoopMoves.{IsLoopUnderWay, StandIsOver, LoopLeads, StopsOne, StopsAll, AreAllOver, IsEndedLoop}

@@ -16,25 +16,25 @@ use Rattle.conn_table.specs.Slots.{slot_in}
 use Rattle.conn_table.specs.Table.{TableView, slot_of, with_state, HasItsSize}
 use Rattle.machine_model.specs.Loop.{LoopConn, FrameProgress, part, bad_size, whole, read_more, marks_read, reads as happens_read}
 use Rattle.machine_model.specs.Plain.{progress_by, stays_in_size}
-use Rattle.rehearsal_model.specs.Playing.{ample, pieces_left, with_unread, read_move, on_one}
+use Rattle.script_model.specs.Playing.{ample, pieces_left, with_unread, read_move, on_one}
 use Rattle.cell_loop.specs.declared.feed.Feed.{Feed}
 use Rattle.cell_loop.specs.declared.loop_part.Stand.{Stand}
 use Rattle.cell_loop.specs.declared.loop_part.Stand.TheVariants.{Lean, Whole, Over}
 use Rattle.cell_loop.specs.declared.loop_part.LoopPart.{LoopPart}
-use Rattle.cell_model.specs.Settings.{CellSetting, ServedPlay, desk_of_setting}
-use Rattle.cell_model.specs.Moving.{ComesTo, one_of_conn}
+use Rattle.cell_loop.specs.Settings.{CellSetting, ServedPlay, desk_of_setting}
+use Rattle.cell_loop.specs.Moving.{ComesTo, one_of_conn}
 use Rattle.cell_loop.specs.Feeds.{lent_pieces, unread_of, unread_in, finish_in, rules_in, front_in, later_in, HasFeed}
-use Rattle.conn_ties.specs.Phases.{PhaseTells, IsOpenTied, IsFraming, IsLean}
+use Rattle.conn_refinement.specs.Phases.{PhaseTells, IsOpenTied, IsFraming, IsLean}
 use Rattle.cell_loop.specs.LoopTied.{StandTells, ReadsOn, IsLoopTied}
-use Rattle.conn_ties.specs.Tables.{IsSameBut}
+use Rattle.conn_refinement.specs.Tables.{IsSameBut}
 use Rattle.cell_loop.specs.Closing.{HasStand}
 use Rattle.cell_loop.specs.LoopMoves.{LoopMoves, HasLongest}
 use Rattle.cell_loop.proofs.Tying.{in_table, size_now, stand_set, stand_same}
-use Rattle.conn_ties.proofs.Tables.{stated, state_found, state_but}
+use Rattle.conn_refinement.proofs.Tables.{stated, state_found, state_but}
 use Rattle.cell_loop.proofs.Becoming.{after_one, ended_tied, open_tied, pieces_passed}
 use Rattle.cell_loop.proofs.OneMove.{done_at, some_counted, reads_so}
-use Rattle.conn_ties.specs.Progress.{GoesOnFrom, MadeSo}
-use Rattle.conn_ties.proofs.Taking.{took_is_read}
+use Rattle.conn_refinement.specs.Progress.{GoesOnFrom, MadeSo}
+use Rattle.conn_refinement.proofs.Taking.{took_is_read}
 use Rattle.cell_loop.proofs.ReadingOn.{StandsReading, Reading, reading, is_going, is_owing_nothing, reads_on}
 
 -- a piece under way is in front of the others

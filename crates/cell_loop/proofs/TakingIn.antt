@@ -14,14 +14,14 @@ use Rattle.cell_loop.specs.declared.feed.Feed.{Feed}
 use Rattle.cell_loop.specs.declared.loop_part.Stand.{Stand}
 use Rattle.cell_loop.specs.declared.loop_part.Stand.TheVariants.{Whole, Over}
 use Rattle.cell_loop.specs.declared.loop_part.LoopPart.{LoopPart}
-use Rattle.rehearsal_model.specs.Playing.{pieces_left}
-use Rattle.cell_model.specs.Moving.{one_of_conn}
+use Rattle.script_model.specs.Playing.{pieces_left}
+use Rattle.cell_loop.specs.Moving.{one_of_conn}
 use Rattle.cell_loop.specs.Feeds.{finish_in, rules_in, front_in, later_in, HasFeed}
 use Rattle.cell_loop.specs.LoopTied.{HasRoomToClose, ReadsOn}
 use Rattle.cell_loop.specs.Closing.{IsClosed}
 use Rattle.cell_loop.specs.LoopMoves.{IsLoopUnderWay, LoopMoves, HasLongest}
-use Rattle.conn_ties.proofs.Tables.{but_then}
-use Rattle.conn_ties.proofs.Tables.{state_there, state_is, state_size, state_but, state_count}
+use Rattle.conn_refinement.proofs.Tables.{but_then}
+use Rattle.conn_refinement.proofs.Tables.{state_there, state_is, state_size, state_but, state_count}
 use Rattle.cell_loop.proofs.TakenIn.{TakesIn, IsPassed, reads_part, reads_whole, reads_over, over_size}
 
 -- Connection c has taken in bytes, which were read of its piece.

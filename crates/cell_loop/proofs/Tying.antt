@@ -13,18 +13,18 @@ use Rattle.conn_table.specs.Table.{TableView, slot_of, fresh_slot}
 use Rattle.conn_table.proofs.Sizing.{other_put, other_more, other_without, of_found}
 use Rattle.machine_model.specs.Loop.{LoopConn, Loop, changed}
 use Rattle.machine_model.proofs.Lists.{put_same, put_other}
-use Rattle.rehearsal_model.specs.ScriptLines.{PlanRule}
-use Rattle.rehearsal_model.specs.Playing.{InputFinish, at_number}
-use Rattle.conn_ties.proofs.Tables.{place_of}
+use Rattle.script_model.specs.ScriptLines.{PlanRule}
+use Rattle.script_model.specs.Playing.{InputFinish, at_number}
+use Rattle.conn_refinement.proofs.Tables.{place_of}
 use Rattle.cell_loop.specs.declared.feed.Feed.{Feed}
 use Rattle.cell_loop.specs.declared.loop_part.Stand.{Stand}
 use Rattle.cell_loop.specs.declared.loop_part.Stand.TheVariants.{Lean, Framed, Whole, Asked, Over}
 use Rattle.cell_loop.specs.declared.loop_part.LoopPart.{LoopPart}
-use Rattle.cell_model.specs.Settings.{CellSetting, ServedPlay}
+use Rattle.cell_loop.specs.Settings.{CellSetting, ServedPlay}
 use Rattle.cell_loop.specs.Feeds.{unread_in, finish_in, rules_in, HasSomePieces, BoundsSome}
-use Rattle.conn_ties.specs.Phases.{IsOpenTied}
+use Rattle.conn_refinement.specs.Phases.{IsOpenTied}
 use Rattle.cell_loop.specs.LoopTied.{IsInTable, IsAdmittedSo, StandTells, IsLoopTied}
-use Rattle.conn_ties.specs.Tables.{IsSameBut}
+use Rattle.conn_refinement.specs.Tables.{IsSameBut}
 use Rattle.cell_loop.specs.Closing.{HasStand}
 
 -- stands that differ in one connection

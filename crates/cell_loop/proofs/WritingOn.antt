@@ -9,21 +9,21 @@ use Rattle.conn_table.specs.Slots.{slot_in}
 use Rattle.conn_table.specs.Table.{slot_of}
 use Rattle.call_rules.specs.Handling.{handler_rules}
 use Rattle.machine_model.specs.Loop.{LoopConn, with_cause}
-use Rattle.rehearsal_model.specs.ScriptLines.{PlanRule, takes_most, blocks, fails}
-use Rattle.rehearsal_model.specs.Playing.{MemoryAt, with_rules, moved_on, write_move}
+use Rattle.script_model.specs.ScriptLines.{PlanRule, takes_most, blocks, fails}
+use Rattle.script_model.specs.Playing.{MemoryAt, with_rules, moved_on, write_move}
 use Rattle.cell_loop.specs.declared.loop_part.Stand.{Stand}
 use Rattle.cell_loop.specs.declared.loop_part.Stand.TheVariants.{Lean}
 use Rattle.cell_loop.specs.declared.loop_part.LoopPart.{LoopPart}
-use Rattle.cell_model.specs.Settings.{CellSetting, ServedPlay, desk_of_setting}
-use Rattle.cell_model.specs.Moving.{GoesTo, one_of_conn}
+use Rattle.cell_loop.specs.Settings.{CellSetting, ServedPlay, desk_of_setting}
+use Rattle.cell_loop.specs.Moving.{GoesTo, one_of_conn}
 use Rattle.cell_loop.specs.Feeds.{unread_in, finish_in, rules_in, HasFeed}
-use Rattle.conn_ties.specs.Phases.{HasAllCollected, PhaseTells, IsOpenTied, IsLean}
+use Rattle.conn_refinement.specs.Phases.{HasAllCollected, PhaseTells, IsOpenTied, IsLean}
 use Rattle.cell_loop.specs.LoopTied.{StandTells, IsLoopTied}
 use Rattle.cell_loop.specs.Closing.{HasStand, ClosesBehind, Writes}
 use Rattle.cell_loop.specs.LoopMoves.{HasSameHall}
-use Rattle.conn_ties.proofs.Tables.{no_bytes, place_of}
+use Rattle.conn_refinement.proofs.Tables.{no_bytes, place_of}
 use Rattle.cell_loop.proofs.Tying.{stand_same, in_table, size_now, stands_so}
-use Rattle.conn_ties.proofs.Tables.{stated, state_found, state_but}
+use Rattle.conn_refinement.proofs.Tables.{stated, state_found, state_but}
 use Rattle.cell_loop.proofs.Ending.{once}
 use Rattle.cell_loop.proofs.Becoming.{after_one, ended_tied, open_tied, rules_passed, moved_tied}
 use Rattle.cell_loop.proofs.OneMove.{some_counted, open_so, moves_to_write, writes_so, fails_write_so}

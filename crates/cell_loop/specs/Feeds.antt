@@ -2,9 +2,9 @@
 use Rattle.std.specs.Prelude.{◌≡◌, ℕ, ◌<◌, Option, None, Some, List, [], ◌∷◌, map, length, slice_get, option_map}
 use Rattle.std.specs.List.{AllByRecursion}
 use Rattle.std.specs.Borrow.{Bor}
-use Rattle.rehearsal_model.specs.ScriptLines.{PlanRule, takes_most}
-use Rattle.rehearsal_model.specs.Playing.{InputFinish, finishes, faults, pieces_left}
-use Rattle.script_links.specs.Plans.{plain_rules}
+use Rattle.script_model.specs.ScriptLines.{PlanRule, takes_most}
+use Rattle.script_model.specs.Playing.{InputFinish, finishes, faults, pieces_left}
+use Rattle.script_text.specs.Plans.{plain_rules}
 use Rattle.cell_loop.specs.declared.feed.Finish.{Finish}
 use Rattle.cell_loop.specs.declared.feed.Finish.TheVariants.{Ends, Fails}
 use Rattle.cell_loop.specs.declared.feed.Feed.{Feed}

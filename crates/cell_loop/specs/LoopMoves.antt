@@ -12,8 +12,8 @@ use Rattle.machine_model.specs.Machine.{MachineEvent, EventsLead, HaveAllEnded}
 use Rattle.cell_loop.specs.declared.loop_part.Stand.{Stand}
 use Rattle.cell_loop.specs.declared.loop_part.Stand.TheVariants.{Lean, Over}
 use Rattle.cell_loop.specs.declared.loop_part.LoopPart.{LoopPart}
-use Rattle.cell_model.specs.Settings.{CellSetting, ServedCell, ServedPlay, desk_of_setting}
-use Rattle.cell_model.specs.Moving.{Doing, GoesTo, GoesOrStays, one_of_conn, one_of_outcome}
+use Rattle.cell_loop.specs.Settings.{CellSetting, ServedCell, ServedPlay, desk_of_setting}
+use Rattle.cell_loop.specs.Moving.{Doing, GoesTo, GoesOrStays, one_of_conn, one_of_outcome}
 use Rattle.cell_loop.specs.LoopTied.{IsLoopTied, HasRoomToClose}
 
 -- the loop's part between two moves

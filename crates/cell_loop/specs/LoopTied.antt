@@ -8,12 +8,12 @@ use Rattle.conn_state.specs.Run.{EachIsByte}
 use Rattle.conn_table.specs.Slots.{slot_in}
 use Rattle.conn_table.specs.Table.{TableView, slot_of}
 use Rattle.machine_model.specs.Loop.{LoopConn}
-use Rattle.rehearsal_model.specs.ScriptLines.{ScriptPlan, rules_of}
+use Rattle.script_model.specs.ScriptLines.{ScriptPlan, rules_of}
 use Rattle.cell_loop.specs.declared.loop_part.Stand.{Stand}
 use Rattle.cell_loop.specs.declared.loop_part.Stand.TheVariants.{Lean, Framed, Whole, Asked, Over}
 use Rattle.cell_loop.specs.declared.loop_part.LoopPart.{LoopPart}
-use Rattle.cell_model.specs.Settings.{CellSetting, ServedPlay}
-use Rattle.conn_ties.specs.Phases.{PhaseTells, IsOpenTied, IsFraming, IsLean}
+use Rattle.cell_loop.specs.Settings.{CellSetting, ServedPlay}
+use Rattle.conn_refinement.specs.Phases.{PhaseTells, IsOpenTied, IsFraming, IsLean}
 use Rattle.cell_loop.specs.Feeds.{unread_in, finish_in, rules_in, HasSomePieces, BoundsSome}
 
 -- a connection is open, in the table, and in such a phase

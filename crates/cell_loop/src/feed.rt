@@ -2,11 +2,11 @@
 
 ghost use Rattle.std.specs.Prelude.{◌≡◌, ℕ, ◌<◌, ◌≤◌, Some, None, [], ◌∷◌, ◌++◌, length, drop, option_map, slice_get, take, OnOk, OnErr};
 ghost use Rattle.std.specs.List.{AllByRecursion};
-ghost use Rattle.rehearsal_model.specs.Playing.{at_number, pieces_left};
-ghost use Rattle.script_links.specs.Plans.{plain_rules, plain_rule};
+ghost use Rattle.script_model.specs.Playing.{at_number, pieces_left};
+ghost use Rattle.script_text.specs.Plans.{plain_rules, plain_rule};
 ghost use Rattle.cell_loop.specs.Feeds.{lent_pieces, unread_of, plain_finish, finish_of, rules_left, unread_in, finish_in, rules_in, HasSomePieces};
 
-use script_links::WriteRule;
+use script_text::WriteRule;
 use std::alloc::{AllocError, Global};
 use std::collections::VecDeque;
 

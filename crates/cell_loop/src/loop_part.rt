@@ -10,20 +10,20 @@ ghost use Rattle.conn_table.specs.Slots.{most_places, slot_in, with_added, witho
 ghost use Rattle.conn_table.specs.Table.{slot_of, fresh_slot};
 ghost use Rattle.machine_model.specs.HallState.{key_of};
 ghost use Rattle.cell_loop.specs.declared.loop_part.Stand.TheVariants.{Lean, Whole, Asked, Over};
-ghost use Rattle.cell_model.specs.Moving.{one_of_conn};
+ghost use Rattle.cell_loop.specs.Moving.{one_of_conn};
 ghost use Rattle.cell_loop.specs.LoopTied.{HasRoomToClose};
-ghost use Rattle.script_links.specs.Plans.{plain_rules};
+ghost use Rattle.script_text.specs.Plans.{plain_rules};
 ghost use Rattle.cell_loop.specs.Feeds.{AreFreshFeeds};
-ghost use Rattle.cell_model.specs.Replies.{IsReplySome};
+ghost use Rattle.cell_loop.specs.Replies.{IsReplySome};
 ghost use Rattle.cell_loop.specs.Closing.{HasSizeSo, IsClosed, HasMoreRoom, end_told};
-ghost use Rattle.cell_model.specs.Moving.{one_opening};
+ghost use Rattle.cell_loop.specs.Moving.{one_opening};
 ghost use Rattle.cell_loop.specs.LoopMoves.{IsLoopUnderWay, StaysTied, LoopMoves, AnySetting, HasLongest, HandsOut, TakesOutcome, StopsOne, StopsAll, AreAllOver};
 
 use crate::feed::Feed;
 use conn_state::EndCause;
 use conn_table::Table;
 use outside::{MarkAt, Settled, TapeLog};
-use script_links::RuleList;
+use script_text::RuleList;
 use std::alloc::{AllocError, Global};
 
 /// So many marks have room before a move: one of the move, and two for each connection that is open behind it.

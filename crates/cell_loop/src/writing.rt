@@ -8,7 +8,7 @@ ghost use Rattle.conn_state.specs.Phase.{left_to_write, HasNotEnded};
 ghost use Rattle.conn_table.specs.Slots.{slot_in};
 ghost use Rattle.conn_table.specs.Table.{slot_of};
 ghost use Rattle.cell_loop.specs.declared.loop_part.Stand.TheVariants.{Lean};
-ghost use Rattle.cell_model.specs.Moving.{one_of_conn};
+ghost use Rattle.cell_loop.specs.Moving.{one_of_conn};
 ghost use Rattle.cell_loop.specs.Feeds.{unread_in, finish_in, rules_in, HasSomePieces, HasFeed};
 ghost use Rattle.cell_loop.specs.LoopTied.{HasRoomToClose};
 ghost use Rattle.cell_loop.specs.Closing.{ClosesBehind, HasMoreRoom, Writes};
@@ -17,7 +17,7 @@ ghost use Rattle.cell_loop.specs.LoopMoves.{IsLoopUnderWay, StaysTied, LoopMoves
 use crate::loop_part::LoopPart;
 use conn_state::EndCause;
 use outside::MarkAt;
-use script_links::WriteRule;
+use script_text::WriteRule;
 use std::alloc::AllocError;
 
 impl<'a> LoopPart<'a> {

@@ -6,16 +6,16 @@ use Rattle.idl_token.specs.declared.Place.{Place}
 use Rattle.idl_parser.specs.declared.tree.StructKind.{StructKind}
 use Rattle.idl_parser.specs.declared.tree.StructKind.TheVariants as kind
 use Rattle.thrift_value.specs.Tree.{Tree}
-use Rattle.graph_walk.specs.Walks.{Graph, Walk, LeadsTo, OnCycle}
-use Rattle.idl_model.specs.Written.{Written}
-use Rattle.idl_model.specs.TypeExpr.{TypeExpr, base_expr, name_expr, map_expr, set_expr, list_expr, names_in_type}
-use Rattle.idl_model.specs.Declarations.{FieldDecl, FunctionDecl, TypedefDecl, StructDecl, ServiceDecl}
-use Rattle.idl_model.specs.Program.{Program}
-use Rattle.idl_model.specs.Numbering.{Filed, typedefs_of, structs_of, services_of}
-use Rattle.idl_model.specs.Names.{NamedType, an_alias, an_enum, a_struct, type_named}
-use Rattle.idl_model.specs.Cycles.{alias_graph}
-use Rattle.idl_model.specs.ConstNames.{same_place}
-use Rattle.idl_model.specs.Spots.{Spotted, type_use, thrown_spot, struct_spot, Spot, spots_of, default_spots, result_spots}
+use Rattle.graph_cycles.specs.Walks.{Graph, Walk, LeadsTo, OnCycle}
+use Rattle.idl_include.specs.Written.{Written}
+use Rattle.idl_include.specs.TypeExpr.{TypeExpr, base_expr, name_expr, map_expr, set_expr, list_expr, names_in_type}
+use Rattle.idl_include.specs.Declarations.{FieldDecl, FunctionDecl, TypedefDecl, StructDecl, ServiceDecl}
+use Rattle.idl_include.specs.Program.{Program}
+use Rattle.idl_include.specs.Numbering.{Filed, typedefs_of, structs_of, services_of}
+use Rattle.idl_include.specs.Names.{NamedType, an_alias, an_enum, a_struct, type_named}
+use Rattle.idl_include.specs.Cycles.{alias_graph}
+use Rattle.idl_include.specs.ConstNames.{same_place}
+use Rattle.idl_include.specs.Spots.{Spotted, type_use, thrown_spot, struct_spot, Spot, spots_of, default_spots, result_spots}
 use Rattle.schema.specs.PlainKind.{PlainKind, kind_bool, kind_i8, kind_i16, kind_i32, kind_i64, kind_double, kind_text, kind_binary, kind_enum, kind_struct, kind_map, kind_set, kind_list}
 use Rattle.schema.specs.PlainSchema.{PlainConstant, PlainSchema}
 use Rattle.check_model.specs.Resolved.{map_kind, named_kind, kind_by, alias_kind, TypeMeans}

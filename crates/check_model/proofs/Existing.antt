@@ -2,13 +2,13 @@
 use Rattle.std.proofs.Common.{◌≡◌, ◌⊎◌, inl, inr, ℕ, zero, suc, ◌<◌, ◌≤◌, Bool, true, false, List, [], ◌∷◌, ◌++◌, Option, None, Some, is_some, length, slice_get, refl, ap, sym, subst, arith}
 use Rattle.std.specs.Option.{option_map_or}
 use Rattle.std.specs.List.{AllByRecursion}
-use Rattle.graph_walk.specs.Walks.{Graph, LeadsTo}
-use Rattle.idl_model.specs.Declarations.{FunctionDecl, ServiceDecl}
-use Rattle.idl_model.specs.Program.{Program}
-use Rattle.idl_model.specs.Numbering.{Filed, services_of}
-use Rattle.idl_model.specs.Names.{is_dotted, type_named, service_for_name}
-use Rattle.idl_model.specs.Cycles.{alias_graph, parent_graph, functions_by_number, HasFunction, Inherits}
-use Rattle.idl_model.specs.Spots.{Spotted, given_name, type_use, parent_use, typedef_spot, field_spot, enum_value_spot, service_spot, function_spot, Spot, spots_of}
+use Rattle.graph_cycles.specs.Walks.{Graph, LeadsTo}
+use Rattle.idl_include.specs.Declarations.{FunctionDecl, ServiceDecl}
+use Rattle.idl_include.specs.Program.{Program}
+use Rattle.idl_include.specs.Numbering.{Filed, services_of}
+use Rattle.idl_include.specs.Names.{is_dotted, type_named, service_for_name}
+use Rattle.idl_include.specs.Cycles.{alias_graph, parent_graph, functions_by_number, HasFunction, Inherits}
+use Rattle.idl_include.specs.Spots.{Spotted, given_name, type_use, parent_use, typedef_spot, field_spot, enum_value_spot, service_spot, function_spot, Spot, spots_of}
 use Rattle.check_model.specs.Scalars.{has_bits}
 use Rattle.check_model.specs.FiniteValues.{has_no_items}
 use Rattle.check_model.specs.Passes.{Pass, dotted_name, duplicate_name, unknown_type, typedef_cycle, field_id, duplicate_id, enum_number, service_cycle, duplicate_function, oneway_not_void, oneway_throws, is_repeated, is_bad_id, is_id_repeated, number_behind, FindsFault}

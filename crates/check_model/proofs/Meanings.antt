@@ -1,11 +1,11 @@
 -- A type means one kind at most.
 use Rattle.std.proofs.Common.{◌≡◌, ℕ, zero, suc, Option, None, Some, slice_get, refl, ap, sym, ◌∙◌}
 use Rattle.std.specs.Option.{option_and_then, option_map}
-use Rattle.idl_model.specs.TypeExpr.{TypeExpr, base_expr, name_expr, map_expr, set_expr, list_expr}
-use Rattle.idl_model.specs.Declarations.{TypedefDecl}
-use Rattle.idl_model.specs.Program.{Program}
-use Rattle.idl_model.specs.Numbering.{Filed, typedefs_of}
-use Rattle.idl_model.specs.Names.{NamedType, an_alias, an_enum, a_struct, type_named}
+use Rattle.idl_include.specs.TypeExpr.{TypeExpr, base_expr, name_expr, map_expr, set_expr, list_expr}
+use Rattle.idl_include.specs.Declarations.{TypedefDecl}
+use Rattle.idl_include.specs.Program.{Program}
+use Rattle.idl_include.specs.Numbering.{Filed, typedefs_of}
+use Rattle.idl_include.specs.Names.{NamedType, an_alias, an_enum, a_struct, type_named}
 use Rattle.schema.specs.PlainKind.{PlainKind, kind_enum, kind_struct, kind_map, kind_set, kind_list}
 use Rattle.check_model.specs.Resolved.{base_kind, named_kind, map_kind, kind_by, alias_kind, TypeMeans}
 use Rattle.check_model.proofs.FirstOnes.{somes, none_some}

@@ -2,12 +2,12 @@
 use Rattle.std.specs.List.{AllZip}
 use Rattle.std.proofs.Common.{◌≡◌, ℕ, suc, ◌+◌, List, [], ◌∷◌, Option, None, Some, length, refl, ap, sym, subst, ◌∙◌}
 use Rattle.thrift_value.specs.Tree.{Tree}
-use Rattle.idl_model.specs.ConstExpr.{ConstExpr}
-use Rattle.idl_model.specs.TypeExpr.{TypeExpr}
-use Rattle.idl_model.specs.Declarations.{FieldDecl, FunctionDecl, TypedefDecl, ServiceDecl, ConstDecl}
-use Rattle.idl_model.specs.Program.{Program}
-use Rattle.idl_model.specs.Numbering.{Filed, typedefs_of, structs_of, services_of, constants_of}
-use Rattle.idl_model.specs.Spots.{GivenValue}
+use Rattle.idl_include.specs.ConstExpr.{ConstExpr}
+use Rattle.idl_include.specs.TypeExpr.{TypeExpr}
+use Rattle.idl_include.specs.Declarations.{FieldDecl, FunctionDecl, TypedefDecl, ServiceDecl, ConstDecl}
+use Rattle.idl_include.specs.Program.{Program}
+use Rattle.idl_include.specs.Numbering.{Filed, typedefs_of, structs_of, services_of, constants_of}
+use Rattle.idl_include.specs.Spots.{GivenValue}
 use Rattle.schema.specs.declared.types.FieldsKind.{FieldsKind}
 use Rattle.schema.specs.declared.types.FieldsKind.TheVariants as fields
 use Rattle.schema.specs.PlainKind.{PlainKind}

@@ -2,14 +2,14 @@
 use Rattle.std.proofs.Common.{◌≡◌, ℕ, List, ap, sym, subst, ◌∙◌}
 use Rattle.std.specs.List.{AllByRecursion}
 use Rattle.idl_token.specs.declared.Place.{Place}
-use Rattle.idl_model.specs.Program.{Program}
-use Rattle.idl_model.specs.Spots.{GivenValue, Spotted, given_name, type_use, parent_use, typedef_spot, field_spot, thrown_spot, enum_value_spot, struct_spot, service_spot, function_spot, value_spot, Spot}
+use Rattle.idl_include.specs.Program.{Program}
+use Rattle.idl_include.specs.Spots.{GivenValue, Spotted, given_name, type_use, parent_use, typedef_spot, field_spot, thrown_spot, enum_value_spot, struct_spot, service_spot, function_spot, value_spot, Spot}
 use Rattle.thrift_value.specs.Tree.{Tree}
 use Rattle.check_model.specs.Worths.{ConstFlaw, Worth, valued, flawed}
 use Rattle.check_model.specs.Evaluation.{given_worth}
 use Rattle.check_model.specs.Passes.{Pass, dotted_name, duplicate_name, unknown_type, typedef_cycle, field_id, duplicate_id, enum_number, service_cycle, duplicate_function, oneway_not_void, oneway_throws, not_exception, struct_loop, bad_constant, HasConstFlaw}
 use Rattle.check_model.specs.FirstFlaw.{of_value, ProgramFlaw, IsValueFlaw, IsAtFault, IsClearAt, FindsNothing, IsFirstOf, IsFirstFlaw, HasNoFlaw}
-use Rattle.idl_model.specs.Loading.{Loaded, loaded, stopped}
+use Rattle.idl_include.specs.Loading.{Loaded, loaded, stopped}
 use Rattle.check_model.specs.ProgramSchema.{ProgramVerdict, accepted_as, not_loaded, at_fault, IsVerdictOn}
 use Rattle.check_model.proofs.FirstOnes.{somes, first_is_one, holds_at_split}
 use Rattle.check_model.proofs.Meanings.{one_meaning}

@@ -3,14 +3,14 @@ use Rattle.std.proofs.Common.{◌≡◌, ◌≢◌, ◌⊎◌, cond, eqb, eq-eqb
 use Rattle.std.specs.Option.{option_and_then, option_map, option_or}
 use Rattle.std.specs.List.{AllByRecursion, Contains, filter_map, cons_option, position_from}
 use Rattle.std.proofs.lemmas.Bool.Decides.{eqb_tells}
-use Rattle.graph_walk.specs.Walks.{LeadsTo, OnCycle}
-use Rattle.idl_model.specs.Written.{Written}
-use Rattle.idl_model.specs.TypeExpr.{TypeExpr, base_expr, name_expr, map_expr, set_expr, list_expr, names_in_type}
-use Rattle.idl_model.specs.Program.{Program}
-use Rattle.idl_model.specs.Declarations.{TypedefDecl, EnumDecl, StructDecl}
-use Rattle.idl_model.specs.Numbering.{Filed, typedefs_of, enums_of, structs_of, is_filed_as, number_named}
-use Rattle.idl_model.specs.Names.{Sought, sought, NamedType, an_alias, an_enum, a_struct, type_defined, type_named}
-use Rattle.idl_model.specs.Cycles.{alias_in, aliases_below, alias_graph}
+use Rattle.graph_cycles.specs.Walks.{LeadsTo, OnCycle}
+use Rattle.idl_include.specs.Written.{Written}
+use Rattle.idl_include.specs.TypeExpr.{TypeExpr, base_expr, name_expr, map_expr, set_expr, list_expr, names_in_type}
+use Rattle.idl_include.specs.Program.{Program}
+use Rattle.idl_include.specs.Declarations.{TypedefDecl, EnumDecl, StructDecl}
+use Rattle.idl_include.specs.Numbering.{Filed, typedefs_of, enums_of, structs_of, is_filed_as, number_named}
+use Rattle.idl_include.specs.Names.{Sought, sought, NamedType, an_alias, an_enum, a_struct, type_defined, type_named}
+use Rattle.idl_include.specs.Cycles.{alias_in, aliases_below, alias_graph}
 use Rattle.schema.specs.PlainKind.{PlainKind, kind_enum, kind_struct, kind_map, kind_set, kind_list}
 use Rattle.check_model.specs.Resolved.{base_kind, named_kind, map_kind, kind_by, alias_kind, TypeMeans}
 use Rattle.check_model.proofs.FirstOnes.{somes, none_some}

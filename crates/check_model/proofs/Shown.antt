@@ -1,12 +1,12 @@
 -- What holds at each spot of a program holds of the parts of its definitions.
 use Rattle.std.proofs.Common.{ℕ, suc, List, [], ◌∷◌, ◌++◌, map}
 use Rattle.std.specs.List.{AllByRecursion, filter_map}
-use Rattle.idl_model.specs.Written.{Written}
-use Rattle.idl_model.specs.TypeExpr.{TypeExpr}
-use Rattle.idl_model.specs.Declarations.{FieldDecl, FunctionDecl, ConstDecl, TypedefDecl, StructDecl, ServiceDecl, Declaration, of_const, of_typedef, of_enum, of_struct_decl, of_service, declared_name}
-use Rattle.idl_model.specs.Program.{SourceFile, Program}
-use Rattle.idl_model.specs.Numbering.{Filed, filed, Counts, none_counted, counted, all_counted, picked_from, const_in, typedef_in, struct_in, service_in, constants_of, typedefs_of, structs_of, services_of}
-use Rattle.idl_model.specs.Spots.{Spotted, typedef_spot, value_spot, Spot, type_spots, default_spots, spots_in_field, spots_in_fields, spots_in_throws, result_spots, spots_in_function, spots_in_functions, parent_spots, spots_in_declaration, spots_in_declarations, in_file, spots_from, spots_of}
+use Rattle.idl_include.specs.Written.{Written}
+use Rattle.idl_include.specs.TypeExpr.{TypeExpr}
+use Rattle.idl_include.specs.Declarations.{FieldDecl, FunctionDecl, ConstDecl, TypedefDecl, StructDecl, ServiceDecl, Declaration, of_const, of_typedef, of_enum, of_struct_decl, of_service, declared_name}
+use Rattle.idl_include.specs.Program.{SourceFile, Program}
+use Rattle.idl_include.specs.Numbering.{Filed, filed, Counts, none_counted, counted, all_counted, picked_from, const_in, typedef_in, struct_in, service_in, constants_of, typedefs_of, structs_of, services_of}
+use Rattle.idl_include.specs.Spots.{Spotted, typedef_spot, value_spot, Spot, type_spots, default_spots, spots_in_field, spots_in_fields, spots_in_throws, result_spots, spots_in_function, spots_in_functions, parent_spots, spots_in_declaration, spots_in_declarations, in_file, spots_from, spots_of}
 
 pub front_all : {A : Type 0} (Q : A → Type 0) (xs ys : List A) → AllByRecursion Q (xs ++ ys) → AllByRecursion Q xs
 front_all Q [] ys h = tt

@@ -4,17 +4,17 @@ use Rattle.idl_token.specs.declared.Place.{Place}
 use Rattle.thrift_value.specs.Tree.{of_i32}
 use Rattle.idl_parser.specs.declared.tree.StructKind.{StructKind}
 use Rattle.idl_parser.specs.declared.tree.StructKind.TheVariants as kind
-use Rattle.idl_model.specs.Declarations.{StructDecl}
-use Rattle.idl_model.specs.TypeExpr.{name_expr}
-use Rattle.idl_model.specs.ConstExpr.{name_const}
-use Rattle.idl_model.specs.FileNames.{base_name}
-use Rattle.idl_model.specs.Numbering.{Filed, constants_of, typedefs_of, enums_of, structs_of, services_of, all_functions}
-use Rattle.idl_model.specs.Names.{an_enum, sought, type_named}
-use Rattle.idl_model.specs.FieldIds.{field_ids}
-use Rattle.idl_model.specs.EnumNumbers.{enum_numbers}
-use Rattle.idl_model.specs.Spots.{GivenValue, given_name, Spot, spots_of, spots_in_declaration, spots_in_field, values_of}
-use Rattle.idl_model.specs.ConstNames.{value_number, const_meaning}
-use Rattle.idl_model.specs.SmallPrograms.{column, written_at, named_number, doubled_id, named_kinds}
+use Rattle.idl_include.specs.Declarations.{StructDecl}
+use Rattle.idl_include.specs.TypeExpr.{name_expr}
+use Rattle.idl_include.specs.ConstExpr.{name_const}
+use Rattle.idl_include.specs.FileNames.{base_name}
+use Rattle.idl_include.specs.Numbering.{Filed, constants_of, typedefs_of, enums_of, structs_of, services_of, all_functions}
+use Rattle.idl_include.specs.Names.{an_enum, sought, type_named}
+use Rattle.idl_include.specs.FieldIds.{field_ids}
+use Rattle.idl_include.specs.EnumNumbers.{enum_numbers}
+use Rattle.idl_include.specs.Spots.{GivenValue, given_name, Spot, spots_of, spots_in_declaration, spots_in_field, values_of}
+use Rattle.idl_include.specs.ConstNames.{value_number, const_meaning}
+use Rattle.idl_include.specs.SmallPrograms.{column, written_at, named_number, doubled_id, named_kinds}
 use Rattle.schema.specs.PlainKind.{PlainKind, kind_enum, kind_struct}
 use Rattle.schema.specs.PlainSchema.{PlainConstant}
 use Rattle.check_model.specs.Resolved.{alias_kind, TypeMeans}

@@ -9,11 +9,11 @@ use Rattle.idl_token.specs.declared.Place.{Place}
 use Rattle.thrift_value.specs.declared.tag.Tag.{Tag}
 use Rattle.thrift_value.specs.declared.tag.Tag.TheVariants as tag
 use Rattle.thrift_value.specs.Tree.{Tree, of_struct, of_map, of_set, of_list, FieldTrees, no_fields, field, ItemTrees, no_items, item, PairTrees, no_pairs, pair}
-use Rattle.idl_model.specs.ConstExpr.{ConstExpr, int_const, double_const, literal_const, name_const, list_const, map_const, ConstItems, no_consts, const_item, ConstEntries, no_entries, const_entry, place_of_const}
-use Rattle.idl_model.specs.Program.{Program}
-use Rattle.idl_model.specs.Numbering.{Filed}
-use Rattle.idl_model.specs.Spots.{GivenValue, values_of}
-use Rattle.idl_model.specs.ConstNames.{ConstMeaning, enum_value, given_value, value_number, const_meaning}
+use Rattle.idl_include.specs.ConstExpr.{ConstExpr, int_const, double_const, literal_const, name_const, list_const, map_const, ConstItems, no_consts, const_item, ConstEntries, no_entries, const_entry, place_of_const}
+use Rattle.idl_include.specs.Program.{Program}
+use Rattle.idl_include.specs.Numbering.{Filed}
+use Rattle.idl_include.specs.Spots.{GivenValue, values_of}
+use Rattle.idl_include.specs.ConstNames.{ConstMeaning, enum_value, given_value, value_number, const_meaning}
 use Rattle.schema.specs.declared.types.FieldNeed.{FieldNeed}
 use Rattle.schema.specs.declared.types.FieldNeed.TheVariants as wanted
 use Rattle.schema.specs.declared.types.FieldsKind.{FieldsKind}

@@ -2,8 +2,8 @@
 use Rattle.std.specs.Prelude.{◌≡◌, ℕ, List, ◌∷◌, ◌++◌}
 use Rattle.std.specs.List.{AllByRecursion}
 use Rattle.idl_token.specs.declared.Place.{Place}
-use Rattle.idl_model.specs.Program.{Program}
-use Rattle.idl_model.specs.Spots.{Spotted, value_spot, Spot, spots_of}
+use Rattle.idl_include.specs.Program.{Program}
+use Rattle.idl_include.specs.Spots.{Spotted, value_spot, Spot, spots_of}
 use Rattle.check_model.specs.Worths.{ConstFlaw}
 use Rattle.check_model.specs.Passes.{Pass, bad_constant, passes, FindsFault, place_shown, HasConstFlaw}
 

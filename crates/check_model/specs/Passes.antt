@@ -5,19 +5,19 @@ use Rattle.std.specs.List.{list_any}
 use Rattle.idl_token.specs.declared.Place.{Place}
 use Rattle.idl_parser.specs.declared.tree.StructKind.{StructKind}
 use Rattle.idl_parser.specs.declared.tree.StructKind.TheVariants as kind
-use Rattle.graph_walk.specs.Walks.{OnCycle}
-use Rattle.idl_model.specs.Written.{Written}
-use Rattle.idl_model.specs.TypeExpr.{TypeExpr}
-use Rattle.idl_model.specs.Declarations.{FieldDecl, FunctionDecl, EnumValueDecl, StructDecl}
-use Rattle.idl_model.specs.Loading.{is_among}
-use Rattle.idl_model.specs.Program.{Program}
-use Rattle.idl_model.specs.Numbering.{Filed, structs_of}
-use Rattle.idl_model.specs.Names.{is_dotted, type_named, service_for_name}
-use Rattle.idl_model.specs.FieldIds.{id_behind, unnumbered_in, field_ids}
-use Rattle.idl_model.specs.EnumNumbers.{number_or, next_number}
-use Rattle.idl_model.specs.Cycles.{alias_graph, parent_graph, HasFunction, Inherits}
-use Rattle.idl_model.specs.Spots.{GivenValue, Spotted, given_name, type_use, parent_use, typedef_spot, field_spot, thrown_spot, enum_value_spot, struct_spot, service_spot, function_spot, value_spot}
-use Rattle.idl_model.specs.ConstNames.{value_number}
+use Rattle.graph_cycles.specs.Walks.{OnCycle}
+use Rattle.idl_include.specs.Written.{Written}
+use Rattle.idl_include.specs.TypeExpr.{TypeExpr}
+use Rattle.idl_include.specs.Declarations.{FieldDecl, FunctionDecl, EnumValueDecl, StructDecl}
+use Rattle.idl_include.specs.Loading.{is_among}
+use Rattle.idl_include.specs.Program.{Program}
+use Rattle.idl_include.specs.Numbering.{Filed, structs_of}
+use Rattle.idl_include.specs.Names.{is_dotted, type_named, service_for_name}
+use Rattle.idl_include.specs.FieldIds.{id_behind, unnumbered_in, field_ids}
+use Rattle.idl_include.specs.EnumNumbers.{number_or, next_number}
+use Rattle.idl_include.specs.Cycles.{alias_graph, parent_graph, HasFunction, Inherits}
+use Rattle.idl_include.specs.Spots.{GivenValue, Spotted, given_name, type_use, parent_use, typedef_spot, field_spot, thrown_spot, enum_value_spot, struct_spot, service_spot, function_spot, value_spot}
+use Rattle.idl_include.specs.ConstNames.{value_number}
 use Rattle.schema.specs.PlainKind.{PlainKind, kind_struct}
 use Rattle.schema.specs.PlainSchema.{PlainSchema}
 use Rattle.check_model.specs.Resolved.{TypeMeans}

@@ -3,14 +3,14 @@ use Rattle.std.specs.Prelude.{◌≡◌, ℕ, List, Option, Some, None}
 use Rattle.std.specs.List.{AllZip}
 use Rattle.outside.specs.Files.{File}
 use Rattle.thrift_value.specs.Tree.{Tree}
-use Rattle.idl_model.specs.ConstExpr.{ConstExpr}
-use Rattle.idl_model.specs.Declarations.{FieldDecl, ConstDecl}
-use Rattle.idl_model.specs.Program.{Program}
-use Rattle.idl_model.specs.Numbering.{Filed, constants_of}
-use Rattle.idl_model.specs.Spots.{GivenValue}
-use Rattle.idl_model.specs.ConstNames.{value_number}
-use Rattle.idl_model.specs.Readings.{FileReading, IsReaderOf}
-use Rattle.idl_model.specs.Loading.{LoadFlaw, Loaded, loaded, stopped, program_of}
+use Rattle.idl_include.specs.ConstExpr.{ConstExpr}
+use Rattle.idl_include.specs.Declarations.{FieldDecl, ConstDecl}
+use Rattle.idl_include.specs.Program.{Program}
+use Rattle.idl_include.specs.Numbering.{Filed, constants_of}
+use Rattle.idl_include.specs.Spots.{GivenValue}
+use Rattle.idl_include.specs.ConstNames.{value_number}
+use Rattle.idl_include.specs.Readings.{FileReading, IsReaderOf}
+use Rattle.idl_include.specs.Loading.{LoadFlaw, Loaded, loaded, stopped, program_of}
 use Rattle.schema.specs.PlainKind.{PlainKind}
 use Rattle.schema.specs.PlainSchema.{PlainConstant, PlainSchema}
 use Rattle.check_model.specs.Resolved.{TypeMeans}

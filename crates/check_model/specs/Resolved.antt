@@ -3,11 +3,11 @@ use Rattle.std.specs.Prelude.{◌≡◌, ℕ, zero, suc, slice_get, Option, Some
 use Rattle.std.specs.Option.{option_and_then, option_map}
 use Rattle.idl_parser.specs.declared.tree.Base.{Base}
 use Rattle.idl_parser.specs.declared.tree.Base.TheVariants as base
-use Rattle.idl_model.specs.TypeExpr.{TypeExpr, base_expr, name_expr, map_expr, set_expr, list_expr}
-use Rattle.idl_model.specs.Declarations.{TypedefDecl}
-use Rattle.idl_model.specs.Program.{Program}
-use Rattle.idl_model.specs.Numbering.{Filed, typedefs_of}
-use Rattle.idl_model.specs.Names.{NamedType, an_alias, an_enum, a_struct, type_named}
+use Rattle.idl_include.specs.TypeExpr.{TypeExpr, base_expr, name_expr, map_expr, set_expr, list_expr}
+use Rattle.idl_include.specs.Declarations.{TypedefDecl}
+use Rattle.idl_include.specs.Program.{Program}
+use Rattle.idl_include.specs.Numbering.{Filed, typedefs_of}
+use Rattle.idl_include.specs.Names.{NamedType, an_alias, an_enum, a_struct, type_named}
 use Rattle.schema.specs.PlainKind.{PlainKind, kind_bool, kind_i8, kind_i16, kind_i32, kind_i64, kind_double, kind_text, kind_binary, kind_enum, kind_struct, kind_map, kind_set, kind_list}
 
 -- a base type; `byte` is `i8` (Thrift IDL, 'Base Types')

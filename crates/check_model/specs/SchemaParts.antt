@@ -2,12 +2,12 @@
 use Rattle.std.specs.Prelude.{◌≡◌, ⊤, ℕ, suc, ℤ, ◌+◌, List, [], ◌∷◌, map, length, Option, Some, None}
 use Rattle.std.specs.List.{AllZip}
 use Rattle.thrift_value.specs.Tree.{Tree}
-use Rattle.idl_model.specs.TypeExpr.{TypeExpr}
-use Rattle.idl_model.specs.Declarations.{FieldDecl, FunctionDecl, TypedefDecl, EnumValueDecl, EnumDecl, ServiceDecl, Declaration, of_const, of_typedef, of_enum, of_struct_decl, of_service}
-use Rattle.idl_model.specs.Program.{Program, base_of_file}
-use Rattle.idl_model.specs.Numbering.{Filed, Counts, none_counted, counted, all_counted, typedefs_of, enums_of, structs_of, services_of}
-use Rattle.idl_model.specs.EnumNumbers.{enum_numbers}
-use Rattle.idl_model.specs.Cycles.{parent_named}
+use Rattle.idl_include.specs.TypeExpr.{TypeExpr}
+use Rattle.idl_include.specs.Declarations.{FieldDecl, FunctionDecl, TypedefDecl, EnumValueDecl, EnumDecl, ServiceDecl, Declaration, of_const, of_typedef, of_enum, of_struct_decl, of_service}
+use Rattle.idl_include.specs.Program.{Program, base_of_file}
+use Rattle.idl_include.specs.Numbering.{Filed, Counts, none_counted, counted, all_counted, typedefs_of, enums_of, structs_of, services_of}
+use Rattle.idl_include.specs.EnumNumbers.{enum_numbers}
+use Rattle.idl_include.specs.Cycles.{parent_named}
 use Rattle.schema.specs.declared.types.FieldsKind.{FieldsKind}
 use Rattle.schema.specs.declared.types.FieldsKind.TheVariants as fields
 use Rattle.schema.specs.declared.types.DefRef.{DefRef}

@@ -1,10 +1,10 @@
 -- Small schemas without defaults and constants, for examples.
 use Rattle.std.specs.Prelude.{ℕ, pos, codes, List, [], ◌∷◌, slice_get, Option, Some, None}
 use Rattle.thrift_value.specs.Tree.{Tree, of_i32}
-use Rattle.idl_model.specs.Program.{Program}
-use Rattle.idl_model.specs.Numbering.{Filed}
+use Rattle.idl_include.specs.Program.{Program}
+use Rattle.idl_include.specs.Numbering.{Filed}
 use Rattle.idl_parser.specs.Unplaced.{nowhere}
-use Rattle.idl_model.specs.Spots.{GivenValue, values_of}
+use Rattle.idl_include.specs.Spots.{GivenValue, values_of}
 use Rattle.schema.specs.declared.types.FieldNeed.TheVariants as wanted
 use Rattle.schema.specs.declared.types.FieldsKind.TheVariants as fields
 use Rattle.schema.specs.declared.types.DefRef.TheVariants as ref

@@ -3,10 +3,10 @@
 ghost use Rattle.std.specs.Prelude.{◌≡◌, ◌^◌, ◌*◌, pos, negsuc, codes, true, false, None, Some, [], ◌∷◌};
 ghost use Rattle.thrift_value.specs.Tree.{of_bool, of_i32, of_double, of_struct, no_fields, field, item, no_items, pair, no_pairs};
 ghost use Rattle.idl_parser.specs.declared.tree.Base.TheVariants as base;
-ghost use Rattle.idl_model.specs.TypeExpr.{base_expr, name_expr, list_expr};
-ghost use Rattle.idl_model.specs.ConstExpr.{int_const, literal_const, map_const, const_entry, no_entries};
-ghost use Rattle.idl_model.specs.Spots.{given_name, type_use, typedef_spot, field_spot, enum_value_spot, service_spot, function_spot, thrown_spot};
-ghost use Rattle.idl_model.specs.SmallPrograms.{column, with_number, small_field, small_function, aliases_itself, extends_itself, inherits_twice, named_kinds, written_at, list_of_a, narrow, doubled_id, takes_itself, crossed, lists_itself, named_number};
+ghost use Rattle.idl_include.specs.TypeExpr.{base_expr, name_expr, list_expr};
+ghost use Rattle.idl_include.specs.ConstExpr.{int_const, literal_const, map_const, const_entry, no_entries};
+ghost use Rattle.idl_include.specs.Spots.{given_name, type_use, typedef_spot, field_spot, enum_value_spot, service_spot, function_spot, thrown_spot};
+ghost use Rattle.idl_include.specs.SmallPrograms.{column, with_number, small_field, small_function, aliases_itself, extends_itself, inherits_twice, named_kinds, written_at, list_of_a, narrow, doubled_id, takes_itself, crossed, lists_itself, named_number};
 ghost use Rattle.schema.specs.PlainKind.{kind_i8, kind_i32, kind_enum, kind_struct, kind_list};
 ghost use Rattle.check_model.specs.WholeDoubles.{double_number, double_bits, int_as_double};
 ghost use Rattle.check_model.specs.TidyRows.{tidy_members, tidy_pairs};

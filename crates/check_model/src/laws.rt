@@ -2,8 +2,8 @@
 
 ghost use Rattle.std.specs.Prelude.{◌≡◌, ◌⊎◌, ℕ, List};
 ghost use Rattle.outside.specs.Files.{File};
-ghost use Rattle.idl_model.specs.TypeExpr.{TypeExpr};
-ghost use Rattle.idl_model.specs.Program.{Program};
+ghost use Rattle.idl_include.specs.TypeExpr.{TypeExpr};
+ghost use Rattle.idl_include.specs.Program.{Program};
 ghost use Rattle.schema.specs.PlainKind.{PlainKind};
 ghost use Rattle.schema.specs.PlainSchema.{PlainSchema};
 ghost use Rattle.check_model.specs.Resolved.{TypeMeans};
@@ -11,8 +11,8 @@ ghost use Rattle.check_model.specs.SchemaParts.{IsPartialSchema};
 ghost use Rattle.check_model.specs.FirstFlaw.{ProgramFlaw, IsFirstFlaw};
 ghost use Rattle.check_model.specs.ProgramSchema.{IsSchemaOf, ProgramVerdict, IsProgramVerdict};
 
-use graph_walk::laws::a_node_leads_to_another_or_not;
-use idl_model::laws::{each_file_is_read_as_one_thing, the_program_is_determined};
+use graph_cycles::laws::a_node_leads_to_another_or_not;
+use idl_include::laws::{each_file_is_read_as_one_thing, the_program_is_determined};
 
 /// A type means one kind at most.
 pub fn a_type_has_one_meaning()

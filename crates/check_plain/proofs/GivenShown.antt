@@ -2,13 +2,13 @@
 use Rattle.std.proofs.Common.{◌≡◌, ◌++◌, ℕ, suc, List, [], ◌∷◌, map, Option, None, Some, refl, ap, sym, ◌∙◌}
 use Rattle.std.specs.Option.{option_map}
 use Rattle.std.specs.List.{cons_option, filter_map, flat_map}
-use Rattle.idl_model.specs.Written.{Written}
-use Rattle.idl_model.specs.TypeExpr.{TypeExpr, names_in_type}
-use Rattle.idl_model.specs.ConstExpr.{ConstExpr}
-use Rattle.idl_model.specs.Declarations.{FieldDecl, FunctionDecl, EnumValueDecl, Declaration, of_const, of_typedef, of_enum, of_struct_decl, of_service, declared_name}
-use Rattle.idl_model.specs.Program.{Program}
-use Rattle.idl_model.specs.Numbering.{Filed, Counts, none_counted, counted, all_counted}
-use Rattle.idl_model.specs.Spots.{GivenValue, Spotted, type_use, Spot, type_spots, default_spots, spots_in_field, spots_in_fields, spots_in_throws, result_spots, spots_in_function, spots_in_functions, spots_in_enum, parent_spots, spots_in_declaration, spots_in_declarations, in_file, spots_from, spots_of, value_at, values_of}
+use Rattle.idl_include.specs.Written.{Written}
+use Rattle.idl_include.specs.TypeExpr.{TypeExpr, names_in_type}
+use Rattle.idl_include.specs.ConstExpr.{ConstExpr}
+use Rattle.idl_include.specs.Declarations.{FieldDecl, FunctionDecl, EnumValueDecl, Declaration, of_const, of_typedef, of_enum, of_struct_decl, of_service, declared_name}
+use Rattle.idl_include.specs.Program.{Program}
+use Rattle.idl_include.specs.Numbering.{Filed, Counts, none_counted, counted, all_counted}
+use Rattle.idl_include.specs.Spots.{GivenValue, Spotted, type_use, Spot, type_spots, default_spots, spots_in_field, spots_in_fields, spots_in_throws, result_spots, spots_in_function, spots_in_functions, spots_in_enum, parent_spots, spots_in_declaration, spots_in_declarations, in_file, spots_from, spots_of, value_at, values_of}
 use Rattle.check_plain.specs.Given.{default_given, given_in_fields, given_in_function, given_in_declaration, given_from}
 
 cons_then : {A : Type 0} (o : Option A) (xs ys : List A) → cons_option o xs ++ ys ≡ cons_option o (xs ++ ys)

@@ -5,12 +5,12 @@ use Rattle.std.specs.List.{position_from}
 use Rattle.std.specs.Option.{option_map, option_and_then}
 use Rattle.std.specs.Str.{bytes_eq}
 use Rattle.idl_token.specs.declared.Place.{Place}
-use Rattle.idl_model.specs.Written.{Written}
-use Rattle.idl_model.specs.Declarations.{TypedefDecl}
-use Rattle.idl_model.specs.Program.{Program}
-use Rattle.idl_model.specs.Numbering.{Filed, is_filed_as, number_named, typedefs_of}
-use Rattle.idl_model.specs.Spots.{GivenValue, values_of}
-use Rattle.idl_model.specs.ConstNames.{same_place, value_number}
+use Rattle.idl_include.specs.Written.{Written}
+use Rattle.idl_include.specs.Declarations.{TypedefDecl}
+use Rattle.idl_include.specs.Program.{Program}
+use Rattle.idl_include.specs.Numbering.{Filed, is_filed_as, number_named, typedefs_of}
+use Rattle.idl_include.specs.Spots.{GivenValue, values_of}
+use Rattle.idl_include.specs.ConstNames.{same_place, value_number}
 use Rattle.check_model.specs.Resolved.{kind_by, alias_kind}
 use Rattle.idl_names.specs.declared.filed.InFile.{InFile}
 use Rattle.idl_names.specs.declared.spot.GivenTree.{GivenTree}

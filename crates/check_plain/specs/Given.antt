@@ -2,11 +2,11 @@
 use Rattle.std.specs.Prelude.{ℕ, suc, List, [], ◌∷◌, ◌++◌, Option}
 use Rattle.std.specs.Option.{option_map}
 use Rattle.std.specs.List.{filter_map, flat_map}
-use Rattle.idl_model.specs.ConstExpr.{ConstExpr}
-use Rattle.idl_model.specs.Declarations.{FieldDecl, FunctionDecl, Declaration, of_const, of_typedef, of_enum, of_struct_decl, of_service}
-use Rattle.idl_model.specs.Program.{Program}
-use Rattle.idl_model.specs.Numbering.{Filed}
-use Rattle.idl_model.specs.Spots.{GivenValue}
+use Rattle.idl_include.specs.ConstExpr.{ConstExpr}
+use Rattle.idl_include.specs.Declarations.{FieldDecl, FunctionDecl, Declaration, of_const, of_typedef, of_enum, of_struct_decl, of_service}
+use Rattle.idl_include.specs.Program.{Program}
+use Rattle.idl_include.specs.Numbering.{Filed}
+use Rattle.idl_include.specs.Spots.{GivenValue}
 
 -- the default of a field, if it has one
 abbrev pub default_given : ℕ → FieldDecl → Option (Filed GivenValue)

@@ -2,9 +2,9 @@
 
 ghost use Rattle.std.specs.Prelude.{◌≡◌, map, IfOk};
 ghost use Rattle.std.specs.Option.{option_map, option_and_then};
-ghost use Rattle.idl_model.specs.DeclaredIn.{enum_value_in};
-ghost use Rattle.idl_model.specs.EnumNumbers.{enum_numbers};
-ghost use Rattle.idl_model.specs.ConstNames.{number_of_value, value_of_enum, enum_value_at, enum_value_named, constant_at, const_meaning};
+ghost use Rattle.idl_include.specs.DeclaredIn.{enum_value_in};
+ghost use Rattle.idl_include.specs.EnumNumbers.{enum_numbers};
+ghost use Rattle.idl_include.specs.ConstNames.{number_of_value, value_of_enum, enum_value_at, enum_value_named, constant_at, const_meaning};
 ghost use Rattle.idl_include.specs.SourcesOf.{program_in};
 ghost use Rattle.idl_names.specs.Meanings.{const_meant};
 
@@ -43,7 +43,7 @@ fn named_number(alloc: Global, values: &[EnumValue], name: &[u8]) -> Made<Option
 }
 
 /// The value of this name of the enum of some number.
-#[tactic(auto, unfolding(idl_model::specs::Numbering::enums_of))]
+#[tactic(auto, unfolding(idl_include::specs::Numbering::enums_of))]
 fn value_of_enum(files: Based<'_>, name: &[u8], number: u32) -> Made<Option<ConstName>>
     ensures { IfOk result (λ meant. option_map const_meant meant ≡ value_of_enum (program_in files.entry.all.now) name.now number) }
 {
@@ -59,7 +59,7 @@ fn value_of_enum(files: Based<'_>, name: &[u8], number: u32) -> Made<Option<Cons
 }
 
 /// The value of this name of an enum that is defined in a file.
-#[tactic(auto, unfolding(idl_model::specs::Numbering::enums_of))]
+#[tactic(auto, unfolding(idl_include::specs::Numbering::enums_of))]
 fn enum_value_at(
     files: Based<'_>,
     name: &[u8],
@@ -90,7 +90,7 @@ fn enum_value_named(files: Based<'_>, file: u32, name: &[u8]) -> Made<Option<Con
 }
 
 /// The constant that is defined in a file under this name.
-#[tactic(auto, unfolding(idl_model::specs::Numbering::constants_of))]
+#[tactic(auto, unfolding(idl_include::specs::Numbering::constants_of))]
 fn constant_at(files: Based<'_>, file: u32, name: &[u8]) -> Made<Option<ConstName>>
     ensures { IfOk result (λ meant. option_map const_meant meant ≡ constant_at (program_in files.entry.all.now) (record { file = file; name = name.now })) }
 {
@@ -105,7 +105,7 @@ fn constant_at(files: Based<'_>, file: u32, name: &[u8]) -> Made<Option<ConstNam
 }
 
 /// What a name in a constant value that stands in a file stands for, if it stands for something: the value of an enum before a constant.
-#[tactic(auto, unfolding(idl_model::specs::ConstNames::const_meaning))]
+#[tactic(auto, unfolding(idl_include::specs::ConstNames::const_meaning))]
 pub fn const_named(files: Based<'_>, file: u32, name: &[u8]) -> Made<Option<ConstName>>
     ensures { IfOk result (λ meant. option_map const_meant meant ≡ const_meaning (program_in files.entry.all.now) file name.now) }
 {

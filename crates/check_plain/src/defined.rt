@@ -4,8 +4,8 @@ ghost use Rattle.std.specs.Prelude.{◌≡◌, ◌==◌, ◌&&◌, ◌++◌, Lis
 ghost use Rattle.std.specs.List.{cons_option, filter_map, find, position_from};
 ghost use Rattle.std.specs.Str.{bytes_eq};
 ghost use Rattle.std.specs.Option.{option_map};
-ghost use Rattle.idl_model.specs.DeclaredIn.{definition_in};
-ghost use Rattle.idl_model.specs.Numbering.{Filed, filed, is_filed_as, picked_from, number_named};
+ghost use Rattle.idl_include.specs.DeclaredIn.{definition_in};
+ghost use Rattle.idl_include.specs.Numbering.{Filed, filed, is_filed_as, picked_from, number_named};
 ghost use Rattle.idl_include.specs.SourcesOf.{program_in};
 ghost use Rattle.idl_names.specs.declared.filed.InFile.{InFile};
 ghost use Rattle.idl_names.specs.FiledIn.{filed_by};
@@ -21,9 +21,9 @@ use std::alloc::AllocError;
 pub(crate) trait Defined {
     ghost use Rattle.std.specs.Prelude.{Option};
     ghost use Rattle.std.specs.Option.{option_map};
-    ghost use Rattle.idl_model.specs.Written.{Written};
-    ghost use Rattle.idl_model.specs.Declarations.{Declaration};
-    ghost use Rattle.idl_model.specs.DeclaredIn.{definition_in};
+    ghost use Rattle.idl_include.specs.Written.{Written};
+    ghost use Rattle.idl_include.specs.Declarations.{Declaration};
+    ghost use Rattle.idl_include.specs.DeclaredIn.{definition_in};
 
     // What a definition of this kind declares.
     ghost Declared: { Type 0 };
@@ -45,8 +45,8 @@ pub(crate) trait Defined {
 }
 
 impl Defined for Const {
-    ghost use Rattle.idl_model.specs.Declarations.{ConstDecl};
-    ghost use Rattle.idl_model.specs.Numbering.{const_in};
+    ghost use Rattle.idl_include.specs.Declarations.{ConstDecl};
+    ghost use Rattle.idl_include.specs.Numbering.{const_in};
     ghost use Rattle.idl_names.specs.FiledIn.{const_declared};
 
     ghost Declared = { ConstDecl };
@@ -57,7 +57,7 @@ impl Defined for Const {
 
     ghost name_in = { λ d. d.name };
 
-    #[tactic(auto, unfolding(idl_model::specs::DeclaredIn::definition_in))]
+    #[tactic(auto, unfolding(idl_include::specs::DeclaredIn::definition_in))]
     fn of(definition: &Definition) -> Option<&Self> {
         match definition {
             Definition::Const(item) => Some(item),
@@ -71,8 +71,8 @@ impl Defined for Const {
 }
 
 impl Defined for Typedef {
-    ghost use Rattle.idl_model.specs.Declarations.{TypedefDecl};
-    ghost use Rattle.idl_model.specs.Numbering.{typedef_in};
+    ghost use Rattle.idl_include.specs.Declarations.{TypedefDecl};
+    ghost use Rattle.idl_include.specs.Numbering.{typedef_in};
     ghost use Rattle.idl_names.specs.FiledIn.{typedef_declared};
 
     ghost Declared = { TypedefDecl };
@@ -83,7 +83,7 @@ impl Defined for Typedef {
 
     ghost name_in = { λ d. d.name };
 
-    #[tactic(auto, unfolding(idl_model::specs::DeclaredIn::definition_in))]
+    #[tactic(auto, unfolding(idl_include::specs::DeclaredIn::definition_in))]
     fn of(definition: &Definition) -> Option<&Self> {
         match definition {
             Definition::Typedef(item) => Some(item),
@@ -97,8 +97,8 @@ impl Defined for Typedef {
 }
 
 impl Defined for Enum {
-    ghost use Rattle.idl_model.specs.Declarations.{EnumDecl};
-    ghost use Rattle.idl_model.specs.Numbering.{enum_in};
+    ghost use Rattle.idl_include.specs.Declarations.{EnumDecl};
+    ghost use Rattle.idl_include.specs.Numbering.{enum_in};
     ghost use Rattle.idl_names.specs.FiledIn.{enum_declared};
 
     ghost Declared = { EnumDecl };
@@ -109,7 +109,7 @@ impl Defined for Enum {
 
     ghost name_in = { λ d. d.name };
 
-    #[tactic(auto, unfolding(idl_model::specs::DeclaredIn::definition_in))]
+    #[tactic(auto, unfolding(idl_include::specs::DeclaredIn::definition_in))]
     fn of(definition: &Definition) -> Option<&Self> {
         match definition {
             Definition::Enum(item) => Some(item),
@@ -123,8 +123,8 @@ impl Defined for Enum {
 }
 
 impl Defined for Struct {
-    ghost use Rattle.idl_model.specs.Declarations.{StructDecl};
-    ghost use Rattle.idl_model.specs.Numbering.{struct_in};
+    ghost use Rattle.idl_include.specs.Declarations.{StructDecl};
+    ghost use Rattle.idl_include.specs.Numbering.{struct_in};
     ghost use Rattle.idl_names.specs.FiledIn.{struct_declared};
 
     ghost Declared = { StructDecl };
@@ -135,7 +135,7 @@ impl Defined for Struct {
 
     ghost name_in = { λ d. d.name };
 
-    #[tactic(auto, unfolding(idl_model::specs::DeclaredIn::definition_in))]
+    #[tactic(auto, unfolding(idl_include::specs::DeclaredIn::definition_in))]
     fn of(definition: &Definition) -> Option<&Self> {
         match definition {
             Definition::Struct(item) => Some(item),
@@ -149,8 +149,8 @@ impl Defined for Struct {
 }
 
 impl Defined for Service {
-    ghost use Rattle.idl_model.specs.Declarations.{ServiceDecl};
-    ghost use Rattle.idl_model.specs.Numbering.{service_in};
+    ghost use Rattle.idl_include.specs.Declarations.{ServiceDecl};
+    ghost use Rattle.idl_include.specs.Numbering.{service_in};
     ghost use Rattle.idl_names.specs.FiledIn.{service_declared};
 
     ghost Declared = { ServiceDecl };
@@ -161,7 +161,7 @@ impl Defined for Service {
 
     ghost name_in = { λ d. d.name };
 
-    #[tactic(auto, unfolding(idl_model::specs::DeclaredIn::definition_in))]
+    #[tactic(auto, unfolding(idl_include::specs::DeclaredIn::definition_in))]
     fn of(definition: &Definition) -> Option<&Self> {
         match definition {
             Definition::Service(item) => Some(item),
@@ -184,7 +184,7 @@ pub(crate) fn all_of<'a, D: Defined>(files: Based<'a>) -> Made<Vec<InFile<'a, D>
 }
 
 /// The definitions of files, the first of which has this number.
-#[tactic(auto, unfolding(idl_model::specs::DeclaredIn::definitions_in))]
+#[tactic(auto, unfolding(idl_include::specs::DeclaredIn::definitions_in))]
 fn put_files<'a, D: Defined>(
     found: &mut Vec<InFile<'a, D>>,
     number: u32,

@@ -2,7 +2,7 @@
 
 ghost use Rattle.std.specs.Prelude.{◌≡◌, ◌≤◌, not, length};
 ghost use Rattle.std.specs.List.{suffix_len};
-ghost use Rattle.idl_model.specs.Names.{is_dot, is_dotted, qualifier, bare_name};
+ghost use Rattle.idl_include.specs.Names.{is_dot, is_dotted, qualifier, bare_name};
 
 /// Whether a name has a dot.
 pub(crate) fn has_dot(name: &[u8]) -> bool

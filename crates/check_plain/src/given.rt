@@ -2,11 +2,11 @@
 
 ghost use Rattle.std.specs.Prelude.{◌≡◌, ◌==◌, ◌&&◌, ◌++◌, List, map, OnOk, IfOk};
 ghost use Rattle.std.specs.List.{cons_option, flat_map, position_from};
-ghost use Rattle.idl_model.specs.ConstNames.{same_place, value_number};
-ghost use Rattle.idl_model.specs.Declarations.{of_const};
-ghost use Rattle.idl_model.specs.DeclaredIn.{definition_in, field_in, function_in};
-ghost use Rattle.idl_model.specs.Numbering.{Filed};
-ghost use Rattle.idl_model.specs.Spots.{GivenValue, values_of};
+ghost use Rattle.idl_include.specs.ConstNames.{same_place, value_number};
+ghost use Rattle.idl_include.specs.Declarations.{of_const};
+ghost use Rattle.idl_include.specs.DeclaredIn.{definition_in, field_in, function_in};
+ghost use Rattle.idl_include.specs.Numbering.{Filed};
+ghost use Rattle.idl_include.specs.Spots.{GivenValue, values_of};
 ghost use Rattle.idl_include.specs.SourcesOf.{program_in};
 ghost use Rattle.idl_names.specs.declared.spot.GivenTree.{GivenTree};
 ghost use Rattle.idl_names.specs.FiledIn.{const_declared};
@@ -32,7 +32,7 @@ pub fn all_given<'a>(files: Based<'a>) -> Made<Vec<GivenTree<'a>>>
 }
 
 /// Those of files, the first of which has this number.
-#[tactic(auto, unfolding(idl_model::specs::DeclaredIn::definitions_in))]
+#[tactic(auto, unfolding(idl_include::specs::DeclaredIn::definitions_in))]
 fn put_files<'a>(values: &mut Vec<GivenTree<'a>>, number: u32, files: &'a [IdlFile]) -> Made<()>
     ensures { OnOk result (map filed_value values.new.items ≡ map filed_value values.old.items ++ given_from number (program_in files.now)) }
 {
@@ -61,7 +61,7 @@ fn put_definitions<'a>(
 }
 
 /// Those of a definition in a file.
-#[tactic(auto, unfolding(idl_model::specs::DeclaredIn::definition_in))]
+#[tactic(auto, unfolding(idl_include::specs::DeclaredIn::definition_in))]
 fn put_definition<'a>(
     values: &mut Vec<GivenTree<'a>>,
     file: u32,
@@ -110,7 +110,7 @@ fn put_functions<'a>(
 }
 
 /// Those of a function in a file: of its arguments, and of the exceptions that it throws.
-#[tactic(auto, unfolding(idl_model::specs::DeclaredIn::function_in))]
+#[tactic(auto, unfolding(idl_include::specs::DeclaredIn::function_in))]
 fn put_function<'a>(values: &mut Vec<GivenTree<'a>>, file: u32, function: &'a Function) -> Made<()>
     ensures { OnOk result (map filed_value values.new.items
         ≡ map filed_value values.old.items ++ given_in_function file (function_in function.now)) }
@@ -135,7 +135,7 @@ fn put_fields<'a>(values: &mut Vec<GivenTree<'a>>, file: u32, fields: &'a [Field
 }
 
 /// The default of a field in a file, if it has one.
-#[tactic(auto, unfolding(idl_model::specs::DeclaredIn::field_in))]
+#[tactic(auto, unfolding(idl_include::specs::DeclaredIn::field_in))]
 fn put_field<'a>(values: &mut Vec<GivenTree<'a>>, file: u32, field: &'a Field) -> Made<()>
     ensures { (more : List (Filed GivenValue)) → OnOk result (map filed_value values.new.items ++ more
         ≡ map filed_value values.old.items ++ cons_option (default_given file (field_in field.now)) more) }

@@ -3,7 +3,7 @@
 ghost use Rattle.std.specs.Prelude.{◌≡◌, IfOk};
 ghost use Rattle.std.specs.Option.{option_map};
 ghost use Rattle.std.specs.List.{find};
-ghost use Rattle.idl_model.specs.Names.{has_base, included_with, sought, type_defined, type_named, service_for_name};
+ghost use Rattle.idl_include.specs.Names.{has_base, included_with, sought, type_defined, type_named, service_for_name};
 ghost use Rattle.idl_include.specs.SourcesOf.{program_in};
 ghost use Rattle.idl_names.specs.Meanings.{type_meant, sought_meant};
 
@@ -47,7 +47,7 @@ fn included_with(files: Based<'_>, file: u32, base: &[u8]) -> Option<u32>
 }
 
 /// The file and the bare name that a name in a file stands for: the same file where it has no dot, else an included one.
-#[tactic(auto, unfolding(idl_model::specs::Names::sought))]
+#[tactic(auto, unfolding(idl_include::specs::Names::sought))]
 pub(crate) fn sought<'n>(files: Based<'_>, file: u32, name: &'n [u8]) -> Option<(u32, &'n [u8])>
     ensures { sought_meant result ≡ sought (program_in files.entry.all.now) file name.now }
 {
@@ -62,7 +62,7 @@ pub(crate) fn sought<'n>(files: Based<'_>, file: u32, name: &'n [u8]) -> Option<
 }
 
 /// The type that is defined in a file under this name: a typedef before an enum, and an enum before a struct.
-#[tactic(auto, unfolding(idl_model::specs::Numbering::typedefs_of, idl_model::specs::Numbering::enums_of, idl_model::specs::Numbering::structs_of))]
+#[tactic(auto, unfolding(idl_include::specs::Numbering::typedefs_of, idl_include::specs::Numbering::enums_of, idl_include::specs::Numbering::structs_of))]
 fn type_defined(files: Based<'_>, file: u32, name: &[u8]) -> Made<Option<TypeName>>
     ensures { IfOk result (λ meant. option_map type_meant meant ≡ type_defined (program_in files.entry.all.now) (record { file = file; name = name.now })) }
 {
@@ -79,7 +79,7 @@ fn type_defined(files: Based<'_>, file: u32, name: &[u8]) -> Made<Option<TypeNam
 }
 
 /// The type that a name in a file stands for, if it stands for one.
-#[tactic(auto, unfolding(idl_model::specs::Names::type_named))]
+#[tactic(auto, unfolding(idl_include::specs::Names::type_named))]
 pub fn type_named(files: Based<'_>, file: u32, name: &[u8]) -> Made<Option<TypeName>>
     ensures { IfOk result (λ meant. option_map type_meant meant ≡ type_named (program_in files.entry.all.now) file name.now) }
 {
@@ -90,7 +90,7 @@ pub fn type_named(files: Based<'_>, file: u32, name: &[u8]) -> Made<Option<TypeN
 }
 
 /// The service that a name in a file stands for, if it stands for one.
-#[tactic(auto, unfolding(idl_model::specs::Names::service_for_name, idl_model::specs::Numbering::services_of))]
+#[tactic(auto, unfolding(idl_include::specs::Names::service_for_name, idl_include::specs::Numbering::services_of))]
 pub fn service_named(files: Based<'_>, file: u32, name: &[u8]) -> Made<Option<u32>>
     ensures { IfOk result (λ meant. meant ≡ service_for_name (program_in files.entry.all.now) file name.now) }
 {

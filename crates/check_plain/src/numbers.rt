@@ -1,16 +1,16 @@
 //! Ids of fields, and numbers of the values of enums.
 
 ghost use Rattle.std.specs.Prelude.{◌≡◌, ◌++◌, map, IfOk, OnOk};
-ghost use Rattle.idl_model.specs.DeclaredIn.{field_in, enum_value_in};
-ghost use Rattle.idl_model.specs.FieldIds.{field_ids, id_behind, ids_behind, one_more_unnumbered};
-ghost use Rattle.idl_model.specs.EnumNumbers.{enum_numbers, number_or, numbers_from};
+ghost use Rattle.idl_include.specs.DeclaredIn.{field_in, enum_value_in};
+ghost use Rattle.idl_include.specs.FieldIds.{field_ids, id_behind, ids_behind, one_more_unnumbered};
+ghost use Rattle.idl_include.specs.EnumNumbers.{enum_numbers, number_or, numbers_from};
 
 use crate::based::Made;
 use idl_parser::{EnumValue, Field};
 use std::alloc::{AllocError, Global};
 
 /// The ids of the fields of a list.
-#[tactic(auto, unfolding(idl_model::specs::FieldIds::field_ids))]
+#[tactic(auto, unfolding(idl_include::specs::FieldIds::field_ids))]
 pub fn field_ids(alloc: Global, fields: &[Field]) -> Made<Vec<i64>>
     ensures { IfOk result (λ ids. ids.items ≡ field_ids (map field_in fields.now)) }
 {
@@ -31,7 +31,7 @@ fn put_ids(ids: &mut Vec<i64>, unnumbered: u32, fields: &[Field]) -> Made<()>
 }
 
 /// The id of a field behind so many without a written number.
-#[tactic(auto, unfolding(idl_model::specs::DeclaredIn::field_in))]
+#[tactic(auto, unfolding(idl_include::specs::DeclaredIn::field_in))]
 pub fn id_behind(unnumbered: u32, field: &Field) -> i64
     ensures { result ≡ id_behind unnumbered (field_in field.now).id }
 {
@@ -42,7 +42,7 @@ pub fn id_behind(unnumbered: u32, field: &Field) -> i64
 }
 
 /// How many fields have no written number, once one more stands behind so many.
-#[tactic(auto, unfolding(idl_model::specs::DeclaredIn::field_in))]
+#[tactic(auto, unfolding(idl_include::specs::DeclaredIn::field_in))]
 pub fn one_more_unnumbered(unnumbered: u32, field: &Field) -> Made<u32>
     ensures { IfOk result (λ count. count ≡ one_more_unnumbered unnumbered (field_in field.now).id) }
 {
@@ -53,7 +53,7 @@ pub fn one_more_unnumbered(unnumbered: u32, field: &Field) -> Made<u32>
 }
 
 /// The numbers of the values of an enum; want of memory where the number behind one has more than 64 bits.
-#[tactic(auto, unfolding(idl_model::specs::EnumNumbers::enum_numbers))]
+#[tactic(auto, unfolding(idl_include::specs::EnumNumbers::enum_numbers))]
 pub fn enum_numbers(alloc: Global, values: &[EnumValue]) -> Made<Vec<i64>>
     ensures { IfOk result (λ numbers. numbers.items ≡ enum_numbers (map enum_value_in values.now)) }
 {

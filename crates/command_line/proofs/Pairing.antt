@@ -1,7 +1,7 @@
 -- Pairs that are read one after another.
 use Rattle.std.proofs.Common.{◌≡◌, ℕ, List, [], ◌∷◌, ◌++◌, Option, Some, None, refl, sym, ap, ◌∙◌, append_assoc, append-nil}
 use Rattle.std.specs.Prelude.{option_map, option_and_then}
-use Rattle.bind_words.specs.Pairs.{NamedKind, pair_of_word}
+use Rattle.service_binding.specs.Pairs.{NamedKind, pair_of_word}
 use Rattle.command_line.specs.CommandPairs.{pairs_of_words}
 
 -- pairs in front of others

@@ -6,7 +6,7 @@ use Rattle.std.proofs.lemmas.Bool.{leb-true, false≢true}
 use Rattle.call_rules.specs.Desks.{longest_payload}
 use Rattle.conn_table.specs.declared.limits.Limits.{Limits}
 use Rattle.envelope.specs.declared.head.Protocol.{Protocol}
-use Rattle.bind_words.specs.Pairs.{NamedKind, pair_of_word}
+use Rattle.service_binding.specs.Pairs.{NamedKind, pair_of_word}
 use Rattle.command_line.specs.declared.command.Command.{Command}
 use Rattle.command_line.specs.declared.command.WordsFault.{WordsFault}
 use Rattle.command_line.specs.declared.command.WordsFault.TheVariants.{Usage, NoMemory}

@@ -1,6 +1,6 @@
 -- The pairs of a command, a word each.
 use Rattle.std.specs.Prelude.{ℕ, nat_le, ◌&&◌, List, [], ◌∷◌, length, Option, None, Some, option_map, option_and_then, if◌then◌else◌}
-use Rattle.bind_words.specs.Pairs.{NamedKind, pair_of_word}
+use Rattle.service_binding.specs.Pairs.{NamedKind, pair_of_word}
 
 -- the pairs that words are, one each
 abbrev pub pairs_of_words : List (List ℕ) → Option (List NamedKind)

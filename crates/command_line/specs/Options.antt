@@ -2,7 +2,7 @@
 use Rattle.std.specs.Prelude.{ℕ, ◌==◌, ◌&&◌, ◌++◌, Bool, false, List, [], ◌∷◌, Option, None, Some, option_map, option_and_then, if◌then◌else◌}
 use Rattle.std.specs.List.{list_any, before_first, after_first}
 use Rattle.std.specs.Str.{bytes_eq}
-use Rattle.bind_words.specs.Equals.{is_equals}
+use Rattle.service_binding.specs.Equals.{is_equals}
 
 -- a word begins with `-` (45)
 abbrev pub is_dashed : List ℕ → Bool

@@ -4,7 +4,7 @@ use Rattle.std.specs.Str.{bytes_eq}
 use Rattle.conn_table.specs.declared.limits.Limits.{Limits}
 use Rattle.envelope.specs.declared.head.Protocol.{Protocol}
 use Rattle.envelope.specs.declared.head.Protocol.TheVariants.{Binary, Compact}
-use Rattle.bind_words.specs.Pairs.{NamedKind}
+use Rattle.service_binding.specs.Pairs.{NamedKind}
 use Rattle.command_line.specs.CommandPairs.{command_pairs}
 use Rattle.command_line.specs.Limits.{limits_said}
 use Rattle.command_line.specs.Numbers.{bounded_number}

@@ -11,7 +11,7 @@ use crate::numbers::{bounded_number, one_number, seed_of_word};
 use crate::options::{LIMIT_OPTIONS, NO_OPTIONS, SERVE_OPTIONS};
 use crate::served::{ServedIdl, file_of_word, served_said, workers_of_word};
 use crate::sorting::{Sorted, sorted_words};
-use bind_words::Word;
+use service_binding::Word;
 use std::alloc::{AllocError, Global};
 use thiserror::Error;
 

@@ -10,7 +10,7 @@ use crate::limits::limits_said;
 use crate::numbers::bounded_number;
 use crate::pairs::command_pairs;
 use crate::sorting::Sorted;
-use bind_words::{BindWords, Word};
+use service_binding::{BindWords, Word};
 use conn_table::Limits;
 use envelope::Protocol;
 use std::alloc::{AllocError, Global};

@@ -1,9 +1,9 @@
 -- Where an evaluation begins: no given value is under evaluation, or one is.
 use Rattle.std.proofs.Common.{◌≡◌, ℕ, suc, Bool, true, false, List, [], ◌∷◌, map, length, slice_get, Some, refl, ap, ◌∙◌}
 use Rattle.std.specs.Prelude.{slice_set}
-use Rattle.idl_model.specs.Numbering.{Filed}
-use Rattle.idl_model.specs.ConstExpr.{ConstExpr}
-use Rattle.idl_model.specs.Spots.{GivenValue, values_of}
+use Rattle.idl_include.specs.Numbering.{Filed}
+use Rattle.idl_include.specs.ConstExpr.{ConstExpr}
+use Rattle.idl_include.specs.Spots.{GivenValue, values_of}
 use Rattle.schema.specs.PlainKind.{PlainKind}
 use Rattle.check_model.specs.Worths.{most_levels}
 use Rattle.check_model.specs.Evaluation.{Setting, worth_by, named_worth, all_free, evaluated, given_worth}

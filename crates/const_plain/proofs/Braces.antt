@@ -4,7 +4,7 @@ use Rattle.idl_token.specs.declared.Place.{Place}
 use Rattle.thrift_value.specs.declared.value.Value.{Value}
 use Rattle.thrift_value.specs.Tree.{Tree}
 use Rattle.thrift_value.specs.TreeOf.{tree_of}
-use Rattle.idl_model.specs.ConstExpr.{ConstEntries, map_const}
+use Rattle.idl_include.specs.ConstExpr.{ConstEntries, map_const}
 use Rattle.schema.specs.PlainKind.{PlainKind}
 use Rattle.check_model.specs.Worths.{Worth, and_next}
 use Rattle.check_model.specs.Evaluation.{Setting, NamedWorth, worth_by, pairs_by, given_by, opened, takes_braces, braced, struct_numbered, made_fields, default_of}

@@ -1,8 +1,8 @@
 -- Given values that are entered.
 use Rattle.std.proofs.Common.{◌≡◌, ℕ, zero, suc, Bool, true, false, List, slice_get, Some, None, refl, sym, ap, ◌∙◌}
 use Rattle.std.specs.Prelude.{slice_set}
-use Rattle.idl_model.specs.Numbering.{Filed}
-use Rattle.idl_model.specs.Spots.{GivenValue, values_of}
+use Rattle.idl_include.specs.Numbering.{Filed}
+use Rattle.idl_include.specs.Spots.{GivenValue, values_of}
 use Rattle.schema.specs.PlainKind.{PlainKind}
 use Rattle.check_model.specs.Worths.{flawed, const_cycle}
 use Rattle.check_model.specs.Evaluation.{Setting, NamedWorth, worth_by, is_free, on_entering, named_worth}

@@ -4,7 +4,7 @@ use Rattle.idl_token.specs.declared.Place.{Place}
 use Rattle.thrift_value.specs.declared.value.Value.{Value}
 use Rattle.thrift_value.specs.Tree.{Tree}
 use Rattle.thrift_value.specs.TreeOf.{tree_of}
-use Rattle.idl_model.specs.ConstExpr.{ConstItems, list_const}
+use Rattle.idl_include.specs.ConstExpr.{ConstItems, list_const}
 use Rattle.schema.specs.PlainKind.{PlainKind}
 use Rattle.check_model.specs.Worths.{Worth, valued, and_next}
 use Rattle.check_model.specs.Evaluation.{Setting, NamedWorth, worth_by, items_by, opened, takes_brackets, element_kind, row_tree}

@@ -4,8 +4,8 @@ use Rattle.idl_token.specs.declared.Place.{Place}
 use Rattle.idl_parser.specs.declared.tree.ConstTree.{ConstTree}
 use Rattle.idl_parser.specs.declared.tree.ConstTree as of
 use Rattle.idl_parser.specs.declared.tree.ConstTree.TheFolds.{the_lemmas}
-use Rattle.idl_model.specs.ConstExpr.{map_const}
-use Rattle.idl_model.specs.DeclaredIn.{value_in, entries_in}
+use Rattle.idl_include.specs.ConstExpr.{map_const}
+use Rattle.idl_include.specs.DeclaredIn.{value_in, entries_in}
 use Rattle.const_plain.specs.InMemory.{key_and_value}
 
 pub map_is : (tree : ConstTree) (at : Place) (entries : Vec (ConstTree × ConstTree) Global) → tree ≡ of.Map at entries

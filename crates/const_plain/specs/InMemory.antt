@@ -4,8 +4,8 @@ use Rattle.thrift_value.specs.declared.value.Value.{Value}
 use Rattle.thrift_value.specs.TreeOf.{tree_of}
 use Rattle.schema.specs.SchemaOf.{schema_of}
 use Rattle.idl_parser.specs.declared.tree.ConstTree.{ConstTree}
-use Rattle.idl_model.specs.ConstExpr.{ConstExpr}
-use Rattle.idl_model.specs.DeclaredIn.{value_in, field_in}
+use Rattle.idl_include.specs.ConstExpr.{ConstExpr}
+use Rattle.idl_include.specs.DeclaredIn.{value_in, field_in}
 use Rattle.idl_include.specs.SourcesOf.{program_in}
 use Rattle.check_model.specs.FieldLists.{FieldsDecl, NumberedField}
 use Rattle.check_model.specs.Evaluation.{Setting, FieldValue}

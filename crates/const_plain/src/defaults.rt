@@ -4,8 +4,8 @@ ghost use Rattle.std.specs.Prelude.{◌≡◌, ◌++◌, map, IfOk, OnOk, Option
 ghost use Rattle.std.specs.Option.{option_map, option_and_then};
 ghost use Rattle.std.specs.Ordering.{int_eq};
 ghost use Rattle.std.specs.List.{find, flat_map};
-ghost use Rattle.idl_model.specs.DeclaredIn.{field_in, function_in};
-ghost use Rattle.idl_model.specs.Numbering.{filed, all_functions, functions_in};
+ghost use Rattle.idl_include.specs.DeclaredIn.{field_in, function_in};
+ghost use Rattle.idl_include.specs.Numbering.{filed, all_functions, functions_in};
 ghost use Rattle.idl_include.specs.SourcesOf.{program_in};
 ghost use Rattle.idl_names.specs.FiledIn.{filed_by, struct_declared, service_declared};
 ghost use Rattle.check_model.specs.FieldLists.{NumberedField, kind_said, fields_of_struct, args_of_function, field_lists, fields_by_id, numbered_behind, put_by_id, put_all_by_id};
@@ -72,7 +72,7 @@ fn put_structs<'a>(lists: &mut Vec<ListedFields<'a>>, structs: &[InFile<'a, Stru
 }
 
 /// The arguments of functions in a file.
-#[tactic(auto, unfolding(idl_model::specs::DeclaredIn::function_in))]
+#[tactic(auto, unfolding(idl_include::specs::DeclaredIn::function_in))]
 fn put_functions<'a>(
     lists: &mut Vec<ListedFields<'a>>,
     file: u32,
@@ -106,7 +106,7 @@ fn put_services<'a>(lists: &mut Vec<ListedFields<'a>>, services: &[InFile<'a, Se
 }
 
 /// The structs of a program by number, as lists of fields.
-#[tactic(auto, unfolding(check_model::specs::FieldLists::field_lists, idl_model::specs::Numbering::all_functions))]
+#[tactic(auto, unfolding(check_model::specs::FieldLists::field_lists, idl_include::specs::Numbering::all_functions))]
 fn field_lists<'a>(files: Based<'a>) -> Made<Vec<ListedFields<'a>>>
     ensures { IfOk result (λ lists. map listed_fields lists.items ≡ field_lists (program_in files.entry.all.now)) }
 {
@@ -209,7 +209,7 @@ fn with_id<'a>(fields: &[FieldWithId<'a>], wanted: &FieldDesc) -> Option<FieldWi
 }
 
 /// The number of the default of a field of a list, if it has one.
-#[tactic(auto, unfolding(idl_model::specs::DeclaredIn::field_in))]
+#[tactic(auto, unfolding(idl_include::specs::DeclaredIn::field_in))]
 fn default_in(files: Based<'_>, list: &ListedFields<'_>, wanted: &FieldDesc) -> Made<Option<u32>>
     ensures { IfOk result (λ number. number ≡ default_in (program_in files.entry.all.now) (listed_fields list.now) wanted.now.id) }
 {

@@ -2,8 +2,8 @@
 
 ghost use Rattle.std.specs.Prelude.{◌≡◌, ℕ, List, map, slice_get, IfOk, MatchResult};
 ghost use Rattle.std.specs.Option.{option_map, option_copied};
-ghost use Rattle.idl_model.specs.ConstExpr.{literal_const};
-ghost use Rattle.idl_model.specs.DeclaredIn.{value_in, literal_in};
+ghost use Rattle.idl_include.specs.ConstExpr.{literal_const};
+ghost use Rattle.idl_include.specs.DeclaredIn.{value_in, literal_in};
 ghost use Rattle.thrift_value.specs.TreeOf.{tree_of, field_tree, field_trees};
 ghost use Rattle.schema.specs.PlainSchema.{PlainField};
 ghost use Rattle.schema.specs.SchemaOf.{plain_field, plain_struct, schema_of};

@@ -2,8 +2,8 @@
 
 ghost use Rattle.std.specs.Prelude.{◌≡◌, ◌++◌, true, false, map, length, slice_get, slice_set, IfOk, OnOk};
 ghost use Rattle.std.specs.Option.{option_map};
-ghost use Rattle.idl_model.specs.Numbering.{Filed};
-ghost use Rattle.idl_model.specs.Spots.{GivenValue, values_of};
+ghost use Rattle.idl_include.specs.Numbering.{Filed};
+ghost use Rattle.idl_include.specs.Spots.{GivenValue, values_of};
 ghost use Rattle.idl_include.specs.SourcesOf.{program_in};
 ghost use Rattle.idl_names.specs.SpotsIn.{filed_value};
 ghost use Rattle.check_model.specs.Evaluation.{is_free, all_free};

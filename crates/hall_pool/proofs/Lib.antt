@@ -3,3 +3,5 @@ pub mod Shortness
 pub mod Taking
 pub mod Applying
 pub mod Adding
+pub mod Ending
+pub mod Opening

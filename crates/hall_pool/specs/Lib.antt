@@ -1,2 +1,4 @@
 pub mod Turns
 pub mod Jobs
+pub mod Crew
+pub mod Ends

@@ -1,4 +1,4 @@
-//! Workers on threads: each takes jobs from a hall at a booth, calls for them, and puts what they come to.
+//! Workers on threads: each takes jobs from a hall at a booth, calls for them, and puts what they come to. And a crew of them beside a loop.
 //!
 //! ```rust
 //! let mut worker = Worker::new(seat);
@@ -8,24 +8,35 @@
 //!     Turn::Journal => ..,     // the journal has failed, and the hall is closed
 //! }
 //!
-//! let (worker, _) = worker.run(rt, alloc, &booth, &desk, &gate, &door, &bell);
-//! let seat = worker.into_seat();
+//! let (booth, seating) = open_for_crew(alloc, hall, workers)?;
+//! let Seating { first, own, crew } = seating;
+//! let place = Workplace { alloc, booth: &booth, desk, gate, door: &door, bell: &bell };
+//! let ((ended, first, own), crew) = with_crew(rt, &place, crew, move |started| ..);     // the loop, which closes the hall
+//! let hall = close_all(booth, first, own, crew);
 //! ```
 //!
-//! A worker's calls of the hall are those of its turns alone (`specs/Turns.antt`), as `machine_model` says what a worker's are. It
-//! knows no connection: what is decided on a payload and replied is the desk's, outside of the booth, and what a call is answered
-//! the hall's. Nothing is claimed of doors, bells and gates, nor of waiting.
+//! A worker's calls of the hall are those of its turns alone (`specs/Turns.antt`), as `machine_model` says what a worker's are. What is decided on a
+//! payload and replied is the desk's, outside of the booth, and what a call is answered the hall's. Each worker of a crew has a thread, or where none could be
+//! started it runs after the loop, so that every seat comes back (`specs/Crew.antt`); the calls of all seats are one history of the machine
+//! (`specs/Ends.antt`). Neither knows a connection. Nothing is claimed of doors, bells and gates, nor of waiting, nor that a worker gets on.
 #![tactic(auto)]
 
 mod asking;
+mod crew;
+pub mod crew_laws;
 mod crossing;
 mod door;
 pub mod laws;
+mod seating;
 mod settling;
 mod turn;
 mod worker;
+mod workplace;
 
+pub use crew::with_crew;
 pub use crossing::crosses;
 pub use door::Door;
+pub use seating::{Seating, apart, close_all, open_for_crew};
 pub use turn::Turn;
 pub use worker::Worker;
+pub use workplace::Workplace;

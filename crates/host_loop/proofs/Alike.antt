@@ -8,11 +8,11 @@ use Rattle.conn_table.specs.Slots.{slot_in}
 use Rattle.conn_table.specs.Table.{TableView}
 use Rattle.machine_model.specs.AtFronts.{KeepsWithin}
 use Rattle.machine_model.specs.Loop.{Loop}
-use Rattle.link_loop.specs.declared.connections.ConnStage.{ConnStage}
-use Rattle.link_loop.specs.declared.connections.ConnStage.TheVariants.{Gone}
-use Rattle.link_loop.specs.declared.connections.LoopConnections.{LoopConnections}
-use Rattle.link_loop.specs.Tied.{PlaceTells, IsOrderly, AreTied, PhasesTell}
-use Rattle.link_loop.specs.Woven.{ServedAsk, IsPassedAtRest, IsWovenTo, IsGoingOn}
+use Rattle.loop_conns.specs.declared.connections.ConnStage.{ConnStage}
+use Rattle.loop_conns.specs.declared.connections.ConnStage.TheVariants.{Gone}
+use Rattle.loop_conns.specs.declared.connections.LoopConnections.{LoopConnections}
+use Rattle.loop_conns.specs.Tied.{PlaceTells, IsOrderly, AreTied, PhasesTell}
+use Rattle.loop_conns.specs.Woven.{ServedAsk, IsPassedAtRest, IsWovenTo, IsGoingOn}
 
 module _ (max : ℕ) (first links : LinksState) (k0 k1 : LoopConnections) (asks : List ServedAsk) (table : k1.table ≡ k0.table) (places : k1.places.items ≡ k0.places.items)
     (causes : k1.causes.items ≡ k0.causes.items) (owing : k1.owing ≡ k0.owing) where

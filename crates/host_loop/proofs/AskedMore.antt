@@ -13,8 +13,8 @@ use Rattle.machine_model.specs.Loop.{Loop, LoopAsks}
 use Rattle.machine_model.specs.Merge.{handles, calls, no_loop}
 use Rattle.machine_model.proofs.Extending.{weaves-append, calls-append}
 use Rattle.machine_model.proofs.Owning.{number_push}
-use Rattle.link_loop.specs.declared.connections.LoopConnections.{LoopConnections}
-use Rattle.link_loop.specs.Woven.{ServedItem, ServedAsk, WeavesLent, IsPassedAtRest, IsWovenTo, HasWoven, IsGoingOn}
+use Rattle.loop_conns.specs.declared.connections.LoopConnections.{LoopConnections}
+use Rattle.loop_conns.specs.Woven.{ServedItem, ServedAsk, WeavesLent, IsPassedAtRest, IsWovenTo, HasWoven, IsGoingOn}
 
 -- one more ask at the end of what was woven with its lengths
 ask_behind : (max : ℕ) (items : List ServedItem) (lengths : List ℕ) (old mid : Loop) (e : ServedAsk) → WeavesLent max old items lengths mid → LoopAsks mid e.op e.reply mid

@@ -21,10 +21,10 @@ use Rattle.seat_booth.specs.Seats.{BoothView, newcomer}
 use Rattle.hall_core.specs.Meant.{ServedHall}
 use Rattle.hall_pool.specs.Jobs.{HallSeat, IsOpenedFor}
 use Rattle.hall_pool.proofs.Adding.{at_work_first}
-use Rattle.link_loop.specs.declared.connections.LoopConnections.{LoopConnections}
-use Rattle.link_loop.specs.Tied.{IsOrderly, AreTied}
-use Rattle.link_loop.specs.Woven.{ServedAsk, WeavesLent, IsPassedAtRest, IsGoingOn}
-use Rattle.link_loop.specs.Going.{most_payload}
+use Rattle.loop_conns.specs.declared.connections.LoopConnections.{LoopConnections}
+use Rattle.loop_conns.specs.Tied.{IsOrderly, AreTied}
+use Rattle.loop_conns.specs.Woven.{ServedAsk, WeavesLent, IsPassedAtRest, IsGoingOn}
+use Rattle.loop_conns.specs.Going.{most_payload}
 use Rattle.host_loop.specs.Going.{IsServing}
 
 -- a tape without marks may be that of no loop

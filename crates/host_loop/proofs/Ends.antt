@@ -38,13 +38,13 @@ use Rattle.machine_model.proofs.Running.{meets}
 use Rattle.machine_model.proofs.Telling.{turns_close}
 use Rattle.seat_booth.specs.Seats.{SeatAgrees}
 use Rattle.hall_pool.specs.Turns.{asks_made}
-use Rattle.hall_crew.specs.Crew.{HasServed}
-use Rattle.hall_crew.specs.Ends.{TellsOneHistory}
-use Rattle.hall_crew.proofs.Ending.{one_history}
-use Rattle.link_loop.specs.declared.connections.LoopConnections.{LoopConnections}
-use Rattle.link_loop.specs.Tied.{CauseShows, IsOverHere, PlaceTells, AreTied}
-use Rattle.link_loop.specs.Woven.{ServedItem, WeavesLent, all_held, IsPassedAtRest, IsWovenTo}
-use Rattle.link_loop.specs.Going.{AreAllGone}
+use Rattle.hall_pool.specs.Crew.{HasServed}
+use Rattle.hall_pool.specs.Ends.{TellsOneHistory}
+use Rattle.hall_pool.proofs.Ending.{one_history}
+use Rattle.loop_conns.specs.declared.connections.LoopConnections.{LoopConnections}
+use Rattle.loop_conns.specs.Tied.{CauseShows, IsOverHere, PlaceTells, AreTied}
+use Rattle.loop_conns.specs.Woven.{ServedItem, WeavesLent, all_held, IsPassedAtRest, IsWovenTo}
+use Rattle.loop_conns.specs.Going.{AreAllGone}
 use Rattle.host_loop.specs.Lengths.{transfer_of, LengthIsRight, AreLengths}
 use Rattle.host_loop.specs.Rests.{IsNotedRest, AreNotedRests}
 use Rattle.host_loop.specs.Served.{ServerSetting, ServedRun, ComesOutBy, IsBounded, AreServicesLeft, AreLinksLeft, rules_served, IsServed}

@@ -14,7 +14,7 @@ use Rattle.machine_model.specs.SeenHall.{MayHave, filled}
 use Rattle.seat_booth.specs.Seats.{BoothView}
 use Rattle.hall_core.specs.Meant.{ServedHall, opened_hall}
 use Rattle.hall_pool.specs.Jobs.{IsOpenedFor}
-use Rattle.link_loop.specs.Going.{most_payload}
+use Rattle.loop_conns.specs.Going.{most_payload}
 use Rattle.host_loop.specs.Served.{ServerSetting, ServedRun, IsServed}
 use Rattle.host_loop.specs.Ending.{ServesNothing}
 

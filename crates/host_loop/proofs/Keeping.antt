@@ -23,10 +23,10 @@ use Rattle.seat_booth.specs.Seats.{BoothView, IsSeatOf}
 use Rattle.hall_core.specs.Meant.{ServedHall}
 use Rattle.hall_pool.specs.Turns.{asks_made, HasMadeTurns}
 use Rattle.hall_pool.specs.Jobs.{HallSeat, AddsAsk}
-use Rattle.link_loop.specs.declared.connections.LoopConnections.{LoopConnections}
-use Rattle.link_loop.specs.Woven.{ServedAsk, HasWoven, IsGoingOn}
-use Rattle.link_loop.specs.Going.{SomeLoopGoesOn, SomeGoesOn, KeepsGoing, AllKeepGoing, IsOpenAt, IsHandedOut, AllHandOut, collected_behind, IsCollected, GoesOnSettled, most_payload}
-use Rattle.link_loop.proofs.Standing.{standing}
+use Rattle.loop_conns.specs.declared.connections.LoopConnections.{LoopConnections}
+use Rattle.loop_conns.specs.Woven.{ServedAsk, HasWoven, IsGoingOn}
+use Rattle.loop_conns.specs.Going.{SomeLoopGoesOn, SomeGoesOn, KeepsGoing, AllKeepGoing, IsOpenAt, IsHandedOut, AllHandOut, collected_behind, IsCollected, GoesOnSettled, most_payload}
+use Rattle.loop_conns.proofs.Standing.{standing}
 use Rattle.host_loop.specs.Asked.{SubmitsSo}
 use Rattle.host_loop.specs.Going.{IsServing, HaltsSo, IsHalted}
 use Rattle.host_loop.proofs.Alike.{alike_goes}

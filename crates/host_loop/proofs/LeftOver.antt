@@ -8,9 +8,9 @@ use Rattle.seat_booth.specs.Seats.{BoothView, IsSeatOf}
 use Rattle.hall_core.specs.Meant.{ServedHall}
 use Rattle.hall_pool.specs.Turns.{asks_made}
 use Rattle.hall_pool.specs.Jobs.{HallSeat}
-use Rattle.hall_crew.specs.Crew.{HasServed}
-use Rattle.link_loop.specs.declared.connections.LoopConnections.{LoopConnections}
-use Rattle.link_loop.specs.Woven.{HasWoven, IsGoingOn}
+use Rattle.hall_pool.specs.Crew.{HasServed}
+use Rattle.loop_conns.specs.declared.connections.LoopConnections.{LoopConnections}
+use Rattle.loop_conns.specs.Woven.{HasWoven, IsGoingOn}
 use Rattle.host_loop.specs.Served.{ServerSetting, ServedRun}
 use Rattle.host_loop.specs.Ending.{EndsSo, EndsServing}
 use Rattle.host_loop.specs.Going.{HaltsSo, IsAtEnd}

@@ -14,7 +14,7 @@ use Rattle.machine_model.specs.Loop.{Loop, IsOpen, FrameProgress, part, bad_size
 use Rattle.machine_model.specs.OpenAtFronts.{marks_counted}
 use Rattle.machine_model.specs.Merge.{handles, calls, Weaves}
 use Rattle.machine_model.proofs.Fronts.{counted-append}
-use Rattle.link_loop.specs.Woven.{missing_of, lent_to, ServedItem, WeavesLent}
+use Rattle.loop_conns.specs.Woven.{missing_of, lent_to, ServedItem, WeavesLent}
 use Rattle.host_loop.specs.Lengths.{transfer_of}
 
 -- none of these tells of bytes

@@ -29,10 +29,10 @@ use Rattle.machine_model.proofs.Merging.{first_is}
 use Rattle.machine_model.proofs.Taping.{TapeTells}
 use Rattle.machine_model.proofs.Budgeting.{run_tells}
 use Rattle.machine_model.proofs.Pausing.{rests}
-use Rattle.rehearsal_model.specs.RestLines.{IsOverBudget}
-use Rattle.rehearsal_model.proofs.Tracing.{IsTraced, run_traced}
-use Rattle.rehearsal_model.proofs.Written.{sent_stays}
-use Rattle.link_loop.specs.Woven.{missing_of, held_if_open, all_held}
+use Rattle.script_model.specs.RestLines.{IsOverBudget}
+use Rattle.script_model.proofs.Tracing.{IsTraced, run_traced}
+use Rattle.script_model.proofs.Written.{sent_stays}
+use Rattle.loop_conns.specs.Woven.{missing_of, held_if_open, all_held}
 use Rattle.host_loop.specs.Lengths.{LengthIsRight, IsLentWhatIsMissing, OffersWhatIsLeft}
 use Rattle.host_loop.proofs.Moments.{PassesBy}
 use Rattle.host_loop.proofs.Lent.{LentFor}

@@ -13,7 +13,7 @@ use Rattle.machine_model.specs.AtFronts.{KeepsWithin}
 use Rattle.machine_model.specs.Merge.{no_loop}
 use Rattle.machine_model.proofs.Fronts.{woven_fronts}
 use Rattle.machine_model.proofs.Budgeting.{nothing_keeps}
-use Rattle.link_loop.specs.Woven.{ServedItem}
+use Rattle.loop_conns.specs.Woven.{ServedItem}
 use Rattle.host_loop.specs.Lengths.{AreLengths}
 use Rattle.host_loop.specs.Rests.{AreNotedRests}
 use Rattle.host_loop.specs.Served.{ServerSetting, ServedRun, ComesOutBy, rules_served, IsServed}

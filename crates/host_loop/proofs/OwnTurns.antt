@@ -11,7 +11,7 @@ use Rattle.hall_pool.specs.declared.turn.Turn.TheVariants.{Journal}
 use Rattle.hall_pool.specs.Turns.{AddsTurn}
 use Rattle.hall_pool.specs.Jobs.{HallSeat}
 use Rattle.hall_pool.proofs.Adding.{of_turns, at_work_behind}
-use Rattle.link_loop.specs.declared.connections.LoopConnections.{LoopConnections}
+use Rattle.loop_conns.specs.declared.connections.LoopConnections.{LoopConnections}
 use Rattle.host_loop.specs.Going.{IsServing, IsHalted}
 use Rattle.host_loop.proofs.Hearing.{journal_told}
 

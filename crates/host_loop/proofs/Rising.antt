@@ -5,12 +5,12 @@ use Rattle.host_model.specs.declared.cause.EndCause.{EndCause}
 use Rattle.host_model.specs.declared.cause.EndCause.TheVariants.{End, Cut, SizeFault, Envelope, ReadFault, WriteFault, NoMemory, Stopped}
 use Rattle.conn_table.specs.Table.{TableView}
 use Rattle.machine_model.specs.Loop.{LoopConn, Loop}
-use Rattle.link_loop.specs.declared.connections.ConnStage.{ConnStage}
-use Rattle.link_loop.specs.declared.connections.ConnStage.TheVariants.{Lean, Laden, Gone}
-use Rattle.link_loop.specs.declared.connections.LoopConnections.{LoopConnections}
-use Rattle.link_loop.specs.Tied.{CauseShows, PlaceTells, AreTied}
-use Rattle.link_loop.specs.Woven.{ServedAsk, HasWoven}
-use Rattle.link_loop.specs.Going.{most_payload, AllComeOn}
+use Rattle.loop_conns.specs.declared.connections.ConnStage.{ConnStage}
+use Rattle.loop_conns.specs.declared.connections.ConnStage.TheVariants.{Lean, Laden, Gone}
+use Rattle.loop_conns.specs.declared.connections.LoopConnections.{LoopConnections}
+use Rattle.loop_conns.specs.Tied.{CauseShows, PlaceTells, AreTied}
+use Rattle.loop_conns.specs.Woven.{ServedAsk, HasWoven}
+use Rattle.loop_conns.specs.Going.{most_payload, AllComeOn}
 
 module _ (first links : LinksState) where
   -- the links as they came in, with the count of faults that they have now

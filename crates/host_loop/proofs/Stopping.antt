@@ -13,9 +13,9 @@ use Rattle.seat_booth.specs.Seats.{BoothView, IsSeatOf}
 use Rattle.hall_core.specs.Meant.{ServedHall}
 use Rattle.hall_pool.specs.Turns.{asks_made}
 use Rattle.hall_pool.specs.Jobs.{HallSeat, AddsAsk}
-use Rattle.link_loop.specs.declared.connections.LoopConnections.{LoopConnections}
-use Rattle.link_loop.specs.Woven.{ServedAsk, HasWoven, IsGoingOn}
-use Rattle.link_loop.specs.Going.{SomeWoven, AllComeOn, AreAllGone}
+use Rattle.loop_conns.specs.declared.connections.LoopConnections.{LoopConnections}
+use Rattle.loop_conns.specs.Woven.{ServedAsk, HasWoven, IsGoingOn}
+use Rattle.loop_conns.specs.Going.{SomeWoven, AllComeOn, AreAllGone}
 use Rattle.host_loop.specs.Ending.{FindsItClosed}
 use Rattle.host_loop.specs.Going.{is_all, HaltsSo, IsHalted, IsAtEnd}
 use Rattle.host_loop.proofs.AskedMore.{asks_woven, asks_goes}

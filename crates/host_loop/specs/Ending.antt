@@ -14,10 +14,10 @@ use Rattle.hall_core.specs.Asked.{StepGives, StepMay}
 use Rattle.hall_core.specs.Meant.{ServedHall}
 use Rattle.hall_pool.specs.Turns.{asks_made}
 use Rattle.hall_pool.specs.Jobs.{HallSeat, IsOpenedNew}
-use Rattle.hall_crew.specs.Crew.{HasServed}
-use Rattle.link_loop.specs.declared.connections.LoopConnections.{LoopConnections}
-use Rattle.link_loop.specs.Woven.{ServedAsk, HasWoven, IsGoingOn}
-use Rattle.link_loop.specs.Going.{AreAllGone}
+use Rattle.hall_pool.specs.Crew.{HasServed}
+use Rattle.loop_conns.specs.declared.connections.LoopConnections.{LoopConnections}
+use Rattle.loop_conns.specs.Woven.{ServedAsk, HasWoven, IsGoingOn}
+use Rattle.loop_conns.specs.Going.{AreAllGone}
 use Rattle.host_loop.specs.Served.{ServerSetting, ServedRun}
 
 -- one of these asks was answered that the hall is closed, and none of those before it has closed it

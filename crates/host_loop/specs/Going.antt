@@ -16,10 +16,10 @@ use Rattle.hall_core.specs.declared.operation.HallReply.{HallReply}
 use Rattle.hall_core.specs.Meant.{ServedHall}
 use Rattle.hall_pool.specs.Turns.{asks_made, HasMadeTurns}
 use Rattle.hall_pool.specs.Jobs.{HallSeat, IsOpenedFor}
-use Rattle.hall_crew.specs.declared.workplace.Workplace.{Workplace}
-use Rattle.link_loop.specs.declared.connections.LoopConnections.{LoopConnections}
-use Rattle.link_loop.specs.Woven.{HasWoven, IsGoingOn}
-use Rattle.link_loop.specs.Going.{most_payload, AreAllGone}
+use Rattle.hall_pool.specs.declared.workplace.Workplace.{Workplace}
+use Rattle.loop_conns.specs.declared.connections.LoopConnections.{LoopConnections}
+use Rattle.loop_conns.specs.Woven.{HasWoven, IsGoingOn}
+use Rattle.loop_conns.specs.Going.{most_payload, AreAllGone}
 use Rattle.host_loop.specs.Ending.{FindsItClosed}
 use Rattle.host_loop.specs.declared.opening.Tools.{Tools}
 use Rattle.host_loop.specs.declared.holdings.Run.{Run}

@@ -1,7 +1,7 @@
 -- What is told of the frames that are held.
 use Rattle.std.specs.Prelude.{ℕ, IsTrue, Bool, Option, None, Some}
-use Rattle.link_loop.specs.declared.connections.LoopConnections.{LoopConnections}
-use Rattle.link_loop.specs.Going.{HasNoRoom}
+use Rattle.loop_conns.specs.declared.connections.LoopConnections.{LoopConnections}
+use Rattle.loop_conns.specs.Going.{HasNoRoom}
 use Rattle.host_loop.specs.declared.holding.Found.{Found}
 use Rattle.host_loop.specs.declared.holding.Found.TheVariants.{Admitted, NoRoom, Gone}
 use Rattle.host_loop.specs.declared.holding.HeldLook.{HeldLook}

@@ -9,7 +9,7 @@ use Rattle.host_model.specs.DeskRules.{DeskRules}
 use Rattle.host_model.specs.Conversation.{sent}
 use Rattle.conn_state.specs.Phase.{most_wanted}
 use Rattle.machine_model.specs.OpenAtFronts.{marks_counted}
-use Rattle.link_loop.specs.Woven.{missing_of}
+use Rattle.loop_conns.specs.Woven.{missing_of}
 
 -- one, where a mark tells of bytes that were read or written
 abbrev pub transfer_of : Mark → ℕ

@@ -6,7 +6,7 @@ use Rattle.outside.specs.declared.answers.RestPlace.{RestPlace}
 use Rattle.host_model.specs.Journal.{JournalEntry}
 use Rattle.host_model.specs.DeskRules.{DeskRules}
 use Rattle.machine_model.specs.Resting.{IsPlaceOfRest}
-use Rattle.rehearsal_model.specs.RestLines.{IsOverBudget}
+use Rattle.script_model.specs.RestLines.{IsOverBudget}
 
 module _ {C A : Type 0} (d : DeskRules C A) (budget : ℕ) (tape : List Mark) (journal : List (JournalEntry C A)) where
   -- A place of rest of this run: each open connection was sent all its replies by then, and calls whose frames were whole by then stand in the journal before

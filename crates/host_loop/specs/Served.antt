@@ -17,7 +17,7 @@ use Rattle.call_rules.specs.Handling.{ServiceState, handler_rules}
 use Rattle.machine_model.specs.SeenHall.{MayHave}
 use Rattle.machine_model.specs.OpenAtFronts.{IsWithinMost}
 use Rattle.machine_model.specs.AtFronts.{IsWithinBudget}
-use Rattle.link_loop.specs.Tied.{CauseShows}
+use Rattle.loop_conns.specs.Tied.{CauseShows}
 use Rattle.host_loop.specs.Lengths.{AreLengths}
 use Rattle.host_loop.specs.Rests.{AreNotedRests}
 

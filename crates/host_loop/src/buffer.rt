@@ -3,9 +3,9 @@
 ghost use Rattle.std.specs.Prelude.{◌≡◌, ◌≤◌, IfOk, length};
 ghost use Rattle.conn_state.specs.Phase.{wanted};
 ghost use Rattle.conn_table.specs.Table.{slot_of};
-ghost use Rattle.link_loop.specs.Going.{SomeLoopGoesOn, KeepsGoing, ReadsAt, IsReadSo};
+ghost use Rattle.loop_conns.specs.Going.{SomeLoopGoesOn, KeepsGoing, ReadsAt, IsReadSo};
 
-use link_loop::{LoopConnections, ReadStep};
+use loop_conns::{LoopConnections, ReadStep};
 use outside::Links;
 use std::alloc::{AllocError, Global};
 use std::marker::Model;

@@ -2,7 +2,7 @@
 
 ghost use Rattle.conn_state.specs.Phase.{IsReady};
 ghost use Rattle.conn_table.specs.Table.{slot_of};
-ghost use Rattle.link_loop.specs.Going.{IsOpenAt};
+ghost use Rattle.loop_conns.specs.Going.{IsOpenAt};
 ghost use Rattle.host_loop.specs.Going.{ServesSomewhere, KeepsServing};
 
 use crate::asking::submit;

@@ -11,7 +11,7 @@ use crate::holdings::{Run, Serving};
 use call_rules::{Desk, Handler, Journal};
 use conn_table::Outcome;
 use hall_core::Hall;
-use link_loop::{Admission, LoopConnections};
+use loop_conns::{Admission, LoopConnections};
 use outside::Links;
 use std::sync::Wait;
 

@@ -3,7 +3,7 @@
 use crate::buffer::Buffer;
 use conn_table::Limits;
 use hall_pool::{Door, Worker};
-use link_loop::LoopConnections;
+use loop_conns::LoopConnections;
 use outside::Links;
 use seat_booth::{Booth, Object, Seat};
 use std::alloc::Global;

@@ -1,14 +1,14 @@
 //! The loop in its thread, and its crew beside it.
 
 ghost use Rattle.std.specs.Prelude.{◌≡◌, ◌≤◌, All, vec_len, vec_capacity};
-ghost use Rattle.hall_crew.specs.Crew.{MayServe, HasServed};
+ghost use Rattle.hall_pool.specs.Crew.{MayServe, HasServed};
 ghost use Rattle.host_loop.specs.Going.{BeginsToServe, EndsIn};
 
 use crate::holdings::{Run, Serving};
 use call_rules::{Desk, Handler, Journal};
 use conn_table::{Limits, Outcome};
 use hall_core::Hall;
-use hall_crew::{Workplace, with_crew};
+use hall_pool::{Workplace, with_crew};
 use outside::{Gate, Links};
 use seat_booth::Seat;
 use std::snapshot::Snapshot;

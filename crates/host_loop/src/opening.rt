@@ -9,7 +9,7 @@ use crate::serving::Served;
 use call_rules::{Handler, Journal};
 use conn_table::{Ends, Outcome};
 use hall_pool::Door;
-use link_loop::LoopConnections;
+use loop_conns::LoopConnections;
 use outside::Links;
 use std::alloc::Global;
 

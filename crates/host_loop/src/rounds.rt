@@ -2,7 +2,7 @@
 
 ghost use Rattle.std.specs.Prelude.{◌≡◌, false, Ok, OnOk, IfErr};
 ghost use Rattle.outside.specs.declared.answers.Hint.TheVariants.{Over};
-ghost use Rattle.link_loop.specs.Going.{IsAllOver};
+ghost use Rattle.loop_conns.specs.Going.{IsAllOver};
 ghost use Rattle.host_loop.specs.Going.{Serves, Halts};
 
 use crate::holdings::{Run, Serving};

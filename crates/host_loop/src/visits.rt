@@ -4,14 +4,14 @@ ghost use Rattle.std.specs.Prelude.{◌≡◌, ◌<◌, IsTrue, IsSome, OnOk, If
 ghost use Rattle.conn_state.specs.Phase.{left_to_write, wanted, IsReading};
 ghost use Rattle.conn_table.specs.Slots.{slot_in};
 ghost use Rattle.conn_table.specs.Table.{slot_of};
-ghost use Rattle.link_loop.specs.Going.{IsOpenAt, ReadsAt, WaitsAt};
+ghost use Rattle.loop_conns.specs.Going.{IsOpenAt, ReadsAt, WaitsAt};
 ghost use Rattle.host_loop.specs.Going.{Serves, Halts};
 
 use crate::holdings::{Run, Serving};
 use call_rules::{Desk, Handler, Journal};
 use conn_table::Outcome;
 use hall_core::Hall;
-use link_loop::{Admission, LoopConnections, ReadStep, WriteStep};
+use loop_conns::{Admission, LoopConnections, ReadStep, WriteStep};
 use outside::Links;
 use std::sync::Wait;
 

@@ -1,21 +1,35 @@
 //! Tests of the program through its top call, and nothing else: recorded connections with their reports and refusals, services of
-//! many IDLs, scripts of many connections, without threads and with workers on them, a port that is served, the calls of Apache's Python client, texts that are scripts or none, IDLs that are accepted or refused, and runs at size.
+//! many IDLs, scripts of many connections, without threads and with workers on them, a port that is served, the calls of Apache's Python client, texts that are
+//! scripts or none, IDLs that are accepted or refused, limits of frames and of the read budget, faults at each place of a call and of its reply, lines of a schedule
+//! that move nothing, as many connections as may be open, and runs at size.
 #![tactic(auto)]
 
 #[cfg(test)]
 mod apache;
 #[cfg(test)]
+mod budgets;
+#[cfg(test)]
 mod given;
 #[cfg(test)]
 mod idls;
+#[cfg(test)]
+mod limits;
+#[cfg(test)]
+mod limits_given;
 #[cfg(test)]
 mod machines;
 #[cfg(test)]
 mod meeting;
 #[cfg(test)]
+mod most_open;
+#[cfg(test)]
+mod places;
+#[cfg(test)]
 mod recordings;
 #[cfg(test)]
 mod records;
+#[cfg(test)]
+mod schedules;
 #[cfg(test)]
 mod scripts;
 #[cfg(test)]

@@ -1,16 +1,16 @@
 -- Spots, and so flaws, are in files of their program.
 use Rattle.std.proofs.Common.{◌≡◌, ◌⊎◌, inl, inr, ◌+◌, ◌<◌, ◌≤◌, ℕ, suc, List, [], ◌∷◌, ◌++◌, length, Option, Some, None, MatchOption, ap, sym, subst, arith}
 use Rattle.std.specs.List.{AllByRecursion}
-use Rattle.idl_model.specs.Numbering.{Counts, none_counted, all_counted}
-use Rattle.idl_model.specs.Program.{Program}
-use Rattle.idl_model.specs.Spots.{Spotted, given_name, type_use, parent_use, typedef_spot, field_spot, thrown_spot, enum_value_spot, struct_spot, service_spot, function_spot, value_spot, Spot, in_file, spots_in_declarations, spots_from, spots_of}
+use Rattle.idl_include.specs.Numbering.{Counts, none_counted, all_counted}
+use Rattle.idl_include.specs.Program.{Program}
+use Rattle.idl_include.specs.Spots.{Spotted, given_name, type_use, parent_use, typedef_spot, field_spot, thrown_spot, enum_value_spot, struct_spot, service_spot, function_spot, value_spot, Spot, in_file, spots_in_declarations, spots_from, spots_of}
 use Rattle.check_model.specs.Passes.{Pass, dotted_name, duplicate_name, unknown_type, typedef_cycle, field_id, duplicate_id, enum_number, service_cycle, duplicate_function, oneway_not_void, oneway_throws, not_exception, struct_loop, bad_constant}
 use Rattle.check_model.specs.FirstFlaw.{FlawKind, ProgramFlaw, IsValueFlaw, IsAtFault, IsFirstOf, IsFirstFlaw}
 use Rattle.check_model.proofs.FirstOnes.{holds_at_split}
 use Rattle.check_model.proofs.Shown.{both_all}
-use Rattle.idl_passes.specs.declared.faults.CheckFault.{CheckFault}
-use Rattle.idl_passes.specs.declared.faults.CheckKind.TheVariants as check
-use Rattle.idl_passes.specs.Faults.{flaw_told, TellsFlaw}
+use Rattle.check_passes.specs.declared.faults.CheckFault.{CheckFault}
+use Rattle.check_passes.specs.declared.faults.CheckKind.TheVariants as check
+use Rattle.check_passes.specs.Faults.{flaw_told, TellsFlaw}
 
 abbrev IsBelow : ℕ → Spot → Type 0
 IsBelow count s = s.file < count

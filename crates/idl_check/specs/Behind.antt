@@ -1,6 +1,6 @@
 -- What a check makes of a program that no pass refuses.
 use Rattle.std.specs.Prelude.{Result, Ok, Err}
-use Rattle.idl_model.specs.Program.{Program}
+use Rattle.idl_include.specs.Program.{Program}
 use Rattle.schema.specs.declared.types.Schema.{Schema}
 use Rattle.schema.specs.SchemaOf.{schema_of}
 use Rattle.schema.specs.PlainSchema.{PlainSchema}
@@ -9,9 +9,9 @@ use Rattle.check_model.specs.Passes.{bad_constant}
 use Rattle.check_model.specs.SchemaParts.{IsPartialSchema}
 use Rattle.check_model.specs.FirstFlaw.{FindsNothing, IsFirstOf, IsFirstFlaw}
 use Rattle.check_model.specs.ProgramSchema.{IsSchemaOf}
-use Rattle.idl_passes.specs.declared.faults.CheckFault.{CheckFault}
-use Rattle.idl_passes.specs.Faults.{TellsFlaw}
-use Rattle.schema_values.specs.Filling.{IsWholeSchema}
+use Rattle.check_passes.specs.declared.faults.CheckFault.{CheckFault}
+use Rattle.check_passes.specs.Faults.{TellsFlaw}
+use Rattle.idl_check.specs.Filling.{IsWholeSchema}
 
 -- a schema is made of a program: with its defaults and constants, beside the one without them
 pub record IsMadeOf (program : Program) (schema : PlainSchema) : Type 0 where

@@ -1,1 +1,12 @@
 pub mod Behind
+pub mod Taking
+pub mod Sites
+pub mod Filling
+pub mod Identifiers
+pub mod Declared
+pub mod Clean
+pub mod Tutorial
+pub mod FaultKinds
+pub mod Lines
+pub mod Verdicts
+pub mod Telling

@@ -1,7 +1,7 @@
 //! The last stage of a check: the values that a program gives, and its schema with them.
 
 ghost use Rattle.std.specs.Prelude.{◌≡◌, MatchResult};
-ghost use Rattle.idl_model.specs.Spots.{spots_of};
+ghost use Rattle.idl_include.specs.Spots.{spots_of};
 ghost use Rattle.idl_include.specs.SourcesOf.{program_in};
 ghost use Rattle.idl_names.specs.Listing.{listing_in, listing_of};
 ghost use Rattle.idl_names.specs.SpotsIn.{spots_in};
@@ -9,20 +9,20 @@ ghost use Rattle.schema.specs.SchemaOf.{schema_of};
 ghost use Rattle.check_model.specs.Passes.{bad_constant};
 ghost use Rattle.check_model.specs.FirstFlaw.{IsFirstOf};
 ghost use Rattle.check_model.specs.SchemaParts.{IsPartialSchema};
-ghost use Rattle.const_tables.specs.Places.{ArePlaces};
+ghost use Rattle.const_evaluator.specs.Places.{ArePlaces};
 ghost use Rattle.idl_types.specs.Known.{AreAliasTypes};
-ghost use Rattle.idl_passes.specs.Faults.{TellsFlaw};
-ghost use Rattle.idl_passes.specs.Given.{AreGivenValues, AreWorth};
-ghost use Rattle.idl_passes.specs.Typed.{IsTyped};
+ghost use Rattle.check_passes.specs.Faults.{TellsFlaw};
+ghost use Rattle.check_passes.specs.Given.{AreGivenValues, AreWorth};
+ghost use Rattle.check_passes.specs.Typed.{IsTyped};
 ghost use Rattle.idl_check.specs.Behind.{IsValued};
 
-use const_ground::{program_evaluator, program_ground};
-use const_tables::{ValuePlaces, const_names, value_places};
+use const_evaluator::{program_evaluator, program_ground};
+use const_evaluator::{ValuePlaces, const_names, value_places};
 use idl_names::{Definitions, GivenTree, NameTables, SpotIn, values_at};
-use idl_passes::{CheckFault, TypedProgram, evaluate_all};
+use check_passes::{CheckFault, TypedProgram, evaluate_all};
 use idl_types::TypeTables;
 use schema::Schema;
-use schema_values::whole_schema;
+use crate::whole_schema;
 use std::alloc::Global;
 use thrift_value::Value;
 

@@ -1,8 +1,8 @@
 -- Where no given value is under evaluation.
 use Rattle.std.proofs.Common.{◌≡◌, ℕ, suc, Bool, true, List, [], ◌∷◌, map, length, replicate, refl, ap, ◌∙◌}
 use Rattle.schema.specs.PlainKind.{PlainKind}
-use Rattle.idl_model.specs.ConstExpr.{ConstExpr}
-use Rattle.idl_model.specs.Spots.{values_of}
+use Rattle.idl_include.specs.ConstExpr.{ConstExpr}
+use Rattle.idl_include.specs.Spots.{values_of}
 use Rattle.check_model.specs.Worths.{most_levels}
 use Rattle.check_model.specs.Evaluation.{Setting, worth_by, named_worth, all_free, evaluated}
 use Rattle.idl_const.specs.Marks.{free_count, worth_where}

@@ -6,9 +6,9 @@ use Rattle.std.proofs.Math.ListN.{length-set}
 use Rattle.std.proofs.lemmas.Option.{none-some, same_Some}
 use Rattle.idl_token.specs.declared.Place.{Place}
 use Rattle.schema.specs.PlainKind.{PlainKind}
-use Rattle.idl_model.specs.ConstExpr.{ConstExpr}
-use Rattle.idl_model.specs.Numbering.{Filed}
-use Rattle.idl_model.specs.Spots.{GivenValue, values_of}
+use Rattle.idl_include.specs.ConstExpr.{ConstExpr}
+use Rattle.idl_include.specs.Numbering.{Filed}
+use Rattle.idl_include.specs.Spots.{GivenValue, values_of}
 use Rattle.check_model.specs.Worths.{most_levels, seen_at}
 use Rattle.check_model.specs.Evaluation.{Setting, worth_by, named_worth, is_free, all_free, evaluated, given_worth}
 use Rattle.idl_const.specs.declared.chains.ChainEnd.{ChainEnd}

@@ -7,8 +7,8 @@ use Rattle.thrift_value.specs.TreeOf.{tree_of}
 use Rattle.idl_parser.specs.declared.tree.ConstTree.{ConstTree}
 use Rattle.idl_parser.specs.declared.tree.ConstTree as of
 use Rattle.idl_parser.specs.declared.tree.ConstTree.TheFolds.{the_lemmas}
-use Rattle.idl_model.specs.ConstExpr.{ConstEntries, map_const}
-use Rattle.idl_model.specs.DeclaredIn.{value_in, entries_in}
+use Rattle.idl_include.specs.ConstExpr.{ConstEntries, map_const}
+use Rattle.idl_include.specs.DeclaredIn.{value_in, entries_in}
 use Rattle.schema.specs.PlainKind.{PlainKind, kind_struct}
 use Rattle.check_model.specs.Worths.{Worth, valued, and_next}
 use Rattle.check_model.specs.Evaluation.{Setting, NamedWorth, worth_by, pairs_by, given_by, opened, takes_braces, braced, struct_numbered, made_fields, default_of}

@@ -6,8 +6,8 @@ use Rattle.std.proofs.lemmas.Option.{none-some, same_Some}
 use Rattle.idl_token.specs.declared.Place.{Place}
 use Rattle.thrift_value.specs.Tree.{Tree}
 use Rattle.schema.specs.PlainKind.{PlainKind}
-use Rattle.idl_model.specs.Numbering.{Filed}
-use Rattle.idl_model.specs.Spots.{GivenValue, values_of}
+use Rattle.idl_include.specs.Numbering.{Filed}
+use Rattle.idl_include.specs.Spots.{GivenValue, values_of}
 use Rattle.check_model.specs.Worths.{Worth, flawed, const_cycle, seen_at}
 use Rattle.check_model.specs.Evaluation.{Setting, NamedWorth, on_entering, named_worth, is_free}
 use Rattle.idl_const.specs.declared.chains.ChainEnd.{ChainEnd}

@@ -7,12 +7,12 @@ use Rattle.std.proofs.lemmas.Option.{none-some, same_Some}
 use Rattle.idl_token.specs.declared.Place.{Place}
 use Rattle.thrift_value.specs.Tree.{Tree}
 use Rattle.schema.specs.PlainKind.{PlainKind}
-use Rattle.idl_model.specs.ConstExpr.{ConstExpr, int_const, double_const, literal_const, name_const, list_const, map_const}
-use Rattle.idl_model.specs.ConstNames.{ConstMeaning, enum_value, given_value, const_meaning}
-use Rattle.idl_model.specs.Numbering.{Filed}
-use Rattle.idl_model.specs.Program.{Program}
-use Rattle.idl_model.specs.Spots.{GivenValue, values_of}
-use Rattle.idl_model.specs.Written.{Written}
+use Rattle.idl_include.specs.ConstExpr.{ConstExpr, int_const, double_const, literal_const, name_const, list_const, map_const}
+use Rattle.idl_include.specs.ConstNames.{ConstMeaning, enum_value, given_value, const_meaning}
+use Rattle.idl_include.specs.Numbering.{Filed}
+use Rattle.idl_include.specs.Program.{Program}
+use Rattle.idl_include.specs.Spots.{GivenValue, values_of}
+use Rattle.idl_include.specs.Written.{Written}
 use Rattle.check_model.specs.Worths.{Worth, valued, flawed, only_if, too_large, most_values, seen_at}
 use Rattle.check_model.specs.Scalars.{OneWorth, enum_worth}
 use Rattle.check_model.specs.Evaluation.{Setting, NamedWorth, judged, single, name_worth, worth_by, on_entering, named_worth, is_free}

@@ -7,7 +7,7 @@ use Rattle.std.specs.Ordering.{int_eq}
 use Rattle.std.specs.Str.{bytes_eq}
 use Rattle.std.proofs.lemmas.Bool.Decides.{Decides-int_eq}
 use Rattle.idl_token.specs.declared.Place.{Place}
-use Rattle.idl_model.specs.ConstExpr.{ConstExpr, int_const, double_const, literal_const, name_const, list_const, map_const}
+use Rattle.idl_include.specs.ConstExpr.{ConstExpr, int_const, double_const, literal_const, name_const, list_const, map_const}
 use Rattle.thrift_value.specs.Tree.{Tree, FieldTrees, no_fields, field}
 use Rattle.thrift_value.specs.Tidy.{IsBelowIds, AreRisingFields}
 use Rattle.schema.specs.declared.types.FieldNeed.{FieldNeed}

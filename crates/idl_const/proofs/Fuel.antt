@@ -4,8 +4,8 @@ use Rattle.std.specs.Option.{option_map}
 use Rattle.std.specs.Prelude.{slice_set}
 use Rattle.std.proofs.Math.ListN.{length-set}
 use Rattle.schema.specs.PlainKind.{PlainKind}
-use Rattle.idl_model.specs.Numbering.{Filed}
-use Rattle.idl_model.specs.Spots.{GivenValue, values_of}
+use Rattle.idl_include.specs.Numbering.{Filed}
+use Rattle.idl_include.specs.Spots.{GivenValue, values_of}
 use Rattle.check_model.specs.Worths.{most_levels}
 use Rattle.check_model.specs.Evaluation.{Setting, worth_by, on_entering, named_worth, is_free, all_free, given_worth}
 use Rattle.idl_const.specs.Given.{FiledTree, tree_given, tree_numbered}

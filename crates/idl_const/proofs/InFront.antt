@@ -6,8 +6,8 @@ use Rattle.thrift_value.specs.declared.value.Value.{Value}
 use Rattle.thrift_value.specs.Tree.{Tree, FieldTrees, ItemTrees, no_items, item, PairTrees, no_pairs, pair}
 use Rattle.thrift_value.specs.TreeOf.{tree_of, pair_tree, field_tree, item_trees, pair_trees, field_trees}
 use Rattle.idl_parser.specs.declared.tree.ConstTree.{ConstTree}
-use Rattle.idl_model.specs.ConstExpr.{ConstEntries}
-use Rattle.idl_model.specs.DeclaredIn.{value_in, items_in, entries_in}
+use Rattle.idl_include.specs.ConstExpr.{ConstEntries}
+use Rattle.idl_include.specs.DeclaredIn.{value_in, items_in, entries_in}
 use Rattle.schema.specs.PlainKind.{PlainKind}
 use Rattle.schema.specs.PlainSchema.{PlainField}
 use Rattle.check_model.specs.Worths.{Worth, valued, flawed, and_next}

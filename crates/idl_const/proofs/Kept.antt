@@ -11,9 +11,9 @@ use Rattle.idl_parser.specs.declared.tree.Literal.{Literal}
 use Rattle.idl_parser.specs.declared.tree.ConstTree.{ConstTree}
 use Rattle.idl_parser.specs.declared.tree.ConstTree as of
 use Rattle.idl_parser.specs.declared.tree.ConstTree.TheFolds.{the_lemmas}
-use Rattle.idl_model.specs.Written.{Written}
-use Rattle.idl_model.specs.ConstExpr.{ConstExpr, literal_const}
-use Rattle.idl_model.specs.DeclaredIn.{value_in, literal_in}
+use Rattle.idl_include.specs.Written.{Written}
+use Rattle.idl_include.specs.ConstExpr.{ConstExpr, literal_const}
+use Rattle.idl_include.specs.DeclaredIn.{value_in, literal_in}
 use Rattle.schema.specs.PlainSchema.{PlainField}
 use Rattle.check_model.specs.Worths.{valued, flawed, unknown_field}
 use Rattle.check_model.specs.Evaluation.{union_worth, field_of_key}

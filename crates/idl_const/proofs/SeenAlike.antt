@@ -2,8 +2,8 @@
 use Rattle.std.proofs.Common.{◌≡◌, ℕ, ℤ, List, [], ◌∷◌, Option, Some, None, refl, ap}
 use Rattle.idl_token.specs.declared.Place.{Place}
 use Rattle.thrift_value.specs.Tree.{Tree, item, pair}
-use Rattle.idl_model.specs.ConstExpr.{ConstExpr, int_const, double_const, literal_const, name_const, list_const, map_const, ConstItems, no_consts, const_item, ConstEntries, no_entries, const_entry}
-use Rattle.idl_model.specs.ConstNames.{ConstMeaning, enum_value, given_value, const_meaning}
+use Rattle.idl_include.specs.ConstExpr.{ConstExpr, int_const, double_const, literal_const, name_const, list_const, map_const, ConstItems, no_consts, const_item, ConstEntries, no_entries, const_entry}
+use Rattle.idl_include.specs.ConstNames.{ConstMeaning, enum_value, given_value, const_meaning}
 use Rattle.schema.specs.declared.types.FieldsKind.{FieldsKind}
 use Rattle.schema.specs.declared.types.FieldsKind.TheVariants as fields
 use Rattle.schema.specs.PlainKind.{PlainKind}

@@ -3,10 +3,10 @@ use Rattle.std.proofs.Common.{◌≡◌, ℕ, zero, suc, ◌<◌, Bool, true, fa
 use Rattle.std.specs.Prelude.{slice_get, slice_set}
 use Rattle.std.specs.List.{AllByRecursion, AllZip}
 use Rattle.std.proofs.lemmas.List.Elements.{recursion_from_All}
-use Rattle.idl_model.specs.ConstExpr.{ConstExpr}
-use Rattle.idl_model.specs.Numbering.{Filed}
-use Rattle.idl_model.specs.Program.{Program}
-use Rattle.idl_model.specs.Spots.{GivenValue, values_of}
+use Rattle.idl_include.specs.ConstExpr.{ConstExpr}
+use Rattle.idl_include.specs.Numbering.{Filed}
+use Rattle.idl_include.specs.Program.{Program}
+use Rattle.idl_include.specs.Spots.{GivenValue, values_of}
 use Rattle.thrift_value.specs.Tree.{Tree}
 use Rattle.schema.specs.declared.types.FieldNeed.TheVariants.{Required, Optional}
 use Rattle.schema.specs.declared.types.FieldsKind.TheVariants as fields

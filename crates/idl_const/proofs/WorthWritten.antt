@@ -5,8 +5,8 @@ use Rattle.std.specs.List.{AllByRecursion}
 use Rattle.std.proofs.lemmas.Bool.{false≢true}
 use Rattle.std.proofs.lemmas.List.Elements.{All-from_recursion}
 use Rattle.idl_token.specs.declared.Place.{Place}
-use Rattle.idl_model.specs.ConstExpr.{ConstExpr, int_const, double_const, literal_const, name_const, list_const, map_const, ConstItems, no_consts, const_item, ConstEntries, no_entries, const_entry}
-use Rattle.idl_model.specs.ConstNames.{ConstMeaning, enum_value, given_value, const_meaning}
+use Rattle.idl_include.specs.ConstExpr.{ConstExpr, int_const, double_const, literal_const, name_const, list_const, map_const, ConstItems, no_consts, const_item, ConstEntries, no_entries, const_entry}
+use Rattle.idl_include.specs.ConstNames.{ConstMeaning, enum_value, given_value, const_meaning}
 use Rattle.thrift_value.specs.Tree.{Tree, of_struct, of_map, FieldTrees, ItemTrees, no_items, item, PairTrees, no_pairs, pair}
 use Rattle.thrift_value.specs.Sizes.{items_len, pairs_len}
 use Rattle.schema.specs.declared.types.FieldNeed.TheVariants.{Required}

@@ -1,10 +1,10 @@
 -- Where chains of mere names end: each given value that is a mere name leads on to what its name stands for.
 use Rattle.std.specs.Prelude.{ℕ, zero, suc, length, Option, Some, None}
 use Rattle.idl_token.specs.declared.Place.{Place}
-use Rattle.idl_model.specs.ConstExpr.{ConstExpr, name_const}
-use Rattle.idl_model.specs.ConstNames.{ConstMeaning, enum_value, given_value, const_meaning}
-use Rattle.idl_model.specs.Program.{Program}
-use Rattle.idl_model.specs.Spots.{values_of}
+use Rattle.idl_include.specs.ConstExpr.{ConstExpr, name_const}
+use Rattle.idl_include.specs.ConstNames.{ConstMeaning, enum_value, given_value, const_meaning}
+use Rattle.idl_include.specs.Program.{Program}
+use Rattle.idl_include.specs.Spots.{values_of}
 use Rattle.idl_const.specs.declared.chains.ChainEnd.{ChainEnd}
 use Rattle.idl_const.specs.declared.chains.ChainEnd.TheVariants as ends
 use Rattle.idl_const.specs.Given.{FiledTree, tree_numbered}

@@ -4,11 +4,11 @@ use Rattle.std.specs.Option.{option_map}
 use Rattle.std.specs.List.{slice_get}
 use Rattle.std.specs.Borrow.{Bor}
 use Rattle.idl_parser.specs.declared.tree.ConstTree.{ConstTree}
-use Rattle.idl_model.specs.ConstExpr.{ConstExpr}
-use Rattle.idl_model.specs.DeclaredIn.{value_in}
-use Rattle.idl_model.specs.Numbering.{Filed}
-use Rattle.idl_model.specs.Program.{Program}
-use Rattle.idl_model.specs.Spots.{GivenValue, values_of}
+use Rattle.idl_include.specs.ConstExpr.{ConstExpr}
+use Rattle.idl_include.specs.DeclaredIn.{value_in}
+use Rattle.idl_include.specs.Numbering.{Filed}
+use Rattle.idl_include.specs.Program.{Program}
+use Rattle.idl_include.specs.Spots.{GivenValue, values_of}
 
 -- a tree that stands in a file
 abbrev pub FiledTree : Type 0

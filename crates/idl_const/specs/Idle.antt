@@ -1,6 +1,6 @@
 -- No evaluation is going on.
 use Rattle.std.specs.Prelude.{◌≡◌}
-use Rattle.idl_model.specs.Program.{Program}
+use Rattle.idl_include.specs.Program.{Program}
 use Rattle.check_model.specs.Evaluation.{all_free}
 use Rattle.idl_const.specs.declared.progress.Progress.{Progress}
 

@@ -3,7 +3,7 @@ use Rattle.std.specs.Prelude.{◌≡◌, ⊤, ℕ, zero, suc, Bool, true, false,
 use Rattle.idl_token.specs.declared.Place.{Place}
 use Rattle.thrift_value.specs.Tree.{Tree}
 use Rattle.schema.specs.PlainKind.{PlainKind}
-use Rattle.idl_model.specs.Spots.{values_of}
+use Rattle.idl_include.specs.Spots.{values_of}
 use Rattle.check_model.specs.Worths.{Worth, flawed, const_cycle, unknown_name}
 use Rattle.check_model.specs.Scalars.{enum_worth}
 use Rattle.check_model.specs.Evaluation.{Setting, NamedWorth, single, on_entering, is_free}

@@ -1,9 +1,9 @@
 -- Literals whose lengths have an encoding.
 use Rattle.std.specs.Prelude.{◌≡◌, ⊤, ◌<◌, ◌^◌, ℕ, length, slice_get, Some}
-use Rattle.idl_model.specs.ConstExpr.{ConstExpr, literal_const, list_const, map_const, ConstItems, no_consts, const_item, ConstEntries, no_entries, const_entry}
-use Rattle.idl_model.specs.Numbering.{Filed}
-use Rattle.idl_model.specs.Program.{Program}
-use Rattle.idl_model.specs.Spots.{GivenValue, values_of}
+use Rattle.idl_include.specs.ConstExpr.{ConstExpr, literal_const, list_const, map_const, ConstItems, no_consts, const_item, ConstEntries, no_entries, const_entry}
+use Rattle.idl_include.specs.Numbering.{Filed}
+use Rattle.idl_include.specs.Program.{Program}
+use Rattle.idl_include.specs.Spots.{GivenValue, values_of}
 
 abbrev mutual
   -- each literal in a value has fewer than 2^31 bytes

@@ -1,7 +1,7 @@
 //! Chains of mere names: of them evaluating enters the end alone.
 
 ghost use Rattle.std.specs.Prelude.{◌≡◌};
-ghost use Rattle.idl_model.specs.DeclaredIn.{value_in};
+ghost use Rattle.idl_include.specs.DeclaredIn.{value_in};
 ghost use Rattle.idl_const.specs.ChainEnds.{name_place};
 
 use idl_parser::ConstTree;

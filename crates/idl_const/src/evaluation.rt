@@ -4,9 +4,9 @@ ghost use Rattle.std.specs.Prelude.{◌≡◌, ℕ, true, false, Some, slice_get
 ghost use Rattle.thrift_value.specs.Tree.{Tree};
 ghost use Rattle.thrift_value.specs.TreeOf.{tree_of};
 ghost use Rattle.schema.specs.PlainKind.{kind_of};
-ghost use Rattle.idl_model.specs.DeclaredIn.{value_in};
-ghost use Rattle.idl_model.specs.Numbering.{Filed};
-ghost use Rattle.idl_model.specs.Spots.{GivenValue, values_of};
+ghost use Rattle.idl_include.specs.DeclaredIn.{value_in};
+ghost use Rattle.idl_include.specs.Numbering.{Filed};
+ghost use Rattle.idl_include.specs.Spots.{GivenValue, values_of};
 ghost use Rattle.check_model.specs.Worths.{Worth};
 ghost use Rattle.check_model.specs.Evaluation.{worth_by, evaluated, given_worth, all_free};
 ghost use Rattle.idl_const.specs.Flaws.{AnswersWorth, IsEvaluated};

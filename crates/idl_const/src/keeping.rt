@@ -2,11 +2,11 @@
 
 ghost use Rattle.std.specs.Prelude.{◌≡◌, ◌++◌, ◌∷◌, [], ℕ, map, IfOk, IfErr, OnOk, MatchResult};
 ghost use Rattle.std.specs.Option.{option_map};
-ghost use Rattle.idl_model.specs.ConstExpr.{place_of_const};
+ghost use Rattle.idl_include.specs.ConstExpr.{place_of_const};
 ghost use Rattle.thrift_value.specs.TreeOf.{tree_of, field_tree, field_trees};
 ghost use Rattle.thrift_value.specs.Tree.{Tree, FieldTrees};
 ghost use Rattle.schema.specs.SchemaOf.{plain_field};
-ghost use Rattle.idl_model.specs.DeclaredIn.{value_in};
+ghost use Rattle.idl_include.specs.DeclaredIn.{value_in};
 ghost use Rattle.check_model.specs.Worths.{Worth};
 ghost use Rattle.check_model.specs.Evaluation.{field_of_key, struct_numbered, union_worth, with_field, missing_worth, default_worth};
 ghost use Rattle.idl_const.specs.FieldEntries.{entry_in, entry_id, given_in_memory, HasFieldId, fields_in_front};

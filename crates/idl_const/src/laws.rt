@@ -1,10 +1,10 @@
 //! What holds of all constants.
 
 ghost use Rattle.std.specs.Prelude.{◌≡◌, ℕ, All};
-ghost use Rattle.idl_model.specs.ConstExpr.{ConstExpr};
-ghost use Rattle.idl_model.specs.Numbering.{Filed};
-ghost use Rattle.idl_model.specs.Program.{Program};
-ghost use Rattle.idl_model.specs.Spots.{GivenValue};
+ghost use Rattle.idl_include.specs.ConstExpr.{ConstExpr};
+ghost use Rattle.idl_include.specs.Numbering.{Filed};
+ghost use Rattle.idl_include.specs.Program.{Program};
+ghost use Rattle.idl_include.specs.Spots.{GivenValue};
 ghost use Rattle.thrift_value.specs.Tree.{Tree};
 ghost use Rattle.schema.specs.PlainKind.{PlainKind};
 ghost use Rattle.schema.specs.PlainSchema.{PlainSchema};

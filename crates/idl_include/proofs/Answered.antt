@@ -5,8 +5,8 @@ use Rattle.std.specs.Str.{bytes_eq}
 use Rattle.std.specs.List.{list_any}
 use Rattle.outside.specs.Files.{File, content_of}
 use Rattle.idl_parser.specs.Unplaced.{nowhere}
-use Rattle.idl_model.specs.Readings.{LoadFlawKind, unread, IsHeldReadAs, IsReaderOf}
-use Rattle.idl_model.specs.Loading.{Loaded, loaded, most_files, program_of}
+use Rattle.idl_include.specs.Readings.{LoadFlawKind, unread, IsHeldReadAs, IsReaderOf}
+use Rattle.idl_include.specs.Loading.{Loaded, loaded, most_files, program_of}
 use Rattle.idl_include.specs.declared.faults.LoadFault.{LoadFault}
 use Rattle.idl_include.specs.declared.faults.LoadStop.{LoadStop}
 use Rattle.idl_include.specs.declared.faults.LoadStop.TheVariants as stops

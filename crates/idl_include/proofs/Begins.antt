@@ -13,14 +13,14 @@ use Rattle.idl_parser.specs.declared.tree.Document.{Document}
 use Rattle.idl_parser.specs.Phrases.{Node}
 use Rattle.idl_parser.specs.Trees.{document_node}
 use Rattle.idl_parser.specs.Unplaced.{nowhere}
-use Rattle.idl_model.specs.Written.{Written}
-use Rattle.idl_model.specs.Declarations.{Declaration}
-use Rattle.idl_model.specs.Decoded.{declarations_of, includes_of}
-use Rattle.idl_model.specs.DeclaredIn.{definitions_in, includes_of_document}
-use Rattle.idl_model.specs.FileNames.{base_name}
-use Rattle.idl_model.specs.Program.{SourceFile, Program}
-use Rattle.idl_model.specs.Readings.{LoadFlawKind, too_many, FileReading, read_as, unread}
-use Rattle.idl_model.specs.Loading.{Loaded, stopped, most_files, is_among, load_includes, load_read, load_within, load_file}
+use Rattle.idl_include.specs.Written.{Written}
+use Rattle.idl_include.specs.Declarations.{Declaration}
+use Rattle.idl_include.specs.Decoded.{declarations_of, includes_of}
+use Rattle.idl_include.specs.DeclaredIn.{definitions_in, includes_of_document}
+use Rattle.idl_include.specs.FileNames.{base_name}
+use Rattle.idl_include.specs.Program.{SourceFile, Program}
+use Rattle.idl_include.specs.Readings.{LoadFlawKind, too_many, FileReading, read_as, unread}
+use Rattle.idl_include.specs.Loading.{Loaded, stopped, most_files, is_among, load_includes, load_read, load_within, load_file}
 use Rattle.idl_include.specs.declared.faults.LoadFault.{LoadFault}
 use Rattle.idl_include.specs.declared.faults.LoadKind.TheVariants as kinds
 use Rattle.idl_include.specs.declared.faults.LoadStop.{LoadStop}

@@ -3,8 +3,8 @@ use Rattle.std.proofs.Common.{◌≡◌, ◌≤◌, ◌<◌, ◌+◌, ℕ, suc, 
 use Rattle.std.specs.Prelude.{IsErrAnd, OnOk}
 use Rattle.std.specs.Str.{is_utf8}
 use Rattle.std.proofs.lemmas.List.{drop_more, at_drop_all}
-use Rattle.idl_model.specs.Program.{Program}
-use Rattle.idl_model.specs.Loading.{Loaded, and_then, load_includes, load_file}
+use Rattle.idl_include.specs.Program.{Program}
+use Rattle.idl_include.specs.Loading.{Loaded, and_then, load_includes, load_file}
 use Rattle.idl_include.specs.declared.faults.LoadStop.{LoadStop}
 use Rattle.idl_include.specs.declared.opening.WantedFile.{WantedFile}
 use Rattle.idl_include.specs.declared.sources.IdlFile.{IdlFile}

@@ -9,11 +9,11 @@ use Rattle.std.proofs.lemmas.List.Elements.{All-head, All-tail}
 use Rattle.std.specs.Prelude.{All}
 use Rattle.outside.specs.Files.{File}
 use Rattle.idl_token.specs.declared.Place.{Place}
-use Rattle.idl_model.specs.Written.{Written}
-use Rattle.idl_model.specs.FileNames.{base_name, included_name}
-use Rattle.idl_model.specs.Program.{SourceFile, Program, base_of_file}
-use Rattle.idl_model.specs.Readings.{LoadFlawKind, bad_name, includes_itself, same_base, too_many}
-use Rattle.idl_model.specs.Loading.{Loaded, loaded, and_then, IncludeCase, refused_include, loaded_before, new_file, is_among, new_include, begun_or, include_case, linked, load_include, load_file}
+use Rattle.idl_include.specs.Written.{Written}
+use Rattle.idl_include.specs.FileNames.{base_name, included_name}
+use Rattle.idl_include.specs.Program.{SourceFile, Program, base_of_file}
+use Rattle.idl_include.specs.Readings.{LoadFlawKind, bad_name, includes_itself, same_base, too_many}
+use Rattle.idl_include.specs.Loading.{Loaded, loaded, and_then, IncludeCase, refused_include, loaded_before, new_file, is_among, new_include, begun_or, include_case, linked, load_include, load_file}
 use Rattle.idl_include.specs.declared.faults.LoadKind.{LoadKind}
 use Rattle.idl_include.specs.declared.faults.LoadStop.{LoadStop}
 use Rattle.idl_include.specs.declared.faults.LoadStop.TheVariants as stops

@@ -9,3 +9,5 @@ pub mod OneFile
 pub mod Segments
 pub mod Stages
 pub mod Starts
+pub mod OneReading
+pub mod Declaring

@@ -4,12 +4,12 @@ use Rattle.std.specs.Prelude.{if◌then◌else◌}
 use Rattle.std.proofs.lemmas.List.Elements.{All-push, All-set, All-get_or}
 use Rattle.idl_parser.specs.declared.tree.Document.{Document}
 use Rattle.idl_parser.specs.Trees.{document_node}
-use Rattle.idl_model.specs.Declarations.{Declaration}
-use Rattle.idl_model.specs.DeclaredIn.{definitions_in}
-use Rattle.idl_model.specs.FileNames.{base_name}
-use Rattle.idl_model.specs.Program.{SourceFile}
-use Rattle.idl_model.specs.Readings.{FileReading, read_as}
-use Rattle.idl_model.specs.Loading.{is_among, with_include, linked}
+use Rattle.idl_include.specs.Declarations.{Declaration}
+use Rattle.idl_include.specs.DeclaredIn.{definitions_in}
+use Rattle.idl_include.specs.FileNames.{base_name}
+use Rattle.idl_include.specs.Program.{SourceFile}
+use Rattle.idl_include.specs.Readings.{FileReading, read_as}
+use Rattle.idl_include.specs.Loading.{is_among, with_include, linked}
 use Rattle.idl_include.specs.declared.sources.IdlFile.{IdlFile}
 use Rattle.idl_include.specs.SourcesOf.{file_in, program_in, IsOfSomeText, IsFile, HaveOwnBases, AreBegun}
 use Rattle.idl_include.specs.Loads.{AreRead}

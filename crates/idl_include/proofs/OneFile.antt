@@ -8,7 +8,7 @@ use Rattle.outside.specs.Files.{File, OnTold, content_of}
 use Rattle.idl_token.specs.Limits.{longest_text}
 use Rattle.idl_parser.specs.declared.tree.Document.{Document}
 use Rattle.idl_parser.specs.Trees.{document_node}
-use Rattle.idl_model.specs.Readings.{LoadFlawKind, FileReading, read_as, unread, IsTextReadAs, IsReadWithin, IsHeldReadAs, IsReaderOf}
+use Rattle.idl_include.specs.Readings.{LoadFlawKind, FileReading, read_as, unread, IsTextReadAs, IsReadWithin, IsHeldReadAs, IsReaderOf}
 use Rattle.idl_include.specs.declared.faults.LoadFault.{LoadFault}
 use Rattle.idl_include.specs.declared.faults.LoadStop.{LoadStop}
 use Rattle.idl_include.specs.declared.faults.LoadStop.TheVariants as stops

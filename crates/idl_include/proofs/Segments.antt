@@ -3,7 +3,7 @@ use Rattle.std.proofs.Common.{◌≡◌, ℕ, Bool, true, false, not, ◌||◌, 
 use Rattle.std.specs.Prelude.{if◌then◌else◌}
 use Rattle.std.specs.Str.{bytes_eq}
 use Rattle.std.proofs.lemmas.List.{reverse-append, map-append}
-use Rattle.idl_model.specs.FileNames.{is_upward, with_upward}
+use Rattle.idl_include.specs.FileNames.{is_upward, with_upward}
 use Rattle.idl_include.specs.Texts.{texts}
 use denote.Ref.{Bor}
 

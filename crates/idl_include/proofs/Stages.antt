@@ -6,9 +6,9 @@ use Rattle.std.proofs.Math.Nat.{min-le_left, min-le_right, le-min}
 use Rattle.outside.specs.Files.{File}
 use Rattle.outside.specs.Cause.{Rose}
 use Rattle.idl_token.specs.declared.Place.{Place}
-use Rattle.idl_model.specs.Readings.{LoadFlawKind}
-use Rattle.idl_model.specs.Program.{Program}
-use Rattle.idl_model.specs.Loading.{Loaded, stopped, and_then}
+use Rattle.idl_include.specs.Readings.{LoadFlawKind}
+use Rattle.idl_include.specs.Program.{Program}
+use Rattle.idl_include.specs.Loading.{Loaded, stopped, and_then}
 use Rattle.idl_include.specs.declared.faults.LoadKind.{LoadKind}
 use Rattle.idl_include.specs.declared.faults.LoadStop.{LoadStop}
 use Rattle.idl_include.specs.declared.faults.LoadStop.TheVariants as stops

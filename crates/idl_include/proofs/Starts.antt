@@ -6,7 +6,7 @@ use Rattle.std.proofs.lemmas.List.{length-drop}
 use Rattle.std.proofs.lemmas.List.Sums.{suffix_len_is, suffix_len-le-length}
 use Rattle.std.specs.Str.{IsUtf8, IsCharBoundary}
 use Rattle.std.proofs.lemmas.Str.{IsCharBoundary-start, IsCharBoundary-after_ascii}
-use Rattle.idl_model.specs.FileNames.{is_slash, last_segment, folder_of}
+use Rattle.idl_include.specs.FileNames.{is_slash, last_segment, folder_of}
 
 -- a byte of a segment
 abbrev pub is_plain : ℕ → Bool

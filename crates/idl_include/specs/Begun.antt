@@ -4,11 +4,11 @@ use Rattle.std.specs.Str.{bytes_eq, is_utf8}
 use Rattle.std.specs.List.{list_any}
 use Rattle.idl_token.specs.declared.Place.{Place}
 use Rattle.idl_parser.specs.declared.tree.Document.{Document}
-use Rattle.idl_model.specs.Written.{Written}
-use Rattle.idl_model.specs.FileNames.{base_name, included_name}
-use Rattle.idl_model.specs.DeclaredIn.{includes_of_document}
-use Rattle.idl_model.specs.Readings.{LoadFlawKind, FileReading}
-use Rattle.idl_model.specs.Loading.{IncludeCase, include_case, refused_include, loaded_before, new_file}
+use Rattle.idl_include.specs.Written.{Written}
+use Rattle.idl_include.specs.FileNames.{base_name, included_name}
+use Rattle.idl_include.specs.DeclaredIn.{includes_of_document}
+use Rattle.idl_include.specs.Readings.{LoadFlawKind, FileReading}
+use Rattle.idl_include.specs.Loading.{IncludeCase, include_case, refused_include, loaded_before, new_file}
 use Rattle.idl_include.specs.declared.faults.LoadKind.{LoadKind}
 use Rattle.idl_include.specs.declared.faults.LoadStop.{LoadStop}
 use Rattle.idl_include.specs.declared.faults.LoadStop.TheVariants as stops

@@ -11,8 +11,8 @@ use Rattle.idl_parser.specs.declared.ParseKind.TheVariants as parse
 use Rattle.idl_parser.specs.declared.tree.Document.{Document}
 use Rattle.idl_parser.specs.Trees.{document_node}
 use Rattle.idl_parser.specs.Unplaced.{nowhere}
-use Rattle.idl_model.specs.Readings.{LoadFlawKind, absent, too_long, bad_name, lexed_badly, parsed_badly, includes_itself, same_base, too_many, FileReading, read_as, unread, IsTreeOf, IsTextReadAs, IsHeldReadAs, IsReaderOf}
-use Rattle.idl_model.specs.Loading.{Loaded, loaded, stopped, program_of}
+use Rattle.idl_include.specs.Readings.{LoadFlawKind, absent, too_long, bad_name, lexed_badly, parsed_badly, includes_itself, same_base, too_many, FileReading, read_as, unread, IsTreeOf, IsTextReadAs, IsHeldReadAs, IsReaderOf}
+use Rattle.idl_include.specs.Loading.{Loaded, loaded, stopped, program_of}
 use Rattle.idl_include.specs.declared.faults.LoadKind.{LoadKind}
 use Rattle.idl_include.specs.declared.faults.LoadKind.TheVariants as kinds
 use Rattle.idl_include.specs.declared.faults.LoadFault.{LoadFault}

@@ -3,11 +3,11 @@ use Rattle.std.specs.Prelude.{◌≡◌, ◌<◌, ◌≤◌, ℕ, false, List, [
 use Rattle.idl_parser.specs.declared.tree.Document.{Document}
 use Rattle.idl_parser.specs.Trees.{document_node}
 use Rattle.idl_token.specs.Limits.{longest_text}
-use Rattle.idl_model.specs.Program.{SourceFile, Program}
-use Rattle.idl_model.specs.FileNames.{base_name}
-use Rattle.idl_model.specs.Loading.{most_files, is_among}
-use Rattle.idl_model.specs.DeclaredIn.{definitions_in}
-use Rattle.idl_model.specs.Readings.{IsTreeOf}
+use Rattle.idl_include.specs.Program.{SourceFile, Program}
+use Rattle.idl_include.specs.FileNames.{base_name}
+use Rattle.idl_include.specs.Loading.{most_files, is_among}
+use Rattle.idl_include.specs.DeclaredIn.{definitions_in}
+use Rattle.idl_include.specs.Readings.{IsTreeOf}
 use Rattle.idl_include.specs.declared.sources.IdlFile.{IdlFile}
 use Rattle.idl_include.specs.declared.sources.Sources.{Sources}
 

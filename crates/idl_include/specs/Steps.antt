@@ -5,10 +5,10 @@ use Rattle.std.specs.List.{list_any}
 use Rattle.outside.specs.Files.{File}
 use Rattle.outside.specs.Cause.{Rose}
 use Rattle.idl_parser.specs.Unplaced.{nowhere}
-use Rattle.idl_model.specs.Written.{Written}
-use Rattle.idl_model.specs.FileNames.{included_name}
-use Rattle.idl_model.specs.Readings.{LoadFlawKind, too_many, FileReading, unread}
-use Rattle.idl_model.specs.Loading.{Loaded, loaded, stopped, load_include, load_includes, load_file}
+use Rattle.idl_include.specs.Written.{Written}
+use Rattle.idl_include.specs.FileNames.{included_name}
+use Rattle.idl_include.specs.Readings.{LoadFlawKind, too_many, FileReading, unread}
+use Rattle.idl_include.specs.Loading.{Loaded, loaded, stopped, load_include, load_includes, load_file}
 use Rattle.idl_include.specs.declared.faults.LoadFault.{LoadFault}
 use Rattle.idl_include.specs.declared.faults.LoadStop.{LoadStop}
 use Rattle.idl_include.specs.declared.faults.LoadStop.TheVariants as stops

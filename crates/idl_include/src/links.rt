@@ -1,7 +1,7 @@
 //! What files that were begun include: numbers of other files, which come one by one.
 
 ghost use Rattle.std.specs.Prelude.{◌≡◌, ◌<◌, ◌++◌, ◌∷◌, [], length, is_ok, OnOk, if◌then◌else◌};
-ghost use Rattle.idl_model.specs.Loading.{linked};
+ghost use Rattle.idl_include.specs.Loading.{linked};
 ghost use Rattle.idl_include.specs.SourcesOf.{AreBegun, program_in};
 ghost use Rattle.idl_include.specs.Begun.{HasInclude, KeepsFiles};
 

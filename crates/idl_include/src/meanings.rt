@@ -3,8 +3,8 @@
 ghost use Rattle.std.specs.Prelude.{◌≡◌, true, ℕ, List, MatchResult};
 ghost use Rattle.std.specs.Str.{bytes_eq};
 ghost use Rattle.std.specs.List.{list_any, position_from};
-ghost use Rattle.idl_model.specs.FileNames.{included_name};
-ghost use Rattle.idl_model.specs.Loading.{is_among, include_case};
+ghost use Rattle.idl_include.specs.FileNames.{included_name};
+ghost use Rattle.idl_include.specs.Loading.{is_among, include_case};
 ghost use Rattle.idl_include.specs.SourcesOf.{AreBegun, program_in};
 ghost use Rattle.idl_include.specs.Begun.{written_in, include_meant, IsNameMeaning, IsIncludeMeaning, IsRefusedAt};
 

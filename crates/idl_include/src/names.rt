@@ -3,7 +3,7 @@
 ghost use Rattle.std.specs.Prelude.{◌≡◌, ◌||◌, not, [], ◌∷◌, MatchOption, ◌<◌, ◌≤◌, ◌-◌, length, take, drop, reverse, slice_index, string_bytes, IfOk, OnOk};
 ghost use Rattle.std.specs.List.{slice_split};
 ghost use Rattle.std.specs.Str.{bytes_eq};
-ghost use Rattle.idl_model.specs.FileNames.{is_absolute, with_segments, is_slash, is_upward, with_upward, last_segment, folder_of, with_segment, cleaned, included_name, base_name};
+ghost use Rattle.idl_include.specs.FileNames.{is_absolute, with_segments, is_slash, is_upward, with_upward, last_segment, folder_of, with_segment, cleaned, included_name, base_name};
 ghost use Rattle.idl_include.specs.Texts.{texts};
 
 use std::alloc::{AllocError, AllocFailed, Global};
@@ -34,7 +34,7 @@ fn folder(name: &str) -> &str
 }
 
 /// A file's base name: its last segment without `.thrift`.
-#[tactic(auto, unfolding(idl_model::specs::FileNames::base_name))]
+#[tactic(auto, unfolding(crate::specs::FileNames::base_name))]
 pub(crate) fn base_name(name: &[u8]) -> &[u8]
     ensures { result.now ≡ base_name name.now }
 {
@@ -117,7 +117,7 @@ fn kept_segments<'a>(alloc: Global, name: &'a str) -> Result<Vec<&'a str>, Alloc
 }
 
 /// A name without `.` segments and without pairs `x/..`.
-#[tactic(auto, using(crate::proofs::Joined::joined_is), unfolding(idl_model::specs::FileNames::cleaned))]
+#[tactic(auto, using(crate::proofs::Joined::joined_is), unfolding(crate::specs::FileNames::cleaned))]
 fn cleaned(alloc: Global, name: &str) -> Result<String, AllocError>
     ensures { IfOk result (λ text. string_bytes text ≡ cleaned name.now) }
 {
@@ -126,7 +126,7 @@ fn cleaned(alloc: Global, name: &str) -> Result<String, AllocError>
 }
 
 /// The name of the file that a literal means in a file of this name.
-#[tactic(auto, unfolding(idl_model::specs::FileNames::included_name))]
+#[tactic(auto, unfolding(crate::specs::FileNames::included_name))]
 pub(crate) fn included_name(alloc: Global, file: &str, literal: &str) -> Result<String, AllocError>
     ensures { IfOk result (λ name. string_bytes name ≡ included_name file.now literal.now) }
 {

@@ -1,8 +1,8 @@
 //! The beginning of a file: it is read, and stands behind those that were begun before.
 
 ghost use Rattle.std.specs.Prelude.{◌≡◌, ◌≤◌, ◌++◌, ◌∷◌, [], ℕ, List, suc, map, length, IfOk, IfErr, OnOk, OnErr, MatchResult};
-ghost use Rattle.idl_model.specs.FileNames.{base_name};
-ghost use Rattle.idl_model.specs.DeclaredIn.{literal_in};
+ghost use Rattle.idl_include.specs.FileNames.{base_name};
+ghost use Rattle.idl_include.specs.DeclaredIn.{literal_in};
 ghost use Rattle.idl_include.specs.SourcesOf.{AreBegun};
 ghost use Rattle.idl_include.specs.Begun.{wanted_in, IsFreshFile, IsStarted, IsNewName};
 ghost use Rattle.idl_include.specs.Steps.{load_stage, file_left, includes_left, LoadSteps};
@@ -12,7 +12,7 @@ use crate::names::base_name;
 use crate::reading::read_file;
 use crate::sources::IdlFile;
 use byte_text::ByteText;
-use idl_model::laws::a_document_declares_what_its_tree_does;
+use crate::laws::a_document_declares_what_its_tree_does;
 use idl_parser::{Document, Include};
 use idl_token::Place;
 use outside::Files;

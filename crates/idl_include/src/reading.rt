@@ -5,12 +5,12 @@ ghost use Rattle.outside.specs.Cause.{Rose};
 ghost use Rattle.idl_token.specs.Limits.{longest_text};
 ghost use Rattle.idl_token.specs.Tokens.{AreTokensOf, IsFirstLexFault};
 ghost use Rattle.idl_parser.specs.Faults.{IsFaultOf};
-ghost use Rattle.idl_model.specs.Readings.{FileReading};
+ghost use Rattle.idl_include.specs.Readings.{FileReading};
 ghost use Rattle.idl_include.specs.SourcesOf.{IsOfSomeText};
 ghost use Rattle.idl_include.specs.Loads.{Tells, IsRead, IsTextRead, IsUnread, IsUnreadAt, is_unread, is_wrong_want};
 
 use crate::faults::{LoadKind, LoadStop, NOWHERE, stop_at};
-use idl_model::laws::each_file_is_read_as_one_thing;
+use crate::laws::each_file_is_read_as_one_thing;
 use idl_parser::{Document, ParseFault, ParseKind, parse};
 use idl_token::{LexFault, LexKind, MAX_TEXT, Token, tokens};
 use outside::{FileFail, Files};

@@ -2,8 +2,8 @@
 
 ghost use Rattle.std.specs.Prelude.{◌≡◌, ◌<◌, ◌≤◌, ◌∷◌, [], ℕ, List, suc, true, false, length, IfOk, IfErr, OnOk, MatchResult};
 ghost use Rattle.outside.specs.Cause.{Rose};
-ghost use Rattle.idl_model.specs.Readings.{FileReading};
-ghost use Rattle.idl_model.specs.Loading.{program_of};
+ghost use Rattle.idl_include.specs.Readings.{FileReading};
+ghost use Rattle.idl_include.specs.Loading.{program_of};
 ghost use Rattle.idl_include.specs.SourcesOf.{AreBegun, AreFiles, sources_in};
 ghost use Rattle.idl_include.specs.Loads.{Tells, IsLoaded, IsReadFault, is_file, is_inner_want};
 ghost use Rattle.idl_include.specs.Begun.{written_in, wanted_in, IsNewName};
@@ -15,7 +15,7 @@ use crate::meanings::{IncludeMeaning, include_meaning};
 use crate::opening::{MAX_FILES, WantedFile, begin_file};
 use crate::sources::{IdlFile, Sources};
 use byte_text::ByteText;
-use idl_model::laws::each_file_is_read_as_one_thing;
+use crate::laws::each_file_is_read_as_one_thing;
 use outside::Files;
 use std::alloc::{AllocError, Global};
 use std::collections::VecDeque;

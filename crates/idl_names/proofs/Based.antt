@@ -4,8 +4,8 @@ use Rattle.std.specs.Option.{option_or, option_map_or}
 use Rattle.std.specs.List.{find, AllZip}
 use Rattle.std.proofs.Math.Seq.{take-suc}
 use Rattle.std.proofs.lemmas.List.Folds.{find-append}
-use Rattle.idl_model.specs.Program.{Program, SourceFile}
-use Rattle.idl_model.specs.Names.{has_base, included_with}
+use Rattle.idl_include.specs.Program.{Program, SourceFile}
+use Rattle.idl_include.specs.Names.{has_base, included_with}
 use Rattle.idl_include.specs.declared.sources.IdlFile.{IdlFile}
 use Rattle.idl_include.specs.SourcesOf.{program_in}
 use Rattle.idl_names.specs.NameMaps.{NameMap, number_of_name, number_in_file, number_if}

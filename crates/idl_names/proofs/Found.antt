@@ -3,12 +3,12 @@ use Rattle.std.proofs.Common.{◌≡◌, ◌+◌, ◌==◌, ℕ, Bool, cond, Lis
 use Rattle.std.specs.Prelude.{◌&&◌}
 use Rattle.std.specs.List.{position_from}
 use Rattle.std.specs.Str.{bytes_eq}
-use Rattle.idl_model.specs.Written.{Written}
-use Rattle.idl_model.specs.Numbering.{Filed, is_filed_as, number_named, typedefs_of, enums_of, structs_of}
+use Rattle.idl_include.specs.Written.{Written}
+use Rattle.idl_include.specs.Numbering.{Filed, is_filed_as, number_named, typedefs_of, enums_of, structs_of}
 use Rattle.std.specs.Option.{option_map, option_or}
-use Rattle.idl_model.specs.Declarations.{TypedefDecl, EnumDecl, StructDecl}
-use Rattle.idl_model.specs.Program.{Program}
-use Rattle.idl_model.specs.Names.{an_alias, an_enum, a_struct, type_defined}
+use Rattle.idl_include.specs.Declarations.{TypedefDecl, EnumDecl, StructDecl}
+use Rattle.idl_include.specs.Program.{Program}
+use Rattle.idl_include.specs.Names.{an_alias, an_enum, a_struct, type_defined}
 use Rattle.idl_names.specs.declared.filed.InFile.{InFile}
 use Rattle.idl_names.specs.FiledIn.{filed_by}
 use Rattle.idl_names.specs.NameMaps.{NameMap, number_in_file}

@@ -3,7 +3,7 @@ use Rattle.std.proofs.Common.{◌≡◌, ◌≢◌, ◌≤◌, ◌<◌, ◌-◌,
 use Rattle.std.specs.List.{suffix_len}
 use Rattle.std.proofs.lemmas.Bool.{ne_eqb}
 use Rattle.std.proofs.lemmas.List.Sums.{suffix_len_is}
-use Rattle.idl_model.specs.Names.{is_dot, qualifier, bare_name}
+use Rattle.idl_include.specs.Names.{is_dot, qualifier, bare_name}
 
 -- a byte that is no dot
 abbrev is_other : ℕ → Bool

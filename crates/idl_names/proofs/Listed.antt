@@ -2,10 +2,10 @@
 use Rattle.std.proofs.Common.{◌≡◌, ◌≤◌, ◌<◌, ◌+◌, ℕ, zero, suc, List, [], ◌∷◌, ◌++◌, map, length, get_or, drop, Option, None, Some, refl, ap, sym, ◌∙◌, arith, append_assoc, add-one}
 use Rattle.std.specs.List.{filter_map, cons_option}
 use Rattle.std.proofs.lemmas.List.{append-nil}
-use Rattle.idl_model.specs.Declarations.{Declaration}
-use Rattle.idl_model.specs.DeclaredIn.{definition_in, definitions_in}
-use Rattle.idl_model.specs.Program.{Program}
-use Rattle.idl_model.specs.Numbering.{Filed, filed, picked_from, const_in, typedef_in, enum_in, struct_in, service_in, constants_of, typedefs_of, enums_of, structs_of, services_of}
+use Rattle.idl_include.specs.Declarations.{Declaration}
+use Rattle.idl_include.specs.DeclaredIn.{definition_in, definitions_in}
+use Rattle.idl_include.specs.Program.{Program}
+use Rattle.idl_include.specs.Numbering.{Filed, filed, picked_from, const_in, typedef_in, enum_in, struct_in, service_in, constants_of, typedefs_of, enums_of, structs_of, services_of}
 use Rattle.idl_include.specs.declared.sources.IdlFile.{IdlFile}
 use Rattle.idl_include.specs.SourcesOf.{program_in}
 use Rattle.idl_names.specs.Listing.{Listing, nothing_listed, listed_more, with_definition, with_definitions, with_files, listing_of}

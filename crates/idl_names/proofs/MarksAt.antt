@@ -7,11 +7,11 @@ use Rattle.idl_parser.specs.declared.tree.Field.{Field}
 use Rattle.idl_parser.specs.declared.tree.Function.{Function}
 use Rattle.idl_parser.specs.declared.tree.EnumValue.{EnumValue}
 use Rattle.idl_parser.specs.declared.tree.Definition.{Definition}
-use Rattle.idl_model.specs.Declarations.{FieldDecl, EnumValueDecl, declared_name}
-use Rattle.idl_model.specs.DeclaredIn.{field_in, function_in, enum_value_in, definition_in}
-use Rattle.idl_model.specs.EnumNumbers.{number_or, next_number}
-use Rattle.idl_model.specs.FieldIds.{id_behind, one_more_unnumbered, unnumbered_in, ids_behind, field_ids}
-use Rattle.idl_model.specs.Loading.{is_among}
+use Rattle.idl_include.specs.Declarations.{FieldDecl, EnumValueDecl, declared_name}
+use Rattle.idl_include.specs.DeclaredIn.{field_in, function_in, enum_value_in, definition_in}
+use Rattle.idl_include.specs.EnumNumbers.{number_or, next_number}
+use Rattle.idl_include.specs.FieldIds.{id_behind, one_more_unnumbered, unnumbered_in, ids_behind, field_ids}
+use Rattle.idl_include.specs.Loading.{is_among}
 use Rattle.idl_names.specs.declared.fields.FieldMarks.{FieldMarks}
 use Rattle.idl_names.specs.Before.{texts_of, name_marks, id_marks}
 use Rattle.idl_names.specs.EnumRange.{has_32_bits, fits_enum, fit_marks}

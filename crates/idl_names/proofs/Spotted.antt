@@ -4,11 +4,11 @@ use Rattle.std.proofs.lemmas.List.{append-nil, map-append}
 use Rattle.idl_parser.specs.declared.tree.Function.{Function}
 use Rattle.idl_parser.specs.declared.tree.EnumValue.{EnumValue}
 use Rattle.idl_parser.specs.declared.tree.Definition.{Definition}
-use Rattle.idl_model.specs.Written.{Written}
-use Rattle.idl_model.specs.Declarations.{FunctionDecl, EnumValueDecl, Declaration, declared_name}
-use Rattle.idl_model.specs.DeclaredIn.{function_in, enum_value_in, definition_in, definitions_in}
-use Rattle.idl_model.specs.Numbering.{Counts, none_counted, counted, all_counted}
-use Rattle.idl_model.specs.Spots.{Spotted, Spot, in_file, enum_value_spot, given_name, function_spot, spots_in_enum, spots_in_function, spots_in_functions, spots_in_declaration, spots_in_declarations, spots_from, spots_of}
+use Rattle.idl_include.specs.Written.{Written}
+use Rattle.idl_include.specs.Declarations.{FunctionDecl, EnumValueDecl, Declaration, declared_name}
+use Rattle.idl_include.specs.DeclaredIn.{function_in, enum_value_in, definition_in, definitions_in}
+use Rattle.idl_include.specs.Numbering.{Counts, none_counted, counted, all_counted}
+use Rattle.idl_include.specs.Spots.{Spotted, Spot, in_file, enum_value_spot, given_name, function_spot, spots_in_enum, spots_in_function, spots_in_functions, spots_in_declaration, spots_in_declarations, spots_from, spots_of}
 use Rattle.idl_include.specs.declared.sources.IdlFile.{IdlFile}
 use Rattle.idl_include.specs.SourcesOf.{program_in}
 use Rattle.idl_names.specs.Functions.{inside_function}

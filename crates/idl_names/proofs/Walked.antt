@@ -4,11 +4,11 @@ use Rattle.std.specs.Prelude.{◌+ℤ◌, pos}
 use Rattle.std.proofs.lemmas.List.{map-append}
 use Rattle.idl_parser.specs.declared.tree.Field.{Field}
 use Rattle.idl_parser.specs.declared.tree.EnumValue.{EnumValue}
-use Rattle.idl_model.specs.Declarations.{FieldDecl, EnumValueDecl}
-use Rattle.idl_model.specs.DeclaredIn.{field_in, enum_value_in}
-use Rattle.idl_model.specs.FieldIds.{id_behind, one_more_unnumbered, ids_behind}
-use Rattle.idl_model.specs.EnumNumbers.{number_or, numbers_from}
-use Rattle.idl_model.specs.Spots.{Spotted, Spot, in_file}
+use Rattle.idl_include.specs.Declarations.{FieldDecl, EnumValueDecl}
+use Rattle.idl_include.specs.DeclaredIn.{field_in, enum_value_in}
+use Rattle.idl_include.specs.FieldIds.{id_behind, one_more_unnumbered, ids_behind}
+use Rattle.idl_include.specs.EnumNumbers.{number_or, numbers_from}
+use Rattle.idl_include.specs.Spots.{Spotted, Spot, in_file}
 use Rattle.idl_names.specs.EnumRange.{has_32_bits, fit_marks, IsNextAs}
 use Rattle.idl_names.proofs.Marked.{left_more, taken_more}
 

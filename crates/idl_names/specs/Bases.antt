@@ -2,9 +2,9 @@
 use Rattle.std.specs.Prelude.{◌≡◌, ℕ, List}
 use Rattle.std.specs.List.{find}
 use Rattle.std.specs.Option.{option_or}
-use Rattle.idl_model.specs.FileNames.{base_name}
-use Rattle.idl_model.specs.Names.{has_base}
-use Rattle.idl_model.specs.Program.{Program}
+use Rattle.idl_include.specs.FileNames.{base_name}
+use Rattle.idl_include.specs.Names.{has_base}
+use Rattle.idl_include.specs.Program.{Program}
 use Rattle.idl_include.specs.declared.sources.IdlFile.{IdlFile}
 use Rattle.idl_names.specs.NameMaps.{NameMap, number_of_name, number_if}
 

@@ -2,10 +2,10 @@
 use Rattle.std.specs.Prelude.{ℕ, ℤ, List, [], ◌∷◌, ◌++◌, map, Bool}
 use Rattle.std.specs.Ordering.{int_eq}
 use Rattle.std.specs.List.{list_any}
-use Rattle.idl_model.specs.Written.{Written}
-use Rattle.idl_model.specs.Declarations.{FieldDecl, EnumValueDecl, declared_name}
-use Rattle.idl_model.specs.DeclaredIn.{field_in, enum_value_in, definition_in}
-use Rattle.idl_model.specs.Loading.{is_among}
+use Rattle.idl_include.specs.Written.{Written}
+use Rattle.idl_include.specs.Declarations.{FieldDecl, EnumValueDecl, declared_name}
+use Rattle.idl_include.specs.DeclaredIn.{field_in, enum_value_in, definition_in}
+use Rattle.idl_include.specs.Loading.{is_among}
 use Rattle.idl_names.specs.declared.before.GivenBefore.{GivenBefore}
 use Rattle.idl_names.specs.declared.before.GivenBefore.TheVariants as before
 

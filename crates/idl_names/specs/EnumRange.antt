@@ -1,7 +1,7 @@
 -- Whether the number of an enum's value has 32 bits.
 use Rattle.std.specs.Prelude.{◌≡◌, ◌⊎◌, ◌+ℤ◌, ◌<ℤ◌, ℤ, pos, neg_ℤ, int_le, ◌&&◌, ◌^◌, ◌-◌, Bool, List, [], ◌∷◌}
-use Rattle.idl_model.specs.Declarations.{EnumValueDecl}
-use Rattle.idl_model.specs.EnumNumbers.{number_or, next_number}
+use Rattle.idl_include.specs.Declarations.{EnumValueDecl}
+use Rattle.idl_include.specs.EnumNumbers.{number_or, next_number}
 
 -- a number has 32 bits
 abbrev pub has_32_bits : ℤ → Bool

@@ -3,10 +3,10 @@ use Rattle.std.specs.Prelude.{◌≡◌, ℕ, List, [], map}
 use Rattle.std.specs.Ordering.{int_eq}
 use Rattle.std.specs.List.{list_any}
 use Rattle.idl_parser.specs.declared.tree.Field.{Field}
-use Rattle.idl_model.specs.Declarations.{FieldDecl}
-use Rattle.idl_model.specs.DeclaredIn.{field_in}
-use Rattle.idl_model.specs.FieldIds.{id_behind, unnumbered_in, field_ids}
-use Rattle.idl_model.specs.Loading.{is_among}
+use Rattle.idl_include.specs.Declarations.{FieldDecl}
+use Rattle.idl_include.specs.DeclaredIn.{field_in}
+use Rattle.idl_include.specs.FieldIds.{id_behind, unnumbered_in, field_ids}
+use Rattle.idl_include.specs.Loading.{is_among}
 use Rattle.idl_names.specs.declared.fields.FieldMark.{FieldMark}
 use Rattle.idl_names.specs.declared.fields.FieldMarks.{FieldMarks}
 use Rattle.idl_names.specs.Before.{texts_of, name_marks, id_marks}

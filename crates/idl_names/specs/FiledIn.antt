@@ -6,9 +6,9 @@ use Rattle.idl_parser.specs.declared.tree.Typedef.{Typedef}
 use Rattle.idl_parser.specs.declared.tree.Enum.{Enum}
 use Rattle.idl_parser.specs.declared.tree.Struct.{Struct}
 use Rattle.idl_parser.specs.declared.tree.Service.{Service}
-use Rattle.idl_model.specs.Declarations.{ConstDecl, TypedefDecl, EnumDecl, StructDecl, ServiceDecl}
-use Rattle.idl_model.specs.DeclaredIn.{name_in, type_in, value_in, field_in, function_in, enum_value_in}
-use Rattle.idl_model.specs.Numbering.{Filed}
+use Rattle.idl_include.specs.Declarations.{ConstDecl, TypedefDecl, EnumDecl, StructDecl, ServiceDecl}
+use Rattle.idl_include.specs.DeclaredIn.{name_in, type_in, value_in, field_in, function_in, enum_value_in}
+use Rattle.idl_include.specs.Numbering.{Filed}
 use Rattle.idl_names.specs.declared.filed.InFile.{InFile}
 
 -- a constant

@@ -1,7 +1,7 @@
 -- Functions: their names, and what is looked at in one.
 use Rattle.std.specs.Prelude.{ℕ, List, [], ◌∷◌, ◌++◌, map}
-use Rattle.idl_model.specs.Declarations.{FunctionDecl}
-use Rattle.idl_model.specs.Spots.{Spotted, given_name, result_spots, spots_in_fields, spots_in_throws}
+use Rattle.idl_include.specs.Declarations.{FunctionDecl}
+use Rattle.idl_include.specs.Spots.{Spotted, given_name, result_spots, spots_in_fields, spots_in_throws}
 
 -- the names of functions, in order
 abbrev pub function_names : List FunctionDecl → List (List ℕ)

@@ -1,7 +1,7 @@
 -- What names in memory are found to stand for.
 use Rattle.std.specs.Prelude.{ℕ, List, Option, Some, None}
-use Rattle.idl_model.specs.Names.{Sought, NamedType, an_alias, an_enum, a_struct}
-use Rattle.idl_model.specs.ConstNames.{ConstMeaning, enum_value, given_value}
+use Rattle.idl_include.specs.Names.{Sought, NamedType, an_alias, an_enum, a_struct}
+use Rattle.idl_include.specs.ConstNames.{ConstMeaning, enum_value, given_value}
 use Rattle.idl_names.specs.declared.tables.TypeName.{TypeName}
 use Rattle.idl_names.specs.declared.tables.TypeName.TheVariants as found
 use Rattle.idl_names.specs.declared.tables.ConstName.{ConstName}

@@ -1,8 +1,8 @@
 -- What spots in memory show.
 use Rattle.std.specs.Prelude.{List, map}
-use Rattle.idl_model.specs.DeclaredIn.{name_in, type_in, value_in, field_in, function_in, enum_value_in}
-use Rattle.idl_model.specs.Numbering.{Filed, Counts}
-use Rattle.idl_model.specs.Spots.{GivenValue, Spotted, given_name, type_use, parent_use, typedef_spot, field_spot, thrown_spot, enum_value_spot, struct_spot, service_spot, function_spot, value_spot, Spot}
+use Rattle.idl_include.specs.DeclaredIn.{name_in, type_in, value_in, field_in, function_in, enum_value_in}
+use Rattle.idl_include.specs.Numbering.{Filed, Counts}
+use Rattle.idl_include.specs.Spots.{GivenValue, Spotted, given_name, type_use, parent_use, typedef_spot, field_spot, thrown_spot, enum_value_spot, struct_spot, service_spot, function_spot, value_spot, Spot}
 use Rattle.idl_names.specs.declared.spot.GivenTree.{GivenTree}
 use Rattle.idl_names.specs.declared.spot.ShownIn.{ShownIn}
 use Rattle.idl_names.specs.declared.spot.ShownIn.TheVariants as shows

@@ -1,9 +1,9 @@
 -- Tables of names, which are right about a program.
 use Rattle.std.specs.Prelude.{◌≡◌, ℕ, List, Option}
-use Rattle.idl_model.specs.Declarations.{ConstDecl, TypedefDecl, EnumDecl, StructDecl, ServiceDecl}
-use Rattle.idl_model.specs.Program.{Program}
-use Rattle.idl_model.specs.Names.{included_with}
-use Rattle.idl_model.specs.Numbering.{number_named, constants_of, typedefs_of, enums_of, structs_of, services_of}
+use Rattle.idl_include.specs.Declarations.{ConstDecl, TypedefDecl, EnumDecl, StructDecl, ServiceDecl}
+use Rattle.idl_include.specs.Program.{Program}
+use Rattle.idl_include.specs.Names.{included_with}
+use Rattle.idl_include.specs.Numbering.{number_named, constants_of, typedefs_of, enums_of, structs_of, services_of}
 use Rattle.idl_names.specs.NameMaps.{NameMap, number_in_file}
 
 -- names by file have these numbers

@@ -2,8 +2,8 @@
 
 ghost use Rattle.std.specs.Prelude.{◌≡◌, ℕ, List, All, IfOk, OnOk};
 ghost use Rattle.std.specs.List.{AllZip, find};
-ghost use Rattle.idl_model.specs.FileNames.{base_name};
-ghost use Rattle.idl_model.specs.Names.{has_base, included_with};
+ghost use Rattle.idl_include.specs.FileNames.{base_name};
+ghost use Rattle.idl_include.specs.Names.{has_base, included_with};
 ghost use Rattle.idl_include.specs.declared.sources.IdlFile.{IdlFile};
 ghost use Rattle.idl_include.specs.SourcesOf.{program_in};
 ghost use Rattle.idl_names.specs.NameMaps.{number_of_name, number_in_file};

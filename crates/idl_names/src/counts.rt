@@ -1,8 +1,8 @@
 //! How many definitions of each kind there are.
 
 ghost use Rattle.std.specs.Prelude.{◌≡◌, suc, IfOk};
-ghost use Rattle.idl_model.specs.DeclaredIn.{definition_in};
-ghost use Rattle.idl_model.specs.Numbering.{none_counted, counted};
+ghost use Rattle.idl_include.specs.DeclaredIn.{definition_in};
+ghost use Rattle.idl_include.specs.Numbering.{none_counted, counted};
 ghost use Rattle.idl_names.specs.SpotsIn.{counts_in};
 
 use idl_parser::Definition;
@@ -47,7 +47,7 @@ fn one_more(count: u32) -> Result<u32, AllocError>
 }
 
 /// One definition more.
-#[tactic(auto, unfolding(idl_model::specs::DeclaredIn::definition_in))]
+#[tactic(auto, unfolding(idl_include::specs::DeclaredIn::definition_in))]
 pub fn with_definition(
     counts: DefinitionCounts,
     definition: &Definition,

@@ -1,7 +1,7 @@
 //! The definitions of a program by number: a list for each kind, by file, and in a file in order.
 
 ghost use Rattle.std.specs.Prelude.{◌≡◌, ℕ, List, map, OnOk, IfOk};
-ghost use Rattle.idl_model.specs.DeclaredIn.{definition_in};
+ghost use Rattle.idl_include.specs.DeclaredIn.{definition_in};
 ghost use Rattle.idl_include.specs.SourcesOf.{program_in};
 ghost use Rattle.idl_names.specs.Listing.{listing_in, listing_of, with_definitions};
 
@@ -42,7 +42,7 @@ impl<'a> Definitions<'a> {
     }
 
     /// One definition more.
-    #[tactic(auto, unfolding(crate::specs::Listing::with_definition, idl_model::specs::DeclaredIn::definition_in))]
+    #[tactic(auto, unfolding(crate::specs::Listing::with_definition, idl_include::specs::DeclaredIn::definition_in))]
     fn add(&mut self, file: u32, definition: &'a Definition) -> Result<(), AllocError>
         ensures { OnOk result (listing_in self.new ≡ with_definition file (definition_in definition.now) (listing_in self.old)) }
     {

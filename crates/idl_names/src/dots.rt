@@ -1,7 +1,7 @@
 //! Names with a dot.
 
 ghost use Rattle.std.specs.Prelude.{◌≡◌};
-ghost use Rattle.idl_model.specs.Names.{is_dotted, qualifier, bare_name};
+ghost use Rattle.idl_include.specs.Names.{is_dotted, qualifier, bare_name};
 
 /// Whether a name has a `.`.
 pub fn is_dotted(name: &[u8]) -> bool

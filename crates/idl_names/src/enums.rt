@@ -1,9 +1,9 @@
 //! The spots of the values of an enum.
 
 ghost use Rattle.std.specs.Prelude.{◌≡◌, ◌++◌, ◌∷◌, ◌<◌, [], pos, false, map, take, length, slice_index_or, OnOk};
-ghost use Rattle.idl_model.specs.Declarations.{EnumValueDecl};
-ghost use Rattle.idl_model.specs.DeclaredIn.{enum_value_in};
-ghost use Rattle.idl_model.specs.Spots.{in_file, enum_value_spot, given_name, spots_in_enum};
+ghost use Rattle.idl_include.specs.Declarations.{EnumValueDecl};
+ghost use Rattle.idl_include.specs.DeclaredIn.{enum_value_in};
+ghost use Rattle.idl_include.specs.Spots.{in_file, enum_value_spot, given_name, spots_in_enum};
 ghost use Rattle.idl_names.specs.Before.{name_marks};
 ghost use Rattle.idl_names.specs.EnumRange.{fit_marks};
 ghost use Rattle.idl_names.specs.SpotsIn.{spots_in, shown_in};

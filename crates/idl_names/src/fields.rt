@@ -1,9 +1,9 @@
 //! The spots of fields.
 
 ghost use Rattle.std.specs.Prelude.{◌≡◌, ◌++◌, ◌∷◌, ◌<◌, [], pos, false, map, take, length, slice_index_or, IfOk, OnOk};
-ghost use Rattle.idl_model.specs.DeclaredIn.{field_in, name_in};
-ghost use Rattle.idl_model.specs.Spots.{in_file, field_spot, thrown_spot, given_name, spots_in_field, spots_in_fields, spots_in_throws, default_spots};
-ghost use Rattle.idl_model.specs.Declarations.{FieldDecl};
+ghost use Rattle.idl_include.specs.DeclaredIn.{field_in, name_in};
+ghost use Rattle.idl_include.specs.Spots.{in_file, field_spot, thrown_spot, given_name, spots_in_field, spots_in_fields, spots_in_throws, default_spots};
+ghost use Rattle.idl_include.specs.Declarations.{FieldDecl};
 ghost use Rattle.idl_names.specs.SpotsIn.{spots_in, shown_in};
 ghost use Rattle.idl_names.specs.FieldMarks.{IsFieldMark, AreFieldMarks};
 
@@ -85,7 +85,7 @@ fn number_at(numbers: &[i64], place: usize) -> i64
 }
 
 /// A field behind others.
-#[tactic(auto, unfolding(idl_model::specs::DeclaredIn::field_in, idl_model::specs::Spots::spots_in_field))]
+#[tactic(auto, unfolding(idl_include::specs::DeclaredIn::field_in, idl_include::specs::Spots::spots_in_field))]
 fn put_field<'a>(
     spots: &mut Vec<SpotIn<'a>>,
     file: u32,
@@ -128,7 +128,7 @@ fn field_name_shown<'a>(before: &'a [Field], field: &'a Field, mark: FieldMark) 
 }
 
 /// The default of a field, if there is one.
-#[tactic(auto, unfolding(idl_model::specs::DeclaredIn::field_in))]
+#[tactic(auto, unfolding(idl_include::specs::DeclaredIn::field_in))]
 fn put_default<'a>(
     spots: &mut Vec<SpotIn<'a>>,
     file: u32,

@@ -89,12 +89,12 @@ impl Named for Function {
 }
 
 impl Named for Definition {
-    ghost use Rattle.idl_model.specs.Declarations.{declared_name};
-    ghost use Rattle.idl_model.specs.DeclaredIn.{definition_in};
+    ghost use Rattle.idl_include.specs.Declarations.{declared_name};
+    ghost use Rattle.idl_include.specs.DeclaredIn.{definition_in};
 
     ghost text = { λ d. (declared_name (definition_in d)).text };
 
-    #[tactic(auto, unfolding(idl_model::specs::DeclaredIn::definition_in))]
+    #[tactic(auto, unfolding(idl_include::specs::DeclaredIn::definition_in))]
     fn name_bytes(&self) -> &[u8] {
         match self {
             Definition::Const(c) => c.name.text.as_slice(),

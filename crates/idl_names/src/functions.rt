@@ -1,9 +1,9 @@
 //! The spots of functions.
 
 ghost use Rattle.std.specs.Prelude.{◌≡◌, ◌++◌, ◌<◌, [], false, map, take, length, slice_index_or, OnOk};
-ghost use Rattle.idl_model.specs.DeclaredIn.{function_in};
+ghost use Rattle.idl_include.specs.DeclaredIn.{function_in};
 ghost use Rattle.idl_names.specs.Before.{name_marks};
-ghost use Rattle.idl_model.specs.Spots.{in_file, function_spot, result_spots, spots_in_throws, spots_in_functions};
+ghost use Rattle.idl_include.specs.Spots.{in_file, function_spot, result_spots, spots_in_throws, spots_in_functions};
 ghost use Rattle.idl_names.specs.Functions.{inside_function};
 ghost use Rattle.idl_names.specs.SpotsIn.{spots_in, shown_in};
 
@@ -36,7 +36,7 @@ pub(crate) fn put_functions<'a>(
 }
 
 /// What stands in a function.
-#[tactic(auto, unfolding(idl_model::specs::DeclaredIn::function_in))]
+#[tactic(auto, unfolding(idl_include::specs::DeclaredIn::function_in))]
 fn put_inside<'a>(
     alloc: Global,
     spots: &mut Vec<SpotIn<'a>>,
@@ -79,7 +79,7 @@ fn function_shown<'a>(
 }
 
 /// The result of a function, if it has one.
-#[tactic(auto, unfolding(idl_model::specs::DeclaredIn::function_in))]
+#[tactic(auto, unfolding(idl_include::specs::DeclaredIn::function_in))]
 fn put_result<'a>(
     spots: &mut Vec<SpotIn<'a>>,
     file: u32,
@@ -94,7 +94,7 @@ fn put_result<'a>(
 }
 
 /// The exceptions that a function throws.
-#[tactic(auto, unfolding(idl_model::specs::DeclaredIn::function_in))]
+#[tactic(auto, unfolding(idl_include::specs::DeclaredIn::function_in))]
 fn put_exceptions<'a>(
     alloc: Global,
     spots: &mut Vec<SpotIn<'a>>,

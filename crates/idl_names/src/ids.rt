@@ -1,10 +1,10 @@
 //! The ids of fields, and the numbers of the values of enums.
 
 ghost use Rattle.std.specs.Prelude.{◌≡◌, ◌+ℤ◌, ◌-ℤ◌, ℕ, ℤ, suc, pos, neg_ℤ, map, IfOk};
-ghost use Rattle.idl_model.specs.DeclaredIn.{field_in, enum_value_in};
-ghost use Rattle.idl_model.specs.EnumNumbers.{enum_numbers, number_or};
+ghost use Rattle.idl_include.specs.DeclaredIn.{field_in, enum_value_in};
+ghost use Rattle.idl_include.specs.EnumNumbers.{enum_numbers, number_or};
 ghost use Rattle.idl_names.specs.EnumRange.{has_32_bits, fit_marks, IsNextAs};
-ghost use Rattle.idl_model.specs.FieldIds.{field_ids, id_behind, one_more_unnumbered};
+ghost use Rattle.idl_include.specs.FieldIds.{field_ids, id_behind, one_more_unnumbered};
 
 use idl_parser::{EnumValue, Field};
 use std::alloc::{AllocError, Global};
@@ -25,7 +25,7 @@ pub fn field_ids(alloc: Global, fields: &[Field]) -> Result<Vec<i64>, AllocError
 }
 
 /// The id of a field, where `next` is that of one without a written number.
-#[tactic(auto, unfolding(idl_model::specs::DeclaredIn::field_in))]
+#[tactic(auto, unfolding(idl_include::specs::DeclaredIn::field_in))]
 fn id_or(next: i64, field: &Field) -> i64
     ensures { (unnumbered : ℕ) → next ≡ neg_ℤ (pos (suc unnumbered)) → result ≡ id_behind unnumbered (field_in field.now).id }
 {
@@ -36,7 +36,7 @@ fn id_or(next: i64, field: &Field) -> i64
 }
 
 /// The id of a field without a written number behind this one.
-#[tactic(auto, unfolding(idl_model::specs::DeclaredIn::field_in))]
+#[tactic(auto, unfolding(idl_include::specs::DeclaredIn::field_in))]
 fn next_behind(next: i64, field: &Field) -> Result<i64, AllocError>
     ensures { IfOk result (λ behind. (unnumbered : ℕ) → next ≡ neg_ℤ (pos (suc unnumbered))
         → behind ≡ neg_ℤ (pos (suc (one_more_unnumbered unnumbered (field_in field.now).id)))) }
@@ -62,7 +62,7 @@ fn one_more(number: i64) -> Result<i64, AllocError>
 }
 
 /// The numbers of the values of an enum; want of memory where the number behind one has more than 64 bits.
-#[tactic(auto, unfolding(idl_model::specs::EnumNumbers::enum_numbers))]
+#[tactic(auto, unfolding(idl_include::specs::EnumNumbers::enum_numbers))]
 pub fn enum_numbers(alloc: Global, values: &[EnumValue]) -> Result<Vec<i64>, AllocError>
     ensures { IfOk result (λ numbers. numbers.items ≡ enum_numbers (map enum_value_in values.now)) }
 {

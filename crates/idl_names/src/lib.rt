@@ -15,7 +15,7 @@
 //!
 //! Files that were loaded are as the tables want them ([`laws`]).
 //!
-//! Not here: names in constant values (`const_tables`), how typedefs and services lead to one another (`name_graphs`), and types with
+//! Not here: names in constant values (`const_evaluator`), how typedefs and services lead to one another (`idl_types`), and types with
 //! typedefs resolved.
 #![tactic(auto)]
 

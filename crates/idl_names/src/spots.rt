@@ -1,10 +1,10 @@
 //! The spots of definitions, files and a program.
 
 ghost use Rattle.std.specs.Prelude.{◌≡◌, ◌++◌, ◌<◌, [], false, map, take, length, slice_index_or, IfOk, OnOk};
-ghost use Rattle.idl_model.specs.Declarations.{declared_name, of_const, of_typedef, of_enum, of_struct_decl, of_service};
-ghost use Rattle.idl_model.specs.DeclaredIn.{name_in, definition_in};
-ghost use Rattle.idl_model.specs.Numbering.{Counts, all_counted};
-ghost use Rattle.idl_model.specs.Spots.{in_file, parent_spots, spots_in_declaration, spots_in_declarations, spots_of};
+ghost use Rattle.idl_include.specs.Declarations.{declared_name, of_const, of_typedef, of_enum, of_struct_decl, of_service};
+ghost use Rattle.idl_include.specs.DeclaredIn.{name_in, definition_in};
+ghost use Rattle.idl_include.specs.Numbering.{Counts, all_counted};
+ghost use Rattle.idl_include.specs.Spots.{in_file, parent_spots, spots_in_declaration, spots_in_declarations, spots_of};
 ghost use Rattle.idl_include.specs.SourcesOf.{program_in};
 ghost use Rattle.idl_names.specs.Before.{name_marks, names_before};
 ghost use Rattle.idl_names.specs.FiledIn.{const_declared, typedef_declared, enum_declared, struct_declared, service_declared};
@@ -66,7 +66,7 @@ fn put_file<'a>(
 }
 
 /// The name that a definition gives.
-#[tactic(auto, unfolding(idl_model::specs::DeclaredIn::definition_in))]
+#[tactic(auto, unfolding(idl_include::specs::DeclaredIn::definition_in))]
 fn name_of(definition: &Definition) -> &Name
     ensures { name_in result.now ≡ declared_name (definition_in definition.now) }
 {
@@ -94,7 +94,7 @@ fn given_at(definitions: &[Definition], place: usize, repeated: bool) -> GivenNa
 }
 
 /// A definition that gives a name behind others, and behind so many definitions.
-#[tactic(auto, unfolding(idl_model::specs::DeclaredIn::definition_in))]
+#[tactic(auto, unfolding(idl_include::specs::DeclaredIn::definition_in))]
 fn put_definition<'a>(
     alloc: Global,
     spots: &mut Vec<SpotIn<'a>>,
@@ -117,7 +117,7 @@ fn put_definition<'a>(
 }
 
 /// A constant.
-#[tactic(auto, unfolding(idl_model::specs::Spots::spots_in_declaration))]
+#[tactic(auto, unfolding(idl_include::specs::Spots::spots_in_declaration))]
 fn put_const<'a>(
     spots: &mut Vec<SpotIn<'a>>,
     file: u32,
@@ -143,7 +143,7 @@ fn put_const<'a>(
 }
 
 /// A typedef of some number.
-#[tactic(auto, unfolding(idl_model::specs::Spots::spots_in_declaration))]
+#[tactic(auto, unfolding(idl_include::specs::Spots::spots_in_declaration))]
 fn put_typedef<'a>(
     spots: &mut Vec<SpotIn<'a>>,
     file: u32,
@@ -161,7 +161,7 @@ fn put_typedef<'a>(
 }
 
 /// An enum.
-#[tactic(auto, unfolding(idl_model::specs::Spots::spots_in_declaration))]
+#[tactic(auto, unfolding(idl_include::specs::Spots::spots_in_declaration))]
 fn put_enum<'a>(
     alloc: Global,
     spots: &mut Vec<SpotIn<'a>>,
@@ -178,7 +178,7 @@ fn put_enum<'a>(
 }
 
 /// A struct, a union or an exception of some number.
-#[tactic(auto, unfolding(idl_model::specs::Spots::spots_in_declaration))]
+#[tactic(auto, unfolding(idl_include::specs::Spots::spots_in_declaration))]
 fn put_struct<'a>(
     alloc: Global,
     spots: &mut Vec<SpotIn<'a>>,
@@ -197,7 +197,7 @@ fn put_struct<'a>(
 }
 
 /// A service of some number.
-#[tactic(auto, unfolding(idl_model::specs::Spots::spots_in_declaration))]
+#[tactic(auto, unfolding(idl_include::specs::Spots::spots_in_declaration))]
 fn put_service<'a>(
     alloc: Global,
     spots: &mut Vec<SpotIn<'a>>,

@@ -2,9 +2,9 @@
 
 ghost use Rattle.std.specs.Prelude.{◌≡◌, IfOk, All};
 ghost use Rattle.std.specs.Option.{option_map, option_or};
-ghost use Rattle.idl_model.specs.Declarations.{ConstDecl, EnumDecl};
-ghost use Rattle.idl_model.specs.Names.{an_alias, an_enum, a_struct, sought, type_defined, type_named, service_for_name};
-ghost use Rattle.idl_model.specs.Numbering.{number_named, constants_of, enums_of};
+ghost use Rattle.idl_include.specs.Declarations.{ConstDecl, EnumDecl};
+ghost use Rattle.idl_include.specs.Names.{an_alias, an_enum, a_struct, sought, type_defined, type_named, service_for_name};
+ghost use Rattle.idl_include.specs.Numbering.{number_named, constants_of, enums_of};
 ghost use Rattle.idl_include.specs.SourcesOf.{program_in};
 ghost use Rattle.idl_names.specs.Bases.{HasOwnBase};
 ghost use Rattle.idl_names.specs.Listing.{listing_in, listing_of};
@@ -100,7 +100,7 @@ pub fn name_tables<'a>(
 
 impl<'a> NameTables<'a> {
     /// The file and the bare name that a name in a file stands for, if it is that of an included file or has no dot.
-    #[tactic(auto, unfolding(idl_model::specs::Names::sought))]
+    #[tactic(auto, unfolding(idl_include::specs::Names::sought))]
     pub fn sought<'n>(&self, file: u32, name: &'n [u8]) -> Option<(u32, &'n [u8])>
         ensures { sought_meant result ≡ sought (program_in self.now) file name.now }
     {
@@ -115,7 +115,7 @@ impl<'a> NameTables<'a> {
     }
 
     /// The type that a name in a file stands for.
-    #[tactic(auto, unfolding(idl_model::specs::Names::type_named))]
+    #[tactic(auto, unfolding(idl_include::specs::Names::type_named))]
     pub fn type_named(&self, file: u32, name: &[u8]) -> Option<TypeName>
         ensures { option_map type_meant result ≡ type_named (program_in self.now) file name.now }
     {
@@ -150,7 +150,7 @@ impl<'a> NameTables<'a> {
     }
 
     /// The service that a name in a file stands for.
-    #[tactic(auto, unfolding(idl_model::specs::Names::service_for_name))]
+    #[tactic(auto, unfolding(idl_include::specs::Names::service_for_name))]
     pub fn service_named(&self, file: u32, name: &[u8]) -> Option<u32>
         ensures { result ≡ service_for_name (program_in self.now) file name.now }
     {

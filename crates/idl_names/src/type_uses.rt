@@ -1,8 +1,8 @@
 //! The names of types.
 
 ghost use Rattle.std.specs.Prelude.{◌≡◌, ◌++◌, ◌∷◌, [], OnOk};
-ghost use Rattle.idl_model.specs.DeclaredIn.{type_in};
-ghost use Rattle.idl_model.specs.Spots.{type_spots, in_file};
+ghost use Rattle.idl_include.specs.DeclaredIn.{type_in};
+ghost use Rattle.idl_include.specs.Spots.{type_spots, in_file};
 ghost use Rattle.idl_names.specs.SpotsIn.{spots_in, shown_in};
 
 use crate::spot::{ShownIn, SpotIn};

@@ -2,8 +2,8 @@
 
 ghost use Rattle.std.specs.Prelude.{◌≡◌, ◌++◌, List, map, IfOk, OnOk};
 ghost use Rattle.std.specs.List.{cons_option, filter_map};
-ghost use Rattle.idl_model.specs.Numbering.{Filed};
-ghost use Rattle.idl_model.specs.Spots.{GivenValue, Spot, value_at};
+ghost use Rattle.idl_include.specs.Numbering.{Filed};
+ghost use Rattle.idl_include.specs.Spots.{GivenValue, Spot, value_at};
 ghost use Rattle.idl_names.specs.SpotsIn.{filed_value, shown_in, spots_in};
 
 use crate::spot::{GivenTree, ShownIn, SpotIn};

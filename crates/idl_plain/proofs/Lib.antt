@@ -4,3 +4,4 @@ pub mod PlainOutlines
 pub mod PlainGoing
 pub mod PlainVerdict
 pub mod PlainFaults
+pub mod Longest

@@ -1,3 +1,4 @@
 pub mod PlainPhrases
 pub mod PlainEnds
 pub mod PlainVerdicts
+pub mod Plain

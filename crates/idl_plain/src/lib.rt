@@ -1,10 +1,10 @@
-//! A recognizer of the interface language for small texts, which decides by trying every front: whether some symbols
+//! A lexer and a recognizer of the interface language for small texts, which try every front: what the tokens of a text are, whether some symbols
 //! are a document, and where their first fault stands.
 //!
-//! It computes the definitions of `idl_parser`'s grammar without the parser's ways, with neither trees nor look-ahead, so
-//! that a table of texts can hold `parse` against it. It is no parser for use: it makes no tree, and its time grows
-//! steeply with the text. `fault_of(alloc, levels, text, tokens)` takes what `idl_token::tokens` gave for the text, and how
-//! many levels of containers there may be.
+//! They compute the definitions of `idl_token`'s tokens and `idl_parser`'s grammar without their ways, with neither lengths of shapes, trees nor look-ahead, so
+//! that a table of texts can hold `tokens` and `parse` against them. Of `idl_token` they share the kinds of bytes, blanks, words' kinds, bounds of numbers and
+//! places. They are not for use: their time grows steeply with the text. `fault_of(alloc, levels, text, tokens)` takes what `idl_token::tokens` gave for the
+//! text, and how many levels of containers there may be.
 #![tactic(auto)]
 
 mod beginnings;
@@ -13,16 +13,20 @@ mod documents;
 mod endings;
 mod faults;
 mod fields;
+mod fronts;
+mod lexer;
 mod parts;
 mod phrase;
 mod services;
 mod types;
 mod values;
 mod verdicts;
+mod wholes;
 
 pub use beginnings::goes_on;
 pub use documents::document;
 pub use endings::ends;
 pub use faults::fault_of;
+pub use lexer::tokens;
 pub use phrase::PlainPhrase;
 pub use verdicts::{Recognition, first_fault};

@@ -11,7 +11,7 @@ fn expect_tokens(rt: &impl Abort, alloc: Global, text: &[u8], expected: &[(Token
     requires { length text.now ≤ MAX_TEXT }
 {
     are_tokens(rt, idl_token::tokens(alloc, text), expected);
-    are_tokens(rt, plain_lexer::tokens(alloc, text), expected);
+    are_tokens(rt, idl_plain::tokens(alloc, text), expected);
 }
 
 fn are_tokens(
@@ -35,7 +35,7 @@ fn expect_fault(rt: &impl Abort, alloc: Global, text: &[u8], kind: LexKind, plac
     requires { length text.now ≤ MAX_TEXT }
 {
     is_fault(rt, idl_token::tokens(alloc, text), kind, place);
-    is_fault(rt, plain_lexer::tokens(alloc, text), kind, place);
+    is_fault(rt, idl_plain::tokens(alloc, text), kind, place);
 }
 
 fn is_fault(

@@ -1,4 +1,4 @@
-//! Texts with their tokens, at the crate's own calls. The table of texts stands in `plain_lexer`, and runs through both lexers.
+//! Texts with their tokens, at the crate's own calls. The table of texts stands in `idl_plain`, and runs through both lexers.
 
 use idl_token::{
     LexFault, LexKind, MAX_TEXT, Place, TokenKind, int_value, keyword_of, keyword_text, place_at,

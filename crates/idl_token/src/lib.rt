@@ -19,7 +19,7 @@
 //!
 //! The laws say that a text has one list of tokens or one first fault, and which tokens a text has that
 //! was put together of tokens and white space. What is public besides the above, kinds of bytes, words and
-//! numbers and what stands in front of a text, is for the plain lexer of `plain_lexer`.
+//! numbers and what stands in front of a text, is for the plain lexer of `idl_plain`.
 #![tactic(auto)]
 
 ghost use Rattle.std.specs.Prelude.{◌≡◌, ◌≢◌, ◌≤◌, ◌↔◌, ◌⊎◌, ℕ, false, FitsSigned, List, length, IfOk, IfErr};

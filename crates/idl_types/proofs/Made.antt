@@ -5,10 +5,10 @@ use Rattle.std.specs.List.{list_all}
 use Rattle.std.proofs.lemmas.Bool.Decides.{eqb_tells}
 use Rattle.std.proofs.lemmas.List.{length-map}
 use Rattle.idl_parser.specs.declared.tree.Typedef.{Typedef}
-use Rattle.idl_model.specs.Declarations.{TypedefDecl}
-use Rattle.idl_model.specs.DeclaredIn.{type_in}
-use Rattle.idl_model.specs.Program.{Program}
-use Rattle.idl_model.specs.Numbering.{Filed, typedefs_of}
+use Rattle.idl_include.specs.Declarations.{TypedefDecl}
+use Rattle.idl_include.specs.DeclaredIn.{type_in}
+use Rattle.idl_include.specs.Program.{Program}
+use Rattle.idl_include.specs.Numbering.{Filed, typedefs_of}
 use Rattle.idl_names.specs.declared.filed.InFile.{InFile}
 use Rattle.idl_names.specs.FiledIn.{filed_by, filed_typedefs, typedef_declared}
 use Rattle.schema.specs.declared.types.TypeDesc.{TypeDesc}

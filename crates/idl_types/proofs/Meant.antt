@@ -1,11 +1,11 @@
 -- What is made where typedefs mean what is known of them is what the type means.
 use Rattle.std.proofs.Common.{◌≡◌, ◌+◌, ◌≤◌, ℕ, zero, suc, Option, None, Some, List, slice_get, Result, Ok, Err, IfOk, refl, ap, ◌∙◌, arith}
 use Rattle.std.specs.Option.{option_and_then, option_map}
-use Rattle.idl_model.specs.TypeExpr.{TypeExpr, base_expr, name_expr, map_expr, set_expr, list_expr}
-use Rattle.idl_model.specs.Declarations.{TypedefDecl}
-use Rattle.idl_model.specs.Program.{Program}
-use Rattle.idl_model.specs.Numbering.{Filed, typedefs_of}
-use Rattle.idl_model.specs.Names.{NamedType, an_alias, an_enum, a_struct, type_named}
+use Rattle.idl_include.specs.TypeExpr.{TypeExpr, base_expr, name_expr, map_expr, set_expr, list_expr}
+use Rattle.idl_include.specs.Declarations.{TypedefDecl}
+use Rattle.idl_include.specs.Program.{Program}
+use Rattle.idl_include.specs.Numbering.{Filed, typedefs_of}
+use Rattle.idl_include.specs.Names.{NamedType, an_alias, an_enum, a_struct, type_named}
 use Rattle.schema.specs.declared.types.TypeDesc.{TypeDesc}
 use Rattle.schema.specs.PlainKind.{PlainKind, kind_of, kind_map, kind_set, kind_list}
 use Rattle.check_model.specs.Resolved.{named_kind, map_kind, kind_by, alias_kind, TypeMeans}

@@ -4,10 +4,10 @@ use Rattle.std.specs.Prelude.{IsTrue}
 use Rattle.std.specs.Option.{option_map_or}
 use Rattle.idl_parser.specs.declared.tree.StructKind.{StructKind}
 use Rattle.idl_parser.specs.declared.tree.StructKind.TheVariants as word
-use Rattle.idl_model.specs.TypeExpr.{TypeExpr}
-use Rattle.idl_model.specs.Declarations.{StructDecl}
-use Rattle.idl_model.specs.Program.{Program}
-use Rattle.idl_model.specs.Numbering.{Filed, structs_of}
+use Rattle.idl_include.specs.TypeExpr.{TypeExpr}
+use Rattle.idl_include.specs.Declarations.{StructDecl}
+use Rattle.idl_include.specs.Program.{Program}
+use Rattle.idl_include.specs.Numbering.{Filed, structs_of}
 use Rattle.schema.specs.PlainKind.{PlainKind, kind_bool, kind_i8, kind_i16, kind_i32, kind_i64, kind_double, kind_text, kind_binary, kind_enum, kind_struct, kind_map, kind_set, kind_list}
 use Rattle.check_model.specs.Resolved.{TypeMeans}
 use Rattle.check_model.specs.Passes.{MeansException}

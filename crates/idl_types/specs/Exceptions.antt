@@ -3,8 +3,8 @@ use Rattle.std.specs.Prelude.{ℕ, Bool, true, false, List, slice_get}
 use Rattle.std.specs.Option.{option_map_or}
 use Rattle.idl_parser.specs.declared.tree.StructKind.{StructKind}
 use Rattle.idl_parser.specs.declared.tree.StructKind.TheVariants as kind
-use Rattle.idl_model.specs.Declarations.{StructDecl}
-use Rattle.idl_model.specs.Numbering.{Filed}
+use Rattle.idl_include.specs.Declarations.{StructDecl}
+use Rattle.idl_include.specs.Numbering.{Filed}
 use Rattle.schema.specs.PlainKind.{PlainKind, kind_struct}
 
 -- the word makes an exception

@@ -3,7 +3,7 @@ use Rattle.std.specs.Prelude.{◌≡◌, ℕ, List, slice_get, Option, Some}
 use Rattle.std.specs.Option.{option_and_then, option_map}
 use Rattle.schema.specs.declared.types.TypeDesc.{TypeDesc}
 use Rattle.schema.specs.PlainKind.{PlainKind, kind_of}
-use Rattle.idl_model.specs.Program.{Program}
+use Rattle.idl_include.specs.Program.{Program}
 use Rattle.check_model.specs.Resolved.{alias_kind}
 
 -- what the typedef of some number means, if its type is made

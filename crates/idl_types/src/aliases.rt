@@ -3,7 +3,7 @@
 ghost use Rattle.std.specs.Prelude.{◌≡◌, ◌<◌, ℕ, None, Some, Option, length, slice_set, is_some, IsSome, IfOk, OnOk};
 ghost use Rattle.std.specs.List.{list_all};
 ghost use Rattle.schema.specs.declared.types.TypeDesc.{TypeDesc};
-ghost use Rattle.idl_model.specs.Numbering.{typedefs_of};
+ghost use Rattle.idl_include.specs.Numbering.{typedefs_of};
 ghost use Rattle.idl_include.specs.SourcesOf.{program_in};
 ghost use Rattle.idl_names.specs.FiledIn.{filed_typedefs};
 ghost use Rattle.idl_types.specs.Known.{known_kind, AreAliasTypes};

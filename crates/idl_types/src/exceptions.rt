@@ -1,8 +1,8 @@
 //! Types that mean exceptions.
 
 ghost use Rattle.std.specs.Prelude.{◌≡◌, ◌↔◌, IsTrue, IfOk};
-ghost use Rattle.idl_model.specs.DeclaredIn.{type_in};
-ghost use Rattle.idl_model.specs.Numbering.{structs_of};
+ghost use Rattle.idl_include.specs.DeclaredIn.{type_in};
+ghost use Rattle.idl_include.specs.Numbering.{structs_of};
 ghost use Rattle.idl_include.specs.SourcesOf.{program_in};
 ghost use Rattle.idl_names.specs.FiledIn.{filed_structs};
 ghost use Rattle.schema.specs.PlainKind.{kind_of};

@@ -2,8 +2,8 @@
 
 ghost use Rattle.std.specs.Prelude.{◌≡◌, Some, IfOk};
 ghost use Rattle.std.specs.Option.{option_and_then};
-ghost use Rattle.idl_model.specs.DeclaredIn.{type_in};
-ghost use Rattle.idl_model.specs.Names.{type_named};
+ghost use Rattle.idl_include.specs.DeclaredIn.{type_in};
+ghost use Rattle.idl_include.specs.Names.{type_named};
 ghost use Rattle.idl_include.specs.SourcesOf.{program_in};
 ghost use Rattle.schema.specs.PlainKind.{kind_of};
 ghost use Rattle.check_model.specs.Resolved.{base_kind, named_kind, kind_by, TypeMeans};

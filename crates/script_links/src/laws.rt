@@ -1,38 +1,18 @@
-//! Laws of scripts, each the contract of a function that does nothing.
+//! A law of links over a script, the contract of a function that does nothing.
 
-ghost use Rattle.std.specs.Prelude.{◌≡◌, ℕ, ◌≤◌, Bool, true, List, length, Ok};
-ghost use Rattle.rehearsal_model.specs.ScriptLines.{ScriptPlan};
-ghost use Rattle.rehearsal_model.specs.InputEnds.{EndsBehindPieces};
-ghost use Rattle.rehearsal_model.specs.Ending.{LetsAllEnd};
-ghost use Rattle.script_links.specs.TextLines.{most_script_bytes};
-ghost use Rattle.script_links.specs.Reading.{script_of_text};
-ghost use Rattle.script_links.specs.Printing.{print_of};
-ghost use Rattle.script_links.specs.Sound.{IsKeptScript, IsSoundPlan, MovesItsWorkers, most_workers};
+ghost use Rattle.std.specs.Prelude.{ℕ, List};
+ghost use Rattle.outside.specs.declared.marks.Mark.{Mark};
+ghost use Rattle.outside.specs.declared.answers.RestPlace.{RestPlace};
+ghost use Rattle.host_model.specs.Journal.{JournalEntry};
+ghost use Rattle.host_model.specs.DeskRules.{DeskRules};
+ghost use Rattle.script_model.specs.ScriptLines.{ScriptPlan};
+ghost use Rattle.script_model.specs.Fed.{IsFedBy};
+ghost use Rattle.script_links.specs.Followed.{FollowsScript};
+ghost use Rattle.script_links.specs.Serves.{ServesLinks};
 
-/// A script that was read is read from its print as itself, with the same workers, and with lines of a schedule or without as before, where the print isn't
-/// too long; and so is each script, for 8 workers and with such lines.
-pub fn a_script_is_read_back()
-    ensures read { (workers : ℕ) (schedule : Bool) (text : List ℕ) (script : ScriptPlan) → script_of_text workers schedule text ≡ Ok script →
-        length (print_of script) ≤ most_script_bytes → script_of_text workers schedule (print_of script) ≡ Ok script }
-    ensures kept { (script : ScriptPlan) → IsKeptScript script → length (print_of script) ≤ most_script_bytes → script_of_text most_workers true (print_of script) ≡ Ok script }
-    ensures sound { (workers : ℕ) (schedule : Bool) (text : List ℕ) (script : ScriptPlan) → workers ≤ most_workers → script_of_text workers schedule text ≡ Ok script → IsKeptScript script }
-{}
-
-/// What every script is sound by; and one that was read for so many workers moves only workers that there are among them.
-pub fn scripts_are_sound()
-    ensures sound { (script : ScriptPlan) → IsKeptScript script → IsSoundPlan script }
-    ensures workers { (workers : ℕ) (schedule : Bool) (text : List ℕ) (script : ScriptPlan) → script_of_text workers schedule text ≡ Ok script → MovesItsWorkers workers script }
-{}
-
-/// What the laws of rehearsals ask of a script, each script gives that was read, whatever the number of workers: it lets each of its connections end (`ends`),
-/// and no piece stands behind the line that ends its input or lets it fail (`pieces`).
-pub fn read_scripts_let_all_end()
-    ensures ends { (workers : ℕ) (schedule : Bool) (text : List ℕ) (script : ScriptPlan) → script_of_text workers schedule text ≡ Ok script → LetsAllEnd workers script }
-    ensures pieces { (workers : ℕ) (schedule : Bool) (text : List ℕ) (script : ScriptPlan) → script_of_text workers schedule text ≡ Ok script → EndsBehindPieces script.lines }
-{}
-
-/// The same of what a `Script` holds, for 8 workers.
-pub fn kept_scripts_let_all_end()
-    ensures ends { (script : ScriptPlan) → IsKeptScript script → LetsAllEnd most_workers script }
-    ensures pieces { (script : ScriptPlan) → IsKeptScript script → EndsBehindPieces script.lines }
+/// Links that have followed their script to its end, and a loop that serves them, make a run that the script feeds.
+#[tactic(auto, using(crate::proofs::FedByLinks::fed))]
+pub fn served_links_are_fed<C, A>()
+    ensures { (d : DeskRules C A) (budget : ℕ) (script : ScriptPlan) (tape : List Mark) (places : List RestPlace) (lengths : List ℕ) (journal : List (JournalEntry C A)) →
+        FollowsScript script tape places lengths → ServesLinks d budget tape places lengths journal → IsFedBy d budget script tape journal }
 {}

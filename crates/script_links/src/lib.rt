@@ -1,28 +1,34 @@
-//! Scripts of many connections: the text of a script read to its lines and rules, or to its first fault, and printed again.
-//! It runs no script; what a script makes of a run is said in `rehearsal_model`.
-//!
-//! A script that was read is sound: its print is read as itself, so no line of it has a fault; and it lets each of its
-//! connections end, with as many workers as it was read for (`laws`).
+//! Links over a script: its lines give connections, pieces, ends and rests in their order, each connection's rules govern the
+//! writes on it, and everything is told. And a binder in memory, whose links listen over a script, as far as so many connections are accepted. It knows no frame,
+//! and opens no socket.
 //!
 //! ```rust
-//! let script = read_script(alloc, b"open\ndata 0 00000001\nwrite 0 5\nend 0\n", 0, true)?;
-//! for line in script.lines().as_slice() { .. }
-//! let text = print_script(alloc, &script)?;     // open, write 0 5, data 0 00000001, end 0
+//! let mut links = ScriptLinks::new(alloc, read_script(alloc, b"open\ndata 0 00000001\nend 0\n", 0, false)?)?;
+//! let first = links.next(&rt, Ask { idle: true, room: true, held: false })?;      // Opened(0)
+//!
+//! let mut binder = MemBinder::new(script, fails);
+//! let mut links = binder.listen(alloc, 9090, 2)?;
+//! binder.take_back(links);
 //! ```
 #![tactic(auto)]
 
-mod digits;
-mod draft;
-mod fault;
+mod binder;
+mod bound;
+mod building;
+mod connections;
+mod copy;
 pub mod laws;
-mod lines;
-mod print;
-mod read;
-mod script;
-mod words;
+mod link;
+mod mark_log;
+mod over_script;
+mod past;
+mod serving;
+mod step;
+mod transfers;
 
-pub use fault::{ScriptFault, ScriptKind};
-pub use lines::{RuleList, RuleLists, ScriptLine, ScriptLines, WriteRule};
-pub use print::print_script;
-pub use read::read_script;
-pub use script::Script;
+pub use binder::MemBinder;
+pub use bound::BoundLinks;
+pub use over_script::{ScriptBell, ScriptLinks};
+pub use script_text::{
+    RuleList, RuleLists, Script, ScriptFault, ScriptKind, ScriptLine, ScriptLines, WriteRule, print_script, read_script,
+};

@@ -2,3 +2,13 @@ pub mod Arrival
 pub mod Feeding
 pub mod Sending
 pub mod Rehearsal
+pub mod ScriptLines
+pub mod InputEnds
+pub mod Writing
+pub mod RestLines
+pub mod Fed
+pub mod Playing
+pub mod Rehearsing
+pub mod Showing
+pub mod Rows
+pub mod Ending

@@ -1,1 +1,7 @@
-mod Serving
+mod AtEquals
+mod PairWords
+mod SameKinds
+mod Taking
+mod Progressing
+mod Served
+mod Determined

@@ -1,16 +1,40 @@
-//! The bindings of an office, by pairs of a name and a kind.
+//! Services of a schema, bound to handlers by words `NAME=KIND`.
 //!
 //! ```
 //! // Calculator=calculator shared.SharedService=mirror
-//! let (bindings, handlers) = bind(alloc, &schema, &pairs, handlers)?;
-//! let office = Office::new(schema, bindings, Protocol::Binary, 16_384_000);   // all that it asks for is known
+//! let pair = pair_of_word(alloc, "shared.SharedService=mirror")?;     // Some((shared.SharedService, Mirror)), or no such word
+//! match bind_pairs(alloc, &schema, &pairs, handlers) {
+//!     Ok((names, handlers)) => ..                                     // in the order of the pairs
+//!     Err(BindFault::Refused(place, kind)) => put_refused_pair(&mut line, &pairs, place, kind)?,
+//!     ..
+//! }
 //! ```
 //!
-//! The handlers come back in the order of the pairs, and their places are the slots of the office. What is bound and what is refused
-//! is defined in `pair_binding`.
+//! A word is cut at its first `=` (`specs/Equals.antt`), and both parts are there (`specs/Pairs.antt`). Each pair takes the first
+//! handler of its kind that no pair before it has taken. The first pair that can't be bound is told with the reason. What is bound
+//! and what is refused is defined in `specs/Binding.antt`, and which refusal is the first in `specs/FirstRefusal.antt`; that
+//! neither is two, and that it isn't both, are laws.
+//!
+//! Not here: what is made of what is bound, which `thrift_host::bind` says.
 #![tactic(auto)]
 
 mod binding;
+pub mod examples;
+mod fault;
+mod handlers;
+mod kinds;
+mod laws;
+mod pairs;
+mod refusals;
+mod services;
+mod word;
+mod word_laws;
 
-pub use binding::bind;
-pub use pair_binding::{BindFault, BindKind};
+pub use binding::{BoundPairs, bind_pairs};
+pub use fault::{BindFault, BindKind};
+pub use kinds::kind_word;
+pub use laws::{bindings_are_determined, refusals_are_determined, what_is_bound_is_not_refused};
+pub use pairs::{BindWords, at_equals, pair_of_word};
+pub use refusals::put_refused_pair;
+pub use word::Word;
+pub use word_laws::a_pair_has_its_word;

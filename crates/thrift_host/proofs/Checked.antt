@@ -1,7 +1,7 @@
 -- What a check never ends with.
 use Rattle.std.proofs.Common.{◌≡◌, ℕ, List, Option, subst}
 use Rattle.outside.specs.Files.{File}
-use Rattle.recorded_calls.specs.Recorded.{Streams}
+use Rattle.recorded_runs.specs.Recorded.{Streams}
 use Rattle.thrift_host.specs.declared.status.Status.{Status}
 use Rattle.thrift_host.specs.declared.status.Status.TheVariants.{NetFault, JournalFault}
 use Rattle.thrift_host.specs.Checks.{MeansCheck}

@@ -5,3 +5,4 @@ pub mod Told
 pub mod Served
 pub mod Worked
 pub mod Checked
+mod BoundServices

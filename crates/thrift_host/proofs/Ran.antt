@@ -1,16 +1,16 @@
 -- What a status says of a run.
 use Rattle.std.proofs.Common.{◌≡◌, Result, Ok, Err, MatchResult, sym, subst, inl, inr}
 use Rattle.std.specs.Prelude.{⊤}
-use Rattle.idl_schema.specs.declared.refusal.NoSchema.{NoSchema}
-use Rattle.idl_schema.specs.declared.refusal.NoSchema.TheVariants as reasons
-use Rattle.idl_schema.specs.Verdicts.{IsIdlVerdict, IsUnreadIdl}
-use Rattle.idl_schema.specs.Telling.{TellsWhy}
-use Rattle.pair_binding.specs.declared.fault.BindFault.{BindFault}
-use Rattle.pair_binding.specs.declared.fault.BindFault.TheVariants as bind_faults
-use Rattle.pair_binding.specs.FirstRefusal.{IsFirstRefusal, OnRefusal}
-use Rattle.recorded_calls.specs.declared.fault.ServingFault.{ServingFault}
-use Rattle.recorded_calls.specs.declared.fault.ServingFault.TheVariants as serving_faults
-use Rattle.recorded_calls.specs.Recorded.{Streams, MeansRecordedFault}
+use Rattle.idl_check.specs.declared.refusal.NoSchema.{NoSchema}
+use Rattle.idl_check.specs.declared.refusal.NoSchema.TheVariants as reasons
+use Rattle.idl_check.specs.Verdicts.{IsIdlVerdict, IsUnreadIdl}
+use Rattle.idl_check.specs.Telling.{TellsWhy}
+use Rattle.service_binding.specs.declared.fault.BindFault.{BindFault}
+use Rattle.service_binding.specs.declared.fault.BindFault.TheVariants as bind_faults
+use Rattle.service_binding.specs.FirstRefusal.{IsFirstRefusal, OnRefusal}
+use Rattle.recorded_runs.specs.declared.fault.ServingFault.{ServingFault}
+use Rattle.recorded_runs.specs.declared.fault.ServingFault.TheVariants as serving_faults
+use Rattle.recorded_runs.specs.Recorded.{Streams, MeansRecordedFault}
 use Rattle.thrift_host.specs.declared.status.Status.{Status}
 use Rattle.thrift_host.specs.declared.status.Status.TheVariants.{Done, Usage, IdlRefused, ScriptRefused, BindRefused, FileFault, ReadFault, WriteFault, NetFault, JournalFault, NoMemory}
 use Rattle.thrift_host.specs.declared.arranging.RunFault.{RunFault}

@@ -15,11 +15,11 @@ use Rattle.thrift_host.specs.Steps.{EndsAs, EndsWithout, EndsUnbound, EndsAfterS
 use Rattle.call_rules.specs.Handling.{ServiceState}
 use Rattle.command_line.specs.Served.{PlainServed}
 use Rattle.command_line.specs.Words.{PlainCommand, serves}
-use Rattle.idl_schema.specs.declared.refusal.NoSchema.{NoSchema}
-use Rattle.idl_schema.specs.declared.refusal.NoSchema.TheVariants as reasons
-use Rattle.bind_words.specs.Pairs.{NamedKind}
-use Rattle.pair_binding.specs.declared.fault.BindFault.{BindFault}
-use Rattle.pair_binding.specs.declared.fault.BindFault.TheVariants as bind_faults
+use Rattle.idl_check.specs.declared.refusal.NoSchema.{NoSchema}
+use Rattle.idl_check.specs.declared.refusal.NoSchema.TheVariants as reasons
+use Rattle.service_binding.specs.Pairs.{NamedKind}
+use Rattle.service_binding.specs.declared.fault.BindFault.{BindFault}
+use Rattle.service_binding.specs.declared.fault.BindFault.TheVariants as bind_faults
 use Rattle.thrift_host.specs.Top.{Means, asked_run, asked_place}
 use Rattle.thrift_host.proofs.Ran.{without_schema_means, unbound_means, without_schema_said, unbound_said}
 

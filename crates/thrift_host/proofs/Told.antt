@@ -4,7 +4,7 @@ use Rattle.outside.specs.Files.{File}
 use Rattle.port_serving.specs.Places.{PlaceChange}
 use Rattle.call_rules.specs.Handling.{ServiceState}
 use Rattle.call_model.specs.Offices.{PlainOffice}
-use Rattle.recorded_calls.specs.Answered.{Answering}
+use Rattle.recorded_runs.specs.Answered.{Answering}
 use Rattle.host_loop.specs.Served.{ServerSetting}
 use Rattle.thrift_host.specs.Runs.{AskedRun, IsAnsweredBy, answering_at, arranged_office}
 use Rattle.port_serving.specs.Answered.{HasServedAll, MeansPortFault}

@@ -3,7 +3,7 @@ use Rattle.std.proofs.Common.{◌≡◌, ℕ, ◌≤◌, Bool, true, false, List
 use Rattle.std.specs.Prelude.{⊤}
 use Rattle.std.specs.List.{filter, AllByRecursion}
 use Rattle.outside.specs.Files.{File}
-use Rattle.idl_schema.specs.declared.refusal.NoSchema.{NoSchema}
+use Rattle.idl_check.specs.declared.refusal.NoSchema.{NoSchema}
 use Rattle.call_rules.specs.declared.kind.Kind.{Kind}
 use Rattle.call_rules.specs.declared.kind.Kind.TheVariants.{Calculator, Store, Mirror}
 use Rattle.call_rules.specs.Handling.{ServiceState}
@@ -13,19 +13,19 @@ use Rattle.command_line.specs.Served.{PlainServed}
 use Rattle.schema.specs.LookUp.{service_named}
 use Rattle.schema.specs.PlainSchema.{PlainSchema}
 use Rattle.struct_skew.specs.WrittenTests.{some_passes}
-use Rattle.pair_binding.specs.declared.fault.BindKind.{BindKind}
-use Rattle.pair_binding.specs.Binding.{NumberedName, AreBound}
-use Rattle.pair_binding.specs.Handlers.{same_kind, is_of_kind, is_handed_in, first_left}
-use Rattle.pair_binding.specs.Services.{new_number}
-use Rattle.recorded_calls.specs.declared.fault.ServingFault.{ServingFault}
-use Rattle.recorded_calls.specs.declared.fault.ServingFault.TheVariants as serving_faults
-use Rattle.recorded_calls.specs.Recorded.{Streams}
+use Rattle.service_binding.specs.declared.fault.BindKind.{BindKind}
+use Rattle.service_binding.specs.Binding.{NumberedName, AreBound}
+use Rattle.service_binding.specs.Handlers.{same_kind, is_of_kind, is_handed_in, first_left}
+use Rattle.service_binding.specs.Services.{new_number}
+use Rattle.recorded_runs.specs.declared.fault.ServingFault.{ServingFault}
+use Rattle.recorded_runs.specs.declared.fault.ServingFault.TheVariants as serving_faults
+use Rattle.recorded_runs.specs.Recorded.{Streams}
 use Rattle.workload.specs.ExpectedRun.{work_text}
-use Rattle.workload_law.specs.Calculators.{BindsCalculator, IsCalculatorsOffice}
-use Rattle.workload_law.specs.CalculatorTests.{is_calculator}
-use Rattle.workload_law.specs.Summed.{HasCalculator}
-use Rattle.workload_law.proofs.Tested.{is_one}
-use Rattle.workload_serving.specs.Summaries.{EndsSummary}
+use Rattle.workload.specs.Calculators.{BindsCalculator, IsCalculatorsOffice}
+use Rattle.workload.specs.CalculatorTests.{is_calculator}
+use Rattle.workload.specs.Summed.{HasCalculator}
+use Rattle.workload.proofs.Tested.{is_one}
+use Rattle.recorded_runs.specs.Summaries.{EndsSummary}
 use Rattle.thrift_host.specs.declared.status.Status.{Status}
 use Rattle.thrift_host.specs.declared.status.Status.TheVariants.{Done, Usage, IdlRefused, ScriptRefused, BindRefused, FileFault, ReadFault, WriteFault, NetFault, JournalFault, NoMemory}
 use Rattle.thrift_host.specs.declared.arranging.RunFault.{RunFault}

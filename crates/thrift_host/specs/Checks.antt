@@ -4,14 +4,14 @@ use Rattle.outside.specs.Content.{told_more}
 use Rattle.outside.specs.Taken.{IsTakenInPart}
 use Rattle.outside.specs.Files.{File}
 use Rattle.idl_token.specs.declared.Place.{Place}
-use Rattle.recorded_calls.specs.Recorded.{Streams}
+use Rattle.recorded_runs.specs.Recorded.{Streams}
 use Rattle.thrift_host.specs.declared.status.Status.{Status}
 use Rattle.thrift_host.specs.declared.status.Status.TheVariants.{Done, IdlRefused, FileFault, WriteFault, NoMemory}
 use Rattle.schema.specs.PlainSchema.{PlainSchema}
 use Rattle.schema.specs.SchemaText.{schema_text}
-use Rattle.idl_schema.specs.declared.kinds.IdlFaultKind.{IdlFaultKind}
-use Rattle.idl_schema.specs.Lines.{idl_refusal_text}
-use Rattle.idl_schema.specs.Verdicts.{accepted, refused, IsIdlVerdict, IsUnreadIdl}
+use Rattle.idl_check.specs.declared.kinds.IdlFaultKind.{IdlFaultKind}
+use Rattle.idl_check.specs.Lines.{idl_refusal_text}
+use Rattle.idl_check.specs.Verdicts.{accepted, refused, IsIdlVerdict, IsUnreadIdl}
 use Rattle.thrift_host.specs.Errors.{Errors, IsSaid, IsLineSaid}
 
 -- nothing was read, and nothing written

@@ -5,3 +5,4 @@ pub mod Serving
 pub mod Workloads
 pub mod Top
 pub mod Steps
+pub mod MayBeServed

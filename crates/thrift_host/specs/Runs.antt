@@ -7,18 +7,18 @@ use Rattle.call_model.specs.Desk.{desk_of}
 use Rattle.journal_text.specs.EntryText.{entry_text}
 use Rattle.schema.specs.PlainSchema.{PlainSchema}
 use Rattle.schema.specs.Sound.{IsSound}
-use Rattle.pair_binding.specs.declared.fault.BindKind.{BindKind}
-use Rattle.pair_binding.specs.Binding.{AreBound}
-use Rattle.pair_binding.specs.FirstRefusal.{IsFirstRefusal}
-use Rattle.pair_binding.specs.Refusals.{refused_pair_text}
+use Rattle.service_binding.specs.declared.fault.BindKind.{BindKind}
+use Rattle.service_binding.specs.Binding.{AreBound}
+use Rattle.service_binding.specs.FirstRefusal.{IsFirstRefusal}
+use Rattle.service_binding.specs.Refusals.{refused_pair_text}
 use Rattle.command_line.specs.Served.{PlainServed}
-use Rattle.script_links.specs.declared.fault.ScriptFault.{ScriptFault}
-use Rattle.recorded_calls.specs.Recorded.{Streams, ScriptReading, ScriptRuns, IsUnwritten, IsRefusedInput, IsReportWritten, IsReportBegun}
-use Rattle.recorded_calls.specs.Answered.{Answering, IsRunOfScript, script_for}
-use Rattle.recorded_serving.specs.ServedScripts.{IsServedScript, script_to_serve}
-use Rattle.recorded_calls.specs.Refusals.{refused_script_text}
-use Rattle.idl_schema.specs.Lines.{idl_refusal_text}
-use Rattle.idl_schema.specs.Verdicts.{accepted, IsIdlVerdict, IsUnreadIdl}
+use Rattle.script_text.specs.declared.fault.ScriptFault.{ScriptFault}
+use Rattle.recorded_runs.specs.Recorded.{Streams, ScriptReading, ScriptRuns, IsUnwritten, IsRefusedInput, IsReportWritten, IsReportBegun}
+use Rattle.recorded_runs.specs.Answered.{Answering, IsRunOfScript, script_for}
+use Rattle.recorded_runs.specs.ServedScripts.{IsServedScript, script_to_serve}
+use Rattle.recorded_runs.specs.Refusals.{refused_script_text}
+use Rattle.idl_check.specs.Lines.{idl_refusal_text}
+use Rattle.idl_check.specs.Verdicts.{accepted, IsIdlVerdict, IsUnreadIdl}
 use Rattle.thrift_host.specs.declared.status.Status.{Status}
 use Rattle.thrift_host.specs.declared.status.Status.TheVariants.{Done, IdlRefused, ScriptRefused, BindRefused, FileFault, ReadFault, WriteFault, NoMemory}
 use Rattle.thrift_host.specs.Errors.{Errors, IsSaid, IsLineSaid}

@@ -5,7 +5,7 @@ use Rattle.outside.specs.Files.{File}
 use Rattle.call_rules.specs.Handling.{ServiceState}
 use Rattle.call_model.specs.Offices.{PlainOffice}
 use Rattle.call_model.specs.Desk.{desk_of}
-use Rattle.recorded_calls.specs.Recorded.{Streams}
+use Rattle.recorded_runs.specs.Recorded.{Streams}
 use Rattle.host_loop.specs.Served.{ServerSetting}
 use Rattle.port_serving.specs.Places.{PortPlace, PlaceChange}
 use Rattle.port_serving.specs.Answered.{OutputChange, HasServedAll, MeansPortFault}

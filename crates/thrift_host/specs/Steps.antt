@@ -2,24 +2,24 @@
 use Rattle.std.specs.Prelude.{◌≡◌, ⊤, ℕ, ◌⊎◌, Bool, true, false, List, Option, Result, Ok, Err, MatchResult}
 use Rattle.outside.specs.Content.{told_more}
 use Rattle.outside.specs.Taken.{IsTakenInPart}
-use Rattle.idl_schema.specs.declared.refusal.NoSchema.{NoSchema}
-use Rattle.idl_schema.specs.declared.refusal.NoSchema.TheVariants as reasons
-use Rattle.idl_schema.specs.Lines.{idl_refusal_text}
-use Rattle.idl_schema.specs.Verdicts.{IsIdlVerdict, IsUnreadIdl}
-use Rattle.idl_schema.specs.Telling.{TellsWhy, is_file_fault}
-use Rattle.bind_words.specs.Pairs.{NamedKind}
-use Rattle.pair_binding.specs.declared.fault.BindFault.{BindFault}
-use Rattle.pair_binding.specs.declared.fault.BindFault.TheVariants as bind_faults
-use Rattle.pair_binding.specs.FirstRefusal.{IsFirstRefusal, OnRefusal}
-use Rattle.pair_binding.specs.Refusals.{refused_pair_text}
+use Rattle.idl_check.specs.declared.refusal.NoSchema.{NoSchema}
+use Rattle.idl_check.specs.declared.refusal.NoSchema.TheVariants as reasons
+use Rattle.idl_check.specs.Lines.{idl_refusal_text}
+use Rattle.idl_check.specs.Verdicts.{IsIdlVerdict, IsUnreadIdl}
+use Rattle.idl_check.specs.Telling.{TellsWhy, is_file_fault}
+use Rattle.service_binding.specs.Pairs.{NamedKind}
+use Rattle.service_binding.specs.declared.fault.BindFault.{BindFault}
+use Rattle.service_binding.specs.declared.fault.BindFault.TheVariants as bind_faults
+use Rattle.service_binding.specs.FirstRefusal.{IsFirstRefusal, OnRefusal}
+use Rattle.service_binding.specs.Refusals.{refused_pair_text}
 use Rattle.call_rules.specs.Handling.{ServiceState}
 use Rattle.call_model.specs.Offices.{PlainOffice}
-use Rattle.recorded_calls.specs.Recorded.{Streams, MeansRecordedFault}
-use Rattle.recorded_calls.specs.Refusals.{refused_script_text}
-use Rattle.recorded_calls.specs.declared.fault.ServingFault.{ServingFault}
-use Rattle.recorded_calls.specs.declared.fault.ServingFault.TheVariants as serving_faults
+use Rattle.recorded_runs.specs.Recorded.{Streams, MeansRecordedFault}
+use Rattle.recorded_runs.specs.Refusals.{refused_script_text}
+use Rattle.recorded_runs.specs.declared.fault.ServingFault.{ServingFault}
+use Rattle.recorded_runs.specs.declared.fault.ServingFault.TheVariants as serving_faults
 use Rattle.workload.specs.ExpectedRun.{work_text}
-use Rattle.workload_serving.specs.Summaries.{EndsSummary}
+use Rattle.recorded_runs.specs.Summaries.{EndsSummary}
 use Rattle.port_serving.specs.declared.fault.PortFault.{PortFault}
 use Rattle.port_serving.specs.declared.fault.PortFault.TheVariants as port_faults
 use Rattle.thrift_host.specs.declared.status.Status.{Status}

@@ -12,7 +12,7 @@ use Rattle.thrift_host.specs.Checks.{AreUntouched, MeansCheck, SaysCheck}
 use Rattle.thrift_host.specs.Runs.{AskedRun, SaysUnarranged, MeansRun, SaysRun, rehearsing, recording}
 use Rattle.thrift_host.specs.Serving.{HostChange, IsPlaceKept, MeansServing}
 use Rattle.thrift_host.specs.Workloads.{asked_workload, MeansWorkload}
-use Rattle.recorded_calls.specs.Recorded.{Streams}
+use Rattle.recorded_runs.specs.Recorded.{Streams}
 
 -- a run that is asked for by these words, with these files and handlers
 abbrev pub asked_run : PlainServed → Option (List File) → List ServiceState → AskedRun

@@ -5,15 +5,15 @@ use Rattle.outside.specs.Files.{File}
 use Rattle.outside.specs.Taken.{IsTakenInPart}
 use Rattle.call_rules.specs.declared.kind.Kind.TheVariants.{Calculator}
 use Rattle.call_rules.specs.Handling.{ServiceState}
-use Rattle.bind_words.specs.Pairs.{NamedKind}
+use Rattle.service_binding.specs.Pairs.{NamedKind}
 use Rattle.envelope.specs.declared.head.Protocol.TheVariants.{Binary}
 use Rattle.command_line.specs.Served.{PlainServed}
 use Rattle.schema.specs.LookUp.{service_named}
 use Rattle.schema.specs.PlainSchema.{PlainSchema}
 use Rattle.struct_skew.specs.WrittenTests.{some_passes}
-use Rattle.recorded_calls.specs.Recorded.{Streams}
+use Rattle.recorded_runs.specs.Recorded.{Streams}
 use Rattle.workload.specs.ExpectedRun.{work_text}
-use Rattle.workload_law.specs.CalculatorTests.{is_calculator}
+use Rattle.workload.specs.CalculatorTests.{is_calculator}
 use Rattle.thrift_host.specs.declared.status.Status.{Status}
 use Rattle.thrift_host.specs.declared.status.Status.TheVariants.{Done, WriteFault}
 use Rattle.thrift_host.specs.Runs.{AskedRun, MeansUnarranged}

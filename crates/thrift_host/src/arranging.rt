@@ -13,12 +13,12 @@ ghost use Rattle.thrift_host.specs.Steps.{IsArrangedAs, TellsUnarranged, is_unre
 
 use call_rules::Handler;
 use command_line::ServedIdl;
-use idl_schema::{NoSchema, program_schema};
+use idl_check::{NoSchema, program_schema};
 use outside::Files;
 use processor::Office;
-use recorded_calls::ServingFault;
+use recorded_runs::ServingFault;
 use schema::Schema;
-use service_binding::{BindFault, bind};
+use crate::{BindFault, bind};
 use std::alloc::Global;
 
 /// Why a run has no report, or no whole one.

@@ -3,14 +3,14 @@
 ghost use Rattle.std.specs.Prelude.{◌≡◌, true, ℕ, List, Option, MatchResult};
 ghost use Rattle.outside.specs.Cause.{Rose};
 ghost use Rattle.outside.specs.Files.{File};
-ghost use Rattle.idl_schema.specs.Verdicts.{IsIdlVerdict, IsSchemaTextOf, IsUnreadIdl};
-ghost use Rattle.idl_schema.specs.Telling.{TellsWhy, is_file_fault};
+ghost use Rattle.idl_check.specs.Verdicts.{IsIdlVerdict, IsSchemaTextOf, IsUnreadIdl};
+ghost use Rattle.idl_check.specs.Telling.{TellsWhy, is_file_fault};
 ghost use Rattle.thrift_host.specs.Checks.{MeansCheck, SaysCheck};
 ghost use Rattle.thrift_host.specs.Steps.{EndsWithout, EndsWriting};
 
 use crate::saying::{end, end_saying};
 use crate::status::Status;
-use idl_schema::{NoSchema, program_text};
+use idl_check::{NoSchema, program_text};
 use outside::{Files, Sink, write_all};
 use std::alloc::Global;
 

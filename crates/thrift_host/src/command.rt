@@ -25,7 +25,7 @@ use port_serving::ServingPlace;
 use std::alloc::Global;
 use std::sync::Wait;
 use std::thread::Threads;
-use workload_serving::Work;
+use recorded_runs::Work;
 
 /// Runs the command of these words, which leave the program's name out: it checks an IDL and writes the text of its schema to the output; it runs the
 /// script of recorded connections that its input is, with these handlers, and writes the report there, without threads, or by a loop with workers that pass the

@@ -1,8 +1,8 @@
 //! How a command that serves ends.
 
 ghost use Rattle.std.specs.Prelude.{◌≡◌, IfOk};
-ghost use Rattle.pair_binding.specs.Refusals.{refused_pair_text};
-ghost use Rattle.recorded_calls.specs.Refusals.{refused_script_text};
+ghost use Rattle.service_binding.specs.Refusals.{refused_pair_text};
+ghost use Rattle.recorded_runs.specs.Refusals.{refused_script_text};
 ghost use Rattle.thrift_host.specs.Steps.{EndsAfterRun, EndsAfterServing, EndsUnbound, EndsUnanswered, status_of_port};
 
 use crate::arranging::RunFault;
@@ -10,13 +10,13 @@ use crate::checking::end_without_schema;
 use crate::saying::{end, end_saying};
 use crate::serving::ServeFault;
 use crate::status::Status;
-use bind_words::BindWords;
+use service_binding::BindWords;
 use outside::Sink;
-use pair_binding::{BindKind, put_refused_pair};
+use service_binding::{BindKind, put_refused_pair};
 use port_serving::PortFault;
-use recorded_calls::{ServingFault, put_refused_script};
-use script_links::ScriptFault;
-use service_binding::BindFault;
+use recorded_runs::{ServingFault, put_refused_script};
+use script_text::ScriptFault;
+use crate::BindFault;
 use std::alloc::{AllocError, Global};
 
 /// Ends the command with what became of a run with these pairs.

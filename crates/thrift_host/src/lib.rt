@@ -12,6 +12,7 @@
 #![tactic(auto)]
 
 mod arranging;
+mod binding;
 mod checking;
 mod command;
 mod ending;
@@ -23,5 +24,7 @@ mod serving;
 mod status;
 mod workloads;
 
+pub use binding::bind;
 pub use command::host;
+pub use service_binding::{BindFault, BindKind};
 pub use status::Status;

@@ -8,8 +8,8 @@ ghost use Rattle.command_line.specs.Answering.{plain_served};
 ghost use Rattle.command_line.specs.Bounds.{KeepsServedBounds};
 ghost use Rattle.journal_text.specs.EntryText.{entry_text};
 ghost use Rattle.processor.specs.Offices.{plain_office};
-ghost use Rattle.recorded_calls.specs.Answered.{MeansAnswered};
-ghost use Rattle.recorded_calls.specs.declared.fault.ServingFault.TheVariants as serving_faults;
+ghost use Rattle.recorded_runs.specs.Answered.{MeansAnswered};
+ghost use Rattle.recorded_runs.specs.declared.fault.ServingFault.TheVariants as serving_faults;
 ghost use Rattle.thrift_host.specs.Runs.{rehearsing};
 ghost use Rattle.thrift_host.specs.Steps.{TellsRun, is_unread_file};
 ghost use Rattle.thrift_host.specs.declared.arranging.RunFault.TheVariants as faults;
@@ -21,7 +21,7 @@ use command_line::ServedIdl;
 use conn_table::Limits;
 use outside::{Files, Sink, Source};
 use processor::Office;
-use recorded_calls::{ServingFault, answer_recorded};
+use recorded_runs::{ServingFault, answer_recorded};
 use std::alloc::Global;
 
 /// Runs the script that the input is, as the words say, and writes the report of the run to the output.

@@ -8,11 +8,11 @@ ghost use Rattle.command_line.specs.Answering.{plain_served};
 ghost use Rattle.processor.specs.Offices.{plain_office};
 ghost use Rattle.schema.specs.SchemaOf.{schema_of};
 ghost use Rattle.schema.specs.Sound.{IsSound};
-ghost use Rattle.recorded_calls.specs.declared.fault.ServingFault.TheVariants as serving_faults;
+ghost use Rattle.recorded_runs.specs.declared.fault.ServingFault.TheVariants as serving_faults;
 ghost use Rattle.workload.specs.ExpectedRun.{work_text};
-ghost use Rattle.workload_law.specs.Calculators.{IsCalculatorsOffice};
-ghost use Rattle.workload_law.specs.Summed.{HasCalculator};
-ghost use Rattle.workload_serving.specs.Summaries.{WritesSummary};
+ghost use Rattle.workload.specs.Calculators.{IsCalculatorsOffice};
+ghost use Rattle.workload.specs.Summed.{HasCalculator};
+ghost use Rattle.recorded_runs.specs.Summaries.{WritesSummary};
 ghost use Rattle.thrift_host.specs.Runs.{HasSchema};
 ghost use Rattle.thrift_host.specs.Steps.{TellsUnworked, TellsWorkload, is_unread_file};
 ghost use Rattle.thrift_host.specs.Workloads.{has_calculator, workload_says};
@@ -20,21 +20,21 @@ ghost use Rattle.thrift_host.specs.declared.arranging.RunFault.TheVariants as fa
 
 use crate::arranging::{RunFault, bind_pairs};
 use crate::journal::ReportedList;
-use bind_words::{BindWords, Word};
+use service_binding::{BindWords, Word};
 use call_rules::{Handler, Kind};
 use command_line::ServedIdl;
 use conn_table::Limits;
 use envelope::Protocol;
-use idl_schema::program_schema;
+use idl_check::program_schema;
 use outside::{Files, Gate, Sink};
 use processor::Office;
-use recorded_calls::ServingFault;
+use recorded_runs::ServingFault;
 use schema::Schema;
 use std::alloc::{AllocError, Global};
 use std::sync::Wait;
 use std::thread::Threads;
-use workload_law::is_calculator;
-use workload_serving::{Work, serve_workload};
+use workload::is_calculator;
+use recorded_runs::{Work, serve_workload};
 
 /// What a workload serves, as words would say it.
 pub(crate) fn workload_words(alloc: Global, workers: u32) -> Result<ServedIdl, AllocError>

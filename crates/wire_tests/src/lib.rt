@@ -1,4 +1,4 @@
-//! Tests of the wire's crates: numbers, values, structs and heads, with tables of what Apache Thrift's own library writes.
+//! Tests of the wire's crates: numbers, values, structs and heads, with tables of what Apache Thrift's own library writes; projections, and what may be written.
 #![tactic(auto)]
 
 #[cfg(test)]
@@ -23,6 +23,8 @@ mod heads;
 mod notation;
 #[cfg(test)]
 mod numbers;
+#[cfg(test)]
+mod projections;
 #[cfg(test)]
 mod struct_vectors;
 #[cfg(test)]

@@ -3,7 +3,7 @@ use Rattle.std.proofs.Common.{◌≡◌, ℕ, ◌+◌, ◌<◌, ◌≤◌, ◌==
 use Rattle.std.proofs.Math.Path.{fun_ext}
 use Rattle.std.specs.List.{flat_map, filter, sum_by, AllByRecursion}
 use Rattle.std.proofs.lemmas.List.Concat.{length-flat_map}
-use Rattle.rehearsal_model.specs.ScriptLines.{count_up}
+use Rattle.script_model.specs.ScriptLines.{count_up}
 use Rattle.workload.proofs.Grouped.{grouped_counts}
 
 pub carried : {X : Type 0} (key : X → ℕ) (f : X → List ℕ) (n : ℕ) (xs : List X) → AllByRecursion (λ x. key x < n) xs

@@ -4,7 +4,7 @@ use Rattle.std.specs.List.{flat_map, filter}
 use Rattle.std.proofs.lemmas.List.{map-append}
 use Rattle.std.proofs.lemmas.List.Elements.{filter-append}
 use Rattle.std.proofs.lemmas.Grind.{flat_map-append}
-use Rattle.rehearsal_model.specs.ScriptLines.{count_up}
+use Rattle.script_model.specs.ScriptLines.{count_up}
 use Rattle.workload.specs.Numbers.{number_after, number_at}
 use Rattle.workload.specs.CallFrames.{frame_by, frame_at}
 use Rattle.workload.specs.LoadPlan.{bytes_on}

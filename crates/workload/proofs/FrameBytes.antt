@@ -3,10 +3,10 @@ use Rattle.std.proofs.Common.{◌≡◌, ℕ, ℤ, pos, zero, suc, ◌+◌, ◌<
 use Rattle.std.specs.Int.{w32, to_be_bytes, cast_unsigned}
 use Rattle.std.specs.List.{flat_map}
 use Rattle.wire_num.specs.Fixed.{signed_bytes}
-use Rattle.rehearsal_model.specs.ScriptLines.{count_up}
-use Rattle.script_links.proofs.Cuts.{all-append}
-use Rattle.script_links.proofs.Numbers.{EachByte}
-use Rattle.script_links.specs.Sound.{IsKeptScript}
+use Rattle.script_model.specs.ScriptLines.{count_up}
+use Rattle.script_text.proofs.Cuts.{all-append}
+use Rattle.script_text.proofs.Numbers.{EachByte}
+use Rattle.script_text.specs.Sound.{IsKeptScript}
 use Rattle.workload.specs.Numbers.{number_at, first_number, second_number}
 use Rattle.workload.specs.CallFrames.{call_head, number_field, work_struct, add_frame, subtract_frame, adds, frame_at}
 use Rattle.workload.specs.LoadPlan.{connections_of, frames_on, bytes_on, all_bytes, workload_plan}

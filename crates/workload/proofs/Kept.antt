@@ -4,18 +4,18 @@ use Rattle.std.proofs.lemmas.Bool.{lt-leb, ltb-true}
 use Rattle.std.proofs.lemmas.List.{length-replicate, get_or_at, set_at, get_or-replicate}
 use Rattle.std.proofs.lemmas.Grind.{flat_map-append}
 use Rattle.std.specs.List.{list_any, flat_map, AllByRecursion}
-use Rattle.rehearsal_model.specs.ScriptLines.{PlanLine, opening, piece, input_end, input_fault, resting, turn_of_conn, turn_of_worker, turn_of_outcome, PlanRule, ScriptPlan, count_up}
-use Rattle.script_links.specs.declared.fault.ScriptFault.{ScriptFault}
-use Rattle.script_links.specs.declared.fault.ScriptKind.TheVariants.{NoEnd, NoConnection, AfterEnd, TooMany}
-use Rattle.script_links.specs.LineForms.{runs, said_of}
-use Rattle.script_links.specs.Reading.{ScriptSoFar, nothing_read, fault_of_line, over_behind, rules_opened, with_said, unless_fault, read_said, read_line, fault_at, reads_on, read_from, plan_read, plan_of_lines}
-use Rattle.script_links.specs.Printing.{said_text}
-use Rattle.script_links.specs.Sound.{IsKeptScript}
-use Rattle.script_links.proofs.Cuts.{all-append}
-use Rattle.script_links.proofs.Numbers.{EachByte}
-use Rattle.script_links.proofs.Written.{IsWritable, said_written, not_ignored}
-use Rattle.script_links.proofs.Standing.{over_all, Pass}
-use Rattle.script_links.proofs.ReadBack.{plan_is_script}
+use Rattle.script_model.specs.ScriptLines.{PlanLine, opening, piece, input_end, input_fault, resting, turn_of_conn, turn_of_worker, turn_of_outcome, PlanRule, ScriptPlan, count_up}
+use Rattle.script_text.specs.declared.fault.ScriptFault.{ScriptFault}
+use Rattle.script_text.specs.declared.fault.ScriptKind.TheVariants.{NoEnd, NoConnection, AfterEnd, TooMany}
+use Rattle.script_text.specs.LineForms.{runs, said_of}
+use Rattle.script_text.specs.Reading.{ScriptSoFar, nothing_read, fault_of_line, over_behind, rules_opened, with_said, unless_fault, read_said, read_line, fault_at, reads_on, read_from, plan_read, plan_of_lines}
+use Rattle.script_text.specs.Printing.{said_text}
+use Rattle.script_text.specs.Sound.{IsKeptScript}
+use Rattle.script_text.proofs.Cuts.{all-append}
+use Rattle.script_text.proofs.Numbers.{EachByte}
+use Rattle.script_text.proofs.Written.{IsWritable, said_written, not_ignored}
+use Rattle.script_text.proofs.Standing.{over_all, Pass}
+use Rattle.script_text.proofs.ReadBack.{plan_is_script}
 use Rattle.workload.specs.LoadPlan.{piece_size, piece_at, piece_line, round, rounds, most_pieces, plan_of_streams}
 
 -- the texts of these lines

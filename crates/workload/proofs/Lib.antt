@@ -5,3 +5,17 @@ pub mod Grouped
 pub mod Answered
 pub mod Summed
 pub mod Carried
+pub mod Pieces
+pub mod Payloads
+pub mod Plans
+pub mod Parts
+pub mod LawsKept
+pub mod Histories
+pub mod Talks
+pub mod Connections
+pub mod Totals
+pub mod Projected
+pub mod Decided
+pub mod Offices
+pub mod Bounds
+pub mod Tested

@@ -2,7 +2,7 @@
 use Rattle.std.specs.Prelude.{ℕ, ℤ, pos, ◌+◌, ◌+ℤ◌, ◌-ℤ◌, List, codes, length, if◌then◌else◌}
 use Rattle.std.specs.List.{sum_by}
 use Rattle.thrift_value.specs.Tree.{of_i32, of_struct, no_fields, field}
-use Rattle.rehearsal_model.specs.ScriptLines.{count_up}
+use Rattle.script_model.specs.ScriptLines.{count_up}
 use Rattle.workload.specs.Numbers.{number_at, first_number, second_number}
 use Rattle.workload.specs.CallFrames.{message_frame, adds, frame_at}
 use Rattle.workload.specs.LoadPlan.{connections_of}

@@ -3,3 +3,8 @@ pub mod CallFrames
 pub mod LoadPlan
 pub mod SummaryText
 pub mod ExpectedRun
+pub mod Payloads
+pub mod Calls
+pub mod Calculators
+pub mod CalculatorTests
+pub mod Summed

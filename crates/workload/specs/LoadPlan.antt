@@ -1,7 +1,7 @@
 -- The script of a workload: which frame stands on which connection, how the bytes are cut into pieces, and the order of the lines.
 use Rattle.std.specs.Prelude.{ℕ, ◌+◌, ◌*◌, ◌/◌, ◌%◌, ◌==◌, nat_lt, min, max, List, [], ◌∷◌, ◌++◌, length, map, filter, take, drop, slice_index_or, replicate, if◌then◌else◌}
 use Rattle.std.specs.List.{flat_map}
-use Rattle.rehearsal_model.specs.ScriptLines.{PlanLine, opening, piece, input_end, ScriptPlan, count_up}
+use Rattle.script_model.specs.ScriptLines.{PlanLine, opening, piece, input_end, ScriptPlan, count_up}
 use Rattle.workload.specs.CallFrames.{frame_at}
 
 -- the number of connections of a workload of so many frames

@@ -1,7 +1,7 @@
 //! Worked examples of the definitions, each the contract of a function that does nothing.
 
 ghost use Rattle.std.specs.Prelude.{◌≡◌, ◌++◌, codes, pos};
-ghost use Rattle.script_links.specs.Printing.{print_of};
+ghost use Rattle.script_text.specs.Printing.{print_of};
 ghost use Rattle.workload.specs.LoadPlan.{workload_plan};
 ghost use Rattle.workload.specs.ExpectedRun.{work_text};
 

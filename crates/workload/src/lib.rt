@@ -6,22 +6,29 @@
 //! let (bytes_in, bytes_out) = (bytes_read(&tape), bytes_written(&tape));
 //! let summary = Summary { connections: 8, frames: 1000, calls, bytes_in, bytes_out, sum: sum_of_answers(journal) };
 //! let text = print_summary(alloc, &summary)?;
+//! assert!(rt; is_calculator(&schema, service));
 //! ```
+//!
+//! By law ([`run_laws`]) the summary of a run is the one that is expected, where the calculator of the Thrift tutorial answers it. What an office has to serve
+//! stands in `specs/Calculators.antt`, and what a run comes to in `specs/Summed.antt`. It runs nothing.
 #![tactic(auto)]
 
 pub mod examples;
 mod frames;
+pub mod law_examples;
 pub mod laws;
 mod lines;
 mod making;
+pub mod run_laws;
 mod streams;
 mod summary;
+mod testing;
+#[cfg(test)]
+mod tests;
 mod traffic;
 
 pub use making::generate;
 pub use streams::connections_of;
 pub use summary::{Summary, print_summary, sum_of_answers};
+pub use testing::is_calculator;
 pub use traffic::{bytes_read, bytes_written};
-
-#[cfg(test)]
-mod tests;

@@ -1,12 +1,12 @@
 //! The lines of a workload's script.
 
 ghost use Rattle.std.specs.Prelude.{◌≡◌, ◌<◌, ◌≤◌, ◌*◌, ◌^◌, ◌++◌, [], map, length, take, replicate, slice_index_or, max, OnOk, IfOk};
-ghost use Rattle.rehearsal_model.specs.ScriptLines.{opening, input_end, count_up};
-ghost use Rattle.script_links.specs.Plans.{plain_line, plain_rules};
+ghost use Rattle.script_model.specs.ScriptLines.{opening, input_end, count_up};
+ghost use Rattle.script_text.specs.Plans.{plain_line, plain_rules};
 ghost use Rattle.workload.specs.LoadPlan.{pieces_of, most_pieces, piece_line, round, rounds, plan_of_streams};
 
 use outside::Bytes;
-use script_links::{RuleList, ScriptLine};
+use script_text::{RuleList, ScriptLine};
 use std::alloc::{AllocError, Global};
 
 /// How many bytes a piece has; the last one of a connection may have fewer.

@@ -6,7 +6,7 @@ ghost use Rattle.workload.specs.LoadPlan.{workload_plan};
 use crate::laws::every_workload_is_kept;
 use crate::lines::{lines_of, no_rules};
 use crate::streams::all_bytes;
-use script_links::{RuleLists, Script, ScriptLines};
+use script_text::{RuleLists, Script, ScriptLines};
 use std::alloc::{AllocError, Global};
 
 /// The script of the workload of a seed, with so many frames.

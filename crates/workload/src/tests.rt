@@ -1,7 +1,7 @@
 //! A script that is generated, as it is printed.
 
 use crate::making::generate;
-use script_links::print_script;
+use script_text::print_script;
 use std::alloc::{AllocError, Global};
 
 /// Whether the script of two frames has this print.

@@ -1,5 +1,5 @@
 use Rattle.std.proofs.Common.{◌≡◌, replicate}
-use Rattle.cell_turn.specs.declared.worker.Holding.TheVariants.{Idle}
+use Rattle.cell_core.specs.declared.worker.Holding.TheVariants.{Idle}
 use Rattle.cell_core.proofs.rehearsal.opened.Given as goal
 
 -- so many workers without a job

@@ -1,9 +1,9 @@
 use Rattle.std.proofs.Common.{◌≡◌, ◌≤◌, Vec, Global, map, length, sym, ap, ◌∙◌}
-use Rattle.rehearsal_model.specs.Ending.{LetsAllEnd}
-use Rattle.script_links.specs.Plans.{plain_line}
-use Rattle.script_links.specs.Sound.{IsSoundPlan}
+use Rattle.script_model.specs.Ending.{LetsAllEnd}
+use Rattle.script_text.specs.Plans.{plain_line}
+use Rattle.script_text.specs.Sound.{IsSoundPlan}
 use Rattle.hall_core.specs.Meant.{ServedHall}
-use Rattle.cell_model.specs.Settings.{CellSetting}
+use Rattle.cell_loop.specs.Settings.{CellSetting}
 use Rattle.cell_core.specs.Parts.{parts_of}
 use Rattle.cell_core.specs.Whole.{IsFitting}
 use Rattle.cell_core.proofs.Opened.{all_good, lets_all, fresh_count}

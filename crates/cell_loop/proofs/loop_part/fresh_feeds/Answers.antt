@@ -1,7 +1,7 @@
 use Rattle.std.proofs.Common.{◌≡◌, ◌+◌, ◌++◌, ◌∷◌, List, [], map, take, ap, ◌∙◌, sym, subst, arith}
 use Rattle.std.proofs.lemmas.List.{map_more}
-use Rattle.rehearsal_model.specs.ScriptLines.{PlanRule}
-use Rattle.script_links.specs.Plans.{plain_rules}
+use Rattle.script_model.specs.ScriptLines.{PlanRule}
+use Rattle.script_text.specs.Plans.{plain_rules}
 use Rattle.cell_loop.specs.declared.feed.Feed.{Feed}
 use Rattle.cell_loop.specs.Feeds.{AreFreshFeeds}
 use Rattle.cell_loop.proofs.FreshFeeds.{fresh_more}

@@ -1,5 +1,5 @@
 use Rattle.std.proofs.Common.{map, take}
-use Rattle.script_links.specs.Plans.{plain_rules}
+use Rattle.script_text.specs.Plans.{plain_rules}
 use Rattle.cell_loop.specs.Feeds.{AreFreshFeeds}
 use Rattle.cell_loop.proofs.loop_part.fresh_feeds.Given as goal
 

@@ -2,11 +2,11 @@ use Rattle.std.proofs.Common.{refl}
 use Rattle.check_model.specs.Evaluation.{given_worth, evaluated, named_worth, default_of}
 use Rattle.check_model.specs.Worths.{most_values, most_levels}
 use Rattle.check_model.specs.FieldLists.{field_lists, fields_by_id}
-use Rattle.idl_model.specs.ConstNames.{const_meaning, value_number}
-use Rattle.idl_model.specs.Names.{sought, type_named}
-use Rattle.idl_model.specs.Spots.{values_of, spots_of, spots_in_declaration, spots_in_field}
-use Rattle.idl_model.specs.Numbering.{constants_of, enums_of, structs_of, all_functions, services_of, typedefs_of}
-use Rattle.idl_model.specs.EnumNumbers.{enum_numbers}
+use Rattle.idl_include.specs.ConstNames.{const_meaning, value_number}
+use Rattle.idl_include.specs.Names.{sought, type_named}
+use Rattle.idl_include.specs.Spots.{values_of, spots_of, spots_in_declaration, spots_in_field}
+use Rattle.idl_include.specs.Numbering.{constants_of, enums_of, structs_of, all_functions, services_of, typedefs_of}
+use Rattle.idl_include.specs.EnumNumbers.{enum_numbers}
 use Rattle.check_model.proofs.examples.constants.Goals as goal
 
 pub returns-clause-out_of_range : goal.returns-clause-out_of_range

@@ -1,7 +1,7 @@
 use Rattle.std.proofs.Common.{[], refl, arith, inr}
-use Rattle.idl_model.specs.Numbering.{typedefs_of, enums_of, structs_of, services_of}
-use Rattle.idl_model.specs.Names.{type_named, service_for_name, sought}
-use Rattle.idl_model.specs.Cycles.{alias_graph, parent_graph}
+use Rattle.idl_include.specs.Numbering.{typedefs_of, enums_of, structs_of, services_of}
+use Rattle.idl_include.specs.Names.{type_named, service_for_name, sought}
+use Rattle.idl_include.specs.Cycles.{alias_graph, parent_graph}
 use Rattle.check_model.proofs.SmallVerdicts.{thrown_exception, thrown_struct}
 use Rattle.check_model.proofs.examples.faults.Goals as goal
 

@@ -1,7 +1,7 @@
 use Rattle.std.proofs.Common.{refl}
 use Rattle.check_model.specs.Resolved.{alias_kind}
-use Rattle.idl_model.specs.Names.{type_named, sought}
-use Rattle.idl_model.specs.Numbering.{typedefs_of, enums_of, structs_of}
+use Rattle.idl_include.specs.Names.{type_named, sought}
+use Rattle.idl_include.specs.Numbering.{typedefs_of, enums_of, structs_of}
 use Rattle.check_model.specs.FiniteValues.{has_value_within}
 use Rattle.check_model.proofs.examples.types.Goals as goal
 

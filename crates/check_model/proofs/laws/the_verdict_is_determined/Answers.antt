@@ -1,5 +1,5 @@
 use Rattle.std.proofs.Common.{subst}
-use Rattle.idl_model.specs.Loading.{Loaded, program_of}
+use Rattle.idl_include.specs.Loading.{Loaded, program_of}
 use Rattle.check_model.specs.ProgramSchema.{IsVerdictOn}
 use Rattle.check_model.proofs.OneVerdict.{one_verdict_on}
 use Rattle.check_model.proofs.SchemaOrFlaw.{some_verdict}

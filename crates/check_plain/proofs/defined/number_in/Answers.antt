@@ -1,5 +1,5 @@
 use Rattle.std.proofs.Common.{rules, map, ap, ◌∙◌}
-use Rattle.idl_model.specs.Numbering.{picked_from}
+use Rattle.idl_include.specs.Numbering.{picked_from}
 use Rattle.idl_include.specs.SourcesOf.{program_in}
 use Rattle.idl_names.specs.FiledIn.{filed_by}
 use Rattle.check_plain.proofs.Placed.{number_is}

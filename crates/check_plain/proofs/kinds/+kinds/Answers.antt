@@ -1,6 +1,6 @@
 use Rattle.std.proofs.Common.{◌≡◌, ◌-◌, suc, Some, None, IfOk, sym, ap, ◌∙◌, subst, arith}
 use Rattle.std.specs.Option.{option_map}
-use Rattle.idl_model.specs.Numbering.{typedefs_of}
+use Rattle.idl_include.specs.Numbering.{typedefs_of}
 use Rattle.idl_include.specs.SourcesOf.{program_in}
 use Rattle.idl_names.specs.FiledIn.{filed_by, typedef_declared}
 use Rattle.schema.specs.PlainKind.{kind_of}

@@ -1,7 +1,7 @@
 use Rattle.std.proofs.Common.{◌≡◌, ◌++◌, List, drop}
 use Rattle.std.specs.Prelude.{option_map}
 use Rattle.command_line.specs.Lent.{lent_words}
-use Rattle.bind_words.specs.Pairs.{NamedKind}
+use Rattle.service_binding.specs.Pairs.{NamedKind}
 use Rattle.command_line.specs.CommandPairs.{pairs_of_words}
 use Rattle.command_line.proofs.pairs.pairs_of_words.Given as goal
 

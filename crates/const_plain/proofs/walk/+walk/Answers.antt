@@ -4,8 +4,8 @@ use Rattle.thrift_value.specs.TreeOf.{tree_of, field_tree, field_trees}
 use Rattle.thrift_value.specs.Tree.{of_struct}
 use Rattle.thrift_value.proofs.Trees.{tree_of-Struct}
 use Rattle.schema.specs.PlainKind.{kind_of}
-use Rattle.idl_model.specs.ConstExpr.{map_const}
-use Rattle.idl_model.specs.DeclaredIn.{value_in, items_in, entries_in}
+use Rattle.idl_include.specs.ConstExpr.{map_const}
+use Rattle.idl_include.specs.DeclaredIn.{value_in, items_in, entries_in}
 use Rattle.idl_names.specs.SpotsIn.{filed_value}
 use Rattle.check_model.specs.Worths.{valued, and_next}
 use Rattle.check_model.specs.Evaluation.{worth_by}

@@ -1,6 +1,6 @@
 use Rattle.std.proofs.Common.{sym, ap, ◌∙◌, subst, length}
 use Rattle.schema.specs.PlainKind.{kind_of}
-use Rattle.idl_model.specs.DeclaredIn.{value_in}
+use Rattle.idl_include.specs.DeclaredIn.{value_in}
 use Rattle.const_plain.specs.Answers.{IsPlainWorth}
 use Rattle.const_plain.specs.InMemory.{environment_setting}
 use Rattle.const_plain.proofs.Beginnings.{evaluated_is}

@@ -2,9 +2,9 @@ use Rattle.std.proofs.Common.{List, sym, subst, ◌∙◌}
 use Rattle.idl_include.specs.declared.sources.IdlFile.{IdlFile}
 use Rattle.idl_include.specs.SourcesOf.{program_in, AreFiles}
 use Rattle.check_model.specs.FirstFlaw.{IsFirstFlaw}
-use Rattle.idl_passes.specs.Faults.{TellsFlaw}
+use Rattle.check_passes.specs.Faults.{TellsFlaw}
 use Rattle.idl_check.specs.Behind.{IsCheckOf}
-use Rattle.idl_check.proofs.Whole.{checked_behind, checked_before}
+use Rattle.idl_check.proofs.WholeSchemas.{checked_behind, checked_before}
 use Rattle.idl_check.proofs.checking.check.Goals as goal
 
 pub returns-in-Ok : goal.returns-in-Ok

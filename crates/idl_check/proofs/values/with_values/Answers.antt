@@ -1,7 +1,7 @@
 use Rattle.std.proofs.Common.{map, ap, ◌∙◌}
 use Rattle.idl_include.specs.SourcesOf.{program_in}
 use Rattle.idl_names.specs.SpotsIn.{filed_value, spots_in}
-use Rattle.const_ground.proofs.ValuesShown.{values_shown}
+use Rattle.const_evaluator.proofs.ValuesShown.{values_shown}
 use Rattle.idl_check.proofs.values.with_values.Goals as goal
 
 pub worths_over-requires-clause-places : goal.worths_over-requires-clause-places

@@ -1,5 +1,5 @@
 use Rattle.std.proofs.Common.{◌∙◌}
-use Rattle.idl_model.specs.Spots.{values_of}
+use Rattle.idl_include.specs.Spots.{values_of}
 use Rattle.idl_const.proofs.AllFree.{marks_are}
 use Rattle.idl_const.proofs.evaluation.all_free.Goals as goal
 

@@ -1,10 +1,10 @@
 use Rattle.std.proofs.Common.{◌≡◌, true, false, sym, ap, ◌∙◌, subst}
 use Rattle.std.specs.Prelude.{slice_set}
 use Rattle.std.proofs.lemmas.Result.{on_ok_weaker}
-use Rattle.idl_model.specs.Spots.{values_of}
+use Rattle.idl_include.specs.Spots.{values_of}
 use Rattle.thrift_value.specs.TreeOf.{tree_of}
 use Rattle.schema.specs.PlainKind.{kind_of}
-use Rattle.idl_model.specs.DeclaredIn.{value_in}
+use Rattle.idl_include.specs.DeclaredIn.{value_in}
 use Rattle.check_model.specs.Evaluation.{all_free, given_worth}
 use Rattle.idl_const.specs.Flaws.{AnswersWorth}
 use Rattle.idl_const.specs.Given.{FiledTree, tree_numbered}

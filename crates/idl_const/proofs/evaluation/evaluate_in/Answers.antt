@@ -1,7 +1,7 @@
 use Rattle.std.proofs.Common.{subst}
 use Rattle.schema.specs.PlainKind.{kind_of}
 use Rattle.thrift_value.specs.TreeOf.{tree_of}
-use Rattle.idl_model.specs.DeclaredIn.{value_in}
+use Rattle.idl_include.specs.DeclaredIn.{value_in}
 use Rattle.check_model.specs.Evaluation.{evaluated}
 use Rattle.idl_const.specs.Flaws.{AnswersWorth}
 use Rattle.idl_const.proofs.Beginnings.{evaluated_is}

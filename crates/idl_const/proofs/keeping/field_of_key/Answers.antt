@@ -3,7 +3,7 @@ use Rattle.std.specs.List.{find}
 use Rattle.std.specs.Str.{bytes_eq}
 use Rattle.schema.specs.PlainSchema.{PlainField}
 use Rattle.schema.specs.SchemaOf.{plain_field}
-use Rattle.idl_model.specs.DeclaredIn.{value_in, literal_in}
+use Rattle.idl_include.specs.DeclaredIn.{value_in, literal_in}
 use Rattle.check_model.specs.Evaluation.{struct_numbered}
 use Rattle.idl_const.proofs.Kept.{key_is, key_found, key_unknown, found_has_id}
 use Rattle.idl_const.proofs.keeping.field_of_key.Goals as goal

@@ -8,8 +8,8 @@ use Rattle.thrift_value.proofs.Trees.{tree_of-Struct}
 use Rattle.thrift_value.specs.declared.value.Value as value
 use Rattle.schema.specs.PlainKind.{kind_of}
 use Rattle.schema.specs.SchemaOf.{plain_field}
-use Rattle.idl_model.specs.ConstExpr.{map_const}
-use Rattle.idl_model.specs.DeclaredIn.{value_in, entries_in}
+use Rattle.idl_include.specs.ConstExpr.{map_const}
+use Rattle.idl_include.specs.DeclaredIn.{value_in, entries_in}
 use Rattle.check_model.specs.Worths.{seen_at}
 use Rattle.check_model.specs.Scalars.{enum_worth}
 use Rattle.check_model.specs.Evaluation.{worth_by, struct_numbered}

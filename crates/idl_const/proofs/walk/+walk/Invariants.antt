@@ -2,7 +2,7 @@ use Rattle.std.proofs.Common.{◌≡◌, ◌+◌, ◌*◌, map, drop}
 use Rattle.std.specs.VecDeque.{deque_len}
 use Rattle.thrift_value.specs.TreeOf.{tree_of, pair_tree}
 use Rattle.schema.specs.PlainKind.{kind_of}
-use Rattle.idl_model.specs.DeclaredIn.{value_in, items_in, entries_in}
+use Rattle.idl_include.specs.DeclaredIn.{value_in, items_in, entries_in}
 use Rattle.check_model.specs.Evaluation.{items_by, pairs_by, given_by, struct_numbered}
 use Rattle.idl_const.specs.FieldEntries.{entry_in, given_in_memory, AreGivenFor, entries_worth}
 use Rattle.idl_const.specs.Given.{both_in}

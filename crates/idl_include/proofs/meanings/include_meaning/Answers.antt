@@ -1,6 +1,6 @@
 use Rattle.std.proofs.Common.{refl, ap, sym, ◌∙◌}
-use Rattle.idl_model.specs.FileNames.{included_name}
-use Rattle.idl_model.specs.Readings.{bad_name}
+use Rattle.idl_include.specs.FileNames.{included_name}
+use Rattle.idl_include.specs.Readings.{bad_name}
 use Rattle.idl_include.specs.declared.faults.LoadKind.TheVariants as kinds
 use Rattle.idl_include.specs.Begun.{written_in, include_meant}
 use Rattle.idl_include.proofs.Included.{case_of_bad, not_utf8, meant_is, refused_by, refused_at, refused_meant, new_name}

@@ -1,7 +1,7 @@
 use Rattle.std.proofs.Common.{ℕ, List, refl, ap, sym, ◌∙◌}
 use Rattle.std.specs.Str.{bytes_eq}
 use Rattle.std.specs.List.{list_any}
-use Rattle.idl_model.specs.Readings.{includes_itself, same_base}
+use Rattle.idl_include.specs.Readings.{includes_itself, same_base}
 use Rattle.idl_include.specs.declared.faults.LoadKind.TheVariants as kinds
 use Rattle.idl_include.specs.declared.sources.IdlFile.{IdlFile}
 use Rattle.idl_include.proofs.Included.{case_of_cycle, case_of_before, case_of_base, case_of_new, number_within, refused_by, is_none_by}

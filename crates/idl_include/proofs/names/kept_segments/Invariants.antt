@@ -1,5 +1,5 @@
 use Rattle.std.proofs.Common.{◌≡◌, [], drop, reverse}
-use Rattle.idl_model.specs.FileNames.{with_segments}
+use Rattle.idl_include.specs.FileNames.{with_segments}
 use Rattle.idl_include.specs.Texts.{texts}
 use Rattle.idl_include.proofs.names.kept_segments.Given as goal
 

@@ -1,5 +1,5 @@
 use Rattle.std.proofs.Common.{◌≤◌, ◌<◌, length, refl, arith}
-use Rattle.idl_model.specs.Loading.{most_files}
+use Rattle.idl_include.specs.Loading.{most_files}
 use Rattle.idl_include.specs.declared.faults.LoadStop.TheVariants as stops
 use Rattle.idl_include.specs.Begun.{wanted_in}
 use Rattle.idl_include.specs.Steps.{load_stage, file_left}

@@ -1,6 +1,6 @@
 use Rattle.std.proofs.Common.{List, map, ap, ◌∙◌}
 use Rattle.idl_parser.specs.declared.tree.Include.{Include}
-use Rattle.idl_model.specs.DeclaredIn.{literal_in, includes_of_document}
+use Rattle.idl_include.specs.DeclaredIn.{literal_in, includes_of_document}
 use Rattle.idl_include.proofs.opening.start.Goals as goal
 
 pub returns-clause-started : goal.returns-clause-started

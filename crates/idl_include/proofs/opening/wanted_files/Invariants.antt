@@ -1,6 +1,6 @@
 use Rattle.std.proofs.Common.{◌≡◌, ◌++◌, map, drop}
 use Rattle.idl_parser.specs.declared.tree.Include.{Include}
-use Rattle.idl_model.specs.DeclaredIn.{literal_in}
+use Rattle.idl_include.specs.DeclaredIn.{literal_in}
 use Rattle.idl_include.specs.Begun.{wanted_in}
 use Rattle.idl_include.proofs.opening.wanted_files.Given as goal
 

@@ -1,6 +1,6 @@
 use Rattle.std.proofs.Common.{List, ap, subst, ◌≡◌, ◌<◌, ◌-◌, ◌∙◌, ℕ, suc, length, refl, arith, rules}
 use Rattle.idl_include.specs.declared.faults.LoadStop.TheVariants as stops
-use Rattle.idl_model.specs.Loading.{loaded_before, new_file, linked}
+use Rattle.idl_include.specs.Loading.{loaded_before, new_file, linked}
 use Rattle.idl_include.specs.SourcesOf.{program_in, AreBegun}
 use Rattle.idl_include.specs.declared.sources.IdlFile.{IdlFile}
 use Rattle.idl_include.specs.Begun.{written_in, include_meant, IsRefusedAt}

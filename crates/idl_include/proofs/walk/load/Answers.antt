@@ -1,5 +1,5 @@
 use Rattle.std.proofs.Common.{◌≡◌, List, sym, subst, rules}
-use Rattle.idl_model.specs.Loading.{loaded, program_of}
+use Rattle.idl_include.specs.Loading.{loaded, program_of}
 use Rattle.idl_include.specs.declared.sources.IdlFile.{IdlFile}
 use Rattle.idl_include.specs.SourcesOf.{program_in, AreFiles}
 use Rattle.idl_include.specs.Loads.{AreRead}

@@ -1,6 +1,6 @@
 use Rattle.std.proofs.Common.{◌≡◌, ℕ, List, take}
 use Rattle.std.specs.List.{find}
-use Rattle.idl_model.specs.Names.{has_base}
+use Rattle.idl_include.specs.Names.{has_base}
 use Rattle.idl_include.specs.SourcesOf.{program_in}
 use Rattle.idl_names.specs.NameMaps.{number_of_name}
 use Rattle.idl_names.proofs.bases.base_map.Given as goal

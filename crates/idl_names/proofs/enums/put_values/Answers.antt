@@ -1,6 +1,6 @@
 use Rattle.std.proofs.Common.{◌++◌, [], map}
-use Rattle.idl_model.specs.DeclaredIn.{enum_value_in}
-use Rattle.idl_model.specs.Spots.{in_file, spots_in_enum}
+use Rattle.idl_include.specs.DeclaredIn.{enum_value_in}
+use Rattle.idl_include.specs.Spots.{in_file, spots_in_enum}
 use Rattle.idl_names.specs.SpotsIn.{spots_in, shown_in}
 use Rattle.idl_names.proofs.Spotted.{value_next}
 use Rattle.idl_names.proofs.enums.put_values.Goals as goal

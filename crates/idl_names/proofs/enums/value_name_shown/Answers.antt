@@ -1,7 +1,7 @@
 use Rattle.std.proofs.Common.{map}
 use Rattle.idl_parser.specs.declared.tree.EnumValue.{EnumValue}
-use Rattle.idl_model.specs.Declarations.{EnumValueDecl}
-use Rattle.idl_model.specs.DeclaredIn.{enum_value_in}
+use Rattle.idl_include.specs.Declarations.{EnumValueDecl}
+use Rattle.idl_include.specs.DeclaredIn.{enum_value_in}
 use Rattle.idl_names.specs.Before.{texts_of}
 use Rattle.idl_names.proofs.MarksAt.{marked_at, texts_in_values}
 use Rattle.idl_names.proofs.enums.value_name_shown.Goals as goal

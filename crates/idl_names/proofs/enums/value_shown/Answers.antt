@@ -1,6 +1,6 @@
 use Rattle.std.proofs.Common.{◌∙◌, ap, sym, map}
 use Rattle.idl_parser.specs.declared.tree.EnumValue.{EnumValue}
-use Rattle.idl_model.specs.DeclaredIn.{enum_value_in}
+use Rattle.idl_include.specs.DeclaredIn.{enum_value_in}
 use Rattle.idl_names.specs.EnumRange.{fits_enum}
 use Rattle.idl_names.proofs.MarksAt.{fits_at}
 use Rattle.idl_names.proofs.enums.value_shown.Goals as goal

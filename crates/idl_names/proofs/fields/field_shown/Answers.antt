@@ -1,5 +1,5 @@
 use Rattle.std.proofs.Common.{rules}
-use Rattle.idl_model.specs.DeclaredIn.{field_in}
+use Rattle.idl_include.specs.DeclaredIn.{field_in}
 use Rattle.idl_names.proofs.fields.field_shown.Goals as goal
 
 pub invariant_of-result : goal.invariant_of-result

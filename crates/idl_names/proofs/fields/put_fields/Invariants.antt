@@ -1,6 +1,6 @@
 use Rattle.std.proofs.Common.{◌≡◌, ◌++◌, [], map, take, drop}
-use Rattle.idl_model.specs.DeclaredIn.{field_in}
-use Rattle.idl_model.specs.Spots.{in_file, spots_in_fields}
+use Rattle.idl_include.specs.DeclaredIn.{field_in}
+use Rattle.idl_include.specs.Spots.{in_file, spots_in_fields}
 use Rattle.idl_names.specs.SpotsIn.{spots_in}
 use Rattle.idl_names.proofs.fields.put_fields.Given as goal
 

@@ -1,7 +1,7 @@
 use Rattle.std.proofs.Common.{◌∙◌, ap, sym, map}
 use Rattle.idl_parser.specs.declared.tree.Function.{Function}
-use Rattle.idl_model.specs.DeclaredIn.{function_in}
-use Rattle.idl_model.specs.Loading.{is_among}
+use Rattle.idl_include.specs.DeclaredIn.{function_in}
+use Rattle.idl_include.specs.Loading.{is_among}
 use Rattle.idl_names.specs.Functions.{function_names}
 use Rattle.idl_names.proofs.MarksAt.{marked_at, texts_in_functions}
 use Rattle.idl_names.proofs.functions.function_shown.Goals as goal

@@ -1,6 +1,6 @@
 use Rattle.std.proofs.Common.{◌++◌, [], map}
-use Rattle.idl_model.specs.DeclaredIn.{function_in}
-use Rattle.idl_model.specs.Spots.{in_file, spots_in_functions}
+use Rattle.idl_include.specs.DeclaredIn.{function_in}
+use Rattle.idl_include.specs.Spots.{in_file, spots_in_functions}
 use Rattle.idl_names.specs.SpotsIn.{spots_in, shown_in}
 use Rattle.idl_names.proofs.Spotted.{function_next}
 use Rattle.idl_names.proofs.functions.put_functions.Goals as goal

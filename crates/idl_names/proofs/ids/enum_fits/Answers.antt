@@ -1,7 +1,7 @@
 use Rattle.std.proofs.Common.{rules, ◌++◌, pos, map, to_z, w64, inl, refl, ap, sym, subst, ℤ}
 use Rattle.std.specs.Prelude.{◌+ℤ◌}
-use Rattle.idl_model.specs.DeclaredIn.{enum_value_in}
-use Rattle.idl_model.specs.EnumNumbers.{number_or}
+use Rattle.idl_include.specs.DeclaredIn.{enum_value_in}
+use Rattle.idl_include.specs.EnumNumbers.{number_or}
 use Rattle.idl_names.specs.EnumRange.{fit_marks, IsNextAs}
 use Rattle.idl_names.proofs.Walked.{fits_next, same_number}
 use Rattle.idl_names.proofs.ids.enum_fits.Goals as goal

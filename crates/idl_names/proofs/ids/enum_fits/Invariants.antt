@@ -1,5 +1,5 @@
 use Rattle.std.proofs.Common.{◌≡◌, ◌++◌, ℤ, pos, map, drop}
-use Rattle.idl_model.specs.DeclaredIn.{enum_value_in}
+use Rattle.idl_include.specs.DeclaredIn.{enum_value_in}
 use Rattle.idl_names.specs.EnumRange.{fit_marks, IsNextAs}
 use Rattle.idl_names.proofs.ids.enum_fits.Given as goal
 

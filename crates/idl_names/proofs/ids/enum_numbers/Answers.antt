@@ -1,6 +1,6 @@
 use Rattle.std.proofs.Common.{rules, map, to_z, w64}
-use Rattle.idl_model.specs.DeclaredIn.{enum_value_in}
-use Rattle.idl_model.specs.EnumNumbers.{enum_numbers}
+use Rattle.idl_include.specs.DeclaredIn.{enum_value_in}
+use Rattle.idl_include.specs.EnumNumbers.{enum_numbers}
 use Rattle.idl_names.proofs.Walked.{numbers_next}
 use Rattle.idl_names.proofs.ids.enum_numbers.Goals as goal
 

@@ -1,6 +1,6 @@
 use Rattle.std.proofs.Common.{◌≡◌, ◌++◌, map, drop}
-use Rattle.idl_model.specs.DeclaredIn.{enum_value_in}
-use Rattle.idl_model.specs.EnumNumbers.{numbers_from, enum_numbers}
+use Rattle.idl_include.specs.DeclaredIn.{enum_value_in}
+use Rattle.idl_include.specs.EnumNumbers.{numbers_from, enum_numbers}
 use Rattle.idl_names.proofs.ids.enum_numbers.Given as goal
 
 abbrev pub invariant-loop-value : goal.invariant-loop-value

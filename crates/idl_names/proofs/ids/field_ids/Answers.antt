@@ -1,6 +1,6 @@
 use Rattle.std.proofs.Common.{rules, map, ◌++◌, refl, ap}
-use Rattle.idl_model.specs.DeclaredIn.{field_in}
-use Rattle.idl_model.specs.FieldIds.{field_ids, ids_behind, one_more_unnumbered}
+use Rattle.idl_include.specs.DeclaredIn.{field_in}
+use Rattle.idl_include.specs.FieldIds.{field_ids, ids_behind, one_more_unnumbered}
 use Rattle.idl_names.proofs.Walked.{ids_next}
 use Rattle.idl_names.proofs.ids.field_ids.Goals as goal
 

@@ -1,5 +1,5 @@
 use Rattle.std.proofs.Common.{◌≡◌, ◌++◌, ℕ, List, map, take, drop, []}
-use Rattle.idl_model.specs.Loading.{is_among}
+use Rattle.idl_include.specs.Loading.{is_among}
 use Rattle.idl_names.specs.Before.{name_marks}
 use Rattle.idl_names.specs.NameSets.{has_name}
 use Rattle.idl_names.proofs.marks.repeated_names.Given as goal

@@ -1,9 +1,9 @@
 use Rattle.std.proofs.Common.{◌∙◌, ap, sym, List, ℕ, map}
 use Rattle.idl_parser.specs.declared.tree.Definition.{Definition}
-use Rattle.idl_model.specs.Written.{Written}
-use Rattle.idl_model.specs.Declarations.{declared_name}
-use Rattle.idl_model.specs.DeclaredIn.{definition_in}
-use Rattle.idl_model.specs.Loading.{is_among}
+use Rattle.idl_include.specs.Written.{Written}
+use Rattle.idl_include.specs.Declarations.{declared_name}
+use Rattle.idl_include.specs.DeclaredIn.{definition_in}
+use Rattle.idl_include.specs.Loading.{is_among}
 use Rattle.idl_names.specs.Before.{texts_of}
 use Rattle.idl_names.proofs.MarksAt.{marked_at, texts_in_definitions}
 use Rattle.idl_names.proofs.spots.given_at.Goals as goal

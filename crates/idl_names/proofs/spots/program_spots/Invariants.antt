@@ -1,6 +1,6 @@
 use Rattle.std.proofs.Common.{◌≡◌, ◌++◌, drop}
-use Rattle.idl_model.specs.Numbering.{none_counted}
-use Rattle.idl_model.specs.Spots.{spots_from}
+use Rattle.idl_include.specs.Numbering.{none_counted}
+use Rattle.idl_include.specs.Spots.{spots_from}
 use Rattle.idl_include.specs.SourcesOf.{program_in}
 use Rattle.idl_names.specs.SpotsIn.{spots_in, counts_in}
 use Rattle.idl_names.proofs.spots.program_spots.Given as goal

@@ -1,7 +1,7 @@
 use Rattle.std.proofs.Common.{◌≡◌, ◌++◌, [], map, take, drop}
-use Rattle.idl_model.specs.DeclaredIn.{definition_in}
-use Rattle.idl_model.specs.Numbering.{all_counted}
-use Rattle.idl_model.specs.Spots.{in_file, spots_in_declarations}
+use Rattle.idl_include.specs.DeclaredIn.{definition_in}
+use Rattle.idl_include.specs.Numbering.{all_counted}
+use Rattle.idl_include.specs.Spots.{in_file, spots_in_declarations}
 use Rattle.idl_names.specs.SpotsIn.{spots_in, counts_in}
 use Rattle.idl_names.proofs.Spotted.{names_given}
 use Rattle.idl_names.proofs.spots.put_file.Given as goal

@@ -1,5 +1,5 @@
 use Rattle.std.proofs.Common.{ap}
-use Rattle.idl_model.specs.Declarations.{ConstDecl, TypedefDecl, EnumDecl, StructDecl, ServiceDecl}
+use Rattle.idl_include.specs.Declarations.{ConstDecl, TypedefDecl, EnumDecl, StructDecl, ServiceDecl}
 use Rattle.idl_names.specs.FiledIn.{const_declared, typedef_declared, enum_declared, struct_declared, service_declared}
 use Rattle.idl_names.specs.Listing.{Listing}
 use Rattle.idl_names.proofs.Found.{numbers_of}

@@ -1,6 +1,6 @@
 use Rattle.std.proofs.Common.{◌≡◌, ◌++◌, map, drop}
 use Rattle.std.specs.List.{filter_map}
-use Rattle.idl_model.specs.Spots.{Spot, value_at}
+use Rattle.idl_include.specs.Spots.{Spot, value_at}
 use Rattle.idl_names.specs.SpotsIn.{filed_value, spots_in}
 use Rattle.idl_names.proofs.values.values_at.Given as goal
 

@@ -1,4 +1,4 @@
-use Rattle.idl_model.specs.DeclaredIn.{type_in}
+use Rattle.idl_include.specs.DeclaredIn.{type_in}
 use Rattle.idl_include.specs.SourcesOf.{program_in}
 use Rattle.idl_names.specs.FiledIn.{filed_structs}
 use Rattle.schema.specs.PlainKind.{kind_of}

@@ -1,4 +1,4 @@
-use Rattle.idl_model.specs.DeclaredIn.{type_in}
+use Rattle.idl_include.specs.DeclaredIn.{type_in}
 use Rattle.idl_include.specs.SourcesOf.{program_in}
 use Rattle.idl_types.proofs.Meant.{result_means}
 use Rattle.idl_types.proofs.meaning.type_meant.Goals as goal

@@ -1,7 +1,7 @@
 use Rattle.std.proofs.Common.{None, map, subst}
 use Rattle.command_line.specs.Answering.{plain_served}
 use Rattle.command_line.specs.Served.{PlainServed}
-use Rattle.recorded_calls.specs.Recorded.{Streams}
+use Rattle.recorded_runs.specs.Recorded.{Streams}
 use Rattle.thrift_host.specs.Errors.{Errors}
 use Rattle.thrift_host.specs.Runs.{AskedRun, SaysUnarranged}
 use Rattle.thrift_host.specs.Workloads.{MeansWorkload}

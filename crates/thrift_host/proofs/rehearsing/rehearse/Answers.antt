@@ -1,8 +1,8 @@
 use Rattle.std.proofs.Common.{Err, map, refl}
 use Rattle.processor.specs.Offices.{plain_office}
 use Rattle.command_line.specs.Answering.{plain_served}
-use Rattle.recorded_calls.specs.Recorded.{Streams, IsReportWritten, MeansRecordedFault}
-use Rattle.recorded_calls.specs.declared.fault.ServingFault.TheVariants.{ReadFault, WriteFault}
+use Rattle.recorded_runs.specs.Recorded.{Streams, IsReportWritten, MeansRecordedFault}
+use Rattle.recorded_runs.specs.declared.fault.ServingFault.TheVariants.{ReadFault, WriteFault}
 use Rattle.thrift_host.specs.Runs.{AskedRun, rehearsing}
 use Rattle.thrift_host.proofs.Ran.{untouched_fault, not_unanswered}
 use Rattle.thrift_host.proofs.Told.{at_arranged}

@@ -1,6 +1,6 @@
 use Rattle.std.proofs.Common.{◌%◌}
 use Rattle.std.proofs.Math.Nat.{mod-lt}
-use Rattle.rehearsal_model.specs.ScriptLines.{count_up}
+use Rattle.script_model.specs.ScriptLines.{count_up}
 use Rattle.workload.proofs.Grouped.{grouped, grouped_counts, always}
 use Rattle.workload.proofs.Carried.{carried}
 use Rattle.workload.proofs.laws.each_frame_counts_once.Goals as goal

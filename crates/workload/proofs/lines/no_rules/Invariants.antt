@@ -1,5 +1,5 @@
 use Rattle.std.proofs.Common.{◌≡◌, [], map, replicate}
-use Rattle.script_links.specs.Plans.{plain_rules}
+use Rattle.script_text.specs.Plans.{plain_rules}
 use Rattle.workload.proofs.lines.no_rules.Given as goal
 
 abbrev pub invariant-loop : goal.invariant-loop

@@ -1,8 +1,8 @@
 use Rattle.std.proofs.Common.{map, ap, ◌∙◌, refl, [], ◌∷◌}
 use Rattle.std.proofs.lemmas.List.{map-append}
-use Rattle.rehearsal_model.specs.ScriptLines.{input_end}
-use Rattle.script_links.specs.Plans.{plain_line}
-use Rattle.script_links.specs.declared.lines.ScriptLine.TheVariants.{Ends}
+use Rattle.script_model.specs.ScriptLines.{input_end}
+use Rattle.script_text.specs.Plans.{plain_line}
+use Rattle.script_text.specs.declared.lines.ScriptLine.TheVariants.{Ends}
 use Rattle.workload.proofs.Counting.{map_more}
 use Rattle.workload.proofs.lines.put_ends.Goals as goal
 

@@ -1,6 +1,6 @@
 use Rattle.std.proofs.Common.{◌≡◌, ◌++◌, map}
-use Rattle.rehearsal_model.specs.ScriptLines.{input_end, count_up}
-use Rattle.script_links.specs.Plans.{plain_line}
+use Rattle.script_model.specs.ScriptLines.{input_end, count_up}
+use Rattle.script_text.specs.Plans.{plain_line}
 use Rattle.workload.proofs.lines.put_ends.Given as goal
 
 abbrev pub invariant-loop-c : goal.invariant-loop-c

@@ -1,6 +1,6 @@
 use Rattle.std.proofs.Common.{◌≡◌, ◌++◌, map, replicate}
-use Rattle.rehearsal_model.specs.ScriptLines.{opening}
-use Rattle.script_links.specs.Plans.{plain_line}
+use Rattle.script_model.specs.ScriptLines.{opening}
+use Rattle.script_text.specs.Plans.{plain_line}
 use Rattle.workload.proofs.lines.put_openings.Given as goal
 
 abbrev pub invariant-loop : goal.invariant-loop

@@ -1,5 +1,5 @@
 use Rattle.std.proofs.Common.{[], ◌++◌, map, get_or, ap, ◌∙◌}
-use Rattle.script_links.specs.Plans.{plain_line}
+use Rattle.script_text.specs.Plans.{plain_line}
 use Rattle.workload.specs.LoadPlan.{piece_line}
 use Rattle.workload.proofs.Counting.{flat_more}
 use Rattle.workload.proofs.lines.put_round.Goals as goal

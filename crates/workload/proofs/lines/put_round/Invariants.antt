@@ -1,7 +1,7 @@
 use Rattle.std.proofs.Common.{◌≡◌, [], ◌++◌, map, get_or}
 use Rattle.std.specs.List.{flat_map}
-use Rattle.rehearsal_model.specs.ScriptLines.{count_up}
-use Rattle.script_links.specs.Plans.{plain_line}
+use Rattle.script_model.specs.ScriptLines.{count_up}
+use Rattle.script_text.specs.Plans.{plain_line}
 use Rattle.workload.specs.LoadPlan.{piece_line}
 use Rattle.workload.proofs.lines.put_round.Given as goal
 

@@ -1,5 +1,5 @@
 use Rattle.std.proofs.Common.{◌≡◌, map}
-use Rattle.rehearsal_model.specs.ScriptLines.{count_up}
+use Rattle.script_model.specs.ScriptLines.{count_up}
 use Rattle.workload.specs.LoadPlan.{connections_of, bytes_on}
 use Rattle.workload.proofs.streams.all_bytes.Given as goal
 

@@ -1,8 +1,8 @@
 use Rattle.std.proofs.Common.{◌-◌, ◌+◌, false, List, length, slice_get, subst, arith}
 use Rattle.cell_loop.specs.declared.loop_part.Stand.{Stand}
 use Rattle.cell_core.specs.MachineSteps.{HasNoTurn}
-use Rattle.rehearsal_model.specs.ScriptLines.{count_up}
-use Rattle.cell_model.specs.Moving.{all_of_conns, first_of_conns}
+use Rattle.script_model.specs.ScriptLines.{count_up}
+use Rattle.cell_loop.specs.Moving.{all_of_conns, first_of_conns}
 use Rattle.cell_loop.specs.LoopMoves.{HasLongest}
 use Rattle.cell_core.specs.Parts.{parts_of}
 use Rattle.cell_core.proofs.Rounds.{breaks_off}

@@ -1,7 +1,7 @@
 use Rattle.std.proofs.Common.{◌-◌, length, arith}
-use Rattle.rehearsal_model.specs.ScriptLines.{count_up}
-use Rattle.cell_turn.specs.declared.stop.RunStop.{RunStop}
-use Rattle.cell_model.specs.Moving.{all_of_workers, first_of_workers}
+use Rattle.script_model.specs.ScriptLines.{count_up}
+use Rattle.cell_core.specs.declared.stop.RunStop.{RunStop}
+use Rattle.cell_loop.specs.Moving.{all_of_workers, first_of_workers}
 use Rattle.cell_core.specs.Parts.{parts_of}
 use Rattle.cell_core.specs.Machines.{HasDesk, StopsSo}
 use Rattle.cell_core.proofs.PassRounds.{desk_on, workers_begin, workers_round, workers_last, loop_stops, on_same}

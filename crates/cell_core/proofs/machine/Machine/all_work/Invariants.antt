@@ -1,6 +1,6 @@
 use Rattle.std.proofs.Common.{◌-◌, length}
-use Rattle.rehearsal_model.specs.ScriptLines.{count_up}
-use Rattle.cell_model.specs.Moving.{all_of_workers, first_of_workers}
+use Rattle.script_model.specs.ScriptLines.{count_up}
+use Rattle.cell_loop.specs.Moving.{all_of_workers, first_of_workers}
 use Rattle.cell_core.specs.Parts.{parts_of}
 use Rattle.cell_core.specs.Machines.{HasDesk}
 use Rattle.cell_core.proofs.Rounds.{IsGoing}

@@ -1,5 +1,5 @@
 use Rattle.std.proofs.Common.{refl}
-use Rattle.cell_turn.specs.declared.stop.RunStop.TheVariants.{NoMemory}
+use Rattle.cell_core.specs.declared.stop.RunStop.TheVariants.{NoMemory}
 use Rattle.cell_core.specs.Parts.{parts_of}
 use Rattle.cell_core.proofs.Lines.{pieces_of, room_in, piece_line, piece_stops}
 use Rattle.cell_core.proofs.FeedLines.{piece_arrived, piece_refused}

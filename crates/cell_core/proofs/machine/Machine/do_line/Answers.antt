@@ -1,6 +1,6 @@
 use Rattle.std.proofs.Common.{length, sym, ap, ◌∙◌}
-use Rattle.rehearsal_model.specs.ScriptLines.{opening, piece, input_end, input_fault, turn_of_conn, turn_of_worker, turn_of_outcome}
-use Rattle.script_links.specs.Plans.{plain_line}
+use Rattle.script_model.specs.ScriptLines.{opening, piece, input_end, input_fault, turn_of_conn, turn_of_worker, turn_of_outcome}
+use Rattle.script_text.specs.Plans.{plain_line}
 use Rattle.cell_loop.specs.LoopMoves.{AnySetting, HasLongest}
 use Rattle.cell_core.specs.Parts.{parts_of}
 use Rattle.cell_core.specs.Machines.{HasDesk, HasCrew}

@@ -1,7 +1,7 @@
 use Rattle.std.proofs.Common.{length, map, drop}
-use Rattle.cell_turn.specs.declared.stop.RunStop.{RunStop}
-use Rattle.script_links.specs.Plans.{plain_line}
-use Rattle.cell_model.specs.Moving.{all_lines}
+use Rattle.cell_core.specs.declared.stop.RunStop.{RunStop}
+use Rattle.script_text.specs.Plans.{plain_line}
+use Rattle.cell_loop.specs.Moving.{all_lines}
 use Rattle.cell_core.specs.Parts.{parts_of}
 use Rattle.cell_core.specs.Machines.{HasCrew, StopsSo}
 use Rattle.cell_core.proofs.Rounds.{sets_out}

@@ -1,6 +1,6 @@
 use Rattle.std.proofs.Common.{length, map, drop}
-use Rattle.script_links.specs.Plans.{plain_line}
-use Rattle.cell_model.specs.Moving.{all_lines}
+use Rattle.script_text.specs.Plans.{plain_line}
+use Rattle.cell_loop.specs.Moving.{all_lines}
 use Rattle.cell_core.specs.Parts.{parts_of}
 use Rattle.cell_core.specs.Machines.{HasCrew}
 use Rattle.cell_core.proofs.Rounds.{IsGoingOn}

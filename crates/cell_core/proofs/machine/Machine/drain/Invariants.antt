@@ -1,5 +1,5 @@
 use Rattle.std.proofs.Common.{length}
-use Rattle.cell_model.specs.Moving.{all_passes}
+use Rattle.cell_loop.specs.Moving.{all_passes}
 use Rattle.cell_core.specs.Parts.{parts_of}
 use Rattle.cell_core.specs.Machines.{HasCrew}
 use Rattle.cell_core.specs.Work.{steps_left}

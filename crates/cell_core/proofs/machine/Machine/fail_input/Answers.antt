@@ -1,5 +1,5 @@
 use Rattle.std.proofs.Common.{refl}
-use Rattle.rehearsal_model.specs.Playing.{faults}
+use Rattle.script_model.specs.Playing.{faults}
 use Rattle.cell_core.specs.Parts.{parts_of}
 use Rattle.cell_core.proofs.Lines.{pieces_of, room_in, fault_line}
 use Rattle.cell_core.proofs.FeedLines.{finish_known, pieces_there}

@@ -1,5 +1,5 @@
-use Rattle.cell_turn.specs.declared.stop.RunStop.{RunStop}
-use Rattle.cell_turn.specs.declared.stop.RunStop.TheVariants.{NoMemory}
+use Rattle.cell_core.specs.declared.stop.RunStop.{RunStop}
+use Rattle.cell_core.specs.declared.stop.RunStop.TheVariants.{NoMemory}
 use Rattle.std.proofs.Common.{length, refl, ap}
 use Rattle.cell_loop.specs.LoopMoves.{AnySetting}
 use Rattle.cell_core.specs.Parts.{parts_of}

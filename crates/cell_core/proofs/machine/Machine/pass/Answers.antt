@@ -1,7 +1,7 @@
 use Rattle.std.proofs.Common.{◌∙◌, ◌||◌, Bool, ap, length, refl}
-use Rattle.cell_turn.specs.declared.stop.RunStop.{RunStop}
-use Rattle.cell_turn.specs.declared.stop.RunStop.TheVariants.{NoMemory}
-use Rattle.cell_model.specs.Moving.{first_of_conns, first_of_workers}
+use Rattle.cell_core.specs.declared.stop.RunStop.{RunStop}
+use Rattle.cell_core.specs.declared.stop.RunStop.TheVariants.{NoMemory}
+use Rattle.cell_loop.specs.Moving.{first_of_conns, first_of_workers}
 use Rattle.cell_loop.specs.LoopMoves.{HasLongest}
 use Rattle.cell_core.specs.Parts.{parts_of}
 use Rattle.cell_core.specs.Machines.{HasDesk, HasCrew, StopsSo}

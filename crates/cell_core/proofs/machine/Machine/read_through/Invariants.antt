@@ -1,4 +1,4 @@
-use Rattle.cell_model.specs.Moving.{all_of_conn}
+use Rattle.cell_loop.specs.Moving.{all_of_conn}
 use Rattle.cell_core.specs.Parts.{parts_of}
 use Rattle.cell_loop.specs.LoopMoves.{HasLongest}
 use Rattle.cell_core.specs.Work.{steps_left}

@@ -1,6 +1,6 @@
 use Rattle.std.proofs.Common.{refl}
-use Rattle.cell_turn.specs.declared.stop.RunStop.{RunStop}
-use Rattle.cell_turn.specs.declared.stop.RunStop.TheVariants.{NoMemory}
+use Rattle.cell_core.specs.declared.stop.RunStop.{RunStop}
+use Rattle.cell_core.specs.declared.stop.RunStop.TheVariants.{NoMemory}
 use Rattle.cell_loop.specs.LoopMoves.{HasLongest}
 use Rattle.cell_core.specs.Parts.{parts_of}
 use Rattle.cell_core.specs.Machines.{StopsSo}

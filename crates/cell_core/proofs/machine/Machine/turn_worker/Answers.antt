@@ -1,5 +1,5 @@
 use Rattle.std.proofs.Common.{refl}
-use Rattle.cell_turn.specs.declared.stop.RunStop.{RunStop}
+use Rattle.cell_core.specs.declared.stop.RunStop.{RunStop}
 use Rattle.cell_core.specs.Parts.{parts_of}
 use Rattle.cell_core.specs.Machines.{HasDesk, StopsSo}
 use Rattle.cell_core.proofs.PassRounds.{on_same, machine_of, fails_so}

@@ -1,5 +1,5 @@
 use Rattle.std.proofs.Common.{◌-◌}
-use Rattle.cell_model.specs.Moving.{all_of_worker}
+use Rattle.cell_loop.specs.Moving.{all_of_worker}
 use Rattle.cell_core.specs.Parts.{parts_of}
 use Rattle.cell_core.specs.Machines.{HasDesk}
 use Rattle.cell_core.proofs.Rounds.{IsGoing}

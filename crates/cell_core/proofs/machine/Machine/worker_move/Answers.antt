@@ -1,13 +1,13 @@
 use Rattle.std.proofs.Common.{◌<◌, ℕ, List, length, get_or, length-set, refl, sym, ap, ◌∙◌, subst}
 use Rattle.std.specs.Prelude.{IfOk, OnErr}
 use Rattle.call_rules.specs.Desks.{DeskMeaning}
-use Rattle.cell_turn.specs.declared.worker.Holding.{Holding}
-use Rattle.cell_turn.specs.declared.worker.Holding.TheVariants.{Idle}
+use Rattle.cell_core.specs.declared.worker.Holding.{Holding}
+use Rattle.cell_core.specs.declared.worker.Holding.TheVariants.{Idle}
 use Rattle.cell_core.specs.Parts.{Parts, parts_of}
-use Rattle.cell_model.specs.Moving.{one_of_worker}
+use Rattle.cell_loop.specs.Moving.{one_of_worker}
 use Rattle.cell_core.specs.Machines.{DeskMoves, FailsAt, LeavesLess, MoveKeeps}
-use Rattle.cell_turn.specs.TurnMoves.{MayTurn}
-use Rattle.cell_turn.specs.Turns.{IsWorkerTurn}
+use Rattle.cell_core.specs.TurnMoves.{MayTurn}
+use Rattle.cell_core.specs.Turns.{IsWorkerTurn}
 use Rattle.cell_core.proofs.Machining.{machine_may, put_back_so, worker_moved, worker_failed, worker_less, worker_kept, only_faults}
 use Rattle.cell_core.proofs.FaultsRise.{faults_later}
 use Rattle.cell_core.proofs.machine.Machine.worker_move.Goals as goal

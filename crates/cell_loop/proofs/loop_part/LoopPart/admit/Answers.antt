@@ -8,7 +8,7 @@ use Rattle.conn_table.proofs.Rising.{count_put}
 use Rattle.cell_loop.specs.declared.loop_part.Stand.TheVariants.{Lean, Framed}
 use Rattle.cell_loop.specs.LoopTied.{IsLoopTied}
 use Rattle.cell_loop.specs.Closing.{HasSizeSo, IsClosed}
-use Rattle.conn_ties.proofs.Tables.{place_of}
+use Rattle.conn_refinement.proofs.Tables.{place_of}
 use Rattle.cell_loop.proofs.Rooming.{room_kept, as_many}
 use Rattle.cell_loop.proofs.ClosingOff.{has_room, closed_behind, lean_there, lean_size, lean_phase, lean_going}
 use Rattle.cell_loop.proofs.Refused.{admits_true, admits_false, same_there, same_going, same_size_so, same_in, same_count}

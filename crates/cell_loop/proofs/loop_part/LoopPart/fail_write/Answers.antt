@@ -6,7 +6,7 @@ use Rattle.host_model.specs.declared.cause.EndCause.TheVariants.{WriteFault}
 use Rattle.conn_table.specs.Table.{slot_of}
 use Rattle.cell_loop.specs.declared.loop_part.Stand.TheVariants.{Lean}
 use Rattle.cell_loop.specs.Closing.{HasSizeSo, ClosesBehind}
-use Rattle.conn_ties.proofs.Tables.{place_of}
+use Rattle.conn_refinement.proofs.Tables.{place_of}
 use Rattle.cell_loop.proofs.ClosingOff.{has_room, two_room, same_but}
 use Rattle.cell_loop.proofs.Behind.{closes_on, closed_room}
 use Rattle.cell_loop.proofs.loop_part.LoopPart.fail_write.Goals as goal

@@ -2,7 +2,7 @@ use Rattle.std.proofs.Common.{Option, ℕ, IsSome, slice_index_or, ap, sym, refl
 use Rattle.conn_state.specs.Phase.{ConnView, cause_of}
 use Rattle.cell_loop.specs.declared.loop_part.Stand.TheVariants.{Lean}
 use Rattle.cell_loop.specs.Closing.{HasSizeSo}
-use Rattle.conn_ties.proofs.Tables.{state_there, state_is, state_size, state_but, state_count}
+use Rattle.conn_refinement.proofs.Tables.{state_there, state_is, state_size, state_but, state_count}
 use Rattle.cell_loop.proofs.ClosingOff.{closed_behind}
 use Rattle.cell_loop.proofs.loop_part.LoopPart.give_up.Goals as goal
 

@@ -2,7 +2,7 @@ use Rattle.std.proofs.Common.{◌≡◌, None, IsSome, ap, ◌∙◌, sym, subst
 use Rattle.conn_state.specs.Phase.{ConnView, cause_of}
 use Rattle.conn_table.specs.Slots.{slot_in}
 use Rattle.conn_table.specs.Table.{slot_of}
-use Rattle.conn_ties.proofs.Tables.{size_there, size_state, size_is, size_but, size_count}
+use Rattle.conn_refinement.proofs.Tables.{size_there, size_state, size_is, size_but, size_count}
 use Rattle.cell_loop.proofs.ClosingOff.{close_is, closed_behind}
 use Rattle.cell_loop.proofs.loop_part.LoopPart.let_go.Goals as goal
 

@@ -12,7 +12,7 @@ use Rattle.cell_loop.specs.declared.feed.Finish.TheVariants.{Ends, Fails}
 use Rattle.cell_loop.specs.declared.loop_part.Stand.TheVariants.{Lean}
 use Rattle.cell_loop.specs.Feeds.{plain_finish}
 use Rattle.cell_loop.specs.Closing.{HasSizeSo, ClosesBehind}
-use Rattle.conn_ties.proofs.Tables.{state_there, state_is, state_size, state_but, state_count}
+use Rattle.conn_refinement.proofs.Tables.{state_there, state_is, state_size, state_but, state_count}
 use Rattle.cell_loop.proofs.ClosingOff.{same_but}
 use Rattle.cell_loop.proofs.Behind.{closes_on, closed_room, end_over, rests_behind, ends_behind, fails_behind}
 use Rattle.cell_loop.proofs.ReadingOn.{reading, size_so}

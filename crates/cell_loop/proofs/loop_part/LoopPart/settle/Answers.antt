@@ -8,10 +8,10 @@ use Rattle.conn_table.specs.Slots.{slot_in}
 use Rattle.conn_table.specs.Table.{slot_of, TakesRoom}
 use Rattle.conn_table.proofs.Placing.{value_of}
 use Rattle.cell_loop.specs.declared.loop_part.Stand.TheVariants.{Lean, Asked}
-use Rattle.conn_ties.specs.Tables.{IsSameBut}
+use Rattle.conn_refinement.specs.Tables.{IsSameBut}
 use Rattle.cell_loop.specs.Closing.{IsClosed}
-use Rattle.conn_ties.proofs.Tables.{place_of, but_then}
-use Rattle.conn_ties.proofs.Tables.{state_there, state_is, state_size, state_but, state_count, size_found, size_there, size_state, size_is, size_but, size_count, idle_answer}
+use Rattle.conn_refinement.proofs.Tables.{place_of, but_then}
+use Rattle.conn_refinement.proofs.Tables.{state_there, state_is, state_size, state_but, state_count, size_found, size_there, size_state, size_is, size_but, size_count, idle_answer}
 use Rattle.cell_loop.proofs.ClosingOff.{close_is, none_by, asked_there, asked_size}
 use Rattle.cell_loop.proofs.Settling.{settles_open, settles_over}
 use Rattle.cell_loop.proofs.Behind.{gone_room}

@@ -1,9 +1,9 @@
 use Rattle.std.proofs.Common.{◌≡◌, ◌∷◌, Some, min, length, drop, true, ap, ◌∙◌}
 use Rattle.conn_state.specs.Phase.{ConnView, left_to_write}
 use Rattle.conn_table.specs.Table.{slot_of}
-use Rattle.rehearsal_model.specs.ScriptLines.{takes_most, blocks, fails}
-use Rattle.script_links.specs.declared.lines.WriteRule.TheVariants.{Takes, Block, Fails}
-use Rattle.cell_model.specs.Moving.{one_of_conn}
+use Rattle.script_model.specs.ScriptLines.{takes_most, blocks, fails}
+use Rattle.script_text.specs.declared.lines.WriteRule.TheVariants.{Takes, Block, Fails}
+use Rattle.cell_loop.specs.Moving.{one_of_conn}
 use Rattle.cell_loop.specs.Feeds.{rules_in}
 use Rattle.cell_loop.specs.Closing.{Writes}
 use Rattle.cell_loop.specs.LoopMoves.{LoopMoves, AnySetting}

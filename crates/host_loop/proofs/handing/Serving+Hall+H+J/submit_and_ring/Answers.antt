@@ -2,7 +2,7 @@ use Rattle.std.proofs.Common.{[], sym, subst}
 use Rattle.conn_table.specs.declared.limits.Outcome.TheVariants.{NoMemory}
 use Rattle.machine_model.specs.HallState.{key_of}
 use Rattle.machine_model.specs.SeenHall.{filled}
-use Rattle.link_loop.specs.Going.{AllHandOut}
+use Rattle.loop_conns.specs.Going.{AllHandOut}
 use Rattle.host_loop.proofs.Keeping.{some_goes_on, may_submit_here, serves_taken, halts_refused, halts}
 use Rattle.host_loop.proofs.handing.Serving+Hall+H+J.submit_and_ring.Goals as goal
 

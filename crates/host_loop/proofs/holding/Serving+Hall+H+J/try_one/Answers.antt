@@ -1,5 +1,5 @@
 use Rattle.std.proofs.Common.{subst}
-use Rattle.link_loop.specs.Going.{AdmissionTells}
+use Rattle.loop_conns.specs.Going.{AdmissionTells}
 use Rattle.host_loop.proofs.Keeping.{some_goes_on, serves_on_all}
 use Rattle.host_loop.proofs.holding.Serving+Hall+H+J.try_one.Goals as goal
 

@@ -1,6 +1,6 @@
 use Rattle.std.proofs.Common.{Ok, ap, ◌∙◌}
 use Rattle.conn_table.specs.declared.limits.Outcome.TheVariants.{All}
-use Rattle.link_loop.specs.Going.{IsAllOver}
+use Rattle.loop_conns.specs.Going.{IsAllOver}
 use Rattle.host_loop.proofs.Keeping.{halts}
 use Rattle.host_loop.proofs.rounds.Serving+Hall+H+J.run_rounds.Goals as goal
 

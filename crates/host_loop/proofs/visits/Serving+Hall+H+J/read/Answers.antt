@@ -1,5 +1,5 @@
 use Rattle.std.proofs.Common.{subst}
-use Rattle.link_loop.specs.Going.{IsReadSo}
+use Rattle.loop_conns.specs.Going.{IsReadSo}
 use Rattle.host_loop.proofs.Keeping.{goes_on, serves_on}
 use Rattle.host_loop.proofs.visits.Serving+Hall+H+J.read.Goals as goal
 

@@ -1,5 +1,5 @@
 use Rattle.std.proofs.Common.{◌≡◌, map, drop}
-use Rattle.idl_model.specs.DeclaredIn.{definition_in}
+use Rattle.idl_include.specs.DeclaredIn.{definition_in}
 use Rattle.idl_names.specs.Listing.{listing_in, with_definitions}
 use Rattle.idl_names.proofs.definitions.Definitions.add_all.Given as goal
 

@@ -1,7 +1,7 @@
 use Rattle.std.proofs.Common.{◌∙◌, List, ap}
 use Rattle.idl_include.specs.declared.sources.IdlFile.{IdlFile}
 use Rattle.idl_include.specs.SourcesOf.{program_in}
-use Rattle.idl_model.specs.Names.{type_defined}
+use Rattle.idl_include.specs.Names.{type_defined}
 use Rattle.idl_names.specs.NameMaps.{NameMap, number_in_file}
 use Rattle.idl_names.proofs.Found.{type_is}
 use Rattle.idl_names.proofs.tables.NameTables.type_defined.Goals as goal

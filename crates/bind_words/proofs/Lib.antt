@@ -1,2 +1,0 @@
-mod AtEquals
-mod PairWords

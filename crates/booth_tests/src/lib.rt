@@ -1,5 +1,0 @@
-//! Tests of the booth.
-#![tactic(auto)]
-
-#[cfg(test)]
-mod sums;

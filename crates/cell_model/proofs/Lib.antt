@@ -1,4 +1,0 @@
-pub mod Composing
-pub mod Reaching
-pub mod Arriving
-pub mod Going

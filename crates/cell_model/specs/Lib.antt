@@ -1,4 +1,0 @@
-pub mod Settings
-pub mod Moving
-pub mod Reached
-pub mod Replies

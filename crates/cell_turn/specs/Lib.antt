@@ -1,3 +1,0 @@
-pub mod HallTied
-pub mod Turns
-pub mod TurnMoves

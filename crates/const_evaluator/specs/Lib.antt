@@ -1,0 +1,9 @@
+pub mod Places
+pub mod EnumTables
+pub mod Tables
+pub mod GivenFields
+pub mod OwedFields
+pub mod StructTables
+pub mod ChainTables
+pub mod ProgramGrounds
+pub mod Evaluators

@@ -1,0 +1,80 @@
+//! The values of enums by name.
+
+ghost use Rattle.std.specs.Prelude.{◌≡◌, ℕ, List, IfOk};
+ghost use Rattle.std.specs.List.{position_from};
+ghost use Rattle.std.specs.Str.{bytes_eq};
+ghost use Rattle.idl_names.specs.NameMaps.{number_of_name};
+ghost use Rattle.idl_parser.specs.declared.tree.EnumValue.{EnumValue};
+ghost use Rattle.const_evaluator.specs.EnumTables.{number_in_table, number_in_tables, IsTableOf, AreTablesOf};
+
+use idl_names::{InFile, NameMap, enum_numbers, note, number_of_name};
+use idl_parser::{Enum, EnumValue};
+use indexmap::IndexMap;
+use std::alloc::{AllocError, Global};
+
+/// The values of an enum by name.
+#[derive(Drop)]
+pub(crate) struct EnumTable<'a> {
+    /// The place of the first value of each name.
+    pub(crate) places: NameMap<'a>,
+    /// The numbers of the values, in order.
+    pub(crate) numbers: Vec<i64>,
+}
+
+/// The place of the first value of each name.
+fn first_places<'a>(alloc: Global, values: &'a [EnumValue]) -> Result<NameMap<'a>, AllocError>
+    ensures { IfOk result (λ places. (name : List ℕ) → number_of_name places name ≡ position_from (λ (v : EnumValue). bytes_eq v.name.text name) 0 values.now) }
+{
+    let mut places = IndexMap::new(alloc);
+    for (place, value) in values.iter().enumerate() {
+        let Ok(place) = u32::try_from(place) else {
+            return Err(AllocError);
+        };
+        note(&mut places, value.name.text.as_slice(), place)?;
+    }
+    Ok(places)
+}
+
+/// The values of an enum by name.
+fn enum_table<'a>(alloc: Global, values: &'a [EnumValue]) -> Result<EnumTable<'a>, AllocError>
+    ensures { IfOk result (IsTableOf values.now) }
+{
+    let places = first_places(alloc, values)?;
+    let numbers = enum_numbers(alloc, values)?;
+    Ok(EnumTable { places, numbers })
+}
+
+/// The same of each enum.
+pub(crate) fn enum_tables<'a>(
+    alloc: Global,
+    enums: &[InFile<'a, Enum>],
+) -> Result<Vec<EnumTable<'a>>, AllocError>
+    ensures { IfOk result (λ tables. AreTablesOf enums.now tables.items) }
+{
+    let mut tables = Vec::new(alloc);
+    for item in enums {
+        let table = enum_table(alloc, item.item.values.as_slice())?;
+        tables.push(table)?;
+    }
+    Ok(tables)
+}
+
+/// The number of the first value of a name.
+fn number_in_table(table: &EnumTable<'_>, name: &[u8]) -> Option<i64>
+    ensures { result ≡ number_in_table table.now name.now }
+{
+    match number_of_name(&table.places, name) {
+        Some(place) => table.numbers.get(place as usize).copied(),
+        None => None,
+    }
+}
+
+/// The same of the enum of some number.
+pub(crate) fn number_in_tables(tables: &[EnumTable<'_>], which: u32, name: &[u8]) -> Option<i64>
+    ensures { result ≡ number_in_tables tables.now which name.now }
+{
+    match tables.get(which as usize) {
+        Some(table) => number_in_table(table, name),
+        None => None,
+    }
+}

@@ -1,6 +1,0 @@
-use Rattle.std.proofs.Common.{rules}
-use Rattle.const_ground.proofs.ChainTabled.{settled_more, settled_end}
-use Rattle.const_ground.proofs.chain_ends.are_settled.Goals as goal
-
-pub returns : goal.returns
-returns c = λ told. settled_end c.args.links.now c.args.ends.now c.loop-which.which c.loop-which-test.false c.loop-which.invariant

@@ -1,5 +1,0 @@
-use Rattle.const_ground.proofs.ChainTabled.{none_next}
-use Rattle.const_ground.proofs.chain_ends.no_ends.Goals as goal
-
-pub loop-place-preserved : goal.loop-place-preserved
-loop-place-preserved c = none_next c.loop-place.ends.items c.push.new.self.items c.in_ok-push.ensures.items c.loop-place.invariant

@@ -1,6 +1,0 @@
-use Rattle.const_ground.proofs.RisingIds.{RiseBelow}
-use Rattle.const_ground.proofs.struct_tables.ids_rise.Given as goal
-
--- the ids so far
-abbrev pub invariant-loop-place : goal.invariant-loop-place
-invariant-loop-place l = RiseBelow l.fields l.place

@@ -1,6 +1,0 @@
-use Rattle.std.proofs.Common.{take}
-use Rattle.const_tables.specs.EnumTables.{AreTablesOf}
-use Rattle.const_tables.proofs.enum_tables.enum_tables.Given as goal
-
-abbrev pub invariant-loop-item : goal.invariant-loop-item
-invariant-loop-item l = AreTablesOf (take l.item-index l.enums) l.tables.items

@@ -1,5 +1,0 @@
-use Rattle.hall_crew.proofs.Ending.{one_history}
-use Rattle.hall_crew.proofs.laws.ends_tell_one_history.Goals as goal
-
-pub returns : goal.returns
-returns c desk booth first others last weave loop new ends zeroth same served woven = one_history desk booth first others last ends zeroth served weave loop new same woven

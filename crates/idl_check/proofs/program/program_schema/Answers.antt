@@ -1,0 +1,16 @@
+use Rattle.std.proofs.Common.{sym, ◌∙◌}
+use Rattle.outside.specs.Cause.{Rose}
+use Rattle.idl_check.proofs.Telling.{of_tutorial, of_file, never_rises}
+use Rattle.idl_check.proofs.program.program_schema.Goals as goal
+
+pub returns-then-eq-clause-schema : goal.returns-then-eq-clause-schema
+returns-then-eq-clause-schema g c =
+    of_tutorial (g.F.Files.files c.args.files.now) c.args.idl.now c.tutorial_schema.result (sym c.eq.ensures ∙ c.if-eq.true) c.tutorial_schema.ensures.schema
+
+pub returns-clause-schema : goal.returns-clause-schema
+returns-clause-schema g c =
+    of_file (g.F.Files.files c.args.files.now) c.args.idl.now c.schema_among.result (sym c.eq.ensures ∙ c.if-eq.false) c.schema_among.ensures.schema
+
+pub returns-then-eq-clause-rose : goal.returns-then-eq-clause-rose
+returns-then-eq-clause-rose g c =
+    let faults = g.F.Files.faults c.args.files.now in never_rises (Rose faults faults) c.tutorial_schema.result c.tutorial_schema.ensures.no_fault

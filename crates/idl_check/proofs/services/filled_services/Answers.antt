@@ -1,0 +1,20 @@
+use Rattle.std.proofs.Common.{rules, ◌∙◌}
+use Rattle.schema.specs.SchemaOf.{plain_service}
+use Rattle.idl_names.specs.FiledIn.{filed_by, service_declared}
+use Rattle.idl_check.specs.Filling.{IsServiceFilled}
+use Rattle.idl_check.proofs.Zips.{zipped_on}
+use Rattle.idl_check.proofs.services.filled_services.Goals as goal
+
+pub loop-one-preserved : goal.loop-one-preserved
+loop-one-preserved c = (
+  tt,
+  tt,
+  λ program right.
+      let h = c.loop-one.invariant.2 program right in
+      let one = c.in_ok-filled.ensures program h.1 in (
+        zipped_on (IsServiceFilled program) (filed_by service_declared) plain_service c.args.given.now c.len-place.result c.index-given-place.result c.in-Some.one c.in_ok-filled.filled
+            c.loop-one.yielded c.loop-one.made.items c.push.new.self.items (c.len-place.ensures ∙ c.loop-one.made.ok.0) (search rules) c.index-given-place.is
+            (search (rules, c.in_ok-push.ensures.items)) one.0 h.0,
+        one.1,
+      ),
+)

@@ -1,0 +1,61 @@
+//! The schema of a program with its defaults and constants.
+
+ghost use Rattle.std.specs.Prelude.{◌≡◌, IfOk};
+ghost use Rattle.idl_include.specs.SourcesOf.{program_in};
+ghost use Rattle.idl_names.specs.Listing.{listing_in, listing_of};
+ghost use Rattle.schema.specs.SchemaOf.{schema_of};
+ghost use Rattle.check_model.specs.SchemaParts.{IsPartialSchema};
+ghost use Rattle.const_evaluator.specs.Places.{ArePlaces};
+ghost use Rattle.check_passes.specs.Given.{AreWorth};
+ghost use Rattle.idl_types.specs.Known.{AreAliasTypes};
+ghost use Rattle.idl_check.specs.Filling.{IsWholeSchema};
+
+use crate::constants::all_constants;
+use crate::services::filled_services;
+use crate::sites::field_sites;
+use crate::structs::filled_structs;
+use crate::worths::Worths;
+use const_evaluator::ValuePlaces;
+use idl_names::Definitions;
+use idl_types::TypeTables;
+use schema::{Listed, Schema};
+use std::alloc::{AllocError, Global};
+use thrift_value::Value;
+
+/// The schema of a program with its defaults and constants, from the one without them, the places of the values that the program gives,
+/// and what these are worth, in order by number.
+pub fn whole_schema(
+    alloc: Global,
+    definitions: &Definitions<'_>,
+    tables: &TypeTables<'_, '_>,
+    places: &ValuePlaces,
+    partial: Schema,
+    values: Vec<Value>,
+) -> Result<Schema, AllocError>
+    requires definitions { listing_in definitions.now ≡ listing_of (program_in tables.now.names.now) }
+    requires aliases { AreAliasTypes (program_in tables.now.names.now) tables.now.aliases.now }
+    requires places { ArePlaces (program_in tables.now.names.now) places.now }
+    requires made { IsPartialSchema (program_in tables.now.names.now) (schema_of partial) }
+    requires worth { AreWorth (program_in tables.now.names.now) values.items }
+    ensures { IfOk result (λ schema. IsWholeSchema (program_in tables.now.names.now) (schema_of partial) (schema_of schema)) }
+{
+    let mut worths = Worths::new(alloc, places, values)?;
+    let services = definitions.services.as_slice();
+    let sites = field_sites(alloc, definitions.structs.as_slice(), services)?;
+    let structs = filled_structs(
+        alloc,
+        &mut worths,
+        sites.as_slice(),
+        partial.structs.into_vec(),
+    )?;
+    let services = filled_services(alloc, &mut worths, services, partial.services.into_vec())?;
+    let constants = all_constants(alloc, tables, &mut worths, definitions.constants.as_slice())?;
+    Ok(Schema {
+        files: partial.files,
+        structs: Listed::new(structs),
+        enums: partial.enums,
+        services: Listed::new(services),
+        aliases: partial.aliases,
+        constants: Listed::new(constants),
+    })
+}

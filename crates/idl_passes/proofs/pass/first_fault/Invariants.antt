@@ -1,6 +1,0 @@
-use Rattle.idl_model.specs.Program.{Program}
-use Rattle.idl_passes.proofs.FirstSpots.{AreClear}
-use Rattle.idl_passes.proofs.pass.first_fault.Given as goal
-
-abbrev pub invariant-loop-spot : goal.invariant-loop-spot
-invariant-loop-spot g l = (program : Program) → g.T.SpotTest.right l.test program → AreClear program g.T.SpotTest.pass l.spots l.spot-index

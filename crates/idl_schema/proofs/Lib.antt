@@ -1,4 +1,0 @@
-pub mod Named
-pub mod Placed
-pub mod Verdicts
-pub mod Telling

@@ -1,5 +1,0 @@
-use Rattle.idl_schema.proofs.Verdicts.{one_verdict}
-use Rattle.idl_schema.proofs.laws.an_idl_has_one_verdict.Goals as goal
-
-pub returns : goal.returns
-returns c = one_verdict c.the_program_is_determined.ensures

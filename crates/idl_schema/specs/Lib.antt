@@ -1,5 +1,0 @@
-pub mod Tutorial
-pub mod FaultKinds
-pub mod Lines
-pub mod Verdicts
-pub mod Telling

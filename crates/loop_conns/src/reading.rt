@@ -1,0 +1,106 @@
+//! How a connection is read.
+
+ghost use Rattle.std.specs.Prelude.{◌≡◌, ◌<◌, ◌≤◌, ◌^◌, true, IsSome, length, slice_index_or};
+ghost use Rattle.conn_state.specs.Phase.{wanted, IsReading};
+ghost use Rattle.conn_table.specs.Slots.{slot_in};
+ghost use Rattle.conn_table.specs.Table.{slot_of};
+ghost use Rattle.loop_conns.specs.declared.connections.ConnStage.TheVariants.{Gone};
+ghost use Rattle.loop_conns.specs.Ended.{IsNumbered, HasSizeBy};
+ghost use Rattle.loop_conns.specs.Going.{SomeLoopGoesOn, KeepsGoing, ReadsAt, IsReadSo, TakesIn};
+
+use crate::connections::LoopConnections;
+use conn_state::EndCause;
+use outside::{Links, Taken};
+
+/// So many frames are counted at most.
+const MOST_FRAMES: u64 = 1 << 62;
+
+/// What a read came to.
+#[derive(Clone, Copy)]
+pub enum ReadStep {
+    /// More may be read at once.
+    More,
+    /// A size is whole, and its frame waits to be admitted.
+    Sized,
+    /// A payload is whole.
+    Whole,
+    /// Nothing has arrived.
+    Rests,
+    /// The connection has ended.
+    Over,
+}
+
+impl LoopConnections {
+    /// Reads once, into as many bytes as the connection wants.
+    pub fn read<L: Links>(
+        &mut self,
+        links: &mut L,
+        c: u32,
+        into: &mut [u8],
+        max_frame: u32,
+    ) -> ReadStep
+        requires under_way { SomeLoopGoesOn max_frame (L.state links.old) self.old }
+        requires reads { ReadsAt c self.old }
+        requires lent { length into.old ≡ wanted (slot_of c self.old.table.slots).conn.phase }
+        requires small { max_frame ≤ 268435456 }
+        ensures going { KeepsGoing max_frame (L.state links.old) self.old (L.state links.new) self.new }
+        ensures step { IsReadSo c self.new result }
+        ensures budget { self.new.table.budget ≡ self.old.table.budget }
+        ensures plan { L.plan links.new ≡ L.plan links.old }
+    {
+        if self.table.conn(c).frames() >= MOST_FRAMES {
+            self.end_by(links, c, EndCause::NoMemory);
+            return ReadStep::Over;
+        }
+        match links.read(c, into) {
+            Taken::Bytes(count) => self.take_in(links, c, &into[..count], max_frame),
+            Taken::End => {
+                self.table.end_of_input(c);
+                self.clear(links, c);
+                ReadStep::Over
+            }
+            Taken::NotYet => ReadStep::Rests,
+            Taken::Failed => {
+                self.end_by(links, c, EndCause::ReadFault);
+                ReadStep::Over
+            }
+            Taken::NoMemory => {
+                self.end_by(links, c, EndCause::NoMemory);
+                ReadStep::Over
+            }
+        }
+    }
+
+    /// Takes in bytes that were read.
+    fn take_in<L: Links>(&mut self, links: &mut L, c: u32, bytes: &[u8], max_frame: u32) -> ReadStep
+        requires there { IsSome (slot_in c self.old.table.slots) }
+        requires reading { IsReading (slot_of c self.old.table.slots).conn.phase }
+        requires some { 0 < length bytes.now }
+        requires asked { length bytes.now ≤ wanted (slot_of c self.old.table.slots).conn.phase }
+        requires counted { (slot_of c self.old.table.slots).conn.frames < 2 ^ 62 }
+        requires size { HasSizeBy (slice_index_or self.old.places.items c Gone) (slot_of c self.old.table.slots).size }
+        requires known { IsNumbered c self.old }
+        requires link { (L.state links.old).is_open c ≡ true }
+        requires small { max_frame ≤ 268435456 }
+        requires few { self.old.owing ≤ 2 ^ 32 }
+        ensures going { TakesIn max_frame c bytes.now self.old (L.state links.old) (L.state links.new) self.new }
+        ensures step { ReadsAt c self.old → IsReadSo c self.new result }
+        ensures budget { self.new.table.budget ≡ self.old.table.budget }
+        ensures plan { L.plan links.new ≡ L.plan links.old }
+    {
+        let frames = self.table.conn(c).frames();
+        self.table.took(c, bytes, max_frame);
+        if self.table.conn(c).cause().is_some() {
+            self.clear(links, c);
+            return ReadStep::Over;
+        }
+        if self.table.conn(c).frames() > frames {
+            self.owing += 1;
+            return ReadStep::Whole;
+        }
+        if self.table.conn(c).asks().is_some() {
+            return ReadStep::Sized;
+        }
+        ReadStep::More
+    }
+}

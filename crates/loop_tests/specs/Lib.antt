@@ -1,2 +1,0 @@
-pub mod ByteDesk
-pub mod Untold

@@ -1,5 +1,0 @@
-pub mod ShownByNumber
-pub mod Rising
-pub mod RowsMade
-pub mod Sets
-pub mod Inheriting

@@ -1,7 +1,0 @@
-use Rattle.name_graphs.proofs.Inheriting.{told}
-use Rattle.name_graphs.proofs.inherited.inherited_names.Goals as goal
-
-pub returns : goal.returns
-returns c = λ program are is.
-    told program c.args.parents.now c.args.services.now c.in_ok-offered.offered.sets.items c.in_ok-offered.offered.made.items c.as_slice.result.now
-    c.in_ok-inherited.inherited.items c.in_ok-offered.ensures c.as_slice.ensures.value c.in_ok-inherited.ensures are is

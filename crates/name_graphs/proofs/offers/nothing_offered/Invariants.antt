@@ -1,5 +1,0 @@
-use Rattle.std.proofs.Common.{◌≡◌, ℕ, None, slice_index_or}
-use Rattle.name_graphs.proofs.offers.nothing_offered.Given as goal
-
-abbrev pub invariant-loop : goal.invariant-loop
-invariant-loop l = (service : ℕ) → slice_index_or l.made.items service None ≡ None

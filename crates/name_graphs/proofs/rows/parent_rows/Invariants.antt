@@ -1,6 +1,0 @@
-use Rattle.std.proofs.Common.{◌≡◌, map, take}
-use Rattle.idl_model.specs.Cycles.{listed}
-use Rattle.name_graphs.proofs.rows.parent_rows.Given as goal
-
-abbrev pub invariant-loop-parent : goal.invariant-loop-parent
-invariant-loop-parent l = map (λ row. row.items) l.rows.items ≡ map listed (take l.parent-index l.parents)

@@ -1,3 +1,0 @@
-pub mod SpotNumbers
-pub mod Rows
-pub mod Inherited

@@ -1,9 +1,0 @@
-//! Tests of links over loopback sockets.
-#![tactic(auto)]
-
-#[cfg(test)]
-mod echo;
-#[cfg(test)]
-mod sending;
-#[cfg(test)]
-mod waking;

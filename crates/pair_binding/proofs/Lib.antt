@@ -1,5 +1,0 @@
-mod SameKinds
-mod Taking
-mod Progressing
-mod Served
-mod Determined

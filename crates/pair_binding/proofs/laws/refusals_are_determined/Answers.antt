@@ -1,5 +1,0 @@
-use Rattle.pair_binding.proofs.Determined.{refused_once}
-use Rattle.pair_binding.proofs.laws.refusals_are_determined.Goals as goal
-
-pub returns : goal.returns
-returns c = refused_once

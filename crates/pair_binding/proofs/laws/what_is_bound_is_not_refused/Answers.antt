@@ -1,5 +1,0 @@
-use Rattle.pair_binding.proofs.Determined.{bound_or_refused}
-use Rattle.pair_binding.proofs.laws.what_is_bound_is_not_refused.Goals as goal
-
-pub returns : goal.returns
-returns c = bound_or_refused

@@ -1,6 +1,0 @@
-pub mod Handlers
-pub mod Services
-pub mod Binding
-pub mod FirstRefusal
-pub mod Refusals
-pub mod Steps

@@ -1,8 +1,0 @@
-use Rattle.plain_lexer.proofs.Longest.{NoneLonger}
-use Rattle.plain_lexer.proofs.fronts.longest.Given as goal
-
-abbrev pub invariant-sizes : goal.invariant-sizes
-invariant-sizes l = NoneLonger l.text l.size
-
-abbrev pub decreases-sizes : goal.decreases-sizes
-decreases-sizes l = l.size

@@ -1,2 +1,0 @@
-pub mod PingDesk
-pub mod Submitted

@@ -1,5 +1,0 @@
-use Rattle.recorded_calls.proofs.OneReport.{one_report}
-use Rattle.recorded_calls.proofs.laws.an_input_has_one_report.Goals as goal
-
-pub returns : goal.returns
-returns c = λ a input s t text other. one_report a input s t text other

@@ -1,5 +1,0 @@
-pub mod Recorded
-pub mod Answered
-pub mod OneConnection
-pub mod Refusals
-pub mod Steps

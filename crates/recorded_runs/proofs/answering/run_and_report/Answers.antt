@@ -1,0 +1,20 @@
+use Rattle.std.proofs.Common.{◌<◌, ◌^◌, map, refl, arith}
+use Rattle.recorded_runs.specs.Answered.{Answering}
+use Rattle.recorded_runs.proofs.Scripted.{ran_script}
+use Rattle.recorded_runs.proofs.answering.run_and_report.Goals as goal
+
+pub returns-clause-reported : goal.returns-clause-reported
+returns-clause-reported g c =
+    let a : Answering =
+    (record {
+      desk = g.D.Desk.meaning c.args.desk.now;
+      services = map g.H.Handler.service c.args.handlers.items;
+      workers = c.args.workers;
+      budget = c.args.limits.read_budget;
+      line = g.L.EntryLine.line;
+    })
+    in
+    let small : a.desk.max_frame < 2 ^ 31 = omega (arith, c.requires.longest, c.requires.within, c.requires.budget) in
+    c.report_run-result.ensures.reported a c.args.script.now
+    (λ all entries told. ran_script a c.args.script.now _ _ _ entries (map g.H.Handler.service c.rehearse-run.result.handlers.items) small told
+    c.rehearse-run.ensures.run (c.rehearse-run.ensures.all all))

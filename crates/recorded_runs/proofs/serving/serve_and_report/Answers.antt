@@ -1,0 +1,43 @@
+use Rattle.std.proofs.Common.{◌<◌, ◌^◌, map, refl, sym, inl, subst, arith}
+use Rattle.script_links.specs.Shown.{links_told}
+use Rattle.host_loop.specs.Served.{ServedRun}
+use Rattle.recorded_runs.specs.Answered.{Answering}
+use Rattle.recorded_runs.specs.ServedScripts.{IsServedScript}
+use Rattle.recorded_runs.proofs.Served.{ran, journal_rose}
+use Rattle.recorded_runs.proofs.serving.serve_and_report.Goals as goal
+
+pub returns-in_default-clause-reported : goal.returns-in_default-clause-reported
+returns-in_default-clause-reported g c = inl refl
+
+pub returns-clause-reported : goal.returns-clause-reported
+returns-clause-reported g c =
+    let a : Answering =
+    (record {
+      desk = g.D.Desk.meaning c.args.desk.now;
+      services = map g.H.Handler.service c.args.handlers.items;
+      workers = c.args.workers;
+      budget = c.args.limits.read_budget;
+      line = g.L.EntryLine.line;
+    })
+    in
+    let run : ServedRun =
+    (record {
+      first = links_told c.in-Ok.links;
+      links = links_told c.serve-run.new.links;
+      causes = c.serve-run.result.ends;
+      outcome = c.serve-run.result.outcome;
+      services = map g.H.Handler.service c.serve-run.result.handlers.items;
+      told = g.J.Journal.told c.serve-run.result.journal;
+      torn = g.J.Journal.torn c.serve-run.result.journal;
+      faults_before = g.J.Journal.faults c.args.journal;
+      faults = g.J.Journal.faults c.serve-run.result.journal;
+    })
+    in
+    let small : a.desk.max_frame < 2 ^ 31 = omega (arith, c.requires.longest, c.requires.within, c.requires.budget) in
+    c.report_run-result.ensures.reported a c.args.script
+    (λ all entries told. subst (λ tape. IsServedScript a c.args.script tape entries c.serve-run.result.ends) (sym c.into_tape-tape.ensures)
+    (ran a c.args.script c.in-Ok.links c.serve-run.new.links run entries small c.serve-run.ensures.served all refl told c.in-Ok.ensures.own c.serve-run.ensures.plan
+    c.follow_their_script.ensures))
+
+pub returns-clause-journal_fault : goal.returns-clause-journal_fault
+returns-clause-journal_fault g c is = journal_rose _ _ c.serve-run.ensures.served (c.report_run-result.ensures.journal_fault is)

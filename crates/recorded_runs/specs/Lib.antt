@@ -1,0 +1,7 @@
+pub mod Recorded
+pub mod Answered
+pub mod OneConnection
+pub mod Refusals
+pub mod Steps
+pub mod ServedScripts
+pub mod Summaries

@@ -1,0 +1,173 @@
+//! A recording, served from its input to its report.
+
+ghost use Rattle.std.specs.Prelude.{◌≡◌, ◌≢◌, ◌≤◌, false, [], List, length, map, Some, Err};
+ghost use Rattle.outside.specs.Cause.{Rose};
+ghost use Rattle.conn_table.specs.declared.limits.Outcome.TheVariants as outcomes;
+ghost use Rattle.call_rules.specs.Entries.{CallEntry};
+ghost use Rattle.script_model.specs.ScriptLines.{ScriptPlan};
+ghost use Rattle.recorded_runs.specs.Recorded.{MeansRecorded};
+ghost use Rattle.recorded_runs.specs.Answered.{Answering};
+ghost use Rattle.recorded_runs.specs.Steps.{ReportsServed};
+ghost use Rattle.recorded_runs.specs.ServedScripts.{script_to_serve, IsServedScript};
+
+use call_rules::{Desk, Handler};
+use cell_core::written;
+use conn_table::{Limits, Outcome};
+use host_loop::{Served, serve};
+use outside::{Gate, Sink, Source, Tape};
+use crate::{Answered, ServingFault, read_input};
+use run_report::{EntryLine, ReportedJournal, write_report};
+use script_text::Script;
+use script_links::ScriptLinks;
+use std::alloc::Global;
+use std::sync::Wait;
+use std::thread::Threads;
+
+/// Serves the connections of the script that the input is, by a loop and so many workers on threads, and writes the report of the run to the output. The journal
+/// is empty at first. It may wait.
+///
+/// # Errors
+///
+/// NoScript exactly where the input is none, with its first fault; ReadFault, WriteFault and JournalFault only where the count of faults rose; and
+/// NoMemory. With all but WriteFault and NoMemory nothing is written.
+pub fn serve_recorded<
+    L: EntryLine,
+    D: Desk + Sync,
+    H: Handler,
+    J: ReportedJournal + Send,
+    S: Source,
+    K: Sink,
+    G: Gate + Sync,
+    R: Threads + Wait + Sync,
+>(
+    rt: &R,
+    alloc: Global,
+    input: &mut S,
+    output: &mut K,
+    desk: &D,
+    handlers: Vec<H>,
+    journal: J,
+    workers: u32,
+    gate: &G,
+    limits: Limits,
+) -> Answered<H, J>
+    requires workers { workers ≤ 8 }
+    requires some { 1 ≤ limits.max_frame }
+    requires within { limits.max_frame ≤ limits.read_budget }
+    requires budget { limits.read_budget ≤ 268435456 }
+    requires longest { (D.meaning desk.now).max_frame ≡ limits.max_frame }
+    requires slots { length handlers.items ≡ (D.meaning desk.now).slots }
+    requires empty { J.told journal ≡ Some [] }
+    requires whole { J.torn journal ≡ false }
+    // Ok says that the input is a script, read to its end, and that the bytes added to the output are the report of a run of it at this desk and from the
+    // memories that the handlers had. It and NoScript come exactly by the input, since no input is both a script and none.
+    ensures means { MeansRecorded
+        (script_to_serve (record { desk = D.meaning desk.now; services = map H.service handlers.items; workers = workers; budget = limits.read_budget; line = L.line }))
+        (IsServedScript (record { desk = D.meaning desk.now; services = map H.service handlers.items; workers = workers; budget = limits.read_budget; line = L.line }))
+        L.line result.result
+        (record { left_before = S.left input.old; left = S.left input.new; taken_before = K.taken output.old; taken = K.taken output.new }) }
+    ensures read_fault { result.result ≡ Err ServingFault.ReadFault → Rose (S.faults input.old) (S.faults input.new) }
+    ensures write_fault { result.result ≡ Err ServingFault.WriteFault → Rose (K.faults output.old) (K.faults output.new) }
+    ensures journal_fault { result.result ≡ Err ServingFault.JournalFault → Rose (J.faults journal) (J.faults result.journal) }
+{
+    match read_input(alloc, input, workers, false) {
+        Ok(script) => serve_and_report::<L, D, H, J, K, G, R>(
+            rt, alloc, script, output, desk, handlers, journal, workers, gate, limits,
+        ),
+        Err(fault) => Answered {
+            handlers,
+            journal,
+            result: Err(fault),
+        },
+    }
+}
+
+/// Serves the connections of a script, and writes the report of the run.
+fn serve_and_report<
+    L: EntryLine,
+    D: Desk + Sync,
+    H: Handler,
+    J: ReportedJournal + Send,
+    K: Sink,
+    G: Gate + Sync,
+    R: Threads + Wait + Sync,
+>(
+    rt: &R,
+    alloc: Global,
+    script: Script,
+    output: &mut K,
+    desk: &D,
+    handlers: Vec<H>,
+    journal: J,
+    workers: u32,
+    gate: &G,
+    limits: Limits,
+) -> Answered<H, J>
+    requires workers { workers ≤ 8 }
+    requires some { 1 ≤ limits.max_frame }
+    requires within { limits.max_frame ≤ limits.read_budget }
+    requires budget { limits.read_budget ≤ 268435456 }
+    requires longest { (D.meaning desk.now).max_frame ≡ limits.max_frame }
+    requires slots { length handlers.items ≡ (D.meaning desk.now).slots }
+    requires empty { J.told journal ≡ Some [] }
+    requires whole { J.torn journal ≡ false }
+    ensures reported { ReportsServed
+        (IsServedScript (record { desk = D.meaning desk.now; services = map H.service handlers.items; workers = workers; budget = limits.read_budget; line = L.line }))
+        L.line script (K.taken output.old) (K.taken output.new) result.result }
+    ensures write_fault { result.result ≡ Err ServingFault.WriteFault → Rose (K.faults output.old) (K.faults output.new) }
+    ensures journal_fault { result.result ≡ Err ServingFault.JournalFault → Rose (J.faults journal) (J.faults result.journal) }
+    ensures no_read_fault { result.result ≢ Err ServingFault.ReadFault }
+{
+    let Ok(mut links) = ScriptLinks::new(alloc, script) else {
+        return Answered {
+            handlers,
+            journal,
+            result: Err(ServingFault::NoMemory),
+        };
+    };
+    let run = serve(
+        rt, alloc, &mut links, desk, handlers, journal, workers, gate, limits,
+    );
+    links.follow_their_script();
+    let tape = links.into_tape();
+    let result = report_run::<L, H, J, K>(alloc, output, &tape, &run);
+    let Served {
+        handlers,
+        journal,
+        ..
+    } = run;
+    Answered {
+        handlers,
+        journal,
+        result,
+    }
+}
+
+/// Writes the report of a run that came to its end.
+fn report_run<L: EntryLine, H: Handler, J: ReportedJournal, K: Sink>(
+    alloc: Global,
+    out: &mut K,
+    tape: &Tape,
+    run: &Served<H, J>,
+) -> Result<(), ServingFault>
+    ensures reported { (a : Answering) (script : ScriptPlan)
+        → (run.now.outcome ≡ outcomes.All → (entries : List CallEntry) → J.told run.now.journal ≡ Some entries → IsServedScript a script tape.now entries run.now.ends)
+        → ReportsServed (IsServedScript a) L.line script (K.taken out.old) (K.taken out.new) result }
+    ensures write_fault { result ≡ Err ServingFault.WriteFault → Rose (K.faults out.old) (K.faults out.new) }
+    ensures journal_fault { result ≡ Err ServingFault.JournalFault → run.now.outcome ≡ outcomes.JournalFault }
+    ensures no_read_fault { result ≢ Err ServingFault.ReadFault }
+{
+    match run.outcome {
+        Outcome::All => {
+            let ends = run.ends.as_slice();
+            let Ok(outs) = written(alloc, tape.marks(), ends.len()) else {
+                return Err(ServingFault::NoMemory);
+            };
+            let entries = run.journal.entries();
+            write_report::<L, K>(alloc, out, tape, entries, ends, outs.as_slice())?;
+            Ok(())
+        }
+        Outcome::JournalFault => Err(ServingFault::JournalFault),
+        Outcome::NetFault | Outcome::NoMemory => Err(ServingFault::NoMemory),
+    }
+}

@@ -1,0 +1,151 @@
+//! A workload, served from its seed to its summary.
+
+ghost use Rattle.std.specs.Prelude.{◌≡◌, ◌≤◌, false, [], length, map, Some, Err};
+ghost use Rattle.outside.specs.Cause.{Rose};
+ghost use Rattle.workload.specs.LoadPlan.{workload_plan};
+ghost use Rattle.workload.specs.ExpectedRun.{work_text};
+ghost use Rattle.workload.specs.Summed.{HasCalculator};
+ghost use Rattle.recorded_runs.specs.declared.fault.ServingFault.TheVariants as faults;
+ghost use Rattle.recorded_runs.specs.Summaries.{ServesCalculator, WritesSummary};
+
+use crate::workload_laws::a_served_workload_comes_to_its_sum;
+use crate::summing::sum_up;
+use call_rules::{Desk, Handler};
+use conn_table::Limits;
+use host_loop::{Served, serve};
+use outside::{Gate, Sink};
+use crate::{Answered, ServingFault};
+use run_report::ReportedJournal;
+use script_text::Script;
+use script_links::ScriptLinks;
+use std::alloc::Global;
+use std::sync::Wait;
+use std::thread::Threads;
+use workload::generate;
+
+/// A workload: its seed, and how many frames it has.
+#[derive(Clone, Copy)]
+pub struct Work {
+    /// The seed.
+    pub seed: u64,
+    /// How many frames there are.
+    pub size: u32,
+}
+
+/// Serves the connections of a workload's script, by a loop and so many workers on threads, at a desk that is a calculator's office, and writes the summary of
+/// the run to the output. The journal is empty at first. It may wait.
+///
+/// # Errors
+///
+/// WriteFault and JournalFault only where the count of faults rose; and NoMemory. With all but WriteFault nothing is written.
+pub fn serve_workload<
+    D: Desk + Sync,
+    H: Handler,
+    J: ReportedJournal + Send,
+    K: Sink,
+    G: Gate + Sync,
+    R: Threads + Wait + Sync,
+>(
+    rt: &R,
+    alloc: Global,
+    output: &mut K,
+    desk: &D,
+    handlers: Vec<H>,
+    journal: J,
+    workers: u32,
+    gate: &G,
+    limits: Limits,
+    work: Work,
+) -> Answered<H, J>
+    requires workers { workers ≤ 8 }
+    requires frames { 1 ≤ work.size }
+    requires most { work.size ≤ 1000000 }
+    requires some { 1 ≤ limits.max_frame }
+    requires within { limits.max_frame ≤ limits.read_budget }
+    requires budget { limits.read_budget ≤ 268435456 }
+    requires longest { (D.meaning desk.now).max_frame ≡ limits.max_frame }
+    requires slots { length handlers.items ≡ (D.meaning desk.now).slots }
+    requires calculators { ServesCalculator (D.meaning desk.now) }
+    requires service { HasCalculator (map H.service handlers.items) }
+    requires empty { J.told journal ≡ Some [] }
+    requires whole { J.torn journal ≡ false }
+    // Ok says that the summary of the workload is what was added to the output, whatever the services remembered, and in whichever order the threads got on.
+    ensures summed { WritesSummary (work_text work.seed work.size) (K.taken output.old) (K.taken output.new) result.result }
+    ensures write_fault { result.result ≡ Err faults.WriteFault → Rose (K.faults output.old) (K.faults output.new) }
+    ensures journal_fault { result.result ≡ Err faults.JournalFault → Rose (J.faults journal) (J.faults result.journal) }
+{
+    match generate(alloc, work.seed, work.size) {
+        Ok(script) => serve_script::<D, H, J, K, G, R>(
+            rt, alloc, script, output, desk, handlers, journal, workers, gate, limits, work,
+        ),
+        Err(_) => Answered {
+            handlers,
+            journal,
+            result: Err(ServingFault::NoMemory),
+        },
+    }
+}
+
+/// Serves the connections of the workload's script, and writes the summary of the run.
+fn serve_script<
+    D: Desk + Sync,
+    H: Handler,
+    J: ReportedJournal + Send,
+    K: Sink,
+    G: Gate + Sync,
+    R: Threads + Wait + Sync,
+>(
+    rt: &R,
+    alloc: Global,
+    script: Script,
+    output: &mut K,
+    desk: &D,
+    handlers: Vec<H>,
+    journal: J,
+    workers: u32,
+    gate: &G,
+    limits: Limits,
+    work: Work,
+) -> Answered<H, J>
+    requires script { script ≡ workload_plan work.seed work.size }
+    requires workers { workers ≤ 8 }
+    requires frames { 1 ≤ work.size }
+    requires most { work.size ≤ 1000000 }
+    requires some { 1 ≤ limits.max_frame }
+    requires within { limits.max_frame ≤ limits.read_budget }
+    requires budget { limits.read_budget ≤ 268435456 }
+    requires longest { (D.meaning desk.now).max_frame ≡ limits.max_frame }
+    requires slots { length handlers.items ≡ (D.meaning desk.now).slots }
+    requires calculators { ServesCalculator (D.meaning desk.now) }
+    requires service { HasCalculator (map H.service handlers.items) }
+    requires empty { J.told journal ≡ Some [] }
+    requires whole { J.torn journal ≡ false }
+    ensures summed { WritesSummary (work_text work.seed work.size) (K.taken output.old) (K.taken output.new) result.result }
+    ensures write_fault { result.result ≡ Err faults.WriteFault → Rose (K.faults output.old) (K.faults output.new) }
+    ensures journal_fault { result.result ≡ Err faults.JournalFault → Rose (J.faults journal) (J.faults result.journal) }
+{
+    a_served_workload_comes_to_its_sum();
+    let Ok(mut links) = ScriptLinks::new(alloc, script) else {
+        return Answered {
+            handlers,
+            journal,
+            result: Err(ServingFault::NoMemory),
+        };
+    };
+    let run = serve(
+        rt, alloc, &mut links, desk, handlers, journal, workers, gate, limits,
+    );
+    links.follow_their_script();
+    let tape = links.into_tape();
+    let result = sum_up::<H, J, K>(alloc, output, &tape, &run, work);
+    let Served {
+        handlers,
+        journal,
+        ..
+    } = run;
+    Answered {
+        handlers,
+        journal,
+        result,
+    }
+}

@@ -1,4 +1,0 @@
-pub mod Lending
-pub mod Pieces
-pub mod Served
-pub mod Sizes

@@ -1,5 +1,0 @@
-use Rattle.rehearsal_model.proofs.Unending.{never_drained}
-use Rattle.rehearsal_model.proofs.examples.a_closed_hall_has_no_rehearsal.Goals as goal
-
-pub returns : goal.returns
-returns c = never_drained

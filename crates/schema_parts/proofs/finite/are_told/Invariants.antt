@@ -1,7 +1,0 @@
-use Rattle.std.proofs.Common.{map}
-use Rattle.schema.specs.SchemaOf.{plain_struct}
-use Rattle.schema_parts.proofs.Ranked.{AreToldBelow}
-use Rattle.schema_parts.proofs.finite.are_told.Given as goal
-
-abbrev pub invariant-loop-place : goal.invariant-loop-place
-invariant-loop-place l = AreToldBelow (map plain_struct l.structs) l.ranks l.place

@@ -1,5 +1,0 @@
-pub mod Taken
-pub mod Zips
-pub mod Sited
-pub mod Given
-pub mod Filled

@@ -1,3 +1,0 @@
-pub mod Copying
-pub mod Listening
-pub mod PastRows

@@ -1,0 +1,87 @@
+//! Links over a script that listen.
+
+ghost use Rattle.std.specs.Prelude.{◌≡◌, ◌<◌, true, length};
+ghost use Rattle.outside.specs.Asking.{AnswersAsk};
+ghost use Rattle.outside.specs.Reading.{Reads};
+ghost use Rattle.outside.specs.Writing.{WritesOn};
+ghost use Rattle.outside.specs.Closing.{Closes};
+ghost use Rattle.script_links.specs.Listens.{listening_told, plan_of_listening};
+ghost use Rattle.script_links.specs.Followed.{LinksPlan};
+
+use crate::past::PastChain;
+use outside::{Ask, Failed, Hint, Links, Taken};
+use crate::{ScriptBell, ScriptLinks};
+use std::alloc::{AllocError, Global};
+use std::marker::Model;
+use std::sync::Wait;
+
+/// Links over a script that listen at a port, and accept so many connections at most.
+#[derive(Drop)]
+pub struct BoundLinks {
+    /// The links over the script.
+    pub(crate) links: ScriptLinks,
+    /// The port.
+    pub(crate) port: u16,
+    /// How many connections they accept at most.
+    pub(crate) accept: u32,
+    /// The box that it takes to have them back.
+    pub(crate) room: Box<PastChain>,
+}
+
+impl Model for BoundLinks {
+    ghost use Rattle.std.specs.Prelude.{◌≤◌, length};
+    ghost use Rattle.script_links.specs.Listens.{ListeningScript};
+
+    ghost Value = { ListeningScript };
+
+    ghost view = { λ b. record { served = b.links; listening = record { port = b.port; accept = b.accept } } };
+
+    ghost invariant = { λ b. length b.links.links ≤ b.accept };
+}
+
+impl Links for BoundLinks {
+    type Bell = ScriptBell;
+
+    ghost Plan = { LinksPlan };
+
+    ghost plan = { plan_of_listening };
+
+    ghost state = { listening_told };
+
+    fn bell(&self, alloc: Global) -> Result<ScriptBell, AllocError> {
+        self.links.bell(alloc)
+    }
+
+    fn next<R: Wait>(&mut self, rt: &R, ask: Ask) -> Result<Hint, Failed>
+        ensures answers { AnswersAsk ask (listening_told self.old) (listening_told self.new) result }
+        ensures same_plan { plan_of_listening self.new ≡ plan_of_listening self.old }
+    {
+        self.links.next(rt, ask)
+    }
+
+    fn read(&mut self, c: u32, into: &mut [u8]) -> Taken
+        requires open_still { (listening_told self.old).is_open c ≡ true }
+        requires room { 0 < length into.old }
+        ensures reads { Reads c into.new (listening_told self.old) (listening_told self.new) result }
+        ensures same_plan { plan_of_listening self.new ≡ plan_of_listening self.old }
+    {
+        self.links.read(c, into)
+    }
+
+    fn write(&mut self, c: u32, bytes: &[u8]) -> Taken
+        requires open_still { (listening_told self.old).is_open c ≡ true }
+        requires some { 0 < length bytes.now }
+        ensures writes { WritesOn c bytes.now (listening_told self.old) (listening_told self.new) result }
+        ensures same_plan { plan_of_listening self.new ≡ plan_of_listening self.old }
+    {
+        self.links.write(c, bytes)
+    }
+
+    fn close(&mut self, c: u32)
+        requires { (listening_told self.old).is_open c ≡ true }
+        ensures closes { Closes c (listening_told self.old) (listening_told self.new) }
+        ensures same_plan { plan_of_listening self.new ≡ plan_of_listening self.old }
+    {
+        self.links.close(c);
+    }
+}

@@ -1,6 +1,0 @@
-use Rattle.script_serving.specs.Plain.{with_arrival}
-use Rattle.script_serving.proofs.Connected.{changed_at}
-use Rattle.script_serving.proofs.connections.Connections.arrive.Goals as goal
-
-pub returns : goal.returns
-returns c = changed_at c.args.self.now.items.items c.args.c c.index_mut.result.now c.arrive.new.self with_arrival c.requires c.index_mut.ensures.value c.arrive.ensures

@@ -1,9 +1,0 @@
-pub mod ServedScript
-pub mod Steps
-pub mod Plain
-pub mod Fresh
-pub mod Shown
-pub mod Kept
-pub mod Shows
-pub mod Followed
-pub mod Serves

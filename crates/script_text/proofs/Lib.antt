@@ -1,0 +1,11 @@
+pub mod Cuts
+pub mod Numbers
+pub mod Written
+pub mod OneLine
+pub mod Standing
+pub mod ReadBack
+pub mod Soundness
+pub mod AllEnding
+pub mod Steps
+pub mod Finding
+pub mod Pairing

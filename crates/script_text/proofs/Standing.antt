@@ -1,0 +1,202 @@
+-- What holds of what was read of a script, line by line.
+use Rattle.std.proofs.Common.{◌≡◌, ℕ, zero, suc, ◌+◌, ◌≤◌, Bool, true, false, not, cond, nat_le, max, List, [], ◌∷◌, ◌++◌, length, get_or, set, Option, Some, None, Result, Ok, Err, refl, ap, subst, ◌∙◌, arith, length-append, length-set}
+use Rattle.std.proofs.lemmas.Bool.{leb-false, lt-leb}
+use Rattle.std.specs.Prelude.{MatchResult, ⊤}
+use Rattle.std.specs.List.{list_any, AllByRecursion}
+use Rattle.script_text.proofs.Cuts.{all-append}
+use Rattle.script_model.specs.ScriptLines.{PlanLine, opening, piece, input_end, input_fault, resting, turn_of_conn, turn_of_worker, turn_of_outcome, PlanRule, one_if_opens, openings, ScriptPlan}
+use Rattle.script_text.specs.declared.fault.ScriptFault.{ScriptFault}
+use Rattle.script_text.specs.declared.fault.ScriptKind.{ScriptKind}
+use Rattle.script_text.specs.declared.fault.ScriptKind.TheVariants.{NoEnd, NoWorker, Schedule}
+use Rattle.script_text.specs.TextLines.{is_passed_over}
+use Rattle.script_text.specs.LineForms.{SaidLine, runs, rules_so, said_of}
+use Rattle.script_text.specs.Reading.{ScriptSoFar, nothing_read, fault_of_line, over_behind, rules_opened, with_said, unless_fault, read_said, read_line, fault_at, reads_on, read_from, plan_read, plan_of_lines}
+use Rattle.script_text.proofs.Written.{IsRule, IsWritable, CanBeWritten, said_can}
+
+-- the inputs behind these lines, where those above left them so
+abbrev pub over_all : List Bool → List PlanLine → List Bool
+over_all over [] = over
+over_all over (line ∷ lines) = over_all (over_behind line over) lines
+
+-- no line has a fault behind those above it, and each can be written
+abbrev pub Pass : ℕ → Bool → List Bool → List PlanLine → Type 0
+Pass workers schedule over [] = ⊤
+Pass workers schedule over (line ∷ lines) =
+    ((fault_of_line workers schedule over (runs line) ≡ None) × IsWritable (runs line)) × Pass workers schedule (over_behind line over) lines
+
+-- each rule can be written
+abbrev pub AreRules : List PlanRule → Type 0
+AreRules rules = AllByRecursion IsRule rules
+
+-- what was read so far stands
+pub record Stands (workers : ℕ) (schedule : Bool) (so : ScriptSoFar) : Type 0 where
+  pub pass : Pass workers schedule [] so.lines
+  pub over : over_all [] so.lines ≡ so.over
+  pub rules : AllByRecursion AreRules so.rules
+  pub count : length so.rules ≡ openings so.lines
+  pub opened : length so.over ≡ openings so.lines
+
+over_push : (over : List Bool) (lines : List PlanLine) (line : PlanLine) → over_all over (lines ++ line ∷ []) ≡ over_behind line (over_all over lines)
+over_push over [] line = refl
+over_push over (x ∷ lines) line = over_push (over_behind x over) lines line
+
+pass_push : (workers : ℕ) (schedule : Bool) (over : List Bool) (lines : List PlanLine) (line : PlanLine) → Pass workers schedule over lines
+    → fault_of_line workers schedule (over_all over lines) (runs line) ≡ None → IsWritable (runs line) → Pass workers schedule over (lines ++ line ∷ [])
+pass_push workers schedule over [] line pass clear can = ((clear, can), tt)
+pass_push workers schedule over (x ∷ lines) line pass clear can = (pass.0, pass_push workers schedule (over_behind x over) lines line pass.1 clear can)
+
+openings_push : (lines : List PlanLine) (line : PlanLine) → openings (lines ++ line ∷ []) ≡ openings lines + one_if_opens line
+openings_push [] line = omega arith
+openings_push (x ∷ lines) line = omega (arith, openings_push lines line)
+
+-- how many connections are opened behind a line
+pub over_count : (line : PlanLine) (over : List Bool) → length (over_behind line over) ≡ length over + one_if_opens line
+over_count opening over = length-append over (false ∷ [])
+over_count (piece c bytes) over = omega arith
+over_count (input_end c) over = length-set over c true ∙ omega arith
+over_count (input_fault c) over = length-set over c true ∙ omega arith
+over_count resting over = omega arith
+over_count (turn_of_conn c) over = omega arith
+over_count (turn_of_worker w) over = omega arith
+over_count turn_of_outcome over = omega arith
+
+rules_count : (line : PlanLine) → length (rules_opened line) ≡ one_if_opens line
+rules_count opening = refl
+rules_count (piece c bytes) = refl
+rules_count (input_end c) = refl
+rules_count (input_fault c) = refl
+rules_count resting = refl
+rules_count (turn_of_conn c) = refl
+rules_count (turn_of_worker w) = refl
+rules_count turn_of_outcome = refl
+
+opened_rules : (line : PlanLine) → AllByRecursion AreRules (rules_opened line)
+opened_rules opening = (tt, tt)
+opened_rules (piece c bytes) = tt
+opened_rules (input_end c) = tt
+opened_rules (input_fault c) = tt
+opened_rules resting = tt
+opened_rules (turn_of_conn c) = tt
+opened_rules (turn_of_worker w) = tt
+opened_rules turn_of_outcome = tt
+
+pub rules_at : (rules : List (List PlanRule)) (c : ℕ) → AllByRecursion AreRules rules → AreRules (get_or rules c [])
+rules_at [] c all = tt
+rules_at (x ∷ rules) zero all = all.0
+rules_at (x ∷ rules) (suc c) all = rules_at rules c all.1
+
+rules_set : (rules : List (List PlanRule)) (c : ℕ) (new : List PlanRule) → AllByRecursion AreRules rules → AreRules new → AllByRecursion AreRules (set rules c new)
+rules_set [] c new all are = tt
+rules_set (x ∷ rules) zero new all are = (are, all.1)
+rules_set (x ∷ rules) (suc c) new all are = (all.0, rules_set rules c new all.1 are)
+
+module _ (workers : ℕ) (schedule : Bool) where
+  -- a line more that has no fault
+  said_stands : (so : ScriptSoFar) (said : SaidLine) → Stands workers schedule so → IsWritable said → fault_of_line workers schedule so.over said ≡ None
+      → Stands workers schedule (with_said so said)
+  said_stands so (runs line) stands can clear = record {
+    pass = pass_push workers schedule [] so.lines line stands.pass (ap (λ over. fault_of_line workers schedule over (runs line)) stands.over ∙ clear) can;
+    over = over_push [] so.lines line ∙ ap (over_behind line) stands.over;
+    rules = all-append AreRules so.rules (rules_opened line) stands.rules (opened_rules line);
+    count = length-append so.rules (rules_opened line) ∙ omega (arith, stands.count, rules_count line, openings_push so.lines line);
+    opened = over_count line so.over ∙ omega (arith, stands.opened, openings_push so.lines line);
+  }
+  said_stands so (rules_so c rule) stands can clear = record {
+    pass = stands.pass;
+    over = stands.over;
+    rules = rules_set so.rules c (get_or so.rules c [] ++ rule ∷ []) stands.rules (all-append IsRule (get_or so.rules c []) (rule ∷ []) (rules_at so.rules c stands.rules) (can.1, tt));
+    count = length-set so.rules c (get_or so.rules c [] ++ rule ∷ []) ∙ stands.count;
+    opened = stands.opened;
+  }
+
+  judged_stands : (so : ScriptSoFar) (said : SaidLine) → Stands workers schedule so → IsWritable said
+      → (fault : Option ScriptKind) → fault_of_line workers schedule so.over said ≡ fault → MatchResult (unless_fault (with_said so said) fault) (Stands workers schedule) (λ kind. ⊤)
+  judged_stands so said stands can None is = said_stands so said stands can is
+  judged_stands so said stands can (Some kind) is = tt
+
+  read_stands : (so : ScriptSoFar) → Stands workers schedule so → (said : Option SaidLine) → CanBeWritten said
+      → MatchResult (read_said workers schedule so said) (Stands workers schedule) (λ kind. ⊤)
+  read_stands so stands None can = tt
+  read_stands so stands (Some said) can = judged_stands so said stands can (fault_of_line workers schedule so.over said) refl
+
+  kept_stands : (so : ScriptSoFar) → Stands workers schedule so → (ignored : Bool) (read : Result ScriptSoFar ScriptKind) → MatchResult read (Stands workers schedule) (λ kind. ⊤)
+      → MatchResult (cond ignored (Ok so) read) (Stands workers schedule) (λ kind. ⊤)
+  kept_stands so stands true read h = stands
+  kept_stands so stands false read h = h
+
+  line_stands : (so : ScriptSoFar) → Stands workers schedule so → (line : List ℕ) → MatchResult (read_line workers schedule so line) (Stands workers schedule) (λ kind. ⊤)
+  line_stands so stands line = kept_stands so stands (is_passed_over line) (read_said workers schedule so (said_of line)) (read_stands so stands (said_of line) (said_can line))
+
+  end_stands : (number : ℕ) (so : ScriptSoFar) → Stands workers schedule so → (left : Bool) → list_any not so.over ≡ left
+      → MatchResult (cond left (Err (fault_at number NoEnd)) (Ok so)) (λ so. Stands workers schedule so × (list_any not so.over ≡ false)) (λ fault. ⊤)
+  end_stands number so stands true is = tt
+  end_stands number so stands false is = (stands, is)
+
+  further_stands : (number : ℕ) (further : ScriptSoFar → Result ScriptSoFar ScriptFault) (r : Result ScriptSoFar ScriptKind)
+      → MatchResult r (Stands workers schedule) (λ kind. ⊤)
+      → ((so : ScriptSoFar) → Stands workers schedule so → MatchResult (further so) (λ so. Stands workers schedule so × (list_any not so.over ≡ false)) (λ fault. ⊤))
+      → MatchResult (reads_on number further r) (λ so. Stands workers schedule so × (list_any not so.over ≡ false)) (λ fault. ⊤)
+  further_stands number further (Ok so) h next = next so h
+  further_stands number further (Err kind) h next = tt
+
+  all_stand : (lines : List (List ℕ)) (number : ℕ) (so : ScriptSoFar) → Stands workers schedule so
+      → MatchResult (read_from workers schedule number so lines) (λ so. Stands workers schedule so × (list_any not so.over ≡ false)) (λ fault. ⊤)
+  all_stand [] number so stands = end_stands number so stands (list_any not so.over) refl
+  all_stand (line ∷ lines) number so stands =
+      further_stands number (λ next. read_from workers schedule (number + 1) next lines) (read_line workers schedule so line) (line_stands so stands line)
+      (λ next. all_stand lines (number + 1) next)
+
+-- nothing that was read stands
+nothing_stands : (workers : ℕ) (schedule : Bool) → Stands workers schedule nothing_read
+nothing_stands workers schedule = record { pass = tt; over = refl; rules = tt; count = refl; opened = refl }
+
+-- a script, as what was read in the end
+pub record IsReadTo (workers : ℕ) (schedule : Bool) (script : ScriptPlan) : Type 0 where
+  pub over : List Bool
+  pub pass : Pass workers schedule [] script.lines
+  pub over_is : over_all [] script.lines ≡ over
+  pub rules : AllByRecursion AreRules script.rules
+  pub count : length script.rules ≡ openings script.lines
+  pub opened : length over ≡ openings script.lines
+  pub ended : list_any not over ≡ false
+
+read_to : (workers : ℕ) (schedule : Bool) (script : ScriptPlan) (r : Result ScriptSoFar ScriptFault)
+    → MatchResult r (λ so. Stands workers schedule so × (list_any not so.over ≡ false)) (λ fault. ⊤) → plan_read r ≡ Ok script → IsReadTo workers schedule script
+read_to workers schedule script (Ok so) h is =
+    subst (λ (r : Result ScriptPlan ScriptFault). MatchResult r (IsReadTo workers schedule) (λ fault. ⊤)) is
+    (record { over = so.over; pass = h.0.pass; over_is = h.0.over; rules = h.0.rules; count = h.0.count; opened = h.0.opened; ended = h.1 })
+read_to workers schedule script (Err fault) h is = absurd (cc)
+
+-- what holds of a script that was read
+pub plan_stands : (workers : ℕ) (schedule : Bool) (lines : List (List ℕ)) (script : ScriptPlan) → plan_of_lines workers schedule lines ≡ Ok script
+    → IsReadTo workers schedule script
+plan_stands workers schedule lines script is =
+    read_to workers schedule script (read_from workers schedule 1 nothing_read lines) (all_stand workers schedule lines 1 nothing_read (nothing_stands workers schedule)) is
+
+-- the same for more workers, and with lines of a schedule
+pub unscheduled : (test : Bool) (fault : Option ScriptKind) → cond test (Some Schedule) fault ≡ None → fault ≡ None
+unscheduled true fault is = absurd (cc)
+unscheduled false fault is = is
+
+pub working : (test : Bool) → cond test (Some NoWorker) None ≡ None → test ≡ false
+working true is = absurd (cc)
+working false is = refl
+
+wider_line : (workers : ℕ) (schedule : Bool) (over : List Bool) (line : PlanLine) → workers ≤ 8 → fault_of_line workers schedule over (runs line) ≡ None
+    → fault_of_line 8 true over (runs line) ≡ None
+wider_line workers schedule over opening within clear = clear
+wider_line workers schedule over (piece c bytes) within clear = clear
+wider_line workers schedule over (input_end c) within clear = clear
+wider_line workers schedule over (input_fault c) within clear = clear
+wider_line workers schedule over resting within clear = clear
+wider_line workers schedule over (turn_of_conn c) within clear = unscheduled (not schedule) _ clear
+wider_line workers schedule over (turn_of_worker w) within clear =
+    let few : nat_le (max workers 1) w ≡ false = working _ (unscheduled (not schedule) _ clear) in
+    let below = leb-false (max workers 1) w few in
+    ap (λ t. cond t (Some NoWorker) None) (lt-leb 8 w (omega (arith, below)))
+wider_line workers schedule over turn_of_outcome within clear = refl
+
+pub wider : (workers : ℕ) (schedule : Bool) (over : List Bool) (lines : List PlanLine) → workers ≤ 8 → Pass workers schedule over lines → Pass 8 true over lines
+wider workers schedule over [] within pass = tt
+wider workers schedule over (line ∷ lines) within pass =
+    ((wider_line workers schedule over line within pass.0.0, pass.0.1), wider workers schedule (over_behind line over) lines within pass.1)

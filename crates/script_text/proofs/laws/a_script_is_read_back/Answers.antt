@@ -1,0 +1,15 @@
+use Rattle.std.proofs.Common.{true}
+use Rattle.script_text.specs.TextLines.{text_lines}
+use Rattle.script_text.proofs.ReadBack.{plan_read_back, plan_is_script, print_read, lines_read}
+use Rattle.script_text.proofs.laws.a_script_is_read_back.Goals as goal
+
+pub returns-clause-read : goal.returns-clause-read
+returns-clause-read c = λ workers schedule text script is short.
+    print_read workers schedule script (plan_read_back workers schedule (text_lines text) script (lines_read workers schedule text script is)) short
+
+pub returns-clause-kept : goal.returns-clause-kept
+returns-clause-kept c = λ script kept short. print_read 8 true script kept short
+
+pub returns-clause-sound : goal.returns-clause-sound
+returns-clause-sound c = λ workers schedule text script within is.
+    plan_is_script workers schedule (text_lines text) script within (lines_read workers schedule text script is)

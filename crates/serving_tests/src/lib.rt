@@ -1,5 +1,0 @@
-//! Tests of links over a script.
-#![tactic(auto)]
-
-#[cfg(test)]
-mod walks;

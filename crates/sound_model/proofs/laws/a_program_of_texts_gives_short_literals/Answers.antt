@@ -1,5 +1,0 @@
-use Rattle.sound_model.proofs.ShortValues.{gives_short}
-use Rattle.sound_model.proofs.laws.a_program_of_texts_gives_short_literals.Goals as goal
-
-pub returns : goal.returns
-returns c = gives_short

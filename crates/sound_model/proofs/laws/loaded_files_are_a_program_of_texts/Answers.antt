@@ -1,5 +1,0 @@
-use Rattle.sound_model.proofs.TextPrograms.{program_of_texts}
-use Rattle.sound_model.proofs.laws.loaded_files_are_a_program_of_texts.Goals as goal
-
-pub returns : goal.returns
-returns c = program_of_texts (record { kinds = c.each_token_is_of_its_kind.ensures; order = c.tokens_stand_in_order.ensures })

@@ -1,3 +1,0 @@
-pub mod Identifiers
-pub mod Declared
-pub mod Clean

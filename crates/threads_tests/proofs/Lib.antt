@@ -1,0 +1,2 @@
+pub mod Submitting
+pub mod Untelling

@@ -1,0 +1,4 @@
+pub mod PingDesk
+pub mod Submitted
+pub mod ByteDesk
+pub mod Untold

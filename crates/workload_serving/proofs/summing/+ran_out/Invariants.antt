@@ -1,5 +1,0 @@
-use Rattle.std.proofs.Common.{length}
-use Rattle.workload_serving.proofs.summing.+ran_out.Given as goal
-
-abbrev pub decreases-ran_out : goal.decreases-ran_out
-decreases-ran_out l = length l.ends.now
