@@ -14,11 +14,11 @@ use Rattle.script_model.specs.Playing.{MemoryAt, told_in, read_move, write_move,
 use Rattle.hall_core.specs.Meant.{ServedHall}
 use Rattle.cell_loop.specs.Settings.{CellSetting, ServedPlay, desk_of_setting}
 use Rattle.cell_loop.specs.Moving.{HasNoMove, one_of_conn}
-use Rattle.cell_loop.specs.declared.loop_part.Stand.{Stand}
-use Rattle.cell_loop.specs.declared.loop_part.Stand.TheVariants.{Lean, Framed, Whole, Asked, Over}
+use Rattle.cell_loop.specs.declared.loop_part.CellStage.{CellStage}
+use Rattle.cell_loop.specs.declared.loop_part.CellStage.TheVariants.{Lean, Framed, Whole, Asked, Over}
 use Rattle.cell_loop.specs.declared.loop_part.LoopPart.{LoopPart}
 use Rattle.conn_refinement.specs.Phases.{IsFraming, PhaseTells}
-use Rattle.cell_loop.specs.LoopTied.{StandTells, HasRoomToClose, ReadsOn, IsLoopTied}
+use Rattle.cell_loop.specs.LoopTied.{CellStageTells, HasRoomToClose, IsReadingAt, IsLoopTied}
 use Rattle.cell_loop.specs.LoopMoves.{StaysTied, LoopMoves, HasLongest}
 use Rattle.conn_refinement.proofs.Tables.{place_of}
 use Rattle.cell_loop.proofs.Tying.{stands_so}
@@ -38,10 +38,10 @@ pub small_frames : (max : ℕ) (m : Parts) → IsMachine max m → max ≤ 26843
 small_frames max m now = subst (λ n. n ≤ 268435456) now.1 now.2.max
 
 -- there is a feed for each connection that was opened
-pub fed_within : (m : Parts) (c : ℕ) (stand : Stand) → SomeMachine m → slice_get m.part.stands.items c ≡ Some stand → c < length m.part.feeds.items
-fed_within m c stand now is =
-    let below : c < length m.part.stands.items = place_of m.part.stands.items c stand is in
-    let fed : length m.part.stands.items ≤ length m.part.feeds.items = now.1.tied.loop_tied.fed in
+pub fed_within : (m : Parts) (c : ℕ) (stage : CellStage) → SomeMachine m → slice_get m.part.stages.items c ≡ Some stage → c < length m.part.feeds.items
+fed_within m c stage now is =
+    let below : c < length m.part.stages.items = place_of m.part.stages.items c stage is in
+    let fed : length m.part.stages.items ≤ length m.part.feeds.items = now.1.tied.loop_tied.fed in
     omega arith
 
 framing_reads : (phase : Phase) → IsFraming phase → IsReading phase
@@ -54,11 +54,11 @@ framing_reads (writing left) framed = absurd framed
 framing_reads (ended cause) framed = absurd framed
 
 -- a connection of which a payload is read reads on
-pub framed_reads : (m : Parts) (c : ℕ) → SomeMachine m → slice_get m.part.stands.items c ≡ Some Framed → ReadsOn c m.part
+pub framed_reads : (m : Parts) (c : ℕ) → SomeMachine m → slice_get m.part.stages.items c ≡ Some Framed → IsReadingAt c m.part
 framed_reads m c now is =
     let play : ServedPlay = now.1.play in
-    let t : StandTells now.0.desk.max_frame m.part.table c (play.cell.loop.conns c) (play.admitted c) Framed = stands_so now.0 c m.part play Framed now.1.tied.loop_tied is in
-    (place_of m.part.stands.items c Framed is, t.0.there, framing_reads (slot_of c m.part.table.slots).conn.phase t.0.in_its_phase)
+    let t : CellStageTells now.0.desk.max_frame m.part.table c (play.cell.loop.conns c) (play.admitted c) Framed = stands_so now.0 c m.part play Framed now.1.tied.loop_tied is in
+    (place_of m.part.stages.items c Framed is, t.0.there, framing_reads (slot_of c m.part.table.slots).conn.phase t.0.in_its_phase)
 
 module _ (part : LoopPart) (hall : ServedHall) (workers : List Holding) (new_part : LoopPart) where
   abbrev before : Parts
@@ -176,25 +176,25 @@ waiting_rests s c play max (ready number payload) waits tells going = absurd wai
 waiting_rests s c play max (writing left) waits tells going = absurd waits
 waiting_rests s c play max (ended cause) waits tells going = absurd waits
 
-no_turn_rests : (s : CellSetting) (c : ℕ) (part : LoopPart) (play : ServedPlay) → IsLoopTied s part play → (stand : Option Stand) → slice_get part.stands.items c ≡ stand → HasNoTurn stand
+no_turn_rests : (s : CellSetting) (c : ℕ) (part : LoopPart) (play : ServedPlay) → IsLoopTied s part play → (stage : Option CellStage) → slice_get part.stages.items c ≡ stage → HasNoTurn stage
     → HasNoMove (one_of_conn s c) play
 no_turn_rests s c part play tied None is none =
-    let past : length part.stands.items ≤ c = beyond part.stands.items c is in
+    let past : length part.stages.items ≤ c = beyond part.stages.items c is in
     let over : play.cell.loop.count ≤ c = subst (λ n. n ≤ c) (sym tied.count) past in
     closed_rests s c play (ap (λ b. b && has_none_yet (play.cell.loop.conns c).cause) (le-ltb c play.cell.loop.count over))
   where
-    beyond : (xs : List Stand) (i : ℕ) → slice_get xs i ≡ None → length xs ≤ i
+    beyond : (xs : List CellStage) (i : ℕ) → slice_get xs i ≡ None → length xs ≤ i
     beyond xs i e = go (cases_lt i (length xs))
       where
         go : (i < length xs) ⊎ (length xs ≤ i) → length xs ≤ i
         go (inl l) = absurd (none-some (slice_index_or xs i Lean) (sym e ∙ slice_get-get_or xs i Lean l))
         go (inr l) = l
 no_turn_rests s c part play tied (Some (Over cause)) is none =
-    let t : StandTells s.desk.max_frame part.table c (play.cell.loop.conns c) (play.admitted c) (Over cause) = stands_so s c part play (Over cause) tied is in
+    let t : CellStageTells s.desk.max_frame part.table c (play.cell.loop.conns c) (play.admitted c) (Over cause) = stands_so s c part play (Over cause) tied is in
     closed_rests s c play (ap (λ o. nat_lt c play.cell.loop.count && has_none_yet o) t.2 ∙ and-false (nat_lt c play.cell.loop.count))
 no_turn_rests s c part play tied (Some Asked) is none =
-    let t : StandTells s.desk.max_frame part.table c (play.cell.loop.conns c) (play.admitted c) Asked = stands_so s c part play Asked tied is in
-    let there : c < play.cell.loop.count = subst (λ n. c < n) (sym tied.count) (place_of part.stands.items c Asked is) in
+    let t : CellStageTells s.desk.max_frame part.table c (play.cell.loop.conns c) (play.admitted c) Asked = stands_so s c part play Asked tied is in
+    let there : c < play.cell.loop.count = subst (λ n. c < n) (sym tied.count) (place_of part.stages.items c Asked is) in
     waiting_rests s c play s.desk.max_frame (slot_of c part.table.slots).conn.phase t.0.in_its_phase t.0.tied.tells
     (ap (λ o. nat_lt c play.cell.loop.count && has_none_yet o) t.0.tied.going ∙ ap (λ b. b && true) (lt-ltb c play.cell.loop.count there))
 no_turn_rests s c part play tied (Some Lean) is none = absurd none
@@ -204,7 +204,7 @@ no_turn_rests s c part play tied (Some Whole) is none = absurd none
 -- A connection that has no turn has no move.
 pub none_steps : {E : Type 0} (max c : ℕ) (m : Parts)
     → ConnReaches
-    → IsMachine max m → HasNoTurn (slice_get m.part.stands.items c) → IsConnStep {E = E} max c m m (Ok false)
+    → IsMachine max m → HasNoTurn (slice_get m.part.stages.items c) → IsConnStep {E = E} max c m m (Ok false)
 none_steps max c m reaches now none =
-    moved_steps max c m m false reaches now (λ s play longest tied. (no_turn_rests s c m.part play tied.loop_tied (slice_get m.part.stands.items c) refl none, tied))
+    moved_steps max c m m false reaches now (λ s play longest tied. (no_turn_rests s c m.part play tied.loop_tied (slice_get m.part.stages.items c) refl none, tied))
     (record { room = now.2.room; workers = refl; feeds = refl }) (omega arith)

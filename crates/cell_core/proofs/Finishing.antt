@@ -24,8 +24,8 @@ use Rattle.cell_core.specs.declared.worker.Holding.{Holding}
 use Rattle.cell_loop.specs.Settings.{CellSetting, ServedCell, ServedPlay, desk_of_setting}
 use Rattle.cell_loop.specs.Moving.{GoesTo, memory_of, all_lines}
 use Rattle.cell_core.specs.Parts.{Parts}
-use Rattle.cell_core.specs.Machines.{ArePlayed, AreUnderWay, IsOfDesk, HasFailed, HasCrew, StopsBy, StopsSo, ComesThrough}
-use Rattle.cell_core.specs.Rehearsed.{SeenRun, LooksSo, IsSeenRun, IsSeenRehearsal, IsOpenedPart, AreFirstWorkers, LeadsToEnd}
+use Rattle.cell_core.specs.Machines.{ArePlayed, AreUnderWay, IsOfDesk, HasFailed, HasCrew, StopsBy, StopsMachine, ComesThrough}
+use Rattle.cell_core.specs.Rehearsed.{SeenRun, ShowsRun, IsSeenRun, IsSeenRehearsal, IsOpenedPart, AreFirstWorkers, LeadsToEnd}
 use Rattle.cell_core.proofs.Opened.{first_cell, first_is, first_play, first_played, first_under_way, stands_over, seen_at, seen_led, services_same, is_rehearsal}
 
 -- a run that wasn't begun
@@ -107,7 +107,7 @@ module _ (s : CellSetting) (script : ScriptPlan) (part : LoopPart) (workers : Li
     ends_are : run.causes ≡ over.0
     ends_are = ends over.0 all_over
 
-    looks : LooksSo run last.0.cell
+    looks : ShowsRun run last.0.cell
     looks =
         record {
           tape = last.2.loop_tied.tape ∙ sym tape;
@@ -119,7 +119,7 @@ module _ (s : CellSetting) (script : ScriptPlan) (part : LoopPart) (workers : Li
     pub done_seen : IsSeenRun s run
     done_seen = seen_at s last.0.cell run last.2.reached.run looks
 
-    pub done_counted : length run.causes ≡ length new.part.stands.items
+    pub done_counted : length run.causes ≡ length new.part.stages.items
     done_counted = ap length ends_are ∙ all_over.count
 
     pub done_rehearsed : ((memory : ℕ → MemoryAt) (wants : ℕ) (first last : ServedCell) → IsFirst s.opening first
@@ -154,7 +154,7 @@ module _ (s : CellSetting) (script : ScriptPlan) (part : LoopPart) (workers : Li
 
   -- ---- it stopped
 
-  module _ (new : Parts) (stop : RunStop) (stops : StopsSo (HasCrew s.desk (length workers)) begun new stop) where
+  module _ (new : Parts) (stop : RunStop) (stops : StopsMachine (HasCrew s.desk (length workers)) begun new stop) where
     pub stop_under_way : IsLoopUnderWay new.part
     stop_under_way = go stop stops.by
       where

@@ -12,7 +12,7 @@ use Rattle.cell_loop.specs.Settings.{CellSetting, ServedPlay, HallInCell, PlainW
 use Rattle.cell_loop.specs.Moving.{ComesTo, HasNoMove, one_of_conn, one_of_outcome}
 use Rattle.cell_loop.specs.Reached.{IsReached, IsReachedFrom}
 use Rattle.cell_loop.specs.Replies.{IsReplySome}
-use Rattle.cell_loop.specs.declared.loop_part.Stand.TheVariants.{Whole, Asked}
+use Rattle.cell_loop.specs.declared.loop_part.CellStage.TheVariants.{Whole, Asked}
 use Rattle.cell_loop.specs.declared.loop_part.LoopPart.{LoopPart}
 use Rattle.cell_loop.specs.LoopTied.{IsLoopTied, HasRoomToClose}
 use Rattle.cell_loop.specs.LoopMoves.{IsLoopUnderWay, HandsOut, TakesOutcome}
@@ -53,14 +53,14 @@ played_so s part hall workers next states now loop workers_are hall_is hall_tied
     }
 
 -- the hall can take the payload that is handed out
-pub hands_to : (m : Parts) (c i : ℕ) (payload : List ℕ) (new_part : LoopPart) → SomeMachine m → slice_get m.part.stands.items c ≡ Some Whole → HandsOut c i payload m.part new_part
+pub hands_to : (m : Parts) (c i : ℕ) (payload : List ℕ) (new_part : LoopPart) → SomeMachine m → slice_get m.part.stages.items c ≡ Some Whole → HandsOut c i payload m.part new_part
     → SeenCan handler_rules m.hall (submit (key_of c i) payload)
 hands_to m c i payload new_part now whole handed =
     let s : CellSetting = now.0 in
     let play : ServedPlay = now.1.play in
     let t = handed s play now.1.tied.loop_tied (still_open m.hall play.cell.hall now.1.tied.hall_tied) in
     submit_can s m.hall play c i payload now.1.tied.reached now.1.tied.hall_tied
-    (subst (λ n. c < n) (sym now.1.tied.loop_tied.count) (place_of m.part.stands.items c Whole whole)) t.0 t.1
+    (subst (λ n. c < n) (sym now.1.tied.loop_tied.count) (place_of m.part.stages.items c Whole whole)) t.0 t.1
 
 -- a submit is the connection's move
 pub submit_moves : (part : LoopPart) (hall : ServedHall) (workers : List Holding) (c i : ℕ) (payload : List ℕ) (new_part : LoopPart) (new_hall : ServedHall) (answer : HallAnswer PlainAnswer)
@@ -79,7 +79,7 @@ submit_moves part hall workers c i payload new_part new_hall answer handed gives
 
 -- the loop's part can take the outcome that was collected
 pub settles_some : (m : Parts) (new_hall : ServedHall) (key : Key) (settled : Settled) → SomeMachine m → SeenGives handler_rules m.hall collect (outcome key settled) new_hall
-    → (slice_get m.part.stands.items key.c ≡ Some Asked) × IsReplySome settled
+    → (slice_get m.part.stages.items key.c ≡ Some Asked) × IsReplySome settled
 settles_some m new_hall key settled now gives =
     let play : ServedPlay = now.1.play in
     let t : (outs : List JobOutcome) × (play.cell.hall.outcomes ≡ outcome_of key settled ∷ outs) = collected_from m.hall new_hall play.cell.hall key settled now.1.tied.hall_tied gives in (

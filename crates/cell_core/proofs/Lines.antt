@@ -17,7 +17,7 @@ use Rattle.cell_core.specs.declared.stop.RunStop.TheVariants.{NoMemory}
 use Rattle.cell_core.specs.declared.worker.Holding.{Holding}
 use Rattle.cell_core.specs.HallTied.{IsHallTied, AreWorkersTied}
 use Rattle.cell_loop.specs.declared.feed.Feed.{Feed}
-use Rattle.cell_loop.specs.declared.loop_part.Stand.{Stand}
+use Rattle.cell_loop.specs.declared.loop_part.CellStage.{CellStage}
 use Rattle.cell_loop.specs.declared.loop_part.LoopPart.{LoopPart}
 use Rattle.cell_loop.specs.Feeds.{unread_of, finish_of, rules_left, unread_in, finish_in, rules_in, HasSomePieces, HasFeed}
 use Rattle.cell_loop.specs.LoopTied.{IsLoopTied, HasRoomToClose}
@@ -29,8 +29,8 @@ use Rattle.cell_loop.specs.Moving.{Doing, ComesTo, HasNoMove, GoesTo, GoesOrStay
 use Rattle.cell_loop.proofs.Composing.{then_comes}
 use Rattle.cell_loop.proofs.Going.{comes_as, none_comes}
 use Rattle.cell_core.specs.Parts.{Parts}
-use Rattle.cell_core.specs.Machines.{ArePlayed, SomeMachine, MachineMoves, DeskMoves, MoveKeeps, StopsSo, ComesThrough, HasDesk, HasCrew, IsLineFor}
-use Rattle.cell_core.proofs.Rounds.{IsGoingOn, comes_further, comes_last, narrowed_through, narrowed_stop, move_left}
+use Rattle.cell_core.specs.Machines.{ArePlayed, SomeMachine, MachineMoves, DeskMoves, MoveKeeps, StopsMachine, ComesThrough, HasDesk, HasCrew, IsLineFor}
+use Rattle.cell_core.proofs.Rounds.{LoopIsRunning, comes_further, comes_last, narrowed_through, narrowed_stop, move_left}
 use Rattle.cell_core.proofs.PassRounds.{run_stops}
 
 -- ---- a move of a schedule
@@ -99,9 +99,9 @@ module _ (part : LoopPart) (old : Parts) (room : HasRoomToClose part) (feeds : l
       moves_so s play tied false m = (m.0, played_as s part old.hall old.workers old play play refl refl tied m.1.0 m.1.1 tied.reached)
 
   -- one that isn't opened, for want of memory
-  pub opening_stops : (stop : RunStop) → stop ≡ NoMemory → StaysTied old.part part → StopsSo AnySetting old (record { part = part; hall = old.hall; workers = old.workers }) stop
+  pub opening_stops : (stop : RunStop) → stop ≡ NoMemory → StaysTied old.part part → StopsMachine AnySetting old (record { part = part; hall = old.hall; workers = old.workers }) stop
   opening_stops stop is stays =
-      subst (StopsSo AnySetting old (record { part = part; hall = old.hall; workers = old.workers })) (sym is)
+      subst (StopsMachine AnySetting old (record { part = part; hall = old.hall; workers = old.workers })) (sym is)
       (record {
         by = λ s play w tied. (play, played_as s part old.hall old.workers old play play refl refl tied (stays s play tied.loop_tied) (refl, refl) tied.reached);
         kept = part_kept;
@@ -156,16 +156,16 @@ room_in old m = m.1.room
 pub record IsFedOnly (old new : LoopPart) : Type 0 where
   pub table : new.table ≡ old.table
   pub tape : new.tape ≡ old.tape
-  pub stands : new.stands ≡ old.stands
+  pub stages : new.stages ≡ old.stages
   pub ends : new.ends ≡ old.ends
 
 fed_room : (old new : LoopPart) → IsFedOnly old new → HasRoomToClose old → HasRoomToClose new
 fed_room old new only room =
     record {
       for_marks = subst (λ (p : TableView × TapeView). length p.1.items + 2 * length p.0.slots ≤ p.1.capacity) (λ i. (sym only.table i, sym only.tape i)) room.for_marks;
-      for_causes = subst (λ (p : Vec Stand Global × Vec EndCause Global). length p.0.items ≤ vec_capacity p.1) (λ i. (sym only.stands i, sym only.ends i)) room.for_causes;
+      for_causes = subst (λ (p : Vec CellStage Global × Vec EndCause Global). length p.0.items ≤ vec_capacity p.1) (λ i. (sym only.stages i, sym only.ends i)) room.for_causes;
       none_yet = ap (λ v. v.items) only.ends ∙ room.none_yet;
-      numbered = subst (λ (v : Vec Stand Global). length v.items ≤ 2 ^ 32) (sym only.stands) room.numbered;
+      numbered = subst (λ (v : Vec CellStage Global). length v.items ≤ 2 ^ 32) (sym only.stages) room.numbered;
     }
 
 module _ (old : Parts) (new : LoopPart) (c : ℕ) (only : IsFedOnly old.part new) (room : HasRoomToClose old.part) where
@@ -195,7 +195,7 @@ module _ (old : Parts) (new : LoopPart) (c : ℕ) (only : IsFedOnly old.part new
       input_line (piece c bytes) (unread_in old.part.feeds.items c ++ bytes ∷ []) (finish_in old.part.feeds.items c) has
       (λ play. record play { unread = at_number play.unread c (play.unread c ++ bytes ∷ []) }) (λ play. refl) (λ play. refl) (λ s passes enough memory play. refl)
       (λ s play tied.
-      pieces_passed s c old.part new play tied only.table only.tape only.stands (play.unread c ++ bytes ∷ [])
+      pieces_passed s c old.part new play tied only.table only.tape only.stages (play.unread c ++ bytes ∷ [])
       (subst (λ k. HasFeed c (k ++ bytes ∷ []) (finish_in old.part.feeds.items c) (rules_in old.part.feeds.items c) old.part.feeds.items new.feeds.items) (sym (tied.unread c)) has))
 
   -- the input ends, or a read behind it fails
@@ -207,7 +207,7 @@ module _ (old : Parts) (new : LoopPart) (c : ℕ) (only : IsFedOnly old.part new
       input_line line (unread_in old.part.feeds.items c) (Some finish) has
       (λ play. record play { finish = at_number play.finish c (Some finish) }) (λ play. refl) (λ play. refl) does
       (λ s play tied.
-      fed_so s c old.part new play tied only.table only.tape only.stands (unread_in old.part.feeds.items c) (Some finish) (rules_in old.part.feeds.items c)
+      fed_so s c old.part new play tied only.table only.tape only.stages (unread_in old.part.feeds.items c) (Some finish) (rules_in old.part.feeds.items c)
       (record play { finish = at_number play.finish c (Some finish) }) has (tied.writes c) refl refl (λ x. kept_as c play.unread (unread_in old.part.feeds.items c) (tied.unread c) x)
       (λ x. refl) (λ x. kept_as c play.rules (rules_in old.part.feeds.items c) (tied.rules c) x))
 
@@ -222,13 +222,13 @@ module _ (old : Parts) (new : LoopPart) (c : ℕ) (only : IsFedOnly old.part new
   -- a piece that doesn't arrive, for want of memory
   pub piece_stops : (stop : RunStop) → stop ≡ NoMemory
       → HasFeed c (unread_in old.part.feeds.items c) (finish_in old.part.feeds.items c) (rules_in old.part.feeds.items c) old.part.feeds.items new.feeds.items
-      → StopsSo AnySetting old (record { part = new; hall = old.hall; workers = old.workers }) stop
+      → StopsMachine AnySetting old (record { part = new; hall = old.hall; workers = old.workers }) stop
   piece_stops stop is has =
-      subst (StopsSo AnySetting old (record { part = new; hall = old.hall; workers = old.workers })) (sym is)
+      subst (StopsMachine AnySetting old (record { part = new; hall = old.hall; workers = old.workers })) (sym is)
       (record {
         by = λ s play w tied. (
           play,
-          played_as s new old.hall old.workers old play play refl refl tied (refed_tied s c old.part new play tied.loop_tied only.table only.tape only.stands has) (refl, refl) tied.reached,
+          played_as s new old.hall old.workers old play play refl refl tied (refed_tied s c old.part new play tied.loop_tied only.table only.tape only.stages has) (refl, refl) tied.reached,
         );
         kept = record { room = fed_room old.part new only room; workers = refl; feeds = has.count };
         later = omega arith;
@@ -269,10 +269,10 @@ good_at P f (first ∷ lines) zero line below here all = subst (λ x. P (f x)) (
 good_at P f (first ∷ lines) (suc i) line below here all = good_at P f lines i line (omega arith) here all.1
 
 module _ {A : Type 0} (f : A → PlanLine) (lines : List A) (desk : DeskMeaning) (i : ℕ) (old mid new : Parts)
-    (g : IsGoingOn (HasCrew desk (length old.workers)) (λ s. all_lines s (map f lines)) (λ s. all_lines s (drop i (map f lines))) old mid) where
+    (g : LoopIsRunning (HasCrew desk (length old.workers)) (λ s. all_lines s (map f lines)) (λ s. all_lines s (drop i (map f lines))) old mid) where
   -- a line, and those behind it
   pub lines_round : (line : A) → i < length lines → line ≡ get_or lines i line → ComesThrough (HasCrew desk (length mid.workers)) (λ s. one_line s (f line)) mid new
-      → IsGoingOn (HasCrew desk (length old.workers)) (λ s. all_lines s (map f lines)) (λ s. all_lines s (drop (i + 1) (map f lines))) old new
+      → LoopIsRunning (HasCrew desk (length old.workers)) (λ s. all_lines s (map f lines)) (λ s. all_lines s (drop (i + 1) (map f lines))) old new
   lines_round line below here d =
       comes_further (HasCrew desk (length old.workers)) (λ s. all_lines s (map f lines)) (λ s. all_lines s (drop i (map f lines))) (λ s. one_line s (f line))
       (λ s. all_lines s (drop (i + 1) (map f lines))) old mid new
@@ -287,10 +287,10 @@ module _ {A : Type 0} (f : A → PlanLine) (lines : List A) (desk : DeskMeaning)
       (subst (λ ls. ComesThrough (HasCrew desk (length old.workers)) (λ s. all_lines s ls) mid new) (sym (none_left f lines i past))
       (rest_line (HasCrew desk (length old.workers)) mid new (subst (λ k. ComesThrough (HasCrew desk k) all_passes mid new) g.kept.workers d)))
 
-  pub lines_stop : (stop : RunStop) → StopsSo (HasCrew desk (length mid.workers)) mid new stop → StopsSo (HasCrew desk (length old.workers)) old new stop
+  pub lines_stop : (stop : RunStop) → StopsMachine (HasCrew desk (length mid.workers)) mid new stop → StopsMachine (HasCrew desk (length old.workers)) old new stop
   lines_stop stop st =
       run_stops (HasCrew desk (length old.workers)) (λ s. all_lines s (map f lines)) (λ s. all_lines s (drop i (map f lines))) old mid new stop g
-      (subst (λ k. StopsSo (HasCrew desk k) mid new stop) g.kept.workers st)
+      (subst (λ k. StopsMachine (HasCrew desk k) mid new stop) g.kept.workers st)
 
 -- ---- a line by its kind, in a setting with this desk and so many workers
 
@@ -303,7 +303,7 @@ module _ (W V : CellSetting → Type 0) (narrow : (s : CellSetting) → V s → 
   line_ok (Ok value) line other same d = line_through line other same d
   line_ok (Err fault) line other same d = tt
 
-  pub line_err : {A : Type 0} (r : Result A RunStop) → IfErr r (λ stop. StopsSo W old new stop) → IfErr r (λ stop. StopsSo V old new stop)
+  pub line_err : {A : Type 0} (r : Result A RunStop) → IfErr r (λ stop. StopsMachine W old new stop) → IfErr r (λ stop. StopsMachine V old new stop)
   line_err (Ok value) st = tt
   line_err (Err stop) st = narrowed_stop W V narrow old new stop st
 
@@ -314,14 +314,14 @@ rest_ok V old new (Err fault) other same d = tt
 
 -- the last drain behind all lines, and where it stops
 module _ {A : Type 0} (f : A → PlanLine) (lines : List A) (desk : DeskMeaning) (i : ℕ) (old mid new : Parts)
-    (g : IsGoingOn (HasCrew desk (length old.workers)) (λ s. all_lines s (map f lines)) (λ s. all_lines s (drop i (map f lines))) old mid) where
+    (g : LoopIsRunning (HasCrew desk (length old.workers)) (λ s. all_lines s (map f lines)) (λ s. all_lines s (drop i (map f lines))) old mid) where
   pub last_ok : {X E : Type 0} (r : Result X E) → length lines ≤ i → OnOk r (ComesThrough (HasCrew desk (length mid.workers)) all_passes mid new)
       → OnOk r (ComesThrough (HasCrew desk (length old.workers)) (λ s. all_lines s (map f lines)) old new)
   last_ok (Ok value) past d = lines_last f lines desk i old mid new g past d
   last_ok (Err fault) past d = tt
 
-  pub last_err : {X : Type 0} (r : Result X RunStop) → IfErr r (λ stop. StopsSo (HasCrew desk (length mid.workers)) mid new stop)
-      → IfErr r (λ stop. StopsSo (HasCrew desk (length old.workers)) old new stop)
+  pub last_err : {X : Type 0} (r : Result X RunStop) → IfErr r (λ stop. StopsMachine (HasCrew desk (length mid.workers)) mid new stop)
+      → IfErr r (λ stop. StopsMachine (HasCrew desk (length old.workers)) old new stop)
   last_err (Ok value) st = tt
   last_err (Err stop) st = lines_stop f lines desk i old mid new g stop st
 

@@ -8,7 +8,7 @@ use Rattle.cell_loop.specs.declared.loop_part.LoopPart.{LoopPart}
 use Rattle.cell_core.specs.declared.worker.Holding.{Holding}
 use Rattle.cell_core.specs.declared.worker.Holding.TheVariants.{Idle}
 use Rattle.cell_core.specs.declared.turn.Stepped.{Stepped}
-use Rattle.cell_core.specs.declared.turn.Stepped.TheVariants.{Rests, Moves, Fails}
+use Rattle.cell_core.specs.declared.turn.Stepped.TheVariants.{Idle, Moves, Fails}
 use Rattle.cell_core.specs.declared.stop.RunStop.{RunStop}
 use Rattle.cell_core.specs.declared.stop.RunStop.TheVariants.{JournalFault}
 use Rattle.cell_loop.specs.Settings.{CellSetting, ServedPlay}
@@ -31,7 +31,7 @@ put_back_so old out back w next taken put = put ∙ ap (λ xs. set xs w next) ta
 
 -- only the journal's failing stops a worker
 pub only_faults : (stepped : Stepped) (result : Result Bool RunStop) → AnswersStep stepped result → IfErr result (λ stop. stop ≡ JournalFault)
-only_faults Rests result tells = subst (λ r. IfErr r (λ stop. stop ≡ JournalFault)) (sym tells) tt
+only_faults Idle result tells = subst (λ r. IfErr r (λ stop. stop ≡ JournalFault)) (sym tells) tt
 only_faults Moves result tells = subst (λ r. IfErr r (λ stop. stop ≡ JournalFault)) (sym tells) tt
 only_faults Fails result tells = subst (λ r. IfErr r (λ stop. stop ≡ JournalFault)) (sym tells) refl
 
@@ -56,7 +56,7 @@ module _ (desk : DeskMeaning) (w : ℕ) (part : LoopPart) (hall new_hall : Serve
   MovedSo result = IfOk result (λ moved. DeskMoves desk (λ s. one_of_worker s w) before moved behind)
 
   pub worker_moved : (result : Result Bool RunStop) (now : Stepped) → stepped ≡ now → AnswersStep now result → IfOk result (λ moved. DeskMoves desk (λ s. one_of_worker s w) before moved behind)
-  worker_moved result Rests is tells = subst MovedSo (sym tells) (λ s play same tied. makes s play same tied Rests is)
+  worker_moved result Idle is tells = subst MovedSo (sym tells) (λ s play same tied. makes s play same tied Idle is)
   worker_moved result Moves is tells = subst MovedSo (sym tells) (λ s play same tied. makes s play same tied Moves is)
   worker_moved result Fails is tells = subst MovedSo (sym tells) tt
 
@@ -64,7 +64,7 @@ module _ (desk : DeskMeaning) (w : ℕ) (part : LoopPart) (hall new_hall : Serve
   FailedSo result = OnErr result (FailsAt desk before behind)
 
   pub worker_failed : (result : Result Bool RunStop) (now : Stepped) → stepped ≡ now → AnswersStep now result → OnErr result (FailsAt desk before behind)
-  worker_failed result Rests is tells = subst FailedSo (sym tells) tt
+  worker_failed result Idle is tells = subst FailedSo (sym tells) tt
   worker_failed result Moves is tells = subst FailedSo (sym tells) tt
   worker_failed result Fails is tells =
       subst FailedSo (sym tells)
@@ -76,8 +76,8 @@ module _ (desk : DeskMeaning) (w : ℕ) (part : LoopPart) (hall new_hall : Serve
   LessSo result = IfOk result (λ moved. LeavesLess moved before behind)
 
   pub worker_less : (result : Result Bool RunStop) → IsOfDesk desk before → (now : Stepped) → stepped ≡ now → AnswersStep now result → IfOk result (λ moved. LeavesLess moved before behind)
-  worker_less result of_desk Rests is tells =
-      let t : WorkMakes of_desk.0 w of_desk.2.play part hall new_hall workers next Rests = makes of_desk.0 of_desk.2.play of_desk.1 of_desk.2.tied Rests is in
+  worker_less result of_desk Idle is tells =
+      let t : WorkMakes of_desk.0 w of_desk.2.play part hall new_hall workers next Idle = makes of_desk.0 of_desk.2.play of_desk.1 of_desk.2.tied Idle is in
       subst LessSo (sym tells) (stays_heavy of_desk.0 before behind of_desk.2.play of_desk.2.tied t.1 (length-set workers w next))
   worker_less result of_desk Moves is tells =
       let t : WorkMakes of_desk.0 w of_desk.2.play part hall new_hall workers next Moves = makes of_desk.0 of_desk.2.play of_desk.1 of_desk.2.tied Moves is in

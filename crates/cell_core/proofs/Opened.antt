@@ -20,11 +20,11 @@ use Rattle.script_text.specs.Reading.{conn_of_line}
 use Rattle.script_text.specs.Sound.{IsSoundPlan, MovesItsWorkers, most_workers}
 use Rattle.hall_core.specs.Meant.{ServedHall, opened_hall}
 use Rattle.cell_loop.specs.declared.feed.Feed.{Feed}
-use Rattle.cell_loop.specs.declared.loop_part.Stand.{Stand}
-use Rattle.cell_loop.specs.declared.loop_part.Stand.TheVariants.{Lean, Framed, Whole, Asked, Over}
+use Rattle.cell_loop.specs.declared.loop_part.CellStage.{CellStage}
+use Rattle.cell_loop.specs.declared.loop_part.CellStage.TheVariants.{Lean, Framed, Whole, Asked, Over}
 use Rattle.cell_loop.specs.declared.loop_part.LoopPart.{LoopPart}
 use Rattle.cell_loop.specs.Feeds.{unread_in, finish_in, rules_in, HasSomePieces, BoundsSome, AreFreshFeeds}
-use Rattle.cell_loop.specs.LoopTied.{StandTells, IsLoopTied, HasRoomToClose, IsFreshPart}
+use Rattle.cell_loop.specs.LoopTied.{CellStageTells, IsLoopTied, HasRoomToClose, IsFreshPart}
 use Rattle.cell_loop.specs.LoopMoves.{AreAllOver}
 use Rattle.cell_loop.proofs.Starting.{starts_tied}
 use Rattle.cell_core.specs.declared.worker.Holding.{Holding}
@@ -36,7 +36,7 @@ use Rattle.cell_loop.specs.Reached.{IsRunTo, IsReached}
 use Rattle.cell_loop.proofs.Going.{so_at_first}
 use Rattle.cell_core.specs.Parts.{Parts}
 use Rattle.cell_core.specs.Machines.{ArePlayed, AreUnderWay, IsLineFor}
-use Rattle.cell_core.specs.Rehearsed.{SeenRun, LooksSo, IsSeenRun, IsOpenedPart, AreFirstWorkers, LeadsToEnd}
+use Rattle.cell_core.specs.Rehearsed.{SeenRun, ShowsRun, IsSeenRun, IsOpenedPart, AreFirstWorkers, LeadsToEnd}
 
 -- ---- fresh feeds
 
@@ -85,7 +85,7 @@ fresh_part s script part sound opened =
     record {
       table = opened.table;
       tape = opened.tape;
-      stands = opened.stands;
+      stages = opened.stages;
       unread = fresh_unread script.rules part.feeds.items opened.feeds;
       finish = fresh_finish script.rules part.feeds.items opened.feeds;
       rules = fresh_rules script.rules part.feeds.items opened.feeds;
@@ -200,7 +200,7 @@ module _ (s : CellSetting) (script : ScriptPlan) (part : LoopPart) (workers : Li
   first_room =
       let tape : length part.tape.items ≡ 0 = ap length opened.tape in
       let slots : length part.table.slots ≡ 0 = ap (λ (t : TableView). length t.slots) opened.table in
-      let stands : length part.stands.items ≡ 0 = ap length opened.stands in
+      let stages : length part.stages.items ≡ 0 = ap length opened.stages in
       record { for_marks = omega arith; for_causes = omega arith; none_yet = opened.ends; numbered = omega arith }
 
   pub first_under_way : s.desk.slots ≡ length s.opening → AreUnderWay s opened_parts
@@ -216,17 +216,17 @@ module _ (s : CellSetting) (script : ScriptPlan) (part : LoopPart) (workers : Li
 
 -- ---- a machine whose connections have all ended
 
-got_at : (stands : List Stand) (c : ℕ) → c < length stands → slice_get stands c ≡ Some (get_or stands c Lean)
+got_at : (stages : List CellStage) (c : ℕ) → c < length stages → slice_get stages c ≡ Some (get_or stages c Lean)
 got_at [] c below = absurd (let k : ⊥ = omega arith in k)
-got_at (stand ∷ stands) zero below = refl
-got_at (stand ∷ stands) (suc c) below = got_at stands c (omega arith)
+got_at (stage ∷ stages) zero below = refl
+got_at (stage ∷ stages) (suc c) below = got_at stages c (omega arith)
 
 below_got : (causes : List EndCause) (c : ℕ) (cause : EndCause) → slice_get causes c ≡ Some cause → c < length causes
 below_got [] c cause got = absurd (none-some cause got)
 below_got (first ∷ causes) zero cause got = omega arith
 below_got (first ∷ causes) (suc c) cause got = let l : c < length causes = below_got causes c cause got in omega arith
 
-over_so : (max : ℕ) (table : TableView) (c : ℕ) (conn : LoopConn) (admitted : Option ℕ) (stand : Stand) (cause : EndCause) → StandTells max table c conn admitted stand → conn.cause ≡ Some cause → stand ≡ Over cause
+over_so : (max : ℕ) (table : TableView) (c : ℕ) (conn : LoopConn) (admitted : Option ℕ) (stage : CellStage) (cause : EndCause) → CellStageTells max table c conn admitted stage → conn.cause ≡ Some cause → stage ≡ Over cause
 over_so max table c conn admitted Lean cause tells is = absurd (none-some cause (sym tells.0.tied.going ∙ is))
 over_so max table c conn admitted Framed cause tells is = absurd (none-some cause (sym tells.0.tied.going ∙ is))
 over_so max table c conn admitted Whole cause tells is = absurd (none-some cause (sym tells.0.tied.going ∙ is))
@@ -240,15 +240,15 @@ stands_over s part play causes tied over =
       each = λ c cause got.
           let l : c < length causes = below_got causes c cause got in
           let n : length causes ≡ play.cell.loop.count = over.count in
-          let m : play.cell.loop.count ≡ length part.stands.items = tied.count in
-          got_at part.stands.items c (omega arith)
-          ∙ ap Some (over_so s.desk.max_frame part.table c (play.cell.loop.conns c) (play.admitted c) (get_or part.stands.items c Lean) cause (tied.stands c (omega arith)) (over.each c (omega arith) ∙ got));
+          let m : play.cell.loop.count ≡ length part.stages.items = tied.count in
+          got_at part.stages.items c (omega arith)
+          ∙ ap Some (over_so s.desk.max_frame part.table c (play.cell.loop.conns c) (play.admitted c) (get_or part.stages.items c Lean) cause (tied.stages c (omega arith)) (over.each c (omega arith) ∙ got));
     }
 
 -- ---- what is seen of a run
 
 -- a run to a cell whose connections have all ended
-pub seen_at : (s : CellSetting) (cell : ServedCell) (run : SeenRun) → IsRunTo s cell → LooksSo run cell → IsSeenRun s run
+pub seen_at : (s : CellSetting) (cell : ServedCell) (run : SeenRun) → IsRunTo s cell → ShowsRun run cell → IsSeenRun s run
 seen_at s cell run to looks = record { first = to.first; last = cell; events = to.events; is_first = to.is_first; lead = to.lead; looks = looks }
 
 -- one that is led to its end

@@ -24,11 +24,11 @@ use Rattle.cell_loop.specs.Settings.{CellSetting, ServedCell, ServedPlay, HallIn
 use Rattle.cell_loop.specs.Moving.{HasNoMove, one_of_outcome}
 use Rattle.cell_loop.specs.Reached.{IsReached}
 use Rattle.cell_loop.specs.Replies.{IsReplySome}
-use Rattle.cell_loop.specs.declared.loop_part.Stand.{Stand}
-use Rattle.cell_loop.specs.declared.loop_part.Stand.TheVariants.{Lean, Framed, Whole, Asked, Over}
+use Rattle.cell_loop.specs.declared.loop_part.CellStage.{CellStage}
+use Rattle.cell_loop.specs.declared.loop_part.CellStage.TheVariants.{Lean, Framed, Whole, Asked, Over}
 use Rattle.cell_loop.specs.declared.loop_part.LoopPart.{LoopPart}
 use Rattle.conn_refinement.specs.Phases.{PhaseTells, IsLean, IsFraming}
-use Rattle.cell_loop.specs.LoopTied.{StandTells, IsLoopTied}
+use Rattle.cell_loop.specs.LoopTied.{CellStageTells, IsLoopTied}
 use Rattle.cell_core.specs.HallTied.{IsHallTied}
 use Rattle.cell_core.specs.Turns.{IsNoOutcome}
 use Rattle.cell_core.proofs.HallTying.{AreRepliesSome, GivesFrom, gives_from, same_outcomes, still_open, still_whole, step_tied, same_replies}
@@ -105,8 +105,8 @@ not_ready max (waiting number) conn is_ready tells under = is_ready
 not_ready max (ended cause) conn is_ready tells under = is_ready
 
 -- so it stands asked, unless it has ended; and one that has ended has none under way
-asked_so : (max : ℕ) (table : TableView) (c : ℕ) (conn : LoopConn) (admitted : Option ℕ) (stand : Stand) → StandTells max table c conn admitted stand
-    → (conn.cause ≢ None → conn.collected ≡ length conn.payloads) → IsUnderHall conn → stand ≡ Asked
+asked_so : (max : ℕ) (table : TableView) (c : ℕ) (conn : LoopConn) (admitted : Option ℕ) (stage : CellStage) → CellStageTells max table c conn admitted stage
+    → (conn.cause ≢ None → conn.collected ≡ length conn.payloads) → IsUnderHall conn → stage ≡ Asked
 asked_so max table c conn admitted Asked tells none under = refl
 asked_so max table c conn admitted Lean tells none under =
     absurd (not_lean max (slot_of c table.slots).conn.phase conn tells.0.in_its_phase tells.0.tied.tells under)
@@ -122,14 +122,14 @@ asked_so max table c conn admitted (Over cause) tells none under =
 
 -- The connection of the first outcome stands asked.
 pub stands_asked : (s : CellSetting) (part : LoopPart) (play : ServedPlay) (o : JobOutcome) (outs : List JobOutcome) → IsLoopTied s part play → IsReached s play.cell
-    → play.cell.hall.outcomes ≡ o ∷ outs → slice_get part.stands.items o.key.c ≡ Some Asked
+    → play.cell.hall.outcomes ≡ o ∷ outs → slice_get part.stages.items o.key.c ≡ Some Asked
 stands_asked s part play o outs tied reached is =
     let c : ℕ = o.key.c in
     let t : (c < play.cell.loop.count) × IsUnderHall (play.cell.loop.conns c) = opened_there s play.cell o outs reached is in
-    let below : c < length part.stands.items = subst (λ n. c < n) tied.count t.0 in
-    slice_get-get_or part.stands.items c Lean below
+    let below : c < length part.stages.items = subst (λ n. c < n) tied.count t.0 in
+    slice_get-get_or part.stages.items c Lean below
     ∙ ap Some
-    (asked_so s.desk.max_frame part.table c (play.cell.loop.conns c) (play.admitted c) (slice_index_or part.stands.items c Lean) (tied.stands c below) (reached.none_left c t.0) t.1)
+    (asked_so s.desk.max_frame part.table c (play.cell.loop.conns c) (play.admitted c) (slice_index_or part.stages.items c Lean) (tied.stages c below) (reached.none_left c t.0) t.1)
 
 -- An outcome was collected: it was the first one.
 pub collected_from : (old new : ServedHall) (hall : HallInCell) (key : Key) (settled : Settled) → IsHallTied old hall → SeenGives handler_rules old collect (outcome key settled) new

@@ -17,11 +17,11 @@ use Rattle.cell_loop.specs.LoopTied.{HasRoomToClose}
 use Rattle.cell_loop.specs.LoopMoves.{AnySetting, HasLongest}
 use Rattle.cell_core.specs.Parts.{Parts}
 use Rattle.cell_core.specs.Work.{steps_left}
-use Rattle.cell_core.specs.Machines.{ArePlayed, AreUnderWay, SomeMachine, IsMachine, IsOfDesk, MachineMoves, DeskMoves, StaysPlayed, MoveKeeps, FailsAt, LeavesLess, MovesSo, IsDone, EndsEarly, StopsBy, StopsSo, ComesThrough, HasDesk, HasCrew}
+use Rattle.cell_core.specs.Machines.{ArePlayed, AreUnderWay, SomeMachine, IsMachine, IsOfDesk, MachineMoves, DeskMoves, StaysPlayed, MoveKeeps, FailsAt, LeavesLess, CountsMove, IsDone, EndsEarly, StopsBy, StopsMachine, ComesThrough, HasDesk, HasCrew}
 use Rattle.cell_core.specs.MachineSteps.{HasNoTurn}
 use Rattle.cell_core.proofs.Gathering.{ConnReaches}
 use Rattle.cell_core.proofs.ConnMoves.{none_steps}
-use Rattle.cell_core.proofs.Rounds.{IsGoing, IsGoingOn, moves_both, less_both, goes_further, done_as, reaches_so, begins, goes_on, goes_last, goes_still, goes_out, comes_last, breaks_off, so_far, stops_behind, under_way_on, kept_both, one_done, none_done, stays_early, or_some}
+use Rattle.cell_core.proofs.Rounds.{IsGoing, LoopIsRunning, moves_both, less_both, goes_further, done_as, reaches_so, begins, goes_on, goes_last, goes_still, goes_out, comes_last, breaks_off, so_far, stops_behind, under_way_on, kept_both, one_done, none_done, stays_early, or_some}
 
 -- ---- what is said where a call breaks off
 
@@ -48,22 +48,22 @@ machine_of desk max old same m = (m.0, ap (λ (d : DeskMeaning). d.max_frame) m.
 pub machine_on : (max : ℕ) (all left : CellSetting → Doing) (old now : Parts) (moved : Bool) → IsGoing (HasLongest max) all left old moved now → IsMachine max old → IsMachine max now
 machine_on max all left old now moved g m =
     let u : AreUnderWay m.0 old = m.2 in
-    let next : (next : ServedPlay) × ContinuesWith (all m.0) (left m.0) u.play next × ArePlayed m.0 now next × MovesSo moved u.play next = g.goes m.0 u.play m.1 u.tied in
+    let next : (next : ServedPlay) × ContinuesWith (all m.0) (left m.0) u.play next × ArePlayed m.0 now next × CountsMove moved u.play next = g.goes m.0 u.play m.1 u.tied in
     (m.0, m.1, under_way_on m.0 old now u g.kept next.0 next.2)
 
 pub some_on : (all left : CellSetting → Doing) (old now : Parts) (moved : Bool) → IsGoing AnySetting all left old moved now → SomeMachine old → SomeMachine now
 some_on all left old now moved g m =
     let u : AreUnderWay m.0 old = m.1 in
-    let next : (next : ServedPlay) × ContinuesWith (all m.0) (left m.0) u.play next × ArePlayed m.0 now next × MovesSo moved u.play next = g.goes m.0 u.play tt u.tied in
+    let next : (next : ServedPlay) × ContinuesWith (all m.0) (left m.0) u.play next × ArePlayed m.0 now next × CountsMove moved u.play next = g.goes m.0 u.play tt u.tied in
     (m.0, under_way_on m.0 old now u g.kept next.0 next.2)
 
 pub desk_on : (desk : DeskMeaning) (all left : CellSetting → Doing) (old now : Parts) (moved : Bool) → IsGoing (HasDesk desk) all left old moved now → IsOfDesk desk old → IsOfDesk desk now
 desk_on desk all left old now moved g m =
     let u : AreUnderWay m.0 old = m.2 in
-    let next : (next : ServedPlay) × ContinuesWith (all m.0) (left m.0) u.play next × ArePlayed m.0 now next × MovesSo moved u.play next = g.goes m.0 u.play m.1 u.tied in
+    let next : (next : ServedPlay) × ContinuesWith (all m.0) (left m.0) u.play next × ArePlayed m.0 now next × CountsMove moved u.play next = g.goes m.0 u.play m.1 u.tied in
     (m.0, m.1, under_way_on m.0 old now u g.kept next.0 next.2)
 
-pub crew_on : (desk : DeskMeaning) (all left : CellSetting → Doing) (old now : Parts) → IsGoingOn (HasCrew desk (length old.workers)) all left old now → IsOfDesk desk old → IsOfDesk desk now
+pub crew_on : (desk : DeskMeaning) (all left : CellSetting → Doing) (old now : Parts) → LoopIsRunning (HasCrew desk (length old.workers)) all left old now → IsOfDesk desk old → IsOfDesk desk now
 crew_on desk all left old now g m =
     let u : AreUnderWay m.0 old = m.2 in
     let next : (next : ServedPlay) × ContinuesWith (all m.0) (left m.0) u.play next × ArePlayed m.0 now next = g.goes m.0 u.play (m.1, sym u.counted) u.tied in
@@ -74,7 +74,7 @@ pub done_on : (W : CellSetting → Type 0) (desk : DeskMeaning) (doing : CellSet
     → IsOfDesk desk old → IsOfDesk desk new
 done_on W desk doing old new moved narrow d m =
     let u : AreUnderWay m.0 old = m.2 in
-    let next : GoesTo (doing m.0) (λ next. ArePlayed m.0 new next × MovesSo moved u.play next) u.play = d.goes m.0 u.play (narrow m.0 m.1) u.tied in
+    let next : GoesTo (doing m.0) (λ next. ArePlayed m.0 new next × CountsMove moved u.play next) u.play = d.goes m.0 u.play (narrow m.0 m.1) u.tied in
     (m.0, m.1, under_way_on m.0 old new u d.kept next.0 next.2.0)
 
 -- the longest payload of a setting with this desk
@@ -134,14 +134,14 @@ or_none true = refl
 or_none false = refl
 
 -- a connection that has no turn has nothing to do
-still_done : (max c : ℕ) (m : Parts) → ConnReaches → IsMachine max m → HasNoTurn (slice_get m.part.stands.items c) → IsDone (HasLongest max) (λ s. all_of_conn s c) m false m
+still_done : (max c : ℕ) (m : Parts) → ConnReaches → IsMachine max m → HasNoTurn (slice_get m.part.stages.items c) → IsDone (HasLongest max) (λ s. all_of_conn s c) m false m
 still_done max c m reaches now still =
     let steps = none_steps {E = Unit {0}} max c m reaches now still in
     conn_last max c m m m false false (begins (HasLongest max) (λ s. all_of_conn s c) m now.2.room) steps.kept steps.later steps.moved steps.less refl
 
 -- those that have none are passed over
 pub conns_over : (max n : ℕ) (old mid : Parts) (moved : Bool) → ConnReaches → IsMachine max mid → (c d : ℕ) → c + d ≤ n
-    → ((k : ℕ) → c ≤ k → k < c + d → HasNoTurn (slice_get mid.part.stands.items k))
+    → ((k : ℕ) → c ≤ k → k < c + d → HasNoTurn (slice_get mid.part.stages.items k))
     → IsGoing (HasLongest max) (λ s. first_of_conns s n) (λ s. all_of_conns s (count_up c (n - c))) old moved mid
     → IsGoing (HasLongest max) (λ s. first_of_conns s n) (λ s. all_of_conns s (count_up (c + d) (n - (c + d)))) old moved mid
 conns_over max n old mid moved reaches now c zero fits still g =
@@ -150,14 +150,14 @@ conns_over max n old mid moved reaches now c zero fits still g =
 conns_over max n old mid moved reaches now c (suc d) fits still g =
     let same : (c + 1) + d ≡ c + suc d = omega arith in
     let below : c < n = omega arith in
-    let here : HasNoTurn (slice_get mid.part.stands.items c) = still c (omega arith) (omega arith) in
+    let here : HasNoTurn (slice_get mid.part.stages.items c) = still c (omega arith) (omega arith) in
     let next = conns_round max n c old mid mid moved false moved below g (still_done max c mid reaches now here) (or_none moved) in
     subst (λ k. IsGoing (HasLongest max) (λ s. first_of_conns s n) (λ s. all_of_conns s (count_up k (n - k))) old moved mid) same
     (conns_over max n old mid moved reaches now (c + 1) d (omega arith) (λ k from below. still k (omega arith) (omega arith)) next)
 
 -- up to the next that may have one
 pub conns_to : (max n : ℕ) (old mid : Parts) (moved : Bool) → ConnReaches → IsMachine max mid → (c next : ℕ) → c ≤ next → next ≤ n
-    → ((k : ℕ) → c ≤ k → k < next → HasNoTurn (slice_get mid.part.stands.items k))
+    → ((k : ℕ) → c ≤ k → k < next → HasNoTurn (slice_get mid.part.stages.items k))
     → IsGoing (HasLongest max) (λ s. first_of_conns s n) (λ s. all_of_conns s (count_up c (n - c))) old moved mid
     → IsGoing (HasLongest max) (λ s. first_of_conns s n) (λ s. all_of_conns s (count_up next (n - next))) old moved mid
 conns_to max n old mid moved reaches now c next from within still g =
@@ -245,40 +245,40 @@ fails_by desk old new NoMemory e f = absurd (subst WantsMemory e tt)
 
 -- what is said of a move that failed
 pub fails_so : (desk : DeskMeaning) (old new : Parts) (stop : RunStop) → stop ≡ JournalFault → FailsAt desk old new → MoveKeeps old new → old.hall.faults ≤ new.hall.faults
-    → StopsSo (HasDesk desk) old new stop
+    → StopsMachine (HasDesk desk) old new stop
 fails_so desk old new stop only f kept later = record { by = fails_by desk old new stop only f; kept = kept; later = later }
 
 -- ---- a run that stops in a loop
 
-pub loop_stops : (W : CellSetting → Type 0) (all left : CellSetting → Doing) (old mid new : Parts) (moved : Bool) (stop : RunStop) → IsGoing W all left old moved mid → StopsSo W mid new stop
-    → StopsSo W old new stop
+pub loop_stops : (W : CellSetting → Type 0) (all left : CellSetting → Doing) (old mid new : Parts) (moved : Bool) (stop : RunStop) → IsGoing W all left old moved mid → StopsMachine W mid new stop
+    → StopsMachine W old new stop
 loop_stops W all left old mid new moved stop g st =
     stops_behind W old mid new (reaches_so W all left old mid (so_far W all left old mid moved g)) g.later stop g.kept st
 
-pub run_stops : (W : CellSetting → Type 0) (all left : CellSetting → Doing) (old mid new : Parts) (stop : RunStop) → IsGoingOn W all left old mid → StopsSo W mid new stop → StopsSo W old new stop
+pub run_stops : (W : CellSetting → Type 0) (all left : CellSetting → Doing) (old mid new : Parts) (stop : RunStop) → LoopIsRunning W all left old mid → StopsMachine W mid new stop → StopsMachine W old new stop
 run_stops W all left old mid new stop g st = stops_behind W old mid new (reaches_so W all left old mid g) g.later stop g.kept st
 
 -- one behind what was done
-pub done_stops : (W : CellSetting → Type 0) (doing : CellSetting → Doing) (old mid new : Parts) (moved : Bool) (stop : RunStop) → IsDone W doing old moved mid → StopsSo W mid new stop
-    → StopsSo W old new stop
+pub done_stops : (W : CellSetting → Type 0) (doing : CellSetting → Doing) (old mid new : Parts) (moved : Bool) (stop : RunStop) → IsDone W doing old moved mid → StopsMachine W mid new stop
+    → StopsMachine W old new stop
 done_stops W doing old mid new moved stop d st =
     stops_behind W old mid new
-    (λ s play w tied. let next : GoesTo (doing s) (λ next. ArePlayed s mid next × MovesSo moved play next) play = d.goes s play w tied in (next.0, next.2.0))
+    (λ s play w tied. let next : GoesTo (doing s) (λ next. ArePlayed s mid next × CountsMove moved play next) play = d.goes s play w tied in (next.0, next.2.0))
     d.later stop d.kept st
 
 -- ---- a pass, and passes
 
 module _ (desk : DeskMeaning) (max : ℕ) (old one two new : Parts) (read worked collected : Bool) (longest : max ≡ desk.max_frame)
-    (reads : IsDone (HasLongest max) (λ s. first_of_conns s (length old.part.stands.items)) old read one)
+    (reads : IsDone (HasLongest max) (λ s. first_of_conns s (length old.part.stages.items)) old read one)
     (works : IsDone (HasDesk desk) (λ s. first_of_workers s (length one.workers)) one worked two) (collects : IsDone AnySetting all_of_outcomes two collected new) where
   pass_goes : (s : CellSetting) (play : ServedPlay) → HasCrew desk (length old.workers) s → ArePlayed s old play
-      → GoesTo (one_pass s) (λ next. ArePlayed s new next × MovesSo ((read || worked) || collected) play next) play
+      → GoesTo (one_pass s) (λ next. ArePlayed s new next × CountsMove ((read || worked) || collected) play next) play
   pass_goes s play crew tied =
-      let n : ℕ = length old.part.stands.items in
+      let n : ℕ = length old.part.stages.items in
       let m : ℕ = length one.workers in
-      let r : GoesTo (first_of_conns s n) (λ next. ArePlayed s one next × MovesSo read play next) play = reads.goes s play (longest_of desk max longest s crew.0) tied in
-      let w : GoesTo (first_of_workers s m) (λ next. ArePlayed s two next × MovesSo worked r.0 next) r.0 = works.goes s r.0 crew.0 r.2.0 in
-      let c : GoesTo (all_of_outcomes s) (λ next. ArePlayed s new next × MovesSo collected w.0 next) w.0 = collects.goes s w.0 tt w.2.0 in
+      let r : GoesTo (first_of_conns s n) (λ next. ArePlayed s one next × CountsMove read play next) play = reads.goes s play (longest_of desk max longest s crew.0) tied in
+      let w : GoesTo (first_of_workers s m) (λ next. ArePlayed s two next × CountsMove worked r.0 next) r.0 = works.goes s r.0 crew.0 r.2.0 in
+      let c : GoesTo (all_of_outcomes s) (λ next. ArePlayed s new next × CountsMove collected w.0 next) w.0 = collects.goes s w.0 tt w.2.0 in
       let comes : ComesTo (followed_by (followed_by (first_of_conns s n) (first_of_workers s m)) (all_of_outcomes s)) play c.0 =
       then_comes (followed_by (first_of_conns s n) (first_of_workers s m)) (all_of_outcomes s) play w.0 c.0
       (then_comes (first_of_conns s n) (first_of_workers s m) play r.0 w.0 r.1 w.1) c.1 in (
@@ -301,13 +301,13 @@ module _ (desk : DeskMeaning) (max : ℕ) (old one two new : Parts) (read worked
   pub pass_done : (moved : Bool) → moved ≡ ((read || worked) || collected) → IsDone (HasCrew desk (length old.workers)) one_pass old moved new
   pass_done moved e = subst (λ b. IsDone (HasCrew desk (length old.workers)) one_pass old b new) (sym e) pass_is_done
 
-module _ (desk : DeskMeaning) (old mid new : Parts) (more : Bool) (g : IsGoingOn (HasCrew desk (length old.workers)) all_passes all_passes old mid)
+module _ (desk : DeskMeaning) (old mid new : Parts) (more : Bool) (g : LoopIsRunning (HasCrew desk (length old.workers)) all_passes all_passes old mid)
     (passed : IsDone (HasCrew desk (length mid.workers)) one_pass mid more new) where
   passed_so : IsDone (HasCrew desk (length old.workers)) one_pass mid more new
   passed_so = subst (λ k. IsDone (HasCrew desk k) one_pass mid more new) g.kept.workers passed
 
   -- a pass that has moved something, and those behind it
-  pub drain_round : more ≡ true → IsGoingOn (HasCrew desk (length old.workers)) all_passes all_passes old new
+  pub drain_round : more ≡ true → LoopIsRunning (HasCrew desk (length old.workers)) all_passes all_passes old new
   drain_round e =
       goes_further (HasCrew desk (length old.workers)) all_passes all_passes one_pass all_passes old mid new true (λ s x y z crew some one two. passes_go_on s x y z some one two) g
       (subst (λ b. IsDone (HasCrew desk (length old.workers)) one_pass mid b new) e passed_so)
@@ -316,7 +316,7 @@ module _ (desk : DeskMeaning) (old mid new : Parts) (more : Bool) (g : IsGoingOn
   drained d =
       record {
         goes = λ s play crew tied.
-            let p : GoesTo (one_pass s) (λ next. ArePlayed s new next × MovesSo false play next) play = d.goes s play crew tied in
+            let p : GoesTo (one_pass s) (λ next. ArePlayed s new next × CountsMove false play next) play = d.goes s play crew tied in
             (p.0, passes_end s play p.0 p.2.1 p.1, p.2.0);
         kept = d.kept;
         later = d.later;
@@ -329,7 +329,7 @@ module _ (desk : DeskMeaning) (old mid new : Parts) (more : Bool) (g : IsGoingOn
       (drained (subst (λ b. IsDone (HasCrew desk (length old.workers)) one_pass mid b new) e passed_so))
 
 -- a pass that stops
-pub drain_stops : (desk : DeskMeaning) (old mid new : Parts) (stop : RunStop) → IsGoingOn (HasCrew desk (length old.workers)) all_passes all_passes old mid
-    → StopsSo (HasCrew desk (length mid.workers)) mid new stop → StopsSo (HasCrew desk (length old.workers)) old new stop
+pub drain_stops : (desk : DeskMeaning) (old mid new : Parts) (stop : RunStop) → LoopIsRunning (HasCrew desk (length old.workers)) all_passes all_passes old mid
+    → StopsMachine (HasCrew desk (length mid.workers)) mid new stop → StopsMachine (HasCrew desk (length old.workers)) old new stop
 drain_stops desk old mid new stop g st =
-    run_stops (HasCrew desk (length old.workers)) all_passes all_passes old mid new stop g (subst (λ k. StopsSo (HasCrew desk k) mid new stop) g.kept.workers st)
+    run_stops (HasCrew desk (length old.workers)) all_passes all_passes old mid new stop g (subst (λ k. StopsMachine (HasCrew desk k) mid new stop) g.kept.workers st)

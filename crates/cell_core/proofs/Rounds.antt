@@ -9,18 +9,18 @@ use Rattle.cell_loop.specs.Settings.{CellSetting, ServedPlay, HallInCell}
 use Rattle.cell_loop.specs.Moving.{Doing, ComesTo, HasNoMove, GoesTo, GoesOrStays, ContinuesWith}
 use Rattle.cell_core.specs.Parts.{Parts}
 use Rattle.cell_core.specs.Work.{steps_left}
-use Rattle.cell_core.specs.Machines.{ArePlayed, AreUnderWay, MoveKeeps, HasFailed, IsLess, LeavesLess, MovesSo, IsDone, StaysReached, EndsEarly, StopsBy, StopsSo, ComesThrough}
+use Rattle.cell_core.specs.Machines.{ArePlayed, AreUnderWay, MoveKeeps, HasFailed, IsLess, LeavesLess, CountsMove, IsDone, StaysReached, EndsEarly, StopsBy, StopsMachine, ComesThrough}
 
 -- Whichever play the machine was tied to, with such a setting: it is tied to one from which what is left comes to what all comes to; moves were made up to it, or none.
 pub record IsGoing (with_setting : CellSetting → Type 0) (all left : CellSetting → Doing) (old : Parts) (moved : Bool) (now : Parts) : Type 0 where
   pub goes : (s : CellSetting) (play : ServedPlay) → with_setting s → ArePlayed s old play
-      → (next : ServedPlay) × ContinuesWith (all s) (left s) play next × ArePlayed s now next × MovesSo moved play next
+      → (next : ServedPlay) × ContinuesWith (all s) (left s) play next × ArePlayed s now next × CountsMove moved play next
   pub kept : MoveKeeps old now
   pub less : LeavesLess moved old now
   pub later : old.hall.faults ≤ now.hall.faults
 
 -- The same, with no word of moves.
-pub record IsGoingOn (with_setting : CellSetting → Type 0) (all left : CellSetting → Doing) (old now : Parts) : Type 0 where
+pub record LoopIsRunning (with_setting : CellSetting → Type 0) (all left : CellSetting → Doing) (old now : Parts) : Type 0 where
   pub goes : (s : CellSetting) (play : ServedPlay) → with_setting s → ArePlayed s old play
       → (next : ServedPlay) × ContinuesWith (all s) (left s) play next × ArePlayed s now next
   pub kept : MoveKeeps old now
@@ -28,7 +28,7 @@ pub record IsGoingOn (with_setting : CellSetting → Type 0) (all left : CellSet
 
 -- ---- what two rows of moves are, one behind the other
 
-pub moves_both : (one more : Bool) (a b c : ServedPlay) → MovesSo one a b → MovesSo more b c → MovesSo (one || more) a c
+pub moves_both : (one more : Bool) (a b c : ServedPlay) → CountsMove one a b → CountsMove more b c → CountsMove (one || more) a c
 moves_both true true a b c l m = omega arith
 moves_both true false a b c l m = omega arith
 moves_both false true a b c l m = omega arith
@@ -65,19 +65,19 @@ module _ (W : CellSetting → Type 0) (all : CellSetting → Doing) where
   begins old room =
       record { goes = λ s play w tied. (play, (λ last comes. comes), tied, refl); kept = kept_none old room; less = refl; later = omega arith }
 
-  pub sets_out : (old : Parts) → HasRoomToClose old.part → IsGoingOn W all all old old
+  pub sets_out : (old : Parts) → HasRoomToClose old.part → LoopIsRunning W all all old old
   sets_out old room = record { goes = λ s play w tied. (play, (λ last comes. comes), tied); kept = kept_none old room; later = omega arith }
 
   module _ (left one rest : CellSetting → Doing) (old mid new : Parts) where
     -- one more is done
     pub goes_on : (moved more : Bool)
-        → ((s : CellSetting) (a b c : ServedPlay) → W s → ArePlayed s new b → MovesSo more a b → ComesTo (one s) a b → ComesTo (rest s) b c → ComesTo (left s) a c)
+        → ((s : CellSetting) (a b c : ServedPlay) → W s → ArePlayed s new b → CountsMove more a b → ComesTo (one s) a b → ComesTo (rest s) b c → ComesTo (left s) a c)
         → IsGoing W all left old moved mid → IsDone W one mid more new → IsGoing W all rest old (moved || more) new
     goes_on moved more join g d =
         record {
           goes = λ s play w tied.
-              let now : (next : ServedPlay) × ContinuesWith (all s) (left s) play next × ArePlayed s mid next × MovesSo moved play next = g.goes s play w tied in
-              let then_ : GoesTo (one s) (λ next. ArePlayed s new next × MovesSo more now.0 next) now.0 = d.goes s now.0 w now.2 in (
+              let now : (next : ServedPlay) × ContinuesWith (all s) (left s) play next × ArePlayed s mid next × CountsMove moved play next = g.goes s play w tied in
+              let then_ : GoesTo (one s) (λ next. ArePlayed s new next × CountsMove more now.0 next) now.0 = d.goes s now.0 w now.2 in (
                 then_.0,
                 (λ last comes. now.1 last (join s now.0 then_.0 last w then_.2.0 then_.2.1 then_.1 comes)),
                 then_.2.0,
@@ -90,13 +90,13 @@ module _ (W : CellSetting → Type 0) (all : CellSetting → Doing) where
 
     -- the same, with no word of moves so far
     pub goes_further : (more : Bool)
-        → ((s : CellSetting) (a b c : ServedPlay) → W s → MovesSo more a b → ComesTo (one s) a b → ComesTo (rest s) b c → ComesTo (left s) a c)
-        → IsGoingOn W all left old mid → IsDone W one mid more new → IsGoingOn W all rest old new
+        → ((s : CellSetting) (a b c : ServedPlay) → W s → CountsMove more a b → ComesTo (one s) a b → ComesTo (rest s) b c → ComesTo (left s) a c)
+        → LoopIsRunning W all left old mid → IsDone W one mid more new → LoopIsRunning W all rest old new
     goes_further more join g d =
         record {
           goes = λ s play w tied.
               let now : (next : ServedPlay) × ContinuesWith (all s) (left s) play next × ArePlayed s mid next = g.goes s play w tied in
-              let then_ : GoesTo (one s) (λ next. ArePlayed s new next × MovesSo more now.0 next) now.0 = d.goes s now.0 w now.2 in (
+              let then_ : GoesTo (one s) (λ next. ArePlayed s new next × CountsMove more now.0 next) now.0 = d.goes s now.0 w now.2 in (
                 then_.0,
                 (λ last comes. now.1 last (join s now.0 then_.0 last w then_.2.1 then_.1 comes)),
                 then_.2.0,
@@ -107,7 +107,7 @@ module _ (W : CellSetting → Type 0) (all : CellSetting → Doing) where
 
     -- the same of what is told with no word of moves
     pub comes_further : ((s : CellSetting) (a b c : ServedPlay) → W s → ComesTo (one s) a b → ComesTo (rest s) b c → ComesTo (left s) a c)
-        → IsGoingOn W all left old mid → ComesThrough W one mid new → IsGoingOn W all rest old new
+        → LoopIsRunning W all left old mid → ComesThrough W one mid new → LoopIsRunning W all rest old new
     comes_further join g d =
         record {
           goes = λ s play w tied.
@@ -127,8 +127,8 @@ module _ (W : CellSetting → Type 0) (all : CellSetting → Doing) where
     goes_last old mid new moved more g d =
         record {
           goes = λ s play w tied.
-              let now : (next : ServedPlay) × ContinuesWith (all s) (left s) play next × ArePlayed s mid next × MovesSo moved play next = g.goes s play w tied in
-              let then_ : GoesTo (left s) (λ next. ArePlayed s new next × MovesSo more now.0 next) now.0 = d.goes s now.0 w now.2 in (
+              let now : (next : ServedPlay) × ContinuesWith (all s) (left s) play next × ArePlayed s mid next × CountsMove moved play next = g.goes s play w tied in
+              let then_ : GoesTo (left s) (λ next. ArePlayed s new next × CountsMove more now.0 next) now.0 = d.goes s now.0 w now.2 in (
                 then_.0,
                 now.1 then_.0 then_.1,
                 (then_.2.0, moves_both moved more play now.0 then_.0 now.3 then_.2.1),
@@ -147,7 +147,7 @@ module _ (W : CellSetting → Type 0) (all : CellSetting → Doing) where
     goes_out old new moved none g =
         record {
           goes = λ s play w tied.
-              let now : (next : ServedPlay) × ContinuesWith (all s) (left s) play next × ArePlayed s new next × MovesSo moved play next = g.goes s play w tied in
+              let now : (next : ServedPlay) × ContinuesWith (all s) (left s) play next × ArePlayed s new next × CountsMove moved play next = g.goes s play w tied in
               (now.0, now.1 now.0 (none s now.0 w), (now.2, now.3));
           kept = g.kept;
           less = g.less;
@@ -155,7 +155,7 @@ module _ (W : CellSetting → Type 0) (all : CellSetting → Doing) where
         }
 
     -- the same with no word of moves
-    pub comes_last : (old mid new : Parts) → IsGoingOn W all left old mid → ComesThrough W left mid new → ComesThrough W all old new
+    pub comes_last : (old mid new : Parts) → LoopIsRunning W all left old mid → ComesThrough W left mid new → ComesThrough W all old new
     comes_last old mid new g d =
         record {
           goes = λ s play w tied.
@@ -170,24 +170,24 @@ module _ (W : CellSetting → Type 0) (all : CellSetting → Doing) where
     pub breaks_off : (old mid new : Parts) (moved : Bool) → IsGoing W all left old moved mid → EndsEarly W mid new → EndsEarly W old new
     breaks_off old mid new moved g d =
         record {
-          reached = λ s play w tied. let now : (next : ServedPlay) × ContinuesWith (all s) (left s) play next × ArePlayed s mid next × MovesSo moved play next = g.goes s play w tied in
+          reached = λ s play w tied. let now : (next : ServedPlay) × ContinuesWith (all s) (left s) play next × ArePlayed s mid next × CountsMove moved play next = g.goes s play w tied in
               d.reached s now.0 w now.2;
           kept = kept_both old mid new g.kept d.kept;
           later = let one_ : old.hall.faults ≤ mid.hall.faults = g.later in let two : mid.hall.faults ≤ new.hall.faults = d.later in omega arith;
         }
 
     -- a play that the machine is tied to now, whichever it was tied to
-    pub so_far : (old now : Parts) (moved : Bool) → IsGoing W all left old moved now → IsGoingOn W all left old now
+    pub so_far : (old now : Parts) (moved : Bool) → IsGoing W all left old moved now → LoopIsRunning W all left old now
     so_far old now moved g =
         record {
-          goes = λ s play w tied. let next : (next : ServedPlay) × ContinuesWith (all s) (left s) play next × ArePlayed s now next × MovesSo moved play next = g.goes s play w tied in
+          goes = λ s play w tied. let next : (next : ServedPlay) × ContinuesWith (all s) (left s) play next × ArePlayed s now next × CountsMove moved play next = g.goes s play w tied in
               (next.0, next.1, next.2);
           kept = g.kept;
           later = g.later;
         }
 
 -- a play that the machine is tied to now is reached, whichever it was tied to
-pub reaches_so : (W : CellSetting → Type 0) (all left : CellSetting → Doing) (old now : Parts) → IsGoingOn W all left old now → StaysReached W old now
+pub reaches_so : (W : CellSetting → Type 0) (all left : CellSetting → Doing) (old now : Parts) → LoopIsRunning W all left old now → StaysReached W old now
 reaches_so W all left old now g = λ s play w tied.
     let next : (next : ServedPlay) × ContinuesWith (all s) (left s) play next × ArePlayed s now next = g.goes s play w tied in
     (next.0, next.2)
@@ -213,7 +213,7 @@ module _ (W : CellSetting → Type 0) (old mid new : Parts) (reaches : StaysReac
       let now : (now : ServedPlay) × ArePlayed s mid now = reaches s play w tied in
       failed_behind s old mid new later (by s now.0 w now.1)
 
-  pub stops_behind : (stop : RunStop) → MoveKeeps old mid → StopsSo W mid new stop → StopsSo W old new stop
+  pub stops_behind : (stop : RunStop) → MoveKeeps old mid → StopsMachine W mid new stop → StopsMachine W old new stop
   stops_behind stop kept st =
       record {
         by = by_behind stop st.by;
@@ -222,8 +222,8 @@ module _ (W : CellSetting → Type 0) (old mid new : Parts) (reaches : StaysReac
       }
 
 -- one for want of memory
-pub early_stops : (W : CellSetting → Type 0) (old new : Parts) (stop : RunStop) → stop ≡ NoMemory → EndsEarly W old new → StopsSo W old new stop
-early_stops W old new stop is e = subst (StopsSo W old new) (sym is) (record { by = e.reached; kept = e.kept; later = e.later })
+pub early_stops : (W : CellSetting → Type 0) (old new : Parts) (stop : RunStop) → stop ≡ NoMemory → EndsEarly W old new → StopsMachine W old new stop
+early_stops W old new stop is e = subst (StopsMachine W old new) (sym is) (record { by = e.reached; kept = e.kept; later = e.later })
 
 -- what is done is another thing too
 pub done_as : (W : CellSetting → Type 0) (one left : CellSetting → Doing) (old new : Parts) (moved : Bool)
@@ -231,7 +231,7 @@ pub done_as : (W : CellSetting → Type 0) (one left : CellSetting → Doing) (o
 done_as W one left old new moved also d =
     record {
       goes = λ s play w tied.
-          let then_ : GoesTo (one s) (λ next. ArePlayed s new next × MovesSo moved play next) play = d.goes s play w tied in
+          let then_ : GoesTo (one s) (λ next. ArePlayed s new next × CountsMove moved play next) play = d.goes s play w tied in
           (then_.0, also s play then_.0 w then_.2.0 then_.1, then_.2);
       kept = d.kept;
       less = d.less;
@@ -249,7 +249,7 @@ module _ (W V : CellSetting → Type 0) (narrow : (s : CellSetting) → V s → 
   pub narrowed_early : (old new : Parts) → EndsEarly W old new → EndsEarly V old new
   narrowed_early old new e = record { reached = λ s play v tied. e.reached s play (narrow s v) tied; kept = e.kept; later = e.later }
 
-  pub narrowed_stop : (old new : Parts) (stop : RunStop) → StopsSo W old new stop → StopsSo V old new stop
+  pub narrowed_stop : (old new : Parts) (stop : RunStop) → StopsMachine W old new stop → StopsMachine V old new stop
   narrowed_stop old new NoMemory st = record { by = λ s play v tied. st.by s play (narrow s v) tied; kept = st.kept; later = st.later }
   narrowed_stop old new JournalFault st = record { by = λ s play v tied. st.by s play (narrow s v) tied; kept = st.kept; later = st.later }
 

@@ -17,11 +17,11 @@ use Rattle.script_model.proofs.Weighing.{open_weight, left_weight, conn_weight, 
 use Rattle.script_model.proofs.Spending.{pieces_weight, rules_weight, size_weight, play_weight}
 use Rattle.cell_loop.specs.Settings.{CellSetting, ServedCell, ServedPlay, desk_of_setting}
 use Rattle.cell_loop.specs.Reached.{IsReached}
-use Rattle.cell_loop.specs.declared.loop_part.Stand.{Stand}
-use Rattle.cell_loop.specs.declared.loop_part.Stand.TheVariants.{Lean, Framed, Whole, Asked, Over}
+use Rattle.cell_loop.specs.declared.loop_part.CellStage.{CellStage}
+use Rattle.cell_loop.specs.declared.loop_part.CellStage.TheVariants.{Lean, Framed, Whole, Asked, Over}
 use Rattle.cell_loop.specs.Feeds.{unread_in, rules_in}
 use Rattle.conn_refinement.specs.Phases.{PhaseTells, IsLean, IsFraming}
-use Rattle.cell_loop.specs.LoopTied.{StandTells}
+use Rattle.cell_loop.specs.LoopTied.{CellStageTells}
 use Rattle.cell_core.specs.declared.worker.Holding.{Holding}
 use Rattle.cell_core.specs.declared.worker.Holding.TheVariants.{Idle, Holds, Answered, Unanswered}
 use Rattle.cell_core.specs.HallTied.{plain_worker}
@@ -139,8 +139,8 @@ waiting_weighs max (ready number payload) conn waits going tells = absurd waits
 waiting_weighs max (ended cause) conn waits going tells = absurd waits
 
 -- a connection, by how it stands
-stand_weighs : (max : ℕ) (table : TableView) (c : ℕ) (conn : LoopConn) (admitted : Option ℕ) (stand : Stand) → StandTells max table c conn admitted stand
-    → (conn.cause ≢ None → length conn.payloads ≤ conn.submitted) → steps_of_stand table c stand + gone_weight conn ≡ conn_weight conn + size_weight admitted
+stand_weighs : (max : ℕ) (table : TableView) (c : ℕ) (conn : LoopConn) (admitted : Option ℕ) (stage : CellStage) → CellStageTells max table c conn admitted stage
+    → (conn.cause ≢ None → length conn.payloads ≤ conn.submitted) → steps_of_stand table c stage + gone_weight conn ≡ conn_weight conn + size_weight admitted
 stand_weighs max table c conn admitted Lean tells none =
     let w : 3 + steps_to_write (left_to_write (slot_of c table.slots).conn.phase) + gone_weight conn ≡ conn_weight conn + 1 =
     lean_weighs max (slot_of c table.slots).conn.phase conn tells.0.in_its_phase tells.0.tied.going tells.0.tied.tells in
@@ -195,25 +195,25 @@ worker_weighs (Unanswered job) = refl
 
 module _ (s : CellSetting) (m : Parts) (play : ServedPlay) (tied : ArePlayed s m play) where
   -- a connection that was opened
-  one_weighs : (c : ℕ) → c < length m.part.stands.items
+  one_weighs : (c : ℕ) → c < length m.part.stages.items
       → steps_of_conn m.part c + gone_weight (play.cell.loop.conns c)
       ≡ conn_weight (play.cell.loop.conns c) + pieces_weight (play.unread c) + rules_weight (play.rules c) + size_weight (play.admitted c)
   one_weighs c below =
-      let stand : Stand = slice_index_or m.part.stands.items c Lean in
-      let w : steps_of_stand m.part.table c stand + gone_weight (play.cell.loop.conns c) ≡ conn_weight (play.cell.loop.conns c) + size_weight (play.admitted c) =
-      stand_weighs s.desk.max_frame m.part.table c (play.cell.loop.conns c) (play.admitted c) stand (tied.loop_tied.stands c below)
+      let stage : CellStage = slice_index_or m.part.stages.items c Lean in
+      let w : steps_of_stand m.part.table c stage + gone_weight (play.cell.loop.conns c) ≡ conn_weight (play.cell.loop.conns c) + size_weight (play.admitted c) =
+      stand_weighs s.desk.max_frame m.part.table c (play.cell.loop.conns c) (play.admitted c) stage (tied.loop_tied.stages c below)
       (all_submitted_of s play.cell tied.reached c (subst (λ n. c < n) (sym tied.loop_tied.count) below)) in
       let p : pieces_weight (play.unread c) ≡ pieces_weight (unread_in m.part.feeds.items c) = ap pieces_weight (tied.loop_tied.unread c) in
       let r : rules_weight (play.rules c) ≡ rules_weight (rules_in m.part.feeds.items c) = ap rules_weight (tied.loop_tied.rules c) in
       omega arith
 
-  loop_weighs : summed (λ c. steps_of_conn m.part c) (length m.part.stands.items) + gone_in play.cell.loop
+  loop_weighs : summed (λ c. steps_of_conn m.part c) (length m.part.stages.items) + gone_in play.cell.loop
       ≡ sum_among conn_weight play.cell.loop.conns play.cell.loop.count + summed (λ c. pieces_weight (play.unread c)) play.cell.loop.count
       + summed (λ c. rules_weight (play.rules c)) play.cell.loop.count + summed (λ c. size_weight (play.admitted c)) play.cell.loop.count
   loop_weighs =
       let n : ℕ = play.cell.loop.count in
-      let count : length m.part.stands.items ≡ n = sym tied.loop_tied.count in
-      let a : summed (λ c. steps_of_conn m.part c) (length m.part.stands.items) ≡ summed (λ c. steps_of_conn m.part c) n = ap (summed (λ c. steps_of_conn m.part c)) count in
+      let count : length m.part.stages.items ≡ n = sym tied.loop_tied.count in
+      let a : summed (λ c. steps_of_conn m.part c) (length m.part.stages.items) ≡ summed (λ c. steps_of_conn m.part c) n = ap (summed (λ c. steps_of_conn m.part c)) count in
       let b : sum_among conn_weight play.cell.loop.conns n ≡ summed (λ c. conn_weight (play.cell.loop.conns c)) n = among_summed conn_weight play.cell.loop.conns n in
       let all : summed (λ c. steps_of_conn m.part c) n + summed (λ c. gone_weight (play.cell.loop.conns c)) n
       ≡ summed (λ c. conn_weight (play.cell.loop.conns c)) n + summed (λ c. pieces_weight (play.unread c)) n + summed (λ c. rules_weight (play.rules c)) n + summed (λ c. size_weight (play.admitted c)) n =
@@ -235,7 +235,7 @@ module _ (s : CellSetting) (m : Parts) (play : ServedPlay) (tied : ArePlayed s m
   -- all that is to be done
   pub machine_weighs : steps_left m.part m.hall m.workers + gone_in play.cell.loop ≡ play_weight (length m.workers) play
   machine_weighs =
-      let a : summed (λ c. steps_of_conn m.part c) (length m.part.stands.items) + gone_in play.cell.loop
+      let a : summed (λ c. steps_of_conn m.part c) (length m.part.stages.items) + gone_in play.cell.loop
       ≡ sum_among conn_weight play.cell.loop.conns play.cell.loop.count + summed (λ c. pieces_weight (play.unread c)) play.cell.loop.count
       + summed (λ c. rules_weight (play.rules c)) play.cell.loop.count + summed (λ c. size_weight (play.admitted c)) play.cell.loop.count = loop_weighs in
       let b : steps_of_workers m.workers ≡ workers_weight (length m.workers) play.cell.workers = workers_weigh in

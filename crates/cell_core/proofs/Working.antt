@@ -13,15 +13,15 @@ use Rattle.machine_model.proofs.Merging.{runs-append}
 use Rattle.script_model.specs.ScriptLines.{PlanRule}
 use Rattle.script_model.specs.Playing.{InputFinish}
 use Rattle.hall_core.specs.Meant.{ServedHall}
-use Rattle.cell_loop.specs.declared.loop_part.Stand.TheVariants.{Lean}
+use Rattle.cell_loop.specs.declared.loop_part.CellStage.TheVariants.{Lean}
 use Rattle.cell_loop.specs.declared.loop_part.LoopPart.{LoopPart}
 use Rattle.cell_core.specs.declared.worker.Holding.{Holding}
 use Rattle.cell_core.specs.declared.worker.Holding.TheVariants.{Idle}
 use Rattle.cell_core.specs.declared.turn.Stepped.{Stepped}
-use Rattle.cell_core.specs.declared.turn.Stepped.TheVariants.{Rests, Moves, Fails}
+use Rattle.cell_core.specs.declared.turn.Stepped.TheVariants.{Idle, Moves, Fails}
 use Rattle.cell_loop.specs.Settings.{CellSetting, ServedCell, ServedPlay, PlainWorker, desk_of_setting}
 use Rattle.cell_loop.specs.Moving.{ComesTo, HasNoMove, GoesTo, one_of_worker}
-use Rattle.cell_loop.specs.LoopTied.{StandTells, IsLoopTied}
+use Rattle.cell_loop.specs.LoopTied.{CellStageTells, IsLoopTied}
 use Rattle.cell_core.specs.HallTied.{plain_worker, worker_in, KnowsItsCall, AreWorkersTied}
 use Rattle.cell_loop.specs.Reached.{IsRunTo, IsReached, IsReachedFrom}
 use Rattle.cell_core.specs.Played.{IsPlayed, IsUnderWay}
@@ -37,8 +37,8 @@ loop_same s part old new tied loop unread finish rules admitted =
       budget = tied.budget;
       tape = ap (λ (l : Loop). l.tape) loop ∙ tied.tape;
       count = ap (λ (l : Loop). l.count) loop ∙ tied.count;
-      stands = λ c below.
-          subst (λ (p : Loop × (ℕ → Option ℕ)). StandTells s.desk.max_frame part.table c (p.0.conns c) (p.1 c) (get_or part.stands.items c Lean)) (λ i. (sym loop i, sym admitted i)) (tied.stands c below);
+      stages = λ c below.
+          subst (λ (p : Loop × (ℕ → Option ℕ)). CellStageTells s.desk.max_frame part.table c (p.0.conns c) (p.1 c) (get_or part.stages.items c Lean)) (λ i. (sym loop i, sym admitted i)) (tied.stages c below);
       unopened = λ c beyond. ((tied.unopened c beyond).0, ap (λ (f : ℕ → Option ℕ). f c) admitted ∙ (tied.unopened c beyond).1);
       unread = λ c. ap (λ (f : ℕ → List (List ℕ)). f c) unread ∙ tied.unread c;
       finish = λ c. ap (λ (f : ℕ → Option InputFinish). f c) finish ∙ tied.finish c;
@@ -102,14 +102,14 @@ worker_may s part hall workers w desk same now =
 
 -- what a worker's step makes of a machine
 abbrev pub WorkMakes : CellSetting → ℕ → ServedPlay → LoopPart → ServedHall → ServedHall → List Holding → Holding → Stepped → Type 0
-WorkMakes s w play part old new workers next Rests = HasNoMove (one_of_worker s w) play × IsPlayed s part new (set workers w next) play
+WorkMakes s w play part old new workers next Idle = HasNoMove (one_of_worker s w) play × IsPlayed s part new (set workers w next) play
 WorkMakes s w play part old new workers next Moves = GoesTo (one_of_worker s w) (IsPlayed s part new (set workers w next)) play
 WorkMakes s w play part old new workers next Fails = (cell : ServedCell) × IsRunTo s cell × (cell.loop ≡ play.cell.loop) × IsHallTorn old new cell.hall
 
 module _ (s : CellSetting) (w : ℕ) (play : ServedPlay) (part : LoopPart) (old new : ServedHall) (workers : List Holding) (next : Holding) (tied : IsPlayed s part old workers play)
     (there : w < length workers) where
   makes_so : ((now : ServedPlay) → IsReached s play.cell → ComesTo (one_of_worker s w) play now → IsReachedFrom s play.cell now.cell) → (stepped : Stepped) → TurnMakes s w play old new next stepped → WorkMakes s w play part old new workers next stepped
-  makes_so reaches Rests t = (
+  makes_so reaches Idle t = (
     t.0,
     record {
       loop_tied = tied.loop_tied;

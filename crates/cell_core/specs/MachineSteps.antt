@@ -1,13 +1,13 @@
 -- What a connection's move of a machine comes to, and what a collect does, all at once.
 use Rattle.std.specs.Prelude.{ℕ, ◌≤◌, Bool, Option, None, Some, Result, IfOk, OnErr}
-use Rattle.cell_loop.specs.declared.loop_part.Stand.{Stand}
-use Rattle.cell_loop.specs.declared.loop_part.Stand.TheVariants.{Asked, Over}
+use Rattle.cell_loop.specs.declared.loop_part.CellStage.{CellStage}
+use Rattle.cell_loop.specs.declared.loop_part.CellStage.TheVariants.{Asked, Over}
 use Rattle.cell_loop.specs.Moving.{one_of_conn, one_of_outcome}
 use Rattle.cell_core.specs.Parts.{Parts}
 use Rattle.cell_core.specs.Machines.{IsMachine, MachineMoves, StaysPlayed, MoveKeeps, LeavesLess}
 
 -- a connection that isn't there, has ended, or awaits an outcome
-abbrev pub HasNoTurn : Option Stand → Type 0
+abbrev pub HasNoTurn : Option CellStage → Type 0
 HasNoTurn None = Unit {0}
 HasNoTurn (Some Asked) = Unit {0}
 HasNoTurn (Some (Over cause)) = Unit {0}

@@ -77,15 +77,15 @@ abbrev pub LeavesLess : Bool → Parts → Parts → Type 0
 LeavesLess moved old new = IsLess moved (steps_left old.part old.hall old.workers) (steps_left new.part new.hall new.workers)
 
 -- moves were made between two plays, or none
-abbrev pub MovesSo : Bool → ServedPlay → ServedPlay → Type 0
-MovesSo true old new = old.moves < new.moves
-MovesSo false old new = new.moves ≡ old.moves
+abbrev pub CountsMove : Bool → ServedPlay → ServedPlay → Type 0
+CountsMove true old new = old.moves < new.moves
+CountsMove false old new = new.moves ≡ old.moves
 
 -- Whichever play the machine was tied to, with such a setting: all of this is done with it, by moves or by none.
 abbrev pub MachineGoes : (CellSetting → Type 0) → (CellSetting → Doing) → Parts → Bool → Parts → Type 0
 MachineGoes with_setting doing old moved new =
     (s : CellSetting) (play : ServedPlay) → with_setting s → ArePlayed s old play
-    → GoesTo (doing s) (λ next. ArePlayed s new next × MovesSo moved play next) play
+    → GoesTo (doing s) (λ next. ArePlayed s new next × CountsMove moved play next) play
 
 -- All of this is done with the machine: it keeps what each move keeps, and leaves less to be done where it moved.
 pub record IsDone (with_setting : CellSetting → Type 0) (doing : CellSetting → Doing) (old : Parts) (moved : Bool) (new : Parts) : Type 0 where
@@ -119,7 +119,7 @@ StopsBy with_setting old new NoMemory = StaysReached with_setting old new
 StopsBy with_setting old new JournalFault = (s : CellSetting) (play : ServedPlay) → with_setting s → ArePlayed s old play → HasFailed s old new
 
 -- It stops so, and keeps what each move keeps.
-pub record StopsSo (with_setting : CellSetting → Type 0) (old new : Parts) (stop : RunStop) : Type 0 where
+pub record StopsMachine (with_setting : CellSetting → Type 0) (old new : Parts) (stop : RunStop) : Type 0 where
   pub by : StopsBy with_setting old new stop
   pub kept : MoveKeeps old new
   pub later : old.hall.faults ≤ new.hall.faults

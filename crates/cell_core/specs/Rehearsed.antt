@@ -29,7 +29,7 @@ pub record SeenRun : Type 0 where
   pub services : List ServiceState
 
 -- a machine that looks so behind its end
-pub record LooksSo (run : SeenRun) (last : ServedCell) : Type 0 where
+pub record ShowsRun (run : SeenRun) (last : ServedCell) : Type 0 where
   pub tape : last.loop.tape ≡ run.tape
   pub ended : HaveAllEnded last.loop run.causes
   pub told : MayHave run.told last.hall.journal
@@ -42,7 +42,7 @@ pub record IsSeenRun (s : CellSetting) (run : SeenRun) : Type 0 where
   pub events : List MachineEvent
   pub is_first : IsFirst s.opening first
   pub lead : EventsLead (desk_of_setting s) handler_rules first events last
-  pub looks : LooksSo run last
+  pub looks : ShowsRun run last
 
 -- It is the rehearsal of a script, however memory was at its moves, and the script feeds it. None of its connections has ended since the host stopped; and
 -- where none has ended for want of memory, it is the one that shows with ample memory.
@@ -53,7 +53,7 @@ pub record IsSeenRehearsal (s : CellSetting) (script : ScriptPlan) (run : SeenRu
   pub wants : ℕ
   pub is_first : IsFirst s.opening first
   pub rehearsed : IsRehearsalOf (desk_of_setting s) handler_rules memory s.budget s.workers script wants first last
-  pub looks : LooksSo run last
+  pub looks : ShowsRun run last
   pub fed : IsFedBy (desk_of_setting s) s.budget script run.tape last.hall.journal
   pub none_stopped : (c : ℕ) → slice_get run.causes c ≢ Some Stopped
   pub with_ample : ((c : ℕ) → slice_get run.causes c ≢ Some NoMemory)
@@ -71,7 +71,7 @@ pub record LeadsToEnd (s : CellSetting) (cell : ServedCell) (tape : List Mark) (
 pub record IsOpenedPart (budget : ℕ) (script : ScriptPlan) (part : LoopPart) : Type 0 where
   pub table : part.table ≡ record { budget = budget; slots = [] }
   pub tape : part.tape.items ≡ []
-  pub stands : part.stands.items ≡ []
+  pub stages : part.stages.items ≡ []
   pub ends : part.ends.items ≡ []
   pub feeds : AreFreshFeeds script.rules part.feeds.items
 

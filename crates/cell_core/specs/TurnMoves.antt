@@ -8,7 +8,7 @@ use Rattle.machine_model.specs.SeenHall.{MayHave}
 use Rattle.hall_core.specs.Meant.{ServedHall}
 use Rattle.cell_core.specs.declared.worker.Holding.{Holding}
 use Rattle.cell_core.specs.declared.turn.Stepped.{Stepped}
-use Rattle.cell_core.specs.declared.turn.Stepped.TheVariants.{Rests, Moves, Fails}
+use Rattle.cell_core.specs.declared.turn.Stepped.TheVariants.{Idle, Moves, Fails}
 use Rattle.cell_loop.specs.Settings.{CellSetting, ServedCell, ServedPlay, HallInCell, desk_of_setting}
 use Rattle.cell_loop.specs.Moving.{HasNoMove, GoesTo, one_of_worker}
 use Rattle.cell_core.specs.HallTied.{IsHallTied, plain_worker, KnowsItsCall}
@@ -23,7 +23,7 @@ pub record IsHallTorn (old new : ServedHall) (hall : HallInCell) : Type 0 where
 
 -- What a worker's step makes of a play whose worker w held the old, by what it came to.
 abbrev pub TurnMakes : CellSetting → ℕ → ServedPlay → ServedHall → ServedHall → Holding → Stepped → Type 0
-TurnMakes s w play old new worker Rests =
+TurnMakes s w play old new worker Idle =
     HasNoMove (one_of_worker s w) play × IsHallTied new play.cell.hall × (play.cell.workers w ≡ plain_worker worker) × KnowsItsCall s.desk worker
 TurnMakes s w play old new worker Moves =
     GoesTo (one_of_worker s w) (λ next. IsHallTied new next.cell.hall × KnowsItsCall s.desk worker

@@ -9,7 +9,7 @@ use Rattle.machine_model.specs.SeenHall.{SeenGives}
 use Rattle.hall_core.specs.Meant.{ServedHall}
 use Rattle.cell_core.specs.declared.worker.Holding.{Holding}
 use Rattle.cell_core.specs.declared.turn.Stepped.{Stepped}
-use Rattle.cell_core.specs.declared.turn.Stepped.TheVariants.{Rests, Moves, Fails}
+use Rattle.cell_core.specs.declared.turn.Stepped.TheVariants.{Idle, Moves, Fails}
 use Rattle.cell_core.specs.declared.stop.RunStop.{RunStop}
 use Rattle.cell_core.specs.declared.stop.RunStop.TheVariants.{JournalFault}
 use Rattle.cell_core.specs.HallTied.{plain_worker, KnowsItsCall}
@@ -25,7 +25,7 @@ IsAskedInTurn _ = ⊥
 -- what a step has come to, by what it asked and what was answered
 abbrev pub stepped_by : HallOperation PlainCall → HallAnswer PlainAnswer → Stepped
 stepped_by take_job (job key payload) = Moves
-stepped_by take_job _ = Rests
+stepped_by take_job _ = Idle
 stepped_by (apply key call) journal_fault = Fails
 stepped_by _ _ = Moves
 
@@ -41,7 +41,7 @@ pub record IsWorkerTurn (desk : DeskMeaning) (old new : ServedHall) (worker next
 
 -- what is told of a step: whether it was made, unless the journal has failed in it
 abbrev pub AnswersStep : Stepped → Result Bool RunStop → Type 0
-AnswersStep Rests result = result ≡ Ok false
+AnswersStep Idle result = result ≡ Ok false
 AnswersStep Moves result = result ≡ Ok true
 AnswersStep Fails result = result ≡ Err JournalFault
 

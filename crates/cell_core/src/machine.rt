@@ -5,14 +5,14 @@ ghost use Rattle.machine_model.specs.HallRule.{outcome};
 ghost use Rattle.hall_core.specs.Asked.{answer_of};
 ghost use Rattle.cell_core.specs.MachineSteps.{IsConnStep, IsOutcomeStep};
 ghost use Rattle.cell_core.specs.Turns.{IsNoOutcome};
-ghost use Rattle.cell_loop.specs.declared.loop_part.Stand.TheVariants.{Whole};
+ghost use Rattle.cell_loop.specs.declared.loop_part.CellStage.TheVariants.{Whole};
 ghost use Rattle.cell_core.specs.declared.stop.RunStop.TheVariants.{JournalFault};
 ghost use Rattle.cell_loop.specs.Moving.{one_of_conn, one_of_worker, one_of_outcome};
 ghost use Rattle.cell_core.specs.Parts.{parts_of};
 ghost use Rattle.cell_core.specs.Machines.{IsMachine, SomeMachine, IsOfDesk, MachineMoves, DeskMoves, StaysPlayed, MoveKeeps, FailsAt, LeavesLess};
 
 use call_rules::{Desk, Handler, Journal, Key};
-use cell_loop::{LoopPart, Stand};
+use cell_loop::{LoopPart, CellStage};
 use cell_loop::move_laws::moves_are_reached;
 use crate::turn::turn;
 use crate::{Holding, RunStop, Turned, moved, put_back, take_out};
@@ -57,15 +57,15 @@ impl<'a, H: Handler, J: Journal> Machine<'a, H, J> {
         ensures { IsConnStep max_frame c (parts_of self.old) (parts_of self.new) result }
     {
         moves_are_reached();
-        match self.part.stand(c) {
-            Some(Stand::Whole) => {
+        match self.part.stage(c) {
+            Some(CellStage::Whole) => {
                 self.submit(c);
                 Ok(true)
             }
-            Some(Stand::Framed) => self.part.read(c, max_frame),
-            Some(Stand::Lean) => self.part.lean_move(alloc, c, max_frame),
-            Some(Stand::Asked) => Ok(false),
-            Some(Stand::Over(_)) => Ok(false),
+            Some(CellStage::Framed) => self.part.read(c, max_frame),
+            Some(CellStage::Lean) => self.part.lean_move(alloc, c, max_frame),
+            Some(CellStage::Asked) => Ok(false),
+            Some(CellStage::Over(_)) => Ok(false),
             None => Ok(false),
         }
     }
@@ -73,13 +73,13 @@ impl<'a, H: Handler, J: Journal> Machine<'a, H, J> {
     /// Submits the payload that is whole.
     fn submit(&mut self, c: u32)
         requires under_way { SomeMachine (parts_of self.old) }
-        requires whole { slice_get self.old.part.stands.items c ≡ Some Whole }
+        requires whole { slice_get self.old.part.stages.items c ≡ Some Whole }
         ensures moved { (max : ℕ) → MachineMoves max (λ s. one_of_conn s c) (parts_of self.old) true (parts_of self.new) }
         ensures kept { MoveKeeps (parts_of self.old) (parts_of self.new) }
         ensures later { self.old.hall.faults ≤ self.new.hall.faults }
     {
         moves_are_reached();
-        let (i, payload) = self.part.hand_out(c);
+        let (i, payload) = self.part.give(c);
         let _ = self.hall.submit(Key { c, i }, Bytes::new(payload));
     }
 

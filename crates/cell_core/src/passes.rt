@@ -11,11 +11,11 @@ ghost use Rattle.cell_loop.specs.Moving.{all_of_conn, first_of_conns, all_of_wor
 ghost use Rattle.cell_loop.specs.Moving.{one_pass, all_passes, one_line, all_lines};
 ghost use Rattle.cell_loop.specs.LoopMoves.{AnySetting, HasLongest};
 ghost use Rattle.cell_core.specs.MachineSteps.{HasNoTurn};
-ghost use Rattle.cell_core.specs.Machines.{SomeMachine, IsMachine, IsOfDesk, HasDesk, HasCrew, IsDone, EndsEarly, StopsSo, ComesThrough, IsLineFor};
+ghost use Rattle.cell_core.specs.Machines.{SomeMachine, IsMachine, IsOfDesk, HasDesk, HasCrew, IsDone, EndsEarly, StopsMachine, ComesThrough, IsLineFor};
 
 use crate::machine::Machine;
 use call_rules::{Desk, Handler, Journal};
-use cell_loop::{Finish, Stand};
+use cell_loop::{InputEnd, CellStage};
 use cell_loop::move_laws::moves_are_reached;
 use crate::{Holding, RunStop};
 use script_text::ScriptLine;
@@ -37,26 +37,26 @@ fn rests(workers: &[Holding], w: usize) -> bool
 }
 
 /// Whether a connection has no move, as how it stands tells: it awaits an outcome, or has ended.
-fn has_no_turn(stands: &[Stand], c: u32) -> bool
-    ensures { IsTrue result → HasNoTurn (slice_get stands.now c) }
+fn has_no_turn(stages: &[CellStage], c: u32) -> bool
+    ensures { IsTrue result → HasNoTurn (slice_get stages.now c) }
 {
-    match stands.get(c as usize) {
-        Some(Stand::Asked) => true,
-        Some(Stand::Over(_)) => true,
+    match stages.get(c as usize) {
+        Some(CellStage::Asked) => true,
+        Some(CellStage::Over(_)) => true,
         Some(_) => false,
         None => true,
     }
 }
 
 /// The first connection from this one on that may have a move, or `count`, where there is none below it.
-fn next_turn(stands: &[Stand], from: u32, count: u32) -> u32
+fn next_turn(stages: &[CellStage], from: u32, count: u32) -> u32
     requires { from ≤ count }
     ensures from { from ≤ result }
     ensures within { result ≤ count }
-    ensures still { (k : ℕ) → from ≤ k → k < result → HasNoTurn (slice_get stands.now k) }
+    ensures still { (k : ℕ) → from ≤ k → k < result → HasNoTurn (slice_get stages.now k) }
 {
     let mut c = from;
-    'still: while c < count && has_no_turn(stands, c) {
+    'still: while c < count && has_no_turn(stages, c) {
         c += 1;
     }
     c
@@ -79,20 +79,20 @@ impl<'a, H: Handler, J: Journal> Machine<'a, H, J> {
     /// Each connection does; one that has no move, as how it stands tells, is passed over.
     fn all_read(&mut self, alloc: Global, max_frame: u32) -> Result<bool, AllocError>
         requires under_way { IsMachine max_frame (parts_of self.old) }
-        ensures done { IfOk result (λ moved. IsDone (HasLongest max_frame) (λ s. first_of_conns s (length self.old.part.stands.items))
+        ensures done { IfOk result (λ moved. IsDone (HasLongest max_frame) (λ s. first_of_conns s (length self.old.part.stages.items))
             (parts_of self.old) moved (parts_of self.new)) }
         ensures err { OnErr result (EndsEarly (HasLongest max_frame) (parts_of self.old) (parts_of self.new)) }
     {
-        let Ok(count) = u32::try_from(self.part.stands.len()) else {
+        let Ok(count) = u32::try_from(self.part.stages.len()) else {
             return Err(AllocError);
         };
         moves_are_reached();
         let mut moved = false;
-        let mut c = next_turn(self.part.stands.as_slice(), 0, count);
+        let mut c = next_turn(self.part.stages.as_slice(), 0, count);
         'conns: while c < count {
             let read = self.read_through(alloc, c, max_frame)?;
             moved = either(moved, read);
-            c = next_turn(self.part.stands.as_slice(), c + 1, count);
+            c = next_turn(self.part.stages.as_slice(), c + 1, count);
         }
         Ok(moved)
     }
@@ -102,7 +102,7 @@ impl<'a, H: Handler, J: Journal> Machine<'a, H, J> {
         requires under_way { IsOfDesk (D.meaning desk.now) (parts_of self.old) }
         requires there { w < length self.old.workers.items }
         ensures done { IfOk result (λ moved. IsDone (HasDesk (D.meaning desk.now)) (λ s. all_of_worker s 3 w) (parts_of self.old) moved (parts_of self.new)) }
-        ensures err { IfErr result (λ stop. StopsSo (HasDesk (D.meaning desk.now)) (parts_of self.old) (parts_of self.new) stop) }
+        ensures err { IfErr result (λ stop. StopsMachine (HasDesk (D.meaning desk.now)) (parts_of self.old) (parts_of self.new) stop) }
     {
         let mut moved = false;
         'tries: for tried in 0..3u32 {
@@ -122,7 +122,7 @@ impl<'a, H: Handler, J: Journal> Machine<'a, H, J> {
         requires under_way { IsOfDesk (D.meaning desk.now) (parts_of self.old) }
         ensures done { IfOk result (λ moved. IsDone (HasDesk (D.meaning desk.now)) (λ s. first_of_workers s (length self.old.workers.items))
             (parts_of self.old) moved (parts_of self.new)) }
-        ensures err { IfErr result (λ stop. StopsSo (HasDesk (D.meaning desk.now)) (parts_of self.old) (parts_of self.new) stop) }
+        ensures err { IfErr result (λ stop. StopsMachine (HasDesk (D.meaning desk.now)) (parts_of self.old) (parts_of self.new) stop) }
     {
         let Ok(count) = u32::try_from(self.workers.len()) else {
             return Err(RunStop::NoMemory);
@@ -153,7 +153,7 @@ impl<'a, H: Handler, J: Journal> Machine<'a, H, J> {
         requires longest { max_frame ≡ (D.meaning desk.now).max_frame }
         ensures done { IfOk result (λ moved. IsDone (HasCrew (D.meaning desk.now) (length self.old.workers.items)) one_pass
             (parts_of self.old) moved (parts_of self.new)) }
-        ensures err { IfErr result (λ stop. StopsSo (HasCrew (D.meaning desk.now) (length self.old.workers.items))
+        ensures err { IfErr result (λ stop. StopsMachine (HasCrew (D.meaning desk.now) (length self.old.workers.items))
             (parts_of self.old) (parts_of self.new) stop) }
     {
         let read = self.all_read(alloc, max_frame)?;
@@ -173,7 +173,7 @@ impl<'a, H: Handler, J: Journal> Machine<'a, H, J> {
         requires longest { max_frame ≡ (D.meaning desk.now).max_frame }
         ensures done { OnOk result (ComesThrough (HasCrew (D.meaning desk.now) (length self.old.workers.items)) all_passes
             (parts_of self.old) (parts_of self.new)) }
-        ensures err { IfErr result (λ stop. StopsSo (HasCrew (D.meaning desk.now) (length self.old.workers.items))
+        ensures err { IfErr result (λ stop. StopsMachine (HasCrew (D.meaning desk.now) (length self.old.workers.items))
             (parts_of self.old) (parts_of self.new) stop) }
     {
         'passes: while self.pass(alloc, desk, max_frame)? {}
@@ -184,7 +184,7 @@ impl<'a, H: Handler, J: Journal> Machine<'a, H, J> {
     fn open_next(&mut self) -> Result<(), RunStop>
         requires under_way { SomeMachine (parts_of self.old) }
         ensures done { OnOk result (ComesThrough AnySetting (λ s. one_line s opening) (parts_of self.old) (parts_of self.new)) }
-        ensures err { IfErr result (λ stop. StopsSo AnySetting (parts_of self.old) (parts_of self.new) stop) }
+        ensures err { IfErr result (λ stop. StopsMachine AnySetting (parts_of self.old) (parts_of self.new) stop) }
     {
         moves_are_reached();
         self.part.open()?;
@@ -197,7 +197,7 @@ impl<'a, H: Handler, J: Journal> Machine<'a, H, J> {
         requires there { c < length self.old.part.feeds.items }
         requires some { 0 < length bytes.now }
         ensures done { OnOk result (ComesThrough AnySetting (λ s. one_line s (piece c bytes.now)) (parts_of self.old) (parts_of self.new)) }
-        ensures err { IfErr result (λ stop. StopsSo AnySetting (parts_of self.old) (parts_of self.new) stop) }
+        ensures err { IfErr result (λ stop. StopsMachine AnySetting (parts_of self.old) (parts_of self.new) stop) }
     {
         self.part.feeds[c as usize].arrive(bytes)?;
         Ok(())
@@ -209,7 +209,7 @@ impl<'a, H: Handler, J: Journal> Machine<'a, H, J> {
         requires there { c < length self.old.part.feeds.items }
         ensures done { ComesThrough AnySetting (λ s. one_line s (input_end c)) (parts_of self.old) (parts_of self.new) }
     {
-        self.part.feeds[c as usize].finish = Some(Finish::Ends);
+        self.part.feeds[c as usize].finish = Some(InputEnd::Ends);
     }
 
     /// A read of a connection fails behind its pieces.
@@ -218,14 +218,14 @@ impl<'a, H: Handler, J: Journal> Machine<'a, H, J> {
         requires there { c < length self.old.part.feeds.items }
         ensures done { ComesThrough AnySetting (λ s. one_line s (input_fault c)) (parts_of self.old) (parts_of self.new) }
     {
-        self.part.feeds[c as usize].finish = Some(Finish::Fails);
+        self.part.feeds[c as usize].finish = Some(InputEnd::Fails);
     }
 
     /// A connection makes one move, where it has one.
     fn turn_conn(&mut self, alloc: Global, c: u32, max_frame: u32) -> Result<(), RunStop>
         requires under_way { IsMachine max_frame (parts_of self.old) }
         ensures done { OnOk result (ComesThrough (HasLongest max_frame) (λ s. one_line s (turn_of_conn c)) (parts_of self.old) (parts_of self.new)) }
-        ensures err { IfErr result (λ stop. StopsSo (HasLongest max_frame) (parts_of self.old) (parts_of self.new) stop) }
+        ensures err { IfErr result (λ stop. StopsMachine (HasLongest max_frame) (parts_of self.old) (parts_of self.new) stop) }
     {
         self.conn_move(alloc, c, max_frame)?;
         Ok(())
@@ -236,7 +236,7 @@ impl<'a, H: Handler, J: Journal> Machine<'a, H, J> {
         requires under_way { IsOfDesk (D.meaning desk.now) (parts_of self.old) }
         requires there { w < length self.old.workers.items }
         ensures done { OnOk result (ComesThrough (HasDesk (D.meaning desk.now)) (λ s. one_line s (turn_of_worker w)) (parts_of self.old) (parts_of self.new)) }
-        ensures err { IfErr result (λ stop. StopsSo (HasDesk (D.meaning desk.now)) (parts_of self.old) (parts_of self.new) stop) }
+        ensures err { IfErr result (λ stop. StopsMachine (HasDesk (D.meaning desk.now)) (parts_of self.old) (parts_of self.new) stop) }
     {
         self.worker_move(alloc, desk, w)?;
         Ok(())
@@ -263,7 +263,7 @@ impl<'a, H: Handler, J: Journal> Machine<'a, H, J> {
         requires good { IsLineFor (length self.old.part.feeds.items) (length self.old.workers.items) (plain_line line.now) }
         ensures done { OnOk result (ComesThrough (HasCrew (D.meaning desk.now) (length self.old.workers.items)) (λ s. one_line s (plain_line line.now))
             (parts_of self.old) (parts_of self.new)) }
-        ensures err { IfErr result (λ stop. StopsSo (HasCrew (D.meaning desk.now) (length self.old.workers.items))
+        ensures err { IfErr result (λ stop. StopsMachine (HasCrew (D.meaning desk.now) (length self.old.workers.items))
             (parts_of self.old) (parts_of self.new) stop) }
     {
         match line {
@@ -300,7 +300,7 @@ impl<'a, H: Handler, J: Journal> Machine<'a, H, J> {
         requires good { AllByRecursion (IsLineFor (length self.old.part.feeds.items) (length self.old.workers.items)) (map plain_line lines.now) }
         ensures done { OnOk result (ComesThrough (HasCrew (D.meaning desk.now) (length self.old.workers.items)) (λ s. all_lines s (map plain_line lines.now))
             (parts_of self.old) (parts_of self.new)) }
-        ensures err { IfErr result (λ stop. StopsSo (HasCrew (D.meaning desk.now) (length self.old.workers.items))
+        ensures err { IfErr result (λ stop. StopsMachine (HasCrew (D.meaning desk.now) (length self.old.workers.items))
             (parts_of self.old) (parts_of self.new) stop) }
     {
         'lines: for line in lines {

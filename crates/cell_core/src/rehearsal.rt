@@ -160,7 +160,7 @@ fn finished<'a, H: Handler, J: Journal>(
     outcome: Outcome,
 ) -> Rehearsed<H, J>
     requires none_yet { machine.part.ends.items ≡ [] }
-    requires room { length machine.part.stands.items ≤ vec_capacity machine.part.ends }
+    requires room { length machine.part.stages.items ≤ vec_capacity machine.part.ends }
     ensures tape { result.tape ≡ machine.entry.part.tape.items }
     ensures ends { (causes : List EndCause) → AreAllOver machine.entry.part causes → result.ends ≡ causes }
     ensures services { map H.service result.handlers.items ≡ machine.entry.hall.memories }
@@ -168,7 +168,7 @@ fn finished<'a, H: Handler, J: Journal>(
     ensures faults { J.faults result.journal ≡ machine.entry.hall.faults }
     ensures outcome { result.outcome ≡ All → outcome ≡ All }
     ensures fault { result.outcome ≡ JournalFault → outcome ≡ JournalFault }
-    ensures outs { result.outcome ≡ All → AreWritten (length machine.entry.part.stands.items) machine.entry.part.tape.items result.outs }
+    ensures outs { result.outcome ≡ All → AreWritten (length machine.entry.part.stages.items) machine.entry.part.tape.items result.outs }
 {
     let Machine {
         mut part,
@@ -177,7 +177,7 @@ fn finished<'a, H: Handler, J: Journal>(
     } = machine;
     let (handlers, journal) = hall.into_parts();
     part.tell_ends();
-    let (outs, outcome) = match written(alloc, part.tape.marks(), part.stands.len()) {
+    let (outs, outcome) = match written(alloc, part.tape.marks(), part.stages.len()) {
         Ok(outs) => (outs, outcome),
         Err(_) => (Outs::new(Vec::new(alloc)), without_memory(outcome)),
     };

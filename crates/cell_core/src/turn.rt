@@ -27,7 +27,7 @@ use std::alloc::Global;
 #[derive(Clone, Copy)]
 pub enum Stepped {
     /// It found no job.
-    Rests,
+    Idle,
     /// It made a step.
     Moves,
     /// The journal failed in it.
@@ -84,7 +84,7 @@ fn taken(reply: HallReply) -> Turned
         },
         _ => Turned {
             worker: Holding::Idle,
-            stepped: Stepped::Rests,
+            stepped: Stepped::Idle,
         },
     }
 }
@@ -151,7 +151,7 @@ pub fn moved(stepped: Stepped) -> Result<bool, RunStop>
     ensures { AnswersStep stepped result }
 {
     match stepped {
-        Stepped::Rests => Ok(false),
+        Stepped::Idle => Ok(false),
         Stepped::Moves => Ok(true),
         Stepped::Fails => Err(RunStop::JournalFault),
     }

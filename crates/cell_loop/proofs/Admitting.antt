@@ -18,12 +18,12 @@ use Rattle.machine_model.specs.Machine.{on_conn}
 use Rattle.machine_model.specs.Plain.{when, with_loop, moved_plain, gives_up_plain, goes}
 use Rattle.script_model.specs.Playing.{MemoryAt, ample, lacking, at_number, all_admitted, moved_on, or_else, by_memory, admission, size_move, conn_move}
 use Rattle.script_model.proofs.Holding.{size_long}
-use Rattle.cell_loop.specs.declared.loop_part.Stand.TheVariants.{Lean, Framed}
+use Rattle.cell_loop.specs.declared.loop_part.CellStage.TheVariants.{Lean, Framed}
 use Rattle.cell_loop.specs.declared.loop_part.LoopPart.{LoopPart}
 use Rattle.cell_loop.specs.Settings.{CellSetting, ServedCell, ServedPlay, desk_of_setting}
 use Rattle.cell_loop.specs.Moving.{HasNoMove, GoesTo, one_of_conn}
 use Rattle.conn_refinement.specs.Phases.{HasAllCollected, PhaseTells, IsOpenTied, IsFraming}
-use Rattle.cell_loop.specs.LoopTied.{StandTells, IsLoopTied}
+use Rattle.cell_loop.specs.LoopTied.{CellStageTells, IsLoopTied}
 use Rattle.conn_refinement.specs.Tables.{IsSameBut}
 use Rattle.cell_loop.specs.Closing.{HasStand, IsClosed}
 use Rattle.cell_loop.specs.LoopMoves.{HasSameHall}
@@ -53,7 +53,7 @@ held_at max (waiting number) conn waits t = absurd waits
 held_at max (writing left) conn waits t = absurd waits
 held_at max (ended cause) conn waits t = absurd waits
 
-module _ (s : CellSetting) (c : ℕ) (old : LoopPart) (play : ServedPlay) (lean : slice_get old.stands.items c ≡ Some Lean) (waits : IsHeld (slot_of c old.table.slots).conn.phase)
+module _ (s : CellSetting) (c : ℕ) (old : LoopPart) (play : ServedPlay) (lean : slice_get old.stages.items c ≡ Some Lean) (waits : IsHeld (slot_of c old.table.slots).conn.phase)
     (rising : HaveRisingNumbers old.table.slots) (t : IsLoopTied s old play) where
   abbrev conn : LoopConn
   conn = play.cell.loop.conns c
@@ -61,17 +61,17 @@ module _ (s : CellSetting) (c : ℕ) (old : LoopPart) (play : ServedPlay) (lean 
   abbrev phase : Phase
   phase = (slot_of c old.table.slots).conn.phase
 
-  below : c < length old.stands.items
-  below = place_of old.stands.items c Lean lean
+  below : c < length old.stages.items
+  below = place_of old.stages.items c Lean lean
 
-  tells : StandTells s.desk.max_frame old.table c conn (play.admitted c) Lean
+  tells : CellStageTells s.desk.max_frame old.table c conn (play.admitted c) Lean
   tells = stands_so s c old play Lean t lean
 
   at : HeldAt s.desk.max_frame phase conn
   at = held_at s.desk.max_frame phase conn waits tells.0.tied.tells
 
   opened : c < play.cell.loop.count
-  opened = let count : play.cell.loop.count ≡ length old.stands.items = t.count in let l : c < length old.stands.items = below in omega arith
+  opened = let count : play.cell.loop.count ≡ length old.stages.items = t.count in let l : c < length old.stages.items = below in omega arith
 
   four : length conn.held ≡ 4
   four = ap length at.bytes
@@ -122,9 +122,9 @@ module _ (s : CellSetting) (c : ℕ) (old : LoopPart) (play : ServedPlay) (lean 
   slot_now = record { number = c; conn = record (slot_of c old.table.slots).conn { phase = after_admission phase }; size = size_asked phase }
 
   pub is_admitted : (new : LoopPart) → sizes_given old.table.slots + size_wanted (slot_of c old.table.slots).conn ≤ old.table.budget → new.table ≡ with_admitted c old.table
-      → new.feeds ≡ old.feeds → new.stands.items ≡ slice_set old.stands.items c Framed → new.tape.items ≡ old.tape.items
+      → new.feeds ≡ old.feeds → new.stages.items ≡ slice_set old.stages.items c Framed → new.tape.items ≡ old.tape.items
       → GoesTo (one_of_conn s c) (λ next. IsLoopTied s new next × HasSameHall play next) play
-  is_admitted new within table feeds stands tape =
+  is_admitted new within table feeds stages tape =
       let found : slot_in c new.table.slots ≡ Some slot_now = ap (λ (v : TableView). slot_in c v.slots) table ∙ found_put slot_now old.table.slots tells.0.there in
       let size : size_asked phase ≡ Some at.size = ap size_asked at.is in
       let enough : 0 < at.size = at.some in
@@ -143,7 +143,7 @@ module _ (s : CellSetting) (c : ℕ) (old : LoopPart) (play : ServedPlay) (lean 
         (
           changed_tied s c old new play admitted_now conn (Some (size_in conn.held)) Framed [] t below
               (subst (λ (v : TableView). IsSameBut c old.table v) (sym table) (but_put old.table c slot_now refl))
-              (subst (λ xs. HasStand c Framed old.stands.items xs) (sym stands) (stand_set old.stands.items c Framed below))
+              (subst (λ xs. HasStand c Framed old.stages.items xs) (sym stages) (stand_set old.stages.items c Framed below))
               (tape ∙ sym (append-nil old.tape.items))
               (record { tape = sym (append-nil play.cell.loop.tape); count = refl; own = refl; others = λ x n. refl; size = λ x. refl })
               (as_many_feeds old.feeds new.feeds feeds) (same_feeds old.feeds new.feeds play.unread play.finish play.rules feeds (feeds_of s old play t)) (
@@ -179,7 +179,7 @@ module _ (s : CellSetting) (c : ℕ) (old : LoopPart) (play : ServedPlay) (lean 
         ∙ ap (λ m. by_memory (desk_of_setting s) handler_rules m play (goes (on_conn (gives_up c NoMemory))) (Some admitted_now)) so
         ∙ ap (λ b. wanting (when b (moved_plain play.cell.loop c (gives_up_plain c NoMemory conn)))) (open_so play.cell.loop c opened tells.0.tied.going)),
     (
-      over_tied s c NoMemory old new play refused_now (with_cause conn NoMemory) (Closed c ∷ []) t below closed.table closed.gone closed.stands closed.tape refl
+      over_tied s c NoMemory old new play refused_now (with_cause conn NoMemory) (Closed c ∷ []) t below closed.table closed.gone closed.stages closed.tape refl
           (loop_changed c (with_cause conn NoMemory) None (Closed c ∷ []) play refused_now refl (λ x. kept_at play.admitted c x ∙ ap (λ o. at_number play.admitted c o x) tells.2))
           (as_many_feeds old.feeds new.feeds closed.feeds) (same_feeds old.feeds new.feeds play.unread play.finish play.rules closed.feeds (feeds_of s old play t)),
       (refl, refl),

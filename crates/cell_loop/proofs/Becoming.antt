@@ -13,12 +13,12 @@ use Rattle.machine_model.proofs.Lists.{put_same, put_other}
 use Rattle.script_model.specs.ScriptLines.{PlanRule}
 use Rattle.script_model.specs.Playing.{InputFinish, at_number, kept_while_open, freed_if_over, with_rules, with_unread, moved_on}
 use Rattle.cell_loop.specs.declared.feed.Feed.{Feed}
-use Rattle.cell_loop.specs.declared.loop_part.Stand.{Stand}
-use Rattle.cell_loop.specs.declared.loop_part.Stand.TheVariants.{Lean, Over}
+use Rattle.cell_loop.specs.declared.loop_part.CellStage.{CellStage}
+use Rattle.cell_loop.specs.declared.loop_part.CellStage.TheVariants.{Lean, Over}
 use Rattle.cell_loop.specs.declared.loop_part.LoopPart.{LoopPart}
 use Rattle.cell_loop.specs.Settings.{CellSetting, ServedPlay}
 use Rattle.cell_loop.specs.Feeds.{unread_of, finish_of, rules_left, unread_in, finish_in, rules_in, HasFeed, BoundsSome}
-use Rattle.cell_loop.specs.LoopTied.{StandTells, IsLoopTied, HasRoomToClose}
+use Rattle.cell_loop.specs.LoopTied.{CellStageTells, IsLoopTied, HasRoomToClose}
 use Rattle.conn_refinement.specs.Tables.{IsSameBut}
 use Rattle.cell_loop.specs.Closing.{HasStand, HasMoreRoom}
 use Rattle.cell_loop.proofs.Tying.{stand_set, kept_at, AreFeedsTied, feeds_of, HasChanged, loop_changed, changed_tied, told_same, stand_moved}
@@ -45,41 +45,41 @@ feeds_counted old new feeds = ap (λ (v : Vec Feed Global). length v.items) feed
 
 -- the connection has ended, and is gone
 pub ended_tied : (s : CellSetting) (c : ℕ) (old new : LoopPart) (play : ServedPlay) (conn : LoopConn) (cause : EndCause) (marks : List Mark) → IsLoopTied s old play
-    → c < length old.stands.items → conn.cause ≡ Some cause → IsSameBut c old.table new.table → slot_in c new.table.slots ≡ None
-    → new.stands.items ≡ slice_set old.stands.items c (Over cause) → new.tape.items ≡ old.tape.items ++ marks → new.feeds ≡ old.feeds → IsLoopTied s new (after_one c conn marks play)
-ended_tied s c old new play conn cause marks t l is table gone stands tape feeds =
+    → c < length old.stages.items → conn.cause ≡ Some cause → IsSameBut c old.table new.table → slot_in c new.table.slots ≡ None
+    → new.stages.items ≡ slice_set old.stages.items c (Over cause) → new.tape.items ≡ old.tape.items ++ marks → new.feeds ≡ old.feeds → IsLoopTied s new (after_one c conn marks play)
+ended_tied s c old new play conn cause marks t l is table gone stages tape feeds =
     changed_tied s c old new play (after_one c conn marks play) conn (kept_while_open conn.cause (play.admitted c)) (Over cause) marks t l table
-    (subst (λ (k : List Stand). HasStand c (Over cause) old.stands.items k) (sym stands) (stand_set old.stands.items c (Over cause) l)) tape (one_changed c conn marks play)
+    (subst (λ (k : List CellStage). HasStand c (Over cause) old.stages.items k) (sym stages) (stand_set old.stages.items c (Over cause) l)) tape (one_changed c conn marks play)
     (feeds_counted old new feeds) (feeds_same s old new play t feeds) (gone, ap (λ o. kept_while_open o (play.admitted c)) is, is)
 
 -- it is open yet, and stands so
-pub open_tied : (s : CellSetting) (c : ℕ) (old new : LoopPart) (play : ServedPlay) (conn : LoopConn) (stand : Stand) (marks : List Mark) → IsLoopTied s old play
-    → c < length old.stands.items → conn.cause ≡ None → IsSameBut c old.table new.table → HasStand c stand old.stands.items new.stands.items
-    → new.tape.items ≡ old.tape.items ++ marks → new.feeds ≡ old.feeds → StandTells s.desk.max_frame new.table c conn (play.admitted c) stand
+pub open_tied : (s : CellSetting) (c : ℕ) (old new : LoopPart) (play : ServedPlay) (conn : LoopConn) (stage : CellStage) (marks : List Mark) → IsLoopTied s old play
+    → c < length old.stages.items → conn.cause ≡ None → IsSameBut c old.table new.table → HasStand c stage old.stages.items new.stages.items
+    → new.tape.items ≡ old.tape.items ++ marks → new.feeds ≡ old.feeds → CellStageTells s.desk.max_frame new.table c conn (play.admitted c) stage
     → IsLoopTied s new (after_one c conn marks play)
-open_tied s c old new play conn stand marks t l is table stands tape feeds tells =
-    changed_tied s c old new play (after_one c conn marks play) conn (kept_while_open conn.cause (play.admitted c)) stand marks t l table stands tape (one_changed c conn marks play)
+open_tied s c old new play conn stage marks t l is table stages tape feeds tells =
+    changed_tied s c old new play (after_one c conn marks play) conn (kept_while_open conn.cause (play.admitted c)) stage marks t l table stages tape (one_changed c conn marks play)
     (feeds_counted old new feeds) (feeds_same s old new play t feeds)
-    (subst (λ o. StandTells s.desk.max_frame new.table c conn (kept_while_open o (play.admitted c)) stand) (sym is) tells)
+    (subst (λ o. CellStageTells s.desk.max_frame new.table c conn (kept_while_open o (play.admitted c)) stage) (sym is) tells)
 
 -- a feed alone has changed, on both sides
 pub fed_only : (s : CellSetting) (old new : LoopPart) (play next : ServedPlay) → IsLoopTied s old play → new.table ≡ old.table → new.tape.items ≡ old.tape.items
-    → new.stands.items ≡ old.stands.items → length new.feeds.items ≡ length old.feeds.items → next.cell.loop ≡ play.cell.loop → next.admitted ≡ play.admitted
+    → new.stages.items ≡ old.stages.items → length new.feeds.items ≡ length old.feeds.items → next.cell.loop ≡ play.cell.loop → next.admitted ≡ play.admitted
     → AreFeedsTied new.feeds.items next.unread next.finish next.rules → IsLoopTied s new next
-fed_only s old new play next t table tape stands count loop admitted feeds =
-    let fed : length old.stands.items ≤ length old.feeds.items = t.fed in
-    let same : length new.stands.items ≡ length old.stands.items = ap length stands in
+fed_only s old new play next t table tape stages count loop admitted feeds =
+    let fed : length old.stages.items ≤ length old.feeds.items = t.fed in
+    let same : length new.stages.items ≡ length old.stages.items = ap length stages in
     record {
       budget = ap (λ (v : TableView). v.budget) table ∙ t.budget;
       tape = ap (λ k. k.tape) loop ∙ t.tape ∙ sym tape;
       count = ap (λ k. k.count) loop ∙ t.count ∙ sym same;
-      stands = λ x below.
-          let l : x < length old.stands.items = omega arith in
+      stages = λ x below.
+          let l : x < length old.stages.items = omega arith in
           told_same s.desk.max_frame new.table x (play.cell.loop.conns x) (next.cell.loop.conns x) (play.admitted x) (next.admitted x) _ _ (ap (λ k. k.conns x) loop)
-          (ap (λ f. f x) admitted) (ap (λ k. slice_index_or k x Lean) stands)
-          (stand_moved s.desk.max_frame x old.table new.table (ap (λ (v : TableView). slot_in x v.slots) table) (play.cell.loop.conns x) (play.admitted x) _ (t.stands x l));
+          (ap (λ f. f x) admitted) (ap (λ k. slice_index_or k x Lean) stages)
+          (stand_moved s.desk.max_frame x old.table new.table (ap (λ (v : TableView). slot_in x v.slots) table) (play.cell.loop.conns x) (play.admitted x) _ (t.stages x l));
       unopened = λ x beyond.
-          let m : length old.stands.items ≤ x = omega arith in
+          let m : length old.stages.items ≤ x = omega arith in
           (ap (λ (v : TableView). slot_in x v.slots) table ∙ (t.unopened x m).0, ap (λ f. f x) admitted ∙ (t.unopened x m).1);
       unread = feeds.unread_is;
       finish = feeds.finish_is;
@@ -145,12 +145,12 @@ kept_as c f v is x = kept_at f c x ∙ ap (λ k. at_number f c k x) is
 
 -- what has changed of a part is the feed of connection c alone, of which this is left
 module _ (s : CellSetting) (c : ℕ) (old new : LoopPart) (play : ServedPlay) (t : IsLoopTied s old play) (table : new.table ≡ old.table) (tape : new.tape ≡ old.tape)
-    (stands : new.stands ≡ old.stands) where
+    (stages : new.stages ≡ old.stages) where
   pub fed_so : (unread : List (List ℕ)) (finish : Option InputFinish) (rules : List PlanRule) (next : ServedPlay) → HasFeed c unread finish rules old.feeds.items new.feeds.items
       → AllByRecursion BoundsSome rules → next.cell.loop ≡ play.cell.loop → next.admitted ≡ play.admitted → ((x : ℕ) → next.unread x ≡ at_number play.unread c unread x)
       → ((x : ℕ) → next.finish x ≡ at_number play.finish c finish x) → ((x : ℕ) → next.rules x ≡ at_number play.rules c rules x) → IsLoopTied s new next
   fed_so unread finish rules next has bounds loop admitted a b e =
-      fed_only s old new play next t table (ap (λ (v : TapeView). v.items) tape) (ap (λ (v : Vec Stand Global). v.items) stands) has.count loop admitted
+      fed_only s old new play next t table (ap (λ (v : TapeView). v.items) tape) (ap (λ (v : Vec CellStage Global). v.items) stages) has.count loop admitted
       (feeds_as new.feeds.items (at_number play.unread c unread) next.unread (at_number play.finish c finish) next.finish (at_number play.rules c rules) next.rules a b e
       (fed_put c unread finish rules old.feeds.items new.feeds.items play.unread play.finish play.rules (feeds_of s old play t) has bounds))
 
@@ -190,16 +190,16 @@ moved_tied s part play t = fed_only s part part play (moved_on play) t refl refl
 -- there is more room, and nothing else has changed
 pub more_room_tied : (s : CellSetting) (old new : LoopPart) (play : ServedPlay) → HasMoreRoom old new → IsLoopTied s old play → IsLoopTied s new play
 more_room_tied s old new play more t =
-    fed_only s old new play play t more.table more.tape more.stands (feeds_counted old new more.feeds) refl refl (feeds_same s old new play t more.feeds)
+    fed_only s old new play play t more.table more.tape more.stages (feeds_counted old new more.feeds) refl refl (feeds_same s old new play t more.feeds)
 
 pub more_room : (old new : LoopPart) → HasMoreRoom old new → HasRoomToClose old → HasRoomToClose new
 more_room old new more room =
     let a : length old.tape.items + 2 * length old.table.slots ≤ old.tape.capacity = room.for_marks in
-    let b : length old.stands.items ≤ vec_capacity old.ends = room.for_causes in
-    let n : length old.stands.items ≤ 2 ^ 32 = room.numbered in
+    let b : length old.stages.items ≤ vec_capacity old.ends = room.for_causes in
+    let n : length old.stages.items ≤ 2 ^ 32 = room.numbered in
     let tape : length new.tape.items ≡ length old.tape.items = ap length more.tape in
     let slots : length new.table.slots ≡ length old.table.slots = ap (λ (v : TableView). length v.slots) more.table in
-    let stands : length new.stands.items ≡ length old.stands.items = ap length more.stands in
+    let stages : length new.stages.items ≡ length old.stages.items = ap length more.stages in
     let marks : old.tape.capacity ≤ new.tape.capacity = more.for_marks in
     let causes : vec_capacity old.ends ≤ vec_capacity new.ends = more.for_causes in
-    record { for_marks = omega arith; for_causes = omega arith; none_yet = more.ends ∙ room.none_yet; numbered = subst (λ k. k ≤ 2 ^ 32) (sym stands) n }
+    record { for_marks = omega arith; for_causes = omega arith; none_yet = more.ends ∙ room.none_yet; numbered = subst (λ k. k ≤ 2 ^ 32) (sym stages) n }

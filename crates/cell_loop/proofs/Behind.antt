@@ -15,13 +15,13 @@ use Rattle.conn_table.specs.Table.{slot_of}
 use Rattle.call_rules.specs.Handling.{handler_rules}
 use Rattle.machine_model.specs.Loop.{LoopConn, with_cause}
 use Rattle.script_model.specs.Playing.{finishes, faults, read_behind}
-use Rattle.cell_loop.specs.declared.loop_part.Stand.TheVariants.{Over}
+use Rattle.cell_loop.specs.declared.loop_part.CellStage.TheVariants.{Over}
 use Rattle.cell_loop.specs.declared.loop_part.LoopPart.{LoopPart}
 use Rattle.cell_loop.specs.Settings.{CellSetting, ServedPlay, desk_of_setting}
 use Rattle.cell_loop.specs.Moving.{HasNoMove, GoesTo, one_of_conn}
 use Rattle.cell_loop.specs.Feeds.{unread_in, finish_in}
 use Rattle.conn_refinement.specs.Phases.{PhaseTells}
-use Rattle.cell_loop.specs.LoopTied.{ReadsOn, IsLoopTied, HasRoomToClose}
+use Rattle.cell_loop.specs.LoopTied.{IsReadingAt, IsLoopTied, HasRoomToClose}
 use Rattle.conn_refinement.specs.Tables.{IsSameBut}
 use Rattle.cell_loop.specs.Closing.{IsClosed, ClosesBehind}
 use Rattle.cell_loop.specs.LoopMoves.{HasSameHall}
@@ -33,14 +33,14 @@ use Rattle.cell_loop.proofs.ReadingOn.{Reading, reading, is_going, is_owing_noth
 
 -- What is closed in a part that has one mark more, and has changed in the table there alone, is closed behind that mark.
 pub closes_on : (c : ℕ) (mark : Mark) (cause : EndCause) (old mid new : LoopPart) → IsSameBut c old.table mid.table → length mid.table.slots ≡ length old.table.slots
-    → mid.stands.items ≡ old.stands.items → mid.tape.items ≡ old.tape.items ++ mark ∷ [] → mid.tape.capacity ≡ old.tape.capacity → mid.feeds ≡ old.feeds → mid.ends ≡ old.ends
+    → mid.stages.items ≡ old.stages.items → mid.tape.items ≡ old.tape.items ++ mark ∷ [] → mid.tape.capacity ≡ old.tape.capacity → mid.feeds ≡ old.feeds → mid.ends ≡ old.ends
     → IsClosed c cause mid new → ClosesBehind c mark cause old new
-closes_on c mark cause old mid new but count stands tape capacity feeds ends closed =
+closes_on c mark cause old mid new but count stages tape capacity feeds ends closed =
     record {
       table = but_then c old.table mid.table new.table but closed.table;
       gone = closed.gone;
       fewer = closed.fewer ∙ count;
-      stands = closed.stands ∙ ap (λ xs. slice_set xs c (Over cause)) stands;
+      stages = closed.stages ∙ ap (λ xs. slice_set xs c (Over cause)) stages;
       tape = closed.tape ∙ ap (λ xs. xs ++ Closed c ∷ []) tape ∙ append_assoc old.tape.items (mark ∷ []) (Closed c ∷ []);
       capacity = closed.capacity ∙ capacity;
       feeds = closed.feeds ∙ feeds;
@@ -53,12 +53,12 @@ gone_room c cause old new closed room =
     let marks : length new.tape.items ≡ length old.tape.items + 1 = ap length closed.tape ∙ length-append old.tape.items (Closed c ∷ []) in
     let fewer : suc (length new.table.slots) ≡ length old.table.slots = closed.fewer in
     let same : new.tape.capacity ≡ old.tape.capacity = closed.capacity in
-    let known : length new.stands.items ≡ length old.stands.items = ap length closed.stands ∙ length-set old.stands.items c (Over cause) in
+    let known : length new.stages.items ≡ length old.stages.items = ap length closed.stages ∙ length-set old.stages.items c (Over cause) in
     let was : length old.tape.items + 2 * length old.table.slots ≤ old.tape.capacity = room.for_marks in
-    let few : length old.stands.items ≤ 2 ^ 32 = room.numbered in
+    let few : length old.stages.items ≤ 2 ^ 32 = room.numbered in
     record {
       for_marks = omega arith;
-      for_causes = subst (λ (v : Vec EndCause Global). length new.stands.items ≤ vec_capacity v) (sym closed.ends) (subst (λ n. n ≤ vec_capacity old.ends) (sym known) room.for_causes);
+      for_causes = subst (λ (v : Vec EndCause Global). length new.stages.items ≤ vec_capacity v) (sym closed.ends) (subst (λ n. n ≤ vec_capacity old.ends) (sym known) room.for_causes);
       none_yet = subst (λ (v : Vec EndCause Global). v.items ≡ []) (sym closed.ends) room.none_yet;
       numbered = subst (λ n. n ≤ 2 ^ 32) (sym known) few;
     }
@@ -68,12 +68,12 @@ closed_room c mark cause old new closed room =
     let marks : length new.tape.items ≡ length old.tape.items + 2 = ap length closed.tape ∙ length-append old.tape.items (mark ∷ Closed c ∷ []) in
     let fewer : suc (length new.table.slots) ≡ length old.table.slots = closed.fewer in
     let same : new.tape.capacity ≡ old.tape.capacity = closed.capacity in
-    let known : length new.stands.items ≡ length old.stands.items = ap length closed.stands ∙ length-set old.stands.items c (Over cause) in
+    let known : length new.stages.items ≡ length old.stages.items = ap length closed.stages ∙ length-set old.stages.items c (Over cause) in
     let was : length old.tape.items + 2 * length old.table.slots ≤ old.tape.capacity = room.for_marks in
-    let few : length old.stands.items ≤ 2 ^ 32 = room.numbered in
+    let few : length old.stages.items ≤ 2 ^ 32 = room.numbered in
     record {
       for_marks = omega arith;
-      for_causes = subst (λ (v : Vec EndCause Global). length new.stands.items ≤ vec_capacity v) (sym closed.ends) (subst (λ n. n ≤ vec_capacity old.ends) (sym known) room.for_causes);
+      for_causes = subst (λ (v : Vec EndCause Global). length new.stages.items ≤ vec_capacity v) (sym closed.ends) (subst (λ n. n ≤ vec_capacity old.ends) (sym known) room.for_causes);
       none_yet = subst (λ (v : Vec EndCause Global). v.items ≡ []) (sym closed.ends) room.none_yet;
       numbered = subst (λ n. n ≤ 2 ^ 32) (sym known) few;
     }
@@ -108,7 +108,7 @@ cause_behind max (writing left) conn cause reads t e = absurd reads
 cause_behind max (ended other) conn cause reads t e = absurd reads
 
 -- Connection c has read all pieces.
-module _ (s : CellSetting) (c : ℕ) (old : LoopPart) (play : ServedPlay) (t : IsLoopTied s old play) (reads : ReadsOn c old) (none : unread_in old.feeds.items c ≡ []) where
+module _ (s : CellSetting) (c : ℕ) (old : LoopPart) (play : ServedPlay) (t : IsLoopTied s old play) (reads : IsReadingAt c old) (none : unread_in old.feeds.items c ≡ []) where
   here : Reading s c old play
   here = reading s c old play t reads
 
@@ -130,7 +130,7 @@ module _ (s : CellSetting) (c : ℕ) (old : LoopPart) (play : ServedPlay) (t : I
             reads_behind s c old play here memory (t.unread c ∙ none) ∙ ap (read_behind (desk_of_setting s) handler_rules play c) (t.finish c ∙ known)
             ∙ ends_so s c play (is_going s c old play here) (is_owing_nothing s c old play here)),
         (
-          ended_tied s c old new play (with_cause conn (end_behind conn.held)) cause (Ended c ∷ Closed c ∷ []) t reads.0 (ap Some is) closed.table closed.gone closed.stands closed.tape closed.feeds,
+          ended_tied s c old new play (with_cause conn (end_behind conn.held)) cause (Ended c ∷ Closed c ∷ []) t reads.0 (ap Some is) closed.table closed.gone closed.stages closed.tape closed.feeds,
           (refl, refl),
         ),
       )
@@ -147,7 +147,7 @@ module _ (s : CellSetting) (c : ℕ) (old : LoopPart) (play : ServedPlay) (t : I
             reads_behind s c old play here memory (t.unread c ∙ none) ∙ ap (read_behind (desk_of_setting s) handler_rules play c) (t.finish c ∙ known)
             ∙ fails_so s c play (is_going s c old play here) (is_owing_nothing s c old play here)),
         (
-          ended_tied s c old new play (with_cause conn ReadFault) ReadFault (ReadFailed c ∷ Closed c ∷ []) t reads.0 refl closed.table closed.gone closed.stands closed.tape closed.feeds,
+          ended_tied s c old new play (with_cause conn ReadFault) ReadFault (ReadFailed c ∷ Closed c ∷ []) t reads.0 refl closed.table closed.gone closed.stages closed.tape closed.feeds,
           (refl, refl),
         ),
       )

@@ -11,13 +11,13 @@ use Rattle.conn_table.specs.Slots.{slot_in, without_number}
 use Rattle.conn_table.specs.Table.{TableView, slot_of}
 use Rattle.conn_table.proofs.Rising.{count_left}
 use Rattle.machine_model.specs.Loop.{LoopConn}
-use Rattle.cell_loop.specs.declared.loop_part.Stand.{Stand}
-use Rattle.cell_loop.specs.declared.loop_part.Stand.TheVariants.{Lean, Framed, Whole, Asked, Over}
+use Rattle.cell_loop.specs.declared.loop_part.CellStage.{CellStage}
+use Rattle.cell_loop.specs.declared.loop_part.CellStage.TheVariants.{Lean, Framed, Whole, Asked, Over}
 use Rattle.cell_loop.specs.declared.loop_part.LoopPart.{LoopPart}
 use Rattle.conn_refinement.specs.Phases.{IsLean, IsFraming, PhaseTells}
-use Rattle.cell_loop.specs.LoopTied.{ReadsOn, StandTells, HasRoomToClose}
+use Rattle.cell_loop.specs.LoopTied.{IsReadingAt, CellStageTells, HasRoomToClose}
 use Rattle.conn_refinement.specs.Tables.{IsSameBut}
-use Rattle.cell_loop.specs.Closing.{HasSizeSo, IsClosed}
+use Rattle.cell_loop.specs.Closing.{StageHasSize, IsClosed}
 use Rattle.cell_loop.specs.LoopMoves.{IsLoopUnderWay, StandIsOver}
 use Rattle.conn_refinement.proofs.Tables.{but_gone, but_then, place_of}
 use Rattle.cell_loop.proofs.Tying.{stands_so}
@@ -34,14 +34,14 @@ nothing_in (byte ∷ bytes) e = absurd (let f : ⊥ = omega arith in f)
 
 -- a connection is closed by what `close` says
 pub close_is : (c : ℕ) (cause : EndCause) (old new : LoopPart) → IsSome (slot_in c old.table.slots) → new.table ≡ record old.table { slots = without_number c old.table.slots }
-    → slot_in c new.table.slots ≡ None → new.stands.items ≡ slice_set old.stands.items c (Over cause) → new.tape.items ≡ old.tape.items ++ Closed c ∷ []
+    → slot_in c new.table.slots ≡ None → new.stages.items ≡ slice_set old.stages.items c (Over cause) → new.tape.items ≡ old.tape.items ++ Closed c ∷ []
     → new.tape.capacity ≡ old.tape.capacity → new.feeds ≡ old.feeds → new.ends ≡ old.ends → IsClosed c cause old new
-close_is c cause old new there table gone stands tape capacity feeds ends =
+close_is c cause old new there table gone stages tape capacity feeds ends =
     record {
       table = subst (λ (t : TableView). IsSameBut c old.table t) (sym table) (but_gone old.table c);
       gone = gone;
       fewer = ap (λ (t : TableView). suc (length t.slots)) table ∙ count_left c old.table.slots there;
-      stands = stands;
+      stages = stages;
       tape = tape;
       capacity = capacity;
       feeds = feeds;
@@ -56,7 +56,7 @@ closed_behind c cause old new table but count closed =
       table = but_then c old.table table new.table but closed.table;
       gone = closed.gone;
       fewer = closed.fewer ∙ count;
-      stands = closed.stands;
+      stages = closed.stages;
       tape = closed.tape;
       capacity = closed.capacity;
       feeds = closed.feeds;
@@ -85,9 +85,9 @@ pub same_but : (c : ℕ) (table : TableView) → IsSameBut c table table
 same_but c table = record { budget = refl; others = λ x n. refl }
 
 -- how connection c stands in a part under way
-pub way_tells : (part : LoopPart) (c : ℕ) (stand : Stand) (under_way : IsLoopUnderWay part) → slice_get part.stands.items c ≡ Some stand
-    → StandTells under_way.setting.desk.max_frame part.table c (under_way.play.cell.loop.conns c) (under_way.play.admitted c) stand
-way_tells part c stand under_way is = stands_so under_way.setting c part under_way.play stand under_way.tied is
+pub way_tells : (part : LoopPart) (c : ℕ) (stage : CellStage) (under_way : IsLoopUnderWay part) → slice_get part.stages.items c ≡ Some stage
+    → CellStageTells under_way.setting.desk.max_frame part.table c (under_way.play.cell.loop.conns c) (under_way.play.admitted c) stage
+way_tells part c stage under_way is = stands_so under_way.setting c part under_way.play stage under_way.tied is
 
 -- a phase in which a size is read
 reads_so : (max : ℕ) (phase : Phase) (conn : LoopConn) → IsLean phase → PhaseTells max phase conn → left_to_write phase ≡ [] → size_asked phase ≡ None → IsReading phase
@@ -100,31 +100,31 @@ reads_so max (writing left) conn lean t nothing unasked = t.3 nothing
 reads_so max (ended cause) conn lean t nothing unasked = lean
 
 module _ (part : LoopPart) (c : ℕ) (under_way : IsLoopUnderWay part) where
-  pub asked_there : slice_get part.stands.items c ≡ Some Asked → IsSome (slot_in c part.table.slots)
+  pub asked_there : slice_get part.stages.items c ≡ Some Asked → IsSome (slot_in c part.table.slots)
   asked_there is = (way_tells part c Asked under_way is).0.there
 
-  pub asked_size : slice_get part.stands.items c ≡ Some Asked → IsSome (slot_of c part.table.slots).size
+  pub asked_size : slice_get part.stages.items c ≡ Some Asked → IsSome (slot_of c part.table.slots).size
   asked_size is = (way_tells part c Asked under_way is).1.0
 
-  pub lean_there : slice_get part.stands.items c ≡ Some Lean → IsSome (slot_in c part.table.slots)
+  pub lean_there : slice_get part.stages.items c ≡ Some Lean → IsSome (slot_in c part.table.slots)
   lean_there is = (way_tells part c Lean under_way is).0.there
 
-  pub lean_phase : slice_get part.stands.items c ≡ Some Lean → IsLean (slot_of c part.table.slots).conn.phase
+  pub lean_phase : slice_get part.stages.items c ≡ Some Lean → IsLean (slot_of c part.table.slots).conn.phase
   lean_phase is = (way_tells part c Lean under_way is).0.in_its_phase
 
-  pub lean_size : slice_get part.stands.items c ≡ Some Lean → (slot_of c part.table.slots).size ≡ None
+  pub lean_size : slice_get part.stages.items c ≡ Some Lean → (slot_of c part.table.slots).size ≡ None
   lean_size is = (way_tells part c Lean under_way is).1
 
-  pub lean_fed : slice_get part.stands.items c ≡ Some Lean → c < length part.feeds.items
+  pub lean_fed : slice_get part.stages.items c ≡ Some Lean → c < length part.feeds.items
   lean_fed is =
-      let known : c < length part.stands.items = place_of part.stands.items c Lean is in
-      let fed : length part.stands.items ≤ length part.feeds.items = under_way.tied.fed in
+      let known : c < length part.stages.items = place_of part.stages.items c Lean is in
+      let fed : length part.stages.items ≤ length part.feeds.items = under_way.tied.fed in
       omega arith
 
   -- where it neither writes nor waits for its admission, it reads
-  pub lean_reads : slice_get part.stands.items c ≡ Some Lean → left_to_write (slot_of c part.table.slots).conn.phase ≡ [] → size_asked (slot_of c part.table.slots).conn.phase ≡ None → ReadsOn c part
+  pub lean_reads : slice_get part.stages.items c ≡ Some Lean → left_to_write (slot_of c part.table.slots).conn.phase ≡ [] → size_asked (slot_of c part.table.slots).conn.phase ≡ None → IsReadingAt c part
   lean_reads is nothing unasked = (
-    place_of part.stands.items c Lean is,
+    place_of part.stages.items c Lean is,
     lean_there is,
     reads_so under_way.setting.desk.max_frame (slot_of c part.table.slots).conn.phase (under_way.play.cell.loop.conns c) (lean_phase is)
         (way_tells part c Lean under_way is).0.tied.tells nothing unasked,
@@ -168,37 +168,37 @@ waiting_going (writing left) at = tt
 waiting_going (ended cause) at = at
 
 -- a connection that stands so, and hasn't ended
-module _ (part : LoopPart) (c : ℕ) (under_way : IsLoopUnderWay part) (opened : c < length part.stands.items) where
-  abbrev Tells : Stand → Type 0
-  Tells stand = StandTells under_way.setting.desk.max_frame part.table c (under_way.play.cell.loop.conns c) (under_way.play.admitted c) stand
+module _ (part : LoopPart) (c : ℕ) (under_way : IsLoopUnderWay part) (opened : c < length part.stages.items) where
+  abbrev Tells : CellStage → Type 0
+  Tells stage = CellStageTells under_way.setting.desk.max_frame part.table c (under_way.play.cell.loop.conns c) (under_way.play.admitted c) stage
 
-  own_tells : Tells (slice_index_or part.stands.items c Lean)
-  own_tells = under_way.tied.stands c opened
+  own_tells : Tells (slice_index_or part.stages.items c Lean)
+  own_tells = under_way.tied.stages c opened
 
-  pub way_there : (StandIsOver (slice_index_or part.stands.items c Lean) → ⊥) → IsSome (slot_in c part.table.slots)
-  way_there going = go (slice_index_or part.stands.items c Lean) going own_tells
+  pub way_there : (StandIsOver (slice_index_or part.stages.items c Lean) → ⊥) → IsSome (slot_in c part.table.slots)
+  way_there going = go (slice_index_or part.stages.items c Lean) going own_tells
     where
-      go : (stand : Stand) → (StandIsOver stand → ⊥) → Tells stand → IsSome (slot_in c part.table.slots)
+      go : (stage : CellStage) → (StandIsOver stage → ⊥) → Tells stage → IsSome (slot_in c part.table.slots)
       go Lean going t = t.0.there
       go Framed going t = t.0.there
       go Whole going t = t.0.there
       go Asked going t = t.0.there
       go (Over cause) going t = absurd (going tt)
 
-  pub way_size : (StandIsOver (slice_index_or part.stands.items c Lean) → ⊥) → HasSizeSo (slice_index_or part.stands.items c Lean) (slot_of c part.table.slots).size
-  way_size going = go (slice_index_or part.stands.items c Lean) going own_tells
+  pub way_size : (StandIsOver (slice_index_or part.stages.items c Lean) → ⊥) → StageHasSize (slice_index_or part.stages.items c Lean) (slot_of c part.table.slots).size
+  way_size going = go (slice_index_or part.stages.items c Lean) going own_tells
     where
-      go : (stand : Stand) → (StandIsOver stand → ⊥) → Tells stand → HasSizeSo stand (slot_of c part.table.slots).size
+      go : (stage : CellStage) → (StandIsOver stage → ⊥) → Tells stage → StageHasSize stage (slot_of c part.table.slots).size
       go Lean going t = t.1
       go Framed going t = t.1.0
       go Whole going t = t.1.0
       go Asked going t = t.1.0
       go (Over cause) going t = absurd (going tt)
 
-  pub way_going : (StandIsOver (slice_index_or part.stands.items c Lean) → ⊥) → HasNotEnded (slot_of c part.table.slots).conn.phase
-  way_going going = go (slice_index_or part.stands.items c Lean) going own_tells
+  pub way_going : (StandIsOver (slice_index_or part.stages.items c Lean) → ⊥) → HasNotEnded (slot_of c part.table.slots).conn.phase
+  way_going going = go (slice_index_or part.stages.items c Lean) going own_tells
     where
-      go : (stand : Stand) → (StandIsOver stand → ⊥) → Tells stand → HasNotEnded (slot_of c part.table.slots).conn.phase
+      go : (stage : CellStage) → (StandIsOver stage → ⊥) → Tells stage → HasNotEnded (slot_of c part.table.slots).conn.phase
       go Lean going t = lean_going (slot_of c part.table.slots).conn.phase t.0.in_its_phase
       go Framed going t = framing_going (slot_of c part.table.slots).conn.phase t.0.in_its_phase
       go Whole going t = ready_going (slot_of c part.table.slots).conn.phase t.0.in_its_phase

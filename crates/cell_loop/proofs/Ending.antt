@@ -7,7 +7,7 @@ use Rattle.machine_model.specs.Loop.{LoopConn}
 use Rattle.script_model.specs.ScriptLines.{PlanRule}
 use Rattle.script_model.specs.Playing.{MemoryAt, ample, InputFinish}
 use Rattle.cell_loop.specs.declared.feed.Feed.{Feed}
-use Rattle.cell_loop.specs.declared.loop_part.Stand.TheVariants.{Over}
+use Rattle.cell_loop.specs.declared.loop_part.CellStage.TheVariants.{Over}
 use Rattle.cell_loop.specs.declared.loop_part.LoopPart.{LoopPart}
 use Rattle.cell_loop.specs.Settings.{CellSetting, ServedPlay}
 use Rattle.cell_loop.specs.Moving.{Doing, ComesTo}
@@ -31,9 +31,9 @@ pub as_many_feeds : (old new : Vec Feed Global) → new ≡ old → length new.i
 as_many_feeds old new e = ap (λ (f : Vec Feed Global). length f.items) e
 
 pub over_tied : (s : CellSetting) (c : ℕ) (cause : EndCause) (old new : LoopPart) (play next : ServedPlay) (conn : LoopConn) (marks : List Mark) → IsLoopTied s old play
-    → c < length old.stands.items → IsSameBut c old.table new.table → slot_in c new.table.slots ≡ None → new.stands.items ≡ slice_set old.stands.items c (Over cause)
+    → c < length old.stages.items → IsSameBut c old.table new.table → slot_in c new.table.slots ≡ None → new.stages.items ≡ slice_set old.stages.items c (Over cause)
     → new.tape.items ≡ old.tape.items ++ marks → conn.cause ≡ Some cause → HasChanged c conn None marks play next → length new.feeds.items ≡ length old.feeds.items
     → AreFeedsTied new.feeds.items next.unread next.finish next.rules → IsLoopTied s new next
-over_tied s c cause old new play next conn marks t l table gone stands tape ended play_is count feeds =
+over_tied s c cause old new play next conn marks t l table gone stages tape ended play_is count feeds =
     changed_tied s c old new play next conn None (Over cause) marks t l table
-    (subst (λ xs. HasStand c (Over cause) old.stands.items xs) (sym stands) (stand_set old.stands.items c (Over cause) l)) tape play_is count feeds (gone, refl, ended)
+    (subst (λ xs. HasStand c (Over cause) old.stages.items xs) (sym stages) (stand_set old.stages.items c (Over cause) l)) tape play_is count feeds (gone, refl, ended)

@@ -9,12 +9,12 @@ use Rattle.machine_model.specs.HallRule.{job_of}
 use Rattle.machine_model.specs.Loop.{LoopConn, changed, submitted_more}
 use Rattle.machine_model.specs.Plain.{when, submit_plain}
 use Rattle.script_model.specs.Playing.{MemoryAt}
-use Rattle.cell_loop.specs.declared.loop_part.Stand.TheVariants.{Whole, Asked}
+use Rattle.cell_loop.specs.declared.loop_part.CellStage.TheVariants.{Whole, Asked}
 use Rattle.cell_loop.specs.declared.loop_part.LoopPart.{LoopPart}
 use Rattle.cell_loop.specs.Settings.{CellSetting, ServedCell, ServedPlay}
 use Rattle.cell_loop.specs.Moving.{GoesTo, one_of_conn}
 use Rattle.conn_refinement.specs.Phases.{PhaseTells, IsOpenTied}
-use Rattle.cell_loop.specs.LoopTied.{StandTells, IsLoopTied}
+use Rattle.cell_loop.specs.LoopTied.{CellStageTells, IsLoopTied}
 use Rattle.cell_loop.specs.Closing.{HasStand}
 use Rattle.conn_refinement.proofs.Tables.{place_of}
 use Rattle.cell_loop.proofs.Tying.{stand_set, kept_at, in_table, feeds_of, loop_changed, changed_tied, stands_so}
@@ -50,20 +50,20 @@ module _ (s : CellSetting) (c number : ℕ) (payload : List ℕ) (play : ServedP
       ∙ ap (λ b. told_by (submit_plain play.cell c b (Some payload))) unclosed
       ∙ ap (λ i. told_by (Some (cell_under i))) is
 
-pub hands_out : (s : CellSetting) (c : ℕ) (old new : LoopPart) (play : ServedPlay) (number : ℕ) (payload : List ℕ) → slice_get old.stands.items c ≡ Some Whole → IsLoopTied s old play
+pub hands_out : (s : CellSetting) (c : ℕ) (old new : LoopPart) (play : ServedPlay) (number : ℕ) (payload : List ℕ) → slice_get old.stages.items c ≡ Some Whole → IsLoopTied s old play
     → play.cell.hall.closed ≡ false → (slot_of c old.table.slots).conn.phase ≡ ready number payload
     → new.table ≡ record old.table { slots = with_state c (record (slot_of c old.table.slots).conn { phase = waiting number }) old.table.slots } → new.feeds ≡ old.feeds
-    → new.stands.items ≡ slice_set old.stands.items c Asked → new.tape.items ≡ old.tape.items
+    → new.stages.items ≡ slice_set old.stages.items c Asked → new.tape.items ≡ old.tape.items
     → ((play.cell.loop.conns c).submitted ≡ number) × (slice_get (play.cell.loop.conns c).payloads number ≡ Some payload)
     × GoesTo (one_of_conn s c) (λ next. IsLoopTied s new next × (next.cell.workers ≡ play.cell.workers)
     × (next.cell.hall ≡ record play.cell.hall { jobs = play.cell.hall.jobs ++ job_of (key_of c number) payload ∷ [] })) play
-hands_out s c old new play number payload whole t unclosed given after feeds stands tape =
+hands_out s c old new play number payload whole t unclosed given after feeds stages tape =
     let max : ℕ = s.desk.max_frame in
     let conn : LoopConn = play.cell.loop.conns c in
     let view : ConnView = record (slot_of c old.table.slots).conn { phase = waiting number } in
-    let tells : StandTells max old.table c conn (play.admitted c) Whole = stands_so s c old play Whole t whole in
-    let below : c < length old.stands.items = place_of old.stands.items c Whole whole in
-    let count : play.cell.loop.count ≡ length old.stands.items = t.count in
+    let tells : CellStageTells max old.table c conn (play.admitted c) Whole = stands_so s c old play Whole t whole in
+    let below : c < length old.stages.items = place_of old.stages.items c Whole whole in
+    let count : play.cell.loop.count ≡ length old.stages.items = t.count in
     let told : PhaseTells max (ready number payload) conn = subst (λ p. PhaseTells max p conn) given tells.0.tied.tells in
     let submitted : conn.submitted ≡ number = told.1 in
     let many : length conn.payloads ≡ suc number = told.3 in
@@ -80,7 +80,7 @@ hands_out s c old new play number payload whole t unclosed given after feeds sta
         (
           changed_tied s c old new play (handed s c number payload play) (submitted_more conn) (play.admitted c) Asked [] t below
               (state_but c view old.table new.table tells.0.there after)
-              (subst (λ xs. HasStand c Asked old.stands.items xs) (sym stands) (stand_set old.stands.items c Asked below))
+              (subst (λ xs. HasStand c Asked old.stages.items xs) (sym stages) (stand_set old.stages.items c Asked below))
               (tape ∙ sym (append-nil old.tape.items))
               (loop_changed c (submitted_more conn) (play.admitted c) [] play (handed s c number payload play) refl (λ x. kept_at play.admitted c x))
               (as_many_feeds old.feeds new.feeds feeds) (same_feeds old.feeds new.feeds play.unread play.finish play.rules feeds (feeds_of s old play t)) (

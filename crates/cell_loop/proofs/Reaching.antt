@@ -31,7 +31,7 @@ nothing_left (byte ∷ bytes) e = absurd (true≢false e)
 
 module _ {C A M : Type 0} (d : DeskRules C A) (r : ServiceRules C A M) (memories : List M) (first : Cell C A M)
     (computes : (first cell : Cell C A M) (told : List Told) → run_plain d r told (Some first) ≡ Some cell → EventsLead d r first (map event_told told) cell)
-    (stands : (cell : Cell C A M) (events : List MachineEvent) → EventsLead d r first events cell → CellKeeps d r memories cell) where
+    (stages : (cell : Cell C A M) (events : List MachineEvent) → EventsLead d r first events cell → CellKeeps d r memories cell) where
   -- a run from the first cell leads to this one, in which what is under way waits
   pub record LedTo (cell : Cell C A M) : Type 0 where
     pub events : List MachineEvent
@@ -62,7 +62,7 @@ module _ {C A M : Type 0} (d : DeskRules C A) (r : ServiceRules C A M) (memories
 
   pub waits_from : (cell : Cell C A M) (events : List MachineEvent) → EventsLead d r first events cell → NoneIsLeftBehind cell.loop → LedTo cell
   waits_from cell events lead none =
-      let k : CellKeeps d r memories cell = stands cell events lead in
+      let k : CellKeeps d r memories cell = stages cell events lead in
       record { events = events; lead = lead; waits = record { each = λ c l. waiting_conn cell c (k.place c) (k.at c l) (none c l) } }
 
   pub none_left_in : (cell : Cell C A M) → LedTo cell → NoneIsLeftBehind cell.loop
@@ -72,7 +72,7 @@ module _ {C A M : Type 0} (d : DeskRules C A) (r : ServiceRules C A M) (memories
           → (cell.loop.conns c).collected ≡ length (cell.loop.conns c).payloads
       go (inl less) = absurd (caused (led.waits.each c l less).0)
       go (inr all) =
-          let k : Counted (cell.loop.conns c) = counted d r memories cell (stands cell led.events led.lead) c l in
+          let k : Counted (cell.loop.conns c) = counted d r memories cell (stages cell led.events led.lead) c l in
           let a : (cell.loop.conns c).submitted ≤ length (cell.loop.conns c).payloads = k.submitted in
           let b : (cell.loop.conns c).collected ≤ (cell.loop.conns c).submitted = k.collected in
           omega arith
@@ -88,7 +88,7 @@ module _ {C A M : Type 0} (d : DeskRules C A) (r : ServiceRules C A M) (memories
   stepped_on play told cell s may e =
       let l : EventsLead d r play.cell (event_told told ∷ []) cell = computes play.cell cell (told ∷ []) e in
       let step : Steps d r play.cell (event_told told) cell = subst (Steps d r play.cell (event_told told)) (sym l.2) l.1 in
-      let k : CellKeeps d r memories play.cell = stands play.cell s.events s.lead in
+      let k : CellKeeps d r memories play.cell = stages play.cell s.events s.lead in
       record {
         events = s.events ++ event_told told ∷ [];
         lead = runs-append d r first play.cell cell s.events (event_told told ∷ []) s.lead l;

@@ -9,26 +9,26 @@ use Rattle.conn_table.specs.Table.{slot_of, HasItsSize}
 use Rattle.conn_table.proofs.Placing.{value_of}
 use Rattle.machine_model.specs.Plain.{is_open, owes_nothing}
 use Rattle.script_model.specs.Playing.{MemoryAt, read_move, read_behind, size_move, conn_move}
-use Rattle.cell_loop.specs.declared.loop_part.Stand.{Stand}
-use Rattle.cell_loop.specs.declared.loop_part.Stand.TheVariants.{Lean, Framed, Whole, Asked, Over}
+use Rattle.cell_loop.specs.declared.loop_part.CellStage.{CellStage}
+use Rattle.cell_loop.specs.declared.loop_part.CellStage.TheVariants.{Lean, Framed, Whole, Asked, Over}
 use Rattle.cell_loop.specs.declared.loop_part.LoopPart.{LoopPart}
 use Rattle.cell_loop.specs.Settings.{CellSetting, ServedPlay, desk_of_setting}
 use Rattle.conn_refinement.specs.Phases.{HasAllCollected, PhaseTells, IsOpenTied, IsFraming, IsLean}
-use Rattle.cell_loop.specs.LoopTied.{StandTells, ReadsOn, IsLoopTied}
-use Rattle.cell_loop.specs.Closing.{HasSizeSo}
+use Rattle.cell_loop.specs.LoopTied.{CellStageTells, IsReadingAt, IsLoopTied}
+use Rattle.cell_loop.specs.Closing.{StageHasSize}
 use Rattle.cell_loop.proofs.OneMove.{open_so, owes_so, moves_to_read, moves_to_size}
 
 -- how a connection stands that reads on
-abbrev pub StandsReading : Phase → Option ℕ → Option ℕ → Stand → Type 0
-StandsReading (sizing bytes) size admitted stand = (stand ≡ Lean) × (size ≡ None) × (admitted ≡ None)
-StandsReading (framing n bytes) size admitted stand = (stand ≡ Framed) × IsSome size × (admitted ≡ size)
-StandsReading _ size admitted stand = ⊥
+abbrev pub StandsReading : Phase → Option ℕ → Option ℕ → CellStage → Type 0
+StandsReading (sizing bytes) size admitted stage = (stage ≡ Lean) × (size ≡ None) × (admitted ≡ None)
+StandsReading (framing n bytes) size admitted stage = (stage ≡ Framed) × IsSome size × (admitted ≡ size)
+StandsReading _ size admitted stage = ⊥
 
 -- a connection of a play reads on
 pub record Reading (s : CellSetting) (c : ℕ) (part : LoopPart) (play : ServedPlay) : Type 0 where
   pub below : c < play.cell.loop.count
   pub tied : IsOpenTied s.desk.max_frame (slot_of c part.table.slots).conn (play.cell.loop.conns c)
-  pub stands : StandsReading (slot_of c part.table.slots).conn.phase (slot_of c part.table.slots).size (play.admitted c) (slice_index_or part.stands.items c Lean)
+  pub stages : StandsReading (slot_of c part.table.slots).conn.phase (slot_of c part.table.slots).size (play.admitted c) (slice_index_or part.stages.items c Lean)
 
 -- phases in which one reads on, by how it stands
 lean_reads : (phase : Phase) (size admitted : Option ℕ) → IsLean phase → IsReading phase → size ≡ None → admitted ≡ None → StandsReading phase size admitted Lean
@@ -50,21 +50,21 @@ framed_reads (writing left) size admitted framed a b = absurd framed
 framed_reads (ended cause) size admitted framed a b = absurd framed
 
 -- how a connection stands that is in the table and reads on
-reading_by : (s : CellSetting) (c : ℕ) (part : LoopPart) (play : ServedPlay) (stand : Stand) → c < play.cell.loop.count → IsSome (slot_in c part.table.slots)
-    → IsReading (slot_of c part.table.slots).conn.phase → slice_index_or part.stands.items c Lean ≡ stand
-    → StandTells s.desk.max_frame part.table c (play.cell.loop.conns c) (play.admitted c) stand → Reading s c part play
+reading_by : (s : CellSetting) (c : ℕ) (part : LoopPart) (play : ServedPlay) (stage : CellStage) → c < play.cell.loop.count → IsSome (slot_in c part.table.slots)
+    → IsReading (slot_of c part.table.slots).conn.phase → slice_index_or part.stages.items c Lean ≡ stage
+    → CellStageTells s.desk.max_frame part.table c (play.cell.loop.conns c) (play.admitted c) stage → Reading s c part play
 reading_by s c part play Lean below there reads is tells =
     record {
       below = below;
       tied = tells.0.tied;
-      stands = subst (StandsReading (slot_of c part.table.slots).conn.phase (slot_of c part.table.slots).size (play.admitted c)) (sym is)
+      stages = subst (StandsReading (slot_of c part.table.slots).conn.phase (slot_of c part.table.slots).size (play.admitted c)) (sym is)
           (lean_reads (slot_of c part.table.slots).conn.phase (slot_of c part.table.slots).size (play.admitted c) tells.0.in_its_phase reads tells.1 tells.2);
     }
 reading_by s c part play Framed below there reads is tells =
     record {
       below = below;
       tied = tells.0.tied;
-      stands = subst (StandsReading (slot_of c part.table.slots).conn.phase (slot_of c part.table.slots).size (play.admitted c)) (sym is)
+      stages = subst (StandsReading (slot_of c part.table.slots).conn.phase (slot_of c part.table.slots).size (play.admitted c)) (sym is)
           (framed_reads (slot_of c part.table.slots).conn.phase (slot_of c part.table.slots).size (play.admitted c) tells.0.in_its_phase tells.1.0 tells.1.1);
     }
 reading_by s c part play Whole below there reads is tells = absurd (whole_reads (slot_of c part.table.slots).conn.phase reads tells.0.in_its_phase)
@@ -89,9 +89,9 @@ reading_by s c part play Asked below there reads is tells = absurd (asked_reads 
     asked_reads (ended cause) reads other = reads
 reading_by s c part play (Over cause) below there reads is tells = absurd (false≢true (subst (λ o. IsSome o) tells.0 there))
 
-pub reading : (s : CellSetting) (c : ℕ) (part : LoopPart) (play : ServedPlay) → IsLoopTied s part play → ReadsOn c part → Reading s c part play
+pub reading : (s : CellSetting) (c : ℕ) (part : LoopPart) (play : ServedPlay) → IsLoopTied s part play → IsReadingAt c part → Reading s c part play
 reading s c part play t reads =
-    reading_by s c part play (slice_index_or part.stands.items c Lean) (subst (λ n. c < n) (sym t.count) reads.0) reads.1 reads.2 refl (t.stands c reads.0)
+    reading_by s c part play (slice_index_or part.stages.items c Lean) (subst (λ n. c < n) (sym t.count) reads.0) reads.1 reads.2 refl (t.stages c reads.0)
 
 module _ (s : CellSetting) (c : ℕ) (part : LoopPart) (play : ServedPlay) (r : Reading s c part play) where
   -- it is open
@@ -99,32 +99,32 @@ module _ (s : CellSetting) (c : ℕ) (part : LoopPart) (play : ServedPlay) (r : 
   is_going = open_so play.cell.loop c r.below r.tied.going
 
   -- it has a size, or none, by how it stands
-  pub size_so : HasSizeSo (slice_index_or part.stands.items c Lean) (slot_of c part.table.slots).size
-  size_so = go (slot_of c part.table.slots).conn.phase r.stands
+  pub size_so : StageHasSize (slice_index_or part.stages.items c Lean) (slot_of c part.table.slots).size
+  size_so = go (slot_of c part.table.slots).conn.phase r.stages
     where
-      go : (phase : Phase) → StandsReading phase (slot_of c part.table.slots).size (play.admitted c) (slice_index_or part.stands.items c Lean)
-          → HasSizeSo (slice_index_or part.stands.items c Lean) (slot_of c part.table.slots).size
-      go (sizing bytes) stands = subst (λ k. HasSizeSo k (slot_of c part.table.slots).size) (sym stands.0) stands.1
-      go (framing n bytes) stands = subst (λ k. HasSizeSo k (slot_of c part.table.slots).size) (sym stands.0) stands.1
-      go (held n) stands = absurd stands
-      go (ready n bytes) stands = absurd stands
-      go (waiting n) stands = absurd stands
-      go (writing left) stands = absurd stands
-      go (ended cause) stands = absurd stands
+      go : (phase : Phase) → StandsReading phase (slot_of c part.table.slots).size (play.admitted c) (slice_index_or part.stages.items c Lean)
+          → StageHasSize (slice_index_or part.stages.items c Lean) (slot_of c part.table.slots).size
+      go (sizing bytes) stages = subst (λ k. StageHasSize k (slot_of c part.table.slots).size) (sym stages.0) stages.1
+      go (framing n bytes) stages = subst (λ k. StageHasSize k (slot_of c part.table.slots).size) (sym stages.0) stages.1
+      go (held n) stages = absurd stages
+      go (ready n bytes) stages = absurd stages
+      go (waiting n) stages = absurd stages
+      go (writing left) stages = absurd stages
+      go (ended cause) stages = absurd stages
 
   -- nothing is owed of it
-  nothing_left : (phase : Phase) → StandsReading phase (slot_of c part.table.slots).size (play.admitted c) (slice_index_or part.stands.items c Lean)
+  nothing_left : (phase : Phase) → StandsReading phase (slot_of c part.table.slots).size (play.admitted c) (slice_index_or part.stages.items c Lean)
       → PhaseTells s.desk.max_frame phase (play.cell.loop.conns c) → HasAllCollected (play.cell.loop.conns c) × ((play.cell.loop.conns c).left ≡ [])
-  nothing_left (sizing bytes) stands tells = (tells.0, tells.3)
-  nothing_left (framing n bytes) stands tells = (tells.0, tells.5)
-  nothing_left (held n) stands tells = absurd stands
-  nothing_left (ready n bytes) stands tells = absurd stands
-  nothing_left (waiting n) stands tells = absurd stands
-  nothing_left (writing left) stands tells = absurd stands
-  nothing_left (ended cause) stands tells = absurd stands
+  nothing_left (sizing bytes) stages tells = (tells.0, tells.3)
+  nothing_left (framing n bytes) stages tells = (tells.0, tells.5)
+  nothing_left (held n) stages tells = absurd stages
+  nothing_left (ready n bytes) stages tells = absurd stages
+  nothing_left (waiting n) stages tells = absurd stages
+  nothing_left (writing left) stages tells = absurd stages
+  nothing_left (ended cause) stages tells = absurd stages
 
   owed : HasAllCollected (play.cell.loop.conns c) × ((play.cell.loop.conns c).left ≡ [])
-  owed = nothing_left (slot_of c part.table.slots).conn.phase r.stands r.tied.tells
+  owed = nothing_left (slot_of c part.table.slots).conn.phase r.stages r.tied.tells
 
   pub is_owing_nothing : owes_nothing (play.cell.loop.conns c) ≡ true
   is_owing_nothing = owes_so (play.cell.loop.conns c) owed.0.1 owed.1
@@ -133,49 +133,49 @@ module _ (s : CellSetting) (c : ℕ) (part : LoopPart) (play : ServedPlay) (r : 
   pub reads_on : (memory : ℕ → MemoryAt) → HasItsSize (slot_of c part.table.slots).conn.phase (slot_of c part.table.slots).size
       → conn_move (desk_of_setting s) handler_rules memory s.budget c play
       ≡ read_move (desk_of_setting s) handler_rules play c (missing (slot_of c part.table.slots).conn.phase) (play.unread c)
-  reads_on memory has = go (slot_of c part.table.slots).conn.phase r.stands r.tied.tells has
+  reads_on memory has = go (slot_of c part.table.slots).conn.phase r.stages r.tied.tells has
     where
-      go : (phase : Phase) → StandsReading phase (slot_of c part.table.slots).size (play.admitted c) (slice_index_or part.stands.items c Lean)
+      go : (phase : Phase) → StandsReading phase (slot_of c part.table.slots).size (play.admitted c) (slice_index_or part.stages.items c Lean)
           → PhaseTells s.desk.max_frame phase (play.cell.loop.conns c) → HasItsSize phase (slot_of c part.table.slots).size
           → conn_move (desk_of_setting s) handler_rules memory s.budget c play ≡ read_move (desk_of_setting s) handler_rules play c (missing phase) (play.unread c)
-      go (sizing bytes) stands tells has =
+      go (sizing bytes) stages tells has =
           moves_to_read s c play memory is_going owed.1 owed.0.0 owed.0.1 (subst (λ k. length k < 4) (sym tells.1) tells.2)
           ∙ ap (λ k. read_move (desk_of_setting s) handler_rules play c (4 - length k) (play.unread c)) tells.1
-      go (framing n bytes) stands tells has =
+      go (framing n bytes) stages tells has =
           let counted : length (play.cell.loop.conns c).held ≡ 4 + length bytes =
           ap length tells.1 ∙ length-append (to_be_bytes w32 n) bytes in
           moves_to_size s c play memory is_going owed.1 owed.0.0 owed.0.1 (omega arith)
-          ∙ ap (size_move (desk_of_setting s) handler_rules memory s.budget play c (play.cell.loop.conns c).held) (stands.2 ∙ has)
+          ∙ ap (size_move (desk_of_setting s) handler_rules memory s.budget play c (play.cell.loop.conns c).held) (stages.2 ∙ has)
           ∙ ap (λ m. read_move (desk_of_setting s) handler_rules play c m (play.unread c)) (less n bytes counted)
         where
           less : (n : ℕ) (bytes : List ℕ) → length (play.cell.loop.conns c).held ≡ 4 + length bytes → (4 + n) - length (play.cell.loop.conns c).held ≡ n - length bytes
           less n bytes counted = omega arith
-      go (held n) stands tells has = absurd stands
-      go (ready n bytes) stands tells has = absurd stands
-      go (waiting n) stands tells has = absurd stands
-      go (writing left) stands tells has = absurd stands
-      go (ended cause) stands tells has = absurd stands
+      go (held n) stages tells has = absurd stages
+      go (ready n bytes) stages tells has = absurd stages
+      go (waiting n) stages tells has = absurd stages
+      go (writing left) stages tells has = absurd stages
+      go (ended cause) stages tells has = absurd stages
 
   -- where all pieces are read, it is what comes behind them
   pub reads_behind : (memory : ℕ → MemoryAt) → play.unread c ≡ []
       → conn_move (desk_of_setting s) handler_rules memory s.budget c play ≡ read_behind (desk_of_setting s) handler_rules play c (play.finish c)
-  reads_behind memory none = go (slot_of c part.table.slots).conn.phase r.stands r.tied.tells
+  reads_behind memory none = go (slot_of c part.table.slots).conn.phase r.stages r.tied.tells
     where
-      go : (phase : Phase) → StandsReading phase (slot_of c part.table.slots).size (play.admitted c) (slice_index_or part.stands.items c Lean)
+      go : (phase : Phase) → StandsReading phase (slot_of c part.table.slots).size (play.admitted c) (slice_index_or part.stages.items c Lean)
           → PhaseTells s.desk.max_frame phase (play.cell.loop.conns c)
           → conn_move (desk_of_setting s) handler_rules memory s.budget c play ≡ read_behind (desk_of_setting s) handler_rules play c (play.finish c)
-      go (sizing bytes) stands tells =
+      go (sizing bytes) stages tells =
           moves_to_read s c play memory is_going owed.1 owed.0.0 owed.0.1 (subst (λ k. length k < 4) (sym tells.1) tells.2)
           ∙ ap (read_move (desk_of_setting s) handler_rules play c (4 - length (play.cell.loop.conns c).held)) none
-      go (framing n bytes) stands tells =
+      go (framing n bytes) stages tells =
           let counted : length (play.cell.loop.conns c).held ≡ 4 + length bytes =
           ap length tells.1 ∙ length-append (to_be_bytes w32 n) bytes in
-          let size : (k : ℕ) × ((slot_of c part.table.slots).size ≡ Some k) = value_of (slot_of c part.table.slots).size stands.1 in
+          let size : (k : ℕ) × ((slot_of c part.table.slots).size ≡ Some k) = value_of (slot_of c part.table.slots).size stages.1 in
           moves_to_size s c play memory is_going owed.1 owed.0.0 owed.0.1 (omega arith)
-          ∙ ap (size_move (desk_of_setting s) handler_rules memory s.budget play c (play.cell.loop.conns c).held) (stands.2 ∙ size.1)
+          ∙ ap (size_move (desk_of_setting s) handler_rules memory s.budget play c (play.cell.loop.conns c).held) (stages.2 ∙ size.1)
           ∙ ap (read_move (desk_of_setting s) handler_rules play c ((4 + size.0) - length (play.cell.loop.conns c).held)) none
-      go (held n) stands tells = absurd stands
-      go (ready n bytes) stands tells = absurd stands
-      go (waiting n) stands tells = absurd stands
-      go (writing left) stands tells = absurd stands
-      go (ended cause) stands tells = absurd stands
+      go (held n) stages tells = absurd stages
+      go (ready n bytes) stages tells = absurd stages
+      go (waiting n) stages tells = absurd stages
+      go (writing left) stages tells = absurd stages
+      go (ended cause) stages tells = absurd stages

@@ -3,9 +3,9 @@ use Rattle.std.proofs.Common.{◌≡◌, ℕ, ◌+◌, ◌<◌, ◌≤◌, Bool,
 use Rattle.conn_state.specs.Phase.{HasNotEnded}
 use Rattle.conn_table.specs.Slots.{slot_in}
 use Rattle.conn_table.specs.Table.{TableView, slot_of, sizes_given, size_wanted, with_admitted, Admits}
-use Rattle.cell_loop.specs.declared.loop_part.Stand.{Stand}
+use Rattle.cell_loop.specs.declared.loop_part.CellStage.{CellStage}
 use Rattle.conn_refinement.specs.Tables.{IsSameBut}
-use Rattle.cell_loop.specs.Closing.{HasSizeSo}
+use Rattle.cell_loop.specs.Closing.{StageHasSize}
 use Rattle.cell_loop.proofs.ClosingOff.{same_but}
 
 module _ (c : ℕ) (old new : TableView) (same : new ≡ old) where
@@ -15,8 +15,8 @@ module _ (c : ℕ) (old new : TableView) (same : new ≡ old) where
   pub same_going : HasNotEnded (slot_of c old.slots).conn.phase → HasNotEnded (slot_of c new.slots).conn.phase
   same_going going = subst (λ (t : TableView). HasNotEnded (slot_of c t.slots).conn.phase) (sym same) going
 
-  pub same_size_so : (stand : Stand) → HasSizeSo stand (slot_of c old.slots).size → HasSizeSo stand (slot_of c new.slots).size
-  same_size_so stand size = subst (λ (t : TableView). HasSizeSo stand (slot_of c t.slots).size) (sym same) size
+  pub same_size_so : (stage : CellStage) → StageHasSize stage (slot_of c old.slots).size → StageHasSize stage (slot_of c new.slots).size
+  same_size_so stage size = subst (λ (t : TableView). StageHasSize stage (slot_of c t.slots).size) (sym same) size
 
   pub same_in : IsSameBut c old new
   same_in = subst (λ (t : TableView). IsSameBut c old t) (sym same) (same_but c old)

@@ -18,13 +18,13 @@ one_more tape mark = length-append tape (mark ∷ [])
 
 -- Nothing was written, as many causes have room, and no more connections are open.
 pub room_kept : (old new : LoopPart) → HasRoomToClose old → new.tape ≡ old.tape → new.ends ≡ old.ends → length new.table.slots ≤ length old.table.slots
-    → length new.stands.items ≡ length old.stands.items → HasRoomToClose new
+    → length new.stages.items ≡ length old.stages.items → HasRoomToClose new
 room_kept old new room tape ends fewer known =
     let marks : length new.tape.items ≡ length old.tape.items = ap (λ (t : TapeView). length t.items) tape in
     let for_tape : new.tape.capacity ≡ old.tape.capacity = ap (λ (t : TapeView). t.capacity) tape in
     let for_ends : vec_capacity new.ends ≡ vec_capacity old.ends = ap (λ (t : Vec EndCause Global). vec_capacity t) ends in
     let was : length old.tape.items + 2 * length old.table.slots ≤ old.tape.capacity = room.for_marks in
-    let had : length old.stands.items ≤ vec_capacity old.ends = room.for_causes in
+    let had : length old.stages.items ≤ vec_capacity old.ends = room.for_causes in
     record {
       for_marks = omega arith;
       for_causes = omega arith;
@@ -35,11 +35,11 @@ room_kept old new room tape ends fewer known =
 -- There is room for the marks of a move, and one is written.
 pub marked_room : (mark : Mark) (old mid new : LoopPart) → HasRoomToClose old → length mid.table.slots ≤ most_places → length mid.tape.items + (1 + 2 * most_places) ≤ mid.tape.capacity
     → new.tape.items ≡ mid.tape.items ++ mark ∷ [] → new.tape.capacity ≡ mid.tape.capacity → length new.table.slots ≤ length mid.table.slots
-    → length new.stands.items ≡ length old.stands.items → new.ends ≡ old.ends → HasRoomToClose new
+    → length new.stages.items ≡ length old.stages.items → new.ends ≡ old.ends → HasRoomToClose new
 marked_room mark old mid new room few wide tape capacity slots known ends =
     let marks : length new.tape.items ≡ length mid.tape.items + 1 = ap length tape ∙ one_more mid.tape.items mark in
     let for_ends : vec_capacity new.ends ≡ vec_capacity old.ends = ap (λ (t : Vec EndCause Global). vec_capacity t) ends in
-    let had : length old.stands.items ≤ vec_capacity old.ends = room.for_causes in
+    let had : length old.stages.items ≤ vec_capacity old.ends = room.for_causes in
     record {
       for_marks = omega arith;
       for_causes = omega arith;

@@ -17,13 +17,13 @@ use Rattle.machine_model.specs.HallRule.{outcome_of}
 use Rattle.machine_model.specs.Loop.{LoopConn, changed, open_conn_settled, open_marks_settled, conn_settled, conn_marks_settled}
 use Rattle.machine_model.specs.Plain.{when, collect_plain}
 use Rattle.script_model.specs.Playing.{MemoryAt, at_number, freed, collect_first}
-use Rattle.cell_loop.specs.declared.loop_part.Stand.TheVariants.{Lean, Asked, Over}
+use Rattle.cell_loop.specs.declared.loop_part.CellStage.TheVariants.{Lean, Asked, Over}
 use Rattle.cell_loop.specs.declared.loop_part.LoopPart.{LoopPart}
 use Rattle.cell_loop.specs.Settings.{CellSetting, ServedCell, ServedPlay, desk_of_setting}
 use Rattle.cell_loop.specs.Moving.{GoesTo, one_of_outcome}
 use Rattle.cell_loop.specs.Replies.{IsReplySome}
 use Rattle.conn_refinement.specs.Phases.{HoldsNothing, PhaseTells, IsOpenTied, IsLean}
-use Rattle.cell_loop.specs.LoopTied.{StandTells, IsLoopTied}
+use Rattle.cell_loop.specs.LoopTied.{CellStageTells, IsLoopTied}
 use Rattle.conn_refinement.specs.Tables.{IsSameBut}
 use Rattle.cell_loop.specs.Closing.{HasStand}
 use Rattle.conn_refinement.proofs.Tables.{no_bytes, place_of}
@@ -91,15 +91,15 @@ module _ (s : CellSetting) (c i : ℕ) (settled : Settled) (play : ServedPlay) (
       ∙ ap (λ cause. Some (collected_by cause)) going
 
 -- The connection is open behind it.
-pub settles_open : (s : CellSetting) (c i : ℕ) (settled : Settled) (old new : LoopPart) (play : ServedPlay) (later : List JobOutcome) → slice_get old.stands.items c ≡ Some Asked
+pub settles_open : (s : CellSetting) (c i : ℕ) (settled : Settled) (old new : LoopPart) (play : ServedPlay) (later : List JobOutcome) → slice_get old.stages.items c ≡ Some Asked
     → IsReplySome settled → IsLoopTied s old play → play.cell.hall.outcomes ≡ outcome_of (key_of c i) settled ∷ later → IsSameBut c old.table new.table → new.feeds ≡ old.feeds
     → (slot : Slot) → slot_in c new.table.slots ≡ Some slot → slot.conn ≡ record (slot_of c old.table.slots).conn { phase = after_answer settled } → slot.size ≡ None
-    → cause_of (after_answer settled) ≡ None → new.stands.items ≡ slice_set old.stands.items c Lean → new.tape.items ≡ old.tape.items
+    → cause_of (after_answer settled) ≡ None → new.stages.items ≡ slice_set old.stages.items c Lean → new.tape.items ≡ old.tape.items
     → GoesTo (one_of_outcome s) (λ next. IsLoopTied s new next × (next.cell.workers ≡ play.cell.workers) × (next.cell.hall ≡ record play.cell.hall { outcomes = later })) play
-settles_open s c i settled old new play later asked some t first but feeds slot found state size none stands tape =
-    let tells : StandTells s.desk.max_frame old.table c (play.cell.loop.conns c) (play.admitted c) Asked = stands_so s c old play Asked t asked in
-    let below : c < length old.stands.items = place_of old.stands.items c Asked asked in
-    let count : play.cell.loop.count ≡ length old.stands.items = t.count in
+settles_open s c i settled old new play later asked some t first but feeds slot found state size none stages tape =
+    let tells : CellStageTells s.desk.max_frame old.table c (play.cell.loop.conns c) (play.admitted c) Asked = stands_so s c old play Asked t asked in
+    let below : c < length old.stages.items = place_of old.stages.items c Asked asked in
+    let count : play.cell.loop.count ≡ length old.stages.items = t.count in
     let next : ServedPlay = collected_by s c i settled play later None in
     let conn : LoopConn = open_conn_settled settled (play.cell.loop.conns c) in
     let now : IsLean (after_answer settled) × IsOpenTied s.desk.max_frame (record (slot_of c old.table.slots).conn { phase = after_answer settled }) conn =
@@ -108,7 +108,7 @@ settles_open s c i settled old new play later asked some t first but feeds slot 
       once (one_of_outcome s) play next refl (collects_so s c i settled play later first (omega arith) tells.0.tied.going),
       (
         changed_tied s c old new play next conn None Lean (open_marks_settled c settled) t below but
-            (subst (λ xs. HasStand c Lean old.stands.items xs) (sym stands) (stand_set old.stands.items c Lean below))
+            (subst (λ xs. HasStand c Lean old.stages.items xs) (sym stages) (stand_set old.stages.items c Lean below))
             (tape ∙ sym (append_nil_is old settled none))
             (loop_changed c conn None (open_marks_settled c settled) play next refl (λ x. refl))
             (as_many_feeds old.feeds new.feeds feeds) (same_feeds old.feeds new.feeds play.unread play.finish play.rules feeds (feeds_of s old play t)) (
@@ -126,22 +126,22 @@ settles_open s c i settled old new play later asked some t first but feeds slot 
     append_nil_is old settled none = ap (λ marks. old.tape.items ++ marks) (no_marks c settled none) ∙ append-nil old.tape.items
 
 -- It has ended behind it.
-pub settles_over : (s : CellSetting) (c i : ℕ) (settled : Settled) (old new : LoopPart) (play : ServedPlay) (later : List JobOutcome) → slice_get old.stands.items c ≡ Some Asked
+pub settles_over : (s : CellSetting) (c i : ℕ) (settled : Settled) (old new : LoopPart) (play : ServedPlay) (later : List JobOutcome) → slice_get old.stages.items c ≡ Some Asked
     → IsReplySome settled → IsLoopTied s old play → play.cell.hall.outcomes ≡ outcome_of (key_of c i) settled ∷ later → IsSameBut c old.table new.table → new.feeds ≡ old.feeds
-    → (cause : EndCause) → cause_of (after_answer settled) ≡ Some cause → slot_in c new.table.slots ≡ None → new.stands.items ≡ slice_set old.stands.items c (Over cause)
+    → (cause : EndCause) → cause_of (after_answer settled) ≡ Some cause → slot_in c new.table.slots ≡ None → new.stages.items ≡ slice_set old.stages.items c (Over cause)
     → new.tape.items ≡ old.tape.items ++ Closed c ∷ []
     → GoesTo (one_of_outcome s) (λ next. IsLoopTied s new next × (next.cell.workers ≡ play.cell.workers) × (next.cell.hall ≡ record play.cell.hall { outcomes = later })) play
-settles_over s c i settled old new play later asked some t first but feeds cause is gone stands tape =
-    let tells : StandTells s.desk.max_frame old.table c (play.cell.loop.conns c) (play.admitted c) Asked = stands_so s c old play Asked t asked in
-    let below : c < length old.stands.items = place_of old.stands.items c Asked asked in
-    let count : play.cell.loop.count ≡ length old.stands.items = t.count in
+settles_over s c i settled old new play later asked some t first but feeds cause is gone stages tape =
+    let tells : CellStageTells s.desk.max_frame old.table c (play.cell.loop.conns c) (play.admitted c) Asked = stands_so s c old play Asked t asked in
+    let below : c < length old.stages.items = place_of old.stages.items c Asked asked in
+    let count : play.cell.loop.count ≡ length old.stages.items = t.count in
     let next : ServedPlay = collected_by s c i settled play later None in
     let conn : LoopConn = open_conn_settled settled (play.cell.loop.conns c) in
     let now : (conn.cause ≡ Some cause) × (open_marks_settled c settled ≡ Closed c ∷ []) = over_so c settled cause (play.cell.loop.conns c) is in (
       next,
       once (one_of_outcome s) play next refl (collects_so s c i settled play later first (omega arith) tells.0.tied.going),
       (
-        over_tied s c cause old new play next conn (open_marks_settled c settled) t below but gone stands (tape ∙ ap (λ marks. old.tape.items ++ marks) (sym now.1)) now.0
+        over_tied s c cause old new play next conn (open_marks_settled c settled) t below but gone stages (tape ∙ ap (λ marks. old.tape.items ++ marks) (sym now.1)) now.0
             (loop_changed c conn None (open_marks_settled c settled) play next refl (λ x. refl))
             (as_many_feeds old.feeds new.feeds feeds) (same_feeds old.feeds new.feeds play.unread play.finish play.rules feeds (feeds_of s old play t)),
         refl,

@@ -11,12 +11,12 @@ use Rattle.cell_loop.specs.LoopTied.{IsLoopTied, IsFreshPart}
 
 pub starts_tied : (s : CellSetting) (part : LoopPart) (first : ServedCell) (script : ScriptPlan) → IsFirst s.opening first → IsFreshPart s script part → IsLoopTied s part (before_all first script)
 starts_tied s part first script is_first fresh =
-    let none : length part.stands.items ≡ 0 = ap length fresh.stands in
+    let none : length part.stages.items ≡ 0 = ap length fresh.stages in
     record {
       budget = ap (λ (t : TableView). t.budget) fresh.table;
       tape = is_first.tape ∙ sym fresh.tape;
       count = is_first.count ∙ sym none;
-      stands = λ c below. let f : ⊥ = omega arith in absurd f;
+      stages = λ c below. let f : ⊥ = omega arith in absurd f;
       unopened = λ c beyond. (ap (λ (t : TableView). slot_in c t.slots) fresh.table, refl);
       unread = λ c. sym (fresh.unread c);
       finish = λ c. sym (fresh.finish c);

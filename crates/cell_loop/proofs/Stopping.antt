@@ -11,11 +11,11 @@ use Rattle.machine_model.specs.Loop.{Loop, IsOpen, changed, with_cause, gives_up
 use Rattle.machine_model.specs.Machine.{MachineEvent, on_conn, EventsLead}
 use Rattle.machine_model.proofs.Merging.{runs-append}
 use Rattle.script_model.specs.Playing.{at_number}
-use Rattle.cell_loop.specs.declared.loop_part.Stand.{Stand}
-use Rattle.cell_loop.specs.declared.loop_part.Stand.TheVariants.{Lean, Framed, Whole, Asked, Over}
+use Rattle.cell_loop.specs.declared.loop_part.CellStage.{CellStage}
+use Rattle.cell_loop.specs.declared.loop_part.CellStage.TheVariants.{Lean, Framed, Whole, Asked, Over}
 use Rattle.cell_loop.specs.declared.loop_part.LoopPart.{LoopPart}
 use Rattle.cell_loop.specs.Settings.{CellSetting, ServedPlay, desk_of_setting}
-use Rattle.cell_loop.specs.LoopTied.{StandTells, IsLoopTied, HasRoomToClose}
+use Rattle.cell_loop.specs.LoopTied.{CellStageTells, IsLoopTied, HasRoomToClose}
 use Rattle.cell_loop.specs.Closing.{IsClosed}
 use Rattle.cell_loop.specs.LoopMoves.{IsLoopUnderWay, StandIsOver, LoopLeads, StopsOne, StopsAll, AreAllOver, IsEndedLoop}
 use Rattle.cell_loop.proofs.Tying.{feeds_of, loop_changed}
@@ -57,18 +57,18 @@ abbrev stopped_play : ServedPlay → ℕ → ServedPlay
 stopped_play play c = record play { cell = record play.cell { loop = stopped_loop play.cell.loop c }; admitted = at_number play.admitted c None }
 
 -- a stand that isn't over is that of a connection without a cause
-going_so : (s : CellSetting) (part : LoopPart) (play : ServedPlay) (c : ℕ) (stand : Stand) → (StandIsOver stand → ⊥)
-    → StandTells s.desk.max_frame part.table c (play.cell.loop.conns c) (play.admitted c) stand → (play.cell.loop.conns c).cause ≡ None
+going_so : (s : CellSetting) (part : LoopPart) (play : ServedPlay) (c : ℕ) (stage : CellStage) → (StandIsOver stage → ⊥)
+    → CellStageTells s.desk.max_frame part.table c (play.cell.loop.conns c) (play.admitted c) stage → (play.cell.loop.conns c).cause ≡ None
 going_so s part play c Lean going t = t.0.tied.going
 going_so s part play c Framed going t = t.0.tied.going
 going_so s part play c Whole going t = t.0.tied.going
 going_so s part play c Asked going t = t.0.tied.going
 going_so s part play c (Over cause) going t = absurd (going tt)
 
-stopped_leads : (c : ℕ) (old new : LoopPart) → c < length old.stands.items → (StandIsOver (slice_index_or old.stands.items c Lean) → ⊥) → IsClosed c Stopped old new → LoopLeads old new
+stopped_leads : (c : ℕ) (old new : LoopPart) → c < length old.stages.items → (StandIsOver (slice_index_or old.stages.items c Lean) → ⊥) → IsClosed c Stopped old new → LoopLeads old new
 stopped_leads c old new below going closed s cell play t same =
-    let known : play.cell.loop.count ≡ length old.stands.items = t.count in
-    let no_cause : (play.cell.loop.conns c).cause ≡ None = going_so s old play c (slice_index_or old.stands.items c Lean) going (t.stands c below) in
+    let known : play.cell.loop.count ≡ length old.stages.items = t.count in
+    let no_cause : (play.cell.loop.conns c).cause ≡ None = going_so s old play c (slice_index_or old.stages.items c Lean) going (t.stages c below) in
     let is_open : IsOpen play.cell.loop c = (omega arith, no_cause) in
     let next : ServedPlay = stopped_play play c in
     let after : Loop = stopped_loop play.cell.loop c in (
@@ -79,41 +79,41 @@ stopped_leads c old new below going closed s cell play t same =
         (after, (subst (λ (l : Loop). IsOpen l c) (sym same) is_open, tt, ap (λ (l : Loop). stopped_loop l c) (sym same)), refl),
         refl,
       ),
-      over_tied s c Stopped old new play next (with_cause (play.cell.loop.conns c) Stopped) (Closed c ∷ []) t below closed.table closed.gone closed.stands closed.tape refl
+      over_tied s c Stopped old new play next (with_cause (play.cell.loop.conns c) Stopped) (Closed c ∷ []) t below closed.table closed.gone closed.stages closed.tape refl
           (loop_changed c (with_cause (play.cell.loop.conns c) Stopped) None (Closed c ∷ []) play next refl (λ x. refl))
           (as_many_feeds old.feeds new.feeds closed.feeds) (same_feeds old.feeds new.feeds play.unread play.finish play.rules closed.feeds (feeds_of s old play t)),
     )
 
-pub stops_one : (c : ℕ) (old new : LoopPart) → c < length old.stands.items → (StandIsOver (slice_index_or old.stands.items c Lean) → ⊥) → IsClosed c Stopped old new → StopsOne c old new
+pub stops_one : (c : ℕ) (old new : LoopPart) → c < length old.stages.items → (StandIsOver (slice_index_or old.stages.items c Lean) → ⊥) → IsClosed c Stopped old new → StopsOne c old new
 stops_one c old new below going closed =
     record {
       leads = stopped_leads c old new below going closed;
-      count = ap length closed.stands ∙ length-set old.stands.items c (Over Stopped);
+      count = ap length closed.stages ∙ length-set old.stages.items c (Over Stopped);
       over = subst StandIsOver (sym own) tt;
       by_a_stop = λ _. own;
       others = λ x over. other x over (cases_eq c x);
     }
   where
-    own : slice_index_or new.stands.items c Lean ≡ Over Stopped
-    own = ap (λ xs. slice_index_or xs c Lean) closed.stands ∙ get_or-set_same old.stands.items c (Over Stopped) Lean below
+    own : slice_index_or new.stages.items c Lean ≡ Over Stopped
+    own = ap (λ xs. slice_index_or xs c Lean) closed.stages ∙ get_or-set_same old.stages.items c (Over Stopped) Lean below
 
-    other : (x : ℕ) → StandIsOver (slice_index_or old.stands.items x Lean) → (c ≡ x) ⊎ (c ≡ x → ⊥) → StandIsOver (slice_index_or new.stands.items x Lean)
-    other x over (inl e) = subst (λ k. StandIsOver (slice_index_or new.stands.items k Lean)) e (subst StandIsOver (sym own) tt)
+    other : (x : ℕ) → StandIsOver (slice_index_or old.stages.items x Lean) → (c ≡ x) ⊎ (c ≡ x → ⊥) → StandIsOver (slice_index_or new.stages.items x Lean)
+    other x over (inl e) = subst (λ k. StandIsOver (slice_index_or new.stages.items k Lean)) e (subst StandIsOver (sym own) tt)
     other x over (inr n) =
         subst StandIsOver
-        (sym (ap (λ xs. slice_index_or xs x Lean) closed.stands ∙ get_or-set_other old.stands.items c x (Over Stopped) Lean (λ e. n (sym e)))) over
+        (sym (ap (λ xs. slice_index_or xs x Lean) closed.stages ∙ get_or-set_other old.stages.items c x (Over Stopped) Lean (λ e. n (sym e)))) over
 
 -- one that has ended stays so
-pub stops_none : (c : ℕ) (part : LoopPart) → StandIsOver (slice_index_or part.stands.items c Lean) → StopsOne c part part
+pub stops_none : (c : ℕ) (part : LoopPart) → StandIsOver (slice_index_or part.stages.items c Lean) → StopsOne c part part
 stops_none c part over = record { leads = leads_none part; count = refl; over = over; by_a_stop = λ going. absurd (going over); others = λ x o. o }
 
 -- the cause of a stand that is over
-abbrev pub cause_at : Stand → EndCause
+abbrev pub cause_at : CellStage → EndCause
 cause_at (Over cause) = cause
 cause_at _ = Stopped
 
 -- it is that of its cause
-pub over_at : (stand : Stand) → StandIsOver stand → stand ≡ Over (cause_at stand)
+pub over_at : (stage : CellStage) → StandIsOver stage → stage ≡ Over (cause_at stage)
 over_at Lean over = absurd over
 over_at Framed over = absurd over
 over_at Whole over = absurd over
@@ -121,34 +121,34 @@ over_at Asked over = absurd over
 over_at (Over cause) over = refl
 
 -- one connection more has ended
-pub over_more : (i : ℕ) (old new : LoopPart) → StopsOne i old new → ((x : ℕ) → x < i → StandIsOver (slice_index_or old.stands.items x Lean)) → (x : ℕ) → x < i + 1
-    → StandIsOver (slice_index_or new.stands.items x Lean)
+pub over_more : (i : ℕ) (old new : LoopPart) → StopsOne i old new → ((x : ℕ) → x < i → StandIsOver (slice_index_or old.stages.items x Lean)) → (x : ℕ) → x < i + 1
+    → StandIsOver (slice_index_or new.stages.items x Lean)
 over_more i old new stops all x below = go (cases_lt x i)
   where
-    go : (x < i) ⊎ (i ≤ x) → StandIsOver (slice_index_or new.stands.items x Lean)
+    go : (x < i) ⊎ (i ≤ x) → StandIsOver (slice_index_or new.stages.items x Lean)
     go (inl l) = stops.others x (all x l)
-    go (inr l) = let e : i ≡ x = omega arith in subst (λ k. StandIsOver (slice_index_or new.stands.items k Lean)) e stops.over
+    go (inr l) = let e : i ≡ x = omega arith in subst (λ k. StandIsOver (slice_index_or new.stages.items k Lean)) e stops.over
 
 -- Where each connection has ended, so has the machine's loop.
-module _ (part : LoopPart) (all : (x : ℕ) → x < length part.stands.items → StandIsOver (slice_index_or part.stands.items x Lean)) where
+module _ (part : LoopPart) (all : (x : ℕ) → x < length part.stages.items → StandIsOver (slice_index_or part.stages.items x Lean)) where
   abbrev causes : List EndCause
-  causes = map cause_at part.stands.items
+  causes = map cause_at part.stages.items
 
-  stand_is : (x : ℕ) → x < length part.stands.items → slice_get part.stands.items x ≡ Some (Over (cause_at (slice_index_or part.stands.items x Lean)))
-  stand_is x below = slice_get-get_or part.stands.items x Lean below ∙ ap Some (over_at (slice_index_or part.stands.items x Lean) (all x below))
+  stand_is : (x : ℕ) → x < length part.stages.items → slice_get part.stages.items x ≡ Some (Over (cause_at (slice_index_or part.stages.items x Lean)))
+  stand_is x below = slice_get-get_or part.stages.items x Lean below ∙ ap Some (over_at (slice_index_or part.stages.items x Lean) (all x below))
 
-  cause_is : (x : ℕ) → x < length part.stands.items → slice_get causes x ≡ Some (cause_at (slice_index_or part.stands.items x Lean))
-  cause_is x below = slice_get-map cause_at part.stands.items x ∙ ap (option_map cause_at) (stand_is x below)
+  cause_is : (x : ℕ) → x < length part.stages.items → slice_get causes x ≡ Some (cause_at (slice_index_or part.stages.items x Lean))
+  cause_is x below = slice_get-map cause_at part.stages.items x ∙ ap (option_map cause_at) (stand_is x below)
 
   all_over : AreAllOver part causes
   all_over =
       record {
-        count = length-map part.stands.items cause_at;
+        count = length-map part.stages.items cause_at;
         each = λ x cause is.
-            let known : length causes ≡ length part.stands.items = length-map part.stands.items cause_at in
+            let known : length causes ≡ length part.stages.items = length-map part.stages.items cause_at in
             let within : x < length causes = slice_get_within causes x cause is in
-            let below : x < length part.stands.items = omega arith in
-            stand_is x below ∙ ap (λ k. Some (Over k)) (same_Some (cause_at (slice_index_or part.stands.items x Lean)) cause (sym (cause_is x below) ∙ is));
+            let below : x < length part.stages.items = omega arith in
+            stand_is x below ∙ ap (λ k. Some (Over k)) (same_Some (cause_at (slice_index_or part.stages.items x Lean)) cause (sym (cause_is x below) ∙ is));
       }
 
   pub ended_loop : (s : CellSetting) (play : ServedPlay) → IsLoopTied s part play → IsEndedLoop part play.cell.loop
@@ -158,19 +158,19 @@ module _ (part : LoopPart) (all : (x : ℕ) → x < length part.stands.items →
         causes = causes;
         over = all_over;
         ended = record {
-          count = length-map part.stands.items cause_at ∙ sym t.count;
+          count = length-map part.stages.items cause_at ∙ sym t.count;
           each = λ x below.
-              let known : play.cell.loop.count ≡ length part.stands.items = t.count in
-              let within : x < length part.stands.items = omega arith in
+              let known : play.cell.loop.count ≡ length part.stages.items = t.count in
+              let within : x < length part.stages.items = omega arith in
               told x within ∙ sym (cause_is x within);
         };
       }
     where
-      told : (x : ℕ) → x < length part.stands.items → (play.cell.loop.conns x).cause ≡ Some (cause_at (slice_index_or part.stands.items x Lean))
-      told x within = go (slice_index_or part.stands.items x Lean) (all x within) (t.stands x within)
+      told : (x : ℕ) → x < length part.stages.items → (play.cell.loop.conns x).cause ≡ Some (cause_at (slice_index_or part.stages.items x Lean))
+      told x within = go (slice_index_or part.stages.items x Lean) (all x within) (t.stages x within)
         where
-          go : (stand : Stand) → StandIsOver stand → StandTells s.desk.max_frame part.table x (play.cell.loop.conns x) (play.admitted x) stand
-              → (play.cell.loop.conns x).cause ≡ Some (cause_at stand)
+          go : (stage : CellStage) → StandIsOver stage → CellStageTells s.desk.max_frame part.table x (play.cell.loop.conns x) (play.admitted x) stage
+              → (play.cell.loop.conns x).cause ≡ Some (cause_at stage)
           go Lean over k = absurd over
           go Framed over k = absurd over
           go Whole over k = absurd over
@@ -178,7 +178,7 @@ module _ (part : LoopPart) (all : (x : ℕ) → x < length part.stands.items →
           go (Over cause) over k = k.2
 
 -- What leads to a part in which each connection has ended stops all.
-pub stops_all : (old new : LoopPart) → LoopLeads old new → ((x : ℕ) → x < length new.stands.items → StandIsOver (slice_index_or new.stands.items x Lean)) → StopsAll old new
+pub stops_all : (old new : LoopPart) → LoopLeads old new → ((x : ℕ) → x < length new.stages.items → StandIsOver (slice_index_or new.stages.items x Lean)) → StopsAll old new
 stops_all old new leads all s cell play t same =
     let end : (next : ServedPlay) × (events : List MachineEvent) × EventsLead (desk_of_setting s) handler_rules cell events (record cell { loop = next.cell.loop }) × IsLoopTied s new next =
     leads s cell play t same in

@@ -11,13 +11,13 @@ use Rattle.conn_state.specs.Step.{after_took}
 use Rattle.conn_table.specs.Slots.{slot_in}
 use Rattle.conn_table.specs.Table.{TableView, slot_of, with_state, HasItsSize}
 use Rattle.cell_loop.specs.declared.feed.Feed.{Feed}
-use Rattle.cell_loop.specs.declared.loop_part.Stand.{Stand}
-use Rattle.cell_loop.specs.declared.loop_part.Stand.TheVariants.{Whole, Over}
+use Rattle.cell_loop.specs.declared.loop_part.CellStage.{CellStage}
+use Rattle.cell_loop.specs.declared.loop_part.CellStage.TheVariants.{Whole, Over}
 use Rattle.cell_loop.specs.declared.loop_part.LoopPart.{LoopPart}
 use Rattle.script_model.specs.Playing.{pieces_left}
 use Rattle.cell_loop.specs.Moving.{one_of_conn}
 use Rattle.cell_loop.specs.Feeds.{finish_in, rules_in, front_in, later_in, HasFeed}
-use Rattle.cell_loop.specs.LoopTied.{HasRoomToClose, ReadsOn}
+use Rattle.cell_loop.specs.LoopTied.{HasRoomToClose, IsReadingAt}
 use Rattle.cell_loop.specs.Closing.{IsClosed}
 use Rattle.cell_loop.specs.LoopMoves.{IsLoopUnderWay, LoopMoves, HasLongest}
 use Rattle.conn_refinement.proofs.Tables.{but_then}
@@ -29,7 +29,7 @@ pub record HasTaken (c max : ℕ) (old mid : LoopPart) (bytes : List ℕ) : Type
   pub takes : TakesIn c max old bytes
   pub fed : IsPassed c bytes old.feeds.items mid.feeds.items
   pub table : mid.table ≡ record old.table { slots = with_state c (after_took max (slot_of c old.table.slots).conn bytes) old.table.slots }
-  pub stands : mid.stands.items ≡ old.stands.items
+  pub stages : mid.stages.items ≡ old.stages.items
   pub tape : mid.tape.items ≡ old.tape.items ++ Read c bytes ∷ []
   pub capacity : mid.tape.capacity ≡ old.tape.capacity
   pub ends : mid.ends ≡ old.ends
@@ -55,15 +55,15 @@ module _ (c max : ℕ) (old mid : LoopPart) (bytes : List ℕ) (h : HasTaken c m
   pub taken_part : cause_of (slot_of c mid.table.slots).conn.phase ≡ None → (IsReady (slot_of c mid.table.slots).conn.phase → ⊥)
       → LoopMoves (HasLongest max) (λ s. one_of_conn s c) old true mid
   taken_part none not_ready =
-      reads_part c max old mid bytes h.takes h.fed h.table h.stands h.tape (sym taken_cause ∙ none)
+      reads_part c max old mid bytes h.takes h.fed h.table h.stages h.tape (sym taken_cause ∙ none)
       (λ r. not_ready (subst (λ (v : ConnView). IsReady v.phase) (sym taken_state) r))
 
   -- its payload is whole
-  pub taken_whole : (new : LoopPart) → new.table ≡ mid.table → new.tape ≡ mid.tape → new.feeds ≡ mid.feeds → new.stands.items ≡ slice_set mid.stands.items c Whole
+  pub taken_whole : (new : LoopPart) → new.table ≡ mid.table → new.tape ≡ mid.tape → new.feeds ≡ mid.feeds → new.stages.items ≡ slice_set mid.stages.items c Whole
       → IsReady (slot_of c mid.table.slots).conn.phase → LoopMoves (HasLongest max) (λ s. one_of_conn s c) old true new
-  taken_whole new table tape feeds stands is_ready =
+  taken_whole new table tape feeds stages is_ready =
       reads_whole c max old new bytes h.takes (subst (λ (v : Vec Feed Global). IsPassed c bytes old.feeds.items v.items) (sym feeds) h.fed) (table ∙ h.table)
-      (stands ∙ ap (λ k. slice_set k c Whole) h.stands) (ap (λ v. v.items) tape ∙ h.tape)
+      (stages ∙ ap (λ k. slice_set k c Whole) h.stages) (ap (λ v. v.items) tape ∙ h.tape)
       (subst (λ (v : ConnView). IsReady v.phase) taken_state is_ready)
 
   -- it has ended, and is closed
@@ -72,7 +72,7 @@ module _ (c max : ℕ) (old mid : LoopPart) (bytes : List ℕ) (h : HasTaken c m
   taken_over cause new closed is =
       reads_over c max old new bytes h.takes (subst (λ (v : Vec Feed Global). IsPassed c bytes old.feeds.items v.items) (sym closed.feeds) h.fed) cause
       (but_then c old.table mid.table new.table (state_but c (after_took max (slot_of c old.table.slots).conn bytes) old.table mid.table h.takes.reads.1 h.table) closed.table)
-      closed.gone (closed.stands ∙ ap (λ k. slice_set k c (Over cause)) h.stands)
+      closed.gone (closed.stages ∙ ap (λ k. slice_set k c (Over cause)) h.stages)
       (closed.tape ∙ ap (λ k. k ++ Closed c ∷ []) h.tape ∙ append_assoc old.tape.items (Read c bytes ∷ []) (Closed c ∷ [])) (sym taken_cause ∙ is)
 
   -- there is room still
@@ -84,8 +84,8 @@ module _ (c max : ℕ) (old mid : LoopPart) (bytes : List ℕ) (h : HasTaken c m
         state_count c (after_took max (slot_of c old.table.slots).conn bytes) old.table mid.table h.takes.reads.1 h.table in
         let capacity : mid.tape.capacity ≡ old.tape.capacity = h.capacity in
         let causes : vec_capacity mid.ends ≡ vec_capacity old.ends = ap (λ (v : Vec EndCause Global). vec_capacity v) h.ends in
-        let known : length mid.stands.items ≡ length old.stands.items = ap length h.stands in
-        let had : length old.stands.items ≤ vec_capacity old.ends = room.for_causes in
+        let known : length mid.stages.items ≡ length old.stages.items = ap length h.stages in
+        let had : length old.stages.items ≤ vec_capacity old.ends = room.for_causes in
         record {
           for_marks = omega arith;
           for_causes = omega arith;
@@ -99,18 +99,18 @@ some_cause None some = absurd (false≢true some)
 some_cause (Some cause) some = (cause, refl)
 
 -- what the calls of `take_in` say, put together
-pub has_taken : (c max : ℕ) (old mid : LoopPart) (bytes : List ℕ) (before : TapeView) → ReadsOn c old
+pub has_taken : (c max : ℕ) (old mid : LoopPart) (bytes : List ℕ) (before : TapeView) → IsReadingAt c old
     → HasItsSize (slot_of c old.table.slots).conn.phase (slot_of c old.table.slots).size → 0 < length (front_in old.feeds.items c) → max ≤ 268435456
     → bytes ≡ take (min (wanted (slot_of c old.table.slots).conn.phase) (length (front_in old.feeds.items c))) (front_in old.feeds.items c) → EachIsByte bytes
     → HasFeed c (pieces_left (drop (length bytes) (front_in old.feeds.items c)) (later_in old.feeds.items c)) (finish_in old.feeds.items c) (rules_in old.feeds.items c) old.feeds.items mid.feeds.items
-    → mid.table ≡ record old.table { slots = with_state c (after_took max (slot_of c old.table.slots).conn bytes) old.table.slots } → mid.stands ≡ old.stands
+    → mid.table ≡ record old.table { slots = with_state c (after_took max (slot_of c old.table.slots).conn bytes) old.table.slots } → mid.stages ≡ old.stages
     → mid.tape.items ≡ before.items ++ Read c bytes ∷ [] → mid.tape.capacity ≡ before.capacity → before ≡ old.tape → mid.ends ≡ old.ends → HasTaken c max old mid bytes
-has_taken c max old mid bytes before reads_on has some small front are fed table stands items capacity tape ends =
+has_taken c max old mid bytes before reads_on has some small front are fed table stages items capacity tape ends =
     record {
       takes = record { reads = reads_on; has = has; some = some; small = small; is = front; are = are };
       fed = fed;
       table = table;
-      stands = ap (λ (v : Vec Stand Global). v.items) stands;
+      stages = ap (λ (v : Vec CellStage Global). v.items) stages;
       tape = items ∙ ap (λ (v : TapeView). v.items ++ Read c bytes ∷ []) tape;
       capacity = capacity ∙ ap (λ (v : TapeView). v.capacity) tape;
       ends = ends;

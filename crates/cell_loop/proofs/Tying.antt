@@ -17,30 +17,30 @@ use Rattle.script_model.specs.ScriptLines.{PlanRule}
 use Rattle.script_model.specs.Playing.{InputFinish, at_number}
 use Rattle.conn_refinement.proofs.Tables.{place_of}
 use Rattle.cell_loop.specs.declared.feed.Feed.{Feed}
-use Rattle.cell_loop.specs.declared.loop_part.Stand.{Stand}
-use Rattle.cell_loop.specs.declared.loop_part.Stand.TheVariants.{Lean, Framed, Whole, Asked, Over}
+use Rattle.cell_loop.specs.declared.loop_part.CellStage.{CellStage}
+use Rattle.cell_loop.specs.declared.loop_part.CellStage.TheVariants.{Lean, Framed, Whole, Asked, Over}
 use Rattle.cell_loop.specs.declared.loop_part.LoopPart.{LoopPart}
 use Rattle.cell_loop.specs.Settings.{CellSetting, ServedPlay}
 use Rattle.cell_loop.specs.Feeds.{unread_in, finish_in, rules_in, HasSomePieces, BoundsSome}
 use Rattle.conn_refinement.specs.Phases.{IsOpenTied}
-use Rattle.cell_loop.specs.LoopTied.{IsInTable, IsAdmittedSo, StandTells, IsLoopTied}
+use Rattle.cell_loop.specs.LoopTied.{IsInTable, HasAdmittedSize, CellStageTells, IsLoopTied}
 use Rattle.conn_refinement.specs.Tables.{IsSameBut}
 use Rattle.cell_loop.specs.Closing.{HasStand}
 
 -- stands that differ in one connection
-pub stand_set : (stands : List Stand) (c : ℕ) (stand : Stand) → c < length stands → HasStand c stand stands (slice_set stands c stand)
-stand_set stands c stand l =
+pub stand_set : (stages : List CellStage) (c : ℕ) (stage : CellStage) → c < length stages → HasStand c stage stages (slice_set stages c stage)
+stand_set stages c stage l =
     record {
-      count = length-set stands c stand;
-      own = get_or-set_same stands c stand Lean l;
-      others = λ x n. get_or-set_other stands c x stand Lean (λ e. n (sym e));
+      count = length-set stages c stage;
+      own = get_or-set_same stages c stage Lean l;
+      others = λ x n. get_or-set_other stages c x stage Lean (λ e. n (sym e));
     }
 
-pub stand_then : (c : ℕ) (first last : Stand) (old mid new : List Stand) → HasStand c first old mid → HasStand c last mid new → HasStand c last old new
+pub stand_then : (c : ℕ) (first last : CellStage) (old mid new : List CellStage) → HasStand c first old mid → HasStand c last mid new → HasStand c last old new
 stand_then c first last old mid new a b = record { count = b.count ∙ a.count; own = b.own; others = λ x n. b.others x n ∙ a.others x n }
 
-pub stand_same : (stands : List Stand) (c : ℕ) (stand : Stand) → slice_index_or stands c Lean ≡ stand → HasStand c stand stands stands
-stand_same stands c stand is = record { count = refl; own = is; others = λ x n. refl }
+pub stand_same : (stages : List CellStage) (c : ℕ) (stage : CellStage) → slice_index_or stages c Lean ≡ stage → HasStand c stage stages stages
+stand_same stages c stage is = record { count = refl; own = is; others = λ x n. refl }
 
 -- a value at one number that is the one that was there
 pub kept_at : {X : Type 0} (f : ℕ → X) (c x : ℕ) → f x ≡ at_number f c (f c) x
@@ -77,11 +77,11 @@ module _ (max x : ℕ) (old new : TableView) (same : slot_in x new.slots ≡ slo
         tied = subst (λ (k : Slot). IsOpenTied max k.conn conn) (sym slots_same) t.tied;
       }
 
-  admitted_moved : (admitted : Option ℕ) → IsAdmittedSo old x admitted → IsAdmittedSo new x admitted
+  admitted_moved : (admitted : Option ℕ) → HasAdmittedSize old x admitted → HasAdmittedSize new x admitted
   admitted_moved admitted t =
       (subst (λ (k : Slot). IsSome k.size) (sym slots_same) t.0, t.1 ∙ ap (λ (k : Slot). k.size) (sym slots_same))
 
-  pub stand_moved : (conn : LoopConn) (admitted : Option ℕ) (stand : Stand) → StandTells max old x conn admitted stand → StandTells max new x conn admitted stand
+  pub stand_moved : (conn : LoopConn) (admitted : Option ℕ) (stage : CellStage) → CellStageTells max old x conn admitted stage → CellStageTells max new x conn admitted stage
   stand_moved conn admitted Lean t = (in_moved _ conn t.0, ap (λ (k : Slot). k.size) slots_same ∙ t.1, t.2)
   stand_moved conn admitted Framed t = (in_moved _ conn t.0, admitted_moved admitted t.1)
   stand_moved conn admitted Whole t = (in_moved _ conn t.0, admitted_moved admitted t.1)
@@ -89,11 +89,11 @@ module _ (max x : ℕ) (old new : TableView) (same : slot_in x new.slots ≡ slo
   stand_moved conn admitted (Over cause) t = (same ∙ t.0, t.1, t.2)
 
 -- the same stand, told of equal parts
-pub told_same : (max : ℕ) (table : TableView) (x : ℕ) (conn conn_now : LoopConn) (admitted admitted_now : Option ℕ) (stand stand_now : Stand) → conn_now ≡ conn → admitted_now ≡ admitted
-    → stand_now ≡ stand → StandTells max table x conn admitted stand → StandTells max table x conn_now admitted_now stand_now
-told_same max table x conn conn_now admitted admitted_now stand stand_now a b e t =
-    subst (λ k. StandTells max table x k admitted_now stand_now) (sym a)
-    (subst (λ k. StandTells max table x conn k stand_now) (sym b) (subst (λ k. StandTells max table x conn admitted k) (sym e) t))
+pub told_same : (max : ℕ) (table : TableView) (x : ℕ) (conn conn_now : LoopConn) (admitted admitted_now : Option ℕ) (stage stand_now : CellStage) → conn_now ≡ conn → admitted_now ≡ admitted
+    → stand_now ≡ stage → CellStageTells max table x conn admitted stage → CellStageTells max table x conn_now admitted_now stand_now
+told_same max table x conn conn_now admitted admitted_now stage stand_now a b e t =
+    subst (λ k. CellStageTells max table x k admitted_now stand_now) (sym a)
+    (subst (λ k. CellStageTells max table x conn k stand_now) (sym b) (subst (λ k. CellStageTells max table x conn admitted k) (sym e) t))
 
 -- what feeds are tied to
 pub record AreFeedsTied (feeds : List Feed) (unread : ℕ → List (List ℕ)) (finish : ℕ → Option InputFinish) (rules : ℕ → List PlanRule) : Type 0 where
@@ -125,21 +125,21 @@ loop_changed c conn admitted marks old new loop size =
       size = size;
     }
 
-pub changed_tied : (s : CellSetting) (c : ℕ) (old new : LoopPart) (play next : ServedPlay) (conn : LoopConn) (admitted : Option ℕ) (stand : Stand) (marks : List Mark) → IsLoopTied s old play
-    → c < length old.stands.items → IsSameBut c old.table new.table → HasStand c stand old.stands.items new.stands.items → new.tape.items ≡ old.tape.items ++ marks
+pub changed_tied : (s : CellSetting) (c : ℕ) (old new : LoopPart) (play next : ServedPlay) (conn : LoopConn) (admitted : Option ℕ) (stage : CellStage) (marks : List Mark) → IsLoopTied s old play
+    → c < length old.stages.items → IsSameBut c old.table new.table → HasStand c stage old.stages.items new.stages.items → new.tape.items ≡ old.tape.items ++ marks
     → HasChanged c conn admitted marks play next → length new.feeds.items ≡ length old.feeds.items → AreFeedsTied new.feeds.items next.unread next.finish next.rules
-    → StandTells s.desk.max_frame new.table c conn admitted stand → IsLoopTied s new next
-changed_tied s c old new play next conn admitted stand marks t l table stands tape play_is count feeds tells =
-    let fed : length old.stands.items ≤ length old.feeds.items = t.fed in
-    let same : length new.stands.items ≡ length old.stands.items = stands.count in
+    → CellStageTells s.desk.max_frame new.table c conn admitted stage → IsLoopTied s new next
+changed_tied s c old new play next conn admitted stage marks t l table stages tape play_is count feeds tells =
+    let fed : length old.stages.items ≤ length old.feeds.items = t.fed in
+    let same : length new.stages.items ≡ length old.stages.items = stages.count in
     record {
       budget = table.budget ∙ t.budget;
       tape = play_is.tape ∙ ap (λ tape. tape ++ marks) t.tape ∙ sym tape;
-      count = play_is.count ∙ t.count ∙ sym stands.count;
-      stands = λ x below. each x (omega arith) (cases_eq c x);
+      count = play_is.count ∙ t.count ∙ sym stages.count;
+      stages = λ x below. each x (omega arith) (cases_eq c x);
       unopened = λ x beyond.
           let n : c ≡ x → ⊥ = λ e. let e2 : c ≡ x = e in let f : ⊥ = omega arith in f in
-          let m : length old.stands.items ≤ x = omega arith in
+          let m : length old.stages.items ≤ x = omega arith in
           (table.others x n ∙ (t.unopened x m).0, play_is.size x ∙ put_other play.admitted c admitted x (λ e. n (sym e)) ∙ (t.unopened x m).1);
       unread = feeds.unread_is;
       finish = feeds.finish_is;
@@ -149,22 +149,22 @@ changed_tied s c old new play next conn admitted stand marks t l table stands ta
       fed = omega arith;
     }
   where
-    each : (x : ℕ) → x < length old.stands.items → (c ≡ x) ⊎ (c ≡ x → ⊥)
-        → StandTells s.desk.max_frame new.table x (next.cell.loop.conns x) (next.admitted x) (slice_index_or new.stands.items x Lean)
+    each : (x : ℕ) → x < length old.stages.items → (c ≡ x) ⊎ (c ≡ x → ⊥)
+        → CellStageTells s.desk.max_frame new.table x (next.cell.loop.conns x) (next.admitted x) (slice_index_or new.stages.items x Lean)
     each x below (inl e) =
-        subst (λ x. StandTells s.desk.max_frame new.table x (next.cell.loop.conns x) (next.admitted x) (slice_index_or new.stands.items x Lean)) e
-        (told_same s.desk.max_frame new.table c conn (next.cell.loop.conns c) admitted (next.admitted c) stand (slice_index_or new.stands.items c Lean)
-        play_is.own (play_is.size c ∙ put_same play.admitted c admitted) stands.own tells)
+        subst (λ x. CellStageTells s.desk.max_frame new.table x (next.cell.loop.conns x) (next.admitted x) (slice_index_or new.stages.items x Lean)) e
+        (told_same s.desk.max_frame new.table c conn (next.cell.loop.conns c) admitted (next.admitted c) stage (slice_index_or new.stages.items c Lean)
+        play_is.own (play_is.size c ∙ put_same play.admitted c admitted) stages.own tells)
     each x below (inr n) =
         told_same s.desk.max_frame new.table x (play.cell.loop.conns x) (next.cell.loop.conns x) (play.admitted x) (next.admitted x)
-        (slice_index_or old.stands.items x Lean) (slice_index_or new.stands.items x Lean)
+        (slice_index_or old.stages.items x Lean) (slice_index_or new.stages.items x Lean)
         (play_is.others x n)
-        (play_is.size x ∙ put_other play.admitted c admitted x (λ e. n (sym e))) (stands.others x n)
-        (stand_moved s.desk.max_frame x old.table new.table (table.others x n) (play.cell.loop.conns x) (play.admitted x) (slice_index_or old.stands.items x Lean) (t.stands x below))
+        (play_is.size x ∙ put_other play.admitted c admitted x (λ e. n (sym e))) (stages.others x n)
+        (stand_moved s.desk.max_frame x old.table new.table (table.others x n) (play.cell.loop.conns x) (play.admitted x) (slice_index_or old.stages.items x Lean) (t.stages x below))
 
 -- how a connection stands that is tied
-pub stands_so : (s : CellSetting) (c : ℕ) (part : LoopPart) (play : ServedPlay) (stand : Stand) → IsLoopTied s part play → slice_get part.stands.items c ≡ Some stand
-    → StandTells s.desk.max_frame part.table c (play.cell.loop.conns c) (play.admitted c) stand
-stands_so s c part play stand t is =
-    subst (λ k. StandTells s.desk.max_frame part.table c (play.cell.loop.conns c) (play.admitted c) k) (get_or_from_slice_get part.stands.items c stand Lean is)
-    (t.stands c (place_of part.stands.items c stand is))
+pub stands_so : (s : CellSetting) (c : ℕ) (part : LoopPart) (play : ServedPlay) (stage : CellStage) → IsLoopTied s part play → slice_get part.stages.items c ≡ Some stage
+    → CellStageTells s.desk.max_frame part.table c (play.cell.loop.conns c) (play.admitted c) stage
+stands_so s c part play stage t is =
+    subst (λ k. CellStageTells s.desk.max_frame part.table c (play.cell.loop.conns c) (play.admitted c) k) (get_or_from_slice_get part.stages.items c stage Lean is)
+    (t.stages c (place_of part.stages.items c stage is))

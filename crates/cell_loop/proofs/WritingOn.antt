@@ -11,14 +11,14 @@ use Rattle.call_rules.specs.Handling.{handler_rules}
 use Rattle.machine_model.specs.Loop.{LoopConn, with_cause}
 use Rattle.script_model.specs.ScriptLines.{PlanRule, takes_most, blocks, fails}
 use Rattle.script_model.specs.Playing.{MemoryAt, with_rules, moved_on, write_move}
-use Rattle.cell_loop.specs.declared.loop_part.Stand.{Stand}
-use Rattle.cell_loop.specs.declared.loop_part.Stand.TheVariants.{Lean}
+use Rattle.cell_loop.specs.declared.loop_part.CellStage.{CellStage}
+use Rattle.cell_loop.specs.declared.loop_part.CellStage.TheVariants.{Lean}
 use Rattle.cell_loop.specs.declared.loop_part.LoopPart.{LoopPart}
 use Rattle.cell_loop.specs.Settings.{CellSetting, ServedPlay, desk_of_setting}
 use Rattle.cell_loop.specs.Moving.{GoesTo, one_of_conn}
 use Rattle.cell_loop.specs.Feeds.{unread_in, finish_in, rules_in, HasFeed}
 use Rattle.conn_refinement.specs.Phases.{HasAllCollected, PhaseTells, IsOpenTied, IsLean}
-use Rattle.cell_loop.specs.LoopTied.{StandTells, IsLoopTied}
+use Rattle.cell_loop.specs.LoopTied.{CellStageTells, IsLoopTied}
 use Rattle.cell_loop.specs.Closing.{HasStand, ClosesBehind, Writes}
 use Rattle.cell_loop.specs.LoopMoves.{HasSameHall}
 use Rattle.conn_refinement.proofs.Tables.{no_bytes, place_of}
@@ -46,7 +46,7 @@ wrote_told max frames [] conn going counted all nothing left = (tt, record { goi
 wrote_told max frames (byte ∷ rest) conn going counted all nothing left =
     (tt, record { going = going; counted = counted; tells = (all, nothing, left, λ e. let f : byte ∷ rest ≡ [] = e in absurd (let z : suc (length rest) ≡ 0 = ap length f in let g : ⊥ = omega arith in g)) })
 
-module _ (s : CellSetting) (c : ℕ) (old : LoopPart) (play : ServedPlay) (lean : slice_get old.stands.items c ≡ Some Lean)
+module _ (s : CellSetting) (c : ℕ) (old : LoopPart) (play : ServedPlay) (lean : slice_get old.stages.items c ≡ Some Lean)
     (some : 0 < length (left_to_write (slot_of c old.table.slots).conn.phase)) (t : IsLoopTied s old play) where
   abbrev conn : LoopConn
   conn = play.cell.loop.conns c
@@ -54,10 +54,10 @@ module _ (s : CellSetting) (c : ℕ) (old : LoopPart) (play : ServedPlay) (lean 
   abbrev left : List ℕ
   left = left_to_write (slot_of c old.table.slots).conn.phase
 
-  below : c < length old.stands.items
-  below = place_of old.stands.items c Lean lean
+  below : c < length old.stages.items
+  below = place_of old.stages.items c Lean lean
 
-  tells : StandTells s.desk.max_frame old.table c conn (play.admitted c) Lean
+  tells : CellStageTells s.desk.max_frame old.table c conn (play.admitted c) Lean
   tells = stands_so s c old play Lean t lean
 
   told : HasAllCollected conn × (conn.held ≡ []) × (conn.left ≡ left)
@@ -67,7 +67,7 @@ module _ (s : CellSetting) (c : ℕ) (old : LoopPart) (play : ServedPlay) (lean 
   counted_left = ap length told.2
 
   opened : c < play.cell.loop.count
-  opened = let count : play.cell.loop.count ≡ length old.stands.items = t.count in let l : c < length old.stands.items = below in omega arith
+  opened = let count : play.cell.loop.count ≡ length old.stages.items = t.count in let l : c < length old.stages.items = below in omega arith
 
   to_write : (rules : List PlanRule) → play.rules c ≡ rules → (passes enough : ℕ) (memory : ℕ → MemoryAt)
       → one_of_conn s c passes enough memory play ≡ write_move (desk_of_setting s) handler_rules play c conn.left rules
@@ -91,8 +91,8 @@ module _ (s : CellSetting) (c : ℕ) (old : LoopPart) (play : ServedPlay) (lean 
       let found : slot_in c new.table.slots ≡ Some (stated c (view_behind count) old.table.slots) = state_found c (view_behind count) old.table new.table tells.0.there w.table in
       open_tied s c old new play (record conn { left = drop count conn.left }) Lean (Wrote c (take count conn.left) ∷ []) t below tells.0.tied.going
       (state_but c (view_behind count) old.table new.table tells.0.there w.table)
-      (subst (λ (xs : Vec Stand Global). HasStand c Lean old.stands.items xs.items) (sym w.stands)
-      (stand_same old.stands.items c Lean (get_or_from_slice_get old.stands.items c Lean Lean lean)))
+      (subst (λ (xs : Vec CellStage Global). HasStand c Lean old.stages.items xs.items) (sym w.stages)
+      (stand_same old.stages.items c Lean (get_or_from_slice_get old.stages.items c Lean Lean lean)))
       (w.tape ∙ ap (λ bytes. old.tape.items ++ Wrote c (take count bytes) ∷ []) (sym told.2)) w.feeds (
         in_table s.desk.max_frame IsLean new.table c (stated c (view_behind count) old.table.slots) (record conn { left = drop count conn.left }) found now.0 now.1,
         size_now new.table c (stated c (view_behind count) old.table.slots) found ∙ tells.1,
@@ -116,10 +116,10 @@ module _ (s : CellSetting) (c : ℕ) (old : LoopPart) (play : ServedPlay) (lean 
 
   -- The rule bounds it.
   pub writes_some : (most : ℕ) (rules : List PlanRule) (mid new : LoopPart) → 0 < most → play.rules c ≡ takes_most most ∷ rules → Writes c (min most (length left)) old mid
-      → new.table ≡ mid.table → new.tape ≡ mid.tape → new.stands ≡ mid.stands
+      → new.table ≡ mid.table → new.tape ≡ mid.tape → new.stages ≡ mid.stages
       → HasFeed c (unread_in mid.feeds.items c) (finish_in mid.feeds.items c) (drop 1 (rules_in mid.feeds.items c)) mid.feeds.items new.feeds.items
       → GoesTo (one_of_conn s c) (λ next. IsLoopTied s new next × HasSameHall play next) play
-  writes_some most rules mid new bound are w table tape stands fed =
+  writes_some most rules mid new bound are w table tape stages fed =
       let k : length conn.left ≡ length left = counted_left in
       let count : ℕ = min most (length conn.left) in
       let is : min most (length left) ≡ count = ap (min most) (sym k) in
@@ -129,33 +129,33 @@ module _ (s : CellSetting) (c : ℕ) (old : LoopPart) (play : ServedPlay) (lean 
             (λ passes enough memory.
             to_write (takes_most most ∷ rules) are passes enough memory
             ∙ ap (option_map (with_rules c rules)) (writes_so s c play (open_so play.cell.loop c opened tells.0.tied.going) count (omega arith) (omega arith))),
-        (rules_passed s c mid new (written count) (written_tied count mid now) table tape stands (takes_most most) rules are fed, (refl, refl)),
+        (rules_passed s c mid new (written count) (written_tied count mid now) table tape stages (takes_most most) rules are fed, (refl, refl)),
       )
 
   -- The rule says that it isn't possible yet.
-  pub blocks_once : (rules : List PlanRule) (new : LoopPart) → play.rules c ≡ blocks ∷ rules → new.table ≡ old.table → new.tape ≡ old.tape → new.stands ≡ old.stands
+  pub blocks_once : (rules : List PlanRule) (new : LoopPart) → play.rules c ≡ blocks ∷ rules → new.table ≡ old.table → new.tape ≡ old.tape → new.stages ≡ old.stages
       → HasFeed c (unread_in old.feeds.items c) (finish_in old.feeds.items c) (drop 1 (rules_in old.feeds.items c)) old.feeds.items new.feeds.items
       → GoesTo (one_of_conn s c) (λ next. IsLoopTied s new next × HasSameHall play next) play
-  blocks_once rules new are table tape stands fed = (
+  blocks_once rules new are table tape stages fed = (
     moved_on (with_rules c rules play),
     once (one_of_conn s c) play (moved_on (with_rules c rules play)) refl (to_write (blocks ∷ rules) are),
-    (moved_tied s new (with_rules c rules play) (rules_passed s c old new play t table tape stands blocks rules are fed), (refl, refl)),
+    (moved_tied s new (with_rules c rules play) (rules_passed s c old new play t table tape stages blocks rules are fed), (refl, refl)),
   )
 
   -- The rule says that it fails.
   pub fails_once : (rules : List PlanRule) (mid new : LoopPart) → play.rules c ≡ fails ∷ rules → ClosesBehind c (WriteFailed c) WriteFault old mid
-      → new.table ≡ mid.table → new.tape ≡ mid.tape → new.stands ≡ mid.stands
+      → new.table ≡ mid.table → new.tape ≡ mid.tape → new.stages ≡ mid.stages
       → HasFeed c (unread_in mid.feeds.items c) (finish_in mid.feeds.items c) (drop 1 (rules_in mid.feeds.items c)) mid.feeds.items new.feeds.items
       → GoesTo (one_of_conn s c) (λ next. IsLoopTied s new next × HasSameHall play next) play
-  fails_once rules mid new are closed table tape stands fed =
+  fails_once rules mid new are closed table tape stages fed =
       let k : length conn.left ≡ length left = counted_left in
       let next : ServedPlay = after_one c (with_cause conn WriteFault) (WriteFailed c ∷ Closed c ∷ []) play in
       let over : IsLoopTied s mid next =
-      ended_tied s c old mid play (with_cause conn WriteFault) WriteFault (WriteFailed c ∷ Closed c ∷ []) t below refl closed.table closed.gone closed.stands closed.tape closed.feeds in (
+      ended_tied s c old mid play (with_cause conn WriteFault) WriteFault (WriteFailed c ∷ Closed c ∷ []) t below refl closed.table closed.gone closed.stages closed.tape closed.feeds in (
         with_rules c rules next,
         once (one_of_conn s c) play (with_rules c rules next) refl
             (λ passes enough memory.
             to_write (fails ∷ rules) are passes enough memory
             ∙ ap (option_map (with_rules c rules)) (fails_write_so s c play (open_so play.cell.loop c opened tells.0.tied.going) (some_counted conn.left (omega arith)))),
-        (rules_passed s c mid new next over table tape stands fails rules are fed, (refl, refl)),
+        (rules_passed s c mid new next over table tape stages fails rules are fed, (refl, refl)),
       )

@@ -9,24 +9,24 @@ use Rattle.conn_state.specs.Step.{after_wrote}
 use Rattle.conn_table.specs.Slots.{slot_in}
 use Rattle.conn_table.specs.Table.{TableView, slot_of, with_state}
 use Rattle.conn_refinement.specs.Tables.{IsSameBut}
-use Rattle.cell_loop.specs.declared.loop_part.Stand.{Stand}
-use Rattle.cell_loop.specs.declared.loop_part.Stand.TheVariants.{Lean, Over}
+use Rattle.cell_loop.specs.declared.loop_part.CellStage.{CellStage}
+use Rattle.cell_loop.specs.declared.loop_part.CellStage.TheVariants.{Lean, Over}
 use Rattle.cell_loop.specs.declared.loop_part.LoopPart.{LoopPart}
 
 -- connection c stands so now, and each other one as it did
-pub record HasStand (c : ℕ) (stand : Stand) (old new : List Stand) : Type 0 where
+pub record HasStand (c : ℕ) (stage : CellStage) (old new : List CellStage) : Type 0 where
   pub count : length new ≡ length old
-  pub own : slice_index_or new c Lean ≡ stand
+  pub own : slice_index_or new c Lean ≡ stage
   pub others : (x : ℕ) → (c ≡ x → ⊥) → slice_index_or new x Lean ≡ slice_index_or old x Lean
 
 -- a connection that stands so, and is open, has a size that is admitted, or none
-abbrev pub HasSizeSo : Stand → Option ℕ → Type 0
-HasSizeSo Lean size = size ≡ None
-HasSizeSo (Over cause) size = ⊥
-HasSizeSo _ size = IsSome size
+abbrev pub StageHasSize : CellStage → Option ℕ → Type 0
+StageHasSize Lean size = size ≡ None
+StageHasSize (Over cause) size = ⊥
+StageHasSize _ size = IsSome size
 
 -- the cause of one that has ended
-abbrev pub end_told : Stand → List EndCause
+abbrev pub end_told : CellStage → List EndCause
 end_told (Over cause) = cause ∷ []
 end_told _ = []
 
@@ -35,7 +35,7 @@ pub record IsClosed (c : ℕ) (cause : EndCause) (old new : LoopPart) : Type 0 w
   pub table : IsSameBut c old.table new.table
   pub gone : slot_in c new.table.slots ≡ None
   pub fewer : suc (length new.table.slots) ≡ length old.table.slots
-  pub stands : new.stands.items ≡ slice_set old.stands.items c (Over cause)
+  pub stages : new.stages.items ≡ slice_set old.stages.items c (Over cause)
   pub tape : new.tape.items ≡ old.tape.items ++ Closed c ∷ []
   pub capacity : new.tape.capacity ≡ old.tape.capacity
   pub feeds : new.feeds ≡ old.feeds
@@ -46,7 +46,7 @@ pub record ClosesBehind (c : ℕ) (mark : Mark) (cause : EndCause) (old new : Lo
   pub table : IsSameBut c old.table new.table
   pub gone : slot_in c new.table.slots ≡ None
   pub fewer : suc (length new.table.slots) ≡ length old.table.slots
-  pub stands : new.stands.items ≡ slice_set old.stands.items c (Over cause)
+  pub stages : new.stages.items ≡ slice_set old.stages.items c (Over cause)
   pub tape : new.tape.items ≡ old.tape.items ++ mark ∷ Closed c ∷ []
   pub capacity : new.tape.capacity ≡ old.tape.capacity
   pub feeds : new.feeds ≡ old.feeds
@@ -56,7 +56,7 @@ pub record ClosesBehind (c : ℕ) (mark : Mark) (cause : EndCause) (old new : Lo
 pub record HasMoreRoom (old new : LoopPart) : Type 0 where
   pub table : new.table ≡ old.table
   pub tape : new.tape.items ≡ old.tape.items
-  pub stands : new.stands.items ≡ old.stands.items
+  pub stages : new.stages.items ≡ old.stages.items
   pub feeds : new.feeds ≡ old.feeds
   pub ends : new.ends.items ≡ old.ends.items
   pub for_marks : old.tape.capacity ≤ new.tape.capacity
@@ -66,5 +66,5 @@ pub record HasMoreRoom (old new : LoopPart) : Type 0 where
 pub record Writes (c count : ℕ) (old new : LoopPart) : Type 0 where
   pub table : new.table ≡ record old.table { slots = with_state c (record (slot_of c old.table.slots).conn { phase = after_wrote (drop count (left_to_write (slot_of c old.table.slots).conn.phase)) }) old.table.slots }
   pub tape : new.tape.items ≡ old.tape.items ++ Wrote c (take count (left_to_write (slot_of c old.table.slots).conn.phase)) ∷ []
-  pub stands : new.stands ≡ old.stands
+  pub stages : new.stages ≡ old.stages
   pub feeds : new.feeds ≡ old.feeds

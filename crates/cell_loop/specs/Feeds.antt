@@ -5,8 +5,8 @@ use Rattle.std.specs.Borrow.{Bor}
 use Rattle.script_model.specs.ScriptLines.{PlanRule, takes_most}
 use Rattle.script_model.specs.Playing.{InputFinish, finishes, faults, pieces_left}
 use Rattle.script_text.specs.Plans.{plain_rules}
-use Rattle.cell_loop.specs.declared.feed.Finish.{Finish}
-use Rattle.cell_loop.specs.declared.feed.Finish.TheVariants.{Ends, Fails}
+use Rattle.cell_loop.specs.declared.feed.InputEnd.{InputEnd}
+use Rattle.cell_loop.specs.declared.feed.InputEnd.TheVariants.{Ends, Fails}
 use Rattle.cell_loop.specs.declared.feed.Feed.{Feed}
 
 -- pieces that are lent
@@ -18,7 +18,7 @@ abbrev pub unread_of : Feed → List (List ℕ)
 unread_of feed = pieces_left feed.front.now (lent_pieces feed.later.items)
 
 -- what comes behind all pieces
-abbrev pub plain_finish : Finish → InputFinish
+abbrev pub plain_finish : InputEnd → InputFinish
 plain_finish Ends = finishes
 plain_finish Fails = faults
 

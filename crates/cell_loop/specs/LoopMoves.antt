@@ -9,8 +9,8 @@ use Rattle.machine_model.specs.HallState.{JobOutcome, key_of}
 use Rattle.machine_model.specs.HallRule.{job_of, outcome_of}
 use Rattle.machine_model.specs.Loop.{Loop}
 use Rattle.machine_model.specs.Machine.{MachineEvent, EventsLead, HaveAllEnded}
-use Rattle.cell_loop.specs.declared.loop_part.Stand.{Stand}
-use Rattle.cell_loop.specs.declared.loop_part.Stand.TheVariants.{Lean, Over}
+use Rattle.cell_loop.specs.declared.loop_part.CellStage.{CellStage}
+use Rattle.cell_loop.specs.declared.loop_part.CellStage.TheVariants.{Lean, Over}
 use Rattle.cell_loop.specs.declared.loop_part.LoopPart.{LoopPart}
 use Rattle.cell_loop.specs.Settings.{CellSetting, ServedCell, ServedPlay, desk_of_setting}
 use Rattle.cell_loop.specs.Moving.{Doing, GoesTo, GoesOrStays, one_of_conn, one_of_outcome}
@@ -61,7 +61,7 @@ TakesOutcome key settled old new =
     × (next.cell.hall ≡ record play.cell.hall { outcomes = later })) play
 
 -- a connection has ended, and is gone
-abbrev pub StandIsOver : Stand → Type 0
+abbrev pub StandIsOver : CellStage → Type 0
 StandIsOver (Over cause) = Unit {0}
 StandIsOver _ = ⊥
 
@@ -74,15 +74,15 @@ LoopLeads old new =
 -- Connection c has ended now, by a stop where it was open; and as many are known as before, of which those that had ended still have.
 pub record StopsOne (c : ℕ) (old new : LoopPart) : Type 0 where
   pub leads : LoopLeads old new
-  pub count : length new.stands.items ≡ length old.stands.items
-  pub over : StandIsOver (slice_index_or new.stands.items c Lean)
-  pub by_a_stop : (StandIsOver (slice_index_or old.stands.items c Lean) → ⊥) → slice_index_or new.stands.items c Lean ≡ Over Stopped
-  pub others : (x : ℕ) → StandIsOver (slice_index_or old.stands.items x Lean) → StandIsOver (slice_index_or new.stands.items x Lean)
+  pub count : length new.stages.items ≡ length old.stages.items
+  pub over : StandIsOver (slice_index_or new.stages.items c Lean)
+  pub by_a_stop : (StandIsOver (slice_index_or old.stages.items c Lean) → ⊥) → slice_index_or new.stages.items c Lean ≡ Over Stopped
+  pub others : (x : ℕ) → StandIsOver (slice_index_or old.stages.items x Lean) → StandIsOver (slice_index_or new.stages.items x Lean)
 
 -- Each connection that was opened has ended, by the cause at its number, and the table is empty.
 pub record AreAllOver (part : LoopPart) (causes : List EndCause) : Type 0 where
-  pub count : length causes ≡ length part.stands.items
-  pub each : (c : ℕ) (cause : EndCause) → slice_get causes c ≡ Some cause → slice_get part.stands.items c ≡ Some (Over cause)
+  pub count : length causes ≡ length part.stages.items
+  pub each : (c : ℕ) (cause : EndCause) → slice_get causes c ≡ Some cause → slice_get part.stages.items c ≡ Some (Over cause)
 
 -- A loop of the machine that has ended everywhere, and has this tape.
 pub record IsEndedLoop (part : LoopPart) (loop : Loop) : Type 0 where

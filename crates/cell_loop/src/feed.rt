@@ -12,7 +12,7 @@ use std::collections::VecDeque;
 
 /// What comes behind all pieces of a connection.
 #[derive(Clone, Copy)]
-pub enum Finish {
+pub enum InputEnd {
     /// Its input ends.
     Ends,
     /// A read fails.
@@ -27,7 +27,7 @@ pub struct Feed<'a> {
     /// The pieces behind it that have arrived, the oldest first; none is empty.
     pub later: VecDeque<&'a [u8]>,
     /// What comes behind all pieces, once its line was done.
-    pub finish: Option<Finish>,
+    pub finish: Option<InputEnd>,
     /// The rules that are left.
     pub rules: &'a [WriteRule],
 }

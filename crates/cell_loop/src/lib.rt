@@ -24,5 +24,5 @@ pub mod move_laws;
 mod reading;
 mod writing;
 
-pub use feed::{Feed, Finish};
-pub use loop_part::{LoopPart, Stand};
+pub use feed::{Feed, InputEnd};
+pub use loop_part::{LoopPart, CellStage};

@@ -9,13 +9,13 @@ ghost use Rattle.conn_state.specs.Step.{IsFromOutside};
 ghost use Rattle.conn_table.specs.Slots.{most_places, slot_in, with_added, without_number, HaveRisingNumbers};
 ghost use Rattle.conn_table.specs.Table.{slot_of, fresh_slot};
 ghost use Rattle.machine_model.specs.HallState.{key_of};
-ghost use Rattle.cell_loop.specs.declared.loop_part.Stand.TheVariants.{Lean, Whole, Asked, Over};
+ghost use Rattle.cell_loop.specs.declared.loop_part.CellStage.TheVariants.{Lean, Whole, Asked, Over};
 ghost use Rattle.cell_loop.specs.Moving.{one_of_conn};
 ghost use Rattle.cell_loop.specs.LoopTied.{HasRoomToClose};
 ghost use Rattle.script_text.specs.Plans.{plain_rules};
 ghost use Rattle.cell_loop.specs.Feeds.{AreFreshFeeds};
 ghost use Rattle.cell_loop.specs.Replies.{IsReplySome};
-ghost use Rattle.cell_loop.specs.Closing.{HasSizeSo, IsClosed, HasMoreRoom, end_told};
+ghost use Rattle.cell_loop.specs.Closing.{StageHasSize, IsClosed, HasMoreRoom, end_told};
 ghost use Rattle.cell_loop.specs.Moving.{one_opening};
 ghost use Rattle.cell_loop.specs.LoopMoves.{IsLoopUnderWay, StaysTied, LoopMoves, AnySetting, HasLongest, HandsOut, TakesOutcome, StopsOne, StopsAll, AreAllOver};
 
@@ -31,7 +31,7 @@ const ROOM: usize = 2_049;
 
 /// How a connection stands that was opened.
 #[derive(Clone, Copy)]
-pub enum Stand {
+pub enum CellStage {
     /// It is open, and no size is admitted: a size is read or waits, or a reply is written.
     Lean,
     /// Its size is admitted, and its payload is read.
@@ -52,7 +52,7 @@ pub struct LoopPart<'a> {
     /// What happened, the oldest first; there is room for two marks of each open connection.
     pub tape: TapeLog,
     /// How each connection stands that was opened, by number.
-    pub stands: Vec<Stand>,
+    pub stages: Vec<CellStage>,
     /// Empty, with room for a cause of each connection that was opened.
     pub ends: Vec<EndCause>,
     /// What the script gives each connection that it opens, by number.
@@ -68,25 +68,25 @@ impl<'a> LoopPart<'a> {
     ) -> Result<LoopPart<'a>, AllocError>
         ensures table { IfOk result (λ part. part.table ≡ record { budget = read_budget; slots = [] }) }
         ensures tape { IfOk result (λ part. part.tape.items ≡ []) }
-        ensures stands { IfOk result (λ part. (part.stands.items ≡ []) × (part.ends.items ≡ [])) }
+        ensures stages { IfOk result (λ part. (part.stages.items ≡ []) × (part.ends.items ≡ [])) }
         ensures feeds { IfOk result (λ part. AreFreshFeeds (map plain_rules rules.now) part.feeds.items) }
     {
         let feeds = fresh_feeds(alloc, rules)?;
         Ok(LoopPart {
             table: Table::new(alloc, read_budget)?,
             tape: TapeLog::new(alloc),
-            stands: Vec::new(alloc),
+            stages: Vec::new(alloc),
             ends: Vec::new(alloc),
             feeds,
         })
     }
 
     /// How a connection stands, if it was opened.
-    pub fn stand(&self, c: u32) -> Option<Stand>
-        ensures { result ≡ slice_get self.now.stands.items c }
+    pub fn stage(&self, c: u32) -> Option<CellStage>
+        ensures { result ≡ slice_get self.now.stages.items c }
     {
-        match self.stands.get(c as usize) {
-            Some(stand) => Some(*stand),
+        match self.stages.get(c as usize) {
+            Some(stage) => Some(*stage),
             None => None,
         }
     }
@@ -99,7 +99,7 @@ impl<'a> LoopPart<'a> {
         ensures more { self.old.tape.capacity ≤ self.new.tape.capacity }
         ensures ends { self.new.ends ≡ self.old.ends }
         ensures table { self.new.table ≡ self.old.table }
-        ensures stands { self.new.stands ≡ self.old.stands }
+        ensures stages { self.new.stages ≡ self.old.stages }
         ensures feeds { self.new.feeds ≡ self.old.feeds }
     {
         // The table tells how many connections may be open.
@@ -112,32 +112,32 @@ impl<'a> LoopPart<'a> {
         requires there { IsSome (slot_in c self.old.table.slots) }
         requires over { IsSome (cause_of (slot_of c self.old.table.slots).conn.phase) }
         requires given_back { (slot_of c self.old.table.slots).size ≡ None }
-        requires opened { c < length self.old.stands.items }
+        requires opened { c < length self.old.stages.items }
         requires room { length self.old.tape.items < self.old.tape.capacity }
         ensures table { self.new.table ≡ record self.old.table { slots = without_number c self.old.table.slots } }
         ensures gone { slot_in c self.new.table.slots ≡ None }
-        ensures stands { (cause : EndCause) → cause_of (slot_of c self.old.table.slots).conn.phase ≡ Some cause →
-            self.new.stands.items ≡ slice_set self.old.stands.items c (Over cause) }
+        ensures stages { (cause : EndCause) → cause_of (slot_of c self.old.table.slots).conn.phase ≡ Some cause →
+            self.new.stages.items ≡ slice_set self.old.stages.items c (Over cause) }
         ensures tape { self.new.tape.items ≡ self.old.tape.items ++ Closed c ∷ [] }
         ensures capacity { self.new.tape.capacity ≡ self.old.tape.capacity }
         ensures feeds { self.new.feeds ≡ self.old.feeds }
         ensures ends { self.new.ends ≡ self.old.ends }
     {
         let cause = self.table.remove(c);
-        self.stands[c as usize] = Stand::Over(cause);
+        self.stages[c as usize] = CellStage::Over(cause);
         self.tape.push(MarkAt::Closed(c));
     }
 
     /// Gives back the size of a connection that has ended, where one is admitted, and takes it out.
-    pub fn let_go(&mut self, c: u32)
+    pub fn release_and_close(&mut self, c: u32)
         requires there { IsSome (slot_in c self.old.table.slots) }
         requires over { IsSome (cause_of (slot_of c self.old.table.slots).conn.phase) }
-        requires size { HasSizeSo (slice_index_or self.old.stands.items c Lean) (slot_of c self.old.table.slots).size }
-        requires opened { c < length self.old.stands.items }
+        requires size { StageHasSize (slice_index_or self.old.stages.items c Lean) (slot_of c self.old.table.slots).size }
+        requires opened { c < length self.old.stages.items }
         requires room { length self.old.tape.items < self.old.tape.capacity }
         ensures closed { (cause : EndCause) → cause_of (slot_of c self.old.table.slots).conn.phase ≡ Some cause → IsClosed c cause self.old self.new }
     {
-        if let Stand::Lean = self.stands[c as usize] {
+        if let CellStage::Lean = self.stages[c as usize] {
             self.close(c);
             return;
         }
@@ -146,17 +146,17 @@ impl<'a> LoopPart<'a> {
     }
 
     /// Ends a connection for a cause that its bytes don't show, and takes it out.
-    pub fn give_up(&mut self, c: u32, cause: EndCause)
+    pub fn end(&mut self, c: u32, cause: EndCause)
         requires there { IsSome (slot_in c self.old.table.slots) }
         requires going { HasNotEnded (slot_of c self.old.table.slots).conn.phase }
         requires outside { IsFromOutside cause }
-        requires size { HasSizeSo (slice_index_or self.old.stands.items c Lean) (slot_of c self.old.table.slots).size }
-        requires opened { c < length self.old.stands.items }
+        requires size { StageHasSize (slice_index_or self.old.stages.items c Lean) (slot_of c self.old.table.slots).size }
+        requires opened { c < length self.old.stages.items }
         requires room { length self.old.tape.items < self.old.tape.capacity }
         ensures closed { IsClosed c cause self.old self.new }
     {
         self.table.end(c, cause);
-        self.let_go(c);
+        self.release_and_close(c);
     }
 
     /// Opens the next connection, where one more may be open.
@@ -184,10 +184,10 @@ impl<'a> LoopPart<'a> {
         ensures feeds { self.new.feeds ≡ self.old.feeds }
         ensures room { HasRoomToClose self.new }
     {
-        let Ok(c) = u32::try_from(self.stands.len()) else {
+        let Ok(c) = u32::try_from(self.stages.len()) else {
             return Err(AllocError);
         };
-        if self.stands.len() == self.feeds.len() {
+        if self.stages.len() == self.feeds.len() {
             return Err(AllocError);
         }
         self.make_way()?;
@@ -199,49 +199,49 @@ impl<'a> LoopPart<'a> {
     fn make_way(&mut self) -> Result<(), AllocError>
         ensures more { HasMoreRoom self.old self.new }
         ensures for_mark { OnOk result (length self.new.tape.items + (1 + 2 * most_places) ≤ self.new.tape.capacity) }
-        ensures for_stand { OnOk result (length self.new.stands.items < vec_capacity self.new.stands) }
-        ensures for_cause { OnOk result (length self.new.stands.items < vec_capacity self.new.ends) }
+        ensures for_stand { OnOk result (length self.new.stages.items < vec_capacity self.new.stages) }
+        ensures for_cause { OnOk result (length self.new.stages.items < vec_capacity self.new.ends) }
     {
-        self.ends.reserve(self.stands.len() + 1)?;
-        self.stands.reserve(1)?;
+        self.ends.reserve(self.stages.len() + 1)?;
+        self.stages.reserve(1)?;
         self.make_room()
     }
 
     /// Adds the next connection, which is opened.
     fn add(&mut self, c: u32)
         requires fits { length self.old.table.slots < most_places }
-        requires next { length self.old.stands.items ≡ c }
+        requires next { length self.old.stages.items ≡ c }
         requires vacant { slot_in c self.old.table.slots ≡ None }
         requires for_mark { length self.old.tape.items < self.old.tape.capacity }
-        requires for_stand { length self.old.stands.items < vec_capacity self.old.stands }
+        requires for_stand { length self.old.stages.items < vec_capacity self.old.stages }
         ensures table { self.new.table ≡ record self.old.table { slots = with_added (fresh_slot c) self.old.table.slots } }
         ensures tape { self.new.tape.items ≡ self.old.tape.items ++ Opened c ∷ [] }
         ensures capacity { self.new.tape.capacity ≡ self.old.tape.capacity }
-        ensures stands { self.new.stands.items ≡ self.old.stands.items ++ Lean ∷ [] }
+        ensures stages { self.new.stages.items ≡ self.old.stages.items ++ Lean ∷ [] }
         ensures feeds { self.new.feeds ≡ self.old.feeds }
         ensures ends { self.new.ends ≡ self.old.ends }
     {
         self.tape.push(MarkAt::Opened(c));
-        self.stands.push_reserved(Stand::Lean);
+        self.stages.push_reserved(CellStage::Lean);
         self.table.add(c);
     }
 
     /// Hands out the payload that is whole, and the number of its frame.
-    pub fn hand_out(&mut self, c: u32) -> (u64, Vec<u8>)
+    pub fn give(&mut self, c: u32) -> (u64, Vec<u8>)
         requires under_way { IsLoopUnderWay self.old }
-        requires whole { slice_get self.old.stands.items c ≡ Some Whole }
+        requires whole { slice_get self.old.stages.items c ≡ Some Whole }
         ensures handed { HandsOut c result.0 result.1.items self.old self.new }
         ensures feeds { length self.new.feeds.items ≡ length self.old.feeds.items }
         ensures room { HasRoomToClose self.new }
     {
-        self.stands[c as usize] = Stand::Asked;
+        self.stages[c as usize] = CellStage::Asked;
         self.table.give(c)
     }
 
     /// One move of a connection of which no size is admitted: a write, an admission, or a read.
     pub fn lean_move(&mut self, alloc: Global, c: u32, max_frame: u32) -> Result<bool, AllocError>
         requires under_way { IsLoopUnderWay self.old }
-        requires lean { slice_get self.old.stands.items c ≡ Some Lean }
+        requires lean { slice_get self.old.stages.items c ≡ Some Lean }
         requires small { max_frame ≤ 268435456 }
         ensures moved { IfOk result (λ moved. LoopMoves (HasLongest max_frame) (λ s. one_of_conn s c) self.old moved self.new) }
         ensures err { OnErr result (StaysTied self.old self.new) }
@@ -261,7 +261,7 @@ impl<'a> LoopPart<'a> {
     /// Takes the outcome of the payload that was submitted.
     pub fn settle(&mut self, c: u32, settled: Settled)
         requires under_way { IsLoopUnderWay self.old }
-        requires asked { slice_get self.old.stands.items c ≡ Some Asked }
+        requires asked { slice_get self.old.stages.items c ≡ Some Asked }
         requires some { IsReplySome settled }
         ensures taken { (i : ℕ) → TakesOutcome (key_of c i) settled self.old self.new }
         ensures feeds { length self.new.feeds.items ≡ length self.old.feeds.items }
@@ -273,7 +273,7 @@ impl<'a> LoopPart<'a> {
             self.close(c);
             return;
         }
-        self.stands[c as usize] = Stand::Lean;
+        self.stages[c as usize] = CellStage::Lean;
     }
 
     /// Ends each connection that is open, since the host stops.
@@ -282,7 +282,7 @@ impl<'a> LoopPart<'a> {
         ensures stopped { StopsAll self.old self.new }
         ensures room { HasRoomToClose self.new }
     {
-        for c in 0..self.stands.len() {
+        for c in 0..self.stages.len() {
             self.stop(c as u32);
         }
     }
@@ -290,27 +290,27 @@ impl<'a> LoopPart<'a> {
     /// Tells by what each connection ended.
     pub fn tell_ends(&mut self)
         requires none_yet { self.old.ends.items ≡ [] }
-        requires room { length self.old.stands.items ≤ vec_capacity self.old.ends }
+        requires room { length self.old.stages.items ≤ vec_capacity self.old.ends }
         ensures ends { (causes : List EndCause) → AreAllOver self.old causes → self.new.ends.items ≡ causes }
         ensures tape { self.new.tape.items ≡ self.old.tape.items }
-        ensures stands { self.new.stands ≡ self.old.stands }
+        ensures stages { self.new.stages ≡ self.old.stages }
     {
-        for c in 0..self.stands.len() {
+        for c in 0..self.stages.len() {
             self.tell_end(c);
         }
     }
 
     /// Tells by what a connection has ended, where it has.
     fn tell_end(&mut self, c: usize)
-        requires known { c < length self.old.stands.items }
+        requires known { c < length self.old.stages.items }
         requires room { length self.old.ends.items < vec_capacity self.old.ends }
-        ensures ends { self.new.ends.items ≡ self.old.ends.items ++ end_told (slice_index_or self.old.stands.items c Lean) }
+        ensures ends { self.new.ends.items ≡ self.old.ends.items ++ end_told (slice_index_or self.old.stages.items c Lean) }
         ensures capacity { vec_capacity self.new.ends ≡ vec_capacity self.old.ends }
         ensures tape { self.new.tape ≡ self.old.tape }
-        ensures stands { self.new.stands ≡ self.old.stands }
+        ensures stages { self.new.stages ≡ self.old.stages }
     {
-        match self.stands[c] {
-            Stand::Over(cause) => self.ends.push_reserved(cause),
+        match self.stages[c] {
+            CellStage::Over(cause) => self.ends.push_reserved(cause),
             _ => {}
         }
     }
@@ -318,14 +318,14 @@ impl<'a> LoopPart<'a> {
     /// Ends a connection that is open, since the host stops.
     fn stop(&mut self, c: u32)
         requires under_way { IsLoopUnderWay self.old }
-        requires opened { c < length self.old.stands.items }
+        requires opened { c < length self.old.stages.items }
         ensures stopped { StopsOne c self.old self.new }
         ensures room { HasRoomToClose self.new }
     {
-        if let Stand::Over(_) = self.stands[c as usize] {
+        if let CellStage::Over(_) = self.stages[c as usize] {
             return;
         }
-        self.give_up(c, EndCause::Stopped);
+        self.end(c, EndCause::Stopped);
     }
 }
 

@@ -7,14 +7,14 @@ ghost use Rattle.conn_state.specs.Phase.{wanted, IsHeld};
 ghost use Rattle.conn_table.specs.Slots.{slot_in};
 ghost use Rattle.conn_table.specs.Table.{slot_of};
 ghost use Rattle.script_model.specs.Playing.{pieces_left};
-ghost use Rattle.cell_loop.specs.declared.loop_part.Stand.TheVariants.{Lean};
+ghost use Rattle.cell_loop.specs.declared.loop_part.CellStage.TheVariants.{Lean};
 ghost use Rattle.cell_loop.specs.Moving.{one_of_conn};
 ghost use Rattle.cell_loop.specs.Feeds.{unread_in, finish_in, rules_in, front_in, later_in, HasSomePieces, HasFeed};
-ghost use Rattle.cell_loop.specs.LoopTied.{HasRoomToClose, ReadsOn};
+ghost use Rattle.cell_loop.specs.LoopTied.{HasRoomToClose, IsReadingAt};
 ghost use Rattle.cell_loop.specs.LoopMoves.{IsLoopUnderWay, StaysTied, LoopMoves, AnySetting, HasLongest};
 
-use crate::feed::Finish;
-use crate::loop_part::{LoopPart, Stand};
+use crate::feed::InputEnd;
+use crate::loop_part::{LoopPart, CellStage};
 use conn_state::EndCause;
 use outside::MarkAt;
 use std::alloc::{AllocError, Global};
@@ -26,7 +26,7 @@ impl<'a> LoopPart<'a> {
     /// One read of the oldest piece, or of what comes behind all pieces, where something does.
     pub fn read(&mut self, c: u32, max_frame: u32) -> Result<bool, AllocError>
         requires under_way { IsLoopUnderWay self.old }
-        requires reads { ReadsOn c self.old }
+        requires reads { IsReadingAt c self.old }
         requires fed { c < length self.old.feeds.items }
         requires small { max_frame ≤ 268435456 }
         ensures moved { IfOk result (λ moved. LoopMoves (HasLongest max_frame) (λ s. one_of_conn s c) self.old moved self.new) }
@@ -51,7 +51,7 @@ impl<'a> LoopPart<'a> {
             self.old.feeds.items self.new.feeds.items }
         ensures table { self.new.table ≡ self.old.table }
         ensures tape { self.new.tape ≡ self.old.tape }
-        ensures stands { self.new.stands ≡ self.old.stands }
+        ensures stages { self.new.stages ≡ self.old.stages }
         ensures ends { self.new.ends ≡ self.old.ends }
     {
         !self.feeds[c as usize].oldest().is_empty()
@@ -60,7 +60,7 @@ impl<'a> LoopPart<'a> {
     /// Reads what is asked for of the piece under way, as far as it goes.
     fn read_piece(&mut self, c: u32, max_frame: u32) -> Result<(), AllocError>
         requires under_way { IsLoopUnderWay self.old }
-        requires reads { ReadsOn c self.old }
+        requires reads { IsReadingAt c self.old }
         requires some { 0 < length (front_in self.old.feeds.items c) }
         requires small { max_frame ≤ 268435456 }
         ensures moved { OnOk result (LoopMoves (HasLongest max_frame) (λ s. one_of_conn s c) self.old true self.new) }
@@ -93,7 +93,7 @@ impl<'a> LoopPart<'a> {
     /// Takes in the bytes that are read.
     fn take_in(&mut self, c: u32, bytes: &[u8], max_frame: u32)
         requires under_way { IsLoopUnderWay self.old }
-        requires reads { ReadsOn c self.old }
+        requires reads { IsReadingAt c self.old }
         requires some { 0 < length (front_in self.old.feeds.items c) }
         requires small { max_frame ≤ 268435456 }
         requires front { bytes.now ≡ take (min (wanted (slot_of c self.old.table.slots).conn.phase) (length (front_in self.old.feeds.items c)))
@@ -114,7 +114,7 @@ impl<'a> LoopPart<'a> {
             return;
         }
         if self.table.conn(c).frames() > frames {
-            self.stands[c as usize] = Stand::Whole;
+            self.stages[c as usize] = CellStage::Whole;
             return;
         }
     }
@@ -128,7 +128,7 @@ impl<'a> LoopPart<'a> {
             (rules_in self.old.feeds.items c) self.old.feeds.items self.new.feeds.items }
         ensures table { self.new.table ≡ self.old.table }
         ensures tape { self.new.tape ≡ self.old.tape }
-        ensures stands { self.new.stands ≡ self.old.stands }
+        ensures stages { self.new.stages ≡ self.old.stages }
         ensures ends { self.new.ends ≡ self.old.ends }
     {
         self.feeds[c as usize].read(count);
@@ -137,7 +137,7 @@ impl<'a> LoopPart<'a> {
     /// The end of the input, or a read that fails, where it is known which.
     fn read_behind(&mut self, c: u32) -> bool
         requires under_way { IsLoopUnderWay self.old }
-        requires reads { ReadsOn c self.old }
+        requires reads { IsReadingAt c self.old }
         requires fed { c < length self.old.feeds.items }
         requires none { unread_in self.old.feeds.items c ≡ [] }
         ensures moved { LoopMoves AnySetting (λ s. one_of_conn s c) self.old result self.new }
@@ -146,15 +146,15 @@ impl<'a> LoopPart<'a> {
     {
         match self.feeds[c as usize].finish {
             None => false,
-            Some(Finish::Ends) => {
+            Some(InputEnd::Ends) => {
                 self.table.end_of_input(c);
                 self.tape.push(MarkAt::Ended(c));
-                self.let_go(c);
+                self.release_and_close(c);
                 true
             }
-            Some(Finish::Fails) => {
+            Some(InputEnd::Fails) => {
                 self.tape.push(MarkAt::ReadFailed(c));
-                self.give_up(c, EndCause::ReadFault);
+                self.end(c, EndCause::ReadFault);
                 true
             }
         }
@@ -163,7 +163,7 @@ impl<'a> LoopPart<'a> {
     /// Admits the frame that waits, where the budget has room; without memory for it the connection ends.
     pub fn admit(&mut self, alloc: Global, c: u32) -> bool
         requires under_way { IsLoopUnderWay self.old }
-        requires lean { slice_get self.old.stands.items c ≡ Some Lean }
+        requires lean { slice_get self.old.stages.items c ≡ Some Lean }
         requires held { IsHeld (slot_of c self.old.table.slots).conn.phase }
         ensures moved { LoopMoves AnySetting (λ s. one_of_conn s c) self.old result self.new }
         ensures feeds { length self.new.feeds.items ≡ length self.old.feeds.items }
@@ -173,12 +173,12 @@ impl<'a> LoopPart<'a> {
         let _ = self.table.full();
         match self.table.admit(alloc, c) {
             Ok(true) => {
-                self.stands[c as usize] = Stand::Framed;
+                self.stages[c as usize] = CellStage::Framed;
                 true
             }
             Ok(false) => false,
             Err(_) => {
-                self.give_up(c, EndCause::NoMemory);
+                self.end(c, EndCause::NoMemory);
                 true
             }
         }

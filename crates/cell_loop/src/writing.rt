@@ -7,7 +7,7 @@ ghost use Rattle.outside.specs.declared.marks.Mark.TheVariants.{WriteFailed};
 ghost use Rattle.conn_state.specs.Phase.{left_to_write, HasNotEnded};
 ghost use Rattle.conn_table.specs.Slots.{slot_in};
 ghost use Rattle.conn_table.specs.Table.{slot_of};
-ghost use Rattle.cell_loop.specs.declared.loop_part.Stand.TheVariants.{Lean};
+ghost use Rattle.cell_loop.specs.declared.loop_part.CellStage.TheVariants.{Lean};
 ghost use Rattle.cell_loop.specs.Moving.{one_of_conn};
 ghost use Rattle.cell_loop.specs.Feeds.{unread_in, finish_in, rules_in, HasSomePieces, HasFeed};
 ghost use Rattle.cell_loop.specs.LoopTied.{HasRoomToClose};
@@ -24,7 +24,7 @@ impl<'a> LoopPart<'a> {
     /// One write of a reply that is left, by the next rule.
     pub fn write(&mut self, c: u32) -> Result<(), AllocError>
         requires under_way { IsLoopUnderWay self.old }
-        requires lean { slice_get self.old.stands.items c ≡ Some Lean }
+        requires lean { slice_get self.old.stages.items c ≡ Some Lean }
         requires left { 0 < length (left_to_write (slot_of c self.old.table.slots).conn.phase) }
         requires fed { c < length self.old.feeds.items }
         ensures moved { OnOk result (LoopMoves AnySetting (λ s. one_of_conn s c) self.old true self.new) }
@@ -78,14 +78,14 @@ impl<'a> LoopPart<'a> {
     fn fail_write(&mut self, c: u32)
         requires there { IsSome (slot_in c self.old.table.slots) }
         requires going { HasNotEnded (slot_of c self.old.table.slots).conn.phase }
-        requires lean { slice_get self.old.stands.items c ≡ Some Lean }
+        requires lean { slice_get self.old.stages.items c ≡ Some Lean }
         requires none { (slot_of c self.old.table.slots).size ≡ None }
         requires room { HasRoomToClose self.old }
         ensures closed { ClosesBehind c (WriteFailed c) WriteFault self.old self.new }
         ensures room { HasRoomToClose self.new }
     {
         self.tape.push(MarkAt::WriteFailed(c));
-        self.give_up(c, EndCause::WriteFault);
+        self.end(c, EndCause::WriteFault);
     }
 
     /// The next rule of a connection is used up, where one is left.
@@ -95,7 +95,7 @@ impl<'a> LoopPart<'a> {
         ensures fed { HasFeed c (unread_in self.old.feeds.items c) (finish_in self.old.feeds.items c) (drop 1 (rules_in self.old.feeds.items c)) self.old.feeds.items self.new.feeds.items }
         ensures table { self.new.table ≡ self.old.table }
         ensures tape { self.new.tape ≡ self.old.tape }
-        ensures stands { self.new.stands ≡ self.old.stands }
+        ensures stages { self.new.stages ≡ self.old.stages }
         ensures ends { self.new.ends ≡ self.old.ends }
     {
         self.feeds[c as usize].pass_rule();

@@ -10,7 +10,7 @@ use Rattle.check_model.specs.Evaluation.{given_worth}
 use Rattle.check_model.specs.Passes.{Pass, dotted_name, duplicate_name, unknown_type, typedef_cycle, field_id, duplicate_id, enum_number, service_cycle, duplicate_function, oneway_not_void, oneway_throws, not_exception, struct_loop, bad_constant, HasConstFlaw}
 use Rattle.check_model.specs.FirstFlaw.{of_value, ProgramFlaw, IsValueFlaw, IsAtFault, IsClearAt, FindsNothing, IsFirstOf, IsFirstFlaw, HasNoFlaw}
 use Rattle.idl_include.specs.Loading.{Loaded, loaded, stopped}
-use Rattle.check_model.specs.ProgramSchema.{ProgramVerdict, accepted_as, not_loaded, at_fault, IsVerdictOn}
+use Rattle.check_model.specs.ProgramSchema.{ProgramVerdict, accepted_as, not_loaded, at_fault, IsVerdictOfLoaded}
 use Rattle.check_model.proofs.FirstOnes.{somes, first_is_one, holds_at_split}
 use Rattle.check_model.proofs.Meanings.{one_meaning}
 use Rattle.check_model.proofs.OneSchema.{one_partial, one_schema}
@@ -102,7 +102,7 @@ no_flaw_beside program f none p =
     nothing_first program p.pass f (holds_at_split (FindsNothing program) p.earlier p.pass p.later (subst P p.split none)) p.first
 
 -- what loading comes to has one verdict at most
-pub one_verdict_on : (l : Loaded) (v w : ProgramVerdict) → IsVerdictOn l v → IsVerdictOn l w → v ≡ w
+pub one_verdict_on : (l : Loaded) (v w : ProgramVerdict) → IsVerdictOfLoaded l v → IsVerdictOfLoaded l w → v ≡ w
 one_verdict_on (loaded program) (accepted_as a) (accepted_as b) p q = ap accepted_as (one_schema program a b p q)
 one_verdict_on (loaded program) (accepted_as a) (at_fault g) p q = absurd (no_flaw_beside program g p.faultless q)
 one_verdict_on (loaded program) (accepted_as a) (not_loaded g) p q = absurd q

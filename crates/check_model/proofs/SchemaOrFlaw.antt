@@ -19,7 +19,7 @@ use Rattle.check_model.specs.Evaluation.{Setting, given_worth}
 use Rattle.check_model.specs.SchemaParts.{IsPartialSchema}
 use Rattle.check_model.specs.Passes.{Pass, dotted_name, duplicate_name, unknown_type, typedef_cycle, field_id, duplicate_id, enum_number, service_cycle, duplicate_function, oneway_not_void, oneway_throws, not_exception, struct_loop, bad_constant, passes, place_shown}
 use Rattle.check_model.specs.FirstFlaw.{found_by, of_value, ProgramFlaw, IsValueFlaw, IsClearAt, FindsNothing, IsFirstOf, IsFirstFlaw, HasNoFlaw}
-use Rattle.check_model.specs.ProgramSchema.{HasWorth, IsDefault, DefaultIn, IsConstantOf, IsSchemaOf, ProgramVerdict, accepted_as, not_loaded, at_fault, IsVerdictOn}
+use Rattle.check_model.specs.ProgramSchema.{HasWorth, IsDefault, DefaultIn, IsConstantOf, IsSchemaOf, ProgramVerdict, accepted_as, not_loaded, at_fault, IsVerdictOfLoaded}
 use Rattle.check_model.proofs.FirstOnes.{somes, none_some}
 use Rattle.check_model.proofs.Meanings.{one_meaning}
 use Rattle.check_model.proofs.OneSchema.{one_partial}
@@ -182,12 +182,12 @@ schema_or_flaw leads on program =
     pass_by program (dotted_name ∷ duplicate_name ∷ unknown_type ∷ typedef_cycle ∷ field_id ∷ duplicate_id ∷ enum_number ∷ service_cycle ∷ duplicate_function ∷ oneway_not_void ∷ oneway_throws ∷ not_exception ∷ struct_loop ∷ []) bad_constant ([]) refl (n0, (n1, (n2, (n3, (n4, (n5, (n6, (n7, (n8, (n9, (n10, (n11, (n12, tt))))))))))))) (searched program bad_constant (λ s. value_judged program leads on n2 n3 s.file s.shows)) (λ n13.
     inl (whole_schema program leads on n2 n3 n13 (n0, (n1, (n2, (n3, (n4, (n5, (n6, (n7, (n8, (n9, (n10, (n11, (n12, (n13, tt)))))))))))))))))))))))))))))
 
-verdict_by : (program : Program) → Schemed program ⊎ Flawed program → (v : ProgramVerdict) × IsVerdictOn (loaded program) v
+verdict_by : (program : Program) → Schemed program ⊎ Flawed program → (v : ProgramVerdict) × IsVerdictOfLoaded (loaded program) v
 verdict_by program (inl h) = (accepted_as h.0, h.1)
 verdict_by program (inr h) = (at_fault h.0, h.1)
 
 -- what loading comes to has a verdict
 pub some_verdict : (leads : (graph : Graph) (a b : ℕ) → Told (LeadsTo graph a b))
-    (on : (graph : Graph) (a m b : ℕ) → LeadsTo graph a m → LeadsTo graph m b → LeadsTo graph a b) (l : Loaded) → (v : ProgramVerdict) × IsVerdictOn l v
+    (on : (graph : Graph) (a m b : ℕ) → LeadsTo graph a m → LeadsTo graph m b → LeadsTo graph a b) (l : Loaded) → (v : ProgramVerdict) × IsVerdictOfLoaded l v
 some_verdict leads on (loaded program) = verdict_by program (schema_or_flaw leads on program)
 some_verdict leads on (stopped flaw) = (not_loaded flaw, refl)

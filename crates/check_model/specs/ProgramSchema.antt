@@ -59,12 +59,12 @@ pub data ProgramVerdict : Type 0 where
   at_fault : ProgramFlaw → ProgramVerdict
 
 -- the verdict on what loading comes to
-abbrev pub IsVerdictOn : Loaded → ProgramVerdict → Type 0
-IsVerdictOn (loaded program) (accepted_as schema) = IsSchemaOf program schema
-IsVerdictOn (loaded program) (at_fault flaw) = IsFirstFlaw program flaw
-IsVerdictOn (stopped flaw) (not_loaded other) = other ≡ flaw
-IsVerdictOn _ _ = ⊥
+abbrev pub IsVerdictOfLoaded : Loaded → ProgramVerdict → Type 0
+IsVerdictOfLoaded (loaded program) (accepted_as schema) = IsSchemaOf program schema
+IsVerdictOfLoaded (loaded program) (at_fault flaw) = IsFirstFlaw program flaw
+IsVerdictOfLoaded (stopped flaw) (not_loaded other) = other ≡ flaw
+IsVerdictOfLoaded _ _ = ⊥
 
 -- The verdict on the program of a main file among files.
 abbrev pub IsProgramVerdict : List File → List ℕ → ProgramVerdict → Type 0
-IsProgramVerdict files main verdict = (reader : List ℕ → FileReading) × IsReaderOf files reader × IsVerdictOn (program_of reader main) verdict
+IsProgramVerdict files main verdict = (reader : List ℕ → FileReading) × IsReaderOf files reader × IsVerdictOfLoaded (program_of reader main) verdict

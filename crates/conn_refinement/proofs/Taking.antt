@@ -13,7 +13,7 @@ use Rattle.conn_state.specs.Step.{after_size, after_took}
 use Rattle.conn_state.proofs.Lists.{bytes_append}
 use Rattle.machine_model.specs.Loop.{LoopConn, FrameProgress, part, bad_size, whole, read_more}
 use Rattle.machine_model.specs.Plain.{when, are_same, is_size, is_whole, is_bad_size, progress_behind, progress_by}
-use Rattle.conn_refinement.specs.Progress.{GoesOnFrom, MadeSo}
+use Rattle.conn_refinement.specs.Progress.{GoesOnFrom, MakesPhase}
 use Rattle.conn_refinement.specs.Phases.{HasAllCollected, PhaseTells, IsOpenTied, IsFraming, IsLean}
 
 -- bytes are the same as themselves
@@ -99,7 +99,7 @@ module _ (max frames : ℕ) (conn : LoopConn) (front bytes : List ℕ) (small : 
 
   -- a size of 0 or above, by its test
   by_range : (n : ℕ) (b : Bool) → n < 2 ^ 32 → to_be_bytes w32 n ≡ front ++ bytes → cast_signed w32 n ≡ pos n → (nat_le 1 n && nat_le n max) ≡ b
-      → MadeSo max conn bytes (sizing front) frames (if b then held n else ended (SizeFault (pos n)))
+      → MakesPhase max conn bytes (sizing front) frames (if b then held n else ended (SizeFault (pos n)))
   by_range n true fits spelled signed test =
       let parts : (nat_le 1 n ≡ true) × (nat_le n max ≡ true) = and_parts (nat_le 1 n) (nat_le n max) test in
       let some : 1 ≤ n = leb-true 1 n parts.0 in
@@ -116,10 +116,10 @@ module _ (max frames : ℕ) (conn : LoopConn) (front bytes : List ℕ) (small : 
       out (inr e) = inr (omega (arith, leb-false n max e))
 
   -- a whole size, as two's complement
-  by_sign : (n : ℕ) (z : ℤ) → n < 2 ^ 32 → to_be_bytes w32 n ≡ front ++ bytes → cast_signed w32 n ≡ z → MadeSo max conn bytes (sizing front) frames (after_size max z)
+  by_sign : (n : ℕ) (z : ℤ) → n < 2 ^ 32 → to_be_bytes w32 n ≡ front ++ bytes → cast_signed w32 n ≡ z → MakesPhase max conn bytes (sizing front) frames (after_size max z)
   by_sign n (pos k) fits spelled is =
       let same : n ≡ k = sym (of_z-to_z w32 n fits) ∙ ap (cast_unsigned w32) is in
-      subst (λ m. MadeSo max conn bytes (sizing front) frames (after_size max (pos m))) same
+      subst (λ m. MakesPhase max conn bytes (sizing front) frames (after_size max (pos m))) same
       (by_range n (nat_le 1 n && nat_le n max) fits spelled (is ∙ ap pos (sym same)) refl)
   by_sign n (negsuc k) fits spelled is =
       let same : n ≡ cast_unsigned w32 (negsuc k) = sym (of_z-to_z w32 n fits) ∙ ap (cast_unsigned w32) is in
@@ -129,7 +129,7 @@ module _ (max frames : ℕ) (conn : LoopConn) (front bytes : List ℕ) (small : 
 
   -- the bytes of a size, by whether all of them are there
   pub by_count : (b : Bool) → length (front ++ bytes) ≤ 4 → nat_lt (length (front ++ bytes)) 4 ≡ b
-      → MadeSo max conn bytes (sizing front) frames (if b then sizing (front ++ bytes) else after_size max (cast_signed w32 (from_be_bytes w32 (front ++ bytes))))
+      → MakesPhase max conn bytes (sizing front) frames (if b then sizing (front ++ bytes) else after_size max (cast_signed w32 (from_be_bytes w32 (front ++ bytes))))
   by_count true most test =
       let few : length (front ++ bytes) < 4 = ltb-true (length (front ++ bytes)) 4 test in (
         tt,
@@ -156,7 +156,7 @@ module _ (max frames size : ℕ) (conn : LoopConn) (front bytes : List ℕ) (fit
   -- the bytes of a payload, by whether all of them are there
   pub by_rest : (b : Bool) → length (front ++ bytes) ≤ size → nat_lt (length (front ++ bytes)) size ≡ b
       → (let view : ConnView = if b then record { frames = frames; phase = framing size (front ++ bytes) } else record { frames = frames + 1; phase = ready frames (front ++ bytes) } in
-      MadeSo max conn bytes (framing size front) view.frames view.phase)
+      MakesPhase max conn bytes (framing size front) view.frames view.phase)
   by_rest true most test =
       let few : length (front ++ bytes) < size = ltb-true (length (front ++ bytes)) size test in (
         tt,
@@ -186,11 +186,11 @@ module _ (max frames size : ℕ) (conn : LoopConn) (front bytes : List ℕ) (fit
 
 -- what is read is as much as is asked for at most, and makes the same on both sides
 pub took_is_read : (max : ℕ) (view : ConnView) (conn : LoopConn) (bytes : List ℕ) → max ≤ 268435456 → IsReading view.phase → IsOpenTied max view conn → length bytes ≤ wanted view.phase
-    → EachIsByte bytes → MadeSo max conn bytes view.phase (after_took max view bytes).frames (after_took max view bytes).phase
+    → EachIsByte bytes → MakesPhase max conn bytes view.phase (after_took max view bytes).frames (after_took max view bytes).phase
 took_is_read max view conn bytes small reading tied most are = go view.phase view.frames reading tied.counted tied.tells most
   where
     go : (phase : Phase) (frames : ℕ) → IsReading phase → frames ≡ length conn.payloads → PhaseTells max phase conn → length bytes ≤ wanted phase
-        → MadeSo max conn bytes phase (after_took max (record { frames = frames; phase = phase }) bytes).frames (after_took max (record { frames = frames; phase = phase }) bytes).phase
+        → MakesPhase max conn bytes phase (after_took max (record { frames = frames; phase = phase }) bytes).frames (after_took max (record { frames = frames; phase = phase }) bytes).phase
     go (sizing front) frames reading counted tells most =
         let joined : length (front ++ bytes) ≡ length front + length bytes = length-append front bytes in
         let few : length front < 4 = tells.2 in

@@ -13,10 +13,10 @@ GoesOnFrom (framing size bytes) new = IsFraming new
 GoesOnFrom _ new = ⊥
 
 -- a phase after a read, with so many frames, is that of the connection that has made the same progress
-abbrev pub MadeSo : ℕ → LoopConn → List ℕ → Phase → ℕ → Phase → Type 0
-MadeSo max conn bytes old frames (ready number payload) =
+abbrev pub MakesPhase : ℕ → LoopConn → List ℕ → Phase → ℕ → Phase → Type 0
+MakesPhase max conn bytes old frames (ready number payload) =
     IsFraming old × (progress_by max (conn.held ++ bytes) ≡ Some (whole payload))
     × IsOpenTied max (record { frames = frames; phase = ready number payload }) (read_more conn bytes (whole payload))
-MadeSo max conn bytes old frames (ended cause) = (z : ℤ) × IsLean old × (cause ≡ SizeFault z) × (progress_by max (conn.held ++ bytes) ≡ Some (bad_size z))
-MadeSo max conn bytes old frames phase =
+MakesPhase max conn bytes old frames (ended cause) = (z : ℤ) × IsLean old × (cause ≡ SizeFault z) × (progress_by max (conn.held ++ bytes) ≡ Some (bad_size z))
+MakesPhase max conn bytes old frames phase =
     GoesOnFrom old phase × (progress_by max (conn.held ++ bytes) ≡ Some part) × IsOpenTied max (record { frames = frames; phase = phase }) (read_more conn bytes part)

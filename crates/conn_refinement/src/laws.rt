@@ -11,13 +11,13 @@ ghost use Rattle.machine_model.specs.Loop.{LoopConn};
 ghost use Rattle.machine_model.specs.AtFronts.{summed};
 ghost use Rattle.conn_refinement.specs.Phases.{IsOpenTied};
 ghost use Rattle.conn_refinement.specs.Tables.{IsSameBut};
-ghost use Rattle.conn_refinement.specs.Progress.{MadeSo};
+ghost use Rattle.conn_refinement.specs.Progress.{MakesPhase};
 ghost use Rattle.conn_refinement.specs.Weights.{weight_of, table_weight};
 
 /// As much as is asked for makes the same progress of a connection's state and of the machine's connection.
 pub fn reads_make_the_same()
     ensures { (max : ℕ) (view : ConnView) (conn : LoopConn) (bytes : List ℕ) → max ≤ 268435456 → IsReading view.phase → IsOpenTied max view conn →
-        length bytes ≤ wanted view.phase → EachIsByte bytes → MadeSo max conn bytes view.phase (after_took max view bytes).frames (after_took max view bytes).phase }
+        length bytes ≤ wanted view.phase → EachIsByte bytes → MakesPhase max conn bytes view.phase (after_took max view bytes).frames (after_took max view bytes).phase }
 {}
 
 /// What a table keeps under rising numbers adds up to the numbers of its connections; and a state that is put leaves the other connections.

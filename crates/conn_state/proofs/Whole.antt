@@ -3,7 +3,7 @@ use Rattle.std.proofs.Common.{◌≡◌, ℕ, ◌<◌, ◌^◌, List, [], ◌∷
 use Rattle.std.proofs.lemmas.List.{append-nil}
 use Rattle.conn_state.specs.Phase.{Phase, ConnView, ready, waiting, ended, fresh_conn, left_to_write, bytes_held}
 use Rattle.conn_state.specs.Step.{after_bytes, after_admission, after_answer, after_wrote, after_end_of_input}
-use Rattle.conn_state.specs.Run.{ConnCall, took, admitted, refused, gave, answered, wrote, input_ended, ended_by, CallLeads, CallsLead, taken_by, taken, given_by, given}
+use Rattle.conn_state.specs.Run.{ConnCall, took, admitted, refused, gave, answered, wrote, input_ended, ended_by, CallLeads, CallsLead, taken_by, taken, handed_by, given}
 use Rattle.conn_state.specs.Split.{PhaseSays, Splits, StaysWithin}
 use Rattle.conn_state.proofs.Partials.{size_is_partial}
 use Rattle.conn_state.proofs.Keeps.{took_keeps, took_is_piece, left_of, stands_ended, stands_at_end, stands_admitted, stands_answered, stands_written, stands_given}
@@ -43,7 +43,7 @@ at_view max bytes handed_out new known e splits = subst (λ (v : ConnView). Spli
 
 -- each call keeps the split
 step_keeps : (max : ℕ) (bytes : List ℕ) (handed_out : List (ℕ × List ℕ)) (old : ConnView) (event : ConnCall) (new : ConnView) → max < 2 ^ 31 → Splits max bytes handed_out old
-    → CallLeads max old event new → Splits max (bytes ++ taken_by event) (handed_out ++ given_by event) new
+    → CallLeads max old event new → Splits max (bytes ++ taken_by event) (handed_out ++ handed_by event) new
 step_keeps max bytes handed_out old (took piece) new small splits does =
     subst (λ (ps : List (ℕ × List ℕ)). Splits max (bytes ++ piece) ps new) (sym (append-nil handed_out))
     (at_view max (bytes ++ piece) handed_out new (after_bytes max old.frames old.phase piece) does.3
@@ -78,9 +78,9 @@ run_keeps max bytes handed_out old [] new small splits runs =
     at_view max (bytes ++ []) (handed_out ++ []) new old runs (same_split max bytes handed_out old old.phase splits splits.stands)
 run_keeps max bytes handed_out old (event ∷ events) new small splits runs =
     let between = step_keeps max bytes handed_out old event runs.0 small splits runs.1 in
-    let rest = run_keeps max (bytes ++ taken_by event) (handed_out ++ given_by event) runs.0 events new small between runs.2 in
-    subst (λ (xs : List ℕ). Splits max xs (handed_out ++ (given_by event ++ given events)) new) (append_assoc bytes (taken_by event) (taken events))
-    (subst (λ (ps : List (ℕ × List ℕ)). Splits max ((bytes ++ taken_by event) ++ taken events) ps new) (append_assoc handed_out (given_by event) (given events)) rest)
+    let rest = run_keeps max (bytes ++ taken_by event) (handed_out ++ handed_by event) runs.0 events new small between runs.2 in
+    subst (λ (xs : List ℕ). Splits max xs (handed_out ++ (handed_by event ++ given events)) new) (append_assoc bytes (taken_by event) (taken events))
+    (subst (λ (ps : List (ℕ × List ℕ)). Splits max ((bytes ++ taken_by event) ++ taken events) ps new) (append_assoc handed_out (handed_by event) (given events)) rest)
 
 -- a new connection
 fresh_splits : (max : ℕ) → Splits max [] [] fresh_conn

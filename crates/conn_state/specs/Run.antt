@@ -53,11 +53,11 @@ taken [] = []
 taken (event ∷ events) = taken_by event ++ taken events
 
 -- the numbered payload that one call handed out
-abbrev pub given_by : ConnCall → List (ℕ × List ℕ)
-given_by (gave number payload) = (number, payload) ∷ []
-given_by _ = []
+abbrev pub handed_by : ConnCall → List (ℕ × List ℕ)
+handed_by (gave number payload) = (number, payload) ∷ []
+handed_by _ = []
 
 -- the numbered payloads that the calls handed out, in order
 abbrev pub given : List ConnCall → List (ℕ × List ℕ)
 given [] = []
-given (event ∷ events) = given_by event ++ given events
+given (event ∷ events) = handed_by event ++ given events

@@ -26,8 +26,8 @@ abbrev pub value_for_field : ℤ × Value → FieldValue
 value_for_field p = record { id = p.0; value = tree_of p.1 }
 
 -- a list of fields
-abbrev pub listed_fields : ListedFields → FieldsDecl
-listed_fields l = record { file = l.file; name = l.name.now; kind = l.kind; fields = map field_in l.fields.now }
+abbrev pub offered_fields : ListedFields → FieldsDecl
+offered_fields l = record { file = l.file; name = l.name.now; kind = l.kind; fields = map field_in l.fields.now }
 
 -- a field with its id
 abbrev pub numbered_field : FieldWithId → NumberedField

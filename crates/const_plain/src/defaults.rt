@@ -10,7 +10,7 @@ ghost use Rattle.idl_include.specs.SourcesOf.{program_in};
 ghost use Rattle.idl_names.specs.FiledIn.{filed_by, struct_declared, service_declared};
 ghost use Rattle.check_model.specs.FieldLists.{NumberedField, kind_said, fields_of_struct, args_of_function, field_lists, fields_by_id, numbered_behind, put_by_id, put_all_by_id};
 ghost use Rattle.check_model.specs.Evaluation.{default_in, default_of};
-ghost use Rattle.const_plain.specs.InMemory.{listed_fields, numbered_field};
+ghost use Rattle.const_plain.specs.InMemory.{offered_fields, numbered_field};
 
 use check_plain::{
     Based, Made, all_services, all_structs, id_behind, one_more_unnumbered, value_number,
@@ -56,8 +56,8 @@ fn kind_said(word: Word) -> StructKind
 
 /// The fields of structs.
 fn put_structs<'a>(lists: &mut Vec<ListedFields<'a>>, structs: &[InFile<'a, Struct>]) -> Made<()>
-    ensures { OnOk result (map listed_fields lists.new.items
-        ≡ map listed_fields lists.old.items ++ map fields_of_struct (map (filed_by struct_declared) structs.now)) }
+    ensures { OnOk result (map offered_fields lists.new.items
+        ≡ map offered_fields lists.old.items ++ map fields_of_struct (map (filed_by struct_declared) structs.now)) }
 {
     let [first, rest @ ..] = structs else {
         return Ok(());
@@ -78,8 +78,8 @@ fn put_functions<'a>(
     file: u32,
     functions: &'a [Function],
 ) -> Made<()>
-    ensures { OnOk result (map listed_fields lists.new.items
-        ≡ map listed_fields lists.old.items ++ map args_of_function (filed file (map function_in functions.now))) }
+    ensures { OnOk result (map offered_fields lists.new.items
+        ≡ map offered_fields lists.old.items ++ map args_of_function (filed file (map function_in functions.now))) }
 {
     let [first, rest @ ..] = functions else {
         return Ok(());
@@ -95,8 +95,8 @@ fn put_functions<'a>(
 
 /// The arguments of the functions of services.
 fn put_services<'a>(lists: &mut Vec<ListedFields<'a>>, services: &[InFile<'a, Service>]) -> Made<()>
-    ensures { OnOk result (map listed_fields lists.new.items
-        ≡ map listed_fields lists.old.items ++ map args_of_function (flat_map functions_in (map (filed_by service_declared) services.now))) }
+    ensures { OnOk result (map offered_fields lists.new.items
+        ≡ map offered_fields lists.old.items ++ map args_of_function (flat_map functions_in (map (filed_by service_declared) services.now))) }
 {
     let [first, rest @ ..] = services else {
         return Ok(());
@@ -108,7 +108,7 @@ fn put_services<'a>(lists: &mut Vec<ListedFields<'a>>, services: &[InFile<'a, Se
 /// The structs of a program by number, as lists of fields.
 #[tactic(auto, unfolding(check_model::specs::FieldLists::field_lists, idl_include::specs::Numbering::all_functions))]
 fn field_lists<'a>(files: Based<'a>) -> Made<Vec<ListedFields<'a>>>
-    ensures { IfOk result (λ lists. map listed_fields lists.items ≡ field_lists (program_in files.entry.all.now)) }
+    ensures { IfOk result (λ lists. map offered_fields lists.items ≡ field_lists (program_in files.entry.all.now)) }
 {
     let structs = all_structs(files)?;
     let services = all_services(files)?;
@@ -211,7 +211,7 @@ fn with_id<'a>(fields: &[FieldWithId<'a>], wanted: &FieldDesc) -> Option<FieldWi
 /// The number of the default of a field of a list, if it has one.
 #[tactic(auto, unfolding(idl_include::specs::DeclaredIn::field_in))]
 fn default_in(files: Based<'_>, list: &ListedFields<'_>, wanted: &FieldDesc) -> Made<Option<u32>>
-    ensures { IfOk result (λ number. number ≡ default_in (program_in files.entry.all.now) (listed_fields list.now) wanted.now.id) }
+    ensures { IfOk result (λ number. number ≡ default_in (program_in files.entry.all.now) (offered_fields list.now) wanted.now.id) }
 {
     let fields = fields_by_id(files.alloc, list.fields)?;
     let Some(found) = with_id(fields.as_slice(), wanted) else {

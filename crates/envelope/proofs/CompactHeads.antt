@@ -11,7 +11,7 @@ use Rattle.wire_num.proofs.Varints.{varint_decodes, put_32}
 use Rattle.wire_num.proofs.Widths.{wide_32}
 use Rattle.outside.specs.declared.outcomes.EnvelopeFault.TheVariants.{Version, NameSize}
 use Rattle.envelope.specs.declared.head.Protocol.TheVariants.{Compact}
-use Rattle.envelope.specs.Said.{Said, IsInRange}
+use Rattle.envelope.specs.Said.{Said, FitsHead}
 use Rattle.envelope.specs.Spelling.{compact_form, compact_id, compact_name, compact_text, IsCompactSpelling}
 use Rattle.envelope.specs.Readout.{head_bytes, in_head, head_byte, head_varint, accepted, sized_name, compact_rest, compact_head}
 use Rattle.envelope.proofs.Pieces.{AreBytes, ok, fail, bind_found, bind_only, same_ok, decoded_in_head, all_bytes, bytes_behind, piece_found, piece_only, byte_found, byte_only, Found}
@@ -132,7 +132,7 @@ compact_found bytes r are e =
 
 -- ---- what is spelled
 
-rest_only : (said : Said) (id size more : List ℕ) → IsInRange Compact said → IsVarint w32 (cast_unsigned w32 said.id) id → IsVarint w32 (length said.name) size
+rest_only : (said : Said) (id size more : List ℕ) → FitsHead Compact said → IsVarint w32 (cast_unsigned w32 said.id) id → IsVarint w32 (length said.name) size
     → compact_rest said.kind ((id ++ (size ++ said.name)) ++ more) ≡ Ok (said, more)
 unfolding compact_rest
 rest_only said id size more range is_id is_size =
@@ -145,7 +145,7 @@ rest_only said id size more range is_id is_size =
     ∙ bind_only (sized_name (length said.name) behind) _ (said.name, more) (name_only said.name more range.name)
     ∙ ap (λ (z : ℤ). ok (let s : Said = record { name = said.name; kind = said.kind; id = z } in s, more)) (to_z-of_z w32 said.id range.id)
 
-form_only : (said : Said) (id size more : List ℕ) → IsInRange Compact said → IsVarint w32 (cast_unsigned w32 said.id) id → IsVarint w32 (length said.name) size
+form_only : (said : Said) (id size more : List ℕ) → FitsHead Compact said → IsVarint w32 (cast_unsigned w32 said.id) id → IsVarint w32 (length said.name) size
     → compact_head (compact_form said id size ++ more) ≡ Ok (said, more)
 unfolding compact_head
 form_only said id size more range is_id is_size =
@@ -161,7 +161,7 @@ form_only said id size more range is_id is_size =
 pub compact_only : (said : Said) (text more : List ℕ) → IsCompactSpelling said text → compact_head (text ++ more) ≡ Ok (said, more)
 compact_only said text more is = ap (λ (t : List ℕ). compact_head (t ++ more)) is.is ∙ form_only said is.id is.size more is.range is.id_spelled is.size_spelled
 
-pub compact_written : (said : Said) → IsInRange Compact said → IsCompactSpelling said (compact_text said)
+pub compact_written : (said : Said) → FitsHead Compact said → IsCompactSpelling said (compact_text said)
 unfolding compact_id compact_name
 compact_written said range = record {
   range = range;

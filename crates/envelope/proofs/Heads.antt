@@ -12,7 +12,7 @@ use Rattle.outside.specs.declared.outcomes.EnvelopeFault.TheVariants.{Version, M
 use Rattle.envelope.specs.declared.head.Protocol.{Protocol}
 use Rattle.envelope.specs.declared.head.Protocol.TheVariants.{Binary, Compact}
 use Rattle.envelope.specs.declared.head.Head.{Head}
-use Rattle.envelope.specs.Said.{Said, IsInRange, IsCall}
+use Rattle.envelope.specs.Said.{Said, FitsHead, IsCall}
 use Rattle.envelope.specs.Spelling.{name_text, strict_text, old_text, IsSpelling, head_text}
 use Rattle.envelope.specs.Readout.{◌>>=◌, head_bytes, head_byte, head_i32, name_of, version, strict_head, old_head, either_head, compact_head, whole_head, call_type, head_at, IsHeadOrNoMemory, IsEncodedIn}
 use Rattle.envelope.specs.declared.head.HeadFault.{HeadFault}
@@ -126,7 +126,7 @@ whole_found Binary bytes r are e =
 whole_found Compact bytes r are e = compact_found bytes r are e
 
 -- a strict head behind its first four bytes
-strict_only : (unused : ℕ) (said : Said) (more : List ℕ) → IsInRange Binary said
+strict_only : (unused : ℕ) (said : Said) (more : List ℕ) → FitsHead Binary said
     → strict_head (128 ∷ 1 ∷ unused ∷ said.kind ∷ []) ((name_text said.name ++ signed_bytes w32 said.id) ++ more) ≡ Ok (said, more)
 unfolding strict_head version
 strict_only unused said more range =
@@ -140,7 +140,7 @@ strict_only unused said more range =
     ∙ bind_only (head_i32 (signed_bytes w32 said.id ++ more)) _ (said.id, more) (number_only said.id more range.id))
 
 -- an old head behind the length of its name
-old_only : (said : Said) (more : List ℕ) → IsInRange Binary said
+old_only : (said : Said) (more : List ℕ) → FitsHead Binary said
     → old_head (pos (length said.name)) ((said.name ++ (said.kind ∷ signed_bytes w32 said.id)) ++ more) ≡ Ok (said, more)
 unfolding old_head
 old_only said more range =
@@ -162,7 +162,7 @@ strict_is_negative unused kind u k (pos n) is bytes first =
     absurd (omega (arith, ints, fits.sfits, same))
 strict_is_negative unused kind u k (negsuc n) is bytes first = refl
 
-strict_whole : (unused : ℕ) (said : Said) (more : List ℕ) → unused < 256 → IsInRange Binary said → whole_head Binary (strict_text unused said ++ more) ≡ Ok (said, more)
+strict_whole : (unused : ℕ) (said : Said) (more : List ℕ) → unused < 256 → FitsHead Binary said → whole_head Binary (strict_text unused said ++ more) ≡ Ok (said, more)
 unfolding whole_head
 strict_whole unused said more byte range =
     let first : List ℕ = 128 ∷ 1 ∷ unused ∷ said.kind ∷ [] in
@@ -171,7 +171,7 @@ strict_whole unused said more byte range =
     ∙ strict_is_negative unused said.kind byte range.kind (signed_of w32 first) refl behind first
     ∙ strict_only unused said more range
 
-old_whole : (said : Said) (more : List ℕ) → IsInRange Binary said → whole_head Binary (old_text said ++ more) ≡ Ok (said, more)
+old_whole : (said : Said) (more : List ℕ) → FitsHead Binary said → whole_head Binary (old_text said ++ more) ≡ Ok (said, more)
 unfolding whole_head either_head
 old_whole said more range =
     let size : FitsSigned w32 (pos (length said.name)) = record { sfits = omega (arith, ints, range.name) } in
@@ -241,11 +241,11 @@ head_only p bytes said text rest is spells call =
     ∙ ap (λ n. ok (let h : Head = record { name = said.name; kind = said.kind; id = said.id; behind = n } in h)) (placed text rest)
 
 -- what is written is spelled
-pub written_is_spelled : (p : Protocol) (said : Said) → IsInRange p said → IsSpelling p said (head_text p said)
+pub written_is_spelled : (p : Protocol) (said : Said) → FitsHead p said → IsSpelling p said (head_text p said)
 written_is_spelled Binary said range = record { range = range; form = inl (record { unused = 0; byte = omega arith; is = refl }) }
 written_is_spelled Compact said range = compact_written said range
 
-pub read_back : (p : Protocol) (said : Said) (more : List ℕ) → IsInRange p said → IsCall said.kind
+pub read_back : (p : Protocol) (said : Said) (more : List ℕ) → FitsHead p said → IsCall said.kind
     → head_at p (head_text p said ++ more) ≡ Ok (record { name = said.name; kind = said.kind; id = said.id; behind = length (head_text p said) })
 read_back p said more range call = head_only p (head_text p said ++ more) said (head_text p said) more refl (written_is_spelled p said range) call
 

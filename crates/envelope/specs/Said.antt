@@ -16,7 +16,7 @@ type_limit Binary = 256
 type_limit Compact = 8
 
 -- each number fits its place: the name has a length of 31 bits, the sequence id has 32 bits, and the head has room for the type
-pub record IsInRange (protocol : Protocol) (said : Said) : Type 0 where
+pub record FitsHead (protocol : Protocol) (said : Said) : Type 0 where
   pub name : length said.name < 2 ^ 31
   pub bytes : All (λ b. b < 256) said.name
   pub kind : said.kind < type_limit protocol

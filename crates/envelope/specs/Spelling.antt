@@ -5,7 +5,7 @@ use Rattle.wire_num.specs.Fixed.{signed_bytes}
 use Rattle.wire_num.specs.Varint.{IsVarint, varint_bytes}
 use Rattle.envelope.specs.declared.head.Protocol.{Protocol}
 use Rattle.envelope.specs.declared.head.Protocol.TheVariants.{Binary, Compact}
-use Rattle.envelope.specs.Said.{Said, IsInRange}
+use Rattle.envelope.specs.Said.{Said, FitsHead}
 
 -- a name: its length and its bytes
 abbrev pub name_text : List ℕ → List ℕ
@@ -36,7 +36,7 @@ pub record IsStrict (said : Said) (text : List ℕ) : Type 0 where
 
 -- the bytes spell the head in one of its forms
 pub record IsBinarySpelling (said : Said) (text : List ℕ) : Type 0 where
-  pub range : IsInRange Binary said
+  pub range : FitsHead Binary said
   pub form : IsStrict said text ⊎ (text ≡ old_text said)
 
 -- the first byte of a compact head
@@ -53,7 +53,7 @@ compact_form said id size = compact_mark ∷ (32 * said.kind + compact_version) 
 
 -- the bytes spell the head in the compact protocol, with its varints in any of their forms
 pub record IsCompactSpelling (said : Said) (text : List ℕ) : Type 0 where
-  pub range : IsInRange Compact said
+  pub range : FitsHead Compact said
   pub id : List ℕ
   pub size : List ℕ
   pub id_spelled : IsVarint w32 (cast_unsigned w32 said.id) id

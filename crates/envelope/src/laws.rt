@@ -1,6 +1,6 @@
 //! What holds of all heads.
 ghost use Rattle.std.specs.Prelude.{◌≡◌, ◌++◌, ℕ, List, [], Ok, length};
-ghost use Rattle.envelope.specs.Said.{Said, IsInRange, IsCall};
+ghost use Rattle.envelope.specs.Said.{Said, FitsHead, IsCall};
 ghost use Rattle.envelope.specs.Spelling.{IsSpelling, head_text};
 ghost use Rattle.envelope.specs.Readout.{head_at};
 
@@ -8,12 +8,12 @@ use super::head::Protocol;
 
 /// What is written is a spelling of the head, of any type.
 pub fn written_heads_are_spelled()
-    ensures { (p : Protocol) (said : Said) → IsInRange p said → IsSpelling p said (head_text p said) }
+    ensures { (p : Protocol) (said : Said) → FitsHead p said → IsSpelling p said (head_text p said) }
 {}
 
 /// What was written of a call is read back as it is, whatever follows.
 pub fn heads_are_read_back()
-    ensures { (p : Protocol) (said : Said) (more : List ℕ) → IsInRange p said → IsCall said.kind
+    ensures { (p : Protocol) (said : Said) (more : List ℕ) → FitsHead p said → IsCall said.kind
         → head_at p (head_text p said ++ more)
         ≡ Ok (record { name = said.name; kind = said.kind; id = said.id; behind = length (head_text p said) }) }
 {}

@@ -11,8 +11,8 @@ use Rattle.machine_model.specs.Loop.{Loop}
 use Rattle.loop_conns.specs.declared.connections.ConnStage.{ConnStage}
 use Rattle.loop_conns.specs.declared.connections.ConnStage.TheVariants.{Gone}
 use Rattle.loop_conns.specs.declared.connections.LoopConnections.{LoopConnections}
-use Rattle.loop_conns.specs.Tied.{PlaceTells, IsOrderly, AreTied, PhasesTell}
-use Rattle.loop_conns.specs.Woven.{ServedAsk, IsPassedAtRest, IsWovenTo, IsGoingOn}
+use Rattle.loop_conns.specs.Tied.{StageTells, IsOrderly, AreTied, PhasesTell}
+use Rattle.loop_conns.specs.Woven.{ServedAsk, IsPassedAtRest, IsWovenTo, LoopIsRunning}
 
 module _ (max : ℕ) (first links : LinksState) (k0 k1 : LoopConnections) (asks : List ServedAsk) (table : k1.table ≡ k0.table) (places : k1.places.items ≡ k0.places.items)
     (causes : k1.causes.items ≡ k0.causes.items) (owing : k1.owing ≡ k0.owing) where
@@ -24,7 +24,7 @@ module _ (max : ℕ) (first links : LinksState) (k0 k1 : LoopConnections) (asks 
         places = t.places ∙ sym (ap length places);
         opened = t.opened;
         each = λ c l.
-            subst (λ (p : TableView × List EndCause × List ConnStage). PlaceTells first links p.0 c (loop.conns c) (slice_index_or p.1 c Stopped) (slice_index_or p.2 c Gone))
+            subst (λ (p : TableView × List EndCause × List ConnStage). StageTells first links p.0 c (loop.conns c) (slice_index_or p.1 c Stopped) (slice_index_or p.2 c Gone))
             (λ i. (sym table i, sym causes i, sym places i)) (t.each c l);
         unopened = λ c l. subst (λ (v : TableView). (slot_in c v.slots ≡ None) × (links.is_open c ≡ false)) (sym table) (t.unopened c l);
         numbered = t.numbered;
@@ -49,7 +49,7 @@ module _ (max : ℕ) (first links : LinksState) (k0 k1 : LoopConnections) (asks 
         rests = subst (λ (n : ℕ). IfSome links.rests (AllByRecursion (IsPassedAtRest max n w.weave loop))) budget w.rests;
       }
 
-  pub alike_goes : IsGoingOn max first links k0 asks → IsGoingOn max first links k1 asks
+  pub alike_goes : LoopIsRunning max first links k0 asks → LoopIsRunning max first links k1 asks
   alike_goes g =
       record {
         loop = g.loop;

@@ -7,14 +7,14 @@ use Rattle.outside.specs.LinksState.{LinksState}
 use Rattle.call_history.specs.Calls.{seat_ask}
 use Rattle.call_rules.specs.PlainCalls.{PlainCall, PlainAnswer}
 use Rattle.machine_model.specs.HallRule.{HallOperation, HallAnswer, collect, close, empty, is_closed}
-use Rattle.machine_model.specs.OwnCalls.{any_of, count_of}
+use Rattle.machine_model.specs.OwnCalls.{any_of, summed_calls}
 use Rattle.machine_model.specs.OwnLoop.{refuses_job}
 use Rattle.machine_model.specs.Loop.{Loop, LoopAsks}
 use Rattle.machine_model.specs.Merge.{handles, calls, no_loop}
 use Rattle.machine_model.proofs.Extending.{weaves-append, calls-append}
 use Rattle.machine_model.proofs.Owning.{number_push}
 use Rattle.loop_conns.specs.declared.connections.LoopConnections.{LoopConnections}
-use Rattle.loop_conns.specs.Woven.{ServedItem, ServedAsk, WeavesLent, IsPassedAtRest, IsWovenTo, HasWoven, IsGoingOn}
+use Rattle.loop_conns.specs.Woven.{ServedItem, ServedAsk, WeavesLent, IsPassedAtRest, IsWovenTo, HasWoven, LoopIsRunning}
 
 -- one more ask at the end of what was woven with its lengths
 ask_behind : (max : ℕ) (items : List ServedItem) (lengths : List ℕ) (old mid : Loop) (e : ServedAsk) → WeavesLent max old items lengths mid → LoopAsks mid e.op e.reply mid
@@ -56,7 +56,7 @@ module _ (max : ℕ) (first links : LinksState) (kept : LoopConnections) (asks :
         rests = IfSome_then links.rests w.rests (λ places t. all_rest_on max kept.table.budget w.weave loop e ask places t);
       }
 
-  pub asks_goes : (g : IsGoingOn max first links kept asks) (e : ServedAsk) → LoopAsks g.loop e.op e.reply g.loop → refuses_job e.op e.reply ≡ 0 → IsGoingOn max first links kept (asks ++ e ∷ [])
+  pub asks_goes : (g : LoopIsRunning max first links kept asks) (e : ServedAsk) → LoopAsks g.loop e.op e.reply g.loop → refuses_job e.op e.reply ≡ 0 → LoopIsRunning max first links kept (asks ++ e ∷ [])
   asks_goes g e ask taken =
       record {
         loop = g.loop;
@@ -65,8 +65,8 @@ module _ (max : ℕ) (first links : LinksState) (kept : LoopConnections) (asks :
         none_left = g.none_left;
         none_stopped = g.none_stopped;
         taken =
-            let n : count_of refuses_job (asks ++ e ∷ []) ≡ count_of refuses_job asks + refuses_job e.op e.reply = number_push refuses_job asks e in
-            let before : count_of refuses_job asks ≡ 0 = g.taken in
+            let n : summed_calls refuses_job (asks ++ e ∷ []) ≡ summed_calls refuses_job asks + refuses_job e.op e.reply = number_push refuses_job asks e in
+            let before : summed_calls refuses_job asks ≡ 0 = g.taken in
             omega arith;
         owing = g.owing;
       }
@@ -75,14 +75,14 @@ module _ (max : ℕ) (first links : LinksState) (kept : LoopConnections) (asks :
   pub closed_woven : (seat : ℕ) (answer : HallAnswer PlainAnswer) → HasWoven max first links kept asks → HasWoven max first links kept (asks ++ seat_ask seat close answer ∷ [])
   closed_woven seat answer w = (w.0, asks_woven w.0 (seat_ask seat close answer) refl w.1)
 
-  pub closed_goes : (seat : ℕ) (answer : HallAnswer PlainAnswer) → IsGoingOn max first links kept asks → IsGoingOn max first links kept (asks ++ seat_ask seat close answer ∷ [])
+  pub closed_goes : (seat : ℕ) (answer : HallAnswer PlainAnswer) → LoopIsRunning max first links kept asks → LoopIsRunning max first links kept (asks ++ seat_ask seat close answer ∷ [])
   closed_goes seat answer g = asks_goes g (seat_ask seat close answer) refl refl
 
   -- no outcome was there
-  pub empty_goes : (seat : ℕ) → IsGoingOn max first links kept asks → IsGoingOn max first links kept (asks ++ seat_ask seat collect empty ∷ [])
+  pub empty_goes : (seat : ℕ) → LoopIsRunning max first links kept asks → LoopIsRunning max first links kept (asks ++ seat_ask seat collect empty ∷ [])
   empty_goes seat g = asks_goes g (seat_ask seat collect empty) refl refl
 
-  pub none_goes : (seat : ℕ) → IsGoingOn max first links kept asks → IsGoingOn max first links kept (asks ++ seat_ask seat collect is_closed ∷ [])
+  pub none_goes : (seat : ℕ) → LoopIsRunning max first links kept asks → LoopIsRunning max first links kept (asks ++ seat_ask seat collect is_closed ∷ [])
   none_goes seat g = asks_goes g (seat_ask seat collect is_closed) refl refl
 
 -- none of these does it, and the last doesn't

@@ -23,7 +23,7 @@ use Rattle.hall_pool.specs.Jobs.{HallSeat, IsOpenedFor}
 use Rattle.hall_pool.proofs.Adding.{at_work_first}
 use Rattle.loop_conns.specs.declared.connections.LoopConnections.{LoopConnections}
 use Rattle.loop_conns.specs.Tied.{IsOrderly, AreTied}
-use Rattle.loop_conns.specs.Woven.{ServedAsk, WeavesLent, IsPassedAtRest, IsGoingOn}
+use Rattle.loop_conns.specs.Woven.{ServedAsk, WeavesLent, IsPassedAtRest, LoopIsRunning}
 use Rattle.loop_conns.specs.Going.{most_payload}
 use Rattle.host_loop.specs.Going.{IsServing}
 
@@ -62,7 +62,7 @@ module _ (limits : Limits) (small : limits.max_frame ≤ most_payload) (first : 
         net_faults = omega arith;
       }
 
-  goes_at_first : IsGoingOn limits.max_frame first first kept []
+  goes_at_first : LoopIsRunning limits.max_frame first first kept []
   goes_at_first =
       record {
         loop = no_loop;

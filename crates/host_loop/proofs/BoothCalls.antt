@@ -24,7 +24,7 @@ use Rattle.hall_pool.specs.Turns.{asks_made}
 use Rattle.hall_pool.specs.Jobs.{HallSeat, IsOpenedNew}
 use Rattle.hall_pool.proofs.Answering.{IsStep, step_made, one_more}
 use Rattle.host_loop.specs.declared.asking.Collected.{Collected}
-use Rattle.host_loop.specs.Asked.{took_so, SubmitsSo, collected_so, CollectsSo}
+use Rattle.host_loop.specs.Asked.{took_so, SubmitsJob, collected_reply, CollectsOutcome}
 
 -- what Submit answers
 abbrev IsSubmitAnswer : {A : Type 0} → HallAnswer A → Type 0
@@ -75,7 +75,7 @@ module _ (booth : BoothView ServedHall) (old new : HallSeat) where
       let own : calls_by 0 (asks_of full.0) ≡ asks_made new.mine = subst (λ (n : ℕ). calls_by n (asks_of full.0) ≡ asks_made new.mine) zeroth mine in
       subst (λ (l : List (HallAsk PlainCall PlainAnswer)). CollectsItsOwn l) own (collects_own handler_rules (filled booth.opening []) full.0 full.2 allowed)
 
-  submits_by : (key : Key) (payload : List ℕ) (found : HallReply) → Calls (operation.Submit key payload) found → SubmitsSo old new key payload (took_so found)
+  submits_by : (key : Key) (payload : List ℕ) (found : HallReply) → Calls (operation.Submit key payload) found → SubmitsJob old new key payload (took_so found)
   submits_by key payload reply.Done m = one_more booth old new (operation.Submit key payload) reply.Done m
   submits_by key payload reply.Closed m = one_more booth old new (operation.Submit key payload) reply.Closed m
   submits_by key payload reply.Empty m = absurd (submit_step _ _ key payload (answer_of reply.Empty) (step_made booth old new (operation.Submit key payload) reply.Empty m))
@@ -86,10 +86,10 @@ module _ (booth : BoothView ServedHall) (old new : HallSeat) where
   submits_by key payload reply.Broken m = absurd (submit_step _ _ key payload (answer_of reply.Broken) (step_made booth old new (operation.Submit key payload) reply.Broken m))
   submits_by key payload (reply.Settled k settled) m = absurd (submit_step _ _ key payload (answer_of (reply.Settled k settled)) (step_made booth old new (operation.Submit key payload) (reply.Settled k settled) m))
 
-  pub submits : (key : Key) (payload : List ℕ) (found : HallReply) (result : Bool) → Calls (operation.Submit key payload) found → result ≡ took_so found → SubmitsSo old new key payload result
-  submits key payload found result m is = subst (SubmitsSo old new key payload) (sym is) (submits_by key payload found m)
+  pub submits : (key : Key) (payload : List ℕ) (found : HallReply) (result : Bool) → Calls (operation.Submit key payload) found → result ≡ took_so found → SubmitsJob old new key payload result
+  submits key payload found result m is = subst (SubmitsJob old new key payload) (sym is) (submits_by key payload found m)
 
-  collects_by : (found : HallReply) → Calls operation.Collect found → CollectsSo old new (collected_so found)
+  collects_by : (found : HallReply) → Calls operation.Collect found → CollectsOutcome old new (collected_reply found)
   collects_by (reply.Settled key settled) m = one_more booth old new operation.Collect (reply.Settled key settled) m
   collects_by reply.Empty m = one_more booth old new operation.Collect reply.Empty m
   collects_by reply.Closed m = one_more booth old new operation.Collect reply.Closed m
@@ -100,5 +100,5 @@ module _ (booth : BoothView ServedHall) (old new : HallSeat) where
   collects_by reply.JournalFault m = absurd (collect_step _ _ (answer_of reply.JournalFault) (step_made booth old new operation.Collect reply.JournalFault m))
   collects_by reply.Broken m = absurd (collect_step _ _ (answer_of reply.Broken) (step_made booth old new operation.Collect reply.Broken m))
 
-  pub collects : (found : HallReply) (result : Collected) → Calls operation.Collect found → result ≡ collected_so found → CollectsSo old new result
-  collects found result m is = subst (CollectsSo old new) (sym is) (collects_by found m)
+  pub collects : (found : HallReply) (result : Collected) → Calls operation.Collect found → result ≡ collected_reply found → CollectsOutcome old new result
+  collects found result m is = subst (CollectsOutcome old new) (sym is) (collects_by found m)

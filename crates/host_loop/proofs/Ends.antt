@@ -42,13 +42,13 @@ use Rattle.hall_pool.specs.Crew.{HasServed}
 use Rattle.hall_pool.specs.Ends.{TellsOneHistory}
 use Rattle.hall_pool.proofs.Ending.{one_history}
 use Rattle.loop_conns.specs.declared.connections.LoopConnections.{LoopConnections}
-use Rattle.loop_conns.specs.Tied.{CauseShows, IsOverHere, PlaceTells, AreTied}
+use Rattle.loop_conns.specs.Tied.{CauseShows, IsOverOnLinks, StageTells, AreTied}
 use Rattle.loop_conns.specs.Woven.{ServedItem, WeavesLent, all_held, IsPassedAtRest, IsWovenTo}
 use Rattle.loop_conns.specs.Going.{AreAllGone}
 use Rattle.host_loop.specs.Lengths.{transfer_of, LengthIsRight, AreLengths}
 use Rattle.host_loop.specs.Rests.{IsNotedRest, AreNotedRests}
 use Rattle.host_loop.specs.Served.{ServerSetting, ServedRun, ComesOutBy, IsBounded, AreServicesLeft, AreLinksLeft, rules_served, IsServed}
-use Rattle.host_loop.specs.Ending.{EndsSo, EndsServing}
+use Rattle.host_loop.specs.Ending.{EndTells, EndsServing}
 use Rattle.host_loop.proofs.Moments.{PassesBy, HasBehind, passes}
 use Rattle.host_loop.proofs.Troubles.{Accounted, account, closed_breaks}
 use Rattle.host_loop.proofs.Unbroken.{unbroken}
@@ -70,9 +70,9 @@ length-after memories (e ∷ journal) = length-after (after_call handler_rules m
 
 -- a connection that is gone is over
 over_here : (first links : _) (kept : LoopConnections) (loop : Loop) → AreTied first links kept loop → AreAllGone kept → (c : ℕ) → c < loop.count
-    → IsOverHere first links kept.table c (loop.conns c) (slice_index_or kept.causes.items c Stopped)
+    → IsOverOnLinks first links kept.table c (loop.conns c) (slice_index_or kept.causes.items c Stopped)
 over_here first links kept loop t gone c l =
-    subst (λ place. PlaceTells first links kept.table c (loop.conns c) (slice_index_or kept.causes.items c Stopped) place) (gone c) (t.each c l)
+    subst (λ place. StageTells first links kept.table c (loop.conns c) (slice_index_or kept.causes.items c Stopped) place) (gone c) (t.each c l)
 
 -- where none is open, each has ended
 all_ended : (first links : _) (kept : LoopConnections) (loop : Loop) → AreTied first links kept loop → AreAllGone kept → HaveAllEnded loop kept.causes.items
@@ -241,7 +241,7 @@ module _ (s : ServerSetting) (run : ServedRun) (e : EndsServing s run) where
         go c (inl l) = (over_here run.first run.links e.kept loop w.tied e.gone c l).link
         go c (inr l) = (w.tied.unopened c l).1
 
-    comes_out : (outcome : Outcome) → EndsSo s run e.kept e.loop_seat e.own_seat outcome → ComesOutBy run outcome
+    comes_out : (outcome : Outcome) → EndTells s run e.kept e.loop_seat e.own_seat outcome → ComesOutBy run outcome
     comes_out AllOver so = (so.0, whole, unstopped)
       where
         goes_ended : HaveAllEnded so.1.loop e.kept.causes.items

@@ -24,11 +24,11 @@ use Rattle.hall_core.specs.Meant.{ServedHall}
 use Rattle.hall_pool.specs.Turns.{asks_made, HasMadeTurns}
 use Rattle.hall_pool.specs.Jobs.{HallSeat, AddsAsk}
 use Rattle.loop_conns.specs.declared.connections.LoopConnections.{LoopConnections}
-use Rattle.loop_conns.specs.Woven.{ServedAsk, HasWoven, IsGoingOn}
-use Rattle.loop_conns.specs.Going.{SomeLoopGoesOn, SomeGoesOn, KeepsGoing, AllKeepGoing, IsOpenAt, IsHandedOut, AllHandOut, collected_behind, IsCollected, GoesOnSettled, most_payload}
+use Rattle.loop_conns.specs.Woven.{ServedAsk, HasWoven, LoopIsRunning}
+use Rattle.loop_conns.specs.Going.{SomeLoopIsRunning, AnyLoopIsRunning, KeepsGoing, AllKeepGoing, IsOpenAt, IsHandedOut, AllHandOut, collected_behind, IsCollected, GoesOnSettled, most_payload}
 use Rattle.loop_conns.proofs.Standing.{standing}
-use Rattle.host_loop.specs.Asked.{SubmitsSo}
-use Rattle.host_loop.specs.Going.{IsServing, HaltsSo, IsHalted}
+use Rattle.host_loop.specs.Asked.{SubmitsJob}
+use Rattle.host_loop.specs.Going.{IsServing, HaltTells, IsHalted}
 use Rattle.host_loop.proofs.Alike.{alike_goes}
 use Rattle.host_loop.proofs.AskedMore.{none_last, asks_woven, asks_goes}
 
@@ -48,10 +48,10 @@ asks_more old new op answer zeroth more = more ∙ ap (λ (n : ℕ). asks_made o
 module _ (desk : DeskMeaning) (limits : Limits) (booth : BoothView ServedHall) (first : LinksState) where
   module _ (l0 : LinksState) (k0 : LoopConnections) (seat own : HallSeat) (s : IsServing desk limits booth first l0 k0 seat own) where
     -- a loop that serves goes on
-    pub goes_on : SomeLoopGoesOn limits.max_frame l0 k0
+    pub goes_on : SomeLoopIsRunning limits.max_frame l0 k0
     goes_on = (first, asks_made seat.mine, s.going)
 
-    pub some_goes_on : SomeGoesOn l0 k0
+    pub some_goes_on : AnyLoopIsRunning l0 k0
     some_goes_on = (limits.max_frame, s.small, goes_on)
 
     -- one that is open is in the table
@@ -59,7 +59,7 @@ module _ (desk : DeskMeaning) (limits : Limits) (booth : BoothView ServedHall) (
     is_there c open_at = (standing first l0 k0 s.going.loop c s.going.so_far.tied open_at).here.there
 
     -- it may halt at any time
-    pub halts : (ending : Outcome) → HaltsSo limits first l0 k0 seat own ending → IsHalted desk limits booth first l0 k0 seat own ending
+    pub halts : (ending : Outcome) → HaltTells limits first l0 k0 seat own ending → IsHalted desk limits booth first l0 k0 seat own ending
     halts ending why =
         record {
           small = s.small;
@@ -97,7 +97,7 @@ module _ (desk : DeskMeaning) (limits : Limits) (booth : BoothView ServedHall) (
     pub fails_on : (l1 : LinksState) (k1 : LoopConnections) → AllKeepGoing l0 k0 l1 k1 → k1.table.budget ≡ k0.table.budget → Rose l0.net_faults l1.net_faults
         → IsHalted desk limits booth first l1 k1 seat own NetFault
     fails_on l1 k1 keeps budget rose =
-        let goes : IsGoingOn limits.max_frame first l1 k1 (asks_made seat.mine) = keeps limits.max_frame s.small first (asks_made seat.mine) s.going in
+        let goes : LoopIsRunning limits.max_frame first l1 k1 (asks_made seat.mine) = keeps limits.max_frame s.small first (asks_made seat.mine) s.going in
         record {
           small = s.small;
           opened = s.opened;
@@ -129,14 +129,14 @@ module _ (desk : DeskMeaning) (limits : Limits) (booth : BoothView ServedHall) (
 
     -- A call of seat 0 keeps it, where what it asked goes on over these links.
     pub serves_behind : (l1 : LinksState) (k1 : LoopConnections) (new : HallSeat) (op : HallOperation PlainCall) (answer : HallAnswer PlainAnswer) → AddsAsk seat new op answer
-        → IsGoingOn limits.max_frame first l1 k1 (asks_made seat.mine ++ seat_ask 0 op answer ∷ []) → is_close op ≡ false → k1.table.budget ≡ k0.table.budget
+        → LoopIsRunning limits.max_frame first l1 k1 (asks_made seat.mine ++ seat_ask 0 op answer ∷ []) → is_close op ≡ false → k1.table.budget ≡ k0.table.budget
         → IsSeatOf booth new → new.number ≡ 0 → CollectsItsOwn (asks_made new.mine) → IsServing desk limits booth first l1 k1 new own
     serves_behind l1 k1 new op answer more goes open_still budget place zeroth collects =
         let asks : asks_made new.mine ≡ asks_made seat.mine ++ seat_ask 0 op answer ∷ [] = asks_more seat new op answer s.zeroth more in
         record {
           small = s.small;
           opened = s.opened;
-          going = subst (λ (l : List ServedAsk). IsGoingOn limits.max_frame first l1 k1 l) (sym asks) goes;
+          going = subst (λ (l : List ServedAsk). LoopIsRunning limits.max_frame first l1 k1 l) (sym asks) goes;
           collects = collects;
           not_closed = ap (any_of is_close) asks ∙ none_last is_close (asks_made seat.mine) (seat_ask 0 op answer) s.not_closed open_still;
           budget = budget ∙ s.budget;
@@ -207,10 +207,10 @@ module _ (desk : DeskMeaning) (limits : Limits) (booth : BoothView ServedHall) (
       may_submit_here opening =
           subst (λ (n : ℕ). OwnAsksAllow handler_rules opening n (asks_made seat.mine) (submit key payload)) (sym s.zeroth) (hands.may s.collects opening)
 
-      module _ (new : HallSeat) (took : Bool) (more : SubmitsSo seat new key payload took) (place : IsSeatOf booth new) (zeroth : new.number ≡ 0) where
+      module _ (new : HallSeat) (took : Bool) (more : SubmitsJob seat new key payload took) (place : IsSeatOf booth new) (zeroth : new.number ≡ 0) where
         pub serves_taken : took ≡ true → CollectsItsOwn (asks_made new.mine) → IsServing desk limits booth first l0 k1 new own
         serves_taken is collects =
-            serves_behind l0 k1 new (submit key payload) done (subst (SubmitsSo seat new key payload) is more) hands.taken refl budget place zeroth collects
+            serves_behind l0 k1 new (submit key payload) done (subst (SubmitsJob seat new key payload) is more) hands.taken refl budget place zeroth collects
 
         pub halts_refused : took ≡ false → IsHalted desk limits booth first l0 k1 new own JournalFault
-        halts_refused is = halts_behind k1 new (submit key payload) (subst (SubmitsSo seat new key payload) is more) hands.refused budget place zeroth
+        halts_refused is = halts_behind k1 new (submit key payload) (subst (SubmitsJob seat new key payload) is more) hands.refused budget place zeroth

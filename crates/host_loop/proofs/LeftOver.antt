@@ -10,10 +10,10 @@ use Rattle.hall_pool.specs.Turns.{asks_made}
 use Rattle.hall_pool.specs.Jobs.{HallSeat}
 use Rattle.hall_pool.specs.Crew.{HasServed}
 use Rattle.loop_conns.specs.declared.connections.LoopConnections.{LoopConnections}
-use Rattle.loop_conns.specs.Woven.{HasWoven, IsGoingOn}
+use Rattle.loop_conns.specs.Woven.{HasWoven, LoopIsRunning}
 use Rattle.host_loop.specs.Served.{ServerSetting, ServedRun}
-use Rattle.host_loop.specs.Ending.{EndsSo, EndsServing}
-use Rattle.host_loop.specs.Going.{HaltsSo, IsAtEnd}
+use Rattle.host_loop.specs.Ending.{EndTells, EndsServing}
+use Rattle.host_loop.specs.Going.{HaltTells, IsAtEnd}
 use Rattle.host_loop.specs.Left.{IsLeftOf}
 
 -- seats that have served are of their booth
@@ -25,8 +25,8 @@ abbrev pub setting_at : DeskMeaning → Limits → BoothView ServedHall → Serv
 setting_at desk limits booth = record { desk = desk; services = booth.opening.memories; budget = limits.read_budget }
 
 module _ (desk : DeskMeaning) (limits : Limits) (booth : BoothView ServedHall) (run : ServedRun) (kept : LoopConnections) (seat own : HallSeat) (longest : desk.max_frame ≡ limits.max_frame) where
-  ends_so : (outcome : Outcome) → HaltsSo limits run.first run.links kept seat own outcome → EndsSo (setting_at desk limits booth) run kept seat own outcome
-  ends_so AllOver why = (why.0, subst (λ (n : ℕ). IsGoingOn n run.first run.links kept (asks_made seat.mine)) (sym longest) why.2)
+  ends_so : (outcome : Outcome) → HaltTells limits run.first run.links kept seat own outcome → EndTells (setting_at desk limits booth) run kept seat own outcome
+  ends_so AllOver why = (why.0, subst (λ (n : ℕ). LoopIsRunning n run.first run.links kept (asks_made seat.mine)) (sym longest) why.2)
   ends_so NetFault why = why
   ends_so JournalFault why = why
   ends_so NoMemory why = why

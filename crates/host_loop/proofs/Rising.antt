@@ -8,9 +8,9 @@ use Rattle.machine_model.specs.Loop.{LoopConn, Loop}
 use Rattle.loop_conns.specs.declared.connections.ConnStage.{ConnStage}
 use Rattle.loop_conns.specs.declared.connections.ConnStage.TheVariants.{Lean, Laden, Gone}
 use Rattle.loop_conns.specs.declared.connections.LoopConnections.{LoopConnections}
-use Rattle.loop_conns.specs.Tied.{CauseShows, PlaceTells, AreTied}
+use Rattle.loop_conns.specs.Tied.{CauseShows, StageTells, AreTied}
 use Rattle.loop_conns.specs.Woven.{ServedAsk, HasWoven}
-use Rattle.loop_conns.specs.Going.{most_payload, AllComeOn}
+use Rattle.loop_conns.specs.Going.{most_payload, AllKeepWoven}
 
 module _ (first links : LinksState) where
   -- the links as they came in, with the count of faults that they have now
@@ -27,7 +27,7 @@ module _ (first links : LinksState) where
   shows_lately c NoMemory h = h
   shows_lately c Stopped h = h
 
-  place_lately : (table : TableView) (c : ℕ) (conn : LoopConn) (cause : EndCause) (place : ConnStage) → PlaceTells first links table c conn cause place → PlaceTells lately links table c conn cause place
+  place_lately : (table : TableView) (c : ℕ) (conn : LoopConn) (cause : EndCause) (place : ConnStage) → StageTells first links table c conn cause place → StageTells lately links table c conn cause place
   place_lately table c conn cause Lean h = h
   place_lately table c conn cause Laden h = h
   place_lately table c conn cause Gone h = record { gone = h.gone; link = h.link; ended = h.ended; shows = shows_lately c cause h.shows }
@@ -49,7 +49,7 @@ module _ (first links : LinksState) where
       }
 
 -- where whichever loop comes on, the count of faults hasn't fallen
-pub net_goes_on : (max : ℕ) → max ≤ most_payload → (first l0 l1 : LinksState) (k0 k1 : LoopConnections) (asks : List ServedAsk) → AllComeOn l0 k0 l1 k1 → HasWoven max first l0 k0 asks
+pub net_goes_on : (max : ℕ) → max ≤ most_payload → (first l0 l1 : LinksState) (k0 k1 : LoopConnections) (asks : List ServedAsk) → AllKeepWoven l0 k0 l1 k1 → HasWoven max first l0 k0 asks
     → l0.net_faults ≤ l1.net_faults
 net_goes_on max small first l0 l1 k0 k1 asks on w =
     let before : HasWoven max (lately first l0) l0 k0 asks = (

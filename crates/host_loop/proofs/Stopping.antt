@@ -14,10 +14,10 @@ use Rattle.hall_core.specs.Meant.{ServedHall}
 use Rattle.hall_pool.specs.Turns.{asks_made}
 use Rattle.hall_pool.specs.Jobs.{HallSeat, AddsAsk}
 use Rattle.loop_conns.specs.declared.connections.LoopConnections.{LoopConnections}
-use Rattle.loop_conns.specs.Woven.{ServedAsk, HasWoven, IsGoingOn}
-use Rattle.loop_conns.specs.Going.{SomeWoven, AllComeOn, AreAllGone}
+use Rattle.loop_conns.specs.Woven.{ServedAsk, HasWoven, LoopIsRunning}
+use Rattle.loop_conns.specs.Going.{SomeWoven, AllKeepWoven, AreAllGone}
 use Rattle.host_loop.specs.Ending.{FindsItClosed}
-use Rattle.host_loop.specs.Going.{is_all, HaltsSo, IsHalted, IsAtEnd}
+use Rattle.host_loop.specs.Going.{is_all, HaltTells, IsHalted, IsAtEnd}
 use Rattle.host_loop.proofs.AskedMore.{asks_woven, asks_goes}
 use Rattle.host_loop.proofs.Rising.{net_goes_on}
 use Rattle.host_loop.proofs.Keeping.{asks_more}
@@ -33,9 +33,9 @@ module _ (desk : DeskMeaning) (limits : Limits) (booth : BoothView ServedHall) (
   pub so_far : (outcome : Outcome) → IsHalted desk limits booth first l0 k0 seat own outcome → SomeWoven l0 k0
   so_far outcome h = (limits.max_frame, h.small, first, asks_made seat.mine, h.woven)
 
-  module _ (l1 : LinksState) (k1 : LoopConnections) (comes : AllComeOn l0 k0 l1 k1) (gone : AreAllGone k1) (budget : k1.table.budget ≡ k0.table.budget) where
+  module _ (l1 : LinksState) (k1 : LoopConnections) (comes : AllKeepWoven l0 k0 l1 k1) (gone : AreAllGone k1) (budget : k1.table.budget ≡ k0.table.budget) where
     -- stopping leaves the reason, but where all is over
-    still : (outcome : Outcome) → is_all outcome ≡ false → l0.net_faults ≤ l1.net_faults → HaltsSo limits first l0 k0 seat own outcome → HaltsSo limits first l1 k1 seat own outcome
+    still : (outcome : Outcome) → is_all outcome ≡ false → l0.net_faults ≤ l1.net_faults → HaltTells limits first l0 k0 seat own outcome → HaltTells limits first l1 k1 seat own outcome
     still All other later why = absurd (true≢false other)
     still NetFault other later why = let rose : next_count first.net_faults ≤ l0.net_faults = why in omega arith
     still JournalFault other later why = why
@@ -96,11 +96,11 @@ module _ (desk : DeskMeaning) (limits : Limits) (booth : BoothView ServedHall) (
       asks : asks_made new.mine ≡ asks_made seat.mine ++ seat_ask 0 close done ∷ []
       asks = asks_more seat new close done h.halted.zeroth more
 
-      why : (outcome : Outcome) → HaltsSo limits first l0 k0 seat own outcome → HaltsSo limits first l0 k0 new own outcome
+      why : (outcome : Outcome) → HaltTells limits first l0 k0 seat own outcome → HaltTells limits first l0 k0 new own outcome
       why All w = (
         w.0,
         w.1,
-        subst (λ (l : List ServedAsk). IsGoingOn limits.max_frame first l0 k0 l) (sym asks) (asks_goes limits.max_frame first l0 k0 (asks_made seat.mine) w.2 (seat_ask 0 close done) refl refl),
+        subst (λ (l : List ServedAsk). LoopIsRunning limits.max_frame first l0 k0 l) (sym asks) (asks_goes limits.max_frame first l0 k0 (asks_made seat.mine) w.2 (seat_ask 0 close done) refl refl),
       )
       why NetFault w = w
       why JournalFault (inl f) = inl (subst FindsItClosed (sym asks) (found_behind (asks_made seat.mine) (seat_ask 0 close done) f))

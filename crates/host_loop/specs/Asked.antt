@@ -14,18 +14,18 @@ took_so reply.Done = true
 took_so _ = false
 
 -- a job was to be submitted, and the hall took it, or was closed
-abbrev pub SubmitsSo : HallSeat → HallSeat → Key → List ℕ → Bool → Type 0
-SubmitsSo old new key payload true = AddsAsk old new (submit key payload) done
-SubmitsSo old new key payload false = AddsAsk old new (submit key payload) is_closed
+abbrev pub SubmitsJob : HallSeat → HallSeat → Key → List ℕ → Bool → Type 0
+SubmitsJob old new key payload true = AddsAsk old new (submit key payload) done
+SubmitsJob old new key payload false = AddsAsk old new (submit key payload) is_closed
 
 -- what a reply to Collect means
-abbrev pub collected_so : HallReply → Collected
-collected_so (reply.Settled key settled) = Outcome key settled
-collected_so reply.Closed = Closed
-collected_so _ = Empty
+abbrev pub collected_reply : HallReply → Collected
+collected_reply (reply.Settled key settled) = Outcome key settled
+collected_reply reply.Closed = Closed
+collected_reply _ = Empty
 
 -- an outcome was to be collected, and this has come of it
-abbrev pub CollectsSo : HallSeat → HallSeat → Collected → Type 0
-CollectsSo old new (Outcome key settled) = AddsAsk old new collect (outcome key settled)
-CollectsSo old new Empty = AddsAsk old new collect empty
-CollectsSo old new Closed = AddsAsk old new collect is_closed
+abbrev pub CollectsOutcome : HallSeat → HallSeat → Collected → Type 0
+CollectsOutcome old new (Outcome key settled) = AddsAsk old new collect (outcome key settled)
+CollectsOutcome old new Empty = AddsAsk old new collect empty
+CollectsOutcome old new Closed = AddsAsk old new collect is_closed

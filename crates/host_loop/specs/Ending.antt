@@ -16,7 +16,7 @@ use Rattle.hall_pool.specs.Turns.{asks_made}
 use Rattle.hall_pool.specs.Jobs.{HallSeat, IsOpenedNew}
 use Rattle.hall_pool.specs.Crew.{HasServed}
 use Rattle.loop_conns.specs.declared.connections.LoopConnections.{LoopConnections}
-use Rattle.loop_conns.specs.Woven.{ServedAsk, HasWoven, IsGoingOn}
+use Rattle.loop_conns.specs.Woven.{ServedAsk, HasWoven, LoopIsRunning}
 use Rattle.loop_conns.specs.Going.{AreAllGone}
 use Rattle.host_loop.specs.Served.{ServerSetting, ServedRun}
 
@@ -31,11 +31,11 @@ pub record FindsItClosed (asks : List ServedAsk) : Type 0 where
 
 -- Serving ends so: the links said that all is over, and the loop goes on; the links failed; the loop found the hall closed, or one of its worker's turns was told that the
 -- journal failed; or memory ran out.
-abbrev pub EndsSo : ServerSetting → ServedRun → LoopConnections → HallSeat → HallSeat → Outcome → Type 0
-EndsSo s run kept loop_seat own_seat AllOver = (run.links.over ≡ true) × IsGoingOn s.desk.max_frame run.first run.links kept (asks_made loop_seat.mine)
-EndsSo s run kept loop_seat own_seat NetFault = Rose run.first.net_faults run.links.net_faults
-EndsSo s run kept loop_seat own_seat JournalFault = FindsItClosed (asks_made loop_seat.mine) ⊎ (any_fault_told (asks_made own_seat.mine) ≡ true)
-EndsSo s run kept loop_seat own_seat NoMemory = Unit {0}
+abbrev pub EndTells : ServerSetting → ServedRun → LoopConnections → HallSeat → HallSeat → Outcome → Type 0
+EndTells s run kept loop_seat own_seat AllOver = (run.links.over ≡ true) × LoopIsRunning s.desk.max_frame run.first run.links kept (asks_made loop_seat.mine)
+EndTells s run kept loop_seat own_seat NetFault = Rose run.first.net_faults run.links.net_faults
+EndTells s run kept loop_seat own_seat JournalFault = FindsItClosed (asks_made loop_seat.mine) ⊎ (any_fault_told (asks_made own_seat.mine) ≡ true)
+EndTells s run kept loop_seat own_seat NoMemory = Unit {0}
 
 -- Serving has ended. The loop's seat is number 0, and its calls are those of what it did on the links, where no connection is open any more; the other seats' calls are
 -- those of workers' turns; the booth was opened for the services and the journal as they came in, and its hall is what is handed back.
@@ -66,7 +66,7 @@ pub record EndsServing (s : ServerSetting) (run : ServedRun) : Type 0 where
   pub torn : run.torn ≡ hall.broken
   pub faults : run.faults ≡ hall.faults
   -- of the outcome
-  pub so : EndsSo s run kept loop_seat own_seat run.outcome
+  pub so : EndTells s run kept loop_seat own_seat run.outcome
 
 -- Nothing was served, since there was no memory to begin: all is as it came in, and nothing had happened on the links.
 pub record ServesNothing (s : ServerSetting) (run : ServedRun) : Type 0 where

@@ -18,7 +18,7 @@ use Rattle.hall_pool.specs.Turns.{asks_made, HasMadeTurns}
 use Rattle.hall_pool.specs.Jobs.{HallSeat, IsOpenedFor}
 use Rattle.hall_pool.specs.declared.workplace.Workplace.{Workplace}
 use Rattle.loop_conns.specs.declared.connections.LoopConnections.{LoopConnections}
-use Rattle.loop_conns.specs.Woven.{HasWoven, IsGoingOn}
+use Rattle.loop_conns.specs.Woven.{HasWoven, LoopIsRunning}
 use Rattle.loop_conns.specs.Going.{most_payload, AreAllGone}
 use Rattle.host_loop.specs.Ending.{FindsItClosed}
 use Rattle.host_loop.specs.declared.opening.Tools.{Tools}
@@ -37,7 +37,7 @@ pub record AreNewTools {B : Type 0} (budget : ℕ) (tools : Tools B) : Type 0 wh
 pub record IsServing (desk : DeskMeaning) (limits : Limits) (booth : BoothView ServedHall) (first links : LinksState) (kept : LoopConnections) (loop_seat own_seat : HallSeat) : Type 0 where
   pub small : limits.max_frame ≤ most_payload
   pub opened : IsOpenedFor desk booth
-  pub going : IsGoingOn limits.max_frame first links kept (asks_made loop_seat.mine)
+  pub going : LoopIsRunning limits.max_frame first links kept (asks_made loop_seat.mine)
   pub collects : CollectsItsOwn (asks_made loop_seat.mine)
   pub not_closed : any_of is_close (asks_made loop_seat.mine) ≡ false
   pub budget : kept.table.budget ≡ limits.read_budget
@@ -52,12 +52,12 @@ is_all All = true
 is_all _ = false
 
 -- Why it has halted: all is over; the links failed; it found the hall closed, or its own worker was told that the journal failed; or memory ran out.
-abbrev pub HaltsSo : Limits → LinksState → LinksState → LoopConnections → HallSeat → HallSeat → Outcome → Type 0
-HaltsSo limits first links kept loop_seat own_seat All =
-    (links.over ≡ true) × AreAllGone kept × IsGoingOn limits.max_frame first links kept (asks_made loop_seat.mine)
-HaltsSo limits first links kept loop_seat own_seat NetFault = Rose first.net_faults links.net_faults
-HaltsSo limits first links kept loop_seat own_seat JournalFault = FindsItClosed (asks_made loop_seat.mine) ⊎ (any_fault_told (asks_made own_seat.mine) ≡ true)
-HaltsSo limits first links kept loop_seat own_seat NoMemory = Unit {0}
+abbrev pub HaltTells : Limits → LinksState → LinksState → LoopConnections → HallSeat → HallSeat → Outcome → Type 0
+HaltTells limits first links kept loop_seat own_seat All =
+    (links.over ≡ true) × AreAllGone kept × LoopIsRunning limits.max_frame first links kept (asks_made loop_seat.mine)
+HaltTells limits first links kept loop_seat own_seat NetFault = Rose first.net_faults links.net_faults
+HaltTells limits first links kept loop_seat own_seat JournalFault = FindsItClosed (asks_made loop_seat.mine) ⊎ (any_fault_told (asks_made own_seat.mine) ≡ true)
+HaltTells limits first links kept loop_seat own_seat NoMemory = Unit {0}
 
 -- The loop has halted: what it did is a part of a run, and its own worker has made turns.
 pub record IsHalted (desk : DeskMeaning) (limits : Limits) (booth : BoothView ServedHall) (first links : LinksState) (kept : LoopConnections) (loop_seat own_seat : HallSeat) (outcome : Outcome) : Type 0 where
@@ -69,7 +69,7 @@ pub record IsHalted (desk : DeskMeaning) (limits : Limits) (booth : BoothView Se
   pub zeroth : loop_seat.number ≡ 0
   pub own_place : IsSeatOf booth own_seat
   pub own_served : OfTurns (desk_rules desk) (asks_made own_seat.mine)
-  pub why : HaltsSo limits first links kept loop_seat own_seat outcome
+  pub why : HaltTells limits first links kept loop_seat own_seat outcome
 
 -- The loop has ended: it has halted, and no connection is open.
 pub record IsAtEnd (desk : DeskMeaning) (limits : Limits) (booth : BoothView ServedHall) (first links : LinksState) (kept : LoopConnections) (loop_seat own_seat : HallSeat) (outcome : Outcome) : Type 0 where

@@ -5,13 +5,13 @@ use Rattle.loop_conns.specs.Going.{HasNoRoom}
 use Rattle.host_loop.specs.declared.holding.Found.{Found}
 use Rattle.host_loop.specs.declared.holding.Found.TheVariants.{Admitted, NoRoom, Gone}
 use Rattle.host_loop.specs.declared.holding.HeldLook.{HeldLook}
-use Rattle.host_loop.specs.declared.holding.HeldLook.TheVariants.{Admitted as OneAdmitted, Changed, Rests}
+use Rattle.host_loop.specs.declared.holding.HeldLook.TheVariants.{Admitted as OneAdmitted, Changed, StillHeld}
 
 -- what is known of a frame that was to be admitted
-abbrev pub IsFoundSo : ℕ → LoopConnections → Found → Type 0
-IsFoundSo c kept NoRoom = HasNoRoom kept.table c
-IsFoundSo c kept Admitted = Unit {0}
-IsFoundSo c kept Gone = Unit {0}
+abbrev pub FoundTells : ℕ → LoopConnections → Found → Type 0
+FoundTells c kept NoRoom = HasNoRoom kept.table c
+FoundTells c kept Admitted = Unit {0}
+FoundTells c kept Gone = Unit {0}
 
 -- some frame is held
 abbrev pub SomeIsHeld : LoopConnections → Type 0
@@ -19,7 +19,7 @@ SomeIsHeld kept = (c : ℕ) × HasNoRoom kept.table c
 
 -- what is known behind a look at those that are held
 abbrev pub HeldLookTells : LoopConnections → HeldLook → Type 0
-HeldLookTells kept (Rests one) = IsTrue one → SomeIsHeld kept
+HeldLookTells kept (StillHeld one) = IsTrue one → SomeIsHeld kept
 HeldLookTells kept (OneAdmitted c) = Unit {0}
 HeldLookTells kept Changed = Unit {0}
 

@@ -9,7 +9,7 @@ ghost use Rattle.machine_model.specs.SeenHall.{filled};
 ghost use Rattle.seat_booth.specs.Seats.{IsSeatOf};
 ghost use Rattle.hall_pool.specs.Turns.{asks_made};
 ghost use Rattle.hall_pool.specs.Jobs.{IsOpenedNew, AddsAsk};
-ghost use Rattle.host_loop.specs.Asked.{took_so, SubmitsSo, collected_so, CollectsSo};
+ghost use Rattle.host_loop.specs.Asked.{took_so, SubmitsJob, collected_reply, CollectsOutcome};
 
 use call_rules::{Handler, Journal, Key};
 use hall_core::{Hall, HallOp, HallReply};
@@ -40,7 +40,7 @@ fn took(reply: HallReply) -> bool
 
 /// What a reply to Collect means.
 fn meant(reply: HallReply) -> Collected
-    ensures { result ≡ collected_so reply }
+    ensures { result ≡ collected_reply reply }
 {
     match reply {
         HallReply::Settled(key, settled) => Collected::Outcome(key, settled),
@@ -63,7 +63,7 @@ pub(crate) fn submit<H: Handler, J: Journal, R: Wait>(
     requires may { OwnAsksAllow handler_rules (filled booth.now.opening []) seat.old.number (asks_made seat.old.mine) (rule.submit key payload) }
     ensures seat { IsSeatOf booth.now seat.new }
     ensures zeroth { seat.new.number ≡ 0 }
-    ensures submitted { SubmitsSo seat.old seat.new key payload result }
+    ensures submitted { SubmitsJob seat.old seat.new key payload result }
     ensures own { CollectsItsOwn (asks_made seat.new.mine) }
 {
     let reply = booth.call(rt, seat, HallOp::Submit(key, payload));
@@ -81,7 +81,7 @@ pub(crate) fn collect<H: Handler, J: Journal, R: Wait>(
     requires zeroth { seat.old.number ≡ 0 }
     ensures seat { IsSeatOf booth.now seat.new }
     ensures zeroth { seat.new.number ≡ 0 }
-    ensures collected { CollectsSo seat.old seat.new result }
+    ensures collected { CollectsOutcome seat.old seat.new result }
     ensures own { CollectsItsOwn (asks_made seat.new.mine) }
 {
     let reply = booth.call(rt, seat, HallOp::Collect);

@@ -3,7 +3,7 @@
 ghost use Rattle.std.specs.Prelude.{◌≡◌, ◌≤◌, IfOk, length};
 ghost use Rattle.conn_state.specs.Phase.{wanted};
 ghost use Rattle.conn_table.specs.Table.{slot_of};
-ghost use Rattle.loop_conns.specs.Going.{SomeLoopGoesOn, KeepsGoing, ReadsAt, IsReadSo};
+ghost use Rattle.loop_conns.specs.Going.{SomeLoopIsRunning, KeepsGoing, ReadsAt, ReadTells};
 
 use loop_conns::{LoopConnections, ReadStep};
 use outside::Links;
@@ -53,12 +53,12 @@ impl Buffer {
         count: usize,
         max_frame: u32,
     ) -> ReadStep
-        requires under_way { SomeLoopGoesOn max_frame (L.state links.old) conns.old }
+        requires under_way { SomeLoopIsRunning max_frame (L.state links.old) conns.old }
         requires reads { ReadsAt c conns.old }
         requires count { count ≡ wanted (slot_of c conns.old.table.slots).conn.phase }
         requires small { max_frame ≤ 268435456 }
         ensures going { KeepsGoing max_frame (L.state links.old) conns.old (L.state links.new) conns.new }
-        ensures step { IsReadSo c conns.new result }
+        ensures step { ReadTells c conns.new result }
         ensures budget { conns.new.table.budget ≡ conns.old.table.budget }
         ensures plan { L.plan links.new ≡ L.plan links.old }
     {

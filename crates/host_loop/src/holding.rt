@@ -5,7 +5,7 @@ ghost use Rattle.conn_state.specs.Phase.{IsHeld};
 ghost use Rattle.conn_table.specs.Slots.{slot_in};
 ghost use Rattle.conn_table.specs.Table.{slot_of};
 ghost use Rattle.host_loop.specs.Going.{Serves, Halts};
-ghost use Rattle.host_loop.specs.Held.{IsFoundSo, HeldLookTells, IsToldHeld, SomeIsHeld};
+ghost use Rattle.host_loop.specs.Held.{FoundTells, HeldLookTells, IsToldHeld, SomeIsHeld};
 
 use crate::holdings::{Run, Serving};
 use call_rules::{Desk, Handler, Journal};
@@ -34,7 +34,7 @@ pub(crate) enum HeldLook {
     /// Those that are held have changed.
     Changed,
     /// There is no room for any; so one is held, or none is.
-    Rests(bool),
+    StillHeld(bool),
 }
 
 /// Whether the frame of a connection waits to be admitted.
@@ -56,7 +56,7 @@ impl<H: Handler, J: Journal> Serving<Hall<H, J>> {
         requires serving { Serves D.meaning L.state run.now links.old self.old }
         ensures serving { Serves D.meaning L.state run.now links.new self.new }
         ensures plan { L.plan links.new ≡ L.plan links.old }
-        ensures found { IsFoundSo c self.new.conns result }
+        ensures found { FoundTells c self.new.conns result }
     {
         if !self.conns.is_open(c) {
             return Found::Gone;
@@ -96,7 +96,7 @@ impl<H: Handler, J: Journal> Serving<Hall<H, J>> {
         let mut one = false;
         for at in 0..self.held.len() {
             let Some(&c) = self.held.get(at) else {
-                return HeldLook::Rests(one);
+                return HeldLook::StillHeld(one);
             };
             match self.try_one(run, links, c) {
                 Found::Admitted => {
@@ -110,7 +110,7 @@ impl<H: Handler, J: Journal> Serving<Hall<H, J>> {
                 }
             }
         }
-        HeldLook::Rests(one)
+        HeldLook::StillHeld(one)
     }
 
     /// Looks once at those that are held, and visits the one that is admitted. It answers whether to look again, and else whether one is held.
@@ -132,7 +132,7 @@ impl<H: Handler, J: Journal> Serving<Hall<H, J>> {
                 Ok(None)
             }
             HeldLook::Changed => Ok(None),
-            HeldLook::Rests(one) => Ok(Some(one)),
+            HeldLook::StillHeld(one) => Ok(Some(one)),
         }
     }
 

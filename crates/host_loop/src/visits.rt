@@ -37,7 +37,7 @@ fn moves_on(step: WriteStep) -> bool {
     match step {
         WriteStep::Part => true,
         WriteStep::All => true,
-        WriteStep::Rests => false,
+        WriteStep::Blocked => false,
         WriteStep::Over => false,
     }
 }
@@ -93,7 +93,7 @@ impl<H: Handler, J: Journal> Serving<Hall<H, J>> {
                 self.submit_and_ring(rt, run, c)?;
                 Ok(false)
             }
-            ReadStep::Rests => Ok(false),
+            ReadStep::Blocked => Ok(false),
             ReadStep::Over => Ok(false),
         }
     }

@@ -5,7 +5,7 @@ use Rattle.host_model.specs.declared.cause.EndCause.TheVariants.{Envelope}
 use Rattle.host_model.specs.Marks.{output}
 use Rattle.host_model.specs.Journal.{JournalEntry}
 use Rattle.host_model.specs.DeskRules.{DeskRules, Invoke}
-use Rattle.host_model.specs.Conversation.{but_last, reply_for, answer_at, Done, GoesOn, AllGoOn}
+use Rattle.host_model.specs.Conversation.{but_last, reply_for, answer_at, Done, KeepsConnection, AllKeepConnection}
 use Rattle.host_model.specs.World.{Stage, unopened, open_, pending, answered, over, over_pending, Endpoint, Move, opens, reads, reads_frame, reads_bad_size, ends, fails_read, settles, replies, closes, writes, fails_write, gives_up, marks_by, Moves, Enters}
 use Rattle.host_model.proofs.Lists.{but_last-push, all_push}
 use Rattle.host_model.proofs.Replies.{sent_kept, done_called}
@@ -47,7 +47,7 @@ module _ {C A : Type 0} (d : DeskRules C A) (c : ℕ) (own : List Mark) (es : Li
       subst (Says d (es ++ e ∷ []) (output own) (ps ++ p ∷ []) held) (sym enters) (
         waiting_entered e (output own) (ps ++ p ∷ []) held (omega arith) s.0,
         done_called d es e ps p is number (subst (Done d es) b s.1),
-        all_push (λ q. GoesOn (d.decide q)) ps p (subst (AllGoOn d) b s.0.on) (subst GoesOn (sym is) tt),
+        all_push (λ q. KeepsConnection (d.decide q)) ps p (subst (AllKeepConnection d) b s.0.on) (subst KeepsConnection (sym is) tt),
       )
   says_entered e ps p held (over_pending cause) new enters is number s =
       let b : but_last (ps ++ p ∷ []) ≡ ps = but_last-push ps p in

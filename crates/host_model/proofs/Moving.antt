@@ -10,7 +10,7 @@ use Rattle.host_model.specs.Frames.{Frames, frame, size_bytes, IsPayload, IsRest
 use Rattle.host_model.specs.Marks.{input, output, ending}
 use Rattle.host_model.specs.Journal.{JournalEntry}
 use Rattle.host_model.specs.DeskRules.{DeskRules, DeskDecision, Close, Silent, Reply, Invoke}
-use Rattle.host_model.specs.Conversation.{but_last, sent, reply_for, answer_at, called_by, Done, IsPrefix, IsReplying, IsFinished, IsBrokenOff, GoesOn, AllGoOn, EndsBy}
+use Rattle.host_model.specs.Conversation.{but_last, sent, reply_for, answer_at, called_by, Done, IsPrefix, IsReplying, IsFinished, IsBrokenOff, KeepsConnection, AllKeepConnection, EndsBy}
 use Rattle.host_model.specs.World.{Stage, unopened, open_, pending, answered, over, over_pending, NeedsNoCall, IsGivenUp, GivesUp, end_behind}
 use Rattle.host_model.proofs.Lists.{Always, always-push, front_nil, but_last-push, length-but_last, all_push, all_but_last}
 use Rattle.host_model.proofs.Framing.{frames_read, frames_whole, size_nil, rest_size}
@@ -18,7 +18,7 @@ use Rattle.host_model.proofs.Replies.{sent-push, sent_but_last, done_uncalled, r
 use Rattle.host_model.proofs.Turning.{TurnSoFar}
 use Rattle.host_model.proofs.Talking.{Kept, IsOpen, IsWaiting, kept_ending, running_push, input_push, output_push, turns_quiet, turns_later}
 
-goes_on : {C : Type 0} (decision : DeskDecision C) → NeedsNoCall decision → GoesOn decision
+goes_on : {C : Type 0} (decision : DeskDecision C) → NeedsNoCall decision → KeepsConnection decision
 goes_on (Close fault) n = absurd n
 goes_on Silent n = tt
 goes_on (Reply reply) n = tt
@@ -97,7 +97,7 @@ module _ {C A : Type 0} (d : DeskRules C A) (c : ℕ) (own : List Mark) (es : Li
       record {
         frames = f;
         says = (
-          record { on = subst (AllGoOn d) last k.says.on; none = refl; written = out ∙ all ∙ ap (sent d es 0) last },
+          record { on = subst (AllKeepConnection d) last k.says.on; none = refl; written = out ∙ all ∙ ap (sent d es 0) last },
           subst (Done d es) last k.says.done,
         );
         shape = running_push c own (Read c b) tt k.shape;
@@ -123,7 +123,7 @@ module _ {C A : Type 0} (d : DeskRules C A) (c : ℕ) (own : List Mark) (es : Li
       (kept_ending d c (own ++ Read c b ∷ []) es ps (held ++ b) (length ps) (SizeFault z) (over (SizeFault z)) f (running_push c own (Read c b) tt k.shape)
       (always-push (TurnSoFar d es (length ps)) own (Read c b) k.turns (turn_calm b ps held k.says (held ++ b) f))
       (same_length ps)
-      (all_but_last (λ p. GoesOn (d.decide p)) ps k.says.on, (k.says.on, size, outside, record { done = k.says.done; written = out ∙ sym (k.says.sends ∙ append-nil (output own)) }))
+      (all_but_last (λ p. KeepsConnection (d.decide p)) ps k.says.on, (k.says.on, size, outside, record { done = k.says.done; written = out ∙ sym (k.says.sends ∙ append-nil (output own)) }))
       (λ m. m))
 
   -- everything is written where nothing is left
@@ -135,7 +135,7 @@ module _ {C A : Type 0} (d : DeskRules C A) (c : ℕ) (own : List Mark) (es : Li
       → Kept d c (own ++ ending c cause) es ps held (over cause)
   open_ends ps held left cause says k =
       kept_ending d c own es ps held (length ps) cause (over cause) k.frames k.shape k.turns (same_length ps)
-      (all_but_last (λ p. GoesOn (d.decide p)) ps k.says.on, says) (λ m. m)
+      (all_but_last (λ p. KeepsConnection (d.decide p)) ps k.says.on, says) (λ m. m)
 
   pub kept_ends : (ps : List (List ℕ)) (held : List ℕ) → Kept d c own es ps held (open_ []) → Kept d c (own ++ Ended c ∷ Closed c ∷ []) es ps held (over (end_behind held))
   kept_ends ps [] k = open_ends ps [] [] End (k.says.on, refl, finished ps [] k.says) k
@@ -189,7 +189,7 @@ module _ {C A : Type 0} (d : DeskRules C A) (c : ℕ) (own : List Mark) (es : Li
       }
 
   -- the last payload has had its say
-  settled_open : (ps : List (List ℕ)) (p held left : List ℕ) → IsWaiting d es (output own) (ps ++ p ∷ []) held → AllGoOn d (ps ++ p ∷ []) → Done d es (ps ++ p ∷ [])
+  settled_open : (ps : List (List ℕ)) (p held left : List ℕ) → IsWaiting d es (output own) (ps ++ p ∷ []) held → AllKeepConnection d (ps ++ p ∷ []) → Done d es (ps ++ p ∷ [])
       → left ≡ reply_for d p (d.decide p) (answer_at es (length ps)) → IsOpen d es (output own) (ps ++ p ∷ []) held left
   settled_open ps p held left w on done e =
       record {
@@ -209,7 +209,7 @@ module _ {C A : Type 0} (d : DeskRules C A) (c : ℕ) (own : List Mark) (es : Li
         frames = k.frames;
         says =
             settled_open ps p held (reply_for d p (d.decide p) None) k.says.0
-            (all_push (λ q. GoesOn (d.decide q)) ps p (subst (AllGoOn d) e k.says.0.on) (goes_on (d.decide p) needs))
+            (all_push (λ q. KeepsConnection (d.decide q)) ps p (subst (AllKeepConnection d) e k.says.0.on) (goes_on (d.decide p) needs))
             (done_uncalled d es ps p (called_by-uncalled d (length ps) (d.decide p) needs) (subst (Done d es) e k.says.1))
             (reply_uncalled d p (d.decide p) (answer_at es (length ps)) needs);
         shape = k.shape;
@@ -284,7 +284,7 @@ module _ {C A : Type 0} (d : DeskRules C A) (c : ℕ) (own : List Mark) (es : Li
   broken_off_open : (ps : List (List ℕ)) (held left : List ℕ) → IsOpen d es (output own) ps held left → IsBrokenOff d ps held es (output own)
   broken_off_open ps held left o = record { done = inl o.done; replying = replying_open ps held left o; behind = go left o }
     where
-      go : (left : List ℕ) → IsOpen d es (output own) ps held left → held ≢ [] → AllGoOn d ps × HasNoBadSize d.max held × IsFinished d es ps (output own)
+      go : (left : List ℕ) → IsOpen d es (output own) ps held left → held ≢ [] → AllKeepConnection d ps × HasNoBadSize d.max held × IsFinished d es ps (output own)
       go [] o some = (o.on, o.size, finished ps held o)
       go (b ∷ bs) o some = absurd (some (o.none (λ e. cc)))
 

@@ -10,7 +10,7 @@ use Rattle.host_model.specs.Frames.{Frames, HasNoBadSize}
 use Rattle.host_model.specs.Marks.{Marks, input, output, read_by, written_by, IsTransfer, ending}
 use Rattle.host_model.specs.Journal.{JournalEntry}
 use Rattle.host_model.specs.DeskRules.{DeskRules}
-use Rattle.host_model.specs.Conversation.{but_last, sent, Done, IsPrefix, AllGoOn, EndsBy}
+use Rattle.host_model.specs.Conversation.{but_last, sent, Done, IsPrefix, AllKeepConnection, EndsBy}
 use Rattle.host_model.specs.World.{Stage, unopened, open_, pending, answered, over, over_pending, IsGivenUp, Endpoint}
 use Rattle.host_model.proofs.Lists.{Always, always-append, front_nil, length-but_last, all_push}
 use Rattle.host_model.proofs.Replies.{numbers_done}
@@ -18,7 +18,7 @@ use Rattle.host_model.proofs.Turning.{TurnSoFar, turn_later, turn_quiet}
 
 -- every payload is settled, and left is what isn't written of the last reply
 pub record IsOpen {C A : Type 0} (d : DeskRules C A) (es : List (JournalEntry C A)) (out : List ℕ) (ps : List (List ℕ)) (held left : List ℕ) : Type 0 where
-  pub on : AllGoOn d ps
+  pub on : AllKeepConnection d ps
   pub done : Done d es ps
   pub size : HasNoBadSize d.max held
   pub sends : sent d es 0 ps ≡ out ++ left
@@ -27,7 +27,7 @@ pub record IsOpen {C A : Type 0} (d : DeskRules C A) (es : List (JournalEntry C 
 
 -- the last payload has no reply yet
 pub record IsWaiting {C A : Type 0} (d : DeskRules C A) (es : List (JournalEntry C A)) (out : List ℕ) (ps : List (List ℕ)) (held : List ℕ) : Type 0 where
-  pub on : AllGoOn d (but_last ps)
+  pub on : AllKeepConnection d (but_last ps)
   pub none : held ≡ []
   pub written : out ≡ sent d es 0 (but_last ps)
 
@@ -43,8 +43,8 @@ abbrev pub Says : {C A : Type 0} → DeskRules C A → List (JournalEntry C A) �
 Says d es out ps held unopened = IsUnopened es out ps held
 Says d es out ps held (open_ left) = IsOpen d es out ps held left
 Says d es out ps held pending = IsWaiting d es out ps held × Done d es (but_last ps)
-Says d es out ps held answered = IsWaiting d es out ps held × Done d es ps × AllGoOn d ps
-Says d es out ps held (over cause) = AllGoOn d (but_last ps) × EndsBy d ps held es out cause
+Says d es out ps held answered = IsWaiting d es out ps held × Done d es ps × AllKeepConnection d ps
+Says d es out ps held (over cause) = AllKeepConnection d (but_last ps) × EndsBy d ps held es out cause
 Says d es out ps held (over_pending cause) = IsGivenUp cause × IsWaiting d es out ps held × Done d es (but_last ps)
 
 -- the marks of a connection that has been opened and hasn't ended

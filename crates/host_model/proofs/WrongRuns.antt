@@ -10,7 +10,7 @@ use Rattle.host_model.specs.declared.cause.EndCause.TheVariants.{End, Cut, SizeF
 use Rattle.host_model.specs.Frames.{Frames, frame, ArePayloads, IsOutside}
 use Rattle.host_model.specs.Marks.{marks_of, input, IsTransfer}
 use Rattle.host_model.specs.Journal.{JournalEntry}
-use Rattle.host_model.specs.Conversation.{but_last, Conversation, AllGoOn, LastCloses, Done, IsInTurn, sent, IsPrefix}
+use Rattle.host_model.specs.Conversation.{but_last, Conversation, AllKeepConnection, LastCloses, Done, IsInTurn, sent, IsPrefix}
 use Rattle.host_model.specs.OrderBetween.{HasBegun, IsWhole}
 use Rattle.host_model.specs.DeskRules.{Close}
 use Rattle.host_model.specs.TinyDesk.{tiny_desk, tiny_entry, size_of_one, IsTinyRun}
@@ -139,7 +139,7 @@ pub end_behind_a_refused_head : IsTinyRun (Opened 0 ∷ Read 0 (0 ∷ 0 ∷ 0 �
 end_behind_a_refused_head h =
     let c : Conversation tiny_desk 0 _ _ End = h.each 0 End refl in
     let p : c.talk.payloads ≡ (4 ∷ []) ∷ [] = (same (0 ∷ 0 ∷ 0 ∷ 1 ∷ 4 ∷ []) c.talk.rest [] c.talk.payloads ((4 ∷ []) ∷ []) c.talk.frames refused_split).0 in
-    (subst (AllGoOn tiny_desk) p c.talk.ended.0).0
+    (subst (AllKeepConnection tiny_desk) p c.talk.ended.0).0
 
 none_split : Frames 2 (0 ∷ 0 ∷ 0 ∷ 0 ∷ []) [] (0 ∷ 0 ∷ 0 ∷ 0 ∷ [])
 none_split = record { whole = refl; each = tt; no_more = rest_size 2 (pos 0) }

@@ -62,13 +62,13 @@ pub record IsReplying {C A : Type 0} (d : DeskRules C A) (es : List (JournalEntr
   pub within : IsPrefix out (sent d es 0 ps)
 
 -- a decision that doesn't end the connection
-abbrev pub GoesOn : {C : Type 0} → DeskDecision C → Type 0
-GoesOn (Close fault) = ⊥
-GoesOn _ = Unit {0}
+abbrev pub KeepsConnection : {C : Type 0} → DeskDecision C → Type 0
+KeepsConnection (Close fault) = ⊥
+KeepsConnection _ = Unit {0}
 
 -- no payload ends the connection
-abbrev pub AllGoOn : {C A : Type 0} → DeskRules C A → List (List ℕ) → Type 0
-AllGoOn d ps = AllByRecursion (λ p. GoesOn (d.decide p)) ps
+abbrev pub AllKeepConnection : {C A : Type 0} → DeskRules C A → List (List ℕ) → Type 0
+AllKeepConnection d ps = AllByRecursion (λ p. KeepsConnection (d.decide p)) ps
 
 -- p is the last of these, behind those before it
 abbrev pub IsLast : List (List ℕ) → List (List ℕ) → List ℕ → Type 0
@@ -88,16 +88,16 @@ pub record IsFinished {C A : Type 0} (d : DeskRules C A) (es : List (JournalEntr
 pub record IsBrokenOff {C A : Type 0} (d : DeskRules C A) (ps : List (List ℕ)) (rest : List ℕ) (es : List (JournalEntry C A)) (out : List ℕ) : Type 0 where
   pub done : Done d es ps ⊎ Done d es (but_last ps)
   pub replying : IsReplying d es ps out
-  pub behind : rest ≢ [] → AllGoOn d ps × HasNoBadSize d.max rest × IsFinished d es ps out
+  pub behind : rest ≢ [] → AllKeepConnection d ps × HasNoBadSize d.max rest × IsFinished d es ps out
 
 -- what holds of the payloads, the rest behind them, the entries and the bytes written where a connection ends by this cause
 abbrev pub EndsBy : {C A : Type 0} → DeskRules C A → List (List ℕ) → List ℕ → List (JournalEntry C A) → List ℕ → EndCause → Type 0
-EndsBy d ps rest es out End = AllGoOn d ps × (rest ≡ []) × IsFinished d es ps out
-EndsBy d ps rest es out Cut = AllGoOn d ps × (rest ≢ []) × HasNoBadSize d.max rest × IsFinished d es ps out
-EndsBy d ps rest es out (SizeFault z) = AllGoOn d ps × (rest ≡ size_bytes z) × IsOutside d.max z × IsFinished d es ps out
+EndsBy d ps rest es out End = AllKeepConnection d ps × (rest ≡ []) × IsFinished d es ps out
+EndsBy d ps rest es out Cut = AllKeepConnection d ps × (rest ≢ []) × HasNoBadSize d.max rest × IsFinished d es ps out
+EndsBy d ps rest es out (SizeFault z) = AllKeepConnection d ps × (rest ≡ size_bytes z) × IsOutside d.max z × IsFinished d es ps out
 EndsBy d ps rest es out (Envelope fault) = LastCloses d ps fault × (rest ≡ []) × IsFinished d es ps out
-EndsBy d ps rest es out ReadFault = AllGoOn d ps × HasNoBadSize d.max rest × IsFinished d es ps out
-EndsBy d ps rest es out WriteFault = AllGoOn d ps × (rest ≡ []) × Done d es ps × IsReplying d es ps out × (out ≢ sent d es 0 ps)
+EndsBy d ps rest es out ReadFault = AllKeepConnection d ps × HasNoBadSize d.max rest × IsFinished d es ps out
+EndsBy d ps rest es out WriteFault = AllKeepConnection d ps × (rest ≡ []) × Done d es ps × IsReplying d es ps out × (out ≢ sent d es 0 ps)
 EndsBy d ps rest es out NoMemory = IsBrokenOff d ps rest es out
 EndsBy d ps rest es out Stopped = IsBrokenOff d ps rest es out
 
@@ -106,7 +106,7 @@ pub record Talk {C A : Type 0} (d : DeskRules C A) (bytes : List ℕ) (es : List
   pub payloads : List (List ℕ)
   pub rest : List ℕ
   pub frames : Frames d.max bytes payloads rest
-  pub open_before : AllGoOn d (but_last payloads)
+  pub open_before : AllKeepConnection d (but_last payloads)
   pub ended : EndsBy d payloads rest es out cause
 
 -- After these marks no reply has gone out before its frame was whole, and where bytes of a further frame were read all replies are written.

@@ -9,7 +9,7 @@ use Rattle.host_model.specs.Frames.{Frames, frame, size_bytes, IsPayload, IsOuts
 use Rattle.host_model.specs.Marks.{marks_of, input, output}
 use Rattle.host_model.specs.Journal.{JournalEntry, ServiceRules, IsAnswered, Legal, after, entries_of}
 use Rattle.host_model.specs.DeskRules.{DeskRules, DeskDecision, Close, Silent, Reply, Invoke}
-use Rattle.host_model.specs.Conversation.{reply_for, answer_at, IsLast, AllGoOn, Done, sent, but_last, EndsBy, Turns}
+use Rattle.host_model.specs.Conversation.{reply_for, answer_at, IsLast, AllKeepConnection, Done, sent, but_last, EndsBy, Turns}
 use Rattle.host_model.specs.OrderBetween.{InOrder}
 
 -- where a connection stands
@@ -184,9 +184,9 @@ HasEnded _ _ = ⊥
 -- what a connection's stage says of its payloads, the bytes held, its entries and the bytes written
 abbrev pub StageSays : {C A : Type 0} → DeskRules C A → List (List ℕ) → List ℕ → List (JournalEntry C A) → List ℕ → Stage → Type 0
 StageSays d ps held es out unopened = (ps ≡ []) × (held ≡ []) × (es ≡ []) × (out ≡ [])
-StageSays d ps held es out (open_ left) = AllGoOn d ps × HasNoBadSize d.max held × Done d es ps × (sent d es 0 ps ≡ out ++ left)
-StageSays d ps held es out pending = AllGoOn d (but_last ps) × (held ≡ []) × Done d es (but_last ps) × (out ≡ sent d es 0 (but_last ps))
-StageSays d ps held es out answered = AllGoOn d ps × (held ≡ []) × Done d es ps × (out ≡ sent d es 0 (but_last ps))
+StageSays d ps held es out (open_ left) = AllKeepConnection d ps × HasNoBadSize d.max held × Done d es ps × (sent d es 0 ps ≡ out ++ left)
+StageSays d ps held es out pending = AllKeepConnection d (but_last ps) × (held ≡ []) × Done d es (but_last ps) × (out ≡ sent d es 0 (but_last ps))
+StageSays d ps held es out answered = AllKeepConnection d ps × (held ≡ []) × Done d es ps × (out ≡ sent d es 0 (but_last ps))
 StageSays d ps held es out (over cause) = EndsBy d ps held es out cause
 StageSays d ps held es out (over_pending cause) = EndsBy d ps held es out cause
 

@@ -24,7 +24,7 @@ use Rattle.check_model.proofs.OneSchema.{one_partial}
 use Rattle.idl_check.proofs.RisingFields.{by_id_holds}
 use Rattle.idl_check.specs.Taking.{IsWorthAt, value_given}
 use Rattle.idl_check.specs.Sites.{SitedFields, AllZipped, sited}
-use Rattle.idl_check.specs.Filling.{IsDefaultFilled, IsFieldFilled, AreFieldsFilled, IsStructFilled, IsFunctionFilled, IsServiceFilled, IsConstantTaken, IsWholeSchema}
+use Rattle.idl_check.specs.Filling.{IsDefaultFilled, IsFieldFilled, AreDefaultsFilled, IsStructFilled, IsFunctionFilled, IsServiceFilled, IsConstantTaken, IsWholeSchema}
 use Rattle.idl_check.proofs.Given.{IsIn, IsDefaultGiven, IsFieldGiven, IsConstantGiven, IsListGiven, AreThrownGiven, IsServiceGiven, constants_given, lists_are_given, services_given}
 
 -- of what something was and what it became follows what it is
@@ -77,7 +77,7 @@ module _ (program : Program) (partial : PlainSchema) (made : IsPartialSchema pro
       }
 
   fields_whole : (file : ℕ) (list : FieldsKind) (decls : List FieldDecl) (old new : List PlainField) → AllByRecursion (IsFieldGiven program file) decls
-      → AreFieldsOf NoDefault program file list decls old → AreFieldsFilled program file decls old new → AreFieldsOf (DefaultIn setting) program file list decls new
+      → AreFieldsOf NoDefault program file list decls old → AreDefaultsFilled program file decls old new → AreFieldsOf (DefaultIn setting) program file list decls new
   fields_whole file list decls old new given are filled =
       zipped_becomes (λ (f : NumberedField). IsFieldGiven program file f.decl) (IsFieldOf NoDefault program file list) (IsFieldOf (DefaultIn setting) program file list)
       (IsFieldFilled program file) (field_whole file list) (fields_by_id decls) old new (by_id_holds (IsFieldGiven program file) decls given) are filled

@@ -22,17 +22,17 @@ use Rattle.idl_check.specs.declared.refusal.NoSchema.{NoSchema}
 use Rattle.idl_check.specs.declared.refusal.NoSchema.TheVariants.{Refused, FileFault, NoMemory}
 use Rattle.idl_check.specs.FaultKinds.{kind_of_loading, kind_of_flaw}
 use Rattle.idl_check.specs.Tutorial.{tutorial_name, tutorial_files}
-use Rattle.idl_check.specs.Verdicts.{IdlVerdict, accepted, refused, IsIdlVerdictOn, IsVerdictIn, IsVerdictTold, IsVerdictBy, IsIdlVerdict, is_the_tutorial, StopsAtRead, IsUnreadIdl}
+use Rattle.idl_check.specs.Verdicts.{IdlVerdict, accepted, refused, IsIdlVerdictOfLoaded, IsVerdictIn, IsVerdictTold, IsVerdictBy, IsIdlVerdict, is_the_tutorial, StopsAtRead, IsUnreadIdl}
 use Rattle.idl_check.specs.Telling.{TellsWhy, TellsSchema, RefusesIn, is_file_fault}
 use Rattle.idl_check.proofs.PlacedFaults.{first_stands}
 use Rattle.idl_check.proofs.Verdicts.{HasReaders}
 
 -- a fault of loading that has a kind is a refusal
 pub loading_refused : (come : Loaded) (file : List ℕ) (at : Place) (flaw : Option LoadFlawKind) (kind : IdlFaultKind) → option_and_then kind_of_loading flaw ≡ Some kind
-    → MatchOption flaw ⊤ (λ k. come ≡ stopped (record { file = file; at = at; kind = k })) → IsIdlVerdictOn come (refused file at kind)
+    → MatchOption flaw ⊤ (λ k. come ≡ stopped (record { file = file; at = at; kind = k })) → IsIdlVerdictOfLoaded come (refused file at kind)
 loading_refused come file at None kind named h = absurd (none_some kind named)
 loading_refused come file at (Some flaw) kind named h =
-    subst (λ l. IsIdlVerdictOn l (refused file at kind)) (sym h) (record { file_is = refl; place = refl; named = named })
+    subst (λ l. IsIdlVerdictOfLoaded l (refused file at kind)) (sym h) (record { file_is = refl; place = refl; named = named })
 
 -- a fault of a check that has a kind stands in one of the files
 pub fault_within : (X : Type 0) (files : List IdlFile) (number : ℕ) (at : Place) (flaw : Option FlawKind) (kind : IdlFaultKind)
@@ -52,7 +52,7 @@ stands_at (f ∷ files) (suc n) file l e = stands_at files n file (omega (arith,
 pub check_refused : (X : Type 0) (files : List IdlFile) (number : ℕ) (at : Place) (flaw : Option FlawKind) (kind : IdlFaultKind) (source : IdlFile) (reason : NoSchema)
     → option_and_then kind_of_flaw flaw ≡ Some kind
     → MatchOption flaw X (λ k. IsFirstFlaw (program_in files) (record { file = number; at = at; kind = k }))
-    → slice_get files number ≡ Some source → RefusesIn source.name at kind reason → TellsWhy (IsIdlVerdictOn (loaded (program_in files))) ⊥ reason
+    → slice_get files number ≡ Some source → RefusesIn source.name at kind reason → TellsWhy (IsIdlVerdictOfLoaded (loaded (program_in files))) ⊥ reason
 check_refused X files number at None kind source reason named h there refuses = absurd (none_some kind named)
 check_refused X files number at (Some flaw) kind source (Refused r) named h there refuses = record {
   flaw = record { file = number; at = at; kind = flaw };
@@ -69,17 +69,17 @@ check_refused X files number at (Some flaw) kind source NoMemory named h there r
 -- a verdict on what was loaded is one on the files
 on_loaded : (told : Option (List File)) (main : List ℕ) (sources : Sources) (verdict : IdlVerdict) → HasReaders
     → ((reader : List ℕ → FileReading) → Tells told reader → IsLoaded reader (program_of reader main) (Ok sources))
-    → IsIdlVerdictOn (loaded (program_in (sources_in sources))) verdict → IsVerdictTold told main verdict
+    → IsIdlVerdictOfLoaded (loaded (program_in (sources_in sources))) verdict → IsVerdictTold told main verdict
 on_loaded None main sources (accepted schema) read come on = (program_in (sources_in sources), on)
 on_loaded None main sources (refused file at kind) read come on = tt
 on_loaded (Some files) main sources verdict read come on =
     let reader = (read files).0 in
     let is = (read files).1 in
-    (reader, is, subst (λ l. IsIdlVerdictOn l verdict) (sym (come reader is).0) on)
+    (reader, is, subst (λ l. IsIdlVerdictOfLoaded l verdict) (sym (come reader is).0) on)
 
 pub from_loaded : (told : Option (List File)) (main : List ℕ) (sources : Sources) (result : Result Schema NoSchema) → HasReaders
     → ((reader : List ℕ → FileReading) → Tells told reader → IsLoaded reader (program_of reader main) (Ok sources))
-    → TellsSchema (IsIdlVerdictOn (loaded (program_in (sources_in sources)))) ⊥ result
+    → TellsSchema (IsIdlVerdictOfLoaded (loaded (program_in (sources_in sources)))) ⊥ result
     → TellsSchema (IsVerdictTold told main) (StopsAtRead told main) result
 from_loaded told main sources (Ok schema) read come h = (on_loaded told main sources (accepted (schema_of schema)) read come h.0, h.1)
 from_loaded told main sources (Err (Refused r)) read come h = on_loaded told main sources (refused r.file r.at r.kind) read come h
@@ -90,7 +90,7 @@ from_loaded told main sources (Err NoMemory) read come h = tt
 pub from_stopped : (told : Option (List File)) (main : List ℕ) (fault : LoadFault) (reason : NoSchema) → HasReaders
     → ((reader : List ℕ → FileReading) → Tells told reader → IsFlawOf (program_of reader main) fault)
     → (is_file fault.kind ≡ true → IsReadFault told main fault)
-    → ((come : Loaded) → IsFlawOf come fault → TellsWhy (IsIdlVerdictOn come) (is_file fault.kind ≡ true) reason) → is_file_fault reason ≡ is_file fault.kind
+    → ((come : Loaded) → IsFlawOf come fault → TellsWhy (IsIdlVerdictOfLoaded come) (is_file fault.kind ≡ true) reason) → is_file_fault reason ≡ is_file fault.kind
     → TellsWhy (IsVerdictTold told main) (StopsAtRead told main) reason
 from_stopped None main fault (Refused r) read flaw unread why file = tt
 from_stopped (Some files) main fault (Refused r) read flaw unread why file =

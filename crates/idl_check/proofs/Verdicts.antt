@@ -14,7 +14,7 @@ use Rattle.check_model.proofs.OneVerdict.{one_flaw, no_flaw_beside}
 use Rattle.idl_check.specs.declared.kinds.IdlFaultKind.{IdlFaultKind}
 use Rattle.idl_check.specs.FaultKinds.{kind_of_flaw}
 use Rattle.idl_check.specs.Tutorial.{tutorial_name, tutorial_files}
-use Rattle.idl_check.specs.Verdicts.{IdlVerdict, accepted, refused, IsLoadRefusal, IsCheckRefusal, IsIdlVerdictOn, IsVerdictIn, IsVerdictBy, IsIdlVerdict, is_the_tutorial}
+use Rattle.idl_check.specs.Verdicts.{IdlVerdict, accepted, refused, IsLoadRefusal, IsCheckRefusal, IsIdlVerdictOfLoaded, IsVerdictIn, IsVerdictBy, IsIdlVerdict, is_the_tutorial}
 use Rattle.idl_check.proofs.Named.{EndsNamed, program_named}
 use Rattle.idl_check.proofs.PlacedFaults.{first_stands}
 
@@ -22,7 +22,7 @@ use Rattle.idl_check.proofs.PlacedFaults.{first_stands}
 abbrev pub IsDecided : Program → Type 0
 IsDecided program = ((schema : PlainSchema) × IsSchemaOf program schema) ⊎ ((flaw : ProgramFlaw) × IsFirstFlaw program flaw)
 
-of_program : (program : Program) → IsDecided program → (verdict : IdlVerdict) × IsIdlVerdictOn (loaded program) verdict
+of_program : (program : Program) → IsDecided program → (verdict : IdlVerdict) × IsIdlVerdictOfLoaded (loaded program) verdict
 of_program program (inl (schema, is)) = (accepted schema, is)
 of_program program (inr (flaw, first)) =
     let stands = first_stands program flaw first in (
@@ -30,7 +30,7 @@ of_program program (inr (flaw, first)) =
       record { flaw = flaw; first = first; source = stands.source; there = stands.there; file_is = refl; place = refl; named = stands.named },
     )
 
-some_on : ((program : Program) → IsDecided program) → (come : Loaded) → EndsNamed come → (verdict : IdlVerdict) × IsIdlVerdictOn come verdict
+some_on : ((program : Program) → IsDecided program) → (come : Loaded) → EndsNamed come → (verdict : IdlVerdict) × IsIdlVerdictOfLoaded come verdict
 some_on decided (loaded program) named = of_program program (decided program)
 some_on decided (stopped flaw) named = (refused flaw.file flaw.at named.0, record { file_is = refl; place = refl; named = named.1 })
 
@@ -75,7 +75,7 @@ one_check_refusal program file name at place kind other p q =
     let kinds : kind ≡ other = somes kind other (sym p.named ∙ ap (λ (f : ProgramFlaw). kind_of_flaw f.kind) same ∙ q.named) in
     λ i. refused (files i) (places i) (kinds i)
 
-one_on : (come : Loaded) (v w : IdlVerdict) → IsIdlVerdictOn come v → IsIdlVerdictOn come w → v ≡ w
+one_on : (come : Loaded) (v w : IdlVerdict) → IsIdlVerdictOfLoaded come v → IsIdlVerdictOfLoaded come w → v ≡ w
 one_on (loaded program) (accepted a) (accepted b) p q = ap accepted (one_schema program a b p q)
 one_on (loaded program) (accepted a) (refused file at kind) p q = absurd (no_flaw_beside program q.flaw p.faultless q.first)
 one_on (loaded program) (refused file at kind) (accepted b) p q = absurd (no_flaw_beside program p.flaw q.faultless p.first)
@@ -90,7 +90,7 @@ AreDetermined = (files : List File) (main : List ℕ) (r s : List ℕ → FileRe
 
 one_in : AreDetermined → (files : List File) (main : List ℕ) (v w : IdlVerdict) → IsVerdictIn files main v → IsVerdictIn files main w → v ≡ w
 one_in determined files main v w p q =
-    one_on (program_of q.0 main) v w (subst (λ come. IsIdlVerdictOn come v) (determined files main p.0 q.0 p.1 q.1) p.2) q.2
+    one_on (program_of q.0 main) v w (subst (λ come. IsIdlVerdictOfLoaded come v) (determined files main p.0 q.0 p.1 q.1) p.2) q.2
 
 one_by : AreDetermined → (tutorial : Bool) (files : List File) (idl : List ℕ) (v w : IdlVerdict)
     → IsVerdictBy tutorial (Some files) idl v → IsVerdictBy tutorial (Some files) idl w → v ≡ w

@@ -26,15 +26,15 @@ pub record IsFieldFilled (program : Program) (file : ℕ) (f : NumberedField) (o
   pub default : IsDefaultFilled program file f.decl old.default new.default
 
 -- so did the fields of a list
-abbrev pub AreFieldsFilled : Program → ℕ → List FieldDecl → List PlainField → List PlainField → Type 0
-AreFieldsFilled program file decls old new = AllZipped (IsFieldFilled program file) (fields_by_id decls) old new
+abbrev pub AreDefaultsFilled : Program → ℕ → List FieldDecl → List PlainField → List PlainField → Type 0
+AreDefaultsFilled program file decls old new = AllZipped (IsFieldFilled program file) (fields_by_id decls) old new
 
 -- so did those of a struct
 pub record IsStructFilled (program : Program) (d : SitedFields) (old new : PlainStruct) : Type 0 where
   pub file : new.file ≡ old.file
   pub name : new.name ≡ old.name
   pub kind : new.kind ≡ old.kind
-  pub fields : AreFieldsFilled program d.file d.fields old.fields new.fields
+  pub fields : AreDefaultsFilled program d.file d.fields old.fields new.fields
 
 -- so did the exceptions of a function
 pub record IsFunctionFilled (program : Program) (file : ℕ) (f : FunctionDecl) (old new : PlainFunction) : Type 0 where
@@ -42,7 +42,7 @@ pub record IsFunctionFilled (program : Program) (file : ℕ) (f : FunctionDecl) 
   pub oneway : new.oneway ≡ old.oneway
   pub args : new.args ≡ old.args
   pub result : new.result ≡ old.result
-  pub throws : AreFieldsFilled program file f.throws old.throws new.throws
+  pub throws : AreDefaultsFilled program file f.throws old.throws new.throws
 
 -- so did those of a service's functions
 pub record IsServiceFilled (program : Program) (s : Filed ServiceDecl) (old new : PlainService) : Type 0 where

@@ -38,15 +38,15 @@ pub record IsCheckRefusal (program : Program) (file : List ℕ) (at : Place) (ki
   pub named : kind_of_flaw flaw.kind ≡ Some kind
 
 -- The verdict on what loading comes to.
-abbrev pub IsIdlVerdictOn : Loaded → IdlVerdict → Type 0
-IsIdlVerdictOn (loaded program) (accepted schema) = IsSchemaOf program schema
-IsIdlVerdictOn (loaded program) (refused file at kind) = IsCheckRefusal program file at kind
-IsIdlVerdictOn (stopped flaw) (accepted schema) = ⊥
-IsIdlVerdictOn (stopped flaw) (refused file at kind) = IsLoadRefusal flaw file at kind
+abbrev pub IsIdlVerdictOfLoaded : Loaded → IdlVerdict → Type 0
+IsIdlVerdictOfLoaded (loaded program) (accepted schema) = IsSchemaOf program schema
+IsIdlVerdictOfLoaded (loaded program) (refused file at kind) = IsCheckRefusal program file at kind
+IsIdlVerdictOfLoaded (stopped flaw) (accepted schema) = ⊥
+IsIdlVerdictOfLoaded (stopped flaw) (refused file at kind) = IsLoadRefusal flaw file at kind
 
 -- the verdict on the program of a main file among files
 abbrev pub IsVerdictIn : List File → List ℕ → IdlVerdict → Type 0
-IsVerdictIn files main verdict = (reader : List ℕ → FileReading) × IsReaderOf files reader × IsIdlVerdictOn (program_of reader main) verdict
+IsVerdictIn files main verdict = (reader : List ℕ → FileReading) × IsReaderOf files reader × IsIdlVerdictOfLoaded (program_of reader main) verdict
 
 -- the same where the files may be untold: then a schema is that of some program
 abbrev pub IsVerdictTold : Option (List File) → List ℕ → IdlVerdict → Type 0

@@ -7,7 +7,7 @@ ghost use Rattle.schema.specs.SchemaOf.{plain_field};
 ghost use Rattle.schema_bare.specs.ById.{numbered_in};
 ghost use Rattle.idl_check.specs.Taking.{AreWorths};
 ghost use Rattle.idl_check.specs.Sites.{AllZipped};
-ghost use Rattle.idl_check.specs.Filling.{IsFieldFilled, AreFieldsFilled};
+ghost use Rattle.idl_check.specs.Filling.{IsFieldFilled, AreDefaultsFilled};
 
 use crate::worths::Worths;
 use idl_parser::Field;
@@ -74,7 +74,7 @@ pub(crate) fn filled_fields(
     fields: FieldList,
 ) -> Result<FieldList, AllocError>
     ensures { (program : Program) → AreWorths program worths.old
-        → IfOk result (λ made. AreFieldsFilled program file (map field_in given.now) (map plain_field fields) (map plain_field made) × AreWorths program worths.new) }
+        → IfOk result (λ made. AreDefaultsFilled program file (map field_in given.now) (map plain_field fields) (map plain_field made) × AreWorths program worths.new) }
 {
     let sorted = fields_sorted(alloc, given)?;
     let made = each_field(alloc, worths, file, sorted.as_slice(), fields.into_vec())?;

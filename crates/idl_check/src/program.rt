@@ -11,7 +11,7 @@ ghost use Rattle.idl_include.specs.SourcesOf.{AreFiles, program_in, sources_in};
 ghost use Rattle.idl_include.specs.Loads.{IsFlawOf, is_file};
 ghost use Rattle.check_passes.specs.Faults.{TellsFlaw};
 ghost use Rattle.idl_check.specs.Tutorial.{tutorial_name, tutorial_files};
-ghost use Rattle.idl_check.specs.Verdicts.{IsIdlVerdictOn, IsVerdictIn, IsVerdictTold, IsIdlVerdict, IsSchemaTextOf, StopsAtRead, IsUnreadIdl};
+ghost use Rattle.idl_check.specs.Verdicts.{IsIdlVerdictOfLoaded, IsVerdictIn, IsVerdictTold, IsIdlVerdict, IsSchemaTextOf, StopsAtRead, IsUnreadIdl};
 ghost use Rattle.idl_check.specs.Telling.{TellsWhy, TellsSchema, RefusesIn, is_file_fault};
 
 use crate::kinds::{IdlFaultKind, check_kind, load_kind};
@@ -91,7 +91,7 @@ fn schema_among<F: Files>(alloc: Global, files: &mut F, main: &str) -> Result<Sc
 
 /// Why there is no schema of a program whose loading stopped.
 fn unloaded(fault: LoadFault) -> NoSchema
-    ensures why { (come : Loaded) → IsFlawOf come fault → TellsWhy (IsIdlVerdictOn come) (is_file fault.kind ≡ true) result }
+    ensures why { (come : Loaded) → IsFlawOf come fault → TellsWhy (IsIdlVerdictOfLoaded come) (is_file fault.kind ≡ true) result }
     ensures unread { is_file_fault result ≡ is_file fault.kind }
 {
     let LoadFault { file, at, kind } = fault;
@@ -117,7 +117,7 @@ fn is_file(kind: LoadKind) -> bool
 /// The schema of a program of files.
 fn checked_schema(alloc: Global, sources: &Sources) -> Result<Schema, NoSchema>
     requires { AreFiles (sources_in sources.now) }
-    ensures schema { TellsSchema (IsIdlVerdictOn (loaded (program_in (sources_in sources.now)))) ⊥ result }
+    ensures schema { TellsSchema (IsIdlVerdictOfLoaded (loaded (program_in (sources_in sources.now)))) ⊥ result }
     ensures no_fault { IfErr result (λ reason. is_file_fault reason ≡ false) }
 {
     match check(alloc, sources) {
@@ -129,7 +129,7 @@ fn checked_schema(alloc: Global, sources: &Sources) -> Result<Schema, NoSchema>
 /// Why there is no schema of a program with this first fault.
 fn unchecked(alloc: Global, files: &[IdlFile], fault: CheckFault) -> NoSchema
     requires { TellsFlaw (IsFirstFlaw (program_in files.now)) fault }
-    ensures why { TellsWhy (IsIdlVerdictOn (loaded (program_in files.now))) ⊥ result }
+    ensures why { TellsWhy (IsIdlVerdictOfLoaded (loaded (program_in files.now))) ⊥ result }
     ensures no_fault { is_file_fault result ≡ false }
 {
     match check_kind(fault.kind) {

@@ -14,7 +14,7 @@ use Rattle.idl_include.specs.declared.sources.IdlFile.{IdlFile}
 use Rattle.idl_include.specs.SourcesOf.{program_in, AreBegun, AreFiles}
 use Rattle.idl_include.specs.Loads.{Tells, AreRead, IsFlawOf, IsReadFault, IsReaderBut, TellsBut, is_file}
 use Rattle.idl_include.specs.Begun.{IsNewName}
-use Rattle.idl_include.specs.Steps.{FileReader, LoadStage, file_left, all_loaded, LoadGoesOn, StopsUnread, LoadEnds}
+use Rattle.idl_include.specs.Steps.{FileReader, LoadStage, file_left, all_loaded, LoadProceeds, StopsUnread, LoadEnds}
 use Rattle.idl_include.proofs.Begins.{begun_none, neither}
 
 -- at the front nothing was begun
@@ -36,7 +36,7 @@ whole_is main above begun reader e f =
     ap (λ (a : List (List ℕ)). at a []) (sym e) ∙ ap (λ (b : List IdlFile). at above b) (sym f)
 
 pub is_loaded : (main : List ℕ) (above : List (List ℕ)) (a : LoadStage) (b : LoadStage) (reader : FileReader) → above ≡ [] → a.begun ≡ []
-    → LoadGoesOn a b (file_left (suc most_files) above main a.begun) (all_loaded b.begun) → Tells a.told reader
+    → LoadProceeds a b (file_left (suc most_files) above main a.begun) (all_loaded b.begun) → Tells a.told reader
     → (program_of reader main ≡ loaded (program_in b.begun)) × AreRead reader b.begun
 is_loaded main above a b reader e f g t =
     let r : AreRead reader b.begun = g.moves.read reader t (read_at_front reader a.begun f) in
@@ -103,5 +103,5 @@ is_read_fault some main above a b fault stop s e f g file =
           (but_is a.told fault.file flaw reader but);
     }
 
-pub are_files : (a b : LoadStage) (was is : FileReader → Loaded) → LoadGoesOn a b was is → length a.begun < length b.begun → AreFiles b.begun
+pub are_files : (a b : LoadStage) (was is : FileReader → Loaded) → LoadProceeds a b was is → length a.begun < length b.begun → AreFiles b.begun
 are_files a b was is g more = record { some = omega (arith, more); begun = g.begun }

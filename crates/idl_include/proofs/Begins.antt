@@ -29,7 +29,7 @@ use Rattle.idl_include.specs.declared.sources.IdlFile.{IdlFile}
 use Rattle.idl_include.specs.SourcesOf.{file_in, program_in, IsOfSomeText, IsFile, HaveOwnBases, AreBegun}
 use Rattle.idl_include.specs.Loads.{Tells, AreRead, IsRead, IsUnreadAt, IsReadableFile, LoadStopsAt, StopsWith, flaw_kind, is_unread, is_wrong_want}
 use Rattle.idl_include.specs.Begun.{IsFreshFile, IsStarted, IsNewName}
-use Rattle.idl_include.specs.Steps.{FileReader, load_stage, file_left, includes_left, LoadMoves, LoadGoesOn, EndsUnread, LoadEnds}
+use Rattle.idl_include.specs.Steps.{FileReader, load_stage, file_left, includes_left, LoadMoves, LoadProceeds, EndsUnread, LoadEnds}
 use Rattle.idl_include.proofs.Stages.{moves_to, ends_with}
 
 -- ---- files behind others
@@ -191,7 +191,7 @@ start_moves told other faults now name document before after wanted same later t
 pub start_goes : DeclaresTree → IncludesTree → (levels : ℕ) (above : List (List ℕ)) (told other : Option (List File)) (faults now : ℕ) (name : List ℕ) (document : Document) (before after : List IdlFile) (wanted : List Written)
     → AreBegun before → IsNewName name before → length before < most_files → IsOfSomeText document
     → other ≡ told → faults ≤ now → ((reader : FileReader) → Tells told reader → IsRead name (reader name) (Ok document)) → IsStarted name document before after wanted
-    → LoadGoesOn (load_stage told faults before) (load_stage other now after) (file_left (suc levels) above name before)
+    → LoadProceeds (load_stage told faults before) (load_stage other now after) (file_left (suc levels) above name before)
     (includes_left levels (name ∷ above) name (length before) wanted after)
 start_goes declares includes levels above told other faults now name document before after wanted begun new room text same later tells s =
     let more = one_more name document before after wanted s in

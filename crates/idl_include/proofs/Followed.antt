@@ -10,10 +10,10 @@ use Rattle.idl_include.specs.declared.opening.WantedFile.{WantedFile}
 use Rattle.idl_include.specs.declared.sources.IdlFile.{IdlFile}
 use Rattle.idl_include.specs.SourcesOf.{AreBegun}
 use Rattle.idl_include.specs.Begun.{written_in, wanted_in}
-use Rattle.idl_include.specs.Steps.{FileReader, LoadStage, file_left, includes_left, include_left, all_loaded, LoadGoesOn, LoadEnds, LoadSteps}
+use Rattle.idl_include.specs.Steps.{FileReader, LoadStage, file_left, includes_left, include_left, all_loaded, LoadProceeds, LoadEnds, LoadSteps}
 use Rattle.idl_include.proofs.Stages.{moves_none, goes_on, goes_from, goes_to, goes_before, ends_on, ends_from, ends_before, steps_on}
 
-pub goes_none : (a : LoadStage) (was : FileReader → Loaded) → AreBegun a.begun → LoadGoesOn a a was was
+pub goes_none : (a : LoadStage) (was : FileReader → Loaded) → AreBegun a.begun → LoadProceeds a a was was
 goes_none a was begun = record { moves = moves_none a; longer = omega arith; begun = begun; comes = λ reader r. refl }
 
 -- the includes behind one
@@ -32,9 +32,9 @@ one_is levels above now file of wanted i one begun reader l is same =
 
 pub followed_goes : (levels : ℕ) (above now : List (List ℕ)) (file : List ℕ) (of : ℕ) (wanted : List WantedFile) (i : ℕ) (one : WantedFile) (a b c : LoadStage) (was : FileReader → Loaded)
     → i < length wanted → one ≡ get_or wanted i one → now ≡ above
-    → LoadGoesOn a b was (includes_left levels above file of (wanted_in (drop i wanted)) b.begun)
-    → LoadGoesOn b c (include_left levels now file of (written_in one) b.begun) (all_loaded c.begun)
-    → LoadGoesOn a c was (includes_left levels above file of (wanted_in (drop (i + 1) wanted)) c.begun)
+    → LoadProceeds a b was (includes_left levels above file of (wanted_in (drop i wanted)) b.begun)
+    → LoadProceeds b c (include_left levels now file of (written_in one) b.begun) (all_loaded c.begun)
+    → LoadProceeds a c was (includes_left levels above file of (wanted_in (drop (i + 1) wanted)) c.begun)
 unfolding behind_one
 followed_goes levels above now file of wanted i one a b c was l is same g h =
     goes_on a b c was (includes_left levels above file of (wanted_in (drop i wanted)) b.begun) (includes_left levels above file of (wanted_in (drop (i + 1) wanted)) c.begun) g
@@ -45,7 +45,7 @@ followed_goes levels above now file of wanted i one a b c was l is same g h =
 
 pub followed_ends : (levels : ℕ) (above now : List (List ℕ)) (file : List ℕ) (of : ℕ) (wanted : List WantedFile) (i : ℕ) (one : WantedFile) (a b c : LoadStage) (was : FileReader → Loaded) (stop : LoadStop)
     → i < length wanted → one ≡ get_or wanted i one → now ≡ above
-    → LoadGoesOn a b was (includes_left levels above file of (wanted_in (drop i wanted)) b.begun)
+    → LoadProceeds a b was (includes_left levels above file of (wanted_in (drop i wanted)) b.begun)
     → LoadEnds b c (include_left levels now file of (written_in one) b.begun) stop
     → LoadEnds a c was stop
 followed_ends levels above now file of wanted i one a b c was stop l is same g h =
@@ -56,7 +56,7 @@ followed_ends levels above now file of wanted i one a b c was stop l is same g h
     (ends_before b c (include_left levels now file of (written_in one) b.begun) (behind_one levels above file of (drop (i + 1) wanted)) stop h))
 
 pub all_followed : (levels : ℕ) (above : List (List ℕ)) (file : List ℕ) (of : ℕ) (wanted : List WantedFile) (i : ℕ) (a b : LoadStage) (was : FileReader → Loaded) → length wanted ≤ i
-    → LoadGoesOn a b was (includes_left levels above file of (wanted_in (drop i wanted)) b.begun) → LoadGoesOn a b was (all_loaded b.begun)
+    → LoadProceeds a b was (includes_left levels above file of (wanted_in (drop i wanted)) b.begun) → LoadProceeds a b was (all_loaded b.begun)
 all_followed levels above file of wanted i a b was l g =
     goes_to a b was (includes_left levels above file of (wanted_in (drop i wanted)) b.begun) (all_loaded b.begun)
     (λ reader. at_drop_all (λ (ws : List WantedFile). includes_left levels above file of (wanted_in ws) b.begun reader) wanted i l) g
@@ -64,7 +64,7 @@ all_followed levels above file of wanted i a b was l g =
 -- a file that was begun, and its includes
 pub file_steps : {A : Type 0} (levels n : ℕ) (above inside : List (List ℕ)) (name : List ℕ) (of : ℕ) (wanted slice : List WantedFile) (a b c : LoadStage) (result : Result A LoadStop) → levels ≡ suc n
     → of ≡ length a.begun → slice ≡ wanted
-    → LoadGoesOn a b (file_left (suc n) above name a.begun) (includes_left n inside name (length a.begun) (wanted_in wanted) b.begun)
+    → LoadProceeds a b (file_left (suc n) above name a.begun) (includes_left n inside name (length a.begun) (wanted_in wanted) b.begun)
     → LoadSteps result b c (includes_left n inside name of (wanted_in slice) b.begun) (λ _. all_loaded c.begun)
     → LoadSteps result a c (file_left levels above name a.begun) (λ _. all_loaded c.begun)
 file_steps levels n above inside name of wanted slice a b c result e same here g h =
@@ -83,7 +83,7 @@ ends_at_level levels n above name a b stop e h =
     ends_from a b (file_left (suc n) above name a.begun) (file_left levels above name a.begun) stop (λ reader. ap (λ (k : ℕ). file_left k above name a.begun reader) e) h
 
 pub goes_inside : (n : ℕ) (inside other : List (List ℕ)) (name : List ℕ) (of : ℕ) (wanted : List WantedFile) (a b : LoadStage) (was : FileReader → Loaded) → inside ≡ other
-    → LoadGoesOn a b was (includes_left n other name of (wanted_in wanted) b.begun) → LoadGoesOn a b was (includes_left n inside name of (wanted_in wanted) b.begun)
+    → LoadProceeds a b was (includes_left n other name of (wanted_in wanted) b.begun) → LoadProceeds a b was (includes_left n inside name of (wanted_in wanted) b.begun)
 goes_inside n inside other name of wanted a b was e g =
     goes_to a b was (includes_left n other name of (wanted_in wanted) b.begun) (includes_left n inside name of (wanted_in wanted) b.begun)
     (λ reader. ap (λ (names : List (List ℕ)). includes_left n names name of (wanted_in wanted) b.begun reader) (sym e)) g

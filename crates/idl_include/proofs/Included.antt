@@ -21,7 +21,7 @@ use Rattle.idl_include.specs.declared.sources.IdlFile.{IdlFile}
 use Rattle.idl_include.specs.SourcesOf.{file_in, program_in, IsFile, AreBegun}
 use Rattle.idl_include.specs.Loads.{StopsWith, flaw_kind, is_file, is_inner_want}
 use Rattle.idl_include.specs.Begun.{include_meant, IsNewName, IsRefusedAs, IsRefusedAt, KeepsFiles}
-use Rattle.idl_include.specs.Steps.{FileReader, LoadStage, load_stage, file_left, include_left, all_loaded, LoadMoves, LoadGoesOn, LoadEnds}
+use Rattle.idl_include.specs.Steps.{FileReader, LoadStage, load_stage, file_left, include_left, all_loaded, LoadMoves, LoadProceeds, LoadEnds}
 use Rattle.idl_include.proofs.Stages.{moves_none, moved, goes_on, goes_from, goes_before, ends_from, ends_before, ends_with, ends_for_want}
 
 -- ---- places among the files
@@ -139,7 +139,7 @@ moves_keeping told faults before after k = record { same = refl; later = omega a
 pub before_goes : (levels : ℕ) (above : List (List ℕ)) (file : List ℕ) (of number : ℕ) (w : Written) (told : Option (List File)) (faults : ℕ) (before after : List IdlFile)
     → include_meant above file w before ≡ loaded_before number → KeepsFiles before after
     → program_in after ≡ linked of number (program_in before)
-    → LoadGoesOn (load_stage told faults before) (load_stage told faults after) (include_left levels above file of w before) (all_loaded after)
+    → LoadProceeds (load_stage told faults before) (load_stage told faults after) (include_left levels above file of w before) (all_loaded after)
 before_goes levels above file of number w told faults before after meant k l =
     let many = k.as_many in
     record {
@@ -160,17 +160,17 @@ new_is levels above file of w before name reader meant e =
 
 pub new_goes : (levels : ℕ) (above : List (List ℕ)) (file : List ℕ) (of : ℕ) (w : Written) (a : LoadStage) (told : Option (List File)) (faults : ℕ) (between after : List IdlFile) (name : List ℕ)
     → include_meant above file w a.begun ≡ new_file → name ≡ included_name file w.text
-    → LoadGoesOn a (load_stage told faults between) (file_left levels above name a.begun) (all_loaded between)
+    → LoadProceeds a (load_stage told faults between) (file_left levels above name a.begun) (all_loaded between)
     → KeepsFiles between after → program_in after ≡ linked of (length a.begun) (program_in between)
-    → LoadGoesOn a (load_stage told faults after) (include_left levels above file of w a.begun) (all_loaded after)
+    → LoadProceeds a (load_stage told faults after) (include_left levels above file of w a.begun) (all_loaded after)
 new_goes levels above file of w a told faults between after name meant e g k l =
     let next : FileReader → Program → Loaded = λ reader more. loaded (linked of (length (program_in a.begun)) more) in
-    let first : LoadGoesOn a (load_stage told faults between) (include_left levels above file of w a.begun) (λ reader. next reader (program_in between)) =
+    let first : LoadProceeds a (load_stage told faults between) (include_left levels above file of w a.begun) (λ reader. next reader (program_in between)) =
     goes_from a (load_stage told faults between) (λ reader. and_then (file_left levels above name a.begun reader) (next reader)) (include_left levels above file of w a.begun)
     (λ reader. next reader (program_in between)) (λ reader. new_is levels above file of w a.begun name reader meant e)
     (goes_before a (load_stage told faults between) (file_left levels above name a.begun) between next g) in
     let many = k.as_many in
-    let second : LoadGoesOn (load_stage told faults between) (load_stage told faults after) (λ reader. next reader (program_in between)) (all_loaded after) = record {
+    let second : LoadProceeds (load_stage told faults between) (load_stage told faults after) (λ reader. next reader (program_in between)) (all_loaded after) = record {
       moves = moves_keeping told faults between after k;
       longer = omega (arith, many);
       begun = k.begun;

@@ -15,7 +15,7 @@ use Rattle.idl_include.specs.declared.faults.LoadStop.TheVariants as stops
 use Rattle.idl_include.specs.declared.sources.IdlFile.{IdlFile}
 use Rattle.idl_include.specs.SourcesOf.{program_in}
 use Rattle.idl_include.specs.Loads.{Tells, AreRead, IsReadableFile, LoadStopsAt, StopsWith, flaw_kind, is_file, is_inner_want, is_unread, is_wrong_want}
-use Rattle.idl_include.specs.Steps.{FileReader, LoadStage, load_stage, all_loaded, LoadMoves, LoadGoesOn, StopsUnread, EndsUnread, LoadEnds, LoadSteps}
+use Rattle.idl_include.specs.Steps.{FileReader, LoadStage, load_stage, all_loaded, LoadMoves, LoadProceeds, StopsUnread, EndsUnread, LoadEnds, LoadSteps}
 
 -- a count that rose has risen from each lower one
 lower_min : (a b m c : ℕ) → a ≤ b → min (b + 1) m ≤ c → min (a + 1) m ≤ c
@@ -54,7 +54,7 @@ moved a b c g h = record {
 
 -- ---- going on
 
-pub goes_on : (a b c : LoadStage) (was mid is : FileReader → Loaded) → LoadGoesOn a b was mid → LoadGoesOn b c mid is → LoadGoesOn a c was is
+pub goes_on : (a b c : LoadStage) (was mid is : FileReader → Loaded) → LoadProceeds a b was mid → LoadProceeds b c mid is → LoadProceeds a c was is
 goes_on a b c was mid is g h = record {
   moves = moved a b c g.moves h.moves;
   longer = omega (arith, g.longer, h.longer);
@@ -63,15 +63,15 @@ goes_on a b c was mid is g h = record {
 }
 
 -- what was left is spelled in another way
-pub goes_from : (a b : LoadStage) (was other is : FileReader → Loaded) → ((reader : FileReader) → other reader ≡ was reader) → LoadGoesOn a b was is → LoadGoesOn a b other is
+pub goes_from : (a b : LoadStage) (was other is : FileReader → Loaded) → ((reader : FileReader) → other reader ≡ was reader) → LoadProceeds a b was is → LoadProceeds a b other is
 goes_from a b was other is e g = record { moves = g.moves; longer = g.longer; begun = g.begun; comes = λ reader r. e reader ∙ g.comes reader r }
 
-pub goes_to : (a b : LoadStage) (was is other : FileReader → Loaded) → ((reader : FileReader) → is reader ≡ other reader) → LoadGoesOn a b was is → LoadGoesOn a b was other
+pub goes_to : (a b : LoadStage) (was is other : FileReader → Loaded) → ((reader : FileReader) → is reader ≡ other reader) → LoadProceeds a b was is → LoadProceeds a b was other
 goes_to a b was is other e g = record { moves = g.moves; longer = g.longer; begun = g.begun; comes = λ reader r. g.comes reader r ∙ e reader }
 
 -- something is left behind it
-pub goes_before : (a b : LoadStage) (was : FileReader → Loaded) (files : List IdlFile) (next : FileReader → Program → Loaded) → LoadGoesOn a b was (all_loaded files)
-    → LoadGoesOn a b (λ reader. and_then (was reader) (next reader)) (λ reader. next reader (program_in files))
+pub goes_before : (a b : LoadStage) (was : FileReader → Loaded) (files : List IdlFile) (next : FileReader → Program → Loaded) → LoadProceeds a b was (all_loaded files)
+    → LoadProceeds a b (λ reader. and_then (was reader) (next reader)) (λ reader. next reader (program_in files))
 goes_before a b was files next g = record {
   moves = g.moves;
   longer = g.longer;
@@ -94,7 +94,7 @@ unread_on told other begun was mid (stops.At fault) same e h = λ file.
       stops_there = λ flaw reader r u. e reader r ∙ f.stops_there flaw reader r u;
     }
 
-pub ends_on : (a b c : LoadStage) (was mid : FileReader → Loaded) (stop : LoadStop) → LoadGoesOn a b was mid → LoadEnds b c mid stop → LoadEnds a c was stop
+pub ends_on : (a b c : LoadStage) (was mid : FileReader → Loaded) (stop : LoadStop) → LoadProceeds a b was mid → LoadEnds b c mid stop → LoadEnds a c was stop
 ends_on a b c was mid stop g h = record {
   moves = moved a b c g.moves h.moves;
   flaw = λ reader t r.
@@ -197,6 +197,6 @@ ends_with a b was file at kind flaw stop moves s told read want e =
 -- ---- results
 
 pub steps_on : {A : Type 0} (a b c : LoadStage) (was mid : FileReader → Loaded) (is : A → FileReader → Loaded) (result : Result A LoadStop)
-    → LoadGoesOn a b was mid → LoadSteps result b c mid is → LoadSteps result a c was is
+    → LoadProceeds a b was mid → LoadSteps result b c mid is → LoadSteps result a c was is
 steps_on a b c was mid is (Ok done) g h = goes_on a b c was mid (is done) g h
 steps_on a b c was mid is (Err stop) g h = ends_on a b c was mid stop g h

@@ -59,7 +59,7 @@ pub record LoadMoves (before after : LoadStage) : Type 0 where
   pub read : (reader : FileReader) → Tells before.told reader → AreRead reader before.begun → AreRead reader after.begun
 
 -- Loading went on: by each reader that is right about the files begun by now, what was left before comes to what is left now.
-pub record LoadGoesOn (before after : LoadStage) (was is : FileReader → Loaded) : Type 0 where
+pub record LoadProceeds (before after : LoadStage) (was is : FileReader → Loaded) : Type 0 where
   pub moves : LoadMoves before after
   pub longer : length before.begun ≤ length after.begun
   pub begun : AreBegun after.begun
@@ -88,4 +88,4 @@ pub record LoadEnds (before after : LoadStage) (was : FileReader → Loaded) (st
 
 -- a step of loading
 abbrev pub LoadSteps : {A : Type 0} → Result A LoadStop → LoadStage → LoadStage → (FileReader → Loaded) → (A → FileReader → Loaded) → Type 0
-LoadSteps result before after was is = MatchResult result (λ done. LoadGoesOn before after was (is done)) (LoadEnds before after was)
+LoadSteps result before after was is = MatchResult result (λ done. LoadProceeds before after was (is done)) (LoadEnds before after was)

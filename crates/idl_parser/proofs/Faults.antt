@@ -4,7 +4,7 @@ use mathlib.Core.List.{append-nil}
 use Rattle.std.proofs.lemmas.List.{append_assoc, length-append}
 use Rattle.idl_parser.specs.Phrases.{Lexeme, Node}
 use Rattle.idl_parser.specs.Documents.{document, DocumentIn}
-use Rattle.idl_parser.specs.FirstFault.{CanGoOn, IsFirstSyntaxFault}
+use Rattle.idl_parser.specs.FirstFault.{BeginsDocument, IsFirstSyntaxFault}
 use Rattle.idl_parser.specs.Reading.{ParseResult, done, failed, rest_of, whole, read}
 use Rattle.idl_parser.proofs.Sound.{cut, sound}
 use Rattle.idl_parser.proofs.Complete.{complete}
@@ -25,7 +25,7 @@ moved_rest (failed d r) rest = refl
 
 -- where the reading ends before a symbol, no document goes on with it
 pub stuck_at : (n levels : ℕ) (front : List Lexeme) (t : Lexeme) (r : List Lexeme) → length (front ++ t ∷ r) ≤ n
-    → rest_of (read n (document levels) (front ++ t ∷ r)) ≡ t ∷ r → CanGoOn levels (front ++ t ∷ []) → ⊥
+    → rest_of (read n (document levels) (front ++ t ∷ r)) ≡ t ∷ r → BeginsDocument levels (front ++ t ∷ []) → ⊥
 stuck_at n levels front t r most ends (w, d, h) =
     let us : List Lexeme = front ++ t ∷ w in
     let ts : List Lexeme = front ++ t ∷ r in
@@ -83,7 +83,7 @@ begun_by n levels ts (failed d rest) e =
 
 -- with one more level the reading goes on behind a symbol
 deep_at : (n levels : ℕ) (front : List Lexeme) (t : Lexeme) (r : List Lexeme)
-    → length (rest_of (read n (document levels) (front ++ t ∷ r))) ≤ length r → CanGoOn levels (front ++ t ∷ [])
+    → length (rest_of (read n (document levels) (front ++ t ∷ r))) ≤ length r → BeginsDocument levels (front ++ t ∷ [])
 deep_at n levels front t r less =
     let o = read n (document levels) (front ++ t ∷ r) in
     let b = begun_by n levels (front ++ t ∷ r) o refl in
@@ -131,7 +131,7 @@ ended (failed false r) d rest e =
       at_end = λ none_left. λ i. failed (k i) ((s ∙ none_left) i);
     }
 
-fault_with : (n levels : ℕ) (ts : List Lexeme) (d : Bool) (rest front : List Lexeme) → ts ≡ front ++ rest → CanGoOn levels front → length ts ≤ n
+fault_with : (n levels : ℕ) (ts : List Lexeme) (d : Bool) (rest front : List Lexeme) → ts ≡ front ++ rest → BeginsDocument levels front → length ts ≤ n
     → Ended (read n (document levels) ts) d rest → IsFirstSyntaxFault levels ts rest d
 fault_with n levels ts true [] front is before most ended =
     let on = goes_on n (document levels) (document (suc levels)) (deeper_document levels) ts in

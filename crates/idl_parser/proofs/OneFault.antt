@@ -6,14 +6,14 @@ use Rattle.idl_token.specs.declared.Token.{Token}
 use Rattle.idl_parser.specs.declared.ParseFault.{ParseFault}
 use Rattle.idl_parser.specs.Phrases.{Lexeme}
 use Rattle.idl_parser.specs.Documents.{deepest, document, DocumentIn}
-use Rattle.idl_parser.specs.FirstFault.{CanGoOn, IsDeep, IsFirstSyntaxFault, AreDocument, HasFirstSyntaxFault}
+use Rattle.idl_parser.specs.FirstFault.{BeginsDocument, IsDeep, IsFirstSyntaxFault, AreDocument, HasFirstSyntaxFault}
 use Rattle.idl_parser.specs.Reading.{ParseResult, done, failed, whole, read}
 use Rattle.idl_parser.specs.Symbols.{lexemes}
 use Rattle.idl_parser.specs.Faults.{next_place, fault_kind, IsFaultOf}
 use Rattle.idl_parser.proofs.Faults.{longer, document_is_read, fault_is_first}
 
 -- what goes on behind some symbols goes on behind the first of them
-shorter : (levels : ℕ) (front more : List Lexeme) → CanGoOn levels (front ++ more) → CanGoOn levels front
+shorter : (levels : ℕ) (front more : List Lexeme) → BeginsDocument levels (front ++ more) → BeginsDocument levels front
 shorter levels front more (w, d, h) = (more ++ w, d, subst (λ k. DocumentIn levels k d) (append_assoc front more w) h)
 
 -- the rest behind one first fault isn't shorter than that behind another
@@ -22,7 +22,7 @@ not_shorter : (levels : ℕ) (ts rest left : List Lexeme) (deep further : Bool)
 not_shorter levels ts [] left deep further a b less = let no_room : ⊥ = omega arith in no_room
 not_shorter levels ts (t ∷ rest) left deep further a b less =
     let on = longer a.front t rest b.front left (sym a.is ∙ b.is) (omega arith) in
-    a.here (shorter levels (a.front ++ t ∷ []) on.0 (subst (CanGoOn levels) on.1 b.before))
+    a.here (shorter levels (a.front ++ t ∷ []) on.0 (subst (BeginsDocument levels) on.1 b.before))
 
 -- equal lists cut where as much is left
 record SameCut (front rest front' rest' : List Lexeme) : Type 0 where

@@ -8,7 +8,7 @@ use Rattle.std.proofs.lemmas.List.{take-append-drop, take_all, drop_all}
 use Rattle.idl_token.specs.declared.terminal.Terminal.{Terminal}
 use Rattle.idl_parser.specs.Phrases.{Lexeme, none, pair, Phrase}
 use Rattle.idl_parser.specs.Documents.{document, DocumentIn}
-use Rattle.idl_parser.specs.FirstFault.{CanGoOn, IsStuck, IsDeep, IsFirstSyntaxFault}
+use Rattle.idl_parser.specs.FirstFault.{BeginsDocument, IsStuck, IsDeep, IsFirstSyntaxFault}
 use Rattle.idl_plain.specs.PlainPhrases.{terminals, DerivesFront, DerivesBetween, BeginsWith}
 use Rattle.idl_plain.proofs.PlainLists.{any_among, among_any, among_contained, contained_among, terminals_long}
 
@@ -36,13 +36,13 @@ terminals-take (suc n) [] = refl
 terminals-take (suc n) (t ∷ ts) = ap (λ l. t.what ∷ l) (terminals-take n ts)
 
 -- some document begins with no symbols
-pub nothing_begins : (levels : ℕ) (ts : List Lexeme) → CanGoOn levels (take 0 ts)
+pub nothing_begins : (levels : ℕ) (ts : List Lexeme) → BeginsDocument levels (take 0 ts)
 unfolding document
 nothing_begins levels ts = ([], pair none none, ([], none, none, (zero, (refl, refl)), (zero, (refl, refl)), refl))
 
 -- no document goes on with the symbol at a place
-pub stuck : (levels : ℕ) (ts : List Lexeme) (at : ℕ) (deep : Bool) → at < length ts → CanGoOn levels (take at ts)
-    → (CanGoOn levels (take (at + 1) ts) → ⊥) → (IsTrue deep ↔ CanGoOn (suc levels) (take (at + 1) ts))
+pub stuck : (levels : ℕ) (ts : List Lexeme) (at : ℕ) (deep : Bool) → at < length ts → BeginsDocument levels (take at ts)
+    → (BeginsDocument levels (take (at + 1) ts) → ⊥) → (IsTrue deep ↔ BeginsDocument (suc levels) (take (at + 1) ts))
     → (at ≤ length ts) × IsFirstSyntaxFault levels ts (drop at ts) deep
 stuck levels ts at deep less before fails one_level =
     let o = one_more ts at less in (
@@ -51,16 +51,16 @@ stuck levels ts at deep less before fails one_level =
         front = take at ts;
         is = sym (take-append-drop at ts);
         before = before;
-        here = subst (IsStuck levels (take at ts)) (sym o.left) (λ g. fails (subst (CanGoOn levels) (sym o.front) g));
+        here = subst (IsStuck levels (take at ts)) (sym o.left) (λ g. fails (subst (BeginsDocument levels) (sym o.front) g));
         deep = (
-          λ h. subst (IsDeep levels (take at ts)) (sym o.left) (subst (CanGoOn (suc levels)) o.front (one_level.0 h)),
-          λ h. one_level.1 (subst (CanGoOn (suc levels)) (sym o.front) (subst (IsDeep levels (take at ts)) o.left h)),
+          λ h. subst (IsDeep levels (take at ts)) (sym o.left) (subst (BeginsDocument (suc levels)) o.front (one_level.0 h)),
+          λ h. one_level.1 (subst (BeginsDocument (suc levels)) (sym o.front) (subst (IsDeep levels (take at ts)) o.left h)),
         );
       },
     )
 
 -- all symbols are no document
-pub unended : (levels : ℕ) (ts : List Lexeme) (at : ℕ) → at ≡ length ts → CanGoOn levels (take at ts) → (DerivesFront (document levels) ts [] → ⊥)
+pub unended : (levels : ℕ) (ts : List Lexeme) (at : ℕ) → at ≡ length ts → BeginsDocument levels (take at ts) → (DerivesFront (document levels) ts [] → ⊥)
     → (at ≤ length ts) × IsFirstSyntaxFault levels ts (drop at ts) false
 unended levels ts at is before fails =
     let whole : take at ts ≡ ts = take_all at ts (omega arith) in
@@ -98,10 +98,10 @@ front_is symbols front ts n same is = terminals-take n ts ∙ ap (take n) same �
 pub long_as : (ts : List Lexeme) (symbols : List Terminal) → terminals ts ≡ symbols → length symbols ≡ length ts
 long_as ts symbols same = sym (ap length same) ∙ terminals_long ts
 
-pub begins_can : (levels : ℕ) (front : List Lexeme) → BeginsWith (document levels) front → CanGoOn levels front
+pub begins_can : (levels : ℕ) (front : List Lexeme) → BeginsWith (document levels) front → BeginsDocument levels front
 begins_can levels front b = (b.0, b.1.0, b.1.1)
 
-pub can_begin : (levels : ℕ) (front : List Lexeme) → CanGoOn levels front → BeginsWith (document levels) front
+pub can_begin : (levels : ℕ) (front : List Lexeme) → BeginsDocument levels front → BeginsWith (document levels) front
 can_begin levels front g = (g.0, (g.1, g.2))
 
 pub not_both : (b : Bool) → IsTrue b → b ≡ false → ⊥

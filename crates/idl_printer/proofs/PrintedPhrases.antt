@@ -17,20 +17,20 @@ use Rattle.idl_parser.specs.Unplaced.{nowhere}
 use Rattle.idl_printer.specs.Unplaced.{without_places}
 use Rattle.idl_printer.specs.Printed.{behind_comma, separated}
 use Rattle.idl_parser.proofs.Sound.{cut}
-use Rattle.idl_token.specs.Spellings.{BareToken, parted, any, Spells}
+use Rattle.idl_token.specs.Spellings.{BareToken, parted, any, SpellsToken}
 use Rattle.idl_token.proofs.Spellings.{joined, nothing as spells_nothing, white as spells_white, word as spells_word}
 use Rattle.idl_printer.proofs.Marks.{Marked, marked_split, AreSound}
 
 -- a text spells a phrase with a tree, places aside
 pub record IsText (P : List ℕ → Bool) (p : Phrase) (x : Node) (text : List ℕ) : Type 0 where
   pub marks : List BareToken
-  pub spells : Spells P text marks
+  pub spells : SpellsToken P text marks
   pub stands : (ts rest : List Lexeme) → Marked ts marks rest → (n : Node) × Derives p ts n rest × (without_places n ≡ without_places x)
 
 -- the same of a phrase with any tree
 pub record IsWord (P : List ℕ → Bool) (p : Phrase) (text : List ℕ) : Type 0 where
   pub marks : List BareToken
-  pub spells : Spells P text marks
+  pub spells : SpellsToken P text marks
   pub stands : (ts rest : List Lexeme) → Marked ts marks rest → (n : Node) × Derives p ts n rest
 
 -- what was read as this phrase with this tree is spelled by the text
@@ -55,7 +55,7 @@ sound_behind p ts x rest h sounds =
     sound_rest c.front rest (subst AreSound c.is sounds)
 
 -- other texts of the same symbols
-pub prints_as : {P Q : List ℕ → Bool} {p : Phrase} {x : Node} {first second : List ℕ} → ((ms : List BareToken) → Spells P first ms → Spells Q second ms)
+pub prints_as : {P Q : List ℕ → Bool} {p : Phrase} {x : Node} {first second : List ℕ} → ((ms : List BareToken) → SpellsToken P first ms → SpellsToken Q second ms)
     → Prints P p x first → Prints Q p x second
 prints_as as_well a_text = record {
   print = λ ts rest sounds h.
@@ -63,20 +63,20 @@ prints_as as_well a_text = record {
       record { marks = t.marks; spells = as_well t.marks t.spells; stands = t.stands };
 }
 
-pub word_as : {P Q : List ℕ → Bool} {p : Phrase} {first second : List ℕ} → ((ms : List BareToken) → Spells P first ms → Spells Q second ms)
+pub word_as : {P Q : List ℕ → Bool} {p : Phrase} {first second : List ℕ} → ((ms : List BareToken) → SpellsToken P first ms → SpellsToken Q second ms)
     → IsWord P p first → IsWord Q p second
 word_as as_well a_text = record { marks = a_text.marks; spells = as_well a_text.marks a_text.spells; stands = a_text.stands }
 
 -- white space in front and behind
-white_front : (P : List ℕ → Bool) (text : List ℕ) (b : ℕ) → is_white b ≡ true → (ms : List BareToken) → Spells P text ms → Spells P (b ∷ text) ms
+white_front : (P : List ℕ → Bool) (text : List ℕ) (b : ℕ) → is_white b ≡ true → (ms : List BareToken) → SpellsToken P text ms → SpellsToken P (b ∷ text) ms
 white_front P text b h ms u = joined any P (b ∷ []) text [] ms (spells_white b h) u (λ more p. refl)
 
 white_end : (P : List ℕ → Bool) (text : List ℕ) (b : ℕ) → is_white b ≡ true → ((more : List ℕ) → P (b ∷ more) ≡ true) → (ms : List BareToken)
-    → Spells P text ms → Spells any (text ++ b ∷ []) ms
+    → SpellsToken P text ms → SpellsToken any (text ++ b ∷ []) ms
 white_end P text b h e ms u =
-    subst (λ ns. Spells any (text ++ b ∷ []) ns) (append-nil ms) (joined P any text (b ∷ []) ms [] u (spells_white b h) (λ more p. e more))
+    subst (λ ns. SpellsToken any (text ++ b ∷ []) ns) (append-nil ms) (joined P any text (b ∷ []) ms [] u (spells_white b h) (λ more p. e more))
 
-anywhere : (P : List ℕ → Bool) (text : List ℕ) (ms : List BareToken) → Spells any text ms → Spells P text ms
+anywhere : (P : List ℕ → Bool) (text : List ℕ) (ms : List BareToken) → SpellsToken any text ms → SpellsToken P text ms
 anywhere P text ms u more p = u more refl
 
 pub prints_front : {P : List ℕ → Bool} {p : Phrase} {x : Node} {text : List ℕ} (b : ℕ) → is_white b ≡ true → Prints P p x text → Prints P p x (b ∷ text)
@@ -307,9 +307,9 @@ prints_marked {P} {p} {x} at a_text = record {
 pub record IsWordOf (P : List ℕ → Bool) (k : Terminal) (text : List ℕ) : Type 0 where
   pub mark : BareToken
   pub what : terminal_of mark.kind mark.bytes ≡ k
-  pub spells : Spells P text (mark ∷ [])
+  pub spells : SpellsToken P text (mark ∷ [])
 
-pub word_of_as : {P Q : List ℕ → Bool} {k : Terminal} {first second : List ℕ} → ((ms : List BareToken) → Spells P first ms → Spells Q second ms)
+pub word_of_as : {P Q : List ℕ → Bool} {k : Terminal} {first second : List ℕ} → ((ms : List BareToken) → SpellsToken P first ms → SpellsToken Q second ms)
     → IsWordOf P k first → IsWordOf Q k second
 word_of_as as_well a_text = record { mark = a_text.mark; what = a_text.what; spells = as_well (a_text.mark ∷ []) a_text.spells }
 

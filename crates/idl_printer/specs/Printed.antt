@@ -126,8 +126,8 @@ abbrev pub both_texts : ConstTree × ConstTree → List ℕ × List ℕ
 both_texts p = (value_text p.0, value_text p.1)
 
 -- pairs with commas between them
-abbrev pub pairs_text : List (ConstTree × ConstTree) → List ℕ
-pairs_text pairs = separated_pairs (map both_texts pairs)
+abbrev pub const_pairs_text : List (ConstTree × ConstTree) → List ℕ
+const_pairs_text pairs = separated_pairs (map both_texts pairs)
 
 -- a field's number
 abbrev pub id_text : Int → List ℕ

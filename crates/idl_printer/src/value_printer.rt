@@ -2,7 +2,7 @@
 ghost use Rattle.std.specs.Prelude.{◌≡◌, ◌++◌, ◌∷◌, [], codes, map, OnOk};
 ghost use Rattle.std.specs.List.{flat_map};
 ghost use Rattle.text_out.specs.Decimal.{decimal_of};
-ghost use Rattle.idl_printer.specs.Printed.{escape_of, literal_text, behind_comma, value_text, values_text, pair_text, pair_behind_comma, both_texts, pairs_text};
+ghost use Rattle.idl_printer.specs.Printed.{escape_of, literal_text, behind_comma, value_text, values_text, pair_text, pair_behind_comma, both_texts, const_pairs_text};
 
 use idl_parser::{ConstTree, Int};
 use std::alloc::AllocError;
@@ -100,7 +100,7 @@ fn put_value_behind_colon(into: &mut Vec<u8>, value: &ConstTree) -> Result<(), A
 /// Appends pairs with commas between them.
 #[cycle(value_printer)]
 fn put_pairs(into: &mut Vec<u8>, pairs: &[(ConstTree, ConstTree)]) -> Result<(), AllocError>
-    ensures { OnOk result (into.new.items ≡ into.old.items ++ pairs_text pairs.now) }
+    ensures { OnOk result (into.new.items ≡ into.old.items ++ const_pairs_text pairs.now) }
 {
     let Some((first, more)) = pairs.split_first() else {
         return Ok(());

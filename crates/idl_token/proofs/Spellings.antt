@@ -5,7 +5,7 @@ use Rattle.std.proofs.lemmas.List.{append_assoc}
 use Rattle.idl_token.specs.Classes.{is_white}
 use Rattle.idl_token.specs.Wholes.{sound, whole_of, signs}
 use Rattle.idl_token.specs.Tokens.{size_of, tokens_in, Cuts, AreTokensOf}
-use Rattle.idl_token.specs.Spellings.{BareToken, bare_tokens, parted, any, bare_tokens_in, Spelling, Spelled, Spells}
+use Rattle.idl_token.specs.Spellings.{BareToken, bare_tokens, parted, any, bare_tokens_in, Spelling, Spelled, SpellsToken}
 use Rattle.idl_token.specs.declared.Token.{Token}
 use Rattle.idl_token.specs.declared.TokenKind.{TokenKind}
 use Rattle.idl_token.specs.declared.TokenKind.TheVariants.{Sign}
@@ -25,8 +25,8 @@ marks_on text (Tok kind n ∷ ps) qs mid cut = ap (λ ms. record { kind = kind; 
 marks_on text (Fault kind place ∷ ps) qs mid cut = absurd cut.1
 
 -- one text and then another
-pub joined : (before test : List ℕ → Bool) (first second : List ℕ) (ms ns : List BareToken) → Spells before first ms → Spells test second ns
-    → ((more : List ℕ) → test more ≡ true → before (second ++ more) ≡ true) → Spells test (first ++ second) (ms ++ ns)
+pub joined : (before test : List ℕ → Bool) (first second : List ℕ) (ms ns : List BareToken) → SpellsToken before first ms → SpellsToken test second ns
+    → ((more : List ℕ) → test more ≡ true → before (second ++ more) ≡ true) → SpellsToken test (first ++ second) (ms ++ ns)
 joined before test first second ms ns a b glue more q =
     let one = a (second ++ more) (glue more q) in
     let two = b more q in
@@ -36,20 +36,20 @@ joined before test first second ms ns a b glue more q =
       are = marks_on (first ++ (second ++ more)) one.pieces two.pieces (second ++ more) one.cut ∙ (λ i. one.are i ++ two.are i);
     })
 
-pub nothing : (test : List ℕ → Bool) → Spells test [] []
+pub nothing : (test : List ℕ → Bool) → SpellsToken test [] []
 nothing test more p = record { pieces = []; cut = refl; are = refl }
 
 some_cut : (b : ℕ) (text : List ℕ) → b ∷ text ≢ []
 some_cut b text e = cc
 
-pub white : (b : ℕ) → is_white b ≡ true → Spells any (b ∷ []) []
+pub white : (b : ℕ) → is_white b ≡ true → SpellsToken any (b ∷ []) []
 white b h more p = record {
   pieces = Blank 1 ∷ [];
   cut = (some_cut b more, tt, white_piece b more h, refl);
   are = refl;
 }
 
-pub sign : (s : ℕ) → whole_of (s ∷ []) ≡ sound Sign → Spells any (s ∷ []) (record { kind = Sign; bytes = s ∷ [] } ∷ [])
+pub sign : (s : ℕ) → whole_of (s ∷ []) ≡ sound Sign → SpellsToken any (s ∷ []) (record { kind = Sign; bytes = s ∷ [] } ∷ [])
 sign s whole more p = record {
   pieces = Tok Sign 1 ∷ [];
   cut = (some_cut s more, tt, sign_piece s more whole, refl);
@@ -60,7 +60,7 @@ no_empty_word : (kind : TokenKind) → whole_of [] ≡ sound kind → ⊥
 unfolding signs
 no_empty_word kind h = cc
 
-pub word : (w : List ℕ) (kind : TokenKind) → whole_of w ≡ sound kind → Spells parted w (record { kind = kind; bytes = w } ∷ [])
+pub word : (w : List ℕ) (kind : TokenKind) → whole_of w ≡ sound kind → SpellsToken parted w (record { kind = kind; bytes = w } ∷ [])
 word [] kind whole more apart = absurd (no_empty_word kind whole)
 word (c ∷ w) kind whole more apart = record {
   pieces = Tok kind (length (c ∷ w)) ∷ [];

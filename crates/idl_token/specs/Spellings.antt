@@ -47,8 +47,8 @@ pub record Spelling (text rest : List ℕ) (marks : List BareToken) : Type 0 whe
   pub are : bare_tokens_in text pieces ≡ marks
 
 -- a text spells tokens, whatever stands behind it that meets a test
-abbrev pub Spells : (List ℕ → Bool) → List ℕ → List BareToken → Type 0
-Spells test text marks = (more : List ℕ) → test more ≡ true → Spelling (text ++ more) more marks
+abbrev pub SpellsToken : (List ℕ → Bool) → List ℕ → List BareToken → Type 0
+SpellsToken test text marks = (more : List ℕ) → test more ≡ true → Spelling (text ++ more) more marks
 
 -- a text spells tokens to its end
 abbrev pub Spelled : List ℕ → List BareToken → Type 0

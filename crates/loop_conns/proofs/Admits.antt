@@ -6,7 +6,7 @@ use Rattle.outside.specs.Closing.{Closes}
 use Rattle.host_model.specs.declared.cause.EndCause.TheVariants.{NoMemory, Stopped}
 use Rattle.conn_state.specs.Phase.{Phase, sizing, held, framing, ready, waiting, writing, ended, size_asked, IsHeld, IsReading}
 use Rattle.conn_state.specs.Step.{after_admission}
-use Rattle.conn_table.specs.declared.places.Slot.{Slot}
+use Rattle.conn_table.specs.declared.stages.Slot.{Slot}
 use Rattle.conn_table.specs.Slots.{most_places, slot_in, with_slot}
 use Rattle.conn_table.specs.Table.{TableView, slot_of, size_given, sizes_given, size_wanted, HasItsSize, with_admitted}
 use Rattle.conn_table.proofs.Placing.{has_value}
@@ -19,9 +19,9 @@ use Rattle.conn_refinement.proofs.Tables.{but_put}
 use Rattle.loop_conns.specs.declared.connections.ConnStage.{ConnStage}
 use Rattle.loop_conns.specs.declared.connections.ConnStage.TheVariants.{Lean, Laden, Gone}
 use Rattle.loop_conns.specs.declared.connections.LoopConnections.{LoopConnections}
-use Rattle.loop_conns.specs.Tied.{IsLaden, PlaceTells, IsOrderly}
-use Rattle.loop_conns.specs.Woven.{ServedAsk, owed_by, IsGoingOn}
-use Rattle.loop_conns.specs.Ended.{EndsHere}
+use Rattle.loop_conns.specs.Tied.{IsLaden, StageTells, IsOrderly}
+use Rattle.loop_conns.specs.Woven.{ServedAsk, owed_by, LoopIsRunning}
+use Rattle.loop_conns.specs.Ended.{EndsConnection}
 use Rattle.loop_conns.proofs.Tying.{set_at, same_at}
 use Rattle.loop_conns.proofs.Standing.{Standing}
 use Rattle.loop_conns.proofs.Owing.{owes_none}
@@ -50,7 +50,7 @@ waiter max (ended cause) conn waits t = absurd waits
 
 -- what waits is lean, so its place has no size
 lean_held : (first links : LinksState) (table : TableView) (c : ℕ) (conn : LoopConn) (place : ConnStage) (cause : _) → IsHeld (slot_of c table.slots).conn.phase → (place ≡ Gone → ⊥)
-    → PlaceTells first links table c conn cause place → (slot_of c table.slots).size ≡ None
+    → StageTells first links table c conn cause place → (slot_of c table.slots).size ≡ None
 lean_held first links table c conn Lean cause waits n h = h.2
 lean_held first links table c conn Laden cause waits n h = absurd (go (slot_of c table.slots).conn.phase waits h.1)
   where
@@ -64,8 +64,8 @@ lean_held first links table c conn Laden cause waits n h = absurd (go (slot_of c
     go (ended cause) a b = a
 lean_held first links table c conn Gone cause waits n h = absurd (n refl)
 
-module _ (max : ℕ) (small : max ≤ 268435456) (first before : LinksState) (old : LoopConnections) (asks : List ServedAsk) (g : IsGoingOn max first before old asks) (c : ℕ)
-    (st : Standing before old g.loop c) (open_at : slice_index_or old.places.items c Gone ≢ Gone) (waits : IsHeld (slot_of c old.table.slots).conn.phase) where
+module _ (max : ℕ) (small : max ≤ 268435456) (first before : LinksState) (old : LoopConnections) (asks : List ServedAsk) (g : LoopIsRunning max first before old asks) (c : ℕ)
+    (st : Standing before old g.loop c) (open_at : slice_index_or old.stages.items c Gone ≢ Gone) (waits : IsHeld (slot_of c old.table.slots).conn.phase) where
   abbrev conn : LoopConn
   conn = g.loop.conns c
 
@@ -79,7 +79,7 @@ module _ (max : ℕ) (small : max ≤ 268435456) (first before : LinksState) (ol
   none_owed = ap (λ o. owed_by o conn) st.here.going ∙ owes_none conn at.all.1 at.nothing
 
   -- There was no memory for it.
-  pub waiter_given_up : (links : LinksState) (new : LoopConnections) → EndsHere c NoMemory old new → new.owing ≡ old.owing → Closes c before links → IsGoingOn max first links new asks
+  pub waiter_given_up : (links : LinksState) (new : LoopConnections) → EndsConnection c NoMemory old new → new.owing ≡ old.owing → Closes c before links → LoopIsRunning max first links new asks
   waiter_given_up links new here owing closed =
       gives_up_goes max small first before before links old new asks g c st at.all.1 (moves_none c before) here closed (let a : owed_by conn.cause conn ≡ 0 = none_owed in omega arith)
 
@@ -88,7 +88,7 @@ module _ (max : ℕ) (small : max ≤ 268435456) (first before : LinksState) (ol
 
   -- it has no size yet
   pub no_size : (slot_of c old.table.slots).size ≡ None
-  no_size = lean_held first before old.table c conn (slice_index_or old.places.items c Gone) (slice_index_or old.causes.items c Stopped) waits open_at (g.so_far.tied.each c st.below)
+  no_size = lean_held first before old.table c conn (slice_index_or old.stages.items c Gone) (slice_index_or old.causes.items c Stopped) waits open_at (g.so_far.tied.each c st.below)
 
   found : (table : TableView) → table ≡ with_admitted c old.table → slot_in c table.slots ≡ Some slot_now
   found table is = ap (λ (t : TableView). slot_in c t.slots) is ∙ found_put slot_now old.table.slots st.here.there
@@ -103,8 +103,8 @@ module _ (max : ℕ) (small : max ≤ 268435456) (first before : LinksState) (ol
 
   -- It was admitted.
   pub admits_goes : (new : LoopConnections) → new.table ≡ with_admitted c old.table → sizes_given old.table.slots + size_wanted (slot_of c old.table.slots).conn ≤ old.table.budget
-      → new.places.items ≡ slice_set old.places.items c Laden → new.causes ≡ old.causes → new.owing ≡ old.owing → IsGoingOn max first before new asks
-  admits_goes new table fits places causes owing =
+      → new.stages.items ≡ slice_set old.stages.items c Laden → new.causes ≡ old.causes → new.owing ≡ old.owing → LoopIsRunning max first before new asks
+  admits_goes new table fits stages causes owing =
       let is_found : slot_in c new.table.slots ≡ Some slot_now = found new.table table in
       let same : slot_of c new.table.slots ≡ slot_now = of_found c new.table.slots slot_now is_found in
       let size : size_asked (slot_of c old.table.slots).conn.phase ≡ Some at.size = ap size_asked at.is in
@@ -113,7 +113,7 @@ module _ (max : ℕ) (small : max ≤ 268435456) (first before : LinksState) (ol
         links = moves_none c before;
         table = subst (λ (t : TableView). IsSameBut c old.table t) (sym table) (but_put old.table c slot_now refl);
         orderly = λ o. subst IsOrderly (sym table) (orderly_now o);
-        places = set_at Gone c Laden old.places.items new.places.items st.known.0 places;
+        stages = set_at Gone c Laden old.stages.items new.stages.items st.known.0 stages;
         causes = same_at Stopped c (slice_index_or old.causes.items c Stopped) old.causes.items new.causes.items (ap (λ v. v.items) causes) refl;
       }) (
         record { there = has_value (slot_in c new.table.slots) slot_now is_found; link = st.here.link; going = st.here.going; stopped = st.here.stopped },

@@ -15,8 +15,8 @@ use Rattle.machine_model.specs.Loop.{LoopConn, Loop}
 use Rattle.loop_conns.specs.declared.connections.ConnStage.{ConnStage}
 use Rattle.loop_conns.specs.declared.connections.ConnStage.TheVariants.{Lean, Laden, Gone}
 use Rattle.loop_conns.specs.declared.connections.LoopConnections.{LoopConnections}
-use Rattle.loop_conns.specs.Tied.{PlaceTells, AreTied}
-use Rattle.loop_conns.specs.Going.{SomeGoesOn, AllKeepGoing, HasNoRoom, AreAllGone, IsAllOver}
+use Rattle.loop_conns.specs.Tied.{StageTells, AreTied}
+use Rattle.loop_conns.specs.Going.{AnyLoopIsRunning, AllKeepGoing, HasNoRoom, AreAllGone, IsAllOver}
 use Rattle.loop_conns.proofs.Noting.{noted_goes}
 use Rattle.loop_conns.proofs.Opening.{IsAdded, opened_goes}
 
@@ -33,20 +33,20 @@ or_true true = refl
 or_true false = refl
 
 -- one that isn't open on the links is gone
-gone_so : (first links : LinksState) (table : TableView) (c : ℕ) (conn : LoopConn) (cause : EndCause) (place : ConnStage) → PlaceTells first links table c conn cause place
+gone_so : (first links : LinksState) (table : TableView) (c : ℕ) (conn : LoopConn) (cause : EndCause) (place : ConnStage) → StageTells first links table c conn cause place
     → links.is_open c ≡ false → place ≡ Gone
 gone_so first links table c conn cause Lean h closed = absurd (true≢false (sym h.0.link ∙ closed))
 gone_so first links table c conn cause Laden h closed = absurd (true≢false (sym h.0.link ∙ closed))
 gone_so first links table c conn cause Gone h closed = refl
 
 none_open_gone : (first links : LinksState) (kept : LoopConnections) (loop : Loop) → AreTied first links kept loop → ((x : ℕ) → links.is_open x ≡ false) → AreAllGone kept
-none_open_gone first links kept loop t none x = go (cases_lt x (length kept.places.items))
+none_open_gone first links kept loop t none x = go (cases_lt x (length kept.stages.items))
   where
-    go : (x < length kept.places.items) ⊎ (length kept.places.items ≤ x) → slice_index_or kept.places.items x Gone ≡ Gone
+    go : (x < length kept.stages.items) ⊎ (length kept.stages.items ≤ x) → slice_index_or kept.stages.items x Gone ≡ Gone
     go (inl l) =
-        let e : loop.count ≡ length kept.places.items = t.places in
-        gone_so first links kept.table x (loop.conns x) (slice_index_or kept.causes.items x Stopped) (slice_index_or kept.places.items x Gone) (t.each x (omega arith)) (none x)
-    go (inr l) = get_or_past kept.places.items x Gone l
+        let e : loop.count ≡ length kept.stages.items = t.stages in
+        gone_so first links kept.table x (loop.conns x) (slice_index_or kept.causes.items x Stopped) (slice_index_or kept.stages.items x Gone) (t.each x (omega arith)) (none x)
+    go (inr l) = get_or_past kept.stages.items x Gone l
 
 -- an answer of which it is known what it says
 pub said : {E : Type 0} (ask : Ask) (l0 l1 : LinksState) (hint known : Hint) → hint ≡ known → AnswersAsk {E = E} ask l0 l1 (Ok hint) → AnswersAsk {E = E} ask l0 l1 (Ok known)
@@ -86,7 +86,7 @@ module _ {E : Type 0} (ask : Ask) (l0 l1 : LinksState) (k0 : LoopConnections) (r
       a
 
 -- all is over
-pub over_so : {E : Type 0} (ask : Ask) (l0 l1 : LinksState) (kept : LoopConnections) (result : Result Hint E) → AnswersAsk ask l0 l1 result → SomeGoesOn l0 kept → result ≡ Ok Over
+pub over_so : {E : Type 0} (ask : Ask) (l0 l1 : LinksState) (kept : LoopConnections) (result : Result Hint E) → AnswersAsk ask l0 l1 result → AnyLoopIsRunning l0 kept → result ≡ Ok Over
     → IsAllOver l1 kept
 over_so ask l0 l1 kept result h s is = (
   h.over ∙ ap (λ r. l0.over || says_over r) is ∙ or_true l0.over,
@@ -94,7 +94,7 @@ over_so ask l0 l1 kept result h s is = (
 )
 
 -- the connection that is opened next isn't in the table
-pub next_absent : (ask : Ask) (l0 l1 : LinksState) (kept : LoopConnections) (c : ℕ) → SomeGoesOn l0 kept → OpensNext ask c l0 l1 → slot_in c kept.table.slots ≡ None
+pub next_absent : (ask : Ask) (l0 l1 : LinksState) (kept : LoopConnections) (c : ℕ) → AnyLoopIsRunning l0 kept → OpensNext ask c l0 l1 → slot_in c kept.table.slots ≡ None
 next_absent ask l0 l1 kept c s o =
     let t : AreTied s.2.0 l0 kept s.2.2.loop = s.2.2.so_far.tied in
     let number : c ≡ l0.opened = o.number in

@@ -8,29 +8,29 @@ use Rattle.conn_refinement.proofs.Tables.{but_gone, but_then}
 use Rattle.loop_conns.specs.declared.connections.ConnStage.TheVariants.{Gone}
 use Rattle.loop_conns.specs.declared.connections.LoopConnections.{LoopConnections}
 use Rattle.loop_conns.specs.Tied.{IsOrderly}
-use Rattle.loop_conns.specs.Ended.{EndsHere}
+use Rattle.loop_conns.specs.Ended.{EndsConnection}
 use Rattle.loop_conns.proofs.Ordering.{left_orderly}
 
 -- what a table's `remove` leaves
 pub gone_here : (c : ℕ) (cause : EndCause) (old new : LoopConnections) → IsSome (slot_in c old.table.slots) → new.table ≡ record old.table { slots = without_number c old.table.slots }
-    → slot_in c new.table.slots ≡ None → new.places.items ≡ slice_set old.places.items c Gone → new.causes.items ≡ slice_set old.causes.items c cause → EndsHere c cause old new
-gone_here c cause old new there table gone places causes =
+    → slot_in c new.table.slots ≡ None → new.stages.items ≡ slice_set old.stages.items c Gone → new.causes.items ≡ slice_set old.causes.items c cause → EndsConnection c cause old new
+gone_here c cause old new there table gone stages causes =
     record {
       table = subst (λ (t : TableView). IsSameBut c old.table t) (sym table) (but_gone old.table c);
       orderly = left_orderly c old.table new.table there table;
       gone = gone;
-      places = places;
+      stages = stages;
       causes = causes;
     }
 
 -- behind another change of that connection in the table
 pub ends_behind : (c : ℕ) (cause : EndCause) (old new : LoopConnections) (mid : TableView) → IsSameBut c old.table mid → (IsOrderly old.table → IsOrderly mid)
-    → EndsHere c cause (record old { table = mid }) new → EndsHere c cause old new
+    → EndsConnection c cause (record old { table = mid }) new → EndsConnection c cause old new
 ends_behind c cause old new mid but orderly ended =
     record {
       table = but_then c old.table mid new.table but ended.table;
       orderly = λ o. ended.orderly (orderly o);
       gone = ended.gone;
-      places = ended.places;
+      stages = ended.stages;
       causes = ended.causes;
     }

@@ -5,7 +5,7 @@ use Rattle.outside.specs.LinksState.{LinksState}
 use Rattle.host_model.specs.declared.cause.EndCause.{EndCause}
 use Rattle.host_model.specs.declared.cause.EndCause.TheVariants.{Stopped}
 use Rattle.conn_table.specs.Table.{slot_of}
-use Rattle.machine_model.specs.OwnCalls.{count_of}
+use Rattle.machine_model.specs.OwnCalls.{summed_calls}
 use Rattle.machine_model.specs.OwnLoop.{refuses_job}
 use Rattle.machine_model.specs.Loop.{LoopConn, Loop, with_conn, changed}
 use Rattle.machine_model.specs.Bounds.{sum_among}
@@ -15,8 +15,8 @@ use Rattle.machine_model.proofs.Summing.{sum_changed}
 use Rattle.conn_refinement.specs.Phases.{IsOpenTied}
 use Rattle.loop_conns.specs.declared.connections.ConnStage.{ConnStage}
 use Rattle.loop_conns.specs.declared.connections.LoopConnections.{LoopConnections}
-use Rattle.loop_conns.specs.Tied.{PlaceTells}
-use Rattle.loop_conns.specs.Woven.{ServedItem, ServedAsk, owed_by, IsWovenTo, IsGoingOn}
+use Rattle.loop_conns.specs.Tied.{StageTells}
+use Rattle.loop_conns.specs.Woven.{ServedItem, ServedAsk, owed_by, IsWovenTo, LoopIsRunning}
 use Rattle.loop_conns.proofs.Tying.{ChangesOne, changed_tied, changed_phases, changed_each, changed_below}
 use Rattle.loop_conns.proofs.Weaving.{lent_by, item_woven}
 
@@ -34,7 +34,7 @@ pub record IsChange (max : ℕ) (first l0 l1 : LinksState) (k0 k1 : LoopConnecti
   pub below : c < loop.count
   pub one : Weaves max loop (item ∷ []) (changed loop c conn marks)
   pub change : ChangesOne c place cause marks (lent_by loop item) l0 l1 k0 k1
-  pub tells : PlaceTells first l1 k1.table c conn cause place
+  pub tells : StageTells first l1 k1.table c conn cause place
   pub less : all_begun (changed loop c conn marks) ≤ k0.table.budget
 
 -- So what was woven goes on.
@@ -53,9 +53,9 @@ pub record StaysGoing (max : ℕ) (k0 k1 : LoopConnections) (old : LoopConn) (c 
   pub unstopped : conn.cause ≢ Some Stopped
   pub owing : k1.owing + owed_by old.cause old ≡ k0.owing + owed_by conn.cause conn
 
-pub change_goes : (max : ℕ) → max < 2 ^ 31 → (first l0 l1 : LinksState) (k0 k1 : LoopConnections) (asks : List ServedAsk) (g : IsGoingOn max first l0 k0 asks) (item : ServedItem) (c : ℕ)
+pub change_goes : (max : ℕ) → max < 2 ^ 31 → (first l0 l1 : LinksState) (k0 k1 : LoopConnections) (asks : List ServedAsk) (g : LoopIsRunning max first l0 k0 asks) (item : ServedItem) (c : ℕ)
     (conn : LoopConn) (place : ConnStage) (cause : EndCause) (marks : List Mark) → IsChange max first l0 l1 k0 k1 g.loop item c conn place cause marks
-    → StaysGoing max k0 k1 (g.loop.conns c) c conn → count_of refuses_job (asks ++ calls_in (item ∷ [])) ≡ 0 → IsGoingOn max first l1 k1 (asks ++ calls_in (item ∷ []))
+    → StaysGoing max k0 k1 (g.loop.conns c) c conn → summed_calls refuses_job (asks ++ calls_in (item ∷ [])) ≡ 0 → LoopIsRunning max first l1 k1 (asks ++ calls_in (item ∷ []))
 change_goes max small first l0 l1 k0 k1 asks g item c conn place cause marks h s taken =
     let loop : Loop = g.loop in
     let f : LoopConn → ℕ = λ k. owed_by k.cause k in

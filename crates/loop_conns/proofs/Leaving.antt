@@ -10,7 +10,7 @@ use Rattle.outside.specs.declared.answers.Taken.TheVariants.{Bytes, End as EndTa
 use Rattle.outside.specs.Faults.{CountsItsFault, length_lent}
 use Rattle.outside.specs.LinksState.{LinksState}
 use Rattle.outside.specs.Reading.{Reads, marks_of_read}
-use Rattle.outside.specs.Writing.{WritesOn, marks_of_write}
+use Rattle.outside.specs.Writing.{WritesToConnection, marks_of_write}
 use Rattle.outside.specs.Closing.{Closes}
 use Rattle.host_model.specs.declared.cause.EndCause.{EndCause}
 use Rattle.host_model.specs.declared.cause.EndCause.TheVariants.{End, Cut, ReadFault, NoMemory, Stopped}
@@ -18,7 +18,7 @@ use Rattle.host_model.specs.World.{end_behind}
 use Rattle.conn_state.specs.Phase.{Phase, sizing, held, framing, ready, waiting, writing, ended, cause_of, IsReading}
 use Rattle.conn_state.specs.Step.{after_end_of_input}
 use Rattle.conn_table.specs.Table.{TableView, slot_of}
-use Rattle.machine_model.specs.OwnCalls.{count_of}
+use Rattle.machine_model.specs.OwnCalls.{summed_calls}
 use Rattle.machine_model.specs.OwnLoop.{refuses_job}
 use Rattle.machine_model.specs.Loop.{LoopConn, Loop, with_cause, changed, ConnEvent, ends, fails_read, gives_up, Happens}
 use Rattle.machine_model.specs.AtFronts.{begun_if_open, all_begun}
@@ -28,8 +28,8 @@ use Rattle.conn_refinement.specs.Tables.{IsSameBut}
 use Rattle.loop_conns.specs.declared.connections.ConnStage.TheVariants.{Gone}
 use Rattle.loop_conns.specs.declared.connections.LoopConnections.{LoopConnections}
 use Rattle.loop_conns.specs.Tied.{CauseShows, IsOrderly}
-use Rattle.loop_conns.specs.Woven.{ServedAsk, lent_to, owed_by, IsWovenTo, IsGoingOn}
-use Rattle.loop_conns.specs.Ended.{EndsHere, MovesOnly}
+use Rattle.loop_conns.specs.Woven.{ServedAsk, lent_to, owed_by, IsWovenTo, LoopIsRunning}
+use Rattle.loop_conns.specs.Ended.{EndsConnection, MovesOnly}
 use Rattle.loop_conns.proofs.Tying.{ChangesOne, told_none, rose_since}
 use Rattle.loop_conns.proofs.Standing.{Standing, owes_nothing}
 use Rattle.loop_conns.proofs.Owing.{owes_none}
@@ -59,7 +59,7 @@ pub read_moves : (c : ℕ) (into : List ℕ) (old new : LinksState) (taken : Tak
 read_moves c into old new taken r =
     record { others = r.others; tape = r.tape; lengths = r.lengths; faults = counts_on taken (old.faults c) (new.faults c) r.faults }
 
-pub write_moves : (c : ℕ) (bytes : List ℕ) (old new : LinksState) (taken : Taken) → WritesOn c bytes old new taken
+pub write_moves : (c : ℕ) (bytes : List ℕ) (old new : LinksState) (taken : Taken) → WritesToConnection c bytes old new taken
     → MovesOnly c (marks_of_write c bytes taken) (length_lent (length bytes) taken) old new
 write_moves c bytes old new taken w =
     record { others = w.others; tape = w.tape; lengths = w.lengths; faults = counts_on taken (old.faults c) (new.faults c) w.faults }
@@ -78,7 +78,7 @@ pub record IsLeave (max : ℕ) (first before mid links : LinksState) (old new : 
   pub moves : MovesOnly c marks lent before mid
   pub but : IsSameBut c old.table table
   pub orderly : IsOrderly old.table → IsOrderly table
-  pub here : EndsHere c why (record old { table = table }) new
+  pub here : EndsConnection c why (record old { table = table }) new
   pub closed : Closes c mid links
   pub shows : CauseShows first links c why
 
@@ -103,10 +103,10 @@ module _ (max : ℕ) (small : max ≤ 268435456) (first before mid links : Links
       (change_woven max (small_max max small) first before links old new asks loop w (handles conn_event) c now Gone why (marks ++ Closed c ∷ []) change)
 
   -- the loop goes on, where the connection left no payload behind and wasn't stopped
-  pub leaves_goes : (g : IsGoingOn max first before old asks) → g.loop ≡ loop → now.collected ≡ length now.payloads → why ≢ Stopped
-      → new.owing + owed_by (loop.conns c).cause (loop.conns c) ≡ old.owing → IsGoingOn max first links new asks
+  pub leaves_goes : (g : LoopIsRunning max first before old asks) → g.loop ≡ loop → now.collected ≡ length now.payloads → why ≢ Stopped
+      → new.owing + owed_by (loop.conns c).cause (loop.conns c) ≡ old.owing → LoopIsRunning max first links new asks
   leaves_goes g same all unstopped owing =
-      subst (λ a. IsGoingOn max first links new a) (append-nil asks)
+      subst (λ a. LoopIsRunning max first links new a) (append-nil asks)
       (change_goes max (small_max max small) first before links old new asks g (handles conn_event) c now Gone why (marks ++ Closed c ∷ [])
       (subst (λ l. IsChange max first before links old new l (handles conn_event) c now Gone why (marks ++ Closed c ∷ [])) (sym same) change)
       (record {
@@ -117,7 +117,7 @@ module _ (max : ℕ) (small : max ≤ 268435456) (first before mid links : Links
             subst (λ (l : Loop). new.owing + owed_by (l.conns c).cause (l.conns c) ≡ old.owing + owed_by now.cause now) (sym same)
             (let z : owed_by now.cause now ≡ 0 = ap (λ o. owed_by o now) h.over in omega arith);
       })
-      (ap (count_of refuses_job) (append-nil asks) ∙ g.taken))
+      (ap (summed_calls refuses_job) (append-nil asks) ∙ g.taken))
 
 -- the cause by which an input ends, in the machine and by the phase
 cause_behind : (max : ℕ) (phase : Phase) (conn : LoopConn) → IsReading phase → PhaseTells max phase conn → cause_of (after_end_of_input phase) ≡ Some (end_behind conn.held)
@@ -135,7 +135,7 @@ end_or_cut [] P a b = a
 end_or_cut (byte ∷ bytes) P a b = b
 
 -- A connection that reads has ended: by the end of its input, a read that failed, or for want of memory.
-module _ (max : ℕ) (small : max ≤ 268435456) (first before : LinksState) (old : LoopConnections) (asks : List ServedAsk) (g : IsGoingOn max first before old asks) (c : ℕ)
+module _ (max : ℕ) (small : max ≤ 268435456) (first before : LinksState) (old : LoopConnections) (asks : List ServedAsk) (g : LoopIsRunning max first before old asks) (c : ℕ)
     (st : Standing before old g.loop c) (reading : IsReading (slot_of c old.table.slots).conn.phase) where
   abbrev conn : LoopConn
   conn = g.loop.conns c
@@ -157,8 +157,8 @@ module _ (max : ℕ) (small : max ≤ 268435456) (first before : LinksState) (ol
   ended_cause = cause_behind max (slot_of c old.table.slots).conn.phase conn reading tied.tells
 
   pub input_ends : (mid links : LinksState) (new : LoopConnections) (table : TableView) → IsSameBut c old.table table → (IsOrderly old.table → IsOrderly table)
-      → EndsHere c (end_behind conn.held) (record old { table = table }) new → new.owing ≡ old.owing → MovesOnly c (Ended c ∷ []) [] before mid → IsSpent (mid.left c) → Closes c mid links
-      → IsGoingOn max first links new asks
+      → EndsConnection c (end_behind conn.held) (record old { table = table }) new → new.owing ≡ old.owing → MovesOnly c (Ended c ∷ []) [] before mid → IsSpent (mid.left c) → Closes c mid links
+      → LoopIsRunning max first links new asks
   input_ends mid links new table but orderly here owing moves spent closed =
       leaves_goes max small first before mid links old new table asks g.loop c st g.so_far.within.now (ends c) (with_cause conn (end_behind conn.held)) (end_behind conn.held) (Ended c ∷ []) []
       (record {
@@ -174,8 +174,8 @@ module _ (max : ℕ) (small : max ≤ 268435456) (first before : LinksState) (ol
       })
       g refl owes.0.1 (end_or_cut conn.held (λ why. why ≢ Stopped) (λ e. cc) (λ e. cc)) (as_before new owing)
 
-  pub read_fails : (mid links : LinksState) (new : LoopConnections) → EndsHere c ReadFault old new → new.owing ≡ old.owing → MovesOnly c (ReadFailed c ∷ []) [] before mid → Rose (before.faults c) (mid.faults c)
-      → Closes c mid links → IsGoingOn max first links new asks
+  pub read_fails : (mid links : LinksState) (new : LoopConnections) → EndsConnection c ReadFault old new → new.owing ≡ old.owing → MovesOnly c (ReadFailed c ∷ []) [] before mid → Rose (before.faults c) (mid.faults c)
+      → Closes c mid links → LoopIsRunning max first links new asks
   read_fails mid links new here owing moves rose closed =
       leaves_goes max small first before mid links old new old.table asks g.loop c st g.so_far.within.now (fails_read c) (with_cause conn ReadFault) ReadFault (ReadFailed c ∷ []) []
       (record {
@@ -192,9 +192,9 @@ module _ (max : ℕ) (small : max ≤ 268435456) (first before : LinksState) (ol
       g refl owes.0.1 (λ e. cc) (as_before new owing)
 
 -- A connection is given up for want of memory, all of whose payloads are collected.
-pub gives_up_goes : (max : ℕ) (small : max ≤ 268435456) (first before mid links : LinksState) (old new : LoopConnections) (asks : List ServedAsk) (g : IsGoingOn max first before old asks) (c : ℕ)
-    → Standing before old g.loop c → (g.loop.conns c).collected ≡ length (g.loop.conns c).payloads → MovesOnly c [] [] before mid → EndsHere c NoMemory old new → Closes c mid links
-    → new.owing + owed_by (g.loop.conns c).cause (g.loop.conns c) ≡ old.owing → IsGoingOn max first links new asks
+pub gives_up_goes : (max : ℕ) (small : max ≤ 268435456) (first before mid links : LinksState) (old new : LoopConnections) (asks : List ServedAsk) (g : LoopIsRunning max first before old asks) (c : ℕ)
+    → Standing before old g.loop c → (g.loop.conns c).collected ≡ length (g.loop.conns c).payloads → MovesOnly c [] [] before mid → EndsConnection c NoMemory old new → Closes c mid links
+    → new.owing + owed_by (g.loop.conns c).cause (g.loop.conns c) ≡ old.owing → LoopIsRunning max first links new asks
 gives_up_goes max small first before mid links old new asks g c st all moves here closed owing =
     leaves_goes max small first before mid links old new old.table asks g.loop c st g.so_far.within.now (gives_up c NoMemory) (with_cause (g.loop.conns c) NoMemory) NoMemory [] []
     (record {
@@ -211,9 +211,9 @@ gives_up_goes max small first before mid links old new asks g c st all moves her
     g refl all (λ e. cc) owing
 
 -- the same, of one that reads
-pub reader_given_up : (max : ℕ) (small : max ≤ 268435456) (first before mid links : LinksState) (old new : LoopConnections) (asks : List ServedAsk) (g : IsGoingOn max first before old asks) (c : ℕ)
-    → Standing before old g.loop c → IsReading (slot_of c old.table.slots).conn.phase → MovesOnly c [] [] before mid → EndsHere c NoMemory old new → new.owing ≡ old.owing → Closes c mid links
-    → IsGoingOn max first links new asks
+pub reader_given_up : (max : ℕ) (small : max ≤ 268435456) (first before mid links : LinksState) (old new : LoopConnections) (asks : List ServedAsk) (g : LoopIsRunning max first before old asks) (c : ℕ)
+    → Standing before old g.loop c → IsReading (slot_of c old.table.slots).conn.phase → MovesOnly c [] [] before mid → EndsConnection c NoMemory old new → new.owing ≡ old.owing → Closes c mid links
+    → LoopIsRunning max first links new asks
 reader_given_up max small first before mid links old new asks g c st reading moves here owing closed =
     let conn : LoopConn = g.loop.conns c in
     let owes : HasAllCollected conn × (conn.left ≡ []) =

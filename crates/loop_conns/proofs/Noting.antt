@@ -13,7 +13,7 @@ use Rattle.outside.specs.Asking.{place_asked, noted_at, NotesItsPlace}
 use Rattle.host_model.specs.declared.cause.EndCause.{EndCause}
 use Rattle.host_model.specs.declared.cause.EndCause.TheVariants.{Stopped}
 use Rattle.conn_state.specs.Phase.{Phase, size_asked, sizing, held, framing, ready, waiting, writing, ended}
-use Rattle.conn_table.specs.declared.places.Slot.{Slot}
+use Rattle.conn_table.specs.declared.stages.Slot.{Slot}
 use Rattle.conn_table.specs.Slots.{slot_in}
 use Rattle.conn_table.specs.Table.{TableView, slot_of, size_given, sizes_given, size_wanted, HasItsSize}
 use Rattle.conn_table.proofs.Sizing.{slot_is}
@@ -29,8 +29,8 @@ use Rattle.conn_refinement.proofs.Counting.{counted}
 use Rattle.loop_conns.specs.declared.connections.ConnStage.{ConnStage}
 use Rattle.loop_conns.specs.declared.connections.ConnStage.TheVariants.{Lean, Laden, Gone}
 use Rattle.loop_conns.specs.declared.connections.LoopConnections.{LoopConnections}
-use Rattle.loop_conns.specs.Tied.{IsLaden, PlaceTells, AreTied, PhasesTell}
-use Rattle.loop_conns.specs.Woven.{ServedAsk, WeavesLent, held_if_open, all_held, IsPassedAtRest, owed_by, IsGoingOn}
+use Rattle.loop_conns.specs.Tied.{IsLaden, StageTells, AreTied, PhasesTell}
+use Rattle.loop_conns.specs.Woven.{ServedAsk, WeavesLent, held_if_open, all_held, IsPassedAtRest, owed_by, LoopIsRunning}
 use Rattle.loop_conns.specs.Going.{HasNoRoom}
 use Rattle.loop_conns.proofs.Tying.{place_moved}
 use Rattle.loop_conns.proofs.Owing.{owes_bytes, owes_outcome}
@@ -66,7 +66,7 @@ each_none f conns (suc n) none x l = go (cases_eq x n) (λ m. each_none f conns 
     go (inr m) again = let d : x ≡ n → ⊥ = m in again (omega arith)
 
 -- Where no connection owes something, the machine is at rest.
-pub goes_at_rest : (max : ℕ) (first links : LinksState) (kept : LoopConnections) (asks : List ServedAsk) (g : IsGoingOn max first links kept asks) → kept.owing ≡ 0 → IsAtRest g.loop
+pub goes_at_rest : (max : ℕ) (first links : LinksState) (kept : LoopConnections) (asks : List ServedAsk) (g : LoopIsRunning max first links kept asks) → kept.owing ≡ 0 → IsAtRest g.loop
 goes_at_rest max first links kept asks g none c l = go (g.loop.conns c).cause refl
   where
     own : owed_by (g.loop.conns c).cause (g.loop.conns c) ≡ 0
@@ -175,7 +175,7 @@ summed_less h f conns (suc n) each =
     omega arith
 
 module _ (max : ℕ) (first links : LinksState) (kept : LoopConnections) (loop : Loop) (t : AreTied first links kept loop) (phases : PhasesTell max kept.table loop) (rest : IsAtRest loop) where
-  holds_so : (c : ℕ) (place : ConnStage) → c < loop.count → PlaceTells first links kept.table c (loop.conns c) (slice_index_or kept.causes.items c Stopped) place
+  holds_so : (c : ℕ) (place : ConnStage) → c < loop.count → StageTells first links kept.table c (loop.conns c) (slice_index_or kept.causes.items c Stopped) place
       → weight_of both_of (slot_in c kept.table.slots) ≤ held_if_open (loop.conns c).cause (loop.conns c).held
   holds_so c Lean l h =
       let some : both_of (slot_of c kept.table.slots) ≤ size_in (loop.conns c).held =
@@ -201,7 +201,7 @@ module _ (max : ℕ) (first links : LinksState) (kept : LoopConnections) (loop :
       let over : kept.table.budget < sizes_given kept.table.slots + size_wanted (slot_of c kept.table.slots).conn = no_room.2 in
       let less : summed (λ x. weight_of both_of (slot_in x kept.table.slots)) loop.count ≤ sum_among (λ k. held_if_open k.cause k.held) loop.conns loop.count =
       summed_less (λ x. weight_of both_of (slot_in x kept.table.slots)) (λ k. held_if_open k.cause k.held) loop.conns loop.count
-      (λ x l. holds_so x (slice_index_or kept.places.items x Gone) l (t.each x l)) in
+      (λ x l. holds_so x (slice_index_or kept.stages.items x Gone) l (t.each x l)) in
       omega arith
 
 -- nothing has changed but what was noted, what has arrived, and what was said
@@ -222,11 +222,11 @@ still_tied first l0 l1 kept loop t s =
     record {
       tape = subst (λ o. MayHave o loop.tape) (sym s.tape) t.tape;
       count = t.count;
-      places = t.places;
+      stages = t.stages;
       opened = s.opened ∙ t.opened;
       each = λ x l.
           place_moved x first l0 l1 kept.table kept.table refl (s.is_open x) (s.faults x) (s.left x) (loop.conns x) (slice_index_or kept.causes.items x Stopped)
-          (slice_index_or kept.places.items x Gone) (t.each x l);
+          (slice_index_or kept.stages.items x Gone) (t.each x l);
       unopened = λ x l. ((t.unopened x l).0, s.is_open x ∙ (t.unopened x l).1);
       numbered = t.numbered;
       orderly = t.orderly;
@@ -237,21 +237,21 @@ still_tied first l0 l1 kept loop t s =
 
 -- Places of rest that were noted, and the same place noted some times more.
 module _ (P : RestPlace → Type 0) where
-  noted_more : (places : List RestPlace) (place : RestPlace) (count : ℕ) → AllByRecursion P places → (count ≢ 0 → P place) → AllByRecursion P (places ++ replicate count place)
+  noted_more : (stages : List RestPlace) (place : RestPlace) (count : ℕ) → AllByRecursion P stages → (count ≢ 0 → P place) → AllByRecursion P (stages ++ replicate count place)
   noted_more [] place zero a p = tt
   noted_more [] place (suc count) a p =
       let own : P place = p (λ e. let f : suc count ≡ 0 = e in let g : ⊥ = omega arith in g) in
       (own, noted_more [] place count tt (λ n. own))
-  noted_more (x ∷ places) place count a p = (a.0, noted_more places place count a.1 p)
+  noted_more (x ∷ stages) place count a p = (a.0, noted_more stages place count a.1 p)
 
   noted_all : (tape : Option (List Mark)) (ask : Ask) (count : ℕ) (old : Option (List RestPlace)) → IfSome old (AllByRecursion P)
       → ((marks : List Mark) → tape ≡ Some marks → count ≢ 0 → P (place_asked marks ask)) → IfSome (noted_at tape ask count old) (AllByRecursion P)
   noted_all None ask count old a p = a
   noted_all (Some marks) ask count None a p = a
-  noted_all (Some marks) ask count (Some places) a p = noted_more places (place_asked marks ask) count a (p marks refl)
+  noted_all (Some marks) ask count (Some stages) a p = noted_more stages (place_asked marks ask) count a (p marks refl)
 
 -- The loop goes on where links were asked: what they noted is a place of rest.
-module _ (max : ℕ) (first l0 l1 : LinksState) (kept : LoopConnections) (asks : List ServedAsk) (g : IsGoingOn max first l0 kept asks) (ask : Ask)
+module _ (max : ℕ) (first l0 l1 : LinksState) (kept : LoopConnections) (asks : List ServedAsk) (g : LoopIsRunning max first l0 kept asks) (ask : Ask)
     (idle : ask.idle ≡ true → kept.owing ≡ 0) (no_room : ask.held ≡ true → (c : ℕ) × HasNoRoom kept.table c) where
   abbrev Passed : RestPlace → Type 0
   Passed noted = IsPassedAtRest max kept.table.budget g.so_far.weave g.loop noted
@@ -281,7 +281,7 @@ module _ (max : ℕ) (first l0 l1 : LinksState) (kept : LoopConnections) (asks :
       subst (λ o. IfSome o (AllByRecursion Passed)) (sym n.1)
       (noted_all Passed l0.tape ask n.0 l0.rests g.so_far.rests (λ marks is some. passed_here marks is (idle_if_some n.0 n.2 some ask.idle refl)))
 
-  pub noted_goes : IsStill l0 l1 → NotesItsPlace ask l0.tape l0.rests l1.rests → IsGoingOn max first l1 kept asks
+  pub noted_goes : IsStill l0 l1 → NotesItsPlace ask l0.tape l0.rests l1.rests → LoopIsRunning max first l1 kept asks
   noted_goes s n =
       record {
         loop = g.loop;

@@ -9,7 +9,7 @@ use Rattle.outside.specs.LinksState.{LinksState}
 use Rattle.host_model.specs.declared.cause.EndCause.{EndCause}
 use Rattle.host_model.specs.declared.cause.EndCause.TheVariants.{Stopped}
 use Rattle.conn_state.specs.Phase.{fresh_conn}
-use Rattle.conn_table.specs.declared.places.Slot.{Slot}
+use Rattle.conn_table.specs.declared.stages.Slot.{Slot}
 use Rattle.conn_table.specs.Slots.{most_places, slot_in, with_added}
 use Rattle.conn_table.specs.Table.{TableView, fresh_slot, slot_of}
 use Rattle.conn_table.proofs.Sizing.{slot_is, of_found, found_more, other_more}
@@ -28,8 +28,8 @@ use Rattle.conn_refinement.proofs.Tables.{no_bytes}
 use Rattle.loop_conns.specs.declared.connections.ConnStage.{ConnStage}
 use Rattle.loop_conns.specs.declared.connections.ConnStage.TheVariants.{Lean, Laden, Gone}
 use Rattle.loop_conns.specs.declared.connections.LoopConnections.{LoopConnections}
-use Rattle.loop_conns.specs.Tied.{PlaceTells, AreTied}
-use Rattle.loop_conns.specs.Woven.{ServedItem, ServedAsk, owed_by, IsWovenTo, IsGoingOn}
+use Rattle.loop_conns.specs.Tied.{StageTells, AreTied}
+use Rattle.loop_conns.specs.Woven.{ServedItem, ServedAsk, owed_by, IsWovenTo, LoopIsRunning}
 use Rattle.loop_conns.proofs.Tying.{place_moved, told_none, may_have_more}
 use Rattle.loop_conns.proofs.Weaving.{item_woven}
 use Rattle.loop_conns.proofs.Ordering.{added_orderly}
@@ -53,7 +53,7 @@ pub record IsOpenedNext (c : ℕ) (old new : LinksState) : Type 0 where
 pub record IsAdded (c : ℕ) (old new : LoopConnections) : Type 0 where
   pub room : length old.table.slots < most_places
   pub table : new.table ≡ record old.table { slots = with_added (fresh_slot c) old.table.slots }
-  pub places : new.places.items ≡ old.places.items ++ Lean ∷ []
+  pub stages : new.stages.items ≡ old.stages.items ++ Lean ∷ []
   pub causes : new.causes.items ≡ old.causes.items ++ Stopped ∷ []
   pub owing : new.owing ≡ old.owing
 
@@ -62,7 +62,7 @@ fresh_tied max = record { going = refl; counted = refl; tells = ((refl, refl), r
 
 -- as many connections are open in the machine as the table has
 module _ (first links : LinksState) (kept : LoopConnections) (loop : Loop) (t : AreTied first links kept loop) where
-  open_so : (c : ℕ) (place : ConnStage) → PlaceTells first links kept.table c (loop.conns c) (slice_index_or kept.causes.items c Stopped) place
+  open_so : (c : ℕ) (place : ConnStage) → StageTells first links kept.table c (loop.conns c) (slice_index_or kept.causes.items c Stopped) place
       → count_if_open (loop.conns c).cause ≡ weight_of (λ slot. 1) (slot_in c kept.table.slots)
   open_so c Lean h = ap count_if_open h.0.going ∙ sym (ap (weight_of (λ slot. 1)) (slot_is c kept.table.slots h.0.there))
   open_so c Laden h = ap count_if_open h.0.going ∙ sym (ap (weight_of (λ slot. 1)) (slot_is c kept.table.slots h.0.there))
@@ -72,10 +72,10 @@ module _ (first links : LinksState) (kept : LoopConnections) (loop : Loop) (t : 
   open_counted =
       open_summed loop.conns loop.count
       ∙ counted (λ slot. 1) kept.table.slots (λ c. count_if_open (loop.conns c).cause) loop.count t.orderly.rising (λ x l. (t.unopened x l).0)
-      (λ x l. open_so x (slice_index_or kept.places.items x Gone) (t.each x l))
+      (λ x l. open_so x (slice_index_or kept.stages.items x Gone) (t.each x l))
       ∙ ones_total kept.table.slots
 
-module _ (max : ℕ) (small : max < 2 ^ 31) (first l0 l1 : LinksState) (k0 k1 : LoopConnections) (asks : List ServedAsk) (g : IsGoingOn max first l0 k0 asks) (c : ℕ)
+module _ (max : ℕ) (small : max < 2 ^ 31) (first l0 l1 : LinksState) (k0 k1 : LoopConnections) (asks : List ServedAsk) (g : LoopIsRunning max first l0 k0 asks) (c : ℕ)
     (o : IsOpenedNext c l0 l1) (a : IsAdded c k0 k1) where
   tied : AreTied first l0 k0 g.loop
   tied = g.so_far.tied
@@ -108,27 +108,27 @@ module _ (max : ℕ) (small : max < 2 ^ 31) (first l0 l1 : LinksState) (k0 k1 : 
   own_slot : slot_of c k1.table.slots ≡ fresh_slot c
   own_slot = of_found c k1.table.slots (fresh_slot c) found
 
-  many_places : length k1.places.items ≡ length k0.places.items + 1
-  many_places = ap length a.places ∙ length_push k0.places.items Lean
+  many_places : length k1.stages.items ≡ length k0.stages.items + 1
+  many_places = ap length a.stages ∙ length_push k0.stages.items Lean
 
   many_causes : length k1.causes.items ≡ length k0.causes.items + 1
   many_causes = ap length a.causes ∙ length_push k0.causes.items Stopped
 
   abbrev Tells : ℕ → Type 0
-  Tells x = PlaceTells first l1 k1.table x (conns x) (slice_index_or k1.causes.items x Stopped) (slice_index_or k1.places.items x Gone)
+  Tells x = StageTells first l1 k1.table x (conns x) (slice_index_or k1.causes.items x Stopped) (slice_index_or k1.stages.items x Gone)
 
   -- what is told of equal parts
-  same_told : (x : ℕ) (conn : LoopConn) (cause : EndCause) (place : ConnStage) → conns x ≡ conn → slice_index_or k1.causes.items x Stopped ≡ cause → slice_index_or k1.places.items x Gone ≡ place
-      → PlaceTells first l1 k1.table x conn cause place → Tells x
+  same_told : (x : ℕ) (conn : LoopConn) (cause : EndCause) (place : ConnStage) → conns x ≡ conn → slice_index_or k1.causes.items x Stopped ≡ cause → slice_index_or k1.stages.items x Gone ≡ place
+      → StageTells first l1 k1.table x conn cause place → Tells x
   same_told x conn cause place e f d t =
-      subst (λ k. PlaceTells first l1 k1.table x k (slice_index_or k1.causes.items x Stopped) (slice_index_or k1.places.items x Gone)) (sym e)
-      (subst (λ k. PlaceTells first l1 k1.table x conn k (slice_index_or k1.places.items x Gone)) (sym f) (subst (λ k. PlaceTells first l1 k1.table x conn cause k) (sym d) t))
+      subst (λ k. StageTells first l1 k1.table x k (slice_index_or k1.causes.items x Stopped) (slice_index_or k1.stages.items x Gone)) (sym e)
+      (subst (λ k. StageTells first l1 k1.table x conn k (slice_index_or k1.stages.items x Gone)) (sym f) (subst (λ k. StageTells first l1 k1.table x conn cause k) (sym d) t))
 
   own_tells : Tells c
   own_tells =
       same_told c new_conn Stopped Lean own_conn
       (ap (λ xs. slice_index_or xs c Stopped) a.causes ∙ get_or_push k0.causes.items Stopped Stopped c (sym tied.count ∙ sym number))
-      (ap (λ xs. slice_index_or xs c Gone) a.places ∙ get_or_push k0.places.items Lean Gone c (sym tied.places ∙ sym number)) (
+      (ap (λ xs. slice_index_or xs c Gone) a.stages ∙ get_or_push k0.stages.items Lean Gone c (sym tied.stages ∙ sym number)) (
         record { there = has_value (slot_in c k1.table.slots) (fresh_slot c) found; link = o.is_open; going = refl; stopped = refl },
         subst (λ (s : Slot). IsLean s.conn.phase) (sym own_slot) tt,
         ap (λ (s : Slot). s.size) own_slot,
@@ -136,13 +136,13 @@ module _ (max : ℕ) (small : max < 2 ^ 31) (first l0 l1 : LinksState) (k0 k1 : 
 
   other_tells : (x : ℕ) → (x ≡ c → ⊥) → x < g.loop.count → Tells x
   other_tells x n l =
-      let places : g.loop.count ≡ length k0.places.items = tied.places in
+      let stages : g.loop.count ≡ length k0.stages.items = tied.stages in
       let causes : g.loop.count ≡ length k0.causes.items = tied.count in
-      same_told x (g.loop.conns x) (slice_index_or k0.causes.items x Stopped) (slice_index_or k0.places.items x Gone) (other_conn x n)
+      same_told x (g.loop.conns x) (slice_index_or k0.causes.items x Stopped) (slice_index_or k0.stages.items x Gone) (other_conn x n)
       (ap (λ xs. slice_index_or xs x Stopped) a.causes ∙ get_or_append_left k0.causes.items (Stopped ∷ []) Stopped x (omega arith))
-      (ap (λ xs. slice_index_or xs x Gone) a.places ∙ get_or_append_left k0.places.items (Lean ∷ []) Gone x (omega arith))
+      (ap (λ xs. slice_index_or xs x Gone) a.stages ∙ get_or_append_left k0.stages.items (Lean ∷ []) Gone x (omega arith))
       (place_moved x first l0 l1 k0.table k1.table (others x (λ e. n (sym e))) (o.others x n) (o.faults x) (o.left x) (g.loop.conns x) (slice_index_or k0.causes.items x Stopped)
-      (slice_index_or k0.places.items x Gone) (tied.each x l))
+      (slice_index_or k0.stages.items x Gone) (tied.each x l))
 
   -- one of those before
   before : (x : ℕ) → x < suc g.loop.count → (x ≡ c → ⊥) → x < g.loop.count
@@ -160,9 +160,9 @@ module _ (max : ℕ) (small : max < 2 ^ 31) (first l0 l1 : LinksState) (k0 k1 : 
   opened_tied =
       let number_is : c ≡ g.loop.count = number in
       let count : g.loop.count ≡ length k0.causes.items = tied.count in
-      let places : g.loop.count ≡ length k0.places.items = tied.places in
+      let stages : g.loop.count ≡ length k0.stages.items = tied.stages in
       let many_c : length k1.causes.items ≡ length k0.causes.items + 1 = many_causes in
-      let many_p : length k1.places.items ≡ length k0.places.items + 1 = many_places in
+      let many_p : length k1.stages.items ≡ length k0.stages.items + 1 = many_places in
       let opened : l1.opened ≡ suc c = o.opened in
       let few : l1.opened < 2 ^ 32 = o.few in
       let since : first.net_faults ≤ l0.net_faults = tied.net_faults in
@@ -172,7 +172,7 @@ module _ (max : ℕ) (small : max < 2 ^ 31) (first l0 l1 : LinksState) (k0 k1 : 
             subst (λ t. MayHave t (g.loop.tape ++ Opened g.loop.count ∷ [])) (sym (o.tape ∙ ap (λ n. told_with l0.tape (Opened n ∷ [])) number))
             (may_have_more l0.tape g.loop.tape (Opened g.loop.count ∷ []) tied.tape);
         count = omega arith;
-        places = omega arith;
+        stages = omega arith;
         opened = o.opened ∙ ap suc number;
         each = λ x l. each_tells x l (cases_eq x c);
         unopened = λ x l.
@@ -231,7 +231,7 @@ module _ (max : ℕ) (small : max < 2 ^ 31) (first l0 l1 : LinksState) (k0 k1 : 
   each_unstopped x (inl e) is = none-some Stopped (sym (ap (λ i. (conns i).cause) e ∙ ap (λ (k : LoopConn). k.cause) own_conn) ∙ is)
   each_unstopped x (inr n) is = g.none_stopped x (sym (ap (λ (k : LoopConn). k.cause) (other_conn x n)) ∙ is)
 
-  pub opened_goes : IsGoingOn max first l1 k1 asks
+  pub opened_goes : LoopIsRunning max first l1 k1 asks
   opened_goes =
       record {
         loop = more;

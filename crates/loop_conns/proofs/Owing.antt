@@ -7,7 +7,7 @@ use Rattle.outside.specs.LinksState.{LinksState}
 use Rattle.host_model.specs.declared.cause.EndCause.{EndCause}
 use Rattle.host_model.specs.declared.cause.EndCause.TheVariants.{Stopped}
 use Rattle.conn_state.specs.Phase.{Phase, sizing, held, framing, ready, waiting, writing, ended}
-use Rattle.conn_table.specs.declared.places.Slot.{Slot}
+use Rattle.conn_table.specs.declared.stages.Slot.{Slot}
 use Rattle.conn_table.specs.Slots.{slot_in}
 use Rattle.conn_table.specs.Table.{slot_of, size_given, sizes_given, HasItsSize}
 use Rattle.conn_table.proofs.Sizing.{slot_is}
@@ -20,8 +20,8 @@ use Rattle.conn_refinement.proofs.Counting.{counted, sizes_total}
 use Rattle.loop_conns.specs.declared.connections.ConnStage.{ConnStage}
 use Rattle.loop_conns.specs.declared.connections.ConnStage.TheVariants.{Lean, Laden, Gone}
 use Rattle.loop_conns.specs.declared.connections.LoopConnections.{LoopConnections}
-use Rattle.loop_conns.specs.Tied.{IsLaden, PlaceTells, AreTied, PhasesTell}
-use Rattle.loop_conns.specs.Woven.{ServedAsk, owed_by, all_owing, IsGoingOn}
+use Rattle.loop_conns.specs.Tied.{IsLaden, StageTells, AreTied, PhasesTell}
+use Rattle.loop_conns.specs.Woven.{ServedAsk, owed_by, all_owing, LoopIsRunning}
 
 -- what bytes that are no more than a size begin
 no_more : (bytes : List ℕ) → length bytes ≤ 4 → size_begun bytes ≡ 0
@@ -74,7 +74,7 @@ module _ (max : ℕ) (first links : LinksState) (kept : LoopConnections) (loop :
   there_weight : (c : ℕ) → IsSome (slot_in c kept.table.slots) → weight_of size_of (slot_in c kept.table.slots) ≡ size_given (slot_of c kept.table.slots).size
   there_weight c there = ap (weight_of size_of) (slot_is c kept.table.slots there)
 
-  begun_so : (c : ℕ) (place : ConnStage) → c < loop.count → PlaceTells first links kept.table c (loop.conns c) (slice_index_or kept.causes.items c Stopped) place
+  begun_so : (c : ℕ) (place : ConnStage) → c < loop.count → StageTells first links kept.table c (loop.conns c) (slice_index_or kept.causes.items c Stopped) place
       → begun_if_open (loop.conns c).cause (loop.conns c).held ≤ weight_of size_of (slot_in c kept.table.slots)
   begun_so c Lean l h =
       let none : size_begun (loop.conns c).held ≡ 0 = lean_begun max (slot_of c kept.table.slots).conn.phase (loop.conns c) h.1 (phases c l h.0.going).tells in
@@ -98,7 +98,7 @@ module _ (max : ℕ) (first links : LinksState) (kept : LoopConnections) (loop :
       let sizes : table_weight size_of kept.table.slots ≡ sizes_given kept.table.slots = sizes_total kept.table.slots in
       let within : sizes_given kept.table.slots ≤ kept.table.budget = t.orderly.within in
       let less : sum_among (λ k. begun_if_open k.cause k.held) loop.conns loop.count ≤ summed (λ c. weight_of size_of (slot_in c kept.table.slots)) loop.count =
-      sums_within (λ k. begun_if_open k.cause k.held) loop.conns (λ c. weight_of size_of (slot_in c kept.table.slots)) loop.count (λ x l. begun_so x (slice_index_or kept.places.items x Gone) l (t.each x l)) in
+      sums_within (λ k. begun_if_open k.cause k.held) loop.conns (λ c. weight_of size_of (slot_in c kept.table.slots)) loop.count (λ x l. begun_so x (slice_index_or kept.stages.items x Gone) l (t.each x l)) in
       omega arith
 
 -- one, where it isn't 0
@@ -126,7 +126,7 @@ owing_few loop =
     sums_within (λ k. owed_by k.cause k) loop.conns (λ x. 1) loop.count (λ x m. owed_at_most (loop.conns x).cause (loop.conns x)) in
     omega arith
 
-pub owing_fits : (max : ℕ) (first links : LinksState) (kept : LoopConnections) (asks : List ServedAsk) → IsGoingOn max first links kept asks → kept.owing ≤ 2 ^ 32
+pub owing_fits : (max : ℕ) (first links : LinksState) (kept : LoopConnections) (asks : List ServedAsk) → LoopIsRunning max first links kept asks → kept.owing ≤ 2 ^ 32
 owing_fits max first links kept asks g =
     let a : kept.owing ≡ all_owing g.loop = g.owing in
     let b : all_owing g.loop ≤ g.loop.count = owing_few g.loop in

@@ -13,7 +13,7 @@ use Rattle.host_model.specs.declared.cause.EndCause.TheVariants.{WriteFault, NoM
 use Rattle.conn_state.specs.Phase.{Phase, ConnView, sizing, held, framing, ready, waiting, writing, ended, left_to_write, IsReading}
 use Rattle.conn_state.specs.Step.{after_wrote}
 use Rattle.conn_table.specs.Table.{TableView, slot_of, with_state}
-use Rattle.machine_model.specs.OwnCalls.{count_of}
+use Rattle.machine_model.specs.OwnCalls.{summed_calls}
 use Rattle.machine_model.specs.OwnLoop.{refuses_job}
 use Rattle.machine_model.specs.Loop.{LoopConn, with_cause, changed, writes, fails_write}
 use Rattle.machine_model.specs.Bounds.{sum_among}
@@ -23,9 +23,9 @@ use Rattle.conn_refinement.proofs.Tables.{no_bytes, state_there, state_is, state
 use Rattle.loop_conns.specs.declared.connections.ConnStage.{ConnStage}
 use Rattle.loop_conns.specs.declared.connections.ConnStage.TheVariants.{Lean, Laden, Gone}
 use Rattle.loop_conns.specs.declared.connections.LoopConnections.{LoopConnections}
-use Rattle.loop_conns.specs.Tied.{IsLaden, IsOpenHere, PlaceTells}
-use Rattle.loop_conns.specs.Woven.{ServedAsk, owed_by, all_owing, IsGoingOn}
-use Rattle.loop_conns.specs.Ended.{EndsHere, MovesOnly}
+use Rattle.loop_conns.specs.Tied.{IsLaden, IsOpenOnLinks, StageTells}
+use Rattle.loop_conns.specs.Woven.{ServedAsk, owed_by, all_owing, LoopIsRunning}
+use Rattle.loop_conns.specs.Ended.{EndsConnection, MovesOnly}
 use Rattle.loop_conns.proofs.Ordering.{state_orderly}
 use Rattle.loop_conns.proofs.Tying.{same_at, rose_since}
 use Rattle.loop_conns.proofs.Standing.{Standing}
@@ -63,7 +63,7 @@ wrote_tells max (byte ∷ rest) conn all none left = (all, none, left, λ e. let
 
 lean_stays : (first l0 l1 : LinksState) (t0 t1 : TableView) (c : ℕ) (conn now : LoopConn) (cause : EndCause) (place : ConnStage) (left : List ℕ) → (slot_of c t0.slots).conn.phase ≡ writing left
     → IsLean (slot_of c t1.slots).conn.phase → (slot_of c t1.slots).size ≡ (slot_of c t0.slots).size → (place ≡ Gone → ⊥)
-    → PlaceTells first l0 t0 c conn cause place → IsOpenHere l1 t1 c now cause → PlaceTells first l1 t1 c now cause place
+    → StageTells first l0 t0 c conn cause place → IsOpenOnLinks l1 t1 c now cause → StageTells first l1 t1 c now cause place
 lean_stays first l0 l1 t0 t1 c conn now cause Lean left is lean size n h here = (here, lean, size ∙ h.2)
 lean_stays first l0 l1 t0 t1 c conn now cause Laden left is lean size n h here = absurd (subst IsLaden is h.1)
 lean_stays first l0 l1 t0 t1 c conn now cause Gone left is lean size n h here = absurd (n refl)
@@ -98,8 +98,8 @@ one_of_sum f conns c (suc n) l = go (cases_eq n c) (one_of_sum f conns c n)
     go (inl e) rec = let k : f (conns n) ≡ f (conns c) = ap (λ x. f (conns x)) e in omega arith
     go (inr m) rec = let k : f (conns c) ≤ sum_among f conns n = rec (omega arith) in omega arith
 
-module _ (max : ℕ) (small : max ≤ 268435456) (first before : LinksState) (old : LoopConnections) (asks : List ServedAsk) (g : IsGoingOn max first before old asks) (c : ℕ)
-    (st : Standing before old g.loop c) (open_at : slice_index_or old.places.items c Gone ≢ Gone) (some : 0 < length (left_to_write (slot_of c old.table.slots).conn.phase)) where
+module _ (max : ℕ) (small : max ≤ 268435456) (first before : LinksState) (old : LoopConnections) (asks : List ServedAsk) (g : LoopIsRunning max first before old asks) (c : ℕ)
+    (st : Standing before old g.loop c) (open_at : slice_index_or old.stages.items c Gone ≢ Gone) (some : 0 < length (left_to_write (slot_of c old.table.slots).conn.phase)) where
   abbrev conn : LoopConn
   conn = g.loop.conns c
 
@@ -121,10 +121,10 @@ module _ (max : ℕ) (small : max ≤ 268435456) (first before : LinksState) (ol
       → MovesOnly c (Wrote c (take count (left_to_write (slot_of c old.table.slots).conn.phase)) ∷ []) (length (left_to_write (slot_of c old.table.slots).conn.phase) ∷ []) before links
       → links.is_open c ≡ true
       → kept.table ≡ record old.table { slots = with_state c (record (slot_of c old.table.slots).conn { phase = after_wrote (drop count (left_to_write (slot_of c old.table.slots).conn.phase)) }) old.table.slots }
-      → kept.places ≡ old.places → kept.causes ≡ old.causes
+      → kept.stages ≡ old.stages → kept.causes ≡ old.causes
       → kept.owing + 1 ≡ old.owing + owed_by None (record conn { left = drop count (left_to_write (slot_of c old.table.slots).conn.phase) })
-      → IsGoingOn max first links kept asks
-  writes_goes count links kept some_count most moves link table places causes owing =
+      → LoopIsRunning max first links kept asks
+  writes_goes count links kept some_count most moves link table stages causes owing =
       let left : List ℕ = left_to_write (slot_of c old.table.slots).conn.phase in
       let view : ConnView = record (slot_of c old.table.slots).conn { phase = after_wrote (drop count left) } in
       let now : LoopConn = record conn { left = drop count conn.left } in
@@ -133,10 +133,10 @@ module _ (max : ℕ) (small : max ≤ 268435456) (first before : LinksState) (ol
       let phase : IsOpenTied max (slot_of c kept.table.slots).conn now =
       subst (λ (v : ConnView). IsOpenTied max v now) (sym state)
       (record { going = st.here.going; counted = tied.counted; tells = wrote_tells max (drop count left) now at.all at.none_held (sym same) }) in
-      let here : IsOpenHere links kept.table c now (slice_index_or old.causes.items c Stopped) =
+      let here : IsOpenOnLinks links kept.table c now (slice_index_or old.causes.items c Stopped) =
       record { there = state_there c view old.table kept.table st.here.there table; link = link; going = st.here.going; stopped = st.here.stopped } in
-      subst (λ a. IsGoingOn max first links kept a) (append-nil asks)
-      (change_goes max (small_max max small) first before links old kept asks g (handles (writes c count)) c now (slice_index_or old.places.items c Gone)
+      subst (λ a. LoopIsRunning max first links kept a) (append-nil asks)
+      (change_goes max (small_max max small) first before links old kept asks g (handles (writes c count)) c now (slice_index_or old.stages.items c Gone)
       (slice_index_or old.causes.items c Stopped) (Wrote c (take count conn.left) ∷ [])
       (record {
         below = st.below;
@@ -150,11 +150,11 @@ module _ (max : ℕ) (small : max ≤ 268435456) (first before : LinksState) (ol
               links = subst (λ k. MovesOnly c (Wrote c (take count k) ∷ []) (length k ∷ []) before links) left_same moves;
               table = state_but c view old.table kept.table st.here.there table;
               orderly = state_orderly c view old.table kept.table st.here.there table;
-              places = same_at Gone c (slice_index_or old.places.items c Gone) old.places.items kept.places.items (ap (λ v. v.items) places) refl;
+              stages = same_at Gone c (slice_index_or old.stages.items c Gone) old.stages.items kept.stages.items (ap (λ v. v.items) stages) refl;
               causes = same_at Stopped c (slice_index_or old.causes.items c Stopped) old.causes.items kept.causes.items (ap (λ v. v.items) causes) refl;
             };
         tells =
-            lean_stays first before links old.table kept.table c conn now (slice_index_or old.causes.items c Stopped) (slice_index_or old.places.items c Gone) at.left at.is
+            lean_stays first before links old.table kept.table c conn now (slice_index_or old.causes.items c Stopped) (slice_index_or old.stages.items c Gone) at.left at.is
             (subst (λ (v : ConnView). IsLean v.phase) (sym state) (wrote_lean (drop count left))) (state_size c view old.table kept.table st.here.there table) open_at
             (g.so_far.tied.each c st.below) here;
         less = begun_less g.loop c now (Wrote c (take count conn.left) ∷ []) old.table.budget st.below g.so_far.within.now (omega arith);
@@ -169,7 +169,7 @@ module _ (max : ℕ) (small : max ≤ 268435456) (first before : LinksState) (ol
             let d : owed_by None (record conn { left = drop count left }) ≡ owed_by None now = ap (λ k. owed_by None (record conn { left = k })) same in
             omega arith;
       })
-      (ap (count_of refuses_job) (append-nil asks) ∙ g.taken))
+      (ap (summed_calls refuses_job) (append-nil asks) ∙ g.taken))
 
   -- A part of what was left was written, or all of it.
   abbrev left0 : List ℕ
@@ -179,21 +179,21 @@ module _ (max : ℕ) (small : max ≤ 268435456) (first before : LinksState) (ol
   behind count = record old.table { slots = with_state c (record (slot_of c old.table.slots).conn { phase = after_wrote (drop count left0) }) old.table.slots }
 
   pub writes_part : (count : ℕ) (links : LinksState) (kept : LoopConnections) → 1 ≤ count → count < length left0 → MovesOnly c (Wrote c (take count left0) ∷ []) (length left0 ∷ []) before links
-      → links.is_open c ≡ true → kept.table ≡ behind count → kept.places ≡ old.places → kept.causes ≡ old.causes → kept.owing ≡ old.owing → IsGoingOn max first links kept asks
-  writes_part count links kept some_count fewer moves link table places causes owing =
-      writes_goes count links kept some_count (omega arith) moves link table places causes
+      → links.is_open c ≡ true → kept.table ≡ behind count → kept.stages ≡ old.stages → kept.causes ≡ old.causes → kept.owing ≡ old.owing → LoopIsRunning max first links kept asks
+  writes_part count links kept some_count fewer moves link table stages causes owing =
+      writes_goes count links kept some_count (omega arith) moves link table stages causes
       (let a : owed_by None (record conn { left = drop count left0 }) ≡ 1 = owes_bytes (record conn { left = drop count left0 }) at.all.1 (some_left count left0 fewer) in omega arith)
 
   pub writes_all : (count : ℕ) (links : LinksState) (kept : LoopConnections) → 1 ≤ count → count ≤ length left0 → length left0 ≤ count
       → MovesOnly c (Wrote c (take count left0) ∷ []) (length left0 ∷ []) before links
-      → links.is_open c ≡ true → kept.table ≡ behind count → kept.places ≡ old.places → kept.causes ≡ old.causes → kept.owing + 1 ≡ old.owing → IsGoingOn max first links kept asks
-  writes_all count links kept some_count most all moves link table places causes owing =
-      writes_goes count links kept some_count most moves link table places causes
+      → links.is_open c ≡ true → kept.table ≡ behind count → kept.stages ≡ old.stages → kept.causes ≡ old.causes → kept.owing + 1 ≡ old.owing → LoopIsRunning max first links kept asks
+  writes_all count links kept some_count most all moves link table stages causes owing =
+      writes_goes count links kept some_count most moves link table stages causes
       (let a : owed_by None (record conn { left = drop count left0 }) ≡ 0 = owes_none (record conn { left = drop count left0 }) at.all.1 (drop_of_length-le left0 all) in omega arith)
 
   -- A write failed.
-  pub write_fails : (mid links : LinksState) (new : LoopConnections) → EndsHere c WriteFault old new → new.owing + 1 ≡ old.owing → MovesOnly c (WriteFailed c ∷ []) [] before mid
-      → Rose (before.faults c) (mid.faults c) → Closes c mid links → IsGoingOn max first links new asks
+  pub write_fails : (mid links : LinksState) (new : LoopConnections) → EndsConnection c WriteFault old new → new.owing + 1 ≡ old.owing → MovesOnly c (WriteFailed c ∷ []) [] before mid
+      → Rose (before.faults c) (mid.faults c) → Closes c mid links → LoopIsRunning max first links new asks
   write_fails mid links new here owing moves rose closed =
       leaves_goes max small first before mid links old new old.table asks g.loop c st g.so_far.within.now (fails_write c) (with_cause conn WriteFault) WriteFault (WriteFailed c ∷ []) []
       (record {
@@ -210,8 +210,8 @@ module _ (max : ℕ) (small : max ≤ 268435456) (first before : LinksState) (ol
       g refl at.all.1 (λ e. cc) (let a : owed_by conn.cause conn ≡ 1 = one_owed in omega arith)
 
   -- There was no memory for a write.
-  pub writer_given_up : (mid links : LinksState) (new : LoopConnections) → EndsHere c NoMemory old new → new.owing + 1 ≡ old.owing → MovesOnly c [] [] before mid → Closes c mid links
-      → IsGoingOn max first links new asks
+  pub writer_given_up : (mid links : LinksState) (new : LoopConnections) → EndsConnection c NoMemory old new → new.owing + 1 ≡ old.owing → MovesOnly c [] [] before mid → Closes c mid links
+      → LoopIsRunning max first links new asks
   writer_given_up mid links new here owing moves closed =
       gives_up_goes max small first before mid links old new asks g c st at.all.1 moves here closed (let a : owed_by conn.cause conn ≡ 1 = one_owed in omega arith)
 
@@ -225,5 +225,5 @@ module _ (max : ℕ) (small : max ≤ 268435456) (first before : LinksState) (ol
       omega arith
 
 -- what has ended among what is kept, where another count was kept
-pub ends_alike : (c : ℕ) (why : EndCause) (old new : LoopConnections) (owing : ℕ) → EndsHere c why (record old { owing = owing }) new → EndsHere c why old new
-ends_alike c why old new owing h = record { table = h.table; orderly = h.orderly; gone = h.gone; places = h.places; causes = h.causes }
+pub ends_alike : (c : ℕ) (why : EndCause) (old new : LoopConnections) (owing : ℕ) → EndsConnection c why (record old { owing = owing }) new → EndsConnection c why old new
+ends_alike c why old new owing h = record { table = h.table; orderly = h.orderly; gone = h.gone; stages = h.stages; causes = h.causes }

@@ -13,8 +13,8 @@ use Rattle.conn_refinement.specs.Phases.{IsOpenTied}
 use Rattle.loop_conns.specs.declared.connections.ConnStage.{ConnStage}
 use Rattle.loop_conns.specs.declared.connections.ConnStage.TheVariants.{Lean, Laden, Gone}
 use Rattle.loop_conns.specs.declared.connections.LoopConnections.{LoopConnections}
-use Rattle.loop_conns.specs.Tied.{PlaceTells, AreTied, PhasesTell}
-use Rattle.loop_conns.specs.Woven.{ServedAsk, IsGoingOn}
+use Rattle.loop_conns.specs.Tied.{StageTells, AreTied, PhasesTell}
+use Rattle.loop_conns.specs.Woven.{ServedAsk, LoopIsRunning}
 use Rattle.loop_conns.specs.Ended.{MovesOnly}
 use Rattle.loop_conns.proofs.Tying.{ChangesOne, same_at, changed_tied, changed_phases, told_none}
 use Rattle.loop_conns.proofs.Weaving.{none_woven}
@@ -33,10 +33,10 @@ same_loop loop c =
     let conns : with_conn loop.conns c (loop.conns c) ≡ loop.conns = fun_ext (λ x. kept_at loop.conns c x) in
     λ i. record { tape = append-nil loop.tape i; count = loop.count; conns = conns i }
 
-module _ (max : ℕ) (first l0 l1 : LinksState) (k0 k1 : LoopConnections) (asks : List ServedAsk) (g : IsGoingOn max first l0 k0 asks) (c : ℕ) (place : ConnStage) (cause : EndCause) where
+module _ (max : ℕ) (first l0 l1 : LinksState) (k0 k1 : LoopConnections) (asks : List ServedAsk) (g : LoopIsRunning max first l0 k0 asks) (c : ℕ) (place : ConnStage) (cause : EndCause) where
   -- One connection has changed where the machine's hasn't.
-  pub quiet_goes : c < g.loop.count → ChangesOne c place cause [] [] l0 l1 k0 k1 → PlaceTells first l1 k1.table c (g.loop.conns c) cause place
-      → ((g.loop.conns c).cause ≡ None → IsOpenTied max (slot_of c k1.table.slots).conn (g.loop.conns c)) → k1.owing ≡ k0.owing → IsGoingOn max first l1 k1 asks
+  pub quiet_goes : c < g.loop.count → ChangesOne c place cause [] [] l0 l1 k0 k1 → StageTells first l1 k1.table c (g.loop.conns c) cause place
+      → ((g.loop.conns c).cause ≡ None → IsOpenTied max (slot_of c k1.table.slots).conn (g.loop.conns c)) → k1.owing ≡ k0.owing → LoopIsRunning max first l1 k1 asks
   quiet_goes below change tells phase owing =
       let tied : AreTied first l1 k1 g.loop =
       subst (AreTied first l1 k1) (same_loop g.loop c) (changed_tied first l0 l1 k0 k1 g.loop c (g.loop.conns c) place cause [] [] g.so_far.tied below change tells) in
@@ -52,22 +52,22 @@ module _ (max : ℕ) (first l0 l1 : LinksState) (k0 k1 : LoopConnections) (asks 
       }
 
 -- A connection that is open was read from, or written to, and nothing moved.
-pub rests_goes : (max : ℕ) (first l0 l1 : LinksState) (kept : LoopConnections) (asks : List ServedAsk) (g : IsGoingOn max first l0 kept asks) (c : ℕ) → Standing l0 kept g.loop c
-    → MovesOnly c [] [] l0 l1 → l1.is_open c ≡ l0.is_open c → IsGoingOn max first l1 kept asks
+pub rests_goes : (max : ℕ) (first l0 l1 : LinksState) (kept : LoopConnections) (asks : List ServedAsk) (g : LoopIsRunning max first l0 kept asks) (c : ℕ) → Standing l0 kept g.loop c
+    → MovesOnly c [] [] l0 l1 → l1.is_open c ≡ l0.is_open c → LoopIsRunning max first l1 kept asks
 rests_goes max first l0 l1 kept asks g c st moves link =
-    quiet_goes max first l0 l1 kept kept asks g c (slice_index_or kept.places.items c Gone) (slice_index_or kept.causes.items c Stopped) st.below
+    quiet_goes max first l0 l1 kept kept asks g c (slice_index_or kept.stages.items c Gone) (slice_index_or kept.causes.items c Stopped) st.below
     (record {
       links = moves;
       table = record { budget = refl; others = λ x n. refl };
       orderly = λ o. o;
-      places = same_at Gone c (slice_index_or kept.places.items c Gone) kept.places.items kept.places.items refl refl;
+      stages = same_at Gone c (slice_index_or kept.stages.items c Gone) kept.stages.items kept.stages.items refl refl;
       causes = same_at Stopped c (slice_index_or kept.causes.items c Stopped) kept.causes.items kept.causes.items refl refl;
     })
-    (go (slice_index_or kept.places.items c Gone) (g.so_far.tied.each c st.below))
+    (go (slice_index_or kept.stages.items c Gone) (g.so_far.tied.each c st.below))
     (λ e. g.phases c st.below e) refl
   where
-    go : (place : ConnStage) → PlaceTells first l0 kept.table c (g.loop.conns c) (slice_index_or kept.causes.items c Stopped) place
-        → PlaceTells first l1 kept.table c (g.loop.conns c) (slice_index_or kept.causes.items c Stopped) place
+    go : (place : ConnStage) → StageTells first l0 kept.table c (g.loop.conns c) (slice_index_or kept.causes.items c Stopped) place
+        → StageTells first l1 kept.table c (g.loop.conns c) (slice_index_or kept.causes.items c Stopped) place
     go Lean h = (record { there = h.0.there; link = link ∙ h.0.link; going = h.0.going; stopped = h.0.stopped }, h.1, h.2)
     go Laden h = (record { there = h.0.there; link = link ∙ h.0.link; going = h.0.going; stopped = h.0.stopped }, h.1, h.2)
     go Gone h = absurd (none-some (slice_index_or kept.causes.items c Stopped) (sym st.here.going ∙ h.ended))

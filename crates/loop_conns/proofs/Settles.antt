@@ -15,7 +15,7 @@ use Rattle.conn_table.specs.Slots.{slot_in}
 use Rattle.conn_table.specs.Table.{TableView, slot_of, with_state, with_size, HasItsSize, TakesRoom}
 use Rattle.call_history.specs.Calls.{seat_ask}
 use Rattle.machine_model.specs.HallRule.{collect, outcome}
-use Rattle.machine_model.specs.OwnCalls.{count_of}
+use Rattle.machine_model.specs.OwnCalls.{summed_calls}
 use Rattle.machine_model.specs.OwnLoop.{refuses_job, CollectsItsOwn}
 use Rattle.machine_model.specs.Loop.{LoopConn, Loop, changed, open_conn_settled, open_marks_settled, conn_settled, conn_marks_settled}
 use Rattle.machine_model.specs.AtFronts.{size_begun, begun_if_open}
@@ -28,9 +28,9 @@ use Rattle.conn_refinement.proofs.Tables.{no_bytes, but_then, idle_answer, state
 use Rattle.loop_conns.specs.declared.connections.ConnStage.{ConnStage}
 use Rattle.loop_conns.specs.declared.connections.ConnStage.TheVariants.{Lean, Laden, Gone}
 use Rattle.loop_conns.specs.declared.connections.LoopConnections.{LoopConnections}
-use Rattle.loop_conns.specs.Tied.{CauseShows, PlaceTells, IsOrderly}
-use Rattle.loop_conns.specs.Woven.{ServedAsk, owed_by, all_owing, IsGoingOn}
-use Rattle.loop_conns.specs.Ended.{EndsHere}
+use Rattle.loop_conns.specs.Tied.{CauseShows, StageTells, IsOrderly}
+use Rattle.loop_conns.specs.Woven.{ServedAsk, owed_by, all_owing, LoopIsRunning}
+use Rattle.loop_conns.specs.Ended.{EndsConnection}
 use Rattle.loop_conns.specs.Going.{collected_behind, some_reply}
 use Rattle.loop_conns.proofs.Ordering.{state_orderly, freed_orderly}
 use Rattle.loop_conns.proofs.Tying.{set_at, same_at, ChangesOne}
@@ -80,7 +80,7 @@ waiting_laden (writing left) waits lean = waits
 waiting_laden (ended cause) waits lean = waits
 
 -- An outcome that a loop which goes on has just collected is that of a connection that waits.
-module _ (max : ℕ) (first links : LinksState) (kept : LoopConnections) (asks : List ServedAsk) (g : IsGoingOn max first links kept asks) (key : Key) (settled : Settled)
+module _ (max : ℕ) (first links : LinksState) (kept : LoopConnections) (asks : List ServedAsk) (g : LoopIsRunning max first links kept asks) (key : Key) (settled : Settled)
     (own : CollectsItsOwn (collected_behind asks key settled)) where
   abbrev its_conn : LoopConn
   its_conn = g.loop.conns key.c
@@ -106,15 +106,15 @@ module _ (max : ℕ) (first links : LinksState) (kept : LoopConnections) (asks :
           let l : suc its_conn.collected ≡ length its_conn.payloads = one in
           let f : ⊥ = omega arith in f)
 
-  is_open : slice_index_or kept.places.items key.c Gone ≢ Gone
+  is_open : slice_index_or kept.stages.items key.c Gone ≢ Gone
   is_open e =
       none-some (slice_index_or kept.causes.items key.c Stopped)
-      (sym going ∙ (subst (λ place. PlaceTells first links kept.table key.c its_conn (slice_index_or kept.causes.items key.c Stopped) place) e (g.so_far.tied.each key.c numbers.0)).ended)
+      (sym going ∙ (subst (λ place. StageTells first links kept.table key.c its_conn (slice_index_or kept.causes.items key.c Stopped) place) e (g.so_far.tied.each key.c numbers.0)).ended)
 
   phase : IsWaiting (slot_of key.c kept.table.slots).conn.phase × HoldsNothing its_conn
   phase = waits_by max (slot_of key.c kept.table.slots).conn.phase its_conn (g.phases key.c numbers.0 going).tells all one
 
-  size_at : (place : ConnStage) → PlaceTells first links kept.table key.c its_conn (slice_index_or kept.causes.items key.c Stopped) place → IsSome (slot_of key.c kept.table.slots).size
+  size_at : (place : ConnStage) → StageTells first links kept.table key.c its_conn (slice_index_or kept.causes.items key.c Stopped) place → IsSome (slot_of key.c kept.table.slots).size
   size_at Lean h = absurd (waiting_laden (slot_of key.c kept.table.slots).conn.phase phase.0 h.1)
   size_at Laden h = waiting_size (slot_of key.c kept.table.slots).conn.phase (slot_of key.c kept.table.slots).size phase.0 h.2
   size_at Gone h = absurd (none-some (slice_index_or kept.causes.items key.c Stopped) (sym going ∙ h.ended))
@@ -124,7 +124,7 @@ module _ (max : ℕ) (first links : LinksState) (kept : LoopConnections) (asks :
       record {
         stands = standing first links kept g.loop key.c g.so_far.tied is_open;
         waits = phase.0;
-        size = size_at (slice_index_or kept.places.items key.c Gone) (g.so_far.tied.each key.c numbers.0);
+        size = size_at (slice_index_or kept.stages.items key.c Gone) (g.so_far.tied.each key.c numbers.0);
         nothing = phase.1;
         submitted = all;
         collected = one;
@@ -242,7 +242,7 @@ leaves_open max c (Close fault) conn going nothing all one e = absurd (none-some
 leaves_open max c NoRoom conn going nothing all one e = absurd (none-some NoMemory (sym e))
 
 -- The loop goes on with the outcome.
-module _ (max : ℕ) (small : max ≤ 268435456) (first before : LinksState) (old : LoopConnections) (asks : List ServedAsk) (g : IsGoingOn max first before old asks) (key : Key) (settled told : Settled)
+module _ (max : ℕ) (small : max ≤ 268435456) (first before : LinksState) (old : LoopConnections) (asks : List ServedAsk) (g : LoopIsRunning max first before old asks) (key : Key) (settled told : Settled)
     (told_is : told ≡ some_reply settled) (own : CollectsItsOwn (collected_behind asks key settled)) (mid table : TableView) (h : HasAnswered key.c told old.table mid table) where
   abbrev conn : LoopConn
   conn = g.loop.conns key.c
@@ -267,10 +267,10 @@ module _ (max : ℕ) (small : max ≤ 268435456) (first before : LinksState) (ol
     refl,
   )
 
-  none_refused : count_of refuses_job (asks ++ ask ∷ []) ≡ 0
+  none_refused : summed_calls refuses_job (asks ++ ask ∷ []) ≡ 0
   none_refused =
-      let p : count_of refuses_job (asks ++ ask ∷ []) ≡ count_of refuses_job asks + 0 = number_push refuses_job asks ask in
-      let q : count_of refuses_job asks ≡ 0 = g.taken in
+      let p : summed_calls refuses_job (asks ++ ask ∷ []) ≡ summed_calls refuses_job asks + 0 = number_push refuses_job asks ask in
+      let q : summed_calls refuses_job asks ≡ 0 = g.taken in
       omega arith
 
   all_now : now.collected ≡ length now.payloads
@@ -280,8 +280,8 @@ module _ (max : ℕ) (small : max ≤ 268435456) (first before : LinksState) (ol
   owed_before = one_owed max first before old asks g key settled own
 
   -- It has ended.
-  pub settles_over : (links : LinksState) (new : LoopConnections) (why : EndCause) → cause_of (slot_of key.c table.slots).conn.phase ≡ Some why → EndsHere key.c why (record old { table = table }) new
-      → new.owing + 1 ≡ old.owing → Closes key.c before links → IsGoingOn max first links new (collected_behind asks key settled)
+  pub settles_over : (links : LinksState) (new : LoopConnections) (why : EndCause) → cause_of (slot_of key.c table.slots).conn.phase ≡ Some why → EndsConnection key.c why (record old { table = table }) new
+      → new.owing + 1 ≡ old.owing → Closes key.c before links → LoopIsRunning max first links new (collected_behind asks key settled)
   settles_over links new why is here owing closed =
       let by : EndsBy key.c settled why conn =
       ends_so key.c settled why conn
@@ -319,9 +319,9 @@ module _ (max : ℕ) (small : max ≤ 268435456) (first before : LinksState) (ol
   state_now : (slot_of key.c table.slots).conn ≡ record (slot_of key.c old.table.slots).conn { phase = after_answer (some_reply settled) }
   state_now = answered_state key.c told old.table mid table h ∙ ap (λ s. let view : ConnView = record (slot_of key.c old.table.slots).conn { phase = after_answer s } in view) told_is
 
-  settles_open : (new : LoopConnections) → new.table ≡ table → new.places.items ≡ slice_set old.places.items key.c Lean → new.causes ≡ old.causes
-      → LeavesOpen max key.c settled conn → new.owing + 1 ≡ old.owing + owed_by None now → IsGoingOn max first before new (collected_behind asks key settled)
-  settles_open new is places causes by owing =
+  settles_open : (new : LoopConnections) → new.table ≡ table → new.stages.items ≡ slice_set old.stages.items key.c Lean → new.causes ≡ old.causes
+      → LeavesOpen max key.c settled conn → new.owing + 1 ≡ old.owing + owed_by None now → LoopIsRunning max first before new (collected_behind asks key settled)
+  settles_open new is stages causes by owing =
       let phase : IsOpenTied max (slot_of key.c table.slots).conn now =
       subst (λ (v : ConnView). IsOpenTied max v now) (sym state_now)
       (record { going = by.going; counted = (g.phases key.c at.stands.below at.stands.here.going).counted ∙ sym (ap length more.payloads); tells = by.tells }) in
@@ -335,12 +335,12 @@ module _ (max : ℕ) (small : max ≤ 268435456) (first before : LinksState) (ol
               links = moves_none key.c before;
               table = subst (λ (t : TableView). IsSameBut key.c old.table t) (sym is) (answered_but key.c told old.table mid table h);
               orderly = λ o. subst IsOrderly (sym is) (answered_orderly key.c told old.table mid table h o);
-              places = set_at Gone key.c Lean old.places.items new.places.items at.stands.known.0 places;
+              stages = set_at Gone key.c Lean old.stages.items new.stages.items at.stands.known.0 stages;
               causes =
                   same_at Stopped key.c (slice_index_or old.causes.items key.c Stopped) old.causes.items new.causes.items (ap (λ v. v.items) causes) refl;
             });
         tells =
-            subst (λ (t : TableView). PlaceTells first before t key.c now (slice_index_or old.causes.items key.c Stopped) Lean) (sym is) (
+            subst (λ (t : TableView). StageTells first before t key.c now (slice_index_or old.causes.items key.c Stopped) Lean) (sym is) (
               record { there = answered_there key.c told old.table mid table h; link = at.stands.here.link; going = by.going; stopped = at.stands.here.stopped },
               subst (λ (v : ConnView). IsLean v.phase) (sym state_now) by.lean,
               answered_size key.c told old.table mid table h,
@@ -364,18 +364,18 @@ module _ (max : ℕ) (small : max ≤ 268435456) (first before : LinksState) (ol
   left_is by = by.left ∙ sym (ap (λ (v : ConnView). left_to_write v.phase) state_now)
 
   -- Nothing is left to be written.
-  pub settles_done : (new : LoopConnections) → new.table ≡ table → new.places.items ≡ slice_set old.places.items key.c Lean → new.causes ≡ old.causes
+  pub settles_done : (new : LoopConnections) → new.table ≡ table → new.stages.items ≡ slice_set old.stages.items key.c Lean → new.causes ≡ old.causes
       → cause_of (slot_of key.c table.slots).conn.phase ≡ None → left_to_write (slot_of key.c table.slots).conn.phase ≡ [] → new.owing + 1 ≡ old.owing
-      → IsGoingOn max first before new (collected_behind asks key settled)
-  settles_done new is places causes none nothing owing =
+      → LoopIsRunning max first before new (collected_behind asks key settled)
+  settles_done new is stages causes none nothing owing =
       let by : LeavesOpen max key.c settled conn = left_by none in
-      settles_open new is places causes by (let z : owed_by None now ≡ 0 = owes_none now all_now (left_is by ∙ nothing) in let d : new.owing + 1 ≡ old.owing = owing in omega arith)
+      settles_open new is stages causes by (let z : owed_by None now ≡ 0 = owes_none now all_now (left_is by ∙ nothing) in let d : new.owing + 1 ≡ old.owing = owing in omega arith)
 
   -- A reply is.
-  pub settles_writing : (new : LoopConnections) → new.table ≡ table → new.places.items ≡ slice_set old.places.items key.c Lean → new.causes ≡ old.causes
+  pub settles_writing : (new : LoopConnections) → new.table ≡ table → new.stages.items ≡ slice_set old.stages.items key.c Lean → new.causes ≡ old.causes
       → cause_of (slot_of key.c table.slots).conn.phase ≡ None → left_to_write (slot_of key.c table.slots).conn.phase ≢ [] → new.owing ≡ old.owing
-      → IsGoingOn max first before new (collected_behind asks key settled)
-  settles_writing new is places causes none some owing =
+      → LoopIsRunning max first before new (collected_behind asks key settled)
+  settles_writing new is stages causes none some owing =
       let by : LeavesOpen max key.c settled conn = left_by none in
-      settles_open new is places causes by
+      settles_open new is stages causes by
       (let z : owed_by None now ≡ 1 = owes_bytes now all_now (λ e. some (sym (left_is by) ∙ e)) in let d : new.owing ≡ old.owing = owing in omega arith)

@@ -12,7 +12,7 @@ use Rattle.conn_refinement.specs.Phases.{HasAllCollected, PhaseTells, IsLean}
 use Rattle.loop_conns.specs.declared.connections.ConnStage.{ConnStage}
 use Rattle.loop_conns.specs.declared.connections.ConnStage.TheVariants.{Lean, Laden, Gone}
 use Rattle.loop_conns.specs.declared.connections.LoopConnections.{LoopConnections}
-use Rattle.loop_conns.specs.Tied.{IsLaden, IsOpenHere, PlaceTells, AreTied}
+use Rattle.loop_conns.specs.Tied.{IsLaden, IsOpenOnLinks, StageTells, AreTied}
 use Rattle.loop_conns.specs.Ended.{IsNumbered, HasSizeBy}
 use Rattle.loop_conns.specs.Going.{IsOpenAt}
 
@@ -20,8 +20,8 @@ use Rattle.loop_conns.specs.Going.{IsOpenAt}
 pub record Standing (links : LinksState) (kept : LoopConnections) (loop : Loop) (c : ℕ) : Type 0 where
   pub below : c < loop.count
   pub known : IsNumbered c kept
-  pub here : IsOpenHere links kept.table c (loop.conns c) (slice_index_or kept.causes.items c Stopped)
-  pub size : HasSizeBy (slice_index_or kept.places.items c Gone) (slot_of c kept.table.slots).size
+  pub here : IsOpenOnLinks links kept.table c (loop.conns c) (slice_index_or kept.causes.items c Stopped)
+  pub size : HasSizeBy (slice_index_or kept.stages.items c Gone) (slot_of c kept.table.slots).size
   pub going : HasNotEnded (slot_of c kept.table.slots).conn.phase
 
 lean_going : (phase : Phase) → IsLean phase → HasNotEnded phase
@@ -53,27 +53,27 @@ laden_size (ended cause) size h is = absurd h
 
 module _ (first links : LinksState) (kept : LoopConnections) (loop : Loop) (c : ℕ) (t : AreTied first links kept loop) where
   abbrev Tells : ConnStage → Type 0
-  Tells place = PlaceTells first links kept.table c (loop.conns c) (slice_index_or kept.causes.items c Stopped) place
+  Tells place = StageTells first links kept.table c (loop.conns c) (slice_index_or kept.causes.items c Stopped) place
 
   open_here : (place : ConnStage) → (place ≡ Gone → ⊥) → Tells place
-      → IsOpenHere links kept.table c (loop.conns c) (slice_index_or kept.causes.items c Stopped) × HasSizeBy place (slot_of c kept.table.slots).size × HasNotEnded (slot_of c kept.table.slots).conn.phase
+      → IsOpenOnLinks links kept.table c (loop.conns c) (slice_index_or kept.causes.items c Stopped) × HasSizeBy place (slot_of c kept.table.slots).size × HasNotEnded (slot_of c kept.table.slots).conn.phase
   open_here Lean n h = (h.0, h.2, lean_going (slot_of c kept.table.slots).conn.phase h.1)
   open_here Laden n h = (h.0, laden_size (slot_of c kept.table.slots).conn.phase (slot_of c kept.table.slots).size h.1 h.2, laden_going (slot_of c kept.table.slots).conn.phase h.1)
   open_here Gone n h = absurd (n refl)
 
   opened : IsOpenAt c kept → c < loop.count
-  opened is_open = go (cases_lt c (length kept.places.items))
+  opened is_open = go (cases_lt c (length kept.stages.items))
     where
-      go : (c < length kept.places.items) ⊎ (length kept.places.items ≤ c) → c < loop.count
-      go (inl l) = let e : loop.count ≡ length kept.places.items = t.places in omega arith
-      go (inr l) = absurd (is_open (get_or_past kept.places.items c Gone l))
+      go : (c < length kept.stages.items) ⊎ (length kept.stages.items ≤ c) → c < loop.count
+      go (inl l) = let e : loop.count ≡ length kept.stages.items = t.stages in omega arith
+      go (inr l) = absurd (is_open (get_or_past kept.stages.items c Gone l))
 
   pub standing : IsOpenAt c kept → Standing links kept loop c
   standing is_open =
       let l : c < loop.count = opened is_open in
-      let h : IsOpenHere links kept.table c (loop.conns c) (slice_index_or kept.causes.items c Stopped) × HasSizeBy (slice_index_or kept.places.items c Gone) (slot_of c kept.table.slots).size
-      × HasNotEnded (slot_of c kept.table.slots).conn.phase = open_here (slice_index_or kept.places.items c Gone) is_open (t.each c l) in
-      let places : loop.count ≡ length kept.places.items = t.places in
+      let h : IsOpenOnLinks links kept.table c (loop.conns c) (slice_index_or kept.causes.items c Stopped) × HasSizeBy (slice_index_or kept.stages.items c Gone) (slot_of c kept.table.slots).size
+      × HasNotEnded (slot_of c kept.table.slots).conn.phase = open_here (slice_index_or kept.stages.items c Gone) is_open (t.each c l) in
+      let stages : loop.count ≡ length kept.stages.items = t.stages in
       let causes : loop.count ≡ length kept.causes.items = t.count in
       record { below = l; known = (omega arith, omega arith); here = h.0; size = h.1; going = h.2 }
 

@@ -24,16 +24,16 @@ use Rattle.loop_conns.specs.declared.connections.ConnStage.{ConnStage}
 use Rattle.loop_conns.specs.declared.connections.ConnStage.TheVariants.{Lean, Laden, Gone}
 use Rattle.loop_conns.specs.declared.connections.LoopConnections.{LoopConnections}
 use Rattle.conn_refinement.specs.Tables.{IsSameBut}
-use Rattle.loop_conns.specs.Tied.{IsLaden, CauseShows, IsOpenHere, PlaceTells, IsOrderly, AreTied, PhasesTell}
-use Rattle.loop_conns.specs.Woven.{ServedAsk, missing_of, owed_by, IsGoingOn}
-use Rattle.loop_conns.specs.Ended.{IsNumbered, EndsHere, MovesOnly}
+use Rattle.loop_conns.specs.Tied.{IsLaden, CauseShows, IsOpenOnLinks, StageTells, IsOrderly, AreTied, PhasesTell}
+use Rattle.loop_conns.specs.Woven.{ServedAsk, missing_of, owed_by, LoopIsRunning}
+use Rattle.loop_conns.specs.Ended.{IsNumbered, EndsConnection, MovesOnly}
 use Rattle.loop_conns.specs.Going.{ReadsAt}
 use Rattle.loop_conns.proofs.Ordering.{state_orderly}
 use Rattle.loop_conns.proofs.Tying.{set_at, same_at, ChangesOne, changed_tied, changed_phases, told_twice}
 use Rattle.loop_conns.proofs.Making.{GoesOnSo, MakesSo, makes_so, missing_is}
 use Rattle.loop_conns.proofs.Standing.{Standing, standing, owes_nothing}
 use Rattle.loop_conns.proofs.Owing.{begun_fits, owes_none, owes_outcome}
-use Rattle.machine_model.specs.OwnCalls.{count_of}
+use Rattle.machine_model.specs.OwnCalls.{summed_calls}
 use Rattle.machine_model.specs.OwnLoop.{refuses_job}
 use Rattle.loop_conns.proofs.Weaving.{lent_by}
 use Rattle.loop_conns.proofs.Going.{begun_less, change_goes}
@@ -97,7 +97,7 @@ over_of max conn bytes old frames (writing xs) cause is m = absurd (none-some ca
 -- the place stays, where the frame goes on
 place_on : (first l0 l1 : LinksState) (t0 t1 : TableView) (c : ℕ) (conn now : LoopConn) (cause : EndCause) (place : ConnStage) (p0 p1 : Phase) → (slot_of c t0.slots).conn.phase ≡ p0
     → (slot_of c t1.slots).conn.phase ≡ p1 → (slot_of c t1.slots).size ≡ (slot_of c t0.slots).size → HasItsSize p1 (slot_of c t1.slots).size → GoesOnSo p0 p1
-    → PlaceTells first l0 t0 c conn cause place → IsOpenHere l1 t1 c now cause → (place ≡ Gone → ⊥) → PlaceTells first l1 t1 c now cause place
+    → StageTells first l0 t0 c conn cause place → IsOpenOnLinks l1 t1 c now cause → (place ≡ Gone → ⊥) → StageTells first l1 t1 c now cause place
 place_on first l0 l1 t0 t1 c conn now cause Lean (sizing xs) p1 is0 is1 size has goes h here n = (here, subst IsLean (sym is1) goes, size ∙ h.2)
 place_on first l0 l1 t0 t1 c conn now cause Laden (framing m xs) p1 is0 is1 size has goes h here n =
     (here, subst IsLaden (sym is1) (framing_laden p1 goes), subst (λ p. HasItsSize p (slot_of c t1.slots).size) (sym is1) has)
@@ -127,7 +127,7 @@ place_on first l0 l1 t0 t1 c conn now cause Laden (ended k) p1 is0 is1 size has 
 -- a payload that has become whole is at a place with a size
 place_whole : (first l0 l1 : LinksState) (t0 t1 : TableView) (c : ℕ) (conn now : LoopConn) (cause : EndCause) (place : ConnStage) (p0 p1 : Phase) → (slot_of c t0.slots).conn.phase ≡ p0
     → (slot_of c t1.slots).conn.phase ≡ p1 → HasItsSize p1 (slot_of c t1.slots).size → IsFraming p0 → IsReady p1
-    → PlaceTells first l0 t0 c conn cause place → IsOpenHere l1 t1 c now cause → (place ≡ Gone → ⊥) → PlaceTells first l1 t1 c now cause place
+    → StageTells first l0 t0 c conn cause place → IsOpenOnLinks l1 t1 c now cause → (place ≡ Gone → ⊥) → StageTells first l1 t1 c now cause place
 place_whole first l0 l1 t0 t1 c conn now cause Laden p0 (ready m xs) is0 is1 has framed is_ready h here n =
     (here, subst IsLaden (sym is1) tt, subst (λ p. HasItsSize p (slot_of c t1.slots).size) (sym is1) has)
 place_whole first l0 l1 t0 t1 c conn now cause Lean p0 p1 is0 is1 has framed is_ready h here n = absurd (lean_framing p0 (subst IsLean is0 h.1) framed)
@@ -179,14 +179,14 @@ pub record HasTakenIn (max c : ℕ) (old : LoopConnections) (bytes : List ℕ) (
 
 -- a connection that has ended here, behind what it did on the links
 pub ended_change : (c : ℕ) (cause : EndCause) (marks : List Mark) (lent : List ℕ) (l0 mid l1 : LinksState) (old : LoopConnections) (table : TableView) (new : LoopConnections) → IsSameBut c old.table table
-    → (IsOrderly old.table → IsOrderly table) → IsNumbered c old → MovesOnly c marks lent l0 mid → EndsHere c cause (record old { table = table }) new → Closes c mid l1
+    → (IsOrderly old.table → IsOrderly table) → IsNumbered c old → MovesOnly c marks lent l0 mid → EndsConnection c cause (record old { table = table }) new → Closes c mid l1
     → ChangesOne c Gone cause (marks ++ Closed c ∷ []) lent l0 l1 old new
 ended_change c cause marks lent l0 mid l1 old table new but orderly known moves here closed =
     record {
       links = closed_then c marks lent l0 mid l1 moves closed;
       table = but_then c old.table table new.table but here.table;
       orderly = λ o. here.orderly (orderly o);
-      places = set_at Gone c Gone old.places.items new.places.items known.0 here.places;
+      stages = set_at Gone c Gone old.stages.items new.stages.items known.0 here.stages;
       causes = set_at Stopped c cause old.causes.items new.causes.items known.1 here.causes;
     }
 
@@ -212,7 +212,7 @@ module _ (max c : ℕ) (old : LoopConnections) (bytes : List ℕ) (mid : TableVi
   pub taken_size : (slot_of c mid.slots).size ≡ (slot_of c old.table.slots).size
   taken_size = state_size c view1 old.table mid h.there h.table
 
-  module _ (first before read_links : LinksState) (asks : List ServedAsk) (g : IsGoingOn max first before old asks) (reads_at : ReadsAt c old)
+  module _ (first before read_links : LinksState) (asks : List ServedAsk) (g : LoopIsRunning max first before old asks) (reads_at : ReadsAt c old)
       (moves : MovesOnly c (Read c bytes ∷ []) (wanted view0.phase ∷ []) before read_links) where
     stands : Standing before old g.loop c
     stands = standing first before old g.loop c g.so_far.tied reads_at.0
@@ -245,10 +245,10 @@ module _ (max c : ℕ) (old : LoopConnections) (bytes : List ℕ) (mid : TableVi
     cause = slice_index_or old.causes.items c Stopped
 
     place : ConnStage
-    place = slice_index_or old.places.items c Gone
+    place = slice_index_or old.stages.items c Gone
 
     -- it is open still
-    open_still : (now : LoopConn) → now.cause ≡ None → read_links.is_open c ≡ true → IsOpenHere read_links mid c now (slice_index_or old.causes.items c Stopped)
+    open_still : (now : LoopConn) → now.cause ≡ None → read_links.is_open c ≡ true → IsOpenOnLinks read_links mid c now (slice_index_or old.causes.items c Stopped)
     open_still now going link = record { there = taken_there; link = link; going = going; stopped = stands.here.stopped }
 
     moves_by : (progress : FrameProgress) → MovesOnly c (marks_read c bytes progress) (min (missing_of conn.held) most_wanted ∷ []) before read_links → MovesOnly c (marks_read c bytes progress) (lent_by g.loop (handles (reads c bytes))) before read_links
@@ -258,14 +258,14 @@ module _ (max c : ℕ) (old : LoopConnections) (bytes : List ℕ) (mid : TableVi
     moved = subst (λ lent. MovesOnly c (Read c bytes ∷ []) lent before read_links) lent_is moves
 
     -- the change, where it stays open at its place
-    stays : (kept : LoopConnections) → kept.table ≡ mid → kept.places ≡ old.places → kept.causes ≡ old.causes
-        → ChangesOne c (slice_index_or old.places.items c Gone) (slice_index_or old.causes.items c Stopped) (Read c bytes ∷ []) (min (missing_of conn.held) most_wanted ∷ []) before read_links old kept
-    stays kept table places causes =
+    stays : (kept : LoopConnections) → kept.table ≡ mid → kept.stages ≡ old.stages → kept.causes ≡ old.causes
+        → ChangesOne c (slice_index_or old.stages.items c Gone) (slice_index_or old.causes.items c Stopped) (Read c bytes ∷ []) (min (missing_of conn.held) most_wanted ∷ []) before read_links old kept
+    stays kept table stages causes =
         record {
           links = moved;
           table = subst (λ (t : TableView). IsSameBut c old.table t) (sym table) (state_but c view1 old.table mid h.there h.table);
           orderly = λ o. subst IsOrderly (sym table) (state_orderly c view1 old.table mid h.there h.table o);
-          places = same_at Gone c (slice_index_or old.places.items c Gone) old.places.items kept.places.items (ap (λ v. v.items) places) refl;
+          stages = same_at Gone c (slice_index_or old.stages.items c Gone) old.stages.items kept.stages.items (ap (λ v. v.items) stages) refl;
           causes = same_at Stopped c (slice_index_or old.causes.items c Stopped) old.causes.items kept.causes.items (ap (λ v. v.items) causes) refl;
         }
 
@@ -274,25 +274,25 @@ module _ (max c : ℕ) (old : LoopConnections) (bytes : List ℕ) (mid : TableVi
 
     -- The frame goes on.
     pub goes_part : (kept : LoopConnections) → kept ≡ record old { table = mid } → read_links.is_open c ≡ true → cause_of (slot_of c mid.slots).conn.phase ≡ None
-        → (IsReady (slot_of c mid.slots).conn.phase → ⊥) → IsGoingOn max first read_links kept asks
+        → (IsReady (slot_of c mid.slots).conn.phase → ⊥) → LoopIsRunning max first read_links kept asks
     goes_part kept is link none not_ready =
         let m : GoesOnSo view0.phase view1.phase × IsProgress max (conn.held ++ bytes) part × IsOpenTied max view1 (read_more conn bytes part) =
         part_of max conn bytes view0.phase view1.frames view1.phase (sym (ap (λ (v : ConnView). cause_of v.phase) taken_state) ∙ none)
         (λ r. not_ready (subst (λ (v : ConnView). IsReady v.phase) (sym taken_state) r)) makes in
         let now : LoopConn = read_more conn bytes part in
-        let tells : PlaceTells first read_links mid c now (slice_index_or old.causes.items c Stopped) (slice_index_or old.places.items c Gone) =
-        place_on first before read_links old.table mid c conn now (slice_index_or old.causes.items c Stopped) (slice_index_or old.places.items c Gone) view0.phase view1.phase refl
+        let tells : StageTells first read_links mid c now (slice_index_or old.causes.items c Stopped) (slice_index_or old.stages.items c Gone) =
+        place_on first before read_links old.table mid c conn now (slice_index_or old.causes.items c Stopped) (slice_index_or old.stages.items c Gone) view0.phase view1.phase refl
         (ap (λ (v : ConnView). v.phase) taken_state) taken_size sized m.0 (g.so_far.tied.each c stands.below) (open_still now stands.here.going link) reads_at.0 in
-        let change : ChangesOne c (slice_index_or old.places.items c Gone) (slice_index_or old.causes.items c Stopped) (Read c bytes ∷ []) (min (missing_of conn.held) most_wanted ∷ []) before
+        let change : ChangesOne c (slice_index_or old.stages.items c Gone) (slice_index_or old.causes.items c Stopped) (Read c bytes ∷ []) (min (missing_of conn.held) most_wanted ∷ []) before
         read_links old (record old { table = mid }) = stays (record old { table = mid }) refl refl refl in
         let phase : IsOpenTied max (slot_of c mid.slots).conn now = subst (λ (v : ConnView). IsOpenTied max v now) (sym taken_state) m.2 in
         let next : AreTied first read_links (record old { table = mid }) (changed g.loop c now (Read c bytes ∷ [])) =
-        changed_tied first before read_links old (record old { table = mid }) g.loop c now (slice_index_or old.places.items c Gone) (slice_index_or old.causes.items c Stopped) (Read c bytes ∷ [])
+        changed_tied first before read_links old (record old { table = mid }) g.loop c now (slice_index_or old.stages.items c Gone) (slice_index_or old.causes.items c Stopped) (Read c bytes ∷ [])
         (min (missing_of conn.held) most_wanted ∷ []) g.so_far.tied stands.below change tells in
         let phases : PhasesTell max mid (changed g.loop c now (Read c bytes ∷ [])) = changed_phases max old.table mid g.loop c now (Read c bytes ∷ []) g.phases change.table (λ e. phase) in
-        subst (λ k. IsGoingOn max first read_links k asks) (sym is)
-        (subst (λ a. IsGoingOn max first read_links (record old { table = mid }) a) (append-nil asks)
-        (change_goes max (small_max max h.small) first before read_links old (record old { table = mid }) asks g (handles (reads c bytes)) c now (slice_index_or old.places.items c Gone)
+        subst (λ k. LoopIsRunning max first read_links k asks) (sym is)
+        (subst (λ a. LoopIsRunning max first read_links (record old { table = mid }) a) (append-nil asks)
+        (change_goes max (small_max max h.small) first before read_links old (record old { table = mid }) asks g (handles (reads c bytes)) c now (slice_index_or old.stages.items c Gone)
         (slice_index_or old.causes.items c Stopped) (Read c bytes ∷ [])
         (record {
           below = stands.below;
@@ -308,19 +308,19 @@ module _ (max c : ℕ) (old : LoopConnections) (bytes : List ℕ) (mid : TableVi
           unstopped = λ e. absurd (none-some Stopped (sym stands.here.going ∙ e));
           owing = ap (λ n. old.owing + n) (owed_before ∙ sym (ap (λ o. owed_by o now) stands.here.going ∙ owes_none now owes.0.1 owes.1));
         })
-        (ap (count_of refuses_job) (append-nil asks) ∙ g.taken)))
+        (ap (summed_calls refuses_job) (append-nil asks) ∙ g.taken)))
 
     -- Its payload is whole.
     pub goes_whole : (kept : LoopConnections) → kept ≡ record old { table = mid; owing = old.owing + 1 } → read_links.is_open c ≡ true → IsReady (slot_of c mid.slots).conn.phase
-        → IsGoingOn max first read_links kept asks
+        → LoopIsRunning max first read_links kept asks
     goes_whole kept is link is_ready =
         let ready_now : IsReady view1.phase = subst (λ (v : ConnView). IsReady v.phase) taken_state is_ready in
         let m : (payload : List ℕ) × IsFraming view0.phase × IsProgress max (conn.held ++ bytes) (whole payload) × IsOpenTied max view1 (read_more conn bytes (whole payload)) =
         whole_of max conn bytes view0.phase view1.frames view1.phase ready_now makes in
         let now : LoopConn = read_more conn bytes (whole m.0) in
         let new : LoopConnections = record old { table = mid; owing = old.owing + 1 } in
-        let tells : PlaceTells first read_links mid c now (slice_index_or old.causes.items c Stopped) (slice_index_or old.places.items c Gone) =
-        place_whole first before read_links old.table mid c conn now (slice_index_or old.causes.items c Stopped) (slice_index_or old.places.items c Gone) view0.phase view1.phase refl
+        let tells : StageTells first read_links mid c now (slice_index_or old.causes.items c Stopped) (slice_index_or old.stages.items c Gone) =
+        place_whole first before read_links old.table mid c conn now (slice_index_or old.causes.items c Stopped) (slice_index_or old.stages.items c Gone) view0.phase view1.phase refl
         (ap (λ (v : ConnView). v.phase) taken_state) sized m.1 ready_now (g.so_far.tied.each c stands.below) (open_still now stands.here.going link) reads_at.0 in
         let phase : IsOpenTied max (slot_of c mid.slots).conn now = subst (λ (v : ConnView). IsOpenTied max v now) (sym taken_state) m.3 in
         let owed : owed_by now.cause now ≡ 1 = ap (λ o. owed_by o now) stands.here.going
@@ -329,9 +329,9 @@ module _ (max c : ℕ) (old : LoopConnections) (bytes : List ℕ) (mid : TableVi
         let all : conn.collected ≡ length conn.payloads = owes.0.1 in
         let same : conn.collected ≡ length (conn.payloads ++ m.0 ∷ []) = e in
         let f : ⊥ = omega arith in f) in
-        subst (λ k. IsGoingOn max first read_links k asks) (sym is)
-        (subst (λ a. IsGoingOn max first read_links new a) (append-nil asks)
-        (change_goes max (small_max max h.small) first before read_links old new asks g (handles (reads c bytes)) c now (slice_index_or old.places.items c Gone)
+        subst (λ k. LoopIsRunning max first read_links k asks) (sym is)
+        (subst (λ a. LoopIsRunning max first read_links new a) (append-nil asks)
+        (change_goes max (small_max max h.small) first before read_links old new asks g (handles (reads c bytes)) c now (slice_index_or old.stages.items c Gone)
         (slice_index_or old.causes.items c Stopped) (Read c bytes ∷ [])
         (record {
           below = stands.below;
@@ -347,16 +347,16 @@ module _ (max c : ℕ) (old : LoopConnections) (bytes : List ℕ) (mid : TableVi
           unstopped = λ e. absurd (none-some Stopped (sym stands.here.going ∙ e));
           owing = let a : owed_by conn.cause conn ≡ 0 = owed_before in omega arith;
         })
-        (ap (count_of refuses_job) (append-nil asks) ∙ g.taken)))
+        (ap (summed_calls refuses_job) (append-nil asks) ∙ g.taken)))
 
     -- Its size is one that no frame has, and it is closed.
-    pub goes_over : (kept : LoopConnections) (links : LinksState) (cause : EndCause) → EndsHere c cause (record old { table = mid }) kept → kept.owing ≡ old.owing → Closes c read_links links
-        → cause_of (slot_of c mid.slots).conn.phase ≡ Some cause → IsGoingOn max first links kept asks
+    pub goes_over : (kept : LoopConnections) (links : LinksState) (cause : EndCause) → EndsConnection c cause (record old { table = mid }) kept → kept.owing ≡ old.owing → Closes c read_links links
+        → cause_of (slot_of c mid.slots).conn.phase ≡ Some cause → LoopIsRunning max first links kept asks
     goes_over kept links why here owing closed is =
         let m : (z : ℤ) × (why ≡ SizeFault z) × IsProgress max (conn.held ++ bytes) (bad_size z) =
         over_of max conn bytes view0.phase view1.frames view1.phase why (sym (ap (λ (v : ConnView). cause_of v.phase) taken_state) ∙ is) makes in
         let now : LoopConn = read_more conn bytes (bad_size m.0) in
-        subst (λ a. IsGoingOn max first links kept a) (append-nil asks)
+        subst (λ a. LoopIsRunning max first links kept a) (append-nil asks)
         (change_goes max (small_max max h.small) first before links old kept asks g (handles (reads c bytes)) c now Gone why (Read c bytes ∷ Closed c ∷ [])
         (record {
           below = stands.below;
@@ -373,4 +373,4 @@ module _ (max c : ℕ) (old : LoopConnections) (bytes : List ℕ) (mid : TableVi
           unstopped = λ e. unlike m.0 (same_Some (SizeFault m.0) Stopped e);
           owing = let a : owed_by conn.cause conn ≡ 0 = owed_before in let b : kept.owing ≡ old.owing = owing in omega arith;
         })
-        (ap (count_of refuses_job) (append-nil asks) ∙ g.taken))
+        (ap (summed_calls refuses_job) (append-nil asks) ∙ g.taken))

@@ -9,7 +9,7 @@ use Rattle.outside.specs.Told.{told_with}
 use Rattle.outside.specs.LinksState.{LinksState}
 use Rattle.host_model.specs.declared.cause.EndCause.{EndCause}
 use Rattle.host_model.specs.declared.cause.EndCause.TheVariants.{End, Cut, SizeFault, Envelope, ReadFault, WriteFault, NoMemory, Stopped}
-use Rattle.conn_table.specs.declared.places.Slot.{Slot}
+use Rattle.conn_table.specs.declared.stages.Slot.{Slot}
 use Rattle.conn_table.specs.Slots.{slot_in}
 use Rattle.conn_table.specs.Table.{TableView, slot_of, fresh_slot, HasItsSize}
 use Rattle.machine_model.specs.SeenHall.{MayHave}
@@ -20,7 +20,7 @@ use Rattle.conn_refinement.specs.Tables.{IsSameBut}
 use Rattle.loop_conns.specs.declared.connections.ConnStage.{ConnStage}
 use Rattle.loop_conns.specs.declared.connections.ConnStage.TheVariants.{Lean, Laden, Gone}
 use Rattle.loop_conns.specs.declared.connections.LoopConnections.{LoopConnections}
-use Rattle.loop_conns.specs.Tied.{IsLaden, CauseShows, IsOpenHere, PlaceTells, IsOrderly, AreTied, PhasesTell}
+use Rattle.loop_conns.specs.Tied.{IsLaden, CauseShows, IsOpenOnLinks, StageTells, IsOrderly, AreTied, PhasesTell}
 use Rattle.loop_conns.specs.Ended.{MovesOnly}
 
 -- the element at one place is this now, and the others are as they were
@@ -46,7 +46,7 @@ pub record ChangesOne (c : ℕ) (place : ConnStage) (cause : EndCause) (marks : 
   pub links : MovesOnly c marks lent l0 l1
   pub table : IsSameBut c k0.table k1.table
   pub orderly : IsOrderly k0.table → IsOrderly k1.table
-  pub places : IsSetAt Gone c place k0.places.items k1.places.items
+  pub stages : IsSetAt Gone c place k0.stages.items k1.stages.items
   pub causes : IsSetAt Stopped c cause k0.causes.items k1.causes.items
 
 -- nothing on a tape, or on one that isn't told
@@ -84,11 +84,11 @@ module _ (x : ℕ) (first l0 l1 : LinksState) (t0 t1 : TableView) (slot : slot_i
   shows_moved NoMemory h = tt
   shows_moved Stopped h = tt
 
-  open_moved : (conn : LoopConn) (cause : EndCause) → IsOpenHere l0 t0 x conn cause → IsOpenHere l1 t1 x conn cause
+  open_moved : (conn : LoopConn) (cause : EndCause) → IsOpenOnLinks l0 t0 x conn cause → IsOpenOnLinks l1 t1 x conn cause
   open_moved conn cause h =
       record { there = subst (λ o. IsSome o) (sym slot) h.there; link = link ∙ h.link; going = h.going; stopped = h.stopped }
 
-  pub place_moved : (conn : LoopConn) (cause : EndCause) (place : ConnStage) → PlaceTells first l0 t0 x conn cause place → PlaceTells first l1 t1 x conn cause place
+  pub place_moved : (conn : LoopConn) (cause : EndCause) (place : ConnStage) → StageTells first l0 t0 x conn cause place → StageTells first l1 t1 x conn cause place
   place_moved conn cause Lean h =
       (open_moved conn cause h.0, subst (λ (k : Slot). IsLean k.conn.phase) (sym slot_same) h.1, ap (λ (k : Slot). k.size) slot_same ∙ h.2)
   place_moved conn cause Laden h =
@@ -98,20 +98,20 @@ module _ (x : ℕ) (first l0 l1 : LinksState) (t0 t1 : TableView) (slot : slot_i
 
 -- the same, told of equal parts
 told_same : (first links : LinksState) (table : TableView) (x : ℕ) (conn conn_now : LoopConn) (cause cause_now : EndCause) (place place_now : ConnStage) → conn_now ≡ conn → cause_now ≡ cause
-    → place_now ≡ place → PlaceTells first links table x conn cause place → PlaceTells first links table x conn_now cause_now place_now
+    → place_now ≡ place → StageTells first links table x conn cause place → StageTells first links table x conn_now cause_now place_now
 told_same first links table x conn conn_now cause cause_now place place_now a b e t =
-    subst (λ k. PlaceTells first links table x k cause_now place_now) (sym a)
-    (subst (λ k. PlaceTells first links table x conn k place_now) (sym b) (subst (λ k. PlaceTells first links table x conn cause k) (sym e) t))
+    subst (λ k. StageTells first links table x k cause_now place_now) (sym a)
+    (subst (λ k. StageTells first links table x conn k place_now) (sym b) (subst (λ k. StageTells first links table x conn cause k) (sym e) t))
 
 -- Where connection c changes, all stay tied.
 pub changed_tied : (first l0 l1 : LinksState) (k0 k1 : LoopConnections) (loop : Loop) (c : ℕ) (conn : LoopConn) (place : ConnStage) (cause : EndCause) (marks : List Mark) (lent : List ℕ)
-    → AreTied first l0 k0 loop → c < loop.count → ChangesOne c place cause marks lent l0 l1 k0 k1 → PlaceTells first l1 k1.table c conn cause place
+    → AreTied first l0 k0 loop → c < loop.count → ChangesOne c place cause marks lent l0 l1 k0 k1 → StageTells first l1 k1.table c conn cause place
     → AreTied first l1 k1 (changed loop c conn marks)
 changed_tied first l0 l1 k0 k1 loop c conn place cause marks lent t below change tells =
     record {
       tape = subst (λ o. MayHave o (loop.tape ++ marks)) (sym change.links.tape) (may_have_more l0.tape loop.tape marks t.tape);
       count = t.count ∙ sym change.causes.count;
-      places = t.places ∙ sym change.places.count;
+      stages = t.stages ∙ sym change.stages.count;
       opened = change.links.others.opened ∙ t.opened;
       each = λ x l. each x l (cases_eq x c);
       unopened = λ x l.
@@ -125,15 +125,15 @@ changed_tied first l0 l1 k0 k1 loop c conn place cause marks lent t below change
     }
   where
     each : (x : ℕ) → x < loop.count → (x ≡ c) ⊎ (x ≡ c → ⊥)
-        → PlaceTells first l1 k1.table x (with_conn loop.conns c conn x) (slice_index_or k1.causes.items x Stopped) (slice_index_or k1.places.items x Gone)
+        → StageTells first l1 k1.table x (with_conn loop.conns c conn x) (slice_index_or k1.causes.items x Stopped) (slice_index_or k1.stages.items x Gone)
     each x l (inl e) =
-        subst (λ x. PlaceTells first l1 k1.table x (with_conn loop.conns c conn x) (slice_index_or k1.causes.items x Stopped) (slice_index_or k1.places.items x Gone)) (sym e)
-        (told_same first l1 k1.table c conn _ cause _ place _ (put_same loop.conns c conn) change.causes.own change.places.own tells)
+        subst (λ x. StageTells first l1 k1.table x (with_conn loop.conns c conn x) (slice_index_or k1.causes.items x Stopped) (slice_index_or k1.stages.items x Gone)) (sym e)
+        (told_same first l1 k1.table c conn _ cause _ place _ (put_same loop.conns c conn) change.causes.own change.stages.own tells)
     each x l (inr n) =
-        told_same first l1 k1.table x (loop.conns x) _ (slice_index_or k0.causes.items x Stopped) _ (slice_index_or k0.places.items x Gone) _
-        (put_other loop.conns c conn x n) (change.causes.others x n) (change.places.others x n)
+        told_same first l1 k1.table x (loop.conns x) _ (slice_index_or k0.causes.items x Stopped) _ (slice_index_or k0.stages.items x Gone) _
+        (put_other loop.conns c conn x n) (change.causes.others x n) (change.stages.others x n)
         (place_moved x first l0 l1 k0.table k1.table (change.table.others x (λ e. n (sym e))) (change.links.others.is_open x n) (change.links.others.faults x n) (change.links.others.left x n)
-        (loop.conns x) (slice_index_or k0.causes.items x Stopped) (slice_index_or k0.places.items x Gone) (t.each x l))
+        (loop.conns x) (slice_index_or k0.causes.items x Stopped) (slice_index_or k0.stages.items x Gone) (t.each x l))
 
     faults : (x : ℕ) → (x ≡ c) ⊎ (x ≡ c → ⊥) → first.faults x ≤ l1.faults x
     faults x (inl e) =

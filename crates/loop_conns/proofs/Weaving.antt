@@ -54,9 +54,9 @@ module _ (max budget : ℕ) (weave more : List ServedItem) (loop next : Loop) (g
         within = p.within;
       }
 
-  pub all_passed_more : (places : List RestPlace) → AllByRecursion (IsPassedAtRest max budget weave loop) places → AllByRecursion (IsPassedAtRest max budget (weave ++ more) next) places
+  pub all_passed_more : (stages : List RestPlace) → AllByRecursion (IsPassedAtRest max budget weave loop) stages → AllByRecursion (IsPassedAtRest max budget (weave ++ more) next) stages
   all_passed_more [] a = tt
-  all_passed_more (noted ∷ places) a = (passed_more noted a.0, all_passed_more places a.1)
+  all_passed_more (noted ∷ stages) a = (passed_more noted a.0, all_passed_more stages a.1)
 
 -- what is told of lengths that have these more
 told_lengths : (o : Option (List ℕ)) (P Q : List ℕ → Type 0) (more : List ℕ) → ((xs : List ℕ) → P xs → Q (xs ++ more)) → IfSome o P → IfSome (told_with o more) Q

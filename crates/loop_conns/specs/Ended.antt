@@ -13,7 +13,7 @@ use Rattle.loop_conns.specs.Tied.{IsOrderly}
 
 -- connection c is known
 abbrev pub IsNumbered : ℕ → LoopConnections → Type 0
-IsNumbered c kept = (c < length kept.places.items) × (c < length kept.causes.items)
+IsNumbered c kept = (c < length kept.stages.items) × (c < length kept.causes.items)
 
 -- one at this place, and open, has a size that is admitted, or none
 abbrev pub HasSizeBy : ConnStage → Option ℕ → Type 0
@@ -22,11 +22,11 @@ HasSizeBy Laden size = IsSome size
 HasSizeBy Gone size = ⊥
 
 -- connection c has ended by this cause: it is out of the table, and its place and its cause tell so
-pub record EndsHere (c : ℕ) (cause : EndCause) (old new : LoopConnections) : Type 0 where
+pub record EndsConnection (c : ℕ) (cause : EndCause) (old new : LoopConnections) : Type 0 where
   pub table : IsSameBut c old.table new.table
   pub orderly : IsOrderly old.table → IsOrderly new.table
   pub gone : slot_in c new.table.slots ≡ None
-  pub places : new.places.items ≡ slice_set old.places.items c Gone
+  pub stages : new.stages.items ≡ slice_set old.stages.items c Gone
   pub causes : new.causes.items ≡ slice_set old.causes.items c cause
 
 -- connection c alone moved on the links: these marks were made, and these lengths lent

@@ -19,29 +19,29 @@ use Rattle.machine_model.specs.OwnLoop.{CollectsItsOwn}
 use Rattle.loop_conns.specs.declared.connections.ConnStage.TheVariants.{Gone}
 use Rattle.loop_conns.specs.declared.connections.LoopConnections.{LoopConnections}
 use Rattle.loop_conns.specs.declared.reading.ReadStep.{ReadStep}
-use Rattle.loop_conns.specs.declared.reading.ReadStep.TheVariants.{More, Sized, Whole, Rests, Over}
+use Rattle.loop_conns.specs.declared.reading.ReadStep.TheVariants.{More, Sized, Whole, Blocked, Over}
 use Rattle.loop_conns.specs.declared.writing.WriteStep.{WriteStep}
-use Rattle.loop_conns.specs.declared.writing.WriteStep.TheVariants.{Part as PartWritten, All as AllWritten, Rests as NotWritten, Over as GoneWriting}
+use Rattle.loop_conns.specs.declared.writing.WriteStep.TheVariants.{Part as PartWritten, All as AllWritten, Blocked as NotWritten, Over as GoneWriting}
 use Rattle.loop_conns.specs.declared.admitting.Admission.{Admission}
 use Rattle.loop_conns.specs.declared.admitting.Admission.TheVariants.{Admitted, Refused, Over as OverUnadmitted}
 use Rattle.loop_conns.specs.Ended.{MovesOnly}
-use Rattle.loop_conns.specs.Woven.{ServedAsk, HasWoven, IsGoingOn}
+use Rattle.loop_conns.specs.Woven.{ServedAsk, HasWoven, LoopIsRunning}
 
 -- some loop goes on with these connections over these links
-abbrev pub SomeLoopGoesOn : ℕ → LinksState → LoopConnections → Type 0
-SomeLoopGoesOn max links kept = (first : LinksState) × (asks : List ServedAsk) × IsGoingOn max first links kept asks
+abbrev pub SomeLoopIsRunning : ℕ → LinksState → LoopConnections → Type 0
+SomeLoopIsRunning max links kept = (first : LinksState) × (asks : List ServedAsk) × LoopIsRunning max first links kept asks
 
 -- whichever loop went on, goes on
 abbrev pub KeepsGoing : ℕ → LinksState → LoopConnections → LinksState → LoopConnections → Type 0
-KeepsGoing max old_links old links new = (first : LinksState) (asks : List ServedAsk) → IsGoingOn max first old_links old asks → IsGoingOn max first links new asks
+KeepsGoing max old_links old links new = (first : LinksState) (asks : List ServedAsk) → LoopIsRunning max first old_links old asks → LoopIsRunning max first links new asks
 
 -- the most bytes that a payload may have
 abbrev pub most_payload : ℕ
 most_payload = 268435456
 
 -- the same, whatever the longest payload is
-abbrev pub SomeGoesOn : LinksState → LoopConnections → Type 0
-SomeGoesOn links kept = (max : ℕ) × (max ≤ most_payload) × SomeLoopGoesOn max links kept
+abbrev pub AnyLoopIsRunning : LinksState → LoopConnections → Type 0
+AnyLoopIsRunning links kept = (max : ℕ) × (max ≤ most_payload) × SomeLoopIsRunning max links kept
 
 -- the same of what is kept
 abbrev pub AllKeepGoing : LinksState → LoopConnections → LinksState → LoopConnections → Type 0
@@ -49,7 +49,7 @@ AllKeepGoing old_links old links new = (max : ℕ) → max ≤ most_payload → 
 
 -- connection c is open
 abbrev pub IsOpenAt : ℕ → LoopConnections → Type 0
-IsOpenAt c kept = slice_index_or kept.places.items c Gone ≢ Gone
+IsOpenAt c kept = slice_index_or kept.stages.items c Gone ≢ Gone
 
 -- connection c reads on
 abbrev pub ReadsAt : ℕ → LoopConnections → Type 0
@@ -70,7 +70,7 @@ HasNoRoom table c = IsSome (slot_in c table.slots) × IsHeld (slot_of c table.sl
 -- A payload of connection c is handed out under this number: the loop may submit it, and goes on where the hall takes it; where it doesn't, the loop has come so far.
 pub record IsHandedOut (max : ℕ) (links : LinksState) (new : LoopConnections) (key : Key) (payload : List ℕ) (first : LinksState) (asks : List ServedAsk) : Type 0 where
   pub may : CollectsItsOwn asks → (opening : HallState PlainCall PlainAnswer ServiceState) → OwnAsksAllow handler_rules opening 0 asks (submit key payload)
-  pub taken : IsGoingOn max first links new (asks ++ seat_ask 0 (submit key payload) done ∷ [])
+  pub taken : LoopIsRunning max first links new (asks ++ seat_ask 0 (submit key payload) done ∷ [])
   pub refused : HasWoven max first links new (asks ++ seat_ask 0 (submit key payload) is_closed ∷ [])
 
 -- the asks, and the outcome of this key collected behind them
@@ -80,38 +80,38 @@ collected_behind asks key settled = asks ++ seat_ask 0 collect (outcome key sett
 -- an outcome that a loop which goes on has just collected
 abbrev pub IsCollected : ℕ → LinksState → LoopConnections → Key → Settled → Type 0
 IsCollected max links kept key settled =
-    (first : LinksState) × (asks : List ServedAsk) × IsGoingOn max first links kept asks × CollectsItsOwn (collected_behind asks key settled)
+    (first : LinksState) × (asks : List ServedAsk) × LoopIsRunning max first links kept asks × CollectsItsOwn (collected_behind asks key settled)
 
 -- whichever loop has collected it, goes on
 abbrev pub GoesOnSettled : ℕ → LinksState → LoopConnections → LinksState → LoopConnections → Key → Settled → Type 0
 GoesOnSettled max old_links old links new key settled =
-    (first : LinksState) (asks : List ServedAsk) → IsGoingOn max first old_links old asks → CollectsItsOwn (collected_behind asks key settled)
-    → IsGoingOn max first links new (collected_behind asks key settled)
+    (first : LinksState) (asks : List ServedAsk) → LoopIsRunning max first old_links old asks → CollectsItsOwn (collected_behind asks key settled)
+    → LoopIsRunning max first links new (collected_behind asks key settled)
 
 -- no connection is open
 abbrev pub AreAllGone : LoopConnections → Type 0
-AreAllGone kept = (c : ℕ) → slice_index_or kept.places.items c Gone ≡ Gone
+AreAllGone kept = (c : ℕ) → slice_index_or kept.stages.items c Gone ≡ Gone
 
 -- what is known of a connection that was read from
-abbrev pub IsReadSo : ℕ → LoopConnections → ReadStep → Type 0
-IsReadSo c kept More = ReadsAt c kept
-IsReadSo c kept Sized = IsOpenAt c kept × IsHeld (slot_of c kept.table.slots).conn.phase
-IsReadSo c kept Whole = IsOpenAt c kept × IsReady (slot_of c kept.table.slots).conn.phase
-IsReadSo c kept Rests = Unit {0}
-IsReadSo c kept Over = Unit {0}
+abbrev pub ReadTells : ℕ → LoopConnections → ReadStep → Type 0
+ReadTells c kept More = ReadsAt c kept
+ReadTells c kept Sized = IsOpenAt c kept × IsHeld (slot_of c kept.table.slots).conn.phase
+ReadTells c kept Whole = IsOpenAt c kept × IsReady (slot_of c kept.table.slots).conn.phase
+ReadTells c kept Blocked = Unit {0}
+ReadTells c kept Over = Unit {0}
 
 -- what is known of a connection that was written to
-abbrev pub IsWrittenSo : ℕ → LoopConnections → WriteStep → Type 0
-IsWrittenSo c kept PartWritten = WritesAt c kept
-IsWrittenSo c kept AllWritten = ReadsAt c kept
-IsWrittenSo c kept NotWritten = Unit {0}
-IsWrittenSo c kept GoneWriting = Unit {0}
+abbrev pub WriteTells : ℕ → LoopConnections → WriteStep → Type 0
+WriteTells c kept PartWritten = WritesAt c kept
+WriteTells c kept AllWritten = ReadsAt c kept
+WriteTells c kept NotWritten = Unit {0}
+WriteTells c kept GoneWriting = Unit {0}
 
 -- Whichever loop went on over the links as they were before bytes were read, goes on.
 abbrev pub TakesIn : ℕ → ℕ → List ℕ → LoopConnections → LinksState → LinksState → LoopConnections → Type 0
 TakesIn max c bytes old read_links links new =
-    (first before : LinksState) (asks : List ServedAsk) → IsGoingOn max first before old asks → ReadsAt c old
-    → MovesOnly c (Read c bytes ∷ []) (wanted (slot_of c old.table.slots).conn.phase ∷ []) before read_links → IsGoingOn max first links new asks
+    (first before : LinksState) (asks : List ServedAsk) → LoopIsRunning max first before old asks → ReadsAt c old
+    → MovesOnly c (Read c bytes ∷ []) (wanted (slot_of c old.table.slots).conn.phase ∷ []) before read_links → LoopIsRunning max first links new asks
 
 -- what is known of a frame that was to be admitted
 abbrev pub AdmissionTells : ℕ → LoopConnections → Admission → Type 0
@@ -122,7 +122,7 @@ AdmissionTells c kept OverUnadmitted = Unit {0}
 -- the same, of one that was handed out; whatever the longest payload is, and however the links are
 abbrev pub AllHandOut : LoopConnections → LoopConnections → Key → List ℕ → Type 0
 AllHandOut old new key payload =
-    (max : ℕ) → max ≤ most_payload → (first links : LinksState) (asks : List ServedAsk) → IsGoingOn max first links old asks → IsHandedOut max links new key payload first asks
+    (max : ℕ) → max ≤ most_payload → (first links : LinksState) (asks : List ServedAsk) → LoopIsRunning max first links old asks → IsHandedOut max links new key payload first asks
 
 -- a reply with no bytes is none
 abbrev pub some_reply : Settled → Settled
@@ -134,7 +134,7 @@ some_reply NoMemory = NoMemory
 
 -- there is room for one more connection
 abbrev pub HasPlace : LoopConnections → Type 0
-HasPlace kept = (length kept.places.items < vec_capacity kept.places) × (length kept.causes.items < vec_capacity kept.causes)
+HasPlace kept = (length kept.stages.items < vec_capacity kept.stages) × (length kept.causes.items < vec_capacity kept.causes)
 
 -- all is over: the links say so, and no connection is open
 abbrev pub IsAllOver : LinksState → LoopConnections → Type 0
@@ -145,6 +145,6 @@ abbrev pub SomeWoven : LinksState → LoopConnections → Type 0
 SomeWoven links kept = (max : ℕ) × (max ≤ most_payload) × (first : LinksState) × (asks : List ServedAsk) × HasWoven max first links kept asks
 
 -- whichever loop has come so far, has come so far now
-abbrev pub AllComeOn : LinksState → LoopConnections → LinksState → LoopConnections → Type 0
-AllComeOn old_links old links new =
+abbrev pub AllKeepWoven : LinksState → LoopConnections → LinksState → LoopConnections → Type 0
+AllKeepWoven old_links old links new =
     (max : ℕ) → max ≤ most_payload → (first : LinksState) (asks : List ServedAsk) → HasWoven max first old_links old asks → HasWoven max first links new asks

@@ -15,9 +15,9 @@ KeepsCauses old new = (c : ℕ) → slice_index_or new.causes.items c Stopped �
 
 -- connection c is gone now, and those that were gone still are
 pub record StopsAlone (c : ℕ) (old new : LoopConnections) : Type 0 where
-  pub count : length new.places.items ≡ length old.places.items
-  pub gone : slice_index_or new.places.items c Gone ≡ Gone
-  pub others : (x : ℕ) → slice_index_or old.places.items x Gone ≡ Gone → slice_index_or new.places.items x Gone ≡ Gone
+  pub count : length new.stages.items ≡ length old.stages.items
+  pub gone : slice_index_or new.stages.items c Gone ≡ Gone
+  pub others : (x : ℕ) → slice_index_or old.stages.items x Gone ≡ Gone → slice_index_or new.stages.items x Gone ≡ Gone
   pub causes : KeepsCauses old new
 
 -- whichever loop has come so far, has come so far now, and each of its connections has ended in the machine, by the cause that is kept

@@ -34,26 +34,26 @@ CauseShows first links c NoMemory = Unit {0}
 CauseShows first links c Stopped = Unit {0}
 
 -- connection c is open: in the table, on the links and in the machine; were the host to stop, it would be stopped
-pub record IsOpenHere (links : LinksState) (table : TableView) (c : ℕ) (conn : LoopConn) (cause : EndCause) : Type 0 where
+pub record IsOpenOnLinks (links : LinksState) (table : TableView) (c : ℕ) (conn : LoopConn) (cause : EndCause) : Type 0 where
   pub there : IsSome (slot_in c table.slots)
   pub link : links.is_open c ≡ true
   pub going : conn.cause ≡ None
   pub stopped : cause ≡ Stopped
 
 -- it is over: out of the table, closed on the links, and ended in the machine by this cause
-pub record IsOverHere (first links : LinksState) (table : TableView) (c : ℕ) (conn : LoopConn) (cause : EndCause) : Type 0 where
+pub record IsOverOnLinks (first links : LinksState) (table : TableView) (c : ℕ) (conn : LoopConn) (cause : EndCause) : Type 0 where
   pub gone : slot_in c table.slots ≡ None
   pub link : links.is_open c ≡ false
   pub ended : conn.cause ≡ Some cause
   pub shows : CauseShows first links c cause
 
 -- How connection c stands, by its place: open, in a phase with no size admitted or in one with its size; or over.
-abbrev pub PlaceTells : LinksState → LinksState → TableView → ℕ → LoopConn → EndCause → ConnStage → Type 0
-PlaceTells first links table c conn cause Lean =
-    IsOpenHere links table c conn cause × IsLean (slot_of c table.slots).conn.phase × ((slot_of c table.slots).size ≡ None)
-PlaceTells first links table c conn cause Laden =
-    IsOpenHere links table c conn cause × IsLaden (slot_of c table.slots).conn.phase × HasItsSize (slot_of c table.slots).conn.phase (slot_of c table.slots).size
-PlaceTells first links table c conn cause Gone = IsOverHere first links table c conn cause
+abbrev pub StageTells : LinksState → LinksState → TableView → ℕ → LoopConn → EndCause → ConnStage → Type 0
+StageTells first links table c conn cause Lean =
+    IsOpenOnLinks links table c conn cause × IsLean (slot_of c table.slots).conn.phase × ((slot_of c table.slots).size ≡ None)
+StageTells first links table c conn cause Laden =
+    IsOpenOnLinks links table c conn cause × IsLaden (slot_of c table.slots).conn.phase × HasItsSize (slot_of c table.slots).conn.phase (slot_of c table.slots).size
+StageTells first links table c conn cause Gone = IsOverOnLinks first links table c conn cause
 
 -- a table whose numbers rise, no more than there may be, with its admitted sizes within the budget
 pub record IsOrderly (table : TableView) : Type 0 where
@@ -66,10 +66,10 @@ pub record IsOrderly (table : TableView) : Type 0 where
 pub record AreTied (first links : LinksState) (kept : LoopConnections) (loop : Loop) : Type 0 where
   pub tape : MayHave links.tape loop.tape
   pub count : loop.count ≡ length kept.causes.items
-  pub places : loop.count ≡ length kept.places.items
+  pub stages : loop.count ≡ length kept.stages.items
   pub opened : links.opened ≡ loop.count
   pub each : (c : ℕ) → c < loop.count
-      → PlaceTells first links kept.table c (loop.conns c) (slice_index_or kept.causes.items c Stopped) (slice_index_or kept.places.items c Gone)
+      → StageTells first links kept.table c (loop.conns c) (slice_index_or kept.causes.items c Stopped) (slice_index_or kept.stages.items c Gone)
   pub unopened : (c : ℕ) → loop.count ≤ c → (slot_in c kept.table.slots ≡ None) × (links.is_open c ≡ false)
   pub numbered : loop.count ≤ 2 ^ 32
   pub orderly : IsOrderly kept.table

@@ -8,7 +8,7 @@ use Rattle.host_model.specs.declared.cause.EndCause.{EndCause}
 use Rattle.host_model.specs.declared.cause.EndCause.TheVariants.{Stopped}
 use Rattle.conn_state.specs.Phase.{most_wanted}
 use Rattle.call_rules.specs.PlainCalls.{PlainCall, PlainAnswer}
-use Rattle.machine_model.specs.OwnCalls.{HallAsk, count_of}
+use Rattle.machine_model.specs.OwnCalls.{HallAsk, summed_calls}
 use Rattle.machine_model.specs.OwnLoop.{refuses_job}
 use Rattle.machine_model.specs.Loop.{LoopConn, Loop, ConnEvent, reads, writes, Happens, LoopAsks}
 use Rattle.machine_model.specs.Bounds.{sum_among, NoneIsLeftBehind}
@@ -92,11 +92,11 @@ HasWoven max first links kept asks = (loop : Loop) × IsWovenTo max first links 
 
 -- One that goes on: each open connection's state tells of the machine's, no payload was left behind, no connection was stopped, the hall has taken each job, and it is
 -- known how many connections owe something.
-pub record IsGoingOn (max : ℕ) (first links : LinksState) (kept : LoopConnections) (asks : List ServedAsk) : Type 0 where
+pub record LoopIsRunning (max : ℕ) (first links : LinksState) (kept : LoopConnections) (asks : List ServedAsk) : Type 0 where
   pub loop : Loop
   pub so_far : IsWovenTo max first links kept asks loop
   pub phases : PhasesTell max kept.table loop
   pub none_left : NoneIsLeftBehind loop
   pub none_stopped : (c : ℕ) → (loop.conns c).cause ≢ Some Stopped
-  pub taken : count_of refuses_job asks ≡ 0
+  pub taken : summed_calls refuses_job asks ≡ 0
   pub owing : kept.owing ≡ all_owing loop

@@ -1,7 +1,7 @@
 //! How a frame is admitted.
 
 ghost use Rattle.std.specs.Prelude.{◌≡◌};
-ghost use Rattle.loop_conns.specs.Going.{SomeGoesOn, AllKeepGoing, WaitsAt, AdmissionTells};
+ghost use Rattle.loop_conns.specs.Going.{AnyLoopIsRunning, AllKeepGoing, WaitsAt, AdmissionTells};
 
 use crate::connections::{ConnStage, LoopConnections};
 use conn_state::EndCause;
@@ -22,7 +22,7 @@ pub enum Admission {
 impl LoopConnections {
     /// Admits the frame that waits, where the budget has room for its size.
     pub fn admit<L: Links>(&mut self, alloc: Global, links: &mut L, c: u32) -> Admission
-        requires under_way { SomeGoesOn (L.state links.old) self.old }
+        requires under_way { AnyLoopIsRunning (L.state links.old) self.old }
         requires waits { WaitsAt c self.old }
         ensures going { AllKeepGoing (L.state links.old) self.old (L.state links.new) self.new }
         ensures step { AdmissionTells c self.new result }
@@ -31,12 +31,12 @@ impl LoopConnections {
     {
         match self.table.admit(alloc, c) {
             Ok(true) => {
-                self.places[c as usize] = ConnStage::Laden;
+                self.stages[c as usize] = ConnStage::Laden;
                 Admission::Admitted
             }
             Ok(false) => Admission::Refused,
             Err(_) => {
-                self.end_by(links, c, EndCause::NoMemory);
+                self.end(links, c, EndCause::NoMemory);
                 Admission::Over
             }
         }

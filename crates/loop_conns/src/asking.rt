@@ -3,7 +3,7 @@
 ghost use Rattle.std.specs.Prelude.{◌≡◌, ℕ, IsTrue, IsErr, Ok, None, ◌<◌, ◌≤◌, length};
 ghost use Rattle.outside.specs.Cause.{Rose};
 ghost use Rattle.outside.specs.declared.answers.Hint.TheVariants.{Over};
-ghost use Rattle.loop_conns.specs.Going.{SomeGoesOn, AllKeepGoing, HasNoRoom, HasPlace, IsAllOver};
+ghost use Rattle.loop_conns.specs.Going.{AnyLoopIsRunning, AllKeepGoing, HasNoRoom, HasPlace, IsAllOver};
 
 use crate::connections::{ConnStage, LoopConnections};
 use conn_state::EndCause;
@@ -18,7 +18,7 @@ impl LoopConnections {
         links: &mut L,
         held: bool,
     ) -> Result<Hint, Failed>
-        requires under_way { SomeGoesOn (L.state links.old) self.old }
+        requires under_way { AnyLoopIsRunning (L.state links.old) self.old }
         requires place { HasPlace self.old }
         requires held { IsTrue held → (c : ℕ) × HasNoRoom self.old.table c }
         ensures going { AllKeepGoing (L.state links.old) self.old (L.state links.new) self.new }
@@ -35,7 +35,7 @@ impl LoopConnections {
         match links.next(rt, ask) {
             Ok(Hint::Opened(c)) => {
                 self.table.add(c);
-                self.places.push_reserved(ConnStage::Lean);
+                self.stages.push_reserved(ConnStage::Lean);
                 self.causes.push_reserved(EndCause::Stopped);
                 Ok(Hint::Opened(c))
             }

@@ -28,7 +28,7 @@ pub struct LoopConnections {
     /// The open ones, with the sizes that are admitted.
     pub table: Table,
     /// Where each stands that was opened, by number.
-    pub places: Vec<ConnStage>,
+    pub stages: Vec<ConnStage>,
     /// By what each has ended; of one that is open, that the host stops.
     pub causes: Vec<EndCause>,
     /// How many owe something: the outcome of a payload, or bytes of a reply.
@@ -39,11 +39,11 @@ impl LoopConnections {
     /// No connection, with room for 1,024 open ones and this budget.
     pub fn new(alloc: Global, read_budget: u64) -> Result<LoopConnections, AllocError>
         ensures table { IfOk result (λ kept. kept.table ≡ record { budget = read_budget; slots = [] }) }
-        ensures none { IfOk result (λ kept. (kept.places.items ≡ []) × (kept.causes.items ≡ []) × (kept.owing ≡ 0)) }
+        ensures none { IfOk result (λ kept. (kept.stages.items ≡ []) × (kept.causes.items ≡ []) × (kept.owing ≡ 0)) }
     {
         Ok(LoopConnections {
             table: Table::new(alloc, read_budget)?,
-            places: Vec::new(alloc),
+            stages: Vec::new(alloc),
             causes: Vec::new(alloc),
             owing: 0,
         })
@@ -51,21 +51,21 @@ impl LoopConnections {
 
     /// Takes room for one more connection.
     pub fn make_place(&mut self) -> Result<(), AllocError>
-        ensures room { OnOk result ((length self.new.places.items < vec_capacity self.new.places) × (length self.new.causes.items < vec_capacity self.new.causes)) }
+        ensures room { OnOk result ((length self.new.stages.items < vec_capacity self.new.stages) × (length self.new.causes.items < vec_capacity self.new.causes)) }
         ensures table { self.new.table ≡ self.old.table }
-        ensures places { self.new.places.items ≡ self.old.places.items }
+        ensures stages { self.new.stages.items ≡ self.old.stages.items }
         ensures causes { self.new.causes.items ≡ self.old.causes.items }
         ensures owing { self.new.owing ≡ self.old.owing }
     {
         self.causes.reserve(1)?;
-        self.places.reserve(1)
+        self.stages.reserve(1)
     }
 
     /// Whether a connection is open.
     pub fn is_open(&self, c: u32) -> bool
         ensures { IsTrue result → IsOpenAt c self.now }
     {
-        match self.places.get(c as usize) {
+        match self.stages.get(c as usize) {
             Some(ConnStage::Lean) => true,
             Some(ConnStage::Laden) => true,
             Some(ConnStage::Gone) => false,

@@ -6,7 +6,7 @@ ghost use Rattle.conn_table.specs.Slots.{slot_in};
 ghost use Rattle.conn_table.specs.Table.{slot_of};
 ghost use Rattle.loop_conns.specs.declared.connections.ConnStage.TheVariants.{Gone};
 ghost use Rattle.loop_conns.specs.Ended.{IsNumbered, HasSizeBy};
-ghost use Rattle.loop_conns.specs.Going.{SomeLoopGoesOn, KeepsGoing, ReadsAt, IsReadSo, TakesIn};
+ghost use Rattle.loop_conns.specs.Going.{SomeLoopIsRunning, KeepsGoing, ReadsAt, ReadTells, TakesIn};
 
 use crate::connections::LoopConnections;
 use conn_state::EndCause;
@@ -25,7 +25,7 @@ pub enum ReadStep {
     /// A payload is whole.
     Whole,
     /// Nothing has arrived.
-    Rests,
+    Blocked,
     /// The connection has ended.
     Over,
 }
@@ -39,33 +39,33 @@ impl LoopConnections {
         into: &mut [u8],
         max_frame: u32,
     ) -> ReadStep
-        requires under_way { SomeLoopGoesOn max_frame (L.state links.old) self.old }
+        requires under_way { SomeLoopIsRunning max_frame (L.state links.old) self.old }
         requires reads { ReadsAt c self.old }
         requires lent { length into.old ≡ wanted (slot_of c self.old.table.slots).conn.phase }
         requires small { max_frame ≤ 268435456 }
         ensures going { KeepsGoing max_frame (L.state links.old) self.old (L.state links.new) self.new }
-        ensures step { IsReadSo c self.new result }
+        ensures step { ReadTells c self.new result }
         ensures budget { self.new.table.budget ≡ self.old.table.budget }
         ensures plan { L.plan links.new ≡ L.plan links.old }
     {
         if self.table.conn(c).frames() >= MOST_FRAMES {
-            self.end_by(links, c, EndCause::NoMemory);
+            self.end(links, c, EndCause::NoMemory);
             return ReadStep::Over;
         }
         match links.read(c, into) {
             Taken::Bytes(count) => self.take_in(links, c, &into[..count], max_frame),
             Taken::End => {
                 self.table.end_of_input(c);
-                self.clear(links, c);
+                self.release_and_close(links, c);
                 ReadStep::Over
             }
-            Taken::NotYet => ReadStep::Rests,
+            Taken::NotYet => ReadStep::Blocked,
             Taken::Failed => {
-                self.end_by(links, c, EndCause::ReadFault);
+                self.end(links, c, EndCause::ReadFault);
                 ReadStep::Over
             }
             Taken::NoMemory => {
-                self.end_by(links, c, EndCause::NoMemory);
+                self.end(links, c, EndCause::NoMemory);
                 ReadStep::Over
             }
         }
@@ -78,20 +78,20 @@ impl LoopConnections {
         requires some { 0 < length bytes.now }
         requires asked { length bytes.now ≤ wanted (slot_of c self.old.table.slots).conn.phase }
         requires counted { (slot_of c self.old.table.slots).conn.frames < 2 ^ 62 }
-        requires size { HasSizeBy (slice_index_or self.old.places.items c Gone) (slot_of c self.old.table.slots).size }
+        requires size { HasSizeBy (slice_index_or self.old.stages.items c Gone) (slot_of c self.old.table.slots).size }
         requires known { IsNumbered c self.old }
         requires link { (L.state links.old).is_open c ≡ true }
         requires small { max_frame ≤ 268435456 }
         requires few { self.old.owing ≤ 2 ^ 32 }
         ensures going { TakesIn max_frame c bytes.now self.old (L.state links.old) (L.state links.new) self.new }
-        ensures step { ReadsAt c self.old → IsReadSo c self.new result }
+        ensures step { ReadsAt c self.old → ReadTells c self.new result }
         ensures budget { self.new.table.budget ≡ self.old.table.budget }
         ensures plan { L.plan links.new ≡ L.plan links.old }
     {
         let frames = self.table.conn(c).frames();
         self.table.took(c, bytes, max_frame);
         if self.table.conn(c).cause().is_some() {
-            self.clear(links, c);
+            self.release_and_close(links, c);
             return ReadStep::Over;
         }
         if self.table.conn(c).frames() > frames {

@@ -5,7 +5,7 @@ ghost use Rattle.outside.specs.LinksState.{LinksState};
 ghost use Rattle.conn_state.specs.Phase.{IsReady};
 ghost use Rattle.conn_table.specs.Table.{slot_of};
 ghost use Rattle.machine_model.specs.HallState.{key_of};
-ghost use Rattle.loop_conns.specs.Going.{most_payload, SomeGoesOn, IsOpenAt, AllHandOut, IsCollected, GoesOnSettled, some_reply};
+ghost use Rattle.loop_conns.specs.Going.{most_payload, AnyLoopIsRunning, IsOpenAt, AllHandOut, IsCollected, GoesOnSettled, some_reply};
 
 use crate::connections::{ConnStage, LoopConnections};
 use host_model::Key;
@@ -31,7 +31,7 @@ fn with_some_reply(settled: Settled) -> Settled
 impl LoopConnections {
     /// Hands out the payload that is whole, and the number of its frame.
     pub fn give(&mut self, c: u32) -> (u64, Vec<u8>)
-        requires under_way { (links : LinksState) × SomeGoesOn links self.old }
+        requires under_way { (links : LinksState) × AnyLoopIsRunning links self.old }
         requires open { IsOpenAt c self.old }
         requires whole { IsReady (slot_of c self.old.table.slots).conn.phase }
         ensures handed { AllHandOut self.old self.new (key_of c result.0) result.1.items }
@@ -52,10 +52,10 @@ impl LoopConnections {
         self.table.release(c);
         if self.table.conn(c).cause().is_some() {
             self.owing -= 1;
-            self.let_go(links, c);
+            self.close(links, c);
             return;
         }
-        self.places[c as usize] = ConnStage::Lean;
+        self.stages[c as usize] = ConnStage::Lean;
         if self.table.conn(c).pending().is_empty() {
             self.owing -= 1;
             return;

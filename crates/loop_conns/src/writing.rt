@@ -1,7 +1,7 @@
 //! How a connection is written to.
 
 ghost use Rattle.std.specs.Prelude.{◌≡◌};
-ghost use Rattle.loop_conns.specs.Going.{SomeGoesOn, AllKeepGoing, WritesAt, IsWrittenSo};
+ghost use Rattle.loop_conns.specs.Going.{AnyLoopIsRunning, AllKeepGoing, WritesAt, WriteTells};
 
 use crate::connections::LoopConnections;
 use conn_state::EndCause;
@@ -15,7 +15,7 @@ pub enum WriteStep {
     /// All of it is written, and the next size is read.
     All,
     /// Nothing can be written yet.
-    Rests,
+    Blocked,
     /// The connection has ended.
     Over,
 }
@@ -23,10 +23,10 @@ pub enum WriteStep {
 impl LoopConnections {
     /// Writes once, of all that is left of the reply.
     pub fn write<L: Links>(&mut self, links: &mut L, c: u32) -> WriteStep
-        requires under_way { SomeGoesOn (L.state links.old) self.old }
+        requires under_way { AnyLoopIsRunning (L.state links.old) self.old }
         requires writes { WritesAt c self.old }
         ensures going { AllKeepGoing (L.state links.old) self.old (L.state links.new) self.new }
-        ensures step { IsWrittenSo c self.new result }
+        ensures step { WriteTells c self.new result }
         ensures budget { self.new.table.budget ≡ self.old.table.budget }
         ensures plan { L.plan links.new ≡ L.plan links.old }
     {
@@ -43,16 +43,16 @@ impl LoopConnections {
             }
             Taken::Failed => {
                 self.owing -= 1;
-                self.end_by(links, c, EndCause::WriteFault);
+                self.end(links, c, EndCause::WriteFault);
                 WriteStep::Over
             }
             Taken::NoMemory => {
                 self.owing -= 1;
-                self.end_by(links, c, EndCause::NoMemory);
+                self.end(links, c, EndCause::NoMemory);
                 WriteStep::Over
             }
-            Taken::NotYet => WriteStep::Rests,
-            Taken::End => WriteStep::Rests,
+            Taken::NotYet => WriteStep::Blocked,
+            Taken::End => WriteStep::Blocked,
         }
     }
 }

@@ -16,7 +16,7 @@ use Rattle.call_history.specs.Calls.{seat_ask, calls_by, ask_of, asks_of, AllAll
 use Rattle.call_history.specs.Laws.{calls_by-first, calls_by-first-other, IsHistory-front, AllAllowed-front, asks-append}
 use Rattle.machine_model.specs.HallState.{is_same, HallState}
 use Rattle.machine_model.specs.HallRule.{HallOperation, submit, take_job, apply, put, collect, close, HallAnswer, done, job, empty, is_closed, applied, no_memory, journal_fault, is_broken, outcome, HallGives}
-use Rattle.machine_model.specs.OwnCalls.{HallCall, HallAsk, most_bytes, submits_key, any_of, adds_key, frees_key, count_of, OwnAsksAllow, HallMay}
+use Rattle.machine_model.specs.OwnCalls.{HallCall, HallAsk, most_bytes, submits_key, any_of, adds_key, frees_key, summed_calls, OwnAsksAllow, HallMay}
 use Rattle.machine_model.specs.SingleKeys.{adds_this_key, frees_this_key}
 use Rattle.machine_model.specs.OwnLoop.{adds_of_conn, frees_of_conn, refuses_job, CollectsItsOwn}
 use Rattle.machine_model.specs.Loop.{LoopConn, new_conn, Loop, count_if_open, open_among, most_open, FrameProgress, part, bad_size, whole, read_more, with_conn, changed, ConnEvent, opens, reads, ends, fails_read, writes, fails_write, gives_up, Happens, submitted_more, conn_settled, IsOpen, IsProgress, LoopAsks}
@@ -127,9 +127,9 @@ module _ {C A : Type 0} where
   split_own seat [] front a back is = absurd (none_there front a back is)
   split_own seat (x ∷ asks) front a back is = split_step seat x asks front a back (eqb x.seat seat) refl is (λ front h. split_own seat asks front a back h)
 
-  own_once : (key : Key) (mine front : List (HallAsk C A)) → mine ≡ front → count_of (adds_this_key key) mine ≡ 1 → count_of (frees_this_key key) mine ≡ 0
-      → (count_of (adds_this_key key) front ≡ 1) × (count_of (frees_this_key key) front ≡ 0)
-  own_once key mine front same adds frees = (subst (λ own. count_of (adds_this_key key) own ≡ 1) same adds, subst (λ own. count_of (frees_this_key key) own ≡ 0) same frees)
+  own_once : (key : Key) (mine front : List (HallAsk C A)) → mine ≡ front → summed_calls (adds_this_key key) mine ≡ 1 → summed_calls (frees_this_key key) mine ≡ 0
+      → (summed_calls (adds_this_key key) front ≡ 1) × (summed_calls (frees_this_key key) front ≡ 0)
+  own_once key mine front same adds frees = (subst (λ own. summed_calls (adds_this_key key) own ≡ 1) same adds, subst (λ own. summed_calls (frees_this_key key) own ≡ 0) same frees)
 
 module _ {C A M : Type 0} where
   -- a front of the asks is that of a front of the calls
@@ -149,7 +149,7 @@ module _ {C A M : Type 0} where
       let t : Stands 0 (asks_of log) front a = split_own 0 (asks_of log) front a back is in
       let u : (one other : List (HallCall C A M)) × (log ≡ one ++ other) × (asks_of one ≡ t.0 ++ a ∷ []) =
       split_asks log (t.0 ++ a ∷ []) t.1 (t.2 ∙ sym (append_assoc t.0 (a ∷ []) t.1)) in
-      let v : (count_of (adds_this_key key) (calls_by 0 t.0) ≡ 1) × ((other : ℕ) → count_of (frees_this_key key) (calls_by other t.0) ≡ 0) =
+      let v : (summed_calls (adds_this_key key) (calls_by 0 t.0) ≡ 1) × ((other : ℕ) → summed_calls (frees_this_key key) (calls_by other t.0) ≡ 0) =
       collected_once r opening u.0 t.0 seat key settled (IsHistory-front (HallGives r) opening u.0 u.1 (subst (IsHistory (HallGives r) opening) u.2 history))
       (AllAllowed-front (HallMay r) opening (asks_of u.0) (asks_of u.1) (subst (AllAllowed (HallMay r) opening) (ap asks_of u.2 ∙ asks-append u.0 u.1) allowed)) u.3 in
       own_once key (calls_by 0 t.0) front t.3 v.0 (v.1 0)
@@ -157,11 +157,11 @@ module _ {C A M : Type 0} where
 module _ {C A : Type 0} where
   -- the loop's numbers, as its own asks have them
   record Counts (own : List (HallAsk C A)) (s k : ℕ → ℕ) : Type 0 where
-    submitted : (c : ℕ) → count_of (adds_of_conn c) own ≡ s c
-    collected : (c : ℕ) → count_of (frees_of_conn c) own ≡ k c
-    added : (x : Key) → count_of (adds_this_key x) own ≡ one_before x.i (s x.c)
-    freed : (x : Key) → count_of (frees_this_key x) own ≡ one_before x.i (k x.c)
-    asked : (x : Key) → any_of (submits_key x) own ≡ true → (x.i < s x.c) ⊎ (1 ≤ count_of refuses_job own)
+    submitted : (c : ℕ) → summed_calls (adds_of_conn c) own ≡ s c
+    collected : (c : ℕ) → summed_calls (frees_of_conn c) own ≡ k c
+    added : (x : Key) → summed_calls (adds_this_key x) own ≡ one_before x.i (s x.c)
+    freed : (x : Key) → summed_calls (frees_this_key x) own ≡ one_before x.i (k x.c)
+    asked : (x : Key) → any_of (submits_key x) own ≡ true → (x.i < s x.c) ⊎ (1 ≤ summed_calls refuses_job own)
 
   -- an ask that submits nothing and collects nothing
   record Quiet (op : HallOperation C) (answer : HallAnswer A) : Type 0 where
@@ -173,38 +173,38 @@ module _ {C A : Type 0} where
     none_freed : frees_key op answer ≡ 0
     refuses : (x : Key) → submits_key x op ≡ true → refuses_job op answer ≡ 1
 
-  more_refused : (own : List (HallAsk C A)) (e : HallAsk C A) → 1 ≤ count_of refuses_job own → 1 ≤ count_of refuses_job (own ++ e ∷ [])
-  more_refused own e l = let p : count_of refuses_job (own ++ e ∷ []) ≡ count_of refuses_job own + refuses_job e.op e.reply = number_push refuses_job own e in omega arith
+  more_refused : (own : List (HallAsk C A)) (e : HallAsk C A) → 1 ≤ summed_calls refuses_job own → 1 ≤ summed_calls refuses_job (own ++ e ∷ [])
+  more_refused own e l = let p : summed_calls refuses_job (own ++ e ∷ []) ≡ summed_calls refuses_job own + refuses_job e.op e.reply = number_push refuses_job own e in omega arith
 
   counts_same : (own : List (HallAsk C A)) (s k : ℕ → ℕ) (e : HallAsk C A) → Quiet e.op e.reply → Counts own s k → Counts (own ++ e ∷ []) s k
   counts_same own s k e q n = record {
-    submitted = λ c. let p : count_of (adds_of_conn c) (own ++ e ∷ []) ≡ count_of (adds_of_conn c) own + adds_of_conn c e.op e.reply = number_push (adds_of_conn c) own e in
-        let z : adds_of_conn c e.op e.reply ≡ 0 = q.no_job c in let b : count_of (adds_of_conn c) own ≡ s c = n.submitted c in omega arith;
-    collected = λ c. let p : count_of (frees_of_conn c) (own ++ e ∷ []) ≡ count_of (frees_of_conn c) own + frees_of_conn c e.op e.reply = number_push (frees_of_conn c) own e in
-        let z : frees_of_conn c e.op e.reply ≡ 0 = q.no_outcome c in let b : count_of (frees_of_conn c) own ≡ k c = n.collected c in omega arith;
-    added = λ x. let p : count_of (adds_this_key x) (own ++ e ∷ []) ≡ count_of (adds_this_key x) own + adds_this_key x e.op e.reply = number_push (adds_this_key x) own e in
-        let z : adds_this_key x e.op e.reply ≡ 0 = q.no_key x in let b : count_of (adds_this_key x) own ≡ one_before x.i (s x.c) = n.added x in omega arith;
-    freed = λ x. let p : count_of (frees_this_key x) (own ++ e ∷ []) ≡ count_of (frees_this_key x) own + frees_this_key x e.op e.reply = number_push (frees_this_key x) own e in
-        let z : frees_this_key x e.op e.reply ≡ 0 = q.no_freed x in let b : count_of (frees_this_key x) own ≡ one_before x.i (k x.c) = n.freed x in omega arith;
+    submitted = λ c. let p : summed_calls (adds_of_conn c) (own ++ e ∷ []) ≡ summed_calls (adds_of_conn c) own + adds_of_conn c e.op e.reply = number_push (adds_of_conn c) own e in
+        let z : adds_of_conn c e.op e.reply ≡ 0 = q.no_job c in let b : summed_calls (adds_of_conn c) own ≡ s c = n.submitted c in omega arith;
+    collected = λ c. let p : summed_calls (frees_of_conn c) (own ++ e ∷ []) ≡ summed_calls (frees_of_conn c) own + frees_of_conn c e.op e.reply = number_push (frees_of_conn c) own e in
+        let z : frees_of_conn c e.op e.reply ≡ 0 = q.no_outcome c in let b : summed_calls (frees_of_conn c) own ≡ k c = n.collected c in omega arith;
+    added = λ x. let p : summed_calls (adds_this_key x) (own ++ e ∷ []) ≡ summed_calls (adds_this_key x) own + adds_this_key x e.op e.reply = number_push (adds_this_key x) own e in
+        let z : adds_this_key x e.op e.reply ≡ 0 = q.no_key x in let b : summed_calls (adds_this_key x) own ≡ one_before x.i (s x.c) = n.added x in omega arith;
+    freed = λ x. let p : summed_calls (frees_this_key x) (own ++ e ∷ []) ≡ summed_calls (frees_this_key x) own + frees_this_key x e.op e.reply = number_push (frees_this_key x) own e in
+        let z : frees_this_key x e.op e.reply ≡ 0 = q.no_freed x in let b : summed_calls (frees_this_key x) own ≡ one_before x.i (k x.c) = n.freed x in omega arith;
     asked = λ x h. ⊎_elim (λ f. ⊎_elim (λ l. inl l) (λ l. inr (more_refused own e l)) (n.asked x f)) (λ f. inr (refused x f)) (any_push (submits_key x) own e h);
   }
     where
-      refused : (x : Key) → submits_key x e.op ≡ true → 1 ≤ count_of refuses_job (own ++ e ∷ [])
+      refused : (x : Key) → submits_key x e.op ≡ true → 1 ≤ summed_calls refuses_job (own ++ e ∷ [])
       refused x f =
-          let p : count_of refuses_job (own ++ e ∷ []) ≡ count_of refuses_job own + refuses_job e.op e.reply = number_push refuses_job own e in
+          let p : summed_calls refuses_job (own ++ e ∷ []) ≡ summed_calls refuses_job own + refuses_job e.op e.reply = number_push refuses_job own e in
           let one : refuses_job e.op e.reply ≡ 1 = q.refuses x f in omega arith
 
   counts_submit : (own : List (HallAsk C A)) (s k : ℕ → ℕ) (seat : ℕ) (key : Key) (payload : List ℕ) → key.i ≡ s key.c → Counts own s k → Counts (own ++ seat_ask seat (submit key payload) done ∷ []) (bump s key.c) k
   counts_submit own s k seat key payload is n = record {
-    submitted = λ c. let p : count_of (adds_of_conn c) (own ++ e ∷ []) ≡ count_of (adds_of_conn c) own + (if key.c == c then 1 else 0) = number_push (adds_of_conn c) own e in
-        let b : count_of (adds_of_conn c) own ≡ s c = n.submitted c in let m : bump s key.c c ≡ s c + (if key.c == c then 1 else 0) = bump_by_conn s key.c c in omega arith;
-    collected = λ c. let p : count_of (frees_of_conn c) (own ++ e ∷ []) ≡ count_of (frees_of_conn c) own + 0 = number_push (frees_of_conn c) own e in
-        let b : count_of (frees_of_conn c) own ≡ k c = n.collected c in omega arith;
-    added = λ x. let p : count_of (adds_this_key x) (own ++ e ∷ []) ≡ count_of (adds_this_key x) own + (if is_same key x then 1 else 0) = number_push (adds_this_key x) own e in
-        let b : count_of (adds_this_key x) own ≡ one_before x.i (s x.c) = n.added x in
+    submitted = λ c. let p : summed_calls (adds_of_conn c) (own ++ e ∷ []) ≡ summed_calls (adds_of_conn c) own + (if key.c == c then 1 else 0) = number_push (adds_of_conn c) own e in
+        let b : summed_calls (adds_of_conn c) own ≡ s c = n.submitted c in let m : bump s key.c c ≡ s c + (if key.c == c then 1 else 0) = bump_by_conn s key.c c in omega arith;
+    collected = λ c. let p : summed_calls (frees_of_conn c) (own ++ e ∷ []) ≡ summed_calls (frees_of_conn c) own + 0 = number_push (frees_of_conn c) own e in
+        let b : summed_calls (frees_of_conn c) own ≡ k c = n.collected c in omega arith;
+    added = λ x. let p : summed_calls (adds_this_key x) (own ++ e ∷ []) ≡ summed_calls (adds_this_key x) own + (if is_same key x then 1 else 0) = number_push (adds_this_key x) own e in
+        let b : summed_calls (adds_this_key x) own ≡ one_before x.i (s x.c) = n.added x in
         let m : one_before x.i (bump s key.c x.c) ≡ one_before x.i (s x.c) + (if is_same key x then 1 else 0) = bump_by_key s key x is in omega arith;
-    freed = λ x. let p : count_of (frees_this_key x) (own ++ e ∷ []) ≡ count_of (frees_this_key x) own + 0 = number_push (frees_this_key x) own e in
-        let b : count_of (frees_this_key x) own ≡ one_before x.i (k x.c) = n.freed x in omega arith;
+    freed = λ x. let p : summed_calls (frees_this_key x) (own ++ e ∷ []) ≡ summed_calls (frees_this_key x) own + 0 = number_push (frees_this_key x) own e in
+        let b : summed_calls (frees_this_key x) own ≡ one_before x.i (k x.c) = n.freed x in omega arith;
     asked = λ x h. ⊎_elim (λ f. ⊎_elim (λ l. inl (grown x l)) (λ l. inr (more_refused own e l)) (n.asked x f)) (λ f. inl (now x f)) (any_push (submits_key x) own e h);
   }
     where
@@ -223,14 +223,14 @@ module _ {C A : Type 0} where
 
   counts_collect : (own : List (HallAsk C A)) (s k : ℕ → ℕ) (seat : ℕ) (key : Key) (settled : Settled) → key.i ≡ k key.c → Counts own s k → Counts (own ++ seat_ask seat collect (outcome key settled) ∷ []) s (bump k key.c)
   counts_collect own s k seat key settled is n = record {
-    submitted = λ c. let p : count_of (adds_of_conn c) (own ++ e ∷ []) ≡ count_of (adds_of_conn c) own + 0 = number_push (adds_of_conn c) own e in
-        let b : count_of (adds_of_conn c) own ≡ s c = n.submitted c in omega arith;
-    collected = λ c. let p : count_of (frees_of_conn c) (own ++ e ∷ []) ≡ count_of (frees_of_conn c) own + (if key.c == c then 1 else 0) = number_push (frees_of_conn c) own e in
-        let b : count_of (frees_of_conn c) own ≡ k c = n.collected c in let m : bump k key.c c ≡ k c + (if key.c == c then 1 else 0) = bump_by_conn k key.c c in omega arith;
-    added = λ x. let p : count_of (adds_this_key x) (own ++ e ∷ []) ≡ count_of (adds_this_key x) own + 0 = number_push (adds_this_key x) own e in
-        let b : count_of (adds_this_key x) own ≡ one_before x.i (s x.c) = n.added x in omega arith;
-    freed = λ x. let p : count_of (frees_this_key x) (own ++ e ∷ []) ≡ count_of (frees_this_key x) own + (if is_same key x then 1 else 0) = number_push (frees_this_key x) own e in
-        let b : count_of (frees_this_key x) own ≡ one_before x.i (k x.c) = n.freed x in
+    submitted = λ c. let p : summed_calls (adds_of_conn c) (own ++ e ∷ []) ≡ summed_calls (adds_of_conn c) own + 0 = number_push (adds_of_conn c) own e in
+        let b : summed_calls (adds_of_conn c) own ≡ s c = n.submitted c in omega arith;
+    collected = λ c. let p : summed_calls (frees_of_conn c) (own ++ e ∷ []) ≡ summed_calls (frees_of_conn c) own + (if key.c == c then 1 else 0) = number_push (frees_of_conn c) own e in
+        let b : summed_calls (frees_of_conn c) own ≡ k c = n.collected c in let m : bump k key.c c ≡ k c + (if key.c == c then 1 else 0) = bump_by_conn k key.c c in omega arith;
+    added = λ x. let p : summed_calls (adds_this_key x) (own ++ e ∷ []) ≡ summed_calls (adds_this_key x) own + 0 = number_push (adds_this_key x) own e in
+        let b : summed_calls (adds_this_key x) own ≡ one_before x.i (s x.c) = n.added x in omega arith;
+    freed = λ x. let p : summed_calls (frees_this_key x) (own ++ e ∷ []) ≡ summed_calls (frees_this_key x) own + (if is_same key x then 1 else 0) = number_push (frees_this_key x) own e in
+        let b : summed_calls (frees_this_key x) own ≡ one_before x.i (k x.c) = n.freed x in
         let m : one_before x.i (bump k key.c x.c) ≡ one_before x.i (k x.c) + (if is_same key x then 1 else 0) = bump_by_key k key x is in omega arith;
     asked = λ x h. ⊎_elim (λ f. ⊎_elim (λ l. inl l) (λ l. inr (more_refused own e l)) (n.asked x f)) (λ f. absurd (false≢true f)) (any_push (submits_key x) own e h);
   }
@@ -321,8 +321,8 @@ module _ {C A : Type 0} (max : ℕ) where
   -- what the loop knows of itself
   record Minds (own : List (HallAsk C A)) (loop : Loop) : Type 0 where
     counts : Counts own (λ c. (loop.conns c).submitted) (λ c. (loop.conns c).collected)
-    all_added : count_of adds_key own ≡ all_submitted loop
-    all_freed : count_of frees_key own ≡ all_collected loop
+    all_added : summed_calls adds_key own ≡ all_submitted loop
+    all_freed : summed_calls frees_key own ≡ all_collected loop
     most : open_among loop.conns loop.count ≤ most_open
     stands : (c : ℕ) → ConnStands max (loop.conns c)
     unopened : (c : ℕ) → loop.count ≤ c → ((loop.conns c).submitted ≡ 0) × ((loop.conns c).collected ≡ 0)
@@ -330,7 +330,7 @@ module _ {C A : Type 0} (max : ℕ) where
   -- a connection changes
   changed_minds : (own later : List (HallAsk C A)) (old : Loop) (c : ℕ) (conn : LoopConn) (marks : List Mark) (a f : ℕ) → Minds own old → c < old.count
       → Counts later (λ x. (with_conn old.conns c conn x).submitted) (λ x. (with_conn old.conns c conn x).collected)
-      → count_of adds_key later ≡ count_of adds_key own + a → count_of frees_key later ≡ count_of frees_key own + f
+      → summed_calls adds_key later ≡ summed_calls adds_key own + a → summed_calls frees_key later ≡ summed_calls frees_key own + f
       → conn.submitted ≡ (old.conns c).submitted + a → conn.collected ≡ (old.conns c).collected + f
       → count_if_open conn.cause ≤ count_if_open (old.conns c).cause → ConnStands max conn → Minds later (changed old c conn marks)
   changed_minds own later old c conn marks a f m l counts adds frees s k o st =
@@ -341,8 +341,8 @@ module _ {C A : Type 0} (max : ℕ) where
       let oc : sum_among opens_of (with_conn old.conns c conn) n + count_if_open (old.conns c).cause ≡ sum_among opens_of old.conns n + count_if_open conn.cause = sum_changed opens_of old.conns c conn n l in
       let sc : sum_among submitted_of (with_conn old.conns c conn) n + (old.conns c).submitted ≡ all_submitted old + conn.submitted = sum_changed submitted_of old.conns c conn n l in
       let kc : sum_among collected_of (with_conn old.conns c conn) n + (old.conns c).collected ≡ all_collected old + conn.collected = sum_changed collected_of old.conns c conn n l in
-      let added : count_of adds_key own ≡ all_submitted old = m.all_added in
-      let freed : count_of frees_key own ≡ all_collected old = m.all_freed in
+      let added : summed_calls adds_key own ≡ all_submitted old = m.all_added in
+      let freed : summed_calls frees_key own ≡ all_collected old = m.all_freed in
       record {
         counts = counts;
         all_added = omega arith;
@@ -375,8 +375,8 @@ module _ {C A : Type 0} (max : ℕ) where
       let ot : count_if_open (next n).cause ≡ 1 = ap opens_of at in
       let st : (next n).submitted ≡ 0 = ap submitted_of at in
       let kt : (next n).collected ≡ 0 = ap collected_of at in
-      let added : count_of adds_key own ≡ all_submitted old = m.all_added in
-      let freed : count_of frees_key own ≡ all_collected old = m.all_freed in
+      let added : summed_calls adds_key own ≡ all_submitted old = m.all_added in
+      let freed : summed_calls frees_key own ≡ all_collected old = m.all_freed in
       record {
         counts = subst (λ (t : (ℕ → ℕ) × (ℕ → ℕ)). Counts own t.0 t.1) (λ i. (λ x. same_at submitted_of old.conns n new_conn (sym none.0) x i, λ x. same_at collected_of old.conns n new_conn (sym none.1) x i)) m.counts;
         all_added = omega arith;
@@ -410,7 +410,7 @@ module _ {C A : Type 0} (max : ℕ) where
   event_minds own old (fails_write c) new m t = subst (Minds own) (sym t.2) (conn_minds own old c _ _ m t.0.0 refl refl (omega arith) (stands_like max (old.conns c) _ (m.stands c) refl refl refl))
   event_minds own old (gives_up c cause) new m t = subst (Minds own) (sym t.2) (conn_minds own old c _ _ m t.0.0 refl refl (omega arith) (stands_like max (old.conns c) _ (m.stands c) refl refl refl))
 
-  own_outcome : (own : List (HallAsk C A)) (loop : Loop) (key : Key) → Minds own loop → count_of (adds_this_key key) own ≡ 1 → count_of (frees_this_key key) own ≡ 0
+  own_outcome : (own : List (HallAsk C A)) (loop : Loop) (key : Key) → Minds own loop → summed_calls (adds_this_key key) own ≡ 1 → summed_calls (frees_this_key key) own ≡ 0
       → (key.c < loop.count) × (key.i ≡ (loop.conns key.c).collected) × ((loop.conns key.c).submitted ≡ suc key.i) × (length (loop.conns key.c).payloads ≡ suc key.i)
   own_outcome own loop key m adds frees =
       let conn : LoopConn = loop.conns key.c in
@@ -432,15 +432,15 @@ module _ {C A : Type 0} (max : ℕ) where
       let at : key.i ≡ (old.conns key.c).submitted = is in
       let a : (old.conns key.c).collected ≤ (old.conns key.c).submitted = (m.stands key.c).first in
       let t : length (old.conns key.c).payloads ≤ suc (old.conns key.c).collected = (m.stands key.c).third in
-      let adds : count_of adds_key (own ++ e ∷ []) ≡ count_of adds_key own + 1 = number_push adds_key own e in
-      let frees : count_of frees_key (own ++ e ∷ []) ≡ count_of frees_key own + 0 = number_push frees_key own e in
+      let adds : summed_calls adds_key (own ++ e ∷ []) ≡ summed_calls adds_key own + 1 = number_push adds_key own e in
+      let frees : summed_calls frees_key (own ++ e ∷ []) ≡ summed_calls frees_key own + 0 = number_push frees_key own e in
       changed_minds own (own ++ e ∷ []) old key.c (submitted_more (old.conns key.c)) [] 1 0 m l
       (subst (λ (t : (ℕ → ℕ) × (ℕ → ℕ)). Counts (own ++ e ∷ []) t.0 t.1)
       (λ i. (λ x. bumped_at submitted_of old.conns key.c (submitted_more (old.conns key.c)) refl x i, λ x. same_at collected_of old.conns key.c (submitted_more (old.conns key.c)) refl x i))
       (counts_submit own (λ c. (old.conns c).submitted) (λ c. (old.conns c).collected) seat key payload is m.counts))
       adds frees (omega arith) (omega arith) (omega arith) (record { first = omega arith; second = omega arith; third = omega arith; each = (m.stands key.c).each })
 
-  collect_minds : (own : List (HallAsk C A)) (old : Loop) (seat : ℕ) (key : Key) (settled : Settled) (marks : List Mark) → Minds own old → count_of (adds_this_key key) own ≡ 1 → count_of (frees_this_key key) own ≡ 0
+  collect_minds : (own : List (HallAsk C A)) (old : Loop) (seat : ℕ) (key : Key) (settled : Settled) (marks : List Mark) → Minds own old → summed_calls (adds_this_key key) own ≡ 1 → summed_calls (frees_this_key key) own ≡ 0
       → Minds (own ++ seat_ask seat collect (outcome key settled) ∷ []) (changed old key.c (conn_settled (old.conns key.c).cause settled (old.conns key.c)) marks)
   collect_minds own old seat key settled marks m adds_one frees_none =
       let e : HallAsk C A = seat_ask seat collect (outcome key settled) in
@@ -454,8 +454,8 @@ module _ {C A : Type 0} (max : ℕ) where
       let n0 : conn.submitted ≡ (old.conns key.c).submitted = n.0 in
       let n1 : conn.collected ≡ suc (old.conns key.c).collected = n.1 in
       let n2 : length conn.payloads ≡ length (old.conns key.c).payloads = ap length n.2 in
-      let adds : count_of adds_key (own ++ e ∷ []) ≡ count_of adds_key own + 0 = number_push adds_key own e in
-      let frees : count_of frees_key (own ++ e ∷ []) ≡ count_of frees_key own + 1 = number_push frees_key own e in
+      let adds : summed_calls adds_key (own ++ e ∷ []) ≡ summed_calls adds_key own + 0 = number_push adds_key own e in
+      let frees : summed_calls frees_key (own ++ e ∷ []) ≡ summed_calls frees_key own + 1 = number_push frees_key own e in
       changed_minds own (own ++ e ∷ []) old key.c conn marks 0 1 m t.0
       (subst (λ (t : (ℕ → ℕ) × (ℕ → ℕ)). Counts (own ++ e ∷ []) t.0 t.1)
       (λ i. (λ x. same_at submitted_of old.conns key.c conn n.0 x i, λ x. bumped_at collected_of old.conns key.c conn n.1 x i))
@@ -466,12 +466,12 @@ module _ {C A : Type 0} (max : ℕ) where
   quiet_minds : (own : List (HallAsk C A)) (old new : Loop) (seat : ℕ) (op : HallOperation C) (answer : HallAnswer A) → new ≡ old → Quiet op answer → Minds own old → Minds (own ++ seat_ask seat op answer ∷ []) new
   quiet_minds own old new seat op answer is q m =
       let e : HallAsk C A = seat_ask seat op answer in
-      let adds : count_of adds_key (own ++ e ∷ []) ≡ count_of adds_key own + adds_key op answer = number_push adds_key own e in
-      let frees : count_of frees_key (own ++ e ∷ []) ≡ count_of frees_key own + frees_key op answer = number_push frees_key own e in
+      let adds : summed_calls adds_key (own ++ e ∷ []) ≡ summed_calls adds_key own + adds_key op answer = number_push adds_key own e in
+      let frees : summed_calls frees_key (own ++ e ∷ []) ≡ summed_calls frees_key own + frees_key op answer = number_push frees_key own e in
       let no_adds : adds_key op answer ≡ 0 = q.none_added in
       let no_frees : frees_key op answer ≡ 0 = q.none_freed in
-      let added : count_of adds_key own ≡ all_submitted old = m.all_added in
-      let freed : count_of frees_key own ≡ all_collected old = m.all_freed in
+      let added : summed_calls adds_key own ≡ all_submitted old = m.all_added in
+      let freed : summed_calls frees_key own ≡ all_collected old = m.all_freed in
       subst (Minds (own ++ e ∷ [])) (sym is)
       (record {
         counts = counts_same own (λ c. (old.conns c).submitted) (λ c. (old.conns c).collected) e q m.counts;
@@ -483,11 +483,11 @@ module _ {C A : Type 0} (max : ℕ) where
       })
 
   ask_minds : (own : List (HallAsk C A)) (old : Loop) (seat : ℕ) (op : HallOperation C) (answer : HallAnswer A) (new : Loop) → Minds own old → LoopAsks old op answer new
-      → ((key : Key) (settled : Settled) → op ≡ collect → answer ≡ outcome key settled → (count_of (adds_this_key key) own ≡ 1) × (count_of (frees_this_key key) own ≡ 0))
+      → ((key : Key) (settled : Settled) → op ≡ collect → answer ≡ outcome key settled → (summed_calls (adds_this_key key) own ≡ 1) × (summed_calls (frees_this_key key) own ≡ 0))
       → Minds (own ++ seat_ask seat op answer ∷ []) new
   ask_minds own old seat (submit key payload) done new m t once = subst (Minds (own ++ seat_ask seat (submit key payload) done ∷ [])) (sym t.3) (submit_minds own old seat key payload m t.0 t.1 t.2)
   ask_minds own old seat collect (outcome key settled) new m t once =
-      let o : (count_of (adds_this_key key) own ≡ 1) × (count_of (frees_this_key key) own ≡ 0) = once key settled refl refl in
+      let o : (summed_calls (adds_this_key key) own ≡ 1) × (summed_calls (frees_this_key key) own ≡ 0) = once key settled refl refl in
       subst (Minds (own ++ seat_ask seat collect (outcome key settled) ∷ [])) (sym t) (collect_minds own old seat key settled _ m o.0 o.1)
   ask_minds own old seat (submit key payload) (job k p) new m t once = quiet_minds own old new seat (submit key payload) (job k p) t.3 (record { no_job = λ c. refl; no_outcome = λ c. refl; no_key = λ x. refl; no_freed = λ x. refl; none_added = refl; none_freed = refl; refuses = λ x h. refl }) m
   ask_minds own old seat (submit key payload) empty new m t once = quiet_minds own old new seat (submit key payload) empty t.3 (record { no_job = λ c. refl; no_outcome = λ c. refl; no_key = λ x. refl; no_freed = λ x. refl; none_added = refl; none_freed = refl; refuses = λ x h. refl }) m
@@ -536,12 +536,12 @@ module _ {C A : Type 0} (max : ℕ) where
   minds items loop t once = weave_minds items [] no_loop loop none_yet t once
 
   pub numbers : (items : List (LoopItem C A)) (loop : Loop) → Weaves max no_loop items loop → CollectsItsOwn (calls_in items)
-      → (c : ℕ) → (count_of (adds_of_conn c) (calls_in items) ≡ (loop.conns c).submitted) × (count_of (frees_of_conn c) (calls_in items) ≡ (loop.conns c).collected)
+      → (c : ℕ) → (summed_calls (adds_of_conn c) (calls_in items) ≡ (loop.conns c).submitted) × (summed_calls (frees_of_conn c) (calls_in items) ≡ (loop.conns c).collected)
   numbers items loop t once c = let m : Minds (calls_in items) loop = minds items loop t once in (m.counts.submitted c, m.counts.collected c)
 
-  one_a_call : (own : List (HallAsk C A)) → count_of adds_key own + count_of frees_key own ≤ length own
+  one_a_call : (own : List (HallAsk C A)) → summed_calls adds_key own + summed_calls frees_key own ≤ length own
   one_a_call [] = omega arith
-  one_a_call (e ∷ own) = let t : count_of adds_key own + count_of frees_key own ≤ length own = one_a_call own in let o : adds_key e.op e.reply + frees_key e.op e.reply ≤ 1 = one e.op e.reply in omega arith
+  one_a_call (e ∷ own) = let t : summed_calls adds_key own + summed_calls frees_key own ≤ length own = one_a_call own in let o : adds_key e.op e.reply + frees_key e.op e.reply ≤ 1 = one e.op e.reply in omega arith
     where
       one : (op : HallOperation C) (answer : HallAnswer A) → adds_key op answer + frees_key op answer ≤ 1
       one (submit key payload) done = omega arith
@@ -554,18 +554,18 @@ module _ {C A : Type 0} (max : ℕ) where
       one close answer = omega arith
 
   pub all_numbers : (items : List (LoopItem C A)) (loop : Loop) → Weaves max no_loop items loop → CollectsItsOwn (calls_in items)
-      → (count_of adds_key (calls_in items) ≡ all_submitted loop) × (count_of frees_key (calls_in items) ≡ all_collected loop) × (all_submitted loop + all_collected loop ≤ length (calls_in items))
+      → (summed_calls adds_key (calls_in items) ≡ all_submitted loop) × (summed_calls frees_key (calls_in items) ≡ all_collected loop) × (all_submitted loop + all_collected loop ≤ length (calls_in items))
   all_numbers items loop t once =
       let m : Minds (calls_in items) loop = minds items loop t once in
-      let a : count_of adds_key (calls_in items) ≡ all_submitted loop = m.all_added in
-      let b : count_of frees_key (calls_in items) ≡ all_collected loop = m.all_freed in
-      let l : count_of adds_key (calls_in items) + count_of frees_key (calls_in items) ≤ length (calls_in items) = one_a_call (calls_in items) in
+      let a : summed_calls adds_key (calls_in items) ≡ all_submitted loop = m.all_added in
+      let b : summed_calls frees_key (calls_in items) ≡ all_collected loop = m.all_freed in
+      let l : summed_calls adds_key (calls_in items) + summed_calls frees_key (calls_in items) ≤ length (calls_in items) = one_a_call (calls_in items) in
       (a, b, omega arith)
 
   pub answered_is_own : (items : List (LoopItem C A)) (loop : Loop) (key : Key) (settled : Settled) → Weaves max no_loop items loop → CollectsItsOwn (calls_in items ++ seat_ask 0 collect (outcome key settled) ∷ [])
       → (key.c < loop.count) × (key.i ≡ (loop.conns key.c).collected) × ((loop.conns key.c).submitted ≡ suc key.i) × (length (loop.conns key.c).payloads ≡ suc key.i)
   answered_is_own items loop key settled t once =
-      let o : (count_of (adds_this_key key) (calls_in items) ≡ 1) × (count_of (frees_this_key key) (calls_in items) ≡ 0) = once (calls_in items) [] 0 key settled refl in
+      let o : (summed_calls (adds_this_key key) (calls_in items) ≡ 1) × (summed_calls (frees_this_key key) (calls_in items) ≡ 0) = once (calls_in items) [] 0 key settled refl in
       own_outcome (calls_in items) loop key
       (minds items loop t (λ front back seat k s is. once front (back ++ seat_ask 0 collect (outcome key settled) ∷ []) seat k s
       (ap (λ own. own ++ seat_ask 0 collect (outcome key settled) ∷ []) is ∙ append_assoc front (seat_ask seat collect (outcome k s) ∷ back) (seat_ask 0 collect (outcome key settled) ∷ [])))) o.0 o.1
@@ -584,7 +584,7 @@ module _ {C A : Type 0} (max : ℕ) where
 
 module _ {C A M : Type 0} where
   pub may_submit : (max : ℕ) (r : ServiceRules C A M) (opening : HallState C A M) (items : List (LoopItem C A)) (loop next : Loop) (key : Key) (payload : List ℕ) (answer : HallAnswer A) → Weaves max no_loop items loop
-      → CollectsItsOwn (calls_in items) → max ≤ most_bytes → NoneIsLeftBehind loop → count_of refuses_job (calls_in items) ≡ 0 → LoopAsks {C = C} loop (submit key payload) answer next
+      → CollectsItsOwn (calls_in items) → max ≤ most_bytes → NoneIsLeftBehind loop → summed_calls refuses_job (calls_in items) ≡ 0 → LoopAsks {C = C} loop (submit key payload) answer next
       → OwnAsksAllow r opening 0 (calls_in items) (submit key payload)
   may_submit max r opening items loop next key payload answer t once within behind none asks =
       let m : Minds max (calls_in items) loop = minds max items loop t once in
@@ -602,8 +602,8 @@ module _ {C A M : Type 0} where
       let two : sum_among (λ conn. conn.collected + count_if_open conn.cause) conns n ≡ sum_among collected_of conns n + sum_among opens_of conns n = sum_both collected_of opens_of conns n in
       let open_all : open_among conns n ≡ sum_among opens_of conns n = open_sum conns n in
       let most : open_among conns n ≤ most_open = m.most in
-      let added : count_of adds_key (calls_in items) ≡ all_submitted loop = m.all_added in
-      let freed : count_of frees_key (calls_in items) ≡ all_collected loop = m.all_freed in
+      let added : summed_calls adds_key (calls_in items) ≡ all_submitted loop = m.all_added in
+      let freed : summed_calls frees_key (calls_in items) ≡ all_collected loop = m.all_freed in
       let p : length payload ≤ max = (payload_among max (conns c).payloads key.i payload (m.stands c).each asks.2).within in (
         refl,
         omega arith,

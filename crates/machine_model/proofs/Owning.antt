@@ -10,7 +10,7 @@ use Rattle.machine_model.specs.HallRule.{HallOperation, submit, take_job, apply,
 use Rattle.call_history.specs.History.{meaning_after, IsHistory}
 use Rattle.call_history.specs.Calls.{seat_ask, calls_by, ask_of, asks_of, AllAllowed}
 use Rattle.call_history.specs.Laws.{calls_by-own, calls_by-other}
-use Rattle.machine_model.specs.OwnCalls.{HallCall, HallAsk, most_keys, HallCan, submits_key, any_of, adds_key, frees_key, count_of, held_after, holds_from, holds_key, OwnAsksAllow, HallMay}
+use Rattle.machine_model.specs.OwnCalls.{HallCall, HallAsk, most_keys, HallCan, submits_key, any_of, adds_key, frees_key, summed_calls, held_after, holds_from, holds_key, OwnAsksAllow, HallMay}
 use Rattle.machine_model.proofs.Keys.{same_key, is_same_self, has_left, has_right, has_either, has_one, has_self, has_without, without_other, length-without, job_keys, outcome_keys, with_job, with_taken, with_put, counts, in_jobs, in_taken, in_outcomes, where_in}
 
 -- no key stands twice
@@ -32,10 +32,10 @@ apart_push (x ∷ ks) k a n =
     here (inr f) s = true≢false (sym (is_same_self x) ∙ subst (λ y. is_same x y ≡ false) (has_one x k f) s)
 
 module _ {C A : Type 0} where
-  pub number_push : (count : HallOperation C → HallAnswer A → ℕ) (own : List (HallAsk C A)) (e : HallAsk C A) → count_of count (own ++ e ∷ []) ≡ count_of count own + count e.op e.reply
+  pub number_push : (count : HallOperation C → HallAnswer A → ℕ) (own : List (HallAsk C A)) (e : HallAsk C A) → summed_calls count (own ++ e ∷ []) ≡ summed_calls count own + count e.op e.reply
   number_push count [] e = omega arith
   number_push count (x ∷ own) e =
-      let f : count_of count (own ++ e ∷ []) ≡ count_of count own + count e.op e.reply = number_push count own e in omega arith
+      let f : summed_calls count (own ++ e ∷ []) ≡ summed_calls count own + count e.op e.reply = number_push count own e in omega arith
 
   pub any_left : (test : HallOperation C → Bool) (own : List (HallAsk C A)) (e : HallAsk C A) → any_of test own ≡ true → any_of test (own ++ e ∷ []) ≡ true
   any_left test [] e h = absurd (false≢true h)
@@ -55,7 +55,7 @@ module _ {C A M : Type 0} where
   -- what is so after a history whose calls were allowed
   pub record Owned (opening : HallState C A M) (log : List (HallAsk C A)) (hall : HallState C A M) : Type 0 where
     pub memories : length hall.memories ≡ length opening.memories
-    pub counted : length (keys_in hall) + count_of frees_key (calls_by 0 log) ≤ count_of adds_key (calls_by 0 log)
+    pub counted : length (keys_in hall) + summed_calls frees_key (calls_by 0 log) ≤ summed_calls adds_key (calls_by 0 log)
     pub known : (k : Key) → has_key k (keys_in hall) ≡ true → any_of (submits_key k) (calls_by 0 log) ≡ true
     pub held : (a : ℕ) (k : Key) → holds_key k (calls_by a log) ≡ true → (has_key k hall.taken ≡ true) × (has_key k (job_keys hall) ≡ false)
     pub alone : (a b : ℕ) (k : Key) → holds_key k (calls_by a log) ≡ true → holds_key k (calls_by b log) ≡ true → a ≡ b
@@ -92,23 +92,23 @@ module _ {C A M : Type 0} where
         go (inl is) = ap (any_of test) (by_own 0 is) ∙ any_left test (calls_by 0 log) e h
         go (inr n) = ap (any_of test) (by_other 0 n) ∙ h
 
-    number_same : (count : HallOperation C → HallAnswer A → ℕ) → count e.op e.reply ≡ 0 → count_of count (calls_by 0 more) ≡ count_of count (calls_by 0 log)
+    number_same : (count : HallOperation C → HallAnswer A → ℕ) → count e.op e.reply ≡ 0 → summed_calls count (calls_by 0 more) ≡ summed_calls count (calls_by 0 log)
     number_same count none = go (cases_eq e.seat 0)
       where
-        go : (e.seat ≡ 0) ⊎ (e.seat ≡ 0 → ⊥) → count_of count (calls_by 0 more) ≡ count_of count (calls_by 0 log)
+        go : (e.seat ≡ 0) ⊎ (e.seat ≡ 0 → ⊥) → summed_calls count (calls_by 0 more) ≡ summed_calls count (calls_by 0 log)
         go (inl is) =
-            let f : count_of count (calls_by 0 log ++ e ∷ []) ≡ count_of count (calls_by 0 log) + count e.op e.reply = number_push count (calls_by 0 log) e in
-            ap (count_of count) (by_own 0 is) ∙ (let g : count_of count (calls_by 0 log ++ e ∷ []) ≡ count_of count (calls_by 0 log) = omega arith in g)
-        go (inr n) = ap (count_of count) (by_other 0 n)
+            let f : summed_calls count (calls_by 0 log ++ e ∷ []) ≡ summed_calls count (calls_by 0 log) + count e.op e.reply = number_push count (calls_by 0 log) e in
+            ap (summed_calls count) (by_own 0 is) ∙ (let g : summed_calls count (calls_by 0 log ++ e ∷ []) ≡ summed_calls count (calls_by 0 log) = omega arith in g)
+        go (inr n) = ap (summed_calls count) (by_other 0 n)
 
     -- a call that moves no key
     quiet : (new : HallState C A M) → old.jobs ≡ new.jobs → old.taken ≡ new.taken → old.outcomes ≡ new.outcomes → length new.memories ≡ length old.memories
         → ((k : Key) (b : Bool) → held_after k b e.op e.reply ≡ b) → adds_key e.op e.reply ≡ 0 → frees_key e.op e.reply ≡ 0 → Owned opening more new
     quiet new jobs taken outs memories same adds frees =
         let keys : keys_in old ≡ keys_in new = (λ i. map (λ (j : Job). j.key) (jobs i) ++ (taken i ++ map (λ (o : JobOutcome). o.key) (outs i))) in
-        let before : length (keys_in old) + count_of frees_key (calls_by 0 log) ≤ count_of adds_key (calls_by 0 log) = o.counted in
-        let a : count_of adds_key (calls_by 0 more) ≡ count_of adds_key (calls_by 0 log) = number_same adds_key adds in
-        let f : count_of frees_key (calls_by 0 more) ≡ count_of frees_key (calls_by 0 log) = number_same frees_key frees in
+        let before : length (keys_in old) + summed_calls frees_key (calls_by 0 log) ≤ summed_calls adds_key (calls_by 0 log) = o.counted in
+        let a : summed_calls adds_key (calls_by 0 more) ≡ summed_calls adds_key (calls_by 0 log) = number_same adds_key adds in
+        let f : summed_calls frees_key (calls_by 0 more) ≡ summed_calls frees_key (calls_by 0 log) = number_same frees_key frees in
         let n : length (keys_in old) ≡ length (keys_in new) = ap length keys in
         record {
           memories = memories ∙ o.memories;
@@ -145,25 +145,25 @@ module _ {C A M : Type 0} where
             in_outcomes k old (ap (λ os. has_key k (map (λ (x : JobOutcome). x.key) os)) first ∙ or_right (is_same key k) (has_key k (map (λ (x : JobOutcome). x.key) later)) h)
 
         count : (e.seat ≡ 0) ⊎ (e.seat ≡ 0 → ⊥)
-            → length (keys_in (record old { outcomes = later })) + count_of frees_key (calls_by 0 more) ≤ count_of adds_key (calls_by 0 more)
+            → length (keys_in (record old { outcomes = later })) + summed_calls frees_key (calls_by 0 more) ≤ summed_calls adds_key (calls_by 0 more)
         count c =
-            let before : length (keys_in old) + count_of frees_key (calls_by 0 log) ≤ count_of adds_key (calls_by 0 log) = o.counted in
+            let before : length (keys_in old) + summed_calls frees_key (calls_by 0 log) ≤ summed_calls adds_key (calls_by 0 log) = o.counted in
             let n : length (keys_in old) ≡ length (job_keys old) + (length old.taken + length (outcome_keys old)) = counts old in
             let m : length (keys_in (record old { outcomes = later })) ≡ length (job_keys old) + (length old.taken + length (map (λ (x : JobOutcome). x.key) later)) =
             counts (record old { outcomes = later }) in
             let l : length (outcome_keys old) ≡ suc (length (map (λ (x : JobOutcome). x.key) later)) = ap (λ os. length (map (λ (x : JobOutcome). x.key) os)) first in
-            let a : count_of adds_key (calls_by 0 more) ≡ count_of adds_key (calls_by 0 log) = number_same adds_key (λ i. adds_key (op i) (answer i)) in
-            let f : count_of frees_key (calls_by 0 more) ≤ count_of frees_key (calls_by 0 log) + 1 = freed c in
+            let a : summed_calls adds_key (calls_by 0 more) ≡ summed_calls adds_key (calls_by 0 log) = number_same adds_key (λ i. adds_key (op i) (answer i)) in
+            let f : summed_calls frees_key (calls_by 0 more) ≤ summed_calls frees_key (calls_by 0 log) + 1 = freed c in
             omega arith
           where
-            freed : (e.seat ≡ 0) ⊎ (e.seat ≡ 0 → ⊥) → count_of frees_key (calls_by 0 more) ≤ count_of frees_key (calls_by 0 log) + 1
+            freed : (e.seat ≡ 0) ⊎ (e.seat ≡ 0 → ⊥) → summed_calls frees_key (calls_by 0 more) ≤ summed_calls frees_key (calls_by 0 log) + 1
             freed (inl is) =
-                let p : count_of frees_key (calls_by 0 log ++ e ∷ []) ≡ count_of frees_key (calls_by 0 log) + frees_key e.op e.reply = number_push frees_key (calls_by 0 log) e in
+                let p : summed_calls frees_key (calls_by 0 log ++ e ∷ []) ≡ summed_calls frees_key (calls_by 0 log) + frees_key e.op e.reply = number_push frees_key (calls_by 0 log) e in
                 let q : frees_key e.op e.reply ≡ 1 = (λ i. frees_key (op i) (answer i)) in
-                let r : count_of frees_key (calls_by 0 more) ≡ count_of frees_key (calls_by 0 log ++ e ∷ []) = ap (count_of frees_key) (by_own 0 is) in
+                let r : summed_calls frees_key (calls_by 0 more) ≡ summed_calls frees_key (calls_by 0 log ++ e ∷ []) = ap (summed_calls frees_key) (by_own 0 is) in
                 omega arith
             freed (inr n) =
-                let r : count_of frees_key (calls_by 0 more) ≡ count_of frees_key (calls_by 0 log) = ap (count_of frees_key) (by_other 0 n) in
+                let r : summed_calls frees_key (calls_by 0 more) ≡ summed_calls frees_key (calls_by 0 log) = ap (summed_calls frees_key) (by_other 0 n) in
                 omega arith
 
     -- a job is submitted
@@ -207,16 +207,16 @@ module _ {C A M : Type 0} where
               (has_either k (job_keys old) (key ∷ []) (ap (has_key k) (sym pushed) ∙ h))),
         )
 
-        count : length (keys_in (with_job old key payload)) + count_of frees_key (calls_by 0 more) ≤ count_of adds_key (calls_by 0 more)
+        count : length (keys_in (with_job old key payload)) + summed_calls frees_key (calls_by 0 more) ≤ summed_calls adds_key (calls_by 0 more)
         count =
-            let before : length (keys_in old) + count_of frees_key (calls_by 0 log) ≤ count_of adds_key (calls_by 0 log) = o.counted in
+            let before : length (keys_in old) + summed_calls frees_key (calls_by 0 log) ≤ summed_calls adds_key (calls_by 0 log) = o.counted in
             let n : length (keys_in old) ≡ length (job_keys old) + (length old.taken + length (outcome_keys old)) = counts old in
             let m : length (keys_in (with_job old key payload)) ≡ length (job_keys (with_job old key payload)) + (length old.taken + length (outcome_keys old)) = counts (with_job old key payload) in
             let l : length (job_keys (with_job old key payload)) ≡ length (job_keys old) + 1 = ap length pushed ∙ length-append (job_keys old) (key ∷ []) in
-            let f : count_of frees_key (calls_by 0 more) ≡ count_of frees_key (calls_by 0 log) = number_same frees_key (λ i. frees_key (op i) (answer i)) in
-            let p : count_of adds_key (calls_by 0 log ++ e ∷ []) ≡ count_of adds_key (calls_by 0 log) + adds_key e.op e.reply = number_push adds_key (calls_by 0 log) e in
+            let f : summed_calls frees_key (calls_by 0 more) ≡ summed_calls frees_key (calls_by 0 log) = number_same frees_key (λ i. frees_key (op i) (answer i)) in
+            let p : summed_calls adds_key (calls_by 0 log ++ e ∷ []) ≡ summed_calls adds_key (calls_by 0 log) + adds_key e.op e.reply = number_push adds_key (calls_by 0 log) e in
             let q : adds_key e.op e.reply ≡ 1 = (λ i. adds_key (op i) (answer i)) in
-            let r : count_of adds_key (calls_by 0 more) ≡ count_of adds_key (calls_by 0 log ++ e ∷ []) = ap (count_of adds_key) (by_own 0 by_first) in
+            let r : summed_calls adds_key (calls_by 0 more) ≡ summed_calls adds_key (calls_by 0 log ++ e ∷ []) = ap (summed_calls adds_key) (by_own 0 by_first) in
             omega arith
 
     -- a job is taken
@@ -276,15 +276,15 @@ module _ {C A M : Type 0} where
             (has_either k old.taken (key ∷ []) h)
         known k (inr (inr h)) = in_outcomes k old h
 
-        count : length (keys_in (with_taken old key later)) + count_of frees_key (calls_by 0 more) ≤ count_of adds_key (calls_by 0 more)
+        count : length (keys_in (with_taken old key later)) + summed_calls frees_key (calls_by 0 more) ≤ summed_calls adds_key (calls_by 0 more)
         count =
-            let before : length (keys_in old) + count_of frees_key (calls_by 0 log) ≤ count_of adds_key (calls_by 0 log) = o.counted in
+            let before : length (keys_in old) + summed_calls frees_key (calls_by 0 log) ≤ summed_calls adds_key (calls_by 0 log) = o.counted in
             let n : length (keys_in old) ≡ length (job_keys old) + (length old.taken + length (outcome_keys old)) = counts old in
             let m : length (keys_in (with_taken old key later)) ≡ length (job_keys (with_taken old key later)) + (length (with_taken old key later).taken + length (outcome_keys old)) = counts (with_taken old key later) in
             let l : length (job_keys old) ≡ suc (length (job_keys (with_taken old key later))) = ap length keys_first in
             let t : length (with_taken old key later).taken ≡ length old.taken + 1 = length-append old.taken (key ∷ []) in
-            let a : count_of adds_key (calls_by 0 more) ≡ count_of adds_key (calls_by 0 log) = number_same adds_key (λ i. adds_key (op i) (answer i)) in
-            let f : count_of frees_key (calls_by 0 more) ≡ count_of frees_key (calls_by 0 log) = number_same frees_key (λ i. frees_key (op i) (answer i)) in
+            let a : summed_calls adds_key (calls_by 0 more) ≡ summed_calls adds_key (calls_by 0 log) = number_same adds_key (λ i. adds_key (op i) (answer i)) in
+            let f : summed_calls frees_key (calls_by 0 more) ≡ summed_calls frees_key (calls_by 0 log) = number_same frees_key (λ i. frees_key (op i) (answer i)) in
             omega arith
 
     -- an outcome is put
@@ -332,15 +332,15 @@ module _ {C A M : Type 0} where
             ⊎_elim (in_outcomes k old) (λ f. in_taken k old (ap (λ x. has_key x old.taken) (sym (has_one k key f)) ∙ there))
             (has_either k (outcome_keys old) (key ∷ []) (ap (has_key k) (sym pushed) ∙ h))
 
-        count : length (keys_in (with_put old key settled)) + count_of frees_key (calls_by 0 more) ≤ count_of adds_key (calls_by 0 more)
+        count : length (keys_in (with_put old key settled)) + summed_calls frees_key (calls_by 0 more) ≤ summed_calls adds_key (calls_by 0 more)
         count =
-            let before : length (keys_in old) + count_of frees_key (calls_by 0 log) ≤ count_of adds_key (calls_by 0 log) = o.counted in
+            let before : length (keys_in old) + summed_calls frees_key (calls_by 0 log) ≤ summed_calls adds_key (calls_by 0 log) = o.counted in
             let n : length (keys_in old) ≡ length (job_keys old) + (length old.taken + length (outcome_keys old)) = counts old in
             let m : length (keys_in (with_put old key settled)) ≡ length (job_keys old) + (length (with_put old key settled).taken + length (outcome_keys (with_put old key settled))) = counts (with_put old key settled) in
             let l : length (outcome_keys (with_put old key settled)) ≡ length (outcome_keys old) + 1 = ap length pushed ∙ length-append (outcome_keys old) (key ∷ []) in
             let t : suc (length (with_put old key settled).taken) ≡ length old.taken = length-without key old.taken there in
-            let a : count_of adds_key (calls_by 0 more) ≡ count_of adds_key (calls_by 0 log) = number_same adds_key (λ i. adds_key (op i) e.reply) in
-            let f : count_of frees_key (calls_by 0 more) ≡ count_of frees_key (calls_by 0 log) = number_same frees_key (λ i. frees_key (op i) e.reply) in
+            let a : summed_calls adds_key (calls_by 0 more) ≡ summed_calls adds_key (calls_by 0 log) = number_same adds_key (λ i. adds_key (op i) e.reply) in
+            let f : summed_calls frees_key (calls_by 0 more) ≡ summed_calls frees_key (calls_by 0 log) = number_same frees_key (λ i. frees_key (op i) e.reply) in
             omega arith
 
   -- the memories once a call's service, where there is one, has answered
@@ -441,9 +441,9 @@ module _ {C A M : Type 0} where
       → OwnAsksAllow r opening seat (calls_by seat log) op → HallCan r hall op
   can_do r opening log hall seat (submit key payload) o may =
       let zero_is : seat ≡ 0 = may.0 in
-      let n : length (keys_in hall) + count_of frees_key (calls_by 0 log) ≤ count_of adds_key (calls_by 0 log) = o.counted in
-      let m : count_of adds_key (calls_by 0 log) < most_keys + count_of frees_key (calls_by 0 log) =
-      subst (λ a. count_of adds_key (calls_by a log) < most_keys + count_of frees_key (calls_by a log)) zero_is may.1 in
+      let n : length (keys_in hall) + summed_calls frees_key (calls_by 0 log) ≤ summed_calls adds_key (calls_by 0 log) = o.counted in
+      let m : summed_calls adds_key (calls_by 0 log) < most_keys + summed_calls frees_key (calls_by 0 log) =
+      subst (λ a. summed_calls adds_key (calls_by a log) < most_keys + summed_calls frees_key (calls_by a log)) zero_is may.1 in
       let fresh : any_of (submits_key key) (calls_by 0 log) ≡ false = subst (λ a. any_of (submits_key key) (calls_by a log) ≡ false) zero_is may.2 in
       (omega arith, false_from_ne_true (has_key key (keys_in hall)) (λ h. true≢false (sym (o.known key h) ∙ fresh)), may.3)
   can_do r opening log hall seat take_job o may = tt

@@ -11,7 +11,7 @@ use Rattle.call_history.specs.Laws.{calls_by-own, calls_by-other, asks-append, I
 use Rattle.host_model.proofs.Lists.{nil-cons, cons_parts}
 use Rattle.machine_model.specs.HallState.{is_same, Job, JobOutcome, HallState, IsNewlyOpened, has_key, without}
 use Rattle.machine_model.specs.HallRule.{HallOperation, submit, take_job, apply, put, collect, close, HallAnswer, done, job, empty, is_closed, applied, no_memory, journal_fault, is_broken, outcome, job_of, outcome_of, TakesEffect, ApplyGives, HallGives}
-use Rattle.machine_model.specs.OwnCalls.{HallCall, HallAsk, submits_key, applies_key, any_of, count_of, holds_key, OwnAsksAllow, HallMay}
+use Rattle.machine_model.specs.OwnCalls.{HallCall, HallAsk, submits_key, applies_key, any_of, summed_calls, holds_key, OwnAsksAllow, HallMay}
 use Rattle.machine_model.specs.SingleKeys.{adds_this_key, frees_this_key}
 use Rattle.machine_model.proofs.Keys.{same_key, is_same_self, has_either, has_one, has_self, job_keys, outcome_keys, with_job, with_taken, with_put, in_taken}
 use Rattle.machine_model.proofs.Owning.{number_push, any_left, any_last, holds_push, Owned, after_op, owned_first}
@@ -51,11 +51,11 @@ module _ {C A : Type 0} where
       go false f rec = or_right (test e.op) (any_of test asks) (rec f)
 
   -- a seat has no more of them than there are
-  count_by : (count : HallOperation C → HallAnswer A → ℕ) (seat : ℕ) (asks : List (HallAsk C A)) → count_of count (calls_by seat asks) ≤ count_of count asks
+  count_by : (count : HallOperation C → HallAnswer A → ℕ) (seat : ℕ) (asks : List (HallAsk C A)) → summed_calls count (calls_by seat asks) ≤ summed_calls count asks
   count_by count seat [] = omega arith
   count_by count seat (e ∷ asks) = go (eqb e.seat seat) (count_by count seat asks)
     where
-      go : (b : Bool) → count_of count (calls_by seat asks) ≤ count_of count asks → count_of count (cond b (e ∷ calls_by seat asks) (calls_by seat asks)) ≤ count e.op e.reply + count_of count asks
+      go : (b : Bool) → summed_calls count (calls_by seat asks) ≤ summed_calls count asks → summed_calls count (cond b (e ∷ calls_by seat asks) (calls_by seat asks)) ≤ count e.op e.reply + summed_calls count asks
       go true rec = omega arith
       go false rec = omega arith
 
@@ -75,13 +75,13 @@ module _ {C A : Type 0} where
 
   -- what seat 0 submits, it has submitted once more; and what nobody submits leaves the number alone
   added_by_first : (k : Key) (asks : List (HallAsk C A)) (e : HallAsk C A) → (e.seat ≡ 0) ⊎ (adds_this_key k e.op e.reply ≡ 0)
-      → count_of (adds_this_key k) (calls_by 0 (asks ++ e ∷ [])) ≡ count_of (adds_this_key k) (calls_by 0 asks) + adds_this_key k e.op e.reply
-  added_by_first k asks e (inl is) = ap (count_of (adds_this_key k)) (calls_by-own 0 asks e is) ∙ number_push (adds_this_key k) (calls_by 0 asks) e
+      → summed_calls (adds_this_key k) (calls_by 0 (asks ++ e ∷ [])) ≡ summed_calls (adds_this_key k) (calls_by 0 asks) + adds_this_key k e.op e.reply
+  added_by_first k asks e (inl is) = ap (summed_calls (adds_this_key k)) (calls_by-own 0 asks e is) ∙ number_push (adds_this_key k) (calls_by 0 asks) e
   added_by_first k asks e (inr none) = go (cases_eq e.seat 0)
     where
-      go : (e.seat ≡ 0) ⊎ (e.seat ≡ 0 → ⊥) → count_of (adds_this_key k) (calls_by 0 (asks ++ e ∷ [])) ≡ count_of (adds_this_key k) (calls_by 0 asks) + adds_this_key k e.op e.reply
-      go (inl is) = ap (count_of (adds_this_key k)) (calls_by-own 0 asks e is) ∙ number_push (adds_this_key k) (calls_by 0 asks) e
-      go (inr n) = let same : count_of (adds_this_key k) (calls_by 0 (asks ++ e ∷ [])) ≡ count_of (adds_this_key k) (calls_by 0 asks) = ap (count_of (adds_this_key k)) (calls_by-other 0 asks e n) in omega arith
+      go : (e.seat ≡ 0) ⊎ (e.seat ≡ 0 → ⊥) → summed_calls (adds_this_key k) (calls_by 0 (asks ++ e ∷ [])) ≡ summed_calls (adds_this_key k) (calls_by 0 asks) + adds_this_key k e.op e.reply
+      go (inl is) = ap (summed_calls (adds_this_key k)) (calls_by-own 0 asks e is) ∙ number_push (adds_this_key k) (calls_by 0 asks) e
+      go (inr n) = let same : summed_calls (adds_this_key k) (calls_by 0 (asks ++ e ∷ [])) ≡ summed_calls (adds_this_key k) (calls_by 0 asks) = ap (summed_calls (adds_this_key k)) (calls_by-other 0 asks e n) in omega arith
 
   -- a key's first Submit, or none
   abbrev Adds : Key → List (HallAsk C A) → HallAsk C A → Type 0
@@ -89,22 +89,22 @@ module _ {C A : Type 0} where
       (adds_this_key k e.op e.reply ≡ 0)
       ⊎ ((e.seat ≡ 0) × (any_of (submits_key k) (calls_by 0 asks) ≡ false) × (submits_key k e.op ≡ true) × (adds_this_key k e.op e.reply ≡ 1))
 
-  once_more : (k : Key) (asks : List (HallAsk C A)) (e : HallAsk C A) → count_of (adds_this_key k) asks ≤ one_if (any_of (submits_key k) (calls_by 0 asks)) → Adds k asks e
-      → count_of (adds_this_key k) (asks ++ e ∷ []) ≤ one_if (any_of (submits_key k) (calls_by 0 (asks ++ e ∷ [])))
+  once_more : (k : Key) (asks : List (HallAsk C A)) (e : HallAsk C A) → summed_calls (adds_this_key k) asks ≤ one_if (any_of (submits_key k) (calls_by 0 asks)) → Adds k asks e
+      → summed_calls (adds_this_key k) (asks ++ e ∷ []) ≤ one_if (any_of (submits_key k) (calls_by 0 (asks ++ e ∷ [])))
   once_more k asks e once (inl none) =
-      let p : count_of (adds_this_key k) (asks ++ e ∷ []) ≡ count_of (adds_this_key k) asks + adds_this_key k e.op e.reply = number_push (adds_this_key k) asks e in
+      let p : summed_calls (adds_this_key k) (asks ++ e ∷ []) ≡ summed_calls (adds_this_key k) asks + adds_this_key k e.op e.reply = number_push (adds_this_key k) asks e in
       go (any_of (submits_key k) (calls_by 0 asks)) refl p
     where
-      go : (b : Bool) → any_of (submits_key k) (calls_by 0 asks) ≡ b → count_of (adds_this_key k) (asks ++ e ∷ []) ≡ count_of (adds_this_key k) asks + adds_this_key k e.op e.reply
-          → count_of (adds_this_key k) (asks ++ e ∷ []) ≤ one_if (any_of (submits_key k) (calls_by 0 (asks ++ e ∷ [])))
+      go : (b : Bool) → any_of (submits_key k) (calls_by 0 asks) ≡ b → summed_calls (adds_this_key k) (asks ++ e ∷ []) ≡ summed_calls (adds_this_key k) asks + adds_this_key k e.op e.reply
+          → summed_calls (adds_this_key k) (asks ++ e ∷ []) ≤ one_if (any_of (submits_key k) (calls_by 0 (asks ++ e ∷ [])))
       go true is p =
           let later : one_if (any_of (submits_key k) (calls_by 0 (asks ++ e ∷ []))) ≡ 1 = ap one_if (by_first_later (submits_key k) asks e is) in
           let before : one_if (any_of (submits_key k) (calls_by 0 asks)) ≡ 1 = ap one_if is in omega arith
       go false is p =
-          let zero_before : count_of (adds_this_key k) asks ≡ 0 = none_yet (any_of (submits_key k) (calls_by 0 asks)) (count_of (adds_this_key k) asks) once is in omega arith
+          let zero_before : summed_calls (adds_this_key k) asks ≡ 0 = none_yet (any_of (submits_key k) (calls_by 0 asks)) (summed_calls (adds_this_key k) asks) once is in omega arith
   once_more k asks e once (inr t) =
-      let p : count_of (adds_this_key k) (asks ++ e ∷ []) ≡ count_of (adds_this_key k) asks + adds_this_key k e.op e.reply = number_push (adds_this_key k) asks e in
-      let zero_before : count_of (adds_this_key k) asks ≡ 0 = none_yet (any_of (submits_key k) (calls_by 0 asks)) (count_of (adds_this_key k) asks) once t.1 in
+      let p : summed_calls (adds_this_key k) (asks ++ e ∷ []) ≡ summed_calls (adds_this_key k) asks + adds_this_key k e.op e.reply = number_push (adds_this_key k) asks e in
+      let zero_before : summed_calls (adds_this_key k) asks ≡ 0 = none_yet (any_of (submits_key k) (calls_by 0 asks)) (summed_calls (adds_this_key k) asks) once t.1 in
       let one_now : adds_this_key k e.op e.reply ≡ 1 = t.3 in
       let now : one_if (any_of (submits_key k) (calls_by 0 (asks ++ e ∷ []))) ≡ 1 =
       ap one_if (ap (any_of (submits_key k)) (calls_by-own 0 asks e t.0) ∙ any_last (submits_key k) (calls_by 0 asks) e t.2) in
@@ -117,9 +117,9 @@ module _ {C A M : Type 0} where
 
   -- what is so of a key after a history whose calls were allowed
   pub record Single (k : Key) (asks : List (HallAsk C A)) (hall : HallState C A M) : Type 0 where
-    pub counted : times_in k hall + count_of (frees_this_key k) asks ≡ count_of (adds_this_key k) asks
-    pub by_first : count_of (adds_this_key k) asks ≡ count_of (adds_this_key k) (calls_by 0 asks)
-    pub once : count_of (adds_this_key k) asks ≤ one_if (any_of (submits_key k) (calls_by 0 asks))
+    pub counted : times_in k hall + summed_calls (frees_this_key k) asks ≡ summed_calls (adds_this_key k) asks
+    pub by_first : summed_calls (adds_this_key k) asks ≡ summed_calls (adds_this_key k) (calls_by 0 asks)
+    pub once : summed_calls (adds_this_key k) asks ≤ one_if (any_of (submits_key k) (calls_by 0 asks))
     pub applied_later : any_of (applies_key k) asks ≡ true → any_of (submits_key k) (calls_by 0 asks) ≡ true
     pub unapplied : has_key k (job_keys hall) ≡ true → any_of (applies_key k) asks ≡ false
 
@@ -132,13 +132,13 @@ module _ {C A M : Type 0} where
 
   single_more : (k : Key) (asks : List (HallAsk C A)) (old new : HallState C A M) (e : HallAsk C A) → Single k asks old → Moves k asks old e new → Single k (asks ++ e ∷ []) new
   single_more k asks old new e s m =
-      let freed : count_of (frees_this_key k) (asks ++ e ∷ []) ≡ count_of (frees_this_key k) asks + frees_this_key k e.op e.reply = number_push (frees_this_key k) asks e in
-      let added : count_of (adds_this_key k) (asks ++ e ∷ []) ≡ count_of (adds_this_key k) asks + adds_this_key k e.op e.reply = number_push (adds_this_key k) asks e in
-      let first : count_of (adds_this_key k) (calls_by 0 (asks ++ e ∷ [])) ≡ count_of (adds_this_key k) (calls_by 0 asks) + adds_this_key k e.op e.reply =
+      let freed : summed_calls (frees_this_key k) (asks ++ e ∷ []) ≡ summed_calls (frees_this_key k) asks + frees_this_key k e.op e.reply = number_push (frees_this_key k) asks e in
+      let added : summed_calls (adds_this_key k) (asks ++ e ∷ []) ≡ summed_calls (adds_this_key k) asks + adds_this_key k e.op e.reply = number_push (adds_this_key k) asks e in
+      let first : summed_calls (adds_this_key k) (calls_by 0 (asks ++ e ∷ [])) ≡ summed_calls (adds_this_key k) (calls_by 0 asks) + adds_this_key k e.op e.reply =
       added_by_first k asks e (⊎_elim (λ z. inr z) (λ t. inl t.0) m.adds) in
-      let counted : times_in k old + count_of (frees_this_key k) asks ≡ count_of (adds_this_key k) asks = s.counted in
+      let counted : times_in k old + summed_calls (frees_this_key k) asks ≡ summed_calls (adds_this_key k) asks = s.counted in
       let moved : times_in k new + frees_this_key k e.op e.reply ≡ times_in k old + adds_this_key k e.op e.reply = m.moved in
-      let by_first : count_of (adds_this_key k) asks ≡ count_of (adds_this_key k) (calls_by 0 asks) = s.by_first in
+      let by_first : summed_calls (adds_this_key k) asks ≡ summed_calls (adds_this_key k) (calls_by 0 asks) = s.by_first in
       record {
         counted = omega arith;
         by_first = omega arith;
@@ -368,17 +368,17 @@ module _ {C A M : Type 0} where
     -- the key of an outcome that Collect answers was submitted once, by seat 0, and not collected before
     pub collected_once : (log : List (HallCall C A M)) (front : List (HallAsk C A)) (seat : ℕ) (key : Key) (settled : Settled) → IsHistory (HallGives r) opening log
         → AllAllowed (HallMay r) opening (asks_of log) → asks_of log ≡ front ++ seat_ask seat collect (outcome key settled) ∷ []
-        → (count_of (adds_this_key key) (calls_by 0 front) ≡ 1) × ((other : ℕ) → count_of (frees_this_key key) (calls_by other front) ≡ 0)
+        → (summed_calls (adds_this_key key) (calls_by 0 front) ≡ 1) × ((other : ℕ) → summed_calls (frees_this_key key) (calls_by other front) ≡ 0)
     collected_once log front seat key settled history allowed is =
         let t : (old new : HallState C A M) × Known front old × HallGives r old collect (outcome key settled) new × IsNewlyOpened opening = before_last log front seat collect (outcome key settled) history allowed is in
         let s : Single key front t.0 = t.2.1 key in
         let there : times key (outcome_keys t.0) ≡ one_if (is_same key key) + times key (map (λ (x : JobOutcome). x.key) t.3.0) = ap (λ os. times key (map (λ (x : JobOutcome). x.key) os)) t.3.1 in
         let one_there : one_if (is_same key key) ≡ 1 = ap one_if (is_same_self key) in
-        let counted : times_in key t.0 + count_of (frees_this_key key) front ≡ count_of (adds_this_key key) front = s.counted in
-        let by_first : count_of (adds_this_key key) front ≡ count_of (adds_this_key key) (calls_by 0 front) = s.by_first in
-        let most : count_of (adds_this_key key) front ≤ 1 = at_most_one (any_of (submits_key key) (calls_by 0 front)) (count_of (adds_this_key key) front) s.once in (
+        let counted : times_in key t.0 + summed_calls (frees_this_key key) front ≡ summed_calls (adds_this_key key) front = s.counted in
+        let by_first : summed_calls (adds_this_key key) front ≡ summed_calls (adds_this_key key) (calls_by 0 front) = s.by_first in
+        let most : summed_calls (adds_this_key key) front ≤ 1 = at_most_one (any_of (submits_key key) (calls_by 0 front)) (summed_calls (adds_this_key key) front) s.once in (
           omega arith,
-          λ other. let own : count_of (frees_this_key key) (calls_by other front) ≤ count_of (frees_this_key key) front = count_by (frees_this_key key) other front in omega arith,
+          λ other. let own : summed_calls (frees_this_key key) (calls_by other front) ≤ summed_calls (frees_this_key key) front = count_by (frees_this_key key) other front in omega arith,
         )
       where
         at_most_one : (b : Bool) (n : ℕ) → n ≤ one_if b → n ≤ 1

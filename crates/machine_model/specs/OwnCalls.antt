@@ -64,9 +64,9 @@ module _ {C A : Type 0} where
   any_of test (e ∷ own) = test e.op || any_of test own
 
   -- how many calls of these did so
-  abbrev pub count_of : (HallOperation C → HallAnswer A → ℕ) → List (HallAsk C A) → ℕ
-  count_of count [] = 0
-  count_of count (e ∷ own) = count e.op e.reply + count_of count own
+  abbrev pub summed_calls : (HallOperation C → HallAnswer A → ℕ) → List (HallAsk C A) → ℕ
+  summed_calls count [] = 0
+  summed_calls count (e ∷ own) = count e.op e.reply + summed_calls count own
 
   -- whether a seat holds the key after more of its own calls
   abbrev pub holds_from : Key → Bool → List (HallAsk C A) → Bool
@@ -82,7 +82,7 @@ module _ {C A M : Type 0} where
   -- and at most so many that it hasn't collected. A key is applied once, and applied and put only by the seat that took it.
   abbrev pub OwnAsksAllow : ServiceRules C A M → HallState C A M → ℕ → List (HallAsk C A) → HallOperation C → Type 0
   OwnAsksAllow r first seat own (submit key payload) =
-      (seat ≡ 0) × (count_of adds_key own < most_keys + count_of frees_key own) × (any_of (submits_key key) own ≡ false) × (length payload ≤ most_bytes)
+      (seat ≡ 0) × (summed_calls adds_key own < most_keys + summed_calls frees_key own) × (any_of (submits_key key) own ≡ false) × (length payload ≤ most_bytes)
   OwnAsksAllow r first seat own (apply key call) =
       (holds_key key own ≡ true) × (any_of (applies_key key) own ≡ false) × (r.slot call < length first.memories)
   OwnAsksAllow r first seat own (put key settled) = holds_key key own ≡ true

@@ -4,7 +4,7 @@ use Rattle.outside.specs.declared.outcomes.Settled.{Settled}
 use Rattle.host_model.specs.declared.key.Key.{Key}
 use Rattle.call_history.specs.Calls.{seat_ask}
 use Rattle.machine_model.specs.HallRule.{HallOperation, submit, collect, HallAnswer, done, outcome}
-use Rattle.machine_model.specs.OwnCalls.{HallAsk, count_of}
+use Rattle.machine_model.specs.OwnCalls.{HallAsk, summed_calls}
 use Rattle.machine_model.specs.SingleKeys.{adds_this_key, frees_this_key}
 
 -- one, where a job of this connection was submitted
@@ -27,4 +27,4 @@ refuses_job _ _ = 0
 abbrev pub CollectsItsOwn : {C A : Type 0} → List (HallAsk C A) → Type 0
 CollectsItsOwn {C} {A} own =
     (front back : List (HallAsk C A)) (seat : ℕ) (key : Key) (settled : Settled) → own ≡ front ++ seat_ask seat collect (outcome key settled) ∷ back
-    → (count_of (adds_this_key key) front ≡ 1) × (count_of (frees_this_key key) front ≡ 0)
+    → (summed_calls (adds_this_key key) front ≡ 1) × (summed_calls (frees_this_key key) front ≡ 0)

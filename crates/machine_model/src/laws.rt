@@ -15,7 +15,7 @@ ghost use Rattle.machine_model.specs.HallRule.{HallOperation, submit, take_job, 
 ghost use Rattle.machine_model.specs.Determined.{IsFree, IsApply, IsSameButFaults};
 ghost use Rattle.call_history.specs.History.{meaning_after, IsHistory};
 ghost use Rattle.call_history.specs.Calls.{seat_ask, calls_by, asks_of, AllAllowed};
-ghost use Rattle.machine_model.specs.OwnCalls.{HallCall, HallAsk, OwnAsksAllow, HallMay, HallCan, any_of, adds_key, frees_key, count_of, most_bytes};
+ghost use Rattle.machine_model.specs.OwnCalls.{HallCall, HallAsk, OwnAsksAllow, HallMay, HallCan, any_of, adds_key, frees_key, summed_calls, most_bytes};
 ghost use Rattle.machine_model.specs.OpenAtFronts.{IsWithinMost};
 ghost use Rattle.machine_model.specs.Trouble.{is_close, any_fault_told, ClosesWhereTold};
 ghost use Rattle.machine_model.specs.OwnLoop.{adds_of_conn, frees_of_conn, refuses_job, CollectsItsOwn};
@@ -67,7 +67,7 @@ pub fn single_keys<C, A, M>()
         r.slot call < length opening.memories → HallMay r opening seat (calls_by seat (asks_of log)) (apply key call) }
     ensures collected { (r : ServiceRules C A M) (opening : HallState C A M) (log : List (HallCall C A M)) (front : List (HallAsk C A)) (seat : ℕ) (key : Key) (settled : Settled) →
         IsHistory (HallGives r) opening log → AllAllowed (HallMay r) opening (asks_of log) → asks_of log ≡ front ++ seat_ask seat collect (outcome key settled) ∷ [] →
-        (count_of (adds_this_key key) (calls_by 0 front) ≡ 1) × ((other : ℕ) → count_of (frees_this_key key) (calls_by other front) ≡ 0) }
+        (summed_calls (adds_this_key key) (calls_by 0 front) ≡ 1) × ((other : ℕ) → summed_calls (frees_this_key key) (calls_by other front) ≡ 0) }
 {}
 
 /// A hall whose journal may tell nothing: its history is one of a hall whose journal is known, with the same asks and the same end; so what a seat may ask
@@ -92,12 +92,12 @@ pub fn own_calls_tell_the_loop<C, A, M>()
     ensures own { (r : ServiceRules C A M) (opening : HallState C A M) (log : List (HallCall C A M)) →
         IsHistory (HallGives r) opening log → AllAllowed (HallMay r) opening (asks_of log) → CollectsItsOwn (calls_by 0 (asks_of log)) }
     ensures numbers { (max : ℕ) (weave : List (LoopItem C A)) (loop : Loop) → Weaves max no_loop weave loop → CollectsItsOwn (calls_in weave) → (c : ℕ) →
-        (count_of (adds_of_conn c) (calls_in weave) ≡ (loop.conns c).submitted) × (count_of (frees_of_conn c) (calls_in weave) ≡ (loop.conns c).collected) }
+        (summed_calls (adds_of_conn c) (calls_in weave) ≡ (loop.conns c).submitted) × (summed_calls (frees_of_conn c) (calls_in weave) ≡ (loop.conns c).collected) }
     ensures all { (max : ℕ) (weave : List (LoopItem C A)) (loop : Loop) → Weaves max no_loop weave loop → CollectsItsOwn (calls_in weave) →
-        (count_of adds_key (calls_in weave) ≡ all_submitted loop) × (count_of frees_key (calls_in weave) ≡ all_collected loop)
+        (summed_calls adds_key (calls_in weave) ≡ all_submitted loop) × (summed_calls frees_key (calls_in weave) ≡ all_collected loop)
         × (all_submitted loop + all_collected loop ≤ length (calls_in weave)) }
     ensures may { (max : ℕ) (r : ServiceRules C A M) (opening : HallState C A M) (weave : List (LoopItem C A)) (loop next : Loop) (key : Key) (payload : List ℕ) (answer : HallAnswer A) →
-        Weaves max no_loop weave loop → CollectsItsOwn (calls_in weave) → max ≤ most_bytes → NoneIsLeftBehind loop → count_of refuses_job (calls_in weave) ≡ 0 →
+        Weaves max no_loop weave loop → CollectsItsOwn (calls_in weave) → max ≤ most_bytes → NoneIsLeftBehind loop → summed_calls refuses_job (calls_in weave) ≡ 0 →
         LoopAsks {C = C} loop (submit key payload) answer next → OwnAsksAllow r opening 0 (calls_in weave) (submit key payload) }
     ensures answered { (max : ℕ) (weave : List (LoopItem C A)) (loop : Loop) (key : Key) (settled : Settled) →
         Weaves max no_loop weave loop → CollectsItsOwn (calls_in weave ++ seat_ask 0 collect (outcome key settled) ∷ []) →

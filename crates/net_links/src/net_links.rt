@@ -3,7 +3,7 @@
 ghost use Rattle.std.specs.Prelude.{◌≡◌, IfOk};
 ghost use Rattle.outside.specs.Memory.{is_listed};
 ghost use Rattle.net_links.specs.Account.{fresh_account};
-ghost use Rattle.net_links.specs.Settling.{SettlesSo};
+ghost use Rattle.net_links.specs.Settling.{SettlesFailure};
 
 use crate::account::Account;
 use crate::signal::NetBell;
@@ -71,7 +71,7 @@ impl NetLinks {
 
     /// The answer of a read or a write, whose fault is counted.
     fn settled(&mut self, c: u32, taken: Taken) -> Taken
-        ensures { SettlesSo c self.old self.new taken result }
+        ensures { SettlesFailure c self.old self.new taken result }
     {
         match taken {
             Taken::Failed => match self.account.fail(c) {

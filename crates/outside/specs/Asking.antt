@@ -29,13 +29,13 @@ pub record OpensNone (old new : LinksState) : Type 0 where
   pub tape : new.tape ≡ old.tape
 
 -- what an answer opens
-abbrev pub OpensSo : {E : Type 0} → Ask → LinksState → LinksState → Result Hint E → Type 0
-OpensSo ask old new (Ok (Opened c)) = OpensNext ask c old new
-OpensSo ask old new (Ok (Readable c)) = OpensNone old new
-OpensSo ask old new (Ok (Writable c)) = OpensNone old new
-OpensSo ask old new (Ok Woken) = OpensNone old new
-OpensSo ask old new (Ok Over) = OpensNone old new
-OpensSo ask old new (Err e) = OpensNone old new
+abbrev pub AnswerOpens : {E : Type 0} → Ask → LinksState → LinksState → Result Hint E → Type 0
+AnswerOpens ask old new (Ok (Opened c)) = OpensNext ask c old new
+AnswerOpens ask old new (Ok (Readable c)) = OpensNone old new
+AnswerOpens ask old new (Ok (Writable c)) = OpensNone old new
+AnswerOpens ask old new (Ok Woken) = OpensNone old new
+AnswerOpens ask old new (Ok Over) = OpensNone old new
+AnswerOpens ask old new (Err e) = OpensNone old new
 
 -- it says that all is over
 abbrev pub says_over : {E : Type 0} → Result Hint E → Bool
@@ -68,22 +68,22 @@ pub record HasArrivedSince (old new : Arrived) : Type 0 where
   pub ended : old.ended ≡ true → new ≡ old
 
 -- the same, where it is told; what is told at one time is told at each
-abbrev pub ArrivesOn : Option Arrived → Option Arrived → Option (List ℕ) → Type 0
-ArrivesOn None None left = Unit {0}
-ArrivesOn (Some old) (Some new) left = HasArrivedSince old new × IfSome left (λ bytes. IsFrontOf bytes new)
-ArrivesOn None (Some new) left = ⊥
-ArrivesOn (Some old) None left = ⊥
+abbrev pub MoreArrives : Option Arrived → Option Arrived → Option (List ℕ) → Type 0
+MoreArrives None None left = Unit {0}
+MoreArrives (Some old) (Some new) left = HasArrivedSince old new × IfSome left (λ bytes. IsFrontOf bytes new)
+MoreArrives None (Some new) left = ⊥
+MoreArrives (Some old) None left = ⊥
 
 -- Links were asked what is next, and gave this answer. No byte is read or written meanwhile, but some may arrive.
 pub record AnswersAsk {E : Type 0} (ask : Ask) (old new : LinksState) (result : Result Hint E) : Type 0 where
   pub listens : new.listens ≡ old.listens
-  pub opens : OpensSo ask old new result
+  pub opens : AnswerOpens ask old new result
   pub over : new.over ≡ (old.over || says_over result)
   pub none_open : result ≡ Ok Over → (x : ℕ) → old.is_open x ≡ false
   pub rests : NotesItsPlace ask old.tape old.rests new.rests
   pub lengths : new.lengths ≡ old.lengths
   pub left : (x : ℕ) → new.left x ≡ old.left x
-  pub arrived : (x : ℕ) → ArrivesOn (old.arrived x) (new.arrived x) (new.left x)
+  pub arrived : (x : ℕ) → MoreArrives (old.arrived x) (new.arrived x) (new.left x)
   pub faults : (x : ℕ) → new.faults x ≡ old.faults x
   pub later : old.net_faults ≤ new.net_faults
   pub failed : IsErr result → Rose old.net_faults new.net_faults

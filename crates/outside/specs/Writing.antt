@@ -17,7 +17,7 @@ marks_of_write c bytes NotYet = []
 marks_of_write c bytes NoMemory = []
 
 -- A write on connection c, to which these bytes were offered: it takes some off their front, and never ends.
-pub record WritesOn (c : ℕ) (bytes : List ℕ) (old new : LinksState) (taken : Taken) : Type 0 where
+pub record WritesToConnection (c : ℕ) (bytes : List ℕ) (old new : LinksState) (taken : Taken) : Type 0 where
   pub others : ChangesOnly c old new
   pub still_open : new.is_open c ≡ old.is_open c
   pub tape : new.tape ≡ told_with old.tape (marks_of_write c bytes taken)

@@ -4,7 +4,7 @@ ghost use Rattle.std.specs.Prelude.{◌≡◌, ◌<◌, true, length};
 ghost use Rattle.outside.specs.LinksState.{LinksState};
 ghost use Rattle.outside.specs.Asking.{AnswersAsk};
 ghost use Rattle.outside.specs.Reading.{Reads};
-ghost use Rattle.outside.specs.Writing.{WritesOn};
+ghost use Rattle.outside.specs.Writing.{WritesToConnection};
 ghost use Rattle.outside.specs.Closing.{Closes};
 
 use crate::answers::{Ask, Hint, Taken};
@@ -49,7 +49,7 @@ pub trait Links {
     fn write(&mut self, c: u32, bytes: &[u8]) -> Taken
         requires open_still { (state self.old).is_open c ≡ true }
         requires some { 0 < length bytes.now }
-        ensures writes { WritesOn c bytes.now (state self.old) (state self.new) result }
+        ensures writes { WritesToConnection c bytes.now (state self.old) (state self.new) result }
         ensures same_plan { plan self.new ≡ plan self.old };
 
     /// Closes an open connection. It can't fail.

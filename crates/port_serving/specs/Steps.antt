@@ -49,7 +49,7 @@ EndsOpening faults.NoMemory before now name = HoldsInFile before now name []
 EndsOpening _ before now name = ⊥
 
 -- links listen, the line that tells so was written, and none came back
-pub record ListensHere (before now : Option (List PastLinks)) (listening : Listening) (taken_before taken : Option (List ℕ)) (links : LinksState) : Type 0 where
+pub record StartsListening (before now : Option (List PastLinks)) (listening : Listening) (taken_before taken : Option (List ℕ)) (links : LinksState) : Type 0 where
   pub starts : StartListening before listening links
   pub same : now ≡ before
   pub line : taken ≡ told_more taken_before (listening_line listening.port)

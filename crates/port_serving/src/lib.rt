@@ -2,7 +2,7 @@
 //! connections are awaited, and at the end what each ended by and how many calls there were. It knows no words, IDL or statuses, and decides nothing of calls.
 //!
 //! ```rust
-//! let place = ServingPlace { port: 9090, accept: 100, journal: "calls.txt" };
+//! let place = ServedPort { port: 9090, accept: 100, journal: "calls.txt" };
 //! match serve_port(rt, alloc, &mut files, &mut output, &mut binder, &desk, handlers, &gate, 2, limits, &place) {
 //!     Ok(()) => assert!(rt; output.bytes().starts_with(b"listening 127.0.0.1:9090\n")),
 //!     Err(fault) => println!(rt; "{fault}")?,
@@ -20,5 +20,5 @@ mod place;
 mod serving;
 
 pub use fault::PortFault;
-pub use place::ServingPlace;
+pub use place::ServedPort;
 pub use serving::serve_port;

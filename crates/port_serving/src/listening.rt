@@ -2,7 +2,7 @@
 
 ghost use Rattle.std.specs.Prelude.{◌≡◌, ◌≢◌, ◌≤◌, Err, MatchResult};
 ghost use Rattle.outside.specs.Cause.{Rose};
-ghost use Rattle.port_serving.specs.Steps.{ListensHere, EndsListening};
+ghost use Rattle.port_serving.specs.Steps.{StartsListening, EndsListening};
 
 use crate::fault::PortFault;
 use outside::{Binder, Sink};
@@ -18,7 +18,7 @@ pub(crate) fn listen<K: Sink, B: Binder>(
     accept: u32,
 ) -> Result<B::L, PortFault>
     ensures listening { MatchResult result
-        (λ links. ListensHere (B.past binder.old) (B.past binder.new) (record { port = port; accept = accept }) (K.taken output.old) (K.taken output.new) (B.L.state links))
+        (λ links. StartsListening (B.past binder.old) (B.past binder.new) (record { port = port; accept = accept }) (K.taken output.old) (K.taken output.new) (B.L.state links))
         (λ fault. EndsListening fault (B.past binder.old) (B.past binder.new) (record { port = port; accept = accept }) (K.taken output.old) (K.taken output.new)) }
     ensures binder_later { B.faults binder.old ≤ B.faults binder.new }
     ensures output_later { K.faults output.old ≤ K.faults output.new }

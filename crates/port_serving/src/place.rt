@@ -2,7 +2,7 @@
 
 /// Where connections are served, and where their calls are written.
 #[derive(Drop)]
-pub struct ServingPlace<'a> {
+pub struct ServedPort<'a> {
     /// The port.
     pub port: u16,
     /// How many connections are accepted at most.

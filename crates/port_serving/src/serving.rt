@@ -16,7 +16,7 @@ ghost use Rattle.port_serving.specs.Answered.{MeansServedPort};
 use crate::fault::PortFault;
 use crate::file_journal::{FileJournal, close_journal, open_journal};
 use crate::listening::listen;
-use crate::place::ServingPlace;
+use crate::place::ServedPort;
 use call_rules::{Desk, Handler};
 use conn_table::{Ends, Limits, Outcome};
 use host_loop::{Served, serve};
@@ -64,7 +64,7 @@ pub fn serve_port<
     gate: &G,
     workers: u32,
     limits: Limits,
-    place: &ServingPlace<'_>,
+    place: &ServedPort<'_>,
 ) -> Result<(), PortFault>
     requires workers { workers ≤ 8 }
     requires some { 1 ≤ limits.max_frame }
@@ -127,7 +127,7 @@ fn serve_links<
     gate: &G,
     workers: u32,
     limits: Limits,
-    place: &ServingPlace<'_>,
+    place: &ServedPort<'_>,
 ) -> PortRun
     requires workers { workers ≤ 8 }
     requires some { 1 ≤ limits.max_frame }

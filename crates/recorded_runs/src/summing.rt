@@ -91,7 +91,7 @@ fn summary(
     ensures { IfOk result (λ text. text.items ≡ work_text work.seed work.size) }
 {
     let counted = Summary {
-        connections: count_of(ends),
+        connections: summed_calls(ends),
         frames: u64::from(work.size),
         calls: entries.len() as u64,
         bytes_in: bytes_read(tape),
@@ -103,7 +103,7 @@ fn summary(
 }
 
 /// How many connections have ended, which are few.
-fn count_of(ends: &[EndCause]) -> u32
+fn summed_calls(ends: &[EndCause]) -> u32
     requires { length ends.now ≤ 8 }
     ensures { result ≡ length ends.now }
 {

@@ -4,7 +4,7 @@ use Rattle.std.proofs.lemmas.Bool.{ltb-true, leb-true, cases_eq}
 use Rattle.std.proofs.lemmas.List.{append-nil, take-append-drop, drop_all}
 use Rattle.std.proofs.lemmas.Grind.{flat_map-append}
 use Rattle.outside.specs.LinksState.{Arrived}
-use Rattle.outside.specs.Asking.{IsFrontOf, HasArrivedSince, ArrivesOn}
+use Rattle.outside.specs.Asking.{IsFrontOf, HasArrivedSince, MoreArrives}
 use Rattle.script_model.specs.Arrival.{bytes_of_pieces}
 use Rattle.script_model.specs.Playing.{InputFinish, finishes, faults, or_else}
 use Rattle.script_links.specs.ServedScript.{PlainLink, ServedScript, link_at, with_link}
@@ -86,7 +86,7 @@ arrival_stage link = go (nat_lt link.arrived (length link.pieces))
     go false = refl
 
 -- where nothing is changed
-pub arrives_same : (links : List PlainLink) (x : ℕ) → ArrivesOn (Some (arrived_of (link_at links x))) (Some (arrived_of (link_at links x))) (Some (bytes_of_pieces (link_at links x).pieces))
+pub arrives_same : (links : List PlainLink) (x : ℕ) → MoreArrives (Some (arrived_of (link_at links x))) (Some (arrived_of (link_at links x))) (Some (bytes_of_pieces (link_at links x).pieces))
 arrives_same links x = (nothing_since (arrived_of (link_at links x)), front_of (link_at links x))
 
 -- where one connection is changed: what is kept of it, and what arrives
@@ -100,7 +100,7 @@ module _ (links : List PlainLink) (c : ℕ) (change : PlainLink → PlainLink) (
       go (inr other) = ap f (other_same c x change links other)
 
   pub arrives_at : ((link : PlainLink) → HasArrivedSince (arrived_of link) (arrived_of (change link))) → (x : ℕ)
-      → ArrivesOn (Some (arrived_of (link_at links x))) (Some (arrived_of (link_at (with_link c change links) x))) (Some (bytes_of_pieces (link_at (with_link c change links) x).pieces))
+      → MoreArrives (Some (arrived_of (link_at links x))) (Some (arrived_of (link_at (with_link c change links) x))) (Some (bytes_of_pieces (link_at (with_link c change links) x).pieces))
   arrives_at since x = go (cases_eq x c)
     where
       go : (x ≡ c) ⊎ (x ≡ c → ⊥)

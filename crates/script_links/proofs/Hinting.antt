@@ -11,7 +11,7 @@ use Rattle.outside.specs.declared.answers.Hint.{Hint}
 use Rattle.outside.specs.declared.answers.Hint.TheVariants.{Opened, Readable, Writable, Woken, Over}
 use Rattle.outside.specs.LinksState.{LinksState}
 use Rattle.outside.specs.Told.{told_with}
-use Rattle.outside.specs.Asking.{OpensNext, OpensNone, OpensSo, says_over, place_asked, NotesItsPlace, HasArrivedSince, ArrivesOn, AnswersAsk}
+use Rattle.outside.specs.Asking.{OpensNext, OpensNone, AnswerOpens, says_over, place_asked, NotesItsPlace, HasArrivedSince, MoreArrives, AnswersAsk}
 use Rattle.script_model.specs.Arrival.{bytes_of_pieces}
 use Rattle.script_model.specs.Playing.{InputFinish, finishes, faults}
 use Rattle.script_links.specs.declared.link.LinkStage.{LinkStage}
@@ -96,10 +96,10 @@ module _ (ask : Ask) (first s : ServedScript) (passed : IsPassedOver ask first s
   }
 
   -- what is answered where connections arrive so, and nothing else happens but what is opened
-  answers_by : (t : ServedScript) (hint : Hint) → OpensSo {E = Failed} ask (links_told first) (links_told t) (Ok hint) → t.over ≡ (first.over || says_over {E = Failed} (Ok hint))
+  answers_by : (t : ServedScript) (hint : Hint) → AnswerOpens {E = Failed} ask (links_told first) (links_told t) (Ok hint) → t.over ≡ (first.over || says_over {E = Failed} (Ok hint))
       → (SaysOver hint → (x : ℕ) → is_open_at first.links x ≡ false) → t.rests ≡ s.rests → t.lengths ≡ s.lengths
       → ((x : ℕ) → (link_at t.links x).pieces ≡ (link_at s.links x).pieces) → ((x : ℕ) → (link_at t.links x).faults ≡ (link_at s.links x).faults)
-      → ((x : ℕ) → ArrivesOn (Some (arrived_of (link_at s.links x))) (Some (arrived_of (link_at t.links x))) (Some (bytes_of_pieces (link_at t.links x).pieces)))
+      → ((x : ℕ) → MoreArrives (Some (arrived_of (link_at s.links x))) (Some (arrived_of (link_at t.links x))) (Some (bytes_of_pieces (link_at t.links x).pieces)))
       → AnswersAsk {E = Failed} ask (links_told first) (links_told t) (Ok hint)
   answers_by t hint opens over closed rests lengths pieces counts arrives = record {
     listens = refl;
@@ -110,7 +110,7 @@ module _ (ask : Ask) (first s : ServedScript) (passed : IsPassedOver ask first s
     lengths = ap Some (lengths ∙ passed.lengths);
     left = λ x. ap (λ xs. Some (bytes_of_pieces xs)) (pieces x ∙ ap (λ (links : List PlainLink). (link_at links x).pieces) passed.links);
     arrived = λ x.
-        subst (λ (links : List PlainLink). ArrivesOn (Some (arrived_of (link_at links x))) (Some (arrived_of (link_at t.links x))) (Some (bytes_of_pieces (link_at t.links x).pieces)))
+        subst (λ (links : List PlainLink). MoreArrives (Some (arrived_of (link_at links x))) (Some (arrived_of (link_at t.links x))) (Some (bytes_of_pieces (link_at t.links x).pieces)))
         passed.links (arrives x);
     faults = λ x. counts x ∙ ap (λ (links : List PlainLink). (link_at links x).faults) passed.links;
     later = omega arith;
@@ -118,12 +118,12 @@ module _ (ask : Ask) (first s : ServedScript) (passed : IsPassedOver ask first s
   }
 
   -- where no connection is changed
-  answers_still : (t : ServedScript) (hint : Hint) → OpensSo {E = Failed} ask (links_told first) (links_told t) (Ok hint) → t.over ≡ (first.over || says_over {E = Failed} (Ok hint))
+  answers_still : (t : ServedScript) (hint : Hint) → AnswerOpens {E = Failed} ask (links_told first) (links_told t) (Ok hint) → t.over ≡ (first.over || says_over {E = Failed} (Ok hint))
       → (SaysOver hint → (x : ℕ) → is_open_at first.links x ≡ false) → t.links ≡ s.links → t.rests ≡ s.rests → t.lengths ≡ s.lengths
       → AnswersAsk {E = Failed} ask (links_told first) (links_told t) (Ok hint)
   answers_still t hint opens over closed links rests lengths =
       answers_by t hint opens over closed rests lengths (λ x. ap (λ (l : List PlainLink). (link_at l x).pieces) links) (λ x. ap (λ (l : List PlainLink). (link_at l x).faults) links)
-      (λ x. subst (λ (l : List PlainLink). ArrivesOn (Some (arrived_of (link_at s.links x))) (Some (arrived_of (link_at l x))) (Some (bytes_of_pieces (link_at l x).pieces))) (sym links) (arrives_same s.links x))
+      (λ x. subst (λ (l : List PlainLink). MoreArrives (Some (arrived_of (link_at s.links x))) (Some (arrived_of (link_at l x))) (Some (bytes_of_pieces (link_at l x).pieces))) (sym links) (arrives_same s.links x))
 
   -- not over: nothing is said of it
   never_over : (hint : Hint) → says_over {E = Failed} (Ok hint) ≡ false → SaysOver hint → (x : ℕ) → is_open_at first.links x ≡ false

@@ -6,7 +6,7 @@ pub mod Telling
 pub mod Reading
 pub mod Arriving
 pub mod Hinting
-pub mod ReadsSo
+pub mod ReadsGoOn
 pub mod Beginning
 pub mod Marking
 pub mod Pieces

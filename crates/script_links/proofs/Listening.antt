@@ -6,9 +6,9 @@ use Rattle.outside.specs.declared.answers.Hint.{Hint}
 use Rattle.outside.specs.declared.answers.Hint.TheVariants.{Opened, Readable, Writable, Woken, Over}
 use Rattle.outside.specs.declared.answers.Taken.{Taken}
 use Rattle.outside.specs.LinksState.{Listening, LinksState, ChangesOnly}
-use Rattle.outside.specs.Asking.{OpensNext, OpensSo, AnswersAsk}
+use Rattle.outside.specs.Asking.{OpensNext, AnswerOpens, AnswersAsk}
 use Rattle.outside.specs.Reading.{Reads}
-use Rattle.outside.specs.Writing.{WritesOn}
+use Rattle.outside.specs.Writing.{WritesToConnection}
 use Rattle.outside.specs.Closing.{Closes}
 use Rattle.outside.specs.Opening.{AreFreshLinks}
 use Rattle.outside.specs.Binding.{StartListening}
@@ -46,7 +46,7 @@ module _ (l : Listening) (s t : ServedScript) where
     faults = r.faults;
   }
 
-  pub writes : (c : ℕ) (bytes : List ℕ) (taken : Taken) → WritesOn c bytes (links_told s) (links_told t) taken → WritesOn c bytes (told_listening l s) (told_listening l t) taken
+  pub writes : (c : ℕ) (bytes : List ℕ) (taken : Taken) → WritesToConnection c bytes (links_told s) (links_told t) taken → WritesToConnection c bytes (told_listening l s) (told_listening l t) taken
   writes c bytes taken w = record {
     others = changes c w.others;
     still_open = w.still_open;
@@ -87,7 +87,7 @@ module _ (l : Listening) (s t : ServedScript) where
           tape = o.tape;
         }
 
-    opens : (result : Result Hint Failed) → OpensSo ask (links_told s) (links_told t) result → OpensSo ask (told_listening l s) (told_listening l t) result
+    opens : (result : Result Hint Failed) → AnswerOpens ask (links_told s) (links_told t) result → AnswerOpens ask (told_listening l s) (told_listening l t) result
     opens (Ok (Opened c)) o = opens_next c o
     opens (Ok (Readable c)) o = record { opened = o.opened; is_open = o.is_open; tape = o.tape }
     opens (Ok (Writable c)) o = record { opened = o.opened; is_open = o.is_open; tape = o.tape }

@@ -5,8 +5,8 @@ use Rattle.outside.specs.declared.marks.Mark.TheVariants.{Opened as OpenedMark}
 use Rattle.outside.specs.declared.answers.Ask.{Ask}
 use Rattle.outside.specs.declared.answers.Hint.TheVariants.{Opened, Readable, Over}
 use Rattle.script_model.specs.Playing.{finishes, faults}
-use Rattle.script_links.specs.declared.link.LinkFinish.{LinkFinish}
-use Rattle.script_links.specs.declared.link.LinkFinish.TheVariants.{Ends as EndsInput, Fails as FailsInput}
+use Rattle.script_links.specs.declared.link.LinkInputEnd.{LinkInputEnd}
+use Rattle.script_links.specs.declared.link.LinkInputEnd.TheVariants.{Ends as EndsInput, Fails as FailsInput}
 use Rattle.script_links.specs.declared.step.Step.TheVariants.{Opens, Arrives, Ends, Fails, Rests}
 use Rattle.script_links.specs.declared.step.Came.{Came}
 use Rattle.script_links.specs.declared.step.Came.TheVariants.{Gives, Waits, GoesOn}
@@ -53,11 +53,11 @@ module _ (ask : Ask) (s : ServedScript) where
     pub arrive_gives : is_open_at s.links c ≡ true → one_step ask (Arrives c) s ≡ record { came = Gives (Readable c); left = with_changed c with_arrival }
     arrive_gives here = ap (change_so with_arrival) here
 
-    pub finish_passes : (finish : LinkFinish) → is_open_at s.links c ≡ false → one_step ask (step_of_finish c finish) s ≡ record { came = GoesOn; left = passed }
+    pub finish_passes : (finish : LinkInputEnd) → is_open_at s.links c ≡ false → one_step ask (step_of_finish c finish) s ≡ record { came = GoesOn; left = passed }
     finish_passes EndsInput none = ap (change_so (with_finish finishes)) none
     finish_passes FailsInput none = ap (change_so (with_finish faults)) none
 
-    pub finish_gives : (finish : LinkFinish) → is_open_at s.links c ≡ true
+    pub finish_gives : (finish : LinkInputEnd) → is_open_at s.links c ≡ true
         → one_step ask (step_of_finish c finish) s ≡ record { came = Gives (Readable c); left = with_changed c (with_finish (plain_link_finish finish)) }
     finish_gives EndsInput here = ap (change_so (with_finish finishes)) here
     finish_gives FailsInput here = ap (change_so (with_finish faults)) here

@@ -10,7 +10,7 @@ use Rattle.outside.specs.declared.answers.Taken.{Taken}
 use Rattle.outside.specs.declared.answers.Taken.TheVariants.{Bytes, End, NotYet, Failed, NoMemory}
 use Rattle.outside.specs.LinksState.{LinksState, ChangesOnly}
 use Rattle.outside.specs.Faults.{CountsItsFault, MovesWithin}
-use Rattle.outside.specs.Writing.{WritesOn}
+use Rattle.outside.specs.Writing.{WritesToConnection}
 use Rattle.outside.specs.Closing.{Closes}
 use Rattle.script_model.specs.Arrival.{bytes_of_pieces}
 use Rattle.script_model.specs.ScriptLines.{PlanRule, takes_most, blocks, fails}
@@ -102,7 +102,7 @@ module _ (c : ℕ) (bytes : List ℕ) (s : ServedScript) (here : is_open_at s.li
   own : (change : PlainLink → PlainLink) → link_at (with_link c change s.links) c ≡ change link
   own change = own_changed c change s.links (open_is_there s.links c here)
 
-  pub writes : (taken : Taken) → MayComeTo (taken_by_rules (length bytes) link.rules) taken → WritesOn c bytes (links_told s) (links_told (left_by_write c bytes taken s)) taken
+  pub writes : (taken : Taken) → MayComeTo (taken_by_rules (length bytes) link.rules) taken → WritesToConnection c bytes (links_told s) (links_told (left_by_write c bytes taken s)) taken
   writes (Bytes count) comes =
       let mine : link_at (with_link c (with_written (take count bytes)) s.links) c ≡ with_written (take count bytes) link = own (with_written (take count bytes)) in
       record {

@@ -4,8 +4,8 @@ use Rattle.std.specs.List.{list_all}
 use Rattle.std.specs.Vec.{vec_capacity}
 use Rattle.script_model.specs.Playing.{InputFinish, finishes, faults}
 use Rattle.script_text.specs.Plans.{plain_rules}
-use Rattle.script_links.specs.declared.link.LinkFinish.{LinkFinish}
-use Rattle.script_links.specs.declared.link.LinkFinish.TheVariants.{Ends, Fails}
+use Rattle.script_links.specs.declared.link.LinkInputEnd.{LinkInputEnd}
+use Rattle.script_links.specs.declared.link.LinkInputEnd.TheVariants.{Ends, Fails}
 use Rattle.script_links.specs.declared.link.ScriptConn.{ScriptConn}
 use Rattle.script_links.specs.declared.serving.ScriptServing.{ScriptServing}
 use Rattle.script_links.specs.ServedScript.{PlainLink, ServedScript, with_link, marks_owed, is_sound_link}
@@ -13,7 +13,7 @@ use Rattle.script_links.specs.Plain.{with_end}
 use Rattle.script_links.specs.Steps.{is_rest}
 
 -- what comes behind all pieces
-abbrev pub plain_link_finish : LinkFinish → InputFinish
+abbrev pub plain_link_finish : LinkInputEnd → InputFinish
 plain_link_finish Ends = finishes
 plain_link_finish Fails = faults
 

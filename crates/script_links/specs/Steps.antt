@@ -1,8 +1,8 @@
 -- What the lines of a script are to its links, once their bytes are handed to the connections.
 use Rattle.std.specs.Prelude.{◌≡◌, ℕ, List, Bool, true, false}
 use Rattle.script_model.specs.ScriptLines.{PlanLine, opening, piece, input_end, input_fault, resting, turn_of_conn, turn_of_worker, turn_of_outcome}
-use Rattle.script_links.specs.declared.link.LinkFinish.{LinkFinish}
-use Rattle.script_links.specs.declared.link.LinkFinish.TheVariants.{Ends as EndsInput, Fails as FailsInput}
+use Rattle.script_links.specs.declared.link.LinkInputEnd.{LinkInputEnd}
+use Rattle.script_links.specs.declared.link.LinkInputEnd.TheVariants.{Ends as EndsInput, Fails as FailsInput}
 use Rattle.script_links.specs.declared.step.Step.{Step}
 use Rattle.script_links.specs.declared.step.Step.TheVariants.{Opens, Arrives, Ends, Fails, Rests, Passes}
 
@@ -23,6 +23,6 @@ is_rest Rests = true
 is_rest _ = false
 
 -- the step that tells what comes behind all pieces of a connection
-abbrev pub step_of_finish : ℕ → LinkFinish → Step
+abbrev pub step_of_finish : ℕ → LinkInputEnd → Step
 step_of_finish c EndsInput = Ends c
 step_of_finish c FailsInput = Fails c

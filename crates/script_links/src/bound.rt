@@ -3,7 +3,7 @@
 ghost use Rattle.std.specs.Prelude.{◌≡◌, ◌<◌, true, length};
 ghost use Rattle.outside.specs.Asking.{AnswersAsk};
 ghost use Rattle.outside.specs.Reading.{Reads};
-ghost use Rattle.outside.specs.Writing.{WritesOn};
+ghost use Rattle.outside.specs.Writing.{WritesToConnection};
 ghost use Rattle.outside.specs.Closing.{Closes};
 ghost use Rattle.script_links.specs.Listens.{listening_told, plan_of_listening};
 ghost use Rattle.script_links.specs.Followed.{LinksPlan};
@@ -71,7 +71,7 @@ impl Links for BoundLinks {
     fn write(&mut self, c: u32, bytes: &[u8]) -> Taken
         requires open_still { (listening_told self.old).is_open c ≡ true }
         requires some { 0 < length bytes.now }
-        ensures writes { WritesOn c bytes.now (listening_told self.old) (listening_told self.new) result }
+        ensures writes { WritesToConnection c bytes.now (listening_told self.old) (listening_told self.new) result }
         ensures same_plan { plan_of_listening self.new ≡ plan_of_listening self.old }
     {
         self.links.write(c, bytes)

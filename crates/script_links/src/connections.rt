@@ -6,7 +6,7 @@ ghost use Rattle.script_links.specs.ServedScript.{link_at, with_link, is_open_at
 ghost use Rattle.script_links.specs.Plain.{oldest_of, with_arrival, with_finish, with_opening, with_closing, with_end, with_fault, with_bytes_read, with_rule_used, with_ruled_fault, with_written, taken_by_read, taken_by_rules, IsCopyOfFront, has_unread, is_open_link};
 ghost use Rattle.script_links.specs.Kept.{plain_link_finish, plain_link, plain_links};
 
-use crate::link::{LinkFinish, LinkStage, ScriptConn};
+use crate::link::{LinkInputEnd, LinkStage, ScriptConn};
 use outside::Taken;
 use std::alloc::{AllocError, Global};
 
@@ -138,7 +138,7 @@ impl Connections {
     }
 
     /// This comes behind all pieces of connection `c`.
-    pub fn finish(&mut self, c: usize, finish: LinkFinish)
+    pub fn finish(&mut self, c: usize, finish: LinkInputEnd)
         requires { c < length self.old.items.items }
         ensures { plain_links self.new.items.items ≡ with_link c (with_finish (plain_link_finish finish)) (plain_links self.old.items.items) }
     {

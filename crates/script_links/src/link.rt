@@ -27,7 +27,7 @@ pub enum LinkStage {
 
 /// What comes behind all pieces of a connection.
 #[derive(Clone, Copy)]
-pub enum LinkFinish {
+pub enum LinkInputEnd {
     /// Its input ends.
     Ends,
     /// A read fails.
@@ -48,7 +48,7 @@ pub struct ScriptConn {
     /// How many of those that weren't read whole have arrived.
     pub arrived: usize,
     /// What comes behind them, once its line was done.
-    pub finish: Option<LinkFinish>,
+    pub finish: Option<LinkInputEnd>,
     /// All rules, in order.
     pub rules: Vec<WriteRule>,
     /// How many of them are used up.
@@ -126,8 +126,8 @@ impl ScriptConn {
         }
         match self.finish {
             None => Taken::NotYet,
-            Some(LinkFinish::Ends) => Taken::End,
-            Some(LinkFinish::Fails) => Taken::Failed,
+            Some(LinkInputEnd::Ends) => Taken::End,
+            Some(LinkInputEnd::Fails) => Taken::Failed,
         }
     }
 
@@ -167,7 +167,7 @@ impl ScriptConn {
     }
 
     /// This comes behind all pieces, where nothing is known to.
-    pub fn finish(&mut self, finish: LinkFinish)
+    pub fn finish(&mut self, finish: LinkInputEnd)
         ensures { plain_link self.new ≡ with_finish (plain_link_finish finish) (plain_link self.old) }
     {
         if self.finish.is_none() {

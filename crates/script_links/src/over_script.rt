@@ -3,7 +3,7 @@
 ghost use Rattle.std.specs.Prelude.{◌≡◌, ◌<◌, true, length, Ok, IfOk};
 ghost use Rattle.outside.specs.Asking.{AnswersAsk};
 ghost use Rattle.outside.specs.Reading.{Reads, bytes_read};
-ghost use Rattle.outside.specs.Writing.{WritesOn};
+ghost use Rattle.outside.specs.Writing.{WritesToConnection};
 ghost use Rattle.outside.specs.Closing.{Closes};
 ghost use Rattle.script_links.specs.ServedScript.{link_at};
 ghost use Rattle.script_links.specs.Plain.{next_of, hint_of, left_by_read, left_by_write, left_by_close, taken_by_read, taken_by_rules, MayComeTo};
@@ -153,7 +153,7 @@ impl Links for ScriptLinks {
     fn write(&mut self, c: u32, bytes: &[u8]) -> Taken
         requires open_still { (links_told self.old).is_open c ≡ true }
         requires some { 0 < length bytes.now }
-        ensures writes { WritesOn c bytes.now (links_told self.old) (links_told self.new) result }
+        ensures writes { WritesToConnection c bytes.now (links_told self.old) (links_told self.new) result }
         ensures same_plan { plan_of_links self.new ≡ plan_of_links self.old }
         // It goes by the next rule.
         ensures comes { MayComeTo (taken_by_rules (length bytes.now) (link_at self.old.links c).rules) result }

@@ -7,7 +7,7 @@ ghost use Rattle.script_links.specs.Kept.{served_of, IsKeptServing};
 ghost use Rattle.script_links.specs.Steps.{step_of_finish};
 
 use crate::connections::Connections;
-use crate::link::LinkFinish;
+use crate::link::LinkInputEnd;
 use crate::mark_log::MarkLog;
 use crate::step::{Came, Step};
 use outside::{Ask, Hint, MarkAt, RestPlace};
@@ -102,8 +102,8 @@ impl ScriptServing {
         match step {
             Step::Opens => self.open(ask),
             Step::Arrives(c) => self.arrive(ask, c),
-            Step::Ends(c) => self.finish(ask, c, LinkFinish::Ends),
-            Step::Fails(c) => self.finish(ask, c, LinkFinish::Fails),
+            Step::Ends(c) => self.finish(ask, c, LinkInputEnd::Ends),
+            Step::Fails(c) => self.finish(ask, c, LinkInputEnd::Fails),
             Step::Rests => self.rest(ask),
             Step::Passes => self.pass(ask),
         }
@@ -147,7 +147,7 @@ impl ScriptServing {
     }
 
     /// A step that tells what comes behind all pieces of a connection, where it is open.
-    fn finish(&mut self, ask: Ask, c: u32, finish: LinkFinish) -> Came
+    fn finish(&mut self, ask: Ask, c: u32, finish: LinkInputEnd) -> Came
         requires kept { IsKeptServing self.old }
         requires first { first_of (served_of self.old).steps ≡ Some (step_of_finish c finish) }
         ensures next { one_step ask (step_of_finish c finish) (served_of self.old) ≡ record { came = result; left = served_of self.new } }

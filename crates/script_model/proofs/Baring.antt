@@ -173,8 +173,8 @@ module _ {C A M : Type 0} where
             ∙ so_bare l cell.hall.closed (slice_get (cell.loop.conns c).payloads (cell.loop.conns c).submitted)
 
     -- an outcome is collected
-    abbrev collected_so : JobOutcome → List JobOutcome → LoopConn → Cell C A M
-    collected_so o later conn =
+    abbrev collected_reply : JobOutcome → List JobOutcome → LoopConn → Cell C A M
+    collected_reply o later conn =
         record {
           loop = changed (bare_loop cell.loop) o.key.c (conn_settled conn.cause o.settled conn) (conn_marks_settled conn.cause o.key.c o.settled);
           hall = record cell.hall { outcomes = later; faults = 0 };
@@ -186,7 +186,7 @@ module _ {C A M : Type 0} where
     collects_bare (o ∷ later) = go (nat_lt o.key.c cell.loop.count) refl
       where
         go : (b : Bool) → nat_lt o.key.c cell.loop.count ≡ b
-            → when b (Some (collected_so o later (opened_alone cell.loop.count cell.loop.conns o.key.c)))
+            → when b (Some (collected_reply o later (opened_alone cell.loop.count cell.loop.conns o.key.c)))
             ≡ option_map bare (when b (Some (record cell {
               loop = changed cell.loop o.key.c (conn_settled (cell.loop.conns o.key.c).cause o.settled (cell.loop.conns o.key.c)) (conn_marks_settled (cell.loop.conns o.key.c).cause o.key.c o.settled);
               hall = record cell.hall { outcomes = later };
@@ -195,8 +195,8 @@ module _ {C A M : Type 0} where
         go true e =
             let l : o.key.c < cell.loop.count = ltb-true o.key.c cell.loop.count e in
             let conn : LoopConn = cell.loop.conns o.key.c in
-            ap (λ (x : LoopConn). Some (collected_so o later x)) (opened_is cell.loop.count o.key.c cell.loop.conns l)
-            ∙ ap (λ (loop : Loop). Some (record (collected_so o later conn) { loop = loop }))
+            ap (λ (x : LoopConn). Some (collected_reply o later x)) (opened_is cell.loop.count o.key.c cell.loop.conns l)
+            ∙ ap (λ (loop : Loop). Some (record (collected_reply o later conn) { loop = loop }))
             (bare_changed cell.loop o.key.c (conn_settled conn.cause o.settled conn) (conn_marks_settled conn.cause o.key.c o.settled) l)
 
     takes_bare : (w : ℕ) (worker : WorkerState A) (jobs : List Job) → take_plain (bare cell) w worker jobs ≡ option_map bare (take_plain cell w worker jobs)

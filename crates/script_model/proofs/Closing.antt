@@ -7,7 +7,7 @@ use Rattle.outside.specs.declared.outcomes.EnvelopeFault.{EnvelopeFault}
 use Rattle.outside.specs.declared.outcomes.EnvelopeFault.TheVariants.{Short}
 use Rattle.host_model.specs.Frames.{Frames, frame, IsPayload}
 use Rattle.host_model.specs.DeskRules.{DeskRules, DeskDecision, Close, Silent, Reply, Invoke}
-use Rattle.host_model.specs.Conversation.{but_last, AllGoOn, GoesOn, IsLast, LastCloses}
+use Rattle.host_model.specs.Conversation.{but_last, AllKeepConnection, KeepsConnection, IsLast, LastCloses}
 use Rattle.host_model.proofs.Lists.{cons_parts, but_last-push, all-append}
 
 -- frames with frames behind them
@@ -39,33 +39,33 @@ fault_in (Invoke call) = Short
 
 module _ {C A : Type 0} (d : DeskRules C A) where
   -- no payload at the front of those that all go on ends the connection
-  pub no_front_closes : (ps more : List (List ℕ)) (fault : EnvelopeFault) → AllGoOn d (ps ++ more) → LastCloses d ps fault → ⊥
+  pub no_front_closes : (ps more : List (List ℕ)) (fault : EnvelopeFault) → AllKeepConnection d (ps ++ more) → LastCloses d ps fault → ⊥
   no_front_closes ps more fault on c =
-      subst GoesOn c.3
-      (all_last (λ p. GoesOn (d.decide p)) c.0 c.1 (subst (AllGoOn d) c.2 (all_front (λ p. GoesOn (d.decide p)) ps more on)))
+      subst KeepsConnection c.3
+      (all_last (λ p. KeepsConnection (d.decide p)) c.0 c.1 (subst (AllKeepConnection d) c.2 (all_front (λ p. KeepsConnection (d.decide p)) ps more on)))
 
-  goes_not : (p : List ℕ) (fault : EnvelopeFault) → d.decide p ≡ Close fault → GoesOn (d.decide p) → ⊥
-  goes_not p fault e on = subst GoesOn e on
+  goes_not : (p : List ℕ) (fault : EnvelopeFault) → d.decide p ≡ Close fault → KeepsConnection (d.decide p) → ⊥
+  goes_not p fault e on = subst KeepsConnection e on
 
   -- the first payload of these that ends the connection
-  one_front : (before before' more more' : List (List ℕ)) (p p' : List ℕ) (fault fault' : EnvelopeFault) → AllGoOn d before → AllGoOn d before'
+  one_front : (before before' more more' : List (List ℕ)) (p p' : List ℕ) (fault fault' : EnvelopeFault) → AllKeepConnection d before → AllKeepConnection d before'
       → d.decide p ≡ Close fault → d.decide p' ≡ Close fault' → before ++ p ∷ more ≡ before' ++ p' ∷ more' → before ++ p ∷ [] ≡ before' ++ p' ∷ []
   one_front [] [] more more' p p' fault fault' on on' c c' e = ap (λ q. q ∷ []) (cons_parts p p' more more' e).0
   one_front [] (b ∷ bs) more more' p p' fault fault' on on' c c' e =
-      absurd (goes_not p fault c (subst (λ q. GoesOn (d.decide q)) (sym (cons_parts p b more (bs ++ p' ∷ more') e).0) on'.0))
+      absurd (goes_not p fault c (subst (λ q. KeepsConnection (d.decide q)) (sym (cons_parts p b more (bs ++ p' ∷ more') e).0) on'.0))
   one_front (b ∷ bs) [] more more' p p' fault fault' on on' c c' e =
-      absurd (goes_not p' fault' c' (subst (λ q. GoesOn (d.decide q)) (cons_parts b p' (bs ++ p ∷ more) more' e).0 on.0))
+      absurd (goes_not p' fault' c' (subst (λ q. KeepsConnection (d.decide q)) (cons_parts b p' (bs ++ p ∷ more) more' e).0 on.0))
   one_front (b ∷ bs) (b' ∷ bs') more more' p p' fault fault' on on' c c' e =
       let parts = cons_parts b b' (bs ++ p ∷ more) (bs' ++ p' ∷ more') e in
       let rest = one_front bs bs' more more' p p' fault fault' on.1 on'.1 c c' parts.1 in
       (λ i. parts.0 i ∷ rest i)
 
   -- two fronts of the same payloads, each of which ends the connection and none before it, are one
-  pub one_close : (ps ps' more more' : List (List ℕ)) (fault fault' : EnvelopeFault) → AllGoOn d (but_last ps) → AllGoOn d (but_last ps')
+  pub one_close : (ps ps' more more' : List (List ℕ)) (fault fault' : EnvelopeFault) → AllKeepConnection d (but_last ps) → AllKeepConnection d (but_last ps')
       → LastCloses d ps fault → LastCloses d ps' fault' → ps ++ more ≡ ps' ++ more' → ps ≡ ps'
   one_close ps ps' more more' fault fault' on on' c c' e =
-      let before : AllGoOn d c.0 = subst (AllGoOn d) (ap but_last c.2 ∙ but_last-push c.0 c.1) on in
-      let before' : AllGoOn d c'.0 = subst (AllGoOn d) (ap but_last c'.2 ∙ but_last-push c'.0 c'.1) on' in
+      let before : AllKeepConnection d c.0 = subst (AllKeepConnection d) (ap but_last c.2 ∙ but_last-push c.0 c.1) on in
+      let before' : AllKeepConnection d c'.0 = subst (AllKeepConnection d) (ap but_last c'.2 ∙ but_last-push c'.0 c'.1) on' in
       c.2
       ∙ one_front c.0 c'.0 more more' c.1 c'.1 fault fault' before before' c.3 c'.3
       (sym (append_assoc c.0 (c.1 ∷ []) more) ∙ ap (λ t. t ++ more) (sym c.2) ∙ e ∙ ap (λ t. t ++ more') c'.2 ∙ append_assoc c'.0 (c'.1 ∷ []) more')

@@ -17,12 +17,12 @@ use Rattle.host_model.proofs.Framing.{only_split}
 use Rattle.host_model.proofs.Lists.{append_parts, cons_parts, nil-cons}
 use Rattle.script_model.specs.Feeding.{Completes, TakesItsPart, piece_end}
 use Rattle.script_model.specs.Arrival.{Arrival}
-use Rattle.script_model.specs.Rehearsal.{IsRunOn, is_scripted}
+use Rattle.script_model.specs.Rehearsal.{IsRunOfArrivals, is_scripted}
 use Rattle.script_model.proofs.Marked.{kind_of, same_mark, same_read, same_written, read_of, wrote_of, read_append, read_first, all_own, own_filter}
 
 -- a run of one connection on these bytes
 abbrev pub RunOf : {C A M : Type 0} → DeskRules C A → ServiceRules C A M → List M → Arrival → List Mark → List (JournalEntry C A) → EndCause → Type 0
-RunOf d r memories arrival tape journal cause = IsRunOn d r memories is_scripted (λ c. arrival) tape journal (cause ∷ [])
+RunOf d r memories arrival tape journal cause = IsRunOfArrivals d r memories is_scripted (λ c. arrival) tape journal (cause ∷ [])
 
 -- how many bytes are missing is one number
 missing_one : (max : ℕ) (rest : List ℕ) (m n : ℕ) → max < 2 ^ 31 → Completes max rest m → Completes max rest n → m ≡ n

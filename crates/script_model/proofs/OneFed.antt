@@ -16,7 +16,7 @@ use Rattle.host_model.specs.Headline.{Headline}
 use Rattle.host_model.proofs.Lists.{cons_parts, front_nil}
 use Rattle.script_model.specs.Arrival.{bytes_of_pieces, ends_from, arrival_of}
 use Rattle.script_model.specs.Feeding.{EachReadTakesItsPart}
-use Rattle.script_model.specs.Rehearsal.{is_scripted, IsReadToItsEnd, FollowsArrival, IsRunOn}
+use Rattle.script_model.specs.Rehearsal.{is_scripted, IsReadToItsEnd, FollowsArrival, IsRunOfArrivals}
 use Rattle.script_model.proofs.Marked.{kind_of, all_own, own_filter}
 use Rattle.script_model.specs.ScriptLines.{PlanLine, piece, input_end, resting, openings, pieces_on, ends_input, some_line, count_up}
 use Rattle.script_model.specs.Writing.{KeepsItsRules}
@@ -268,13 +268,13 @@ module _ {C A M : Type 0} (d : DeskRules C A) (r : ServiceRules C A M) (memories
 
 module _ {C A M : Type 0} where
   pub fed_by_one : (d : DeskRules C A) (r : ServiceRules C A M) (memories : List M) (budget : ℕ) (pieces : List (List ℕ)) (tape : List Mark) (journal : List (JournalEntry C A)) (cause : EndCause)
-      → IsRunOn d r memories is_scripted (λ c. arrival_of pieces) tape journal (cause ∷ []) → IsFedBy d budget (script_of_one pieces) tape journal
+      → IsRunOfArrivals d r memories is_scripted (λ c. arrival_of pieces) tape journal (cause ∷ []) → IsFedBy d budget (script_of_one pieces) tape journal
   fed_by_one d r memories budget pieces tape journal cause run =
       let f : FollowsArrival d is_scripted 0 (arrival_of pieces) tape (entries_of 0 journal) cause = run.served 0 cause refl in
       is_fed d r memories budget pieces tape journal cause run.headline f.allowed f
 
   pub run_on_one : (d : DeskRules C A) (r : ServiceRules C A M) (memories : List M) (budget : ℕ) (pieces : List (List ℕ)) (tape : List Mark) (journal : List (JournalEntry C A)) (cause : EndCause)
       → Headline d r memories tape journal (cause ∷ []) → is_scripted cause ≡ true → IsFedBy d budget (script_of_one pieces) tape journal
-      → IsRunOn d r memories is_scripted (λ c. arrival_of pieces) tape journal (cause ∷ [])
+      → IsRunOfArrivals d r memories is_scripted (λ c. arrival_of pieces) tape journal (cause ∷ [])
   run_on_one d r memories budget pieces tape journal cause headline scripted fed =
       record { headline = headline; served = served d r memories budget pieces tape journal cause headline scripted fed }

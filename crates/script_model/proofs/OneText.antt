@@ -14,7 +14,7 @@ use Rattle.host_model.specs.Marks.{connection_of, marks_of, IsTransfer, ending, 
 use Rattle.host_model.specs.Journal.{JournalEntry, ServiceRules, entries_of}
 use Rattle.host_model.specs.DeskRules.{DeskRules}
 use Rattle.outside.specs.declared.outcomes.EnvelopeFault.{EnvelopeFault}
-use Rattle.host_model.specs.Conversation.{EndsBy, IsFinished, IsPrefix, IsInTurn, AllGoOn, LastCloses, but_last, called, sent}
+use Rattle.host_model.specs.Conversation.{EndsBy, IsFinished, IsPrefix, IsInTurn, AllKeepConnection, LastCloses, but_last, called, sent}
 use Rattle.host_model.specs.Report.{report}
 use Rattle.host_model.proofs.Framing.{only_split, frames_read, a_split}
 use Rattle.host_model.proofs.Filters.{marks_append}
@@ -98,17 +98,17 @@ module _ {C A : Type 0} (d : DeskRules C A) (small : d.max < 2 ^ 31) (all a a' :
       (s.0, s.1, subst (λ t. Frames d.max t (ps ++ s.0) s.1) (sym p.1) (joined d.max a p.0 rest s.1 ps s.0 none f s.2))
 
   -- no run that goes on to the end passes a head that is refused
-  closes_before : (fault : EnvelopeFault) (left : List ℕ) → rest ≡ [] → LastCloses d ps fault → AllGoOn d ps' → Frames d.max all ps' left → ⊥
+  closes_before : (fault : EnvelopeFault) (left : List ℕ) → rest ≡ [] → LastCloses d ps fault → AllKeepConnection d ps' → Frames d.max all ps' left → ⊥
   closes_before fault left none c on g =
       let b = behind_close none in
-      no_front_closes d ps b.0 fault (subst (AllGoOn d) (only_split d.max all left b.1 ps' (ps ++ b.0) small g b.2).0 on) c
+      no_front_closes d ps b.0 fault (subst (AllKeepConnection d) (only_split d.max all left b.1 ps' (ps ++ b.0) small g b.2).0 on) c
 
 module _ {C A : Type 0} (d : DeskRules C A) (small : d.max < 2 ^ 31) (all a a' : List ℕ) (p : IsPrefix a all) (p' : IsPrefix a' all)
     (ps ps' : List (List ℕ)) (rest rest' : List ℕ) (f : Frames d.max a ps rest) (f' : Frames d.max a' ps' rest')
     (es es' : List (JournalEntry C A)) (out out' : List ℕ) where
   -- two that end at a head that is refused have read the same
-  both_close : (fault fault' : EnvelopeFault) → rest ≡ [] → rest' ≡ [] → LastCloses d ps fault → LastCloses d ps' fault' → AllGoOn d (but_last ps)
-      → AllGoOn d (but_last ps') → a ≡ a'
+  both_close : (fault fault' : EnvelopeFault) → rest ≡ [] → rest' ≡ [] → LastCloses d ps fault → LastCloses d ps' fault' → AllKeepConnection d (but_last ps)
+      → AllKeepConnection d (but_last ps') → a ≡ a'
   both_close fault fault' none none' c c' on on' =
       let b = behind_close d small all a a' p p' ps ps' rest rest' f f' es es' out out' none in
       let b' = behind_close d small all a' a p' p ps' ps rest' rest f' f es' es out' out none' in
@@ -122,7 +122,7 @@ module _ {C A : Type 0} (d : DeskRules C A) (small : d.max < 2 ^ 31) (all a a' :
     (es es' : List (JournalEntry C A)) (out out' : List ℕ) where
   -- two runs on the same bytes have read the same
   same_reads : (cause cause' : EndCause) → is_scripted cause ≡ true → is_scripted cause' ≡ true → cause ≢ NoMemory → cause' ≢ NoMemory
-      → IsReadToItsEnd cause a all → IsReadToItsEnd cause' a' all → AllGoOn d (but_last ps) → AllGoOn d (but_last ps')
+      → IsReadToItsEnd cause a all → IsReadToItsEnd cause' a' all → AllKeepConnection d (but_last ps) → AllKeepConnection d (but_last ps')
       → EndsBy d ps rest es out cause → EndsBy d ps' rest' es' out' cause' → a ≡ a'
   same_reads End End s s' n n' w w' o o' x y = w ∙ sym w'
   same_reads End Cut s s' n n' w w' o o' x y = w ∙ sym w'
@@ -163,8 +163,8 @@ module _ {C A : Type 0} (d : DeskRules C A) (small : d.max < 2 ^ 31) (all a a' :
 
 module _ {C A : Type 0} (d : DeskRules C A) (ps ps' : List (List ℕ)) where
   -- what goes on ends at no head that is refused
-  goes_on_alone : (fault : EnvelopeFault) → ps ≡ ps' → AllGoOn d ps → LastCloses d ps' fault → ⊥
-  goes_on_alone fault q on c = no_front_closes d ps' [] fault (subst (AllGoOn d) (q ∙ sym (append-nil ps')) on) c
+  goes_on_alone : (fault : EnvelopeFault) → ps ≡ ps' → AllKeepConnection d ps → LastCloses d ps' fault → ⊥
+  goes_on_alone fault q on c = no_front_closes d ps' [] fault (subst (AllKeepConnection d) (q ∙ sym (append-nil ps')) on) c
 
 module _ {C A : Type 0} (d : DeskRules C A) (ps ps' : List (List ℕ)) (rest : List ℕ) (es es' : List (JournalEntry C A)) (out out' : List ℕ) where
   -- and ended by the same cause

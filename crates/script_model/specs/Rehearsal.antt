@@ -39,7 +39,7 @@ pub record FollowsArrival {C A : Type 0} (d : DeskRules C A) (may_end : EndCause
   pub written : EachWriteTakesTheRest d c es tape
 
 -- A run on what arrives on each connection: its tape, journal and causes meet the headline, and each connection was served.
-pub record IsRunOn {C A M : Type 0} (d : DeskRules C A) (r : ServiceRules C A M) (memories : List M) (may_end : EndCause → Bool) (arrives : ℕ → Arrival)
+pub record IsRunOfArrivals {C A M : Type 0} (d : DeskRules C A) (r : ServiceRules C A M) (memories : List M) (may_end : EndCause → Bool) (arrives : ℕ → Arrival)
     (tape : List Mark) (journal : List (JournalEntry C A)) (causes : List EndCause) : Type 0 where
   pub headline : Headline d r memories tape journal causes
   pub served : (c : ℕ) (cause : EndCause) → slice_get causes c ≡ Some cause → FollowsArrival d may_end c (arrives c) tape (entries_of c journal) cause
@@ -50,7 +50,7 @@ pub record IsReportOfOneConnection {C A M : Type 0} (d : DeskRules C A) (r : Ser
   pub tape : List Mark
   pub journal : List (JournalEntry C A)
   pub cause : EndCause
-  pub run : IsRunOn d r memories may_end (λ c. arrival) tape journal (cause ∷ [])
+  pub run : IsRunOfArrivals d r memories may_end (λ c. arrival) tape journal (cause ∷ [])
   pub printed : text ≡ report line tape journal (cause ∷ [])
 
 -- a line of a call, told from a report's other lines: it begins with `call ` or `oneway ` and has no newline

@@ -7,7 +7,7 @@ ghost use Rattle.host_model.specs.Journal.{JournalEntry, ServiceRules, entries_o
 ghost use Rattle.host_model.specs.DeskRules.{DeskRules};
 ghost use Rattle.host_model.specs.Headline.{Headline};
 ghost use Rattle.script_model.specs.Arrival.{arrival_of};
-ghost use Rattle.script_model.specs.Rehearsal.{is_scripted, IsRunOn};
+ghost use Rattle.script_model.specs.Rehearsal.{is_scripted, IsRunOfArrivals};
 ghost use Rattle.machine_model.specs.Machine.{Cell, MachineEvent, EventsLead, IsFirst, HaveAllEnded};
 ghost use Rattle.script_model.specs.ScriptLines.{ScriptPlan};
 ghost use Rattle.script_model.specs.Writing.{KeepsItsRules};
@@ -21,10 +21,10 @@ use machine_model::laws::{every_cell_keeps, every_run_meets, plain_machine_runs}
 /// scripts can, is a run on these pieces.
 pub fn one_connection_is_fed<C, A, M>()
     ensures fed { (d : DeskRules C A) (r : ServiceRules C A M) (memories : List M) (budget : ℕ) (pieces : List (List ℕ)) (tape : List Mark) (journal : List (JournalEntry C A)) (cause : EndCause) →
-        IsRunOn d r memories is_scripted (λ c. arrival_of pieces) tape journal (cause ∷ []) → IsFedBy d budget (script_of_one pieces) tape journal }
+        IsRunOfArrivals d r memories is_scripted (λ c. arrival_of pieces) tape journal (cause ∷ []) → IsFedBy d budget (script_of_one pieces) tape journal }
     ensures run { (d : DeskRules C A) (r : ServiceRules C A M) (memories : List M) (budget : ℕ) (pieces : List (List ℕ)) (tape : List Mark) (journal : List (JournalEntry C A)) (cause : EndCause) →
         Headline d r memories tape journal (cause ∷ []) → is_scripted cause ≡ true → IsFedBy d budget (script_of_one pieces) tape journal →
-        IsRunOn d r memories is_scripted (λ c. arrival_of pieces) tape journal (cause ∷ []) }
+        IsRunOfArrivals d r memories is_scripted (λ c. arrival_of pieces) tape journal (cause ∷ []) }
 {}
 
 /// A rehearsal is a run of the machine, however memory is at its moves, since each move is one of the machine's events, or none that it sees; so it meets the

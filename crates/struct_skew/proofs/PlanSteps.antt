@@ -10,7 +10,7 @@ use Rattle.schema.specs.PlainSchema.{PlainField, PlainStruct}
 use Rattle.struct_skew.specs.declared.plan.Choice.{Choice}
 use Rattle.struct_skew.specs.Latest.{latest_of_each}
 use Rattle.struct_skew.specs.Offers.{Offer, is_sent_for}
-use Rattle.struct_skew.specs.Plan.{AllAt, place_cmp, unsent_choice, is_choice_at, Follows, LeadsOn, Plans}
+use Rattle.struct_skew.specs.Plan.{AllAt, place_cmp, unsent_choice, is_choice_at, Follows, KeepsFollowing, Plans}
 use Rattle.struct_skew.specs.Projection.{meaning_of, offers_of}
 use Rattle.struct_skew.proofs.PlanLaws.{AllAt-both, Follows-more, plan_in_order}
 use Rattle.struct_skew.proofs.PlannedFields.{Follows-start}
@@ -49,7 +49,7 @@ sent_more fields sent i x into new choice low here is named put structs kind kep
 
 -- what is needed and what is sent, in order, is a plan
 pub planned : (required defaulted : List ℕ) (fields : List PlainField) (sent : List (ℤ × Value)) (start one two all plan : List Choice)
-    → start ≡ [] → one ≡ start ++ map unsent_choice required → two ≡ one ++ map unsent_choice defaulted → LeadsOn fields (field_trees (map field_tree sent)) two all
+    → start ≡ [] → one ≡ start ++ map unsent_choice required → two ≡ one ++ map unsent_choice defaulted → KeepsFollowing fields (field_trees (map field_tree sent)) two all
     → plan ≡ latest_of_each place_cmp all → Plans required defaulted fields (field_trees (map field_tree sent)) plan
 planned required defaulted fields sent start one two all plan none first second leads ordered structs s same r d =
     let both : two ≡ map unsent_choice required ++ map unsent_choice defaulted =

@@ -95,8 +95,8 @@ pub record IsPlaceOfId (id : ℤ) (fields : List PlainField) (place : Option ℕ
   pub within : IfSome place (λ p. p < length fields)
 
 -- choices that may follow the raw fields lead, with those that come of all of these, to what counts
-abbrev pub LeadsOn : List PlainField → FieldTrees → List Choice → List Choice → Type 0
-LeadsOn fields sent old new =
+abbrev pub KeepsFollowing : List PlainField → FieldTrees → List Choice → List Choice → Type 0
+KeepsFollowing fields sent old new =
     (structs : List PlainStruct) (kind : FieldsKind) → AllAt (Follows kind (offers_of structs sent) old (offers_of structs sent)) 0 fields
     → AllAt (Follows kind (offers_of structs sent) new []) 0 fields
 

@@ -5,7 +5,7 @@ ghost use Rattle.schema.specs.PlainSchema.{PlainField};
 ghost use Rattle.schema.specs.SchemaOf.{plain_field};
 ghost use Rattle.struct_skew.specs.Fits.{fits_kind};
 ghost use Rattle.struct_skew.specs.Offers.{is_sent_for};
-ghost use Rattle.struct_skew.specs.Plan.{AllAt, place_cmp, unsent_choice, is_choice_at, IsPlaceOfId, LeadsOn, Plans};
+ghost use Rattle.struct_skew.specs.Plan.{AllAt, place_cmp, unsent_choice, is_choice_at, IsPlaceOfId, KeepsFollowing, Plans};
 
 use crate::kinds::fits_kind;
 use crate::order::{Keyed, in_order};
@@ -96,7 +96,7 @@ fn put_sent(
     sent: &[(i16, Value)],
 ) -> Result<(), AllocError>
     requires { AllPairs (λ (f g : PlainField). f.id <ℤ g.id) (map plain_field declared.now) }
-    ensures { OnOk result (LeadsOn (map plain_field declared.now) (field_trees (map field_tree sent.now)) into.old.items into.new.items) }
+    ensures { OnOk result (KeepsFollowing (map plain_field declared.now) (field_trees (map field_tree sent.now)) into.old.items into.new.items) }
 {
     for index in 0..sent.len() {
         let (id, value) = &sent[index];

@@ -5,7 +5,7 @@ use Rattle.call_history.specs.Calls.{seat_ask}
 use Rattle.call_rules.specs.PlainCalls.{PlainCall, PlainAnswer}
 use Rattle.machine_model.specs.HallState.{key_of}
 use Rattle.machine_model.specs.HallRule.{HallOperation, submit, HallAnswer, done}
-use Rattle.machine_model.specs.OwnCalls.{HallAsk, any_of, count_of, submits_key, adds_key}
+use Rattle.machine_model.specs.OwnCalls.{HallAsk, any_of, summed_calls, submits_key, adds_key}
 use Rattle.machine_model.proofs.Owning.{number_push}
 use Rattle.machine_model.proofs.Singling.{any_push}
 use Rattle.hall_pool.specs.Turns.{asks_made}
@@ -42,8 +42,8 @@ module _ (n : ℕ) (old new : HallSeat) (payload : List ℕ) (answer : HallAnswe
   one_submitted =
       record {
         zeroth = number ∙ before.zeroth;
-        few = one_more_at_most (count_of adds_key (asks_made old.mine)) (count_of adds_key (asks_made new.mine)) n (adds_key {C = PlainCall} {A = PlainAnswer} (submit (key_of 3 n) payload) answer)
-            (ap (count_of adds_key) more ∙ number_push adds_key (asks_made old.mine) (seat_ask old.number (submit (key_of 3 n) payload) answer))
+        few = one_more_at_most (summed_calls adds_key (asks_made old.mine)) (summed_calls adds_key (asks_made new.mine)) n (adds_key {C = PlainCall} {A = PlainAnswer} (submit (key_of 3 n) payload) answer)
+            (ap (summed_calls adds_key) more ∙ number_push adds_key (asks_made old.mine) (seat_ask old.number (submit (key_of 3 n) payload) answer))
             (adds_one (submit (key_of 3 n) payload) answer) before.few;
         fresh = still_fresh;
       }

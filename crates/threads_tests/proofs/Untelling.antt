@@ -7,9 +7,9 @@ use Rattle.outside.specs.declared.answers.Hint.{Hint}
 use Rattle.outside.specs.declared.answers.Hint.TheVariants.{Opened, Readable, Writable, Woken, Over}
 use Rattle.outside.specs.declared.answers.Taken.{Taken}
 use Rattle.outside.specs.LinksState.{ChangesOnly}
-use Rattle.outside.specs.Asking.{OpensNext, OpensSo, AnswersAsk}
+use Rattle.outside.specs.Asking.{OpensNext, AnswerOpens, AnswersAsk}
 use Rattle.outside.specs.Reading.{Reads}
-use Rattle.outside.specs.Writing.{WritesOn}
+use Rattle.outside.specs.Writing.{WritesToConnection}
 use Rattle.outside.specs.Closing.{Closes}
 use Rattle.script_links.specs.ServedScript.{ServedScript}
 use Rattle.script_links.specs.Shown.{links_told}
@@ -51,7 +51,7 @@ module _ (n : ℕ) (s t : ServedScript) where
     faults = r.faults;
   }
 
-  pub writes : (c : ℕ) (bytes : List ℕ) (taken : Taken) → WritesOn c bytes (links_told s) (links_told t) taken → WritesOn c bytes (untold s n) (untold t n) taken
+  pub writes : (c : ℕ) (bytes : List ℕ) (taken : Taken) → WritesToConnection c bytes (links_told s) (links_told t) taken → WritesToConnection c bytes (untold s n) (untold t n) taken
   writes c bytes taken w = record {
     others = changes c w.others;
     still_open = w.still_open;
@@ -89,7 +89,7 @@ module _ (n : ℕ) (s t : ServedScript) where
       tape = refl;
     }
 
-    opens : (result : Result Hint Failed) → OpensSo ask (links_told s) (links_told t) result → OpensSo ask (untold s n) (untold t n) result
+    opens : (result : Result Hint Failed) → AnswerOpens ask (links_told s) (links_told t) result → AnswerOpens ask (untold s n) (untold t n) result
     opens (Ok (Opened c)) o = opens_next c o
     opens (Ok (Readable c)) o = record { opened = o.opened; is_open = o.is_open; tape = refl }
     opens (Ok (Writable c)) o = record { opened = o.opened; is_open = o.is_open; tape = refl }

@@ -5,7 +5,7 @@ ghost use Rattle.std.specs.Prelude.{◌≤◌};
 use crate::byte_desk::{ByteDesk, LIMITS};
 use crate::running::{one_mirror, script_of};
 use outside::{EmptyGate, Files, MemFiles, MemSink};
-use port_serving::{PortFault, ServingPlace, serve_port};
+use port_serving::{PortFault, ServedPort, serve_port};
 use script_links::MemBinder;
 use std::alloc::Global;
 use std::sync::Wait;
@@ -15,7 +15,7 @@ use std::thread::Threads;
 /// Two calls on one connection.
 const TWO_CALLS: &[u8] = b"open\ndata 0 00000001050000000106\nend 0\n";
 
-const PLACE: ServingPlace<'static> = ServingPlace {
+const PLACE: ServedPort<'static> = ServedPort {
     port: 9090,
     accept: 10,
     journal: "calls.txt",

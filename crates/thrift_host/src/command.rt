@@ -21,7 +21,7 @@ use crate::workloads::{work, workload_words};
 use call_rules::Handler;
 use command_line::{Command, ServedIdl, WordsFault, read_words};
 use outside::{Binder, Files, Gate, Sink, Source};
-use port_serving::ServingPlace;
+use port_serving::ServedPort;
 use std::alloc::Global;
 use std::sync::Wait;
 use std::thread::Threads;
@@ -95,7 +95,7 @@ pub fn host<
                 journal,
             },
         ) => {
-            let place = ServingPlace {
+            let place = ServedPort {
                 port,
                 accept,
                 journal: journal.as_str(),
@@ -202,7 +202,7 @@ fn serve_and_say<
     errors: &mut E,
     binder: &mut B,
     served: &ServedIdl,
-    place: &ServingPlace<'_>,
+    place: &ServedPort<'_>,
     gate: &G,
     handlers: Vec<H>,
 ) -> Status

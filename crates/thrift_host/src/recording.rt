@@ -59,7 +59,7 @@ pub(crate) fn serve_script<
         Ok((office, handlers)) => {
             let limits = served.limits;
             let workers = served.workers;
-            match serve(
+            match run_recording(
                 rt, alloc, input, output, &office, gate, handlers, workers, limits,
             ) {
                 Ok(()) => Ok(()),
@@ -71,7 +71,7 @@ pub(crate) fn serve_script<
 }
 
 /// Serves at an office whose slots are these handlers.
-fn serve<S: Source, K: Sink, G: Gate + Sync, H: Handler, R: Threads + Wait + Sync>(
+fn run_recording<S: Source, K: Sink, G: Gate + Sync, H: Handler, R: Threads + Wait + Sync>(
     rt: &R,
     alloc: Global,
     input: &mut S,

@@ -46,7 +46,7 @@ pub(crate) fn rehearse<F: Files, S: Source, K: Sink, H: Handler>(
         Ok((office, handlers)) => {
             let limits = served.limits;
             let workers = served.workers;
-            match serve(alloc, input, output, &office, handlers, workers, limits) {
+            match run_rehearsal(alloc, input, output, &office, handlers, workers, limits) {
                 Ok(()) => Ok(()),
                 Err(fault) => Err(RunFault::Unanswered(fault)),
             }
@@ -56,7 +56,7 @@ pub(crate) fn rehearse<F: Files, S: Source, K: Sink, H: Handler>(
 }
 
 /// Serves at an office whose slots are these handlers.
-fn serve<S: Source, K: Sink, H: Handler>(
+fn run_rehearsal<S: Source, K: Sink, H: Handler>(
     alloc: Global,
     input: &mut S,
     output: &mut K,

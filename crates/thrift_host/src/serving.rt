@@ -17,7 +17,7 @@ use call_rules::Handler;
 use command_line::ServedIdl;
 use conn_table::Limits;
 use outside::{Binder, Files, Gate, Sink};
-use port_serving::{PortFault, ServingPlace, serve_port};
+use port_serving::{PortFault, ServedPort, serve_port};
 use processor::Office;
 use std::alloc::Global;
 use std::sync::Wait;
@@ -47,7 +47,7 @@ pub(crate) fn serve_connections<
     output: &mut K,
     binder: &mut B,
     served: &ServedIdl,
-    place: &ServingPlace<'_>,
+    place: &ServedPort<'_>,
     gate: &G,
     handlers: Vec<H>,
 ) -> Result<(), ServeFault>
@@ -78,7 +78,7 @@ pub(crate) fn serve_connections<
         Ok((office, handlers)) => {
             let limits = served.limits;
             let workers = served.workers;
-            match serve(
+            match run_port(
                 rt, alloc, files, output, binder, &office, place, gate, handlers, workers, limits,
             ) {
                 Ok(()) => Ok(()),
@@ -90,14 +90,14 @@ pub(crate) fn serve_connections<
 }
 
 /// Serves at an office whose slots are these handlers.
-fn serve<F: Files, K: Sink, B: Binder, G: Gate + Sync, H: Handler, R: Threads + Wait + Sync>(
+fn run_port<F: Files, K: Sink, B: Binder, G: Gate + Sync, H: Handler, R: Threads + Wait + Sync>(
     rt: &R,
     alloc: Global,
     files: &mut F,
     output: &mut K,
     binder: &mut B,
     office: &Office,
-    place: &ServingPlace<'_>,
+    place: &ServedPort<'_>,
     gate: &G,
     handlers: Vec<H>,
     workers: u32,

@@ -81,7 +81,7 @@ pub(crate) fn work<F: Files, K: Sink, G: Gate + Sync, H: Handler, R: Threads + W
         Ok((office, handlers)) => {
             let limits = served.limits;
             let workers = served.workers;
-            match serve(
+            match run_workload(
                 rt, alloc, output, &office, gate, handlers, workers, limits, work,
             ) {
                 Ok(()) => Ok(()),
@@ -150,7 +150,7 @@ fn has_calculator(schema: &Schema) -> bool
 }
 
 /// Serves at the calculator's office, whose slot is this handler.
-fn serve<K: Sink, G: Gate + Sync, H: Handler, R: Threads + Wait + Sync>(
+fn run_workload<K: Sink, G: Gate + Sync, H: Handler, R: Threads + Wait + Sync>(
     rt: &R,
     alloc: Global,
     output: &mut K,

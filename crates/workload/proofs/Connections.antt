@@ -11,7 +11,7 @@ use Rattle.host_model.specs.Frames.{Frames, frame, IsPayload, ArePayloads}
 use Rattle.host_model.specs.Marks.{Marks, connection_of, marks_of, read_by, input, output}
 use Rattle.host_model.specs.Journal.{entries_of}
 use Rattle.host_model.specs.DeskRules.{DeskRules}
-use Rattle.host_model.specs.Conversation.{GoesOn, IsFinished, EndsBy, Conversation}
+use Rattle.host_model.specs.Conversation.{KeepsConnection, IsFinished, EndsBy, Conversation}
 use Rattle.host_model.proofs.Framing.{only_split}
 use Rattle.call_rules.specs.PlainCalls.{PlainCall, PlainAnswer}
 use Rattle.call_rules.specs.Entries.{CallEntry}
@@ -94,8 +94,8 @@ module _ (seed size : ℕ) (d : DeskRules PlainCall PlainAnswer) (tape : List Ma
       let t = first_of_all payloads rest frames in
       let last = ends.0 in
       let e : wanted ≡ last.0 ++ last.1 ∷ t.0 = t.1 ∙ ap (λ ps. ps ++ t.0) last.2 ∙ append_assoc last.0 (last.1 ∷ []) t.0 in
-      let on : AllByRecursion (λ p. GoesOn (d.decide p)) wanted = all_go_on d (payload_at seed) (call_in_load seed) (answer_in_load seed) (reply_at seed) frames_here replied in
-      absurd (subst GoesOn last.3 (in_middle (λ p. GoesOn (d.decide p)) last.0 last.1 t.0 (subst (AllByRecursion (λ p. GoesOn (d.decide p))) e on)))
+      let on : AllByRecursion (λ p. KeepsConnection (d.decide p)) wanted = all_go_on d (payload_at seed) (call_in_load seed) (answer_in_load seed) (reply_at seed) frames_here replied in
+      absurd (subst KeepsConnection last.3 (in_middle (λ p. KeepsConnection (d.decide p)) last.0 last.1 t.0 (subst (AllByRecursion (λ p. KeepsConnection (d.decide p))) e on)))
   of_cause ReadFault payloads rest frames ends marks memory goes =
       let t = kept_at (λ mark. connection_of mark == c) tape (Opened c ∷ marks.transfers) (ReadFailed c) (Closed c ∷ []) marks.shape in
       absurd (not_both (some_line (fails_input c) (workload_plan seed size).lines) (reads.failed t.0 t.1 t.2).0 (no_fault seed size c))

@@ -4,7 +4,7 @@ use Rattle.std.specs.Prelude.{⊤}
 use Rattle.std.specs.List.{flat_map, AllByRecursion}
 use Rattle.host_model.specs.Journal.{JournalEntry}
 use Rattle.host_model.specs.DeskRules.{DeskRules, Invoke}
-use Rattle.host_model.specs.Conversation.{called_by, called, answer_at, replied, reply_for, sent, GoesOn, AllGoOn}
+use Rattle.host_model.specs.Conversation.{called_by, called, answer_at, replied, reply_for, sent, KeepsConnection, AllKeepConnection}
 use Rattle.host_model.proofs.Lists.{nil-cons, cons_parts}
 
 -- a payload that makes a call, which is answered so, and has this reply
@@ -86,6 +86,6 @@ module _ {C A : Type 0} (d : DeskRules C A) (payload : ℕ → List ℕ) (call :
   pub sent_is : (es : List (JournalEntry C A)) (ks : List ℕ) → Matches 0 es ks → Answers es ks → AreReplied ks → sent d es 0 (map payload ks) ≡ flat_map reply ks
   sent_is es ks m a all = sent_from es 0 es ks m a all (λ j h. refl)
 
-  pub all_go_on : (ks : List ℕ) → AreReplied ks → AllGoOn d (map payload ks)
+  pub all_go_on : (ks : List ℕ) → AreReplied ks → AllKeepConnection d (map payload ks)
   all_go_on [] all = tt
-  all_go_on (k ∷ ks) all = (subst GoesOn (sym all.0.decides) tt, all_go_on ks all.1)
+  all_go_on (k ∷ ks) all = (subst KeepsConnection (sym all.0.decides) tt, all_go_on ks all.1)

@@ -7,7 +7,7 @@ abbrev pub invariant-still : goal.invariant-still
 invariant-still l = record {
   from : l.from ≤ l.c;
   within : l.c ≤ l.count;
-  still : (k : ℕ) → l.from ≤ k → k < l.c → HasNoTurn (slice_get l.stands k);
+  still : (k : ℕ) → l.from ≤ k → k < l.c → HasNoTurn (slice_get l.stages k);
 }
 
 abbrev pub decreases-still : goal.decreases-still

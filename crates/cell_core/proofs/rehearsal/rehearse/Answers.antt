@@ -117,7 +117,7 @@ returns-in-Ok-do_lines-clause-outs g c =
       slots = slots;
     } in
     let lets : LetsAllEnd s.workers c.args.script.now = lets_all c.args.workers c.args.script.now c.requires.moves (c.kept_scripts_let_all_end.ensures.ends c.args.script.now c.lines.ensures.sound) in
-    λ all. written_as (length c.finished.result.ends) (length c.do_lines.new.self.part.stands.items) c.finished.result.tape c.do_lines.new.self.part.tape.items c.finished.result.outs
+    λ all. written_as (length c.finished.result.ends) (length c.do_lines.new.self.part.stages.items) c.finished.result.tape c.do_lines.new.self.part.tape.items c.finished.result.outs
     (done_counted s c.args.script.now c.in-Ok-made.part c.in-Ok-made.workers.items (g.J.Journal.told c.args.journal) (g.J.Journal.faults c.args.journal)
     sound c.in-Ok-made.ensures.part c.in-Ok-made.ensures.workers c.requires.empty max c.in-Ok.hall c.in-Ok.ensures.hall slots
     (parts_of c.do_lines.new.self)

@@ -1,6 +1,6 @@
 use Rattle.std.proofs.Common.{◌≡◌, suc, ◌+◌, ◌<◌, length, take, subst, arith}
 use Rattle.idl_parser.specs.Documents.{document}
-use Rattle.idl_parser.specs.FirstFault.{CanGoOn}
+use Rattle.idl_parser.specs.FirstFault.{BeginsDocument}
 use Rattle.idl_plain.proofs.PlainVerdict.{nothing_begins, stuck, unended, front_is, begins_can, can_begin, long_as, not_both}
 use Rattle.idl_plain.proofs.verdicts.judge.Goals as goal
 
@@ -39,5 +39,5 @@ returns-else-whole c =
     λ levels ts same_phrase same_deeper same.
     let over : c.fronts.at ≡ length c.args.symbols.now = omega (arith, c.fronts-test.false, c.fronts.invariant.within) in
     unended levels ts (length c.args.symbols.now) (long_as ts c.args.symbols.now same)
-    (subst (λ n. CanGoOn levels (take n ts)) over (c.fronts.invariant.begun levels ts same_phrase same))
+    (subst (λ n. BeginsDocument levels (take n ts)) over (c.fronts.invariant.begun levels ts same_phrase same))
     (λ s. not_both c.in_ok-whole.whole ((c.in_ok-whole.ensures (document levels) ts same_phrase same).1 s) c.if-whole.false)

@@ -1,7 +1,7 @@
 use Rattle.std.proofs.Common.{◌≡◌, ◌≤◌, ◌-◌, ℕ, List, length, take}
 use Rattle.idl_parser.specs.Phrases.{Lexeme}
 use Rattle.idl_parser.specs.Documents.{document}
-use Rattle.idl_parser.specs.FirstFault.{CanGoOn}
+use Rattle.idl_parser.specs.FirstFault.{BeginsDocument}
 use Rattle.idl_plain.specs.PlainPhrases.{terminals, outline, outline_of}
 use Rattle.idl_plain.proofs.verdicts.judge.Given as goal
 
@@ -9,7 +9,7 @@ use Rattle.idl_plain.proofs.verdicts.judge.Given as goal
 abbrev pub invariant-fronts : goal.invariant-fronts
 invariant-fronts l = record {
   within : l.at ≤ length l.symbols;
-  begun : (levels : ℕ) (ts : List Lexeme) → outline (document levels) ≡ outline_of l.grammar → terminals ts ≡ l.symbols → CanGoOn levels (take l.at ts);
+  begun : (levels : ℕ) (ts : List Lexeme) → outline (document levels) ≡ outline_of l.grammar → terminals ts ≡ l.symbols → BeginsDocument levels (take l.at ts);
 }
 
 abbrev pub decreases-fronts : goal.decreases-fronts

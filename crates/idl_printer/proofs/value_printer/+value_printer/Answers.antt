@@ -1,6 +1,6 @@
 use Rattle.std.proofs.Common.{◌≡◌, ◌++◌, codes, OnOk, List, ℕ, sym, subst, ap, ◌∙◌}
 use Rattle.std.proofs.lemmas.List.{append_assoc}
-use Rattle.idl_printer.specs.Printed.{behind_comma, pair_text, pair_behind_comma, value_text, values_text, both_texts, pairs_text}
+use Rattle.idl_printer.specs.Printed.{behind_comma, pair_text, pair_behind_comma, value_text, values_text, both_texts, const_pairs_text}
 use Rattle.idl_parser.specs.declared.tree.ConstTree.{ConstTree}
 use Rattle.idl_printer.proofs.ValueTexts.{text_of_map, text_of_list}
 use Rattle.idl_printer.proofs.Appends.{put_all, put_behind, walked, walked_through}
@@ -8,11 +8,11 @@ use Rattle.idl_printer.proofs.value_printer.+value_printer.Goals as goal
 
 pub put_value-returns-in_ok-put_pairs-in-Map : goal.put_value-returns-in_ok-put_pairs-in-Map
 put_value-returns-in_ok-put_pairs-in-Map t c =
-    let slice : pairs_text c.as_slice-in-Map.result.now ≡ pairs_text c.in-Map.pairs.items = ap pairs_text c.as_slice-in-Map.ensures.value in
+    let slice : const_pairs_text c.as_slice-in-Map.result.now ≡ const_pairs_text c.in-Map.pairs.items = ap const_pairs_text c.as_slice-in-Map.ensures.value in
     subst (λ (text : List ℕ). OnOk c.extend_from_slice-in-Map-2.result (c.extend_from_slice-in-Map-2.new.self.items ≡ c.args.into.now.items ++ text))
     (sym (text_of_map c.args.value.now c.in-Map.field-0 c.in-Map.pairs c.in-Map.is))
     (put_all c.extend_from_slice-in-Map-2.result c.extend_from_slice-in-Map-2.new.self.items c.args.into.now.items
-    c.extend_from_slice-in-Map.new.self.items c.put_pairs.new.into.items (codes "{") (pairs_text c.in-Map.pairs.items) (pairs_text c.as_slice-in-Map.result.now) (codes "}")
+    c.extend_from_slice-in-Map.new.self.items c.put_pairs.new.into.items (codes "{") (const_pairs_text c.in-Map.pairs.items) (const_pairs_text c.as_slice-in-Map.result.now) (codes "}")
     c.extend_from_slice-in-Map-2.ensures.items c.in_ok-put_pairs-in-Map.ensures slice c.in_ok-extend_from_slice-in-Map.ensures.items)
 
 pub put_value-returns-in_ok-put_values-in-List : goal.put_value-returns-in_ok-put_values-in-List
@@ -50,4 +50,4 @@ put_pairs-returns t c =
     walked_through pair_behind_comma both_texts c.in-Some.more.now c.loop-key.key-index c.loop-key.into.items c.put_value_behind_colon.new.into.items c.args.into.now.items
     (pair_text (both_texts first)) c.loop-key-test.false c.loop-key.invariant
     (c.in_ok-put_value_behind_colon.ensures ∙ put_behind c.put_value.new.into.items c.args.into.now.items (value_text first.0) (codes ": " ++ value_text first.1) c.in_ok-put_value.ensures)
-    ∙ ap (λ (pairs : List (ConstTree × ConstTree)). c.args.into.now.items ++ pairs_text pairs) (sym c.in-Some.ensures.cases.0)
+    ∙ ap (λ (pairs : List (ConstTree × ConstTree)). c.args.into.now.items ++ const_pairs_text pairs) (sym c.in-Some.ensures.cases.0)

@@ -8,21 +8,21 @@ use Rattle.thrift_host.proofs.Ran.{untouched_fault, not_unanswered}
 use Rattle.thrift_host.proofs.Told.{at_arranged}
 use Rattle.thrift_host.proofs.rehearsing.rehearse.Goals as goal
 
-pub returns-in-Ok-serve-clause-tells : goal.returns-in-Ok-serve-clause-tells
-returns-in-Ok-serve-clause-tells g c =
+pub returns-in-Ok-run_rehearsal-clause-tells : goal.returns-in-Ok-run_rehearsal-clause-tells
+returns-in-Ok-run_rehearsal-clause-tells g c =
     let r : AskedRun =
     (record { says = plain_served c.args.served.now; files = g.F.Files.files c.args.files.now; handlers = map g.H.Handler.service c.args.handlers.items })
     in
     let s : Streams =
     (record {
       left_before = g.S.Source.left c.args.input.now;
-      left = g.S.Source.left c.serve.new.input;
+      left = g.S.Source.left c.run_rehearsal.new.input;
       taken_before = g.K.Sink.taken c.args.output.now;
-      taken = g.K.Sink.taken c.serve.new.output;
+      taken = g.K.Sink.taken c.run_rehearsal.new.output;
     })
     in
     at_arranged r (plain_office c.in-Ok.office) (map g.H.Handler.service c.in-Ok.handlers.items) c.in-Ok.ensures.tells
-    (λ a. IsReportWritten (rehearsing.script_in a) (rehearsing.IsRunOf a) a.line s) c.in-Ok-serve.ensures.means
+    (λ a. IsReportWritten (rehearsing.script_in a) (rehearsing.IsRunOf a) a.line s) c.in-Ok-run_rehearsal.ensures.means
 
 pub returns-in-Ok-clause-tells : goal.returns-in-Ok-clause-tells
 returns-in-Ok-clause-tells g c =
@@ -32,13 +32,13 @@ returns-in-Ok-clause-tells g c =
     let s : Streams =
     (record {
       left_before = g.S.Source.left c.args.input.now;
-      left = g.S.Source.left c.serve.new.input;
+      left = g.S.Source.left c.run_rehearsal.new.input;
       taken_before = g.K.Sink.taken c.args.output.now;
-      taken = g.K.Sink.taken c.serve.new.output;
+      taken = g.K.Sink.taken c.run_rehearsal.new.output;
     })
     in
     at_arranged r (plain_office c.in-Ok.office) (map g.H.Handler.service c.in-Ok.handlers.items) c.in-Ok.ensures.tells
-    (λ a. MeansRecordedFault (rehearsing.script_in a) (rehearsing.IsRunOf a) a.line c.in-Err-serve.fault s) c.in-Err-serve.ensures.means
+    (λ a. MeansRecordedFault (rehearsing.script_in a) (rehearsing.IsRunOf a) a.line c.in-Err-run_rehearsal.fault s) c.in-Err-run_rehearsal.ensures.means
 
 pub returns-clause-tells : goal.returns-clause-tells
 returns-clause-tells g c =

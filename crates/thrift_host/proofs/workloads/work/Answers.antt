@@ -5,25 +5,25 @@ use Rattle.thrift_host.specs.Runs.{AskedRun}
 use Rattle.thrift_host.proofs.Worked.{untouched_workload, not_unworked}
 use Rattle.thrift_host.proofs.workloads.work.Goals as goal
 
-pub serve-requires-clause-some : goal.serve-requires-clause-some
-serve-requires-clause-some g c =
+pub run_workload-requires-clause-some : goal.run_workload-requires-clause-some
+run_workload-requires-clause-some g c =
     let most : c.args.served.now.limits.max_frame ≡ 16384000 = ap (λ (p : PlainServed). p.limits.max_frame) c.requires.says in omega (arith, most)
 
-pub serve-requires-clause-within : goal.serve-requires-clause-within
-serve-requires-clause-within g c =
+pub run_workload-requires-clause-within : goal.run_workload-requires-clause-within
+run_workload-requires-clause-within g c =
     let most : c.args.served.now.limits.max_frame ≡ 16384000 = ap (λ (p : PlainServed). p.limits.max_frame) c.requires.says in
     let budget : c.args.served.now.limits.read_budget ≡ 268435456 = ap (λ (p : PlainServed). p.limits.read_budget) c.requires.says in
     omega (arith, most, budget)
 
-pub serve-requires-clause-budget : goal.serve-requires-clause-budget
-serve-requires-clause-budget g c =
+pub run_workload-requires-clause-budget : goal.run_workload-requires-clause-budget
+run_workload-requires-clause-budget g c =
     let budget : c.args.served.now.limits.read_budget ≡ 268435456 = ap (λ (p : PlainServed). p.limits.read_budget) c.requires.says in omega (arith, budget)
 
-pub returns-in-Ok-serve-clause-tells : goal.returns-in-Ok-serve-clause-tells
-returns-in-Ok-serve-clause-tells g c = λ left. (refl, c.in-Ok-serve.ensures.summed)
+pub returns-in-Ok-run_workload-clause-tells : goal.returns-in-Ok-run_workload-clause-tells
+returns-in-Ok-run_workload-clause-tells g c = λ left. (refl, c.in-Ok-run_workload.ensures.summed)
 
 pub returns-in-Ok-clause-tells : goal.returns-in-Ok-clause-tells
-returns-in-Ok-clause-tells g c = λ left. (refl, c.in-Err-serve.ensures.summed)
+returns-in-Ok-clause-tells g c = λ left. (refl, c.in-Err-run_workload.ensures.summed)
 
 pub returns-clause-tells : goal.returns-clause-tells
 returns-clause-tells g c = λ left.

@@ -9,7 +9,7 @@ use Rattle.cell_core.proofs.machine.Machine.all_read.Given as goal
 -- what the connections from number c on come to, all of them come to
 abbrev pub invariant-conns : goal.invariant-conns
 invariant-conns g l =
-    IsGoing (HasLongest l.max_frame) (λ s. first_of_conns s (length l.fn.self.part.stands.items)) (λ s. all_of_conns s (count_up l.c (length l.fn.self.part.stands.items - l.c)))
+    IsGoing (HasLongest l.max_frame) (λ s. first_of_conns s (length l.fn.self.part.stages.items)) (λ s. all_of_conns s (count_up l.c (length l.fn.self.part.stages.items - l.c)))
     (parts_of l.fn.self) l.moved (parts_of l.self)
 
 abbrev pub decreases-conns : goal.decreases-conns

@@ -9,12 +9,12 @@ use Rattle.cell_core.proofs.machine.Machine.bring.Goals as goal
 pub returns-in_err-arrive-clause-err : goal.returns-in_err-arrive-clause-err
 returns-in_err-arrive-clause-err g c =
     on_same c.from_residual.result _ NoMemory c.from_residual.ensures.1
-    (piece_stops (parts_of c.args.self.now) _ c.args.c (record { table = refl; tape = refl; stands = refl; ends = refl }) (room_in (parts_of c.args.self.now) c.requires.under_way) NoMemory refl
+    (piece_stops (parts_of c.args.self.now) _ c.args.c (record { table = refl; tape = refl; stages = refl; ends = refl }) (room_in (parts_of c.args.self.now) c.requires.under_way) NoMemory refl
     (piece_refused c.args.self.now.part.feeds.items c.args.c c.index_mut.result.now c.requires.there c.index_mut.ensures.value (pieces_of (parts_of c.args.self.now) c.requires.under_way)
     c.arrive.new.self c.in_err-arrive.ensures.pieces c.in_err-arrive.ensures.unchanged c.in_err-arrive.ensures.finish c.in_err-arrive.ensures.rules))
 
 pub returns-clause-done : goal.returns-clause-done
 returns-clause-done g c =
-    piece_line (parts_of c.args.self.now) _ c.args.c (record { table = refl; tape = refl; stands = refl; ends = refl }) (room_in (parts_of c.args.self.now) c.requires.under_way) c.args.bytes.now
+    piece_line (parts_of c.args.self.now) _ c.args.c (record { table = refl; tape = refl; stages = refl; ends = refl }) (room_in (parts_of c.args.self.now) c.requires.under_way) c.args.bytes.now
     (piece_arrived c.args.self.now.part.feeds.items c.args.c c.index_mut.result.now c.requires.there c.index_mut.ensures.value (pieces_of (parts_of c.args.self.now) c.requires.under_way)
     c.arrive.new.self c.args.bytes.now c.in_ok-arrive.ensures.pieces c.in_ok-arrive.ensures.unread c.in_ok-arrive.ensures.finish c.in_ok-arrive.ensures.rules)

@@ -33,4 +33,4 @@ returns-in-Some-Over g c =
 pub returns-in-None : goal.returns-in-None
 returns-in-None g c =
     none_steps c.args.max_frame c.args.c (parts_of c.args.self.now) (λ s x one other reached comes. c.moves_are_reached.ensures.conn s x one other reached comes) c.requires.under_way
-    (subst HasNoTurn (sym c.in-None.is ∙ c.stand.ensures) tt)
+    (subst HasNoTurn (sym c.in-None.is ∙ c.stage.ensures) tt)

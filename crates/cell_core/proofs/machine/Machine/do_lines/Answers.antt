@@ -3,7 +3,7 @@ use Rattle.cell_core.specs.declared.stop.RunStop.{RunStop}
 use Rattle.script_text.specs.Plans.{plain_line}
 use Rattle.cell_loop.specs.Moving.{all_lines}
 use Rattle.cell_core.specs.Parts.{parts_of}
-use Rattle.cell_core.specs.Machines.{HasCrew, StopsSo}
+use Rattle.cell_core.specs.Machines.{HasCrew, StopsMachine}
 use Rattle.cell_core.proofs.Rounds.{sets_out}
 use Rattle.cell_core.proofs.PassRounds.{crew_on, on_same}
 use Rattle.cell_core.proofs.Lines.{good_now, lines_round, lines_stop, last_ok, last_err}
@@ -23,7 +23,7 @@ do_line-requires-clause-good g c κs within =
 
 pub returns-in_err-do_line-clause-err : goal.returns-in_err-do_line-clause-err
 returns-in_err-do_line-clause-err g c =
-    on_same c.from_residual.result (λ (stop : RunStop). StopsSo (HasCrew (g.D.Desk.meaning c.args.desk.now) (length c.args.self.now.workers.items)) (parts_of c.args.self.now) (parts_of c.do_line.new.self) stop)
+    on_same c.from_residual.result (λ (stop : RunStop). StopsMachine (HasCrew (g.D.Desk.meaning c.args.desk.now) (length c.args.self.now.workers.items)) (parts_of c.args.self.now) (parts_of c.do_line.new.self) stop)
     c.in_err-do_line.field-0.0 c.from_residual.ensures.1
     (lines_stop plain_line c.args.lines.now (g.D.Desk.meaning c.args.desk.now) c.lines.line-index (parts_of c.args.self.now) (parts_of c.lines.self) (parts_of c.do_line.new.self) c.lines.invariant
     c.in_err-do_line.field-0.0 c.in_err-do_line.ensures.err)

@@ -2,7 +2,7 @@ use Rattle.std.proofs.Common.{length}
 use Rattle.cell_core.specs.declared.stop.RunStop.{RunStop}
 use Rattle.cell_loop.specs.Moving.{all_passes}
 use Rattle.cell_core.specs.Parts.{parts_of}
-use Rattle.cell_core.specs.Machines.{HasCrew, StopsSo}
+use Rattle.cell_core.specs.Machines.{HasCrew, StopsMachine}
 use Rattle.cell_core.proofs.Rounds.{sets_out}
 use Rattle.cell_core.proofs.PassRounds.{crew_on, drain_round, drain_last, drain_stops, on_same}
 use Rattle.cell_core.proofs.machine.Machine.drain.Goals as goal
@@ -17,7 +17,7 @@ pass-requires-clause-under_way g c κs within =
 pub returns-in_err-pass-clause-err : goal.returns-in_err-pass-clause-err
 returns-in_err-pass-clause-err g c =
     on_same c.from_residual.result
-    (λ (stop : RunStop). StopsSo (HasCrew (g.D.Desk.meaning c.args.desk.now) (length c.args.self.now.workers.items)) (parts_of c.args.self.now) (parts_of c.pass.new.self) stop)
+    (λ (stop : RunStop). StopsMachine (HasCrew (g.D.Desk.meaning c.args.desk.now) (length c.args.self.now.workers.items)) (parts_of c.args.self.now) (parts_of c.pass.new.self) stop)
     c.in_err-pass.field-0.0 c.from_residual.ensures.1
     (drain_stops (g.D.Desk.meaning c.args.desk.now) (parts_of c.args.self.now) (parts_of c.passes.self) (parts_of c.pass.new.self) c.in_err-pass.field-0.0 c.passes.invariant c.in_err-pass.ensures.err)
 

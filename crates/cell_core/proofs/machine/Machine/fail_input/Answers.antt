@@ -8,7 +8,7 @@ use Rattle.cell_core.proofs.machine.Machine.fail_input.Goals as goal
 pub returns : goal.returns
 returns g c =
     record {
-      done = fault_line (parts_of c.args.self.now) _ c.args.c (record { table = refl; tape = refl; stands = refl; ends = refl }) (room_in (parts_of c.args.self.now) c.requires.under_way)
+      done = fault_line (parts_of c.args.self.now) _ c.args.c (record { table = refl; tape = refl; stages = refl; ends = refl }) (room_in (parts_of c.args.self.now) c.requires.under_way)
           (finish_known c.args.self.now.part.feeds.items c.args.c c.index_mut.result.now c.requires.there c.index_mut.ensures.value (pieces_of (parts_of c.args.self.now) c.requires.under_way)
           _ faults (pieces_there c.args.self.now.part.feeds.items c.args.c c.index_mut.result.now c.requires.there c.index_mut.ensures.value (pieces_of (parts_of c.args.self.now) c.requires.under_way))
           refl refl refl);

@@ -3,7 +3,7 @@ use Rattle.cell_core.specs.declared.stop.RunStop.TheVariants.{NoMemory}
 use Rattle.std.proofs.Common.{length, refl, ap}
 use Rattle.cell_loop.specs.LoopMoves.{AnySetting}
 use Rattle.cell_core.specs.Parts.{parts_of}
-use Rattle.cell_core.specs.Machines.{StopsSo}
+use Rattle.cell_core.specs.Machines.{StopsMachine}
 use Rattle.cell_core.proofs.PassRounds.{on_same}
 use Rattle.cell_core.proofs.Lines.{opening_line, opening_stops}
 use Rattle.cell_core.proofs.machine.Machine.open_next.Goals as goal
@@ -11,7 +11,7 @@ use Rattle.cell_core.proofs.machine.Machine.open_next.Goals as goal
 pub returns-in_err-open-clause-err : goal.returns-in_err-open-clause-err
 returns-in_err-open-clause-err g c =
     on_same c.from_residual.result
-    (λ (stop : RunStop). StopsSo AnySetting (parts_of c.args.self.now) (record { part = c.open.new.self; hall = c.args.self.now.hall; workers = c.args.self.now.workers.items }) stop)
+    (λ (stop : RunStop). StopsMachine AnySetting (parts_of c.args.self.now) (record { part = c.open.new.self; hall = c.args.self.now.hall; workers = c.args.self.now.workers.items }) stop)
     NoMemory c.from_residual.ensures.1
     (opening_stops c.open.new.self (parts_of c.args.self.now) c.in_err-open.ensures.room (ap (λ v. length v.items) c.in_err-open.ensures.feeds) NoMemory refl c.in_err-open.ensures.err)
 

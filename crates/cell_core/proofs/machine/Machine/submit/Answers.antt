@@ -10,14 +10,14 @@ use Rattle.cell_core.proofs.machine.Machine.submit.Goals as goal
 
 pub submit-requires-after_bounds : goal.submit-requires-after_bounds
 submit-requires-after_bounds g c κs within = (
-  subst (λ (payload : List ℕ). SeenCan handler_rules c.args.self.now.hall (submit (key_of c.args.c c.hand_out-i.result.0) payload)) (sym c.new.ensures)
-      (hands_to (parts_of c.args.self.now) c.args.c c.hand_out-i.result.0 c.hand_out-i.result.1.items c.hand_out-i.new.self c.requires.under_way c.requires.whole c.hand_out-i.ensures.handed),
+  subst (λ (payload : List ℕ). SeenCan handler_rules c.args.self.now.hall (submit (key_of c.args.c c.give-i.result.0) payload)) (sym c.new.ensures)
+      (hands_to (parts_of c.args.self.now) c.args.c c.give-i.result.0 c.give-i.result.1.items c.give-i.new.self c.requires.under_way c.requires.whole c.give-i.ensures.handed),
   tt,
 )
 
 pub returns-clause-moved : goal.returns-clause-moved
 returns-clause-moved g c =
-    submit_moves c.args.self.now.part c.args.self.now.hall c.args.self.now.workers.items c.args.c c.hand_out-i.result.0 c.hand_out-i.result.1.items c.hand_out-i.new.self c.submit.new.self
-    (answer_of c.submit.result) c.hand_out-i.ensures.handed
-    (subst (λ (payload : List ℕ). SeenGives handler_rules c.args.self.now.hall (submit (key_of c.args.c c.hand_out-i.result.0) payload) (answer_of c.submit.result) c.submit.new.self) c.new.ensures c.submit.ensures)
+    submit_moves c.args.self.now.part c.args.self.now.hall c.args.self.now.workers.items c.args.c c.give-i.result.0 c.give-i.result.1.items c.give-i.new.self c.submit.new.self
+    (answer_of c.submit.result) c.give-i.ensures.handed
+    (subst (λ (payload : List ℕ). SeenGives handler_rules c.args.self.now.hall (submit (key_of c.args.c c.give-i.result.0) payload) (answer_of c.submit.result) c.submit.new.self) c.new.ensures c.submit.ensures)
     (λ s x one other reached comes. c.moves_are_reached.ensures.conn s x one other reached comes)

@@ -1,7 +1,7 @@
 use Rattle.std.proofs.Common.{refl}
 use Rattle.cell_core.specs.declared.stop.RunStop.{RunStop}
 use Rattle.cell_core.specs.Parts.{parts_of}
-use Rattle.cell_core.specs.Machines.{HasDesk, StopsSo}
+use Rattle.cell_core.specs.Machines.{HasDesk, StopsMachine}
 use Rattle.cell_core.proofs.PassRounds.{on_same, machine_of, fails_so}
 use Rattle.cell_core.proofs.Lines.{worker_line}
 use Rattle.cell_core.proofs.machine.Machine.turn_worker.Goals as goal
@@ -12,7 +12,7 @@ worker_move-requires-clause-under_way g c κs within =
 
 pub returns-in_err-worker_move-clause-err : goal.returns-in_err-worker_move-clause-err
 returns-in_err-worker_move-clause-err g c =
-    on_same c.from_residual.result (λ (stop : RunStop). StopsSo (HasDesk (g.D.Desk.meaning c.args.desk.now)) (parts_of c.args.self.now) (parts_of c.worker_move.new.self) stop)
+    on_same c.from_residual.result (λ (stop : RunStop). StopsMachine (HasDesk (g.D.Desk.meaning c.args.desk.now)) (parts_of c.args.self.now) (parts_of c.worker_move.new.self) stop)
     c.in_err-worker_move.field-0.0 c.from_residual.ensures.1
     (fails_so (g.D.Desk.meaning c.args.desk.now) (parts_of c.args.self.now) (parts_of c.worker_move.new.self) c.in_err-worker_move.field-0.0 c.in_err-worker_move.ensures.only
     c.in_err-worker_move.ensures.failed c.in_err-worker_move.ensures.kept c.in_err-worker_move.ensures.later)

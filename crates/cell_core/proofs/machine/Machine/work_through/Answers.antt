@@ -2,7 +2,7 @@ use Rattle.std.proofs.Common.{◌-◌, ◌<◌, ℕ, refl, sym, subst}
 use Rattle.cell_core.specs.declared.stop.RunStop.{RunStop}
 use Rattle.cell_loop.specs.Moving.{all_of_worker}
 use Rattle.cell_core.specs.Parts.{parts_of}
-use Rattle.cell_core.specs.Machines.{HasDesk, StopsSo}
+use Rattle.cell_core.specs.Machines.{HasDesk, StopsMachine}
 use Rattle.cell_core.proofs.Rounds.{begins}
 use Rattle.cell_core.proofs.PassRounds.{machine_of, desk_on, work_round, work_puts, work_ends, work_stops, fails_so, loop_stops, on_same}
 use Rattle.cell_core.proofs.machine.Machine.work_through.Goals as goal
@@ -26,7 +26,7 @@ worker_move-requires-clause-there g c κs within = subst (λ (n : ℕ). c.args.w
 
 pub returns-in_err-worker_move-clause-err : goal.returns-in_err-worker_move-clause-err
 returns-in_err-worker_move-clause-err g c =
-    on_same c.from_residual.result (λ (stop : RunStop). StopsSo (HasDesk (g.D.Desk.meaning c.args.desk.now)) (parts_of c.args.self.now) (parts_of c.worker_move.new.self) stop)
+    on_same c.from_residual.result (λ (stop : RunStop). StopsMachine (HasDesk (g.D.Desk.meaning c.args.desk.now)) (parts_of c.args.self.now) (parts_of c.worker_move.new.self) stop)
     c.in_err-worker_move.field-0.0 c.from_residual.ensures.1
     (loop_stops (HasDesk (g.D.Desk.meaning c.args.desk.now)) (λ s. all_of_worker s 3 c.args.w) (λ s. all_of_worker s (3 - c.tries.tried) c.args.w) (parts_of c.args.self.now) (parts_of c.tries.self)
     (parts_of c.worker_move.new.self) c.tries.moved c.in_err-worker_move.field-0.0 c.tries.invariant

@@ -5,9 +5,9 @@ use Rattle.host_model.specs.declared.cause.EndCause.TheVariants.{NoMemory}
 use Rattle.conn_table.specs.Slots.{slot_in}
 use Rattle.conn_table.specs.Table.{TableView, slot_of, sizes_given, size_wanted, with_admitted}
 use Rattle.conn_table.proofs.Rising.{count_put}
-use Rattle.cell_loop.specs.declared.loop_part.Stand.TheVariants.{Lean, Framed}
+use Rattle.cell_loop.specs.declared.loop_part.CellStage.TheVariants.{Lean, Framed}
 use Rattle.cell_loop.specs.LoopTied.{IsLoopTied}
-use Rattle.cell_loop.specs.Closing.{HasSizeSo, IsClosed}
+use Rattle.cell_loop.specs.Closing.{StageHasSize, IsClosed}
 use Rattle.conn_refinement.proofs.Tables.{place_of}
 use Rattle.cell_loop.proofs.Rooming.{room_kept, as_many}
 use Rattle.cell_loop.proofs.ClosingOff.{has_room, closed_behind, lean_there, lean_size, lean_phase, lean_going}
@@ -24,10 +24,10 @@ admit-requires c =
     }
 
 pub index_mut-requires : goal.index_mut-requires
-index_mut-requires c = subst (λ n. c.args.c < n) (sym c.args.self.now.stands.ok.0) (place_of c.args.self.now.stands.items c.args.c Lean c.requires.lean)
+index_mut-requires c = subst (λ n. c.args.c < n) (sym c.args.self.now.stages.ok.0) (place_of c.args.self.now.stages.items c.args.c Lean c.requires.lean)
 
-pub give_up-requires : goal.give_up-requires
-give_up-requires c =
+pub end-requires : goal.end-requires
+end-requires c =
     let there : IsSome (slot_in c.args.c c.args.self.now.table.slots) = lean_there c.args.self.now c.args.c c.requires.under_way c.requires.lean in
     record {
       there = same_there c.args.c c.args.self.now.table c.admit.new.self c.in-Err.ensures.1 there;
@@ -36,10 +36,10 @@ give_up-requires c =
           (lean_going (slot_of c.args.c c.args.self.now.table.slots).conn.phase (lean_phase c.args.self.now c.args.c c.requires.under_way c.requires.lean));
       outside = tt;
       size =
-          same_size_so c.args.c c.args.self.now.table c.admit.new.self c.in-Err.ensures.1 (slice_index_or c.args.self.now.stands.items c.args.c Lean)
-          (subst (λ k. HasSizeSo k (slot_of c.args.c c.args.self.now.table.slots).size) (sym (get_or_from_slice_get c.args.self.now.stands.items c.args.c Lean Lean c.requires.lean))
+          same_size_so c.args.c c.args.self.now.table c.admit.new.self c.in-Err.ensures.1 (slice_index_or c.args.self.now.stages.items c.args.c Lean)
+          (subst (λ k. StageHasSize k (slot_of c.args.c c.args.self.now.table.slots).size) (sym (get_or_from_slice_get c.args.self.now.stages.items c.args.c Lean Lean c.requires.lean))
           (lean_size c.args.self.now c.args.c c.requires.under_way c.requires.lean));
-      opened = place_of c.args.self.now.stands.items c.args.c Lean c.requires.lean;
+      opened = place_of c.args.self.now.stages.items c.args.c Lean c.requires.lean;
       room = has_room c.args.self.now c.args.c c.requires.under_way.room there;
     }
 
@@ -55,7 +55,7 @@ returns-in-Ok-true-clause-room c =
     let admits : (sizes_given c.args.self.now.table.slots + size_wanted (slot_of c.args.c c.args.self.now.table.slots).conn ≤ c.args.self.now.table.budget)
     × (c.admit.new.self ≡ with_admitted c.args.c c.args.self.now.table) = admits_true c.args.c c.args.self.now.table c.admit.new.self c.admit.result (let is : c.admit.result ≡ Ok true = cc in is) c.admit.ensures in
     room_kept c.args.self.now _ c.requires.under_way.room refl refl (as_many _ _ (ap (λ (v : TableView). length v.slots) admits.1 ∙ count_put _ c.args.self.now.table.slots))
-    (length-set c.args.self.now.stands.items c.args.c Framed)
+    (length-set c.args.self.now.stages.items c.args.c Framed)
 
 pub returns-in-Ok-false-clause-moved : goal.returns-in-Ok-false-clause-moved
 returns-in-Ok-false-clause-moved c =
@@ -68,7 +68,7 @@ returns-in-Ok-false-clause-moved c =
 
 pub returns-in-Err-clause-moved : goal.returns-in-Err-clause-moved
 returns-in-Err-clause-moved c =
-    let closed : IsClosed c.args.c NoMemory c.args.self.now c.give_up.new.self =
-    closed_behind c.args.c NoMemory c.args.self.now c.give_up.new.self c.admit.new.self (same_in c.args.c c.args.self.now.table c.admit.new.self c.in-Err.ensures.1)
-    (same_count c.args.c c.args.self.now.table c.admit.new.self c.in-Err.ensures.1) c.give_up.ensures.closed in
-    λ s play w t. is_refused s c.args.c c.args.self.now play c.requires.lean c.requires.held c.full.ensures.rising t c.give_up.new.self c.in-Err.ensures.0 closed
+    let closed : IsClosed c.args.c NoMemory c.args.self.now c.end.new.self =
+    closed_behind c.args.c NoMemory c.args.self.now c.end.new.self c.admit.new.self (same_in c.args.c c.args.self.now.table c.admit.new.self c.in-Err.ensures.1)
+    (same_count c.args.c c.args.self.now.table c.admit.new.self c.in-Err.ensures.1) c.end.ensures.closed in
+    λ s play w t. is_refused s c.args.c c.args.self.now play c.requires.lean c.requires.held c.full.ensures.rising t c.end.new.self c.in-Err.ensures.0 closed

@@ -11,9 +11,9 @@ pub returns-in_err-read_piece-clause-err : goal.returns-in_err-read_piece-clause
 returns-in_err-read_piece-clause-err c =
     on_err c.from_residual.result _
     (λ s play t. c.in_err-read_piece.ensures.err s play
-    (refed_tied s c.args.c c.args.self.now c.begin_piece.new.self play t c.begin_piece.ensures.table c.begin_piece.ensures.tape c.begin_piece.ensures.stands c.begin_piece.ensures.fed))
+    (refed_tied s c.args.c c.args.self.now c.begin_piece.new.self play t c.begin_piece.ensures.table c.begin_piece.ensures.tape c.begin_piece.ensures.stages c.begin_piece.ensures.fed))
 
 pub returns-clause-moved : goal.returns-clause-moved
 returns-clause-moved c = λ s play w t.
     c.read_behind.ensures.moved s play tt
-    (refed_tied s c.args.c c.args.self.now c.begin_piece.new.self play t c.begin_piece.ensures.table c.begin_piece.ensures.tape c.begin_piece.ensures.stands c.begin_piece.ensures.fed)
+    (refed_tied s c.args.c c.args.self.now c.begin_piece.new.self play t c.begin_piece.ensures.table c.begin_piece.ensures.tape c.begin_piece.ensures.stages c.begin_piece.ensures.fed)

@@ -7,7 +7,7 @@ use Rattle.conn_state.specs.Step.{after_answer}
 use Rattle.conn_table.specs.Slots.{slot_in}
 use Rattle.conn_table.specs.Table.{slot_of, TakesRoom}
 use Rattle.conn_table.proofs.Placing.{value_of}
-use Rattle.cell_loop.specs.declared.loop_part.Stand.TheVariants.{Lean, Asked}
+use Rattle.cell_loop.specs.declared.loop_part.CellStage.TheVariants.{Lean, Asked}
 use Rattle.conn_refinement.specs.Tables.{IsSameBut}
 use Rattle.cell_loop.specs.Closing.{IsClosed}
 use Rattle.conn_refinement.proofs.Tables.{place_of, but_then}
@@ -39,10 +39,10 @@ close-requires-clause-given_back c =
     size_is c.args.c None c.answered.new.self c.release.new.self (state_there c.args.c _ c.args.self.now.table c.answered.new.self (asked_there c.args.self.now c.args.c c.requires.under_way c.requires.asked) c.answered.ensures) c.release.ensures
 
 pub close-requires-clause-opened : goal.close-requires-clause-opened
-close-requires-clause-opened c = place_of c.args.self.now.stands.items c.args.c Asked c.requires.asked
+close-requires-clause-opened c = place_of c.args.self.now.stages.items c.args.c Asked c.requires.asked
 
 pub index_mut-requires : goal.index_mut-requires
-index_mut-requires c = subst (λ n. c.args.c < n) (sym c.args.self.now.stands.ok.0) (place_of c.args.self.now.stands.items c.args.c Asked c.requires.asked)
+index_mut-requires c = subst (λ n. c.args.c < n) (sym c.args.self.now.stages.ok.0) (place_of c.args.self.now.stages.items c.args.c Asked c.requires.asked)
 
 pub returns-then-is_some-clause-taken : goal.returns-then-is_some-clause-taken
 returns-then-is_some-clause-taken c =
@@ -58,10 +58,10 @@ returns-then-is_some-clause-taken c =
     (size_but c.args.c None c.answered.new.self c.release.new.self there c.release.ensures) in
     let closed : IsClosed c.args.c cause.0 (record c.args.self.now { table = c.release.new.self }) c.close.new.self =
     close_is c.args.c cause.0 (record c.args.self.now { table = c.release.new.self }) c.close.new.self still c.close.ensures.table c.close.ensures.gone
-    (c.close.ensures.stands cause.0 (ap (λ (v : ConnView). cause_of v.phase) phase ∙ cause.1)) c.close.ensures.tape c.close.ensures.capacity c.close.ensures.feeds c.close.ensures.ends in
+    (c.close.ensures.stages cause.0 (ap (λ (v : ConnView). cause_of v.phase) phase ∙ cause.1)) c.close.ensures.tape c.close.ensures.capacity c.close.ensures.feeds c.close.ensures.ends in
     λ i s play later t first.
     settles_over s c.args.c i c.args.settled c.args.self.now c.close.new.self play later c.requires.asked c.requires.some t first
-    (but_then c.args.c c.args.self.now.table c.release.new.self c.close.new.self.table but closed.table) closed.feeds cause.0 cause.1 closed.gone closed.stands closed.tape
+    (but_then c.args.c c.args.self.now.table c.release.new.self c.close.new.self.table but closed.table) closed.feeds cause.0 cause.1 closed.gone closed.stages closed.tape
 
 pub returns-then-is_some-clause-room : goal.returns-then-is_some-clause-room
 returns-then-is_some-clause-room c =
@@ -74,7 +74,7 @@ returns-then-is_some-clause-room c =
     let cause : (x : EndCause) × (cause_of (after_answer c.args.settled) ≡ Some x) = value_of (cause_of (after_answer c.args.settled)) over in
     let closed : IsClosed c.args.c cause.0 (record c.args.self.now { table = c.release.new.self }) c.close.new.self =
     close_is c.args.c cause.0 (record c.args.self.now { table = c.release.new.self }) c.close.new.self still c.close.ensures.table c.close.ensures.gone
-    (c.close.ensures.stands cause.0 (ap (λ (v : ConnView). cause_of v.phase) phase ∙ cause.1)) c.close.ensures.tape c.close.ensures.capacity c.close.ensures.feeds c.close.ensures.ends in
+    (c.close.ensures.stages cause.0 (ap (λ (v : ConnView). cause_of v.phase) phase ∙ cause.1)) c.close.ensures.tape c.close.ensures.capacity c.close.ensures.feeds c.close.ensures.ends in
     gone_room c.args.c cause.0 (record c.args.self.now { table = c.release.new.self }) c.close.new.self closed
     (room_kept c.args.self.now (record c.args.self.now { table = c.release.new.self }) c.requires.under_way.room refl refl
     (as_many _ _ (size_count c.args.c None c.answered.new.self c.release.new.self there c.release.ensures
@@ -102,4 +102,4 @@ returns-clause-room c =
     let there : IsSome (slot_in c.args.c c.answered.new.self.slots) = state_there c.args.c _ c.args.self.now.table c.answered.new.self (asked_there c.args.self.now c.args.c c.requires.under_way c.requires.asked) c.answered.ensures in
     room_kept c.args.self.now _ c.requires.under_way.room refl refl
     (as_many _ _ (size_count c.args.c None c.answered.new.self c.release.new.self there c.release.ensures
-    ∙ state_count c.args.c _ c.args.self.now.table c.answered.new.self (asked_there c.args.self.now c.args.c c.requires.under_way c.requires.asked) c.answered.ensures)) (length-set c.args.self.now.stands.items c.args.c Lean)
+    ∙ state_count c.args.c _ c.args.self.now.table c.answered.new.self (asked_there c.args.self.now c.args.c c.requires.under_way c.requires.asked) c.answered.ensures)) (length-set c.args.self.now.stages.items c.args.c Lean)

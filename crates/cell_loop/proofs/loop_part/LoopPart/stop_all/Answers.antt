@@ -9,7 +9,7 @@ pub stop-requires : goal.stop-requires
 stop-requires c =
     record {
       under_way = leads_way c.args.self.now c.loop-c.self c.requires.under_way c.loop-c.invariant.0 c.loop-c.invariant.3;
-      opened = let known : length c.loop-c.self.stands.items ≡ length c.args.self.now.stands.items = c.loop-c.invariant.1 in omega (arith, c.args.self.now.stands.ok.0);
+      opened = let known : length c.loop-c.self.stages.items ≡ length c.args.self.now.stages.items = c.loop-c.invariant.1 in omega (arith, c.args.self.now.stages.ok.0);
     }
 
 pub loop-c-preserved : goal.loop-c-preserved
@@ -22,8 +22,8 @@ loop-c-preserved c = (
 
 pub returns : goal.returns
 returns c =
-    let known : length c.loop-c.self.stands.items ≡ length c.args.self.now.stands.items = c.loop-c.invariant.1 in
+    let known : length c.loop-c.self.stages.items ≡ length c.args.self.now.stages.items = c.loop-c.invariant.1 in
     record {
-      stopped = stops_all c.args.self.now c.loop-c.self c.loop-c.invariant.0 (λ x below. c.loop-c.invariant.2 x (omega (arith, c.args.self.now.stands.ok.0)));
+      stopped = stops_all c.args.self.now c.loop-c.self c.loop-c.invariant.0 (λ x below. c.loop-c.invariant.2 x (omega (arith, c.args.self.now.stages.ok.0)));
       room = c.loop-c.invariant.3;
     }

@@ -1,5 +1,5 @@
 use Rattle.std.proofs.Common.{◌≡◌, ℕ, ◌<◌, length, slice_index_or}
-use Rattle.cell_loop.specs.declared.loop_part.Stand.TheVariants.{Lean}
+use Rattle.cell_loop.specs.declared.loop_part.CellStage.TheVariants.{Lean}
 use Rattle.cell_loop.specs.LoopTied.{HasRoomToClose}
 use Rattle.cell_loop.specs.LoopMoves.{StandIsOver, LoopLeads}
 use Rattle.cell_loop.proofs.loop_part.LoopPart.stop_all.Given as goal
@@ -7,5 +7,5 @@ use Rattle.cell_loop.proofs.loop_part.LoopPart.stop_all.Given as goal
 -- events lead to where the connections before number c have ended
 abbrev pub invariant-loop-c : goal.invariant-loop-c
 invariant-loop-c l =
-    LoopLeads l.fn.self l.self × (length l.self.stands.items ≡ length l.fn.self.stands.items)
-    × ((x : ℕ) → x < l.c → StandIsOver (slice_index_or l.self.stands.items x Lean)) × HasRoomToClose l.self
+    LoopLeads l.fn.self l.self × (length l.self.stages.items ≡ length l.fn.self.stages.items)
+    × ((x : ℕ) → x < l.c → StandIsOver (slice_index_or l.self.stages.items x Lean)) × HasRoomToClose l.self

@@ -30,7 +30,7 @@ returns-in_ok-write_most-in-Some-Takes-clause-moved c =
     writes_some s c.args.c c.args.self.now play c.requires.lean c.requires.left t c.in-Some-Takes.most (drop 1 (rules_in c.args.self.now.feeds.items c.args.c))
     c.write_most-in-Some-Takes.new.self c.pass_rule.new.self
     (bounds_some (rules_in c.args.self.now.feeds.items c.args.c) c.in-Some-Takes.most (drop 1 (rules_in c.args.self.now.feeds.items c.args.c)) (t.writes c.args.c) are)
-    (t.rules c.args.c ∙ are) c.in_ok-write_most-in-Some-Takes.ensures.wrote c.pass_rule.ensures.table c.pass_rule.ensures.tape c.pass_rule.ensures.stands c.pass_rule.ensures.fed
+    (t.rules c.args.c ∙ are) c.in_ok-write_most-in-Some-Takes.ensures.wrote c.pass_rule.ensures.table c.pass_rule.ensures.tape c.pass_rule.ensures.stages c.pass_rule.ensures.fed
 
 pub returns-in-Some-Block-clause-moved : goal.returns-in-Some-Block-clause-moved
 returns-in-Some-Block-clause-moved c =
@@ -39,7 +39,7 @@ returns-in-Some-Block-clause-moved c =
     rules_next c.args.self.now.feeds.items c.args.c c.index.result.now c.requires.fed c.index.ensures c.next_rule.result c.next_rule.ensures Block some in
     λ s play any t.
     blocks_once s c.args.c c.args.self.now play c.requires.lean c.requires.left t (drop 1 (rules_in c.args.self.now.feeds.items c.args.c)) c.pass_rule-in-Some-Block.new.self
-    (t.rules c.args.c ∙ are) c.pass_rule-in-Some-Block.ensures.table c.pass_rule-in-Some-Block.ensures.tape c.pass_rule-in-Some-Block.ensures.stands c.pass_rule-in-Some-Block.ensures.fed
+    (t.rules c.args.c ∙ are) c.pass_rule-in-Some-Block.ensures.table c.pass_rule-in-Some-Block.ensures.tape c.pass_rule-in-Some-Block.ensures.stages c.pass_rule-in-Some-Block.ensures.fed
 
 pub returns-in-Some-Fails-clause-moved : goal.returns-in-Some-Fails-clause-moved
 returns-in-Some-Fails-clause-moved c =
@@ -49,4 +49,4 @@ returns-in-Some-Fails-clause-moved c =
     λ s play any t.
     fails_once s c.args.c c.args.self.now play c.requires.lean c.requires.left t (drop 1 (rules_in c.args.self.now.feeds.items c.args.c)) c.fail_write.new.self
     c.pass_rule-in-Some-Fails.new.self (t.rules c.args.c ∙ are) c.fail_write.ensures.closed c.pass_rule-in-Some-Fails.ensures.table c.pass_rule-in-Some-Fails.ensures.tape
-    c.pass_rule-in-Some-Fails.ensures.stands c.pass_rule-in-Some-Fails.ensures.fed
+    c.pass_rule-in-Some-Fails.ensures.stages c.pass_rule-in-Some-Fails.ensures.fed

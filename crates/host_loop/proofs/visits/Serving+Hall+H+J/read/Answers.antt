@@ -1,5 +1,5 @@
 use Rattle.std.proofs.Common.{subst}
-use Rattle.loop_conns.specs.Going.{IsReadSo}
+use Rattle.loop_conns.specs.Going.{ReadTells}
 use Rattle.host_loop.proofs.Keeping.{goes_on, serves_on}
 use Rattle.host_loop.proofs.visits.Serving+Hall+H+J.read.Goals as goal
 
@@ -13,22 +13,22 @@ pub admit-requires-clause-serving : goal.admit-requires-clause-serving
 admit-requires-clause-serving g c κs within = serves_on _ _ _ _ _ _ _ _ c.requires.serving (g.L.Links.state c.read.new.links) c.read.new.conns c.read.ensures.going c.read.ensures.budget
 
 pub admit-requires-clause-waits : goal.admit-requires-clause-waits
-admit-requires-clause-waits g c κs within = subst (IsReadSo c.args.c c.read.new.conns) c.in-Sized.is c.read.ensures.step
+admit-requires-clause-waits g c κs within = subst (ReadTells c.args.c c.read.new.conns) c.in-Sized.is c.read.ensures.step
 
 pub submit_and_ring-requires-clause-serving : goal.submit_and_ring-requires-clause-serving
 submit_and_ring-requires-clause-serving g c κs within = (c.read.new.links, serves_on _ _ _ _ _ _ _ _ c.requires.serving (g.L.Links.state c.read.new.links) c.read.new.conns c.read.ensures.going c.read.ensures.budget)
 
 pub submit_and_ring-requires-clause-open : goal.submit_and_ring-requires-clause-open
-submit_and_ring-requires-clause-open g c κs within = (subst (IsReadSo c.args.c c.read.new.conns) c.in-Whole.is c.read.ensures.step).0
+submit_and_ring-requires-clause-open g c κs within = (subst (ReadTells c.args.c c.read.new.conns) c.in-Whole.is c.read.ensures.step).0
 
 pub submit_and_ring-requires-clause-whole : goal.submit_and_ring-requires-clause-whole
-submit_and_ring-requires-clause-whole g c κs within = (subst (IsReadSo c.args.c c.read.new.conns) c.in-Whole.is c.read.ensures.step).1
+submit_and_ring-requires-clause-whole g c κs within = (subst (ReadTells c.args.c c.read.new.conns) c.in-Whole.is c.read.ensures.step).1
 
 pub returns-in-More-clause-serving : goal.returns-in-More-clause-serving
 returns-in-More-clause-serving g c = serves_on _ _ _ _ _ _ _ _ c.requires.serving (g.L.Links.state c.read.new.links) c.read.new.conns c.read.ensures.going c.read.ensures.budget
 
-pub returns-in-Rests-clause-serving : goal.returns-in-Rests-clause-serving
-returns-in-Rests-clause-serving g c = serves_on _ _ _ _ _ _ _ _ c.requires.serving (g.L.Links.state c.read.new.links) c.read.new.conns c.read.ensures.going c.read.ensures.budget
+pub returns-in-Blocked-clause-serving : goal.returns-in-Blocked-clause-serving
+returns-in-Blocked-clause-serving g c = serves_on _ _ _ _ _ _ _ _ c.requires.serving (g.L.Links.state c.read.new.links) c.read.new.conns c.read.ensures.going c.read.ensures.budget
 
 pub returns-in-Over-clause-serving : goal.returns-in-Over-clause-serving
 returns-in-Over-clause-serving g c = serves_on _ _ _ _ _ _ _ _ c.requires.serving (g.L.Links.state c.read.new.links) c.read.new.conns c.read.ensures.going c.read.ensures.budget

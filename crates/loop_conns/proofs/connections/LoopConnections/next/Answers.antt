@@ -17,7 +17,7 @@ add-requires-clause-closed g c =
 
 pub push_reserved-requires : goal.push_reserved-requires
 push_reserved-requires g c =
-    let room : length c.args.self.now.places.items < vec_capacity c.args.self.now.places = c.requires.place.0 in omega (arith, c.args.self.now.places.ok.0)
+    let room : length c.args.self.now.stages.items < vec_capacity c.args.self.now.stages = c.requires.place.0 in omega (arith, c.args.self.now.stages.ok.0)
 
 pub push_reserved-requires-in-Ok-Opened : goal.push_reserved-requires-in-Ok-Opened
 push_reserved-requires-in-Ok-Opened g c =
@@ -30,7 +30,7 @@ returns-in-Ok-Opened-clause-going g c =
     (record {
       room = room_for_one c.full.result (length c.args.self.now.table.slots) c.full.ensures.full.1 c.full.ensures.few h.opens.room;
       table = c.add.ensures;
-      places = c.push_reserved.ensures.items;
+      stages = c.push_reserved.ensures.items;
       causes = c.push_reserved-in-Ok-Opened.ensures.items;
       owing = refl;
     })

@@ -46,33 +46,33 @@ pub overflow_sub-self : goal.overflow_sub-self
 overflow_sub-self g c =
     some_awaited c.requires.collected.0 c.requires.collected.2.0 _ c.args.self.now c.requires.collected.2.1 c.requires.collected.2.2 c.args.key c.args.settled c.requires.collected.2.3
 
-pub let_go-requires-clause-there : goal.let_go-requires-clause-there
-let_go-requires-clause-there g c κs within =
+pub close-requires-clause-there : goal.close-requires-clause-there
+close-requires-clause-there g c κs within =
     let aw : IsAwaited (g.L.Links.state c.args.links.now) c.args.self.now c.requires.collected.2.2.loop c.args.key.c = awaited c.requires.collected.0 c.requires.collected.2.0 _ c.args.self.now c.requires.collected.2.1 c.requires.collected.2.2 c.args.key c.args.settled c.requires.collected.2.3 in
     let has : HasAnswered c.args.key.c c.with_some_reply.result c.args.self.now.table c.answered.new.self c.release.new.self =
     record { there = aw.stands.here.there; answered = c.answered.ensures; released = c.release.ensures } in
     answered_there c.args.key.c c.with_some_reply.result c.args.self.now.table c.answered.new.self c.release.new.self has
 
-pub let_go-requires-clause-over : goal.let_go-requires-clause-over
-let_go-requires-clause-over g c κs within =
+pub close-requires-clause-over : goal.close-requires-clause-over
+close-requires-clause-over g c κs within =
     let over : IsSome (cause_of (slot_of c.args.key.c c.release.new.self.slots).conn.phase) =
     ap is_some (sym (c.cause.ensures.cause ∙ ap (λ (v : ConnView). cause_of v.phase) c.conn.ensures.state)) ∙ sym c.is_some.ensures ∙ c.if-is_some.true in
     over
 
-pub let_go-requires-clause-given_back : goal.let_go-requires-clause-given_back
-let_go-requires-clause-given_back g c κs within =
+pub close-requires-clause-given_back : goal.close-requires-clause-given_back
+close-requires-clause-given_back g c κs within =
     let aw : IsAwaited (g.L.Links.state c.args.links.now) c.args.self.now c.requires.collected.2.2.loop c.args.key.c = awaited c.requires.collected.0 c.requires.collected.2.0 _ c.args.self.now c.requires.collected.2.1 c.requires.collected.2.2 c.args.key c.args.settled c.requires.collected.2.3 in
     let has : HasAnswered c.args.key.c c.with_some_reply.result c.args.self.now.table c.answered.new.self c.release.new.self =
     record { there = aw.stands.here.there; answered = c.answered.ensures; released = c.release.ensures } in
     answered_size c.args.key.c c.with_some_reply.result c.args.self.now.table c.answered.new.self c.release.new.self has
 
-pub let_go-requires-clause-known : goal.let_go-requires-clause-known
-let_go-requires-clause-known g c κs within =
+pub close-requires-clause-known : goal.close-requires-clause-known
+close-requires-clause-known g c κs within =
     let aw : IsAwaited (g.L.Links.state c.args.links.now) c.args.self.now c.requires.collected.2.2.loop c.args.key.c = awaited c.requires.collected.0 c.requires.collected.2.0 _ c.args.self.now c.requires.collected.2.1 c.requires.collected.2.2 c.args.key c.args.settled c.requires.collected.2.3 in
     aw.stands.known
 
-pub let_go-requires-clause-link : goal.let_go-requires-clause-link
-let_go-requires-clause-link g c κs within =
+pub close-requires-clause-link : goal.close-requires-clause-link
+close-requires-clause-link g c κs within =
     let aw : IsAwaited (g.L.Links.state c.args.links.now) c.args.self.now c.requires.collected.2.2.loop c.args.key.c = awaited c.requires.collected.0 c.requires.collected.2.0 _ c.args.self.now c.requires.collected.2.1 c.requires.collected.2.2 c.args.key c.args.settled c.requires.collected.2.3 in
     aw.stands.here.link
 
@@ -82,19 +82,19 @@ returns-then-is_some-clause-going g c =
     ap is_some (sym (c.cause.ensures.cause ∙ ap (λ (v : ConnView). cause_of v.phase) c.conn.ensures.state)) ∙ sym c.is_some.ensures ∙ c.if-is_some.true in
     let owed : 1 ≤ c.args.self.now.owing = some_awaited c.requires.collected.0 c.requires.collected.2.0 _ c.args.self.now c.requires.collected.2.1 c.requires.collected.2.2 c.args.key c.args.settled c.requires.collected.2.3 in
     let why : (x : EndCause) × (cause_of (slot_of c.args.key.c c.release.new.self.slots).conn.phase ≡ Some x) = value_of (cause_of (slot_of c.args.key.c c.release.new.self.slots).conn.phase) over in
-    let less : c.let_go.new.self.owing ≡ c.args.self.now.owing - 1 = c.let_go.ensures.owing in
+    let less : c.close.new.self.owing ≡ c.args.self.now.owing - 1 = c.close.ensures.owing in
     λ max small first asks going own.
     let aw : IsAwaited (g.L.Links.state c.args.links.now) c.args.self.now going.loop c.args.key.c = awaited max first _ c.args.self.now asks going c.args.key c.args.settled own in
     let has : HasAnswered c.args.key.c c.with_some_reply.result c.args.self.now.table c.answered.new.self c.release.new.self =
     record { there = aw.stands.here.there; answered = c.answered.ensures; released = c.release.ensures } in
     settles_over max small first _ c.args.self.now asks going c.args.key c.args.settled c.with_some_reply.result c.with_some_reply.ensures own c.answered.new.self c.release.new.self has
-    _ c.let_go.new.self why.0 why.1
-    (ends_alike c.args.key.c why.0 (record c.args.self.now { table = c.release.new.self }) c.let_go.new.self (c.args.self.now.owing - 1) (c.let_go.ensures.ended why.0 why.1)) (omega arith) c.let_go.ensures.closed
+    _ c.close.new.self why.0 why.1
+    (ends_alike c.args.key.c why.0 (record c.args.self.now { table = c.release.new.self }) c.close.new.self (c.args.self.now.owing - 1) (c.close.ensures.ended why.0 why.1)) (omega arith) c.close.ensures.closed
 
 pub index_mut-requires : goal.index_mut-requires
 index_mut-requires g c =
     let aw : IsAwaited (g.L.Links.state c.args.links.now) c.args.self.now c.requires.collected.2.2.loop c.args.key.c = awaited c.requires.collected.0 c.requires.collected.2.0 _ c.args.self.now c.requires.collected.2.1 c.requires.collected.2.2 c.args.key c.args.settled c.requires.collected.2.3 in
-    subst (λ n. c.args.key.c < n) (sym c.args.self.now.places.ok.0) aw.stands.known.0
+    subst (λ n. c.args.key.c < n) (sym c.args.self.now.stages.ok.0) aw.stands.known.0
 
 pub conn-requires-2 : goal.conn-requires-2
 conn-requires-2 g c =
@@ -140,7 +140,7 @@ returns-clause-going g c =
 
 pub returns-then-is_some-clause-budget : goal.returns-then-is_some-clause-budget
 returns-then-is_some-clause-budget g c =
-    c.let_go.ensures.budget ∙ ap (λ (t : TableView). t.budget) c.release.ensures ∙ ap (λ (t : TableView). t.budget) c.answered.ensures
+    c.close.ensures.budget ∙ ap (λ (t : TableView). t.budget) c.release.ensures ∙ ap (λ (t : TableView). t.budget) c.answered.ensures
 
 pub returns-then-is_empty-clause-budget : goal.returns-then-is_empty-clause-budget
 returns-then-is_empty-clause-budget g c =

@@ -8,8 +8,8 @@ all-init g c = ((λ max small first asks w. w), refl, (λ x l. absurd (let f : �
 
 pub overflow_cast-c : goal.overflow_cast-c
 overflow_cast-c g c =
-    let few : length c.args.self.now.places.items ≤ 2 ^ 32 = few_known (g.L.Links.state c.args.links.now) c.args.self.now c.requires.so_far in
-    record { fits = omega (arith, c.all-test.true, c.len-c-end.ensures, c.args.self.now.places.ok.0) }
+    let few : length c.args.self.now.stages.items ≤ 2 ^ 32 = few_known (g.L.Links.state c.args.links.now) c.args.self.now c.requires.so_far in
+    record { fits = omega (arith, c.all-test.true, c.len-c-end.ensures, c.args.self.now.stages.ok.0) }
 
 pub stop-requires-clause-so_far : goal.stop-requires-clause-so_far
 stop-requires-clause-so_far g c κs within =
@@ -17,8 +17,8 @@ stop-requires-clause-so_far g c κs within =
 
 pub stop-requires-clause-known : goal.stop-requires-clause-known
 stop-requires-clause-known g c κs within =
-    let known : length c.all.self.places.items ≡ length c.args.self.now.places.items = c.all.invariant.1 in
-    omega (arith, c.all-test.true, c.len-c-end.ensures, c.args.self.now.places.ok.0)
+    let known : length c.all.self.stages.items ≡ length c.args.self.now.stages.items = c.all.invariant.1 in
+    omega (arith, c.all-test.true, c.len-c-end.ensures, c.args.self.now.stages.ok.0)
 
 pub all-preserved : goal.all-preserved
 all-preserved g c = (
@@ -32,8 +32,8 @@ all-preserved g c = (
 
 pub returns : goal.returns
 returns g c =
-    let known : length c.all.self.places.items ≡ length c.args.self.now.places.items = c.all.invariant.1 in
-    let gone = all_gone c.all.c c.all.self (omega (arith, c.all-test.false, c.len-c-end.ensures, c.args.self.now.places.ok.0)) c.all.invariant.2 in
+    let known : length c.all.self.stages.items ≡ length c.args.self.now.stages.items = c.all.invariant.1 in
+    let gone = all_gone c.all.c c.all.self (omega (arith, c.all-test.false, c.len-c-end.ensures, c.args.self.now.stages.ok.0)) c.all.invariant.2 in
     record {
       come = c.all.invariant.0;
       gone = gone;

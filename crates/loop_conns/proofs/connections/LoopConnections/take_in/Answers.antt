@@ -27,8 +27,8 @@ conn-requires-2 g c =
     } in
     taken_there c.args.max_frame c.args.c c.args.self.now c.args.bytes.now c.took.new.self taken
 
-pub clear-requires-clause-size : goal.clear-requires-clause-size
-clear-requires-clause-size g c κs within =
+pub release_and_close-requires-clause-size : goal.release_and_close-requires-clause-size
+release_and_close-requires-clause-size g c κs within =
     let taken : HasTakenIn c.args.max_frame c.args.c c.args.self.now c.args.bytes.now c.took.new.self =
     record {
       small = c.requires.small;
@@ -40,7 +40,7 @@ clear-requires-clause-size g c κs within =
       has = c.conn.ensures.admitted;
       table = c.took.ensures.after;
     } in
-    subst (λ (o : Option ℕ). HasSizeBy (slice_index_or c.args.self.now.places.items c.args.c Gone) o)
+    subst (λ (o : Option ℕ). HasSizeBy (slice_index_or c.args.self.now.stages.items c.args.c Gone) o)
     (sym (taken_size c.args.max_frame c.args.c c.args.self.now c.args.bytes.now c.took.new.self taken)) c.requires.size
 
 pub returns-then-is_some-clause-going : goal.returns-then-is_some-clause-going
@@ -59,8 +59,8 @@ returns-then-is_some-clause-going g c = λ first before asks going reads moves.
     let over : IsSome (cause_of (slot_of c.args.c c.took.new.self.slots).conn.phase) =
     ap is_some (sym (c.cause.ensures.cause ∙ ap (λ (v : ConnView). cause_of v.phase) c.conn-2.ensures.state)) ∙ sym c.is_some.ensures ∙ c.if-is_some.true in
     let why : (x : EndCause) × (cause_of (slot_of c.args.c c.took.new.self.slots).conn.phase ≡ Some x) = value_of (cause_of (slot_of c.args.c c.took.new.self.slots).conn.phase) over in
-    goes_over c.args.max_frame c.args.c c.args.self.now c.args.bytes.now c.took.new.self taken first before _ asks going reads moves c.clear.new.self _ why.0
-    (c.clear.ensures.ended why.0 why.1) c.clear.ensures.owing c.clear.ensures.closed why.1
+    goes_over c.args.max_frame c.args.c c.args.self.now c.args.bytes.now c.took.new.self taken first before _ asks going reads moves c.release_and_close.new.self _ why.0
+    (c.release_and_close.ensures.ended why.0 why.1) c.release_and_close.ensures.owing c.release_and_close.ensures.closed why.1
 
 pub conn-requires-3 : goal.conn-requires-3
 conn-requires-3 g c =
@@ -179,7 +179,7 @@ returns-clause-step g c = λ reads.
     )
 
 pub returns-then-is_some-clause-budget : goal.returns-then-is_some-clause-budget
-returns-then-is_some-clause-budget g c = c.clear.ensures.budget ∙ ap (λ (t : TableView). t.budget) c.took.ensures.after
+returns-then-is_some-clause-budget g c = c.release_and_close.ensures.budget ∙ ap (λ (t : TableView). t.budget) c.took.ensures.after
 
 pub returns-then-frames-clause-budget : goal.returns-then-frames-clause-budget
 returns-then-frames-clause-budget g c = ap (λ (t : TableView). t.budget) c.took.ensures.after

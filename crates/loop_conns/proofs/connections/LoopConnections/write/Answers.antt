@@ -91,53 +91,53 @@ overflow_sub-self-in-NoMemory g c =
     let st : Standing (g.L.Links.state c.args.links.now) c.args.self.now c.requires.under_way.2.2.loop c.args.c = standing c.requires.under_way.2.0 _ c.args.self.now c.requires.under_way.2.2.loop c.args.c c.requires.under_way.2.2.so_far.tied c.requires.writes.0 in
     some_owing c.requires.under_way.0 c.requires.under_way.1 c.requires.under_way.2.0 _ c.args.self.now c.requires.under_way.2.1 c.requires.under_way.2.2 c.args.c st c.requires.writes.0 c.requires.writes.1
 
-pub end_by-requires-clause-there : goal.end_by-requires-clause-there
-end_by-requires-clause-there g c κs within =
+pub end-requires-clause-there : goal.end-requires-clause-there
+end-requires-clause-there g c κs within =
     let st : Standing (g.L.Links.state c.args.links.now) c.args.self.now c.requires.under_way.2.2.loop c.args.c = standing c.requires.under_way.2.0 _ c.args.self.now c.requires.under_way.2.2.loop c.args.c c.requires.under_way.2.2.so_far.tied c.requires.writes.0 in
     st.here.there
 
-pub end_by-requires-clause-going : goal.end_by-requires-clause-going
-end_by-requires-clause-going g c κs within =
+pub end-requires-clause-going : goal.end-requires-clause-going
+end-requires-clause-going g c κs within =
     let st : Standing (g.L.Links.state c.args.links.now) c.args.self.now c.requires.under_way.2.2.loop c.args.c = standing c.requires.under_way.2.0 _ c.args.self.now c.requires.under_way.2.2.loop c.args.c c.requires.under_way.2.2.so_far.tied c.requires.writes.0 in
     st.going
 
-pub end_by-requires-clause-size : goal.end_by-requires-clause-size
-end_by-requires-clause-size g c κs within =
+pub end-requires-clause-size : goal.end-requires-clause-size
+end-requires-clause-size g c κs within =
     let st : Standing (g.L.Links.state c.args.links.now) c.args.self.now c.requires.under_way.2.2.loop c.args.c = standing c.requires.under_way.2.0 _ c.args.self.now c.requires.under_way.2.2.loop c.args.c c.requires.under_way.2.2.so_far.tied c.requires.writes.0 in
     st.size
 
-pub end_by-requires-clause-known : goal.end_by-requires-clause-known
-end_by-requires-clause-known g c κs within =
+pub end-requires-clause-known : goal.end-requires-clause-known
+end-requires-clause-known g c κs within =
     let st : Standing (g.L.Links.state c.args.links.now) c.args.self.now c.requires.under_way.2.2.loop c.args.c = standing c.requires.under_way.2.0 _ c.args.self.now c.requires.under_way.2.2.loop c.args.c c.requires.under_way.2.2.so_far.tied c.requires.writes.0 in
     st.known
 
-pub end_by-requires-clause-link : goal.end_by-requires-clause-link
-end_by-requires-clause-link g c κs within =
+pub end-requires-clause-link : goal.end-requires-clause-link
+end-requires-clause-link g c κs within =
     let st : Standing (g.L.Links.state c.args.links.now) c.args.self.now c.requires.under_way.2.2.loop c.args.c = standing c.requires.under_way.2.0 _ c.args.self.now c.requires.under_way.2.2.loop c.args.c c.requires.under_way.2.2.so_far.tied c.requires.writes.0 in
     c.in-Failed.ensures.writes.still_open ∙ st.here.link
 
-pub end_by-requires-in-NoMemory-clause-there : goal.end_by-requires-in-NoMemory-clause-there
-end_by-requires-in-NoMemory-clause-there g c κs within =
+pub end-requires-in-NoMemory-clause-there : goal.end-requires-in-NoMemory-clause-there
+end-requires-in-NoMemory-clause-there g c κs within =
     let st : Standing (g.L.Links.state c.args.links.now) c.args.self.now c.requires.under_way.2.2.loop c.args.c = standing c.requires.under_way.2.0 _ c.args.self.now c.requires.under_way.2.2.loop c.args.c c.requires.under_way.2.2.so_far.tied c.requires.writes.0 in
     st.here.there
 
-pub end_by-requires-in-NoMemory-clause-going : goal.end_by-requires-in-NoMemory-clause-going
-end_by-requires-in-NoMemory-clause-going g c κs within =
+pub end-requires-in-NoMemory-clause-going : goal.end-requires-in-NoMemory-clause-going
+end-requires-in-NoMemory-clause-going g c κs within =
     let st : Standing (g.L.Links.state c.args.links.now) c.args.self.now c.requires.under_way.2.2.loop c.args.c = standing c.requires.under_way.2.0 _ c.args.self.now c.requires.under_way.2.2.loop c.args.c c.requires.under_way.2.2.so_far.tied c.requires.writes.0 in
     st.going
 
-pub end_by-requires-in-NoMemory-clause-size : goal.end_by-requires-in-NoMemory-clause-size
-end_by-requires-in-NoMemory-clause-size g c κs within =
+pub end-requires-in-NoMemory-clause-size : goal.end-requires-in-NoMemory-clause-size
+end-requires-in-NoMemory-clause-size g c κs within =
     let st : Standing (g.L.Links.state c.args.links.now) c.args.self.now c.requires.under_way.2.2.loop c.args.c = standing c.requires.under_way.2.0 _ c.args.self.now c.requires.under_way.2.2.loop c.args.c c.requires.under_way.2.2.so_far.tied c.requires.writes.0 in
     st.size
 
-pub end_by-requires-in-NoMemory-clause-known : goal.end_by-requires-in-NoMemory-clause-known
-end_by-requires-in-NoMemory-clause-known g c κs within =
+pub end-requires-in-NoMemory-clause-known : goal.end-requires-in-NoMemory-clause-known
+end-requires-in-NoMemory-clause-known g c κs within =
     let st : Standing (g.L.Links.state c.args.links.now) c.args.self.now c.requires.under_way.2.2.loop c.args.c = standing c.requires.under_way.2.0 _ c.args.self.now c.requires.under_way.2.2.loop c.args.c c.requires.under_way.2.2.so_far.tied c.requires.writes.0 in
     st.known
 
-pub end_by-requires-in-NoMemory-clause-link : goal.end_by-requires-in-NoMemory-clause-link
-end_by-requires-in-NoMemory-clause-link g c κs within =
+pub end-requires-in-NoMemory-clause-link : goal.end-requires-in-NoMemory-clause-link
+end-requires-in-NoMemory-clause-link g c κs within =
     let st : Standing (g.L.Links.state c.args.links.now) c.args.self.now c.requires.under_way.2.2.loop c.args.c = standing c.requires.under_way.2.0 _ c.args.self.now c.requires.under_way.2.2.loop c.args.c c.requires.under_way.2.2.so_far.tied c.requires.writes.0 in
     c.in-NoMemory.ensures.writes.still_open ∙ st.here.link
 
@@ -175,23 +175,23 @@ pub returns-in-Failed-clause-going : goal.returns-in-Failed-clause-going
 returns-in-Failed-clause-going g c =
     let st : Standing (g.L.Links.state c.args.links.now) c.args.self.now c.requires.under_way.2.2.loop c.args.c = standing c.requires.under_way.2.0 _ c.args.self.now c.requires.under_way.2.2.loop c.args.c c.requires.under_way.2.2.so_far.tied c.requires.writes.0 in
     let owed : 1 ≤ c.args.self.now.owing = some_owing c.requires.under_way.0 c.requires.under_way.1 c.requires.under_way.2.0 _ c.args.self.now c.requires.under_way.2.1 c.requires.under_way.2.2 c.args.c st c.requires.writes.0 c.requires.writes.1 in
-    let less : c.end_by.new.self.owing ≡ c.args.self.now.owing - 1 = c.end_by.ensures.owing in
+    let less : c.end.new.self.owing ≡ c.args.self.now.owing - 1 = c.end.ensures.owing in
     λ max small first asks going.
     let at : Standing (g.L.Links.state c.args.links.now) c.args.self.now going.loop c.args.c = standing first _ c.args.self.now going.loop c.args.c going.so_far.tied c.requires.writes.0 in
-    write_fails max small first _ c.args.self.now asks going c.args.c at c.requires.writes.0 c.requires.writes.1 (g.L.Links.state c.write.new.self) _ c.end_by.new.self
-    (ends_alike c.args.c WriteFault c.args.self.now c.end_by.new.self (c.args.self.now.owing - 1) c.end_by.ensures.ended) (omega arith)
-    (write_moves c.args.c c.pending-pending.result.now _ _ Failed c.in-Failed.ensures.writes) c.in-Failed.ensures.writes.faults.1 c.end_by.ensures.closed
+    write_fails max small first _ c.args.self.now asks going c.args.c at c.requires.writes.0 c.requires.writes.1 (g.L.Links.state c.write.new.self) _ c.end.new.self
+    (ends_alike c.args.c WriteFault c.args.self.now c.end.new.self (c.args.self.now.owing - 1) c.end.ensures.ended) (omega arith)
+    (write_moves c.args.c c.pending-pending.result.now _ _ Failed c.in-Failed.ensures.writes) c.in-Failed.ensures.writes.faults.1 c.end.ensures.closed
 
 pub returns-in-NoMemory-clause-going : goal.returns-in-NoMemory-clause-going
 returns-in-NoMemory-clause-going g c =
     let st : Standing (g.L.Links.state c.args.links.now) c.args.self.now c.requires.under_way.2.2.loop c.args.c = standing c.requires.under_way.2.0 _ c.args.self.now c.requires.under_way.2.2.loop c.args.c c.requires.under_way.2.2.so_far.tied c.requires.writes.0 in
     let owed : 1 ≤ c.args.self.now.owing = some_owing c.requires.under_way.0 c.requires.under_way.1 c.requires.under_way.2.0 _ c.args.self.now c.requires.under_way.2.1 c.requires.under_way.2.2 c.args.c st c.requires.writes.0 c.requires.writes.1 in
-    let less : c.end_by-in-NoMemory.new.self.owing ≡ c.args.self.now.owing - 1 = c.end_by-in-NoMemory.ensures.owing in
+    let less : c.end-in-NoMemory.new.self.owing ≡ c.args.self.now.owing - 1 = c.end-in-NoMemory.ensures.owing in
     λ max small first asks going.
     let at : Standing (g.L.Links.state c.args.links.now) c.args.self.now going.loop c.args.c = standing first _ c.args.self.now going.loop c.args.c going.so_far.tied c.requires.writes.0 in
-    writer_given_up max small first _ c.args.self.now asks going c.args.c at c.requires.writes.0 c.requires.writes.1 (g.L.Links.state c.write.new.self) _ c.end_by-in-NoMemory.new.self
-    (ends_alike c.args.c LackOfMemory c.args.self.now c.end_by-in-NoMemory.new.self (c.args.self.now.owing - 1) c.end_by-in-NoMemory.ensures.ended) (omega arith)
-    (write_moves c.args.c c.pending-pending.result.now _ _ NoMemory c.in-NoMemory.ensures.writes) c.end_by-in-NoMemory.ensures.closed
+    writer_given_up max small first _ c.args.self.now asks going c.args.c at c.requires.writes.0 c.requires.writes.1 (g.L.Links.state c.write.new.self) _ c.end-in-NoMemory.new.self
+    (ends_alike c.args.c LackOfMemory c.args.self.now c.end-in-NoMemory.new.self (c.args.self.now.owing - 1) c.end-in-NoMemory.ensures.ended) (omega arith)
+    (write_moves c.args.c c.pending-pending.result.now _ _ NoMemory c.in-NoMemory.ensures.writes) c.end-in-NoMemory.ensures.closed
 
 pub returns-in-NotYet-clause-going : goal.returns-in-NotYet-clause-going
 returns-in-NotYet-clause-going g c =

@@ -5,7 +5,7 @@ use Rattle.script_links.specs.Shown.{links_told}
 use Rattle.script_links.proofs.Connected.{open_is_there}
 use Rattle.script_links.proofs.Keeping.{sound_at}
 use Rattle.outside.specs.Reading.{Reads, bytes_read}
-use Rattle.script_links.proofs.ReadsSo.{reads_so}
+use Rattle.script_links.proofs.ReadsGoOn.{reads_so}
 use Rattle.script_links.specs.Followed.{plan_of_links}
 use Rattle.script_links.proofs.FollowedToEnd.{read_on, read_over, plan_kept, read_keeps}
 use Rattle.script_links.proofs.over_script.ScriptLinksLinks.read.Goals as goal

@@ -3,7 +3,7 @@ use Rattle.std.proofs.lemmas.Option.{same_Some}
 use Rattle.host_model.specs.declared.cause.EndCause.{EndCause}
 use Rattle.conn_table.specs.Table.{TableView}
 use Rattle.loop_conns.proofs.Ending.{gone_here}
-use Rattle.loop_conns.proofs.connections.LoopConnections.let_go.Goals as goal
+use Rattle.loop_conns.proofs.connections.LoopConnections.close.Goals as goal
 
 pub returns-clause-ended : goal.returns-clause-ended
 returns-clause-ended g c = λ cause is.

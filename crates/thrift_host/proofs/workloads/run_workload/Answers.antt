@@ -2,7 +2,7 @@ use Rattle.std.proofs.Common.{refl}
 use denote.Param.Send.{sendable}
 use Rattle.processor.specs.Offices.{plain_office}
 use Rattle.thrift_host.proofs.Shared.{office_sync}
-use Rattle.thrift_host.proofs.workloads.serve.Goals as goal
+use Rattle.thrift_host.proofs.workloads.run_workload.Goals as goal
 
 pub serve_workload-answered-requires-sync-D : goal.serve_workload-answered-requires-sync-D
 serve_workload-answered-requires-sync-D g c κs within = search (sendable, office_sync)
