@@ -6,7 +6,7 @@ use Rattle.wire_num.specs.Fixed.{signed_bytes}
 use Rattle.wire_num.specs.Varint.{varint_bytes}
 use Rattle.wire_num.specs.Zigzag.{zigzag}
 use Rattle.host_model.specs.Frames.{IsPayload}
-use Rattle.call_rules.specs.Desks.{IsWholeFrame}
+use Rattle.call_rules.specs.Desks.{IsWholeFrame, longest_payload}
 use Rattle.envelope.specs.declared.head.Head.{Head}
 use Rattle.envelope.specs.declared.head.Protocol.{Protocol}
 use Rattle.envelope.specs.declared.head.Protocol.TheVariants.{Binary, Compact}
@@ -59,7 +59,7 @@ exception_length p name id failure =
     omega (arith, h.most, struct_length p failure, length-append (exception_head p name id) (failure_struct p failure))
 
 -- a failure that is not too long makes a payload
-exception_payload : (p : Protocol) (name : List ℕ) (id : ℤ) (failure : Failure) → length name ≤ 268435456 → length failure.text ≤ 268435556
+exception_payload : (p : Protocol) (name : List ℕ) (id : ℤ) (failure : Failure) → length name ≤ longest_payload → length failure.text ≤ 268435556
     → IsPayload (2 ^ 31 - 1) (exception_text p name id failure)
 unfolding exception_head
 exception_payload p name id failure named told =
@@ -69,7 +69,7 @@ exception_payload p name id failure named told =
     record { some = omega (arith, h.least, a); within = omega (arith, h.most, s, a, named, told) }
 
 -- the frame of a failure
-pub failure_framed : (p : Protocol) (head : Head) (failure : Failure) → length (method_part head.name) ≤ 268435456 → length failure.text ≤ 268435556
+pub failure_framed : (p : Protocol) (head : Head) (failure : Failure) → length (method_part head.name) ≤ longest_payload → length failure.text ≤ 268435556
     → IsWholeFrame (failure_frame p head failure)
 unfolding failure_frame
 failure_framed p head failure named told =

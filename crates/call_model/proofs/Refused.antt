@@ -30,8 +30,8 @@ use Rattle.call_model.proofs.Parts.{method_within, service_within}
 use Rattle.call_model.proofs.Found.{field_name_short, struct_name_short}
 
 -- the most bytes that a failure's text has
-abbrev longest_text : ℕ
-longest_text = 268435556
+abbrev longest_idl_text : ℕ
+longest_idl_text = 268435556
 
 abbrev Decided : Type 0
 Decided = DeskDecision PlainCall
@@ -50,7 +50,7 @@ same_failure x y e = cc
 
 -- what is refused, unless it is silent
 refused_framed : (p : Protocol) (head : Head) (silent : Bool) (failure : Failure) (reply : List ℕ) → length (method_part head.name) ≤ longest_payload
-    → length failure.text ≤ longest_text → refused p head silent failure ≡ replied reply → IsWholeFrame reply
+    → length failure.text ≤ longest_idl_text → refused p head silent failure ≡ replied reply → IsWholeFrame reply
 unfolding refused
 refused_framed p head true failure reply named told e = absurd cc
 refused_framed p head false failure reply named told e =
@@ -75,26 +75,26 @@ skew_text_short s sound skew.TooMany = omega arith
 skew_text_short s sound skew.NoMemory = omega arith
 
 projected_text : (s : PlainSchema) → IsSound s → (r : Result Tree SkewFault) (failure : Failure) → projected_or_fault s r ≡ failed failure
-    → length failure.text ≤ longest_text
+    → length failure.text ≤ longest_idl_text
 projected_text s sound (Ok args) failure e = absurd cc
 projected_text s sound (Err fault) failure e =
     let same = same_failure (bad_arguments (skew_fault_text s fault)) failure e in
-    subst (λ (f : Failure). length f.text ≤ longest_text) same (omega (arith, skew_text_short s sound fault))
+    subst (λ (f : Failure). length f.text ≤ longest_idl_text) same (omega (arith, skew_text_short s sound fault))
 
 read_text : (s : PlainSchema) → IsSound s → (which : ℕ) (r : Result (Tree × ℕ) WireFault) (failure : Failure) → read_as_arguments s which r ≡ failed failure
-    → length failure.text ≤ longest_text
+    → length failure.text ≤ longest_idl_text
 read_text s sound which (Ok found) failure e = projected_text s sound (projection s which found.0) failure e
 read_text s sound which (Err fault) failure e =
     let same = same_failure (bad_arguments (wire_fault_text fault)) failure e in
-    subst (λ (f : Failure). length f.text ≤ longest_text) same (omega (arith, wire_text_short fault))
+    subst (λ (f : Failure). length f.text ≤ longest_idl_text) same (omega (arith, wire_text_short fault))
 
 arguments_text : (s : PlainSchema) → IsSound s → (p : Protocol) (which : ℕ) (payload : List ℕ) (at : ℕ) (failure : Failure)
-    → arguments_at s p which payload at ≡ failed failure → length failure.text ≤ longest_text
+    → arguments_at s p which payload at ≡ failed failure → length failure.text ≤ longest_idl_text
 unfolding arguments_at
 arguments_text s sound p which payload at failure e = read_text s sound which (struct_at (wire_of p) payload at) failure e
 
 called_framed : (office : PlainOffice) (head : Head) (bound : Bound) (f : PlainFunction) (args : Result Tree Failure) (reply : List ℕ)
-    → length head.name ≤ longest_payload → ((failure : Failure) → args ≡ failed failure → length failure.text ≤ longest_text)
+    → length head.name ≤ longest_payload → ((failure : Failure) → args ≡ failed failure → length failure.text ≤ longest_idl_text)
     → call_made office head bound f args ≡ replied reply → IsWholeFrame reply
 called_framed office head bound f (Ok args) reply named told e = absurd cc
 called_framed office head bound f (Err failure) reply named told e =

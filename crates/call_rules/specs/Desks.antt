@@ -3,10 +3,7 @@ use Rattle.std.specs.Prelude.{◌≡◌, ℕ, ◌<◌, ◌≤◌, ◌^◌, ◌-�
 use Rattle.host_model.specs.Frames.{frame, IsPayload}
 use Rattle.host_model.specs.DeskRules.{DeskRules, DeskDecision, Close, Silent, Reply, Invoke}
 use Rattle.call_rules.specs.PlainCalls.{PlainCall, PlainAnswer, IsPlainCall}
-
--- the longest payload that a desk is asked about
-abbrev pub longest_payload : ℕ
-longest_payload = 268435456
+pub use Rattle.limits.specs.Limits.{longest_payload}
 
 -- the number of slots, the longest payload that connections may bring, the decision on each payload, and the reply to each payload
 -- whose call has this answer

@@ -27,6 +27,7 @@ use Rattle.cell_core.specs.Parts.{Parts}
 use Rattle.cell_core.specs.Machines.{ArePlayed, AreUnderWay, IsOfDesk, HasFailed, HasCrew, StopsBy, StopsMachine, ComesThrough}
 use Rattle.cell_core.specs.Rehearsed.{SeenRun, ShowsRun, IsSeenRun, IsSeenRehearsal, IsOpenedPart, AreFirstWorkers, LeadsToEnd}
 use Rattle.cell_core.proofs.Opened.{first_cell, first_is, first_play, first_played, first_under_way, stands_over, seen_at, seen_led, services_same, is_rehearsal}
+use Rattle.call_rules.specs.Desks.{longest_payload}
 
 -- a run that wasn't begun
 pub nothing_seen : (s : CellSetting) (told : Option (List CallEntry)) (run : SeenRun) → MayHave told [] → run.tape ≡ [] → run.causes ≡ [] → run.told ≡ told → run.services ≡ s.opening
@@ -54,7 +55,7 @@ led_to_end s cell part tape ends tape_is ends_are led =
     }
 
 module _ (s : CellSetting) (script : ScriptPlan) (part : LoopPart) (workers : List Holding) (told : Option (List CallEntry)) (count : ℕ) (sound : IsSoundPlan script)
-    (opened : IsOpenedPart s.budget script part) (first_workers : AreFirstWorkers s.workers workers) (empty : MayHave told []) (max : s.desk.max_frame ≤ 268435456)
+    (opened : IsOpenedPart s.budget script part) (first_workers : AreFirstWorkers s.workers workers) (empty : MayHave told []) (max : s.desk.max_frame ≤ longest_payload)
     (hall : ServedHall) (hall_is : hall ≡ opened_hall s.opening told count) (slots : s.desk.slots ≡ length s.opening) where
   abbrev pub begun : Parts
   begun = record { part = part; hall = hall; workers = workers }

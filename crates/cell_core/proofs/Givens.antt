@@ -10,9 +10,10 @@ use Rattle.cell_loop.specs.Moving.{all_lines}
 use Rattle.cell_core.specs.Parts.{Parts}
 use Rattle.cell_core.specs.Machines.{IsLineFor, HasCrew, ComesThrough}
 use Rattle.cell_core.specs.Rehearsed.{AreWritten}
+use Rattle.call_rules.specs.Desks.{longest_payload}
 
 -- the longest payload is no longer than payloads may be, and the budget has room for it
-pub max_given : (max limit budget : ℕ) → max ≡ limit → limit ≤ budget → budget ≤ 268435456 → max ≤ 268435456
+pub max_given : (max limit budget : ℕ) → max ≡ limit → limit ≤ budget → budget ≤ longest_payload → max ≤ longest_payload
 max_given max limit budget same within few = omega arith
 
 pub within_given : (max limit budget : ℕ) → max ≡ limit → limit ≤ budget → max ≤ budget

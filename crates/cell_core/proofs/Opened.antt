@@ -4,7 +4,7 @@ use Rattle.std.specs.List.{AllByRecursion}
 use Rattle.std.proofs.lemmas.List.{append_assoc}
 use Rattle.std.proofs.lemmas.Option.{none-some}
 use Rattle.host_model.specs.declared.cause.EndCause.{EndCause}
-use Rattle.call_rules.specs.Desks.{DeskMeaning}
+use Rattle.call_rules.specs.Desks.{DeskMeaning, longest_payload}
 use Rattle.call_rules.specs.Entries.{CallEntry}
 use Rattle.call_rules.specs.Handling.{ServiceState, handler_rules}
 use Rattle.conn_table.specs.Table.{TableView}
@@ -171,7 +171,7 @@ idle_count zero = refl
 idle_count (suc n) = ap suc (idle_count n)
 
 module _ (s : CellSetting) (script : ScriptPlan) (part : LoopPart) (workers : List Holding) (told : Option (List CallEntry)) (count : ℕ) (sound : IsSoundPlan script)
-    (opened : IsOpenedPart s.budget script part) (first_workers : AreFirstWorkers s.workers workers) (empty : MayHave told []) (max : s.desk.max_frame ≤ 268435456) where
+    (opened : IsOpenedPart s.budget script part) (first_workers : AreFirstWorkers s.workers workers) (empty : MayHave told []) (max : s.desk.max_frame ≤ longest_payload) where
   abbrev pub opened_parts : Parts
   opened_parts = record { part = part; hall = opened_hall s.opening told count; workers = workers }
 

@@ -49,7 +49,7 @@ is_last s es key before p (has_none k payload) carries = carries.1
 
 module _ (s : CellSetting) (cell : ServedCell) (reached : IsReached s cell) where
   small : s.desk.max_frame < 2 ^ 31
-  small = let within : s.desk.max_frame ≤ 268435456 = reached.max in omega arith
+  small = let within : s.desk.max_frame ≤ longest_payload = reached.max in omega arith
 
   -- what holds of a cell that is reached
   pub cell_kept : CellKeeps (desk_of_setting s) handler_rules s.opening cell
@@ -68,7 +68,7 @@ module _ (s : CellSetting) (cell : ServedCell) (reached : IsReached s cell) wher
       let all : ArePayloads s.desk.max_frame (at.0 ++ at.1 ∷ []) = subst (ArePayloads s.desk.max_frame) at.2.last (cell_kept.frames key.c at_worker.0).each in
       let within : length at.1 ≤ s.desk.max_frame = (last_is_one s.desk.max_frame at.0 at.1 all).within in
       let same : length (payload_held (cell.workers w)) ≡ length at.1 = ap length (is_last s es _ at.0 at.1 (cell.workers w) at.6) in
-      let most : s.desk.max_frame ≤ 268435456 = reached.max in
+      let most : s.desk.max_frame ≤ longest_payload = reached.max in
       omega arith
 
   -- what a worker asks there, the hall can do

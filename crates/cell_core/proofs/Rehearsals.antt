@@ -7,7 +7,7 @@ use Rattle.host_model.specs.Frames.{IsPartial}
 use Rattle.host_model.proofs.Runs.{stands}
 use Rattle.call_rules.specs.Handling.{handler_rules}
 use Rattle.machine_model.specs.HallRule.{apply, done}
-use Rattle.machine_model.specs.Loop.{most_open}
+use Rattle.machine_model.specs.Loop.{most_connections}
 use Rattle.machine_model.specs.Worker.{has_none}
 use Rattle.machine_model.specs.Bounds.{HasItsService}
 use Rattle.machine_model.specs.Machine.{MachineEvent, EventsLead, IsFirst, HaveAllEnded}
@@ -31,12 +31,13 @@ use Rattle.script_model.proofs.Settling.{exactly}
 use Rattle.script_model.proofs.Ample.{with_ample}
 use Rattle.cell_loop.specs.Settings.{CellSetting, ServedCell, desk_of_setting}
 use Rattle.cell_core.specs.Whole.{IsFitting}
+use Rattle.call_rules.specs.Desks.{longest_payload}
 
 module _ (s : CellSetting) (short : (bytes : List ℕ) → length bytes < 4 → IsPartial s.desk.max_frame bytes)
     (under_way : s.desk.max_frame < 2 ^ 31 → (size : ℕ) (bytes : List ℕ) → 1 ≤ size → size ≤ s.desk.max_frame → length bytes < size → IsPartial s.desk.max_frame (to_be_bytes w32 size ++ bytes))
     (fits : IsFitting s) (first : ServedCell) (is_first : IsFirst s.opening first) where
   small : s.desk.max_frame < 2 ^ 31
-  small = let m : s.desk.max_frame ≤ 268435456 = fits.max in omega arith
+  small = let m : s.desk.max_frame ≤ longest_payload = fits.max in omega arith
 
   -- what the plain machine computes is a run
   computes : (old cell : ServedCell) (told : List Told) → run_plain (desk_of_setting s) handler_rules told (Some old) ≡ Some cell
@@ -61,7 +62,7 @@ module _ (s : CellSetting) (short : (bytes : List ℕ) → length bytes < 4 → 
         (apply key call) done (has_none key payload) services (payload, e, q, refl)).1)
         rehearsed fits.within lets.inputs
 
-    pub all_fed : LetsAllEnd s.workers script → openings script.lines ≤ most_open → EndsBehindPieces script.lines → IsFedBy (desk_of_setting s) s.budget script last.loop.tape last.hall.journal
+    pub all_fed : LetsAllEnd s.workers script → openings script.lines ≤ most_connections → EndsBehindPieces script.lines → IsFedBy (desk_of_setting s) s.budget script last.loop.tape last.hall.journal
     all_fed lets few behind_pieces =
         record {
           opened = opens_all (desk_of_setting s) handler_rules memory computes small script s.opening s.budget s.workers wants first last is_first rehearsed few;

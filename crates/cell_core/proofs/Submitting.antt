@@ -17,13 +17,14 @@ use Rattle.cell_loop.specs.Settings.{CellSetting, ServedPlay, HallInCell, desk_o
 use Rattle.cell_loop.specs.Reached.{IsReached}
 use Rattle.cell_core.specs.HallTied.{IsHallTied}
 use Rattle.cell_core.proofs.HallTying.{GivesFrom, gives_from, still_open, still_whole, step_tied, same_replies}
+use Rattle.call_rules.specs.Desks.{longest_payload}
 
 -- What is a payload of a connection that isn't submitted, the hall can take.
 pub submit_can : (s : CellSetting) (hall : ServedHall) (play : ServedPlay) (c i : ℕ) (payload : List ℕ) → IsReached s play.cell → IsHallTied hall play.cell.hall
     → c < play.cell.loop.count → (play.cell.loop.conns c).submitted ≡ i → slice_get (play.cell.loop.conns c).payloads i ≡ Some payload
     → SeenCan handler_rules hall (submit (key_of c i) payload)
 submit_can s hall play c i payload reached tied there next is =
-    let max : s.desk.max_frame ≤ 268435456 = reached.max in
+    let max : s.desk.max_frame ≤ longest_payload = reached.max in
     let small : s.desk.max_frame < 2 ^ 31 = omega arith in
     let can : HallCan handler_rules play.cell.hall (submit (key_of c i) payload) =
     loop_can (desk_of_setting s) handler_rules s.opening (λ acts world runs. stands (desk_of_setting s) handler_rules s.opening acts world small runs) small

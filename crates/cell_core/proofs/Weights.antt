@@ -29,11 +29,12 @@ use Rattle.cell_core.proofs.HallTying.{same_jobs, same_outcomes}
 use Rattle.cell_core.specs.Parts.{Parts}
 use Rattle.cell_core.specs.Machines.{ArePlayed}
 use Rattle.cell_core.specs.Work.{steps_to_write, steps_of_stand, steps_of_conn, steps_of_worker, steps_of_workers, steps_of_hall, steps_left}
+use Rattle.call_rules.specs.Desks.{longest_payload}
 
 -- what a run that is reached keeps
 pub reached_keeps : (s : CellSetting) (cell : ServedCell) → IsReached s cell → CellKeeps (desk_of_setting s) handler_rules s.opening cell
 reached_keeps s cell reached =
-    let max : s.desk.max_frame ≤ 268435456 = reached.max in
+    let max : s.desk.max_frame ≤ longest_payload = reached.max in
     let small : s.desk.max_frame < 2 ^ 31 = omega arith in
     keeps (desk_of_setting s) handler_rules s.opening (λ acts world runs. stands (desk_of_setting s) handler_rules s.opening acts world small runs) small
     reached.run.first cell reached.run.events reached.run.is_first reached.run.lead

@@ -3,7 +3,7 @@ use Rattle.std.proofs.Common.{◌≡◌, ℕ, zero, suc, ◌<◌, ◌≤◌, ◌
 use Rattle.std.specs.List.{AllByRecursion}
 use Rattle.std.proofs.lemmas.Bool.{cases_eq}
 use Rattle.std.proofs.lemmas.List.{get_or-set_same, get_or-set_other}
-use Rattle.call_rules.specs.Desks.{DeskMeaning}
+use Rattle.call_rules.specs.Desks.{DeskMeaning, longest_payload}
 use Rattle.call_rules.specs.Handling.{handler_rules}
 use Rattle.machine_model.specs.Loop.{Loop}
 use Rattle.machine_model.specs.Worker.{WorkerAsks}
@@ -93,7 +93,7 @@ worker_may s part hall workers w desk same now =
       w = w;
       desk_is = same;
       slots = subst (λ (d : DeskMeaning). d.slots ≡ length s.opening) same now.slots;
-      max = subst (λ (d : DeskMeaning). d.max_frame ≤ 268435456) same now.max;
+      max = subst (λ (d : DeskMeaning). d.max_frame ≤ longest_payload) same now.max;
       reached = now.tied.reached;
       hall_tied = now.tied.hall_tied;
       holds = now.tied.workers_tied.each w;

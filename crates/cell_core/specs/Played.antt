@@ -8,6 +8,7 @@ use Rattle.cell_loop.specs.Settings.{CellSetting, ServedPlay}
 use Rattle.cell_loop.specs.Reached.{IsReached}
 use Rattle.cell_loop.specs.LoopTied.{IsLoopTied, HasRoomToClose}
 use Rattle.cell_core.specs.HallTied.{IsHallTied, AreWorkersTied}
+use Rattle.call_rules.specs.Desks.{longest_payload}
 
 -- what a machine in memory is tied to
 pub record IsPlayed (s : CellSetting) (part : LoopPart) (hall : ServedHall) (workers : List Holding) (play : ServedPlay) : Type 0 where
@@ -24,4 +25,4 @@ pub record IsUnderWay (s : CellSetting) (part : LoopPart) (hall : ServedHall) (w
   pub counted : length workers ≡ workers_among s.workers
   pub room : HasRoomToClose part
   pub slots : s.desk.slots ≡ length s.opening
-  pub max : s.desk.max_frame ≤ 268435456
+  pub max : s.desk.max_frame ≤ longest_payload

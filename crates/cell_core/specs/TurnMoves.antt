@@ -1,7 +1,7 @@
 -- What a worker's step is, of whichever play the hall is tied to.
 use Rattle.std.specs.Prelude.{◌≡◌, ℕ, ◌≤◌, true, length}
 use Rattle.outside.specs.Cause.{Rose}
-use Rattle.call_rules.specs.Desks.{DeskMeaning}
+use Rattle.call_rules.specs.Desks.{DeskMeaning, longest_payload}
 use Rattle.call_rules.specs.Handling.{handler_rules}
 use Rattle.machine_model.specs.Machine.{with_worker, applies, Steps}
 use Rattle.machine_model.specs.SeenHall.{MayHave}
@@ -39,7 +39,7 @@ pub record MayTurn (desk : DeskMeaning) (hall : ServedHall) (worker : Holding) :
   pub w : ℕ
   pub desk_is : setting.desk ≡ desk
   pub slots : desk.slots ≡ length setting.opening
-  pub max : desk.max_frame ≤ 268435456
+  pub max : desk.max_frame ≤ longest_payload
   pub reached : IsReached setting play.cell
   pub hall_tied : IsHallTied hall play.cell.hall
   pub holds : play.cell.workers w ≡ plain_worker worker

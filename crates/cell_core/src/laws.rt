@@ -4,7 +4,7 @@ ghost use Rattle.std.specs.Prelude.{◌≡◌, ◌≢◌, ℕ, ◌≤◌, Some, 
 ghost use Rattle.host_model.specs.declared.cause.EndCause.{EndCause};
 ghost use Rattle.host_model.specs.declared.cause.EndCause.TheVariants.{Stopped, NoMemory};
 ghost use Rattle.call_rules.specs.Handling.{handler_rules};
-ghost use Rattle.machine_model.specs.Loop.{most_open};
+ghost use Rattle.machine_model.specs.Loop.{most_connections};
 ghost use Rattle.machine_model.specs.Machine.{IsFirst, HaveAllEnded};
 ghost use Rattle.script_model.specs.ScriptLines.{ScriptPlan, openings};
 ghost use Rattle.script_model.specs.InputEnds.{EndsBehindPieces};
@@ -25,7 +25,7 @@ pub fn a_rehearsal_is_whole()
         IsRehearsalOf (desk_of_setting s) handler_rules memory s.budget s.workers script wants first last →
         (causes : List EndCause) × HaveAllEnded last.loop causes × ((c : ℕ) → slice_get causes c ≢ Some Stopped) }
     ensures fed { (s : CellSetting) (memory : ℕ → MemoryAt) (script : ScriptPlan) (wants : ℕ) (first last : ServedCell) →
-        IsFitting s → IsFirst s.opening first → LetsAllEnd s.workers script → openings script.lines ≤ most_open → EndsBehindPieces script.lines →
+        IsFitting s → IsFirst s.opening first → LetsAllEnd s.workers script → openings script.lines ≤ most_connections → EndsBehindPieces script.lines →
         IsRehearsalOf (desk_of_setting s) handler_rules memory s.budget s.workers script wants first last →
         IsFedBy (desk_of_setting s) s.budget script last.loop.tape last.hall.journal }
     ensures ample { (s : CellSetting) (memory : ℕ → MemoryAt) (script : ScriptPlan) (wants : ℕ) (first last : ServedCell) (causes : List EndCause) →

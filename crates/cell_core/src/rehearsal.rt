@@ -13,6 +13,7 @@ ghost use Rattle.cell_loop.specs.Settings.{CellSetting, ServedCell, ServedPlay};
 ghost use Rattle.cell_loop.specs.LoopTied.{IsLoopTied};
 ghost use Rattle.cell_loop.specs.LoopMoves.{AreAllOver, IsLoopUnderWay};
 ghost use Rattle.cell_core.specs.Rehearsed.{SeenRun, IsSeenRun, IsSeenRehearsal, AreWritten, IsOpenedPart, AreFirstWorkers, LeadsToEnd};
+ghost use Rattle.call_rules.specs.Desks.{longest_payload};
 
 use crate::laws::a_rehearsal_is_whole;
 use crate::machine::Machine;
@@ -60,7 +61,7 @@ pub fn rehearse<D: Desk, H: Handler, J: Journal>(
     requires workers { workers ≤ 8 }
     requires some { 1 ≤ limits.max_frame }
     requires within { limits.max_frame ≤ limits.read_budget }
-    requires budget { limits.read_budget ≤ 268435456 }
+    requires budget { limits.read_budget ≤ longest_payload }
     requires longest { (D.meaning desk.now).max_frame ≡ limits.max_frame }
     requires slots { length handlers.items ≡ (D.meaning desk.now).slots }
     requires whole { J.torn journal ≡ false }

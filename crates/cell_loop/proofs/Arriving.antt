@@ -17,6 +17,7 @@ use Rattle.cell_loop.specs.Moving.{Doing, ComesTo, one_of_conn, one_of_worker, o
 use Rattle.cell_loop.specs.Reached.{IsReached, IsReachedFrom}
 use Rattle.cell_loop.proofs.Composing.{so_by}
 use Rattle.cell_loop.proofs.Reaching.{LedTo, LedOn, waits_from, none_left_in, conn_leads_on, worker_leads_on, collect_leads_on, opening_leads_on}
+use Rattle.call_rules.specs.Desks.{longest_payload}
 
 -- some memory and some number of steps with which a thing comes to what it comes to
 pub came_so : (doing : Doing) (old new : ServedPlay) → ComesTo doing old new → (memory : ℕ → MemoryAt) × (n : ℕ) × (doing n n memory old ≡ Some new)
@@ -28,7 +29,7 @@ came_so doing old new comes =
           (so_by memory comes.memories old.moves (λ i l. let back : (i + old.moves) - old.moves ≡ i = omega arith in ap (λ k. slice_index_or comes.memories k ample) back)),
     )
 
-module _ (s : CellSetting) (max : s.desk.max_frame ≤ 268435456) (short : (bytes : List ℕ) → length bytes < 4 → IsPartial s.desk.max_frame bytes)
+module _ (s : CellSetting) (max : s.desk.max_frame ≤ longest_payload) (short : (bytes : List ℕ) → length bytes < 4 → IsPartial s.desk.max_frame bytes)
     (under_way : (size : ℕ) (bytes : List ℕ) → 1 ≤ size → size ≤ s.desk.max_frame → length bytes < size → IsPartial s.desk.max_frame (to_be_bytes w32 size ++ bytes)) where
   small : s.desk.max_frame < 2 ^ 31
   small = omega arith

@@ -6,11 +6,11 @@ use Rattle.std.specs.Vec.{vec_capacity}
 use Rattle.host_model.specs.declared.cause.EndCause.{EndCause}
 use Rattle.outside.specs.declared.marks.Mark.TheVariants.{Opened}
 use Rattle.conn_state.specs.Phase.{fresh_conn}
-use Rattle.conn_table.specs.Slots.{most_places, slot_in, with_added, HaveRisingNumbers}
+use Rattle.conn_table.specs.Slots.{most_connections, slot_in, with_added, HaveRisingNumbers}
 use Rattle.conn_table.specs.Table.{TableView, fresh_slot}
 use Rattle.conn_table.proofs.Rising.{count_added}
 use Rattle.conn_table.proofs.Sizing.{found_more, other_more}
-use Rattle.machine_model.specs.Loop.{new_conn, with_conn, open_among, most_open}
+use Rattle.machine_model.specs.Loop.{new_conn, with_conn, open_among}
 use Rattle.machine_model.specs.Plain.{when, with_loop, opened_plain}
 use Rattle.machine_model.proofs.Lists.{put_same, put_other}
 use Rattle.cell_loop.specs.declared.loop_part.CellStage.TheVariants.{Lean}
@@ -37,13 +37,13 @@ fresh_tied : (max : ℕ) → IsOpenTied max fresh_conn new_conn
 fresh_tied max = record { going = refl; counted = refl; tells = ((refl, refl), refl, omega arith, refl, no_bytes) }
 
 -- as many are open as may be
-pub none_opens : (s : CellSetting) (part : LoopPart) (play : ServedPlay) → IsLoopTied s part play → HaveRisingNumbers part.table.slots → length part.table.slots ≡ most_places
+pub none_opens : (s : CellSetting) (part : LoopPart) (play : ServedPlay) → IsLoopTied s part play → HaveRisingNumbers part.table.slots → length part.table.slots ≡ most_connections
     → HasNoMove (one_opening s) play
 none_opens s part play t rising full passes enough memory =
     let all : open_among play.cell.loop.conns play.cell.loop.count ≡ length part.table.slots = open_counted s part play t rising in
     let many : length part.table.slots ≡ 1024 = full in
     ap (λ b. told_opening play (with_loop play.cell (when b (Some (opened_plain play.cell.loop)))))
-    (le-ltb (open_among play.cell.loop.conns play.cell.loop.count) most_open (omega arith))
+    (le-ltb (open_among play.cell.loop.conns play.cell.loop.count) most_connections (omega arith))
 
 module _ (s : CellSetting) (old new : LoopPart) (play : ServedPlay) (c : ℕ) (t : IsLoopTied s old play) (is : length old.stages.items ≡ c)
     (table : new.table ≡ record old.table { slots = with_added (fresh_slot c) old.table.slots }) (tape : new.tape.items ≡ old.tape.items ++ Opened c ∷ [])
@@ -126,7 +126,7 @@ module _ (s : CellSetting) (old new : LoopPart) (play : ServedPlay) (c : ℕ) (t
       }
 
   -- one more may be open
-  pub opens_one : HaveRisingNumbers old.table.slots → length old.table.slots < most_places → GoesTo (one_opening s) (λ after. IsLoopTied s new after × HasSameHall play after) play
+  pub opens_one : HaveRisingNumbers old.table.slots → length old.table.slots < most_connections → GoesTo (one_opening s) (λ after. IsLoopTied s new after × HasSameHall play after) play
   opens_one rising fits =
       let all : open_among play.cell.loop.conns play.cell.loop.count ≡ length old.table.slots = open_counted s old play t rising in
       let few : length old.table.slots < 1024 = fits in (
@@ -134,21 +134,21 @@ module _ (s : CellSetting) (old new : LoopPart) (play : ServedPlay) (c : ℕ) (t
         once (one_opening s) play next refl
             (λ passes enough memory.
             ap (λ b. told_opening play (with_loop play.cell (when b (Some (opened_plain play.cell.loop)))))
-            (lt-ltb (open_among play.cell.loop.conns play.cell.loop.count) most_open (omega arith))),
+            (lt-ltb (open_among play.cell.loop.conns play.cell.loop.count) most_connections (omega arith))),
         (opened_tied, (refl, refl)),
       )
 
 -- where not as many are open as may be, there is room for one more
-pub room_for_one : (full : Bool) (open_now : ℕ) → (open_now ≡ most_places → full ≡ true) → open_now ≤ most_places → full ≡ false → open_now < most_places
-room_for_one full open_now told few vacant = by (cases_lt open_now most_places)
+pub room_for_one : (full : Bool) (open_now : ℕ) → (open_now ≡ most_connections → full ≡ true) → open_now ≤ most_connections → full ≡ false → open_now < most_connections
+room_for_one full open_now told few vacant = by (cases_lt open_now most_connections)
   where
-    by : (open_now < most_places) ⊎ (most_places ≤ open_now) → open_now < most_places
+    by : (open_now < most_connections) ⊎ (most_connections ≤ open_now) → open_now < most_connections
     by (inl l) = l
-    by (inr l) = absurd (true≢false (sym (told (let e : open_now ≡ most_places = omega arith in e)) ∙ vacant))
+    by (inr l) = absurd (true≢false (sym (told (let e : open_now ≡ most_connections = omega arith in e)) ∙ vacant))
 
 -- room is left behind it
-pub opened_room : (old mid new : LoopPart) (c : ℕ) → HasMoreRoom old mid → HasRoomToClose old → length old.table.slots < most_places → length mid.stages.items ≡ c → c < 2 ^ 32
-    → length mid.tape.items + (1 + 2 * most_places) ≤ mid.tape.capacity → length mid.stages.items < vec_capacity mid.ends
+pub opened_room : (old mid new : LoopPart) (c : ℕ) → HasMoreRoom old mid → HasRoomToClose old → length old.table.slots < most_connections → length mid.stages.items ≡ c → c < 2 ^ 32
+    → length mid.tape.items + (1 + 2 * most_connections) ≤ mid.tape.capacity → length mid.stages.items < vec_capacity mid.ends
     → new.table ≡ record mid.table { slots = with_added (fresh_slot c) mid.table.slots } → new.tape.items ≡ mid.tape.items ++ Opened c ∷ [] → new.tape.capacity ≡ mid.tape.capacity
     → new.stages.items ≡ mid.stages.items ++ Lean ∷ [] → new.ends ≡ mid.ends → HasRoomToClose new
 opened_room old mid new c more room few is fits marks causes table tape capacity stages ends =

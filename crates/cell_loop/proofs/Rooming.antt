@@ -4,7 +4,7 @@ use Rattle.std.specs.Vec.{vec_capacity}
 use Rattle.outside.specs.declared.marks.Mark.{Mark}
 use Rattle.outside.specs.Rows.{TapeView}
 use Rattle.host_model.specs.declared.cause.EndCause.{EndCause}
-use Rattle.conn_table.specs.Slots.{most_places}
+use Rattle.conn_table.specs.Slots.{most_connections}
 use Rattle.cell_loop.specs.declared.loop_part.LoopPart.{LoopPart}
 use Rattle.cell_loop.specs.LoopTied.{HasRoomToClose}
 
@@ -33,7 +33,7 @@ room_kept old new room tape ends fewer known =
     }
 
 -- There is room for the marks of a move, and one is written.
-pub marked_room : (mark : Mark) (old mid new : LoopPart) → HasRoomToClose old → length mid.table.slots ≤ most_places → length mid.tape.items + (1 + 2 * most_places) ≤ mid.tape.capacity
+pub marked_room : (mark : Mark) (old mid new : LoopPart) → HasRoomToClose old → length mid.table.slots ≤ most_connections → length mid.tape.items + (1 + 2 * most_connections) ≤ mid.tape.capacity
     → new.tape.items ≡ mid.tape.items ++ mark ∷ [] → new.tape.capacity ≡ mid.tape.capacity → length new.table.slots ≤ length mid.table.slots
     → length new.stages.items ≡ length old.stages.items → new.ends ≡ old.ends → HasRoomToClose new
 marked_room mark old mid new room few wide tape capacity slots known ends =

@@ -36,6 +36,7 @@ use Rattle.cell_loop.proofs.OneMove.{done_at, some_counted, reads_so}
 use Rattle.conn_refinement.specs.Progress.{GoesOnFrom, MakesPhase}
 use Rattle.conn_refinement.proofs.Taking.{took_is_read}
 use Rattle.cell_loop.proofs.ReadingOn.{StandsReading, Reading, reading, is_going, is_owing_nothing, reads_on}
+use Rattle.call_rules.specs.Desks.{longest_payload}
 
 -- a piece under way is in front of the others
 pub unread_front : (feeds : List Feed) (c : ℕ) → 0 < length (front_in feeds c) → unread_in feeds c ≡ front_in feeds c ∷ later_in feeds c
@@ -89,7 +90,7 @@ pub record TakesIn (c max : ℕ) (old : LoopPart) (bytes : List ℕ) : Type 0 wh
   pub reads : IsReadingAt c old
   pub has : HasItsSize (slot_of c old.table.slots).conn.phase (slot_of c old.table.slots).size
   pub some : 0 < length (front_in old.feeds.items c)
-  pub small : max ≤ 268435456
+  pub small : max ≤ longest_payload
   pub is : bytes ≡ take (min (wanted (slot_of c old.table.slots).conn.phase) (length (front_in old.feeds.items c))) (front_in old.feeds.items c)
   pub are : EachIsByte bytes
 

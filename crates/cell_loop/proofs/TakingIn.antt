@@ -23,6 +23,7 @@ use Rattle.cell_loop.specs.LoopMoves.{IsLoopUnderWay, LoopMoves, HasLongest}
 use Rattle.conn_refinement.proofs.Tables.{but_then}
 use Rattle.conn_refinement.proofs.Tables.{state_there, state_is, state_size, state_but, state_count}
 use Rattle.cell_loop.proofs.TakenIn.{TakesIn, IsPassed, reads_part, reads_whole, reads_over, over_size}
+use Rattle.call_rules.specs.Desks.{longest_payload}
 
 -- Connection c has taken in bytes, which were read of its piece.
 pub record HasTaken (c max : ℕ) (old mid : LoopPart) (bytes : List ℕ) : Type 0 where
@@ -100,7 +101,7 @@ some_cause (Some cause) some = (cause, refl)
 
 -- what the calls of `take_in` say, put together
 pub has_taken : (c max : ℕ) (old mid : LoopPart) (bytes : List ℕ) (before : TapeView) → IsReadingAt c old
-    → HasItsSize (slot_of c old.table.slots).conn.phase (slot_of c old.table.slots).size → 0 < length (front_in old.feeds.items c) → max ≤ 268435456
+    → HasItsSize (slot_of c old.table.slots).conn.phase (slot_of c old.table.slots).size → 0 < length (front_in old.feeds.items c) → max ≤ longest_payload
     → bytes ≡ take (min (wanted (slot_of c old.table.slots).conn.phase) (length (front_in old.feeds.items c))) (front_in old.feeds.items c) → EachIsByte bytes
     → HasFeed c (pieces_left (drop (length bytes) (front_in old.feeds.items c)) (later_in old.feeds.items c)) (finish_in old.feeds.items c) (rules_in old.feeds.items c) old.feeds.items mid.feeds.items
     → mid.table ≡ record old.table { slots = with_state c (after_took max (slot_of c old.table.slots).conn bytes) old.table.slots } → mid.stages ≡ old.stages

@@ -4,6 +4,7 @@ use Rattle.call_rules.specs.Handling.{handler_rules}
 use Rattle.machine_model.specs.Machine.{MachineEvent, EventsLead, IsFirst}
 use Rattle.machine_model.specs.Bounds.{NoneIsLeftBehind}
 use Rattle.cell_loop.specs.Settings.{CellSetting, ServedCell, desk_of_setting}
+use Rattle.call_rules.specs.Desks.{longest_payload}
 
 -- a run of the machine from its opening has come to this cell
 pub record IsRunTo (s : CellSetting) (cell : ServedCell) : Type 0 where
@@ -14,7 +15,7 @@ pub record IsRunTo (s : CellSetting) (cell : ServedCell) : Type 0 where
 
 -- a rehearsal has come to this cell: no connection was given up while its payload was under way, and payloads aren't too long
 pub record IsReached (s : CellSetting) (cell : ServedCell) : Type 0 where
-  pub max : s.desk.max_frame ≤ 268435456
+  pub max : s.desk.max_frame ≤ longest_payload
   pub run : IsRunTo s cell
   pub none_left : NoneIsLeftBehind cell.loop
 

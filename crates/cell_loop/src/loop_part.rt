@@ -6,7 +6,7 @@ ghost use Rattle.outside.specs.declared.marks.Mark.TheVariants.{Opened, Closed};
 ghost use Rattle.host_model.specs.declared.cause.EndCause.{EndCause};
 ghost use Rattle.conn_state.specs.Phase.{cause_of, HasNotEnded};
 ghost use Rattle.conn_state.specs.Step.{IsFromOutside};
-ghost use Rattle.conn_table.specs.Slots.{most_places, slot_in, with_added, without_number, HaveRisingNumbers};
+ghost use Rattle.conn_table.specs.Slots.{most_connections, slot_in, with_added, without_number, HaveRisingNumbers};
 ghost use Rattle.conn_table.specs.Table.{slot_of, fresh_slot};
 ghost use Rattle.machine_model.specs.HallState.{key_of};
 ghost use Rattle.cell_loop.specs.declared.loop_part.CellStage.TheVariants.{Lean, Whole, Asked, Over};
@@ -18,16 +18,18 @@ ghost use Rattle.cell_loop.specs.Replies.{IsReplySome};
 ghost use Rattle.cell_loop.specs.Closing.{StageHasSize, IsClosed, HasMoreRoom, end_told};
 ghost use Rattle.cell_loop.specs.Moving.{one_opening};
 ghost use Rattle.cell_loop.specs.LoopMoves.{IsLoopUnderWay, StaysTied, LoopMoves, AnySetting, HasLongest, HandsOut, TakesOutcome, StopsOne, StopsAll, AreAllOver};
+ghost use Rattle.call_rules.specs.Desks.{longest_payload};
 
 use crate::feed::Feed;
 use conn_state::EndCause;
 use conn_table::Table;
+use limits::MOST_CONNECTIONS;
 use outside::{MarkAt, Settled, TapeLog};
 use script_text::RuleList;
 use std::alloc::{AllocError, Global};
 
 /// So many marks have room before a move: one of the move, and two for each connection that is open behind it.
-const ROOM: usize = 2_049;
+const ROOM: usize = 1 + 2 * MOST_CONNECTIONS;
 
 /// How a connection stands that was opened.
 #[derive(Clone, Copy)]
@@ -93,9 +95,9 @@ impl<'a> LoopPart<'a> {
 
     /// Takes room for the marks of a move; no more connections are open than may be.
     pub fn make_room(&mut self) -> Result<(), AllocError>
-        ensures few { length self.new.table.slots ≤ most_places }
+        ensures few { length self.new.table.slots ≤ most_connections }
         ensures tape { self.new.tape.items ≡ self.old.tape.items }
-        ensures room { OnOk result (length self.new.tape.items + (1 + 2 * most_places) ≤ self.new.tape.capacity) }
+        ensures room { OnOk result (length self.new.tape.items + (1 + 2 * most_connections) ≤ self.new.tape.capacity) }
         ensures more { self.old.tape.capacity ≤ self.new.tape.capacity }
         ensures ends { self.new.ends ≡ self.old.ends }
         ensures table { self.new.table ≡ self.old.table }
@@ -177,7 +179,7 @@ impl<'a> LoopPart<'a> {
     /// Opens the next connection.
     fn open_one(&mut self) -> Result<(), AllocError>
         requires under_way { IsLoopUnderWay self.old }
-        requires fits { length self.old.table.slots < most_places }
+        requires fits { length self.old.table.slots < most_connections }
         requires rising { HaveRisingNumbers self.old.table.slots }
         ensures moved { OnOk result (LoopMoves AnySetting one_opening self.old true self.new) }
         ensures err { OnErr result (StaysTied self.old self.new) }
@@ -198,7 +200,7 @@ impl<'a> LoopPart<'a> {
     /// Takes room for one more connection.
     fn make_way(&mut self) -> Result<(), AllocError>
         ensures more { HasMoreRoom self.old self.new }
-        ensures for_mark { OnOk result (length self.new.tape.items + (1 + 2 * most_places) ≤ self.new.tape.capacity) }
+        ensures for_mark { OnOk result (length self.new.tape.items + (1 + 2 * most_connections) ≤ self.new.tape.capacity) }
         ensures for_stand { OnOk result (length self.new.stages.items < vec_capacity self.new.stages) }
         ensures for_cause { OnOk result (length self.new.stages.items < vec_capacity self.new.ends) }
     {
@@ -209,7 +211,7 @@ impl<'a> LoopPart<'a> {
 
     /// Adds the next connection, which is opened.
     fn add(&mut self, c: u32)
-        requires fits { length self.old.table.slots < most_places }
+        requires fits { length self.old.table.slots < most_connections }
         requires next { length self.old.stages.items ≡ c }
         requires vacant { slot_in c self.old.table.slots ≡ None }
         requires for_mark { length self.old.tape.items < self.old.tape.capacity }
@@ -242,7 +244,7 @@ impl<'a> LoopPart<'a> {
     pub fn lean_move(&mut self, alloc: Global, c: u32, max_frame: u32) -> Result<bool, AllocError>
         requires under_way { IsLoopUnderWay self.old }
         requires lean { slice_get self.old.stages.items c ≡ Some Lean }
-        requires small { max_frame ≤ 268435456 }
+        requires small { max_frame ≤ longest_payload }
         ensures moved { IfOk result (λ moved. LoopMoves (HasLongest max_frame) (λ s. one_of_conn s c) self.old moved self.new) }
         ensures err { OnErr result (StaysTied self.old self.new) }
         ensures feeds { length self.new.feeds.items ≡ length self.old.feeds.items }

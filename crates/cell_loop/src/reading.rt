@@ -12,6 +12,7 @@ ghost use Rattle.cell_loop.specs.Moving.{one_of_conn};
 ghost use Rattle.cell_loop.specs.Feeds.{unread_in, finish_in, rules_in, front_in, later_in, HasSomePieces, HasFeed};
 ghost use Rattle.cell_loop.specs.LoopTied.{HasRoomToClose, IsReadingAt};
 ghost use Rattle.cell_loop.specs.LoopMoves.{IsLoopUnderWay, StaysTied, LoopMoves, AnySetting, HasLongest};
+ghost use Rattle.call_rules.specs.Desks.{longest_payload};
 
 use crate::feed::InputEnd;
 use crate::loop_part::{LoopPart, CellStage};
@@ -28,7 +29,7 @@ impl<'a> LoopPart<'a> {
         requires under_way { IsLoopUnderWay self.old }
         requires reads { IsReadingAt c self.old }
         requires fed { c < length self.old.feeds.items }
-        requires small { max_frame ≤ 268435456 }
+        requires small { max_frame ≤ longest_payload }
         ensures moved { IfOk result (λ moved. LoopMoves (HasLongest max_frame) (λ s. one_of_conn s c) self.old moved self.new) }
         ensures err { OnErr result (StaysTied self.old self.new) }
         ensures feeds { length self.new.feeds.items ≡ length self.old.feeds.items }
@@ -62,7 +63,7 @@ impl<'a> LoopPart<'a> {
         requires under_way { IsLoopUnderWay self.old }
         requires reads { IsReadingAt c self.old }
         requires some { 0 < length (front_in self.old.feeds.items c) }
-        requires small { max_frame ≤ 268435456 }
+        requires small { max_frame ≤ longest_payload }
         ensures moved { OnOk result (LoopMoves (HasLongest max_frame) (λ s. one_of_conn s c) self.old true self.new) }
         ensures err { OnErr result (StaysTied self.old self.new) }
         ensures feeds { length self.new.feeds.items ≡ length self.old.feeds.items }
@@ -95,7 +96,7 @@ impl<'a> LoopPart<'a> {
         requires under_way { IsLoopUnderWay self.old }
         requires reads { IsReadingAt c self.old }
         requires some { 0 < length (front_in self.old.feeds.items c) }
-        requires small { max_frame ≤ 268435456 }
+        requires small { max_frame ≤ longest_payload }
         requires front { bytes.now ≡ take (min (wanted (slot_of c self.old.table.slots).conn.phase) (length (front_in self.old.feeds.items c)))
             (front_in self.old.feeds.items c) }
         requires counted { (slot_of c self.old.table.slots).conn.frames < 2 ^ 62 }

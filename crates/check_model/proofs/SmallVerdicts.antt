@@ -19,7 +19,7 @@ use Rattle.schema.specs.PlainKind.{PlainKind, kind_enum, kind_struct}
 use Rattle.schema.specs.PlainSchema.{PlainConstant}
 use Rattle.check_model.specs.Resolved.{alias_kind, TypeMeans}
 use Rattle.check_model.specs.FieldLists.{field_lists}
-use Rattle.check_model.specs.Worths.{ConstFlaw, Worth, valued, flawed, most_values, most_levels}
+use Rattle.check_model.specs.Worths.{ConstFlaw, Worth, valued, flawed, most_const_values, most_const_levels}
 use Rattle.check_model.specs.Evaluation.{named_worth, given_worth}
 use Rattle.check_model.specs.SchemaParts.{DefaultRule, NoDefault, IsSchemaWith, IsPartialSchema, files_of}
 use Rattle.check_model.specs.Passes.{dotted_name, duplicate_name, unknown_type, typedef_cycle, field_id, duplicate_id, enum_number, service_cycle, duplicate_function, oneway_not_void, oneway_throws, not_exception, struct_loop, bad_constant, MeansException, HasConstFlaw}
@@ -69,7 +69,7 @@ unfolding value_number values_of spots_of spots_in_declaration spots_in_field
 c_number = refl
 
 c_worth : given_worth (record { program = named_number; schema = named_schema [] }) 0 (kind_enum 0) (record { file = 0; item = c_value }) ≡ valued (of_i32 (pos 5)) 1
-unfolding c_value given_worth named_worth most_values most_levels const_meaning sought value_number values_of spots_of spots_in_declaration spots_in_field constants_of enums_of enum_numbers
+unfolding c_value given_worth named_worth most_const_values most_const_levels const_meaning sought value_number values_of spots_of spots_in_declaration spots_in_field constants_of enums_of enum_numbers
 c_worth = refl
 
 not_flawed : (at : Place) (flaw : ConstFlaw) → HasConstFlaw named_number 0 c_value at flaw → ⊥

@@ -22,7 +22,7 @@ use Rattle.schema.specs.PlainKind.{PlainKind, kind_bool, kind_i8, kind_i16, kind
 use Rattle.schema.specs.PlainSchema.{PlainField, PlainStruct, PlainSchema}
 use Rattle.check_model.specs.FieldLists.{NumberedField, FieldsDecl, fields_by_id, field_lists}
 use Rattle.check_model.specs.TidyRows.{tidy_members, tidy_pairs}
-use Rattle.check_model.specs.Worths.{wrong_kind, unknown_name, const_cycle, unknown_field, missing_field, Worth, valued, flawed, and_next, seen_at, only_if, one_more, one_level, most_levels}
+use Rattle.check_model.specs.Worths.{wrong_kind, unknown_name, const_cycle, unknown_field, missing_field, Worth, valued, flawed, and_next, seen_at, only_if, one_more, one_level, most_const_levels}
 use Rattle.check_model.specs.Scalars.{OneWorth, int_worth, double_worth, literal_worth, enum_worth}
 
 -- what constants are evaluated in: the program, and its schema, of which neither defaults nor constants count here
@@ -226,9 +226,9 @@ all_free program = map (λ v. true) (values_of program)
 -- What a value that stands in a file is worth against a type, where none is under evaluation.
 unfoldable pub evaluated : Setting → ℕ → PlainKind → ConstExpr → Worth Tree
 evaluated s file kind tree =
-    worth_by s (named_worth s (length (values_of s.program)) (all_free s.program)) file kind most_levels 0 tree
+    worth_by s (named_worth s (length (values_of s.program)) (all_free s.program)) file kind most_const_levels 0 tree
 
 -- What the given value of some number is worth against its type, where it is under evaluation itself.
 unfoldable pub given_worth : Setting → ℕ → PlainKind → Filed GivenValue → Worth Tree
 given_worth s which kind v =
-    worth_by s (named_worth s (length (values_of s.program)) (slice_set (all_free s.program) which false)) v.file kind most_levels 0 v.item.tree
+    worth_by s (named_worth s (length (values_of s.program)) (slice_set (all_free s.program) which false)) v.file kind most_const_levels 0 v.item.tree

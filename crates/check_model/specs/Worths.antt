@@ -1,6 +1,7 @@
 -- What evaluating comes to: something, with how many values were evaluated by then, or the first fault.
 use Rattle.std.specs.Prelude.{ℕ, zero, suc, Bool, true, false, nat_le, Option, Some, None}
 use Rattle.idl_token.specs.declared.Place.{Place}
+use Rattle.limits.specs.Limits.{most_values, most_levels}
 
 -- why a constant value can't be evaluated
 pub data ConstFlaw : Type 0 where
@@ -39,16 +40,16 @@ some_or None at flaw count = flawed at flaw
 some_or (Some x) at flaw count = valued x count
 
 -- how many values a constant has at most, itself included
-unfoldable pub most_values : ℕ
-most_values = 4000000
+unfoldable pub most_const_values : ℕ
+most_const_values = most_values
 
 -- how many levels of structs and containers a constant has at most
-unfoldable pub most_levels : ℕ
-most_levels = 64
+unfoldable pub most_const_levels : ℕ
+most_const_levels = most_levels
 
 -- one value more behind so many
 abbrev pub one_more : {A : Type 0} → Place → ℕ → (ℕ → Worth A) → Worth A
-one_more at count next = only_if (nat_le (suc count) most_values) at too_large (next (suc count))
+one_more at count next = only_if (nat_le (suc count) most_const_values) at too_large (next (suc count))
 
 -- one level less than so many, where one is left
 abbrev pub one_level : {A : Type 0} → Place → ℕ → (ℕ → Worth A) → Worth A

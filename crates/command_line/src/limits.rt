@@ -8,12 +8,10 @@ ghost use Rattle.command_line.specs.Limits.{limits_given, limits_of_numbers, lim
 use crate::numbers::number_of_word;
 use crate::sorting::Sorted;
 use conn_table::Limits;
+use limits::LONGEST_PAYLOAD;
 
 /// The longest payload where the words don't say it, in bytes.
 const USUAL_MAX_FRAME: u64 = 16_384_000;
-
-/// The greatest limit, and the read budget where the words don't say it, in bytes.
-const MOST_BYTES: u64 = 268_435_456;
 
 /// The number of an option that may be left out.
 fn number_given(values: &[&str], usual: u64) -> Option<u64>
@@ -36,7 +34,7 @@ fn limits_of_numbers(most: u64, budget: u64) -> Option<Limits>
     if most > budget {
         return None;
     }
-    if budget > MOST_BYTES {
+    if budget > LONGEST_PAYLOAD {
         return None;
     }
     Some(Limits {
@@ -50,7 +48,7 @@ fn limits_given(max_frames: &[&str], read_budgets: &[&str]) -> Option<Limits>
     ensures { result ≡ limits_given (lent_words max_frames.now) (lent_words read_budgets.now) }
 {
     let most = number_given(max_frames, USUAL_MAX_FRAME)?;
-    let budget = number_given(read_budgets, MOST_BYTES)?;
+    let budget = number_given(read_budgets, LONGEST_PAYLOAD)?;
     limits_of_numbers(most, budget)
 }
 

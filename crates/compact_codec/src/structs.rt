@@ -12,7 +12,7 @@ ghost use Rattle.thrift_value.specs.TreeOf.{tree_of};
 ghost use Rattle.wire_model.specs.Answering.{AnswersOrNoMemory};
 ghost use Rattle.wire_model.specs.Encoder.{text};
 ghost use Rattle.wire_model.specs.Format.{Spells};
-ghost use Rattle.wire_model.specs.Place.{found_struct, max_levels, max_values, struct_at, IsWithinBounds, IsEncodedAt};
+ghost use Rattle.wire_model.specs.Place.{found_struct, most_levels, most_values, struct_at, IsWithinBounds, IsEncodedAt};
 ghost use Rattle.compact_codec.specs.Reading.{compact};
 ghost use Rattle.compact_codec.specs.Spelling.{compact_format};
 ghost use Rattle.compact_codec.specs.Written.{compact_encoder};
@@ -46,13 +46,13 @@ pub fn read_struct(alloc: Global, bytes: &[u8], at: usize) -> Result<(Raw, usize
 pub fn write_struct(value: &Value, into: &mut Vec<u8>) -> Result<(), AllocError>
     requires is_struct { tag_of (tree_of value.now) ≡ tags.Struct }
     requires tidy { IsTidy (tree_of value.now) }
-    requires depth { depth_of (tree_of value.now) ≤ max_levels }
+    requires depth { depth_of (tree_of value.now) ≤ most_levels }
     requires sizes { HasSmallSizes (tree_of value.now) }
     ensures ok { OnOk result (into.new.items ≡ into.old.items ++ text compact_encoder (tree_of value.now)) }
     ensures err { OnErr result (into.new.items ≡ into.old.items) }
     // What it appends is a spelling of the value's plain form, and is read as that, whatever follows.
     ensures spelled { OnOk result (Spells compact_format (plain (tree_of value.now)) (text compact_encoder (tree_of value.now))) }
-    ensures read_back { OnOk result (count_of (tree_of value.now) ≤ max_values → (more : List ℕ)
+    ensures read_back { OnOk result (count_of (tree_of value.now) ≤ most_values → (more : List ℕ)
         → struct_at compact (into.new.items ++ more) (length into.old.items)
         ≡ found_struct (plain (tree_of value.now)) (length into.new.items)) }
 {

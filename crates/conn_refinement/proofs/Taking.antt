@@ -15,6 +15,7 @@ use Rattle.machine_model.specs.Loop.{LoopConn, FrameProgress, part, bad_size, wh
 use Rattle.machine_model.specs.Plain.{when, are_same, is_size, is_whole, is_bad_size, progress_behind, progress_by}
 use Rattle.conn_refinement.specs.Progress.{GoesOnFrom, MakesPhase}
 use Rattle.conn_refinement.specs.Phases.{HasAllCollected, PhaseTells, IsOpenTied, IsFraming, IsLean}
+use Rattle.machine_model.specs.OwnCalls.{longest_payload}
 
 -- bytes are the same as themselves
 same_bytes : (xs : List ℕ) → are_same xs xs ≡ true
@@ -91,7 +92,7 @@ size_fits : (bytes : List ℕ) → EachIsByte bytes → from_be_bytes w32 bytes 
 size_fits bytes are = omega (arith, are 0, are 1, are 2, are 3)
 
 -- a connection that reads a size
-module _ (max frames : ℕ) (conn : LoopConn) (front bytes : List ℕ) (small : max ≤ 268435456) (going : conn.cause ≡ None) (counted : frames ≡ length conn.payloads)
+module _ (max frames : ℕ) (conn : LoopConn) (front bytes : List ℕ) (small : max ≤ longest_payload) (going : conn.cause ≡ None) (counted : frames ≡ length conn.payloads)
     (collected : HasAllCollected conn) (held_is : conn.held ≡ front) (left : conn.left ≡ []) (are : EachIsByte (front ++ bytes)) where
   -- the bytes behind those that are held
   all_are : conn.held ++ bytes ≡ front ++ bytes
@@ -185,7 +186,7 @@ module _ (max frames size : ℕ) (conn : LoopConn) (front bytes : List ℕ) (fit
       )
 
 -- what is read is as much as is asked for at most, and makes the same on both sides
-pub took_is_read : (max : ℕ) (view : ConnView) (conn : LoopConn) (bytes : List ℕ) → max ≤ 268435456 → IsReading view.phase → IsOpenTied max view conn → length bytes ≤ wanted view.phase
+pub took_is_read : (max : ℕ) (view : ConnView) (conn : LoopConn) (bytes : List ℕ) → max ≤ longest_payload → IsReading view.phase → IsOpenTied max view conn → length bytes ≤ wanted view.phase
     → EachIsByte bytes → MakesPhase max conn bytes view.phase (after_took max view bytes).frames (after_took max view bytes).phase
 took_is_read max view conn bytes small reading tied most are = go view.phase view.frames reading tied.counted tied.tells most
   where

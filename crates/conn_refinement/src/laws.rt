@@ -13,10 +13,11 @@ ghost use Rattle.conn_refinement.specs.Phases.{IsOpenTied};
 ghost use Rattle.conn_refinement.specs.Tables.{IsSameBut};
 ghost use Rattle.conn_refinement.specs.Progress.{MakesPhase};
 ghost use Rattle.conn_refinement.specs.Weights.{weight_of, table_weight};
+ghost use Rattle.machine_model.specs.OwnCalls.{longest_payload};
 
 /// As much as is asked for makes the same progress of a connection's state and of the machine's connection.
 pub fn reads_make_the_same()
-    ensures { (max : ℕ) (view : ConnView) (conn : LoopConn) (bytes : List ℕ) → max ≤ 268435456 → IsReading view.phase → IsOpenTied max view conn →
+    ensures { (max : ℕ) (view : ConnView) (conn : LoopConn) (bytes : List ℕ) → max ≤ longest_payload → IsReading view.phase → IsOpenTied max view conn →
         length bytes ≤ wanted view.phase → EachIsByte bytes → MakesPhase max conn bytes view.phase (after_took max view bytes).frames (after_took max view bytes).phase }
 {}
 

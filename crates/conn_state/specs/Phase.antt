@@ -2,6 +2,7 @@
 use Rattle.std.specs.Prelude.{ℕ, ◌-◌, min, List, [], ◌++◌, length, Option, None, Some}
 use Rattle.std.specs.Int.{w32, to_be_bytes}
 use Rattle.host_model.specs.declared.cause.EndCause.{EndCause}
+pub use Rattle.limits.specs.Limits.{most_read}
 
 -- what a connection is doing
 pub data Phase : Type 0 where
@@ -42,13 +43,9 @@ missing (sizing bytes) = 4 - length bytes
 missing (framing size bytes) = size - length bytes
 missing _ = 0
 
--- the most bytes that are asked for at once
-abbrev pub most_wanted : ℕ
-most_wanted = 65536
-
 -- how many of the missing bytes are asked for at once
 abbrev pub wanted : Phase → ℕ
-wanted phase = min (missing phase) most_wanted
+wanted phase = min (missing phase) most_read
 
 -- the size of a frame that isn't admitted
 abbrev pub size_asked : Phase → Option ℕ

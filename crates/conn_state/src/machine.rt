@@ -8,13 +8,11 @@ ghost use Rattle.conn_state.specs.Inside.{phase_of, IsSoundState};
 
 use super::size_bytes::SizeBytes;
 use host_model::EndCause;
+use limits::MOST_READ;
 use outside::{Bytes, Settled};
 use std::alloc::{AllocError, Global};
 use std::marker::Model;
 use std::mem;
-
-/// The most bytes that are asked for at once.
-const MOST_WANTED: usize = 65_536;
 
 /// What a connection is doing.
 #[derive(Drop)]
@@ -75,7 +73,7 @@ impl Conn {
     {
         match &self.state {
             State::ReadingSize(held) => 4 - held.len(),
-            State::ReadingFrame(size, payload) => (*size as usize - payload.len()).min(MOST_WANTED),
+            State::ReadingFrame(size, payload) => (*size as usize - payload.len()).min(MOST_READ),
             _ => 0,
         }
     }

@@ -5,7 +5,7 @@ use Rattle.slab.specs.Slab.{Slab, get, slab_len}
 use Rattle.conn_table.specs.declared.places.Row.{Row}
 use Rattle.conn_table.specs.declared.places.Slot.{Slot}
 use Rattle.conn_table.specs.Rows.{IsRising}
-use Rattle.conn_table.specs.Slots.{most_places}
+use Rattle.conn_table.specs.Slots.{most_connections}
 
 -- one more in front, where there is one
 abbrev pub joined_to : Option Slot → List Slot → List Slot
@@ -26,6 +26,6 @@ pub record AreSoundPlaces (slab : Slab Slot) (rows : List Row) (capacity : ℕ) 
   pub rising : IsRising rows
   pub placed : AllByRecursion (IsPlaced slab) rows
   pub counted : slab_len slab ≡ length rows
-  pub few : length rows ≤ most_places
-  pub room : most_places ≤ slab.capacity
-  pub rows_room : most_places ≤ capacity
+  pub few : length rows ≤ most_connections
+  pub room : most_connections ≤ slab.capacity
+  pub rows_room : most_connections ≤ capacity

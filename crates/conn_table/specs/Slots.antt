@@ -2,10 +2,7 @@
 use Rattle.std.specs.Prelude.{ℕ, ◌<◌, nat_lt, ◌==◌, if◌then◌else◌, Option, None, Some, List, [], ◌∷◌}
 use Rattle.std.specs.List.{AllByRecursion}
 use Rattle.conn_table.specs.declared.places.Slot.{Slot}
-
--- the most connections that are open at one time
-abbrev pub most_places : ℕ
-most_places = 1024
+pub use Rattle.limits.specs.Limits.{most_connections}
 
 -- what is kept of a connection, where it is open
 abbrev pub slot_in : ℕ → List Slot → Option Slot

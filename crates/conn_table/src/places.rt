@@ -3,15 +3,13 @@
 ghost use Rattle.std.specs.Prelude.{◌≡◌, ◌<◌, ◌≤◌, IsSome, Some, None, IfOk, [], length};
 ghost use Rattle.conn_table.specs.Rows.{key_in, IsRising, rank_below};
 ghost use Rattle.conn_table.specs.Table.{slot_of, with_size};
-ghost use Rattle.conn_table.specs.Slots.{most_places, slot_in, with_added, without_number, HaveRisingNumbers};
+ghost use Rattle.conn_table.specs.Slots.{most_connections, slot_in, with_added, without_number, HaveRisingNumbers};
 
 use conn_state::Conn;
+use limits::MOST_CONNECTIONS;
 use slab::Slab;
 use std::alloc::{AllocError, Global};
 use std::marker::Model;
-
-/// The most connections that are open at one time.
-pub(crate) const MOST: usize = 1024;
 
 /// Where a connection is kept.
 #[derive(Clone, Copy, Drop)]
@@ -105,15 +103,15 @@ impl Places {
         ensures { IfOk result (λ p. p ≡ []) }
     {
         Ok(Places {
-            slots: Slab::with_capacity(alloc, MOST)?,
-            rows: Vec::with_capacity(alloc, MOST)?,
+            slots: Slab::with_capacity(alloc, MOST_CONNECTIONS)?,
+            rows: Vec::with_capacity(alloc, MOST_CONNECTIONS)?,
         })
     }
 
     /// How many there are. Their numbers rise.
     pub(crate) fn len(&self) -> usize
         ensures count { result ≡ length self.now }
-        ensures few { result ≤ most_places }
+        ensures few { result ≤ most_connections }
         ensures rising { HaveRisingNumbers self.now }
     {
         self.rows.as_slice().len()
@@ -149,7 +147,7 @@ impl Places {
 
     /// Adds a connection.
     pub(crate) fn insert(&mut self, slot: Slot)
-        requires room { length self.old < most_places }
+        requires room { length self.old < most_connections }
         requires vacant { slot_in slot.number self.old ≡ None }
         ensures { self.new ≡ with_added slot self.old }
     {

@@ -4,11 +4,12 @@ ghost use Rattle.std.specs.Prelude.{◌≡◌, ◌↔◌, ◌<◌, ◌≤◌, �
 ghost use Rattle.conn_state.specs.Phase.{wanted, waiting, ready, ended, left_to_write, cause_of, IsHeld, IsReading, IsReady, IsWaiting, HasNotEnded};
 ghost use Rattle.conn_state.specs.Run.{EachIsByte};
 ghost use Rattle.conn_state.specs.Step.{after_took, after_answer, after_wrote, after_end_of_input, IsFromOutside};
-ghost use Rattle.conn_table.specs.Slots.{most_places, slot_in, with_added, without_number, HaveRisingNumbers};
+ghost use Rattle.conn_table.specs.Slots.{most_connections, slot_in, with_added, without_number, HaveRisingNumbers};
 ghost use Rattle.conn_table.specs.Table.{fresh_slot, slot_of, with_state, with_size, sizes_given, TakesRoom, HasItsSize, Admits};
 
-use crate::places::{MOST, Places, Slot};
+use crate::places::{Places, Slot};
 use conn_state::{Conn, EndCause};
+use limits::MOST_CONNECTIONS;
 use outside::Settled;
 use std::alloc::{AllocError, Global};
 use std::marker::Model;
@@ -48,7 +49,7 @@ impl Table {
 
     /// Adds a connection that is opened.
     pub fn add(&mut self, c: u32)
-        requires room { length self.old.slots < most_places }
+        requires room { length self.old.slots < most_connections }
         requires closed { slot_in c self.old.slots ≡ None }
         ensures { self.new ≡ record self.old { slots = with_added (fresh_slot c) self.old.slots } }
     {
@@ -61,11 +62,11 @@ impl Table {
 
     /// Whether as many are open as may be. Their numbers rise.
     pub fn full(&self) -> bool
-        ensures full { IsTrue result ↔ (length self.now.slots ≡ most_places) }
-        ensures few { length self.now.slots ≤ most_places }
+        ensures full { IsTrue result ↔ (length self.now.slots ≡ most_connections) }
+        ensures few { length self.now.slots ≤ most_connections }
         ensures rising { HaveRisingNumbers self.now.slots }
     {
-        self.places.len() == MOST
+        self.places.len() == MOST_CONNECTIONS
     }
 
     /// The state of a connection. The admitted sizes are within the budget, and so is the size of each payload that takes room.

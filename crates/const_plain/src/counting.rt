@@ -10,10 +10,8 @@ ghost use Rattle.const_plain.specs.Answers.{IsPlainOne, StopsPlainly, AnswersPla
 
 use crate::faults::{PlainFault, PlainStop};
 use idl_token::Place;
+use limits::MOST_VALUES;
 use thrift_value::Value;
-
-/// How many values a constant has at most, itself included.
-const MOST_VALUES: u32 = 4_000_000;
 
 /// How many values were evaluated.
 #[derive(Drop)]

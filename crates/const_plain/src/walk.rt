@@ -31,13 +31,11 @@ use check_plain::const_named;
 use idl_names::{ConstName, GivenTree};
 use idl_parser::{ConstTree, Name};
 use idl_token::Place;
+use limits::MOST_LEVELS;
 use schema::{FieldDesc, StructKind, TypeDesc};
 use std::alloc::AllocError;
 use std::collections::VecDeque;
 use thrift_value::{Fields, Value};
-
-/// How many levels of structs and containers a constant has at most.
-const MOST_LEVELS: u32 = 64;
 
 /// How deep calls may nest.
 const MOST_CALLS: u32 = 10_000;

@@ -3,18 +3,16 @@
 ghost use Rattle.std.specs.Prelude.{◌≡◌, ◌+◌, ◌<◌, [], ◌∷◌, ◌++◌, true, length, take, drop, IfOk, MatchOption};
 ghost use Rattle.machine_model.specs.HallState.{has_key, is_same, without};
 ghost use Rattle.machine_model.specs.HallRule.{job_of, outcome_of};
-ghost use Rattle.machine_model.specs.OwnCalls.{most_keys};
+ghost use Rattle.machine_model.specs.OwnCalls.{most_connections};
 ghost use Rattle.hall_core.specs.Queues.{keys_held};
 
 use crate::job::Job;
 use call_rules::Key;
+use limits::MOST_CONNECTIONS;
 use outside::{Bytes, Settled};
 use std::alloc::{AllocError, Global};
 use std::collections::VecDeque;
 use std::marker::Model;
-
-/// The most keys that are submitted and not collected.
-const MOST: usize = 1024;
 
 /// A job's outcome.
 #[derive(Drop)]
@@ -80,15 +78,15 @@ impl Queue {
         ensures { IfOk result (λ q. q ≡ record { jobs = []; taken = []; outcomes = [] }) }
     {
         Ok(Queue {
-            jobs: VecDeque::with_capacity(alloc, MOST)?,
-            taken: Vec::with_capacity(alloc, MOST)?,
-            outcomes: VecDeque::with_capacity(alloc, MOST)?,
+            jobs: VecDeque::with_capacity(alloc, MOST_CONNECTIONS)?,
+            taken: Vec::with_capacity(alloc, MOST_CONNECTIONS)?,
+            outcomes: VecDeque::with_capacity(alloc, MOST_CONNECTIONS)?,
         })
     }
 
     /// Adds a job.
     pub(crate) fn submit(&mut self, key: Key, payload: Bytes)
-        requires { keys_held self.old < most_keys }
+        requires { keys_held self.old < most_connections }
         ensures { self.new ≡ record self.old { jobs = self.old.jobs ++ job_of key payload ∷ [] } }
     {
         self.jobs.push_back_reserved(Job { key, payload });

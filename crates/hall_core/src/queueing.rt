@@ -4,7 +4,7 @@ ghost use Rattle.std.specs.Prelude.{◌≡◌, ◌<◌, true};
 ghost use Rattle.call_rules.specs.Handling.{handler_rules};
 ghost use Rattle.machine_model.specs.HallState.{has_key};
 ghost use Rattle.machine_model.specs.HallRule as rule;
-ghost use Rattle.machine_model.specs.OwnCalls.{most_keys};
+ghost use Rattle.machine_model.specs.OwnCalls.{most_connections};
 ghost use Rattle.machine_model.specs.SeenHall.{SeenGives};
 ghost use Rattle.hall_core.specs.Queues.{keys_held};
 ghost use Rattle.hall_core.specs.Meant.{ServedHall, with_queue};
@@ -18,7 +18,7 @@ use outside::{Bytes, Settled};
 
 /// Submits a job.
 pub(crate) fn submit(queue: &mut Queue, closed: bool, key: Key, payload: Bytes) -> HallReply
-    requires { keys_held queue.old < most_keys }
+    requires { keys_held queue.old < most_connections }
     ensures { (hall : ServedHall) → hall.closed ≡ closed → SeenGives handler_rules (with_queue hall queue.old) (rule.submit key payload) (answer_of result) (with_queue hall queue.new) }
 {
     if closed {

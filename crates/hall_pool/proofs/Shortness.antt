@@ -10,7 +10,7 @@ use Rattle.call_history.specs.Induction.{CallKeeps, every_history}
 use Rattle.call_rules.specs.Handling.{handler_rules}
 use Rattle.machine_model.specs.HallState.{Job, HallState, IsNewlyOpened}
 use Rattle.machine_model.specs.HallRule.{HallOperation, submit, take_job, apply, put, collect, close, HallAnswer, done, job, empty, is_closed, applied, no_memory, journal_fault, is_broken, outcome, job_of, TakesEffect, ApplyGives, HallGives}
-use Rattle.machine_model.specs.OwnCalls.{HallAsk, most_bytes, OwnAsksAllow}
+use Rattle.machine_model.specs.OwnCalls.{HallAsk, longest_payload, OwnAsksAllow}
 use Rattle.machine_model.specs.SeenHall.{filled}
 use Rattle.hall_core.specs.Meant.{ServedHall}
 use Rattle.hall_core.specs.Asked.{operation_of, answer_of, StepCall, ask_seen, StepGives, StepMay}
@@ -18,9 +18,9 @@ use Rattle.hall_pool.proofs.Answering.{IsStep, is_step}
 
 -- no payload is longer
 abbrev pub AreShort : List Job → Type 0
-AreShort jobs = AllByRecursion (λ (j : Job). length j.payload ≤ most_bytes) jobs
+AreShort jobs = AllByRecursion (λ (j : Job). length j.payload ≤ longest_payload) jobs
 
-short_push : (jobs : List Job) (j : Job) → AreShort jobs → length j.payload ≤ most_bytes → AreShort (jobs ++ j ∷ [])
+short_push : (jobs : List Job) (j : Job) → AreShort jobs → length j.payload ≤ longest_payload → AreShort (jobs ++ j ∷ [])
 short_push [] j s l = (l, tt)
 short_push (x ∷ jobs) j s l = (s.0, short_push jobs j s.1 l)
 
@@ -60,7 +60,7 @@ module _ {C A M : Type 0} (r : ServiceRules C A M) (old new : HallState C A M) w
 
 -- the job that is taken is one of them
 pub taken_short : {C A M : Type 0} (r : ServiceRules C A M) (old new : HallState C A M) (key : Key) (payload : List ℕ) → HallGives r old take_job (job key payload) new → AreShort old.jobs
-    → length payload ≤ most_bytes
+    → length payload ≤ longest_payload
 taken_short r old new key payload g s = let all : AreShort (job_of key payload ∷ g.0) = subst AreShort g.1 s in all.0
 
 -- after a history of a newly opened hall whose calls were allowed, all jobs are short

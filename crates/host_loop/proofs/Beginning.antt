@@ -24,7 +24,7 @@ use Rattle.hall_pool.proofs.Adding.{at_work_first}
 use Rattle.loop_conns.specs.declared.connections.LoopConnections.{LoopConnections}
 use Rattle.loop_conns.specs.Tied.{IsOrderly, AreTied}
 use Rattle.loop_conns.specs.Woven.{ServedAsk, WeavesLent, IsPassedAtRest, LoopIsRunning}
-use Rattle.loop_conns.specs.Going.{most_payload}
+use Rattle.loop_conns.specs.Going.{longest_payload}
 use Rattle.host_loop.specs.Going.{IsServing}
 
 -- a tape without marks may be that of no loop
@@ -44,7 +44,7 @@ none_collected front back seat key settled is = absurd (go front is)
     go [] e = nil-cons (seat_ask seat collect (outcome key settled)) back e
     go (x ∷ xs) e = nil-cons x (xs ++ seat_ask seat collect (outcome key settled) ∷ back) e
 
-module _ (limits : Limits) (small : limits.max_frame ≤ most_payload) (first : LinksState) (fresh : AreFreshLinks first) (kept : LoopConnections)
+module _ (limits : Limits) (small : limits.max_frame ≤ longest_payload) (first : LinksState) (fresh : AreFreshLinks first) (kept : LoopConnections)
     (table : kept.table ≡ record { budget = limits.read_budget; slots = [] }) (places : kept.places.items ≡ []) (causes : kept.causes.items ≡ []) (owing : kept.owing ≡ 0) where
   tied : AreTied first first kept no_loop
   tied =

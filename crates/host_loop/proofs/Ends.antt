@@ -55,6 +55,7 @@ use Rattle.host_loop.proofs.Unbroken.{unbroken}
 use Rattle.host_loop.proofs.Lent.{MadeAt, made_at, lent_count, weave_grows}
 use Rattle.host_loop.proofs.Noted.{place_of_rest, over_budget, length_right}
 use Rattle.host_loop.proofs.Seen.{seat_breaks}
+use Rattle.call_rules.specs.Desks.{longest_payload}
 
 -- a call leaves as many memories as there were
 length-after_call : (memories : List ServiceState) (call : PlainCall) → length (after_call handler_rules memories call) ≡ length memories
@@ -91,7 +92,7 @@ module _ (s : ServerSetting) (run : ServedRun) (e : EndsServing s run) where
   opening = filled e.booth.opening []
 
   small : s.desk.max_frame < 2 ^ 31
-  small = let l : s.desk.max_frame ≤ 268435456 = e.small in omega arith
+  small = let l : s.desk.max_frame ≤ longest_payload = e.small in omega arith
 
   others : All (HasServed s.desk e.booth) (e.own_seat ∷ e.crew)
   others =

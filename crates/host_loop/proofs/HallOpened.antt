@@ -14,7 +14,6 @@ use Rattle.machine_model.specs.SeenHall.{MayHave, filled}
 use Rattle.seat_booth.specs.Seats.{BoothView}
 use Rattle.hall_core.specs.Meant.{ServedHall, opened_hall}
 use Rattle.hall_pool.specs.Jobs.{IsOpenedFor}
-use Rattle.loop_conns.specs.Going.{most_payload}
 use Rattle.host_loop.specs.Served.{ServerSetting, ServedRun, IsServed}
 use Rattle.host_loop.specs.Ending.{ServesNothing}
 
@@ -59,7 +58,7 @@ module _ (first links : LinksState) (causes : List EndCause) (outcome : Outcome)
   served_alike desk limits h0 h1 is served = subst (λ (h : ServedHall). IsServed (setting_of desk limits h) (run_from h)) is served
 
   -- Nothing was served, since there was no memory.
-  pub serves_nothing : (desk : DeskMeaning) (limits : Limits) (hall : ServedHall) → AreFreshLinks first → limits.max_frame ≤ most_payload → desk.max_frame ≡ limits.max_frame
+  pub serves_nothing : (desk : DeskMeaning) (limits : Limits) (hall : ServedHall) → AreFreshLinks first → limits.max_frame ≤ longest_payload → desk.max_frame ≡ limits.max_frame
       → IsNewlyOpened (filled hall []) → MayHave hall.told [] → links ≡ first → causes ≡ [] → services ≡ hall.memories → told ≡ hall.told → torn ≡ hall.broken → faults ≡ hall.faults
       → outcome ≡ NoMemory → ServesNothing (setting_of desk limits hall) (run_from hall)
   serves_nothing desk limits hall fresh small longest newly empty links_are causes_are services_are told_is torn_is faults_are outcome_is =

@@ -25,7 +25,7 @@ use Rattle.hall_pool.specs.Turns.{asks_made, HasMadeTurns}
 use Rattle.hall_pool.specs.Jobs.{HallSeat, AddsAsk}
 use Rattle.loop_conns.specs.declared.connections.LoopConnections.{LoopConnections}
 use Rattle.loop_conns.specs.Woven.{ServedAsk, HasWoven, LoopIsRunning}
-use Rattle.loop_conns.specs.Going.{SomeLoopIsRunning, AnyLoopIsRunning, KeepsGoing, AllKeepGoing, IsOpenAt, IsHandedOut, AllHandOut, collected_behind, IsCollected, GoesOnSettled, most_payload}
+use Rattle.loop_conns.specs.Going.{SomeLoopIsRunning, AnyLoopIsRunning, KeepsGoing, AllKeepGoing, IsOpenAt, IsHandedOut, AllHandOut, collected_behind, IsCollected, GoesOnSettled, longest_payload}
 use Rattle.loop_conns.proofs.Standing.{standing}
 use Rattle.host_loop.specs.Asked.{SubmitsJob}
 use Rattle.host_loop.specs.Going.{IsServing, HaltTells, IsHalted}
@@ -189,10 +189,10 @@ module _ (desk : DeskMeaning) (limits : Limits) (booth : BoothView ServedHall) (
       own_behind : CollectsItsOwn (collected_behind (asks_made seat.mine) key settled)
       own_behind = subst (λ (l : List ServedAsk). CollectsItsOwn l) (asks_more seat new collect (outcome key settled) s.zeroth more) collects
 
-      pub is_collected : (max : ℕ) × (max ≤ most_payload) × IsCollected max l0 k0 key settled
+      pub is_collected : (max : ℕ) × (max ≤ longest_payload) × IsCollected max l0 k0 key settled
       is_collected = (limits.max_frame, s.small, (first, asks_made seat.mine, s.going, own_behind))
 
-      pub serves_settled : (l1 : LinksState) (k1 : LoopConnections) → ((max : ℕ) → max ≤ most_payload → GoesOnSettled max l0 k0 l1 k1 key settled) → k1.table.budget ≡ k0.table.budget
+      pub serves_settled : (l1 : LinksState) (k1 : LoopConnections) → ((max : ℕ) → max ≤ longest_payload → GoesOnSettled max l0 k0 l1 k1 key settled) → k1.table.budget ≡ k0.table.budget
           → IsSeatOf booth new → new.number ≡ 0 → IsServing desk limits booth first l1 k1 new own
       serves_settled l1 k1 settles budget place zeroth =
           serves_behind l1 k1 new collect (outcome key settled) more (settles limits.max_frame s.small first (asks_made seat.mine) s.going own_behind) refl budget place zeroth collects

@@ -8,7 +8,7 @@ use Rattle.outside.specs.declared.marks.Mark.{Mark}
 use Rattle.outside.specs.declared.marks.Mark.TheVariants.{Opened, Read, Ended, Wrote, ReadFailed, WriteFailed, Closed}
 use Rattle.host_model.specs.declared.cause.EndCause.{EndCause}
 use Rattle.host_model.proofs.Lists.{nil-cons, cons_parts}
-use Rattle.conn_state.specs.Phase.{most_wanted}
+use Rattle.conn_state.specs.Phase.{most_read}
 use Rattle.machine_model.specs.HallRule.{HallOperation, submit, take_job, apply, put, collect, close, HallAnswer, done, job, empty, is_closed, applied, no_memory, journal_fault, is_broken, outcome}
 use Rattle.machine_model.specs.Loop.{Loop, IsOpen, FrameProgress, part, bad_size, whole, marks_read, ConnEvent, opens, reads, ends, fails_read, writes, fails_write, gives_up, Happens, LoopAsks, conn_marks_settled}
 use Rattle.machine_model.specs.OpenAtFronts.{marks_counted}
@@ -27,7 +27,7 @@ none_counted (m ∷ marks) q = let a : transfer_of m ≡ 0 = q.0 in let b : mark
 
 -- what a mark of bytes tells of the loop that made it, which lent these lengths
 abbrev pub LentFor : Loop → Mark → List ℕ → Type 0
-LentFor loop (Read c bytes) lent = IsOpen loop c × (lent ≡ min (missing_of (loop.conns c).held) most_wanted ∷ [])
+LentFor loop (Read c bytes) lent = IsOpen loop c × (lent ≡ min (missing_of (loop.conns c).held) most_read ∷ [])
 LentFor loop (Wrote c bytes) lent = IsOpen loop c × ((loop.conns c).left ≢ []) × (lent ≡ length (loop.conns c).left ∷ [])
 LentFor loop _ lent = Unit {0}
 

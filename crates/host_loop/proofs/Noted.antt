@@ -13,7 +13,7 @@ use Rattle.host_model.specs.Conversation.{sent}
 use Rattle.host_model.proofs.Lists.{cons_parts}
 use Rattle.host_model.proofs.Framing.{only_split}
 use Rattle.host_model.proofs.Runs.{stands}
-use Rattle.conn_state.specs.Phase.{most_wanted}
+use Rattle.conn_state.specs.Phase.{most_read}
 use Rattle.machine_model.specs.HallState.{HallState, IsNew}
 use Rattle.machine_model.specs.Loop.{LoopConn, Loop, IsOpen}
 use Rattle.machine_model.specs.Bounds.{sum_among}
@@ -119,9 +119,9 @@ module _ {C A M : Type 0} (d : DeskRules C A) (small : d.max < 2 ^ 31) (r : Serv
   split_is : (c : ℕ) → c < mid.count → (payloads : List (List ℕ)) (rest : List ℕ) → Frames d.max (input (marks_of c mid.tape)) payloads rest → (payloads ≡ (mid.conns c).payloads) × (rest ≡ (mid.conns c).held)
   split_is c l payloads rest frames = only_split d.max (input (marks_of c mid.tape)) rest (mid.conns c).held payloads (mid.conns c).payloads small frames (told.frames c l)
 
-  read_right : (c lent : ℕ) → IsOpen mid c → lent ∷ [] ≡ min (missing_of (mid.conns c).held) most_wanted ∷ [] → IsLentWhatIsMissing d hall.journal mid.tape c lent
+  read_right : (c lent : ℕ) → IsOpen mid c → lent ∷ [] ≡ min (missing_of (mid.conns c).held) most_read ∷ [] → IsLentWhatIsMissing d hall.journal mid.tape c lent
   read_right c lent o is payloads rest frames =
-      (cons_parts lent (min (missing_of (mid.conns c).held) most_wanted) [] [] is).0 ∙ ap (λ h. min (missing_of h) most_wanted) (sym (split_is c o.0 payloads rest frames).1)
+      (cons_parts lent (min (missing_of (mid.conns c).held) most_read) [] [] is).0 ∙ ap (λ h. min (missing_of h) most_read) (sym (split_is c o.0 payloads rest frames).1)
 
   -- what is sent to the payloads of then is what was written by then, and what was left
   sent_by_then : (c : ℕ) → IsOpen mid c → (mid.conns c).left ≢ [] → sent d (entries_of c hall.journal) 0 (mid.conns c).payloads ≡ output (marks_of c mid.tape) ++ (mid.conns c).left

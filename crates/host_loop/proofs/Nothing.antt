@@ -18,6 +18,7 @@ use Rattle.host_loop.specs.Lengths.{AreLengths}
 use Rattle.host_loop.specs.Rests.{AreNotedRests}
 use Rattle.host_loop.specs.Served.{ServerSetting, ServedRun, ComesOutBy, rules_served, IsServed}
 use Rattle.host_loop.specs.Ending.{ServesNothing}
+use Rattle.call_rules.specs.Desks.{longest_payload}
 
 -- what is empty where it is told may be empty
 may_be_empty : {X : Type 0} (o : Option (List X)) → IfSome o (λ items. items ≡ []) → MayHave o []
@@ -26,7 +27,7 @@ may_be_empty (Some items) h = h
 
 module _ (s : ServerSetting) (run : ServedRun) (e : ServesNothing s run) where
   small : s.desk.max_frame < 2 ^ 31
-  small = let l : s.desk.max_frame ≤ 268435456 = e.small in omega arith
+  small = let l : s.desk.max_frame ≤ longest_payload = e.small in omega arith
 
   no_mark : (front back : List Mark) (mark : Mark) → [] ≡ front ++ mark ∷ back → ⊥
   no_mark [] back mark is = nil-cons mark back is

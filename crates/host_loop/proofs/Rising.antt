@@ -10,7 +10,7 @@ use Rattle.loop_conns.specs.declared.connections.ConnStage.TheVariants.{Lean, La
 use Rattle.loop_conns.specs.declared.connections.LoopConnections.{LoopConnections}
 use Rattle.loop_conns.specs.Tied.{CauseShows, StageTells, AreTied}
 use Rattle.loop_conns.specs.Woven.{ServedAsk, HasWoven}
-use Rattle.loop_conns.specs.Going.{most_payload, AllKeepWoven}
+use Rattle.loop_conns.specs.Going.{longest_payload, AllKeepWoven}
 
 module _ (first links : LinksState) where
   -- the links as they came in, with the count of faults that they have now
@@ -49,7 +49,7 @@ module _ (first links : LinksState) where
       }
 
 -- where whichever loop comes on, the count of faults hasn't fallen
-pub net_goes_on : (max : ℕ) → max ≤ most_payload → (first l0 l1 : LinksState) (k0 k1 : LoopConnections) (asks : List ServedAsk) → AllKeepWoven l0 k0 l1 k1 → HasWoven max first l0 k0 asks
+pub net_goes_on : (max : ℕ) → max ≤ longest_payload → (first l0 l1 : LinksState) (k0 k1 : LoopConnections) (asks : List ServedAsk) → AllKeepWoven l0 k0 l1 k1 → HasWoven max first l0 k0 asks
     → l0.net_faults ≤ l1.net_faults
 net_goes_on max small first l0 l1 k0 k1 asks on w =
     let before : HasWoven max (lately first l0) l0 k0 asks = (

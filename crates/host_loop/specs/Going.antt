@@ -19,7 +19,7 @@ use Rattle.hall_pool.specs.Jobs.{HallSeat, IsOpenedFor}
 use Rattle.hall_pool.specs.declared.workplace.Workplace.{Workplace}
 use Rattle.loop_conns.specs.declared.connections.LoopConnections.{LoopConnections}
 use Rattle.loop_conns.specs.Woven.{HasWoven, LoopIsRunning}
-use Rattle.loop_conns.specs.Going.{most_payload, AreAllGone}
+use Rattle.loop_conns.specs.Going.{longest_payload, AreAllGone}
 use Rattle.host_loop.specs.Ending.{FindsItClosed}
 use Rattle.host_loop.specs.declared.opening.Tools.{Tools}
 use Rattle.host_loop.specs.declared.holdings.Run.{Run}
@@ -35,7 +35,7 @@ pub record AreNewTools {B : Type 0} (budget : ℕ) (tools : Tools B) : Type 0 wh
 -- The loop serves, over links that were so when they came in: what it did is a part of a run, with its seat's calls, which are number 0's and have not closed the hall; and
 -- its own worker has made whole turns.
 pub record IsServing (desk : DeskMeaning) (limits : Limits) (booth : BoothView ServedHall) (first links : LinksState) (kept : LoopConnections) (loop_seat own_seat : HallSeat) : Type 0 where
-  pub small : limits.max_frame ≤ most_payload
+  pub small : limits.max_frame ≤ longest_payload
   pub opened : IsOpenedFor desk booth
   pub going : LoopIsRunning limits.max_frame first links kept (asks_made loop_seat.mine)
   pub collects : CollectsItsOwn (asks_made loop_seat.mine)
@@ -61,7 +61,7 @@ HaltTells limits first links kept loop_seat own_seat NoMemory = Unit {0}
 
 -- The loop has halted: what it did is a part of a run, and its own worker has made turns.
 pub record IsHalted (desk : DeskMeaning) (limits : Limits) (booth : BoothView ServedHall) (first links : LinksState) (kept : LoopConnections) (loop_seat own_seat : HallSeat) (outcome : Outcome) : Type 0 where
-  pub small : limits.max_frame ≤ most_payload
+  pub small : limits.max_frame ≤ longest_payload
   pub opened : IsOpenedFor desk booth
   pub woven : HasWoven limits.max_frame first links kept (asks_made loop_seat.mine)
   pub budget : kept.table.budget ≡ limits.read_budget

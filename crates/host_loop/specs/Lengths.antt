@@ -7,7 +7,7 @@ use Rattle.host_model.specs.Marks.{marks_of, input, output}
 use Rattle.host_model.specs.Journal.{JournalEntry, entries_of}
 use Rattle.host_model.specs.DeskRules.{DeskRules}
 use Rattle.host_model.specs.Conversation.{sent}
-use Rattle.conn_state.specs.Phase.{most_wanted}
+use Rattle.conn_state.specs.Phase.{most_read}
 use Rattle.machine_model.specs.OpenAtFronts.{marks_counted}
 use Rattle.loop_conns.specs.Woven.{missing_of}
 
@@ -21,7 +21,7 @@ module _ {C A : Type 0} (d : DeskRules C A) (journal : List (JournalEntry C A)) 
   -- A read of connection c behind these marks was lent as much as was missing of the size or the frame under way, or 65,536 bytes where more was.
   abbrev pub IsLentWhatIsMissing : List Mark → ℕ → ℕ → Type 0
   IsLentWhatIsMissing front c lent =
-      (payloads : List (List ℕ)) (rest : List ℕ) → Frames d.max (input (marks_of c front)) payloads rest → lent ≡ min (missing_of rest) most_wanted
+      (payloads : List (List ℕ)) (rest : List ℕ) → Frames d.max (input (marks_of c front)) payloads rest → lent ≡ min (missing_of rest) most_read
 
   -- A write on connection c behind these marks was offered all that was left of its reply.
   abbrev pub OffersWhatIsLeft : List Mark → ℕ → ℕ → Type 0

@@ -4,14 +4,13 @@ ghost use Rattle.std.specs.Prelude.{◌≡◌, ◌≤◌, IfOk, length};
 ghost use Rattle.conn_state.specs.Phase.{wanted};
 ghost use Rattle.conn_table.specs.Table.{slot_of};
 ghost use Rattle.loop_conns.specs.Going.{SomeLoopIsRunning, KeepsGoing, ReadsAt, ReadTells};
+ghost use Rattle.call_rules.specs.Desks.{longest_payload};
 
+use limits::MOST_READ;
 use loop_conns::{LoopConnections, ReadStep};
 use outside::Links;
 use std::alloc::{AllocError, Global};
 use std::marker::Model;
-
-/// As many bytes as a connection may want at once.
-const MOST_WANTED: usize = 65_536;
 
 /// A buffer of as many bytes as a connection may want at once. Contracts see their number.
 #[derive(Drop)]
@@ -21,13 +20,13 @@ pub(crate) struct Buffer {
 
 impl Model for Buffer {
     ghost use Rattle.std.specs.Prelude.{◌≡◌, ℕ, length};
-    ghost use Rattle.conn_state.specs.Phase.{most_wanted};
+    ghost use Rattle.conn_state.specs.Phase.{most_read};
 
     ghost Value = { ℕ };
 
     ghost view = { λ b. length b.bytes.items };
 
-    ghost invariant = { λ b. length b.bytes.items ≡ most_wanted };
+    ghost invariant = { λ b. length b.bytes.items ≡ most_read };
 }
 
 /// So many bytes.
@@ -40,7 +39,7 @@ fn zeros(alloc: Global, size: usize) -> Result<Vec<u8>, AllocError>
 impl Buffer {
     /// Takes a buffer.
     pub(crate) fn new(alloc: Global) -> Result<Buffer, AllocError> {
-        let bytes = zeros(alloc, MOST_WANTED)?;
+        let bytes = zeros(alloc, MOST_READ)?;
         Ok(Buffer { bytes })
     }
 
@@ -56,7 +55,7 @@ impl Buffer {
         requires under_way { SomeLoopIsRunning max_frame (L.state links.old) conns.old }
         requires reads { ReadsAt c conns.old }
         requires count { count ≡ wanted (slot_of c conns.old.table.slots).conn.phase }
-        requires small { max_frame ≤ 268435456 }
+        requires small { max_frame ≤ longest_payload }
         ensures going { KeepsGoing max_frame (L.state links.old) conns.old (L.state links.new) conns.new }
         ensures step { ReadTells c conns.new result }
         ensures budget { conns.new.table.budget ≡ conns.old.table.budget }

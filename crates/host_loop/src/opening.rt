@@ -9,12 +9,13 @@ use crate::serving::Served;
 use call_rules::{Handler, Journal};
 use conn_table::{Ends, Outcome};
 use hall_pool::Door;
+use limits::MOST_CONNECTIONS;
 use loop_conns::LoopConnections;
 use outside::Links;
 use std::alloc::Global;
 
 /// So many rings may stand at the door: one for each job, and one for each worker with one more at the end.
-const MOST_RINGS: u32 = 1_033;
+const MOST_RINGS: u32 = MOST_CONNECTIONS as u32 + 8 + 1;
 
 /// What a loop works with.
 #[derive(Drop)]

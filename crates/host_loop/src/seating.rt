@@ -7,7 +7,7 @@ ghost use Rattle.machine_model.specs.SeenHall.{MayHave, filled};
 ghost use Rattle.seat_booth.specs.Seats.{IsSeatOf};
 ghost use Rattle.hall_pool.specs.Jobs.{IsOpenedFor};
 ghost use Rattle.hall_pool.specs.Crew.{IsNewSeating};
-ghost use Rattle.loop_conns.specs.Going.{most_payload};
+ghost use Rattle.loop_conns.specs.Going.{longest_payload};
 ghost use Rattle.host_loop.specs.Going.{AreNewTools};
 ghost use Rattle.host_loop.specs.Left.{IsLeftOf};
 ghost use Rattle.host_loop.specs.Served.{IsServed};
@@ -77,7 +77,7 @@ fn serve_at<
     tools: Tools<L::Bell>,
 ) -> Served<H, J>
     requires fresh { AreFreshLinks (L.state links.old) }
-    requires small { host.now.limits.max_frame ≤ most_payload }
+    requires small { host.now.limits.max_frame ≤ longest_payload }
     requires longest { (D.meaning host.now.desk.now).max_frame ≡ host.now.limits.max_frame }
     requires opened { IsOpenedFor (D.meaning host.now.desk.now) booth }
     requires tools { AreNewTools host.now.limits.read_budget tools }
@@ -143,7 +143,7 @@ pub(crate) fn serve_hall<
     workers: u32,
 ) -> Served<H, J>
     requires fresh { AreFreshLinks (L.state links.old) }
-    requires small { host.now.limits.max_frame ≤ most_payload }
+    requires small { host.now.limits.max_frame ≤ longest_payload }
     requires longest { (D.meaning host.now.desk.now).max_frame ≡ host.now.limits.max_frame }
     requires newly { IsNewlyOpened (filled hall []) }
     requires empty { MayHave hall.told [] }

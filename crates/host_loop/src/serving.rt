@@ -4,6 +4,7 @@ ghost use Rattle.std.specs.Prelude.{◌≡◌, ◌≤◌, false, [], length, map
 ghost use Rattle.outside.specs.Opening.{AreFreshLinks};
 ghost use Rattle.machine_model.specs.SeenHall.{MayHave};
 ghost use Rattle.host_loop.specs.Served.{IsServed};
+ghost use Rattle.call_rules.specs.Desks.{longest_payload};
 
 use crate::holdings::Host;
 use crate::laws::nothing_is_served;
@@ -55,7 +56,7 @@ pub fn serve<
     requires workers { workers ≤ 8 }
     requires some { 1 ≤ limits.max_frame }
     requires within { limits.max_frame ≤ limits.read_budget }
-    requires budget { limits.read_budget ≤ 268435456 }
+    requires budget { limits.read_budget ≤ longest_payload }
     requires longest { (D.meaning desk.now).max_frame ≡ limits.max_frame }
     requires slots { length handlers.items ≡ (D.meaning desk.now).slots }
     requires whole { J.torn journal ≡ false }

@@ -21,7 +21,7 @@ mod machines;
 #[cfg(test)]
 mod meeting;
 #[cfg(test)]
-mod most_open;
+mod most_connections;
 #[cfg(test)]
 mod places;
 #[cfg(test)]

@@ -1,6 +1,7 @@
 //! Recorded connections through the top call: what is written, and what is refused.
 
 use crate::given::{Ended, Given, REHEARSE, run_script};
+use limits::LONGEST_SCRIPT;
 use outside::{MemSink, MemSource};
 use std::alloc::{AllocError, Global};
 use std::process::Abort;
@@ -8,9 +9,6 @@ use std::sync::Wait;
 use std::test::Fail;
 use std::thread::Threads;
 use thrift_host::Status;
-
-/// The longest script, in bytes.
-const LONGEST_SCRIPT: usize = 67_108_864;
 
 /// Runs the command on `PING`, given and taken a byte at a time, with these numbers of the reads and writes that fail.
 fn run_ping<R: Threads + Wait + Sync>(

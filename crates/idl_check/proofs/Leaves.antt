@@ -3,7 +3,7 @@ use Rattle.std.proofs.Common.{◌≡◌, inl, inr, ℕ, zero, suc, ◌+◌, ◌�
 use Rattle.std.specs.List.{AllByRecursion}
 use Rattle.idl_token.specs.declared.terminal.Terminal.{Terminal}
 use Rattle.idl_token.specs.declared.terminal.Terminal.TheVariants as word
-use Rattle.idl_token.specs.Limits.{longest_text}
+use Rattle.idl_token.specs.Limits.{longest_idl_text}
 use Rattle.idl_token.specs.Terminals.{same}
 use Rattle.idl_parser.specs.Phrases.{Lexeme, Node, none, word as word_node, flag, text, number, given, pair, placed, Phrase, one, deep, chain, either, maybe, many, marked, Times, Derives}
 use Rattle.idl_check.specs.Identifiers.{IsIdentifier}
@@ -24,7 +24,7 @@ abbrev pub HasTexts : Node → Type 0
 HasTexts none = Unit {0}
 HasTexts (word_node k at) = Unit {0}
 HasTexts (flag k) = Unit {0}
-HasTexts (text k bytes at) = (same k word.Identifier ≡ true → IsIdentifier bytes) × (length bytes ≤ longest_text)
+HasTexts (text k bytes at) = (same k word.Identifier ≡ true → IsIdentifier bytes) × (length bytes ≤ longest_idl_text)
 HasTexts (number z at) = Unit {0}
 HasTexts (given x) = HasTexts x
 HasTexts (pair x y) = HasTexts x × HasTexts y
@@ -32,7 +32,7 @@ HasTexts (placed at x) = HasTexts x
 
 -- a symbol that is a name is an identifier, and none is longer than a text
 abbrev pub IsTextSymbol : Lexeme → Type 0
-IsTextSymbol t = (same t.what word.Identifier ≡ true → IsIdentifier t.bytes) × (length t.bytes ≤ longest_text)
+IsTextSymbol t = (same t.what word.Identifier ≡ true → IsIdentifier t.bytes) × (length t.bytes ≤ longest_idl_text)
 
 -- of a symbol no more is kept than it has
 pub record KeepsOne (k : Terminal) (f : Lexeme → Node) : Type 0 where

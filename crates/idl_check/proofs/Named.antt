@@ -9,7 +9,7 @@ use Rattle.idl_token.specs.declared.LexKind.TheVariants as lex
 use Rattle.idl_token.specs.declared.terminal.Terminal.{Terminal}
 use Rattle.idl_token.specs.declared.terminal.Terminal.TheVariants as word
 use Rattle.idl_token.specs.Terminals.{same}
-use Rattle.idl_token.specs.Limits.{longest_text}
+use Rattle.idl_token.specs.Limits.{longest_idl_text}
 use Rattle.idl_token.proofs.SomeOutcome.{no_want}
 use Rattle.idl_parser.specs.declared.ParseKind.TheVariants as parse
 use Rattle.idl_parser.specs.Phrases.{Lexeme}
@@ -71,7 +71,7 @@ of_limited false text reading h = subst IsNamed (sym h) (kinds.TooLong, refl)
 
 of_held : (held : Option (List ℕ)) (reading : FileReading) → IsHeldReadAs held reading → IsNamed reading
 of_held None reading h = subst IsNamed (sym h) (kinds.Absent, refl)
-of_held (Some text) reading h = of_limited (nat_le (length text) longest_text) text reading h
+of_held (Some text) reading h = of_limited (nat_le (length text) longest_idl_text) text reading h
 
 -- and one at which loading stops
 abbrev pub EndsNamed : Loaded → Type 0

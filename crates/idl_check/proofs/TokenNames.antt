@@ -6,7 +6,7 @@ use Rattle.std.specs.List.{AllByRecursion, list_all, prefix_len}
 use Rattle.std.specs.Cmp.Lexicographic.{pointwise}
 use Rattle.std.proofs.lemmas.Bool.{and_parts, not-true, eqb-true, ltb-true}
 use Rattle.idl_token.specs.Classes.{is_word_start, is_word_byte, is_run}
-use Rattle.idl_token.specs.Limits.{longest_text}
+use Rattle.idl_token.specs.Limits.{longest_idl_text}
 use Rattle.idl_token.specs.Literals.{is_literal, bad_escape_in}
 use Rattle.idl_token.specs.Numbers.{is_int, is_double, is_big_int, is_big_double}
 use Rattle.idl_token.specs.Terminals.{same}
@@ -86,13 +86,13 @@ run_passes : (p : ℕ → Bool) (xs : List ℕ) → prefix_len p xs ≡ length x
 run_passes p [] e = tt
 run_passes p (x ∷ xs) e = let parts = front_passes (p x) (prefix_len p xs) (length xs) e in (parts.0, run_passes p xs parts.1)
 
-word_is_identifier : (w : List ℕ) → length w ≤ longest_text → is_word w ≡ true → IsIdentifier w
+word_is_identifier : (w : List ℕ) → length w ≤ longest_idl_text → is_word w ≡ true → IsIdentifier w
 word_is_identifier w short is =
     let run = (and_parts (is_word_start (slice_index w 0)) (is_run is_word_byte w) is).1 in
     let parts = and_parts _ (prefix_len is_word_byte w == length w) run in
     record { some = ltb-true 0 (length w) parts.0; short = short; bytes = run_passes is_word_byte w (eqb-true (prefix_len is_word_byte w) (length w) parts.1) }
 
-token_is_identifier : (w : List ℕ) (k : TokenKind) → length w ≤ longest_text → whole_of w ≡ sound k → same (terminal_of k w) word.Identifier ≡ true → IsIdentifier w
+token_is_identifier : (w : List ℕ) (k : TokenKind) → length w ≤ longest_idl_text → whole_of w ≡ sound k → same (terminal_of k w) word.Identifier ≡ true → IsIdentifier w
 token_is_identifier w k short is name =
     word_is_identifier w short
     (whole_name (is_word w) (is_int w) (is_double w) (is_literal w) (is_sign w) (is_big_int w) (is_big_double w) (slice_index w 0 == 38) (kind_of_word w) (bad_escape_in w)
@@ -101,10 +101,10 @@ token_is_identifier w k short is name =
 token_is_short : (text : List ℕ) (t : Token) → length (token_bytes text t) ≤ length text
 token_is_short text t = omega (arith, length-take (t.to - t.from) (drop t.from text), length-drop t.from text)
 
-pub symbols_are_texts : (text : List ℕ) → length text ≤ longest_text → (ts : List Token) → AllByRecursion (IsOfItsKind text) ts → AllByRecursion IsTextSymbol (lexemes text ts)
+pub symbols_are_texts : (text : List ℕ) → length text ≤ longest_idl_text → (ts : List Token) → AllByRecursion (IsOfItsKind text) ts → AllByRecursion IsTextSymbol (lexemes text ts)
 symbols_are_texts text short [] h = tt
 symbols_are_texts text short (t ∷ ts) h =
-    let small : length (token_bytes text t) ≤ longest_text = omega (arith, token_is_short text t) in
+    let small : length (token_bytes text t) ≤ longest_idl_text = omega (arith, token_is_short text t) in
     ((λ name. token_is_identifier (token_bytes text t) t.kind small h.0 name, small), symbols_are_texts text short ts h.1)
 
 -- tokens in a row take bytes

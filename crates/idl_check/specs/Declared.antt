@@ -1,7 +1,7 @@
 -- What a program's definitions owe to the texts of its files: names that are identifiers, short literals, and no more definitions than bytes.
 use Rattle.std.specs.Prelude.{◌≢◌, ◌<◌, ◌≤◌, ℕ, suc, ◌+◌, List, [], ◌∷◌, length, map, All, AllPairs, MatchOption, ⊤}
 use Rattle.std.specs.List.{AllByRecursion}
-use Rattle.idl_token.specs.Limits.{longest_text}
+use Rattle.idl_token.specs.Limits.{longest_idl_text}
 use Rattle.idl_include.specs.Declarations.{FieldDecl, FunctionDecl, EnumValueDecl, Declaration, of_const, of_typedef, of_enum, of_struct_decl, of_service}
 use Rattle.idl_include.specs.Loading.{most_files}
 use Rattle.idl_include.specs.Program.{SourceFile, Program, base_of_file}
@@ -57,7 +57,7 @@ item_count (d ∷ ds) = suc (function_count d) + item_count ds
 pub record AreOfText (ds : List Declaration) : Type 0 where
   pub names : AllByRecursion IsNamed ds
   pub values : AllByRecursion HasShortValues ds
-  pub few : item_count ds ≤ longest_text
+  pub few : item_count ds ≤ longest_idl_text
 
 -- a file among so many: its definitions are of one text, and it includes files
 pub record IsFileOfText (count : ℕ) (f : SourceFile) : Type 0 where

@@ -3,7 +3,7 @@ use Rattle.std.proofs.Common.{◌≡◌, ℕ, suc, Bool, true, List, [], ◌∷�
 use Rattle.schema.specs.PlainKind.{PlainKind}
 use Rattle.idl_include.specs.ConstExpr.{ConstExpr}
 use Rattle.idl_include.specs.Spots.{values_of}
-use Rattle.check_model.specs.Worths.{most_levels}
+use Rattle.check_model.specs.Worths.{most_const_levels}
 use Rattle.check_model.specs.Evaluation.{Setting, worth_by, named_worth, all_free, evaluated}
 use Rattle.idl_const.specs.Marks.{free_count, worth_where}
 

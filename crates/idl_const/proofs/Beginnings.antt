@@ -9,7 +9,7 @@ use Rattle.schema.specs.PlainKind.{PlainKind}
 use Rattle.idl_include.specs.ConstExpr.{ConstExpr}
 use Rattle.idl_include.specs.Numbering.{Filed}
 use Rattle.idl_include.specs.Spots.{GivenValue, values_of}
-use Rattle.check_model.specs.Worths.{most_levels, seen_at}
+use Rattle.check_model.specs.Worths.{most_const_levels, seen_at}
 use Rattle.check_model.specs.Evaluation.{Setting, worth_by, named_worth, is_free, all_free, evaluated, given_worth}
 use Rattle.idl_const.specs.declared.chains.ChainEnd.{ChainEnd}
 use Rattle.idl_const.specs.declared.chains.ChainEnd.TheVariants as ends
@@ -56,7 +56,7 @@ one_agrees s which l =
 -- a value that stands anywhere
 pub evaluated_is : (s : Setting) (file : ℕ) (kind : PlainKind) (tree : ConstExpr) (free : List Bool) → free ≡ all_free s.program
     → worth_by s (worth_where s free) file kind 64 0 tree ≡ evaluated s file kind tree
-unfolding evaluated worth_where entered_where most_levels
+unfolding evaluated worth_where entered_where most_const_levels
 evaluated_is s file kind tree free is =
     let all = all_free s.program in
     ap (λ (f : List Bool). worth_by s (worth_where s f) file kind 64 0 tree) is
@@ -71,7 +71,7 @@ module _ (s : Setting) (which : ℕ) (kind : PlainKind) (v : Filed GivenValue) (
   -- a given value that is no name, under evaluation itself
   pub itself_is : (free : List Bool) → name_place t.item ≡ None → free ≡ slice_set (all_free s.program) which false
       → worth_by s (worth_where s free) t.file kind 64 0 t.item ≡ given_worth s which kind v
-  unfolding given_worth worth_where entered_where most_levels
+  unfolding given_worth worth_where entered_where most_const_levels
   itself_is free no_name is =
       let after = slice_set (all_free s.program) which false in
       let same : t ≡ tree_given v = tree_is s which v t tree given in
@@ -85,7 +85,7 @@ module _ (s : Setting) (which : ℕ) (kind : PlainKind) (v : Filed GivenValue) (
   free_there = given_free (values_of s.program) which t tree
 
   given_by_all : (at : Place) → seen_at at (named_worth s (suc (free_count (slice_set (all_free s.program) which false))) (all_free s.program) which kind 64 0) ≡ seen_at at (given_worth s which kind v)
-  unfolding given_worth most_levels
+  unfolding given_worth most_const_levels
   given_by_all at =
       let after = slice_set (all_free s.program) which false in
       let few : free_count after ≤ length (values_of s.program) = omega (arith, count_le after, length-set (all_free s.program) which false, marks_length (values_of s.program)) in
@@ -93,7 +93,7 @@ module _ (s : Setting) (which : ℕ) (kind : PlainKind) (v : Filed GivenValue) (
       ∙ (λ i. worth_by s (λ w k l c. sym (enough s (free_count after) (length (values_of s.program)) after w k l c refl few) i) v.file kind 64 0 v.item.tree))
 
   own_given : (at : Place) → Some at ≡ name_place v.item.tree → seen_at at (given_worth s which kind v) ≡ given_worth s which kind v
-  unfolding given_worth most_levels
+  unfolding given_worth most_const_levels
   own_given at is = own_place s (named_worth s (length (values_of s.program)) (slice_set (all_free s.program) which false)) v.file kind 64 0 v.item.tree at is
 
   -- one that is a mere name

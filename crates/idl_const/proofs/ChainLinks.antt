@@ -13,7 +13,7 @@ use Rattle.idl_include.specs.Numbering.{Filed}
 use Rattle.idl_include.specs.Program.{Program}
 use Rattle.idl_include.specs.Spots.{GivenValue, values_of}
 use Rattle.idl_include.specs.Written.{Written}
-use Rattle.check_model.specs.Worths.{Worth, valued, flawed, only_if, too_large, most_values, seen_at}
+use Rattle.check_model.specs.Worths.{Worth, valued, flawed, only_if, too_large, most_const_values, seen_at}
 use Rattle.check_model.specs.Scalars.{OneWorth, enum_worth}
 use Rattle.check_model.specs.Evaluation.{Setting, NamedWorth, judged, single, name_worth, worth_by, on_entering, named_worth, is_free}
 use Rattle.idl_const.specs.declared.chains.ChainEnd.{ChainEnd}
@@ -38,7 +38,7 @@ seen_if false p q at count worth = refl
 
 -- one value looks the same wherever it stands
 pub seen_single : (p q at : Place) (count : ℕ) (worth : OneWorth) → seen_at at (single p count worth) ≡ seen_at at (single q count worth)
-seen_single p q at count worth = seen_if (nat_le (suc count) most_values) p q at (suc count) worth
+seen_single p q at count worth = seen_if (nat_le (suc count) most_const_values) p q at (suc count) worth
 
 own_judged : (at : Place) (count : ℕ) (worth : OneWorth) → seen_at at (judged at count worth) ≡ judged at count worth
 own_judged at count (Ok value) = refl
@@ -49,11 +49,11 @@ own_if true at count worth = own_judged at count worth
 own_if false at count worth = refl
 
 pub seen_own : (p at : Place) (count : ℕ) (worth : OneWorth) → seen_at at (single p count worth) ≡ single at count worth
-seen_own p at count worth = seen_single p at at count worth ∙ own_if (nat_le (suc count) most_values) at (suc count) worth
+seen_own p at count worth = seen_single p at at count worth ∙ own_if (nat_le (suc count) most_const_values) at (suc count) worth
 
 own_name : (named : NamedWorth) (kind : PlainKind) (levels count : ℕ) (at : Place) (m : Option ConstMeaning) → seen_at at (name_worth named kind levels count at m) ≡ name_worth named kind levels count at m
 own_name named kind levels count at None = refl
-own_name named kind levels count at (Some (enum_value which n)) = own_if (nat_le (suc count) most_values) at (suc count) (enum_worth kind which n)
+own_name named kind levels count at (Some (enum_value which n)) = own_if (nat_le (suc count) most_const_values) at (suc count) (enum_worth kind which n)
 own_name named kind levels count at (Some (given_value which)) = seen_twice at at (named which kind levels count)
 
 -- a name's faults are at the name

@@ -6,7 +6,7 @@ use Rattle.idl_token.specs.declared.Place.{Place}
 use Rattle.thrift_value.specs.Tree.{Tree}
 use Rattle.thrift_value.specs.declared.value.Value.{Value}
 use Rattle.thrift_value.specs.TreeOf.{tree_of}
-use Rattle.check_model.specs.Worths.{ConstFlaw, Worth, valued, flawed, only_if, wrong_kind, too_large, most_values, one_more, one_level}
+use Rattle.check_model.specs.Worths.{ConstFlaw, Worth, valued, flawed, only_if, wrong_kind, too_large, most_const_values, one_more, one_level}
 use Rattle.check_model.specs.Scalars.{OneWorth}
 use Rattle.check_model.specs.Evaluation.{judged, single, opened}
 use Rattle.idl_const.specs.declared.faults.ConstFault.{ConstFault}
@@ -20,12 +20,12 @@ past_room n h = grind (arith, nat_tests)
 
 -- there is room for one more
 pub one_more_inside : (at : Place) (count : ℕ) → suc count ≤ 4000000 → (inside : ℕ → Worth Tree) → one_more at count inside ≡ inside (suc count)
-unfolding most_values
+unfolding most_const_values
 one_more_inside at count h inside = ap (λ b. only_if b at too_large (inside (suc count))) (in_room (suc count) h)
 
 -- there is none
 pub one_more_past : (at : Place) (count : ℕ) → 4000000 ≤ count → (inside : ℕ → Worth Tree) → one_more at count inside ≡ flawed at too_large
-unfolding most_values
+unfolding most_const_values
 one_more_past at count h inside = ap (λ b. only_if b at too_large (inside (suc count))) (past_room (suc count) (omega arith))
 
 -- one value alone

@@ -6,7 +6,7 @@ use Rattle.std.proofs.Math.ListN.{length-set}
 use Rattle.schema.specs.PlainKind.{PlainKind}
 use Rattle.idl_include.specs.Numbering.{Filed}
 use Rattle.idl_include.specs.Spots.{GivenValue, values_of}
-use Rattle.check_model.specs.Worths.{most_levels}
+use Rattle.check_model.specs.Worths.{most_const_levels}
 use Rattle.check_model.specs.Evaluation.{Setting, worth_by, on_entering, named_worth, is_free, all_free, given_worth}
 use Rattle.idl_const.specs.Given.{FiledTree, tree_given, tree_numbered}
 use Rattle.idl_const.specs.Marks.{free_count, worth_where}

@@ -3,7 +3,7 @@ use Rattle.std.proofs.Common.{◌≡◌, ℕ, zero, suc, ◌≤◌, nat_le, Bool
 use Rattle.std.proofs.lemmas.Bool.Decides.{nat_tests}
 use Rattle.idl_token.specs.declared.Place.{Place}
 use Rattle.thrift_value.specs.Tree.{Tree}
-use Rattle.check_model.specs.Worths.{ConstFlaw, Worth, valued, flawed, and_next, seen_at, only_if, wrong_kind, too_large, one_more, one_level, most_values}
+use Rattle.check_model.specs.Worths.{ConstFlaw, Worth, valued, flawed, and_next, seen_at, only_if, wrong_kind, too_large, one_more, one_level, most_const_values}
 use Rattle.check_model.specs.Scalars.{OneWorth}
 use Rattle.check_model.specs.Evaluation.{judged, single, opened}
 
@@ -33,7 +33,7 @@ module _ {A : Type 0} where
 
   -- one value more
   pub more_valued : (at : Place) (count : ℕ) (next : ℕ → Worth A) (y : A) (n : ℕ) → one_more at count next ≡ valued y n → (suc count ≤ 4000000) × (next (suc count) ≡ valued y n)
-  unfolding most_values
+  unfolding most_const_values
   more_valued at count next y n e =
       let both = only_valued (nat_le (suc count) 4000000) at too_large (next (suc count)) y n e in
       (in_room count both.0, both.1)

@@ -16,7 +16,7 @@ use Rattle.schema.specs.Sound.{IsKindIn, IsSoundField, IsSoundStruct, IsValueOf}
 use Rattle.check_model.specs.FieldLists.{NumberedField, FieldsDecl, fields_by_id, field_lists}
 use Rattle.check_model.specs.SchemaParts.{NoDefault, IsFieldOf, IsStructFrom, IsSchemaWith, IsPartialSchema}
 use Rattle.check_model.specs.ProgramSchema.{DefaultIn}
-use Rattle.check_model.specs.Worths.{valued, const_cycle, most_levels}
+use Rattle.check_model.specs.Worths.{valued, const_cycle, most_const_levels}
 use Rattle.check_model.specs.Evaluation.{Setting, NamedWorth, struct_numbered, on_entering, named_worth, is_free, all_free, evaluated, given_worth}
 use Rattle.idl_const.specs.ShortLiterals.{HasShortLiterals, GivesShortLiterals}
 use Rattle.idl_const.proofs.AlikeSchemas.{alike_structs, written_alike}
@@ -88,14 +88,14 @@ module _ (s : Setting) (partial : IsPartialSchema s.program s.schema) (sound : A
 
   pub evaluated_written : (file : ℕ) (kind : PlainKind) (tree : ConstExpr) (value : Tree) (count : ℕ) → IsKindIn s.schema kind → HasShortLiterals tree
       → evaluated s file kind tree ≡ valued value count → IsValueOf s.schema kind value
-  unfolding evaluated most_levels
+  unfolding evaluated most_const_levels
   evaluated_written file kind tree value count known few e =
       value_of kind value count (worth_made s (named_worth s (length (values_of s.program)) (all_free s.program)) file (good_fields s.program s.schema partial sound)
       (named_made (length (values_of s.program)) (all_free s.program)) kind 64 0 tree value count known few e)
 
   pub given_written : (which : ℕ) (kind : PlainKind) (v : Filed GivenValue) (value : Tree) (count : ℕ) → IsKindIn s.schema kind → HasShortLiterals v.item.tree
       → given_worth s which kind v ≡ valued value count → IsValueOf s.schema kind value
-  unfolding given_worth most_levels
+  unfolding given_worth most_const_levels
   given_written which kind v value count known few e =
       value_of kind value count (worth_made s (named_worth s (length (values_of s.program)) (slice_set (all_free s.program) which false)) v.file (good_fields s.program s.schema partial sound)
       (named_made (length (values_of s.program)) (slice_set (all_free s.program) which false)) kind 64 0 v.item.tree value count known few e)

@@ -21,12 +21,10 @@ use crate::progress::Progress;
 use crate::walk::{given, value};
 use idl_parser::ConstTree;
 use idl_token::Place;
+use limits::MOST_LEVELS;
 use schema::TypeDesc;
 use std::alloc::{AllocError, Global};
 use thrift_value::Value;
-
-/// How many levels of structs and containers a constant has at most.
-const MOST_LEVELS: u32 = 64;
 
 /// How many values may be evaluated and names followed.
 const MOST_STEPS: u32 = 16_000_000;

@@ -10,10 +10,8 @@ ghost use Rattle.idl_const.specs.Flaws.{IsOneWorth, StopsAs, AnswersWorth};
 
 use crate::faults::{ConstFault, ConstStop};
 use idl_token::Place;
+use limits::MOST_VALUES;
 use thrift_value::Value;
-
-/// How many values a constant has at most, itself included.
-const MOST_VALUES: u32 = 4_000_000;
 
 /// How far evaluating has come. It is kept from one given value of a program to the next, so that its bound is one of them all.
 #[derive(Drop)]

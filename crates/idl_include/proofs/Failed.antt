@@ -4,7 +4,7 @@ use Rattle.std.proofs.lemmas.Bool.{false≢true}
 use Rattle.outside.specs.Files.{File, content_of, fits, IsLonger, IsWholeFile}
 use Rattle.outside.specs.declared.files.FileFail.{FileFail}
 use Rattle.outside.specs.declared.files.FileFail.TheVariants as fails
-use Rattle.idl_token.specs.Limits.{longest_text}
+use Rattle.idl_token.specs.Limits.{longest_idl_text}
 use Rattle.idl_parser.specs.Unplaced.{nowhere}
 use Rattle.idl_parser.specs.declared.tree.Document.{Document}
 use Rattle.idl_include.specs.declared.faults.LoadKind.{LoadKind}
@@ -23,10 +23,10 @@ held_fits : {A : Type 0} (limit : ℕ) (result : Result A FileFail) (held : Opti
 held_fits limit result None absent longer e = let s : result ≡ Err fails.Absent = absent refl in cc
 held_fits limit result (Some text) absent longer e = held_within limit result text (nat_le (length text) limit) refl longer e
 
-readable : {A : Type 0} (told : Option (List File)) (name : List ℕ) (items : A → List ℕ) (result : Result A FileFail) → IsWholeFile told name longest_text items result
+readable : {A : Type 0} (told : Option (List File)) (name : List ℕ) (items : A → List ℕ) (result : Result A FileFail) → IsWholeFile told name longest_idl_text items result
     → result ≡ Err fails.Failed → IsReadableFile told name
 readable None name items result whole e = tt
-readable (Some files) name items result whole e = held_fits longest_text result (content_of files name) whole.where_absent whole.where_longer e
+readable (Some files) name items result whole e = held_fits longest_idl_text result (content_of files name) whole.where_absent whole.where_longer e
 
 -- a fault of another kind
 other_kind : (told : Option (List File)) (name : List ℕ) (stop : LoadStop) → is_unread stop ≡ false → IsUnreadAt told name stop
@@ -42,7 +42,7 @@ with_file told name stops.NoMemory s r = tt
 with_file told name (stops.At fault) s r = λ f. (s.0, s.1, r)
 
 pub failed_is : {A : Type 0} (told : Option (List File)) (name : List ℕ) (items : A → List ℕ) (fail : FileFail) (result : Result A FileFail) (stop : LoadStop)
-    → IsWholeFile told name longest_text items result → result ≡ Err fail → IsUnread name fail stop → IsUnreadAt told name stop
+    → IsWholeFile told name longest_idl_text items result → result ≡ Err fail → IsUnread name fail stop → IsUnreadAt told name stop
 failed_is told name items fails.Absent result stop whole e u = with_kind told name stop kinds.Absent u refl
 failed_is told name items fails.TooLong result stop whole e u = with_kind told name stop kinds.TooLong u refl
 failed_is told name items fails.Failed result stop whole e u = with_file told name stop u (readable told name items result whole e)

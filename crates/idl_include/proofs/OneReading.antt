@@ -5,7 +5,7 @@ use Rattle.idl_token.specs.declared.Place.{Place}
 use Rattle.idl_token.specs.declared.Token.{Token}
 use Rattle.idl_token.specs.declared.LexFault.{LexFault}
 use Rattle.idl_token.specs.declared.LexKind.{LexKind}
-use Rattle.idl_token.specs.Limits.{longest_text}
+use Rattle.idl_token.specs.Limits.{longest_idl_text}
 use Rattle.idl_token.specs.Places.{line_and_column}
 use Rattle.idl_token.specs.Tokens.{AreTokensOf, IsFirstLexFault, HasTokens, HasFirstLexFault}
 use Rattle.idl_parser.specs.declared.ParseFault.{ParseFault}
@@ -50,7 +50,7 @@ module _ (k : Known) where
 
   held : (o : Option (List ℕ)) → (x : FileReading) × IsHeldReadAs o x
   held None = (unread nowhere absent, refl)
-  held (Some text) = within (nat_le (length text) longest_text) text
+  held (Some text) = within (nat_le (length text) longest_idl_text) text
 
   pub some_reader : (files : List File) → (reader : List ℕ → FileReading) × IsReaderOf files reader
   some_reader files = (λ name. (held (content_of files name)).0, λ name. (held (content_of files name)).1)
@@ -108,7 +108,7 @@ module _ (k : Known) where
 
   one_held : (o : Option (List ℕ)) (x y : FileReading) → IsHeldReadAs o x → IsHeldReadAs o y → x ≡ y
   one_held None x y p q = p ∙ sym q
-  one_held (Some text) x y p q = one_within (nat_le (length text) longest_text) text x y p q
+  one_held (Some text) x y p q = one_within (nat_le (length text) longest_idl_text) text x y p q
 
   pub one_reader : (files : List File) (r s : List ℕ → FileReading) → IsReaderOf files r → IsReaderOf files s → (name : List ℕ) → r name ≡ s name
   one_reader files r s p q name = one_held (content_of files name) (r name) (s name) (p name) (q name)

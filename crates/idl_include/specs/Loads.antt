@@ -5,7 +5,7 @@ use Rattle.outside.specs.Files.{File, OnTold, content_of, fits}
 use Rattle.outside.specs.declared.files.FileFail.{FileFail}
 use Rattle.outside.specs.declared.files.FileFail.TheVariants as fails
 use Rattle.idl_token.specs.declared.Place.{Place}
-use Rattle.idl_token.specs.Limits.{longest_text}
+use Rattle.idl_token.specs.Limits.{longest_idl_text}
 use Rattle.idl_token.specs.declared.LexKind.TheVariants as lex
 use Rattle.idl_parser.specs.declared.ParseKind.TheVariants as parse
 use Rattle.idl_parser.specs.declared.tree.Document.{Document}
@@ -67,7 +67,7 @@ IsLoaded reader come (Err fault) = IsFlawOf come fault
 
 -- where the files are told, the file is there and isn't too long
 abbrev pub IsReadableFile : Option (List File) → List ℕ → Type 0
-IsReadableFile told name = OnTold told name (λ held. fits longest_text held ≡ true)
+IsReadableFile told name = OnTold told name (λ held. fits longest_idl_text held ≡ true)
 
 -- the function says of each name what its file is read as, but of this one name that it has this flaw
 pub record IsReaderBut (files : List File) (name : List ℕ) (flaw : LoadFlawKind) (reader : List ℕ → FileReading) : Type 0 where

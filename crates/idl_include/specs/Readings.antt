@@ -4,7 +4,7 @@ use Rattle.outside.specs.Files.{File, content_of}
 use Rattle.idl_token.specs.declared.Place.{Place}
 use Rattle.idl_token.specs.declared.Token.{Token}
 use Rattle.idl_token.specs.declared.LexKind.{LexKind}
-use Rattle.idl_token.specs.Limits.{longest_text}
+use Rattle.idl_token.specs.Limits.{longest_idl_text}
 use Rattle.idl_token.specs.Tokens.{AreTokensOf, IsFirstLexFault}
 use Rattle.idl_parser.specs.declared.ParseKind.{ParseKind}
 use Rattle.idl_parser.specs.Phrases.{Node}
@@ -66,7 +66,7 @@ IsReadWithin false text reading = reading ≡ unread nowhere too_long
 -- what a file is read as that holds these bytes, or that isn't there
 abbrev pub IsHeldReadAs : Option (List ℕ) → FileReading → Type 0
 IsHeldReadAs None reading = reading ≡ unread nowhere absent
-IsHeldReadAs (Some text) reading = IsReadWithin (nat_le (length text) longest_text) text reading
+IsHeldReadAs (Some text) reading = IsReadWithin (nat_le (length text) longest_idl_text) text reading
 
 -- the function says of each name what the file of this name is read as
 abbrev pub IsReaderOf : List File → (List ℕ → FileReading) → Type 0

@@ -2,7 +2,7 @@
 use Rattle.std.specs.Prelude.{◌≡◌, ◌<◌, ◌≤◌, ℕ, false, List, [], ◌∷◌, All, length, map, ⊤}
 use Rattle.idl_parser.specs.declared.tree.Document.{Document}
 use Rattle.idl_parser.specs.Trees.{document_node}
-use Rattle.idl_token.specs.Limits.{longest_text}
+use Rattle.idl_token.specs.Limits.{longest_idl_text}
 use Rattle.idl_include.specs.Program.{SourceFile, Program}
 use Rattle.idl_include.specs.FileNames.{base_name}
 use Rattle.idl_include.specs.Loading.{most_files, is_among}
@@ -26,7 +26,7 @@ program_in = map file_in
 -- the document is that of some text within the limit (Thrift IDL, 'Document')
 pub record IsOfSomeText (document : Document) : Type 0 where
   pub text : List ℕ
-  pub short : length text ≤ longest_text
+  pub short : length text ≤ longest_idl_text
   pub tree : IsTreeOf text (document_node document)
 
 -- a file is sound among so many: its base name is that of its name, its document is one, and its numbers are of files

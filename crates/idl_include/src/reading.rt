@@ -2,7 +2,7 @@
 
 ghost use Rattle.std.specs.Prelude.{◌≡◌, ◌≢◌, ◌≤◌, ℕ, List, true, false, length, IfOk, IfErr};
 ghost use Rattle.outside.specs.Cause.{Rose};
-ghost use Rattle.idl_token.specs.Limits.{longest_text};
+ghost use Rattle.idl_token.specs.Limits.{longest_idl_text};
 ghost use Rattle.idl_token.specs.Tokens.{AreTokensOf, IsFirstLexFault};
 ghost use Rattle.idl_parser.specs.Faults.{IsFaultOf};
 ghost use Rattle.idl_include.specs.Readings.{FileReading};
@@ -12,7 +12,7 @@ ghost use Rattle.idl_include.specs.Loads.{Tells, IsRead, IsTextRead, IsUnread, I
 use crate::faults::{LoadKind, LoadStop, NOWHERE, stop_at};
 use crate::laws::each_file_is_read_as_one_thing;
 use idl_parser::{Document, ParseFault, ParseKind, parse};
-use idl_token::{LexFault, LexKind, MAX_TEXT, Token, tokens};
+use idl_token::{LexFault, LexKind, LONGEST_IDL_TEXT, Token, tokens};
 use outside::{FileFail, Files};
 use std::alloc::Global;
 
@@ -32,7 +32,7 @@ pub(crate) fn read_file<F: Files>(
     ensures outer { IfErr result (λ stop. is_wrong_want stop ≡ false) }
 {
     each_file_is_read_as_one_thing();
-    match files.read_whole(alloc, name, MAX_TEXT) {
+    match files.read_whole(alloc, name, LONGEST_IDL_TEXT) {
         Ok(text) => document_of(alloc, name, text.as_slice()),
         Err(fail) => Err(unread(alloc, name, fail)),
     }
@@ -52,7 +52,7 @@ fn unread(alloc: Global, name: &str, fail: FileFail) -> LoadStop
 
 /// The document of a text, which the file of this name holds.
 fn document_of(alloc: Global, name: &str, text: &[u8]) -> Result<Document, LoadStop>
-    requires { length text.now ≤ longest_text }
+    requires { length text.now ≤ longest_idl_text }
     ensures read { IsTextRead name.now text.now result }
     ensures outer { IfErr result (λ stop. (is_wrong_want stop ≡ false) × (is_unread stop ≡ false)) }
 {
@@ -69,7 +69,7 @@ fn document_in(
     text: &[u8],
     tokens: &[Token],
 ) -> Result<Document, LoadStop>
-    requires short { length text.now ≤ longest_text }
+    requires short { length text.now ≤ longest_idl_text }
     requires tokens { AreTokensOf tokens.now text.now }
     ensures read { IsTextRead name.now text.now result }
     ensures outer { IfErr result (λ stop. (is_wrong_want stop ≡ false) × (is_unread stop ≡ false)) }

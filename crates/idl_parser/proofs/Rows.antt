@@ -1,6 +1,6 @@
 -- A loop over a row: what was read so far, and what is left of it.
 use Rattle.std.proofs.Common.{◌≡◌, Bool, true, false, ℕ, zero, suc, ◌+◌, ◌-◌, ◌≤◌, ◌<◌, List, [], ◌∷◌, ◌++◌, map, Option, Some, None, Result, Ok, Err, refl, sym, ap, ◌∙◌, subst, arith}
-use Rattle.idl_token.specs.Limits.{longest_text}
+use Rattle.idl_token.specs.Limits.{longest_idl_text}
 use Rattle.idl_token.specs.declared.terminal.Terminal.{Terminal}
 use Rattle.idl_parser.specs.declared.reader.Stop.{Stop}
 use Rattle.idl_parser.specs.declared.reader.Stop.TheVariants.{NoMemory, Stuck, Deep}
@@ -111,11 +111,11 @@ neither_ahead [] = refl
 neither_ahead (x ∷ xs) = refl
 
 -- the loops' bound
-pub below : (i : ℕ) → i < longest_text → i < most
+pub below : (i : ℕ) → i < longest_idl_text → i < most
 unfolding most
 below i h = h
 
-pub all_read : (i : ℕ) → longest_text ≤ i → most ≤ i
+pub all_read : (i : ℕ) → longest_idl_text ≤ i → most ≤ i
 unfolding most
 all_read i h = h
 

@@ -2,7 +2,7 @@
 use Rattle.std.specs.Prelude.{◌≡◌, ℕ, ◌+◌, ◌-◌, ◌==◌, Bool, true, false, List, [], ◌∷◌, take, drop, FitsSigned, Result, MatchResult, if◌then◌else◌}
 use Rattle.std.specs.Int.{w64}
 use Rattle.idl_token.specs.Bytes as byte
-use Rattle.idl_token.specs.Limits.{longest_text}
+use Rattle.idl_token.specs.Limits.{longest_idl_text}
 use Rattle.idl_token.specs.declared.Place.{Place}
 use Rattle.idl_parser.specs.declared.reader.Stop.{Stop}
 use Rattle.idl_parser.specs.declared.reader.Stop.TheVariants.{NoMemory, Stuck, Deep}
@@ -15,7 +15,7 @@ use Rattle.idl_parser.specs.Reading.{ParseResult, done, failed, read}
 
 -- no text has more symbols than bytes
 unfoldable pub most : ℕ
-most = longest_text
+most = longest_idl_text
 
 -- a symbol in memory as the grammar sees it
 abbrev pub lexeme_of : List ℕ → Symbol → Lexeme

@@ -26,7 +26,7 @@ ghost use Rattle.idl_parser.specs.Trees.{document_node};
 
 use crate::reader::{Stop, SymbolReader};
 use idl_token::{
-    MAX_TEXT, Place, Token, an_integer_has_a_place_in_64_bits, each_token_is_of_its_kind, place_at,
+    LONGEST_IDL_TEXT, Place, Token, an_integer_has_a_place_in_64_bits, each_token_is_of_its_kind, place_at,
     tokens_stand_in_order,
 };
 use std::alloc::{AllocError, Global};
@@ -98,7 +98,7 @@ impl From<AllocError> for ParseFault {
 
 /// The document of a text, or its first fault.
 pub fn parse(alloc: Global, text: &[u8], tokens: &[Token]) -> Result<Document, ParseFault>
-    requires short { length text.now ≤ MAX_TEXT }
+    requires short { length text.now ≤ LONGEST_IDL_TEXT }
     requires tokens { AreTokensOf tokens.now text.now }
     ensures ok { IfOk result (λ d. DocumentIn deepest (lexemes text.now tokens.now) (document_node d)) }
     ensures fault { IfErr result (λ f. f.kind ≢ ParseKind.NoMemory → IsFaultOf text.now tokens.now f) }

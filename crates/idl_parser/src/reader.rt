@@ -16,12 +16,12 @@ use crate::leaves::{int_number, literal_bytes};
 use crate::symbol::Symbol;
 use crate::tree::{Double, Int, Literal, Name};
 use byte_text::ByteText;
-use idl_token::{MAX_TEXT, Place, Terminal, same};
+use idl_token::{LONGEST_IDL_TEXT, Place, Terminal, same};
 use std::alloc::{AllocError, AllocFailed, Global};
 use std::marker::Model;
 
 /// No text has more symbols than bytes. A row is read by so many rounds at most, since a loop has to have an end.
-pub(crate) const MAX_SYMBOLS: usize = MAX_TEXT;
+pub(crate) const MAX_SYMBOLS: usize = LONGEST_IDL_TEXT;
 
 /// How many levels of containers may stand in one another.
 #[tactic(auto, unfolding(crate::specs::Documents::deepest))]

@@ -5,7 +5,7 @@ ghost use Rattle.idl_parser.specs.Symbols.{sign_of, terminal_of, lexemes, lexeme
 ghost use Rattle.idl_parser.specs.ReaderCalls.{lexeme_of, start, place_behind, place_behind_byte};
 
 use crate::reader::part;
-use idl_token::{MAX_TEXT, Place, Terminal, Token, TokenKind, byte_at, keyword_of};
+use idl_token::{LONGEST_IDL_TEXT, Place, Terminal, Token, TokenKind, byte_at, keyword_of};
 use std::alloc::{AllocError, Global};
 
 /// A token of a text, as the grammar sees it.
@@ -96,7 +96,7 @@ pub(crate) fn place_behind(at: Place, bytes: &[u8]) -> Place
 #[tactic(auto, using(crate::proofs::Places::behind_more))]
 fn placed(text: &[u8], token: Token, at: usize, place: Place) -> Symbol
     requires before { at ≤ token.from }
-    requires short { token.from ≤ MAX_TEXT }
+    requires short { token.from ≤ LONGEST_IDL_TEXT }
     requires line { place.line ≤ 1 + at }
     requires column { place.column ≤ 1 + at }
     requires place { place ≡ place_behind start (take at text.now) }
@@ -118,7 +118,7 @@ fn placed(text: &[u8], token: Token, at: usize, place: Place) -> Symbol
 
 /// The symbols of a text, in one walk over it.
 pub fn symbols(alloc: Global, text: &[u8], tokens: &[Token]) -> Result<Vec<Symbol>, AllocError>
-    requires short { length text.now ≤ MAX_TEXT }
+    requires short { length text.now ≤ LONGEST_IDL_TEXT }
     requires order { StandBetween 0 (length text.now) tokens.now }
     ensures { IfOk result (λ v. map (lexeme_of text.now) v.items ≡ lexemes text.now tokens.now) }
 {

@@ -8,7 +8,7 @@ ghost use Rattle.idl_plain.specs.PlainVerdicts.{IsOutcomeWithin};
 
 use crate::verdicts::{Recognition, first_fault};
 use idl_parser::{ParseFault, ParseKind, Symbol, symbols};
-use idl_token::{MAX_TEXT, Terminal, Token, place_at, same, tokens_stand_in_order};
+use idl_token::{LONGEST_IDL_TEXT, Terminal, Token, place_at, same, tokens_stand_in_order};
 use std::alloc::{AllocError, Global};
 
 /// The first fault of a small text with these tokens, where types and constants have so many levels of containers at
@@ -19,7 +19,7 @@ pub fn fault_of(
     text: &[u8],
     tokens: &[Token],
 ) -> Result<Option<ParseFault>, AllocError>
-    requires short { length text.now ≤ MAX_TEXT }
+    requires short { length text.now ≤ LONGEST_IDL_TEXT }
     requires tokens { AreTokensOf tokens.now text.now }
     ensures { IfOk result (λ outcome. IsOutcomeWithin levels text.now tokens.now outcome) }
 {
@@ -49,7 +49,7 @@ fn terminals(alloc: Global, symbols: &[Symbol]) -> Result<Vec<Terminal>, AllocEr
 
 /// The fault at the first of the symbols that are left of a text, or at its end.
 fn fault(text: &[u8], rest: &[Symbol], too_deep: bool) -> ParseFault
-    requires short { length text.now ≤ MAX_TEXT }
+    requires short { length text.now ≤ LONGEST_IDL_TEXT }
     ensures at { result.at ≡ next_place (line_and_column text.now (length text.now)) (map (lexeme_of text.now) rest.now) }
     ensures kind { result.kind ≡ fault_kind too_deep (map (lexeme_of text.now) rest.now) }
 {

@@ -7,13 +7,13 @@ ghost use Rattle.idl_token.specs.Places.{line_and_column};
 ghost use Rattle.idl_token.specs.Tokens.{AreTokensOf, IsFirstLexFault};
 
 use crate::fronts::front_piece;
-use idl_token::{LexFault, LexKind, MAX_TEXT, Piece, Token, place_at};
+use idl_token::{LexFault, LexKind, LONGEST_IDL_TEXT, Piece, Token, place_at};
 use std::alloc::Global;
 
 
 /// The tokens of a small text in order, or its first fault.
 pub fn tokens(alloc: Global, text: &[u8]) -> Result<Vec<Token>, LexFault>
-    requires { length text.now ≤ MAX_TEXT }
+    requires { length text.now ≤ LONGEST_IDL_TEXT }
     ensures ok { IfOk result (λ tokens. AreTokensOf tokens.items text.now) }
     ensures fault { IfErr result (λ fault. fault.kind ≢ LexKind.NoMemory → IsFirstLexFault fault text.now) }
 {
@@ -37,7 +37,7 @@ pub fn tokens(alloc: Global, text: &[u8]) -> Result<Vec<Token>, LexFault>
 /// A fault of this kind at a byte of a text, or at its end.
 fn fault(text: &[u8], at: usize, kind: LexKind) -> LexFault
     requires within { at ≤ length text.now }
-    requires short { length text.now ≤ MAX_TEXT }
+    requires short { length text.now ≤ LONGEST_IDL_TEXT }
     ensures at { result.at ≡ line_and_column text.now at }
     ensures kind { result.kind ≡ kind }
 {

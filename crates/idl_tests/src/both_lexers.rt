@@ -2,13 +2,13 @@
 ghost use Rattle.std.specs.Prelude.{◌≤◌, length};
 
 use idl_token::TokenKind::{Double, Identifier, Int, Keyword, Literal, Refused, Sign};
-use idl_token::{LexFault, LexKind, MAX_TEXT, Token, TokenKind};
+use idl_token::{LexFault, LexKind, LONGEST_IDL_TEXT, Token, TokenKind};
 use std::alloc::Global;
 use std::process::Abort;
 
 /// Both lexers find these tokens in the text.
 fn expect_tokens(rt: &impl Abort, alloc: Global, text: &[u8], expected: &[(TokenKind, u32, u32)])
-    requires { length text.now ≤ MAX_TEXT }
+    requires { length text.now ≤ LONGEST_IDL_TEXT }
 {
     are_tokens(rt, idl_token::tokens(alloc, text), expected);
     are_tokens(rt, idl_plain::tokens(alloc, text), expected);
@@ -32,7 +32,7 @@ fn are_tokens(
 
 /// Both lexers find this fault in the text, at this line and column.
 fn expect_fault(rt: &impl Abort, alloc: Global, text: &[u8], kind: LexKind, place: (u32, u32))
-    requires { length text.now ≤ MAX_TEXT }
+    requires { length text.now ≤ LONGEST_IDL_TEXT }
 {
     is_fault(rt, idl_token::tokens(alloc, text), kind, place);
     is_fault(rt, idl_plain::tokens(alloc, text), kind, place);
@@ -243,14 +243,14 @@ const FAULTS: [(&[u8], LexKind, u32, u32); 25] = [
 
 fn expect_all_tokens(rt: &impl Abort, alloc: Global, rows: &[(&[u8], &[(TokenKind, u32, u32)])]) {
     for (text, expected) in rows {
-        assert!(rt; text.len() <= MAX_TEXT);
+        assert!(rt; text.len() <= LONGEST_IDL_TEXT);
         expect_tokens(rt, alloc, text, expected);
     }
 }
 
 fn expect_all_faults(rt: &impl Abort, alloc: Global, rows: &[(&[u8], LexKind, u32, u32)]) {
     for (text, kind, line, column) in rows {
-        assert!(rt; text.len() <= MAX_TEXT);
+        assert!(rt; text.len() <= LONGEST_IDL_TEXT);
         expect_fault(rt, alloc, text, *kind, (*line, *column));
     }
 }

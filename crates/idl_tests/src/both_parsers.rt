@@ -3,7 +3,7 @@
 use idl_parser::ParseKind::{Found, Refused, TooDeep};
 use idl_parser::{ParseFault, ParseKind, parse};
 use idl_plain::fault_of;
-use idl_token::{MAX_TEXT, tokens};
+use idl_token::{LONGEST_IDL_TEXT, tokens};
 use std::alloc::Global;
 use std::process::Abort;
 
@@ -16,7 +16,7 @@ fn shown(fault: ParseFault) -> (ParseKind, u32, u32) {
 
 /// What the parser finds.
 fn parsed(rt: &impl Abort, alloc: Global, text: &[u8]) -> Expected {
-    assert!(rt; text.len() <= MAX_TEXT);
+    assert!(rt; text.len() <= LONGEST_IDL_TEXT);
     let Ok(all) = tokens(alloc, text) else {
         panic!(rt; "a fault of the lexer");
     };
@@ -28,7 +28,7 @@ fn parsed(rt: &impl Abort, alloc: Global, text: &[u8]) -> Expected {
 
 /// What the recognizer finds, with so many levels.
 fn recognized(rt: &impl Abort, alloc: Global, levels: u8, text: &[u8]) -> Expected {
-    assert!(rt; text.len() <= MAX_TEXT);
+    assert!(rt; text.len() <= LONGEST_IDL_TEXT);
     let Ok(all) = tokens(alloc, text) else {
         panic!(rt; "a fault of the lexer");
     };

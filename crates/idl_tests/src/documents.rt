@@ -4,14 +4,14 @@ use idl_parser::{
     Const, ConstTree, Definition, Literal, Name, Need, ParseKind, Service, Struct, StructKind,
     TypeTree, parse,
 };
-use idl_token::{MAX_TEXT, tokens};
+use idl_token::{LONGEST_IDL_TEXT, tokens};
 use std::alloc::{AllocError, Global};
 use std::process::Abort;
 use std::test::Fail;
 
 // What is wrong with a text, with line and column; nothing, where it is a document.
 fn fault_in(rt: &impl Abort, alloc: Global, text: &[u8]) -> Option<(ParseKind, u32, u32)> {
-    assert!(rt; text.len() <= MAX_TEXT);
+    assert!(rt; text.len() <= LONGEST_IDL_TEXT);
     let Ok(all) = tokens(alloc, text) else {
         panic!(rt; "a fault of the lexer");
     };

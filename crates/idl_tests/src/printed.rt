@@ -3,7 +3,7 @@ ghost use Rattle.std.specs.Prelude.{◌≤◌, length};
 
 use idl_parser::parse;
 use idl_printer::print;
-use idl_token::{MAX_TEXT, tokens};
+use idl_token::{LONGEST_IDL_TEXT, tokens};
 use std::alloc::Global;
 
 const TUTORIAL: &[u8] = b"include \"shared.thrift\"
@@ -84,7 +84,7 @@ union U {
 ";
 
 fn print_of(alloc: Global, text: &[u8]) -> Option<Vec<u8>>
-    requires { length text.now ≤ MAX_TEXT }
+    requires { length text.now ≤ LONGEST_IDL_TEXT }
 {
     let Ok(all) = tokens(alloc, text) else {
         return None;

@@ -1,7 +1,7 @@
 //! Texts with their tokens, at the crate's own calls. The table of texts stands in `idl_plain`, and runs through both lexers.
 
 use idl_token::{
-    LexFault, LexKind, MAX_TEXT, Place, TokenKind, int_value, keyword_of, keyword_text, place_at,
+    LexFault, LexKind, LONGEST_IDL_TEXT, Place, TokenKind, int_value, keyword_of, keyword_text, place_at,
     tokens,
 };
 
@@ -19,7 +19,7 @@ fn a_long_text_has_all_its_tokens(rt: HostRuntime) {
     for _ in 0..100_000 {
         text.extend_from_slice(b"a ").expect(&rt, "room");
     }
-    assert!(rt; text.len() <= MAX_TEXT);
+    assert!(rt; text.len() <= LONGEST_IDL_TEXT);
     let tokens = tokens(rt.alloc(), text.as_slice()).expect(&rt, "tokens");
     assert_eq!(rt; tokens.len(), 100_000);
 }

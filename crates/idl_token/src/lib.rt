@@ -52,6 +52,7 @@ pub use laws::{
     a_sign_spells_itself, a_text_has_the_tokens_that_it_spells, a_token_spells_itself,
     joined_texts_spell_the_tokens_of_both, white_space_spells_nothing,
 };
+pub use limits::LONGEST_IDL_TEXT;
 pub use numbers::{int_value, is_big_double, is_big_int, is_hexadecimal, sign_in};
 pub use pieces::{Piece, is_sign, kind_of_sign, opening_fault};
 pub use places::place_at;
@@ -149,12 +150,9 @@ impl From<AllocFailed<Token>> for LexFault {
     }
 }
 
-/// The longest text that is taken, in bytes.
-pub const MAX_TEXT: usize = 4_194_304;
-
 /// The tokens of a text in order, or its first fault.
 pub fn tokens(alloc: Global, text: &[u8]) -> Result<Vec<Token>, LexFault>
-    requires { length text.now ≤ MAX_TEXT }
+    requires { length text.now ≤ LONGEST_IDL_TEXT }
     ensures ok { IfOk result (λ tokens. AreTokensOf tokens.items text.now) }
     ensures fault { IfErr result (λ fault. fault.kind ≢ LexKind.NoMemory → IsFirstLexFault fault text.now) }
 {

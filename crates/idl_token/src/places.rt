@@ -4,12 +4,12 @@ ghost use Rattle.std.specs.List.{suffix_len};
 ghost use Rattle.idl_token.specs.Bytes as byte;
 ghost use Rattle.idl_token.specs.Places.{line_and_column};
 
-use crate::{MAX_TEXT, Place};
+use crate::{LONGEST_IDL_TEXT, Place};
 
 /// The line and column of a byte of a text, or of its end.
 pub fn place_at(text: &[u8], at: usize) -> Place
     requires within { at ≤ length text.now }
-    requires short { length text.now ≤ MAX_TEXT }
+    requires short { length text.now ≤ LONGEST_IDL_TEXT }
     ensures { result ≡ line_and_column text.now at }
 {
     let (before, _) = text.split_at(at);

@@ -7,7 +7,7 @@ use Rattle.host_model.specs.declared.cause.EndCause.TheVariants.{NoMemory, Stopp
 use Rattle.conn_state.specs.Phase.{Phase, sizing, held, framing, ready, waiting, writing, ended, size_asked, IsHeld, IsReading}
 use Rattle.conn_state.specs.Step.{after_admission}
 use Rattle.conn_table.specs.declared.stages.Slot.{Slot}
-use Rattle.conn_table.specs.Slots.{most_places, slot_in, with_slot}
+use Rattle.conn_table.specs.Slots.{most_connections, slot_in, with_slot}
 use Rattle.conn_table.specs.Table.{TableView, slot_of, size_given, sizes_given, size_wanted, HasItsSize, with_admitted}
 use Rattle.conn_table.proofs.Placing.{has_value}
 use Rattle.conn_table.proofs.Sizing.{slot_is, found_put, of_found, sizes_put}
@@ -27,6 +27,7 @@ use Rattle.loop_conns.proofs.Standing.{Standing}
 use Rattle.loop_conns.proofs.Owing.{owes_none}
 use Rattle.loop_conns.proofs.Leaving.{moves_none, gives_up_goes}
 use Rattle.loop_conns.proofs.Resting.{quiet_goes}
+use Rattle.call_rules.specs.Desks.{longest_payload}
 
 -- a connection whose frame waits: its size, and what that tells
 pub record IsWaiter (max : ℕ) (phase : Phase) (conn : LoopConn) : Type 0 where
@@ -64,7 +65,7 @@ lean_held first links table c conn Laden cause waits n h = absurd (go (slot_of c
     go (ended cause) a b = a
 lean_held first links table c conn Gone cause waits n h = absurd (n refl)
 
-module _ (max : ℕ) (small : max ≤ 268435456) (first before : LinksState) (old : LoopConnections) (asks : List ServedAsk) (g : LoopIsRunning max first before old asks) (c : ℕ)
+module _ (max : ℕ) (small : max ≤ longest_payload) (first before : LinksState) (old : LoopConnections) (asks : List ServedAsk) (g : LoopIsRunning max first before old asks) (c : ℕ)
     (st : Standing before old g.loop c) (open_at : slice_index_or old.stages.items c Gone ≢ Gone) (waits : IsHeld (slot_of c old.table.slots).conn.phase) where
   abbrev conn : LoopConn
   conn = g.loop.conns c
@@ -135,6 +136,6 @@ module _ (max : ℕ) (small : max ≤ 268435456) (first before : LinksState) (ol
           let t : sizes_given (with_slot slot_now old.table.slots) + size_given (slot_of c old.table.slots).size ≡ sizes_given old.table.slots + size_given (size_asked (slot_of c old.table.slots).conn.phase) =
           sizes_put slot_now (slot_of c old.table.slots) old.table.slots (slot_is c old.table.slots st.here.there) in
           let z : size_given (slot_of c old.table.slots).size ≡ 0 = ap size_given no_size in
-          let few : length old.table.slots ≤ most_places = o.few in
+          let few : length old.table.slots ≤ most_connections = o.few in
           let many : length (with_slot slot_now old.table.slots) ≡ length old.table.slots = count_put slot_now old.table.slots in
           record { rising = rising_put slot_now old.table.slots o.rising; few = omega arith; within = omega arith }

@@ -9,7 +9,7 @@ use Rattle.outside.specs.LinksState.{LinksState}
 use Rattle.outside.specs.Asking.{OpensNext, OpensNone, says_over, AnswersAsk}
 use Rattle.host_model.specs.declared.cause.EndCause.{EndCause}
 use Rattle.host_model.specs.declared.cause.EndCause.TheVariants.{Stopped}
-use Rattle.conn_table.specs.Slots.{most_places, slot_in}
+use Rattle.conn_table.specs.Slots.{most_connections, slot_in}
 use Rattle.conn_table.specs.Table.{TableView}
 use Rattle.machine_model.specs.Loop.{LoopConn, Loop}
 use Rattle.loop_conns.specs.declared.connections.ConnStage.{ConnStage}
@@ -19,14 +19,15 @@ use Rattle.loop_conns.specs.Tied.{StageTells, AreTied}
 use Rattle.loop_conns.specs.Going.{AnyLoopIsRunning, AllKeepGoing, HasNoRoom, AreAllGone, IsAllOver}
 use Rattle.loop_conns.proofs.Noting.{noted_goes}
 use Rattle.loop_conns.proofs.Opening.{IsAdded, opened_goes}
+use Rattle.call_rules.specs.Desks.{longest_payload}
 
 -- where not as many are open as may be, there is room for one more
-pub room_for_one : (full : Bool) (open_now : ℕ) → (open_now ≡ most_places → full ≡ true) → open_now ≤ most_places → not full ≡ true → open_now < most_places
-room_for_one full open_now told few vacant = by (cases_lt open_now most_places)
+pub room_for_one : (full : Bool) (open_now : ℕ) → (open_now ≡ most_connections → full ≡ true) → open_now ≤ most_connections → not full ≡ true → open_now < most_connections
+room_for_one full open_now told few vacant = by (cases_lt open_now most_connections)
   where
-    by : (open_now < most_places) ⊎ (most_places ≤ open_now) → open_now < most_places
+    by : (open_now < most_connections) ⊎ (most_connections ≤ open_now) → open_now < most_connections
     by (inl l) = l
-    by (inr l) = absurd (true≢false (sym (told (let e : open_now ≡ most_places = omega arith in e)) ∙ not-true full vacant))
+    by (inr l) = absurd (true≢false (sym (told (let e : open_now ≡ most_connections = omega arith in e)) ∙ not-true full vacant))
 
 or_true : (b : Bool) → (b || true) ≡ true
 or_true true = refl
@@ -64,7 +65,7 @@ module _ {E : Type 0} (ask : Ask) (l0 l1 : LinksState) (k0 : LoopConnections) (r
   pub one_opened : (c : ℕ) (k1 : LoopConnections) → OpensNext ask c l0 l1 → IsAdded c k0 k1 → AllKeepGoing l0 k0 l1 k1
   one_opened c k1 o a max small first asks g =
       let noted : LinksState = record l0 { rests = l1.rests } in
-      let fits : max ≤ 268435456 = small in
+      let fits : max ≤ longest_payload = small in
       opened_goes max (omega arith) first noted l1 k0 k1 asks
       (noted_goes max first l0 noted k0 asks g ask idle no_room
       (record { listens = refl; opened = refl; is_open = λ x. refl; tape = refl; left = λ x. refl; faults = λ x. refl; lengths = refl; later = omega arith }) h.rests)

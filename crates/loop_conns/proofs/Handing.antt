@@ -33,6 +33,7 @@ use Rattle.loop_conns.proofs.Going.{begun_less, change_woven, change_goes}
 use Rattle.loop_conns.proofs.TakingIn.{small_max}
 use Rattle.loop_conns.proofs.Leaving.{moves_none}
 use Rattle.loop_conns.proofs.Resting.{same_loop}
+use Rattle.call_rules.specs.Desks.{longest_payload}
 
 -- one whose payload was whole has its size still, now that its outcome is awaited
 handed_place : (first links : LinksState) (t0 t1 : TableView) (c number : ℕ) (payload : List ℕ) (conn now : LoopConn) (cause : EndCause) (place : ConnStage)
@@ -47,7 +48,7 @@ handed_place first links t0 t1 c number payload conn now cause Laden was is size
 )
 handed_place first links t0 t1 c number payload conn now cause Gone was is size h n here = absurd (n refl)
 
-module _ (max : ℕ) (small : max ≤ 268435456) (first links : LinksState) (old new : LoopConnections) (asks : List ServedAsk) (g : LoopIsRunning max first links old asks) (c number : ℕ)
+module _ (max : ℕ) (small : max ≤ longest_payload) (first links : LinksState) (old new : LoopConnections) (asks : List ServedAsk) (g : LoopIsRunning max first links old asks) (c number : ℕ)
     (payload : List ℕ) (open_at : slice_index_or old.stages.items c Gone ≢ Gone) (given : (slot_of c old.table.slots).conn.phase ≡ ready number payload)
     (after : new.table ≡ record old.table { slots = with_state c (record (slot_of c old.table.slots).conn { phase = waiting number }) old.table.slots }) (stages : new.stages ≡ old.stages)
     (causes : new.causes ≡ old.causes) (owing : new.owing ≡ old.owing) where

@@ -35,6 +35,7 @@ use Rattle.loop_conns.proofs.Standing.{Standing, owes_nothing}
 use Rattle.loop_conns.proofs.Owing.{owes_none}
 use Rattle.loop_conns.proofs.Going.{begun_less, IsChange, change_goes, change_woven}
 use Rattle.loop_conns.proofs.TakingIn.{ended_change, small_max}
+use Rattle.call_rules.specs.Desks.{longest_payload}
 
 -- Nothing moved.
 pub moves_none : (c : ℕ) (links : LinksState) → MovesOnly c [] [] links links
@@ -82,7 +83,7 @@ pub record IsLeave (max : ℕ) (first before mid links : LinksState) (old new : 
   pub closed : Closes c mid links
   pub shows : CauseShows first links c why
 
-module _ (max : ℕ) (small : max ≤ 268435456) (first before mid links : LinksState) (old new : LoopConnections) (table : TableView) (asks : List ServedAsk) (loop : Loop) (c : ℕ)
+module _ (max : ℕ) (small : max ≤ longest_payload) (first before mid links : LinksState) (old new : LoopConnections) (table : TableView) (asks : List ServedAsk) (loop : Loop) (c : ℕ)
     (st : Standing before old loop c) (within : all_begun loop ≤ old.table.budget) (conn_event : ConnEvent) (now : LoopConn) (why : EndCause) (marks : List Mark) (lent : List ℕ)
     (h : IsLeave max first before mid links old new table loop c conn_event now why marks lent) where
   change : IsChange max first before links old new loop (handles conn_event) c now Gone why (marks ++ Closed c ∷ [])
@@ -135,7 +136,7 @@ end_or_cut [] P a b = a
 end_or_cut (byte ∷ bytes) P a b = b
 
 -- A connection that reads has ended: by the end of its input, a read that failed, or for want of memory.
-module _ (max : ℕ) (small : max ≤ 268435456) (first before : LinksState) (old : LoopConnections) (asks : List ServedAsk) (g : LoopIsRunning max first before old asks) (c : ℕ)
+module _ (max : ℕ) (small : max ≤ longest_payload) (first before : LinksState) (old : LoopConnections) (asks : List ServedAsk) (g : LoopIsRunning max first before old asks) (c : ℕ)
     (st : Standing before old g.loop c) (reading : IsReading (slot_of c old.table.slots).conn.phase) where
   abbrev conn : LoopConn
   conn = g.loop.conns c
@@ -192,7 +193,7 @@ module _ (max : ℕ) (small : max ≤ 268435456) (first before : LinksState) (ol
       g refl owes.0.1 (λ e. cc) (as_before new owing)
 
 -- A connection is given up for want of memory, all of whose payloads are collected.
-pub gives_up_goes : (max : ℕ) (small : max ≤ 268435456) (first before mid links : LinksState) (old new : LoopConnections) (asks : List ServedAsk) (g : LoopIsRunning max first before old asks) (c : ℕ)
+pub gives_up_goes : (max : ℕ) (small : max ≤ longest_payload) (first before mid links : LinksState) (old new : LoopConnections) (asks : List ServedAsk) (g : LoopIsRunning max first before old asks) (c : ℕ)
     → Standing before old g.loop c → (g.loop.conns c).collected ≡ length (g.loop.conns c).payloads → MovesOnly c [] [] before mid → EndsConnection c NoMemory old new → Closes c mid links
     → new.owing + owed_by (g.loop.conns c).cause (g.loop.conns c) ≡ old.owing → LoopIsRunning max first links new asks
 gives_up_goes max small first before mid links old new asks g c st all moves here closed owing =
@@ -211,7 +212,7 @@ gives_up_goes max small first before mid links old new asks g c st all moves her
     g refl all (λ e. cc) owing
 
 -- the same, of one that reads
-pub reader_given_up : (max : ℕ) (small : max ≤ 268435456) (first before mid links : LinksState) (old new : LoopConnections) (asks : List ServedAsk) (g : LoopIsRunning max first before old asks) (c : ℕ)
+pub reader_given_up : (max : ℕ) (small : max ≤ longest_payload) (first before mid links : LinksState) (old new : LoopConnections) (asks : List ServedAsk) (g : LoopIsRunning max first before old asks) (c : ℕ)
     → Standing before old g.loop c → IsReading (slot_of c old.table.slots).conn.phase → MovesOnly c [] [] before mid → EndsConnection c NoMemory old new → new.owing ≡ old.owing → Closes c mid links
     → LoopIsRunning max first links new asks
 reader_given_up max small first before mid links old new asks g c st reading moves here owing closed =

@@ -5,7 +5,7 @@ use Rattle.std.proofs.lemmas.Bool.{lt-ltb, le-ltb}
 use Rattle.std.proofs.lemmas.Option.{none-some}
 use Rattle.std.proofs.lemmas.Nat.{from_be_bytes-to_be_bytes_4}
 use Rattle.host_model.specs.declared.cause.EndCause.TheVariants.{End, Cut, SizeFault, Envelope, ReadFault, WriteFault, NoMemory, Stopped}
-use Rattle.conn_state.specs.Phase.{Phase, ConnView, sizing, held, framing, ready, waiting, writing, ended, wanted, most_wanted, cause_of, size_asked, IsReading, IsReady}
+use Rattle.conn_state.specs.Phase.{Phase, ConnView, sizing, held, framing, ready, waiting, writing, ended, wanted, most_read, cause_of, size_asked, IsReading, IsReady}
 use Rattle.conn_state.specs.Run.{EachIsByte}
 use Rattle.conn_state.specs.Step.{after_size, after_size_bytes, after_payload_bytes, after_took}
 use Rattle.conn_state.specs.Split.{StaysWithin}
@@ -15,6 +15,7 @@ use Rattle.machine_model.specs.Loop.{LoopConn, part, bad_size, whole, IsProgress
 use Rattle.machine_model.proofs.Lists.{get_last}
 use Rattle.conn_refinement.specs.Phases.{HasAllCollected, PhaseTells, IsOpenTied, IsFraming, IsLean}
 use Rattle.loop_conns.specs.Woven.{missing_of}
+use Rattle.call_rules.specs.Desks.{longest_payload}
 
 -- a phase in which the frame that was under way goes on
 abbrev pub GoesOnSo : Phase → Phase → Type 0
@@ -61,7 +62,7 @@ of_payload_bytes frames size bytes = go (nat_lt (length bytes) size)
     go true = tt
     go false = tt
 
-module _ (max : ℕ) (small : max ≤ 268435456) (conn : LoopConn) (bytes : List ℕ) (going : conn.cause ≡ None) (collected : HasAllCollected conn) (left : conn.left ≡ []) where
+module _ (max : ℕ) (small : max ≤ longest_payload) (conn : LoopConn) (bytes : List ℕ) (going : conn.cause ≡ None) (collected : HasAllCollected conn) (left : conn.left ≡ []) where
   -- a connection that reads a size
   module _ (front : List ℕ) (frames : ℕ) (counted : frames ≡ length conn.payloads) (held_is : conn.held ≡ front) where
     all_is : conn.held ++ bytes ≡ front ++ bytes
@@ -134,7 +135,7 @@ module _ (max : ℕ) (small : max ≤ 268435456) (conn : LoopConn) (bytes : List
     made_of_payload now (ended cause) of stays = absurd of
 
 -- What is read, as much as is asked for at most, makes the same in the state and in the machine.
-pub makes_so : (max : ℕ) (view : ConnView) (conn : LoopConn) (bytes : List ℕ) → max ≤ 268435456 → IsReading view.phase → IsOpenTied max view conn → length bytes ≤ wanted view.phase
+pub makes_so : (max : ℕ) (view : ConnView) (conn : LoopConn) (bytes : List ℕ) → max ≤ longest_payload → IsReading view.phase → IsOpenTied max view conn → length bytes ≤ wanted view.phase
     → EachIsByte bytes → MakesSo max conn bytes view.phase (after_took max view bytes).frames (after_took max view bytes).phase
 makes_so max view conn bytes small reading tied most are = go view.phase view.frames reading tied.counted tied.tells most
   where
@@ -160,19 +161,19 @@ makes_so max view conn bytes small reading tied most are = go view.phase view.fr
     go (ended cause) frames reading counted tells most = absurd reading
 
 -- what is missing of the size or the frame that is under way, by the bytes held of it
-pub missing_is : (max : ℕ) (phase : Phase) (conn : LoopConn) → IsReading phase → PhaseTells max phase conn → wanted phase ≡ min (missing_of conn.held) most_wanted
+pub missing_is : (max : ℕ) (phase : Phase) (conn : LoopConn) → IsReading phase → PhaseTells max phase conn → wanted phase ≡ min (missing_of conn.held) most_read
 missing_is max (sizing bytes) conn reading tells =
-    sym (ap (λ k. min (missing_of k) most_wanted) tells.1
-    ∙ ap (λ b. min (if b then 4 - length bytes else (4 + from_be_bytes w32 (take 4 bytes)) - length bytes) most_wanted) (lt-ltb (length bytes) 4 tells.2))
+    sym (ap (λ k. min (missing_of k) most_read) tells.1
+    ∙ ap (λ b. min (if b then 4 - length bytes else (4 + from_be_bytes w32 (take 4 bytes)) - length bytes) most_read) (lt-ltb (length bytes) 4 tells.2))
 missing_is max (framing size bytes) conn reading tells =
     let all : List ℕ = to_be_bytes w32 size ++ bytes in
     let long : length (to_be_bytes w32 size ++ bytes) ≡ 4 + length bytes = length-append (to_be_bytes w32 size) bytes in
     let few : length bytes < size = tells.2 in
-    sym (ap (λ k. min (missing_of k) most_wanted) tells.1
-    ∙ ap (λ b. min (if b then 4 - length (to_be_bytes w32 size ++ bytes) else (4 + from_be_bytes w32 (take 4 (to_be_bytes w32 size ++ bytes))) - length (to_be_bytes w32 size ++ bytes)) most_wanted)
+    sym (ap (λ k. min (missing_of k) most_read) tells.1
+    ∙ ap (λ b. min (if b then 4 - length (to_be_bytes w32 size ++ bytes) else (4 + from_be_bytes w32 (take 4 (to_be_bytes w32 size ++ bytes))) - length (to_be_bytes w32 size ++ bytes)) most_read)
     (le-ltb (length (to_be_bytes w32 size ++ bytes)) 4 (omega arith))
-    ∙ ap (λ n. min ((4 + n) - length (to_be_bytes w32 size ++ bytes)) most_wanted) (from_be_bytes-to_be_bytes_4 size tells.4)
-    ∙ ap (λ n. min n most_wanted) (let e : (4 + size) - length (to_be_bytes w32 size ++ bytes) ≡ size - length bytes = omega arith in e))
+    ∙ ap (λ n. min ((4 + n) - length (to_be_bytes w32 size ++ bytes)) most_read) (from_be_bytes-to_be_bytes_4 size tells.4)
+    ∙ ap (λ n. min n most_read) (let e : (4 + size) - length (to_be_bytes w32 size ++ bytes) ≡ size - length bytes = omega arith in e))
 missing_is max (held size) conn reading tells = absurd reading
 missing_is max (ready number payload) conn reading tells = absurd reading
 missing_is max (waiting number) conn reading tells = absurd reading

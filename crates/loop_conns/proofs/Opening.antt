@@ -10,7 +10,7 @@ use Rattle.host_model.specs.declared.cause.EndCause.{EndCause}
 use Rattle.host_model.specs.declared.cause.EndCause.TheVariants.{Stopped}
 use Rattle.conn_state.specs.Phase.{fresh_conn}
 use Rattle.conn_table.specs.declared.stages.Slot.{Slot}
-use Rattle.conn_table.specs.Slots.{most_places, slot_in, with_added}
+use Rattle.conn_table.specs.Slots.{most_connections, slot_in, with_added}
 use Rattle.conn_table.specs.Table.{TableView, fresh_slot, slot_of}
 use Rattle.conn_table.proofs.Sizing.{slot_is, of_found, found_more, other_more}
 use Rattle.conn_table.proofs.Placing.{has_value}
@@ -51,7 +51,7 @@ pub record IsOpenedNext (c : ℕ) (old new : LinksState) : Type 0 where
 
 -- and it was added to what is kept
 pub record IsAdded (c : ℕ) (old new : LoopConnections) : Type 0 where
-  pub room : length old.table.slots < most_places
+  pub room : length old.table.slots < most_connections
   pub table : new.table ≡ record old.table { slots = with_added (fresh_slot c) old.table.slots }
   pub stages : new.stages.items ≡ old.stages.items ++ Lean ∷ []
   pub causes : new.causes.items ≡ old.causes.items ++ Stopped ∷ []

@@ -2,7 +2,7 @@
 use Rattle.std.proofs.Common.{◌≡◌, ℕ, suc, ◌+◌, ◌<◌, ◌≤◌, None, Some, IsSome, length, sym, subst, arith}
 use Rattle.conn_state.specs.Phase.{ConnView}
 use Rattle.conn_table.specs.declared.stages.Slot.{Slot}
-use Rattle.conn_table.specs.Slots.{most_places, slot_in, with_slot, with_added, without_number}
+use Rattle.conn_table.specs.Slots.{most_connections, slot_in, with_slot, with_added, without_number}
 use Rattle.conn_table.specs.Table.{TableView, fresh_slot, slot_of, with_state, with_size, size_given, sizes_given}
 use Rattle.conn_table.proofs.Sizing.{slot_is, sizes_put}
 use Rattle.conn_table.proofs.Rising.{rising_put, rising_added, rising_left, count_put, count_added, count_left, sizes_added, sizes_left}
@@ -13,7 +13,7 @@ use Rattle.loop_conns.specs.Tied.{IsOrderly}
 put_orderly : (new : Slot) (old : TableView) → IsOrderly old → IsSome (slot_in new.number old.slots)
     → sizes_given (with_slot new old.slots) ≤ old.budget → IsOrderly (record old { slots = with_slot new old.slots })
 put_orderly new old o there within =
-    let few : length old.slots ≤ most_places = o.few in
+    let few : length old.slots ≤ most_connections = o.few in
     let many : length (with_slot new old.slots) ≡ length old.slots = count_put new old.slots in
     record { rising = rising_put new old.slots o.rising; few = omega arith; within = within }
 
@@ -38,11 +38,11 @@ left_orderly c old new there is o =
     let at : slot_in c old.slots ≡ Some (slot_of c old.slots) = slot_is c old.slots there in
     let t : size_given (slot_of c old.slots).size + sizes_given (without_number c old.slots) ≡ sizes_given old.slots = sizes_left c (slot_of c old.slots) old.slots at in
     let fewer : suc (length (without_number c old.slots)) ≡ length old.slots = count_left c old.slots there in
-    let few : length old.slots ≤ most_places = o.few in
+    let few : length old.slots ≤ most_connections = o.few in
     let within : sizes_given old.slots ≤ old.budget = o.within in
     subst IsOrderly (sym is) (record { rising = rising_left c old.slots o.rising; few = omega arith; within = omega arith })
 
-pub added_orderly : (c : ℕ) (old new : TableView) → slot_in c old.slots ≡ None → length old.slots < most_places → new ≡ record old { slots = with_added (fresh_slot c) old.slots }
+pub added_orderly : (c : ℕ) (old new : TableView) → slot_in c old.slots ≡ None → length old.slots < most_connections → new ≡ record old { slots = with_added (fresh_slot c) old.slots }
     → IsOrderly old → IsOrderly new
 added_orderly c old new absent room is o =
     let sizes : sizes_given (with_added (fresh_slot c) old.slots) ≡ 0 + sizes_given old.slots = sizes_added (fresh_slot c) old.slots in

@@ -33,6 +33,7 @@ use Rattle.loop_conns.proofs.Owing.{owes_none, owes_bytes}
 use Rattle.loop_conns.proofs.Going.{begun_less, change_goes}
 use Rattle.loop_conns.proofs.TakingIn.{small_max}
 use Rattle.loop_conns.proofs.Leaving.{leaves_goes, gives_up_goes}
+use Rattle.call_rules.specs.Desks.{longest_payload}
 
 -- a connection whose reply is written: its phase, and what that tells
 pub record IsWriter (phase : Phase) (conn : LoopConn) : Type 0 where
@@ -98,7 +99,7 @@ one_of_sum f conns c (suc n) l = go (cases_eq n c) (one_of_sum f conns c n)
     go (inl e) rec = let k : f (conns n) ≡ f (conns c) = ap (λ x. f (conns x)) e in omega arith
     go (inr m) rec = let k : f (conns c) ≤ sum_among f conns n = rec (omega arith) in omega arith
 
-module _ (max : ℕ) (small : max ≤ 268435456) (first before : LinksState) (old : LoopConnections) (asks : List ServedAsk) (g : LoopIsRunning max first before old asks) (c : ℕ)
+module _ (max : ℕ) (small : max ≤ longest_payload) (first before : LinksState) (old : LoopConnections) (asks : List ServedAsk) (g : LoopIsRunning max first before old asks) (c : ℕ)
     (st : Standing before old g.loop c) (open_at : slice_index_or old.stages.items c Gone ≢ Gone) (some : 0 < length (left_to_write (slot_of c old.table.slots).conn.phase)) where
   abbrev conn : LoopConn
   conn = g.loop.conns c

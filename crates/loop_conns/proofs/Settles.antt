@@ -40,6 +40,7 @@ use Rattle.loop_conns.proofs.Going.{begun_less, change_goes}
 use Rattle.loop_conns.proofs.TakingIn.{small_max, ended_change}
 use Rattle.loop_conns.proofs.Leaving.{moves_none}
 use Rattle.loop_conns.proofs.Replying.{one_of_sum}
+use Rattle.call_rules.specs.Desks.{longest_payload}
 
 -- a connection whose outcome is awaited: the last of its payloads is submitted and not collected
 pub record IsAwaited (links : LinksState) (kept : LoopConnections) (loop : Loop) (c : ℕ) : Type 0 where
@@ -242,7 +243,7 @@ leaves_open max c (Close fault) conn going nothing all one e = absurd (none-some
 leaves_open max c NoRoom conn going nothing all one e = absurd (none-some NoMemory (sym e))
 
 -- The loop goes on with the outcome.
-module _ (max : ℕ) (small : max ≤ 268435456) (first before : LinksState) (old : LoopConnections) (asks : List ServedAsk) (g : LoopIsRunning max first before old asks) (key : Key) (settled told : Settled)
+module _ (max : ℕ) (small : max ≤ longest_payload) (first before : LinksState) (old : LoopConnections) (asks : List ServedAsk) (g : LoopIsRunning max first before old asks) (key : Key) (settled told : Settled)
     (told_is : told ≡ some_reply settled) (own : CollectsItsOwn (collected_behind asks key settled)) (mid table : TableView) (h : HasAnswered key.c told old.table mid table) where
   abbrev conn : LoopConn
   conn = g.loop.conns key.c

@@ -19,9 +19,10 @@ use Rattle.loop_conns.specs.Stopped.{StopsAlone}
 use Rattle.loop_conns.proofs.Tying.{IsSetAt, set_at}
 use Rattle.loop_conns.proofs.Standing.{Standing, standing}
 use Rattle.loop_conns.proofs.Leaving.{moves_none, leaves_woven}
+use Rattle.call_rules.specs.Desks.{longest_payload}
 
 -- One that is open is stopped.
-pub stops_woven : (max : ℕ) (small : max ≤ 268435456) (first before links : LinksState) (old new : LoopConnections) (asks : List ServedAsk) (c : ℕ) → HasWoven max first before old asks
+pub stops_woven : (max : ℕ) (small : max ≤ longest_payload) (first before links : LinksState) (old new : LoopConnections) (asks : List ServedAsk) (c : ℕ) → HasWoven max first before old asks
     → slice_index_or old.stages.items c Gone ≢ Gone → EndsConnection c Stopped old new → Closes c before links → HasWoven max first links new asks
 stops_woven max small first before links old new asks c w open_at here closed =
     let st : Standing before old w.0 c = standing first before old w.0 c w.1.tied open_at in (

@@ -9,7 +9,7 @@ use Rattle.outside.specs.LinksState.{LinksState, ChangesOnly}
 use Rattle.outside.specs.Closing.{Closes}
 use Rattle.host_model.specs.declared.cause.EndCause.{EndCause}
 use Rattle.host_model.specs.declared.cause.EndCause.TheVariants.{SizeFault, Stopped}
-use Rattle.conn_state.specs.Phase.{Phase, ConnView, sizing, held, framing, ready, waiting, writing, ended, wanted, most_wanted, cause_of, IsReading, IsReady}
+use Rattle.conn_state.specs.Phase.{Phase, ConnView, sizing, held, framing, ready, waiting, writing, ended, wanted, most_read, cause_of, IsReading, IsReady}
 use Rattle.conn_state.specs.Run.{EachIsByte}
 use Rattle.conn_state.specs.Step.{after_took}
 use Rattle.conn_table.specs.Slots.{slot_in}
@@ -37,6 +37,7 @@ use Rattle.machine_model.specs.OwnCalls.{summed_calls}
 use Rattle.machine_model.specs.OwnLoop.{refuses_job}
 use Rattle.loop_conns.proofs.Weaving.{lent_by}
 use Rattle.loop_conns.proofs.Going.{begun_less, change_goes}
+use Rattle.call_rules.specs.Desks.{longest_payload}
 
 -- What two moves of one connection leave is what both leave.
 pub only_then : (c : ℕ) (old mid new : LinksState) → ChangesOnly c old mid → ChangesOnly c mid new → ChangesOnly c old new
@@ -155,7 +156,7 @@ some_bytes bytes l e = let f : length bytes ≡ 0 = ap length e in let g : ⊥ =
 stays_in : (max : ℕ) (phase : Phase) (conn : LoopConn) (bytes : List ℕ) → IsReading phase → PhaseTells max phase conn → length bytes ≤ wanted phase → StaysInSize conn.held bytes
 stays_in max (sizing xs) conn bytes reading t asked l =
     let same : length conn.held ≡ length xs = ap length t.1 in
-    let few : length bytes ≤ min (4 - length xs) most_wanted = asked in
+    let few : length bytes ≤ min (4 - length xs) most_read = asked in
     omega arith
 stays_in max (framing n xs) conn bytes reading t asked l =
     let same : length conn.held ≡ 4 + length xs = ap length t.1 ∙ length-append (to_be_bytes w32 n) xs in
@@ -168,7 +169,7 @@ stays_in max (ended k) conn bytes reading t asked l = absurd reading
 
 -- What was taken in: connection c of the old ones has read these bytes, and its state in the table has them.
 pub record HasTakenIn (max c : ℕ) (old : LoopConnections) (bytes : List ℕ) (mid : TableView) : Type 0 where
-  pub small : max ≤ 268435456
+  pub small : max ≤ longest_payload
   pub there : IsSome (slot_in c old.table.slots)
   pub reading : IsReading (slot_of c old.table.slots).conn.phase
   pub some : 0 < length bytes
@@ -193,7 +194,7 @@ ended_change c cause marks lent l0 mid l1 old table new but orderly known moves 
 unlike : (z : ℤ) → SizeFault z ≡ Stopped → ⊥
 unlike z e = cc
 
-pub small_max : (max : ℕ) → max ≤ 268435456 → max < 2 ^ 31
+pub small_max : (max : ℕ) → max ≤ longest_payload → max < 2 ^ 31
 small_max max l = omega arith
 
 module _ (max c : ℕ) (old : LoopConnections) (bytes : List ℕ) (mid : TableView) (h : HasTakenIn max c old bytes mid) where
@@ -235,7 +236,7 @@ module _ (max c : ℕ) (old : LoopConnections) (bytes : List ℕ) (mid : TableVi
         (progress, (stands.below, stands.here.going), (owes.0.1, owes.1), some_bytes bytes h.some, stays_in max view0.phase conn bytes h.reading tied.tells h.asked, is, refl)
 
     -- the lengths lent are those of the event
-    lent_is : wanted view0.phase ∷ [] ≡ min (missing_of conn.held) most_wanted ∷ []
+    lent_is : wanted view0.phase ∷ [] ≡ min (missing_of conn.held) most_read ∷ []
     lent_is = ap (λ n. n ∷ []) (missing_is max view0.phase conn h.reading tied.tells)
 
     sized : HasItsSize view1.phase (slot_of c mid.slots).size
@@ -251,15 +252,15 @@ module _ (max c : ℕ) (old : LoopConnections) (bytes : List ℕ) (mid : TableVi
     open_still : (now : LoopConn) → now.cause ≡ None → read_links.is_open c ≡ true → IsOpenOnLinks read_links mid c now (slice_index_or old.causes.items c Stopped)
     open_still now going link = record { there = taken_there; link = link; going = going; stopped = stands.here.stopped }
 
-    moves_by : (progress : FrameProgress) → MovesOnly c (marks_read c bytes progress) (min (missing_of conn.held) most_wanted ∷ []) before read_links → MovesOnly c (marks_read c bytes progress) (lent_by g.loop (handles (reads c bytes))) before read_links
+    moves_by : (progress : FrameProgress) → MovesOnly c (marks_read c bytes progress) (min (missing_of conn.held) most_read ∷ []) before read_links → MovesOnly c (marks_read c bytes progress) (lent_by g.loop (handles (reads c bytes))) before read_links
     moves_by progress m = m
 
-    moved : MovesOnly c (Read c bytes ∷ []) (min (missing_of conn.held) most_wanted ∷ []) before read_links
+    moved : MovesOnly c (Read c bytes ∷ []) (min (missing_of conn.held) most_read ∷ []) before read_links
     moved = subst (λ lent. MovesOnly c (Read c bytes ∷ []) lent before read_links) lent_is moves
 
     -- the change, where it stays open at its place
     stays : (kept : LoopConnections) → kept.table ≡ mid → kept.stages ≡ old.stages → kept.causes ≡ old.causes
-        → ChangesOne c (slice_index_or old.stages.items c Gone) (slice_index_or old.causes.items c Stopped) (Read c bytes ∷ []) (min (missing_of conn.held) most_wanted ∷ []) before read_links old kept
+        → ChangesOne c (slice_index_or old.stages.items c Gone) (slice_index_or old.causes.items c Stopped) (Read c bytes ∷ []) (min (missing_of conn.held) most_read ∷ []) before read_links old kept
     stays kept table stages causes =
         record {
           links = moved;
@@ -283,12 +284,12 @@ module _ (max c : ℕ) (old : LoopConnections) (bytes : List ℕ) (mid : TableVi
         let tells : StageTells first read_links mid c now (slice_index_or old.causes.items c Stopped) (slice_index_or old.stages.items c Gone) =
         place_on first before read_links old.table mid c conn now (slice_index_or old.causes.items c Stopped) (slice_index_or old.stages.items c Gone) view0.phase view1.phase refl
         (ap (λ (v : ConnView). v.phase) taken_state) taken_size sized m.0 (g.so_far.tied.each c stands.below) (open_still now stands.here.going link) reads_at.0 in
-        let change : ChangesOne c (slice_index_or old.stages.items c Gone) (slice_index_or old.causes.items c Stopped) (Read c bytes ∷ []) (min (missing_of conn.held) most_wanted ∷ []) before
+        let change : ChangesOne c (slice_index_or old.stages.items c Gone) (slice_index_or old.causes.items c Stopped) (Read c bytes ∷ []) (min (missing_of conn.held) most_read ∷ []) before
         read_links old (record old { table = mid }) = stays (record old { table = mid }) refl refl refl in
         let phase : IsOpenTied max (slot_of c mid.slots).conn now = subst (λ (v : ConnView). IsOpenTied max v now) (sym taken_state) m.2 in
         let next : AreTied first read_links (record old { table = mid }) (changed g.loop c now (Read c bytes ∷ [])) =
         changed_tied first before read_links old (record old { table = mid }) g.loop c now (slice_index_or old.stages.items c Gone) (slice_index_or old.causes.items c Stopped) (Read c bytes ∷ [])
-        (min (missing_of conn.held) most_wanted ∷ []) g.so_far.tied stands.below change tells in
+        (min (missing_of conn.held) most_read ∷ []) g.so_far.tied stands.below change tells in
         let phases : PhasesTell max mid (changed g.loop c now (Read c bytes ∷ [])) = changed_phases max old.table mid g.loop c now (Read c bytes ∷ []) g.phases change.table (λ e. phase) in
         subst (λ k. LoopIsRunning max first read_links k asks) (sym is)
         (subst (λ a. LoopIsRunning max first read_links (record old { table = mid }) a) (append-nil asks)
@@ -362,7 +363,7 @@ module _ (max c : ℕ) (old : LoopConnections) (bytes : List ℕ) (mid : TableVi
           below = stands.below;
           one = (changed g.loop c now (Read c bytes ∷ Closed c ∷ []), happens (bad_size m.0) m.2, refl);
           change =
-              ended_change c why (Read c bytes ∷ []) (min (missing_of conn.held) most_wanted ∷ []) before read_links links old mid kept
+              ended_change c why (Read c bytes ∷ []) (min (missing_of conn.held) most_read ∷ []) before read_links links old mid kept
               (state_but c view1 old.table mid h.there h.table) (state_orderly c view1 old.table mid h.there h.table) stands.known moved here closed;
           tells = record { gone = here.gone; link = closed.closed; ended = ap Some (sym m.1); shows = subst (CauseShows first links c) (sym m.1) tt };
           less = begun_less g.loop c now (Read c bytes ∷ Closed c ∷ []) old.table.budget stands.below g.so_far.within.now (omega arith);

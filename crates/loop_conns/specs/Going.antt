@@ -26,6 +26,7 @@ use Rattle.loop_conns.specs.declared.admitting.Admission.{Admission}
 use Rattle.loop_conns.specs.declared.admitting.Admission.TheVariants.{Admitted, Refused, Over as OverUnadmitted}
 use Rattle.loop_conns.specs.Ended.{MovesOnly}
 use Rattle.loop_conns.specs.Woven.{ServedAsk, HasWoven, LoopIsRunning}
+pub use Rattle.limits.specs.Limits.{longest_payload}
 
 -- some loop goes on with these connections over these links
 abbrev pub SomeLoopIsRunning : ℕ → LinksState → LoopConnections → Type 0
@@ -35,17 +36,13 @@ SomeLoopIsRunning max links kept = (first : LinksState) × (asks : List ServedAs
 abbrev pub KeepsGoing : ℕ → LinksState → LoopConnections → LinksState → LoopConnections → Type 0
 KeepsGoing max old_links old links new = (first : LinksState) (asks : List ServedAsk) → LoopIsRunning max first old_links old asks → LoopIsRunning max first links new asks
 
--- the most bytes that a payload may have
-abbrev pub most_payload : ℕ
-most_payload = 268435456
-
 -- the same, whatever the longest payload is
 abbrev pub AnyLoopIsRunning : LinksState → LoopConnections → Type 0
-AnyLoopIsRunning links kept = (max : ℕ) × (max ≤ most_payload) × SomeLoopIsRunning max links kept
+AnyLoopIsRunning links kept = (max : ℕ) × (max ≤ longest_payload) × SomeLoopIsRunning max links kept
 
 -- the same of what is kept
 abbrev pub AllKeepGoing : LinksState → LoopConnections → LinksState → LoopConnections → Type 0
-AllKeepGoing old_links old links new = (max : ℕ) → max ≤ most_payload → KeepsGoing max old_links old links new
+AllKeepGoing old_links old links new = (max : ℕ) → max ≤ longest_payload → KeepsGoing max old_links old links new
 
 -- connection c is open
 abbrev pub IsOpenAt : ℕ → LoopConnections → Type 0
@@ -122,7 +119,7 @@ AdmissionTells c kept OverUnadmitted = Unit {0}
 -- the same, of one that was handed out; whatever the longest payload is, and however the links are
 abbrev pub AllHandOut : LoopConnections → LoopConnections → Key → List ℕ → Type 0
 AllHandOut old new key payload =
-    (max : ℕ) → max ≤ most_payload → (first links : LinksState) (asks : List ServedAsk) → LoopIsRunning max first links old asks → IsHandedOut max links new key payload first asks
+    (max : ℕ) → max ≤ longest_payload → (first links : LinksState) (asks : List ServedAsk) → LoopIsRunning max first links old asks → IsHandedOut max links new key payload first asks
 
 -- a reply with no bytes is none
 abbrev pub some_reply : Settled → Settled
@@ -142,9 +139,9 @@ IsAllOver links kept = (links.over ≡ true) × AreAllGone kept
 
 -- some loop has come so far
 abbrev pub SomeWoven : LinksState → LoopConnections → Type 0
-SomeWoven links kept = (max : ℕ) × (max ≤ most_payload) × (first : LinksState) × (asks : List ServedAsk) × HasWoven max first links kept asks
+SomeWoven links kept = (max : ℕ) × (max ≤ longest_payload) × (first : LinksState) × (asks : List ServedAsk) × HasWoven max first links kept asks
 
 -- whichever loop has come so far, has come so far now
 abbrev pub AllKeepWoven : LinksState → LoopConnections → LinksState → LoopConnections → Type 0
 AllKeepWoven old_links old links new =
-    (max : ℕ) → max ≤ most_payload → (first : LinksState) (asks : List ServedAsk) → HasWoven max first old_links old asks → HasWoven max first links new asks
+    (max : ℕ) → max ≤ longest_payload → (first : LinksState) (asks : List ServedAsk) → HasWoven max first old_links old asks → HasWoven max first links new asks

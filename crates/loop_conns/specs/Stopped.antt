@@ -7,7 +7,7 @@ use Rattle.machine_model.specs.Machine.{HaveAllEnded}
 use Rattle.loop_conns.specs.declared.connections.ConnStage.TheVariants.{Gone}
 use Rattle.loop_conns.specs.declared.connections.LoopConnections.{LoopConnections}
 use Rattle.loop_conns.specs.Woven.{ServedAsk, IsWovenTo, HasWoven}
-use Rattle.loop_conns.specs.Going.{most_payload}
+use Rattle.loop_conns.specs.Going.{longest_payload}
 
 -- The causes that are kept are as they were. That of one that was open is that the host stops, so it was stopped.
 abbrev pub KeepsCauses : LoopConnections → LoopConnections → Type 0
@@ -23,5 +23,5 @@ pub record StopsAlone (c : ℕ) (old new : LoopConnections) : Type 0 where
 -- whichever loop has come so far, has come so far now, and each of its connections has ended in the machine, by the cause that is kept
 abbrev pub AllHaveEnded : LinksState → LoopConnections → LinksState → LoopConnections → Type 0
 AllHaveEnded old_links old links new =
-    (max : ℕ) → max ≤ most_payload → (first : LinksState) (asks : List ServedAsk) → HasWoven max first old_links old asks
+    (max : ℕ) → max ≤ longest_payload → (first : LinksState) (asks : List ServedAsk) → HasWoven max first old_links old asks
     → (loop : Loop) × IsWovenTo max first links new asks loop × HaveAllEnded loop new.causes.items

@@ -6,7 +6,7 @@ use Rattle.outside.specs.LinksState.{LinksState}
 use Rattle.host_model.specs.declared.cause.EndCause.{EndCause}
 use Rattle.host_model.specs.declared.cause.EndCause.TheVariants.{End, Cut, SizeFault, Envelope, ReadFault, WriteFault, NoMemory, Stopped}
 use Rattle.conn_state.specs.Phase.{Phase, framing, ready, waiting}
-use Rattle.conn_table.specs.Slots.{most_places, slot_in, HaveRisingNumbers}
+use Rattle.conn_table.specs.Slots.{most_connections, slot_in, HaveRisingNumbers}
 use Rattle.conn_table.specs.Table.{TableView, slot_of, sizes_given, HasItsSize}
 use Rattle.machine_model.specs.SeenHall.{MayHave}
 use Rattle.machine_model.specs.Loop.{LoopConn, Loop}
@@ -58,7 +58,7 @@ StageTells first links table c conn cause Gone = IsOverOnLinks first links table
 -- a table whose numbers rise, no more than there may be, with its admitted sizes within the budget
 pub record IsOrderly (table : TableView) : Type 0 where
   pub rising : HaveRisingNumbers table.slots
-  pub few : length table.slots ≤ most_places
+  pub few : length table.slots ≤ most_connections
   pub within : sizes_given table.slots ≤ table.budget
 
 -- The connections are tied to the machine's loop and to the links, which were so when they came in: the tape is the same, where it is told; as many are known as were

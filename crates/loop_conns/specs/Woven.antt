@@ -6,7 +6,7 @@ use Rattle.outside.specs.declared.answers.RestPlace.{RestPlace}
 use Rattle.outside.specs.LinksState.{LinksState}
 use Rattle.host_model.specs.declared.cause.EndCause.{EndCause}
 use Rattle.host_model.specs.declared.cause.EndCause.TheVariants.{Stopped}
-use Rattle.conn_state.specs.Phase.{most_wanted}
+use Rattle.conn_state.specs.Phase.{most_read}
 use Rattle.call_rules.specs.PlainCalls.{PlainCall, PlainAnswer}
 use Rattle.machine_model.specs.OwnCalls.{HallAsk, summed_calls}
 use Rattle.machine_model.specs.OwnLoop.{refuses_job}
@@ -32,7 +32,7 @@ missing_of held = if nat_lt (length held) 4 then 4 - length held else (4 + from_
 
 -- what is lent to what happens on a connection: as much as is missing, or 65,536 bytes, to a read; all that is left, to a write
 abbrev pub lent_to : Loop → ConnEvent → List ℕ
-lent_to loop (reads c bytes) = min (missing_of (loop.conns c).held) most_wanted ∷ []
+lent_to loop (reads c bytes) = min (missing_of (loop.conns c).held) most_read ∷ []
 lent_to loop (writes c count) = length (loop.conns c).left ∷ []
 lent_to loop _ = []
 

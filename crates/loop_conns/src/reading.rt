@@ -7,6 +7,7 @@ ghost use Rattle.conn_table.specs.Table.{slot_of};
 ghost use Rattle.loop_conns.specs.declared.connections.ConnStage.TheVariants.{Gone};
 ghost use Rattle.loop_conns.specs.Ended.{IsNumbered, HasSizeBy};
 ghost use Rattle.loop_conns.specs.Going.{SomeLoopIsRunning, KeepsGoing, ReadsAt, ReadTells, TakesIn};
+ghost use Rattle.call_rules.specs.Desks.{longest_payload};
 
 use crate::connections::LoopConnections;
 use conn_state::EndCause;
@@ -42,7 +43,7 @@ impl LoopConnections {
         requires under_way { SomeLoopIsRunning max_frame (L.state links.old) self.old }
         requires reads { ReadsAt c self.old }
         requires lent { length into.old ≡ wanted (slot_of c self.old.table.slots).conn.phase }
-        requires small { max_frame ≤ 268435456 }
+        requires small { max_frame ≤ longest_payload }
         ensures going { KeepsGoing max_frame (L.state links.old) self.old (L.state links.new) self.new }
         ensures step { ReadTells c self.new result }
         ensures budget { self.new.table.budget ≡ self.old.table.budget }
@@ -81,7 +82,7 @@ impl LoopConnections {
         requires size { HasSizeBy (slice_index_or self.old.stages.items c Gone) (slot_of c self.old.table.slots).size }
         requires known { IsNumbered c self.old }
         requires link { (L.state links.old).is_open c ≡ true }
-        requires small { max_frame ≤ 268435456 }
+        requires small { max_frame ≤ longest_payload }
         requires few { self.old.owing ≤ 2 ^ 32 }
         ensures going { TakesIn max_frame c bytes.now self.old (L.state links.old) (L.state links.new) self.new }
         ensures step { ReadsAt c self.old → ReadTells c self.new result }

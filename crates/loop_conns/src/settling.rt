@@ -5,7 +5,7 @@ ghost use Rattle.outside.specs.LinksState.{LinksState};
 ghost use Rattle.conn_state.specs.Phase.{IsReady};
 ghost use Rattle.conn_table.specs.Table.{slot_of};
 ghost use Rattle.machine_model.specs.HallState.{key_of};
-ghost use Rattle.loop_conns.specs.Going.{most_payload, AnyLoopIsRunning, IsOpenAt, AllHandOut, IsCollected, GoesOnSettled, some_reply};
+ghost use Rattle.loop_conns.specs.Going.{longest_payload, AnyLoopIsRunning, IsOpenAt, AllHandOut, IsCollected, GoesOnSettled, some_reply};
 
 use crate::connections::{ConnStage, LoopConnections};
 use host_model::Key;
@@ -42,8 +42,8 @@ impl LoopConnections {
 
     /// Takes the outcome of a payload, which was collected.
     pub fn settle<L: Links>(&mut self, links: &mut L, key: Key, settled: Settled)
-        requires collected { (max : ℕ) × (max ≤ most_payload) × IsCollected max (L.state links.old) self.old key settled }
-        ensures going { (max : ℕ) → max ≤ most_payload → GoesOnSettled max (L.state links.old) self.old (L.state links.new) self.new key settled }
+        requires collected { (max : ℕ) × (max ≤ longest_payload) × IsCollected max (L.state links.old) self.old key settled }
+        ensures going { (max : ℕ) → max ≤ longest_payload → GoesOnSettled max (L.state links.old) self.old (L.state links.new) self.new key settled }
         ensures budget { self.new.table.budget ≡ self.old.table.budget }
         ensures plan { L.plan links.new ≡ L.plan links.old }
     {

@@ -15,8 +15,8 @@ use Rattle.host_model.specs.DeskRules.{DeskRules}
 use Rattle.host_model.specs.World.{World, Act, ReachedBy, Moment}
 use Rattle.machine_model.specs.HallState.{key_of, Job, JobOutcome, HallState, is_same, has_key, without, keys_in}
 use Rattle.machine_model.specs.HallRule.{HallOperation, submit, take_job, apply, put, collect, close, HallAnswer, done, job, empty, is_closed, applied, no_memory, journal_fault, is_broken, outcome, job_of, outcome_of, TakesEffect, SubmitGives, TakeGives, ApplyGives, PutGives, CollectGives, CloseGives}
-use Rattle.machine_model.specs.OwnCalls.{HallCan, most_bytes}
-use Rattle.machine_model.specs.Loop.{LoopConn, new_conn, Loop, count_if_open, open_among, most_open, FrameProgress, part, bad_size, whole, read_more, marks_read, with_conn, changed, ConnEvent, opens, reads, ends, fails_read, writes, fails_write, gives_up, Happens, submitted_more, conn_settled, conn_marks_settled, LoopAsks}
+use Rattle.machine_model.specs.OwnCalls.{HallCan, longest_payload}
+use Rattle.machine_model.specs.Loop.{LoopConn, new_conn, Loop, count_if_open, open_among, most_connections, FrameProgress, part, bad_size, whole, read_more, marks_read, with_conn, changed, ConnEvent, opens, reads, ends, fails_read, writes, fails_write, gives_up, Happens, submitted_more, conn_settled, conn_marks_settled, LoopAsks}
 use Rattle.machine_model.specs.Worker.{WorkerState, idle, holds, took, tried, key_held, WorkerAsks}
 use Rattle.machine_model.specs.Machine.{Cell, with_worker, MachineEvent, on_conn, submits, takes, applies, puts, collects, closes, ByLoop, ByWorker, Steps, EventsLead, IsFirst}
 use Rattle.machine_model.specs.Places.{PayloadPlace, collected_all, ready, queued, held_by, put_out, jobs_of, outcomes_of, PayloadIsAt, IsUncollected, CellKeeps}
@@ -85,7 +85,7 @@ module _ {A : Type 0} where
 module _ {C A M : Type 0} (slots : ℕ) where
   -- what is so of the keys in the hall, and of how many connections are open
   record Fits (cell : Cell C A M) : Type 0 where
-    most : open_among cell.loop.conns cell.loop.count ≤ most_open
+    most : open_among cell.loop.conns cell.loop.count ≤ most_connections
     keys : length (keys_in cell.hall) + all_collected cell.loop ≡ all_submitted cell.loop
     below : (k : Key) → has_key k (keys_in cell.hall) ≡ true → (k.c < cell.loop.count) × (k.i < (cell.loop.conns k.c).submitted)
     held : (w : ℕ) (k : Key) → key_held (cell.workers w) ≡ Some k → has_key k cell.hall.taken ≡ true
@@ -97,7 +97,7 @@ module _ {C A M : Type 0} (slots : ℕ) where
       → Fits (record old { loop = changed old.loop c conn marks })
   conn_fits old c conn marks f l s k o =
       let n : ℕ = old.loop.count in
-      let open_before : open_among old.loop.conns n ≤ most_open = f.most in
+      let open_before : open_among old.loop.conns n ≤ most_connections = f.most in
       let oa : open_among (with_conn old.loop.conns c conn) n ≡ sum_among opens_of (with_conn old.loop.conns c conn) n = open_sum (with_conn old.loop.conns c conn) n in
       let ob : open_among old.loop.conns n ≡ sum_among opens_of old.loop.conns n = open_sum old.loop.conns n in
       let oc : sum_among opens_of (with_conn old.loop.conns c conn) n + count_if_open (old.loop.conns c).cause ≡ sum_among opens_of old.loop.conns n + count_if_open conn.cause =
@@ -124,7 +124,7 @@ module _ {C A M : Type 0} (slots : ℕ) where
       below x h (inr m) = subst (λ (y : LoopConn). x.i < y.submitted) (sym (put_other old.loop.conns c conn x.c m)) h
 
   -- a connection is opened
-  opened_fits : (old : Cell C A M) (marks : List Mark) → Fits old → open_among old.loop.conns old.loop.count < most_open
+  opened_fits : (old : Cell C A M) (marks : List Mark) → Fits old → open_among old.loop.conns old.loop.count < most_connections
       → Fits (record old { loop = record { tape = old.loop.tape ++ marks; count = suc old.loop.count; conns = with_conn old.loop.conns old.loop.count new_conn } })
   opened_fits old marks f l =
       let n : ℕ = old.loop.count in
@@ -203,7 +203,7 @@ module _ {C A M : Type 0} (slots : ℕ) where
       let dc : sum_among collected_of next n + (old.loop.conns key.c).collected ≡ all_collected old.loop + (old.loop.conns key.c).collected =
       sum_changed collected_of old.loop.conns key.c conn n l in
       let before : length (keys_in old.hall) + all_collected old.loop ≡ all_submitted old.loop = f.keys in
-      let open_before : open_among old.loop.conns n ≤ most_open = f.most in
+      let open_before : open_among old.loop.conns n ≤ most_connections = f.most in
       let ka : length (keys_in old.hall) ≡ length (job_keys old.hall) + (length old.hall.taken + length (outcome_keys old.hall)) = counts old.hall in
       let kb : length (keys_in (with_job old.hall key payload)) ≡ length (job_keys (with_job old.hall key payload)) + (length old.hall.taken + length (outcome_keys old.hall)) =
       counts (with_job old.hall key payload) in
@@ -270,7 +270,7 @@ module _ {C A M : Type 0} (slots : ℕ) where
       let sc : sum_among submitted_of next n + (old.loop.conns key.c).submitted ≡ all_submitted old.loop + conn.submitted = sum_changed submitted_of old.loop.conns key.c conn n l in
       let dc : sum_among collected_of next n + (old.loop.conns key.c).collected ≡ all_collected old.loop + conn.collected = sum_changed collected_of old.loop.conns key.c conn n l in
       let before : length (keys_in old.hall) + all_collected old.loop ≡ all_submitted old.loop = f.keys in
-      let open_before : open_among old.loop.conns n ≤ most_open = f.most in
+      let open_before : open_among old.loop.conns n ≤ most_connections = f.most in
       let ka : length (keys_in old.hall) ≡ length (job_keys old.hall) + (length old.hall.taken + length (outcome_keys old.hall)) = counts old.hall in
       let kb : length (keys_in (record old.hall { outcomes = later })) ≡ length (job_keys old.hall) + (length old.hall.taken + length (map (λ (o : JobOutcome). o.key) later)) =
       counts (record old.hall { outcomes = later }) in
@@ -517,7 +517,7 @@ module _ {C A M : Type 0} (d : DeskRules C A) (r : ServiceRules C A M) (opening 
   fits : (first cell : Cell C A M) (events : List MachineEvent) → IsFirst opening first → EventsLead d r first events cell → Fit cell
   fits first cell events f runs = run_fits first cell events runs (first_kept d r opening all small first f) (first_fits first f)
 
-  pub most_are_open : (first cell : Cell C A M) (events : List MachineEvent) → IsFirst opening first → EventsLead d r first events cell → open_among cell.loop.conns cell.loop.count ≤ most_open
+  pub most_are_open : (first cell : Cell C A M) (events : List MachineEvent) → IsFirst opening first → EventsLead d r first events cell → open_among cell.loop.conns cell.loop.count ≤ most_connections
   most_are_open first cell events f runs = (fits first cell events f runs).most
 
   pub keys_counted : (first cell : Cell C A M) (events : List MachineEvent) → IsFirst opening first → EventsLead d r first events cell
@@ -604,7 +604,7 @@ module _ {C A M : Type 0} (d : DeskRules C A) (r : ServiceRules C A M) (opening 
           none_waits cell.workers (jobs_of x cell.hall.jobs) (outcomes_of x cell.hall.outcomes) (entries_of x cell.hall.journal) x (cell.loop.conns x) (k.place x) (k.at x l) (behind x l n) in
           omega arith
 
-  submit_can : (cell : Cell C A M) (key : Key) (payload : List ℕ) → d.max ≤ most_bytes → NoneIsLeftBehind cell.loop → CellKeeps d r opening cell → Fit cell → key.c < cell.loop.count
+  submit_can : (cell : Cell C A M) (key : Key) (payload : List ℕ) → d.max ≤ longest_payload → NoneIsLeftBehind cell.loop → CellKeeps d r opening cell → Fit cell → key.c < cell.loop.count
       → key.i ≡ (cell.loop.conns key.c).submitted → slice_get (cell.loop.conns key.c).payloads key.i ≡ Some payload → HallCan r cell.hall (submit key payload)
   submit_can cell key payload within behind k f l is e =
       let c : ℕ = key.c in
@@ -619,7 +619,7 @@ module _ {C A M : Type 0} (d : DeskRules C A) (r : ServiceRules C A M) (opening 
       let less : sum_among submitted_of conns n < sum_among reach_of conns n = sum_below submitted_of reach_of conns n c (adds_within cell behind k) l (omega arith) in
       let two : sum_among reach_of conns n ≡ sum_among collected_of conns n + sum_among opens_of conns n = sum_both collected_of opens_of conns n in
       let open_is : open_among conns n ≡ sum_among opens_of conns n = open_sum conns n in
-      let most : open_among conns n ≤ most_open = f.most in
+      let most : open_among conns n ≤ most_connections = f.most in
       let keys : length (keys_in cell.hall) + all_collected cell.loop ≡ all_submitted cell.loop = f.keys in
       let p : length payload ≤ d.max = (payload_at d.max (conns c).payloads key.i payload (k.frames c l).each e).within in (
         omega arith,
@@ -628,7 +628,7 @@ module _ {C A M : Type 0} (d : DeskRules C A) (r : ServiceRules C A M) (opening 
         omega arith,
       )
 
-  pub loop_can : (first cell : Cell C A M) (events : List MachineEvent) → IsFirst opening first → EventsLead d r first events cell → (op : HallOperation C) (answer : HallAnswer A) (loop : Loop) → d.max ≤ most_bytes
+  pub loop_can : (first cell : Cell C A M) (events : List MachineEvent) → IsFirst opening first → EventsLead d r first events cell → (op : HallOperation C) (answer : HallAnswer A) (loop : Loop) → d.max ≤ longest_payload
       → NoneIsLeftBehind cell.loop → LoopAsks cell.loop op answer loop → HallCan r cell.hall op
   loop_can first cell events f runs (submit key payload) answer loop within behind asks =
       submit_can cell key payload within behind (keeps d r opening all small first cell events f runs) (fits first cell events f runs) asks.0 asks.1 asks.2

@@ -10,7 +10,7 @@ use Rattle.host_model.specs.Journal.{ServiceRules}
 use Rattle.host_model.specs.DeskRules.{DeskRules}
 use Rattle.host_model.proofs.Lists.{Always, always-push, always-append, always_nil}
 use Rattle.machine_model.specs.HallRule.{HallOperation, submit, take_job, apply, put, collect, close, HallAnswer, done, job, empty, is_closed, applied, no_memory, journal_fault, is_broken, outcome}
-use Rattle.machine_model.specs.Loop.{LoopConn, new_conn, Loop, count_if_open, open_among, most_open, FrameProgress, part, bad_size, whole, read_more, marks_read, with_conn, changed, ConnEvent, opens, reads, ends, fails_read, writes, fails_write, gives_up, Happens, conn_settled, conn_marks_settled, LoopAsks}
+use Rattle.machine_model.specs.Loop.{LoopConn, new_conn, Loop, count_if_open, open_among, most_connections, FrameProgress, part, bad_size, whole, read_more, marks_read, with_conn, changed, ConnEvent, opens, reads, ends, fails_read, writes, fails_write, gives_up, Happens, conn_settled, conn_marks_settled, LoopAsks}
 use Rattle.machine_model.specs.Machine.{Cell, MachineEvent, on_conn, submits, takes, applies, puts, collects, closes, EventsLead, Steps, IsFirst}
 use Rattle.machine_model.specs.Merge.{LoopItem, handles, calls, no_loop, Weaves}
 use Rattle.machine_model.specs.Bounds.{sum_among}
@@ -28,11 +28,11 @@ counted-append f (x ∷ xs) ys = let t : marks_counted f (xs ++ ys) ≡ marks_co
 -- what is so of the loop's tape
 record Bounded (loop : Loop) : Type 0 where
   now : marks_counted opening_of loop.tape ≤ marks_counted closing_of loop.tape + open_among loop.conns loop.count
-  most : open_among loop.conns loop.count ≤ most_open
+  most : open_among loop.conns loop.count ≤ most_connections
   fronts : Always IsWithinMost loop.tape
 
 -- behind a bounded tape, marks that open nothing
-still_within : (tape marks ts bs : List Mark) (open_now : ℕ) → marks_counted opening_of tape ≤ marks_counted closing_of tape + open_now → open_now ≤ most_open → marks_counted opening_of marks ≡ 0 → marks ≡ ts ++ bs → IsWithinMost (tape ++ ts)
+still_within : (tape marks ts bs : List Mark) (open_now : ℕ) → marks_counted opening_of tape ≤ marks_counted closing_of tape + open_now → open_now ≤ most_connections → marks_counted opening_of marks ≡ 0 → marks ≡ ts ++ bs → IsWithinMost (tape ++ ts)
 still_within tape marks ts bs open_now now most none is =
     let a : marks_counted opening_of (tape ++ ts) ≡ marks_counted opening_of tape + marks_counted opening_of ts = counted-append opening_of tape ts in
     let b : marks_counted closing_of (tape ++ ts) ≡ marks_counted closing_of tape + marks_counted closing_of ts = counted-append closing_of tape ts in
@@ -65,7 +65,7 @@ changed_bounded old c conn marks b none less more =
     let low : open_among old.conns old.count ≤ marks_counted closing_of marks + open_among (with_conn old.conns c conn) old.count = t.0 in
     let high : open_among (with_conn old.conns c conn) old.count ≤ open_among old.conns old.count = t.1 in
     let before : marks_counted opening_of old.tape ≤ marks_counted closing_of old.tape + open_among old.conns old.count = b.now in
-    let most : open_among old.conns old.count ≤ most_open = b.most in
+    let most : open_among old.conns old.count ≤ most_connections = b.most in
     let x : marks_counted opening_of (old.tape ++ marks) ≡ marks_counted opening_of old.tape + marks_counted opening_of marks = counted-append opening_of old.tape marks in
     let y : marks_counted closing_of (old.tape ++ marks) ≡ marks_counted closing_of old.tape + marks_counted closing_of marks = counted-append closing_of old.tape marks in
     record {
@@ -74,7 +74,7 @@ changed_bounded old c conn marks b none less more =
       fronts = always-append IsWithinMost old.tape marks b.fronts (λ ts bs is. still_within old.tape marks ts bs (open_among old.conns old.count) before most none is);
     }
 
-opened_bounded : (old : Loop) → Bounded old → open_among old.conns old.count < most_open → Bounded (record { tape = old.tape ++ Opened old.count ∷ []; count = suc old.count; conns = with_conn old.conns old.count new_conn })
+opened_bounded : (old : Loop) → Bounded old → open_among old.conns old.count < most_connections → Bounded (record { tape = old.tape ++ Opened old.count ∷ []; count = suc old.count; conns = with_conn old.conns old.count new_conn })
 opened_bounded old b l =
     let n : ℕ = old.count in
     let next : ℕ → LoopConn = with_conn old.conns n new_conn in

@@ -16,10 +16,10 @@ use Rattle.call_history.specs.Calls.{seat_ask, calls_by, ask_of, asks_of, AllAll
 use Rattle.call_history.specs.Laws.{calls_by-first, calls_by-first-other, IsHistory-front, AllAllowed-front, asks-append}
 use Rattle.machine_model.specs.HallState.{is_same, HallState}
 use Rattle.machine_model.specs.HallRule.{HallOperation, submit, take_job, apply, put, collect, close, HallAnswer, done, job, empty, is_closed, applied, no_memory, journal_fault, is_broken, outcome, HallGives}
-use Rattle.machine_model.specs.OwnCalls.{HallCall, HallAsk, most_bytes, submits_key, any_of, adds_key, frees_key, summed_calls, OwnAsksAllow, HallMay}
+use Rattle.machine_model.specs.OwnCalls.{HallCall, HallAsk, longest_payload, submits_key, any_of, adds_key, frees_key, summed_calls, OwnAsksAllow, HallMay}
 use Rattle.machine_model.specs.SingleKeys.{adds_this_key, frees_this_key}
 use Rattle.machine_model.specs.OwnLoop.{adds_of_conn, frees_of_conn, refuses_job, CollectsItsOwn}
-use Rattle.machine_model.specs.Loop.{LoopConn, new_conn, Loop, count_if_open, open_among, most_open, FrameProgress, part, bad_size, whole, read_more, with_conn, changed, ConnEvent, opens, reads, ends, fails_read, writes, fails_write, gives_up, Happens, submitted_more, conn_settled, IsOpen, IsProgress, LoopAsks}
+use Rattle.machine_model.specs.Loop.{LoopConn, new_conn, Loop, count_if_open, open_among, most_connections, FrameProgress, part, bad_size, whole, read_more, with_conn, changed, ConnEvent, opens, reads, ends, fails_read, writes, fails_write, gives_up, Happens, submitted_more, conn_settled, IsOpen, IsProgress, LoopAsks}
 use Rattle.machine_model.specs.Bounds.{sum_among, all_submitted, all_collected, NoneIsLeftBehind}
 use Rattle.machine_model.specs.Merge.{LoopItem, handles, calls, no_loop, calls_in, Weaves}
 use Rattle.machine_model.proofs.Lists.{put_same, put_other}
@@ -323,7 +323,7 @@ module _ {C A : Type 0} (max : ℕ) where
     counts : Counts own (λ c. (loop.conns c).submitted) (λ c. (loop.conns c).collected)
     all_added : summed_calls adds_key own ≡ all_submitted loop
     all_freed : summed_calls frees_key own ≡ all_collected loop
-    most : open_among loop.conns loop.count ≤ most_open
+    most : open_among loop.conns loop.count ≤ most_connections
     stands : (c : ℕ) → ConnStands max (loop.conns c)
     unopened : (c : ℕ) → loop.count ≤ c → ((loop.conns c).submitted ≡ 0) × ((loop.conns c).collected ≡ 0)
 
@@ -335,7 +335,7 @@ module _ {C A : Type 0} (max : ℕ) where
       → count_if_open conn.cause ≤ count_if_open (old.conns c).cause → ConnStands max conn → Minds later (changed old c conn marks)
   changed_minds own later old c conn marks a f m l counts adds frees s k o st =
       let n : ℕ = old.count in
-      let open_before : open_among old.conns n ≤ most_open = m.most in
+      let open_before : open_among old.conns n ≤ most_connections = m.most in
       let oa : open_among (with_conn old.conns c conn) n ≡ sum_among opens_of (with_conn old.conns c conn) n = open_sum (with_conn old.conns c conn) n in
       let ob : open_among old.conns n ≡ sum_among opens_of old.conns n = open_sum old.conns n in
       let oc : sum_among opens_of (with_conn old.conns c conn) n + count_if_open (old.conns c).cause ≡ sum_among opens_of old.conns n + count_if_open conn.cause = sum_changed opens_of old.conns c conn n l in
@@ -360,7 +360,7 @@ module _ {C A : Type 0} (max : ℕ) where
       (subst (λ (t : (ℕ → ℕ) × (ℕ → ℕ)). Counts own t.0 t.1) (λ i. (λ x. same_at submitted_of old.conns c conn s x i, λ x. same_at collected_of old.conns c conn k x i)) m.counts)
       (omega arith) (omega arith) (omega arith) (omega arith) o st
 
-  opened_minds : (own : List (HallAsk C A)) (old : Loop) (marks : List Mark) → Minds own old → open_among old.conns old.count < most_open
+  opened_minds : (own : List (HallAsk C A)) (old : Loop) (marks : List Mark) → Minds own old → open_among old.conns old.count < most_connections
       → Minds own (record { tape = old.tape ++ marks; count = suc old.count; conns = with_conn old.conns old.count new_conn })
   opened_minds own old marks m l =
       let n : ℕ = old.count in
@@ -584,7 +584,7 @@ module _ {C A : Type 0} (max : ℕ) where
 
 module _ {C A M : Type 0} where
   pub may_submit : (max : ℕ) (r : ServiceRules C A M) (opening : HallState C A M) (items : List (LoopItem C A)) (loop next : Loop) (key : Key) (payload : List ℕ) (answer : HallAnswer A) → Weaves max no_loop items loop
-      → CollectsItsOwn (calls_in items) → max ≤ most_bytes → NoneIsLeftBehind loop → summed_calls refuses_job (calls_in items) ≡ 0 → LoopAsks {C = C} loop (submit key payload) answer next
+      → CollectsItsOwn (calls_in items) → max ≤ longest_payload → NoneIsLeftBehind loop → summed_calls refuses_job (calls_in items) ≡ 0 → LoopAsks {C = C} loop (submit key payload) answer next
       → OwnAsksAllow r opening 0 (calls_in items) (submit key payload)
   may_submit max r opening items loop next key payload answer t once within behind none asks =
       let m : Minds max (calls_in items) loop = minds max items loop t once in
@@ -601,7 +601,7 @@ module _ {C A M : Type 0} where
       sum_below submitted_of (λ conn. conn.collected + count_if_open conn.cause) conns n c (within_reach max (calls_in items) loop m behind) asks.0 (omega arith) in
       let two : sum_among (λ conn. conn.collected + count_if_open conn.cause) conns n ≡ sum_among collected_of conns n + sum_among opens_of conns n = sum_both collected_of opens_of conns n in
       let open_all : open_among conns n ≡ sum_among opens_of conns n = open_sum conns n in
-      let most : open_among conns n ≤ most_open = m.most in
+      let most : open_among conns n ≤ most_connections = m.most in
       let added : summed_calls adds_key (calls_in items) ≡ all_submitted loop = m.all_added in
       let freed : summed_calls frees_key (calls_in items) ≡ all_collected loop = m.all_freed in
       let p : length payload ≤ max = (payload_among max (conns c).payloads key.i payload (m.stands c).each asks.2).within in (

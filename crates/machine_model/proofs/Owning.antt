@@ -10,7 +10,7 @@ use Rattle.machine_model.specs.HallRule.{HallOperation, submit, take_job, apply,
 use Rattle.call_history.specs.History.{meaning_after, IsHistory}
 use Rattle.call_history.specs.Calls.{seat_ask, calls_by, ask_of, asks_of, AllAllowed}
 use Rattle.call_history.specs.Laws.{calls_by-own, calls_by-other}
-use Rattle.machine_model.specs.OwnCalls.{HallCall, HallAsk, most_keys, HallCan, submits_key, any_of, adds_key, frees_key, summed_calls, held_after, holds_from, holds_key, OwnAsksAllow, HallMay}
+use Rattle.machine_model.specs.OwnCalls.{HallCall, HallAsk, most_connections, HallCan, submits_key, any_of, adds_key, frees_key, summed_calls, held_after, holds_from, holds_key, OwnAsksAllow, HallMay}
 use Rattle.machine_model.proofs.Keys.{same_key, is_same_self, has_left, has_right, has_either, has_one, has_self, has_without, without_other, length-without, job_keys, outcome_keys, with_job, with_taken, with_put, counts, in_jobs, in_taken, in_outcomes, where_in}
 
 -- no key stands twice
@@ -442,8 +442,8 @@ module _ {C A M : Type 0} where
   can_do r opening log hall seat (submit key payload) o may =
       let zero_is : seat ≡ 0 = may.0 in
       let n : length (keys_in hall) + summed_calls frees_key (calls_by 0 log) ≤ summed_calls adds_key (calls_by 0 log) = o.counted in
-      let m : summed_calls adds_key (calls_by 0 log) < most_keys + summed_calls frees_key (calls_by 0 log) =
-      subst (λ a. summed_calls adds_key (calls_by a log) < most_keys + summed_calls frees_key (calls_by a log)) zero_is may.1 in
+      let m : summed_calls adds_key (calls_by 0 log) < most_connections + summed_calls frees_key (calls_by 0 log) =
+      subst (λ a. summed_calls adds_key (calls_by a log) < most_connections + summed_calls frees_key (calls_by a log)) zero_is may.1 in
       let fresh : any_of (submits_key key) (calls_by 0 log) ≡ false = subst (λ a. any_of (submits_key key) (calls_by a log) ≡ false) zero_is may.2 in
       (omega arith, false_from_ne_true (has_key key (keys_in hall)) (λ h. true≢false (sym (o.known key h) ∙ fresh)), may.3)
   can_do r opening log hall seat take_job o may = tt

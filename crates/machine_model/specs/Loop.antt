@@ -9,6 +9,7 @@ use Rattle.host_model.specs.declared.cause.EndCause.TheVariants.{SizeFault, Enve
 use Rattle.host_model.specs.Frames.{frame, size_bytes, IsPayload, IsOutside, IsPartial}
 use Rattle.host_model.specs.World.{end_behind, IsGivenUp}
 use Rattle.machine_model.specs.HallRule.{HallOperation, submit, collect, close, HallAnswer, done, outcome}
+pub use Rattle.limits.specs.Limits.{most_connections}
 
 -- A connection: the payloads read whole, and the bytes read behind them; how many payloads were submitted, and how many collected; what isn't written of
 -- the last reply; and the cause of its end, where it has ended.
@@ -39,10 +40,6 @@ count_if_open (Some cause) = 0
 abbrev pub open_among : (ℕ → LoopConn) → ℕ → ℕ
 open_among conns zero = 0
 open_among conns (suc n) = count_if_open (conns n).cause + open_among conns n
-
--- the most connections that are open at one time
-abbrev pub most_open : ℕ
-most_open = 1024
 
 -- a connection is open
 abbrev pub IsOpen : Loop → ℕ → Type 0
@@ -106,7 +103,7 @@ pub data ConnEvent : Type 0 where
 -- The loop goes from old to new by what happens on a connection.
 abbrev pub Happens : ℕ → Loop → ConnEvent → Loop → Type 0
 Happens max old opens new =
-    (open_among old.conns old.count < most_open)
+    (open_among old.conns old.count < most_connections)
     × (new ≡ record { tape = old.tape ++ Opened old.count ∷ []; count = suc old.count; conns = with_conn old.conns old.count new_conn })
 Happens max old (reads c bytes) new =
     (progress : FrameProgress) × IsOpen old c × OwesNothing (old.conns c) × (bytes ≢ []) × StaysInSize (old.conns c).held bytes

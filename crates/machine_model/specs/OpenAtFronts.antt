@@ -2,7 +2,7 @@
 use Rattle.std.specs.Prelude.{ℕ, ◌+◌, ◌≤◌, List, [], ◌∷◌}
 use Rattle.outside.specs.declared.marks.Mark.{Mark}
 use Rattle.outside.specs.declared.marks.Mark.TheVariants.{Opened, Closed}
-use Rattle.machine_model.specs.Loop.{most_open}
+use Rattle.machine_model.specs.Loop.{most_connections}
 
 -- one, where a mark opens a connection
 abbrev pub opening_of : Mark → ℕ
@@ -21,4 +21,4 @@ marks_counted f (mark ∷ marks) = f mark + marks_counted f marks
 
 -- behind these marks no more connections are open than may be
 abbrev pub IsWithinMost : List Mark → Type 0
-IsWithinMost marks = marks_counted opening_of marks ≤ marks_counted closing_of marks + most_open
+IsWithinMost marks = marks_counted opening_of marks ≤ marks_counted closing_of marks + most_connections

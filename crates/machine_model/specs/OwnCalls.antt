@@ -6,6 +6,7 @@ use Rattle.call_history.specs.declared.seat_call.SeatCall.{SeatCall}
 use Rattle.call_history.specs.Calls.{SeatAsk}
 use Rattle.machine_model.specs.HallState.{HallState, IsNewlyOpened, is_same, has_key, keys_in}
 use Rattle.machine_model.specs.HallRule.{HallOperation, submit, take_job, apply, put, collect, HallAnswer, done, job, outcome}
+pub use Rattle.limits.specs.Limits.{most_connections, longest_payload}
 
 -- a call of the hall: who made it, what was asked and answered, and the hall after it
 abbrev pub HallCall : Type 0 → Type 0 → Type 0 → Type 0
@@ -14,14 +15,6 @@ HallCall C A M = SeatCall (HallOperation C) (HallAnswer A) (HallState C A M)
 -- an ask of the hall: the same, but for the hall after it
 abbrev pub HallAsk : Type 0 → Type 0 → Type 0
 HallAsk C A = SeatAsk (HallOperation C) (HallAnswer A)
-
--- the most keys that are submitted and not collected
-abbrev pub most_keys : ℕ
-most_keys = 1024
-
--- the most bytes of a payload that is submitted
-abbrev pub most_bytes : ℕ
-most_bytes = 268435456
 
 -- an operation submits this key
 abbrev pub submits_key : {C : Type 0} → Key → HallOperation C → Bool
@@ -52,7 +45,7 @@ held_after key held _ _ = held
 module _ {C A M : Type 0} where
   -- The condition of an operation on the hall. What is asked of a call alone, as that its arguments are plain, stands beside it.
   abbrev pub HallCan : ServiceRules C A M → HallState C A M → HallOperation C → Type 0
-  HallCan r hall (submit key payload) = (length (keys_in hall) < most_keys) × (has_key key (keys_in hall) ≡ false) × (length payload ≤ most_bytes)
+  HallCan r hall (submit key payload) = (length (keys_in hall) < most_connections) × (has_key key (keys_in hall) ≡ false) × (length payload ≤ longest_payload)
   HallCan r hall (apply key call) = (has_key key hall.taken ≡ true) × (r.slot call < length hall.memories)
   HallCan r hall (put key settled) = has_key key hall.taken ≡ true
   HallCan r hall _ = Unit {0}
@@ -82,7 +75,7 @@ module _ {C A M : Type 0} where
   -- and at most so many that it hasn't collected. A key is applied once, and applied and put only by the seat that took it.
   abbrev pub OwnAsksAllow : ServiceRules C A M → HallState C A M → ℕ → List (HallAsk C A) → HallOperation C → Type 0
   OwnAsksAllow r first seat own (submit key payload) =
-      (seat ≡ 0) × (summed_calls adds_key own < most_keys + summed_calls frees_key own) × (any_of (submits_key key) own ≡ false) × (length payload ≤ most_bytes)
+      (seat ≡ 0) × (summed_calls adds_key own < most_connections + summed_calls frees_key own) × (any_of (submits_key key) own ≡ false) × (length payload ≤ longest_payload)
   OwnAsksAllow r first seat own (apply key call) =
       (holds_key key own ≡ true) × (any_of (applies_key key) own ≡ false) × (r.slot call < length first.memories)
   OwnAsksAllow r first seat own (put key settled) = holds_key key own ≡ true

@@ -14,7 +14,7 @@ use Rattle.host_model.specs.DeskRules.{DeskRules, DeskDecision, Invoke}
 use Rattle.host_model.specs.World.{end_behind}
 use Rattle.machine_model.specs.HallState.{key_of, Job, JobOutcome, HallState, without}
 use Rattle.machine_model.specs.HallRule.{job_of, outcome_of, entry_under}
-use Rattle.machine_model.specs.Loop.{LoopConn, new_conn, Loop, open_among, most_open, FrameProgress, part, bad_size, whole, read_more, marks_read, with_conn, changed, with_cause, submitted_more, conn_settled, conn_marks_settled, ConnEvent, opens, reads, ends, fails_read, writes, fails_write, gives_up}
+use Rattle.machine_model.specs.Loop.{LoopConn, new_conn, Loop, open_among, most_connections, FrameProgress, part, bad_size, whole, read_more, marks_read, with_conn, changed, with_cause, submitted_more, conn_settled, conn_marks_settled, ConnEvent, opens, reads, ends, fails_read, writes, fails_write, gives_up}
 use Rattle.machine_model.specs.Worker.{WorkerState, idle, holds, has_answer, has_none, settlement, key_held}
 use Rattle.machine_model.specs.Machine.{Cell, with_worker, MachineEvent, on_conn, submits, takes, applies, puts, collects, closes}
 
@@ -129,7 +129,7 @@ opened_plain loop = record { tape = loop.tape ++ Opened loop.count ∷ []; count
 
 -- what happens on a connection
 abbrev pub conn_event_plain : ℕ → Loop → ConnEvent → Option Loop
-conn_event_plain max loop opens = when (nat_lt (open_among loop.conns loop.count) most_open) (Some (opened_plain loop))
+conn_event_plain max loop opens = when (nat_lt (open_among loop.conns loop.count) most_connections) (Some (opened_plain loop))
 conn_event_plain max loop (reads c bytes) = when (is_open loop c) (moved_plain loop c (reads_plain max c bytes (loop.conns c)))
 conn_event_plain max loop (ends c) = when (is_open loop c) (moved_plain loop c (ends_plain c (loop.conns c)))
 conn_event_plain max loop (fails_read c) = when (is_open loop c) (moved_plain loop c (fails_read_plain c (loop.conns c)))

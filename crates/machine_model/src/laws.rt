@@ -15,13 +15,13 @@ ghost use Rattle.machine_model.specs.HallRule.{HallOperation, submit, take_job, 
 ghost use Rattle.machine_model.specs.Determined.{IsFree, IsApply, IsSameButFaults};
 ghost use Rattle.call_history.specs.History.{meaning_after, IsHistory};
 ghost use Rattle.call_history.specs.Calls.{seat_ask, calls_by, asks_of, AllAllowed};
-ghost use Rattle.machine_model.specs.OwnCalls.{HallCall, HallAsk, OwnAsksAllow, HallMay, HallCan, any_of, adds_key, frees_key, summed_calls, most_bytes};
+ghost use Rattle.machine_model.specs.OwnCalls.{HallCall, HallAsk, OwnAsksAllow, HallMay, HallCan, any_of, adds_key, frees_key, summed_calls, longest_payload};
 ghost use Rattle.machine_model.specs.OpenAtFronts.{IsWithinMost};
 ghost use Rattle.machine_model.specs.Trouble.{is_close, any_fault_told, ClosesWhereTold};
 ghost use Rattle.machine_model.specs.OwnLoop.{adds_of_conn, frees_of_conn, refuses_job, CollectsItsOwn};
 ghost use Rattle.machine_model.specs.SeenHall.{SeenHall, MayHave, filled, SeenCall, SeenGives, SeenCan, SeenMay};
 ghost use Rattle.machine_model.specs.SingleKeys.{adds_this_key, frees_this_key};
-ghost use Rattle.machine_model.specs.Loop.{Loop, open_among, most_open, LoopAsks};
+ghost use Rattle.machine_model.specs.Loop.{Loop, open_among, most_connections, LoopAsks};
 ghost use Rattle.machine_model.specs.Worker.{WorkerState, WorkerAsks};
 ghost use Rattle.machine_model.specs.Machine.{Cell, MachineEvent, EventsLead, IsFirst, HaveAllEnded};
 ghost use Rattle.machine_model.specs.Bounds.{all_submitted, all_collected, NoneIsLeftBehind, HasItsService};
@@ -97,7 +97,7 @@ pub fn own_calls_tell_the_loop<C, A, M>()
         (summed_calls adds_key (calls_in weave) ≡ all_submitted loop) × (summed_calls frees_key (calls_in weave) ≡ all_collected loop)
         × (all_submitted loop + all_collected loop ≤ length (calls_in weave)) }
     ensures may { (max : ℕ) (r : ServiceRules C A M) (opening : HallState C A M) (weave : List (LoopItem C A)) (loop next : Loop) (key : Key) (payload : List ℕ) (answer : HallAnswer A) →
-        Weaves max no_loop weave loop → CollectsItsOwn (calls_in weave) → max ≤ most_bytes → NoneIsLeftBehind loop → summed_calls refuses_job (calls_in weave) ≡ 0 →
+        Weaves max no_loop weave loop → CollectsItsOwn (calls_in weave) → max ≤ longest_payload → NoneIsLeftBehind loop → summed_calls refuses_job (calls_in weave) ≡ 0 →
         LoopAsks {C = C} loop (submit key payload) answer next → OwnAsksAllow r opening 0 (calls_in weave) (submit key payload) }
     ensures answered { (max : ℕ) (weave : List (LoopItem C A)) (loop : Loop) (key : Key) (settled : Settled) →
         Weaves max no_loop weave loop → CollectsItsOwn (calls_in weave ++ seat_ask 0 collect (outcome key settled) ∷ []) →
@@ -146,13 +146,13 @@ pub fn every_cell_keeps<C, A, M>()
 /// and not collected. So there is room as long as no connection was given up while its payload was under way.
 pub fn every_step_can<C, A, M>()
     ensures most { (d : DeskRules C A) (r : ServiceRules C A M) (memories : List M) (first cell : Cell C A M) (events : List MachineEvent) →
-        d.max < 2 ^ 31 → IsFirst memories first → EventsLead d r first events cell → open_among cell.loop.conns cell.loop.count ≤ most_open }
+        d.max < 2 ^ 31 → IsFirst memories first → EventsLead d r first events cell → open_among cell.loop.conns cell.loop.count ≤ most_connections }
     ensures keys { (d : DeskRules C A) (r : ServiceRules C A M) (memories : List M) (first cell : Cell C A M) (events : List MachineEvent) →
         d.max < 2 ^ 31 → IsFirst memories first → EventsLead d r first events cell →
         length (keys_in cell.hall) + all_collected cell.loop ≡ all_submitted cell.loop }
     ensures asked_by_loop { (d : DeskRules C A) (r : ServiceRules C A M) (memories : List M) (first cell : Cell C A M) (events : List MachineEvent)
         (op : HallOperation C) (answer : HallAnswer A) (loop : Loop) →
-        d.max ≤ most_bytes → IsFirst memories first → EventsLead d r first events cell → NoneIsLeftBehind cell.loop →
+        d.max ≤ longest_payload → IsFirst memories first → EventsLead d r first events cell → NoneIsLeftBehind cell.loop →
         LoopAsks cell.loop op answer loop → HallCan r cell.hall op }
     ensures asked_by_worker { (d : DeskRules C A) (r : ServiceRules C A M) (memories : List M) (first cell : Cell C A M) (events : List MachineEvent)
         (w : ℕ) (op : HallOperation C) (answer : HallAnswer A) (worker : WorkerState A) →

@@ -9,7 +9,7 @@ use Rattle.outside.specs.declared.answers.Hint.{Hint}
 use Rattle.outside.specs.declared.answers.Hint.TheVariants.{Opened}
 use Rattle.outside.specs.Asking.{AnswersAsk, says_over}
 use Rattle.outside.specs.Closing.{Closes}
-use Rattle.net_links.specs.Account.{LinksAccount, state_of, may_open, most_links, NumbersNext, after_opening, after_closing, after_net_fault}
+use Rattle.net_links.specs.Account.{LinksAccount, state_of, may_open, most_connections, NumbersNext, after_opening, after_closing, after_net_fault}
 use Rattle.net_links.specs.Watching.{TellsWithin}
 
 or_false : (b : Bool) → b ≡ (b || false)
@@ -78,7 +78,7 @@ module _ {E : Type 0} where
       → AnswersAsk {E = E} ask (state_of old) (state_of new) (Ok (Opened old.opened))
   opens ask old new may is few =
       let roomy = and_parts ask.room (may_open old) may in
-      let most = and_parts (not old.over && nat_lt old.opened old.listening.accept) (nat_lt (length old.numbers) most_links) roomy.1 in
+      let most = and_parts (not old.over && nat_lt old.opened old.listening.accept) (nat_lt (length old.numbers) most_connections) roomy.1 in
       let more = and_parts (not old.over) (nat_lt old.opened old.listening.accept) most.0 in
       record {
         listens = ap (λ a. Some a.listening) is;

@@ -3,6 +3,7 @@ use Rattle.std.specs.Prelude.{◌≡◌, ℕ, ◌+◌, nat_eq, nat_lt, Bool, tru
 use Rattle.outside.specs.Cause.{next_count}
 use Rattle.outside.specs.Memory.{is_listed}
 use Rattle.outside.specs.LinksState.{Listening, LinksState}
+pub use Rattle.limits.specs.Limits.{most_connections}
 
 -- Where the links listen; how many connections were opened; the numbers of those that are open, and whether it was said that all is over; the number of the
 -- connection of each read or write that failed; and how often nothing could be told of what is next.
@@ -34,17 +35,13 @@ state_of a = record {
   net_faults = a.net_faults;
 }
 
--- as many as there is room for
-abbrev pub most_links : ℕ
-most_links = 1024
-
 -- nothing has happened
 abbrev pub fresh_account : Listening → LinksAccount
 fresh_account listening = record { listening = listening; opened = 0; numbers = []; over = false; failed = []; net_faults = 0 }
 
 -- one more connection may be opened: there is room for it, fewer were opened than are accepted, and it wasn't said that all is over
 abbrev pub may_open : LinksAccount → Bool
-may_open a = not a.over && nat_lt a.opened a.listening.accept && nat_lt (length a.numbers) most_links
+may_open a = not a.over && nat_lt a.opened a.listening.accept && nat_lt (length a.numbers) most_connections
 
 -- no connection is open, and none will be opened
 abbrev pub is_spent : LinksAccount → Bool

@@ -4,11 +4,9 @@ ghost use Rattle.std.specs.Prelude.{◌≡◌, ◌^◌, ◌<◌, ◌≤◌, true
 ghost use Rattle.outside.specs.Memory.{is_listed};
 ghost use Rattle.net_links.specs.Account.{NumbersNext, fresh_account, may_open, is_spent, after_opening, after_closing, after_failing, after_net_fault, after_over};
 
+use limits::MOST_CONNECTIONS;
 use std::alloc::{AllocError, Global};
 use std::marker::Model;
-
-/// There is room for so many connections at once.
-pub(crate) const MOST_OPEN: usize = 1_024;
 
 /// The numbers of connections, and counts of faults.
 #[derive(Drop)]
@@ -31,7 +29,7 @@ pub(crate) struct Account {
 impl Model for Account {
     ghost use Rattle.std.specs.Prelude.{◌≤◌};
     ghost use Rattle.std.specs.Vec.{vec_capacity};
-    ghost use Rattle.net_links.specs.Account.{LinksAccount, most_links};
+    ghost use Rattle.net_links.specs.Account.{LinksAccount, most_connections};
 
     ghost Value = { LinksAccount };
 
@@ -44,7 +42,7 @@ impl Model for Account {
       net_faults = a.net_faults;
     } };
 
-    ghost invariant = { λ a. most_links ≤ vec_capacity a.numbers };
+    ghost invariant = { λ a. most_connections ≤ vec_capacity a.numbers };
 }
 
 impl Account {
@@ -56,7 +54,7 @@ impl Account {
             port,
             accept,
             opened: 0,
-            numbers: Vec::with_capacity(alloc, MOST_OPEN)?,
+            numbers: Vec::with_capacity(alloc, MOST_CONNECTIONS)?,
             over: false,
             failed: Vec::new(alloc),
             net_faults: 0,
@@ -88,7 +86,7 @@ impl Account {
     pub(crate) fn next_number(&self, room: bool) -> Option<u32>
         ensures { NumbersNext room self.now result }
     {
-        if room && !self.over && self.opened < self.accept && self.numbers.len() < MOST_OPEN {
+        if room && !self.over && self.opened < self.accept && self.numbers.len() < MOST_CONNECTIONS {
             return Some(self.opened);
         }
         None

@@ -4,9 +4,9 @@ ghost use Rattle.std.specs.Prelude.{◌≡◌, ◌≢◌, ◌≤◌, ◌<◌, le
 ghost use Rattle.outside.specs.Faults.{MovesWithin};
 ghost use Rattle.outside.specs.declared.answers.Taken.TheVariants.{End};
 
-use crate::account::MOST_OPEN;
 use crate::link::{Readiness, SocketLink};
 use crate::pool::Pool;
+use limits::{MOST_CONNECTIONS, MOST_READ};
 use mio::event::Event;
 use mio::net::TcpStream;
 use outside::Taken;
@@ -15,10 +15,7 @@ use std::collections::VecDeque;
 use std::mem;
 
 /// A block for the input and one for the output of each link.
-const BLOCKS: usize = 2 * MOST_OPEN;
-
-/// So many bytes are read and written before events are looked for, about: then no link has more to read until they were.
-const MOST_MOVED: usize = 65_536;
+const BLOCKS: usize = 2 * MOST_CONNECTIONS;
 
 /// The open links, by rising number.
 #[derive(Drop)]
@@ -41,11 +38,11 @@ impl OpenLinks {
     pub(crate) fn new(alloc: Global) -> Result<OpenLinks, AllocError> {
         Ok(OpenLinks {
             alloc,
-            links: Vec::with_capacity(alloc, MOST_OPEN)?,
-            found: vec![in alloc; 0usize; MOST_OPEN]?,
+            links: Vec::with_capacity(alloc, MOST_CONNECTIONS)?,
+            found: vec![in alloc; 0usize; MOST_CONNECTIONS]?,
             pool: Pool::new(alloc, BLOCKS)?,
-            ready: VecDeque::with_capacity(alloc, MOST_OPEN)?,
-            unsent: Vec::with_capacity(alloc, MOST_OPEN)?,
+            ready: VecDeque::with_capacity(alloc, MOST_CONNECTIONS)?,
+            unsent: Vec::with_capacity(alloc, MOST_CONNECTIONS)?,
             moved: 0,
         })
     }
@@ -99,7 +96,7 @@ impl OpenLinks {
             return Taken::NotYet;
         };
         let link = &mut self.links[at];
-        if self.moved >= MOST_MOVED {
+        if self.moved >= MOST_READ {
             link.put_off();
             list(&mut self.ready, link);
             return Taken::NotYet;
@@ -113,7 +110,7 @@ impl OpenLinks {
 
     /// Whether nothing is read before events are looked for.
     pub(crate) fn is_sated(&self) -> bool {
-        self.moved >= MOST_MOVED
+        self.moved >= MOST_READ
     }
 
     /// Events were looked for.
@@ -210,7 +207,7 @@ impl OpenLinks {
 
 /// Where it is kept at which place a link was found.
 fn slot_of(c: u32) -> usize {
-    c as usize % MOST_OPEN
+    c as usize % MOST_CONNECTIONS
 }
 
 /// Lists a link of which something is to be told, where it isn't listed yet. There is room for each link once.

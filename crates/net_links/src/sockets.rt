@@ -5,10 +5,10 @@ ghost use Rattle.outside.specs.Faults.{MovesWithin};
 ghost use Rattle.outside.specs.declared.answers.Taken.TheVariants.{End};
 ghost use Rattle.net_links.specs.Watching.{TellsWithin, TellsAtOnce};
 
-use crate::account::MOST_OPEN;
 use crate::link::Readiness;
 use crate::open_links::OpenLinks;
 use crate::signal::{NetBell, Signal};
+use limits::MOST_CONNECTIONS;
 use mio::net::{TcpListener, TcpStream};
 use mio::{Events, Interest, Poll, Token, Waker};
 use outside::{Hint, Taken};
@@ -53,7 +53,7 @@ impl Sockets {
     /// A socket that listens at this port of the loopback address, and no other. Room for all links is taken.
     pub(crate) fn new<N: Net>(net: &N, alloc: Global, port: u16) -> io::Result<Sockets> {
         let links = OpenLinks::new(alloc)?;
-        let events = Events::with_capacity(alloc, MOST_OPEN + 2)?;
+        let events = Events::with_capacity(alloc, MOST_CONNECTIONS + 2)?;
         let poll = Poll::new(net)?;
         let waker = Waker::new(poll.registry(), WAKER)?;
         let signal = Arc::new(alloc, Signal::new(waker))?;

@@ -12,6 +12,7 @@ ghost use Rattle.host_loop.specs.Served.{ServerSetting};
 ghost use Rattle.port_serving.specs.Places.{PortPlace, PlaceChange};
 ghost use Rattle.port_serving.specs.Served.{HasServedPort};
 ghost use Rattle.port_serving.specs.Answered.{MeansServedPort};
+ghost use Rattle.call_rules.specs.Desks.{longest_payload};
 
 use crate::fault::PortFault;
 use crate::file_journal::{FileJournal, close_journal, open_journal};
@@ -69,7 +70,7 @@ pub fn serve_port<
     requires workers { workers ≤ 8 }
     requires some { 1 ≤ limits.max_frame }
     requires within { limits.max_frame ≤ limits.read_budget }
-    requires budget { limits.read_budget ≤ 268435456 }
+    requires budget { limits.read_budget ≤ longest_payload }
     requires longest { (D.meaning desk.now).max_frame ≡ limits.max_frame }
     requires slots { length handlers.items ≡ (D.meaning desk.now).slots }
     // Ok says that connections were served at this desk and from the memories that the handlers had until all was over, that the file holds the journal's lines, that
@@ -132,7 +133,7 @@ fn serve_links<
     requires workers { workers ≤ 8 }
     requires some { 1 ≤ limits.max_frame }
     requires within { limits.max_frame ≤ limits.read_budget }
-    requires budget { limits.read_budget ≤ 268435456 }
+    requires budget { limits.read_budget ≤ longest_payload }
     requires longest { (D.meaning desk.now).max_frame ≡ limits.max_frame }
     requires slots { length handlers.items ≡ (D.meaning desk.now).slots }
     requires empty { journal.entries ≡ [] }

@@ -6,10 +6,11 @@ use Rattle.envelope.specs.Exception.{Failure, exception_text}
 use Rattle.call_model.specs.Names.{method_part}
 use Rattle.call_model.proofs.Framed.{exception_length}
 use Rattle.call_model.proofs.Parts.{method_within}
+use Rattle.call_rules.specs.Desks.{longest_payload}
 
 -- a frame that tells of a failure
 pub failure_fits : (front framed : List ℕ) (p : Protocol) (name method : List ℕ) (id : ℤ) (failure : Failure) → front ≡ 0 ∷ 0 ∷ 0 ∷ 0 ∷ []
-    → framed ≡ front ++ exception_text p method id failure → method ≡ method_part name → length name ≤ 268435456 → length failure.text ≤ 268435556 → length framed ≤ 2147483648
+    → framed ≡ front ++ exception_text p method id failure → method ≡ method_part name → length name ≤ longest_payload → length failure.text ≤ 268435556 → length framed ≤ 2147483648
 failure_fits front framed p name method id failure empty is part named told =
     let a : length framed ≡ length (front ++ exception_text p method id failure) = ap length is in
     let b : length front ≡ 4 = ap length empty in

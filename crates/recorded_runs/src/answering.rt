@@ -9,6 +9,7 @@ ghost use Rattle.script_text.specs.Sound.{MovesItsWorkers};
 ghost use Rattle.cell_core.specs.Rehearsed.{AreWritten};
 ghost use Rattle.recorded_runs.specs.Answered.{Answering, IsRunOfScript, MeansAnswered};
 ghost use Rattle.recorded_runs.specs.Steps.{ReportsServed};
+ghost use Rattle.call_rules.specs.Desks.{longest_payload};
 
 use crate::fault::ServingFault;
 use crate::input::read_input;
@@ -50,7 +51,7 @@ pub fn answer_recorded<L: EntryLine, D: Desk, H: Handler, J: ReportedJournal, S:
     requires workers { workers ≤ 8 }
     requires some { 1 ≤ limits.max_frame }
     requires within { limits.max_frame ≤ limits.read_budget }
-    requires budget { limits.read_budget ≤ 268435456 }
+    requires budget { limits.read_budget ≤ longest_payload }
     requires longest { (D.meaning desk.now).max_frame ≡ limits.max_frame }
     requires slots { length handlers.items ≡ (D.meaning desk.now).slots }
     requires empty { J.told journal ≡ Some [] }
@@ -91,7 +92,7 @@ fn run_and_report<L: EntryLine, D: Desk, H: Handler, J: ReportedJournal, K: Sink
     requires moves { MovesItsWorkers workers script.now }
     requires some { 1 ≤ limits.max_frame }
     requires within { limits.max_frame ≤ limits.read_budget }
-    requires budget { limits.read_budget ≤ 268435456 }
+    requires budget { limits.read_budget ≤ longest_payload }
     requires longest { (D.meaning desk.now).max_frame ≡ limits.max_frame }
     requires slots { length handlers.items ≡ (D.meaning desk.now).slots }
     requires empty { J.told journal ≡ Some [] }

@@ -5,21 +5,16 @@ ghost use Rattle.outside.specs.Cause.{Rose};
 ghost use Rattle.outside.specs.Content.{told_before, IsSpent};
 ghost use Rattle.script_text.specs.Reading.{script_of_text};
 ghost use Rattle.script_text.specs.Sound.{MovesItsWorkers};
-ghost use Rattle.script_text.specs.TextLines.{most_script_bytes};
+ghost use Rattle.script_text.specs.TextLines.{longest_script};
 ghost use Rattle.recorded_runs.specs.Recorded.{IsInputRead, EndsReading};
 ghost use Rattle.recorded_runs.specs.declared.input.InputError.TheVariants.{Failed as ReadFailed, NoMemory};
 
 use crate::fault::ServingFault;
+use limits::{LONGEST_SCRIPT, MOST_READ};
 use outside::{Failed, Source};
 use script_text::laws::scripts_are_sound;
 use script_text::{Script, read_script};
 use std::alloc::{AllocError, Global};
-
-/// The longest script, in bytes.
-const LONGEST_SCRIPT: usize = 67_108_864;
-
-/// The most bytes that one read asks for.
-const READ_SIZE: usize = 65_536;
 
 /// Why an input couldn't be read.
 #[derive(Clone, Copy)]
@@ -73,7 +68,7 @@ pub fn read_input<S: Source>(
 /// The bytes of a source up to its end, or more than the longest script has where the end isn't reached by then.
 fn read_whole<S: Source>(alloc: Global, source: &mut S) -> Result<Vec<u8>, InputError>
     ensures read { IfOk result (λ text. S.left source.old ≡ told_before text.items (S.left source.new)) }
-    ensures whole { IfOk result (λ text. length text.items ≤ most_script_bytes → IsSpent (S.left source.new)) }
+    ensures whole { IfOk result (λ text. length text.items ≤ longest_script → IsSpent (S.left source.new)) }
     ensures later { S.faults source.old ≤ S.faults source.new }
     ensures failed { result ≡ Err InputError.Failed → Rose (S.faults source.old) (S.faults source.new) }
 {
@@ -85,7 +80,7 @@ fn read_whole<S: Source>(alloc: Global, source: &mut S) -> Result<Vec<u8>, Input
 fn make_room(alloc: Global) -> Result<Vec<u8>, AllocError>
     ensures { IfOk result (λ room. 0 < length room.items) }
 {
-    vec![in alloc; 0u8; READ_SIZE]
+    vec![in alloc; 0u8; MOST_READ]
 }
 
 /// `read_whole`, by reads into `room`.
@@ -96,7 +91,7 @@ fn read_through<S: Source>(
 ) -> Result<Vec<u8>, InputError>
     requires { 0 < length room.old }
     ensures read { IfOk result (λ text. S.left source.old ≡ told_before text.items (S.left source.new)) }
-    ensures whole { IfOk result (λ text. length text.items ≤ most_script_bytes → IsSpent (S.left source.new)) }
+    ensures whole { IfOk result (λ text. length text.items ≤ longest_script → IsSpent (S.left source.new)) }
     ensures later { S.faults source.old ≤ S.faults source.new }
     ensures failed { result ≡ Err InputError.Failed → Rose (S.faults source.old) (S.faults source.new) }
 {

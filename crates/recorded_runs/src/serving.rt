@@ -9,6 +9,7 @@ ghost use Rattle.recorded_runs.specs.Recorded.{MeansRecorded};
 ghost use Rattle.recorded_runs.specs.Answered.{Answering};
 ghost use Rattle.recorded_runs.specs.Steps.{ReportsServed};
 ghost use Rattle.recorded_runs.specs.ServedScripts.{script_to_serve, IsServedScript};
+ghost use Rattle.call_rules.specs.Desks.{longest_payload};
 
 use call_rules::{Desk, Handler};
 use cell_core::written;
@@ -54,7 +55,7 @@ pub fn serve_recorded<
     requires workers { workers ≤ 8 }
     requires some { 1 ≤ limits.max_frame }
     requires within { limits.max_frame ≤ limits.read_budget }
-    requires budget { limits.read_budget ≤ 268435456 }
+    requires budget { limits.read_budget ≤ longest_payload }
     requires longest { (D.meaning desk.now).max_frame ≡ limits.max_frame }
     requires slots { length handlers.items ≡ (D.meaning desk.now).slots }
     requires empty { J.told journal ≡ Some [] }
@@ -106,7 +107,7 @@ fn serve_and_report<
     requires workers { workers ≤ 8 }
     requires some { 1 ≤ limits.max_frame }
     requires within { limits.max_frame ≤ limits.read_budget }
-    requires budget { limits.read_budget ≤ 268435456 }
+    requires budget { limits.read_budget ≤ longest_payload }
     requires longest { (D.meaning desk.now).max_frame ≡ limits.max_frame }
     requires slots { length handlers.items ≡ (D.meaning desk.now).slots }
     requires empty { J.told journal ≡ Some [] }

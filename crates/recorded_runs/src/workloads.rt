@@ -7,6 +7,7 @@ ghost use Rattle.workload.specs.ExpectedRun.{work_text};
 ghost use Rattle.workload.specs.Summed.{HasCalculator};
 ghost use Rattle.recorded_runs.specs.declared.fault.ServingFault.TheVariants as faults;
 ghost use Rattle.recorded_runs.specs.Summaries.{ServesCalculator, WritesSummary};
+ghost use Rattle.call_rules.specs.Desks.{longest_payload};
 
 use crate::workload_laws::a_served_workload_comes_to_its_sum;
 use crate::summing::sum_up;
@@ -62,7 +63,7 @@ pub fn serve_workload<
     requires most { work.size ≤ 1000000 }
     requires some { 1 ≤ limits.max_frame }
     requires within { limits.max_frame ≤ limits.read_budget }
-    requires budget { limits.read_budget ≤ 268435456 }
+    requires budget { limits.read_budget ≤ longest_payload }
     requires longest { (D.meaning desk.now).max_frame ≡ limits.max_frame }
     requires slots { length handlers.items ≡ (D.meaning desk.now).slots }
     requires calculators { ServesCalculator (D.meaning desk.now) }
@@ -113,7 +114,7 @@ fn serve_script<
     requires most { work.size ≤ 1000000 }
     requires some { 1 ≤ limits.max_frame }
     requires within { limits.max_frame ≤ limits.read_budget }
-    requires budget { limits.read_budget ≤ 268435456 }
+    requires budget { limits.read_budget ≤ longest_payload }
     requires longest { (D.meaning desk.now).max_frame ≡ limits.max_frame }
     requires slots { length handlers.items ≡ (D.meaning desk.now).slots }
     requires calculators { ServesCalculator (D.meaning desk.now) }

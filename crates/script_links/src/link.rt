@@ -5,12 +5,10 @@ ghost use Rattle.script_links.specs.ServedScript.{is_open_stage, is_coming, is_s
 ghost use Rattle.script_links.specs.Plain.{oldest_of, shown_finish, with_arrival, with_finish, with_opening, with_closing, with_end, with_fault, with_bytes_read, with_piece_passed, with_rule_used, with_ruled_fault, with_written, taken_by_read, taken_by_rules, has_unread};
 ghost use Rattle.script_links.specs.Kept.{plain_link_finish, plain_link};
 
+use limits::MOST_READ;
 use outside::{Bytes, Taken};
 use script_text::WriteRule;
 use std::alloc::AllocError;
-
-/// The most bytes that one read takes.
-const MOST_READ: usize = 65_536;
 
 /// How a connection stands.
 #[derive(Clone, Copy)]

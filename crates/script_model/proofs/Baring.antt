@@ -11,7 +11,7 @@ use Rattle.host_model.specs.Journal.{ServiceRules}
 use Rattle.host_model.specs.DeskRules.{DeskRules, DeskDecision, Close, Silent, Reply, Invoke}
 use Rattle.machine_model.specs.HallState.{key_of, Job, JobOutcome, HallState}
 use Rattle.machine_model.specs.HallRule.{job_of}
-use Rattle.machine_model.specs.Loop.{LoopConn, new_conn, Loop, open_among, most_open, count_if_open, with_conn, changed, submitted_more, conn_settled, conn_marks_settled, ConnEvent, opens, reads, ends, fails_read, writes, fails_write, gives_up}
+use Rattle.machine_model.specs.Loop.{LoopConn, new_conn, Loop, open_among, most_connections, count_if_open, with_conn, changed, submitted_more, conn_settled, conn_marks_settled, ConnEvent, opens, reads, ends, fails_read, writes, fails_write, gives_up}
 use Rattle.machine_model.specs.Worker.{WorkerState, idle, holds, has_answer, has_none, settlement, key_held}
 use Rattle.machine_model.specs.Machine.{Cell, IsFirst, on_conn, submits, takes, applies, puts, collects, closes}
 use Rattle.machine_model.specs.Plain.{when, is_open, has_none_yet, Moved, reads_plain, ends_plain, fails_read_plain, writes_plain, fails_write_plain, gives_up_plain, moved_plain, opened_plain, conn_event_plain, with_loop, ApplyResult, answers, lacks_for_call, lacks_for_answer, fails_journal, Told, goes, applies_so, puts_none, submit_plain, take_plain, apply_result_plain, broken_plain, call_plain, apply_plain, outcome_plain, put_plain, lack_plain, collect_plain, told_plain}
@@ -113,8 +113,8 @@ module _ {C A M : Type 0} where
 
     opens_bare : (max : ℕ) → with_loop (bare cell) (conn_event_plain max (bare_loop cell.loop) opens) ≡ option_map bare (with_loop cell (conn_event_plain max cell.loop opens))
     opens_bare max =
-        ap (λ n. with_loop (bare cell) (when (nat_lt n most_open) (Some (opened_plain (bare_loop cell.loop))))) (bare_among cell.loop.count cell.loop.conns cell.loop.count (omega arith))
-        ∙ go (nat_lt (open_among cell.loop.conns cell.loop.count) most_open)
+        ap (λ n. with_loop (bare cell) (when (nat_lt n most_connections) (Some (opened_plain (bare_loop cell.loop))))) (bare_among cell.loop.count cell.loop.conns cell.loop.count (omega arith))
+        ∙ go (nat_lt (open_among cell.loop.conns cell.loop.count) most_connections)
       where
         go : (b : Bool) → with_loop (bare cell) (when b (Some (opened_plain (bare_loop cell.loop)))) ≡ option_map bare (with_loop cell (when b (Some (opened_plain cell.loop))))
         go true = ap (λ (loop : Loop). Some (record (bare cell) { loop = loop })) (bare_opened cell.loop)

@@ -7,7 +7,7 @@ use Rattle.host_model.specs.declared.cause.EndCause.{EndCause}
 use Rattle.host_model.specs.Journal.{ServiceRules}
 use Rattle.host_model.specs.DeskRules.{DeskRules}
 use Rattle.host_model.specs.Marks.{marks_of, input}
-use Rattle.machine_model.specs.Loop.{LoopConn, most_open, open_among, count_if_open, opens}
+use Rattle.machine_model.specs.Loop.{LoopConn, most_connections, open_among, count_if_open, opens}
 use Rattle.machine_model.specs.Machine.{Cell, on_conn, EventsLead, IsFirst}
 use Rattle.machine_model.specs.Plain.{when, opened_plain, Told, goes, event_told, with_loop, run_plain}
 use Rattle.machine_model.proofs.Lists.{put_same, put_other}
@@ -64,22 +64,22 @@ module _ {C A M : Type 0} (d : DeskRules C A) (r : ServiceRules C A M) (memory :
 
   -- one more connection is opened; that none may be is so only where the lines open too many
   opening_done : (rest : List PlanLine) (play : Play C A M) → FedBefore (opening ∷ rest) play → FedBefore rest (left_by play (told_in d r play (goes (on_conn opens))))
-  opening_done rest play f = go (nat_lt (open_among play.cell.loop.conns play.cell.loop.count) most_open) refl
+  opening_done rest play f = go (nat_lt (open_among play.cell.loop.conns play.cell.loop.count) most_connections) refl
     where
-      go : (b : Bool) → nat_lt (open_among play.cell.loop.conns play.cell.loop.count) most_open ≡ b
+      go : (b : Bool) → nat_lt (open_among play.cell.loop.conns play.cell.loop.count) most_connections ≡ b
           → IsFedSoFar d.max script rest (left_by play (option_map (come_to play) (with_loop play.cell (when b (Some (opened_plain play.cell.loop)))))).cell.loop
           (left_by play (option_map (come_to play) (with_loop play.cell (when b (Some (opened_plain play.cell.loop)))))).unread
           (left_by play (option_map (come_to play) (with_loop play.cell (when b (Some (opened_plain play.cell.loop)))))).finish
           (left_by play (option_map (come_to play) (with_loop play.cell (when b (Some (opened_plain play.cell.loop)))))).admitted
       go true e =
           let cell : Cell C A M = record play.cell { loop = opened_plain play.cell.loop } in
-          let l : open_among play.cell.loop.conns play.cell.loop.count < most_open = ltb-true (open_among play.cell.loop.conns play.cell.loop.count) most_open e in
+          let l : open_among play.cell.loop.conns play.cell.loop.count < most_connections = ltb-true (open_among play.cell.loop.conns play.cell.loop.count) most_connections e in
           opened_fed d.max script rest play.cell.loop play.unread play.finish play.admitted f (step_told d r play.cell (on_conn opens) cell f.tells (opened_plain play.cell.loop, (l, refl), refl))
       go false e =
           record {
             opened = f.opened;
             count = λ few.
-                let many : most_open ≤ open_among play.cell.loop.conns play.cell.loop.count = ltb-false (open_among play.cell.loop.conns play.cell.loop.count) most_open e in
+                let many : most_connections ≤ open_among play.cell.loop.conns play.cell.loop.count = ltb-false (open_among play.cell.loop.conns play.cell.loop.count) most_connections e in
                 let within : open_among play.cell.loop.conns play.cell.loop.count ≤ play.cell.loop.count = open_within play.cell.loop.conns play.cell.loop.count in
                 let all : play.cell.loop.count + (1 + openings rest) ≡ openings script.lines = f.count few in
                 absurd (let g : ⊥ = omega (arith, few) in g);
@@ -166,7 +166,7 @@ module _ {C A M : Type 0} (d : DeskRules C A) (r : ServiceRules C A M) (memory :
       subst (Meets (FedBefore [])) t.done (lines_keep t.fuel budget workers [] script.lines (before_all first script) refl (first_fed memories first is_first))
 
   pub opens_all : (memories : List M) (budget workers wants : ℕ) (first last : Cell C A M) → IsFirst memories first → IsRehearsalOf d r memory budget workers script wants first last
-      → openings script.lines ≤ most_open → opened_in last.loop.tape ≡ count_up 0 (openings script.lines)
+      → openings script.lines ≤ most_connections → opened_in last.loop.tape ≡ count_up 0 (openings script.lines)
   opens_all memories budget workers wants first last is_first t few =
       let f : FedBefore [] t.play = last_fed memories budget workers wants first last is_first t in
       let e : t.play.cell.loop.count + 0 ≡ openings script.lines = f.count few in

@@ -13,7 +13,7 @@ use Rattle.host_model.specs.declared.cause.EndCause.{EndCause}
 use Rattle.host_model.specs.declared.cause.EndCause.TheVariants.{SizeFault}
 use Rattle.host_model.specs.Marks.{marks_of, input}
 use Rattle.host_model.proofs.Lists.{ends as empty_or_pushed}
-use Rattle.machine_model.specs.Loop.{LoopConn, new_conn, Loop, most_open, OwesNothing, FrameProgress, part, bad_size, whole, read_more, marks_read, with_conn, changed, conn_settled, conn_marks_settled}
+use Rattle.machine_model.specs.Loop.{LoopConn, new_conn, Loop, most_connections, OwesNothing, FrameProgress, part, bad_size, whole, read_more, marks_read, with_conn, changed, conn_settled, conn_marks_settled}
 use Rattle.machine_model.specs.AtFronts.{size_in}
 use Rattle.machine_model.specs.Plain.{are_same, is_size, progress_behind, progress_by, opened_plain, when, is_whole, is_bad_size}
 use Rattle.machine_model.proofs.Computing.{same_lists}
@@ -102,7 +102,7 @@ module _ (max : ℕ) (script : ScriptPlan) where
   -- its marks are fed, and so is each connection.
   pub record IsFedSoFar (rest : List PlanLine) (loop : Loop) (unread : ℕ → List (List ℕ)) (finish : ℕ → Option InputFinish) (admitted : ℕ → Option ℕ) : Type 0 where
     pub opened : opened_in loop.tape ≡ count_up 0 loop.count
-    pub count : openings script.lines ≤ most_open → loop.count + openings rest ≡ openings script.lines
+    pub count : openings script.lines ≤ most_connections → loop.count + openings rest ≡ openings script.lines
     pub tells : TapeTells max loop
     pub marks : MarksAreFed loop.tape
     pub each : (c : ℕ) → ConnIsFed rest c loop.count (loop.conns c) (input (marks_of c loop.tape)) (unread c) (finish c) (admitted c)

@@ -11,7 +11,7 @@ use Rattle.host_model.specs.Journal.{JournalEntry, ServiceRules}
 use Rattle.host_model.specs.DeskRules.{DeskRules, DeskDecision, Close, Silent, Reply, Invoke}
 use Rattle.machine_model.specs.HallState.{Job, JobOutcome}
 use Rattle.machine_model.specs.HallRule.{entry_under}
-use Rattle.machine_model.specs.Loop.{LoopConn, open_among, most_open, FrameProgress, part, bad_size, whole, conn_marks_settled, ConnEvent, opens, reads, ends, fails_read, writes, fails_write, gives_up}
+use Rattle.machine_model.specs.Loop.{LoopConn, open_among, most_connections, FrameProgress, part, bad_size, whole, conn_marks_settled, ConnEvent, opens, reads, ends, fails_read, writes, fails_write, gives_up}
 use Rattle.machine_model.specs.Worker.{WorkerState, idle, holds, has_answer, has_none, settlement, key_held}
 use Rattle.machine_model.specs.Machine.{Cell, on_conn, submits, takes, applies, puts, collects, closes}
 use Rattle.machine_model.specs.Plain.{when, is_given_up, is_open, owes_nothing, opened_plain, Moved, progress_plain, reads_plain, ends_plain, fails_read_plain, gives_up_plain, moved_plain, progress_by, ApplyResult, answers, lacks_for_call, lacks_for_answer, fails_journal, Told, goes, applies_so, puts_none, with_loop, submit_plain, take_plain, apply_result_plain, broken_plain, call_plain, apply_plain, outcome_plain, put_plain, lack_plain, collect_plain, told_plain}
@@ -154,7 +154,7 @@ module _ {C A M : Type 0} where
     put_so old w (has_none key payload) = tt
 
     event_so : (old : Cell C A M) (conn_event : ConnEvent) → TellsNoWrite (goes (on_conn conn_event)) → Growing old (told_plain d r old (goes (on_conn conn_event)))
-    event_so old opens q = opened_so old (nat_lt (open_among old.loop.conns old.loop.count) most_open)
+    event_so old opens q = opened_so old (nat_lt (open_among old.loop.conns old.loop.count) most_connections)
     event_so old (reads c bytes) q =
         moved_so old c (is_open old.loop c) (reads_plain d.max c bytes (old.loop.conns c))
         (read_quietly c (old.loop.conns c) bytes _ (progress_by d.max ((old.loop.conns c).held ++ bytes)))

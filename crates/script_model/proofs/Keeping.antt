@@ -11,7 +11,7 @@ use Rattle.host_model.specs.DeskRules.{DeskRules, DeskDecision, Close, Silent, R
 use Rattle.host_model.proofs.Lists.{all_push}
 use Rattle.machine_model.specs.HallState.{Job, JobOutcome}
 use Rattle.machine_model.specs.HallRule.{apply, put}
-use Rattle.machine_model.specs.Loop.{LoopConn, Loop, new_conn, with_conn, changed, with_cause, submitted_more, conn_settled, conn_marks_settled, most_open, open_among, opens, reads, writes, fails_write, gives_up}
+use Rattle.machine_model.specs.Loop.{LoopConn, Loop, new_conn, with_conn, changed, with_cause, submitted_more, conn_settled, conn_marks_settled, most_connections, open_among, opens, reads, writes, fails_write, gives_up}
 use Rattle.machine_model.specs.Worker.{WorkerState, idle, holds, has_answer, has_none}
 use Rattle.machine_model.specs.Machine.{Cell, MachineEvent, on_conn, submits, takes, applies, puts, collects, closes, ByWorker, Steps, EventsLead}
 use Rattle.machine_model.specs.Plain.{when, is_empty, has_none_yet, is_open, Moved, ends_plain, fails_read_plain, fails_write_plain, writes_plain, reads_plain, moved_plain, opened_plain, with_loop, submit_plain, collect_plain, Told, goes, puts_none, event_told, told_plain, run_plain}
@@ -409,7 +409,7 @@ module _ {C A M : Type 0} (d : DeskRules C A) (r : ServiceRules C A M) (memory :
 
   -- one more connection is opened
   open_one_keeps : (bound : ℕ) (play : Play C A M) → Keeps bound play → KeepsAfter (suc bound) (told_in d r play (goes (on_conn opens)))
-  open_one_keeps bound play k = go (nat_lt (open_among play.cell.loop.conns play.cell.loop.count) most_open)
+  open_one_keeps bound play k = go (nat_lt (open_among play.cell.loop.conns play.cell.loop.count) most_connections)
     where
       count : ℕ
       count = play.cell.loop.count

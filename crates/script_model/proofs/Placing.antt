@@ -7,7 +7,7 @@ use Rattle.host_model.specs.declared.cause.EndCause.{EndCause}
 use Rattle.host_model.specs.Journal.{ServiceRules}
 use Rattle.host_model.specs.DeskRules.{DeskRules, Invoke}
 use Rattle.host_model.specs.Marks.{marks_of, input}
-use Rattle.machine_model.specs.Loop.{most_open}
+use Rattle.machine_model.specs.Loop.{most_connections}
 use Rattle.machine_model.specs.Worker.{holds}
 use Rattle.machine_model.specs.Machine.{Cell, MachineEvent, EventsLead, IsFirst}
 use Rattle.machine_model.specs.Plain.{Told, event_told, run_plain}
@@ -75,7 +75,7 @@ module _ {C A M : Type 0} (d : DeskRules C A) (r : ServiceRules C A M) (memory :
         sym (ap (λ pieces. input (marks_of c play.cell.loop.tape) ++ bytes_of_pieces (pieces ++ [])) none ∙ append-nil (input (marks_of c play.cell.loop.tape))) ∙ (fed.each c).remains.bytes
 
     -- the place is the end of the tape, whatever comes later
-    pub place : openings script.lines ≤ most_open → (last : Cell C A M) (events : List MachineEvent) → EventsLead d r play.cell events last
+    pub place : openings script.lines ≤ most_connections → (last : Cell C A M) (events : List MachineEvent) → EventsLead d r play.cell events last
         → HasPlaceFor d budget script.lines last.loop.tape last.hall.journal
     place few last events led =
         let goes : Goes play.cell.loop last.loop = run_goes d r memories first stands run.0 events play.cell last run.1 led in
@@ -97,7 +97,7 @@ module _ {C A M : Type 0} (d : DeskRules C A) (r : ServiceRules C A M) (memory :
         }
 
   module _ (script : ScriptPlan) (lets : LetsAllMove workers script) (wants : ℕ) (last : Cell C A M) (t : IsRehearsalOf d r memory budget workers script wants first last)
-      (few : openings script.lines ≤ most_open) where
+      (few : openings script.lines ≤ most_connections) where
     -- behind its last line too
     pub place_at_end : HasPlaceFor d budget script.lines last.loop.tape last.hall.journal
     place_at_end =

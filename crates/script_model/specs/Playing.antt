@@ -11,6 +11,7 @@ use Rattle.machine_model.specs.Machine.{Cell, MachineEvent, on_conn, submits, ta
 use Rattle.machine_model.specs.Plain.{is_empty, is_open, lacks_for_call, lacks_for_answer, Told, goes, applies_so, puts_none, told_plain}
 use Rattle.machine_model.specs.AtFronts.{size_in, summed}
 use Rattle.script_model.specs.ScriptLines.{PlanRule, takes_most, blocks, fails}
+pub use Rattle.limits.specs.Limits.{most_read}
 
 -- what comes behind all pieces of a connection: its input ends, or a read fails
 pub data InputFinish : Type 0 where
@@ -43,10 +44,6 @@ pub record Play (C A M : Type 0) : Type 0 where
   pub admitted : ℕ → Option ℕ
   pub moves : ℕ
   pub wants : ℕ
-
--- the most bytes that one read asks for
-abbrev pub most_read : ℕ
-most_read = 65536
 
 -- the first, where there is one, or else the second
 abbrev pub or_else : {X : Type 0} → Option X → Option X → Option X

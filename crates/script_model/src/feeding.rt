@@ -3,7 +3,7 @@
 ghost use Rattle.std.specs.Prelude.{◌≡◌, ℕ, ◌<◌, ◌≤◌, ◌^◌, List, ◌∷◌, ◌++◌, length};
 ghost use Rattle.host_model.specs.Journal.{ServiceRules};
 ghost use Rattle.host_model.specs.DeskRules.{DeskRules};
-ghost use Rattle.machine_model.specs.Loop.{most_open};
+ghost use Rattle.machine_model.specs.Loop.{most_connections};
 ghost use Rattle.machine_model.specs.Machine.{Cell, IsFirst};
 ghost use Rattle.machine_model.specs.Bounds.{HasItsService};
 ghost use Rattle.script_model.specs.ScriptLines.{PlanLine, resting, ScriptPlan, openings};
@@ -23,16 +23,16 @@ use machine_model::moments::a_moment_of_rest_tells;
 pub fn a_rehearsal_is_fed<C, A, M>()
     ensures rests { (d : DeskRules C A) (r : ServiceRules C A M) (memories : List M) (memory : ℕ → MemoryAt) (budget workers : ℕ) (script : ScriptPlan) (wants : ℕ)
         (first last : Cell C A M) (before behind : List PlanLine) →
-        d.max < 2 ^ 31 → IsFirst memories first → HasItsService d r (length memories) → LetsAllMove workers script → openings script.lines ≤ most_open →
+        d.max < 2 ^ 31 → IsFirst memories first → HasItsService d r (length memories) → LetsAllMove workers script → openings script.lines ≤ most_connections →
         IsRehearsalOf d r memory budget workers script wants first last → script.lines ≡ before ++ resting ∷ behind →
         HasPlaceFor d budget before last.loop.tape last.hall.journal }
     ensures at_end { (d : DeskRules C A) (r : ServiceRules C A M) (memories : List M) (memory : ℕ → MemoryAt) (budget workers : ℕ) (script : ScriptPlan) (wants : ℕ)
         (first last : Cell C A M) →
-        d.max < 2 ^ 31 → IsFirst memories first → HasItsService d r (length memories) → LetsAllMove workers script → openings script.lines ≤ most_open →
+        d.max < 2 ^ 31 → IsFirst memories first → HasItsService d r (length memories) → LetsAllMove workers script → openings script.lines ≤ most_connections →
         IsRehearsalOf d r memory budget workers script wants first last → HasPlaceFor d budget script.lines last.loop.tape last.hall.journal }
     ensures fed { (d : DeskRules C A) (r : ServiceRules C A M) (memories : List M) (memory : ℕ → MemoryAt) (budget workers : ℕ) (script : ScriptPlan) (wants : ℕ)
         (first last : Cell C A M) →
-        d.max < 2 ^ 31 → IsFirst memories first → HasItsService d r (length memories) → LetsAllMove workers script → openings script.lines ≤ most_open →
+        d.max < 2 ^ 31 → IsFirst memories first → HasItsService d r (length memories) → LetsAllMove workers script → openings script.lines ≤ most_connections →
         EndsBehindPieces script.lines → IsRehearsalOf d r memory budget workers script wants first last → IsFedBy d budget script last.loop.tape last.hall.journal }
 {
     plain_machine_runs::<C, A, M>();

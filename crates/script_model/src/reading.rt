@@ -3,7 +3,7 @@
 ghost use Rattle.std.specs.Prelude.{◌≡◌, ℕ, ◌<◌, ◌≤◌, ◌^◌, List};
 ghost use Rattle.host_model.specs.Journal.{ServiceRules};
 ghost use Rattle.host_model.specs.DeskRules.{DeskRules};
-ghost use Rattle.machine_model.specs.Loop.{most_open};
+ghost use Rattle.machine_model.specs.Loop.{most_connections};
 ghost use Rattle.machine_model.specs.Machine.{Cell, IsFirst};
 ghost use Rattle.script_model.specs.ScriptLines.{ScriptPlan, openings, count_up};
 ghost use Rattle.script_model.specs.InputEnds.{EndsBehindPieces};
@@ -20,7 +20,7 @@ use machine_model::laws::plain_machine_runs;
 pub fn a_rehearsal_reads_its_script<C, A, M>()
     ensures opened { (d : DeskRules C A) (r : ServiceRules C A M) (memories : List M) (memory : ℕ → MemoryAt) (budget workers : ℕ) (script : ScriptPlan) (wants : ℕ)
         (first last : Cell C A M) →
-        d.max < 2 ^ 31 → IsFirst memories first → IsRehearsalOf d r memory budget workers script wants first last → openings script.lines ≤ most_open →
+        d.max < 2 ^ 31 → IsFirst memories first → IsRehearsalOf d r memory budget workers script wants first last → openings script.lines ≤ most_connections →
         opened_in last.loop.tape ≡ count_up 0 (openings script.lines) }
     ensures read { (d : DeskRules C A) (r : ServiceRules C A M) (memories : List M) (memory : ℕ → MemoryAt) (budget workers : ℕ) (script : ScriptPlan) (wants : ℕ)
         (first last : Cell C A M) →

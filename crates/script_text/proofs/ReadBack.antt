@@ -7,7 +7,7 @@ use Rattle.script_text.proofs.Cuts.{all-append}
 use Rattle.script_model.specs.ScriptLines.{PlanLine, opening, piece, input_end, input_fault, resting, turn_of_conn, turn_of_worker, turn_of_outcome, PlanRule, one_if_opens, openings, ScriptPlan}
 use Rattle.script_text.specs.declared.fault.ScriptFault.{ScriptFault}
 use Rattle.script_text.specs.declared.fault.ScriptKind.TheVariants.{NoEnd, NoConnection, TooMany, TooLong}
-use Rattle.script_text.specs.TextLines.{most_script_bytes, text_lines}
+use Rattle.script_text.specs.TextLines.{longest_script, text_lines}
 use Rattle.script_text.specs.LineForms.{SaidLine, runs, rules_so, said_of}
 use Rattle.script_text.specs.Reading.{ScriptSoFar, fault_of_line, over_behind, with_rule, with_said, unless_fault, read_said, read_line, fault_at, reads_on, read_from, plan_read, plan_of_lines, script_of_text}
 use Rattle.script_text.specs.Printing.{said_text, with_its_rules, said_from, said_in, print_of}
@@ -229,12 +229,12 @@ all_can workers schedule rules over (turn_of_outcome ∷ lines) pass are =
     (tt, moved_can rules lines (length over) (length over + 0) (omega arith) (all_can workers schedule rules over lines pass.1 are))
 
 -- a print that isn't too long is read as its script
-pub print_read : (workers : ℕ) (schedule : Bool) (script : ScriptPlan) → IsReadBack workers schedule script → length (print_of script) ≤ most_script_bytes
+pub print_read : (workers : ℕ) (schedule : Bool) (script : ScriptPlan) → IsReadBack workers schedule script → length (print_of script) ≤ longest_script
     → script_of_text workers schedule (print_of script) ≡ Ok script
 print_read workers schedule script back short =
     let to = plan_stands workers schedule (map said_text (said_in script)) script back in
     let texts : text_lines (print_of script) ≡ map said_text (said_in script) = printed_lines (said_in script) (all_can workers schedule script.rules [] script.lines to.pass to.rules) in
-    ap (λ t. cond t (Err (fault_at 0 TooLong)) (plan_of_lines workers schedule (text_lines (print_of script)))) (le-ltb most_script_bytes (length (print_of script)) short)
+    ap (λ t. cond t (Err (fault_at 0 TooLong)) (plan_of_lines workers schedule (text_lines (print_of script)))) (le-ltb longest_script (length (print_of script)) short)
     ∙ ap (plan_of_lines workers schedule) texts
     ∙ back
 

@@ -5,12 +5,9 @@ use Rattle.script_model.specs.ScriptLines.{PlanLine, opening, piece, input_end, 
 use Rattle.script_text.specs.declared.fault.ScriptFault.{ScriptFault}
 use Rattle.script_text.specs.declared.fault.ScriptKind.{ScriptKind}
 use Rattle.script_text.specs.declared.fault.ScriptKind.TheVariants.{TooLong, BadLine, NoConnection, AfterEnd, NoEnd, TooMany, NoWorker, Schedule}
-use Rattle.script_text.specs.TextLines.{most_script_bytes, text_lines, is_passed_over}
+use Rattle.script_text.specs.TextLines.{longest_script, text_lines, is_passed_over}
 use Rattle.script_text.specs.LineForms.{SaidLine, runs, rules_so, said_of}
-
--- the most connections that a script opens
-abbrev pub most_openings : ℕ
-most_openings = 1024
+pub use Rattle.limits.specs.Limits.{most_connections}
 
 -- What was read so far: the lines that aren't rules, each connection's rules, and, for each connection, whether its input has ended or failed.
 pub record ScriptSoFar : Type 0 where
@@ -75,7 +72,7 @@ is_behind_end over (Some c) = slice_index_or over c false
 
 -- it opens a connection too many
 abbrev pub is_one_too_many : ℕ → SaidLine → Bool
-is_one_too_many opened (runs opening) = nat_le most_openings opened
+is_one_too_many opened (runs opening) = nat_le most_connections opened
 is_one_too_many opened _ = false
 
 -- the first fault of a line behind those above it
@@ -158,4 +155,4 @@ plan_of_lines workers schedule lines = plan_read (read_from workers schedule 1 n
 -- the script of a text, or its first fault; for so many workers, with lines of a schedule or without
 abbrev pub script_of_text : ℕ → Bool → List ℕ → Result ScriptPlan ScriptFault
 script_of_text workers schedule text =
-    if nat_lt most_script_bytes (length text) then Err (fault_at 0 TooLong) else plan_of_lines workers schedule (text_lines text)
+    if nat_lt longest_script (length text) then Err (fault_at 0 TooLong) else plan_of_lines workers schedule (text_lines text)

@@ -2,7 +2,7 @@
 use Rattle.std.specs.Prelude.{◌≡◌, ℕ, ◌<◌, ◌≤◌, Bool, true, false, ◌||◌, List, [], ◌∷◌, ◌++◌, map, length, get_or, Some, Ok}
 use Rattle.script_model.specs.ScriptLines.{PlanLine, piece, turn_of_worker, PlanRule, takes_most, ScriptPlan, openings, pieces_on, ends_input, fails_input, some_line, rules_of}
 use Rattle.script_model.specs.Rehearsing.{workers_among}
-use Rattle.script_text.specs.Reading.{most_openings, conn_of_line, plan_of_lines}
+use Rattle.script_text.specs.Reading.{most_connections, conn_of_line, plan_of_lines}
 use Rattle.script_text.specs.Printing.{said_text, said_in}
 
 -- the lines of a script's print are read as the script
@@ -36,7 +36,7 @@ pub record EndsOnce (lines : List PlanLine) (c : ℕ) : Type 0 where
 -- pieces of bytes, one at least, and writes of a byte at least.
 pub record IsSoundPlan (script : ScriptPlan) : Type 0 where
   pub opened : (above behind : List PlanLine) (line : PlanLine) (c : ℕ) → script.lines ≡ above ++ line ∷ behind → conn_of_line line ≡ Some c → c < openings above
-  pub few : openings script.lines ≤ most_openings
+  pub few : openings script.lines ≤ most_connections
   pub with_rules : length script.rules ≡ openings script.lines
   pub ends : (c : ℕ) → c < openings script.lines → EndsOnce script.lines c
   pub pieces : (above behind : List PlanLine) (c : ℕ) (bytes : List ℕ) → script.lines ≡ above ++ piece c bytes ∷ behind → (0 < length bytes) × ((i : ℕ) → get_or bytes i 0 < 256)

@@ -1,10 +1,7 @@
 -- A script's text as lines, and a line as the parts around a space.
 use Rattle.std.specs.Prelude.{ℕ, ◌==◌, Bool, true, List, [], ◌∷◌, Option, None, Some, if◌then◌else◌}
 use Rattle.std.specs.Option.{option_map}
-
--- the longest script, in bytes
-abbrev pub most_script_bytes : ℕ
-most_script_bytes = 67108864
+pub use Rattle.limits.specs.Limits.{longest_script}
 
 -- the byte between two words
 abbrev pub space_byte : ℕ

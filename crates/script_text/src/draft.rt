@@ -4,17 +4,15 @@ ghost use Rattle.std.specs.Prelude.{◌≡◌, ◌++◌, ◌∷◌, [], ◌<◌,
 ghost use Rattle.std.specs.List.{list_any};
 ghost use Rattle.script_text.specs.declared.fault.ScriptKind.TheVariants.{NoConnection, AfterEnd, TooMany, NoWorker, Schedule};
 ghost use Rattle.script_text.specs.LineForms.{runs, rules_so};
-ghost use Rattle.script_text.specs.Reading.{most_openings, fault_of_line, over_behind, rules_opened, is_opening, with_rule, with_said, nothing_read, read_line};
+ghost use Rattle.script_text.specs.Reading.{most_connections, fault_of_line, over_behind, rules_opened, is_opening, with_rule, with_said, nothing_read, read_line};
 ghost use Rattle.script_text.specs.Plans.{plain_line, plain_rule, plain_rules};
 ghost use Rattle.script_text.specs.Drafts.{plain_said, so_far, answers_read};
 
 use crate::fault::ScriptKind;
 use crate::lines::{RuleList, ScriptLine, WriteRule};
 use crate::words::{LineRead, read_said, says_nothing};
+use limits::MOST_CONNECTIONS;
 use std::alloc::{AllocError, Global};
-
-/// The most connections that a script opens.
-const MOST_OPENINGS: usize = 1024;
 
 /// What was read so far.
 #[derive(Drop)]
@@ -235,9 +233,9 @@ fn no_worker(workers: u32, w: u32) -> Option<ScriptKind>
 
 /// The fault of a connection too many.
 fn one_too_many(over: &[bool]) -> Option<ScriptKind>
-    ensures { result ≡ (if nat_le most_openings (length over.now) then Some TooMany else None) }
+    ensures { result ≡ (if nat_le most_connections (length over.now) then Some TooMany else None) }
 {
-    if MOST_OPENINGS <= over.len() {
+    if MOST_CONNECTIONS <= over.len() {
         return Some(ScriptKind::TooMany);
     }
     None

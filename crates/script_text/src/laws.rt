@@ -4,7 +4,7 @@ ghost use Rattle.std.specs.Prelude.{◌≡◌, ℕ, ◌≤◌, Bool, true, List,
 ghost use Rattle.script_model.specs.ScriptLines.{ScriptPlan};
 ghost use Rattle.script_model.specs.InputEnds.{EndsBehindPieces};
 ghost use Rattle.script_model.specs.Ending.{LetsAllEnd};
-ghost use Rattle.script_text.specs.TextLines.{most_script_bytes};
+ghost use Rattle.script_text.specs.TextLines.{longest_script};
 ghost use Rattle.script_text.specs.Reading.{script_of_text};
 ghost use Rattle.script_text.specs.Printing.{print_of};
 ghost use Rattle.script_text.specs.Sound.{IsKeptScript, IsSoundPlan, MovesItsWorkers, most_workers};
@@ -13,8 +13,8 @@ ghost use Rattle.script_text.specs.Sound.{IsKeptScript, IsSoundPlan, MovesItsWor
 /// too long; and so is each script, for 8 workers and with such lines.
 pub fn a_script_is_read_back()
     ensures read { (workers : ℕ) (schedule : Bool) (text : List ℕ) (script : ScriptPlan) → script_of_text workers schedule text ≡ Ok script →
-        length (print_of script) ≤ most_script_bytes → script_of_text workers schedule (print_of script) ≡ Ok script }
-    ensures kept { (script : ScriptPlan) → IsKeptScript script → length (print_of script) ≤ most_script_bytes → script_of_text most_workers true (print_of script) ≡ Ok script }
+        length (print_of script) ≤ longest_script → script_of_text workers schedule (print_of script) ≡ Ok script }
+    ensures kept { (script : ScriptPlan) → IsKeptScript script → length (print_of script) ≤ longest_script → script_of_text most_workers true (print_of script) ≡ Ok script }
     ensures sound { (workers : ℕ) (schedule : Bool) (text : List ℕ) (script : ScriptPlan) → workers ≤ most_workers → script_of_text workers schedule text ≡ Ok script → IsKeptScript script }
 {}
 

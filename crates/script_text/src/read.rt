@@ -2,7 +2,7 @@
 
 ghost use Rattle.std.specs.Prelude.{◌≡◌, ◌≢◌, ◌≤◌, length, Ok, Err, IfOk, MatchResult};
 ghost use Rattle.script_text.specs.declared.fault.ScriptKind.TheVariants.{NoMemory};
-ghost use Rattle.script_text.specs.TextLines.{most_script_bytes, text_lines};
+ghost use Rattle.script_text.specs.TextLines.{longest_script, text_lines};
 ghost use Rattle.script_text.specs.Reading.{nothing_read, plan_so_far, at_end, read_from, script_of_text};
 ghost use Rattle.script_text.specs.Drafts.{so_far, read_so_far_as};
 ghost use Rattle.script_text.specs.Sound.{IsKeptScript, most_workers};
@@ -12,10 +12,8 @@ use crate::fault::{ScriptFault, ScriptKind};
 use crate::lines::{RuleLists, ScriptLines};
 use crate::script::Script;
 use crate::words::cut_line;
+use limits::LONGEST_SCRIPT;
 use std::alloc::{AllocError, Global};
-
-/// The longest script, in bytes.
-const LONGEST_SCRIPT: usize = 67_108_864;
 
 /// The script that a text is, for so many workers and with lines of a schedule or without; or the text's first fault.
 pub fn read_script(
@@ -56,7 +54,7 @@ fn read_lines(
     workers: u32,
     schedule: bool,
 ) -> Result<Result<Draft, ScriptFault>, AllocError>
-    requires { length text.now ≤ most_script_bytes }
+    requires { length text.now ≤ longest_script }
     ensures { IfOk result (λ answer. read_so_far_as answer ≡ read_from workers schedule 1 nothing_read (text_lines text.now)) }
 {
     let mut draft = Draft::new(alloc);

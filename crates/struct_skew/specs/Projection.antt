@@ -18,6 +18,7 @@ use Rattle.struct_skew.specs.Fits.{tag_of_kind}
 use Rattle.struct_skew.specs.Latest.{latest_of_each}
 use Rattle.struct_skew.specs.Offers.{Offer, last_offer}
 use Rattle.struct_skew.specs.Results.{with_value, and_if_ok, both_values, with_first, with_field_value}
+use Rattle.limits.specs.Limits.{most_levels, most_values}
 
 -- a field has to be there
 abbrev pub is_required : FieldNeed → Bool
@@ -106,8 +107,8 @@ abbrev mutual
 -- a projected struct, where it has at most 64 levels and 4,000,000 values
 abbrev pub bounded : Tree → Result Tree SkewFault
 bounded value =
-    if nat_lt 64 (depth_of value) then Err TooDeep
-    else if nat_lt 4000000 (count_of value) then Err TooMany
+    if nat_lt most_levels (depth_of value) then Err TooDeep
+    else if nat_lt most_values (count_of value) then Err TooMany
     else Ok value
 
 -- the projection of a raw value on the struct at a number

@@ -17,6 +17,7 @@ use crate::fault::SkewFault;
 use crate::kinds::tag_of_kind;
 use crate::needs::{is_required, is_union};
 use crate::order::{Keyed, in_order};
+use limits::{MOST_LEVELS, MOST_VALUES};
 use schema::{FieldDesc, StructKind, TypeDesc};
 use std::alloc::Global;
 use std::cmp::Ordering;
@@ -249,10 +250,10 @@ pub(crate) fn as_field(
 pub(crate) fn bounded(value: Value) -> Result<Value, SkewFault>
     ensures { ProjectsOrNoMemory tree_of result (bounded (tree_of value)) }
 {
-    if value.depth() > 64 {
+    if value.depth() > MOST_LEVELS {
         return Err(SkewFault::TooDeep);
     }
-    if value.count() > 4_000_000 {
+    if value.count() > MOST_VALUES as u64 {
         return Err(SkewFault::TooMany);
     }
     Ok(value)

@@ -17,6 +17,7 @@ use Rattle.workload.specs.CalculatorTests.{is_calculator}
 use Rattle.thrift_host.specs.declared.status.Status.{Status}
 use Rattle.thrift_host.specs.declared.status.Status.TheVariants.{Done, WriteFault}
 use Rattle.thrift_host.specs.Runs.{AskedRun, MeansUnarranged}
+use Rattle.call_rules.specs.Desks.{longest_payload}
 
 -- the calculator's service, by its handler
 abbrev pub calculator_pairs : List NamedKind
@@ -29,7 +30,7 @@ workload_says workers = record {
   protocol = Binary;
   workers = workers;
   pairs = calculator_pairs;
-  limits = record { max_frame = 16384000; read_budget = 268435456 };
+  limits = record { max_frame = 16384000; read_budget = longest_payload };
 }
 
 -- a workload that is asked for, with so many workers, with these files and handlers

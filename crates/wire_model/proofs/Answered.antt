@@ -15,17 +15,17 @@ use Rattle.thrift_value.specs.TreeOf.{tree_of}
 use Rattle.wire_model.specs.Answering.{FaultsOrNoMemory, AnswersOrNoMemory}
 use Rattle.wire_model.specs.Decoder.{Unread}
 use Rattle.wire_model.specs.Format.{Format}
-use Rattle.wire_model.specs.Place.{found_struct, max_levels, max_values, placed, struct_at, TakenOff}
+use Rattle.wire_model.specs.Place.{found_struct, most_levels, most_values, placed, struct_at, TakenOff}
 use Rattle.wire_model.specs.Reading.{value}
 use Rattle.wire_model.specs.Wire.{Wire}
 
 -- what is still to be read at a place
 abbrev pub front : List ℕ → ℕ → Unread
-front bytes at = record { bytes = drop at bytes; budget = max_values }
+front bytes at = record { bytes = drop at bytes; budget = most_values }
 
 -- the reading in front
 abbrev pub struct_in_front : Wire → Unread → Result (Tree × Unread) WireFault
-struct_in_front wire rest = value wire max_levels Struct rest
+struct_in_front wire rest = value wire most_levels Struct rest
 
 pub placed_here : (wire : Wire) (bytes : List ℕ) (at : ℕ) (x : Tree) (after : Unread) → struct_in_front wire (front bytes at) ≡ Ok (x, after)
     → struct_at wire bytes at ≡ Ok (x, length bytes - length after.bytes)
@@ -35,7 +35,7 @@ pub taken_here : (wire : Wire) (format : Format) (bytes : List ℕ) (at : ℕ) (
     → ((levels : ℕ) (before after : Unread) (x : Tree) → AreByteSized before.bytes → value wire levels Struct before ≡ Ok (x, after) → TakenOff format levels Struct x before after)
     → AreByteSized (drop at bytes) → struct_in_front wire (front bytes at) ≡ Ok (x, after) → length after.bytes ≤ length bytes
 taken_here wire format bytes at x after law fits e =
-    let t = law max_levels (front bytes at) after x fits e in
+    let t = law most_levels (front bytes at) after x fits e in
     let len : length (drop at bytes) ≡ length t.text + length after.bytes = ap length t.whole ∙ length-append t.text after.bytes in
     omega (arith, length-drop at bytes)
 
@@ -65,9 +65,9 @@ on_ok_by (Ok x) f h = f h
 on_ok_by (Err e) f h = tt
 
 pub read_back_by : {T E : Type 0} (wire : Wire) (r : Result T E) (x : Tree) (old new appended : List ℕ) → OnOk r (new ≡ old ++ appended)
-    → OnOk r (count_of x ≤ max_values → (more : List ℕ)
+    → OnOk r (count_of x ≤ most_values → (more : List ℕ)
     → struct_at wire (old ++ (appended ++ more)) (length old) ≡ found_struct (plain x) (length old + length appended))
-    → OnOk r (count_of x ≤ max_values → (more : List ℕ) → struct_at wire (new ++ more) (length old) ≡ found_struct (plain x) (length new))
+    → OnOk r (count_of x ≤ most_values → (more : List ℕ) → struct_at wire (new ++ more) (length old) ≡ found_struct (plain x) (length new))
 read_back_by wire (Ok done) x old new appended is law = λ few more.
     ap (λ b. struct_at wire b (length old)) (ap (λ b. b ++ more) is ∙ append_assoc old appended more)
     ∙ law few more

@@ -13,7 +13,7 @@ use Rattle.wire_model.specs.Decoder.{Unread}
 use Rattle.wire_model.specs.Wire.{Wire}
 use Rattle.wire_model.specs.Reading.{value}
 use Rattle.wire_model.specs.Format.{Format, Spells}
-use Rattle.wire_model.specs.Place.{max_levels, max_values, placed, struct_at, IsWithinBounds, IsEncodedAt}
+use Rattle.wire_model.specs.Place.{most_levels, most_values, placed, struct_at, IsWithinBounds, IsEncodedAt}
 use Rattle.wire_num.specs.Encoded.{AreByteSized}
 use Rattle.wire_model.specs.Protocol.{IsProtocol}
 use Rattle.wire_model.specs.Encoder.{Encoder}
@@ -33,14 +33,14 @@ placed_ok size (Err fault) y e = absurd cc
 pub place_taken : (wire : Wire) (format : Format) (encoder : Encoder) → IsProtocol wire format encoder → (bytes : List ℕ) (at : ℕ) (x : Tree) (behind : ℕ) → AreByteSized bytes → at ≤ length bytes
     → struct_at wire bytes at ≡ Ok (x, behind) → IsEncodedAt format bytes at x behind × IsWithinBounds x × (behind ≤ length bytes) × (at + count_of x ≤ behind)
 place_taken wire format encoder p bytes at x behind fits within e =
-    let before : Unread = record { bytes = drop at bytes; budget = max_values } in
-    let o = placed_ok (length bytes) (value wire max_levels tags.Struct before) (x, behind) e in
+    let before : Unread = record { bytes = drop at bytes; budget = most_values } in
+    let o = placed_ok (length bytes) (value wire most_levels tags.Struct before) (x, behind) e in
     let y = o.0.0 in
     let after = o.0.1 in
-    let t = value_taken wire format encoder p max_levels tags.Struct before after y (All-drop (λ b. b < 256) at bytes fits) o.1 in
+    let t = value_taken wire format encoder p most_levels tags.Struct before after y (All-drop (λ b. b < 256) at bytes fits) o.1 in
     let len : length (drop at bytes) ≡ length t.text + length after.bytes = ap length t.whole ∙ length-append t.text after.bytes in
     let some : count_of y ≤ length t.text = t.bytes in
-    let count : count_of y + after.budget ≡ max_values = t.count in
+    let count : count_of y + after.budget ≡ most_values = t.count in
     let d = length-drop at bytes in
     subst (λ (z : Tree × ℕ). IsEncodedAt format bytes at z.0 z.1 × IsWithinBounds z.0 × (z.1 ≤ length bytes) × (at + count_of z.0 ≤ z.1)) o.2 (
       record { text = t.text; more = after.bytes; within = within; whole = t.whole; spells = t.spells; end = omega arith },
@@ -52,11 +52,11 @@ place_taken wire format encoder p bytes at x behind fits within e =
 pub place_given : (wire : Wire) (format : Format) (encoder : Encoder) → IsProtocol wire format encoder → (bytes : List ℕ) (at : ℕ) (x : Tree) (behind : ℕ)
     → IsEncodedAt format bytes at x behind → IsWithinBounds x → struct_at wire bytes at ≡ Ok (x, behind)
 place_given wire format encoder p bytes at x behind s b =
-    let given = spelled_given wire format encoder p max_levels max_values x s.text s.more s.spells b.depth b.count in
-    let after : Unread = record { bytes = s.more; budget = max_values - count_of x } in
-    let here : value wire max_levels tags.Struct (record { bytes = drop at bytes; budget = max_values }) ≡ Ok (x, after) =
-    ap (λ (t : List ℕ). value wire max_levels tags.Struct (record { bytes = t; budget = max_values })) s.whole
-    ∙ subst (λ (k : Tag). value wire max_levels k (record { bytes = s.text ++ s.more; budget = max_values }) ≡ Ok (x, after)) b.is_struct given in
+    let given = spelled_given wire format encoder p most_levels most_values x s.text s.more s.spells b.depth b.count in
+    let after : Unread = record { bytes = s.more; budget = most_values - count_of x } in
+    let here : value wire most_levels tags.Struct (record { bytes = drop at bytes; budget = most_values }) ≡ Ok (x, after) =
+    ap (λ (t : List ℕ). value wire most_levels tags.Struct (record { bytes = t; budget = most_values })) s.whole
+    ∙ subst (λ (k : Tag). value wire most_levels k (record { bytes = s.text ++ s.more; budget = most_values }) ≡ Ok (x, after)) b.is_struct given in
     let len : length (drop at bytes) ≡ length s.text + length s.more = ap length s.whole ∙ length-append s.text s.more in
     let d = length-drop at bytes in
     let w : at ≤ length bytes = s.within in
@@ -98,8 +98,8 @@ one_value wire format encoder p x y text more same h k =
 pub place_written : (wire : Wire) (format : Format) (encoder : Encoder) → IsProtocol wire format encoder → (x y : Tree) → HasMeasuresOf x y → (text front more : List ℕ) → Spells format y text
     → IsWithinBounds x → struct_at wire (front ++ (text ++ more)) (length front) ≡ Ok (y, length front + length text)
 place_written wire format encoder p x y m text front more h b =
-    let depth : depth_of x ≤ max_levels = b.depth in
-    let count : count_of x ≤ max_values = b.count in
+    let depth : depth_of x ≤ most_levels = b.depth in
+    let count : count_of x ≤ most_values = b.count in
     let same_depth : depth_of y ≡ depth_of x = m.depth in
     let same_count : count_of y ≡ count_of x = m.count in
     place_given wire format encoder p (front ++ (text ++ more)) (length front) y (length front + length text)

@@ -10,7 +10,7 @@ use Rattle.thrift_value.specs.Tree.{Tree, of_bool, of_bytes, of_struct, of_map, 
 use Rattle.wire_model.specs.Decoder.{Unread, Decoder, go_on, ◌>>=◌, give, fail, room, count_value}
 use Rattle.wire_model.specs.Wire.{FieldHeader, stop, typed, flagged, Wire}
 use Rattle.wire_model.specs.Reading.{deeper, item_list, pair_list, field_behind, field_list, parts, layer, value}
-use Rattle.wire_model.specs.Place.{max_levels, max_values, placed, struct_at}
+use Rattle.wire_model.specs.Place.{most_levels, most_values, placed, struct_at}
 use Rattle.wire_model.specs.Protocol.{and_more, with_more, StaysAs, ArePartsStable}
 
 -- one step and then the next
@@ -158,7 +158,7 @@ placed_fault size (Err d) fault e = cc
 pub struct_fault_stays : (wire : Wire) → ArePartsStable wire → (bytes more : List ℕ) (at : ℕ) (fault : WireFault) → at ≤ length bytes → struct_at wire bytes at ≡ Err fault → (fault ≡ Short → ⊥)
     → struct_at wire (bytes ++ more) at ≡ Err fault
 struct_fault_stays wire s bytes more at fault within e other =
-    let here : Unread = record { bytes = drop at bytes; budget = max_values } in
-    let found = placed_fault (length bytes) (value wire max_levels tags.Struct here) fault e in
-    ap (λ (t : List ℕ). placed (length (bytes ++ more)) (value wire max_levels tags.Struct (record { bytes = t; budget = max_values }))) (drop-append-le at bytes more within)
-    ∙ ap (placed (length (bytes ++ more))) (value_fault_stays wire s max_levels tags.Struct here more fault found other)
+    let here : Unread = record { bytes = drop at bytes; budget = most_values } in
+    let found = placed_fault (length bytes) (value wire most_levels tags.Struct here) fault e in
+    ap (λ (t : List ℕ). placed (length (bytes ++ more)) (value wire most_levels tags.Struct (record { bytes = t; budget = most_values }))) (drop-append-le at bytes more within)
+    ∙ ap (placed (length (bytes ++ more))) (value_fault_stays wire s most_levels tags.Struct here more fault found other)

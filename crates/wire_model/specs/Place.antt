@@ -10,14 +10,7 @@ use Rattle.wire_model.specs.Decoder.{Unread}
 use Rattle.wire_model.specs.Wire.{Wire}
 use Rattle.wire_model.specs.Reading.{value}
 use Rattle.wire_model.specs.Format.{Format, Spells}
-
--- how many levels a value that is read may have, by own choice
-abbrev pub max_levels : ℕ
-max_levels = 64
-
--- how many values it may be, by own choice, itself included
-abbrev pub max_values : ℕ
-max_values = 4000000
+pub use Rattle.limits.specs.Limits.{most_levels, most_values}
 
 -- what was read, with the place behind it in bytes of this length
 abbrev pub placed : ℕ → Result (Tree × Unread) WireFault → Result (Tree × ℕ) WireFault
@@ -31,13 +24,13 @@ found_struct x behind = Ok (x, behind)
 -- the struct at a place and the place behind it, or the fault that comes first
 abbrev pub struct_at : Wire → List ℕ → ℕ → Result (Tree × ℕ) WireFault
 struct_at wire bytes at =
-    placed (length bytes) (value wire max_levels Struct (record { bytes = drop at bytes; budget = max_values }))
+    placed (length bytes) (value wire most_levels Struct (record { bytes = drop at bytes; budget = most_values }))
 
 -- a struct that may be read
 pub record IsWithinBounds (x : Tree) : Type 0 where
   pub is_struct : tag_of x ≡ Struct
-  pub depth : depth_of x ≤ max_levels
-  pub count : count_of x ≤ max_values
+  pub depth : depth_of x ≤ most_levels
+  pub count : count_of x ≤ most_values
 
 -- a spelling of the value stands at a place, up to the place behind it
 pub record IsEncodedAt (format : Format) (bytes : List ℕ) (at : ℕ) (x : Tree) (behind : ℕ) : Type 0 where

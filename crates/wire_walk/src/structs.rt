@@ -13,24 +13,19 @@ ghost use Rattle.thrift_value.specs.TreeOf.{tree_of};
 ghost use Rattle.wire_model.specs.Answering.{AnswersOrNoMemory};
 ghost use Rattle.wire_model.specs.Encoder.{text};
 ghost use Rattle.wire_model.specs.Format.{Spells};
-ghost use Rattle.wire_model.specs.Place.{found_struct, max_levels, max_values, struct_at, IsWithinBounds, IsEncodedAt};
+ghost use Rattle.wire_model.specs.Place.{found_struct, most_levels, most_values, struct_at, IsWithinBounds, IsEncodedAt};
 
 use crate::codec::Codec;
 use crate::input::Input;
 use crate::reading::read;
 use crate::writing::put;
+use limits::{MOST_LEVELS, MOST_VALUES};
 use std::alloc::{AllocError, Global};
 use thrift_value::{Raw, Tag, Value, WireFault};
 use wire_model::laws::{
     spelled_value_is_raw, struct_read_is_spelled, struct_spelled_is_read, value_read_is_spelled,
     written_is_read, written_is_spelled,
 };
-
-/// How many levels a struct that is read may have, by own choice.
-const MAX_LEVELS: u32 = 64;
-
-/// How many values a struct that is read may be, by own choice.
-const MAX_VALUES: u32 = 4_000_000;
 
 /// The struct at `at` as it came, and the place behind it; or the fault that comes first. Own choice: it has at most 64
 /// levels and 4,000,000 values. It has no more values than bytes were read for it.
@@ -66,8 +61,8 @@ fn struct_in<C: Codec>(alloc: Global, bytes: &[u8], at: usize) -> Result<(Raw, u
 {
     value_read_is_spelled::<C>();
     let (_, behind) = bytes.split_at(at);
-    let input = Input::new(behind, MAX_VALUES);
-    let (value, rest) = read::<C>(alloc, input, MAX_LEVELS, Tag::Struct)?;
+    let input = Input::new(behind, MOST_VALUES);
+    let (value, rest) = read::<C>(alloc, input, MOST_LEVELS, Tag::Struct)?;
     Ok((value, bytes.len() - rest.bytes().len()))
 }
 
@@ -75,13 +70,13 @@ fn struct_in<C: Codec>(alloc: Global, bytes: &[u8], at: usize) -> Result<(Raw, u
 pub fn write_struct<C: Codec>(value: &Value, into: &mut Vec<u8>) -> Result<(), AllocError>
     requires is_struct { tag_of (tree_of value.now) ≡ tags.Struct }
     requires tidy { IsTidy (tree_of value.now) }
-    requires depth { depth_of (tree_of value.now) ≤ max_levels }
+    requires depth { depth_of (tree_of value.now) ≤ most_levels }
     requires sizes { HasSmallSizes (tree_of value.now) }
     ensures ok { OnOk result (into.new.items ≡ into.old.items ++ text C.encoder (tree_of value.now)) }
     ensures err { OnErr result (into.new.items ≡ into.old.items) }
     // What it appends is a spelling of the value's plain form, and is read as that, whatever follows.
     ensures spelled { OnOk result (Spells C.format (plain (tree_of value.now)) (text C.encoder (tree_of value.now))) }
-    ensures read_back { OnOk result (count_of (tree_of value.now) ≤ max_values → (more : List ℕ)
+    ensures read_back { OnOk result (count_of (tree_of value.now) ≤ most_values → (more : List ℕ)
         → struct_at C.wire (into.new.items ++ more) (length into.old.items)
         ≡ found_struct (plain (tree_of value.now)) (length into.new.items)) }
 {

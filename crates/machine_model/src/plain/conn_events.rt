@@ -8,6 +8,7 @@ ghost use Rattle.machine_model.specs.Seen.{conn_of, conns_of, moved_of, loop_of,
 
 use super::conns::{PlainConn, PlainMoved, ends, fails_read, fails_write, gives_up, reads, writes};
 use host_model::EndCause;
+use limits::MOST_CONNECTIONS;
 use outside::{Bytes, Mark};
 use std::alloc::{AllocError, Global};
 use std::mem;
@@ -37,9 +38,6 @@ pub struct PlainLoop {
     pub tape: Vec<Mark>,
     pub conns: Vec<PlainConn>,
 }
-
-/// The most connections that are open at one time.
-const MOST_OPEN: usize = 1024;
 
 /// The loop after what happens on a connection, where it can.
 pub fn conn_event(
@@ -161,7 +159,7 @@ fn open_among(conns: &[PlainConn]) -> usize
 fn opens(alloc: Global, loop_part: PlainLoop) -> Result<Option<PlainLoop>, AllocError>
     ensures { IfOk result (λ next. option_map loop_of next ≡ conn_event_plain 0 (loop_of loop_part) opens) }
 {
-    if MOST_OPEN <= open_among(loop_part.conns.as_slice()) {
+    if MOST_CONNECTIONS <= open_among(loop_part.conns.as_slice()) {
         return Ok(None);
     }
     let Ok(c) = u32::try_from(loop_part.conns.len()) else {

@@ -10,6 +10,7 @@ use Rattle.cell_core.proofs.Opened.{all_good, lets_all, fresh_count}
 use Rattle.cell_core.proofs.Finishing.{nothing_seen, begun_of_desk, begun_under_way, done_seen, done_counted, done_rehearsed, stop_under_way, stop_seen, stop_rose}
 use Rattle.cell_core.proofs.Givens.{max_given, within_given, slots_given, lines_good, plan_through, written_as, rose_as}
 use Rattle.cell_core.proofs.rehearsal.rehearse.Goals as goal
+use Rattle.call_rules.specs.Desks.{longest_payload}
 
 pub returns-in-Err-clause-run : goal.returns-in-Err-clause-run
 returns-in-Err-clause-run g c =
@@ -30,7 +31,7 @@ pub do_lines-requires-clause-under_way : goal.do_lines-requires-clause-under_way
 do_lines-requires-clause-under_way g c κs within =
     let s : CellSetting = record { desk = g.D.Desk.meaning c.args.desk.now; opening = map g.H.Handler.service c.args.handlers.items; budget = c.args.limits.read_budget; workers = c.args.workers } in
     let sound : IsSoundPlan c.args.script.now = c.scripts_are_sound.ensures.sound c.args.script.now c.lines.ensures.sound in
-    let max : s.desk.max_frame ≤ 268435456 = max_given s.desk.max_frame c.args.limits.max_frame c.args.limits.read_budget c.requires.longest c.requires.within c.requires.budget in
+    let max : s.desk.max_frame ≤ longest_payload = max_given s.desk.max_frame c.args.limits.max_frame c.args.limits.read_budget c.requires.longest c.requires.within c.requires.budget in
     let slots : s.desk.slots ≡ length s.opening = slots_given g.H.Handler.service c.args.handlers.items s.desk.slots c.requires.slots in
     begun_of_desk s c.args.script.now c.in-Ok-made.part c.in-Ok-made.workers.items (g.J.Journal.told c.args.journal) (g.J.Journal.faults c.args.journal)
     sound c.in-Ok-made.ensures.part c.in-Ok-made.ensures.workers c.requires.empty max c.in-Ok.hall c.in-Ok.ensures.hall slots
@@ -39,7 +40,7 @@ pub do_lines-requires-clause-good : goal.do_lines-requires-clause-good
 do_lines-requires-clause-good g c κs within =
     let s : CellSetting = record { desk = g.D.Desk.meaning c.args.desk.now; opening = map g.H.Handler.service c.args.handlers.items; budget = c.args.limits.read_budget; workers = c.args.workers } in
     let sound : IsSoundPlan c.args.script.now = c.scripts_are_sound.ensures.sound c.args.script.now c.lines.ensures.sound in
-    let max : s.desk.max_frame ≤ 268435456 = max_given s.desk.max_frame c.args.limits.max_frame c.args.limits.read_budget c.requires.longest c.requires.within c.requires.budget in
+    let max : s.desk.max_frame ≤ longest_payload = max_given s.desk.max_frame c.args.limits.max_frame c.args.limits.read_budget c.requires.longest c.requires.within c.requires.budget in
     let slots : s.desk.slots ≡ length s.opening = slots_given g.H.Handler.service c.args.handlers.items s.desk.slots c.requires.slots in
     lines_good (length c.in-Ok-made.part.feeds.items) (length c.in-Ok-made.workers.items) _ (map plain_line c.as_slice-lines.result.now) c.args.script.now.lines
     (begun_under_way s c.args.script.now c.in-Ok-made.part c.in-Ok-made.workers.items (g.J.Journal.told c.args.journal) (g.J.Journal.faults c.args.journal)
@@ -50,7 +51,7 @@ pub stopped-requires-clause-under_way : goal.stopped-requires-clause-under_way
 stopped-requires-clause-under_way g c κs within =
     let s : CellSetting = record { desk = g.D.Desk.meaning c.args.desk.now; opening = map g.H.Handler.service c.args.handlers.items; budget = c.args.limits.read_budget; workers = c.args.workers } in
     let sound : IsSoundPlan c.args.script.now = c.scripts_are_sound.ensures.sound c.args.script.now c.lines.ensures.sound in
-    let max : s.desk.max_frame ≤ 268435456 = max_given s.desk.max_frame c.args.limits.max_frame c.args.limits.read_budget c.requires.longest c.requires.within c.requires.budget in
+    let max : s.desk.max_frame ≤ longest_payload = max_given s.desk.max_frame c.args.limits.max_frame c.args.limits.read_budget c.requires.longest c.requires.within c.requires.budget in
     let slots : s.desk.slots ≡ length s.opening = slots_given g.H.Handler.service c.args.handlers.items s.desk.slots c.requires.slots in
     stop_under_way s c.args.script.now c.in-Ok-made.part c.in-Ok-made.workers.items (g.J.Journal.told c.args.journal) (g.J.Journal.faults c.args.journal)
     sound c.in-Ok-made.ensures.part c.in-Ok-made.ensures.workers c.requires.empty max c.in-Ok.hall c.in-Ok.ensures.hall slots
@@ -60,7 +61,7 @@ pub returns-in-Ok-do_lines-clause-run : goal.returns-in-Ok-do_lines-clause-run
 returns-in-Ok-do_lines-clause-run g c =
     let s : CellSetting = record { desk = g.D.Desk.meaning c.args.desk.now; opening = map g.H.Handler.service c.args.handlers.items; budget = c.args.limits.read_budget; workers = c.args.workers } in
     let sound : IsSoundPlan c.args.script.now = c.scripts_are_sound.ensures.sound c.args.script.now c.lines.ensures.sound in
-    let max : s.desk.max_frame ≤ 268435456 = max_given s.desk.max_frame c.args.limits.max_frame c.args.limits.read_budget c.requires.longest c.requires.within c.requires.budget in
+    let max : s.desk.max_frame ≤ longest_payload = max_given s.desk.max_frame c.args.limits.max_frame c.args.limits.read_budget c.requires.longest c.requires.within c.requires.budget in
     let slots : s.desk.slots ≡ length s.opening = slots_given g.H.Handler.service c.args.handlers.items s.desk.slots c.requires.slots in
     let fits : IsFitting s =
     record {
@@ -82,7 +83,7 @@ pub returns-in-Ok-do_lines-clause-all : goal.returns-in-Ok-do_lines-clause-all
 returns-in-Ok-do_lines-clause-all g c =
     let s : CellSetting = record { desk = g.D.Desk.meaning c.args.desk.now; opening = map g.H.Handler.service c.args.handlers.items; budget = c.args.limits.read_budget; workers = c.args.workers } in
     let sound : IsSoundPlan c.args.script.now = c.scripts_are_sound.ensures.sound c.args.script.now c.lines.ensures.sound in
-    let max : s.desk.max_frame ≤ 268435456 = max_given s.desk.max_frame c.args.limits.max_frame c.args.limits.read_budget c.requires.longest c.requires.within c.requires.budget in
+    let max : s.desk.max_frame ≤ longest_payload = max_given s.desk.max_frame c.args.limits.max_frame c.args.limits.read_budget c.requires.longest c.requires.within c.requires.budget in
     let slots : s.desk.slots ≡ length s.opening = slots_given g.H.Handler.service c.args.handlers.items s.desk.slots c.requires.slots in
     let fits : IsFitting s =
     record {
@@ -107,7 +108,7 @@ pub returns-in-Ok-do_lines-clause-outs : goal.returns-in-Ok-do_lines-clause-outs
 returns-in-Ok-do_lines-clause-outs g c =
     let s : CellSetting = record { desk = g.D.Desk.meaning c.args.desk.now; opening = map g.H.Handler.service c.args.handlers.items; budget = c.args.limits.read_budget; workers = c.args.workers } in
     let sound : IsSoundPlan c.args.script.now = c.scripts_are_sound.ensures.sound c.args.script.now c.lines.ensures.sound in
-    let max : s.desk.max_frame ≤ 268435456 = max_given s.desk.max_frame c.args.limits.max_frame c.args.limits.read_budget c.requires.longest c.requires.within c.requires.budget in
+    let max : s.desk.max_frame ≤ longest_payload = max_given s.desk.max_frame c.args.limits.max_frame c.args.limits.read_budget c.requires.longest c.requires.within c.requires.budget in
     let slots : s.desk.slots ≡ length s.opening = slots_given g.H.Handler.service c.args.handlers.items s.desk.slots c.requires.slots in
     let fits : IsFitting s =
     record {
@@ -131,7 +132,7 @@ pub returns-in-Err-do_lines-clause-run : goal.returns-in-Err-do_lines-clause-run
 returns-in-Err-do_lines-clause-run g c =
     let s : CellSetting = record { desk = g.D.Desk.meaning c.args.desk.now; opening = map g.H.Handler.service c.args.handlers.items; budget = c.args.limits.read_budget; workers = c.args.workers } in
     let sound : IsSoundPlan c.args.script.now = c.scripts_are_sound.ensures.sound c.args.script.now c.lines.ensures.sound in
-    let max : s.desk.max_frame ≤ 268435456 = max_given s.desk.max_frame c.args.limits.max_frame c.args.limits.read_budget c.requires.longest c.requires.within c.requires.budget in
+    let max : s.desk.max_frame ≤ longest_payload = max_given s.desk.max_frame c.args.limits.max_frame c.args.limits.read_budget c.requires.longest c.requires.within c.requires.budget in
     let slots : s.desk.slots ≡ length s.opening = slots_given g.H.Handler.service c.args.handlers.items s.desk.slots c.requires.slots in
     stop_seen s c.args.script.now c.in-Ok-made.part c.in-Ok-made.workers.items (g.J.Journal.told c.args.journal) (g.J.Journal.faults c.args.journal)
     sound c.in-Ok-made.ensures.part c.in-Ok-made.ensures.workers c.requires.empty max c.in-Ok.hall c.in-Ok.ensures.hall slots
@@ -142,7 +143,7 @@ pub returns-in-Err-do_lines-clause-fault : goal.returns-in-Err-do_lines-clause-f
 returns-in-Err-do_lines-clause-fault g c =
     let s : CellSetting = record { desk = g.D.Desk.meaning c.args.desk.now; opening = map g.H.Handler.service c.args.handlers.items; budget = c.args.limits.read_budget; workers = c.args.workers } in
     let sound : IsSoundPlan c.args.script.now = c.scripts_are_sound.ensures.sound c.args.script.now c.lines.ensures.sound in
-    let max : s.desk.max_frame ≤ 268435456 = max_given s.desk.max_frame c.args.limits.max_frame c.args.limits.read_budget c.requires.longest c.requires.within c.requires.budget in
+    let max : s.desk.max_frame ≤ longest_payload = max_given s.desk.max_frame c.args.limits.max_frame c.args.limits.read_budget c.requires.longest c.requires.within c.requires.budget in
     let slots : s.desk.slots ≡ length s.opening = slots_given g.H.Handler.service c.args.handlers.items s.desk.slots c.requires.slots in
     λ fault. rose_as (g.J.Journal.faults c.args.journal) c.in-Ok.hall.faults (g.J.Journal.faults c.stopped.result.journal) c.do_lines.new.self.hall.faults
     (sym (ap (λ (h : ServedHall). h.faults) c.in-Ok.ensures.hall)) c.stopped.ensures.faults

@@ -1,8 +1,9 @@
 use Rattle.std.proofs.Common.{ℕ, ◌<◌, ◌≤◌, ◌^◌, arith}
 use Rattle.cell_loop.proofs.Arriving.{conn_reaches, worker_reaches, outcome_reaches, opening_reaches}
 use Rattle.cell_loop.proofs.move_laws.moves_are_reached.Goals as goal
+use Rattle.call_rules.specs.Desks.{longest_payload}
 
-small_from : (max : ℕ) → max ≤ 268435456 → max < 2 ^ 31
+small_from : (max : ℕ) → max ≤ longest_payload → max < 2 ^ 31
 small_from max l = omega arith
 
 pub returns-clause-conn : goal.returns-clause-conn

@@ -1,5 +1,5 @@
 use Rattle.std.proofs.Common.{◌≡◌, ◌∙◌, ◌+◌, ◌≤◌, ◌<◌, ◌∷◌, ◌++◌, List, map, append-nil, suc, drop, take, length, get_or, sym, ap, subst, arith, drop-cons}
-use Rattle.idl_token.specs.Limits.{longest_text}
+use Rattle.idl_token.specs.Limits.{longest_idl_text}
 use Rattle.idl_token.specs.declared.Token.{Token}
 use Rattle.idl_token.specs.declared.TokenKind.TheVariants.{Keyword}
 use Rattle.idl_token.specs.Tokens.{StandBetween}
@@ -19,7 +19,7 @@ pub placed-symbol-requires-clause-short : goal.placed-symbol-requires-clause-sho
 placed-symbol-requires-clause-short c =
     let order = subst (StandBetween c.tokens.at (length c.args.text.now)) (next_is c.args.tokens.now c.tokens.token-index c.tokens-test.true) c.tokens.invariant.order in
     let h = bounded c.tokens.at (length c.args.text.now) (get_or c.args.tokens.now c.tokens.token-index no_token) (drop (c.tokens.token-index + 1) c.args.tokens.now) order in
-    let s : length c.args.text.now ≤ longest_text = c.requires.short in
+    let s : length c.args.text.now ≤ longest_idl_text = c.requires.short in
     omega arith
 
 pub tokens-preserved : goal.tokens-preserved

@@ -1,5 +1,5 @@
 use Rattle.std.proofs.Common.{◌≡◌, ◌<◌, ◌≤◌, Vec, Global, length, ap, sym, subst, arith, rules}
-use Rattle.conn_table.specs.Slots.{most_places, HaveRisingNumbers}
+use Rattle.conn_table.specs.Slots.{most_connections, HaveRisingNumbers}
 use Rattle.conn_table.specs.Table.{TableView}
 use Rattle.cell_loop.specs.declared.feed.Feed.{Feed}
 use Rattle.cell_loop.specs.Closing.{HasMoreRoom}
@@ -19,7 +19,7 @@ returns-clause-moved c =
     λ s play w t.
     opens_one s c.make_way.new.self c.add.new.self play c.in-Ok.c (more_room_tied s c.args.self.now c.make_way.new.self play more t) is c.add.ensures.table c.add.ensures.tape
     c.add.ensures.stages c.add.ensures.feeds left (subst (λ (v : TableView). HaveRisingNumbers v.slots) (sym more.table) c.requires.rising)
-    (subst (λ (v : TableView). length v.slots < most_places) (sym more.table) c.requires.fits)
+    (subst (λ (v : TableView). length v.slots < most_connections) (sym more.table) c.requires.fits)
 
 pub returns-clause-room : goal.returns-clause-room
 returns-clause-room c =
