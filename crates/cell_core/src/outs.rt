@@ -4,40 +4,12 @@ ghost use Rattle.std.specs.Prelude.{◌≡◌, ◌++◌, [], map, replicate, sli
 ghost use Rattle.outside.specs.Marks.{lent_mark};
 ghost use Rattle.cell_core.specs.Rehearsed.{AreWritten, rows_behind};
 
+use lists::Listed;
 use outside::{Bytes, Cursor, MarkAt};
 use std::alloc::{AllocError, Global};
-use std::marker::Model;
 
 /// The bytes that were written to each connection, by number; contracts see a list of lists.
-#[derive(Drop)]
-pub struct Outs {
-    /// The bytes.
-    items: Vec<Bytes>,
-}
-
-impl Model for Outs {
-    ghost use Rattle.std.specs.Prelude.{List, ℕ};
-
-    ghost Value = { List (List ℕ) };
-
-    ghost view = { λ o. o.items.items };
-}
-
-impl Outs {
-    /// Those of these lists; takes no memory.
-    pub fn new(items: Vec<Bytes>) -> Self
-        ensures { result ≡ items.items }
-    {
-        Outs { items }
-    }
-
-    /// The bytes, connection by connection.
-    pub fn as_slice(&self) -> &[Bytes]
-        ensures { result.now ≡ self.now }
-    {
-        self.items.as_slice()
-    }
-}
+pub type Outs = Listed<Bytes>;
 
 /// The bytes that these marks say were written to each of so many connections.
 pub fn written(alloc: Global, mut marks: Cursor<'_>, count: usize) -> Result<Outs, AllocError>

@@ -1,9 +1,7 @@
 //! The limits of a run, how it came out, and how its connections ended.
 
-ghost use Rattle.std.specs.Prelude.{◌≡◌};
-
 use conn_state::EndCause;
-use std::marker::Model;
+use lists::Listed;
 
 /// The most bytes of a payload, and of all payloads that are admitted together.
 #[derive(Clone, Copy, Debug, Drop, PartialEq, Eq)]
@@ -28,40 +26,4 @@ pub enum Outcome {
 }
 
 /// The causes by which connections ended, by number; contracts see them as a list.
-#[derive(Drop)]
-pub struct Ends {
-    /// The causes.
-    items: Vec<EndCause>,
-}
-
-impl Model for Ends {
-    ghost use Rattle.std.specs.Prelude.{List};
-    ghost use Rattle.host_model.specs.declared.cause.EndCause.{EndCause};
-
-    ghost Value = { List EndCause };
-
-    ghost view = { λ e. e.items.items };
-}
-
-impl Ends {
-    /// The list of these causes; takes no memory.
-    pub fn new(items: Vec<EndCause>) -> Self
-        ensures { result ≡ items.items }
-    {
-        Ends { items }
-    }
-
-    /// The causes as a slice.
-    pub fn as_slice(&self) -> &[EndCause]
-        ensures { result.now ≡ self.now }
-    {
-        self.items.as_slice()
-    }
-
-    /// Gives the causes back; takes no memory.
-    pub fn into_vec(self) -> Vec<EndCause>
-        ensures { result.items ≡ self }
-    {
-        self.items
-    }
-}
+pub type Ends = Listed<EndCause>;

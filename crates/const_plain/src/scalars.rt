@@ -11,7 +11,7 @@ use crate::bits::double_bits;
 use crate::doubles::double_written;
 use crate::faults::PlainFault;
 use crate::table::{is_within, row_of};
-use byte_text::ByteText;
+use lists::ByteText;
 use schema::TypeDesc;
 use std::alloc::Global;
 use thrift_value::{Tag, Value};

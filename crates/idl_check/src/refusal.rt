@@ -4,7 +4,7 @@ ghost use Rattle.std.specs.Prelude.{◌≡◌, ◌∷◌, [], ◌++◌, codes, I
 ghost use Rattle.idl_check.specs.Lines.{place_in_text, idl_refusal_text};
 
 use crate::kinds::{IdlFaultKind, idl_kind_word};
-use byte_text::ByteText;
+use lists::ByteText;
 use idl_token::Place;
 use std::alloc::{AllocError, Global};
 use text_out::decimal;

@@ -7,7 +7,7 @@ ghost use Rattle.idl_const.specs.Flaws.{IsOneWorth};
 
 use crate::doubles::{double_of, double_written};
 use crate::faults::ConstFault;
-use byte_text::ByteText;
+use lists::ByteText;
 use schema::TypeDesc;
 use std::alloc::Global;
 use thrift_value::Value;

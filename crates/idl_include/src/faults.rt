@@ -3,7 +3,7 @@
 ghost use Rattle.std.specs.Prelude.{◌≡◌};
 ghost use Rattle.idl_include.specs.Loads.{StopsWith};
 
-use byte_text::ByteText;
+use lists::ByteText;
 use idl_parser::ParseKind;
 use idl_token::{LexKind, Place};
 use std::alloc::{AllocError, AllocFailed, Global};

@@ -12,7 +12,7 @@ use crate::faults::{LoadKind, LoadStop, stop_at};
 use crate::names::{base_name, included_name};
 use crate::opening::WantedFile;
 use crate::sources::IdlFile;
-use byte_text::ByteText;
+use lists::ByteText;
 use std::alloc::Global;
 use std::collections::VecDeque;
 

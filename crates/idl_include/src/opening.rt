@@ -11,7 +11,7 @@ use crate::faults::{LoadKind, LoadStop, NOWHERE, stop_at};
 use crate::names::base_name;
 use crate::reading::read_file;
 use crate::sources::IdlFile;
-use byte_text::ByteText;
+use lists::ByteText;
 use crate::laws::a_document_declares_what_its_tree_does;
 use idl_parser::{Document, Include};
 use idl_token::Place;

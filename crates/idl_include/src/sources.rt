@@ -3,7 +3,7 @@
 ghost use Rattle.std.specs.Prelude.{◌≡◌};
 ghost use Rattle.idl_include.specs.SourcesOf.{sources_in};
 
-use byte_text::ByteText;
+use lists::ByteText;
 use idl_parser::Document;
 
 /// A file of a program.

@@ -14,7 +14,7 @@ use crate::links::link;
 use crate::meanings::{IncludeMeaning, include_meaning};
 use crate::opening::{MAX_FILES, WantedFile, begin_file};
 use crate::sources::{IdlFile, Sources};
-use byte_text::ByteText;
+use lists::ByteText;
 use crate::laws::each_file_is_read_as_one_thing;
 use outside::Files;
 use std::alloc::{AllocError, Global};

@@ -4,7 +4,7 @@ ghost use Rattle.std.specs.Int.{w64};
 ghost use Rattle.idl_parser.specs.Leaves.{escaped, unescaped, literal_bytes, int_number};
 
 use crate::reader::Stop;
-use byte_text::ByteText;
+use lists::ByteText;
 use idl_token::int_value;
 use std::alloc::Global;
 

@@ -1,6 +1,6 @@
 //! Documents as trees.
 
-use byte_text::ByteText;
+use lists::ByteText;
 use idl_token::Place;
 
 /// An identifier.

@@ -22,7 +22,6 @@
 
 mod fields_text;
 mod laws;
-mod list;
 mod look_up;
 mod services_text;
 mod shapes;
@@ -33,7 +32,7 @@ mod types_text;
 pub use laws::{
     a_lineage_is_whole, the_example_is_sound, the_shapes_are_determined, values_as_written,
 };
-pub use list::Listed;
+pub use lists::Listed;
 pub use types::{
     AliasDesc, ConstDesc, DefList, DefRef, EnumDesc, EnumList, FieldDesc, FieldList,
     FieldNeed as Need, FieldsKind as StructKind, FileDesc, FnDesc, FnList, NumberList, Schema,

@@ -1,6 +1,6 @@
 //! What a program of IDL files defines.
 
-use crate::list::Listed;
+use lists::Listed;
 use thrift_value::{ByteText, Value};
 
 /// A type, with typedefs resolved (Thrift IDL, 'Types').

@@ -31,7 +31,7 @@ mod tidiness;
 mod value;
 mod wire_fault;
 
-pub use byte_text::ByteText;
+pub use lists::ByteText;
 pub use fn_shapes::FnShapes;
 pub use laws::{
     alike_values_are_the_same, code_tells_the_tree, copies_measure_alike, count_is_one_or_more,

@@ -3,7 +3,7 @@ ghost use Rattle.thrift_value.specs.Tags.{tag_of};
 ghost use Rattle.thrift_value.specs.TreeOf.{tree_of, fields_of, items_of, pairs_of};
 
 use crate::tag::Tag;
-use byte_text::ByteText;
+use lists::ByteText;
 
 /// A value of a Thrift type. Strings and binaries are both bytes, an enum is an `I32`, and a double
 /// is its 64 bits.

@@ -1,12 +1,4 @@
 //! A text as its bytes, in any encoding or none: what names and literals of an IDL, and byte strings on a wire, are kept in.
-//!
-//! ```
-//! let text = ByteText::new(b"add".to_vec(alloc)?);
-//! assert_eq!(rt; text.as_slice(), b"add".as_slice());
-//! let copy = text.try_clone(alloc)?;
-//! assert_eq!(rt; copy.into_vec().len(), 3);
-//! ```
-#![tactic(auto)]
 
 ghost use Rattle.std.specs.Prelude.{◌≡◌, ◌<◌, All, IfOk};
 

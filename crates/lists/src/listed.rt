@@ -1,5 +1,8 @@
-ghost use Rattle.std.specs.Prelude.{◌≡◌};
+//! A list over a vector.
 
+ghost use Rattle.std.specs.Prelude.{◌≡◌, ◌++◌, [], ◌∷◌, OnOk, OnErr};
+
+use std::alloc::AllocError;
 use std::marker::Model;
 
 /// A list: small, over a vector, and in a contract the list of its items.
@@ -18,7 +21,7 @@ impl<T> Model for Listed<T> {
 }
 
 impl<T> Listed<T> {
-    /// The items in this order.
+    /// The list of these items; it takes no memory.
     pub fn new(items: Vec<T>) -> Self
         ensures { result ≡ items.items }
     {
@@ -32,10 +35,21 @@ impl<T> Listed<T> {
         self.items.as_slice()
     }
 
-    /// The items in order, to be taken apart.
+    /// Gives the items back; it takes no memory.
     pub fn into_vec(self) -> Vec<T>
         ensures { result.items ≡ self }
     {
         self.items
+    }
+}
+
+impl<T: Drop> Listed<T> {
+    /// Adds an item at the end.
+    pub fn push(&mut self, item: T) -> Result<(), AllocError>
+        ensures ok { OnOk result (self.new ≡ self.old ++ item ∷ []) }
+        ensures err { OnErr result (self.new ≡ self.old) }
+    {
+        self.items.push(item)?;
+        Ok(())
     }
 }
