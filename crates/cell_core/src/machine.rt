@@ -11,11 +11,11 @@ ghost use Rattle.cell_loop.specs.Moving.{one_of_conn, one_of_worker, one_of_outc
 ghost use Rattle.cell_core.specs.Parts.{parts_of};
 ghost use Rattle.cell_core.specs.Machines.{IsMachine, SomeMachine, IsOfDesk, MachineMoves, DeskMoves, StaysPlayed, MoveKeeps, FailsAt, LeavesLess};
 
-use call_rules::{Desk, Handler, Journal, Key};
-use cell_loop::{LoopPart, CellStage};
-use cell_loop::move_laws::moves_are_reached;
 use crate::turn::turn;
 use crate::{Holding, RunStop, Turned, moved, put_back, take_out};
+use call_rules::{Desk, Handler, Journal, Key};
+use cell_loop::move_laws::moves_are_reached;
+use cell_loop::{CellStage, LoopPart};
 use hall_core::{Hall, HallReply};
 use outside::{Bytes, Settled};
 use std::alloc::{AllocError, Global};

@@ -14,10 +14,10 @@ ghost use Rattle.cell_core.specs.MachineSteps.{HasNoTurn};
 ghost use Rattle.cell_core.specs.Machines.{SomeMachine, IsMachine, IsOfDesk, HasDesk, HasCrew, IsDone, EndsEarly, StopsMachine, ComesThrough, IsLineFor};
 
 use crate::machine::Machine;
-use call_rules::{Desk, Handler, Journal};
-use cell_loop::{InputEnd, CellStage};
-use cell_loop::move_laws::moves_are_reached;
 use crate::{Holding, RunStop};
+use call_rules::{Desk, Handler, Journal};
+use cell_loop::move_laws::moves_are_reached;
+use cell_loop::{CellStage, InputEnd};
 use script_text::ScriptLine;
 use std::alloc::{AllocError, Global};
 

@@ -25,4 +25,4 @@ mod reading;
 mod writing;
 
 pub use feed::{Feed, InputEnd};
-pub use loop_part::{LoopPart, CellStage};
+pub use loop_part::{CellStage, LoopPart};

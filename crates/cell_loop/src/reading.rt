@@ -15,7 +15,7 @@ ghost use Rattle.cell_loop.specs.LoopMoves.{IsLoopUnderWay, StaysTied, LoopMoves
 ghost use Rattle.call_rules.specs.Desks.{longest_payload};
 
 use crate::feed::InputEnd;
-use crate::loop_part::{LoopPart, CellStage};
+use crate::loop_part::{CellStage, LoopPart};
 use conn_state::EndCause;
 use outside::MarkAt;
 use std::alloc::{AllocError, Global};

@@ -22,8 +22,9 @@ use crate::passes::{function_fault, list_fault, name_fault, struct_fault};
 use graph_cycles::first_on_cycle;
 use idl_include::IdlFile;
 use idl_names::{Definitions, NameTables, SpotIn};
-use idl_types::{TypeTables, alias_types};
-use idl_types::{inherited_names, parent_rows, service_parents, typedef_rows};
+use idl_types::{
+    TypeTables, alias_types, inherited_names, parent_rows, service_parents, typedef_rows,
+};
 use schema::{Schema, TypeDesc};
 use schema_bare::{finite_structs, partial_schema};
 use std::alloc::{AllocError, Global};

@@ -4,8 +4,8 @@ ghost use Rattle.std.specs.Prelude.{◌≡◌, option_map, IfOk};
 ghost use Rattle.command_line.specs.CommandPairs.{command_pairs, pairs_of_words};
 ghost use Rattle.command_line.specs.Lent.{lent_words};
 
-use service_binding::{Word, pair_of_word};
 use call_rules::Kind;
+use service_binding::{Word, pair_of_word};
 use std::alloc::{AllocError, Global};
 
 /// The pairs that words are.

@@ -10,9 +10,9 @@ use crate::limits::limits_said;
 use crate::numbers::bounded_number;
 use crate::pairs::command_pairs;
 use crate::sorting::Sorted;
-use service_binding::{BindWords, Word};
 use conn_table::Limits;
 use envelope::Protocol;
+use service_binding::{BindWords, Word};
 use std::alloc::{AllocError, Global};
 
 /// What a command serves, and with how many workers.

@@ -7,9 +7,9 @@ ghost use Rattle.const_evaluator.specs.ProgramGrounds.{ground_program, IsProgram
 ghost use Rattle.const_evaluator.specs.Evaluators.{CanEvaluate, IsEvaluatorOf};
 
 use crate::ground::ProgramGround;
+use check_passes::Evaluator;
 use idl_const::{ConstFault, Progress, evaluate_given, no_progress};
 use idl_names::GivenTree;
-use check_passes::Evaluator;
 use idl_token::Place;
 use idl_types::{MOST_TYPES, TypeTables, type_meant};
 use std::alloc::{AllocError, Global};

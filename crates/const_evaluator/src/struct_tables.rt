@@ -13,8 +13,8 @@ ghost use Rattle.const_evaluator.specs.GivenFields.{fields_given, default_number
 ghost use Rattle.const_evaluator.specs.OwedFields.{owed_beside, HaveSameIds};
 ghost use Rattle.const_evaluator.specs.StructTables.{HaveRisingIds, struct_in_table, IsStructTable, AreStructTables};
 
-use crate::given_fields::GivenFields;
 use crate::ValuePlaces;
+use crate::given_fields::GivenFields;
 use idl_const::{OwedField, field_places};
 use idl_names::NameMap;
 use idl_parser::Field;

@@ -5,9 +5,9 @@ ghost use Rattle.std.specs.Thread.{IsSync};
 ghost use Rattle.hall_pool.specs.Crew.{MayServe, HasServed, HasServedAs, numbers_of};
 
 use crate::workplace::{Workplace, run_out};
+use crate::{Door, Worker};
 use call_rules::{Desk, Handler, Journal};
 use hall_core::Hall;
-use crate::{Door, Worker};
 use outside::{Bell, Gate};
 use seat_booth::{Booth, Object, Seat};
 use std::snapshot::Snapshot;

@@ -3,9 +3,9 @@
 ghost use Rattle.std.specs.Prelude.{◌≡◌};
 ghost use Rattle.hall_pool.specs.Crew.{MayServe, HasServedAs};
 
+use crate::{Door, Worker, laws};
 use call_rules::{Desk, Handler, Journal};
 use hall_core::Hall;
-use crate::{Door, Worker, laws};
 use outside::{Bell, Gate};
 use seat_booth::{Booth, Object};
 use std::alloc::Global;

@@ -3,13 +3,13 @@
 ghost use Rattle.idl_include.specs.SourcesOf.{AreFiles, program_in, sources_in};
 ghost use Rattle.idl_check.specs.Behind.{IsCheckOf};
 
+use crate::sound_laws::the_schema_of_loaded_files_is_sound;
 use crate::values::with_values;
+use check_passes::{CheckFault, typed_program};
 use idl_include::Sources;
 use idl_names::laws::files_of_a_program_have_their_own_bases;
 use idl_names::{all_definitions, name_tables, program_spots};
-use check_passes::{CheckFault, typed_program};
 use schema::Schema;
-use crate::sound_laws::the_schema_of_loaded_files_is_sound;
 use std::alloc::Global;
 
 /// The schema of a program, or the first fault that its passes find, by pass and then in reading order.

@@ -9,10 +9,10 @@ ghost use Rattle.check_passes.specs.Faults.{flaw_told};
 ghost use Rattle.idl_check.specs.FaultKinds.{kind_of_flaw, idl_kind_of_lexer, kind_of_loading, idl_kind_of_parser};
 ghost use Rattle.idl_check.specs.Lines.{idl_kind_word};
 
+use check_passes::CheckKind;
 use idl_const::ConstFault;
 use idl_include::LoadKind;
 use idl_parser::ParseKind;
-use check_passes::CheckKind;
 use idl_token::LexKind;
 
 /// What is wrong with an IDL or a file that it includes. The program prints the variant's name.

@@ -14,13 +14,13 @@ ghost use Rattle.idl_check.specs.Tutorial.{tutorial_name, tutorial_files};
 ghost use Rattle.idl_check.specs.Verdicts.{IsIdlVerdictOfLoaded, IsVerdictIn, IsVerdictTold, IsIdlVerdict, IsSchemaTextOf, StopsAtRead, IsUnreadIdl};
 ghost use Rattle.idl_check.specs.Telling.{TellsWhy, TellsSchema, RefusesIn, is_file_fault};
 
+use crate::check;
 use crate::kinds::{IdlFaultKind, check_kind, load_kind};
 use crate::refusal::{IdlRefusal, NoSchema};
 use crate::tutorial::tutorial_store;
-use crate::check;
-use idl_include::{IdlFile, LoadFault, LoadKind, Sources, load};
-use idl_include::laws::each_file_is_read_as_one_thing;
 use check_passes::CheckFault;
+use idl_include::laws::each_file_is_read_as_one_thing;
+use idl_include::{IdlFile, LoadFault, LoadKind, Sources, load};
 use idl_token::Place;
 use outside::Files;
 use schema::Schema;

@@ -4,8 +4,8 @@ ghost use Rattle.std.specs.Prelude.{◌≡◌, ◌∷◌, [], ◌++◌, codes, I
 ghost use Rattle.idl_check.specs.Lines.{place_in_text, idl_refusal_text};
 
 use crate::kinds::{IdlFaultKind, idl_kind_word};
-use lists::ByteText;
 use idl_token::Place;
+use lists::ByteText;
 use std::alloc::{AllocError, Global};
 use text_out::decimal;
 

@@ -16,13 +16,12 @@ ghost use Rattle.check_passes.specs.Given.{AreGivenValues, AreWorth};
 ghost use Rattle.check_passes.specs.Typed.{IsTyped};
 ghost use Rattle.idl_check.specs.Behind.{IsValued};
 
-use const_evaluator::{program_evaluator, program_ground};
-use const_evaluator::{ValuePlaces, const_names, value_places};
-use idl_names::{Definitions, GivenTree, NameTables, SpotIn, values_at};
+use crate::whole_schema;
 use check_passes::{CheckFault, TypedProgram, evaluate_all};
+use const_evaluator::{ValuePlaces, const_names, program_evaluator, program_ground, value_places};
+use idl_names::{Definitions, GivenTree, NameTables, SpotIn, values_at};
 use idl_types::TypeTables;
 use schema::Schema;
-use crate::whole_schema;
 use std::alloc::Global;
 use thrift_value::Value;
 

@@ -3,9 +3,9 @@
 ghost use Rattle.std.specs.Prelude.{◌≡◌};
 ghost use Rattle.idl_include.specs.Loads.{StopsWith};
 
-use lists::ByteText;
 use idl_parser::ParseKind;
 use idl_token::{LexKind, Place};
+use lists::ByteText;
 use std::alloc::{AllocError, AllocFailed, Global};
 use thiserror::Error;
 

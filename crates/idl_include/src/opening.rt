@@ -8,13 +8,13 @@ ghost use Rattle.idl_include.specs.Begun.{wanted_in, IsFreshFile, IsStarted, IsN
 ghost use Rattle.idl_include.specs.Steps.{load_stage, file_left, includes_left, LoadSteps};
 
 use crate::faults::{LoadKind, LoadStop, NOWHERE, stop_at};
+use crate::laws::a_document_declares_what_its_tree_does;
 use crate::names::base_name;
 use crate::reading::read_file;
 use crate::sources::IdlFile;
-use lists::ByteText;
-use crate::laws::a_document_declares_what_its_tree_does;
 use idl_parser::{Document, Include};
 use idl_token::Place;
+use lists::ByteText;
 use outside::Files;
 use std::alloc::{AllocError, Global};
 

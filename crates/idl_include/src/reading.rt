@@ -12,7 +12,7 @@ ghost use Rattle.idl_include.specs.Loads.{Tells, IsRead, IsTextRead, IsUnread, I
 use crate::faults::{LoadKind, LoadStop, NOWHERE, stop_at};
 use crate::laws::each_file_is_read_as_one_thing;
 use idl_parser::{Document, ParseFault, ParseKind, parse};
-use idl_token::{LexFault, LexKind, LONGEST_IDL_TEXT, Token, tokens};
+use idl_token::{LONGEST_IDL_TEXT, LexFault, LexKind, Token, tokens};
 use outside::{FileFail, Files};
 use std::alloc::Global;
 

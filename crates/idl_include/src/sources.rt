@@ -3,8 +3,8 @@
 ghost use Rattle.std.specs.Prelude.{◌≡◌};
 ghost use Rattle.idl_include.specs.SourcesOf.{sources_in};
 
-use lists::ByteText;
 use idl_parser::Document;
+use lists::ByteText;
 
 /// A file of a program.
 #[derive(Drop)]

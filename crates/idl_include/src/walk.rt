@@ -10,12 +10,12 @@ ghost use Rattle.idl_include.specs.Begun.{written_in, wanted_in, IsNewName};
 ghost use Rattle.idl_include.specs.Steps.{load_stage, file_left, includes_left, include_left, all_loaded, LoadSteps};
 
 use crate::faults::{LoadFault, LoadKind, LoadStop, NOWHERE, no_memory, stop_at};
+use crate::laws::each_file_is_read_as_one_thing;
 use crate::links::link;
 use crate::meanings::{IncludeMeaning, include_meaning};
 use crate::opening::{MAX_FILES, WantedFile, begin_file};
 use crate::sources::{IdlFile, Sources};
 use lists::ByteText;
-use crate::laws::each_file_is_read_as_one_thing;
 use outside::Files;
 use std::alloc::{AllocError, Global};
 use std::collections::VecDeque;

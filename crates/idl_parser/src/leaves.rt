@@ -4,8 +4,8 @@ ghost use Rattle.std.specs.Int.{w64};
 ghost use Rattle.idl_parser.specs.Leaves.{escaped, unescaped, literal_bytes, int_number};
 
 use crate::reader::Stop;
-use lists::ByteText;
 use idl_token::int_value;
+use lists::ByteText;
 use std::alloc::Global;
 
 fn escaped(byte: u8) -> u8

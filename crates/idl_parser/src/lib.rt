@@ -26,8 +26,8 @@ ghost use Rattle.idl_parser.specs.Trees.{document_node};
 
 use crate::reader::{Stop, SymbolReader};
 use idl_token::{
-    LONGEST_IDL_TEXT, Place, Token, an_integer_has_a_place_in_64_bits, each_token_is_of_its_kind, place_at,
-    tokens_stand_in_order,
+    LONGEST_IDL_TEXT, Place, Token, an_integer_has_a_place_in_64_bits, each_token_is_of_its_kind,
+    place_at, tokens_stand_in_order,
 };
 use std::alloc::{AllocError, Global};
 use thiserror::Error;

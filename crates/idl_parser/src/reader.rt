@@ -15,8 +15,8 @@ use crate::ParseKind;
 use crate::leaves::{int_number, literal_bytes};
 use crate::symbol::Symbol;
 use crate::tree::{Double, Int, Literal, Name};
-use lists::ByteText;
 use idl_token::{LONGEST_IDL_TEXT, Place, Terminal, same};
+use lists::ByteText;
 use std::alloc::{AllocError, AllocFailed, Global};
 use std::marker::Model;
 

@@ -1,7 +1,7 @@
 //! Documents as trees.
 
-use lists::ByteText;
 use idl_token::Place;
+use lists::ByteText;
 
 /// An identifier.
 #[derive(Drop)]

@@ -7,9 +7,8 @@ ghost use Rattle.idl_token.specs.Places.{line_and_column};
 ghost use Rattle.idl_token.specs.Tokens.{AreTokensOf, IsFirstLexFault};
 
 use crate::fronts::front_piece;
-use idl_token::{LexFault, LexKind, LONGEST_IDL_TEXT, Piece, Token, place_at};
+use idl_token::{LONGEST_IDL_TEXT, LexFault, LexKind, Piece, Token, place_at};
 use std::alloc::Global;
-
 
 /// The tokens of a small text in order, or its first fault.
 pub fn tokens(alloc: Global, text: &[u8]) -> Result<Vec<Token>, LexFault>

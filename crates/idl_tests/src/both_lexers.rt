@@ -2,7 +2,7 @@
 ghost use Rattle.std.specs.Prelude.{◌≤◌, length};
 
 use idl_token::TokenKind::{Double, Identifier, Int, Keyword, Literal, Refused, Sign};
-use idl_token::{LexFault, LexKind, LONGEST_IDL_TEXT, Token, TokenKind};
+use idl_token::{LONGEST_IDL_TEXT, LexFault, LexKind, Token, TokenKind};
 use std::alloc::Global;
 use std::process::Abort;
 

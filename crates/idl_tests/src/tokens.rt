@@ -1,8 +1,8 @@
 //! Texts with their tokens, at the crate's own calls. The table of texts stands in `idl_plain`, and runs through both lexers.
 
 use idl_token::{
-    LexFault, LexKind, LONGEST_IDL_TEXT, Place, TokenKind, int_value, keyword_of, keyword_text, place_at,
-    tokens,
+    LONGEST_IDL_TEXT, LexFault, LexKind, Place, TokenKind, int_value, keyword_of, keyword_text,
+    place_at, tokens,
 };
 
 #[test]

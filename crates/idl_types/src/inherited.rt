@@ -7,8 +7,8 @@ ghost use Rattle.idl_names.specs.FiledIn.{filed_services};
 ghost use Rattle.idl_types.specs.Rows.{parents_of};
 ghost use Rattle.idl_types.specs.Inherited.{is_told, AreOffered, AreInherited, TellsInherited};
 
-use crate::offers::{Offered, base_of, entry_at, is_in_set, nothing_offered, offer};
 use crate::offer_order::parents_first;
+use crate::offers::{Offered, base_of, entry_at, is_in_set, nothing_offered, offer};
 use idl_names::{InFile, NameSet};
 use idl_parser::Service;
 use std::alloc::{AllocError, Global};

@@ -1,9 +1,8 @@
 //! One connection of a script, from its opening to its closing, a binder over a script of two, and a bell.
 
 use outside::{Ask, Bell, Binder, Hint, Links, Taken};
-use script_links::MemBinder;
+use script_links::{MemBinder, ScriptLinks};
 use script_text::read_script;
-use script_links::ScriptLinks;
 use std::test::Fail;
 
 /// Nothing is under way, and there is room.

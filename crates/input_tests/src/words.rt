@@ -1,8 +1,8 @@
 //! What is read of a table of words, the one of `examples`.
 
-use service_binding::{BindWords, kind_word};
 use command_line::{Command, ServedIdl, WordsFault, read_words};
 use envelope::Protocol;
+use service_binding::{BindWords, kind_word};
 use std::alloc::{AllocError, Global};
 use std::test::Fail;
 use text_out::decimal;

@@ -38,7 +38,11 @@ fn take_lock<R: Wait>(rt: &R, sum: &Mutex<u64>, calls: u32) {
 }
 
 /// The sum that so many threads make at a booth.
-pub(crate) fn booth_sum<R: Threads + Wait + Sync>(rt: &R, alloc: Global, threads: u32) -> Option<u64>
+pub(crate) fn booth_sum<R: Threads + Wait + Sync>(
+    rt: &R,
+    alloc: Global,
+    threads: u32,
+) -> Option<u64>
     requires { (1 ≤ threads) × (threads ≤ most_seats) }
 {
     let Ok((booth, seats)) = new_booth(alloc, RunningSum { sum: 0 }, threads) else {
@@ -57,7 +61,11 @@ pub(crate) fn booth_sum<R: Threads + Wait + Sync>(rt: &R, alloc: Global, threads
 }
 
 /// The sum that so many threads make under a lock.
-pub(crate) fn mutex_sum<R: Threads + Wait + Sync>(rt: &R, alloc: Global, threads: u32) -> Option<u64>
+pub(crate) fn mutex_sum<R: Threads + Wait + Sync>(
+    rt: &R,
+    alloc: Global,
+    threads: u32,
+) -> Option<u64>
     requires { (1 ≤ threads) × (threads ≤ most_seats) }
 {
     let sum = Mutex::new(0);

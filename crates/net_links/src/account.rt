@@ -86,7 +86,11 @@ impl Account {
     pub(crate) fn next_number(&self, room: bool) -> Option<u32>
         ensures { NumbersNext room self.now result }
     {
-        if room && !self.over && self.opened < self.accept && self.numbers.len() < MOST_CONNECTIONS {
+        if room
+            && !self.over
+            && self.opened < self.accept
+            && self.numbers.len() < MOST_CONNECTIONS
+        {
             return Some(self.opened);
         }
         None

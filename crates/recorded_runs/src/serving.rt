@@ -11,15 +11,15 @@ ghost use Rattle.recorded_runs.specs.Steps.{ReportsServed};
 ghost use Rattle.recorded_runs.specs.ServedScripts.{script_to_serve, IsServedScript};
 ghost use Rattle.call_rules.specs.Desks.{longest_payload};
 
+use crate::{Answered, ServingFault, read_input};
 use call_rules::{Desk, Handler};
 use cell_core::written;
 use conn_table::{Limits, Outcome};
 use host_loop::{Served, serve};
 use outside::{Gate, Sink, Source, Tape};
-use crate::{Answered, ServingFault, read_input};
 use run_report::{EntryLine, ReportedJournal, write_report};
-use script_text::Script;
 use script_links::ScriptLinks;
+use script_text::Script;
 use std::alloc::Global;
 use std::sync::Wait;
 use std::thread::Threads;

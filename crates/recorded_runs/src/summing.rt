@@ -11,13 +11,13 @@ ghost use Rattle.workload.specs.ExpectedRun.{work_text};
 ghost use Rattle.workload.specs.Summed.{ComesToSum};
 ghost use Rattle.recorded_runs.specs.Summaries.{WritesSummary, is_want, some_ran_out};
 
+use crate::ServingFault;
 use crate::workloads::Work;
 use call_rules::{Entry, Handler};
 use conn_table::Outcome;
 use host_loop::Served;
 use host_model::EndCause;
 use outside::{Sink, Tape, write_all};
-use crate::ServingFault;
 use run_report::ReportedJournal;
 use std::alloc::{AllocError, Global};
 use workload::{Summary, bytes_read, bytes_written, print_summary, sum_of_answers};

@@ -9,16 +9,16 @@ ghost use Rattle.recorded_runs.specs.declared.fault.ServingFault.TheVariants as 
 ghost use Rattle.recorded_runs.specs.Summaries.{ServesCalculator, WritesSummary};
 ghost use Rattle.call_rules.specs.Desks.{longest_payload};
 
-use crate::workload_laws::a_served_workload_comes_to_its_sum;
 use crate::summing::sum_up;
+use crate::workload_laws::a_served_workload_comes_to_its_sum;
+use crate::{Answered, ServingFault};
 use call_rules::{Desk, Handler};
 use conn_table::Limits;
 use host_loop::{Served, serve};
 use outside::{Gate, Sink};
-use crate::{Answered, ServingFault};
 use run_report::ReportedJournal;
-use script_text::Script;
 use script_links::ScriptLinks;
+use script_text::Script;
 use std::alloc::Global;
 use std::sync::Wait;
 use std::thread::Threads;

@@ -8,12 +8,12 @@ ghost use Rattle.outside.specs.Binding.{StartListening, HasBindCause, told_past}
 ghost use Rattle.script_links.specs.Followed.{AreFirstLinksOf};
 ghost use Rattle.script_links.specs.Listens.{listening_told, after_listen, after_return};
 
+use crate::ScriptLinks;
 use crate::bound::BoundLinks;
 use crate::copy::copy_of;
 use crate::past::{PastChain, PastRow};
 use outside::{BindFail, Binder};
 use script_text::Script;
-use crate::ScriptLinks;
 use std::alloc::Global;
 use std::marker::Model;
 use std::mem;

@@ -9,8 +9,8 @@ ghost use Rattle.script_links.specs.Listens.{listening_told, plan_of_listening};
 ghost use Rattle.script_links.specs.Followed.{LinksPlan};
 
 use crate::past::PastChain;
-use outside::{Ask, Failed, Hint, Links, Taken};
 use crate::{ScriptBell, ScriptLinks};
+use outside::{Ask, Failed, Hint, Links, Taken};
 use std::alloc::{AllocError, Global};
 use std::marker::Model;
 use std::sync::Wait;

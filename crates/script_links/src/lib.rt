@@ -30,5 +30,6 @@ pub use binder::MemBinder;
 pub use bound::BoundLinks;
 pub use over_script::{ScriptBell, ScriptLinks};
 pub use script_text::{
-    RuleList, RuleLists, Script, ScriptFault, ScriptKind, ScriptLine, ScriptLines, WriteRule, print_script, read_script,
+    RuleList, RuleLists, Script, ScriptFault, ScriptKind, ScriptLine, ScriptLines, WriteRule,
+    print_script, read_script,
 };

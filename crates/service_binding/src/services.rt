@@ -5,8 +5,8 @@ ghost use Rattle.schema.specs.SchemaOf.{schema_of};
 ghost use Rattle.schema.specs.Sound.{IsSound};
 ghost use Rattle.service_binding.specs.Services.{is_name_taken, number_for};
 
-use crate::fault::BindKind;
 use crate::Word;
+use crate::fault::BindKind;
 use call_rules::Kind;
 use schema::Schema;
 

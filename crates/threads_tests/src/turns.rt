@@ -4,8 +4,7 @@ use crate::counts::Counts;
 use crate::ping::PingDesk;
 use crate::serving::{close, opened, submit};
 use call_rules::Key;
-use hall_pool::Seating;
-use hall_pool::{Door, Turn, Worker};
+use hall_pool::{Door, Seating, Turn, Worker};
 use std::test::Fail;
 
 #[test]

@@ -11,6 +11,7 @@ ghost use Rattle.schema.specs.Sound.{IsSound};
 ghost use Rattle.thrift_host.specs.Runs.{HasSchema};
 ghost use Rattle.thrift_host.specs.Steps.{IsArrangedAs, TellsUnarranged, is_unread_file};
 
+use crate::{BindFault, bind};
 use call_rules::Handler;
 use command_line::ServedIdl;
 use idl_check::{NoSchema, program_schema};
@@ -18,7 +19,6 @@ use outside::Files;
 use processor::Office;
 use recorded_runs::ServingFault;
 use schema::Schema;
-use crate::{BindFault, bind};
 use std::alloc::Global;
 
 /// Why a run has no report, or no whole one.

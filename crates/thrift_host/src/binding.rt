@@ -9,11 +9,10 @@ ghost use Rattle.schema.specs.Sound.{IsSound};
 ghost use Rattle.thrift_host.specs.MayBeServed.{MayBeServed};
 ghost use Rattle.struct_skew.specs.Needs.{needs_of};
 
-use service_binding::BindWords;
 use call_rules::Handler;
-use service_binding::{BindFault, bind_pairs};
 use processor::{Bindings, BoundNames};
 use schema::Schema;
+use service_binding::{BindFault, BindWords, bind_pairs};
 use std::alloc::Global;
 
 /// Binds each pair's name to its service and to a handler of its kind, and gives the handlers in the order of the pairs. The other

@@ -22,10 +22,10 @@ use call_rules::Handler;
 use command_line::{Command, ServedIdl, WordsFault, read_words};
 use outside::{Binder, Files, Gate, Sink, Source};
 use port_serving::ServedPort;
+use recorded_runs::Work;
 use std::alloc::Global;
 use std::sync::Wait;
 use std::thread::Threads;
-use recorded_runs::Work;
 
 /// Runs the command of these words, which leave the program's name out: it checks an IDL and writes the text of its schema to the output; it runs the
 /// script of recorded connections that its input is, with these handlers, and writes the report there, without threads, or by a loop with workers that pass the

@@ -5,18 +5,17 @@ ghost use Rattle.service_binding.specs.Refusals.{refused_pair_text};
 ghost use Rattle.recorded_runs.specs.Refusals.{refused_script_text};
 ghost use Rattle.thrift_host.specs.Steps.{EndsAfterRun, EndsAfterServing, EndsUnbound, EndsUnanswered, status_of_port};
 
+use crate::BindFault;
 use crate::arranging::RunFault;
 use crate::checking::end_without_schema;
 use crate::saying::{end, end_saying};
 use crate::serving::ServeFault;
 use crate::status::Status;
-use service_binding::BindWords;
 use outside::Sink;
-use service_binding::{BindKind, put_refused_pair};
 use port_serving::PortFault;
 use recorded_runs::{ServingFault, put_refused_script};
 use script_text::ScriptFault;
-use crate::BindFault;
+use service_binding::{BindKind, BindWords, put_refused_pair};
 use std::alloc::{AllocError, Global};
 
 /// Ends the command with what became of a run with these pairs.

@@ -20,7 +20,6 @@ ghost use Rattle.thrift_host.specs.declared.arranging.RunFault.TheVariants as fa
 
 use crate::arranging::{RunFault, bind_pairs};
 use crate::journal::ReportedList;
-use service_binding::{BindWords, Word};
 use call_rules::{Handler, Kind};
 use command_line::ServedIdl;
 use conn_table::Limits;
@@ -28,13 +27,13 @@ use envelope::Protocol;
 use idl_check::program_schema;
 use outside::{Files, Gate, Sink};
 use processor::Office;
-use recorded_runs::ServingFault;
+use recorded_runs::{ServingFault, Work, serve_workload};
 use schema::Schema;
+use service_binding::{BindWords, Word};
 use std::alloc::{AllocError, Global};
 use std::sync::Wait;
 use std::thread::Threads;
 use workload::is_calculator;
-use recorded_runs::{Work, serve_workload};
 
 /// What a workload serves, as words would say it.
 pub(crate) fn workload_words(alloc: Global, workers: u32) -> Result<ServedIdl, AllocError>

@@ -31,12 +31,12 @@ mod tidiness;
 mod value;
 mod wire_fault;
 
-pub use lists::ByteText;
 pub use fn_shapes::FnShapes;
 pub use laws::{
     alike_values_are_the_same, code_tells_the_tree, copies_measure_alike, count_is_one_or_more,
     order_is_total, plain_value_is_alike, tidy_value_is_well_tagged, trees_of_values,
 };
+pub use lists::ByteText;
 pub use tag::Tag;
 pub use value::{Fields, Items, Pairs, Raw, Value};
 pub use wire_fault::WireFault;

@@ -28,10 +28,10 @@ ghost use Rattle.workload.specs.Calculators.{IsCalculator, IsCalculatorsOffice};
 ghost use Rattle.workload.specs.CalculatorTests.{is_calculator};
 ghost use Rattle.workload.specs.Summed.{HasCalculator, ComesToSum};
 
+use crate::laws::frames_are_answered;
 use envelope::heads_are_read_back;
 use host_model::laws::less_than_a_frame;
 use wire_model::laws::written_is_read;
-use crate::laws::frames_are_answered;
 
 /// The pieces of a connection, one behind the other, are its bytes.
 pub fn pieces_are_the_bytes()
