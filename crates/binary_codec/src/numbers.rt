@@ -17,7 +17,7 @@ pub(crate) fn u8_in(input: Input<'_>) -> Result<(u8, Input<'_>), WireFault>
     Ok((number, input.with_bytes(behind)))
 }
 
-/// Eight bits.
+/// Reads eight bits.
 pub(crate) fn i8_in(input: Input<'_>) -> Result<(i8, Input<'_>), WireFault>
     ensures { AnswersExactly (λ r. (r.0, r.1)) result (signed w8 input.entry) }
 {
@@ -25,7 +25,7 @@ pub(crate) fn i8_in(input: Input<'_>) -> Result<(i8, Input<'_>), WireFault>
     Ok((number, input.with_bytes(behind)))
 }
 
-/// Sixteen bits.
+/// Reads sixteen bits.
 pub(crate) fn i16_in(input: Input<'_>) -> Result<(i16, Input<'_>), WireFault>
     ensures { AnswersExactly (λ r. (r.0, r.1)) result (signed w16 input.entry) }
 {
@@ -33,7 +33,7 @@ pub(crate) fn i16_in(input: Input<'_>) -> Result<(i16, Input<'_>), WireFault>
     Ok((number, input.with_bytes(behind)))
 }
 
-/// Thirty-two bits.
+/// Reads thirty-two bits.
 pub(crate) fn i32_in(input: Input<'_>) -> Result<(i32, Input<'_>), WireFault>
     ensures { AnswersExactly (λ r. (r.0, r.1)) result (signed w32 input.entry) }
 {
@@ -41,7 +41,7 @@ pub(crate) fn i32_in(input: Input<'_>) -> Result<(i32, Input<'_>), WireFault>
     Ok((number, input.with_bytes(behind)))
 }
 
-/// Sixty-four bits.
+/// Reads sixty-four bits.
 pub(crate) fn i64_in(input: Input<'_>) -> Result<(i64, Input<'_>), WireFault>
     ensures { AnswersExactly (λ r. (r.0, r.1)) result (signed w64 input.entry) }
 {
@@ -49,7 +49,7 @@ pub(crate) fn i64_in(input: Input<'_>) -> Result<(i64, Input<'_>), WireFault>
     Ok((number, input.with_bytes(behind)))
 }
 
-/// Sixty-four bits, unsigned.
+/// Reads sixty-four bits, unsigned.
 pub(crate) fn u64_in(input: Input<'_>) -> Result<(u64, Input<'_>), WireFault>
     ensures { AnswersExactly (λ r. (r.0, r.1)) result (unsigned w64 input.entry) }
 {

@@ -45,7 +45,7 @@ impl Calculator {
     ghost use Rattle.call_rules.specs.CalculatorRule.{calculate_answered, calculation, get_struct_answered, work_done, calculated, kept_struct};
     ghost use Rattle.calculator.specs.Kept.{calculator_memory, calculator_service, result_seen};
 
-    /// A calculator that has calculated nothing; takes no memory.
+    /// Makes a calculator that has calculated nothing; takes no memory.
     pub fn new(alloc: Global) -> Self
         ensures { calculator_service result ≡ new_service kinds.Calculator }
     {

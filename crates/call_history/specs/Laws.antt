@@ -7,7 +7,7 @@ use Rattle.call_history.specs.History.{meaning_after, IsHistory}
 use Rattle.call_history.specs.Calls.{SeatAsk, calls_by, ask_of, asks_of, AllAllowed}
 
 module _ {Q A M : Type 0} where
-  -- behind one more call the object means what the call left
+  -- after one more call the object means what the call left
   pub meaning_after-push : (first : M) (log : List (SeatCall Q A M)) (e : SeatCall Q A M) → meaning_after first (log ++ e ∷ []) ≡ e.after
   meaning_after-push first [] e = refl
   meaning_after-push first (x ∷ xs) e = meaning_after-push x.after xs e
@@ -77,7 +77,7 @@ module _ {Q A M : Type 0} where
     pub AllAllowed-front : (first : N) (front back : List (SeatCall Q A M)) → AllAllowed may first (front ++ back) → AllAllowed may first front
     AllAllowed-front first front back h xs ys e is = h xs (ys ++ back) e (ap (λ l. l ++ back) is ∙ append_assoc xs (e ∷ ys) back)
 
-  -- a beginning stays one behind one more call
+  -- a beginning stays one after one more call
   pub IsPrefix-push : (seen log : List (SeatCall Q A M)) (e : SeatCall Q A M) → IsPrefix seen log → IsPrefix seen (log ++ e ∷ [])
   IsPrefix-push seen log e p = (p.0 ++ e ∷ [], sym (append_assoc seen p.0 (e ∷ [])) ∙ ap (λ l. l ++ e ∷ []) p.1)
 

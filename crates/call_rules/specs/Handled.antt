@@ -3,7 +3,7 @@ use Rattle.std.specs.Prelude.{Option, None, Some}
 use Rattle.thrift_value.specs.Tree.{Tree}
 use Rattle.call_rules.specs.PlainCalls.{PlainAnswer, broken}
 
--- the answer to a call, and the memory behind it
+-- the answer to a call, and the memory after it
 pub record Handled : Type 0 where
   pub answer : PlainAnswer
   pub memory : Tree

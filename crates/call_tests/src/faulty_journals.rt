@@ -9,7 +9,7 @@ use run_report::ReportedJournal;
 use std::alloc::{AllocError, Global};
 use std::marker::Model;
 
-// A journal that fails at the append with this number, and at all behind it.
+// A journal that fails at the append with this number, and at all after it.
 #[derive(Drop)]
 pub(crate) struct FaultyJournal {
     list: ListJournal,
@@ -34,7 +34,7 @@ impl Model for FaultyJournal {
 }
 
 impl FaultyJournal {
-    // No entries yet.
+    // Makes a journal without entries.
     pub(crate) fn new(alloc: Global, fails_at: usize) -> Self
         ensures empty { result.0.entries ≡ [] }
         ensures whole { result.1.1 ≡ false }

@@ -1,5 +1,6 @@
-//! Tests of calls: what an office decides and replies, what handlers answer, a recorded connection that both serve, and runs of two beside the plain machine;
-//! texts of values, entries' lines, and journals.
+//! Tests of calls: what an office (`processor`) decides and replies, what handlers (`calculator`, `house_handlers`) answer, a recorded connection that both serve
+//! (`recorded_runs`), and runs of two (`cell_core`) beside the plain machine (`machine_model`); texts of values (`value_text`), entries' lines, and journals
+//! (`journal_text`).
 #![tactic(auto)]
 
 #[cfg(test)]

@@ -42,13 +42,13 @@ const DECIDED: [Decided; 7] = [
         b"\x82\x21\x01\x03V:f\x00",
         Outcome::Invoke,
     ),
-    // No method: 'Invalid method name: 'g''.
+    // There is no such method: 'Invalid method name: 'g''.
     (
         Protocol::Compact,
         b"\x82\x21\x01\x01g\x00",
         Outcome::Reply(38),
     ),
-    // Sent without a reply.
+    // The call is sent without a reply.
     (Protocol::Compact, b"\x82\x81\x01\x01g\x00", Outcome::Silent),
     // The arguments have no end: 'Bad arguments: Short'.
     (Protocol::Compact, b"\x82\x21\x01\x01f", Outcome::Reply(34)),

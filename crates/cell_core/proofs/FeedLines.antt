@@ -34,7 +34,7 @@ module _ (feeds : List Feed) (c : ℕ) (feed : Feed) (there : c < length feeds) 
   piece_refused next some unread finish rules =
       feed_put feeds c next (unread_in feeds c) (finish_in feeds c) (rules_in feeds c) there all some (unread ∙ unread_there) (finish ∙ finish_there) (rules ∙ rules_there)
 
-  -- what comes behind all pieces is known
+  -- what comes after all pieces is known
   pub finish_known : (next : Feed) (known : InputFinish) → HasSomePieces next → unread_of next ≡ unread_of feed → finish_of next ≡ Some known → rules_left next ≡ rules_left feed
       → HasFeed c (unread_in feeds c) (Some known) (rules_in feeds c) feeds (set feeds c next)
   finish_known next known some unread finish rules =

@@ -198,7 +198,7 @@ module _ (old : Parts) (new : LoopPart) (c : ℕ) (only : IsFedOnly old.part new
       pieces_passed s c old.part new play tied only.table only.tape only.stages (play.unread c ++ bytes ∷ [])
       (subst (λ k. HasFeed c (k ++ bytes ∷ []) (finish_in old.part.feeds.items c) (rules_in old.part.feeds.items c) old.part.feeds.items new.feeds.items) (sym (tied.unread c)) has))
 
-  -- the input ends, or a read behind it fails
+  -- the input ends, or a read after its pieces fails
   finish_line : (line : PlanLine) (finish : InputFinish)
       → ((s : CellSetting) (passes enough : ℕ) (memory : ℕ → MemoryAt) (play : ServedPlay) → one_line s line passes enough memory play ≡ Some (record play { finish = at_number play.finish c (Some finish) }))
       → HasFeed c (unread_in old.part.feeds.items c) (Some finish) (rules_in old.part.feeds.items c) old.part.feeds.items new.feeds.items
@@ -280,7 +280,7 @@ module _ {A : Type 0} (f : A → PlanLine) (lines : List A) (desk : DeskMeaning)
       subst (λ ls. ComesTo (all_lines s ls) x z) (sym (left_lines f lines i line below here)) (then_comes (one_line s (f line)) (all_lines s (drop (i + 1) (map f lines))) x y z one two))
       g (subst (λ k. ComesThrough (HasCrew desk k) (λ s. one_line s (f line)) mid new) g.kept.workers d)
 
-  -- behind the last line
+  -- after the last line
   pub lines_last : length lines ≤ i → ComesThrough (HasCrew desk (length mid.workers)) all_passes mid new → ComesThrough (HasCrew desk (length old.workers)) (λ s. all_lines s (map f lines)) old new
   lines_last past d =
       comes_last (HasCrew desk (length old.workers)) (λ s. all_lines s (map f lines)) (λ s. all_lines s (drop i (map f lines))) old mid new g
@@ -312,7 +312,7 @@ pub rest_ok : {A E : Type 0} (V : CellSetting → Type 0) (old new : Parts) (r :
 rest_ok V old new (Ok value) other same d = subst (λ (l : PlanLine). ComesThrough V (λ s. one_line s l) old new) (sym same) (rest_line V old new d)
 rest_ok V old new (Err fault) other same d = tt
 
--- the last drain behind all lines, and where it stops
+-- the last drain after all lines, and where it stops
 module _ {A : Type 0} (f : A → PlanLine) (lines : List A) (desk : DeskMeaning) (i : ℕ) (old mid new : Parts)
     (g : LoopIsRunning (HasCrew desk (length old.workers)) (λ s. all_lines s (map f lines)) (λ s. all_lines s (drop i (map f lines))) old mid) where
   pub last_ok : {X E : Type 0} (r : Result X E) → length lines ≤ i → OnOk r (ComesThrough (HasCrew desk (length mid.workers)) all_passes mid new)

@@ -38,7 +38,7 @@ only_faults Fails result tells = subst (λ r. IfErr r (λ stop. stop ≡ Journal
 module _ (desk : DeskMeaning) (w : ℕ) (part : LoopPart) (hall new_hall : ServedHall) (workers : List Holding) (next : Holding) (stepped : Stepped) (there : w < length workers)
     (turned : IsWorkerTurn desk hall new_hall (get_or workers w Idle) next stepped)
     (reaches : (s : CellSetting) (v : ℕ) (one other : ServedPlay) → IsReached s one.cell → ComesTo (one_of_worker s v) one other → IsReachedFrom s one.cell other.cell) where
-  -- the machine before the step, and behind it
+  -- the machine before the step, and after it
   abbrev before : Parts
   before = record { part = part; hall = hall; workers = workers }
 

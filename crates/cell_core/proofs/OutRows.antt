@@ -63,7 +63,7 @@ write_added tape mark c (suc n) zero own =
 write_added tape mark c (suc n) (suc k) own =
     (λ i. sym (other_mark c tape mark (λ e. let f : ⊥ = omega arith in f)) i ∷ write_added tape mark (suc c) n k (omega arith) i)
 
--- the rows behind a mark more
+-- the rows after a mark more
 behind_one : (tape : List Mark) (n : ℕ) (mark : Mark) → rows_behind (written_from tape 0 n) mark ≡ written_from (tape ++ mark ∷ []) 0 n
 behind_one tape n (Opened c) = quiet_mark tape (Opened c) 0 n refl
 behind_one tape n (Read c bytes) = quiet_mark tape (Read c bytes) 0 n refl
@@ -73,7 +73,7 @@ behind_one tape n (ReadFailed c) = quiet_mark tape (ReadFailed c) 0 n refl
 behind_one tape n (WriteFailed c) = quiet_mark tape (WriteFailed c) 0 n refl
 behind_one tape n (Closed c) = quiet_mark tape (Closed c) 0 n refl
 
--- the rows behind more marks
+-- the rows after more marks
 abbrev pub rows_behind_all : List (List ℕ) → List Mark → List (List ℕ)
 rows_behind_all rows [] = rows
 rows_behind_all rows (mark ∷ marks) = rows_behind_all (rows_behind rows mark) marks
@@ -83,6 +83,6 @@ behind_all front [] n = ap (λ t. written_from t 0 n) (sym (append-nil front))
 behind_all front (mark ∷ marks) n =
     ap (λ rows. rows_behind_all rows marks) (behind_one front n mark) ∙ behind_all (front ++ mark ∷ []) marks n ∙ ap (λ t. written_from t 0 n) (append_assoc front (mark ∷ []) marks)
 
--- the rows behind all marks of a tape
+-- the rows after all marks of a tape
 pub rows_of_all : (rows : List (List ℕ)) (marks : List Mark) (n : ℕ) → rows ≡ replicate n [] → rows_behind_all rows marks ≡ written_from marks 0 n
 rows_of_all rows marks n empty = ap (λ r. rows_behind_all r marks) (empty ∙ none_written n 0) ∙ behind_all [] marks n

@@ -69,7 +69,7 @@ crew_on desk all left old now g m =
     let next : (next : ServedPlay) × ContinuesWith (all m.0) (left m.0) u.play next × ArePlayed m.0 now next = g.goes m.0 u.play (m.1, sym u.counted) u.tied in
     (m.0, m.1, under_way_on m.0 old now u g.kept next.0 next.2)
 
--- the same behind something that was done
+-- the same after something that was done
 pub done_on : (W : CellSetting → Type 0) (desk : DeskMeaning) (doing : CellSetting → Doing) (old new : Parts) (moved : Bool) → ((s : CellSetting) → HasDesk desk s → W s) → IsDone W doing old moved new
     → IsOfDesk desk old → IsOfDesk desk new
 done_on W desk doing old new moved narrow d m =
@@ -258,7 +258,7 @@ loop_stops W all left old mid new moved stop g st =
 pub run_stops : (W : CellSetting → Type 0) (all left : CellSetting → Doing) (old mid new : Parts) (stop : RunStop) → LoopIsRunning W all left old mid → StopsMachine W mid new stop → StopsMachine W old new stop
 run_stops W all left old mid new stop g st = stops_behind W old mid new (reaches_so W all left old mid g) g.later stop g.kept st
 
--- one behind what was done
+-- one after what was done
 pub done_stops : (W : CellSetting → Type 0) (doing : CellSetting → Doing) (old mid new : Parts) (moved : Bool) (stop : RunStop) → IsDone W doing old moved mid → StopsMachine W mid new stop
     → StopsMachine W old new stop
 done_stops W doing old mid new moved stop d st =
@@ -306,7 +306,7 @@ module _ (desk : DeskMeaning) (old mid new : Parts) (more : Bool) (g : LoopIsRun
   passed_so : IsDone (HasCrew desk (length old.workers)) one_pass mid more new
   passed_so = subst (λ k. IsDone (HasCrew desk k) one_pass mid more new) g.kept.workers passed
 
-  -- a pass that has moved something, and those behind it
+  -- a pass that has moved something, and those after it
   pub drain_round : more ≡ true → LoopIsRunning (HasCrew desk (length old.workers)) all_passes all_passes old new
   drain_round e =
       goes_further (HasCrew desk (length old.workers)) all_passes all_passes one_pass all_passes old mid new true (λ s x y z crew some one two. passes_go_on s x y z some one two) g

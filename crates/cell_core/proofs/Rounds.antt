@@ -19,14 +19,14 @@ pub record IsGoing (with_setting : CellSetting → Type 0) (all left : CellSetti
   pub less : LeavesLess moved old now
   pub later : old.hall.faults ≤ now.hall.faults
 
--- The same, with no word of moves.
+-- The same, where nothing is said of moves.
 pub record LoopIsRunning (with_setting : CellSetting → Type 0) (all left : CellSetting → Doing) (old now : Parts) : Type 0 where
   pub goes : (s : CellSetting) (play : ServedPlay) → with_setting s → ArePlayed s old play
       → (next : ServedPlay) × ContinuesWith (all s) (left s) play next × ArePlayed s now next
   pub kept : MoveKeeps old now
   pub later : old.hall.faults ≤ now.hall.faults
 
--- ---- what two rows of moves are, one behind the other
+-- ---- what two rows of moves are, one after the other
 
 pub moves_both : (one more : Bool) (a b c : ServedPlay) → CountsMove one a b → CountsMove more b c → CountsMove (one || more) a c
 moves_both true true a b c l m = omega arith
@@ -54,7 +54,7 @@ kept_both old mid new one more = record { room = more.room; workers = more.worke
 pub kept_none : (old : Parts) → HasRoomToClose old.part → MoveKeeps old old
 kept_none old room = record { room = room; workers = refl; feeds = refl }
 
--- a count that rose behind others
+-- a count that rose after others
 pub rose_behind : (a b c : ℕ) → a ≤ b → Rose b c → Rose a c
 rose_behind a b c l rose = grind (arith, rose)
 
@@ -88,7 +88,7 @@ module _ (W : CellSetting → Type 0) (all : CellSetting → Doing) where
           later = let one_ : old.hall.faults ≤ mid.hall.faults = g.later in let two : mid.hall.faults ≤ new.hall.faults = d.later in omega arith;
         }
 
-    -- the same, with no word of moves so far
+    -- the same, where nothing is said of moves so far
     pub goes_further : (more : Bool)
         → ((s : CellSetting) (a b c : ServedPlay) → W s → CountsMove more a b → ComesTo (one s) a b → ComesTo (rest s) b c → ComesTo (left s) a c)
         → LoopIsRunning W all left old mid → IsDone W one mid more new → LoopIsRunning W all rest old new
@@ -105,7 +105,7 @@ module _ (W : CellSetting → Type 0) (all : CellSetting → Doing) where
           later = let one_ : old.hall.faults ≤ mid.hall.faults = g.later in let two : mid.hall.faults ≤ new.hall.faults = d.later in omega arith;
         }
 
-    -- the same of what is told with no word of moves
+    -- the same, where nothing is told of moves
     pub comes_further : ((s : CellSetting) (a b c : ServedPlay) → W s → ComesTo (one s) a b → ComesTo (rest s) b c → ComesTo (left s) a c)
         → LoopIsRunning W all left old mid → ComesThrough W one mid new → LoopIsRunning W all rest old new
     comes_further join g d =
@@ -154,7 +154,7 @@ module _ (W : CellSetting → Type 0) (all : CellSetting → Doing) where
           later = g.later;
         }
 
-    -- the same with no word of moves
+    -- the same where nothing is said of moves
     pub comes_last : (old mid new : Parts) → LoopIsRunning W all left old mid → ComesThrough W left mid new → ComesThrough W all old new
     comes_last old mid new g d =
         record {
@@ -205,7 +205,7 @@ failed_behind s old mid new later f =
       torn = record { told = f.torn.told; memories = f.torn.memories; torn = f.torn.torn; rose = rose_behind old.hall.faults mid.hall.faults new.hall.faults later f.torn.rose };
     }
 
--- a run that stops behind what was done
+-- a run that stops after what was done
 module _ (W : CellSetting → Type 0) (old mid new : Parts) (reaches : StaysReached W old mid) (later : old.hall.faults ≤ mid.hall.faults) where
   by_behind : (stop : RunStop) → StopsBy W mid new stop → StopsBy W old new stop
   by_behind NoMemory by = λ s play w tied. let now : (now : ServedPlay) × ArePlayed s mid now = reaches s play w tied in by s now.0 w now.1

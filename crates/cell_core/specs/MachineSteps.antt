@@ -22,7 +22,7 @@ pub record IsConnStep {E : Type 0} (max c : ℕ) (old new : Parts) (result : Res
   pub kept : MoveKeeps old new
   pub later : old.hall.faults ≤ new.hall.faults
 
--- The same of a collect.
+-- The same is so of a collect.
 pub record IsOutcomeStep (old new : Parts) (moved : Bool) : Type 0 where
   pub moves : (max : ℕ) → MachineMoves max one_of_outcome old moved new
   pub less : LeavesLess moved old new

@@ -26,11 +26,11 @@ AreUnderWay s now = IsUnderWay s now.part now.hall now.workers
 abbrev pub SomeMachine : Parts → Type 0
 SomeMachine now = (s : CellSetting) × AreUnderWay s now
 
--- with one in which the longest payload is this
+-- the same, with some setting in which the longest payload is this
 abbrev pub IsMachine : ℕ → Parts → Type 0
 IsMachine max now = (s : CellSetting) × (s.desk.max_frame ≡ max) × AreUnderWay s now
 
--- with one of this desk
+-- the same, with some setting of this desk
 abbrev pub IsOfDesk : DeskMeaning → Parts → Type 0
 IsOfDesk desk now = (s : CellSetting) × (s.desk ≡ desk) × AreUnderWay s now
 

@@ -11,6 +11,6 @@ pub record Parts : Type 0 where
   pub hall : ServedHall
   pub workers : List Holding
 
--- those of a machine in memory
+-- the parts of a machine in memory
 abbrev pub parts_of : {H J : Type 0} → Machine H J → Parts
 parts_of m = record { part = m.part; hall = m.hall; workers = m.workers.items }

@@ -21,14 +21,14 @@ use Rattle.cell_core.specs.declared.worker.Holding.TheVariants.{Idle}
 use Rattle.cell_loop.specs.Feeds.{AreFreshFeeds}
 use Rattle.cell_loop.specs.Settings.{CellSetting, ServedCell, desk_of_setting}
 
--- what is seen of a run behind its end: the tape, the causes, what the journal tells, and the services
+-- what is seen of a run after its end: the tape, the causes, what the journal tells, and the services
 pub record SeenRun : Type 0 where
   pub tape : List Mark
   pub causes : List EndCause
   pub told : Option (List CallEntry)
   pub services : List ServiceState
 
--- a machine that looks so behind its end
+-- a machine that looks so after its end
 pub record ShowsRun (run : SeenRun) (last : ServedCell) : Type 0 where
   pub tape : last.loop.tape ≡ run.tape
   pub ended : HaveAllEnded last.loop run.causes
@@ -88,7 +88,7 @@ written_from tape c (suc n) = output (marks_of c tape) ∷ written_from tape (su
 abbrev pub AreWritten : ℕ → List Mark → List (List ℕ) → Type 0
 AreWritten count tape outs = outs ≡ written_from tape 0 count
 
--- what was written to each behind one mark more
+-- what was written to each after one mark more
 abbrev pub rows_behind : List (List ℕ) → Mark → List (List ℕ)
 rows_behind rows (Wrote c bytes) = slice_set rows c (slice_index_or rows c [] ++ bytes)
 rows_behind rows _ = rows

@@ -26,7 +26,7 @@ pub fn written(alloc: Global, mut marks: Cursor<'_>, count: usize) -> Result<Out
     Ok(Outs::new(items))
 }
 
-/// So many empty rows.
+/// Makes so many empty rows.
 fn rows(alloc: Global, count: usize) -> Result<Vec<Vec<u8>>, AllocError>
     ensures { IfOk result (λ all. map (λ row. row.items) all.items ≡ replicate count []) }
 {

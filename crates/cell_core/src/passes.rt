@@ -203,7 +203,7 @@ impl<'a, H: Handler, J: Journal> Machine<'a, H, J> {
         Ok(())
     }
 
-    /// The input of a connection ends behind its pieces.
+    /// The input of a connection ends after its pieces.
     fn end_input(&mut self, c: u32)
         requires under_way { SomeMachine (parts_of self.old) }
         requires there { c < length self.old.part.feeds.items }
@@ -212,7 +212,7 @@ impl<'a, H: Handler, J: Journal> Machine<'a, H, J> {
         self.part.feeds[c as usize].finish = Some(InputEnd::Ends);
     }
 
-    /// A read of a connection fails behind its pieces.
+    /// A read of a connection fails after its pieces.
     fn fail_input(&mut self, c: u32)
         requires under_way { SomeMachine (parts_of self.old) }
         requires there { c < length self.old.part.feeds.items }
@@ -287,7 +287,7 @@ impl<'a, H: Handler, J: Journal> Machine<'a, H, J> {
         }
     }
 
-    /// Does the lines in order, and drains the run behind the last.
+    /// Does the lines in order, and drains the run after the last.
     pub(crate) fn do_lines<D: Desk>(
         &mut self,
         alloc: Global,

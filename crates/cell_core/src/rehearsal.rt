@@ -37,7 +37,7 @@ pub struct Rehearsed<H: Handler, J: Journal> {
     pub outs: Outs,
     /// By what each connection ended.
     pub ends: Ends,
-    /// The handlers, behind all calls.
+    /// The handlers, after all calls.
     pub handlers: Vec<H>,
     /// The journal of the calls.
     pub journal: J,
@@ -46,7 +46,7 @@ pub struct Rehearsed<H: Handler, J: Journal> {
 }
 
 /// Runs a script by the machine of loop, hall and workers, without threads: its lines are done in order, and the run is drained
-/// at each line of rest and behind the last line. A run to its end is the rehearsal of the script. Where the journal fails, or
+/// at each line of rest and after the last line. A run to its end is the rehearsal of the script. Where the journal fails, or
 /// memory for the run itself runs out, each connection that is open ends since the host stops, and the run so far is still one
 /// of the machine.
 pub fn rehearse<D: Desk, H: Handler, J: Journal>(
@@ -193,7 +193,7 @@ fn finished<'a, H: Handler, J: Journal>(
     }
 }
 
-/// An outcome where memory ran out behind it: a fault of the journal stays.
+/// An outcome where memory ran out after it: a fault of the journal stays.
 fn without_memory(outcome: Outcome) -> Outcome
     ensures all { result ≢ All }
     ensures fault { result ≡ JournalFault → outcome ≡ JournalFault }

@@ -18,7 +18,7 @@ pub struct Given {
 /// What a worker holds.
 #[derive(Drop)]
 pub enum Holding {
-    /// No job.
+    /// It holds no job.
     Idle,
     /// A job of which nothing was done.
     Holds(Job),

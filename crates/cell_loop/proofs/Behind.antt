@@ -1,4 +1,4 @@
--- A connection is closed behind a mark: what is left of room, and that it is what comes behind all pieces.
+-- A connection is closed after a mark: what is left of room, and that it is what comes after all pieces.
 use Rattle.std.proofs.Common.{Vec, Global, ◌≡◌, ℕ, suc, ◌+◌, ◌*◌, ◌^◌, ◌<◌, ◌≤◌, None, Some, List, [], ◌∷◌, ◌++◌, length, slice_set, refl, sym, ap, ◌∙◌, subst, IsSome, length-append, append_assoc, arith}
 use Rattle.std.specs.Int.{w32, to_be_bytes}
 use Rattle.std.specs.Vec.{vec_capacity}
@@ -31,7 +31,7 @@ use Rattle.cell_loop.proofs.Becoming.{after_one, ended_tied}
 use Rattle.cell_loop.proofs.OneMove.{ends_so, fails_so}
 use Rattle.cell_loop.proofs.ReadingOn.{Reading, reading, is_going, is_owing_nothing, reads_behind}
 
--- What is closed in a part that has one mark more, and has changed in the table there alone, is closed behind that mark.
+-- What is closed in a part that has one mark more, and has changed in the table there alone, is closed after that mark.
 pub closes_on : (c : ℕ) (mark : Mark) (cause : EndCause) (old mid new : LoopPart) → IsSameBut c old.table mid.table → length mid.table.slots ≡ length old.table.slots
     → mid.stages.items ≡ old.stages.items → mid.tape.items ≡ old.tape.items ++ mark ∷ [] → mid.tape.capacity ≡ old.tape.capacity → mid.feeds ≡ old.feeds → mid.ends ≡ old.ends
     → IsClosed c cause mid new → ClosesBehind c mark cause old new
@@ -47,7 +47,7 @@ closes_on c mark cause old mid new but count stages tape capacity feeds ends clo
       ends = closed.ends ∙ ends;
     }
 
--- room is left behind a close
+-- room is left after a close
 pub gone_room : (c : ℕ) (cause : EndCause) (old new : LoopPart) → IsClosed c cause old new → HasRoomToClose old → HasRoomToClose new
 gone_room c cause old new closed room =
     let marks : length new.tape.items ≡ length old.tape.items + 1 = ap length closed.tape ∙ length-append old.tape.items (Closed c ∷ []) in
@@ -112,7 +112,7 @@ module _ (s : CellSetting) (c : ℕ) (old : LoopPart) (play : ServedPlay) (t : I
   here : Reading s c old play
   here = reading s c old play t reads
 
-  -- It isn't known what comes behind them.
+  -- It isn't known what comes after them.
   pub rests_behind : finish_in old.feeds.items c ≡ None → HasNoMove (one_of_conn s c) play
   rests_behind unknown passes enough memory =
       reads_behind s c old play here memory (t.unread c ∙ none) ∙ ap (read_behind (desk_of_setting s) handler_rules play c) (t.finish c ∙ unknown)

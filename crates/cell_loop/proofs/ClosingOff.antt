@@ -48,7 +48,7 @@ close_is c cause old new there table gone stages tape capacity feeds ends =
       ends = ends;
     }
 
--- It was closed behind a change of itself in the table.
+-- It was closed after a change of itself in the table.
 pub closed_behind : (c : ℕ) (cause : EndCause) (old new : LoopPart) (table : TableView) → IsSameBut c old.table table → length table.slots ≡ length old.table.slots
     → IsClosed c cause (record old { table = table }) new → IsClosed c cause old new
 closed_behind c cause old new table but count closed =
@@ -73,7 +73,7 @@ has_room part c room there =
     let marks : length part.tape.items + 2 * length part.table.slots ≤ part.tape.capacity = room.for_marks in
     omega arith
 
--- and for two
+-- and there is room for two
 pub two_room : (part : LoopPart) (c : ℕ) → HasRoomToClose part → IsSome (slot_in c part.table.slots) → length part.tape.items + 1 < part.tape.capacity
 two_room part c room there =
     let open_one : 0 < length part.table.slots = some_open c part.table.slots there in

@@ -1,4 +1,4 @@
--- What comes of one thing that is done behind another: what memory was like at the moves of both.
+-- What comes of one thing that is done after another: what memory was like at the moves of both.
 use Rattle.std.proofs.Common.{◌≡◌, ℕ, suc, ◌+◌, ◌<◌, ◌≤◌, List, [], ◌∷◌, ◌++◌, length, slice_index_or, sym, ap, ◌∙◌, subst, arith}
 use Rattle.std.specs.Prelude.{option_and_then}
 use Rattle.script_model.specs.Playing.{MemoryAt, ample}
@@ -14,7 +14,7 @@ so_by memory (m ∷ ms) n h =
       so_by memory ms (suc n) (λ i l. let next : suc i + n ≡ i + suc n = omega arith in subst (λ k. memory k ≡ slice_index_or ms i ample) next (h (suc i) (omega arith))),
     )
 
--- memory at two rows of moves, one behind the other
+-- memory at two rows of moves, one after the other
 pub so_parts : (memory : ℕ → MemoryAt) (front back : List MemoryAt) (n : ℕ) → IsSoFrom memory n (front ++ back) → IsSoFrom memory n front × IsSoFrom memory (length front + n) back
 so_parts memory [] back n so =
     let same : n ≡ 0 + n = omega arith in

@@ -156,7 +156,7 @@ module _ (s : CellSetting) (c : ℕ) (part : LoopPart) (play : ServedPlay) (r : 
       go (writing left) stages tells has = absurd stages
       go (ended cause) stages tells has = absurd stages
 
-  -- where all pieces are read, it is what comes behind them
+  -- where all pieces are read, it is what comes after them
   pub reads_behind : (memory : ℕ → MemoryAt) → play.unread c ≡ []
       → conn_move (desk_of_setting s) handler_rules memory s.budget c play ≡ read_behind (desk_of_setting s) handler_rules play c (play.finish c)
   reads_behind memory none = go (slot_of c part.table.slots).conn.phase r.stages r.tied.tells

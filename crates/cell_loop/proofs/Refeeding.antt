@@ -8,6 +8,6 @@ use Rattle.cell_loop.specs.Feeds.{finish_of, finish_in}
 pub feed_at : (feeds : List Feed) (c : ℕ) (feed : Feed) → c < length feeds → feed ≡ slice_index_or feeds c feed → slice_get feeds c ≡ Some feed
 feed_at feeds c feed l is = slice_get_read feeds (length feeds) c feed refl l is
 
--- what comes behind its pieces
+-- what comes after its pieces
 pub finish_at : (feeds : List Feed) (c : ℕ) (feed : Feed) → c < length feeds → feed ≡ slice_index_or feeds c feed → finish_in feeds c ≡ finish_of feed
 finish_at feeds c feed l is = ap (λ (o : Option Feed). elim o [ None ↦ None | Some feed ↦ finish_of feed ]) (feed_at feeds c feed l is)

@@ -90,7 +90,7 @@ module _ (s : CellSetting) (c i : ℕ) (settled : Settled) (play : ServedPlay) (
       ∙ ap (λ b. told_by (when b (Some (cell_by (play.cell.loop.conns c).cause)))) (lt-ltb c play.cell.loop.count below)
       ∙ ap (λ cause. Some (collected_by cause)) going
 
--- The connection is open behind it.
+-- The connection is open after it.
 pub settles_open : (s : CellSetting) (c i : ℕ) (settled : Settled) (old new : LoopPart) (play : ServedPlay) (later : List JobOutcome) → slice_get old.stages.items c ≡ Some Asked
     → IsReplySome settled → IsLoopTied s old play → play.cell.hall.outcomes ≡ outcome_of (key_of c i) settled ∷ later → IsSameBut c old.table new.table → new.feeds ≡ old.feeds
     → (slot : Slot) → slot_in c new.table.slots ≡ Some slot → slot.conn ≡ record (slot_of c old.table.slots).conn { phase = after_answer settled } → slot.size ≡ None
@@ -125,7 +125,7 @@ settles_open s c i settled old new play later asked some t first but feeds slot 
     append_nil_is : (old : LoopPart) (settled : Settled) → cause_of (after_answer settled) ≡ None → old.tape.items ++ open_marks_settled c settled ≡ old.tape.items
     append_nil_is old settled none = ap (λ marks. old.tape.items ++ marks) (no_marks c settled none) ∙ append-nil old.tape.items
 
--- It has ended behind it.
+-- It has ended after it.
 pub settles_over : (s : CellSetting) (c i : ℕ) (settled : Settled) (old new : LoopPart) (play : ServedPlay) (later : List JobOutcome) → slice_get old.stages.items c ≡ Some Asked
     → IsReplySome settled → IsLoopTied s old play → play.cell.hall.outcomes ≡ outcome_of (key_of c i) settled ∷ later → IsSameBut c old.table new.table → new.feeds ≡ old.feeds
     → (cause : EndCause) → cause_of (after_answer settled) ≡ Some cause → slot_in c new.table.slots ≡ None → new.stages.items ≡ slice_set old.stages.items c (Over cause)

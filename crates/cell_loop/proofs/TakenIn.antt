@@ -147,7 +147,7 @@ module _ (c max : ℕ) (old : LoopPart) (bytes : List ℕ) (takes : TakesIn c ma
     passed : (new : LoopPart) → IsPassed c bytes old.feeds.items new.feeds.items → IsLoopTied s (record old { feeds = new.feeds }) (with_unread c left_then play)
     passed new fed = pieces_passed s c old (record old { feeds = new.feeds }) play t refl refl refl left_then fed
 
--- what was made of bytes, by the phase behind them
+-- what was made of bytes, by the phase after them
 part_of : (max : ℕ) (conn : LoopConn) (bytes : List ℕ) (old : Phase) (frames : ℕ) (phase : Phase) → cause_of phase ≡ None → (IsReady phase → ⊥) → MakesPhase max conn bytes old frames phase
     → GoesOnFrom old phase × (progress_by max (conn.held ++ bytes) ≡ Some part) × IsOpenTied max (record { frames = frames; phase = phase }) (read_more conn bytes part)
 part_of max conn bytes old frames (sizing front) none not_ready m = m

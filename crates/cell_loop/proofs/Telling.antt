@@ -50,7 +50,7 @@ all_ends (stage ∷ stages) (cause ∷ causes) count each =
     ap (λ k. end_told k ++ ends_of stages) (same_Some stage (Over cause) (each 0 cause refl))
     ∙ ap (λ l. cause ∷ l) (all_ends stages causes (let e : suc (length causes) ≡ suc (length stages) = count in omega arith) (λ c k is. each (suc c) k is))
 
--- those of one more
+-- the ends of one stage more
 pub told_more : (stages : List CellStage) (i : ℕ) → i < length stages → ends_of (take i stages) ++ end_told (slice_index_or stages i Lean) ≡ ends_of (take (i + 1) stages)
 told_more stages i below = sym (ap ends_of (take_more stages i Lean below) ∙ one_more_end (take i stages) (slice_index_or stages i Lean))
 

@@ -41,7 +41,7 @@ pub record IsClosed (c : ℕ) (cause : EndCause) (old new : LoopPart) : Type 0 w
   pub feeds : new.feeds ≡ old.feeds
   pub ends : new.ends ≡ old.ends
 
--- connection c was closed so, behind a mark
+-- connection c was closed so, after a mark
 pub record ClosesBehind (c : ℕ) (mark : Mark) (cause : EndCause) (old new : LoopPart) : Type 0 where
   pub table : IsSameBut c old.table new.table
   pub gone : slot_in c new.table.slots ≡ None

@@ -1,4 +1,4 @@
--- What a script gives a connection, and what is kept of it: pieces that aren't read, what comes behind them, and rules that are left.
+-- What a script gives a connection, and what is kept of it: pieces that aren't read, what comes after them, and rules that are left.
 use Rattle.std.specs.Prelude.{◌≡◌, ℕ, ◌<◌, Option, None, Some, List, [], ◌∷◌, map, length, slice_get, option_map}
 use Rattle.std.specs.List.{AllByRecursion}
 use Rattle.std.specs.Borrow.{Bor}
@@ -17,12 +17,12 @@ lent_pieces pieces = map (λ (piece : Bor (List ℕ)). piece.now) pieces
 abbrev pub unread_of : Feed → List (List ℕ)
 unread_of feed = pieces_left feed.front.now (lent_pieces feed.later.items)
 
--- what comes behind all pieces
+-- what comes after all pieces
 abbrev pub plain_finish : InputEnd → InputFinish
 plain_finish Ends = finishes
 plain_finish Fails = faults
 
--- what comes behind them, where it is known
+-- what comes after them, where it is known
 abbrev pub finish_of : Feed → Option InputFinish
 finish_of feed = option_map plain_finish feed.finish
 
@@ -34,7 +34,7 @@ rules_left feed = plain_rules feed.rules.now
 abbrev pub unread_in : List Feed → ℕ → List (List ℕ)
 unread_in feeds c = elim (slice_get feeds c) [ None ↦ [] | Some feed ↦ unread_of feed ]
 
--- what comes behind them
+-- what comes after them
 abbrev pub finish_in : List Feed → ℕ → Option InputFinish
 finish_in feeds c = elim (slice_get feeds c) [ None ↦ None | Some feed ↦ finish_of feed ]
 

@@ -37,7 +37,7 @@ LoopMoves with_setting doing old moved new =
     (s : CellSetting) (play : ServedPlay) → with_setting s → IsLoopTied s old play
     → GoesOrStays (doing s) (λ next. IsLoopTied s new next × HasSameHall play next) play moved
 
--- any setting
+-- any setting will do
 abbrev pub AnySetting : CellSetting → Type 0
 AnySetting s = Unit {0}
 

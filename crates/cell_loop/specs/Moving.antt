@@ -9,12 +9,12 @@ use Rattle.machine_model.specs.Loop.{opens}
 use Rattle.machine_model.specs.Machine.{on_conn}
 use Rattle.machine_model.specs.Plain.{goes}
 
--- memory is so at move n and at those behind it
+-- memory is so at move n and at those after it
 abbrev pub IsSoFrom : (ℕ → MemoryAt) → ℕ → List MemoryAt → Type 0
 IsSoFrom memory n [] = Unit {0}
 IsSoFrom memory n (first ∷ later) = (memory n ≡ first) × IsSoFrom memory (suc n) later
 
--- memory as it was at so many moves, and ample behind them
+-- memory as it was at so many moves, and ample after them
 abbrev pub memory_of : List MemoryAt → ℕ → MemoryAt
 memory_of memories move = slice_index_or memories move ample
 
@@ -22,7 +22,7 @@ memory_of memories move = slice_index_or memories move ample
 abbrev pub Doing : Type 0
 Doing = ℕ → ℕ → (ℕ → MemoryAt) → ServedPlay → Option ServedPlay
 
--- one thing done behind another
+-- one thing done after another
 abbrev pub followed_by : Doing → Doing → Doing
 followed_by f g passes enough memory play = option_and_then (λ next. g passes enough memory next) (f passes enough memory play)
 

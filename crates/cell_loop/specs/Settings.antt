@@ -28,7 +28,7 @@ HallInCell = HallState PlainCall PlainAnswer ServiceState
 abbrev pub PlainWorker : Type 0
 PlainWorker = WorkerState PlainAnswer
 
--- one in rehearsal
+-- a machine in rehearsal
 abbrev pub ServedPlay : Type 0
 ServedPlay = Play PlainCall PlainAnswer ServiceState
 

@@ -1,4 +1,4 @@
-//! What a script gives a connection: pieces that arrive, what comes behind them, and rules of its writes.
+//! What a script gives a connection: pieces that arrive, what comes after them, and rules of its writes.
 
 ghost use Rattle.std.specs.Prelude.{◌≡◌, ℕ, ◌<◌, ◌≤◌, Some, None, [], ◌∷◌, ◌++◌, length, drop, option_map, slice_get, take, OnOk, OnErr};
 ghost use Rattle.std.specs.List.{AllByRecursion};
@@ -10,7 +10,7 @@ use script_text::WriteRule;
 use std::alloc::{AllocError, Global};
 use std::collections::VecDeque;
 
-/// What comes behind all pieces of a connection.
+/// What comes after all pieces of a connection.
 #[derive(Clone, Copy)]
 pub enum InputEnd {
     /// Its input ends.
@@ -26,14 +26,14 @@ pub struct Feed<'a> {
     pub front: &'a [u8],
     /// The pieces behind it that have arrived, the oldest first; none is empty.
     pub later: VecDeque<&'a [u8]>,
-    /// What comes behind all pieces, once its line was done.
+    /// What comes after all pieces, once its line was done.
     pub finish: Option<InputEnd>,
     /// The rules that are left.
     pub rules: &'a [WriteRule],
 }
 
 impl<'a> Feed<'a> {
-    /// Nothing has arrived, and all rules are left; takes no memory.
+    /// Makes a feed to which nothing has arrived, with all rules left; takes no memory.
     pub fn new(alloc: Global, rules: &'a [WriteRule]) -> Self
         ensures unread { unread_of result ≡ [] }
         ensures finish { finish_of result ≡ None }

@@ -1,7 +1,7 @@
-//! The loop's part of the machine without threads: the open connections, what happened on connections, and what a script gives each. And what is done with a
+//! The loop's part of the machine without threads: the open connections, what happened on connections, and what a script gives each. It also says what is done with a
 //! machine in rehearsal, by definitions and laws: single moves, loops over them, and the lines of a script.
 //!
-//! Each call is one move of `script_model`'s, of whichever play the part is tied to; so a machine calls it with no word of
+//! Each call is one move of `script_model`'s, of whichever play the part is tied to; so a machine calls it without naming
 //! hall and workers:
 //!
 //! ```rust

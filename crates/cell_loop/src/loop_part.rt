@@ -62,7 +62,7 @@ pub struct LoopPart<'a> {
 }
 
 impl<'a> LoopPart<'a> {
-    /// No connection, with a feed for each of these lists of rules.
+    /// Holds no connection, with a feed for each of these lists of rules.
     pub fn new(
         alloc: Global,
         read_budget: u64,

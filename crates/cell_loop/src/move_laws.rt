@@ -10,7 +10,7 @@ ghost use Rattle.cell_loop.specs.Moving.{all_of_conn, all_of_conns, all_of_worke
 
 use host_model::laws::less_than_a_frame;
 
-/// What one thing comes to, and then another, both come to, the one behind the other.
+/// What one thing comes to, and then another, both come to, the one after the other.
 pub fn doings_compose()
     ensures { (one other : Doing) (old mid new : ServedPlay) → ComesTo one old mid → ComesTo other mid new → ComesTo (followed_by one other) old new }
 {}

@@ -1,4 +1,4 @@
-//! How a connection reads on: a read, what comes behind all pieces, and an admission.
+//! How a connection reads on: a read, what comes after all pieces, and an admission.
 
 ghost use Rattle.std.specs.Prelude.{◌≡◌, ◌+◌, ◌*◌, ◌<◌, ◌≤◌, ◌^◌, IsTrue, IsSome, true, false, Some, [], length, min, take, drop, slice_get, IfOk, OnOk, OnErr};
 ghost use Rattle.std.specs.List.{AllByRecursion};
@@ -24,7 +24,7 @@ use std::alloc::{AllocError, Global};
 const MOST_FRAMES: u64 = 1 << 62;
 
 impl<'a> LoopPart<'a> {
-    /// One read of the oldest piece, or of what comes behind all pieces, where something does.
+    /// One read of the oldest piece, or of what comes after all pieces, where something does.
     pub fn read(&mut self, c: u32, max_frame: u32) -> Result<bool, AllocError>
         requires under_way { IsLoopUnderWay self.old }
         requires reads { IsReadingAt c self.old }

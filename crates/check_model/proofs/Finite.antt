@@ -199,7 +199,7 @@ some_settled schema = by (settles schema (suc (length schema.structs)))
     by (inl h) = h
     by (inr l) = absurd (let most = at_most (length schema.structs) (has_value_within schema (suc (length schema.structs))) in let h : ⊥ = omega arith in h)
 
--- so many levels behind a level
+-- so many levels above a level
 up : ℕ → ℕ → ℕ
 up zero m = m
 up (suc n) m = suc (up n m)

@@ -21,23 +21,23 @@ ArePassed program passes (Err fault) = TellsFlaw (IsFirstAmong program passes) f
 abbrev pub name_passes : List Pass
 name_passes = dotted_name ∷ duplicate_name ∷ unknown_type ∷ []
 
--- the passes over typedefs, fields, enums and services behind those
+-- the passes over typedefs, fields, enums and services after those
 abbrev pub list_passes : List Pass
 list_passes = typedef_cycle ∷ field_id ∷ duplicate_id ∷ enum_number ∷ service_cycle ∷ []
 
--- the passes over functions behind those
+-- the passes over functions after those
 abbrev pub function_passes : List Pass
 function_passes = duplicate_function ∷ oneway_not_void ∷ oneway_throws ∷ []
 
--- the passes over types behind those
+-- the passes over types after those
 abbrev pub struct_passes : List Pass
 struct_passes = not_exception ∷ struct_loop ∷ []
 
--- the passes behind those over typedefs, fields, enums and services, as far as they look at spots
+-- the passes after those over typedefs, fields, enums and services, as far as they look at spots
 abbrev pub passes_behind_lists : List Pass
 passes_behind_lists = function_passes ++ struct_passes
 
--- the passes behind those over names, as far as they look at spots
+-- the passes after those over names, as far as they look at spots
 abbrev pub passes_behind_names : List Pass
 passes_behind_names = list_passes ++ passes_behind_lists
 

@@ -60,7 +60,7 @@ pub fn typed_program(
     }
 }
 
-/// The first fault at these spots behind those of names.
+/// The first fault at these spots after those of names.
 fn first_behind_names(
     alloc: Global,
     files: &[IdlFile],
@@ -107,7 +107,7 @@ fn service_on_cycle(alloc: Global, parents: &[Option<u32>]) -> Result<Option<u32
     Ok(first)
 }
 
-/// The first fault at these spots behind those of typedefs, fields, enums and services.
+/// The first fault at these spots after those of typedefs, fields, enums and services.
 fn first_behind_lists(
     alloc: Global,
     files: &[IdlFile],
@@ -131,7 +131,7 @@ fn first_behind_lists(
     }
 }
 
-/// The types of a program behind its functions.
+/// The types of a program, made once its functions are checked.
 fn first_of_types(
     alloc: Global,
     files: &[IdlFile],

@@ -20,7 +20,7 @@ pub struct Based<'a> {
 }
 
 impl<'a> Based<'a> {
-    /// These files.
+    /// Takes these files.
     pub fn new(alloc: Global, all: &'a [IdlFile]) -> Self
         requires { All HasOwnBase all.now }
         ensures { result.all.now ≡ all.now }

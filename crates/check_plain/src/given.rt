@@ -44,7 +44,7 @@ fn put_files<'a>(values: &mut Vec<GivenTree<'a>>, number: u32, files: &'a [IdlFi
     put_files(values, next, rest)
 }
 
-/// Those of definitions in a file.
+/// Adds the values of definitions in a file.
 fn put_definitions<'a>(
     values: &mut Vec<GivenTree<'a>>,
     file: u32,
@@ -79,7 +79,7 @@ fn put_definition<'a>(
     }
 }
 
-/// That of a constant in a file.
+/// Adds the value of a constant in a file.
 fn put_constant<'a>(values: &mut Vec<GivenTree<'a>>, file: u32, constant: &'a Const) -> Made<()>
     ensures { OnOk result (map filed_value values.new.items
         ≡ map filed_value values.old.items ++ given_in_declaration file (of_const (const_declared constant.now))) }
@@ -93,7 +93,7 @@ fn put_constant<'a>(values: &mut Vec<GivenTree<'a>>, file: u32, constant: &'a Co
     Ok(())
 }
 
-/// Those of functions in a file.
+/// Adds the values of functions in a file.
 fn put_functions<'a>(
     values: &mut Vec<GivenTree<'a>>,
     file: u32,
@@ -122,7 +122,7 @@ fn put_function<'a>(values: &mut Vec<GivenTree<'a>>, file: u32, function: &'a Fu
     }
 }
 
-/// The defaults of fields in a file.
+/// Adds the defaults of fields in a file.
 fn put_fields<'a>(values: &mut Vec<GivenTree<'a>>, file: u32, fields: &'a [Field]) -> Made<()>
     ensures { OnOk result (map filed_value values.new.items
         ≡ map filed_value values.old.items ++ given_in_fields file (map field_in fields.now)) }

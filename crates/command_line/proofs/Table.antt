@@ -131,7 +131,7 @@ by_id names name none there =
     ∙ find_option (λ (a : Rule). bytes_eq a.id name) name (λ other. refl) names
     ∙ ap (λ b. cond b (Some (filled_option name)) None) there
 
--- ---- behind the words nothing else is done
+-- ---- after the words nothing else is done
 
 same_either : {X : Type 0} (b : Bool) (x : X) → cond b x x ≡ x
 same_either true x = refl

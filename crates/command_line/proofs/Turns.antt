@@ -22,18 +22,18 @@ abbrev pub is_open : Waiting → Bool
 is_open (option_waits name) = true
 is_open _ = false
 
--- what is held behind a word that is no option
+-- what is held after a word that is no option
 abbrev pub with_plain : List Text → Text → Held → Held
 with_plain names word h = record { rows = (settled (table names) h).rows; pending = Some ([], word ∷ []); skip = h.skip }
 
--- what is held behind an option with its value
+-- what is held after an option with its value
 abbrev pub valued : Text → Text → List Row → List Row
 valued name value rows = with_values name (reading_by (filled_option name)) CommandLine (value ∷ []) (without name rows)
 
 abbrev pub with_valued : List Text → Text → Text → Held → Held
 with_valued names name value h = record { rows = valued name value (settled (table names) h).rows; pending = None; skip = h.skip }
 
--- what is held behind an option without its value, and with it
+-- what is held after an option without its value, and with it
 abbrev pub opened : Text → List Text → List Row → ℕ → Held
 opened name values rows skip = record { rows = rows; pending = Some (name, values); skip = skip }
 

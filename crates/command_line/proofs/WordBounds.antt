@@ -34,7 +34,7 @@ any : {A : Type 0} (x : Option A) → IfSome x (λ _. Unit {0})
 any (Some a) = tt
 any None = tt
 
--- an answer behind a test, and one of two
+-- an answer after a test, and one of two
 tested : {A : Type 0} (b : Bool) (x : Option A) (Q : A → Type 0) → (b ≡ true → IfSome x Q) → IfSome (cond b x None) Q
 tested true x Q go = go refl
 tested false x Q go = tt

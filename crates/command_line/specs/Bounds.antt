@@ -17,7 +17,7 @@ pub record KeepsServedBounds (s : PlainServed) : Type 0 where
 abbrev pub IsFromTo : ℕ → ℕ → ℕ → Type 0
 IsFromTo least most n = (least ≤ n) × (n ≤ most)
 
--- those of a command
+-- a command keeps its bounds
 abbrev pub KeepsBounds : PlainCommand → Type 0
 KeepsBounds (checks idl) = ⊤
 KeepsBounds (rehearses served) = KeepsServedBounds served

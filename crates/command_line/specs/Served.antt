@@ -31,14 +31,14 @@ protocol_of_word word =
 abbrev pub workers_of_word : List ℕ → Option ℕ
 workers_of_word word = bounded_number 0 8 word
 
--- by a word for the IDL, the protocol and the workers each, the words of its pairs, and its limits
+-- what is served, by a word for the IDL, the protocol and the workers each, the words of its pairs, and its limits
 abbrev pub served_with : (idl protocol workers : List ℕ) (pairs : List (List ℕ)) → Limits → Option PlainServed
 served_with idl protocol workers pairs limits =
     option_and_then (λ (name : List ℕ). option_and_then (λ (spelling : Protocol). option_and_then (λ (count : ℕ).
     option_map (λ (bound : List NamedKind). record { idl = name; protocol = spelling; workers = count; pairs = bound; limits = limits })
     (command_pairs pairs)) (workers_of_word workers)) (protocol_of_word protocol)) (file_of_word idl)
 
--- by the words in their places
+-- what is served, by the words in their places
 abbrev pub served_by : List (List ℕ) → Limits → Option PlainServed
 served_by (idl ∷ protocol ∷ workers ∷ pairs) limits = served_with idl protocol workers pairs limits
 served_by _ limits = None

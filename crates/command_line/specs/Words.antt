@@ -55,14 +55,14 @@ abbrev pub serve_said : Sayings → Option PlainCommand
 serve_said said =
     option_and_then (λ (served : PlainServed). serve_with served (said (codes "listen")) (said (codes "accept")) (said (codes "journal"))) (served_said said)
 
--- by a word for the seed, the size and the workers each
+-- `workload`, by a word for the seed, the size and the workers each
 abbrev pub workload_with : (seed size workers : List ℕ) → Option PlainCommand
 workload_with seed size workers =
     option_and_then (λ (start : ℕ). option_and_then (λ (frames : ℕ).
     option_map (λ (count : ℕ). runs start frames count) (workers_of_word workers))
     (bounded_number 1 1000000 size)) (seed_of_word seed)
 
--- by the words in their places
+-- `workload`, by the words in their places
 abbrev pub workload_by : List (List ℕ) → Option PlainCommand
 workload_by (seed ∷ size ∷ workers ∷ []) = workload_with seed size workers
 workload_by _ = None

@@ -67,7 +67,7 @@ fn file_alone(alloc: Global, words: &[&str]) -> Result<Option<Word>, AllocError>
     }
 }
 
-/// `check`, by what sorted words say.
+/// Makes `check` of what sorted words say.
 fn check_said(alloc: Global, sorted: &Sorted<'_>) -> Result<Option<Command>, AllocError>
     ensures { IfOk result (λ read. option_map plain_command read ≡ check_said (sorted_said sorted.now)) }
 {
@@ -77,7 +77,7 @@ fn check_said(alloc: Global, sorted: &Sorted<'_>) -> Result<Option<Command>, All
     }
 }
 
-/// `serve`, by the values of its own options.
+/// Makes `serve` of the values of its own options.
 fn serve_with(
     alloc: Global,
     served: ServedIdl,
@@ -105,7 +105,7 @@ fn serve_with(
     }))
 }
 
-/// `serve`, by what sorted words say.
+/// Makes `serve` of what sorted words say.
 fn serve_said(alloc: Global, sorted: &Sorted<'_>) -> Result<Option<Command>, AllocError>
     ensures { IfOk result (λ read. option_map plain_command read ≡ serve_said (sorted_said sorted.now)) }
 {
@@ -121,7 +121,7 @@ fn serve_said(alloc: Global, sorted: &Sorted<'_>) -> Result<Option<Command>, All
     )
 }
 
-/// `workload`, by a word for the seed, the size and the workers each.
+/// Makes `workload` of a word for the seed, the size and the workers each.
 fn workload_with(seed: &str, size: &str, workers: &str) -> Option<Command>
     ensures { option_map plain_command result ≡ workload_with seed.now size.now workers.now }
 {
@@ -135,7 +135,7 @@ fn workload_with(seed: &str, size: &str, workers: &str) -> Option<Command>
     })
 }
 
-/// `workload`, by the words in their places.
+/// Makes `workload` of the words in their places.
 fn workload_by(words: &[&str]) -> Option<Command>
     ensures { option_map plain_command result ≡ workload_by (lent_words words.now) }
 {

@@ -148,7 +148,7 @@ items_half_given tag (suc n) code r is =
     ap (λ (b : Bool). items_by b code (suc n) r) (ne_eqb (suc n) 0 (omega arith))
     ∙ goes_on (tag_in_half code r) (items_of_tag (suc n)) tag r _ (tag_given tag code r is) refl
 
--- behind a byte its halves decide
+-- once a byte is read, its halves decide
 pub in_item_halves : (code half : ℕ) (behind : List ℕ) (left : ℕ) → code < 16 → compact_items (rest ((16 * half + code) ∷ behind) left) ≡ by_size code half (rest behind left)
 unfolding compact_items
 in_item_halves code half behind left small =
@@ -287,7 +287,7 @@ pairs_found before after found fits e =
     let s = size_found before one.0.1 one.0.0 fits one.1 in
     pairs_if (eqb one.0.0 0) one.0.0 s.text before one.0.1 after found s.whole s.budget (bytes_behind s.text one.0.1.bytes (subst AreByteSized s.whole fits)) s.varint s.small refl one.2
 
--- behind a size that isn't 0, the halves of a byte decide
+-- after a size that isn't 0, the halves of a byte decide
 pub in_pair_halves : (size key value : ℕ) (behind : List ℕ) (left : ℕ) → (size ≡ 0 → ⊥) → value < 16
     → pairs_of_size size (rest ((16 * key + value) ∷ behind) left) ≡ (tag_in_half key >>= pairs_of_key value size) (rest behind left)
 in_pair_halves size key value behind left some small =

@@ -171,7 +171,7 @@ field_found last last_fits before after h fits e =
     let one = went_on (byte before) (λ x. header_in_byte last x) (h, after) e in
     head_found_if (eqb one.0.0 0) last one.0.0 before one.0.1 after h last_fits fits (byte_found before one.0.1 one.0.0 fits one.1) refl one.2
 
--- behind a byte that isn't 0, its halves decide
+-- once a byte that isn't 0 is read, its halves decide
 in_halves : (last : ℤ) (code delta : ℕ) (behind : List ℕ) (left : ℕ) → code < 16 → 0 < delta + code
     → compact_field last (rest ((16 * delta + code) ∷ behind) left) ≡ by_halves last code delta (rest behind left)
 unfolding compact_field

@@ -22,7 +22,7 @@ pub(crate) fn u8_in(input: Input<'_>) -> Result<(u8, Input<'_>), WireFault>
     Ok((number, input.with_bytes(behind)))
 }
 
-/// Eight bits.
+/// Reads eight bits.
 pub(crate) fn i8_in(input: Input<'_>) -> Result<(i8, Input<'_>), WireFault>
     ensures { AnswersExactly (λ r. (r.0, r.1)) result (compact_i8 input.entry) }
 {
@@ -30,7 +30,7 @@ pub(crate) fn i8_in(input: Input<'_>) -> Result<(i8, Input<'_>), WireFault>
     Ok((number, input.with_bytes(behind)))
 }
 
-/// Sixteen bits, the lowest of a number of 32.
+/// Reads a number of 32 bits, and keeps the lowest sixteen.
 pub(crate) fn i16_in(input: Input<'_>) -> Result<(i16, Input<'_>), WireFault>
     ensures { AnswersExactly (λ r. (r.0, r.1)) result (compact_i16 input.entry) }
 {
@@ -46,7 +46,7 @@ fn low_16(number: i32) -> i16
     i16::from_be_bytes([high, low])
 }
 
-/// Thirty-two bits.
+/// Reads thirty-two bits.
 pub(crate) fn i32_in(input: Input<'_>) -> Result<(i32, Input<'_>), WireFault>
     ensures { AnswersExactly (λ r. (r.0, r.1)) result (compact_signed w32 input.entry) }
 {
@@ -54,7 +54,7 @@ pub(crate) fn i32_in(input: Input<'_>) -> Result<(i32, Input<'_>), WireFault>
     Ok((unzigzag32(number), input.with_bytes(behind)))
 }
 
-/// Sixty-four bits.
+/// Reads sixty-four bits.
 pub(crate) fn i64_in(input: Input<'_>) -> Result<(i64, Input<'_>), WireFault>
     ensures { AnswersExactly (λ r. (r.0, r.1)) result (compact_signed w64 input.entry) }
 {
@@ -70,7 +70,7 @@ pub(crate) fn double_in(input: Input<'_>) -> Result<(u64, Input<'_>), WireFault>
     Ok((number, input.with_bytes(behind)))
 }
 
-/// Thirty-two bits, unsigned.
+/// Reads thirty-two bits, unsigned.
 fn u32_in(input: Input<'_>) -> Result<(u32, Input<'_>), WireFault>
     ensures { AnswersExactly (λ r. (r.0, r.1)) result (compact_unsigned input.entry) }
 {

@@ -71,7 +71,7 @@ step_keeps max bytes handed_out old (ended_by cause) new small splits does =
     (same_split max bytes handed_out old (ended cause) splits
     (stands_ended max splits.payloads splits.rest handed_out cause does.1 (left_of max splits.payloads splits.rest handed_out old.phase small does.0 splits.stands)))
 
--- calls one behind the other keep it
+-- calls one after the other keep it
 run_keeps : (max : ℕ) (bytes : List ℕ) (handed_out : List (ℕ × List ℕ)) (old : ConnView) (events : List ConnCall) (new : ConnView) → max < 2 ^ 31 → Splits max bytes handed_out old
     → CallsLead max old events new → Splits max (bytes ++ taken events) (handed_out ++ given events) new
 run_keeps max bytes handed_out old [] new small splits runs =

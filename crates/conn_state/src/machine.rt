@@ -182,7 +182,7 @@ impl Conn {
         }
     }
 
-    /// Takes note that `count` bytes of the reply were written. Behind the whole reply the next size is read.
+    /// Takes note that `count` bytes of the reply were written. After the whole reply the next size is read.
     pub fn wrote(&mut self, count: usize)
         requires some { 0 < count }
         requires pending { count ≤ length (left_to_write self.old.phase) }

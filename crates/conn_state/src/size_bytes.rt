@@ -25,7 +25,7 @@ impl Model for SizeBytes {
 }
 
 impl SizeBytes {
-    /// No byte yet.
+    /// Holds no byte yet.
     pub fn new() -> Self
         ensures { result ≡ [] }
     {

@@ -17,7 +17,7 @@ use Rattle.conn_table.proofs.Sizing.{of_found}
 abbrev counted : Option Slot → ℕ
 counted o = cond (is_some o) 1 0
 
--- as many slots as before
+-- there are as many slots as before
 same_count : (slab : Slab Slot) (key : ℕ) (old new : Slot) → get slab key ≡ Some old → slab_len (with_value slab key new) ≡ slab_len slab
 same_count slab key old new at =
     let within : key < length slab.slots = ContainsKey-within slab key (has_value (get slab key) old at) in

@@ -22,7 +22,7 @@ pub fn numbers_rise()
     ensures gone { (c : ℕ) (slots : List Slot) → HaveRisingNumbers slots → slot_in c (without_number c slots) ≡ None }
 {}
 
-/// How many there are, and the sum of their sizes, behind each change.
+/// How many there are, and the sum of their sizes, after each change.
 pub fn changes_are_counted()
     ensures put { (new : Slot) (slots : List Slot) → length (with_slot new slots) ≡ length slots }
     ensures added { (new : Slot) (slots : List Slot) → length (with_added new slots) ≡ suc (length slots) }

@@ -98,7 +98,7 @@ impl Places {
     ghost use Rattle.std.specs.Borrow.{sem};
     ghost use Rattle.conn_table.specs.Lending.{LendsState};
 
-    /// No connection, with room for the most.
+    /// Holds no connection, and has room for the most.
     pub(crate) fn new(alloc: Global) -> Result<Places, AllocError>
         ensures { IfOk result (λ p. p ≡ []) }
     {

@@ -36,7 +36,7 @@ impl Model for Table {
 }
 
 impl Table {
-    /// No connection, with room for 1,024 and this budget.
+    /// Holds no connection, and has room for 1,024 and this budget.
     pub fn new(alloc: Global, read_budget: u64) -> Result<Table, AllocError>
         ensures { IfOk result (λ t. t ≡ record { budget = read_budget; slots = [] }) }
     {

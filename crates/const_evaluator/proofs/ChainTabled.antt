@@ -163,7 +163,7 @@ all_ends links ends m n most right settled which = ends_by links ends m n which 
 
 -- ---- links that were looked at
 
--- those in front of a place
+-- the links in front of a place are settled
 abbrev pub AreSettledBelow : List Link → List (Option ChainEnd) → ℕ → Type 0
 AreSettledBelow links ends i = (which : ℕ) → which < i → end_in ends which ≡ None → end_at_link links (end_in ends) which ≡ None
 

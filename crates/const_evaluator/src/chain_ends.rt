@@ -169,7 +169,7 @@ fn is_settled(links: &[Link], ends: &[Option<ChainEnd>], which: u32) -> bool
     }
 }
 
-/// The same of all chains.
+/// Whether the end of no chain is missed.
 fn are_settled(links: &[Link], ends: &[Option<ChainEnd>]) -> bool
     ensures { IsTrue result → AreSettled links.now ends.now }
 {

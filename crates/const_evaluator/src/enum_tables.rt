@@ -44,7 +44,7 @@ fn enum_table<'a>(alloc: Global, values: &'a [EnumValue]) -> Result<EnumTable<'a
     Ok(EnumTable { places, numbers })
 }
 
-/// The same of each enum.
+/// The values of each enum by name.
 pub(crate) fn enum_tables<'a>(
     alloc: Global,
     enums: &[InFile<'a, Enum>],
@@ -69,7 +69,7 @@ fn number_in_table(table: &EnumTable<'_>, name: &[u8]) -> Option<i64>
     }
 }
 
-/// The same of the enum of some number.
+/// The number of the first value of a name, in the enum of some number.
 pub(crate) fn number_in_tables(tables: &[EnumTable<'_>], which: u32, name: &[u8]) -> Option<i64>
     ensures { result ≡ number_in_tables tables.now which name.now }
 {

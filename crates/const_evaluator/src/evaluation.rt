@@ -51,7 +51,7 @@ pub fn evaluate(
     }
 }
 
-/// The same over files with bases of their own.
+/// Does the same over files with bases of their own.
 fn evaluated_over(
     alloc: Global,
     files: &[IdlFile],
@@ -80,7 +80,7 @@ fn evaluated_over(
     )
 }
 
-/// The same by what names stand for, the definitions, and the values that are given.
+/// Does the same by what names stand for, the definitions, and the values that are given.
 fn evaluated_by<'a>(
     alloc: Global,
     definitions: &Definitions<'a>,

@@ -56,7 +56,7 @@ fn default_number(places: &ValuePlaces, file: u32, field: &Field) -> Option<u32>
     }
 }
 
-/// A field without a default behind others, if it has to be given.
+/// Puts a field without a default behind others, if it has to be given.
 fn put_needed<'s>(owed: &mut Vec<OwedField<'s>>, field: &'s FieldDesc) -> Result<(), AllocError>
     ensures { (rest : List PlainFieldEntry) → OnOk result (map owed_in owed.new.items ++ rest
         ≡ map owed_in owed.old.items ++ needed_before field.now.need (plain_field field.now) rest) }
@@ -73,7 +73,7 @@ fn put_needed<'s>(owed: &mut Vec<OwedField<'s>>, field: &'s FieldDesc) -> Result
     }
 }
 
-/// A field behind others, if it has a default or has to be given.
+/// Puts a field behind others, if it has a default or has to be given.
 fn put_owed<'s>(
     owed: &mut Vec<OwedField<'s>>,
     field: &'s FieldDesc,
@@ -91,7 +91,7 @@ fn put_owed<'s>(
     }
 }
 
-/// The same with the number of the default that is written. Another id is want of memory.
+/// Does the same with the number of the default that is written. Another id is want of memory.
 fn put_field<'s>(
     owed: &mut Vec<OwedField<'s>>,
     places: &ValuePlaces,

@@ -20,7 +20,7 @@ pub(crate) struct Counted {
     pub(crate) values: u32,
 }
 
-/// One value more.
+/// Counts one value more.
 fn count_value(work: &mut Counted, at: Place) -> Result<(), PlainStop>
     ensures more { OnOk result (work.new.values ≡ suc work.old.values) }
     ensures counted { (inside : ℕ → Worth Tree) → MatchResult result
@@ -41,7 +41,7 @@ fn judged(at: Place, one: Result<Value, PlainFault>) -> Result<Value, PlainStop>
     one.map_err(|fault| fault.at(at))
 }
 
-/// One value, without others inside.
+/// Counts and judges one value, without others inside.
 pub(crate) fn single(
     work: &mut Counted,
     at: Place,
@@ -53,7 +53,7 @@ pub(crate) fn single(
     judged(at, one)
 }
 
-/// A container is opened, where its form fits its type and a level is left. How many levels are left inside.
+/// Opens a container, where its form fits its type and a level is left, and tells how many levels are left inside.
 pub(crate) fn opened(
     work: &mut Counted,
     at: Place,

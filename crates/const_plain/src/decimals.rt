@@ -138,7 +138,7 @@ fn exponent_of(text: &[u8]) -> Made<i64>
     Ok(int_value(text))
 }
 
-/// So many places to the left.
+/// How many places to the left an exponent means.
 fn places_up(exponent: i64) -> u64
     ensures { result ≡ places_up exponent }
 {
@@ -148,7 +148,7 @@ fn places_up(exponent: i64) -> u64
     exponent.unsigned_abs()
 }
 
-/// So many places to the right.
+/// How many places to the right an exponent means.
 fn places_down(exponent: i64) -> u64
     ensures { result ≡ places_down exponent }
 {

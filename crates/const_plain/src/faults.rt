@@ -58,7 +58,7 @@ impl PlainFault {
     }
 }
 
-/// No place.
+/// Stands for no place.
 pub(crate) const NOWHERE: Place = Place { line: 0, column: 0 };
 
 impl From<AllocError> for PlainStop {

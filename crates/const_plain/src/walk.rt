@@ -51,7 +51,7 @@ pub(crate) struct Scope<'w, 'f> {
     pub(crate) free: &'f [bool],
 }
 
-/// A call more, or want of memory.
+/// Takes one of the calls that are left, or answers want of memory.
 fn call_less(calls: u32) -> Result<u32, PlainStop>
     ensures less { IfOk result (λ fewer. calls ≡ suc fewer) }
     ensures memory { IfErr result (λ stop. stop.fault ≡ PlainFault.NoMemory) }

@@ -35,7 +35,7 @@ pub fn write_exception(
     done
 }
 
-/// `write_exception`, which leaves a part of the message where memory runs out.
+/// Does what `write_exception` does, but leaves a part of the message where memory runs out.
 fn write_parts(
     protocol: Protocol,
     name: &[u8],

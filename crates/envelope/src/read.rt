@@ -52,7 +52,7 @@ fn kept(alloc: Global, head: &LentHead<'_>) -> Result<Head, HeadFault>
     })
 }
 
-/// `read_head`, where the name stays in the payload; takes no memory.
+/// Does what `read_head` does, but the name stays in the payload; takes no memory.
 pub fn lend_head(protocol: Protocol, payload: &[u8]) -> Result<LentHead<'_>, HeadFault>
     ensures found { IfOk result (λ head. IsEncodedIn protocol payload.now head) }
     ensures exact { IsHeadOrNoMemory result (head_at protocol payload.now) }

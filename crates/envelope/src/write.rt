@@ -32,7 +32,7 @@ pub fn write_head(
     done
 }
 
-/// `write_head` in the binary protocol, which leaves a part of the head where memory runs out.
+/// Does what `write_head` does in the binary protocol, but leaves a part of the head where memory runs out.
 fn write_strict(name: &[u8], kind: u8, id: i32, into: &mut Vec<u8>) -> Result<(), AllocError>
     requires { length name.now < 2 ^ 31 }
     ensures ok { OnOk result
@@ -47,7 +47,7 @@ fn write_strict(name: &[u8], kind: u8, id: i32, into: &mut Vec<u8>) -> Result<()
     put_i32(into, id)
 }
 
-/// `write_head` in the compact protocol, which leaves a part of the head where memory runs out.
+/// Does what `write_head` does in the compact protocol, but leaves a part of the head where memory runs out.
 fn write_compact(name: &[u8], kind: u8, id: i32, into: &mut Vec<u8>) -> Result<(), AllocError>
     requires { length name.now < 2 ^ 31 }
     ensures ok { OnOk result

@@ -18,7 +18,7 @@ fn row_of(graph: &[Vec<u32>], node: u32) -> &[u32] {
     }
 }
 
-// Each node of the label that a row leads to, and that wasn't met before, is met from this one. Whether one leads to `goal`.
+// Each node of the label that a row leads to, and that wasn't met before, is met from this one. Tells whether one leads to `goal`.
 fn spread(
     row: &[u32],
     labels: &[u32],

@@ -42,7 +42,7 @@ fn lower(numbers: &mut [u32], place: u32, number: u32) {
     }
 }
 
-// So many zeros.
+// Makes so many zeros.
 fn zeros(alloc: Global, count: usize) -> Result<Vec<u32>, AllocError> {
     vec![in alloc; 0u32; count]
 }
@@ -97,7 +97,7 @@ impl Parts {
         }
     }
 
-    // One step; false where no node is being looked at.
+    // Goes one step; false where no node is being looked at.
     fn step(&mut self, graph: &[Vec<u32>]) -> Result<bool, AllocError> {
         match self.calls.pop() {
             None => Ok(false),

@@ -494,7 +494,7 @@ fn the_second_worker_is_first(rt: HostRuntime) -> Result<(), Fail> {
     Ok(())
 }
 
-/// Memory runs out for an answer, which stands in the journal; the journal fails behind the next call, and the calls end there.
+/// Memory runs out for an answer, which stands in the journal; the journal fails after the next call, and the calls end there.
 const BROKEN: [Act; 16] = [
     Act::Opens,
     Act::Opens,
@@ -586,7 +586,7 @@ const WRONG: [(usize, Act); 12] = [
     (9, Act::FailsWrite(0)),
 ];
 
-/// Whether a run of these acts can be, and none that has this one behind them.
+/// Whether a run of these acts can be, and none that has this one after them.
 fn can_be_all(alloc: Global, acts: &[Act], next: Act) -> Result<bool, AllocError> {
     let mut events = events_of(alloc, acts)?;
     let can_be = after_events(alloc, MOST, events.as_slice())?.is_some();

@@ -1,4 +1,5 @@
-//! Tests of the ground's crates: streams and files in memory, texts, worked worlds and cells of the definitions, and a connection's whole path.
+//! Tests of `outside`, `text_out`, `host_model`, `machine_model` and `conn_state`: streams and files in memory, texts, worked worlds and cells of the definitions,
+//! and a connection's whole path.
 #![tactic(auto)]
 
 #[cfg(test)]

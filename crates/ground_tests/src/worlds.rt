@@ -42,7 +42,7 @@ impl PlainDesk for Tiny {
     }
 }
 
-/// Two services, whose answer is the number of their calls before, and which start again behind 255.
+/// Two services, whose answer is the number of their calls before, and which start again after 255.
 struct Counting;
 
 impl PlainServices for Counting {

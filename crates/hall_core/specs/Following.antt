@@ -31,7 +31,7 @@ pub same_asks : (log : List StepCall) → asks_of (map call_seen log) ≡ map as
 same_asks [] = refl
 same_asks (e ∷ log) = ap (λ (l : List (HallAsk PlainCall PlainAnswer)). ask_seen e ∷ l) (same_asks log)
 
--- also by seats
+-- the asks of each seat are the same too
 pub asks_by : (seat : ℕ) (log : List StepCall) → calls_by seat (map ask_seen log) ≡ map ask_seen (calls_by seat log)
 asks_by seat [] = refl
 asks_by seat (e ∷ log) = go (eqb e.seat seat) (asks_by seat log)

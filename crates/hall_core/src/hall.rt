@@ -90,7 +90,7 @@ impl<H: Handler, J: Journal> Hall<H, J> {
         })
     }
 
-    /// The handlers, which are the hall's services, and its journal; takes no memory.
+    /// Gives the handlers, which are the hall's services, and its journal; takes no memory.
     pub fn into_parts(self) -> (Vec<H>, J)
         ensures services { map H.service result.0.items ≡ self.memories }
         ensures told { J.told result.1 ≡ self.told }

@@ -73,7 +73,7 @@ fn place_of(keys: &[Key], key: Key) -> usize
 }
 
 impl Queue {
-    /// Nothing, with room for the most.
+    /// Holds nothing, and has room for the most.
     pub(crate) fn new(alloc: Global) -> Result<Queue, AllocError>
         ensures { IfOk result (λ q. q ≡ record { jobs = []; taken = []; outcomes = [] }) }
     {

@@ -1,4 +1,4 @@
--- Turns, one behind another.
+-- Turns, one after another.
 use Rattle.std.proofs.Common.{◌≡◌, ◌≢◌, ℕ, None, Some, List, [], ◌∷◌, ◌++◌, refl, sym, ap, ◌∙◌, subst, inl, inr, append_assoc, append-nil}
 use Rattle.std.specs.List.{AllByRecursion, flat_map}
 use Rattle.std.proofs.lemmas.List.{flat_map_more}
@@ -55,7 +55,7 @@ module _ (desk : DeskMeaning) (before : List StepCall) (old mid new : HallSeat) 
       record { made = stopped key payload t.0 t.1; right = (t.3, t.4, refl); calls = called_calls t.0 t.1 close t.2 more; told = refl }
 
 module _ (desk : DeskMeaning) where
-  -- behind a turn that isn't stopped more may come
+  -- after a turn that isn't stopped more may come
   more_behind : (made : PoolTurn) (more : List PoolTurn) → AreTurns (desk_rules desk) (made ∷ []) → turn_told made ≢ Journal → AreTurns (desk_rules desk) more
       → AreTurns (desk_rules desk) (made ∷ more)
   more_behind (worked key payload settled) more right other m = (right.0, m)
@@ -63,7 +63,7 @@ module _ (desk : DeskMeaning) where
   more_behind (found_none answer) more right other m = (right.0, m)
   more_behind (stopped key payload call answer) more right other m = absurd (other refl)
 
-  -- also behind others
+  -- that is so also after others
   more_behind_all : (turns : List PoolTurn) (last : PoolTurn) (more : List PoolTurn) → AreTurns (desk_rules desk) (turns ++ last ∷ []) → turn_told last ≢ Journal → AreTurns (desk_rules desk) more
       → AreTurns (desk_rules desk) (turns ++ last ∷ more)
   more_behind_all [] last more right other m = more_behind last more right other m

@@ -90,7 +90,7 @@ module _ (booth : BoothView ServedHall) (old new : HallSeat) (op : HallOp) (repl
   abbrev pub call_made : StepCall
   call_made = seat_call old.number op reply m.after
 
-  -- those before it
+  -- the calls before it
   abbrev pub calls_before : List StepCall
   calls_before = old.seen ++ m.between
 

@@ -59,7 +59,7 @@ pub record AddsRun (desk : DeskMeaning) (old new : List StepCall) (turn : Turn) 
   pub told : turn ≡ turn_told last
   pub ends : EndsRun turn
 
--- All calls of a seat are those of a worker's turns, behind which more turns may come.
+-- All calls of a seat are those of a worker's turns, after which more turns may come.
 pub record HasMadeTurns (desk : DeskMeaning) (own : List StepCall) : Type 0 where
   pub turns : List PoolTurn
   pub right : (more : List PoolTurn) → AreTurns (desk_rules desk) more → AreTurns (desk_rules desk) (turns ++ more)

@@ -139,7 +139,7 @@ fn with_rest<
     (led, seats)
 }
 
-/// Starts a worker for each seat on a thread of its own, leads in this thread, and takes every seat back: behind what leads it
+/// Starts a worker for each seat on a thread of its own, leads in this thread, and takes every seat back: once what leads is done it
 /// joins each worker, or runs it here where no thread could be made. What leads is told how many were started, and closes the
 /// hall; then the door is rung once for each worker, and once more. So the door needs room for that beside the rings of jobs.
 pub fn with_crew<

@@ -1,4 +1,4 @@
-//! Workers on threads: each takes jobs from a hall at a booth, calls for them, and puts what they come to. And a crew of them beside a loop.
+//! Workers on threads, and a crew of them beside a loop: each takes jobs from a hall at a booth, calls for them, and puts what they come to.
 //!
 //! ```rust
 //! let mut worker = Worker::new(seat);

@@ -1,4 +1,4 @@
--- LoopConnections that are kept alike, but for the room that was taken for them.
+-- Connections that are kept alike, but for the room that was taken for them.
 use Rattle.std.proofs.Common.{◌≡◌, ℕ, false, None, IfSome, List, length, slice_index_or, sym, ap, ◌∙◌, subst}
 use Rattle.std.specs.List.{AllByRecursion}
 use Rattle.outside.specs.LinksState.{LinksState}

@@ -32,7 +32,7 @@ use Rattle.host_loop.specs.Going.{IsServing, HaltTells, IsHalted}
 use Rattle.host_loop.proofs.Alike.{alike_goes}
 use Rattle.host_loop.proofs.AskedMore.{none_last, asks_woven, asks_goes}
 
--- all calls of turns behind which more may come are those of turns
+-- all calls of turns after which more may come are those of turns
 pub turns_made : (desk : DeskMeaning) (own : HallSeat) → HasMadeTurns desk own.mine → OfTurns (desk_rules desk) (asks_made own.mine)
 turns_made desk own t = (t.turns, subst (AreTurns (desk_rules desk)) (append-nil t.turns) (t.right [] tt), t.calls)
 

@@ -148,7 +148,7 @@ module _ (max : ℕ) where
       let rest : (more : List Mark) × (new.tape ≡ t.0.tape ++ more) = weave_grows items t.0 new t.2 in
       (m.more ++ rest.0, rest.1 ∙ ap (λ l. l ++ rest.0) m.tape ∙ append_assoc old.tape m.more rest.0)
 
-  -- The moment at which a mark was made, behind those in front of it.
+  -- The moment at which a mark was made, after those before it.
   pub record MadeAt (old : Loop) (items : List ServedItem) (new : Loop) (front : List Mark) (mark : Mark) (lent : ℕ) : Type 0 where
     pub mid : Loop
     pub before : List ServedItem

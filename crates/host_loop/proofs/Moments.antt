@@ -23,7 +23,7 @@ module _ {C A : Type 0} (d : DeskRules C A) where
   WorksTo Holds worker [] = Holds worker
   WorksTo Holds worker (a ∷ asks) = (next : WorkerState A) × WorkerAsks d worker a.0 a.1 next × WorksTo Holds next asks
 
-  -- what a worker has in its hand behind its turns
+  -- what a worker has in its hand after its turns
   abbrev pub hand_behind : List (WorkerTurn C A) → WorkerState A
   hand_behind [] = idle
   hand_behind (worked key payload settled ∷ turns) = hand_behind turns
@@ -239,7 +239,7 @@ module _ {C A M : Type 0} (d : DeskRules C A) (r : ServiceRules C A M) (Has : �
   passes_on (e ∷ log) = one_call_passes e log (passes_on log)
 
 module _ {C A M : Type 0} (d : DeskRules C A) (r : ServiceRules C A M) (memories : List M) (opening : HallState C A M) (log : List (HallCall C A M)) where
-  -- a seat's calls are those of turns, behind which it has this in its hand
+  -- a seat's calls are those of turns, after which it has this in its hand
   pub record HasBehind (v : ℕ) (hand : WorkerState A) : Type 0 where
     pub turns : List (WorkerTurn C A)
     pub are : AreTurns d turns

@@ -59,7 +59,7 @@ module _ (desk : DeskMeaning) (limits : Limits) (booth : BoothView ServedHall) (
           gone = gone;
         }
 
-  -- a finding stays one, with more asks behind it
+  -- a finding stays one, with more asks after it
   found_behind : (asks : List ServedAsk) (e : ServedAsk) → FindsItClosed asks → FindsItClosed (asks ++ e ∷ [])
   found_behind asks e f =
       record {
@@ -71,7 +71,7 @@ module _ (desk : DeskMeaning) (limits : Limits) (booth : BoothView ServedHall) (
         not_closed = f.not_closed;
       }
 
-  -- The hall is closed behind the end.
+  -- The hall is closed after the end.
   pub ends_closed : (outcome : Outcome) (new : HallSeat) → IsAtEnd desk limits booth first l0 k0 seat own outcome → AddsAsk seat new close done → IsSeatOf booth new → new.number ≡ 0
       → IsAtEnd desk limits booth first l0 k0 new own outcome
   ends_closed outcome new h more place zeroth =

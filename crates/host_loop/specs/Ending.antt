@@ -46,7 +46,7 @@ pub record EndsServing (s : ServerSetting) (run : ServedRun) : Type 0 where
   pub crew : List HallSeat
   pub hall : ServedHall
   pub kept : LoopConnections
-  -- of the booth
+  -- what holds of the booth
   pub newly : IsOpenedNew booth
   pub services_before : booth.opening.memories ≡ s.services
   pub faults_before : booth.opening.faults ≡ run.faults_before
@@ -54,18 +54,18 @@ pub record EndsServing (s : ServerSetting) (run : ServedRun) : Type 0 where
   pub zeroth : loop_seat.number ≡ 0
   pub own_served : HasServed s.desk booth own_seat
   pub crew_served : All (HasServed s.desk booth) crew
-  -- of the connections
+  -- what holds of the connections
   pub small : s.desk.max_frame ≤ longest_payload
   pub woven : HasWoven s.desk.max_frame run.first run.links kept (asks_made loop_seat.mine)
   pub gone : AreAllGone kept
   pub budget : kept.table.budget ≡ s.budget
   pub causes : run.causes ≡ kept.causes.items
-  -- of the hall
+  -- what holds of the hall
   pub services : run.services ≡ hall.memories
   pub told : run.told ≡ hall.told
   pub torn : run.torn ≡ hall.broken
   pub faults : run.faults ≡ hall.faults
-  -- of the outcome
+  -- what holds of the outcome
   pub so : EndTells s run kept loop_seat own_seat run.outcome
 
 -- Nothing was served, since there was no memory to begin: all is as it came in, and nothing had happened on the links.

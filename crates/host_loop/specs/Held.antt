@@ -17,7 +17,7 @@ FoundTells c kept Gone = Unit {0}
 abbrev pub SomeIsHeld : LoopConnections → Type 0
 SomeIsHeld kept = (c : ℕ) × HasNoRoom kept.table c
 
--- what is known behind a look at those that are held
+-- what is known after a look at those that are held
 abbrev pub HeldLookTells : LoopConnections → HeldLook → Type 0
 HeldLookTells kept (StillHeld one) = IsTrue one → SomeIsHeld kept
 HeldLookTells kept (OneAdmitted c) = Unit {0}

@@ -18,18 +18,18 @@ transfer_of (Wrote c bytes) = 1
 transfer_of _ = 0
 
 module _ {C A : Type 0} (d : DeskRules C A) (journal : List (JournalEntry C A)) where
-  -- A read of connection c behind these marks was lent as much as was missing of the size or the frame under way, or 65,536 bytes where more was.
+  -- A read of connection c after these marks was lent as much as was missing of the size or the frame under way, or 65,536 bytes where more was.
   abbrev pub IsLentWhatIsMissing : List Mark → ℕ → ℕ → Type 0
   IsLentWhatIsMissing front c lent =
       (payloads : List (List ℕ)) (rest : List ℕ) → Frames d.max (input (marks_of c front)) payloads rest → lent ≡ min (missing_of rest) most_read
 
-  -- A write on connection c behind these marks was offered all that was left of its reply.
+  -- A write on connection c after these marks was offered all that was left of its reply.
   abbrev pub OffersWhatIsLeft : List Mark → ℕ → ℕ → Type 0
   OffersWhatIsLeft front c offered =
       (payloads : List (List ℕ)) (rest : List ℕ) → Frames d.max (input (marks_of c front)) payloads rest
       → length (output (marks_of c front)) + offered ≡ length (sent d (entries_of c journal) 0 payloads)
 
-  -- The length that was lent or offered in the call which made this mark, behind these marks, is right.
+  -- The length that was lent or offered in the call which made this mark, after these marks, is right.
   abbrev pub LengthIsRight : List Mark → Mark → ℕ → Type 0
   LengthIsRight front (Read c bytes) lent = IsLentWhatIsMissing front c lent
   LengthIsRight front (Wrote c bytes) offered = OffersWhatIsLeft front c offered

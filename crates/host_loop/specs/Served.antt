@@ -53,7 +53,7 @@ pub record IsBounded (max budget : ℕ) (front : List Mark) : Type 0 where
   pub few : IsWithinMost front
   pub sizes : IsWithinBudget max budget front
 
--- What a run leaves of the services: as many as they were, with the memories behind the journal; or, where the journal's last append failed, behind one call more.
+-- What a run leaves of the services: as many as they were, with the memories after the journal's entries; or, where its last append failed, after one call more.
 pub record AreServicesLeft (s : ServerSetting) (run : ServedRun) (journal : List CallEntry) : Type 0 where
   pub count : length run.services ≡ length s.services
   pub memories : run.torn ≡ false → run.services ≡ after handler_rules s.services journal

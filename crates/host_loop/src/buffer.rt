@@ -29,7 +29,7 @@ impl Model for Buffer {
     ghost invariant = { λ b. length b.bytes.items ≡ most_read };
 }
 
-/// So many bytes.
+/// Makes so many bytes.
 fn zeros(alloc: Global, size: usize) -> Result<Vec<u8>, AllocError>
     ensures { IfOk result (λ bytes. length bytes.items ≡ size) }
 {

@@ -12,7 +12,7 @@ use hall_pool::Turn;
 use outside::{Bell, Gate, Links};
 use std::sync::Wait;
 
-/// So many outcomes are collected in a round, at most. A client that sends one call behind the other hands over the next one with each outcome, and without
+/// So many outcomes are collected in a round, at most. A client that sends one call after the other hands over the next one with each outcome, and without
 /// a bound would keep all others waiting until it pauses.
 const MOST_OUTCOMES: u32 = 64;
 
@@ -81,7 +81,7 @@ impl<H: Handler, J: Journal> Serving<Hall<H, J>> {
     }
 
     /// Collects outcomes until there is none, or until the most of a round were collected: then it rings the bell, so that the links don't wait when they
-    /// are asked what is next, and the rest is collected behind that. Where no other worker runs, a turn comes before each.
+    /// are asked what is next, and the rest is collected after that. Where no other worker runs, a turn comes before each.
     pub(crate) fn collect_all<L: Links, D: Desk, G: Gate, R: Wait>(
         &mut self,
         rt: &R,
@@ -104,7 +104,7 @@ impl<H: Handler, J: Journal> Serving<Hall<H, J>> {
         Ok(())
     }
 
-    /// The same, where no other worker runs and something is owed.
+    /// Does the same where no other worker runs and something is owed.
     pub(crate) fn collect_alone<L: Links, D: Desk, G: Gate, R: Wait>(
         &mut self,
         rt: &R,

@@ -15,7 +15,7 @@
 //! What a run of it is, for every interleaving of its threads, stands in `specs/Served.antt`, above the headline of `host_model`. The loop's part over links is `loop_conns`'s, the
 //! hall `hall_core`'s, its lock `seat_booth`'s, and a worker's turn `hall_pool`'s; workers are started and joined by `hall_pool`.
 //!
-//! It takes turns among connections: a visit to one makes its moves up to the next frame that it submits, and behind so many outcomes the links are asked again. No
+//! It takes turns among connections: a visit to one makes its moves up to the next frame that it submits, and after so many outcomes the links are asked again. No
 //! clause says so, nor that it gets on at all: links, gates and bells may wait as long as they like.
 #![tactic(auto)]
 

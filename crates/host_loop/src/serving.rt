@@ -23,7 +23,7 @@ use std::thread::Threads;
 pub struct Served<H: Handler, J: Journal> {
     /// By what each connection ended.
     pub ends: Ends,
-    /// The handlers, behind all calls.
+    /// The handlers, after all calls.
     pub handlers: Vec<H>,
     /// The journal of the calls.
     pub journal: J,

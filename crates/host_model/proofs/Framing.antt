@@ -135,7 +135,7 @@ rest_nil max payload more h e =
     let l : 0 ≡ length (frame payload ++ more) = ap length e in let k : suc (length more) ≤ length (frame payload ++ more) = fewer payload more in
     let f : ⊥ = omega arith in f
 
--- and of no size
+-- and no bytes have a bad size
 pub size_nil : (max : ℕ) → HasNoBadSize max []
 size_nil max z more h e =
     let l : 0 ≡ length (size_bytes z ++ more) = ap length e in let k : length (size_bytes z ++ more) ≡ 4 + length more = length-append (size_bytes z) more in

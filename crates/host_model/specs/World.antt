@@ -72,7 +72,7 @@ marks_by c (writes bytes) = Wrote c bytes ∷ []
 marks_by c fails_write = WriteFailed c ∷ Closed c ∷ []
 marks_by c (gives_up cause) = Closed c ∷ []
 
--- the cause of an input that ends behind these bytes
+-- the cause of an input that ends after these bytes
 abbrev pub end_behind : List ℕ → EndCause
 end_behind [] = End
 end_behind (byte ∷ bytes) = Cut

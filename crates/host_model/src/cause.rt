@@ -3,7 +3,7 @@ use outside::EnvelopeFault;
 /// Why a connection ended.
 #[derive(Clone, Copy, Debug, PartialEq, Eq)]
 pub enum EndCause {
-    /// Its input ended behind a whole frame, or before any byte.
+    /// Its input ended after a whole frame, or before any byte.
     End,
     /// Its input ended inside a size or a frame.
     Cut,

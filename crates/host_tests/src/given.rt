@@ -44,7 +44,7 @@ impl Ended {
         self.status == Status::Done && self.output.as_slice() == output && self.errors.is_empty()
     }
 
-    /// Whether it ended with a write fault behind so many bytes of this text.
+    /// Whether it ended with a write fault after so many bytes of this text.
     pub(crate) fn is_broken_behind(&self, text: &[u8], count: usize) -> bool {
         self.status == Status::WriteFault
             && self.errors.as_slice() == b"thriftd: write fault\n".as_slice()
@@ -92,7 +92,7 @@ impl Given {
         self.run_behind(rt, alloc, words, &EmptyGate)
     }
 
-    /// The same behind a gate.
+    /// Does the same behind a gate.
     pub(crate) fn run_behind<G: Gate + Sync, R: Threads + Wait + Sync>(
         self,
         rt: &R,
@@ -170,7 +170,7 @@ fn owned(alloc: Global, words: &[&str]) -> Result<Vec<String>, AllocError> {
 /// A file's name and what it holds.
 pub(crate) type Held = (&'static str, &'static [u8]);
 
-/// These files; the calls with these numbers fail.
+/// Makes these files; the calls with these numbers fail.
 pub(crate) fn files_of(
     alloc: Global,
     held: &[Held],

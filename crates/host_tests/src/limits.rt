@@ -26,7 +26,7 @@ conn 0 SizeFault 30 -;conn 1 End Q;calls 1;",
         b"%open 0;%open 1;%open 2;%open 3;%read 0 4;%end 0;%close 0;%read 1 4;%close 1;%read 2 4;%close 2;%read 3 4;%close 3;conn 0 Cut -;\
 conn 1 SizeFault 268435457 -;conn 2 SizeFault 2147483647 -;conn 3 SizeFault -2147483648 -;calls 0;",
     ),
-    // Without limits given.
+    // No limits are given.
     (
         PLAIN,
         b"open;open;data 0 00fa0000;data 1 00fa0001;end 0;end 1;",
@@ -38,7 +38,7 @@ conn 1 SizeFault 268435457 -;conn 2 SizeFault 2147483647 -;conn 3 SizeFault -214
         b"open;data 0 PAP;end 0;",
         b"%open 0;%read 0 4;%read 0 17;%wrote 0 21;%read 0 4;%close 0;call 0 0 0 ping {} empty;conn 0 SizeFault 30 Q;calls 1;",
     ),
-    // A size that is cut, and one whose last byte comes behind a line of rest.
+    // A size that is cut, and one whose last byte comes after a line of rest.
     (
         ("0", "17", "17"),
         b"open;open;data 0 000000;end 0;data 1 0000;rest;data 1 00;rest;data 1 12;end 1;",

@@ -162,7 +162,7 @@ fn runs_have_their_ends(rt: HostRuntime) -> Result<(), Fail> {
     Ok(())
 }
 
-/// So many connections that are opened, of which the first one ends.
+/// A script that opens so many connections, of which the first one ends.
 fn opened(alloc: Global, count: usize) -> Result<Vec<u8>, AllocError> {
     let mut script = Vec::new(alloc);
     for _ in 0..count {

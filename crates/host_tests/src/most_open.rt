@@ -34,7 +34,7 @@ fn put_each(into: &mut Vec<u8>, alloc: Global, short: &[u8]) -> Result<(), Alloc
     Ok(())
 }
 
-/// For each connection these texts in short, one text behind the other.
+/// Puts these texts in short for each connection, one text behind the other.
 fn each(alloc: Global, texts: &[&[u8]]) -> Result<Vec<u8>, AllocError> {
     let mut all = Vec::new(alloc);
     for short in texts {
@@ -66,7 +66,7 @@ fn as_many_as_may_be_open_are_served(rt: HostRuntime) -> Result<(), Fail> {
     Ok(())
 }
 
-/// Whether so many connections whose inputs end at once, and these openings behind them, have this report.
+/// Whether so many connections whose inputs end at once, and these openings after them, have this report.
 fn ended_have<R: Threads + Wait + Sync>(
     rt: &R,
     alloc: Global,

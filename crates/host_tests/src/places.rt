@@ -11,13 +11,13 @@ use text_out::decimal;
 /// How many bytes `ping` has, and its reply.
 const SIZE: usize = 21;
 
-/// So many bytes of the call, in hexadecimal.
+/// The first `count` bytes of the call, in hexadecimal.
 fn call_front(count: usize) -> &'static [u8] {
     let call: &[u8] = b"00000011800100010000000470696e670000000000";
     call.split_at(count.saturating_mul(2).min(call.len())).0
 }
 
-/// So many bytes of its reply.
+/// The first `count` bytes of its reply.
 fn reply_front(count: usize) -> &'static [u8] {
     match count {
         0 => b"-",
@@ -42,7 +42,7 @@ fn report_of(
     Ok(report)
 }
 
-/// Whether a connection whose write fails behind so many of one byte was sent these.
+/// Whether a connection whose write fails after so many of one byte was sent these.
 fn fails_at<R: Threads + Wait + Sync>(
     rt: &R,
     alloc: Global,
@@ -69,7 +69,7 @@ fn a_write_fails_at_each_place(rt: HostRuntime) -> Result<(), Fail> {
     Ok(())
 }
 
-/// The mark of a write of the rest of the reply, behind so many bytes.
+/// The mark of a write of the rest of the reply, after so many bytes.
 fn rest_of_reply(alloc: Global, count: usize) -> Result<Vec<u8>, AllocError> {
     let mut mark = b"tape wrote 0 ".to_vec(alloc)?;
     decimal(&mut mark, (SIZE - count.min(SIZE)) as i128)?;
@@ -77,7 +77,7 @@ fn rest_of_reply(alloc: Global, count: usize) -> Result<Vec<u8>, AllocError> {
     Ok(mark)
 }
 
-/// Whether a connection whose write is blocked behind so many of one byte gets its whole reply, and then its input ends so, or a read fails.
+/// Whether a connection whose write is blocked after so many of one byte gets its whole reply, and then its input ends so, or a read fails.
 fn goes_on_behind<R: Threads + Wait + Sync>(
     rt: &R,
     alloc: Global,
@@ -120,7 +120,7 @@ fn a_write_is_blocked_at_each_place(rt: HostRuntime) -> Result<(), Fail> {
     Ok(())
 }
 
-/// Whether a reply that is written byte by byte, each write behind such lines, is whole.
+/// Whether a reply that is written byte by byte, each write after such lines, is whole.
 fn is_whole_behind<R: Threads + Wait + Sync>(
     rt: &R,
     alloc: Global,

@@ -38,7 +38,7 @@ loop 1;loop 2;loop 3;loop 4;data 1 P;data 2 P;loop 1;loop 2;end 1;end 2;end 4;lo
 %read 4 17;%close 2;%writefail 4;%close 4;call 4 0 0 ping {} empty;conn 0 End -;conn 1 SizeFault 0 -;\
 conn 2 Envelope Version 80020001 -;conn 3 ReadFault -;conn 4 WriteFault -;calls 1;",
     ),
-    // A blocked write is a move, and so is one that fails; the turn behind it is nobody's.
+    // A blocked write is a move, and so is one that fails; the turn after it is nobody's.
     (
         PLAIN,
         b"open;block 0;write 0 4;writefail 0;data 0 P;loop 0;loop 0;loop 0;loop 0;work 0;work 0;work 0;collect;loop 0;loop 0;loop 0;loop 0;\
@@ -69,7 +69,7 @@ loop 1;loop 0;collect;loop 1;loop 0;collect;loop 1;loop 0;end 0;end 1;",
         b"%open 0;%open 1;%read 1 4;%read 1 17;%read 0 4;%read 0 17;%wrote 0 21;%wrote 1 21;%end 0;%close 0;%end 1;%close 1;\
 call 0 0 0 ping {} empty;call 1 0 0 ping {} empty;conn 0 End Q;conn 1 End Q;calls 2;",
     ),
-    // A call without a reply: its connection reads on behind its outcome alone.
+    // A call without a reply: its connection reads on after its outcome alone.
     (
         PLAIN,
         b"open;data 0 ZP;loop 0;loop 0;loop 0;loop 0;work 0;work 0;loop 0;work 0;loop 0;collect;loop 0;loop 0;loop 0;loop 0;work 0;work 0;\

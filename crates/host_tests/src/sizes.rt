@@ -81,7 +81,7 @@ fn the_plain_split_agrees(rt: HostRuntime) -> Result<(), Fail> {
     Ok(())
 }
 
-/// So many times the middle part, between the others.
+/// Repeats the middle part so many times, between the others.
 fn repeated(
     alloc: Global,
     front: &[u8],

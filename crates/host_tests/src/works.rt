@@ -41,7 +41,7 @@ struct Counting {
 }
 
 impl Counting {
-    /// No outcomes of so many frames.
+    /// Has counted no outcomes, of so many frames.
     fn of(alloc: Global, count: usize) -> Result<Counting, AllocError> {
         let mut frames = Vec::new(alloc);
         for _ in 0..count {

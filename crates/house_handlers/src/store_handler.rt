@@ -62,7 +62,7 @@ impl Store {
     ghost use Rattle.call_rules.specs.StoreRule.{found_or_empty, memory_with, get_answered, put_answered, swap_answered, forget_answered};
     ghost use Rattle.house_handlers.specs.Kept.{store_memory, store_service};
 
-    /// A store of nothing; takes no memory.
+    /// Makes an empty store; takes no memory.
     pub fn new(alloc: Global) -> Self
         ensures { store_service result ≡ new_service kinds.Store }
     {

@@ -1,4 +1,4 @@
--- A schema that no pass refuses is that of its program, and a fault behind the others is its first.
+-- A schema that no pass refuses is that of its program, and a fault after the other passes is its first.
 use Rattle.std.proofs.Common.{◌≡◌, List, [], ◌∷◌, Result, Ok, Err, inl}
 use Rattle.std.specs.List.{AllByRecursion}
 use Rattle.idl_include.specs.declared.sources.IdlFile.{IdlFile}
@@ -27,7 +27,7 @@ schema_made program schema none h = record {
   constants = h.whole.constants;
 }
 
--- what the last stage answers, behind passes that find nothing
+-- what the last stage answers, after passes that find nothing
 pub checked_behind : (files : List IdlFile) (result : Result Schema CheckFault) → ((schema : PlainSchema) → IsSchemaOf (program_in files) schema → IsSound schema)
     → AllByRecursion (FindsNothing (program_in files)) spot_passes → IsValued (program_in files) result → IsCheckOf (program_in files) result
 checked_behind files (Ok schema) sound none h =

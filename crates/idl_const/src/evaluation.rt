@@ -107,7 +107,7 @@ fn value_itself<G: Ground>(
     made
 }
 
-/// The given value of some number, against its type, under evaluation itself. Behind a fault there is no going on.
+/// The given value of some number, against its type, under evaluation itself. After a fault there is no going on.
 pub fn evaluate_given<G: Ground>(
     ground: &G,
     alloc: Global,

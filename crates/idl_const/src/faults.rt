@@ -70,7 +70,7 @@ impl From<AllocError> for ConstStop {
     }
 }
 
-/// No place.
+/// Stands for no place.
 const NOWHERE: Place = Place { line: 0, column: 0 };
 
 impl<T: Drop> From<AllocFailed<T>> for ConstStop {

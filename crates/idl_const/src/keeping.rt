@@ -19,7 +19,7 @@ use idl_token::Place;
 use schema::{FieldDesc, Need};
 use thrift_value::Value;
 
-/// One more at the end of a list, where it was made.
+/// Adds one at the end of a list, where it was made.
 pub(crate) fn keep(list: &mut Vec<Value>, made: Result<Value, ConstStop>) -> Result<(), ConstStop>
     ensures { MatchResult made (λ one. OnOk result (list.new.items ≡ list.old.items ++ one ∷ []) × IfErr result (λ stop. stop.fault ≡ ConstFault.NoMemory))
         (λ stop. result ≡ Err stop) }
@@ -29,7 +29,7 @@ pub(crate) fn keep(list: &mut Vec<Value>, made: Result<Value, ConstStop>) -> Res
     Ok(())
 }
 
-/// One more behind something else, at the end of a list, where it was made.
+/// Adds one behind something else, at the end of a list, where it was made.
 pub(crate) fn keep_beside<A: Drop>(
     list: &mut Vec<(A, Value)>,
     first: A,
@@ -43,7 +43,7 @@ pub(crate) fn keep_beside<A: Drop>(
     Ok(())
 }
 
-/// One field more at the end of a list, where it was made and has a value.
+/// Adds a field at the end of a list, where it was made and has a value.
 pub(crate) fn keep_field(
     list: &mut Vec<(i16, Value)>,
     id: i16,

@@ -24,7 +24,7 @@ pub struct Progress {
     pub(crate) steps: u32,
 }
 
-/// One value more.
+/// Counts one value more.
 fn count_value(work: &mut Progress, at: Place) -> Result<(), ConstStop>
     ensures more { OnOk result (work.new.values ≡ suc work.old.values) }
     ensures free { work.new.free ≡ work.old.free }
@@ -72,7 +72,7 @@ pub(crate) fn charge(work: &mut Progress, at: Place, length: usize) -> Result<()
     Ok(())
 }
 
-/// One value, without others inside.
+/// Counts and judges one value, without others inside.
 pub(crate) fn single(
     work: &mut Progress,
     at: Place,
@@ -88,7 +88,7 @@ pub(crate) fn single(
     }
 }
 
-/// A container is opened, where its form fits its type and a level is left. How many levels are left inside.
+/// Opens a container, where its form fits its type and a level is left, and tells how many levels are left inside.
 pub(crate) fn opened(
     work: &mut Progress,
     at: Place,

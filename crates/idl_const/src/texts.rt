@@ -29,7 +29,7 @@ pub(crate) fn copied_literal(
     single(work, literal.at, literal_value(alloc, kind, &literal.bytes))
 }
 
-/// A key is to be looked up among the names of fields.
+/// Charges for a key, which is to be looked up among the names of fields.
 fn charge_key(work: &mut Progress, key: &ConstTree) -> Result<(), ConstStop>
     ensures free { work.new.free ≡ work.old.free }
     ensures values { work.new.values ≡ work.old.values }
@@ -45,7 +45,7 @@ fn charge_key(work: &mut Progress, key: &ConstTree) -> Result<(), ConstStop>
     }
 }
 
-/// The same of the keys of a struct's fields.
+/// Charges for the keys of a struct's fields.
 pub(crate) fn charge_keys(
     work: &mut Progress,
     entries: &[(ConstTree, ConstTree)],

@@ -187,7 +187,7 @@ new_ends levels above file of w a b name stop meant e h =
     (λ reader. new_is levels above file of w a.begun name reader meant e)
     (ends_before a b (file_left levels above name a.begun) next stop h)
 
--- want of memory behind a step that went on
+-- want of memory after a step that went on
 pub want_behind : (a b c : LoadStage) (other : FileReader → Loaded) (stop : LoadStop) → stop ≡ stops.NoMemory → LoadMoves a b → LoadMoves b c → LoadEnds a c other stop
 want_behind a b c other stop e g h = ends_for_want a c other stop e (moved a b c g h)
 

@@ -69,7 +69,7 @@ goes_from a b was other is e g = record { moves = g.moves; longer = g.longer; be
 pub goes_to : (a b : LoadStage) (was is other : FileReader → Loaded) → ((reader : FileReader) → is reader ≡ other reader) → LoadProceeds a b was is → LoadProceeds a b was other
 goes_to a b was is other e g = record { moves = g.moves; longer = g.longer; begun = g.begun; comes = λ reader r. g.comes reader r ∙ e reader }
 
--- something is left behind it
+-- something is left to do after it
 pub goes_before : (a b : LoadStage) (was : FileReader → Loaded) (files : List IdlFile) (next : FileReader → Program → Loaded) → LoadProceeds a b was (all_loaded files)
     → LoadProceeds a b (λ reader. and_then (was reader) (next reader)) (λ reader. next reader (program_in files))
 goes_before a b was files next g = record {

@@ -59,7 +59,7 @@ fn is_taken_out(segment: &str) -> bool
     !segment.is_empty() && segment != ".."
 }
 
-/// One segment more, last.
+/// Adds a segment at the end.
 #[tactic(auto, using(crate::proofs::Segments::with_last))]
 fn push_segment<'a>(kept: &mut Vec<&'a str>, segment: &'a str) -> Result<(), AllocFailed<&'a str>>
     ensures { OnOk result (reverse (texts kept.new.items) ≡ segment.now ∷ reverse (texts kept.old.items)) }
@@ -76,7 +76,7 @@ fn pop_segment<'a>(kept: &mut Vec<&'a str>) -> Option<&'a str>
     kept.pop()
 }
 
-/// A `..` more: it takes out the segment before, where that is one that may be taken out.
+/// Adds a `..`: it takes out the segment before, where that is one that may be taken out.
 #[tactic(auto, using(crate::proofs::Segments::taken_out, crate::proofs::Segments::left_in))]
 fn add_upward<'a>(kept: &mut Vec<&'a str>, segment: &'a str) -> Result<(), AllocFailed<&'a str>>
     ensures { OnOk result (reverse (texts kept.new.items) ≡ with_upward (reverse (texts kept.old.items)) segment.now) }
@@ -91,7 +91,7 @@ fn add_upward<'a>(kept: &mut Vec<&'a str>, segment: &'a str) -> Result<(), Alloc
     push_segment(kept, segment)
 }
 
-/// One segment more: `.` is dropped, and `..` takes out the one before.
+/// Adds a segment: `.` is dropped, and `..` takes out the one before.
 fn add_segment<'a>(kept: &mut Vec<&'a str>, segment: &'a str) -> Result<(), AllocFailed<&'a str>>
     ensures { OnOk result (reverse (texts kept.new.items) ≡ with_segment (reverse (texts kept.old.items)) segment.now) }
 {

@@ -95,7 +95,7 @@ fn wanted_files(alloc: Global, includes: &[Include]) -> Result<Vec<WantedFile>, 
     Ok(all)
 }
 
-/// One literal more.
+/// Adds the literal of an include.
 fn want(alloc: Global, all: &mut Vec<WantedFile>, include: &Include) -> Result<(), AllocError>
     ensures { OnOk result (wanted_in all.new.items ≡ wanted_in all.old.items ++ literal_in include.now.file ∷ []) }
 {

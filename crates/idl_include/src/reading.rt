@@ -62,7 +62,7 @@ fn document_of(alloc: Global, name: &str, text: &[u8]) -> Result<Document, LoadS
     }
 }
 
-/// The same of its tokens.
+/// The document of its tokens.
 fn document_in(
     alloc: Global,
     name: &str,

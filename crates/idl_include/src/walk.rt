@@ -107,7 +107,7 @@ fn open<F: Files>(
     Ok(wanted)
 }
 
-/// One name more of a file that is being loaded.
+/// Adds the name of a file that is being loaded.
 fn put_above(alloc: Global, above: &mut VecDeque<ByteText>, name: &str) -> Result<(), AllocError>
     ensures { OnOk result (above.new.items ≡ name.now ∷ above.old.items) }
 {
@@ -142,7 +142,7 @@ fn follow_all<F: Files>(
     Ok(())
 }
 
-/// One include of the file of this name and of number `of`.
+/// Follows one include of the file of this name and of number `of`.
 #[cycle(walk)]
 fn follow<F: Files>(
     alloc: Global,

@@ -30,7 +30,7 @@ fn base_map<'a>(
     Ok(map)
 }
 
-/// One included file more, unless another has its base name.
+/// Adds an included file, unless another has its base name.
 fn note_base<'a>(map: &mut NameMap<'a>, files: &'a [IdlFile], number: u32) -> Result<(), AllocError>
     requires { All HasOwnBase files.now }
     ensures { OnOk result (NotesInclude (program_in files.now) number map.old map.new) }
@@ -41,7 +41,7 @@ fn note_base<'a>(map: &mut NameMap<'a>, files: &'a [IdlFile], number: u32) -> Re
     }
 }
 
-/// The same of each file.
+/// The included files by base name, of each file.
 pub(crate) fn base_maps<'a>(
     alloc: Global,
     files: &'a [IdlFile],

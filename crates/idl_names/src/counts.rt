@@ -23,7 +23,7 @@ pub struct DefinitionCounts {
     pub services: u32,
 }
 
-/// No definition.
+/// Counts no definition.
 pub fn no_counts() -> DefinitionCounts
     ensures { counts_in result ≡ none_counted }
 {
@@ -36,7 +36,7 @@ pub fn no_counts() -> DefinitionCounts
     }
 }
 
-/// One more.
+/// Counts one more.
 fn one_more(count: u32) -> Result<u32, AllocError>
     ensures { IfOk result (λ next. next ≡ suc count) }
 {

@@ -28,7 +28,7 @@ pub struct Definitions<'a> {
 impl<'a> Definitions<'a> {
     ghost use Rattle.idl_names.specs.Listing.{listing_in, nothing_listed, with_definition, with_definitions};
 
-    /// No definition.
+    /// Holds no definition.
     fn new(alloc: Global) -> Self
         ensures { listing_in result ≡ nothing_listed }
     {

@@ -26,7 +26,7 @@ pub(crate) struct FieldMark {
     pub(crate) repeated_id: bool,
 }
 
-/// The same of all fields of a list.
+/// What is known of all fields of a list, each by those before it.
 #[derive(Drop)]
 pub(crate) struct FieldMarks {
     /// Whether one before has its name.

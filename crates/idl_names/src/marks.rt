@@ -15,7 +15,7 @@ pub type NameSet<'a> = IndexSet<&'a [u8]>;
 /// Ids.
 pub(crate) type IdSet = IndexSet<i64>;
 
-/// One name more. Whether it was there before.
+/// Adds a name, and tells whether it was there before.
 pub fn was_seen<'a>(seen: &mut NameSet<'a>, name: &'a [u8]) -> Result<bool, AllocError>
     ensures before { IfOk result (λ was. was ≡ has_name seen.old name.now) }
     ensures after { OnOk result (HasNameToo name.now seen.old seen.new) }
@@ -24,7 +24,7 @@ pub fn was_seen<'a>(seen: &mut NameSet<'a>, name: &'a [u8]) -> Result<bool, Allo
     Ok(!new)
 }
 
-/// One id more. Whether it was there before.
+/// Adds an id, and tells whether it was there before.
 fn id_was_seen(seen: &mut IdSet, id: i64) -> Result<bool, AllocError>
     ensures before { IfOk result (λ was. was ≡ has_id seen.old id) }
     ensures after { OnOk result (HasIdToo id seen.old seen.new) }

@@ -29,7 +29,7 @@ pub(crate) fn number_in_file(maps: &[NameMap<'_>], file: u32, name: &[u8]) -> Op
     }
 }
 
-/// One name more, unless it is there.
+/// Adds a name, unless it is there.
 pub fn note<'a>(map: &mut NameMap<'a>, name: &'a [u8], number: u32) -> Result<(), AllocError>
     ensures { OnOk result (HasOneMore name.now number map.old map.new) }
 {
@@ -40,7 +40,7 @@ pub fn note<'a>(map: &mut NameMap<'a>, name: &'a [u8], number: u32) -> Result<()
     Ok(())
 }
 
-/// There are names of the file of this number, if only none.
+/// Makes a map for the file of this number, empty where there was none.
 fn reach(alloc: Global, maps: &mut Vec<NameMap<'_>>, file: usize) -> Result<(), AllocError>
     ensures same { (f : ℕ) (other : List ℕ) → number_in_file maps.new.items f other ≡ number_in_file maps.old.items f other }
     ensures reached { OnOk result (file < length maps.new.items) }
@@ -51,7 +51,7 @@ fn reach(alloc: Global, maps: &mut Vec<NameMap<'_>>, file: usize) -> Result<(), 
     Ok(())
 }
 
-/// One name more in a file, unless it is there.
+/// Adds a name in a file, unless it is there.
 fn note_in<'a>(
     alloc: Global,
     maps: &mut Vec<NameMap<'a>>,

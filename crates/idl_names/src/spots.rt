@@ -43,7 +43,7 @@ pub fn program_spots<'a>(alloc: Global, files: &'a [IdlFile]) -> Result<Vec<Spot
     Ok(spots)
 }
 
-/// The spots of the definitions of a file. How many definitions there are with them.
+/// Puts the spots of the definitions of a file, and tells how many definitions there are with them.
 fn put_file<'a>(
     alloc: Global,
     spots: &mut Vec<SpotIn<'a>>,

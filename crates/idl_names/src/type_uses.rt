@@ -9,7 +9,7 @@ use crate::spot::{ShownIn, SpotIn};
 use idl_parser::TypeTree;
 use std::alloc::AllocError;
 
-/// One spot more.
+/// Adds one spot.
 pub(crate) fn put_spot<'a>(
     spots: &mut Vec<SpotIn<'a>>,
     file: u32,

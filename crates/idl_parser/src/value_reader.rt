@@ -173,7 +173,7 @@ impl<'a> SymbolReader<'a> {
         Ok(all)
     }
 
-    /// `=` and a value.
+    /// Reads `=` and a value.
     pub(crate) fn assigned(&mut self) -> Result<ConstTree, Stop>
         ensures { Parses (chain right_tree (sign Terminal.Equals) (value_of deepest)) value_node self.old self.new result }
     {

@@ -42,7 +42,7 @@ pub fn first_fault(
     judge(alloc, &grammar, &deeper, symbols)
 }
 
-/// The same by the grammar of so many levels and that of one level more.
+/// Judges so by the grammar of so many levels and that of one level more.
 fn judge(
     alloc: Global,
     grammar: &PlainPhrase,

@@ -135,7 +135,7 @@ fn plain_fault(
     Ok(Vec::new(alloc))
 }
 
-/// The same by the check.
+/// The first fault of these values for the check.
 fn real_fault(alloc: Global, sources: &Sources) -> Result<Vec<u8>, AllocError>
     requires { AreFiles (sources_in sources.now) }
 {

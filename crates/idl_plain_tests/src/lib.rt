@@ -1,5 +1,5 @@
-//! Tables of small programs for the plain programs of the checker's definitions and the real bodies beside them: both give the same
-//! answer, and the one that the row says. Rows are worked out by hand.
+//! Tables of small programs for `check_plain` and `const_plain`, the plain programs of the checker's definitions, and for the real bodies beside them: both give the
+//! same answer, and the one that the row says. Rows are worked out by hand.
 #![tactic(auto)]
 
 #[cfg(test)]

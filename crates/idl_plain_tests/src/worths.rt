@@ -143,7 +143,7 @@ fn is_worth_there(
     is_worth(alloc, text.as_str(), wanted.as_slice())
 }
 
-/// The same where a name stands for the value, at which the fault is then.
+/// Whether both answer so where a name stands for the value, at which the fault is then.
 fn is_worth_by_name(
     alloc: Global,
     kind: &str,

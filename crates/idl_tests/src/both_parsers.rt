@@ -78,7 +78,7 @@ const HEADERS_AND_TYPES: [(&str, Expected); 25] = [
     ("typedef i32 ('a') T", Some((Found, 1, 14))),
 ];
 
-// The same of other definitions.
+// Such texts of other definitions.
 const DEFINITIONS: [(&str, Expected); 18] = [
     // Enums and structs.
     ("enum E { A B = 2 (x) , C = -1; } (y)", None),
@@ -109,7 +109,7 @@ const DEFINITIONS: [(&str, Expected); 18] = [
     ("service S { void f() throws ) }", Some((Found, 1, 29))),
 ];
 
-// The same of what is left out by name.
+// Such texts of what is left out by name.
 const LEFT_OUT: [(&str, Expected); 8] = [
     // Refused words.
     ("struct S { 1: &T a }", Some((Refused, 1, 15))),

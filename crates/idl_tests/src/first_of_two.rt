@@ -4,7 +4,7 @@ use crate::given::{Held, is_refused_at_mark, is_text_refused};
 use std::process::Abort;
 use std::test::Fail;
 
-/// Each pass but the last with the one behind it, whose fault stands first in the text.
+/// Each pass but the last with the one after it, whose fault stands first in the text.
 const PASSES: [(&str, &str); 13] = [
     ("struct A {} struct A {} struct ^b.c {}", "DottedName"),
     ("typedef X A struct ^A {}", "DuplicateName"),

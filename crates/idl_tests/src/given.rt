@@ -10,7 +10,7 @@ pub(crate) type Held = (&'static str, &'static str);
 /// Files that are being made.
 pub(crate) type Making = Vec<(String, Vec<u8>)>;
 
-/// One file more.
+/// Adds a file.
 pub(crate) fn add_file(
     alloc: Global,
     files: &mut Making,

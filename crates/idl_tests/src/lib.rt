@@ -1,6 +1,7 @@
-//! Tests of the IDL: tables of texts through both lexers, through the parser and the plain recognizer, and trees that are printed and read again; constants over
-//! files that are loaded; and whole programs of files in memory, from their loading to the errors' line or the schema's text: each fault at each place where it
-//! can come, which of two faults is told, the most files, levels and values, and what numbers, defaults and equal keys come to.
+//! Tests of the IDL's crates, from `idl_token` to `idl_check`: tables of texts through both lexers (`idl_token`, `idl_plain`), through the parser (`idl_parser`) and
+//! the plain recognizer, and trees that are printed (`idl_printer`) and read again; constants over files that are loaded (`idl_const`, `const_evaluator`); and whole
+//! programs of files in memory, from their loading (`idl_include`) to the errors' line or the schema's text: each fault at each place where it can come, which of two
+//! faults is told, the most files, levels and values, and what numbers, defaults and equal keys come to.
 #![tactic(auto)]
 
 #[cfg(test)]

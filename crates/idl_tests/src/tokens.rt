@@ -1,4 +1,4 @@
-//! Texts with their tokens, at the crate's own calls. The table of texts stands in `idl_plain`, and runs through both lexers.
+//! Texts with their tokens, at the own calls of `idl_token`. The table of texts stands in `both_lexers`, and runs through both lexers.
 
 use idl_token::{
     LONGEST_IDL_TEXT, LexFault, LexKind, Place, TokenKind, int_value, keyword_of, keyword_text,

@@ -12,7 +12,7 @@ pub(crate) const MAX_LEVELS: u32 = 1_001;
 /// The most types that are made for one program, each with all that stand in it.
 pub const MOST_TYPES: u32 = 4_000_000;
 
-/// One level less, and one less of the types that may still be made; want of memory where none is left of either.
+/// Takes one level, and one of the types that may still be made; want of memory where none is left of either.
 pub(crate) fn enter(levels: u32, room: &mut u32) -> Result<u32, AllocError> {
     let Some(below) = levels.checked_sub(1) else {
         return Err(AllocError);

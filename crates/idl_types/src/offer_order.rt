@@ -43,7 +43,7 @@ fn unmet_way(
     Ok(way)
 }
 
-/// Marks a service as met. Whether it wasn't met before.
+/// Marks a service as met, and tells whether it wasn't met before.
 fn meets(met: &mut Vec<bool>, service: u32) -> bool {
     match met.get_mut(service as usize) {
         Some(mark) => {

@@ -26,7 +26,7 @@ pub(crate) struct Offered<'a> {
     pub(crate) copied: usize,
 }
 
-/// Nothing yet, of so many services.
+/// Nothing is offered yet, of so many services.
 pub(crate) fn nothing_offered<'a>(alloc: Global, count: usize) -> Result<Offered<'a>, AllocError>
     ensures { IfOk result (λ offered. (service : ℕ) → slice_index_or offered.made.items service None ≡ None) }
 {
@@ -124,7 +124,7 @@ fn put_made(made: &mut Vec<Option<u32>>, service: u32, which: u32) -> Result<(),
     }
 }
 
-/// A set more, of a service with these functions, whose parent has the set `base`.
+/// Adds the set of a service with these functions, whose parent has the set `base`.
 fn offer_new<'a>(
     alloc: Global,
     offered: &mut Offered<'a>,
@@ -155,7 +155,7 @@ fn names_in(sets: &[NameSet<'_>], base: Option<u32>) -> usize {
     }
 }
 
-/// So many more, as far as they are at most so many as are copied.
+/// How many names are copied with so many more, where these aren't too many.
 fn within_most(copied: usize, more: usize) -> Result<usize, AllocError> {
     match copied.checked_add(more) {
         Some(sum) if sum <= MOST_COPIED => Ok(sum),

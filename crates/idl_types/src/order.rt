@@ -75,7 +75,7 @@ impl Search {
         Ok(())
     }
 
-    /// One step; false where no typedef is being looked at.
+    /// Goes one step; false where no typedef is being looked at.
     fn step(&mut self, rows: &[Vec<u32>]) -> Result<bool, AllocError> {
         let Some((typedef, place)) = self.open.pop() else {
             return Ok(false);

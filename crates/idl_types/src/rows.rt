@@ -91,7 +91,7 @@ fn parent_named(names: &NameTables<'_>, service: &InFile<'_, Service>) -> Option
     }
 }
 
-/// The same as rows, of one number or none.
+/// Gives parents as rows, of one number or none.
 pub fn parent_rows(alloc: Global, parents: &[Option<u32>]) -> Result<Vec<Vec<u32>>, AllocError>
     ensures rows { IfOk result (λ rows. map (λ row. row.items) rows.items ≡ map listed parents.now) }
     ensures graph { IfOk result (λ rows. (program : Program) → parents.now ≡ parents_of program → map (λ row. row.items) rows.items ≡ parent_graph program) }

@@ -94,7 +94,7 @@ pub fn accepted_workloads()
         ≡ Some (runs 0 1 0) }
 {}
 
-/// No words.
+/// There are no words.
 pub fn no_words()
     ensures { words_of [] ≡ None }
 {}

@@ -10,7 +10,7 @@ use std::test::Fail;
 /// A text, the line of its first fault, and the fault's kind.
 type Row = (&'static [u8], u32, ScriptKind);
 
-/// For 2 workers, with lines of a schedule.
+/// Texts for 2 workers, with lines of a schedule.
 const ON_SCHEDULE: [Row; 20] = [
     (b"data 0 00\nopenx\n", 1, NoConnection),
     (b"open\nend 1\n", 2, NoConnection),
@@ -38,7 +38,7 @@ const ON_SCHEDULE: [Row; 20] = [
     (b"open\n\nwork 1\ncollect\nwork 7\n", 5, NoWorker),
 ];
 
-/// For no worker, without lines of a schedule.
+/// Texts for no worker, without lines of a schedule.
 const OFF_SCHEDULE: [Row; 5] = [
     (b"open\nloop 0\nend 0\n", 2, Schedule),
     (b"open\nloop 9\n", 2, Schedule),
@@ -61,7 +61,7 @@ fn has_fault(
     }
 }
 
-/// So many openings.
+/// Writes so many openings.
 fn openings(alloc: Global, count: usize) -> Result<Vec<u8>, AllocError> {
     let mut text = Vec::new(alloc);
     for _ in 0..count {

@@ -1,5 +1,5 @@
-//! Tests of what comes in: scripts with their first faults and their prints, links over them, and the program's words, one table for their definition and for
-//! what is read.
+//! Tests of what comes in: scripts (`script_text`) with their first faults and their prints, links over them (`script_links`), and the program's words
+//! (`command_line`), one table for their definition and for what is read.
 #![tactic(auto)]
 
 pub mod examples;

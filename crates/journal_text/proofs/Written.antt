@@ -25,7 +25,7 @@ told_twice x a b =
     (all_taken (told_more x a) (told_more (told_more x a) b) b refl) in
     all_told x (told_more (told_more x a) b) (a ++ b) both
 
--- from an empty buffer on
+-- what is told from an empty buffer on
 from_empty : (x : Option (List ℕ)) (start text : List ℕ) → start ≡ [] → told_more (told_more x start) text ≡ told_more x text
 from_empty x start text none = ap (λ s. told_more (told_more x s) text) none ∙ ap (λ t. told_more t text) (told_none x)
 
@@ -35,12 +35,12 @@ line_held : (x y : Option (List ℕ)) (start held line : List ℕ) (f g : ℕ) �
 line_held x y start held line f g none one =
     one.taken ∙ ap (told_more (told_more x start)) (sym (append-nil one.front) ∙ sym one.whole) ∙ from_empty x start line none
 
--- and then to the sink
+-- and that was then handed to the sink
 line_out : (x y z : Option (List ℕ)) (start held line : List ℕ) (f g : ℕ) → start ≡ [] → HandsOver (told_more x start) (told_more y held) f g line []
     → z ≡ told_more y held → z ≡ told_more x line
 line_out x y z start held line f g none one passed = passed ∙ line_held x y start held line f g none one
 
--- or only a part of it to the sink
+-- or of which only a part was handed to the sink
 line_held_back : (x y z : Option (List ℕ)) (start held line : List ℕ) (f g : ℕ) → start ≡ [] → HandsOver (told_more x start) (told_more y held) f g line []
     → IsTakenInPart y z held → IsCutShort x z line
 line_held_back x y z start held line f g none one part =
@@ -48,7 +48,7 @@ line_held_back x y z start held line f g none one part =
     ap (λ t. told_more t part.lost) part.taken.taken ∙ told_twice y part.taken.front part.lost ∙ ap (told_more y) (sym part.taken.whole) in
     record { lost = part.lost; rest = rest ∙ line_held x y start held line f g none one }
 
--- or only a part of it to the buffer
+-- or of which only a part was handed to the buffer
 pub line_broken : (x y : Option (List ℕ)) (start held line : List ℕ) (f g : ℕ) → start ≡ [] → BreaksOff (told_more x start) (told_more y held) f g line
     → IsCutShort x y line
 line_broken x y start held line f g none one =

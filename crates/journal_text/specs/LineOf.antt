@@ -13,7 +13,7 @@ IsRangedAnswer empty = ⊤
 IsRangedAnswer (throws id exception) = FitsSigned w16 id × IsInRange exception
 IsRangedAnswer broken = ⊤
 
--- those of an entry
+-- the numbers of an entry are those of one in memory
 pub record IsRangedEntry (e : CallEntry) : Type 0 where
   pub c : e.key.c < 2 ^ 32
   pub i : e.key.i < 2 ^ 64

@@ -21,14 +21,14 @@ impl<T> Model for Appended<T> {
 unsafe impl<T: Send> Send for Appended<T> {}
 
 impl<T> Appended<T> {
-    /// Nothing.
+    /// Holds nothing.
     pub(crate) fn new() -> Appended<T>
         ensures { result.items ≡ [] }
     {
         Appended { of: PhantomData }
     }
 
-    /// The same with one item more.
+    /// Gives the same with one item more.
     pub(crate) fn and(&self, item: &T) -> Appended<T>
         ensures { result.items ≡ self.now.items ++ item.now ∷ [] }
     {

@@ -28,7 +28,7 @@ impl Model for ListJournal {
 }
 
 impl ListJournal {
-    /// A journal without entries; takes no memory.
+    /// Makes a journal without entries; takes no memory.
     pub fn new(alloc: Global) -> Self
         ensures { result.entries ≡ [] }
     {

@@ -28,7 +28,7 @@ pub fn read_entry(alloc: Global, line: &[u8]) -> Result<Entry, TextFault>
     entry_in(alloc, line)
 }
 
-/// The same, by its reading alone.
+/// Does the same; its contract speaks of reading alone.
 fn entry_in(alloc: Global, line: &[u8]) -> Result<Entry, TextFault>
     ensures { Answers (λ entry. entry) result (entry_read line.now) }
 {

@@ -23,7 +23,7 @@ gone_here c cause old new there table gone stages causes =
       causes = causes;
     }
 
--- behind another change of that connection in the table
+-- after another change of that connection in the table
 pub ends_behind : (c : ℕ) (cause : EndCause) (old new : LoopConnections) (mid : TableView) → IsSameBut c old.table mid → (IsOrderly old.table → IsOrderly mid)
     → EndsConnection c cause (record old { table = mid }) new → EndsConnection c cause old new
 ends_behind c cause old new mid but orderly ended =

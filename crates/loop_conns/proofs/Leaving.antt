@@ -65,7 +65,7 @@ pub write_moves : (c : ℕ) (bytes : List ℕ) (old new : LinksState) (taken : T
 write_moves c bytes old new taken w =
     record { others = w.others; tape = w.tape; lengths = w.lengths; faults = counts_on taken (old.faults c) (new.faults c) w.faults }
 
--- nothing is left, behind a read of the end
+-- nothing is left, after a read of the end
 pub spent_then : (old new : Option (List ℕ)) → old ≡ told_before [] new → IsSpent old → IsSpent new
 spent_then old None e h = tt
 spent_then old (Some rest) e h = subst IsSpent e h
@@ -153,7 +153,7 @@ module _ (max : ℕ) (small : max ≤ longest_payload) (first before : LinksStat
   as_before : (new : LoopConnections) → new.owing ≡ old.owing → new.owing + owed_by conn.cause conn ≡ old.owing
   as_before new e = let z : owed_by conn.cause conn ≡ 0 = none_owed in omega arith
 
-  -- the cause that the phase behind the end has
+  -- the cause that the phase after the end has
   pub ended_cause : cause_of (after_end_of_input (slot_of c old.table.slots).conn.phase) ≡ Some (end_behind conn.held)
   ended_cause = cause_behind max (slot_of c old.table.slots).conn.phase conn reading tied.tells
 

@@ -53,7 +53,7 @@ writer max (ready number payload) conn t some = absurd (let f : ⊥ = omega arit
 writer max (waiting number) conn t some = absurd (let f : ⊥ = omega arith in f)
 writer max (ended cause) conn t some = absurd (let f : ⊥ = omega arith in f)
 
--- behind a write a size is read, or the rest is written
+-- after a write a size is read, or the rest is written
 wrote_lean : (left : List ℕ) → IsLean (after_wrote left)
 wrote_lean [] = tt
 wrote_lean (byte ∷ left) = tt
@@ -76,7 +76,7 @@ some_left count left l e =
     let z : length (drop count left) ≡ 0 = ap length e in
     let f : ⊥ = omega arith in f
 
--- what is left behind a write
+-- what is left after a write
 left_is_left : (left : List ℕ) → left_to_write (after_wrote left) ≡ left
 left_is_left [] = refl
 left_is_left (byte ∷ left) = refl

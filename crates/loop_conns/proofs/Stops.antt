@@ -1,4 +1,4 @@
--- LoopConnections are stopped, whatever is under way on them.
+-- Connections are stopped, whatever is under way on them.
 use Rattle.std.proofs.Common.{◌≡◌, ◌≢◌, ℕ, ◌+◌, ◌<◌, ◌≤◌, ◌⊎◌, List, [], ◌∷◌, ◌++◌, length, slice_index_or, refl, sym, ap, ◌∙◌, subst, inl, inr, arith}
 use Rattle.std.proofs.lemmas.Bool.{cases_eq, cases_lt}
 use Rattle.std.proofs.lemmas.Option.{slice_get-get_or}
@@ -65,7 +65,7 @@ stopped_place c old new known here stopped =
 pub stopped_none : (c : ℕ) (kept : LoopConnections) → slice_index_or kept.stages.items c Gone ≡ Gone → StopsAlone c kept kept
 stopped_none c kept gone = record { count = refl; gone = gone; others = λ x h. h; causes = λ x. refl }
 
--- those below a number, and one more
+-- those below a number are gone, and so is one more
 pub gone_more : (c : ℕ) (old new : LoopConnections) → StopsAlone c old new → ((x : ℕ) → x < c → slice_index_or old.stages.items x Gone ≡ Gone) → (x : ℕ) → x < c + 1
     → slice_index_or new.stages.items x Gone ≡ Gone
 gone_more c old new s below x l = go (cases_eq x c)

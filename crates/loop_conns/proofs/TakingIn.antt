@@ -64,7 +64,7 @@ closed_then c marks lent old mid new m b =
       faults = let f : new.faults c ≡ mid.faults c = b.faults in let g : old.faults c ≤ mid.faults c = m.faults in omega arith;
     }
 
--- what it makes by the phase behind it
+-- what it makes by the phase after it
 pub part_of : (max : ℕ) (conn : LoopConn) (bytes : List ℕ) (old : Phase) (frames : ℕ) (phase : Phase) → cause_of phase ≡ None → (IsReady phase → ⊥) → MakesSo max conn bytes old frames phase
     → GoesOnSo old phase × IsProgress max (conn.held ++ bytes) part × IsOpenTied max (record { frames = frames; phase = phase }) (read_more conn bytes part)
 part_of max conn bytes old frames (sizing xs) none not_ready m = m
@@ -178,7 +178,7 @@ pub record HasTakenIn (max c : ℕ) (old : LoopConnections) (bytes : List ℕ) (
   pub has : HasItsSize (slot_of c old.table.slots).conn.phase (slot_of c old.table.slots).size
   pub table : mid ≡ record old.table { slots = with_state c (after_took max (slot_of c old.table.slots).conn bytes) old.table.slots }
 
--- a connection that has ended here, behind what it did on the links
+-- a connection that has ended here, after what it did on the links
 pub ended_change : (c : ℕ) (cause : EndCause) (marks : List Mark) (lent : List ℕ) (l0 mid l1 : LinksState) (old : LoopConnections) (table : TableView) (new : LoopConnections) → IsSameBut c old.table table
     → (IsOrderly old.table → IsOrderly table) → IsNumbered c old → MovesOnly c marks lent l0 mid → EndsConnection c cause (record old { table = table }) new → Closes c mid l1
     → ChangesOne c Gone cause (marks ++ Closed c ∷ []) lent l0 l1 old new

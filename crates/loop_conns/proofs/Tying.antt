@@ -1,4 +1,4 @@
--- LoopConnections stay tied to the machine's loop where one of them changes on all sides.
+-- Connections stay tied to the machine's loop where one of them changes on all sides.
 use Rattle.std.proofs.Common.{◌≡◌, ◌≢◌, ℕ, ◌<◌, ◌≤◌, ◌⊎◌, Option, None, Some, IsSome, List, [], ◌++◌, length, slice_index_or, slice_set, unwrap_or, refl, sym, ap, ◌∙◌, subst, inl, inr, append-nil, append_assoc, arith}
 use Rattle.std.proofs.lemmas.Bool.{cases_eq}
 use Rattle.std.proofs.lemmas.List.{get_or-set_same, get_or-set_other, length-set}
@@ -162,7 +162,7 @@ changed_each P loop c conn each own x = go (cases_eq x c)
     go (inl e) = subst (λ x. P (with_conn loop.conns c conn x)) (sym e) (subst P (sym (put_same loop.conns c conn)) own)
     go (inr n) = subst P (sym (put_other loop.conns c conn x n)) (each x)
 
--- of each one below a number
+-- what holds of each one below a number
 pub changed_below : (P : LoopConn → Type 0) (loop : Loop) (c : ℕ) (conn : LoopConn) (n : ℕ) → ((x : ℕ) → x < n → P (loop.conns x)) → P conn → (x : ℕ) → x < n → P (with_conn loop.conns c conn x)
 changed_below P loop c conn n each own x l = go (cases_eq x c)
   where

@@ -70,7 +70,7 @@ pub record IsHandedOut (max : ℕ) (links : LinksState) (new : LoopConnections) 
   pub taken : LoopIsRunning max first links new (asks ++ seat_ask 0 (submit key payload) done ∷ [])
   pub refused : HasWoven max first links new (asks ++ seat_ask 0 (submit key payload) is_closed ∷ [])
 
--- the asks, and the outcome of this key collected behind them
+-- the asks, and the outcome of this key collected after them
 abbrev pub collected_behind : List ServedAsk → Key → Settled → List ServedAsk
 collected_behind asks key settled = asks ++ seat_ask 0 collect (outcome key settled) ∷ []
 

@@ -48,7 +48,7 @@ abbrev pub held_if_open : Option EndCause → List ℕ → ℕ
 held_if_open None held = size_in held
 held_if_open (Some cause) held = 0
 
--- those of all connections, summed
+-- the sizes of all connections, summed up
 abbrev pub all_held : Loop → ℕ
 all_held loop = sum_among (λ conn. held_if_open conn.cause conn.held) loop.conns loop.count
 
@@ -86,7 +86,7 @@ pub record IsWovenTo (max : ℕ) (first links : LinksState) (kept : LoopConnecti
   pub lengths : IfSome links.lengths (λ lengths. WeavesLent max no_loop weave lengths loop)
   pub rests : IfSome links.rests (AllByRecursion (IsPassedAtRest max kept.table.budget weave loop))
 
--- to some loop
+-- the loop has come so far, to some loop of the machine
 abbrev pub HasWoven : ℕ → LinksState → LinksState → LoopConnections → List ServedAsk → Type 0
 HasWoven max first links kept asks = (loop : Loop) × IsWovenTo max first links kept asks loop
 

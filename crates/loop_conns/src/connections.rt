@@ -36,7 +36,7 @@ pub struct LoopConnections {
 }
 
 impl LoopConnections {
-    /// No connection, with room for 1,024 open ones and this budget.
+    /// Holds no connection, and has room for 1,024 open ones and this budget.
     pub fn new(alloc: Global, read_budget: u64) -> Result<LoopConnections, AllocError>
         ensures table { IfOk result (λ kept. kept.table ≡ record { budget = read_budget; slots = [] }) }
         ensures none { IfOk result (λ kept. (kept.stages.items ≡ []) × (kept.causes.items ≡ []) × (kept.owing ≡ 0)) }

@@ -41,7 +41,7 @@ impl LoopConnections {
         self.end(links, c, EndCause::Stopped);
     }
 
-    /// By what each connection has ended; takes no memory.
+    /// Tells by what each connection has ended; takes no memory.
     pub fn into_ends(self) -> Ends
         ensures { result ≡ self.causes.items }
     {

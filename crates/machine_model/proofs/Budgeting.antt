@@ -86,7 +86,7 @@ module _ (max : ℕ) (small : max < 2 ^ 31) where
       let u : summed sizes n ≤ all_begun loop = summed_among sizes (λ conn. begun_if_open conn.cause conn.held) loop.conns loop.count n s.0 s.1 in
       omega arith
 
-  -- behind one more mark that opens and closes nothing and tells of no bytes, sizes are as before
+  -- after one more mark that opens and closes nothing and tells of no bytes, sizes are as before
   same_sizes : (tape : List Mark) (mark : Mark) (sizes : ℕ → ℕ) → opening_of mark ≡ 0 → closing_of mark ≡ 0 → input (mark ∷ []) ≡ []
       → AreSizesBehind max size_begun (tape ++ mark ∷ []) sizes → AreSizesBehind max size_begun tape sizes
   same_sizes tape mark sizes none not_closed quiet are c = go (are c)
@@ -127,7 +127,7 @@ module _ (max : ℕ) (small : max < 2 ^ 31) where
       now : all_begun loop ≤ budget
       fronts : Always (IsWithinBudget max budget) loop.tape
 
-    -- one mark behind
+    -- after one mark
     one_mark : (old new : Loop) (mark : Mark) → Within old → TapeTells max new → new.tape ≡ old.tape ++ mark ∷ [] → all_begun new ≤ budget → Within new
     one_mark old new mark w t is l =
         record {

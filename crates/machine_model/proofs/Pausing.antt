@@ -1,4 +1,4 @@
--- What a moment of rest tells: the journal goes on behind it with calls of later payloads alone.
+-- What a moment of rest tells: the journal goes on after it with calls of later payloads alone.
 use Rattle.std.proofs.Common.{◌≡◌, ℕ, zero, suc, ◌+◌, ◌<◌, ◌≤◌, ◌^◌, ◌⊎◌, None, Some, List, [], ◌∷◌, ◌++◌, length, slice_get, refl, sym, ap, ◌∙◌, subst, inl, inr, ⊎_elim, arith, append_assoc, append-nil, length-append}
 use Rattle.std.specs.List.{AllByRecursion, flat_map}
 use Rattle.std.specs.Int.{w32, to_be_bytes}
@@ -160,7 +160,7 @@ module _ {C A M : Type 0} where
   journal_more r old key call faults is_broken new t = inl (ap journal_in t.1)
   journal_more r old key call faults _ new t = absurd t
 
-  -- Behind a moment of a run: nothing is collected less, and the entries that came since are of payloads that weren't collected then.
+  -- After a moment of a run: nothing is collected less, and the entries that came since are of payloads that weren't collected then.
   record IsBehind (mid cell : Cell C A M) : Type 0 where
     less : NoneLess mid.loop cell.loop
     entries : List (JournalEntry C A)

@@ -9,7 +9,7 @@ use Rattle.machine_model.specs.Loop.{LoopConn, Loop}
 use Rattle.machine_model.specs.Bounds.{sum_among}
 use Rattle.machine_model.specs.OpenAtFronts.{opening_of, closing_of, marks_counted}
 
--- behind these marks connection c is open: it was opened, and isn't closed
+-- after these marks connection c is open: it was opened, and isn't closed
 abbrev pub IsOpenBehind : ℕ → List Mark → Type 0
 IsOpenBehind c front = marks_counted closing_of (marks_of c front) < marks_counted opening_of (marks_of c front)
 
@@ -21,7 +21,7 @@ size_in rest = if nat_lt (length rest) 4 then 0 else from_be_bytes w32 (take 4 r
 abbrev pub size_begun : List ℕ → ℕ
 size_begun rest = if nat_lt 4 (length rest) then from_be_bytes w32 (take 4 rest) else 0
 
--- behind these marks connection c is open, and this is the size, so taken, of its frame that isn't whole
+-- after these marks connection c is open, and this is the size, so taken, of its frame that isn't whole
 pub record IsSizeBehind (max : ℕ) (size_of : List ℕ → ℕ) (front : List Mark) (c size : ℕ) : Type 0 where
   pub is_open : IsOpenBehind c front
   pub payloads : List (List ℕ)
@@ -38,7 +38,7 @@ abbrev pub summed : (ℕ → ℕ) → ℕ → ℕ
 summed sizes zero = 0
 summed sizes (suc n) = sizes n + summed sizes n
 
--- Behind these marks the sizes of the frames under way, of which a byte behind the size was read, add up to the budget at most.
+-- After these marks the sizes of the frames under way, of which a byte behind the size was read, add up to the budget at most.
 abbrev pub IsWithinBudget : ℕ → ℕ → List Mark → Type 0
 IsWithinBudget max budget front = (sizes : ℕ → ℕ) (n : ℕ) → AreSizesBehind max size_begun front sizes → summed sizes n ≤ budget
 
@@ -47,7 +47,7 @@ abbrev pub begun_if_open : Option EndCause → List ℕ → ℕ
 begun_if_open None held = size_begun held
 begun_if_open (Some cause) held = 0
 
--- those of all connections, summed
+-- the sizes of all connections, summed up
 abbrev pub all_begun : Loop → ℕ
 all_begun loop = sum_among (λ conn. begun_if_open conn.cause conn.held) loop.conns loop.count
 

@@ -109,7 +109,7 @@ module _ {C A : Type 0} where
   behind_call (handles conn_event ∷ items) = behind_call items
   behind_call (calls e ∷ items) = items
 
-  -- a history's asks, and behind each ask of seat 0 what the loop did up to its next one
+  -- a history's asks, and after each ask of seat 0 what the loop did up to its next one
   abbrev pub threaded : List (HallAsk C A) → List (LoopItem C A) → List (LoopItem C A)
   threaded [] items = []
   threaded (e ∷ log) items = calls e ∷ (if e.seat == 0 then up_to_call items ++ threaded log (behind_call items) else threaded log items)

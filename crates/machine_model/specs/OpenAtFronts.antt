@@ -19,6 +19,6 @@ abbrev pub marks_counted : (Mark → ℕ) → List Mark → ℕ
 marks_counted f [] = 0
 marks_counted f (mark ∷ marks) = f mark + marks_counted f marks
 
--- behind these marks no more connections are open than may be
+-- after these marks no more connections are open than may be
 abbrev pub IsWithinMost : List Mark → Type 0
 IsWithinMost marks = marks_counted opening_of marks ≤ marks_counted closing_of marks + most_connections

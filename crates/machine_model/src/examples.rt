@@ -24,7 +24,7 @@ use super::laws::{every_run_meets, one_history_runs, plain_machine_runs};
 use host_model::laws::less_than_a_frame;
 
 /// Runs as they go. A second connection's call is answered from the memory that the first one's left. A connection reads on
-/// only behind another's reply. A write takes a part of a reply, and the next one fails. Two workers take two jobs, and the
+/// only after another's reply. A write takes a part of a reply, and the next one fails. Two workers take two jobs, and the
 /// second one's call takes effect first. A head that is refused, a silent payload, a silent call and a reply without a call.
 /// A job is taken after its connection was given up.
 pub fn runs()

@@ -15,7 +15,7 @@ ghost use Rattle.machine_model.specs.Resting.{IsAtRest, IsPlaceOfRest};
 
 use host_model::laws::every_moment_stands as every_world_stands;
 
-/// A run, or a loop's own order, keeps within a read budget as long as it does so behind each of its steps: then the sizes under way are within it at each
+/// A run, or a loop's own order, keeps within a read budget as long as it does so after each of its steps: then the sizes under way are within it at each
 /// front of the tape.
 pub fn sizes_at_fronts<C, A, M>()
     ensures first { (d : DeskRules C A) (memories : List M) (first : Cell C A M) (budget : ℕ) → d.max < 2 ^ 31 → IsFirst memories first → KeepsWithin d.max budget first.loop }

@@ -96,7 +96,7 @@ impl Account {
         None
     }
 
-    /// The next connection was opened; takes no memory.
+    /// Notes that the next connection was opened; takes no memory.
     pub(crate) fn open(&mut self)
         requires { may_open self.old ≡ true }
         ensures account { self.new ≡ after_opening self.old }
@@ -106,7 +106,7 @@ impl Account {
         self.opened += 1;
     }
 
-    /// A connection was closed; takes no memory.
+    /// Notes that a connection was closed; takes no memory.
     pub(crate) fn close(&mut self, c: u32)
         ensures { self.new ≡ after_closing c self.old }
     {

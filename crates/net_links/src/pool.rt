@@ -17,7 +17,7 @@ pub(crate) struct Pool {
 }
 
 impl Pool {
-    /// So many blocks.
+    /// Makes so many blocks.
     pub(crate) fn new(alloc: Global, blocks: usize) -> Result<Pool, AllocError>
         requires { blocks ≤ 65536 }
     {
@@ -27,7 +27,7 @@ impl Pool {
         })
     }
 
-    /// A block, where one is left; takes no memory.
+    /// Gives a block, where one is left; takes no memory.
     pub(crate) fn take(&mut self) -> Option<usize> {
         if let Some(start) = self.free.pop() {
             return Some(start);
@@ -57,7 +57,7 @@ impl Pool {
         }
     }
 
-    /// The same, to be written.
+    /// Gives the same bytes, to be written.
     pub(crate) fn room(&mut self, from: usize, to: usize) -> &mut [u8]
         requires { from ≤ to }
         ensures { length result.now ≤ to - from }

@@ -138,7 +138,7 @@ impl Sockets {
         }
     }
 
-    /// The same of what no open link is ready for: a connection that waits to be accepted, and a ring.
+    /// Tells the same of what no open link is ready for: a connection that waits to be accepted, and a ring.
     fn look_aside(&mut self, number: Option<u32>) -> io::Result<Option<Hint>>
         ensures { TellsAtOnce number result }
     {

@@ -46,7 +46,7 @@ says_over _ = false
 abbrev pub place_asked : List Mark → Ask → RestPlace
 place_asked tape ask = record { place = length tape; held = ask.held }
 
--- that place noted so often behind these; where no tape is told, never
+-- that place noted so often after these; where no tape is told, never
 abbrev pub noted_at : Option (List Mark) → Ask → ℕ → Option (List RestPlace) → Option (List RestPlace)
 noted_at None ask count rests = rests
 noted_at (Some tape) ask count rests = told_with rests (replicate count (place_asked tape ask))
@@ -61,7 +61,7 @@ pub record IsFrontOf (left : List ℕ) (arrived : Arrived) : Type 0 where
   pub split : left ≡ arrived.bytes ++ later
   pub ended : arrived.ended ≡ true → later ≡ []
 
--- more may have arrived, but nothing behind an end, and nothing that has arrived goes away
+-- more may have arrived, but nothing after an end, and nothing that has arrived goes away
 pub record HasArrivedSince (old new : Arrived) : Type 0 where
   pub more : List ℕ
   pub bytes : new.bytes ≡ old.bytes ++ more

@@ -3,7 +3,7 @@ use Rattle.std.specs.Prelude.{◌≡◌, ◌≢◌, ℕ, Bool, false, Option, Li
 use Rattle.outside.specs.declared.marks.Mark.{Mark}
 use Rattle.outside.specs.declared.answers.RestPlace.{RestPlace}
 
--- what has arrived on a connection: the bytes that aren't read, and whether its end has arrived behind them
+-- what has arrived on a connection: the bytes that aren't read, and whether its end has arrived after them
 pub record Arrived : Type 0 where
   pub bytes : List ℕ
   pub ended : Bool

@@ -1,4 +1,4 @@
-//! What a worker passes before and behind a call.
+//! What a worker passes before and after a call.
 
 use std::sync::Wait;
 

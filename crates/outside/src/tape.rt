@@ -30,7 +30,7 @@ impl Model for Tape {
 }
 
 impl Tape {
-    /// The marks of these rows; takes no memory.
+    /// Makes the tape of these rows; takes no memory.
     pub(crate) fn new(rows: Vec<MarkRow>, bytes: Vec<u8>) -> Self
         requires whole { bytes_owed rows.items ≡ length bytes.items }
         ensures { result ≡ marks_in rows.items bytes.items }
@@ -38,7 +38,7 @@ impl Tape {
         Tape { rows, bytes }
     }
 
-    /// Nothing happened; takes no memory.
+    /// Makes a tape on which nothing happened; takes no memory.
     pub fn empty(alloc: Global) -> Self
         ensures { result ≡ [] }
     {

@@ -36,7 +36,7 @@ impl Model for TapeLog {
 }
 
 impl TapeLog {
-    /// Nothing has happened; takes no memory.
+    /// Makes a log of nothing; takes no memory.
     pub fn new(alloc: Global) -> Self
         ensures { result.items ≡ [] }
     {
@@ -66,7 +66,7 @@ impl TapeLog {
         self.bytes.reserve(additional)
     }
 
-    /// One thing more happened, for which there is room; takes no memory.
+    /// Notes one thing more, for which there is room; takes no memory.
     pub fn push(&mut self, mark: MarkAt<'_>)
         requires room { length self.old.items < self.old.capacity }
         requires spare { length (lent_bytes mark) ≤ self.old.spare }
@@ -86,7 +86,7 @@ impl TapeLog {
         Cursor::new(self.rows.as_slice(), self.bytes.as_slice())
     }
 
-    /// All that happened; takes no memory.
+    /// Gives all that happened; takes no memory.
     pub fn finish(self) -> Tape
         ensures { result ≡ self.items }
     {

@@ -68,7 +68,7 @@ module _ (s : ServerSetting) (place : PortPlace) (change : PlaceChange) where
           written = both_told output.taken_before between output.taken (listening_line place.listening.port) (summary_lines causes calls) line rest;
         }
 
-    -- or in part
+    -- or it was written in part
     pub begun : {A E : Type 0} (result : Result A E) (out : Outcome) → outcome ≡ out
         → MatchResult result (λ _. output.taken ≡ told_more between (summary_lines causes calls)) (λ _. IsTakenInPart between output.taken (summary_lines causes calls))
         → HasServedTo s place change output out

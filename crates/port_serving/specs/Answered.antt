@@ -53,7 +53,7 @@ module _ (s : ServerSetting) (place : PortPlace) (change : PlaceChange) (output 
     pub begun : IsTakenInPart (told_more output.taken_before (listening_line place.listening.port)) output.taken (summary_lines causes calls)
 
   -- What a fault says. The net's comes where it can't be listened, or of the links that were served; that of a write comes before a connection is served, or once all
-  -- is over; want of memory may come anywhere behind the making of the file.
+  -- is over; want of memory may come anywhere after the making of the file.
   abbrev pub MeansPortFault : PortFault → Type 0
   MeansPortFault faults.FileFault = IsUntouched place change output
   MeansPortFault faults.NetFault = HasNotListened place change output ⊎ HasServedTo outcomes.NetFault

@@ -21,7 +21,7 @@ pub struct Bindings {
 }
 
 impl Bindings {
-    /// These services of a schema. It walks over all declared fields once.
+    /// Binds these services of a schema. It walks over all declared fields once.
     pub fn new(alloc: Global, schema: &Schema, names: BoundNames) -> Result<Self, AllocError>
         ensures names { IfOk result (λ made. bound_names made ≡ names) }
         ensures needed { IfOk result (λ made. needs_in made ≡ map needs_of (schema_of schema.now).structs) }

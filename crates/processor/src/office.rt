@@ -32,7 +32,7 @@ impl Office {
     ghost use Rattle.processor.specs.Bound.{bound_names, needs_in};
     ghost use Rattle.processor.specs.Offices.{plain_office};
 
-    /// The office of these services, which are bound by this schema; takes no memory.
+    /// Makes the office of these services, which are bound by this schema; takes no memory.
     pub fn new(schema: Schema, bindings: Bindings, protocol: Protocol, max_frame: u32) -> Self
         requires sound { IsSoundOffice (record { schema = schema_of schema; bindings = bound_names bindings; protocol = protocol; max_frame = max_frame }) }
         requires needed { needs_in bindings ≡ map needs_of (schema_of schema).structs }

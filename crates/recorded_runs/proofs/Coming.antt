@@ -15,7 +15,7 @@ module _ (script_in : ScriptReading) (IsRunOf : ScriptRuns) (line : CallEntry �
   of_input script s text input reports =
       record { text = input.text; script = script; read = input.read; to_its_end = input.to_its_end; is_script = input.is_script; reports = reports }
 
-  -- a fault behind a script that was read
+  -- a fault after a script that was read
   ended : (script : ScriptPlan) (s : Streams) (fault : ServingFault) → IsInputRead script_in s.left_before s.left script
       → EndsReport IsRunOf line fault script s.taken_before s.taken → MeansRecordedFault script_in IsRunOf line fault s
   ended script s (faults.NoScript fault) input h = absurd h

@@ -91,7 +91,7 @@ module _ {C A M : Type 0} (d : DeskRules C A) (r : ServiceRules C A M) (memories
           let some : length (marks_of c front ++ mark ∷ marks_of c back) ≡ length (marks_of c front) + suc (length (marks_of c back)) = length-append (marks_of c front) (mark ∷ marks_of c back) in
           absurd (let f : ⊥ = omega arith in f)
 
-  -- its turn before the mark, and behind it
+  -- its turn before the mark, and after it
   pub turn_before : IsInTurn d (entries_of c journal) (marks_of c front)
   turn_before = conversed.1.turns (marks_of c front) (mark ∷ marks_of c back) own_marks
 

@@ -19,12 +19,12 @@ abbrev pub fault_of_input : InputError → ServingFault
 fault_of_input input.Failed = faults.ReadFault
 fault_of_input input.NoMemory = faults.NoMemory
 
--- of a text that isn't read as a script, by the kind of its fault
+-- the fault of a text that isn't read as a script, by its kind
 abbrev pub fault_of_kind : ScriptFault → ScriptKind → ServingFault
 fault_of_kind fault kinds.NoMemory = faults.NoMemory
 fault_of_kind fault _ = faults.NoScript fault
 
--- of such a text
+-- the fault of such a text
 abbrev pub fault_of_script : ScriptFault → ServingFault
 fault_of_script fault = fault_of_kind fault fault.kind
 

@@ -21,10 +21,10 @@ use run_report::{EntryLine, ReportedJournal, write_report};
 use script_text::Script;
 use std::alloc::Global;
 
-/// What became of a recording: the handlers and the journal as they are behind the run, and whether its report was written.
+/// What became of a recording: the handlers and the journal as they are after the run, and whether its report was written.
 #[derive(Drop)]
 pub struct Answered<H: Handler, J: ReportedJournal> {
-    /// The handlers, behind all calls.
+    /// The handlers, after all calls.
     pub handlers: Vec<H>,
     /// The journal of the calls.
     pub journal: J,
@@ -36,8 +36,8 @@ pub struct Answered<H: Handler, J: ReportedJournal> {
 ///
 /// # Errors
 ///
-/// NoScript exactly where the input is none, with its first fault; ReadFault, WriteFault and JournalFault only where the count of faults rose; and
-/// NoMemory. With all but WriteFault and NoMemory nothing is written.
+/// NoScript comes exactly where the input is none, with its first fault; ReadFault, WriteFault and JournalFault come only where the count of faults rose;
+/// NoMemory may come too. With all but WriteFault and NoMemory nothing is written.
 pub fn answer_recorded<L: EntryLine, D: Desk, H: Handler, J: ReportedJournal, S: Source, K: Sink>(
     alloc: Global,
     input: &mut S,

@@ -45,7 +45,7 @@ impl From<Failed> for InputError {
 ///
 /// # Errors
 ///
-/// NoScript exactly where the input is none, with its first fault; ReadFault only where the count of faults rose; and NoMemory.
+/// NoScript comes exactly where the input is none, with its first fault; ReadFault only where the count of faults rose; NoMemory may come too.
 pub fn read_input<S: Source>(
     alloc: Global,
     input: &mut S,
@@ -83,7 +83,7 @@ fn make_room(alloc: Global) -> Result<Vec<u8>, AllocError>
     vec![in alloc; 0u8; MOST_READ]
 }
 
-/// `read_whole`, by reads into `room`.
+/// Does what `read_whole` does, by reads into `room`.
 fn read_through<S: Source>(
     alloc: Global,
     source: &mut S,

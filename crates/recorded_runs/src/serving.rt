@@ -29,8 +29,8 @@ use std::thread::Threads;
 ///
 /// # Errors
 ///
-/// NoScript exactly where the input is none, with its first fault; ReadFault, WriteFault and JournalFault only where the count of faults rose; and
-/// NoMemory. With all but WriteFault and NoMemory nothing is written.
+/// NoScript comes exactly where the input is none, with its first fault; ReadFault, WriteFault and JournalFault come only where the count of faults rose;
+/// NoMemory may come too. With all but WriteFault and NoMemory nothing is written.
 pub fn serve_recorded<
     L: EntryLine,
     D: Desk + Sync,

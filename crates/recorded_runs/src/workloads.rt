@@ -38,7 +38,7 @@ pub struct Work {
 ///
 /// # Errors
 ///
-/// WriteFault and JournalFault only where the count of faults rose; and NoMemory. With all but WriteFault nothing is written.
+/// WriteFault and JournalFault come only where the count of faults rose; NoMemory may come too. With all but WriteFault nothing is written.
 pub fn serve_workload<
     D: Desk + Sync,
     H: Handler,

@@ -41,7 +41,7 @@ adds_more program first more both old mid new is a b = record {
       (b.behind (front ++ first) (a.behind front h));
 }
 
--- those of one item more of a list
+-- the structs of one item more of a list
 pub adds_next : {D : Type 0} (program : Program) (given : D → FieldsDecl) (items : List D) (i : ℕ) (x : D) (first old new : List StructDesc)
     → i < length items → x ≡ get_or items i x → AddsStructs program (given x ∷ []) old new
     → AddsStructs program (map given (take i items)) first old → AddsStructs program (map given (take (i + 1) items)) first new
@@ -57,7 +57,7 @@ flat_push : {D : Type 0} (given : D → List FieldsDecl) (xs : List D) (x : D) �
 flat_push given [] x = append-nil (given x)
 flat_push given (y ∷ xs) x = ap (λ ds. given y ++ ds) (flat_push given xs x) ∙ sym (append_assoc (given y) (flat_map given xs) (given x))
 
--- those of one service more
+-- the structs of one service more
 pub adds_service : (program : Program) (services : List (InFile Service)) (i : ℕ) (x : InFile Service) (first old new : List StructDesc)
     → i < length services → x ≡ get_or services i x → AddsStructs program (service_args x) old new
     → AddsStructs program (flat_map service_args (take i services)) first old → AddsStructs program (flat_map service_args (take (i + 1) services)) first new

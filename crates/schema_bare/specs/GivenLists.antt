@@ -21,6 +21,6 @@ args_given file f = args_of_function (record { file = file; item = function_in f
 abbrev pub service_args : InFile Service → List FieldsDecl
 service_args s = map (args_given s.file) s.item.now.functions.items
 
--- those of structs, and behind them those of services
+-- the lists of structs, and behind them those of services
 abbrev pub all_given : List (InFile Struct) → List (InFile Service) → List FieldsDecl
 all_given structs services = map struct_given structs ++ flat_map service_args services

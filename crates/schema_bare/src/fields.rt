@@ -27,7 +27,7 @@ fn need_said(need: Need) -> FieldNeed
     }
 }
 
-/// The same in a list of some kind.
+/// What is said of a field's presence in a list of some kind.
 fn need_in(list: FieldsKind, need: Need) -> FieldNeed
     ensures { result ≡ need_in list need }
 {

@@ -29,7 +29,7 @@ fn ref_behind(counts: DefinitionCounts, definition: &Definition) -> DefRef
     }
 }
 
-/// Definitions in order, behind so many. How many there are with them.
+/// Puts definitions in order behind so many, and tells how many there are with them.
 fn put_refs(
     refs: &mut Vec<DefRef>,
     counts: DefinitionCounts,

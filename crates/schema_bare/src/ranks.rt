@@ -133,7 +133,7 @@ impl Ranking {
     }
 }
 
-/// One user more.
+/// Adds a user.
 fn put_user(users: &mut Vec<u32>, user: u32) -> Result<(), AllocError> {
     users.push(user)?;
     Ok(())

@@ -83,7 +83,7 @@ fn args_desc(
     })
 }
 
-/// One struct more at the end of others.
+/// Adds a struct at the end of others.
 fn put_made(
     structs: &mut Vec<StructDesc>,
     made: Result<StructDesc, AllocError>,
@@ -96,7 +96,7 @@ fn put_made(
     Ok(())
 }
 
-/// Structs, unions and exceptions at the end of others.
+/// Adds structs, unions and exceptions at the end of others.
 fn put_structs(
     alloc: Global,
     tables: &TypeTables<'_, '_>,

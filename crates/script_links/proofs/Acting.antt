@@ -61,7 +61,7 @@ finish_fault None e = absurd (true≢false (ap says_failed e))
 finish_fault (Some finishes) e = absurd (true≢false (ap says_failed e))
 finish_fault (Some faults) e = refl
 
--- what is known to come behind all pieces, where all have arrived
+-- what is known to come after all pieces, where all have arrived
 finish_known : (link : PlainLink) (finish : InputFinish) → shown_finish link ≡ Some finish → (link.finish ≡ Some finish) × (nat_le (length link.pieces) link.arrived ≡ true)
 finish_known link finish e = go (nat_le (length link.pieces) link.arrived) refl e
   where

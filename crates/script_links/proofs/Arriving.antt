@@ -50,7 +50,7 @@ piece_since link = go (nat_lt link.arrived (length link.pieces)) refl
         }
     go false test = nothing_since (arrived_of link)
 
--- an end, or a fault, comes behind what has arrived, where none was known to
+-- an end, or a fault, comes after what has arrived, where none was known to
 kept_end : (b : Bool) (known : Option InputFinish) (new : InputFinish) → is_end_of_input (if b then known else None) ≡ true
     → is_end_of_input (if b then or_else known (Some new) else None) ≡ is_end_of_input (if b then known else None)
 kept_end true None new e = absurd (true≢false (sym e))

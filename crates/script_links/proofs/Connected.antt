@@ -27,7 +27,7 @@ pub any_plain : (p : PlainLink → Bool) (links : List ScriptConn) → list_any 
 any_plain p [] = refl
 any_plain p (link ∷ links) = ap (λ b. p (plain_link link) || b) (any_plain p links)
 
--- steps behind one more
+-- steps after one more
 pub drop_on : {X : Type 0} (n : ℕ) (xs : List X) → drop 1 (drop n xs) ≡ drop (n + 1) xs
 drop_on n xs = drop-drop 1 n xs
 
@@ -46,7 +46,7 @@ coming_is_there [] c here = absurd (true≢false (sym here))
 coming_is_there (link ∷ links) zero here = omega arith
 coming_is_there (link ∷ links) (suc c) here = let more : c < length links = coming_is_there links c here in omega arith
 
--- as many in memory as plain ones
+-- there are as many in memory as plain ones
 pub there_in_memory : (links : List ScriptConn) (c : ℕ) → c < length (plain_links links) → c < length links
 there_in_memory links c below = subst (λ n. c < n) (length-map links plain_link) below
 

@@ -154,7 +154,7 @@ next_keeps ask s = by s.blocked
     by [] = from_keeps ask s.steps s
     by (c ∷ blocked) = same_script s (record s { blocked = blocked }) refl refl
 
--- so links follow whose script they are, behind each call
+-- so links follow whose script they are, after each call
 module _ (s t : ServedScript) (follows : FollowsItsScript s) where
   pub read_on : (c lent : ℕ) (into : List ℕ) (taken : Taken) → is_open_at s.links c ≡ true → is_sound_link (link_at s.links c) ≡ true → 0 < lent → MayComeTo (taken_by_read lent (link_at s.links c)) taken
       → IsFrontOfPiece taken into (oldest_of (link_at s.links c)) → t ≡ left_by_read c lent (bytes_read into taken) taken s → FollowsItsScript t

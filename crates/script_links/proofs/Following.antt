@@ -104,7 +104,7 @@ module _ (script : ScriptPlan) (s : ServedScript) (f : FollowsSoFar script s) wh
             ∙ ap (λ n. is_coming (link_at s.links n).stage) (sym e)
         go (inr n) = ap (λ (l : PlainLink). is_coming l.stage) (other_same c x change s.links n)
 
-    -- connection c changes, behind a mark of its own that opens nothing
+    -- connection c changes, after a mark of its own that opens nothing
     pub marked_follows : (mark : Mark) (blocked lengths : List ℕ) → connection_of mark ≡ c → opened_by mark ≡ [] → length lengths ≡ length s.lengths + transfer_in mark
         → ((k x : ℕ) → slice_get s.lengths k ≡ Some x → slice_get lengths k ≡ Some x) → ShowsItsScript script f.done lengths s.tape mark
         → is_coming (change (link_at s.links c)).stage ≡ is_coming (link_at s.links c).stage
@@ -180,7 +180,7 @@ module _ (script : ScriptPlan) (s : ServedScript) (f : FollowsSoFar script s) wh
     marks_then front back m e =
         shows_on script f.done (f.done ++ line ∷ []) s.lengths s.lengths (λ test t. some_front test f.done (line ∷ []) t) (λ k x t. t) front m (f.marks front back m e)
 
-    -- places of the lines of rest behind a line more
+    -- places of the lines of rest after a line more
     rests_by : (tape : List Mark) (places : List RestPlace) → ((before behind : List PlanLine) → f.done ≡ before ++ resting ∷ behind → HasRestedBehind before tape places)
         → (line ≡ resting → HasRestedBehind f.done tape places) → (before behind : List PlanLine) → f.done ++ line ∷ [] ≡ before ++ resting ∷ behind → HasRestedBehind before tape places
     rests_by tape places earlier last before behind e =

@@ -10,7 +10,7 @@ use Rattle.script_links.specs.declared.step.Came.TheVariants.{Gives, Waits, Goes
 use Rattle.script_links.specs.ServedScript.{PlainLink, ServedScript, link_at, is_coming, is_open_at}
 use Rattle.script_links.specs.Plain.{Next, first_of, came_of, after_step, on_open, next_so, one_step, next_from, next_step, next_at_end}
 
--- the first of these steps, and those behind it
+-- the first of these steps, and those after it
 pub first_is : (steps : List Step) (step : Step) → first_of steps ≡ Some step → steps ≡ step ∷ drop 1 steps
 first_is [] step e = absurd (none-some step e)
 first_is (other ∷ steps) step e = ap (λ s. s ∷ steps) (same_Some other step e)
@@ -30,7 +30,7 @@ pub steps_either : (b : Bool) (x y : ServedScript) (steps : List Step) → x.ste
 steps_either true x y steps p q = p
 steps_either false x y steps p q = q
 
--- what is done at a step leaves the steps behind it
+-- what is done at a step leaves the steps after it
 pub after_keeps : (ask : Ask) (s : ServedScript) (step : Step) → (after_step ask s step).steps ≡ s.steps
 after_keeps ask s Opens = steps_either (is_coming (link_at s.links s.opened).stage) _ s s.steps refl refl
 after_keeps ask s (Arrives c) = steps_either (is_open_at s.links c) _ s s.steps refl refl

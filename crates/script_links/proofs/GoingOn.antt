@@ -157,7 +157,7 @@ module _ (script : ScriptPlan) (s : ServedScript) (f : FollowsSoFar script s) (s
       go true here = changed_line (piece c bytes) rest is c here with_arrival (arrival_stage link) no_piece (arrives here) refl refl
       go false none = quiet_line (piece c bytes) rest is refl refl (closed none)
 
-  -- a line that says what comes behind all pieces
+  -- a line that says what comes after all pieces
   finish_line : (line : PlanLine) (rest : List PlanLine) (c : ℕ) (finish : InputFinish) → f.left ≡ line ∷ rest → one_if_opens line ≡ 0 → one_if_rests line ≡ 0 → ((x : ℕ) → piece_by x line ≡ [])
       → (finish ≡ finishes → ends_input c line ≡ true) → (finish ≡ faults → fails_input c line ≡ true) → FollowsSoFar script (on_open c (with_finish finish) (record s { steps = steps }))
   finish_line line rest c finish is opens rests none ends fails = go (is_open_at s.links c) refl

@@ -179,7 +179,7 @@ module _ (ask : Ask) (first s : ServedScript) (passed : IsPassedOver ask first s
       answers_still t Over (none_opened t refl refl (λ x. refl)) (sym (or_true first.over))
       (λ e x. sym (ap (λ (links : List PlainLink). is_open_at links x) passed.links) ∙ none_is_open s.links x none) refl refl refl
 
--- what a step leaves that is done, with these steps behind it
+-- what a step leaves that is done, with these steps after it
 abbrev left_behind : Ask → ServedScript → List Step → Step → ServedScript
 left_behind ask s steps step = after_step ask (record s { steps = steps }) step
 

@@ -147,7 +147,7 @@ owed_fit Open e = refl
 owed_fit Ended e = absurd (true≢false (sym e))
 owed_fit Closed e = absurd (true≢false (sym e))
 
--- no more rests are to come behind a step, and one less behind a rest
+-- no more rests are to come after a step, and one less after a rest
 pub rests_behind : (steps : List Step) → count_by is_rest (drop 1 steps) ≤ count_by is_rest steps
 rests_behind [] = omega arith
 rests_behind (step ∷ steps) =
@@ -223,11 +223,11 @@ module _ (marks places : ℕ) (s t : ServedScript) (room : HasRoomFor marks plac
 pub sound_at : (marks places : ℕ) (s : ServedScript) (c : ℕ) → HasRoomFor marks places s → c < length s.links → is_sound_link (link_at s.links c) ≡ true
 sound_at marks places s c room below = all_at is_sound_link s.links c no_link room.sound below
 
--- how long a tape is behind one mark more
+-- how long a tape is after one mark more
 pub one_longer : {X : Type 0} (xs ys : List X) (x : X) → ys ≡ xs ++ x ∷ [] → length ys ≡ length xs + 1
 one_longer xs ys x is = ap length is ∙ length-append xs (x ∷ [])
 
--- fewer rests behind a step that is done
+-- fewer rests after a step that is done
 pub passed_rests : (n : ℕ) (steps : List Step) → count_by is_rest (drop (n + 1) steps) ≤ count_by is_rest (drop n steps)
 passed_rests n steps = subst (λ xs. count_by is_rest xs ≤ count_by is_rest (drop n steps)) (drop_on n steps) (rests_behind (drop n steps))
 
@@ -263,7 +263,7 @@ rested_room marks places s t room more n items is first place noted same steps l
       for_rests = omega arith;
     }
 
--- behind an end, or a fault, one mark is owed
+-- after an end, or a fault, one mark is owed
 pub end_owed : (links : List PlainLink) (c : ℕ) (change : PlainLink → PlainLink) → c < length links → marks_owed_at (change (link_at links c)).stage ≡ 1
     → marks_owed (with_link c change links) ≡ marks_owed (with_link c with_end links)
 end_owed links c change below one =
@@ -272,7 +272,7 @@ end_owed links c change below one =
     let end : marks_owed (with_link c with_end links) + marks_owed_at (link_at links c).stage ≡ marks_owed links + 1 = owed_changed c with_end links below in
     omega arith
 
--- and so many at most
+-- and in all three marks for each connection are owed at most
 pub end_at_most : (links : List PlainLink) (c : ℕ) → marks_owed (with_link c with_end links) ≤ 3 * length links
 end_at_most links c =
     let most : marks_owed (with_link c with_end links) ≤ 3 * length (with_link c with_end links) = owed_at_most (with_link c with_end links) in

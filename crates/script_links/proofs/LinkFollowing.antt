@@ -87,7 +87,7 @@ module _ (script : ScriptPlan) (done left : List PlanLine) (split : script.lines
   pub arrived_so_far : is_closed_stage link.stage ≡ false → input (marks_of c tape) ++ bytes_of_pieces (take link.arrived link.pieces) ≡ bytes_of_pieces (pieces_on c done)
   arrived_so_far going = read_and_arrived (pieces_on c script.lines) (pieces_on c done) (pieces_on c left) link.pieces (input (marks_of c tape)) link.arrived all_pieces f.leaves (f.arrived going)
 
-  -- behind a mark of its own that neither opens nor closes it, while it is open
+  -- after a mark of its own that neither opens nor closes it, while it is open
   pub marked_link : (mark : Mark) (later : PlainLink) → connection_of mark ≡ c → opening_of mark ≡ 0 → closing_of mark ≡ 0 → is_open_stage link.stage ≡ true
       → is_open_stage later.stage ≡ true → later.finish ≡ link.finish → LeavesPieces (pieces_on c script.lines) (input (marks_of c tape) ++ read_by mark) later.pieces
       → drop later.arrived later.pieces ≡ drop link.arrived link.pieces
@@ -115,7 +115,7 @@ module _ (script : ScriptPlan) (done left : List PlanLine) (split : script.lines
         once = omega arith;
       }
 
-  -- behind its closing
+  -- after its closing
   pub closed_link : LinkFollows script done left (tape ++ Closed c ∷ []) c (with_closing link)
   closed_link =
       let input_is : input (marks_of c (tape ++ Closed c ∷ [])) ≡ input (marks_of c tape) = input_behind c tape (Closed c) refl ∙ append-nil (input (marks_of c tape)) in
@@ -135,7 +135,7 @@ module _ (script : ScriptPlan) (done left : List PlanLine) (split : script.lines
         once = omega arith;
       }
 
-  -- behind its opening
+  -- after its opening
   pub opened_link : is_open_stage link.stage ≡ false → is_closed_stage link.stage ≡ false → LinkFollows script done left (tape ++ Opened c ∷ []) c (with_opening link)
   opened_link not_open going =
       let input_is : input (marks_of c (tape ++ Opened c ∷ [])) ≡ input (marks_of c tape) = input_behind c tape (Opened c) refl ∙ append-nil (input (marks_of c tape)) in
@@ -172,7 +172,7 @@ module _ (script : ScriptPlan) (done left : List PlanLine) (split : script.lines
     once = f.once;
   }
 
-  -- a line is done, which may bring it a piece, or say what comes behind all of them
+  -- a line is done, which may bring it a piece, or say what comes after all of them
   pub line_link : (line : PlanLine) (rest : List PlanLine) (later : PlainLink) → later.pieces ≡ link.pieces → later.stage ≡ link.stage → later.rules ≡ link.rules
       → (is_closed_stage link.stage ≡ false → drop later.arrived later.pieces ≡ pieces_on c rest)
       → (later.finish ≡ Some finishes → some_line (ends_input c) (done ++ line ∷ []) ≡ true) → (later.finish ≡ Some faults → some_line (fails_input c) (done ++ line ∷ []) ≡ true)

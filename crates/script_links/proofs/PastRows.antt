@@ -1,4 +1,4 @@
--- A chain of links that came back, one behind others.
+-- A chain of links that came back, one after others.
 use Rattle.std.proofs.Common.{◌≡◌, List, [], ◌∷◌, ◌++◌, rules}
 use Rattle.std.specs.Global.{Box}
 use Rattle.script_links.specs.declared.past.PastRow.{PastRow}

@@ -126,7 +126,7 @@ module _ (count : ℕ) (link : PlainLink) (piece : List ℕ) (some : 0 < link.ar
   pub arrived_then : arrived_of link ≡ record (arrived_of (with_bytes_read count link)) { bytes = take count piece ++ (arrived_of (with_bytes_read count link)).bytes }
   arrived_then = λ i. record { bytes = arrived_bytes i; ended = is_end_of_input (arrived_end i) }
 
--- a read behind all that has arrived
+-- a read after all that has arrived
 finish_end : (finish : Option InputFinish) → End ≡ taken_at_finish finish → finish ≡ Some finishes
 finish_end None e = absurd (true≢false (ap says_end e))
 finish_end (Some finishes) e = refl

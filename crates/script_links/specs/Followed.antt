@@ -23,7 +23,7 @@ abbrev pub one_if_rests : PlanLine → ℕ
 one_if_rests resting = 1
 one_if_rests _ = 0
 
--- at how many lines they rest
+-- at how many lines links rest
 abbrev pub rests_in : List PlanLine → ℕ
 rests_in [] = 0
 rests_in (line ∷ lines) = one_if_rests line + rests_in lines
@@ -85,7 +85,7 @@ pub record LeavesPieces (all : List (List ℕ)) (read : List ℕ) (left : List (
   pub ends : (at : ℕ) → length read ≤ at → piece_end (ends_from 0 all) at ≡ piece_end (ends_from (length read) left) at
 
 -- Connection c follows a script of which these lines are done and those are left: what was read of it leaves its pieces; those of the lines that are done have
--- arrived, but where it is closed; what comes behind them was said by a line; each write used up the next rule that governs one; and it is open where the
+-- arrived, but where it is closed; what comes after them was said by a line; each write used up the next rule that governs one; and it is open where the
 -- tape says so.
 pub record LinkFollows (script : ScriptPlan) (done left : List PlanLine) (tape : List Mark) (c : ℕ) (link : PlainLink) : Type 0 where
   pub leaves : LeavesPieces (pieces_on c script.lines) (input (marks_of c tape)) link.pieces

@@ -12,7 +12,7 @@ use Rattle.script_links.specs.ServedScript.{PlainLink, ServedScript, with_link, 
 use Rattle.script_links.specs.Plain.{with_end}
 use Rattle.script_links.specs.Steps.{is_rest}
 
--- what comes behind all pieces
+-- what comes after all pieces
 abbrev pub plain_link_finish : LinkInputEnd → InputFinish
 plain_link_finish Ends = finishes
 plain_link_finish Fails = faults
@@ -71,7 +71,7 @@ pub record HasMarkRoom (bytes : ℕ) (s : ScriptServing) : Type 0 where
   pub spare : bytes ≤ s.tape.spare
   pub lent : length s.lengths.items + 1 ≤ vec_capacity s.lengths
 
--- there is room for a mark of connection c, behind which one of its closing is owed to it
+-- there is room for a mark of connection c, after which one of its closing is owed to it
 abbrev pub HasEndRoom : ℕ → ScriptServing → Type 0
 HasEndRoom c s = length s.tape.items + 1 + marks_owed (with_link c with_end (served_of s).links) ≤ s.tape.capacity
 

@@ -17,6 +17,6 @@ abbrev pub past_step : PastChain-F (List PastLinks) → List PastLinks
 past_step layer.Nothing = []
 past_step (layer.Behind before row) = before.value ++ past_row row ∷ []
 
--- those of a chain, the oldest first
+-- the links of a chain that came back, the oldest first
 abbrev pub past_in_chain : PastChain → List PastLinks
 past_in_chain = fold-PastChain (List PastLinks) past_step

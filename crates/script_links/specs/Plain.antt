@@ -21,7 +21,7 @@ use Rattle.script_links.specs.ServedScript.{PlainLink, ServedScript, link_at, wi
 abbrev pub oldest_of : PlainLink → Option (List ℕ)
 oldest_of link = if nat_lt 0 link.arrived then slice_get link.pieces 0 else None
 
--- what comes behind all pieces, once they have arrived
+-- what comes after all pieces, once they have arrived
 abbrev pub shown_finish : PlainLink → Option InputFinish
 shown_finish link = if nat_le (length link.pieces) link.arrived then link.finish else None
 
@@ -29,7 +29,7 @@ shown_finish link = if nat_le (length link.pieces) link.arrived then link.finish
 abbrev pub with_arrival : PlainLink → PlainLink
 with_arrival link = if nat_lt link.arrived (length link.pieces) then record link { arrived = suc link.arrived } else link
 
--- this comes behind all pieces, where nothing is known to
+-- this comes after all pieces, where nothing is known to
 abbrev pub with_finish : InputFinish → PlainLink → PlainLink
 with_finish finish link = record link { finish = or_else link.finish (Some finish) }
 
@@ -72,7 +72,7 @@ with_ruled_fault link = with_fault (with_rule_used link)
 abbrev pub with_written : List ℕ → PlainLink → PlainLink
 with_written bytes link = record (with_rule_used link) { written = link.written ++ bytes }
 
--- what a read behind all that has arrived comes to
+-- what a read after all that has arrived comes to
 abbrev pub taken_at_finish : Option InputFinish → Taken
 taken_at_finish None = NotYet
 taken_at_finish (Some finishes) = End
@@ -112,7 +112,7 @@ abbrev pub IsCopyOfFront : ℕ → List ℕ → Option (List ℕ) → Type 0
 IsCopyOfFront count bytes (Some piece) = bytes ≡ take count piece
 IsCopyOfFront count bytes None = ⊥
 
--- Behind a read of connection c that came to this, for which so much was lent; these are the bytes that were read.
+-- After a read of connection c that came to this, for which so much was lent; these are the bytes that were read.
 abbrev pub left_by_read : ℕ → ℕ → List ℕ → Taken → ServedScript → ServedScript
 left_by_read c lent bytes (Bytes count) s =
     record s { links = with_link c (with_bytes_read count) s.links; tape = s.tape ++ Read c bytes ∷ []; lengths = s.lengths ++ lent ∷ [] }
@@ -121,7 +121,7 @@ left_by_read c lent bytes NotYet s = s
 left_by_read c lent bytes Failed s = record s { links = with_link c with_fault s.links; tape = s.tape ++ ReadFailed c ∷ [] }
 left_by_read c lent bytes NoMemory s = s
 
--- Behind a write of these bytes that came to this.
+-- After a write of these bytes that came to this.
 abbrev pub left_by_write : ℕ → List ℕ → Taken → ServedScript → ServedScript
 left_by_write c bytes (Bytes count) s =
     record s {
@@ -135,7 +135,7 @@ left_by_write c bytes Failed s =
     record s { links = with_link c with_ruled_fault s.links; tape = s.tape ++ WriteFailed c ∷ [] }
 left_by_write c bytes NoMemory s = s
 
--- behind the closing of connection c
+-- after the closing of connection c
 abbrev pub left_by_close : ℕ → ServedScript → ServedScript
 left_by_close c s = record s { links = with_link c with_closing s.links; tape = s.tape ++ ClosedMark c ∷ [] }
 

@@ -9,7 +9,7 @@ use Rattle.script_links.specs.declared.link.LinkStage.{LinkStage}
 use Rattle.script_links.specs.declared.link.LinkStage.TheVariants.{Coming, Open, Ended, Closed}
 use Rattle.script_links.specs.declared.step.Step.{Step}
 
--- A connection: how it stands; all pieces that the script brings it, those of them that aren't read, and how many of these have arrived; what comes behind
+-- A connection: how it stands; all pieces that the script brings it, those of them that aren't read, and how many of these have arrived; what comes after
 -- them, once that line was done; all rules, and those that are left; how many faults were counted; and what was written to it.
 pub record PlainLink : Type 0 where
   pub stage : LinkStage
@@ -82,7 +82,7 @@ marks_owed_at Open = 2
 marks_owed_at Ended = 1
 marks_owed_at Closed = 0
 
--- for all of them
+-- for how many marks there is room on all connections
 abbrev pub marks_owed : List PlainLink → ℕ
 marks_owed links = sum_by (λ link. marks_owed_at link.stage) links
 

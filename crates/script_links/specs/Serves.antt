@@ -13,7 +13,7 @@ use Rattle.script_model.specs.Feeding.{Completes}
 use Rattle.script_model.specs.RestLines.{IsOverBudget}
 use Rattle.script_links.specs.Shows.{lent_behind}
 
--- behind what was read, a read is lent as much as is missing of the size or the payload under way, 65,536 bytes at most
+-- after what was read, a read is lent as much as is missing of the size or the payload under way, 65,536 bytes at most
 pub record LendsWhatIsMissing (max : ℕ) (read : List ℕ) (lent : ℕ) : Type 0 where
   pub payloads : List (List ℕ)
   pub rest : List ℕ
@@ -22,7 +22,7 @@ pub record LendsWhatIsMissing (max : ℕ) (read : List ℕ) (lent : ℕ) : Type 
   pub completes : Completes max rest missing
   pub smaller : lent ≡ min missing 65536
 
--- Behind these marks of a connection with these entries, a write is offered all that is left of what is to be sent by then; these bytes of it are written.
+-- After these marks of a connection with these entries, a write is offered all that is left of what is to be sent by then; these bytes of it are written.
 pub record OffersTheRest {C A : Type 0} (d : DeskRules C A) (es : List (JournalEntry C A)) (marks : List Mark) (bytes : List ℕ) (offered : ℕ) : Type 0 where
   pub payloads : List (List ℕ)
   pub rest : List ℕ

@@ -37,11 +37,11 @@ taken_under (Some (takes_most count)) offered = Some (min count offered)
 taken_under (Some blocks) offered = None
 taken_under (Some fails) offered = None
 
--- all pieces of connection c were read behind these marks
+-- after these marks all pieces of connection c have been read
 abbrev pub IsReadThrough : ScriptPlan → ℕ → List Mark → Type 0
 IsReadThrough script c front = input (marks_of c front) ≡ bytes_of_pieces (pieces_on c script.lines)
 
--- What a mark shows behind these marks, once these lines were done: bytes were read of the piece under way; an input ended, or failed, behind all pieces, where
+-- What a mark shows after these marks, once these lines were done: bytes were read of the piece under way; an input ended, or failed, after all pieces, where
 -- a line said so; bytes were written, or a write failed, under the rule whose turn it was.
 abbrev pub ShowsItsScript : ScriptPlan → List PlanLine → List ℕ → List Mark → Mark → Type 0
 ShowsItsScript script done lengths front (Read c bytes) =

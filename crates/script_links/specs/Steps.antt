@@ -22,7 +22,7 @@ abbrev pub is_rest : Step → Bool
 is_rest Rests = true
 is_rest _ = false
 
--- the step that tells what comes behind all pieces of a connection
+-- the step that tells what comes after all pieces of a connection
 abbrev pub step_of_finish : ℕ → LinkInputEnd → Step
 step_of_finish c EndsInput = Ends c
 step_of_finish c FailsInput = Fails c

@@ -43,7 +43,7 @@ impl Model for MemBinder {
 }
 
 impl MemBinder {
-    /// Over this script, with the numbers of the calls to listen that are to fail; takes no memory.
+    /// Makes a binder over this script, with the numbers of the calls to listen that are to fail; takes no memory.
     pub fn new(script: Script, fails: Vec<u64>) -> Self
         ensures { result ≡ record { script = script; fails = fails.items; call = 0; faults = 0; past = [] } }
     {
@@ -73,7 +73,7 @@ impl MemBinder {
     }
 }
 
-/// Links over a copy of this script.
+/// Makes links over a copy of this script.
 fn make(alloc: Global, script: &Script, port: u16, accept: u32) -> Result<BoundLinks, BindFail>
     ensures made { IfOk result (λ links. StartListening (Some []) (record { port = port; accept = accept }) (listening_told links)) }
     ensures own { IfOk result (λ links. AreFirstLinksOf accept script.now links.served) }

@@ -38,7 +38,7 @@ impl Model for PieceList {
 }
 
 impl PieceList {
-    /// One piece more.
+    /// Adds a piece at the end.
     fn push(&mut self, piece: Bytes) -> Result<(), AllocError>
         ensures { OnOk result (self.new ≡ self.old ++ piece ∷ []) }
     {
@@ -104,7 +104,7 @@ impl ScriptServing {
     }
 }
 
-/// So many rows without a piece.
+/// Makes so many rows without a piece.
 fn empty_rows(alloc: Global, count: usize) -> Result<Vec<PieceList>, AllocError>
     ensures { IfOk result (λ rows. rows.items ≡ replicate count []) }
 {

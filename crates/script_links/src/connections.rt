@@ -66,7 +66,7 @@ impl Connections {
         self.any_unread()
     }
 
-    /// The same, said of what is in memory.
+    /// Tells the same, said of what is in memory.
     fn any_unread(&self) -> bool
         ensures { result ≡ list_any (λ link. has_unread (plain_link link)) self.now.items.items }
     {
@@ -137,7 +137,7 @@ impl Connections {
         self.items[c].arrive();
     }
 
-    /// This comes behind all pieces of connection `c`.
+    /// This comes after all pieces of connection `c`.
     pub fn finish(&mut self, c: usize, finish: LinkInputEnd)
         requires { c < length self.old.items.items }
         ensures { plain_links self.new.items.items ≡ with_link c (with_finish (plain_link_finish finish)) (plain_links self.old.items.items) }

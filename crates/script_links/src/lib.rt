@@ -1,5 +1,5 @@
 //! Links over a script: its lines give connections, pieces, ends and rests in their order, each connection's rules govern the
-//! writes on it, and everything is told. And a binder in memory, whose links listen over a script, as far as so many connections are accepted. It knows no frame,
+//! writes on it, and everything is told. A binder in memory has links that listen over a script, and accept so many connections at most. The crate knows no frame,
 //! and opens no socket.
 //!
 //! ```rust

@@ -23,7 +23,7 @@ pub enum LinkStage {
     Closed,
 }
 
-/// What comes behind all pieces of a connection.
+/// What comes after all pieces of a connection.
 #[derive(Clone, Copy)]
 pub enum LinkInputEnd {
     /// Its input ends.
@@ -45,7 +45,7 @@ pub struct ScriptConn {
     pub offset: usize,
     /// How many of those that weren't read whole have arrived.
     pub arrived: usize,
-    /// What comes behind them, once its line was done.
+    /// What comes after them, once its line was done.
     pub finish: Option<LinkInputEnd>,
     /// All rules, in order.
     pub rules: Vec<WriteRule>,
@@ -164,7 +164,7 @@ impl ScriptConn {
         }
     }
 
-    /// This comes behind all pieces, where nothing is known to.
+    /// This comes after all pieces, where nothing is known to.
     pub fn finish(&mut self, finish: LinkInputEnd)
         ensures { plain_link self.new ≡ with_finish (plain_link_finish finish) (plain_link self.old) }
     {

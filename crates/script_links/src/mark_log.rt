@@ -30,7 +30,7 @@ impl Model for MarkLog {
 }
 
 impl MarkLog {
-    /// Nothing has happened; takes no memory.
+    /// Makes a log of nothing; takes no memory.
     pub fn new(alloc: Global) -> Self
         ensures { result.items ≡ [] }
     {
@@ -72,7 +72,7 @@ impl MarkLog {
         self.log.reserve_bytes(additional)
     }
 
-    /// One thing more happened, for which there is room; takes no memory.
+    /// Notes one thing more, for which there is room; takes no memory.
     pub fn push(&mut self, mark: MarkAt<'_>)
         requires room { length self.old.items < self.old.capacity }
         requires spare { length (lent_bytes mark) ≤ self.old.spare }
@@ -90,7 +90,7 @@ impl MarkLog {
         self.log.marks()
     }
 
-    /// All that happened; takes no memory.
+    /// Gives all that happened; takes no memory.
     pub fn finish(self) -> Tape
         ensures { result ≡ self.items }
     {

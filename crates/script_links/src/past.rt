@@ -18,8 +18,8 @@ pub struct PastRow {
 /// Links that came back, the newest first. One more takes no memory where a box for those before it is at hand.
 #[derive(Drop)]
 pub enum PastChain {
-    /// None has.
+    /// None has come back.
     Nothing,
-    /// These did behind others.
+    /// These came back after others.
     Behind(Box<PastChain>, PastRow),
 }

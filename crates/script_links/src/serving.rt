@@ -146,7 +146,7 @@ impl ScriptServing {
         Came::Gives(Hint::Readable(c))
     }
 
-    /// A step that tells what comes behind all pieces of a connection, where it is open.
+    /// A step that tells what comes after all pieces of a connection, where it is open.
     fn finish(&mut self, ask: Ask, c: u32, finish: LinkInputEnd) -> Came
         requires kept { IsKeptServing self.old }
         requires first { first_of (served_of self.old).steps ≡ Some (step_of_finish c finish) }

@@ -11,7 +11,7 @@ pub enum Step {
     Arrives(u32),
     /// The input of a connection ends.
     Ends(u32),
-    /// The read of a connection behind all its pieces fails.
+    /// The read of a connection after all its pieces fails.
     Fails(u32),
     /// Nothing goes on until all calls are done and their replies written.
     Rests,

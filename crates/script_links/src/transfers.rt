@@ -117,7 +117,7 @@ impl ScriptServing {
         Taken::Failed
     }
 
-    /// WritesToConnection on connection `c`, which is open.
+    /// Writes on connection `c`, which is open.
     pub fn write(&mut self, c: u32, bytes: &[u8]) -> Taken
         requires kept { IsKeptServing self.old }
         requires open_still { is_open_at (served_of self.old).links c ≡ true }
@@ -134,7 +134,7 @@ impl ScriptServing {
         }
     }
 
-    /// WritesToConnection so many of these bytes on connection `c`.
+    /// Writes so many of these bytes on connection `c`.
     fn write_bytes(&mut self, c: u32, bytes: &[u8], count: usize) -> Taken
         requires kept { IsKeptServing self.old }
         requires open_still { is_open_at (served_of self.old).links c ≡ true }

@@ -356,7 +356,7 @@ module _ {C A M : Type 0} (d : DeskRules C A) (r : ServiceRules C A M) (memory :
     behind_none (Some finishes) e = absurd (none-some _ (sym (when_true (owes_nothing (play.cell.loop.conns c)) _ owes_none (moved_none (ends_plain c (play.cell.loop.conns c)) e))))
     behind_none (Some faults) e = absurd (none-some _ (sym (when_true (owes_nothing (play.cell.loop.conns c)) _ owes_none (moved_none (fails_read_plain c (play.cell.loop.conns c)) e))))
 
-    -- where no read can be made, all that has arrived is read, and nothing comes behind it
+    -- where no read can be made, all that has arrived is read, and nothing comes after it
     read_none : (missing : ℕ) → 1 ≤ missing → ((n : ℕ) → n ≤ missing → MayRead d.max (play.cell.loop.conns c).held n) → (pieces : List (List ℕ)) → AllByRecursion IsArrival pieces
         → read_move d r play c missing pieces ≡ None → (pieces ≡ []) × (play.finish c ≡ None)
     read_none missing some may [] all e = (refl, behind_none (play.finish c) e)

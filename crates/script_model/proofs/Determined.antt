@@ -140,7 +140,7 @@ module _ {C A M : Type 0} (d : DeskRules C A) (r : ServiceRules C A M) (memories
 module _ {C A M : Type 0} (d : DeskRules C A) (r : ServiceRules C A M) (memories : List M) (arrival : Arrival) (small : d.max < 2 ^ 31)
     (tape tape' : List Mark) (journal journal' : List (JournalEntry C A)) (cause cause' : EndCause)
     (x : RunOf d r memories arrival tape journal cause) (y : RunOf d r memories arrival tape' journal' cause') where
-  -- two reads behind the same bytes have read the same
+  -- two reads after the same bytes have read the same
   pub two_reads : (f f' b b' : List Mark) (bytes other : List ℕ) → tape ≡ f ++ Read 0 bytes ∷ b → tape' ≡ f' ++ Read 0 other ∷ b'
       → read_of f ≡ read_of f' → bytes ≡ other
   two_reads f f' b b' bytes other e e' fronts =
@@ -195,7 +195,7 @@ module _ {C A M : Type 0} (d : DeskRules C A) (r : ServiceRules C A M) (memories
       (ap length q ∙ long ∙ sym (ap length q')) in
       same_entries r memories journal journal' own own' x.headline.legal y.headline.legal (sym (ap calls_of q) ∙ calls ∙ ap calls_of q')
 
-  -- two writes behind the same marks have written the same
+  -- two writes after the same marks have written the same
   pub two_writes : (f b b' : List Mark) (bytes other : List ℕ) → tape ≡ f ++ Wrote 0 bytes ∷ b → tape' ≡ f ++ Wrote 0 other ∷ b' → journal ≡ journal' → bytes ≡ other
   two_writes f b b' bytes other e e' same =
       let w = (x.served 0 cause refl).written f b bytes e in

@@ -191,7 +191,7 @@ module _ {C A M : Type 0} (d : DeskRules C A) (r : ServiceRules C A M) (memory :
               size = (f.each c).size;
             }))
 
-    -- the input of a connection ends behind all its pieces, or fails there
+    -- the input of a connection ends after all its pieces, or fails there
     ends_fed : (play : Play C A M) (c : ℕ) (conn_event : ConnEvent) (cell : Cell C A M) (conn : LoopConn) (cause : EndCause) (one other : Mark) → Fed play
         → Steps d r play.cell (on_conn conn_event) cell → cell.loop ≡ changed play.cell.loop c conn (one ∷ other ∷ []) → conn.cause ≡ Some cause
         → AllOf c (one ∷ other ∷ []) → opened_in (one ∷ other ∷ []) ≡ [] → input (one ∷ other ∷ []) ≡ []

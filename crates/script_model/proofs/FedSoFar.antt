@@ -46,7 +46,7 @@ abbrev pub HasItsSize : LoopConn → ℕ → Type 0
 HasItsSize conn n = (conn.collected < length conn.payloads) ⊎ ((4 ≤ length conn.held) × (n ≡ size_in conn.held))
 
 module _ (max : ℕ) (script : ScriptPlan) where
-  -- a mark is one of the script's, behind these
+  -- a mark is one of the script's, after these
   abbrev pub MarkIsFed : List Mark → Mark → Type 0
   MarkIsFed front (Read c bytes) = TakesItsPart max (ends_from 0 (pieces_on c script.lines)) (input (marks_of c front)) bytes
   MarkIsFed front (Ended c) =
@@ -78,19 +78,19 @@ module _ (max : ℕ) (script : ScriptPlan) where
   pub fed_two : (tape : List Mark) (one other : Mark) → MarksAreFed tape → MarkIsFed tape one → MarkIsFed (tape ++ one ∷ []) other → MarksAreFed (tape ++ one ∷ other ∷ [])
   fed_two tape one other a p q = subst MarksAreFed (append_assoc tape (one ∷ []) (other ∷ [])) (fed_push (tape ++ one ∷ []) other (fed_push tape one a p) q)
 
-  -- how an input goes out that was said to: behind all pieces, where no later line brings one
+  -- how an input goes out that was said to: after all pieces, where no later line brings one
   abbrev pub Finishing : List PlanLine → ℕ → Option InputFinish → Type 0
   Finishing rest c None = Unit {0}
   Finishing rest c (Some finishes) = (some_line (ends_input c) script.lines ≡ true) × (EndsBehindPieces script.lines → pieces_on c rest ≡ [])
   Finishing rest c (Some faults) = (some_line (fails_input c) script.lines ≡ true) × (EndsBehindPieces script.lines → pieces_on c rest ≡ [])
 
-  -- what was said of an end is so behind the next line too
+  -- what was said of an end is so after the next line too
   pub finish_on : (line : PlanLine) (rest : List PlanLine) (c : ℕ) (finish : Option InputFinish) → Finishing (line ∷ rest) c finish → Finishing rest c finish
   finish_on line rest c None t = tt
   finish_on line rest c (Some finishes) t = (t.0, λ b. back_nil (piece_by c line) (pieces_on c rest) (t.1 b))
   finish_on line rest c (Some faults) t = (t.0, λ b. back_nil (piece_by c line) (pieces_on c rest) (t.1 b))
 
-  -- A connection by its number and how many are opened, by what was read, by the pieces that aren't read and the end behind them, and by the size that is
+  -- A connection by its number and how many are opened, by what was read, by the pieces that aren't read and the end after them, and by the size that is
   -- admitted; before these lines.
   pub record ConnIsFed (rest : List PlanLine) (c count : ℕ) (conn : LoopConn) (read : List ℕ) (unread : List (List ℕ)) (finish : Option InputFinish) (admitted : Option ℕ) : Type 0 where
     pub remains : Remains (pieces_on c script.lines) read (unread ++ pieces_on c rest)
@@ -178,7 +178,7 @@ module _ (max : ℕ) (script : ScriptPlan) where
             size = λ k a. let t : (x < old.count) × ((old.conns x).cause ≡ None) × HasItsSize (old.conns x) k = (f.each x).size k a in (omega (arith, t.0), t.1, t.2);
           })
 
-  -- a line that opens nothing is behind it, with what it has brought
+  -- a line that opens nothing is done, with what it has brought
   pub line_fed : (line : PlanLine) (rest : List PlanLine) (loop : Loop) (unread later : ℕ → List (List ℕ)) (finish ending : ℕ → Option InputFinish) (admitted : ℕ → Option ℕ)
       → IsFedSoFar (line ∷ rest) loop unread finish admitted → one_if_opens line ≡ 0 → ((c : ℕ) → later c ≡ unread c ++ piece_by c line) → ((c : ℕ) → Finishing rest c (ending c))
       → IsFedSoFar rest loop later ending admitted
@@ -198,7 +198,7 @@ module _ (max : ℕ) (script : ScriptPlan) where
             };
       }
 
-  -- so it changes by an event of its own, behind which its size is kept while it is open
+  -- so it changes by an event of its own, after which its size is kept while it is open
   pub one_fed : (rest : List PlanLine) (old new : Loop) (unread later : ℕ → List (List ℕ)) (finish : ℕ → Option InputFinish) (admitted : ℕ → Option ℕ) (c : ℕ) (conn : LoopConn) (marks : List Mark)
       → IsFedSoFar rest old unread finish admitted → new ≡ changed old c conn marks → AllOf c marks → opened_in marks ≡ [] → TapeTells max new → MarksAreFed (old.tape ++ marks)
       → ((x : ℕ) → (x ≡ c → ⊥) → later x ≡ unread x)
@@ -212,7 +212,7 @@ module _ (max : ℕ) (script : ScriptPlan) where
       (changed_fed rest old unread later finish admitted (at_number admitted c left) c conn marks f all none (subst (TapeTells max) is tells) fed same (λ x n. put_other admitted c left x n)
       (subst (ConnIsFed rest c old.count conn (input (marks_of c old.tape) ++ input marks) (later c) (finish c)) (sym kept) here))
 
-  -- its input ends, or fails, behind all pieces
+  -- its input ends, or fails, after all pieces
   pub nothing_left : (rest : List PlanLine) (c : ℕ) (read : List ℕ) (unread : List (List ℕ)) → Remains (pieces_on c script.lines) read (unread ++ pieces_on c rest) → unread ≡ []
       → pieces_on c rest ≡ [] → read ≡ bytes_of_pieces (pieces_on c script.lines)
   nothing_left rest c read unread r none no_more =

@@ -150,7 +150,7 @@ no_place_beside d budget one bytes byte more journal room h = go h.all_read
 abbrev ended_second : List Mark → List Mark
 ended_second more = Opened 0 ∷ Opened 1 ∷ Ended 1 ∷ more
 
--- an input that ends behind the lines has no place behind its end, nor before it, where the first connection's pieces weren't read
+-- an input that ends after all lines has no place after its end, nor before it, where the first connection's pieces weren't read
 pub no_place_past_an_end : {C A : Type 0} (d : DeskRules C A) (budget : ℕ) (lines : List PlanLine) (bytes : List ℕ) (byte : ℕ) (more : List Mark) (journal : List (JournalEntry C A))
     → openings lines ≡ 2 → bytes_of_pieces (pieces_on 0 lines) ≡ byte ∷ bytes → some_line (ends_input 1) lines ≡ false → HasPlaceFor d budget lines (ended_second more) journal → ⊥
 no_place_past_an_end d budget lines bytes byte more journal two some none_ends h =

@@ -71,7 +71,7 @@ module _ {C A M : Type 0} (max budget : ℕ) (play : Play C A M)
       go (inl all) None e = one_more all e (stalled n (omega arith) e).reads
       go (inl all) (Some cause) e = inl (with_one all (λ p. absurd (none-some cause (sym p ∙ e))))
 
-  -- the size of an open connection is that of its frame under way, behind the tape
+  -- the size of an open connection is that of its frame under way, after the tape
   size_behind : (c size : ℕ) → IsNowOpen c → size ≡ size_in (play.cell.loop.conns c).held → IsSizeBehind max size_in play.cell.loop.tape c size
   size_behind c size o e =
       record { is_open = traced.each c o.0 o.1; payloads = (play.cell.loop.conns c).payloads; rest = (play.cell.loop.conns c).held; frames = tells.frames c o.0; same = e }

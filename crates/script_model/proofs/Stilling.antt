@@ -18,7 +18,7 @@ use Rattle.script_model.specs.Rehearsing.{workers_among, is_idle, left_by, goes_
 use Rattle.script_model.specs.Ending.{IsStill}
 
 module _ {C A M : Type 0} (d : DeskRules C A) (r : ServiceRules C A M) (memory : ℕ → MemoryAt) where
-  -- one move more was made, and what comes behind the pieces is the same
+  -- one move more was made, and what comes after the pieces is the same
   pub record IsOneMore (old new : Play C A M) : Type 0 where
     pub moves : new.moves ≡ suc old.moves
     pub finish : new.finish ≡ old.finish
@@ -242,7 +242,7 @@ module _ {C A M : Type 0} (d : DeskRules C A) (r : ServiceRules C A M) (memory :
       let s : Stands (Passed budget workers play) play next = subst (Standing (Passed budget workers play) play) e (pass_stands fuel budget workers play) in
       ((s.same m).0, still_by budget workers play (s.same m).1)
 
-  -- Where it comes to an end, nothing can move, and what comes behind the pieces is the same.
+  -- Where it comes to an end, nothing can move, and what comes after the pieces is the same.
   record Ends (budget workers : ℕ) (old new : Play C A M) : Type 0 where
     still : IsStill d r memory budget workers new
     finish : new.finish ≡ old.finish
@@ -269,7 +269,7 @@ module _ {C A M : Type 0} (d : DeskRules C A) (r : ServiceRules C A M) (memory :
       go None s each = tt
       go (Some next) s each = by next (next.moves == play.moves) refl s (each next)
 
-  -- Something comes behind the pieces of connection c.
+  -- Something comes after the pieces of connection c.
   abbrev HasFinish : ℕ → Option (Play C A M) → Type 0
   HasFinish c None = Unit {0}
   HasFinish c (Some play) = play.finish c ≢ None

@@ -18,7 +18,7 @@ use Rattle.script_model.specs.Writing.{write_in, writes_in, WritesUnder, KeepsIt
 use Rattle.script_model.proofs.OneFed.{all_at}
 use Rattle.script_model.proofs.Growing.{AreNoWrites}
 
--- this holds of each mark, behind those in front of it
+-- this holds of each mark, after those before it
 abbrev pub EachMark : (List Mark → Mark → Type 0) → List Mark → Type 0
 EachMark P tape = (front back : List Mark) (mark : Mark) → tape ≡ front ++ mark ∷ back → P front mark
 
@@ -139,7 +139,7 @@ module _ {C A : Type 0} (d : DeskRules C A) where
   IsPartUnder (Some blocks) left bytes = ⊥
   IsPartUnder (Some fails) left bytes = ⊥
 
-  -- Behind these marks these bytes were written, by this rule, when the first of the entries stood in the journal and all calls were done.
+  -- After these marks these bytes were written, by this rule, when the first of the entries stood in the journal and all calls were done.
   pub record IsWritten (rule : Option PlanRule) (es : List (JournalEntry C A)) (marks : List Mark) (bytes : List ℕ) : Type 0 where
     pub before : List (JournalEntry C A)
     pub later : List (JournalEntry C A)

@@ -12,7 +12,7 @@ use Rattle.script_model.specs.ScriptLines.{PlanLine, opening, piece, input_end, 
 use Rattle.script_model.specs.Writing.{KeepsItsRules}
 use Rattle.script_model.specs.RestLines.{opened_in, HasPlaceFor}
 
--- What is read of connection c: a beginning of its pieces, each read with its part of one of them; its input ends, or fails, behind all of them, where the
+-- What is read of connection c: a beginning of its pieces, each read with its part of one of them; its input ends, or fails, after all of them, where the
 -- script says so.
 pub record IsReadFrom (max : ℕ) (script : ScriptPlan) (tape : List Mark) (c : ℕ) : Type 0 where
   pub bytes : IsPrefix (input (marks_of c tape)) (bytes_of_pieces (pieces_on c script.lines))

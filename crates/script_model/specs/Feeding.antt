@@ -23,7 +23,7 @@ abbrev pub piece_end : List ℕ → ℕ → ℕ
 piece_end [] at = at
 piece_end (end ∷ ends) at = if nat_lt at end then end else piece_end ends at
 
--- Behind what was read, these bytes are read, one at least: as many as are missing of the size or the payload under way, at most 65,536, and at most those
+-- After what was read, these bytes are read, one at least: as many as are missing of the size or the payload under way, at most 65,536, and at most those
 -- that are left of the piece.
 pub record TakesItsPart (max : ℕ) (ends read bytes : List ℕ) : Type 0 where
   pub payloads : List (List ℕ)

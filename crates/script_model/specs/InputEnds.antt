@@ -1,4 +1,4 @@
--- What of a script lets each input end, or fail, behind all pieces.
+-- What of a script lets each input end, or fail, after all pieces.
 use Rattle.std.specs.Prelude.{◌≡◌, ℕ, List, [], ◌∷◌, ◌++◌}
 use Rattle.script_model.specs.ScriptLines.{PlanLine, input_end, input_fault, pieces_on}
 

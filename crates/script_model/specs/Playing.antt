@@ -13,7 +13,7 @@ use Rattle.machine_model.specs.AtFronts.{size_in, summed}
 use Rattle.script_model.specs.ScriptLines.{PlanRule, takes_most, blocks, fails}
 pub use Rattle.limits.specs.Limits.{most_read}
 
--- what comes behind all pieces of a connection: its input ends, or a read fails
+-- what comes after all pieces of a connection: its input ends, or a read fails
 pub data InputFinish : Type 0 where
   finishes : InputFinish
   faults : InputFinish
@@ -34,7 +34,7 @@ is_ample _ = false
 abbrev pub always_ample : ℕ → MemoryAt
 always_ample move = ample
 
--- A machine in rehearsal: per connection the pieces that have arrived and aren't read, what comes behind them, the rules that are left, and the size that is
+-- A machine in rehearsal: per connection the pieces that have arrived and aren't read, what comes after them, the rules that are left, and the size that is
 -- admitted; how many moves were made; and at how many of them memory ran out.
 pub record Play (C A M : Type 0) : Type 0 where
   pub cell : Cell C A M
@@ -111,7 +111,7 @@ module _ {C A M : Type 0} (d : DeskRules C A) (r : ServiceRules C A M) where
   abbrev pub on_one : Play C A M → ℕ → ConnEvent → Option (Play C A M)
   on_one play c conn_event = option_map (freed_if_over c) (told_in play (goes (on_conn conn_event)))
 
-  -- a read behind all pieces
+  -- a read after all pieces
   abbrev pub read_behind : Play C A M → ℕ → Option InputFinish → Option (Play C A M)
   read_behind play c None = None
   read_behind play c (Some finishes) = on_one play c (ends c)
@@ -155,7 +155,7 @@ module _ {C A M : Type 0} (d : DeskRules C A) (r : ServiceRules C A M) (memory :
   admission play c size =
       by_memory d r (memory play.moves) play (goes (on_conn (gives_up c NoMemory))) (Some (moved_on (record play { admitted = at_number play.admitted c (Some size) })))
 
-  -- an admission, where the budget has room for the size; or, behind it, a read of the payload
+  -- an admission, where the budget has room for the size; or, after it, a read of the payload
   abbrev pub size_move : ℕ → Play C A M → ℕ → List ℕ → Option ℕ → Option (Play C A M)
   size_move budget play c held (Some size) = read_move d r play c ((4 + size) - length held) (play.unread c)
   size_move budget play c held None = if nat_le (all_admitted play + size_in held) budget then admission play c (size_in held) else None

@@ -78,7 +78,7 @@ module _ {C A M : Type 0} (d : DeskRules C A) (r : ServiceRules C A M) (memory :
   line_done fuel budget workers play (turn_of_worker w) = Some (left_by play (worker_move d r memory w play))
   line_done fuel budget workers play turn_of_outcome = Some (left_by play (collect_move d r play))
 
-  -- the lines are done in order, and behind the last one the run is drained
+  -- the lines are done in order, and after the last one the run is drained
   abbrev pub lines_done : ℕ → ℕ → ℕ → List PlanLine → Play C A M → Option (Play C A M)
   lines_done fuel budget workers [] play = drain fuel fuel budget workers play
   lines_done fuel budget workers (line ∷ lines) play = option_and_then (λ next. lines_done fuel budget workers lines next) (line_done fuel budget workers play line)

@@ -27,7 +27,7 @@ pub record TellsNoMore (lines : List PlanLine) (front : List Mark) (c : ℕ) : T
   pub ended : (before behind : List Mark) → front ≡ before ++ Ended c ∷ behind → some_line (ends_input c) lines ≡ true
   pub failed : (before behind : List Mark) → front ≡ before ++ ReadFailed c ∷ behind → some_line (fails_input c) lines ≡ true
 
--- Behind these marks the whole sizes of the frames under way, each one that a frame may have, add up to more than the budget.
+-- After these marks the whole sizes of the frames under way, each one that a frame may have, add up to more than the budget.
 pub record IsOverBudget (max budget : ℕ) (front : List Mark) : Type 0 where
   pub sizes : ℕ → ℕ
   pub count : ℕ

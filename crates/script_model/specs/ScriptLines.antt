@@ -2,7 +2,7 @@
 use Rattle.std.specs.Prelude.{ℕ, zero, suc, ◌+◌, Bool, true, false, ◌||◌, ◌==◌, if◌then◌else◌, Option, List, [], ◌∷◌, filter, slice_get, slice_index_or}
 use Rattle.std.specs.List.{flat_map}
 
--- a line: the next connection is opened; bytes arrive on a connection, its input ends, or a read behind its pieces fails; nothing goes on until all calls
+-- a line: the next connection is opened; bytes arrive on a connection, its input ends, or a read after its pieces fails; nothing goes on until all calls
 -- are done and their replies written; or, on schedule, one move of a connection, of a worker, or one outcome collected
 pub data PlanLine : Type 0 where
   opening : PlanLine

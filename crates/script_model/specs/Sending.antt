@@ -8,7 +8,7 @@ use Rattle.host_model.specs.Journal.{JournalEntry}
 use Rattle.host_model.specs.DeskRules.{DeskRules}
 use Rattle.host_model.specs.Conversation.{sent}
 
--- Behind these marks of a connection with these entries, these bytes are written, one at least: all that was left of what was to be sent by then.
+-- After these marks of a connection with these entries, these bytes are written, one at least: all that was left of what was to be sent by then.
 pub record WritesTheRest {C A : Type 0} (d : DeskRules C A) (es : List (JournalEntry C A)) (marks : List Mark) (bytes : List ℕ) : Type 0 where
   pub payloads : List (List ℕ)
   pub rest : List ℕ

@@ -21,7 +21,7 @@ abbrev pub writes_in : List Mark → ℕ
 writes_in [] = 0
 writes_in (mark ∷ marks) = write_in mark + writes_in marks
 
--- Behind these marks of a connection with these entries, these bytes are written, one at least: of what was left of what was to be sent by then, so many at
+-- After these marks of a connection with these entries, these bytes are written, one at least: of what was left of what was to be sent by then, so many at
 -- most.
 pub record WritesAtMost {C A : Type 0} (count : ℕ) (d : DeskRules C A) (es : List (JournalEntry C A)) (marks : List Mark) (bytes : List ℕ) : Type 0 where
   pub payloads : List (List ℕ)

@@ -16,8 +16,8 @@ ghost use Rattle.script_model.specs.Rows.{tiny_script, frame_of_one, RehearsesTo
 
 /// Rehearsals as they go: no line; an input that ends inside a size; a budget of one frame, for which a second connection is held until the first one's call is
 /// collected; a write of one byte and one that fails, with a block between them; two workers that overtake each other, on schedule; a worker that does a whole job
-/// while another one holds its own; a rest between two calls; a read that fails behind its pieces; and a rest at which the second connection is held, so that its
-/// piece is read behind the opening of a third.
+/// while another one holds its own; a rest between two calls; a read that fails after its pieces; and a rest at which the second connection is held, so that its
+/// piece is read after the opening of a third.
 pub fn rehearsals()
     ensures nothing { RehearsesTo 2 0 (tiny_script [] []) [] [] [] }
     ensures cut_in_a_size { RehearsesTo 2 1 (tiny_script (opening ∷ piece 0 (0 ∷ 0 ∷ []) ∷ input_end 0 ∷ []) [])
@@ -81,8 +81,8 @@ pub fn rehearsals_that_leave_one_open()
 {}
 
 /// Runs that their scripts don't feed: a read goes over a piece's end; a write passes over its rule; an input ends that the script says fails; a connection
-/// that is opened behind a rest is opened before what came before the rest was read; and the same where a size that no frame has was read on another one,
-/// which is no size to be over the budget by; and an input that ends behind a rest has ended before what came before the rest was read.
+/// that is opened after a rest is opened before what came before the rest was read; and the same where a size that no frame has was read on another one,
+/// which is no size to be over the budget by; and an input that ends after a rest has ended before what came before the rest was read.
 pub fn runs_that_are_not_fed()
     ensures read_over_a_piece { (journal : List (JournalEntry ℕ ℕ)) (back : List Mark) →
         IsFedBy tiny_desk 2 (tiny_script (opening ∷ piece 0 (0 ∷ 0 ∷ []) ∷ piece 0 (0 ∷ 1 ∷ 1 ∷ []) ∷ input_end 0 ∷ []) []) (Opened 0 ∷ Read 0 size_of_one ∷ back) journal → ⊥ }
@@ -102,7 +102,7 @@ pub fn runs_that_are_not_fed()
         (Opened 0 ∷ Opened 1 ∷ Ended 1 ∷ Closed 1 ∷ back) journal → ⊥ }
 {}
 
-/// Behind the sizes of two frames of one byte, on a budget of one byte, a line of rest asks nothing of what was read.
+/// After the sizes of two frames of one byte, on a budget of one byte, a line of rest asks nothing of what was read.
 pub fn a_front_over_the_budget()
     ensures { IsOverBudget 1 1 (Opened 0 ∷ Opened 1 ∷ Read 0 size_of_one ∷ Read 1 size_of_one ∷ []) }
 {}

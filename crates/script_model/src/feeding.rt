@@ -18,7 +18,7 @@ use machine_model::laws::{every_cell_keeps, every_step_can, plain_machine_runs};
 use machine_model::moments::a_moment_of_rest_tells;
 
 /// Where nothing in a script stops for good, its lines open no more connections than may be open at a time, and each call has its service, a rehearsal comes to
-/// rest at each line of rest, however memory is at its moves: the tape has a place there (`rests`), and one behind all lines (`at_end`). So it is fed by its
+/// rest at each line of rest, however memory is at its moves: the tape has a place there (`rests`), and one after all lines (`at_end`). So it is fed by its
 /// script, where no piece stands behind the line that ends its input, or lets it fail (`fed`).
 pub fn a_rehearsal_is_fed<C, A, M>()
     ensures rests { (d : DeskRules C A) (r : ServiceRules C A M) (memories : List M) (memory : ℕ → MemoryAt) (budget workers : ℕ) (script : ScriptPlan) (wants : ℕ)

@@ -47,7 +47,7 @@ pub fn a_rehearsal_is_a_run<C, A, M>()
 }
 
 /// In a rehearsal, however memory is, each write is under the rule of its connection whose turn it is: it takes all that is left of what was to be sent by
-/// then, or as much of it as the rule allows, or it fails where the rule says so. The journal is that of the end, whatever was called behind the write.
+/// then, or as much of it as the rule allows, or it fails where the rule says so. The journal is that of the end, whatever was called after the write.
 pub fn rehearsed_writes_keep_their_rules<C, A, M>()
     ensures { (d : DeskRules C A) (r : ServiceRules C A M) (memories : List M) (memory : ℕ → MemoryAt) (budget workers : ℕ) (script : ScriptPlan) (wants : ℕ)
         (first last : Cell C A M) (c : ℕ) →

@@ -16,7 +16,7 @@ use machine_model::laws::plain_machine_runs;
 
 /// However memory is at its moves, a rehearsal opens its connections in order: as many as its lines say, where these are no more than may be open at a time.
 /// Each is read from its pieces, every read with its part of one of them; and where no piece stands behind the line that ends its input, or lets it fail, that
-/// is seen behind all of them, and only where a line says so.
+/// is seen after all of them, and only where a line says so.
 pub fn a_rehearsal_reads_its_script<C, A, M>()
     ensures opened { (d : DeskRules C A) (r : ServiceRules C A M) (memories : List M) (memory : ℕ → MemoryAt) (budget workers : ℕ) (script : ScriptPlan) (wants : ℕ)
         (first last : Cell C A M) →

@@ -76,7 +76,7 @@ end_by number so open_yet = cond open_yet (Err (fault_at number NoEnd)) (Ok so)
 abbrev texts_from : ℕ → List (List PlanRule) → List PlanLine → List (List ℕ)
 texts_from c rules lines = map said_text (said_from c rules lines)
 
--- That these lines, behind those above, are read from their print as themselves.
+-- These lines, behind those above, are read from their print as themselves.
 abbrev AreReadBack : ℕ → Bool → List PlanLine → List (List PlanRule) → List Bool → List PlanLine → Type 0
 AreReadBack workers schedule above rules over lines =
     (number : ℕ) → read_from workers schedule number (read_above above rules over) (texts_from (length over) rules lines) ≡ read_ok (above ++ lines) rules (over_all over lines)

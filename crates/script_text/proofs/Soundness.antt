@@ -46,7 +46,7 @@ input_clear over x clear =
 another : (over : List Bool) (x c : ℕ) → get_or over x false ≡ false → get_or over c false ≡ true → x ≡ c → ⊥
 another over x c open_yet over_now same = true≢false (sym over_now ∙ ap (λ n. get_or over n false) (sym same) ∙ open_yet)
 
--- nothing of a connection's input stands behind its end
+-- nothing of a connection's input stands after its end
 record IsPast (c : ℕ) (lines : List PlanLine) : Type 0 where
   not_again : some_line (closes_input c) lines ≡ false
   no_piece : pieces_on c lines ≡ []
@@ -75,7 +75,7 @@ past_end workers schedule over (turn_of_conn x ∷ lines) c pass is = past_line 
 past_end workers schedule over (turn_of_worker w ∷ lines) c pass is = past_line c (turn_of_worker w) lines refl refl (past_end workers schedule over lines c pass.1 is)
 past_end workers schedule over (turn_of_outcome ∷ lines) c pass is = past_line c turn_of_outcome lines refl refl (past_end workers schedule over lines c pass.1 is)
 
--- the end stands behind a line that is none
+-- the end stands after a line that is none
 later : (c : ℕ) (x : PlanLine) (lines : List PlanLine) → closes_input c x ≡ false → EndsOnce lines c → EndsOnce (x ∷ lines) c
 later c x lines quiet ends = record {
   above = x ∷ ends.above;
@@ -137,7 +137,7 @@ over_at [] c all within = absurd (omega arith)
 over_at (x ∷ over) zero all within = (over_at_by x over all).0
 over_at (x ∷ over) (suc c) all within = over_at over c (over_at_by x over all).1 (omega arith)
 
--- how many connections are opened behind these lines
+-- how many connections are opened after these lines
 over_all_count : (over : List Bool) (lines : List PlanLine) → length (over_all over lines) ≡ length over + openings lines
 over_all_count over [] = omega arith
 over_all_count over (line ∷ lines) = omega (arith, over_all_count (over_behind line over) lines, over_count line over)

@@ -13,7 +13,7 @@ use Rattle.script_text.specs.LineForms.{SaidLine, runs, rules_so, said_of}
 use Rattle.script_text.specs.Reading.{ScriptSoFar, nothing_read, fault_of_line, over_behind, rules_opened, with_said, unless_fault, read_said, read_line, fault_at, reads_on, read_from, plan_read, plan_of_lines}
 use Rattle.script_text.proofs.Written.{IsRule, IsWritable, CanBeWritten, said_can}
 
--- the inputs behind these lines, where those above left them so
+-- the inputs after these lines, where those above left them so
 abbrev pub over_all : List Bool → List PlanLine → List Bool
 over_all over [] = over
 over_all over (line ∷ lines) = over_all (over_behind line over) lines
@@ -49,7 +49,7 @@ openings_push : (lines : List PlanLine) (line : PlanLine) → openings (lines ++
 openings_push [] line = omega arith
 openings_push (x ∷ lines) line = omega (arith, openings_push lines line)
 
--- how many connections are opened behind a line
+-- how many connections are opened after a line
 pub over_count : (line : PlanLine) (over : List Bool) → length (over_behind line over) ≡ length over + one_if_opens line
 over_count opening over = length-append over (false ∷ [])
 over_count (piece c bytes) over = omega arith

@@ -94,7 +94,7 @@ is_opening _ = false
 abbrev pub rules_opened : PlanLine → List (List PlanRule)
 rules_opened line = if is_opening line then [] ∷ [] else []
 
--- the connections' inputs behind a line
+-- the connections' inputs after a line
 abbrev pub over_behind : PlanLine → List Bool → List Bool
 over_behind opening over = over ++ false ∷ []
 over_behind (input_end c) over = slice_set over c true

@@ -21,7 +21,7 @@ IsKeptScript script = IsReadBack most_workers true script
 abbrev pub closes_input : ℕ → PlanLine → Bool
 closes_input c line = ends_input c line || fails_input c line
 
--- the input of connection c ends or fails just once, behind its pieces
+-- the input of connection c ends or fails just once, after its pieces
 pub record EndsOnce (lines : List PlanLine) (c : ℕ) : Type 0 where
   pub above : List PlanLine
   pub line : PlanLine

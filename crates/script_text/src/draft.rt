@@ -88,7 +88,7 @@ impl Draft {
     }
 }
 
-/// The connections' inputs behind a line.
+/// The connections' inputs after a line.
 fn put_over(over: &mut Vec<bool>, line: &ScriptLine) -> Result<(), AllocError>
     ensures { OnOk result (over.new.items ≡ over_behind (plain_line line.now) over.old.items) }
 {
@@ -113,7 +113,7 @@ fn mark_over(over: &mut Vec<bool>, c: usize)
     }
 }
 
-/// The connections' rules behind a line that is none.
+/// The connections' rules after a line that isn't one of them.
 fn put_rules(alloc: Global, rules: &mut Vec<RuleList>, line: &ScriptLine) -> Result<(), AllocError>
     ensures { OnOk result (map plain_rules rules.new.items ≡ map plain_rules rules.old.items ++ rules_opened (plain_line line.now)) }
 {

@@ -31,7 +31,7 @@ pub fn read_scripts_let_all_end()
     ensures pieces { (workers : ℕ) (schedule : Bool) (text : List ℕ) (script : ScriptPlan) → script_of_text workers schedule text ≡ Ok script → EndsBehindPieces script.lines }
 {}
 
-/// The same of what a `Script` holds, for 8 workers.
+/// What a `Script` holds gives the same, for 8 workers.
 pub fn kept_scripts_let_all_end()
     ensures ends { (script : ScriptPlan) → IsKeptScript script → LetsAllEnd most_workers script }
     ensures pieces { (script : ScriptPlan) → IsKeptScript script → EndsBehindPieces script.lines }

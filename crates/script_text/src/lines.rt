@@ -12,15 +12,15 @@ pub enum ScriptLine {
     Piece(u32, Bytes),
     /// The input of a connection ends.
     Ends(u32),
-    /// The read of a connection behind all its pieces fails.
+    /// The read of a connection after all its pieces fails.
     FailsRead(u32),
     /// Nothing goes on until all calls are done and their replies written.
     Rest,
-    /// On schedule: one move of a connection.
+    /// On schedule, a connection makes one move.
     Loop(u32),
-    /// On schedule: one move of a worker.
+    /// On schedule, a worker makes one move.
     Work(u32),
-    /// On schedule: one outcome is collected.
+    /// On schedule, one outcome is collected.
     Collect,
 }
 

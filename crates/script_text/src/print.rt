@@ -40,7 +40,7 @@ fn put_lines(into: &mut Vec<u8>, lines: &[ScriptLine], rules: &[RuleList]) -> Re
     Ok(())
 }
 
-/// Appends a line with the rules right behind it; the number of the connection that the next line may open.
+/// Appends a line with the rules right behind it, and answers the number of the connection that the next line may open.
 fn put_with_rules(
     into: &mut Vec<u8>,
     line: &ScriptLine,

@@ -29,7 +29,7 @@ impl Model for Script {
 }
 
 impl Script {
-    /// The script of these lines and rules, which is sound; takes no memory.
+    /// Makes the script of these lines and rules, which is sound; takes no memory.
     pub fn new(lines: ScriptLines, rules: RuleLists) -> Self
         requires { IsKeptScript (plan_of lines rules) }
         ensures { result ≡ plan_of lines rules }

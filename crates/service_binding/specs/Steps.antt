@@ -24,7 +24,7 @@ has_kind handed Mirror = handed.mirror
 abbrev pub IsHanded : Handed → List ServiceState → Type 0
 IsHanded handed services = (kind : Kind) → has_kind handed kind ≡ is_handed_in kind services
 
--- these handlers are left behind the pairs, of each kind
+-- these handlers are left after the pairs, of each kind
 abbrev pub AreLeftBehind : List ServiceState → List NamedKind → List ServiceState → Type 0
 AreLeftBehind services pairs left = (kind : Kind) → services_of_kind kind left ≡ left_behind kind pairs services
 

@@ -141,7 +141,7 @@ pub fn quoted(into: &mut Vec<u8>, bytes: &[u8]) -> Result<(), AllocError>
     done
 }
 
-/// `quoted`, which leaves a part of the text where memory runs out.
+/// Does what `quoted` does, but leaves a part of the text where memory runs out.
 fn quote(into: &mut Vec<u8>, bytes: &[u8]) -> Result<(), AllocError>
     ensures ok { OnOk result (into.new.items ≡ into.old.items ++ quoted_of bytes.now) }
     ensures err { OnErr result (take (vec_len into.old) into.new.items ≡ into.old.items) }

@@ -10,7 +10,7 @@ use script_links::{ScriptBell, ScriptLinks};
 use std::alloc::{AllocError, Global};
 use std::sync::Wait;
 
-/// Links over a script that tell nothing of its bytes, and fail when they are asked for the time of this number, and behind it.
+/// Links over a script that tell nothing of its bytes, and fail when they are asked for the time of this number, and after it.
 #[derive(Drop)]
 pub(crate) struct BreakingLinks {
     pub links: ScriptLinks,

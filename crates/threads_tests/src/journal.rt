@@ -6,7 +6,7 @@ use call_rules::{Entry, Journal, Key};
 use outside::Failed;
 use std::alloc::{AllocError, Global};
 
-/// A journal that keeps the keys of its entries, tells none of them, and fails at the append of this number and behind it.
+/// A journal that keeps the keys of its entries, tells none of them, and fails at the append of this number and after it.
 #[derive(Drop)]
 pub(crate) struct KeyJournal {
     pub keys: Vec<Key>,
@@ -16,7 +16,7 @@ pub(crate) struct KeyJournal {
 }
 
 impl KeyJournal {
-    /// No keys yet.
+    /// Makes a journal without keys.
     pub(crate) fn new(alloc: Global, fails_at: usize) -> Self
         ensures whole { result.torn ≡ false }
     {

@@ -20,7 +20,7 @@ fn script_text(alloc: Global) -> Result<Vec<u8>, AllocError> {
     Ok(text)
 }
 
-/// Whether connection 0 is read behind a read of connection 1.
+/// Whether connection 0 is read after a read of connection 1.
 fn goes_on_behind_the_other<'a>(mut marks: Cursor<'a>) -> bool {
     let mut other = false;
     for _ in 0..NEVER {

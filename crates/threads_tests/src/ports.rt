@@ -1,4 +1,4 @@
-//! A port, served from a script: what its output and its journal's file have behind it.
+//! A port, served from a script: what its output and its journal's file have after it.
 
 ghost use Rattle.std.specs.Prelude.{◌≤◌};
 

@@ -65,7 +65,7 @@ pub(crate) fn served<R: Threads + Wait + Sync>(
     served_behind(rt, alloc, &Meeting::of(0), text, workers, append, ask)
 }
 
-/// The same behind a gate.
+/// Does the same behind a gate.
 pub(crate) fn served_behind<R: Threads + Wait + Sync>(
     rt: &R,
     alloc: Global,

@@ -15,7 +15,7 @@ pub(crate) const SCRIPTS: [&[u8]; 8] = [
     b"open\nopen\nopen\ndata 1 000000010500000001\ndata 2 000000020607\nrest\ndata 1 08\ndata 2 0000000109000000010a\nend 2\nrest\nend 0\nend 1\n",
     // Rules of writes: one byte, not yet, three bytes, not yet, and all.
     b"open\nwrite 0 1\nblock 0\nwrite 0 3\nblock 0\nopen\nblock 1\nblock 1\ndata 0 00000001050000000106\ndata 1 0000000107\nrest\ndata 1 0000000108\nend 0\nend 1\n",
-    // A write that fails behind one byte, and a read that fails behind a call.
+    // A write that fails after one byte, and a read that fails after a call.
     b"open\nwrite 0 1\nwritefail 0\nopen\ndata 0 00000001050000000106\ndata 1 0000000107\nreadfail 1\nend 0\n",
     // Inputs that are cut off inside a size and inside a payload.
     b"open\nopen\ndata 0 00000001050000\ndata 1 000000010500000002aa\nend 0\nend 1\n",

@@ -10,7 +10,7 @@ use std::sync::Wait;
 use std::test::Fail;
 use std::thread::Threads;
 
-/// Four calls on each of three connections: the input of the first ends behind them, that of the second inside a size, and the third sends a size that is too large.
+/// Four calls on each of three connections: the input of the first ends after them, that of the second inside a size, and the third sends a size that is too large.
 const TWELVE_CALLS: &[u8] =
     b"open\nopen\nopen\ndata 0 00000001050000000106\ndata 1 0000000115\ndata 2 000000012500000001260000000127\ndata 0 00000001070000000108\n\
 data 1 0000000116000000011700000001180000\ndata 2 000000012800000009\nend 0\nend 1\nend 2\n";

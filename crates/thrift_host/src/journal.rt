@@ -43,7 +43,7 @@ impl Model for ReportedList {
 }
 
 impl ReportedList {
-    /// No entries; takes no memory.
+    /// Makes a journal without entries; takes no memory.
     pub(crate) fn new(alloc: Global) -> Self
         ensures { result.entries ≡ [] }
     {

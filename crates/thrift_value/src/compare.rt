@@ -31,7 +31,7 @@ impl Value {
 }
 
 impl Fields {
-    /// Field by field, the id before the value; a prefix comes first.
+    /// Compares field by field, the id before the value; a prefix comes first.
     #[cycle(compare)]
     pub(crate) fn compare(&self, other: &Fields) -> Ordering
         ensures { result ≡ fields_cmp (fields_tree self.now) (fields_tree other.now) }
@@ -51,7 +51,7 @@ impl Fields {
 }
 
 impl Items {
-    /// Item by item; a prefix comes first.
+    /// Compares item by item; a prefix comes first.
     #[cycle(compare)]
     pub(crate) fn compare(&self, other: &Items) -> Ordering
         ensures { result ≡ items_cmp (items_tree self.now) (items_tree other.now) }
@@ -69,7 +69,7 @@ impl Items {
 }
 
 impl Pairs {
-    /// Pair by pair, the key before its value; a prefix comes first.
+    /// Compares pair by pair, the key before its value; a prefix comes first.
     #[cycle(compare)]
     pub(crate) fn compare(&self, other: &Pairs) -> Ordering
         ensures { result ≡ pairs_cmp (pairs_tree self.now) (pairs_tree other.now) }

@@ -1,4 +1,4 @@
--- Steps of readers: one behind another, and choices by a test.
+-- Steps of readers: one after another, and choices by a test.
 use Rattle.std.proofs.Common.{◌≡◌, ◌⊎◌, ℕ, Bool, true, false, cond, Option, Some, None, Result, Ok, Err, refl, inl, inr}
 use Rattle.value_text.specs.Fronts.{◌>>=◌}
 use Rattle.value_text.specs.Rows.{found_or}

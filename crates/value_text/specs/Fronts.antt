@@ -7,7 +7,7 @@ use Rattle.text_out.specs.Bytes.{minus_sign, zero_digit, quotation_mark, escape_
 use Rattle.value_text.specs.ValueText.{tag_word}
 
 infixl 10 ◌>>=◌
--- one reader behind another
+-- one reader after another
 abbrev pub ◌>>=◌ : {A B : Type 0} → Result A ℕ → (A → Result B ℕ) → Result B ℕ
 (Ok x) >>= f = f x
 (Err left) >>= f = Err left

@@ -79,7 +79,7 @@ pub fn read_front(alloc: Global, text: &[u8], at: usize) -> Result<(Value, usize
     front_in(alloc, text, at)
 }
 
-/// The same, by its reading alone.
+/// Does the same; its contract speaks of reading alone.
 fn front_in(alloc: Global, text: &[u8], at: usize) -> Result<(Value, usize), TextFault>
     requires { at ≤ length text.now }
     ensures exact { Answers (λ x. (tree_of x.0, x.1)) result (front_at text.now at) }
@@ -105,7 +105,7 @@ pub fn read(alloc: Global, text: &[u8]) -> Result<Value, TextFault>
     whole_in(alloc, text)
 }
 
-/// The same, by its reading alone.
+/// Does the same; its contract speaks of reading alone.
 fn whole_in(alloc: Global, text: &[u8]) -> Result<Value, TextFault>
     ensures { Answers tree_of result (reading_of text.now) }
 {

@@ -66,7 +66,7 @@ fn container_at(
     }
 }
 
-/// One more at the end of a list: a function of its own, so that a proof meets the dropping of what wasn't kept only here.
+/// Adds one at the end of a list: a function of its own, so that a proof meets the dropping of what wasn't kept only here.
 fn keep<T: Drop>(list: &mut Vec<T>, item: T) -> Result<(), AllocError>
     ensures { OnOk result (list.new.items ≡ list.old.items ++ item ∷ []) }
 {
@@ -118,7 +118,7 @@ fn id_at<'a>(before: &[(i16, Value)], text: &'a [u8]) -> Result<(i16, &'a [u8]),
     Err(TextStop::Left(rest.len()))
 }
 
-/// `=` and a value.
+/// Reads `=` and a value.
 #[cycle(reading)]
 #[tactic(auto, unfolding(crate::specs::Reading::assigned_at))]
 fn assigned_at(

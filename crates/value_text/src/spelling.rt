@@ -93,7 +93,7 @@ fn spell_id<K: Sink>(out: &mut K, mark: u8, id: &i16) -> Result<(), Failed>
     }
 }
 
-/// The same of an id of any size.
+/// Writes the same of an id of any size.
 fn spell_long_id<K: Sink>(out: &mut K, mark: u8, number: i64) -> Result<(), Failed>
     ensures { HandsText (K.taken out.old) (K.taken out.new) (K.faults out.old) (K.faults out.new) (mark ∷ number_and_letter number (codes "=")) result }
 {

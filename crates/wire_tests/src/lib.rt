@@ -1,4 +1,5 @@
-//! Tests of the wire's crates: numbers, values, structs and heads, with tables of what Apache Thrift's own library writes; projections, and what may be written.
+//! Tests of `wire_num`, `thrift_value`, `envelope`, `wire_walk`, `struct_skew` and the two codecs, `binary_codec` and `compact_codec`: numbers, values, structs and
+//! heads, with tables of what Apache Thrift's own library writes; projections, and what may be written.
 #![tactic(auto)]
 
 #[cfg(test)]

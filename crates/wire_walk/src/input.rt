@@ -25,7 +25,7 @@ impl<'a> Model for Input<'a> {
 }
 
 impl<'a> Input<'a> {
-    /// All of these bytes, of at most so many values.
+    /// Takes all of these bytes, of at most so many values.
     pub fn new(bytes: &'a [u8], budget: u32) -> Self
         ensures { result ≡ record { bytes = bytes.now; budget = budget } }
     {

@@ -120,7 +120,7 @@ fn read_fields<'a, C: Codec>(
     Err(WireFault::Short)
 }
 
-/// So many values of a tag.
+/// Reads so many values of a tag.
 #[cycle(reading)]
 fn read_items<'a, C: Codec>(
     alloc: Global,
@@ -141,7 +141,7 @@ fn read_items<'a, C: Codec>(
     Ok((Items::new(items), rest))
 }
 
-/// So many pairs.
+/// Reads so many pairs.
 #[cycle(reading)]
 fn read_pairs<'a, C: Codec>(
     alloc: Global,

@@ -22,7 +22,7 @@ use Rattle.workload.specs.LoadPlan.{piece_size, piece_at, piece_line, round, rou
 abbrev texts_of : List PlanLine → List (List ℕ)
 texts_of lines = map (λ line. said_text (runs line)) lines
 
--- what is read behind these lines, where this was read before
+-- what has been read after these lines, where this was read before them
 abbrev read_behind : ScriptSoFar → List PlanLine → ScriptSoFar
 read_behind so [] = so
 read_behind so (line ∷ lines) = read_behind (with_said so (runs line)) lines
@@ -35,7 +35,7 @@ line_on so line can clear =
     ∙ ap (read_said 0 false so) (said_written (runs line) can)
     ∙ ap (unless_fault (with_said so (runs line))) clear
 
--- all lines, behind which every input has ended
+-- all lines, after which every input has ended
 lines_on : (number : ℕ) (so : ScriptSoFar) (lines : List PlanLine) → Pass 0 false so.over lines → list_any not (over_all so.over lines) ≡ false
     → read_from 0 false number so (texts_of lines) ≡ Ok (read_behind so lines)
 lines_on number so [] pass ended = ap (λ left. cond left (Err (fault_at number NoEnd)) (Ok so)) ended

@@ -34,13 +34,13 @@ pub fn each_frame_counts_once()
     ensures numbers { (f : ℕ → ℤ) (n size : ℕ) → 0 < n → sum_over (λ c. sum_over f (frames_on n c size)) (count_up 0 n) ≡ sum_over f (count_up 0 size) }
 {}
 
-/// The same of the answers of a journal, all of whose entries are of the first n connections.
+/// The same is so of the answers of a journal, all of whose entries are of the first n connections.
 pub fn each_answer_counts_once()
     ensures { (journal : List CallEntry) (n : ℕ) → AllByRecursion (λ e. e.key.c < n) journal
         → sum_over (λ c. sum_of_answers (entries_of c journal)) (count_up 0 n) ≡ sum_of_answers journal }
 {}
 
-/// The same of the bytes of a tape, all of whose marks are of the first n connections.
+/// The same is so of the bytes of a tape, all of whose marks are of the first n connections.
 pub fn each_byte_counts_once()
     ensures read { (tape : List Mark) (n : ℕ) → AllByRecursion (λ mark. connection_of mark < n) tape
         → sum_by (λ c. length (input (marks_of c tape))) (count_up 0 n) ≡ length (input tape) }

@@ -1,4 +1,4 @@
-//! A large script that is made from a seed: calls of the tutorial's calculator on up to eight connections. And the summary of
+//! A large script that is made from a seed: calls of the tutorial's calculator on up to eight connections. It also gives the summary of
 //! a run of it: how many frames there were, how many bytes were read and written, and the sum of the answers.
 //!
 //! ```rust

@@ -24,7 +24,7 @@ pub(crate) fn lines_of(alloc: Global, streams: &[Bytes]) -> Result<Vec<ScriptLin
     Ok(lines)
 }
 
-/// As many connections without rules.
+/// Makes as many connections without rules.
 pub(crate) fn no_rules(alloc: Global, n: usize) -> Result<Vec<RuleList>, AllocError>
     ensures { IfOk result (λ rules. map plain_rules rules.items ≡ replicate n []) }
 {

@@ -97,7 +97,7 @@ fn entered<S: PlainServices>(
     Ok(hall)
 }
 
-/// The hall once a call was answered and the journal has failed behind it.
+/// The hall once a call was answered and the journal has failed after it.
 fn failed<S: PlainServices>(
     services: &S,
     hall: PlainHall<S::Call, S::Answer, S::Memory>,
@@ -135,7 +135,7 @@ fn cell_entered<S: PlainServices>(
     })
 }
 
-/// The machine once a call was answered and the journal has failed behind it.
+/// The machine once a call was answered and the journal has failed after it.
 fn cell_failed<S: PlainServices>(
     services: &S,
     cell: PlainCell<S::Call, S::Answer, S::Memory>,

@@ -25,7 +25,7 @@ pub enum PlainApplyResult {
 /// What happens; connections and workers have numbers, from 0.
 #[derive(Drop)]
 pub enum PlainEvent {
-    /// Something on a connection.
+    /// Something happens on a connection.
     Happens(PlainConnEvent),
     /// The first payload of a connection that isn't submitted is.
     Submits(u32),

@@ -37,7 +37,7 @@ pub struct PlainMoved {
 }
 
 impl PlainConn {
-    /// A connection on which nothing has happened; takes no memory.
+    /// Makes a connection on which nothing has happened; takes no memory.
     pub fn new(alloc: Global) -> Self
         ensures { conn_of result ≡ new_conn }
     {
@@ -144,7 +144,7 @@ fn read_more(
     Ok(PlainMoved { conn, marks })
 }
 
-/// The cause of an input that ends behind these bytes.
+/// The cause of an input that ends after these bytes.
 fn end_behind(held: &[u8]) -> EndCause
     ensures { result ≡ end_behind held.now }
 {

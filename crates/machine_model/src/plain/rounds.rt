@@ -25,7 +25,7 @@ fn next_payload(alloc: Global, conn: &PlainConn) -> Result<Option<Vec<u8>>, Allo
     Ok(Some(Vec::from_slice(alloc, payload.as_slice())?))
 }
 
-/// The same, of the connection of this number.
+/// The first such payload of the connection of this number.
 #[tactic(auto, using(crate::proofs::Seeing::conn_seen))]
 fn payload_of(alloc: Global, loop_part: &PlainLoop, c: u32) -> Result<Option<Vec<u8>>, AllocError>
     requires { c < length loop_part.now.conns.items }

@@ -15,7 +15,7 @@ use crate::laws::plain_machine_runs;
 use host_model::plain::{PlainDesk, PlainServices};
 use std::alloc::{AllocError, Global};
 
-/// The machine before it has done anything, with services of these memories; takes no memory.
+/// Makes the machine before it has done anything, with services of these memories; takes no memory.
 pub fn start<C: Copy, A: Copy, M: Copy>(alloc: Global, memories: Vec<M>) -> PlainCell<C, A, M>
     ensures { IsFirst memories.items (cell_of result) }
 {

@@ -11,7 +11,7 @@ use std::mem;
 /// What a worker holds.
 #[derive(Drop)]
 pub enum PlainWorkerState<A> {
-    /// No job.
+    /// It holds no job.
     Idle,
     /// A job.
     Holds(Key, Vec<u8>),

@@ -49,7 +49,7 @@ after_tape : (t : Told) (x y : Option (List ℕ)) (pending left : List ℕ) → 
     → IsTakenBut x y (pending ++ whole t) (left ++ (journal_text t ++ last_lines t))
 after_tape t x y pending left f = next_taken x x y (pending ++ whole t) pending (tape_lines t.tape) (journal_text t ++ last_lines t) left (at_first t x pending) f
 
--- and the journal
+-- and the journal was taken too
 after_journal : (t : Told) (x y z : Option (List ℕ)) (pending left rest : List ℕ) → IsTakenBut x y (pending ++ tape_lines t.tape) left
     → IsTakenBut y z (left ++ journal_text t) rest → IsTakenBut x z (pending ++ whole t) (rest ++ last_lines t)
 after_journal t x y z pending left rest f h =
