@@ -1,0 +1,40 @@
+"""Prints the edits that the prover has to refuse, a line a crate: those that the gate tries, and those of bench/edits.
+
+edits.py                   prints them
+edits.py --update FILE     writes them between the lines '<!-- edits -->' and '<!-- end of edits -->' of FILE
+edits.py --check FILE      says so where other ones stand there
+"""
+import os
+import re
+import sys
+
+TOP = os.path.dirname(os.path.dirname(os.path.abspath(__file__)))
+MARK = re.compile(r"(?<=<!-- edits -->\n).*?(?=<!-- end of edits -->)", re.S)
+
+
+def names(folder):
+    """Returns the names of the edits that stand right in a folder."""
+    return sorted(it[:-5] for it in os.listdir(folder) if it.endswith(".edit")) if os.path.isdir(folder) else []
+
+
+def lines():
+    """Yields the line of each crate that has edits."""
+    for crate in sorted(os.listdir(f"{TOP}/crates")):
+        parts = [("gate", names(f"{TOP}/crates/{crate}/must-fail")), ("outside", names(f"{TOP}/bench/edits/{crate}"))]
+        said = "; ".join(f"*{where}* {', '.join(found)}" for where, found in parts if found)
+        if said:
+            yield f"- `{crate}`: {said}\n"
+
+
+found = "".join(lines())
+if len(sys.argv) == 1:
+    print(found, end="")
+else:
+    with open(sys.argv[2], encoding="utf-8") as file:
+        text = file.read()
+    fresh = MARK.sub(lambda _: found, text)
+    if sys.argv[1] == "--update":
+        with open(sys.argv[2], "w", encoding="utf-8") as file:
+            file.write(fresh)
+    elif fresh != text or not MARK.search(text):
+        print(f"{sys.argv[2]} has other edits than the tree: .ci/edits.py --update {sys.argv[2]}")
