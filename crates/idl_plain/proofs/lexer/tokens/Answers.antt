@@ -3,7 +3,7 @@ use Rattle.idl_token.specs.Pieces.{IsFrontPiece}
 use Rattle.idl_token.specs.declared.Token as idl
 use Rattle.idl_token.specs.declared.pieces.Piece.TheVariants.{Blank, Token}
 use Rattle.idl_token.proofs.CutLemmas.{CutUpTo, cut_blank, cut_token}
-use Rattle.idl_plain.proofs.tokens.Goals as goal
+use Rattle.idl_plain.proofs.lexer.tokens.Goals as goal
 
 pub pieces-preserved-in-Blank : goal.pieces-preserved-in-Blank
 pieces-preserved-in-Blank c =

@@ -1,6 +1,6 @@
 use Rattle.std.proofs.Common.{◌-◌, length}
 use Rattle.idl_token.proofs.CutLemmas.{CutUpTo}
-use Rattle.idl_plain.proofs.tokens.Given as goal
+use Rattle.idl_plain.proofs.lexer.tokens.Given as goal
 
 abbrev pub invariant-pieces : goal.invariant-pieces
 invariant-pieces l = CutUpTo l.text l.at l.tokens.items
