@@ -3,7 +3,7 @@
 ghost use Rattle.std.specs.Prelude.{◌≡◌, ◌≢◌, ◌≤◌, List, false, [], length, map, IfOk};
 ghost use Rattle.std.specs.Vec.{vec_capacity};
 ghost use Rattle.outside.specs.Cause.{Rose};
-ghost use Rattle.conn_table.specs.declared.limits.Outcome.TheVariants.{All, JournalFault, NoMemory};
+ghost use Rattle.conn_table.specs.declared.run_limits.Outcome.TheVariants.{All, JournalFault, NoMemory};
 ghost use Rattle.cell_core.specs.declared.stop.RunStop.TheVariants.{JournalFault as Broken};
 ghost use Rattle.host_model.specs.declared.cause.EndCause.{EndCause};
 ghost use Rattle.call_rules.specs.Handling.{ServiceState};

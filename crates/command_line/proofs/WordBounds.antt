@@ -4,7 +4,7 @@ use Rattle.std.specs.Prelude.{codes}
 use Rattle.std.specs.Str.{bytes_eq}
 use Rattle.std.proofs.lemmas.Bool.{leb-true, false≢true}
 use Rattle.call_rules.specs.Desks.{longest_payload}
-use Rattle.conn_table.specs.declared.limits.Limits.{Limits}
+use Rattle.conn_table.specs.declared.run_limits.Limits.{Limits}
 use Rattle.envelope.specs.declared.head.Protocol.{Protocol}
 use Rattle.service_binding.specs.Pairs.{NamedKind, pair_of_word}
 use Rattle.command_line.specs.declared.command.Command.{Command}

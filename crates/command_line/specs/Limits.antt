@@ -1,7 +1,7 @@
 -- The limits that options set: the longest payload and the read budget.
 use Rattle.std.specs.Prelude.{ℕ, nat_le, ◌&&◌, List, [], ◌∷◌, codes, Option, None, Some, option_and_then, if◌then◌else◌}
 use Rattle.call_rules.specs.Desks.{longest_payload}
-use Rattle.conn_table.specs.declared.limits.Limits.{Limits}
+use Rattle.conn_table.specs.declared.run_limits.Limits.{Limits}
 use Rattle.command_line.specs.Numbers.{number_of_word}
 use Rattle.command_line.specs.Options.{Sayings}
 

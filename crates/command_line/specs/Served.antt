@@ -1,7 +1,7 @@
 -- What a command serves: `IDL binary|compact WORKERS NAME=KIND [NAME=KIND ..]`, with the options `--max-frame N` and `--read-budget N`.
 use Rattle.std.specs.Prelude.{ℕ, nat_le, List, [], ◌∷◌, length, codes, Option, None, Some, option_map, option_and_then, if◌then◌else◌}
 use Rattle.std.specs.Str.{bytes_eq}
-use Rattle.conn_table.specs.declared.limits.Limits.{Limits}
+use Rattle.conn_table.specs.declared.run_limits.Limits.{Limits}
 use Rattle.envelope.specs.declared.head.Protocol.{Protocol}
 use Rattle.envelope.specs.declared.head.Protocol.TheVariants.{Binary, Compact}
 use Rattle.service_binding.specs.Pairs.{NamedKind}

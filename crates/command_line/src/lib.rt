@@ -17,7 +17,7 @@
 #![tactic(auto)]
 
 mod command;
-mod limits;
+mod limit_options;
 mod numbers;
 mod options;
 mod pairs;

@@ -6,7 +6,7 @@ ghost use Rattle.command_line.specs.Clapped.{sorted_said};
 ghost use Rattle.command_line.specs.Lent.{lent_words};
 ghost use Rattle.command_line.specs.Served.{file_of_word, protocol_of_word, served_by, served_said, served_with, workers_of_word};
 
-use crate::limits::limits_said;
+use crate::limit_options::limits_said;
 use crate::numbers::bounded_number;
 use crate::pairs::command_pairs;
 use crate::sorting::Sorted;

@@ -15,9 +15,9 @@
 #![tactic(auto)]
 
 pub mod laws;
-mod limits;
 mod places;
+mod run_limits;
 mod table;
 
-pub use limits::{Ends, Limits, Outcome};
+pub use run_limits::{Ends, Limits, Outcome};
 pub use table::Table;

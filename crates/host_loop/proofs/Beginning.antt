@@ -6,7 +6,7 @@ use Rattle.outside.specs.declared.marks.Mark.{Mark}
 use Rattle.outside.specs.LinksState.{LinksState}
 use Rattle.outside.specs.Opening.{AreFreshLinks}
 use Rattle.host_model.proofs.Lists.{nil-cons}
-use Rattle.conn_table.specs.declared.limits.Limits.{Limits}
+use Rattle.conn_table.specs.declared.run_limits.Limits.{Limits}
 use Rattle.conn_table.specs.Slots.{slot_in}
 use Rattle.conn_table.specs.Table.{TableView}
 use Rattle.call_history.specs.Calls.{seat_ask}

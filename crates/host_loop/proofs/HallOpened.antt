@@ -3,9 +3,9 @@ use Rattle.std.proofs.Common.{◌≡◌, ℕ, ◌≤◌, Bool, Option, List, [],
 use Rattle.outside.specs.LinksState.{LinksState}
 use Rattle.outside.specs.Opening.{AreFreshLinks}
 use Rattle.host_model.specs.declared.cause.EndCause.{EndCause}
-use Rattle.conn_table.specs.declared.limits.Limits.{Limits}
-use Rattle.conn_table.specs.declared.limits.Outcome.{Outcome}
-use Rattle.conn_table.specs.declared.limits.Outcome.TheVariants.{NoMemory}
+use Rattle.conn_table.specs.declared.run_limits.Limits.{Limits}
+use Rattle.conn_table.specs.declared.run_limits.Outcome.{Outcome}
+use Rattle.conn_table.specs.declared.run_limits.Outcome.TheVariants.{NoMemory}
 use Rattle.call_rules.specs.Entries.{CallEntry}
 use Rattle.call_rules.specs.Desks.{DeskMeaning, longest_payload}
 use Rattle.call_rules.specs.Handling.{ServiceState}

@@ -4,9 +4,9 @@ use Rattle.outside.specs.Cause.{Rose}
 use Rattle.outside.specs.declared.outcomes.Settled.{Settled}
 use Rattle.outside.specs.LinksState.{LinksState}
 use Rattle.host_model.specs.declared.key.Key.{Key}
-use Rattle.conn_table.specs.declared.limits.Limits.{Limits}
-use Rattle.conn_table.specs.declared.limits.Outcome.{Outcome}
-use Rattle.conn_table.specs.declared.limits.Outcome.TheVariants.{NetFault, JournalFault}
+use Rattle.conn_table.specs.declared.run_limits.Limits.{Limits}
+use Rattle.conn_table.specs.declared.run_limits.Outcome.{Outcome}
+use Rattle.conn_table.specs.declared.run_limits.Outcome.TheVariants.{NetFault, JournalFault}
 use Rattle.conn_table.specs.Slots.{slot_in}
 use Rattle.conn_table.specs.Table.{TableView}
 use Rattle.call_history.specs.Calls.{seat_ask}

@@ -1,8 +1,8 @@
 -- What is left where serving has ended is all that the law of its end asks for.
 use Rattle.std.proofs.Common.{◌≡◌, ℕ, ◌≤◌, List, refl, sym, subst, All}
-use Rattle.conn_table.specs.declared.limits.Limits.{Limits}
-use Rattle.conn_table.specs.declared.limits.Outcome.{Outcome}
-use Rattle.conn_table.specs.declared.limits.Outcome.TheVariants.{All as AllOver, NetFault, JournalFault, NoMemory}
+use Rattle.conn_table.specs.declared.run_limits.Limits.{Limits}
+use Rattle.conn_table.specs.declared.run_limits.Outcome.{Outcome}
+use Rattle.conn_table.specs.declared.run_limits.Outcome.TheVariants.{All as AllOver, NetFault, JournalFault, NoMemory}
 use Rattle.call_rules.specs.Desks.{DeskMeaning, longest_payload}
 use Rattle.seat_booth.specs.Seats.{BoothView, IsSeatOf}
 use Rattle.hall_core.specs.Meant.{ServedHall}

@@ -1,8 +1,8 @@
 -- A turn of the loop's own worker.
 use Rattle.std.proofs.Common.{◌≡◌, subst, inr}
 use Rattle.outside.specs.LinksState.{LinksState}
-use Rattle.conn_table.specs.declared.limits.Limits.{Limits}
-use Rattle.conn_table.specs.declared.limits.Outcome.TheVariants.{JournalFault}
+use Rattle.conn_table.specs.declared.run_limits.Limits.{Limits}
+use Rattle.conn_table.specs.declared.run_limits.Outcome.TheVariants.{JournalFault}
 use Rattle.call_rules.specs.Desks.{DeskMeaning}
 use Rattle.seat_booth.specs.Seats.{BoothView, IsSeatOf}
 use Rattle.hall_core.specs.Meant.{ServedHall}

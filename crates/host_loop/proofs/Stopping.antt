@@ -3,9 +3,9 @@ use Rattle.std.proofs.Common.{◌≡◌, ◌≤◌, true, false, List, [], ◌�
 use Rattle.std.proofs.lemmas.Bool.{true≢false}
 use Rattle.outside.specs.Cause.{next_count}
 use Rattle.outside.specs.LinksState.{LinksState}
-use Rattle.conn_table.specs.declared.limits.Limits.{Limits}
-use Rattle.conn_table.specs.declared.limits.Outcome.{Outcome}
-use Rattle.conn_table.specs.declared.limits.Outcome.TheVariants.{All, NetFault, JournalFault, NoMemory}
+use Rattle.conn_table.specs.declared.run_limits.Limits.{Limits}
+use Rattle.conn_table.specs.declared.run_limits.Outcome.{Outcome}
+use Rattle.conn_table.specs.declared.run_limits.Outcome.TheVariants.{All, NetFault, JournalFault, NoMemory}
 use Rattle.call_history.specs.Calls.{seat_ask}
 use Rattle.call_rules.specs.Desks.{DeskMeaning}
 use Rattle.machine_model.specs.HallRule.{close, done}

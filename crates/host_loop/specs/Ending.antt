@@ -2,8 +2,8 @@
 use Rattle.std.specs.Prelude.{◌≡◌, ◌≤◌, ◌⊎◌, true, false, List, [], ◌∷◌, ◌++◌, All}
 use Rattle.outside.specs.Cause.{Rose}
 use Rattle.outside.specs.Opening.{AreFreshLinks}
-use Rattle.conn_table.specs.declared.limits.Outcome.{Outcome}
-use Rattle.conn_table.specs.declared.limits.Outcome.TheVariants.{All as AllOver, NetFault, JournalFault, NoMemory}
+use Rattle.conn_table.specs.declared.run_limits.Outcome.{Outcome}
+use Rattle.conn_table.specs.declared.run_limits.Outcome.TheVariants.{All as AllOver, NetFault, JournalFault, NoMemory}
 use Rattle.call_rules.specs.Desks.{longest_payload}
 use Rattle.machine_model.specs.HallRule.{is_closed}
 use Rattle.machine_model.specs.OwnCalls.{any_of}

@@ -2,9 +2,9 @@
 use Rattle.std.specs.Prelude.{◌≡◌, ◌≤◌, ◌⊎◌, Bool, true, false, Result, MatchResult, ℕ, []}
 use Rattle.outside.specs.Cause.{Rose}
 use Rattle.outside.specs.LinksState.{LinksState}
-use Rattle.conn_table.specs.declared.limits.Limits.{Limits}
-use Rattle.conn_table.specs.declared.limits.Outcome.{Outcome}
-use Rattle.conn_table.specs.declared.limits.Outcome.TheVariants.{All, NetFault, JournalFault, NoMemory}
+use Rattle.conn_table.specs.declared.run_limits.Limits.{Limits}
+use Rattle.conn_table.specs.declared.run_limits.Outcome.{Outcome}
+use Rattle.conn_table.specs.declared.run_limits.Outcome.TheVariants.{All, NetFault, JournalFault, NoMemory}
 use Rattle.call_rules.specs.Desks.{DeskMeaning, desk_rules}
 use Rattle.machine_model.specs.Merge.{OfTurns}
 use Rattle.machine_model.specs.OwnCalls.{any_of}

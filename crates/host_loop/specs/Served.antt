@@ -8,8 +8,8 @@ use Rattle.host_model.specs.declared.cause.EndCause.TheVariants.{Stopped}
 use Rattle.host_model.specs.Journal.{after_call, after}
 use Rattle.host_model.specs.DeskRules.{DeskRules}
 use Rattle.host_model.specs.Headline.{Headline}
-use Rattle.conn_table.specs.declared.limits.Outcome.{Outcome}
-use Rattle.conn_table.specs.declared.limits.Outcome.TheVariants.{All as AllOver, NetFault, JournalFault, NoMemory}
+use Rattle.conn_table.specs.declared.run_limits.Outcome.{Outcome}
+use Rattle.conn_table.specs.declared.run_limits.Outcome.TheVariants.{All as AllOver, NetFault, JournalFault, NoMemory}
 use Rattle.call_rules.specs.PlainCalls.{PlainCall, PlainAnswer}
 use Rattle.call_rules.specs.Entries.{CallEntry}
 use Rattle.call_rules.specs.Desks.{DeskMeaning, desk_rules}

@@ -2,7 +2,7 @@
 
 ghost use Rattle.std.specs.Prelude.{◌≡◌, [], IfSome};
 ghost use Rattle.host_loop.specs.Going.{AreNewTools};
-ghost use Rattle.conn_table.specs.declared.limits.Outcome.TheVariants.{NoMemory};
+ghost use Rattle.conn_table.specs.declared.run_limits.Outcome.TheVariants.{NoMemory};
 
 use crate::buffer::Buffer;
 use crate::serving::Served;

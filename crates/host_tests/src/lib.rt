@@ -9,11 +9,11 @@ mod apache;
 #[cfg(test)]
 mod budgets;
 #[cfg(test)]
+mod frame_limits;
+#[cfg(test)]
 mod given;
 #[cfg(test)]
 mod idls;
-#[cfg(test)]
-mod limits;
 #[cfg(test)]
 mod limits_given;
 #[cfg(test)]

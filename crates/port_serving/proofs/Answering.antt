@@ -9,8 +9,8 @@ use Rattle.outside.specs.Binding.{PastLinks}
 use Rattle.outside.specs.declared.binder.BindFail.{BindFail}
 use Rattle.outside.specs.declared.binder.BindFail.TheVariants as binds
 use Rattle.host_model.specs.declared.cause.EndCause.{EndCause}
-use Rattle.conn_table.specs.declared.limits.Outcome.{Outcome}
-use Rattle.conn_table.specs.declared.limits.Outcome.TheVariants as outcomes
+use Rattle.conn_table.specs.declared.run_limits.Outcome.{Outcome}
+use Rattle.conn_table.specs.declared.run_limits.Outcome.TheVariants as outcomes
 use Rattle.run_report.specs.declared.fault.ReportFault.{ReportFault}
 use Rattle.run_report.specs.declared.fault.ReportFault.TheVariants as reports
 use Rattle.run_report.specs.Summary.{listening_line, summary_lines, summary}

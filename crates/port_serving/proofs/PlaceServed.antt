@@ -3,8 +3,8 @@ use Rattle.std.proofs.Common.{◌≡◌, ℕ, ◌<◌, ◌≤◌, if◌then◌el
 use Rattle.std.proofs.lemmas.Bool.{lt-ltb}
 use Rattle.outside.specs.Cause.{Rose, next_count, next_if_faulty}
 use Rattle.outside.specs.Binding.{StartListening, told_past}
-use Rattle.conn_table.specs.declared.limits.Outcome.{Outcome}
-use Rattle.conn_table.specs.declared.limits.Outcome.TheVariants as outcomes
+use Rattle.conn_table.specs.declared.run_limits.Outcome.{Outcome}
+use Rattle.conn_table.specs.declared.run_limits.Outcome.TheVariants as outcomes
 use Rattle.call_rules.specs.Entries.{CallEntry}
 use Rattle.machine_model.specs.SeenHall.{MayHave}
 use Rattle.journal_text.specs.JournalStates.{appended_count}

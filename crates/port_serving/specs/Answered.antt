@@ -3,8 +3,8 @@ use Rattle.std.specs.Prelude.{◌≡◌, ◌⊎◌, ℕ, false, Option, List, []
 use Rattle.outside.specs.Content.{told_more}
 use Rattle.outside.specs.Taken.{IsTakenInPart}
 use Rattle.host_model.specs.declared.cause.EndCause.{EndCause}
-use Rattle.conn_table.specs.declared.limits.Outcome.{Outcome}
-use Rattle.conn_table.specs.declared.limits.Outcome.TheVariants as outcomes
+use Rattle.conn_table.specs.declared.run_limits.Outcome.{Outcome}
+use Rattle.conn_table.specs.declared.run_limits.Outcome.TheVariants as outcomes
 use Rattle.run_report.specs.Summary.{listening_line, summary_lines, summary}
 use Rattle.host_loop.specs.Served.{ServerSetting}
 use Rattle.port_serving.specs.declared.fault.PortFault.{PortFault}

@@ -3,7 +3,7 @@ use Rattle.std.specs.Prelude.{◌≡◌, ℕ, true, Some, List}
 use Rattle.outside.specs.Cause.{Rose}
 use Rattle.outside.specs.Binding.{StartListening}
 use Rattle.host_model.specs.declared.cause.EndCause.{EndCause}
-use Rattle.conn_table.specs.declared.limits.Outcome.{Outcome}
+use Rattle.conn_table.specs.declared.run_limits.Outcome.{Outcome}
 use Rattle.journal_text.specs.JournalStates.{appended_count}
 use Rattle.host_loop.specs.Served.{ServerSetting, ServedRun, ComesOutBy, IsServed}
 use Rattle.port_serving.specs.FileJournals.{KeepsJournal}

@@ -6,7 +6,7 @@ ghost use Rattle.outside.specs.Content.{told_more};
 ghost use Rattle.outside.specs.Files.{File};
 ghost use Rattle.outside.specs.Making.{told_with_file, IsThere};
 ghost use Rattle.outside.specs.Binding.{StartListening};
-ghost use Rattle.conn_table.specs.declared.limits.Outcome.TheVariants as outcomes;
+ghost use Rattle.conn_table.specs.declared.run_limits.Outcome.TheVariants as outcomes;
 ghost use Rattle.run_report.specs.Summary.{listening_line};
 ghost use Rattle.host_loop.specs.Served.{ServerSetting};
 ghost use Rattle.port_serving.specs.Places.{PortPlace, PlaceChange};

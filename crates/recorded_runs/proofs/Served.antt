@@ -7,7 +7,7 @@ use Rattle.outside.specs.Cause.{Rose}
 use Rattle.outside.specs.LinksState.{LinksState}
 use Rattle.host_model.specs.Marks.{marks_of, read_by, input}
 use Rattle.host_model.proofs.Filters.{marks_append}
-use Rattle.conn_table.specs.declared.limits.Outcome.TheVariants as outcomes
+use Rattle.conn_table.specs.declared.run_limits.Outcome.TheVariants as outcomes
 use Rattle.call_rules.specs.Entries.{CallEntry}
 use Rattle.call_rules.specs.Desks.{desk_rules}
 use Rattle.call_rules.specs.Handling.{handler_rules}

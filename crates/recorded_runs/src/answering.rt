@@ -2,7 +2,7 @@
 
 ghost use Rattle.std.specs.Prelude.{◌≡◌, ◌≢◌, ◌≤◌, false, [], List, length, map, Some, Err};
 ghost use Rattle.outside.specs.Cause.{Rose};
-ghost use Rattle.conn_table.specs.declared.limits.Outcome.TheVariants as outcomes;
+ghost use Rattle.conn_table.specs.declared.run_limits.Outcome.TheVariants as outcomes;
 ghost use Rattle.call_rules.specs.Entries.{CallEntry};
 ghost use Rattle.script_model.specs.ScriptLines.{ScriptPlan};
 ghost use Rattle.script_text.specs.Sound.{MovesItsWorkers};

@@ -1,7 +1,7 @@
 //! A law of scripts that are served, the contract of a function that does nothing.
 
 ghost use Rattle.std.specs.Prelude.{◌≡◌, ◌<◌, ◌^◌, List, Some};
-ghost use Rattle.conn_table.specs.declared.limits.Outcome.TheVariants as outcomes;
+ghost use Rattle.conn_table.specs.declared.run_limits.Outcome.TheVariants as outcomes;
 ghost use Rattle.call_rules.specs.Entries.{CallEntry};
 ghost use Rattle.script_model.specs.ScriptLines.{ScriptPlan};
 ghost use Rattle.script_links.specs.ServedScript.{ServedScript};

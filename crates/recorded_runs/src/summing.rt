@@ -3,7 +3,7 @@
 ghost use Rattle.std.specs.Prelude.{◌≡◌, ◌≢◌, ◌≤◌, List, length, Some, Err, IfOk};
 ghost use Rattle.outside.specs.Cause.{Rose};
 ghost use Rattle.host_model.specs.declared.cause.EndCause.TheVariants.{NoMemory as RanOut};
-ghost use Rattle.conn_table.specs.declared.limits.Outcome.TheVariants as outcomes;
+ghost use Rattle.conn_table.specs.declared.run_limits.Outcome.TheVariants as outcomes;
 ghost use Rattle.call_rules.specs.Entries.{CallEntry};
 ghost use Rattle.recorded_runs.specs.declared.fault.ServingFault.TheVariants as faults;
 ghost use Rattle.recorded_runs.specs.Answered.{HasNone};

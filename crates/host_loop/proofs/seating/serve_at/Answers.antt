@@ -1,5 +1,5 @@
 use Rattle.std.proofs.Common.{◌≡◌, ◌+◌, ◌≤◌, length, vec_len, vec_capacity, refl, sym, subst, ◌∙◌, arith}
-use Rattle.conn_table.specs.declared.limits.Outcome.{Outcome}
+use Rattle.conn_table.specs.declared.run_limits.Outcome.{Outcome}
 use Rattle.host_loop.specs.Going.{IsAtEnd}
 use Rattle.host_loop.proofs.Beginning.{serves_at_first}
 use Rattle.host_loop.proofs.LeftOver.{ends_serving}

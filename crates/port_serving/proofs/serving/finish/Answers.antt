@@ -1,6 +1,6 @@
 use Rattle.std.proofs.Common.{inr, inl, sym, subst}
 use Rattle.std.proofs.lemmas.Result.{err_from_is_err_and}
-use Rattle.conn_table.specs.declared.limits.Outcome.TheVariants as outcomes
+use Rattle.conn_table.specs.declared.run_limits.Outcome.TheVariants as outcomes
 use Rattle.port_serving.specs.Served.{HasServedPort}
 use Rattle.port_serving.specs.Answered.{OutputChange}
 use Rattle.port_serving.proofs.Answering.{summed, begun, unwritten}

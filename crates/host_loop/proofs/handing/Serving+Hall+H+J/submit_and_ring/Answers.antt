@@ -1,5 +1,5 @@
 use Rattle.std.proofs.Common.{[], sym, subst}
-use Rattle.conn_table.specs.declared.limits.Outcome.TheVariants.{NoMemory}
+use Rattle.conn_table.specs.declared.run_limits.Outcome.TheVariants.{NoMemory}
 use Rattle.machine_model.specs.HallState.{key_of}
 use Rattle.machine_model.specs.SeenHall.{filled}
 use Rattle.loop_conns.specs.Going.{AllHandOut}

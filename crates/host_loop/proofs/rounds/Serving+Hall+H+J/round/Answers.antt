@@ -1,5 +1,5 @@
 use Rattle.std.proofs.Common.{IsErr, refl, sym, subst}
-use Rattle.conn_table.specs.declared.limits.Outcome.TheVariants.{NoMemory}
+use Rattle.conn_table.specs.declared.run_limits.Outcome.TheVariants.{NoMemory}
 use Rattle.host_loop.proofs.Keeping.{some_goes_on, serves_on_all, serves_alike, fails_on, halts}
 use Rattle.host_loop.proofs.rounds.Serving+Hall+H+J.round.Goals as goal
 

@@ -1,5 +1,5 @@
 use Rattle.std.proofs.Common.{Ok, ap, ◌∙◌}
-use Rattle.conn_table.specs.declared.limits.Outcome.TheVariants.{All}
+use Rattle.conn_table.specs.declared.run_limits.Outcome.TheVariants.{All}
 use Rattle.loop_conns.specs.Going.{IsAllOver}
 use Rattle.host_loop.proofs.Keeping.{halts}
 use Rattle.host_loop.proofs.rounds.Serving+Hall+H+J.run_rounds.Goals as goal

@@ -1,4 +1,4 @@
-use Rattle.conn_table.specs.declared.limits.Outcome.TheVariants.{NoMemory}
+use Rattle.conn_table.specs.declared.run_limits.Outcome.TheVariants.{NoMemory}
 use Rattle.host_loop.proofs.Keeping.{some_goes_on, serves_on_all, halts}
 use Rattle.host_loop.proofs.visits.Serving+Hall+H+J.admit.Goals as goal
 
