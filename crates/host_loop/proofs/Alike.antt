@@ -14,18 +14,18 @@ use Rattle.loop_conns.specs.declared.connections.LoopConnections.{LoopConnection
 use Rattle.loop_conns.specs.Tied.{StageTells, IsOrderly, AreTied, PhasesTell}
 use Rattle.loop_conns.specs.Woven.{ServedAsk, IsPassedAtRest, IsWovenTo, LoopIsRunning}
 
-module _ (max : ℕ) (first links : LinksState) (k0 k1 : LoopConnections) (asks : List ServedAsk) (table : k1.table ≡ k0.table) (places : k1.places.items ≡ k0.places.items)
+module _ (max : ℕ) (first links : LinksState) (k0 k1 : LoopConnections) (asks : List ServedAsk) (table : k1.table ≡ k0.table) (stages : k1.stages.items ≡ k0.stages.items)
     (causes : k1.causes.items ≡ k0.causes.items) (owing : k1.owing ≡ k0.owing) where
   tied : (loop : Loop) → AreTied first links k0 loop → AreTied first links k1 loop
   tied loop t =
       record {
         tape = t.tape;
         count = t.count ∙ sym (ap length causes);
-        places = t.places ∙ sym (ap length places);
+        stages = t.stages ∙ sym (ap length stages);
         opened = t.opened;
         each = λ c l.
             subst (λ (p : TableView × List EndCause × List ConnStage). StageTells first links p.0 c (loop.conns c) (slice_index_or p.1 c Stopped) (slice_index_or p.2 c Gone))
-            (λ i. (sym table i, sym causes i, sym places i)) (t.each c l);
+            (λ i. (sym table i, sym causes i, sym stages i)) (t.each c l);
         unopened = λ c l. subst (λ (v : TableView). (slot_in c v.slots ≡ None) × (links.is_open c ≡ false)) (sym table) (t.unopened c l);
         numbered = t.numbered;
         orderly = subst IsOrderly (sym table) t.orderly;

@@ -45,13 +45,13 @@ none_collected front back seat key settled is = absurd (go front is)
     go (x ∷ xs) e = nil-cons x (xs ++ seat_ask seat collect (outcome key settled) ∷ back) e
 
 module _ (limits : Limits) (small : limits.max_frame ≤ longest_payload) (first : LinksState) (fresh : AreFreshLinks first) (kept : LoopConnections)
-    (table : kept.table ≡ record { budget = limits.read_budget; slots = [] }) (places : kept.places.items ≡ []) (causes : kept.causes.items ≡ []) (owing : kept.owing ≡ 0) where
+    (table : kept.table ≡ record { budget = limits.read_budget; slots = [] }) (stages : kept.stages.items ≡ []) (causes : kept.causes.items ≡ []) (owing : kept.owing ≡ 0) where
   tied : AreTied first first kept no_loop
   tied =
       record {
         tape = no_marks first.tape fresh.tape;
         count = sym (ap length causes);
-        places = sym (ap length places);
+        stages = sym (ap length stages);
         opened = fresh.opened;
         each = λ c l. absurd (omega arith);
         unopened = λ c l. (ap (λ (t : TableView). slot_in c t.slots) table, fresh.none_open c);

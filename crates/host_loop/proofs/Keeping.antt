@@ -111,13 +111,13 @@ module _ (desk : DeskMeaning) (limits : Limits) (booth : BoothView ServedHall) (
         }
 
     -- More room for connections keeps it.
-    pub serves_alike : (k1 : LoopConnections) → k1.table ≡ k0.table → k1.places.items ≡ k0.places.items → k1.causes.items ≡ k0.causes.items → k1.owing ≡ k0.owing
+    pub serves_alike : (k1 : LoopConnections) → k1.table ≡ k0.table → k1.stages.items ≡ k0.stages.items → k1.causes.items ≡ k0.causes.items → k1.owing ≡ k0.owing
         → IsServing desk limits booth first l0 k1 seat own
-    serves_alike k1 table places causes owing =
+    serves_alike k1 table stages causes owing =
         record {
           small = s.small;
           opened = s.opened;
-          going = alike_goes limits.max_frame first l0 k0 k1 (asks_made seat.mine) table places causes owing s.going;
+          going = alike_goes limits.max_frame first l0 k0 k1 (asks_made seat.mine) table stages causes owing s.going;
           collects = s.collects;
           not_closed = s.not_closed;
           budget = ap (λ (t : TableView). t.budget) table ∙ s.budget;

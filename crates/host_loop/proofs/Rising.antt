@@ -37,7 +37,7 @@ module _ (first links : LinksState) where
       record {
         tape = t.tape;
         count = t.count;
-        places = t.places;
+        stages = t.stages;
         opened = t.opened;
         each = λ c l. place_lately kept.table c (loop.conns c) _ _ (t.each c l);
         unopened = t.unopened;

@@ -28,7 +28,7 @@ use Rattle.host_loop.specs.declared.holdings.Serving.{Serving}
 -- tools with which nothing was done yet: no connection is known
 pub record AreNewTools {B : Type 0} (budget : ℕ) (tools : Tools B) : Type 0 where
   pub table : tools.conns.table ≡ record { budget = budget; slots = [] }
-  pub places : tools.conns.places.items ≡ []
+  pub stages : tools.conns.stages.items ≡ []
   pub causes : tools.conns.causes.items ≡ []
   pub owing : tools.conns.owing ≡ 0
 

@@ -6,7 +6,7 @@ use Rattle.outside.specs.Closing.{Closes}
 use Rattle.host_model.specs.declared.cause.EndCause.TheVariants.{NoMemory, Stopped}
 use Rattle.conn_state.specs.Phase.{Phase, sizing, held, framing, ready, waiting, writing, ended, size_asked, IsHeld, IsReading}
 use Rattle.conn_state.specs.Step.{after_admission}
-use Rattle.conn_table.specs.declared.stages.Slot.{Slot}
+use Rattle.conn_table.specs.declared.places.Slot.{Slot}
 use Rattle.conn_table.specs.Slots.{most_connections, slot_in, with_slot}
 use Rattle.conn_table.specs.Table.{TableView, slot_of, size_given, sizes_given, size_wanted, HasItsSize, with_admitted}
 use Rattle.conn_table.proofs.Placing.{has_value}

@@ -13,7 +13,7 @@ use Rattle.outside.specs.Asking.{place_asked, noted_at, NotesItsPlace}
 use Rattle.host_model.specs.declared.cause.EndCause.{EndCause}
 use Rattle.host_model.specs.declared.cause.EndCause.TheVariants.{Stopped}
 use Rattle.conn_state.specs.Phase.{Phase, size_asked, sizing, held, framing, ready, waiting, writing, ended}
-use Rattle.conn_table.specs.declared.stages.Slot.{Slot}
+use Rattle.conn_table.specs.declared.places.Slot.{Slot}
 use Rattle.conn_table.specs.Slots.{slot_in}
 use Rattle.conn_table.specs.Table.{TableView, slot_of, size_given, sizes_given, size_wanted, HasItsSize}
 use Rattle.conn_table.proofs.Sizing.{slot_is}

@@ -9,7 +9,7 @@ use Rattle.outside.specs.LinksState.{LinksState}
 use Rattle.host_model.specs.declared.cause.EndCause.{EndCause}
 use Rattle.host_model.specs.declared.cause.EndCause.TheVariants.{Stopped}
 use Rattle.conn_state.specs.Phase.{fresh_conn}
-use Rattle.conn_table.specs.declared.stages.Slot.{Slot}
+use Rattle.conn_table.specs.declared.places.Slot.{Slot}
 use Rattle.conn_table.specs.Slots.{most_connections, slot_in, with_added}
 use Rattle.conn_table.specs.Table.{TableView, fresh_slot, slot_of}
 use Rattle.conn_table.proofs.Sizing.{slot_is, of_found, found_more, other_more}

@@ -1,7 +1,7 @@
 -- A table stays orderly where one connection changes its state, gives its size back or goes.
 use Rattle.std.proofs.Common.{◌≡◌, ℕ, suc, ◌+◌, ◌<◌, ◌≤◌, None, Some, IsSome, length, sym, subst, arith}
 use Rattle.conn_state.specs.Phase.{ConnView}
-use Rattle.conn_table.specs.declared.stages.Slot.{Slot}
+use Rattle.conn_table.specs.declared.places.Slot.{Slot}
 use Rattle.conn_table.specs.Slots.{most_connections, slot_in, with_slot, with_added, without_number}
 use Rattle.conn_table.specs.Table.{TableView, fresh_slot, slot_of, with_state, with_size, size_given, sizes_given}
 use Rattle.conn_table.proofs.Sizing.{slot_is, sizes_put}

@@ -9,7 +9,7 @@ use Rattle.outside.specs.Told.{told_with}
 use Rattle.outside.specs.LinksState.{LinksState}
 use Rattle.host_model.specs.declared.cause.EndCause.{EndCause}
 use Rattle.host_model.specs.declared.cause.EndCause.TheVariants.{End, Cut, SizeFault, Envelope, ReadFault, WriteFault, NoMemory, Stopped}
-use Rattle.conn_table.specs.declared.stages.Slot.{Slot}
+use Rattle.conn_table.specs.declared.places.Slot.{Slot}
 use Rattle.conn_table.specs.Slots.{slot_in}
 use Rattle.conn_table.specs.Table.{TableView, slot_of, fresh_slot, HasItsSize}
 use Rattle.machine_model.specs.SeenHall.{MayHave}

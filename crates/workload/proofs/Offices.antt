@@ -37,7 +37,7 @@ use Rattle.workload.proofs.Decided.{office_with, call_head_at, head_read, reply_
 
 -- heads are read back
 abbrev pub HeadsAreRead : Type 0
-HeadsAreRead = (p : Protocol) (it : Said) (more : List ℕ) → said.IsInRange p it → IsCall it.kind
+HeadsAreRead = (p : Protocol) (it : Said) (more : List ℕ) → said.FitsHead p it → IsCall it.kind
     → head_at p (head_text p it ++ more) ≡ Ok (record { name = it.name; kind = it.kind; id = it.id; behind = length (head_text p it) })
 
 -- and so are structs

@@ -7,7 +7,7 @@ use Rattle.host_loop.proofs.seating.serve_at.Goals as goal
 
 pub lead_crew-outcome-requires-clause-serving : goal.lead_crew-outcome-requires-clause-serving
 lead_crew-outcome-requires-clause-serving g c κs within =
-    serves_at_first c.args.host.now.limits c.requires.small (g.L.Links.state c.args.links.now) c.requires.fresh c.args.tools.conns c.requires.tools.table c.requires.tools.places c.requires.tools.causes c.requires.tools.owing
+    serves_at_first c.args.host.now.limits c.requires.small (g.L.Links.state c.args.links.now) c.requires.fresh c.args.tools.conns c.requires.tools.table c.requires.tools.stages c.requires.tools.causes c.requires.tools.owing
     (g.D.Desk.meaning c.args.host.now.desk.now) c.args.booth c.args.seating.first c.new.result c.requires.opened c.requires.seating.2.zeroth (c.new.ensures ∙ c.requires.seating.2.oneth)
 
 pub lead_crew-outcome-requires-clause-crew : goal.lead_crew-outcome-requires-clause-crew

@@ -6,21 +6,21 @@ use Rattle.host_loop.proofs.rounds.Serving+Hall+H+J.round.Goals as goal
 pub next-requires-clause-under_way : goal.next-requires-clause-under_way
 next-requires-clause-under_way g c κs within =
     some_goes_on _ _ _ _ _ _ _ _
-    (serves_alike _ _ _ _ _ _ _ _ c.in_ok-held.ensures.serving c.make_place.new.self c.make_place.ensures.table c.make_place.ensures.places c.make_place.ensures.causes c.make_place.ensures.owing)
+    (serves_alike _ _ _ _ _ _ _ _ c.in_ok-held.ensures.serving c.make_place.new.self c.make_place.ensures.table c.make_place.ensures.stages c.make_place.ensures.causes c.make_place.ensures.owing)
 
 pub follow-requires-clause-serving : goal.follow-requires-clause-serving
 follow-requires-clause-serving g c κs within =
     serves_on_all _ _ _ _ _ _ _ _
-    (serves_alike _ _ _ _ _ _ _ _ c.in_ok-held.ensures.serving c.make_place.new.self c.make_place.ensures.table c.make_place.ensures.places c.make_place.ensures.causes c.make_place.ensures.owing)
+    (serves_alike _ _ _ _ _ _ _ _ c.in_ok-held.ensures.serving c.make_place.new.self c.make_place.ensures.table c.make_place.ensures.stages c.make_place.ensures.causes c.make_place.ensures.owing)
     (g.L.Links.state c.next.new.links) c.next.new.self c.next.ensures.going c.next.ensures.budget
 
 pub returns-in_default-make_place-clause-halted : goal.returns-in_default-make_place-clause-halted
 returns-in_default-make_place-clause-halted g c =
     halts _ _ _ _ _ _ _ _
-    (serves_alike _ _ _ _ _ _ _ _ c.in_ok-held.ensures.serving c.make_place.new.self c.make_place.ensures.table c.make_place.ensures.places c.make_place.ensures.causes c.make_place.ensures.owing) NoMemory tt
+    (serves_alike _ _ _ _ _ _ _ _ c.in_ok-held.ensures.serving c.make_place.new.self c.make_place.ensures.table c.make_place.ensures.stages c.make_place.ensures.causes c.make_place.ensures.owing) NoMemory tt
 
 pub returns-in-Err-clause-halted : goal.returns-in-Err-clause-halted
 returns-in-Err-clause-halted g c =
     fails_on _ _ _ _ _ _ _ _
-    (serves_alike _ _ _ _ _ _ _ _ c.in_ok-held.ensures.serving c.make_place.new.self c.make_place.ensures.table c.make_place.ensures.places c.make_place.ensures.causes c.make_place.ensures.owing)
+    (serves_alike _ _ _ _ _ _ _ _ c.in_ok-held.ensures.serving c.make_place.new.self c.make_place.ensures.table c.make_place.ensures.stages c.make_place.ensures.causes c.make_place.ensures.owing)
     (g.L.Links.state c.next.new.links) c.next.new.self c.next.ensures.going c.next.ensures.budget (c.next.ensures.failed (subst IsErr (sym c.in-Err.is) refl))
