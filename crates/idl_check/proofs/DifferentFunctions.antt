@@ -20,7 +20,7 @@ use Rattle.check_model.specs.SchemaParts.{DefaultRule, AreFunctionsOf, AreServic
 use Rattle.check_model.proofs.Resolving.{from_at}
 use Rattle.check_model.proofs.Shown.{both_all, mapped, weaker}
 use Rattle.idl_check.specs.Clean.{IsClean}
-use Rattle.idl_check.specs.Declared.{IsProgramOfTexts}
+use Rattle.idl_check.specs.DeclaredTexts.{IsProgramOfTexts}
 use Rattle.idl_check.proofs.Clear.{AreClearFunctions}
 use Rattle.idl_check.proofs.Fine.{IsFineService, services_fine}
 use Rattle.idl_check.proofs.NoLoop.{edge}

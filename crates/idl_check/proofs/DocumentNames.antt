@@ -11,7 +11,7 @@ use Rattle.idl_parser.specs.declared.tree.Document.{Document}
 use Rattle.idl_parser.specs.Phrases.{Node}
 use Rattle.idl_parser.specs.Trees.{row, maybe_node, field_node, fields_node, function_node, const_node, typedef_node, enum_value_node, enum_node, struct_node, service_node, definition_node, definitions_node, document_node}
 use Rattle.idl_include.specs.DeclaredIn.{field_in, throws_in, function_in, enum_value_in, definition_in, definitions_in}
-use Rattle.idl_check.specs.Declared.{IsFieldNamed, IsFunctionNamed, IsValueNamed, IsNamed, function_count, item_count}
+use Rattle.idl_check.specs.DeclaredTexts.{IsFieldNamed, IsFunctionNamed, IsValueNamed, IsNamed, function_count, item_count}
 use Rattle.idl_check.proofs.Leaves.{HasTexts, leaves}
 
 -- what holds of the trees of a row holds of what they are read as

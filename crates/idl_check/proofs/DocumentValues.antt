@@ -17,7 +17,7 @@ use Rattle.idl_parser.specs.Trees.{row, pair_row, both_nodes, maybe_node, value_
 use Rattle.idl_include.specs.ConstExpr.{ConstExpr}
 use Rattle.idl_include.specs.DeclaredIn.{items_in, entries_in, const_level, value_in, field_in, throws_in, function_in, definition_in, definitions_in}
 use Rattle.idl_const.specs.ShortLiterals.{HasShortLiterals, HaveItemsShortLiterals, HaveEntriesShortLiterals}
-use Rattle.idl_check.specs.Declared.{HasShortDefault, HasShortDefaults, HasShortValues}
+use Rattle.idl_check.specs.DeclaredTexts.{HasShortDefault, HasShortDefaults, HasShortValues}
 use Rattle.idl_check.proofs.Leaves.{HasTexts}
 use Rattle.idl_check.proofs.DocumentNames.{row_names}
 

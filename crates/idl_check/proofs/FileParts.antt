@@ -24,7 +24,7 @@ use Rattle.check_model.specs.SchemaParts.{IsAliasOf, IsStructFrom, AreServicesOf
 use Rattle.check_model.proofs.FirstOnes.{somes, none_some}
 use Rattle.check_model.proofs.Shown.{back_all}
 use Rattle.idl_check.specs.Clean.{IsClean}
-use Rattle.idl_check.specs.Declared.{IsFileOfText, IsProgramOfTexts}
+use Rattle.idl_check.specs.DeclaredTexts.{IsFileOfText, IsProgramOfTexts}
 use Rattle.idl_check.proofs.Placed.{DeclRule, DeclsIn, FilesIn, files_both, IsFound, program_found, constants_are, typedefs_are, enums_are, structs_are, services_are}
 use Rattle.idl_check.proofs.Clear.{IsSpotClear, name_new}
 use Rattle.idl_check.proofs.Fine.{IsFine, all_fine}

@@ -13,7 +13,7 @@ use Rattle.check_model.specs.FieldLists.{FieldsDecl, fields_of_struct, args_of_f
 use Rattle.check_model.proofs.Shown.{back_all, both_all, mapped, weaker, AllFrom}
 use Rattle.check_model.proofs.Resolving.{zip_all}
 use Rattle.idl_check.specs.Clean.{IsClean}
-use Rattle.idl_check.specs.Declared.{IsFieldNamed, IsFunctionNamed, IsValueNamed, IsNamed, HasShortDefault, HasShortDefaults, HasShortValues, IsFileOfText, IsProgramOfTexts}
+use Rattle.idl_check.specs.DeclaredTexts.{IsFieldNamed, IsFunctionNamed, IsValueNamed, IsNamed, HasShortDefault, HasShortDefaults, HasShortValues, IsFileOfText, IsProgramOfTexts}
 use Rattle.idl_const.specs.ShortLiterals.{HasShortLiterals}
 use Rattle.idl_check.proofs.RisingFields.{AreFresh}
 use Rattle.idl_check.proofs.SchemaNames.{schema_name}

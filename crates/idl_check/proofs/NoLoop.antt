@@ -15,7 +15,7 @@ use Rattle.check_model.specs.SchemaParts.{DefaultRule, AreServicesOf, IsSchemaWi
 use Rattle.check_model.proofs.FirstOnes.{somes, none_some}
 use Rattle.check_model.proofs.Resolving.{from_at}
 use Rattle.idl_check.specs.Clean.{IsClean}
-use Rattle.idl_check.specs.Declared.{IsProgramOfTexts}
+use Rattle.idl_check.specs.DeclaredTexts.{IsProgramOfTexts}
 use Rattle.idl_check.proofs.FileParts.{at_mapped}
 use Rattle.idl_check.proofs.Fine.{IsFineService, services_fine}
 

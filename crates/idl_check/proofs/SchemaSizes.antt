@@ -11,7 +11,7 @@ use Rattle.schema.specs.Sound.{IsKindIn, HasShortLists}
 use Rattle.check_model.specs.FieldLists.{fields_of_struct, args_of_function, field_lists}
 use Rattle.check_model.specs.Resolved.{TypeMeans}
 use Rattle.check_model.specs.SchemaParts.{DefaultRule, IsAliasOf, IsStructFrom, AreServicesOf, IsSchemaWith, enum_made, files_behind, files_of}
-use Rattle.idl_check.specs.Declared.{IsProgramOfTexts}
+use Rattle.idl_check.specs.DeclaredTexts.{IsProgramOfTexts}
 use Rattle.idl_check.proofs.TypeKinds.{meaning_in}
 use Rattle.idl_check.proofs.Sizes.{same_length, few_typedefs, few_enums, few_services, few_lists}
 

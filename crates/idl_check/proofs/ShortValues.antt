@@ -12,7 +12,7 @@ use Rattle.idl_include.specs.Spots.{GivenValue, Spotted, given_name, type_use, p
 use Rattle.check_model.proofs.FirstOnes.{somes, none_some}
 use Rattle.check_model.proofs.Shown.{both_all, mapped}
 use Rattle.idl_const.specs.ShortLiterals.{HasShortLiterals, GivesShortLiterals}
-use Rattle.idl_check.specs.Declared.{HasShortDefault, HasShortDefaults, HasShortValues, IsFileOfText, IsProgramOfTexts}
+use Rattle.idl_check.specs.DeclaredTexts.{HasShortDefault, HasShortDefaults, HasShortValues, IsFileOfText, IsProgramOfTexts}
 
 -- a spot that shows a value shows one with short literals
 abbrev IsShortSpot : Spotted → Type 0

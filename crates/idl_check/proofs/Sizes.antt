@@ -4,7 +4,7 @@ use Rattle.std.specs.List.{AllByRecursion, filter_map, cons_option, flat_map}
 use Rattle.idl_include.specs.Declarations.{FunctionDecl, ServiceDecl, Declaration, of_const, of_typedef, of_enum, of_struct_decl, of_service}
 use Rattle.idl_include.specs.Program.{Program}
 use Rattle.idl_include.specs.Numbering.{Filed, filed, picked_from, const_in, typedef_in, enum_in, struct_in, service_in, constants_of, typedefs_of, enums_of, structs_of, services_of, functions_in, all_functions}
-use Rattle.idl_check.specs.Declared.{item_count, IsFileOfText, IsProgramOfTexts}
+use Rattle.idl_check.specs.DeclaredTexts.{item_count, IsFileOfText, IsProgramOfTexts}
 
 pub same_length : {A B : Type 0} (f : A → B) (xs : List A) → length (map f xs) ≡ length xs
 same_length f [] = refl

@@ -17,7 +17,7 @@ use Rattle.check_model.specs.Resolved.{TypeMeans}
 use Rattle.check_model.specs.SchemaParts.{DefaultRule, IsAliasOf, IsFieldOf, AreFieldsOf, IsStructFrom, IsSchemaWith, named_numbers, enum_made}
 use Rattle.check_model.proofs.Shown.{mapped, weaker}
 use Rattle.idl_check.specs.Clean.{IsClean}
-use Rattle.idl_check.specs.Declared.{HasShortDefault, IsProgramOfTexts}
+use Rattle.idl_check.specs.DeclaredTexts.{HasShortDefault, IsProgramOfTexts}
 use Rattle.idl_check.proofs.RisingFields.{by_id_holds, AreFresh, fields_rise, zip_rises}
 use Rattle.idl_check.proofs.SchemaSizes.{file_size, kind_in}
 use Rattle.idl_check.proofs.Fine.{IsFineField, IsFineValue, IsFineList, IsFineTypedef, IsFineEnum, typedefs_fine, enums_fine, lists_fine}

@@ -15,7 +15,7 @@ use Rattle.schema.specs.Sound.{IsSchemaName, IsKindIn, IsStructOf, IsException, 
 use Rattle.check_model.specs.FieldLists.{NumberedField, fields_by_id, fields_of_struct, args_of_function, field_lists}
 use Rattle.check_model.specs.SchemaParts.{DefaultRule, IsFieldOf, AreFieldsOf, IsStructFrom, ResultMeans, IsFunctionOf, AreFunctionsOf, IsServiceOf, AreServicesOf, IsSchemaWith}
 use Rattle.idl_check.specs.Clean.{IsClean}
-use Rattle.idl_check.specs.Declared.{IsProgramOfTexts}
+use Rattle.idl_check.specs.DeclaredTexts.{IsProgramOfTexts}
 use Rattle.idl_check.proofs.RisingFields.{by_id_holds}
 use Rattle.idl_check.proofs.TypeKinds.{parent_within}
 use Rattle.idl_check.proofs.Sizes.{same_length}

@@ -19,7 +19,7 @@ use Rattle.check_model.specs.SchemaParts.{DefaultRule, NoDefault, ref_behind, Is
 use Rattle.check_model.specs.ProgramSchema.{HasWorth, IsDefault, DefaultIn, IsConstantOf, IsSchemaOf}
 use Rattle.check_model.proofs.Resolving.{zip_all}
 use Rattle.idl_check.specs.Clean.{IsClean}
-use Rattle.idl_check.specs.Declared.{IsProgramOfTexts}
+use Rattle.idl_check.specs.DeclaredTexts.{IsProgramOfTexts}
 use Rattle.idl_const.specs.ShortLiterals.{HasShortLiterals, GivesShortLiterals}
 use Rattle.idl_check.proofs.Clear.{clean}
 use Rattle.idl_check.proofs.Sizes.{few_constants}

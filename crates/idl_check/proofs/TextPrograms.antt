@@ -18,7 +18,7 @@ use Rattle.idl_include.specs.Program.{base_of_file}
 use Rattle.idl_include.specs.SourcesOf.{file_in, program_in, IsOfSomeText, IsFile, HaveOwnBases, AreFiles}
 use Rattle.idl_include.specs.declared.sources.IdlFile.{IdlFile}
 use Rattle.check_model.proofs.Shown.{weaker, mapped}
-use Rattle.idl_check.specs.Declared.{AreOfText, IsFileOfText, IsProgramOfTexts}
+use Rattle.idl_check.specs.DeclaredTexts.{AreOfText, IsFileOfText, IsProgramOfTexts}
 use Rattle.idl_check.proofs.Leaves.{Kept, kept}
 use Rattle.idl_check.proofs.Grammar.{keeps_document}
 use Rattle.idl_check.proofs.TokenNames.{symbols_are_texts, few_tokens, few_symbols}

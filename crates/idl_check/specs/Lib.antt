@@ -3,7 +3,7 @@ pub mod Taking
 pub mod Sites
 pub mod Filling
 pub mod Identifiers
-pub mod Declared
+pub mod DeclaredTexts
 pub mod Clean
 pub mod Tutorial
 pub mod FaultKinds

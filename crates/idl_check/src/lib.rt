@@ -16,7 +16,7 @@
 //! place and a word for each kind. By [`refusal_laws`] each IDL has one verdict, and by [`sound_laws`] the schema of a program that is accepted is sound.
 //!
 //! In `specs/` stand, in reading order: names as documents give them (`Identifiers`); what a program's definitions owe to the texts of its files
-//! (`Declared`); on which passes a schema's soundness stands (`Clean`); the verdict on an IDL (`Verdicts`).
+//! (`DeclaredTexts`); on which passes a schema's soundness stands (`Clean`); the verdict on an IDL (`Verdicts`).
 #![tactic(auto)]
 
 mod checking;

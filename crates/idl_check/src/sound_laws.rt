@@ -14,7 +14,7 @@ ghost use Rattle.check_model.specs.Resolved.{TypeMeans};
 ghost use Rattle.check_model.specs.SchemaParts.{IsPartialSchema};
 ghost use Rattle.check_model.specs.FirstFlaw.{HasNoFlaw};
 ghost use Rattle.check_model.specs.ProgramSchema.{IsSchemaOf};
-ghost use Rattle.idl_check.specs.Declared.{AreOfText, IsProgramOfTexts};
+ghost use Rattle.idl_check.specs.DeclaredTexts.{AreOfText, IsProgramOfTexts};
 ghost use Rattle.idl_const.specs.ShortLiterals.{GivesShortLiterals};
 ghost use Rattle.idl_check.specs.Clean.{IsClean};
 
