@@ -7,7 +7,7 @@ use Rattle.thrift_value.proofs.ByteText.TheSendSync.{the_sync as text_sync}
 use Rattle.thrift_value.proofs.tag.Tag.TheSendSync.{the_field_sync as tag_sync}
 use Rattle.thrift_value.specs.contracts.value.Value as Value
 use Rattle.thrift_value.proofs.value.Value.TheLaws.TheKnot as values
-use Rattle.schema.proofs.list.Listed.TheSendSync.{the_sync as listed_sync}
+use Rattle.schema.proofs.Listed.TheSendSync.{the_sync as listed_sync}
 use Rattle.schema.proofs.types.EnumDesc.TheSendSync.{the_sync as enum_sync}
 use Rattle.schema.proofs.types.FieldNeed.TheSendSync.{the_field_sync as need_sync}
 use Rattle.schema.proofs.types.FieldsKind.TheSendSync.{the_field_sync as kind_sync}
