@@ -17,7 +17,7 @@ release_and_close-requires-clause-over g c κs within =
 
 pub release_and_close-requires-clause-size : goal.release_and_close-requires-clause-size
 release_and_close-requires-clause-size g c κs within =
-    subst (λ (o : Option ℕ). HasSizeBy (slice_index_or c.args.self.now.places.items c.args.c Gone) o)
+    subst (λ (o : Option ℕ). HasSizeBy (slice_index_or c.args.self.now.stages.items c.args.c Gone) o)
     (sym (state_size c.args.c _ c.args.self.now.table c.end.new.self c.requires.there c.end.ensures)) c.requires.size
 
 pub returns-clause-ended : goal.returns-clause-ended
