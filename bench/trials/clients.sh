@@ -2,7 +2,7 @@
 # Calls `thriftd serve` from unmodified Apache clients: clients.sh [THRIFTD]
 #
 # Python (python3-thrift) and C++ (libthrift-dev and g++), both with code that Apache's compiler (thrift-compiler) writes from the tutorial's IDL, in both
-# protocols, by plain and by multiplexed names, with no workers and with two. It installs nothing, and says what it leaves out because it isn't installed.
+# protocols, by plain names, by multiplexed ones and by both at one port, with no workers and with two. It installs nothing, and says what it leaves out because it isn't installed.
 # It ends with status 1 where an answer, an end or the journal isn't as it has to be.
 set -euo pipefail
 here=$(dirname "$(readlink -f "${BASH_SOURCE[0]}")")

@@ -149,17 +149,17 @@ bound_slot bindings (Some slot) bound e = there (slice_get bindings slot) refl e
         subst (λ n. n < length bindings) same (slice_get_within bindings slot b is)
 
 on_service : (office : PlainOffice) → IsSound office.schema → TakesPlainly office.schema → (payload : List ℕ) (head : Head) (o : Option Bound) (call : PlainCall)
-    → service_asked office.bindings head.name ≡ o → decided_on_service office payload head o ≡ makes call → IsDecidedCall office call
+    → service_asked office.default_slot office.bindings head.name ≡ o → decided_on_service office payload head o ≡ makes call → IsDecidedCall office call
 unfolding decided_on_service
 on_service office sound plainly payload head (Some bound) call found e =
     on_function office sound plainly payload head bound (function_asked office bound head.name) call
-    (bound_slot office.bindings (slot_asked office.bindings (service_part head.name)) bound found) refl e
+    (bound_slot office.bindings (slot_asked office.default_slot office.bindings (service_part head.name)) bound found) refl e
 on_service office sound plainly payload head None call found e = absurd (refused_no_call _ _ _ _ call e)
 
 on_head : (office : PlainOffice) → IsSound office.schema → TakesPlainly office.schema → (payload : List ℕ) (r : Result Head EnvelopeFault) (call : PlainCall)
     → decided_on_head office payload r ≡ makes call → IsDecidedCall office call
 unfolding decided_on_head
-on_head office sound plainly payload (Ok head) call e = on_service office sound plainly payload head (service_asked office.bindings head.name) call refl e
+on_head office sound plainly payload (Ok head) call e = on_service office sound plainly payload head (service_asked office.default_slot office.bindings head.name) call refl e
 on_head office sound plainly payload (Err fault) call e = absurd cc
 
 -- a call that is decided

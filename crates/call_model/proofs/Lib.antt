@@ -9,3 +9,4 @@ mod Replied
 pub mod SoundAgain
 pub mod AsDesk
 pub mod SoundExample
+pub mod ReadBack

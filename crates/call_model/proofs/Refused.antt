@@ -122,7 +122,7 @@ on_service office sound payload head None reply named e =
 on_head : (office : PlainOffice) → IsSound office.schema → (payload : List ℕ) (r : Result Head EnvelopeFault) (reply : List ℕ)
     → ((head : Head) → r ≡ Ok head → length head.name ≤ longest_payload) → decided_on_head office payload r ≡ replied reply → IsWholeFrame reply
 unfolding decided_on_head
-on_head office sound payload (Ok head) reply named e = on_service office sound payload head (service_asked office.bindings head.name) reply (named head refl) e
+on_head office sound payload (Ok head) reply named e = on_service office sound payload head (service_asked office.default_slot office.bindings head.name) reply (named head refl) e
 on_head office sound payload (Err fault) reply named e = absurd cc
 
 -- a reply to a payload that isn't too long

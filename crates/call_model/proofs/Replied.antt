@@ -73,7 +73,7 @@ on_service office most payload head named answer None is =
 on_head : (office : PlainOffice) → office.max_frame ≤ longest_payload → (payload : List ℕ) (answer : PlainAnswer) (r : Result Head EnvelopeFault)
     → ((head : Head) → r ≡ Ok head → length head.name ≤ longest_payload) → IsAnsweredCall (decided_on_head office payload r) → IsWholeFrame (reply_to_head office answer r)
 unfolding decided_on_head reply_to_head
-on_head office most payload answer (Ok head) named is = on_service office most payload head (named head refl) answer (service_asked office.bindings head.name) is
+on_head office most payload answer (Ok head) named is = on_service office most payload head (named head refl) answer (service_asked office.default_slot office.bindings head.name) is
 on_head office most payload answer (Err fault) named is = absurd is
 
 -- a reply to a payload that isn't too long

@@ -160,6 +160,7 @@ sound_again office t =
       few = one (hlevel props) (part (λ a. a.few) t);
       names = one (hlevel props) (part (λ a. a.names) t);
       services = one (hlevel props) (part (λ a. a.services) t);
+      default_slot = one (hlevel props) (part (λ a. a.default_slot) t);
       least = one (hlevel props) (part (λ a. a.least) t);
       most = one (hlevel props) (part (λ a. a.most) t);
     }

@@ -18,6 +18,7 @@ example_office_sound protocol = record {
   few = omega arith;
   names = λ i j d low within. absurd (omega arith);
   services = All-cons IsServed (codes "V", 0) [] (omega arith) (All-nil IsServed);
+  default_slot = λ slot is. absurd cc;
   least = omega arith;
   most = omega arith;
 }

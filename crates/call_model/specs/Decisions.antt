@@ -53,7 +53,7 @@ decided_on_service office payload head None = refused office.protocol head (is_s
 
 -- the decision where this is the head
 unfoldable pub decided_on_head : PlainOffice → List ℕ → Result Head EnvelopeFault → DeskDecision PlainCall
-decided_on_head office payload (Ok head) = decided_on_service office payload head (service_asked office.bindings head.name)
+decided_on_head office payload (Ok head) = decided_on_service office payload head (service_asked office.default_slot office.bindings head.name)
 decided_on_head office payload (Err fault) = Close fault
 
 -- the decision on a payload

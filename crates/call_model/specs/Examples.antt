@@ -148,7 +148,8 @@ mixed_schema = record {
 
 -- one service under a name
 abbrev pub serves_one : PlainSchema → List ℕ → ℕ → Protocol → ℕ → PlainOffice
-serves_one s name service protocol max_frame = record { schema = s; bindings = (name, service) ∷ []; protocol = protocol; max_frame = max_frame }
+serves_one s name service protocol max_frame =
+    record { schema = s; bindings = (name, service) ∷ []; default_slot = None; protocol = protocol; max_frame = max_frame }
 
 -- the tutorial's calculator alone
 abbrev pub calculator_office : Protocol → PlainOffice
@@ -159,9 +160,14 @@ abbrev pub two_services : PlainOffice
 two_services = record {
   schema = tutorial_schema;
   bindings = (codes "Calculator", 0) ∷ (codes "shared.SharedService", 1) ∷ [];
+  default_slot = None;
   protocol = Binary;
   max_frame = longest_payload;
 }
+
+-- the same, with the service at a slot as the default
+abbrev pub two_by_default : ℕ → PlainOffice
+two_by_default slot = record two_services { default_slot = Some slot }
 
 -- the service that gives back its argument, with replies of at most so many bytes
 abbrev pub echo_within : ℕ → PlainOffice

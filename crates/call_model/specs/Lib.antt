@@ -5,4 +5,5 @@ pub mod Arguments
 pub mod Decisions
 pub mod Replies
 pub mod Desk
+pub mod FailureValues
 pub mod Examples

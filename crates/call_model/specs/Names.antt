@@ -37,11 +37,16 @@ abbrev pub only_slot : List Binding → Option ℕ
 only_slot (b ∷ []) = Some 0
 only_slot _ = None
 
--- the slot of the service that is asked for. Own choice: a name without a service asks for the only one that is bound, and where there
--- are several for none
-abbrev pub slot_asked : List Binding → Option (List ℕ) → Option ℕ
-slot_asked bindings (Some name) = position (has_bound_name name) bindings
-slot_asked bindings None = only_slot bindings
+-- the slot that a name without a service asks for: that of the default service (TMultiplexedProcessor: registerDefault). Own choice: without
+-- a default it asks for the only service that is bound, and where there are several for none
+abbrev pub slot_by_default : Option ℕ → List Binding → Option ℕ
+slot_by_default (Some slot) bindings = Some slot
+slot_by_default None bindings = only_slot bindings
+
+-- the slot of the service that is asked for
+abbrev pub slot_asked : Option ℕ → List Binding → Option (List ℕ) → Option ℕ
+slot_asked default_slot bindings (Some name) = position (has_bound_name name) bindings
+slot_asked default_slot bindings None = slot_by_default default_slot bindings
 
 -- a slot and the number of its service
 pub record Bound : Type 0 where
@@ -53,8 +58,8 @@ abbrev pub bound_at : List Binding → ℕ → Option Bound
 bound_at bindings slot = option_map (λ (b : Binding). record { slot = slot; service = b.1 }) (slice_get bindings slot)
 
 -- the service that a message's name asks for
-abbrev pub service_asked : List Binding → List ℕ → Option Bound
-service_asked bindings name = option_and_then (bound_at bindings) (slot_asked bindings (service_part name))
+abbrev pub service_asked : Option ℕ → List Binding → List ℕ → Option Bound
+service_asked default_slot bindings name = option_and_then (bound_at bindings) (slot_asked default_slot bindings (service_part name))
 
 -- the function that a message's name asks for of a service, inherited ones included
 abbrev pub function_asked : PlainOffice → Bound → List ℕ → Option PlainFunction

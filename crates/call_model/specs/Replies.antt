@@ -95,7 +95,7 @@ reply_of_service office head answer None = []
 
 -- the frame for an answer to a payload with this head
 unfoldable pub reply_to_head : PlainOffice → PlainAnswer → Result Head EnvelopeFault → List ℕ
-reply_to_head office answer (Ok head) = reply_of_service office head answer (service_asked office.bindings head.name)
+reply_to_head office answer (Ok head) = reply_of_service office head answer (service_asked office.default_slot office.bindings head.name)
 reply_to_head office answer (Err fault) = []
 
 -- the frame that goes back for a payload whose call had this answer

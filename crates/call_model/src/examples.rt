@@ -13,7 +13,7 @@ ghost use Rattle.call_model.specs.Offices.{IsSoundOffice};
 ghost use Rattle.call_model.specs.Names.{service_part, method_part};
 ghost use Rattle.call_model.specs.Decisions.{decision};
 ghost use Rattle.call_model.specs.Replies.{reply_of};
-ghost use Rattle.call_model.specs.Examples.{calculator_office, two_services, needy_office, echo_within, mixed_office, example_office, shared_office, short_head, sent_call, sent_number, sent_two, sent_lists, nested, nested_sent, exception_sent, compact_exception_sent, reply_sent};
+ghost use Rattle.call_model.specs.Examples.{calculator_office, two_services, two_by_default, needy_office, echo_within, mixed_office, example_office, shared_office, short_head, sent_call, sent_number, sent_two, sent_lists, nested, nested_sent, exception_sent, compact_exception_sent, reply_sent};
 
 /// How a message's name is cut.
 pub fn names_are_cut()
@@ -110,6 +110,20 @@ pub fn one_service_is_named()
     ensures no_method { decision (calculator_office Binary) (sent_call (codes "Calculator:") 1 (sent_two 1 1))
         ≡ desk.Reply (exception_sent 50 [] 1 (codes "Invalid method name: ''") 1) }
     ensures silent { decision two_services (short_head 4 (codes "Nobody:add") 1 ++ sent_two 1 1) ≡ desk.Silent }
+{}
+
+/// A name without a service asks for the default service, and a name with one doesn't.
+pub fn a_default_is_asked()
+    ensures first { decision (two_by_default 0) (sent_call (codes "add") 1 (sent_two 1 1))
+        ≡ desk.Invoke (record { slot = 0; method = codes "add"; args = two_numbers_passed (pos 1) (pos 1); silent = false }) }
+    ensures reply { reply_of (two_by_default 0) (sent_call (codes "add") 1 (sent_two 1 1)) (success (of_i32 (pos 2)))
+        ≡ reply_sent 23 (codes "add") 1 (sent_number 0 2 ++ 0 ∷ []) }
+    ensures second { decision (two_by_default 1) (sent_call (codes "add") 1 (sent_two 1 1))
+        ≡ desk.Reply (exception_sent 56 (codes "add") 1 (codes "Invalid method name: 'add'") 1) }
+    ensures another { decision (two_by_default 1) (sent_call (codes "Calculator:add") 1 (sent_two 1 1))
+        ≡ desk.Invoke (record { slot = 0; method = codes "add"; args = two_numbers_passed (pos 1) (pos 1); silent = false }) }
+    ensures unknown { decision (two_by_default 0) (sent_call (codes "Nobody:add") 1 (sent_two 1 1))
+        ≡ desk.Reply (exception_sent 60 (codes "add") 1 (codes "Service name not found: Nobody") 1) }
 {}
 
 /// What is told of arguments at fault.

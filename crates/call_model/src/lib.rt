@@ -2,9 +2,9 @@
 //! decision on a message, and the reply to a call. It is for crates that decide and reply; nothing runs.
 //!
 //! The files of `specs/`, in reading order: what is served (`Offices`); which function a message's name asks for (`Names`); why
-//! there is no call, or no result, as callers are told (`Failures`); the arguments of a call (`Arguments`); the decision on a
-//! payload, in the order of its content (`Decisions`); the reply to a call, by its answer (`Replies`); both as what a desk means
-//! (`Desk`); and what is served and sent in the worked examples (`Examples`).
+//! there is no call, or no result, as callers are told (`Failures`), and that as a value (`FailureValues`); the arguments of a
+//! call (`Arguments`); the decision on a payload, in the order of its content (`Decisions`); the reply to a call, by its answer
+//! (`Replies`); both as what a desk means (`Desk`); and what is served and sent in the worked examples (`Examples`).
 //!
 //! A crate that decides says in its contract that it decides just this, and gets the rest from the laws:
 //!
@@ -19,6 +19,8 @@
 #![tactic(auto)]
 
 pub mod examples;
+mod failure_laws;
 mod laws;
 
+pub use failure_laws::{failures_are_read, failures_are_written};
 pub use laws::{an_office_is_a_desk, calls_are_plain, refusals_are_framed, replies_are_framed};

@@ -1,5 +1,5 @@
 -- What a rehearsal in memory has come to: where all lines were done, where it stopped, and where it wasn't begun.
-use Rattle.std.proofs.Common.{◌≡◌, ◌≢◌, ℕ, ◌≤◌, Option, Some, List, [], length, slice_get, refl, sym, ap, ◌∙◌, subst, arith}
+use Rattle.std.proofs.Common.{◌≡◌, ◌≢◌, ℕ, ◌<◌, ◌≤◌, ◌^◌, Option, Some, List, [], length, slice_get, refl, sym, ap, ◌∙◌, subst, arith}
 use Rattle.outside.specs.Cause.{Rose}
 use Rattle.outside.specs.declared.marks.Mark.{Mark}
 use Rattle.host_model.specs.declared.cause.EndCause.{EndCause}
@@ -7,8 +7,9 @@ use Rattle.host_model.specs.declared.cause.EndCause.TheVariants.{Stopped, NoMemo
 use Rattle.call_rules.specs.Entries.{CallEntry}
 use Rattle.call_rules.specs.Handling.{handler_rules}
 use Rattle.machine_model.specs.Loop.{Loop}
-use Rattle.machine_model.specs.Machine.{MachineEvent, EventsLead, IsFirst, HaveAllEnded}
+use Rattle.machine_model.specs.Machine.{EventsLead, IsFirst, HaveAllEnded}
 use Rattle.machine_model.specs.SeenHall.{MayHave}
+use Rattle.machine_model.proofs.Budgeting.{first_within}
 use Rattle.script_model.specs.ScriptLines.{ScriptPlan}
 use Rattle.script_model.specs.Playing.{MemoryAt, always_ample}
 use Rattle.script_model.specs.Rehearsing.{IsRehearsalOf}
@@ -17,7 +18,8 @@ use Rattle.script_text.specs.Sound.{IsSoundPlan}
 use Rattle.hall_core.specs.Meant.{ServedHall, opened_hall}
 use Rattle.cell_loop.specs.declared.loop_part.LoopPart.{LoopPart}
 use Rattle.cell_loop.specs.LoopTied.{IsLoopTied}
-use Rattle.cell_loop.specs.LoopMoves.{AreAllOver, IsEndedLoop, IsLoopUnderWay}
+use Rattle.cell_loop.specs.LoopMoves.{AreAllOver, IsEndedLoop, IsLoopUnderWay, StopsAll}
+use Rattle.cell_loop.specs.Stops.{stops_of}
 use Rattle.cell_core.specs.declared.stop.RunStop.{RunStop}
 use Rattle.cell_core.specs.declared.stop.RunStop.TheVariants.{JournalFault, NoMemory}
 use Rattle.cell_core.specs.declared.worker.Holding.{Holding}
@@ -26,33 +28,44 @@ use Rattle.cell_loop.specs.Moving.{GoesTo, memory_of, all_lines}
 use Rattle.cell_core.specs.Parts.{Parts}
 use Rattle.cell_core.specs.Machines.{ArePlayed, AreUnderWay, IsOfDesk, HasFailed, HasCrew, StopsBy, StopsMachine, ComesThrough}
 use Rattle.cell_core.specs.Rehearsed.{SeenRun, ShowsRun, IsSeenRun, IsSeenRehearsal, IsOpenedPart, AreFirstWorkers, LeadsToEnd}
-use Rattle.cell_core.proofs.Opened.{first_cell, first_is, first_play, first_played, first_under_way, stands_over, seen_at, seen_led, services_same, is_rehearsal}
+use Rattle.cell_core.proofs.Opened.{first_cell, first_is, first_play, first_played, first_under_way, stands_over, seen_at, seen_led, services_same, services_after, is_rehearsal}
+use Rattle.cell_core.proofs.Givens.{rose_as}
 use Rattle.call_rules.specs.Desks.{longest_payload}
 
 -- a run that wasn't begun
-pub nothing_seen : (s : CellSetting) (told : Option (List CallEntry)) (run : SeenRun) → MayHave told [] → run.tape ≡ [] → run.causes ≡ [] → run.told ≡ told → run.services ≡ s.opening
-    → IsSeenRun s run
-nothing_seen s told run empty tape causes told_is services =
-    seen_at s (first_cell (opened_hall s.opening told 0)) run
+pub nothing_seen : (s : CellSetting) (told : Option (List CallEntry)) (run : SeenRun) → s.desk.max_frame ≤ longest_payload → MayHave told [] → run.tape ≡ [] → run.causes ≡ []
+    → run.told ≡ told → run.services ≡ s.opening → IsSeenRun s run
+nothing_seen s told run max empty tape causes told_is services =
+    let small : s.desk.max_frame < 2 ^ 31 = omega arith in
+    seen_at s (first_cell (opened_hall s.opening told 0)) run max
     (record { first = first_cell (opened_hall s.opening told 0); events = []; is_first = first_is s.opening told 0; lead = refl })
+    (first_within s.desk.max_frame small s.budget s.opening (first_cell (opened_hall s.opening told 0)) (first_is s.opening told 0))
+    (λ c below caused. absurd (let k : ⊥ = omega arith in k))
     (record {
       tape = sym tape;
       ended = record { count = ap length causes; each = λ c below. absurd (let k : ⊥ = omega arith in k) };
       told = subst (λ t. MayHave t []) (sym told_is) empty;
       services = sym services;
     })
+    (λ none. services)
 
 -- what a stop of all connections leads to
 pub led_to_end : (s : CellSetting) (cell : ServedCell) (part : LoopPart) (tape : List Mark) (ends : List EndCause) → tape ≡ part.tape.items → ((causes : List EndCause) → AreAllOver part causes → ends ≡ causes)
-    → (loop : Loop) × (events : List MachineEvent) × EventsLead (desk_of_setting s) handler_rules cell events (record cell { loop = loop }) × IsEndedLoop part loop → LeadsToEnd s cell tape ends
+    → (loop : Loop) × EventsLead (desk_of_setting s) handler_rules cell (stops_of cell.loop) (record cell { loop = loop }) × IsEndedLoop part loop → LeadsToEnd s cell tape ends
 led_to_end s cell part tape ends tape_is ends_are led =
     record {
       loop = led.0;
-      events = led.1;
-      lead = led.2;
-      same_tape = led.3.tape ∙ sym tape_is;
-      ended = subst (HaveAllEnded led.0) (sym (ends_are led.3.causes led.3.over)) led.3.ended;
+      lead = led.1;
+      same_tape = led.2.tape ∙ sym tape_is;
+      ended = subst (HaveAllEnded led.0) (sym (ends_are led.2.causes led.2.over)) led.2.ended;
     }
+
+-- as many causes are told as connections were opened
+pub told_count : (old new : LoopPart) (ends : List EndCause) → IsLoopUnderWay old → StopsAll old new → ((causes : List EndCause) → AreAllOver new causes → ends ≡ causes)
+    → length ends ≡ length new.stages.items
+told_count old new ends under_way stops ends_are =
+    let end : IsEndedLoop new _ = (stops under_way.setting under_way.play.cell under_way.play under_way.tied refl).2 in
+    ap length (ends_are end.causes end.over) ∙ end.over.count
 
 module _ (s : CellSetting) (script : ScriptPlan) (part : LoopPart) (workers : List Holding) (told : Option (List CallEntry)) (count : ℕ) (sound : IsSoundPlan script)
     (opened : IsOpenedPart s.budget script part) (first_workers : AreFirstWorkers s.workers workers) (empty : MayHave told []) (max : s.desk.max_frame ≤ longest_payload)
@@ -118,7 +131,7 @@ module _ (s : CellSetting) (script : ScriptPlan) (part : LoopPart) (workers : Li
         }
 
     pub done_seen : IsSeenRun s run
-    done_seen = seen_at s last.0.cell run last.2.reached.run looks
+    done_seen = seen_at s last.0.cell run max last.2.reached.run last.2.reached.kept last.2.reached.none_left looks (λ none. services ∙ services_after s new last.0 last.2)
 
     pub done_counted : length run.causes ≡ length new.part.stages.items
     done_counted = ap length ends_are ∙ all_over.count
@@ -168,17 +181,19 @@ module _ (s : CellSetting) (script : ScriptPlan) (part : LoopPart) (workers : Li
             record { setting = s; play = f.play; tied = f.tied; room = stops.kept.room }
 
     pub stop_seen : (run : SeenRun) → ((s : CellSetting) (cell : ServedCell) (play : ServedPlay) → IsLoopTied s new.part play → cell.loop ≡ play.cell.loop → LeadsToEnd s cell run.tape run.causes)
-        → run.services ≡ new.hall.memories → run.told ≡ new.hall.told → IsSeenRun s run
-    stop_seen run leads services told_is = go stop stops.by
+        → run.services ≡ new.hall.memories → run.told ≡ new.hall.told → run.faults_before ≡ hall.faults → run.faults ≡ new.hall.faults → IsSeenRun s run
+    stop_seen run leads services told_is before later = go stop stops.by
       where
         go : (stop : RunStop) → StopsBy (HasCrew s.desk (length workers)) begun new stop → IsSeenRun s run
         go NoMemory by =
             let now : (now : ServedPlay) × ArePlayed s new now = by s begun_play begun_crew begun_played in
-            seen_led s now.0.cell run now.1.reached.run (leads s now.0.cell now.0 now.1.loop_tied refl)
+            seen_led s now.0.cell run max now.1.reached.run now.1.reached.kept now.1.reached.none_left (leads s now.0.cell now.0 now.1.loop_tied refl)
             (subst (λ t. MayHave t now.0.cell.hall.journal) (sym told_is) now.1.hall_tied.told) (services_same s new now.0 now.1 ∙ sym services)
+            (λ none. services ∙ services_after s new now.0 now.1)
         go JournalFault by =
             let f : HasFailed s begun new = by s begun_play begun_crew begun_played in
-            seen_led s f.cell run f.run (leads s f.cell f.play f.tied f.same) (subst (λ t. MayHave t f.cell.hall.journal) (sym told_is) f.torn.told) (f.torn.memories ∙ sym services)
+            seen_led s f.cell run max f.run f.kept f.none_left (leads s f.cell f.play f.tied f.same) (subst (λ t. MayHave t f.cell.hall.journal) (sym told_is) f.torn.told) (f.torn.memories ∙ sym services)
+            (λ none. absurd (none (rose_as run.faults_before hall.faults run.faults new.hall.faults before later f.torn.rose)))
 
     pub stop_rose : stop ≡ JournalFault → Rose hall.faults new.hall.faults
     stop_rose e =

@@ -30,11 +30,11 @@ use Rattle.cell_core.proofs.Outcomes.{stands_asked, collected_from, reply_some, 
 
 -- a move of a connection comes from a play that is reached to one that is
 abbrev pub ConnReaches : Type 0
-ConnReaches = (s : CellSetting) (x : ℕ) (one other : ServedPlay) → IsReached s one.cell → ComesTo (one_of_conn s x) one other → IsReachedFrom s one.cell other.cell
+ConnReaches = (s : CellSetting) (x : ℕ) (one other : ServedPlay) → IsReached s one → ComesTo (one_of_conn s x) one other → IsReachedFrom s one other
 
 -- so does a collect
 abbrev pub OutcomeReaches : Type 0
-OutcomeReaches = (s : CellSetting) (one other : ServedPlay) → IsReached s one.cell → ComesTo (one_of_outcome s) one other → IsReachedFrom s one.cell other.cell
+OutcomeReaches = (s : CellSetting) (one other : ServedPlay) → IsReached s one → ComesTo (one_of_outcome s) one other → IsReachedFrom s one other
 
 -- the loop's part of a machine is between two moves
 pub loop_under_way : (m : Parts) → SomeMachine m → IsLoopUnderWay m.part
@@ -42,7 +42,7 @@ loop_under_way m now = record { setting = now.0; play = now.1.play; tied = now.1
 
 -- a machine that is tied to a play whose hall and workers are these
 pub played_so : (s : CellSetting) (part : LoopPart) (hall : ServedHall) (workers : List Holding) (next : ServedPlay) (states : ℕ → PlainWorker) (now : HallInCell) → IsLoopTied s part next
-    → next.cell.workers ≡ states → next.cell.hall ≡ now → IsHallTied hall now → AreWorkersTied s.desk workers states → IsReached s next.cell
+    → next.cell.workers ≡ states → next.cell.hall ≡ now → IsHallTied hall now → AreWorkersTied s.desk workers states → IsReached s next
     → ArePlayed s (record { part = part; hall = hall; workers = workers }) next
 played_so s part hall workers next states now loop workers_are hall_is hall_tied workers_tied reached =
     record {

@@ -9,7 +9,7 @@ use Rattle.cell_loop.specs.Settings.{CellSetting}
 use Rattle.cell_loop.specs.Moving.{all_lines}
 use Rattle.cell_core.specs.Parts.{Parts}
 use Rattle.cell_core.specs.Machines.{IsLineFor, HasCrew, ComesThrough}
-use Rattle.cell_core.specs.Rehearsed.{AreWritten}
+use Rattle.cell_core.specs.Rehearsed.{AreWritten, AreWrittenOrNone}
 use Rattle.call_rules.specs.Desks.{longest_payload}
 
 -- the longest payload is no longer than payloads may be, and the budget has room for it
@@ -37,6 +37,11 @@ plan_through s count old new lines plan is through = subst (λ (ls : List PlanLi
 pub written_as : (count other : ℕ) (tape same : List Mark) (outs : List (List ℕ)) → count ≡ other → tape ≡ same → AreWritten other same outs → AreWritten count tape outs
 written_as count other tape same outs counted is written =
     subst (λ (n : ℕ). AreWritten n tape outs) (sym counted) (subst (λ (t : List Mark). AreWritten other t outs) (sym is) written)
+
+-- so is what was written or is left out
+pub or_none_as : (count other : ℕ) (tape same : List Mark) (outs : List (List ℕ)) → count ≡ other → tape ≡ same → AreWrittenOrNone other same outs → AreWrittenOrNone count tape outs
+or_none_as count other tape same outs counted is written =
+    subst (λ (n : ℕ). AreWrittenOrNone n tape outs) (sym counted) (subst (λ (t : List Mark). AreWrittenOrNone other t outs) (sym is) written)
 
 -- and a rise of two counts that are the same
 pub rose_as : (a b c d : ℕ) → a ≡ b → c ≡ d → Rose b d → Rose a c

@@ -139,7 +139,7 @@ gone_grows old new grows = summed_grows (λ c. gone_weight (old.conns c)) (λ c.
 
 -- A machine whose play has less to do has less to do.
 pub lessens : (s : CellSetting) (old new : Parts) (play next : ServedPlay) → ArePlayed s old play → ArePlayed s new next → length new.workers ≡ length old.workers
-    → IsReachedFrom s play.cell next.cell → play_weight (length old.workers) next < play_weight (length old.workers) play
+    → IsReachedFrom s play next → play_weight (length old.workers) next < play_weight (length old.workers) play
     → steps_left new.part new.hall new.workers < steps_left old.part old.hall old.workers
 lessens s old new play next before behind workers reached less =
     let a : steps_left old.part old.hall old.workers + gone_in play.cell.loop ≡ play_weight (length old.workers) play = machine_weighs s old play before in
@@ -160,7 +160,7 @@ stays_heavy s old new play before behind workers =
 
 -- a connection has moved
 pub conn_lessens : (s : CellSetting) (c : ℕ) (old new : Parts) (play next : ServedPlay) → ArePlayed s old play → ArePlayed s new next → length new.workers ≡ length old.workers
-    → IsReachedFrom s play.cell next.cell → ComesTo (one_of_conn s c) play next → steps_left new.part new.hall new.workers < steps_left old.part old.hall old.workers
+    → IsReachedFrom s play next → ComesTo (one_of_conn s c) play next → steps_left new.part new.hall new.workers < steps_left old.part old.hall old.workers
 conn_lessens s c old new play next before behind workers reached comes =
     let at : (memory : ℕ → MemoryAt) × (n : ℕ) × (one_of_conn s c n n memory play ≡ Some next) = came_so (one_of_conn s c) play next comes in
     let unclosed : play.cell.hall.closed ≡ false = still_open old.hall play.cell.hall before.hall_tied in
@@ -171,7 +171,7 @@ conn_lessens s c old new play next before behind workers reached comes =
 
 -- a worker has moved
 pub worker_lessens : (s : CellSetting) (w : ℕ) (old new : Parts) (play next : ServedPlay) → w < length old.workers → ArePlayed s old play → ArePlayed s new next
-    → length new.workers ≡ length old.workers → IsReachedFrom s play.cell next.cell → ComesTo (one_of_worker s w) play next
+    → length new.workers ≡ length old.workers → IsReachedFrom s play next → ComesTo (one_of_worker s w) play next
     → steps_left new.part new.hall new.workers < steps_left old.part old.hall old.workers
 worker_lessens s w old new play next there before behind workers reached comes =
     let at : (memory : ℕ → MemoryAt) × (n : ℕ) × (one_of_worker s w n n memory play ≡ Some next) = came_so (one_of_worker s w) play next comes in
@@ -183,7 +183,7 @@ worker_lessens s w old new play next there before behind workers reached comes =
 
 -- an outcome was collected
 pub outcome_lessens : (s : CellSetting) (old new : Parts) (play next : ServedPlay) → ArePlayed s old play → ArePlayed s new next → length new.workers ≡ length old.workers
-    → IsReachedFrom s play.cell next.cell → ComesTo (one_of_outcome s) play next → steps_left new.part new.hall new.workers < steps_left old.part old.hall old.workers
+    → IsReachedFrom s play next → ComesTo (one_of_outcome s) play next → steps_left new.part new.hall new.workers < steps_left old.part old.hall old.workers
 outcome_lessens s old new play next before behind workers reached comes =
     let at : (memory : ℕ → MemoryAt) × (n : ℕ) × (one_of_outcome s n n memory play ≡ Some next) = came_so (one_of_outcome s) play next comes in
     let unclosed : play.cell.hall.closed ≡ false = still_open old.hall play.cell.hall before.hall_tied in

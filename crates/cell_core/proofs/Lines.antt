@@ -8,6 +8,8 @@ use Rattle.host_model.specs.declared.cause.EndCause.{EndCause}
 use Rattle.call_rules.specs.Desks.{DeskMeaning}
 use Rattle.outside.specs.Rows.{TapeView}
 use Rattle.conn_table.specs.Table.{TableView}
+use Rattle.machine_model.specs.AtFronts.{KeepsWithin}
+use Rattle.machine_model.specs.Bounds.{NoneIsLeftBehind}
 use Rattle.script_model.specs.ScriptLines.{PlanLine, PlanRule, opening, piece, input_end, input_fault, resting, turn_of_conn, turn_of_worker, turn_of_outcome}
 use Rattle.script_model.specs.Playing.{InputFinish, finishes, faults, MemoryAt, at_number}
 use Rattle.script_model.specs.Rehearsing.{left_by}
@@ -23,8 +25,9 @@ use Rattle.cell_loop.specs.Feeds.{unread_of, finish_of, rules_left, unread_in, f
 use Rattle.cell_loop.specs.LoopTied.{IsLoopTied, HasRoomToClose}
 use Rattle.cell_loop.specs.LoopMoves.{HasSameHall, StaysTied, LoopMoves, AnySetting, HasLongest}
 use Rattle.cell_loop.proofs.Becoming.{fed_so, kept_as, refed_tied, pieces_passed}
-use Rattle.cell_loop.specs.Settings.{CellSetting, ServedPlay}
-use Rattle.cell_loop.specs.Reached.{IsReached, IsReachedFrom}
+use Rattle.cell_loop.specs.Settings.{CellSetting, ServedCell, ServedPlay}
+use Rattle.cell_loop.specs.Admitted.{AdmitsWithin}
+use Rattle.cell_loop.specs.Reached.{IsRunTo, IsReached, IsReachedFrom}
 use Rattle.cell_loop.specs.Moving.{Doing, ComesTo, HasNoMove, GoesTo, GoesOrStays, one_opening, one_of_conn, one_of_worker, one_of_outcome, all_passes, one_line, all_lines}
 use Rattle.cell_loop.proofs.Composing.{then_comes}
 use Rattle.cell_loop.proofs.Going.{comes_as, none_comes}
@@ -69,7 +72,7 @@ module _ (old new : Parts) (kept : MoveKeeps old new) (later : old.hall.faults �
 
 -- hall and workers of a play are tied where they are those of another
 pub played_as : (s : CellSetting) (part : LoopPart) (hall : ServedHall) (workers : List Holding) (old : Parts) (play next : ServedPlay) → old.hall ≡ hall → old.workers ≡ workers → ArePlayed s old play
-    → IsLoopTied s part next → HasSameHall play next → IsReached s next.cell → ArePlayed s (record { part = part; hall = hall; workers = workers }) next
+    → IsLoopTied s part next → HasSameHall play next → IsReached s next → ArePlayed s (record { part = part; hall = hall; workers = workers }) next
 played_as s part hall workers old play next same_hall same_workers tied loop same reached =
     record {
       loop_tied = loop;
@@ -82,7 +85,7 @@ module _ (part : LoopPart) (old : Parts) (room : HasRoomToClose part) (feeds : l
   pub part_kept : MoveKeeps old (record { part = part; hall = old.hall; workers = old.workers })
   part_kept = record { room = room; workers = refl; feeds = feeds }
 
-  pub opening_line : (moved : Bool) → ((s : CellSetting) (one other : ServedPlay) → IsReached s one.cell → ComesTo (one_opening s) one other → IsReachedFrom s one.cell other.cell)
+  pub opening_line : (moved : Bool) → ((s : CellSetting) (one other : ServedPlay) → IsReached s one → ComesTo (one_opening s) one other → IsReachedFrom s one other)
       → LoopMoves AnySetting one_opening old.part moved part → ComesThrough AnySetting (λ s. one_line s opening) old (record { part = part; hall = old.hall; workers = old.workers })
   opening_line moved reaches moves =
       move_left AnySetting one_opening old (record { part = part; hall = old.hall; workers = old.workers }) part_kept (omega arith) (λ s. one_line s opening) moved
@@ -109,6 +112,17 @@ module _ (part : LoopPart) (old : Parts) (room : HasRoomToClose part) (feeds : l
       })
 
 -- ---- a feed changes
+
+-- a play whose cell and admitted sizes are those of one that is reached
+reached_as : (s : CellSetting) (old new : ServedPlay) → new.cell ≡ old.cell → new.admitted ≡ old.admitted → IsReached s old → IsReached s new
+reached_as s old new cell admitted reached =
+    record {
+      max = reached.max;
+      run = subst (IsRunTo s) (sym cell) reached.run;
+      none_left = subst (λ (x : ServedCell). NoneIsLeftBehind x.loop) (sym cell) reached.none_left;
+      admits = subst (λ (p : ServedCell × (ℕ → Option ℕ)). AdmitsWithin s.budget p.0.loop p.1) (λ i. (sym cell i, sym admitted i)) reached.admits;
+      kept = subst (λ (x : ServedCell). KeepsWithin s.desk.max_frame s.budget x.loop) (sym cell) reached.kept;
+    }
 
 set_get : (feeds : List Feed) (c : ℕ) (next : Feed) → c < length feeds → slice_get (set feeds c next) c ≡ Some next
 set_get [] c next below = absurd (let k : ⊥ = omega arith in k)
@@ -172,16 +186,17 @@ module _ (old : Parts) (new : LoopPart) (c : ℕ) (only : IsFedOnly old.part new
   -- a line that changes what is kept of the input of a connection
   input_line : (line : PlanLine) (unread : List (List ℕ)) (finish : Option InputFinish) → HasFeed c unread finish (rules_in old.part.feeds.items c) old.part.feeds.items new.feeds.items
       → (then_ : ServedPlay → ServedPlay) → ((play : ServedPlay) → (then_ play).moves ≡ play.moves) → ((play : ServedPlay) → (then_ play).cell ≡ play.cell)
+      → ((play : ServedPlay) → (then_ play).admitted ≡ play.admitted)
       → ((s : CellSetting) (passes enough : ℕ) (memory : ℕ → MemoryAt) (play : ServedPlay) → one_line s line passes enough memory play ≡ Some (then_ play))
       → ((s : CellSetting) (play : ServedPlay) → IsLoopTied s old.part play → IsLoopTied s new (then_ play))
       → ComesThrough AnySetting (λ s. one_line s line) old (record { part = new; hall = old.hall; workers = old.workers })
-  input_line line unread finish has then_ moves cell does tied_so =
+  input_line line unread finish has then_ moves cell admitted does tied_so =
       record {
         goes = λ s play w tied. (
           then_ play,
           record { memories = []; counted = (let m : (then_ play).moves ≡ play.moves = moves play in omega arith); fuel = 0; leads = λ passes enough memory p e so. does s passes enough memory play },
           played_as s new old.hall old.workers old play (then_ play) refl refl tied (tied_so s play tied.loop_tied) (ap (λ k. k.hall) (cell play), ap (λ k. k.workers) (cell play))
-              (subst (IsReached s) (sym (cell play)) tied.reached),
+              (reached_as s play (then_ play) (cell play) (admitted play) tied.reached),
         );
         kept = record { room = fed_room old.part new only room; workers = refl; feeds = has.count };
         later = omega arith;
@@ -193,7 +208,7 @@ module _ (old : Parts) (new : LoopPart) (c : ℕ) (only : IsFedOnly old.part new
       → ComesThrough AnySetting (λ s. one_line s (piece c bytes)) old (record { part = new; hall = old.hall; workers = old.workers })
   piece_line bytes has =
       input_line (piece c bytes) (unread_in old.part.feeds.items c ++ bytes ∷ []) (finish_in old.part.feeds.items c) has
-      (λ play. record play { unread = at_number play.unread c (play.unread c ++ bytes ∷ []) }) (λ play. refl) (λ play. refl) (λ s passes enough memory play. refl)
+      (λ play. record play { unread = at_number play.unread c (play.unread c ++ bytes ∷ []) }) (λ play. refl) (λ play. refl) (λ play. refl) (λ s passes enough memory play. refl)
       (λ s play tied.
       pieces_passed s c old.part new play tied only.table only.tape only.stages (play.unread c ++ bytes ∷ [])
       (subst (λ k. HasFeed c (k ++ bytes ∷ []) (finish_in old.part.feeds.items c) (rules_in old.part.feeds.items c) old.part.feeds.items new.feeds.items) (sym (tied.unread c)) has))
@@ -205,7 +220,7 @@ module _ (old : Parts) (new : LoopPart) (c : ℕ) (only : IsFedOnly old.part new
       → ComesThrough AnySetting (λ s. one_line s line) old (record { part = new; hall = old.hall; workers = old.workers })
   finish_line line finish does has =
       input_line line (unread_in old.part.feeds.items c) (Some finish) has
-      (λ play. record play { finish = at_number play.finish c (Some finish) }) (λ play. refl) (λ play. refl) does
+      (λ play. record play { finish = at_number play.finish c (Some finish) }) (λ play. refl) (λ play. refl) (λ play. refl) does
       (λ s play tied.
       fed_so s c old.part new play tied only.table only.tape only.stages (unread_in old.part.feeds.items c) (Some finish) (rules_in old.part.feeds.items c)
       (record play { finish = at_number play.finish c (Some finish) }) has (tied.writes c) refl refl (λ x. kept_as c play.unread (unread_in old.part.feeds.items c) (tied.unread c) x)

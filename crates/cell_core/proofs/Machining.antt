@@ -37,7 +37,7 @@ only_faults Fails result tells = subst (λ r. IfErr r (λ stop. stop ≡ Journal
 
 module _ (desk : DeskMeaning) (w : ℕ) (part : LoopPart) (hall new_hall : ServedHall) (workers : List Holding) (next : Holding) (stepped : Stepped) (there : w < length workers)
     (turned : IsWorkerTurn desk hall new_hall (get_or workers w Idle) next stepped)
-    (reaches : (s : CellSetting) (v : ℕ) (one other : ServedPlay) → IsReached s one.cell → ComesTo (one_of_worker s v) one other → IsReachedFrom s one.cell other.cell) where
+    (reaches : (s : CellSetting) (v : ℕ) (one other : ServedPlay) → IsReached s one → ComesTo (one_of_worker s v) one other → IsReachedFrom s one other) where
   -- the machine before the step, and after it
   abbrev before : Parts
   before = record { part = part; hall = hall; workers = workers }
@@ -70,7 +70,7 @@ module _ (desk : DeskMeaning) (w : ℕ) (part : LoopPart) (hall new_hall : Serve
       subst FailedSo (sym tells)
       (λ s play same tied.
       let t : WorkMakes s w play part hall new_hall workers next Fails = makes s play same tied Fails is in
-      record { cell = t.0; play = play; run = t.1; tied = tied.loop_tied; same = t.2; torn = t.3 })
+      record { cell = t.0; play = play; run = t.1; kept = t.4; none_left = t.5; tied = tied.loop_tied; same = t.2; torn = t.3 })
 
   abbrev LessSo : Result Bool RunStop → Type 0
   LessSo result = IfOk result (λ moved. LeavesLess moved before behind)

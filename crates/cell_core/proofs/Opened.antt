@@ -1,17 +1,26 @@
 -- A rehearsal's beginning and its end: the machine before the first line, and one whose connections have all ended.
-use Rattle.std.proofs.Common.{◌≡◌, ℕ, zero, suc, ◌<◌, ◌≤◌, Option, None, Some, List, [], ◌∷◌, ◌++◌, length, max, replicate, get_or, slice_get, refl, sym, ap, ◌∙◌, subst, arith}
+use Rattle.std.proofs.Common.{◌≡◌, ℕ, zero, suc, ◌<◌, ◌≤◌, ◌^◌, Option, None, Some, List, [], ◌∷◌, ◌++◌, length, map, max, replicate, get_or, slice_get, refl, sym, ap, ◌∙◌, subst, arith}
 use Rattle.std.specs.List.{AllByRecursion}
 use Rattle.std.proofs.lemmas.List.{append_assoc}
 use Rattle.std.proofs.lemmas.Option.{none-some}
+use Rattle.outside.specs.Cause.{Rose}
 use Rattle.host_model.specs.declared.cause.EndCause.{EndCause}
+use Rattle.host_model.specs.DeskRules.{DeskRules}
+use Rattle.host_model.specs.Journal.{after}
+use Rattle.call_rules.specs.PlainCalls.{PlainCall, PlainAnswer}
 use Rattle.call_rules.specs.Desks.{DeskMeaning, longest_payload}
 use Rattle.call_rules.specs.Entries.{CallEntry}
 use Rattle.call_rules.specs.Handling.{ServiceState, handler_rules}
 use Rattle.conn_table.specs.Table.{TableView}
 use Rattle.machine_model.specs.Loop.{LoopConn}
 use Rattle.machine_model.specs.Worker.{idle}
-use Rattle.machine_model.specs.Machine.{IsFirst, HaveAllEnded}
+use Rattle.machine_model.specs.Machine.{EventsLead, IsFirst, HaveAllEnded}
+use Rattle.machine_model.specs.AtFronts.{KeepsWithin}
+use Rattle.machine_model.specs.Bounds.{NoneIsLeftBehind}
+use Rattle.machine_model.specs.Places.{CellKeeps}
 use Rattle.machine_model.specs.SeenHall.{MayHave, filled}
+use Rattle.machine_model.proofs.Budgeting.{first_within}
+use Rattle.machine_model.proofs.Fronts.{run_fronts}
 use Rattle.machine_model.proofs.Merging.{runs-append}
 use Rattle.script_model.specs.ScriptLines.{PlanLine, opening, piece, input_end, input_fault, resting, turn_of_conn, turn_of_worker, turn_of_outcome, PlanRule, takes_most, blocks, fails, ScriptPlan, rules_of, openings}
 use Rattle.script_model.specs.Ending.{LetsAllEnd}
@@ -26,6 +35,8 @@ use Rattle.cell_loop.specs.declared.loop_part.LoopPart.{LoopPart}
 use Rattle.cell_loop.specs.Feeds.{unread_in, finish_in, rules_in, HasSomePieces, BoundsSome, AreFreshFeeds}
 use Rattle.cell_loop.specs.LoopTied.{CellStageTells, IsLoopTied, HasRoomToClose, IsFreshPart}
 use Rattle.cell_loop.specs.LoopMoves.{AreAllOver}
+use Rattle.cell_loop.specs.Stops.{open_numbers, stop_of, stops_of}
+use Rattle.cell_loop.proofs.Halting.{none_to_stop, is_stopped, stops_within}
 use Rattle.cell_loop.proofs.Starting.{starts_tied}
 use Rattle.cell_core.specs.declared.worker.Holding.{Holding}
 use Rattle.cell_core.specs.declared.worker.Holding.TheVariants.{Idle}
@@ -37,6 +48,8 @@ use Rattle.cell_loop.proofs.Going.{so_at_first}
 use Rattle.cell_core.specs.Parts.{Parts}
 use Rattle.cell_core.specs.Machines.{ArePlayed, AreUnderWay, IsLineFor}
 use Rattle.cell_core.specs.Rehearsed.{SeenRun, ShowsRun, IsSeenRun, IsOpenedPart, AreFirstWorkers, LeadsToEnd}
+use Rattle.cell_core.proofs.HallTying.{still_whole}
+use Rattle.cell_core.proofs.Weights.{reached_keeps}
 
 -- ---- fresh feeds
 
@@ -178,13 +191,18 @@ module _ (s : CellSetting) (script : ScriptPlan) (part : LoopPart) (workers : Li
   abbrev pub first_play : ServedPlay
   first_play = before_all (first_cell (opened_hall s.opening told count)) script
 
-  pub first_reached : IsReached s (first_cell (opened_hall s.opening told count))
+  pub first_reached : IsReached s first_play
   first_reached =
       record {
         max = max;
         run = record { first = first_cell (opened_hall s.opening told count); events = []; is_first = first_is s.opening told count; lead = refl };
         none_left = λ c below caused. absurd (let k : ⊥ = omega arith in k);
+        admits = record { within = omega arith; each = λ c. record { own = λ size e. absurd (none-some size e); begun = λ below is_open long. absurd (let k : ⊥ = omega arith in k) } };
+        kept = first_within s.desk.max_frame small s.budget s.opening (first_cell (opened_hall s.opening told count)) (first_is s.opening told count);
       }
+    where
+      small : s.desk.max_frame < 2 ^ 31
+      small = omega arith
 
   pub first_played : ArePlayed s opened_parts first_play
   first_played =
@@ -247,26 +265,59 @@ stands_over s part play causes tied over =
 
 -- ---- what is seen of a run
 
--- a run to a cell whose connections have all ended
-pub seen_at : (s : CellSetting) (cell : ServedCell) (run : SeenRun) → IsRunTo s cell → ShowsRun run cell → IsSeenRun s run
-seen_at s cell run to looks = record { first = to.first; last = cell; events = to.events; is_first = to.is_first; lead = to.lead; looks = looks }
-
--- one that is led to its end
-pub seen_led : (s : CellSetting) (cell : ServedCell) (run : SeenRun) → IsRunTo s cell → LeadsToEnd s cell run.tape run.causes → MayHave run.told cell.hall.journal → cell.hall.memories ≡ run.services
-    → IsSeenRun s run
-seen_led s cell run to led told services =
+-- a run to a cell, within the budget, of which what was open is stopped
+pub seen_by : (s : CellSetting) (stop last : ServedCell) (run : SeenRun) → s.desk.max_frame ≤ longest_payload → IsRunTo s stop → KeepsWithin s.desk.max_frame s.budget stop.loop → NoneIsLeftBehind stop.loop
+    → EventsLead (desk_of_setting s) handler_rules stop (stops_of stop.loop) last → ShowsRun run last
+    → ((Rose run.faults_before run.faults → ⊥) → run.services ≡ after handler_rules s.opening last.hall.journal) → IsSeenRun s run
+seen_by s stop last run max to kept none_left stops looks services =
+    let small : s.desk.max_frame < 2 ^ 31 = omega arith in
+    let d : DeskRules PlainCall PlainAnswer = desk_of_setting s in
+    let all : EventsLead d handler_rules to.first (to.events ++ stops_of stop.loop) last = runs-append d handler_rules to.first stop last to.events (stops_of stop.loop) to.lead stops in
+    let within : KeepsWithin s.desk.max_frame s.budget last.loop =
+    stops_within d handler_rules small s.budget s.opening to.first to.is_first (open_numbers stop.loop) to.events stop last to.lead kept stops in
     record {
       first = to.first;
-      last = record cell { loop = led.loop };
-      events = to.events ++ led.events;
+      stop = stop;
+      last = last;
+      events = to.events;
       is_first = to.is_first;
-      lead = runs-append (desk_of_setting s) handler_rules to.first cell (record cell { loop = led.loop }) to.events led.events to.lead led.lead;
-      looks = record { tape = led.same_tape; ended = led.ended; told = told; services = services };
+      lead = to.lead;
+      stops = stops;
+      none_left = none_left;
+      looks = looks;
+      stopped = is_stopped d handler_rules stop last run.tape run.causes stops looks.tape looks.ended;
+      bounded = λ front back is.
+          record {
+            few = run_fronts d handler_rules s.opening to.first last (to.events ++ stops_of stop.loop) to.is_first all front back (looks.tape ∙ is);
+            sizes = within.fronts front back (looks.tape ∙ is);
+          };
+      services = services;
     }
+
+-- one whose connections have all ended
+pub seen_at : (s : CellSetting) (cell : ServedCell) (run : SeenRun) → s.desk.max_frame ≤ longest_payload → IsRunTo s cell → KeepsWithin s.desk.max_frame s.budget cell.loop → NoneIsLeftBehind cell.loop
+    → ShowsRun run cell
+    → ((Rose run.faults_before run.faults → ⊥) → run.services ≡ after handler_rules s.opening cell.hall.journal) → IsSeenRun s run
+seen_at s cell run max to kept none_left looks services =
+    seen_by s cell cell run max to kept none_left
+    (subst (λ (numbers : List ℕ). EventsLead (desk_of_setting s) handler_rules cell (map stop_of numbers) cell) (sym (none_to_stop cell.loop run.causes looks.ended)) refl) looks services
+
+-- one that is led to its end
+pub seen_led : (s : CellSetting) (cell : ServedCell) (run : SeenRun) → s.desk.max_frame ≤ longest_payload → IsRunTo s cell → KeepsWithin s.desk.max_frame s.budget cell.loop → NoneIsLeftBehind cell.loop
+    → LeadsToEnd s cell run.tape run.causes → MayHave run.told cell.hall.journal → cell.hall.memories ≡ run.services
+    → ((Rose run.faults_before run.faults → ⊥) → run.services ≡ after handler_rules s.opening cell.hall.journal) → IsSeenRun s run
+seen_led s cell run max to kept none_left led told services_are services =
+    seen_by s cell (record cell { loop = led.loop }) run max to kept none_left led.lead (record { tape = led.same_tape; ended = led.ended; told = told; services = services_are }) services
 
 -- services of a hall and of the one that it is tied to
 pub services_same : (s : CellSetting) (now : Parts) (play : ServedPlay) → ArePlayed s now play → play.cell.hall.memories ≡ now.hall.memories
 services_same s now play tied = sym (ap (λ (h : HallInCell). h.memories) tied.hall_tied.same)
+
+-- and they have the memories after its journal
+pub services_after : (s : CellSetting) (now : Parts) (play : ServedPlay) → ArePlayed s now play → now.hall.memories ≡ after handler_rules s.opening play.cell.hall.journal
+services_after s now play tied =
+    let k : CellKeeps (desk_of_setting s) handler_rules s.opening play.cell = reached_keeps s play tied.reached in
+    sym (services_same s now play tied) ∙ k.memories (still_whole now.hall play.cell.hall tied.hall_tied)
 
 -- ---- the lines that were done are a rehearsal
 

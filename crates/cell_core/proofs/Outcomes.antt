@@ -53,20 +53,20 @@ under_hall s cell c conn (put_out settled) es o outs a =
     (omega arith, omega arith)
 
 -- the first outcome of a cell that is reached is one of a connection that was opened
-opened_there : (s : CellSetting) (cell : ServedCell) (o : JobOutcome) (outs : List JobOutcome) → IsReached s cell → cell.hall.outcomes ≡ o ∷ outs
-    → (o.key.c < cell.loop.count) × IsUnderHall (cell.loop.conns o.key.c)
-opened_there s cell o outs reached is =
-    let k : CellKeeps (desk_of_setting s) handler_rules s.opening cell = reached_keeps s cell reached in
-    let own : outcomes_of o.key.c cell.hall.outcomes ≡ o ∷ outcomes_of o.key.c outs =
+opened_there : (s : CellSetting) (play : ServedPlay) (o : JobOutcome) (outs : List JobOutcome) → IsReached s play → play.cell.hall.outcomes ≡ o ∷ outs
+    → (o.key.c < play.cell.loop.count) × IsUnderHall (play.cell.loop.conns o.key.c)
+opened_there s play o outs reached is =
+    let k : CellKeeps (desk_of_setting s) handler_rules s.opening play.cell = reached_keeps s play reached in
+    let own : outcomes_of o.key.c play.cell.hall.outcomes ≡ o ∷ outcomes_of o.key.c outs =
     ap (outcomes_of o.key.c) is ∙ own_first (λ (x : JobOutcome). x.key.c) o.key.c o outs refl in
-    go k own (cases_lt o.key.c cell.loop.count)
+    go k own (cases_lt o.key.c play.cell.loop.count)
   where
-    go : CellKeeps (desk_of_setting s) handler_rules s.opening cell → outcomes_of o.key.c cell.hall.outcomes ≡ o ∷ outcomes_of o.key.c outs
-        → (o.key.c < cell.loop.count) ⊎ (cell.loop.count ≤ o.key.c) → (o.key.c < cell.loop.count) × IsUnderHall (cell.loop.conns o.key.c)
+    go : CellKeeps (desk_of_setting s) handler_rules s.opening play.cell → outcomes_of o.key.c play.cell.hall.outcomes ≡ o ∷ outcomes_of o.key.c outs
+        → (o.key.c < play.cell.loop.count) ⊎ (play.cell.loop.count ≤ o.key.c) → (o.key.c < play.cell.loop.count) × IsUnderHall (play.cell.loop.conns o.key.c)
     go k own (inl l) = (
       l,
-      under_hall s cell o.key.c (cell.loop.conns o.key.c) (k.place o.key.c) (entries_of o.key.c cell.hall.journal) o (outcomes_of o.key.c outs)
-          (subst (λ (os : List JobOutcome). PayloadIsAt (desk_of_setting s) cell.workers (jobs_of o.key.c cell.hall.jobs) os (entries_of o.key.c cell.hall.journal) o.key.c (cell.loop.conns o.key.c) (k.place o.key.c))
+      under_hall s play.cell o.key.c (play.cell.loop.conns o.key.c) (k.place o.key.c) (entries_of o.key.c play.cell.hall.journal) o (outcomes_of o.key.c outs)
+          (subst (λ (os : List JobOutcome). PayloadIsAt (desk_of_setting s) play.cell.workers (jobs_of o.key.c play.cell.hall.jobs) os (entries_of o.key.c play.cell.hall.journal) o.key.c (play.cell.loop.conns o.key.c) (k.place o.key.c))
           own (k.at o.key.c l)),
     )
     go k own (inr l) = absurd (nil-cons o (outcomes_of o.key.c outs) (sym (k.nobody o.key.c l).1 ∙ own))
@@ -121,11 +121,11 @@ asked_so max table c conn admitted (Over cause) tells none under =
     absurd f
 
 -- The connection of the first outcome stands asked.
-pub stands_asked : (s : CellSetting) (part : LoopPart) (play : ServedPlay) (o : JobOutcome) (outs : List JobOutcome) → IsLoopTied s part play → IsReached s play.cell
+pub stands_asked : (s : CellSetting) (part : LoopPart) (play : ServedPlay) (o : JobOutcome) (outs : List JobOutcome) → IsLoopTied s part play → IsReached s play
     → play.cell.hall.outcomes ≡ o ∷ outs → slice_get part.stages.items o.key.c ≡ Some Asked
 stands_asked s part play o outs tied reached is =
     let c : ℕ = o.key.c in
-    let t : (c < play.cell.loop.count) × IsUnderHall (play.cell.loop.conns c) = opened_there s play.cell o outs reached is in
+    let t : (c < play.cell.loop.count) × IsUnderHall (play.cell.loop.conns c) = opened_there s play o outs reached is in
     let below : c < length part.stages.items = subst (λ n. c < n) tied.count t.0 in
     slice_get-get_or part.stages.items c Lean below
     ∙ ap Some

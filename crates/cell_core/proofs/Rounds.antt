@@ -200,6 +200,8 @@ failed_behind s old mid new later f =
       cell = f.cell;
       play = f.play;
       run = f.run;
+      kept = f.kept;
+      none_left = f.none_left;
       tied = f.tied;
       same = f.same;
       torn = record { told = f.torn.told; memories = f.torn.memories; torn = f.torn.torn; rose = rose_behind old.hall.faults mid.hall.faults new.hall.faults later f.torn.rose };

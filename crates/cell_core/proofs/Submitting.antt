@@ -20,7 +20,7 @@ use Rattle.cell_core.proofs.HallTying.{GivesFrom, gives_from, still_open, still_
 use Rattle.call_rules.specs.Desks.{longest_payload}
 
 -- What is a payload of a connection that isn't submitted, the hall can take.
-pub submit_can : (s : CellSetting) (hall : ServedHall) (play : ServedPlay) (c i : ℕ) (payload : List ℕ) → IsReached s play.cell → IsHallTied hall play.cell.hall
+pub submit_can : (s : CellSetting) (hall : ServedHall) (play : ServedPlay) (c i : ℕ) (payload : List ℕ) → IsReached s play → IsHallTied hall play.cell.hall
     → c < play.cell.loop.count → (play.cell.loop.conns c).submitted ≡ i → slice_get (play.cell.loop.conns c).payloads i ≡ Some payload
     → SeenCan handler_rules hall (submit (key_of c i) payload)
 submit_can s hall play c i payload reached tied there next is =

@@ -189,7 +189,7 @@ module _ (s : CellSetting) (w : ℕ) (play : ServedPlay) (old new : ServedHall) 
               has_none key payload,
               hall,
               (payload, e, q, refl),
-              (suc play.cell.hall.faults, grown, (still_whole old play.cell.hall tied, omega arith, refl)),
+              (suc play.cell.hall.faults, grown, (still_whole old play.cell.hall tied, omega arith, refl), tt),
               refl,
             ),
           ),

@@ -15,7 +15,7 @@ use Rattle.machine_model.proofs.Running.{keeps}
 use Rattle.script_model.proofs.Waiting.{Counted, counted}
 use Rattle.script_model.proofs.Weighing.{open_weight, left_weight, conn_weight, worker_weight, workers_weight}
 use Rattle.script_model.proofs.Spending.{pieces_weight, rules_weight, size_weight, play_weight}
-use Rattle.cell_loop.specs.Settings.{CellSetting, ServedCell, ServedPlay, desk_of_setting}
+use Rattle.cell_loop.specs.Settings.{CellSetting, ServedPlay, desk_of_setting}
 use Rattle.cell_loop.specs.Reached.{IsReached}
 use Rattle.cell_loop.specs.declared.loop_part.CellStage.{CellStage}
 use Rattle.cell_loop.specs.declared.loop_part.CellStage.TheVariants.{Lean, Framed, Whole, Asked, Over}
@@ -32,20 +32,20 @@ use Rattle.cell_core.specs.Work.{steps_to_write, steps_of_stand, steps_of_conn, 
 use Rattle.call_rules.specs.Desks.{longest_payload}
 
 -- what a run that is reached keeps
-pub reached_keeps : (s : CellSetting) (cell : ServedCell) → IsReached s cell → CellKeeps (desk_of_setting s) handler_rules s.opening cell
-reached_keeps s cell reached =
+pub reached_keeps : (s : CellSetting) (play : ServedPlay) → IsReached s play → CellKeeps (desk_of_setting s) handler_rules s.opening play.cell
+reached_keeps s play reached =
     let max : s.desk.max_frame ≤ longest_payload = reached.max in
     let small : s.desk.max_frame < 2 ^ 31 = omega arith in
     keeps (desk_of_setting s) handler_rules s.opening (λ acts world runs. stands (desk_of_setting s) handler_rules s.opening acts world small runs) small
-    reached.run.first cell reached.run.events reached.run.is_first reached.run.lead
+    reached.run.first play.cell reached.run.events reached.run.is_first reached.run.lead
 
 -- a connection that has ended has nothing that isn't submitted
-pub all_submitted_of : (s : CellSetting) (cell : ServedCell) → IsReached s cell → (c : ℕ) → c < cell.loop.count → (cell.loop.conns c).cause ≢ None
-    → length (cell.loop.conns c).payloads ≤ (cell.loop.conns c).submitted
-all_submitted_of s cell reached c below caused =
-    let k : Counted (cell.loop.conns c) = counted (desk_of_setting s) handler_rules s.opening cell (reached_keeps s cell reached) c below in
-    let all : (cell.loop.conns c).collected ≡ length (cell.loop.conns c).payloads = reached.none_left c below caused in
-    let within : (cell.loop.conns c).collected ≤ (cell.loop.conns c).submitted = k.collected in
+pub all_submitted_of : (s : CellSetting) (play : ServedPlay) → IsReached s play → (c : ℕ) → c < play.cell.loop.count → (play.cell.loop.conns c).cause ≢ None
+    → length (play.cell.loop.conns c).payloads ≤ (play.cell.loop.conns c).submitted
+all_submitted_of s play reached c below caused =
+    let k : Counted (play.cell.loop.conns c) = counted (desk_of_setting s) handler_rules s.opening play.cell (reached_keeps s play reached) c below in
+    let all : (play.cell.loop.conns c).collected ≡ length (play.cell.loop.conns c).payloads = reached.none_left c below caused in
+    let within : (play.cell.loop.conns c).collected ≤ (play.cell.loop.conns c).submitted = k.collected in
     omega arith
 
 -- what weighs of a connection that has ended: what it left unwritten
@@ -203,7 +203,7 @@ module _ (s : CellSetting) (m : Parts) (play : ServedPlay) (tied : ArePlayed s m
       let stage : CellStage = slice_index_or m.part.stages.items c Lean in
       let w : steps_of_stand m.part.table c stage + gone_weight (play.cell.loop.conns c) ≡ conn_weight (play.cell.loop.conns c) + size_weight (play.admitted c) =
       stand_weighs s.desk.max_frame m.part.table c (play.cell.loop.conns c) (play.admitted c) stage (tied.loop_tied.stages c below)
-      (all_submitted_of s play.cell tied.reached c (subst (λ n. c < n) (sym tied.loop_tied.count) below)) in
+      (all_submitted_of s play tied.reached c (subst (λ n. c < n) (sym tied.loop_tied.count) below)) in
       let p : pieces_weight (play.unread c) ≡ pieces_weight (unread_in m.part.feeds.items c) = ap pieces_weight (tied.loop_tied.unread c) in
       let r : rules_weight (play.rules c) ≡ rules_weight (rules_in m.part.feeds.items c) = ap rules_weight (tied.loop_tied.rules c) in
       omega arith

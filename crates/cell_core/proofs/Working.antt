@@ -5,6 +5,8 @@ use Rattle.std.proofs.lemmas.Bool.{cases_eq}
 use Rattle.std.proofs.lemmas.List.{get_or-set_same, get_or-set_other}
 use Rattle.call_rules.specs.Desks.{DeskMeaning, longest_payload}
 use Rattle.call_rules.specs.Handling.{handler_rules}
+use Rattle.machine_model.specs.AtFronts.{KeepsWithin}
+use Rattle.machine_model.specs.Bounds.{NoneIsLeftBehind}
 use Rattle.machine_model.specs.Loop.{Loop}
 use Rattle.machine_model.specs.Worker.{WorkerAsks}
 use Rattle.machine_model.specs.Machine.{applies, with_worker, EventsLead}
@@ -104,11 +106,12 @@ worker_may s part hall workers w desk same now =
 abbrev pub WorkMakes : CellSetting → ℕ → ServedPlay → LoopPart → ServedHall → ServedHall → List Holding → Holding → Stepped → Type 0
 WorkMakes s w play part old new workers next Idle = HasNoMove (one_of_worker s w) play × IsPlayed s part new (set workers w next) play
 WorkMakes s w play part old new workers next Moves = GoesTo (one_of_worker s w) (IsPlayed s part new (set workers w next)) play
-WorkMakes s w play part old new workers next Fails = (cell : ServedCell) × IsRunTo s cell × (cell.loop ≡ play.cell.loop) × IsHallTorn old new cell.hall
+WorkMakes s w play part old new workers next Fails =
+    (cell : ServedCell) × IsRunTo s cell × (cell.loop ≡ play.cell.loop) × IsHallTorn old new cell.hall × KeepsWithin s.desk.max_frame s.budget cell.loop × NoneIsLeftBehind cell.loop
 
 module _ (s : CellSetting) (w : ℕ) (play : ServedPlay) (part : LoopPart) (old new : ServedHall) (workers : List Holding) (next : Holding) (tied : IsPlayed s part old workers play)
     (there : w < length workers) where
-  makes_so : ((now : ServedPlay) → IsReached s play.cell → ComesTo (one_of_worker s w) play now → IsReachedFrom s play.cell now.cell) → (stepped : Stepped) → TurnMakes s w play old new next stepped → WorkMakes s w play part old new workers next stepped
+  makes_so : ((now : ServedPlay) → IsReached s play → ComesTo (one_of_worker s w) play now → IsReachedFrom s play now) → (stepped : Stepped) → TurnMakes s w play old new next stepped → WorkMakes s w play part old new workers next stepped
   makes_so reaches Idle t = (
     t.0,
     record {
@@ -142,10 +145,12 @@ module _ (s : CellSetting) (w : ℕ) (play : ServedPlay) (part : LoopPart) (old 
         },
         t.2,
         t.3,
+        subst (KeepsWithin s.desk.max_frame s.budget) (sym t.2) tied.reached.kept,
+        subst NoneIsLeftBehind (sym t.2) tied.reached.none_left,
       )
 
   -- the step of a worker is one of the machine
-  pub work_makes : ((now : ServedPlay) → IsReached s play.cell → ComesTo (one_of_worker s w) play now → IsReachedFrom s play.cell now.cell) → (stepped : Stepped)
+  pub work_makes : ((now : ServedPlay) → IsReached s play → ComesTo (one_of_worker s w) play now → IsReachedFrom s play now) → (stepped : Stepped)
       → IsWorkerTurn s.desk old new (get_or workers w Idle) next stepped → WorkMakes s w play part old new workers next stepped
   work_makes reaches stepped turn =
       makes_so reaches stepped

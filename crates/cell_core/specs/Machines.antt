@@ -3,6 +3,8 @@ use Rattle.std.specs.Prelude.{◌≡◌, ℕ, ◌<◌, ◌≤◌, Bool, true, fa
 use Rattle.call_rules.specs.Desks.{DeskMeaning}
 use Rattle.script_model.specs.ScriptLines.{PlanLine, piece, input_end, input_fault, turn_of_worker}
 use Rattle.script_model.specs.Rehearsing.{workers_among}
+use Rattle.machine_model.specs.AtFronts.{KeepsWithin}
+use Rattle.machine_model.specs.Bounds.{NoneIsLeftBehind}
 use Rattle.cell_core.specs.declared.stop.RunStop.{RunStop}
 use Rattle.cell_core.specs.declared.stop.RunStop.TheVariants.{JournalFault, NoMemory}
 use Rattle.cell_loop.specs.Settings.{CellSetting, ServedCell, ServedPlay}
@@ -54,11 +56,14 @@ pub record MoveKeeps (old new : Parts) : Type 0 where
   pub workers : length new.workers ≡ length old.workers
   pub feeds : length new.part.feeds.items ≡ length old.part.feeds.items
 
--- A run of the machine has come to a cell whose loop the part is tied to, and at whose last call the journal has failed.
+-- A run of the machine has come to a cell whose loop the part is tied to, and at whose last call the journal has failed. The loop has kept within the budget,
+-- and no connection was given up while its payload was under way.
 pub record HasFailed (s : CellSetting) (old new : Parts) : Type 0 where
   pub cell : ServedCell
   pub play : ServedPlay
   pub run : IsRunTo s cell
+  pub kept : KeepsWithin s.desk.max_frame s.budget cell.loop
+  pub none_left : NoneIsLeftBehind cell.loop
   pub tied : IsLoopTied s new.part play
   pub same : cell.loop ≡ play.cell.loop
   pub torn : IsHallTorn old.hall new.hall cell.hall

@@ -15,7 +15,7 @@ pub record IsPlayed (s : CellSetting) (part : LoopPart) (hall : ServedHall) (wor
   pub loop_tied : IsLoopTied s part play
   pub hall_tied : IsHallTied hall play.cell.hall
   pub workers_tied : AreWorkersTied s.desk workers play.cell.workers
-  pub reached : IsReached s play.cell
+  pub reached : IsReached s play
 
 -- What holds of a machine between two moves, whichever play it is tied to: there is one; there are as many workers as move; the tape has room for what closes
 -- the open connections; and the desk has its slots.

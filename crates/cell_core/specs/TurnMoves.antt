@@ -40,7 +40,7 @@ pub record MayTurn (desk : DeskMeaning) (hall : ServedHall) (worker : Holding) :
   pub desk_is : setting.desk ≡ desk
   pub slots : desk.slots ≡ length setting.opening
   pub max : desk.max_frame ≤ longest_payload
-  pub reached : IsReached setting play.cell
+  pub reached : IsReached setting play
   pub hall_tied : IsHallTied hall play.cell.hall
   pub holds : play.cell.workers w ≡ plain_worker worker
   pub known : KnowsItsCall desk worker

@@ -3,7 +3,7 @@
 ghost use Rattle.std.specs.Prelude.{◌≡◌, ◌≢◌, ◌≤◌, List, false, [], length, map, IfOk};
 ghost use Rattle.std.specs.Vec.{vec_capacity};
 ghost use Rattle.outside.specs.Cause.{Rose};
-ghost use Rattle.conn_table.specs.declared.run_limits.Outcome.TheVariants.{All, JournalFault, NoMemory};
+ghost use Rattle.conn_table.specs.declared.run_limits.Outcome.TheVariants.{All, NetFault, JournalFault, NoMemory};
 ghost use Rattle.cell_core.specs.declared.stop.RunStop.TheVariants.{JournalFault as Broken};
 ghost use Rattle.host_model.specs.declared.cause.EndCause.{EndCause};
 ghost use Rattle.call_rules.specs.Handling.{ServiceState};
@@ -12,8 +12,8 @@ ghost use Rattle.script_text.specs.Sound.{MovesItsWorkers};
 ghost use Rattle.cell_loop.specs.Settings.{CellSetting, ServedCell, ServedPlay};
 ghost use Rattle.cell_loop.specs.LoopTied.{IsLoopTied};
 ghost use Rattle.cell_loop.specs.LoopMoves.{AreAllOver, IsLoopUnderWay};
-ghost use Rattle.cell_core.specs.Rehearsed.{SeenRun, IsSeenRun, IsSeenRehearsal, AreWritten, IsOpenedPart, AreFirstWorkers, LeadsToEnd};
-ghost use Rattle.call_rules.specs.Desks.{longest_payload};
+ghost use Rattle.cell_core.specs.Rehearsed.{SeenRun, IsSeenRun, IsSeenRehearsal, AreWritten, AreWrittenOrNone, IsOpenedPart, AreFirstWorkers, LeadsToEnd};
+ghost use Rattle.conn_table.specs.Servable.{CanServe};
 
 use crate::laws::a_rehearsal_is_whole;
 use crate::machine::Machine;
@@ -33,7 +33,7 @@ use std::alloc::{AllocError, Global};
 pub struct Rehearsed<H: Handler, J: Journal> {
     /// What happened on connections.
     pub tape: Tape,
-    /// What was written to each connection, where the run came to its end.
+    /// What was written to each connection. Where the run didn't come to its end it may be empty, for want of memory.
     pub outs: Outs,
     /// By what each connection ended.
     pub ends: Ends,
@@ -47,8 +47,8 @@ pub struct Rehearsed<H: Handler, J: Journal> {
 
 /// Runs a script by the machine of loop, hall and workers, without threads: its lines are done in order, and the run is drained
 /// at each line of rest and after the last line. A run to its end is the rehearsal of the script. Where the journal fails, or
-/// memory for the run itself runs out, each connection that is open ends since the host stops, and the run so far is still one
-/// of the machine.
+/// memory for the run itself runs out, each connection that is open ends since the host stops, by rising number, and the run so
+/// far is still one of the machine, within the read budget.
 pub fn rehearse<D: Desk, H: Handler, J: Journal>(
     alloc: Global,
     script: &Script,
@@ -58,22 +58,33 @@ pub fn rehearse<D: Desk, H: Handler, J: Journal>(
     workers: u32,
     limits: Limits,
 ) -> Rehearsed<H, J>
-    requires workers { workers ≤ 8 }
-    requires some { 1 ≤ limits.max_frame }
-    requires within { limits.max_frame ≤ limits.read_budget }
-    requires budget { limits.read_budget ≤ longest_payload }
-    requires longest { (D.meaning desk.now).max_frame ≡ limits.max_frame }
-    requires slots { length handlers.items ≡ (D.meaning desk.now).slots }
+    requires can { CanServe limits workers (D.meaning desk.now).max_frame (D.meaning desk.now).slots (length handlers.items) }
     requires whole { J.torn journal ≡ false }
     requires empty { MayHave (J.told journal) [] }
     requires moves { MovesItsWorkers workers script.now }
     ensures run { IsSeenRun
         (record { desk = D.meaning desk.now; opening = map H.service handlers.items; budget = limits.read_budget; workers = workers })
-        (record { tape = result.tape; causes = result.ends; told = J.told result.journal; services = map H.service result.handlers.items }) }
+        (record {
+          tape = result.tape;
+          causes = result.ends;
+          told = J.told result.journal;
+          services = map H.service result.handlers.items;
+          faults_before = J.faults journal;
+          faults = J.faults result.journal;
+        }) }
     ensures all { result.outcome ≡ All → IsSeenRehearsal
         (record { desk = D.meaning desk.now; opening = map H.service handlers.items; budget = limits.read_budget; workers = workers }) script.now
-        (record { tape = result.tape; causes = result.ends; told = J.told result.journal; services = map H.service result.handlers.items }) }
+        (record {
+          tape = result.tape;
+          causes = result.ends;
+          told = J.told result.journal;
+          services = map H.service result.handlers.items;
+          faults_before = J.faults journal;
+          faults = J.faults result.journal;
+        }) }
     ensures outs { result.outcome ≡ All → AreWritten (length result.ends) result.tape result.outs }
+    ensures outs_or_none { AreWrittenOrNone (length result.ends) result.tape result.outs }
+    ensures no_net { result.outcome ≢ NetFault }
     ensures fault { result.outcome ≡ JournalFault → Rose (J.faults journal) (J.faults result.journal) }
     ensures later { J.faults journal ≤ J.faults result.journal }
 {
@@ -126,6 +137,7 @@ fn opened(
 /// How a run came out that stopped so.
 fn outcome_of(stop: RunStop) -> Outcome
     ensures all { result ≢ All }
+    ensures no_net { result ≢ NetFault }
     ensures fault { result ≡ JournalFault → stop ≡ Broken }
 {
     match stop {
@@ -147,7 +159,9 @@ fn stopped<'a, H: Handler, J: Journal>(
     ensures told { J.told result.journal ≡ machine.entry.hall.told }
     ensures faults { J.faults result.journal ≡ machine.entry.hall.faults }
     ensures all { result.outcome ≢ All }
+    ensures no_net { result.outcome ≢ NetFault }
     ensures fault { result.outcome ≡ JournalFault → stop ≡ Broken }
+    ensures outs { AreWrittenOrNone (length result.ends) result.tape result.outs }
 {
     let mut machine = machine;
     machine.part.stop_all();
@@ -168,7 +182,9 @@ fn finished<'a, H: Handler, J: Journal>(
     ensures told { J.told result.journal ≡ machine.entry.hall.told }
     ensures faults { J.faults result.journal ≡ machine.entry.hall.faults }
     ensures outcome { result.outcome ≡ All → outcome ≡ All }
+    ensures net { result.outcome ≡ NetFault → outcome ≡ NetFault }
     ensures fault { result.outcome ≡ JournalFault → outcome ≡ JournalFault }
+    ensures written { AreWrittenOrNone (length machine.entry.part.stages.items) machine.entry.part.tape.items result.outs }
     ensures outs { result.outcome ≡ All → AreWritten (length machine.entry.part.stages.items) machine.entry.part.tape.items result.outs }
 {
     let Machine {
@@ -196,6 +212,7 @@ fn finished<'a, H: Handler, J: Journal>(
 /// An outcome where memory ran out after it: a fault of the journal stays.
 fn without_memory(outcome: Outcome) -> Outcome
     ensures all { result ≢ All }
+    ensures net { result ≡ NetFault → outcome ≡ NetFault }
     ensures fault { result ≡ JournalFault → outcome ≡ JournalFault }
 {
     match outcome {
@@ -207,6 +224,7 @@ fn without_memory(outcome: Outcome) -> Outcome
 /// A run that wasn't begun, for want of memory.
 fn nothing<H: Handler, J: Journal>(alloc: Global, handlers: Vec<H>, journal: J) -> Rehearsed<H, J>
     ensures tape { (result.tape ≡ []) × (result.ends ≡ []) }
+    ensures outs { result.outs ≡ [] }
     ensures kept { (result.handlers ≡ handlers) × (result.journal ≡ journal) }
     ensures outcome { result.outcome ≡ NoMemory }
 {

@@ -8,6 +8,7 @@ pub mod Refused
 pub mod FreshFeeds
 pub mod RulesNext
 pub mod Opening
+pub mod Halting
 pub mod Stopping
 pub mod Tying
 pub mod Rooming
@@ -22,6 +23,8 @@ pub mod TakenIn
 pub mod TakingIn
 pub mod Refeeding
 pub mod Composing
+pub mod SizesKept
+pub mod Bounding
 pub mod Reaching
 pub mod Arriving
 pub mod Going

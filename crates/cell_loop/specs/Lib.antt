@@ -4,5 +4,7 @@ pub mod Closing
 pub mod LoopMoves
 pub mod Settings
 pub mod Moving
+pub mod Admitted
 pub mod Reached
+pub mod Stops
 pub mod Replies

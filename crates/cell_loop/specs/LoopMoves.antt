@@ -1,5 +1,5 @@
 -- What each move of the loop's part is, of whichever play it is tied to.
-use Rattle.std.specs.Prelude.{◌≡◌, ℕ, Bool, false, Some, List, [], ◌∷◌, ◌++◌, length, slice_get, slice_index_or}
+use Rattle.std.specs.Prelude.{◌≡◌, ℕ, Bool, false, Some, List, [], ◌∷◌, ◌++◌, map, length, slice_get, slice_index_or}
 use Rattle.outside.specs.declared.outcomes.Settled.{Settled}
 use Rattle.host_model.specs.declared.key.Key.{Key}
 use Rattle.host_model.specs.declared.cause.EndCause.{EndCause}
@@ -8,13 +8,14 @@ use Rattle.call_rules.specs.Handling.{handler_rules}
 use Rattle.machine_model.specs.HallState.{JobOutcome, key_of}
 use Rattle.machine_model.specs.HallRule.{job_of, outcome_of}
 use Rattle.machine_model.specs.Loop.{Loop}
-use Rattle.machine_model.specs.Machine.{MachineEvent, EventsLead, HaveAllEnded}
+use Rattle.machine_model.specs.Machine.{EventsLead, HaveAllEnded}
 use Rattle.cell_loop.specs.declared.loop_part.CellStage.{CellStage}
 use Rattle.cell_loop.specs.declared.loop_part.CellStage.TheVariants.{Lean, Over}
 use Rattle.cell_loop.specs.declared.loop_part.LoopPart.{LoopPart}
 use Rattle.cell_loop.specs.Settings.{CellSetting, ServedCell, ServedPlay, desk_of_setting}
 use Rattle.cell_loop.specs.Moving.{Doing, GoesTo, GoesOrStays, one_of_conn, one_of_outcome}
 use Rattle.cell_loop.specs.LoopTied.{IsLoopTied, HasRoomToClose}
+use Rattle.cell_loop.specs.Stops.{if_open, stop_of, stops_of}
 
 -- the loop's part between two moves
 pub record IsLoopUnderWay (part : LoopPart) : Type 0 where
@@ -65,15 +66,16 @@ abbrev pub StandIsOver : CellStage → Type 0
 StandIsOver (Over cause) = Unit {0}
 StandIsOver _ = ⊥
 
--- Whichever play the loop's part was tied to, events lead from its cell to that of one which it is tied to now; hall and workers have no part in it.
-abbrev pub LoopLeads : LoopPart → LoopPart → Type 0
-LoopLeads old new =
+-- Whichever play the loop's part was tied to, these numbers of its loop are stopped: the events lead from its cell to that of one which it is tied to now; hall
+-- and workers have no part in it.
+abbrev pub LoopStops : (Loop → List ℕ) → LoopPart → LoopPart → Type 0
+LoopStops numbers old new =
     (s : CellSetting) (cell : ServedCell) (play : ServedPlay) → IsLoopTied s old play → cell.loop ≡ play.cell.loop
-    → (next : ServedPlay) × (events : List MachineEvent) × EventsLead (desk_of_setting s) handler_rules cell events (record cell { loop = next.cell.loop }) × IsLoopTied s new next
+    → (next : ServedPlay) × EventsLead (desk_of_setting s) handler_rules cell (map stop_of (numbers cell.loop)) (record cell { loop = next.cell.loop }) × IsLoopTied s new next
 
 -- Connection c has ended now, by a stop where it was open; and as many are known as before, of which those that had ended still have.
 pub record StopsOne (c : ℕ) (old new : LoopPart) : Type 0 where
-  pub leads : LoopLeads old new
+  pub stops : LoopStops (λ loop. if_open (loop.conns c).cause c) old new
   pub count : length new.stages.items ≡ length old.stages.items
   pub over : StandIsOver (slice_index_or new.stages.items c Lean)
   pub by_a_stop : (StandIsOver (slice_index_or old.stages.items c Lean) → ⊥) → slice_index_or new.stages.items c Lean ≡ Over Stopped
@@ -91,9 +93,9 @@ pub record IsEndedLoop (part : LoopPart) (loop : Loop) : Type 0 where
   pub over : AreAllOver part causes
   pub ended : HaveAllEnded loop causes
 
--- Whichever play the loop's part was tied to, events lead from its cell to one of which each connection has ended; hall and workers have no part in it.
+-- Whichever play the loop's part was tied to, the stops of its open connections, by rising number, lead from its cell to one of which each connection has
+-- ended; hall and workers have no part in it.
 abbrev pub StopsAll : LoopPart → LoopPart → Type 0
 StopsAll old new =
     (s : CellSetting) (cell : ServedCell) (play : ServedPlay) → IsLoopTied s old play → cell.loop ≡ play.cell.loop
-    → (loop : Loop) × (events : List MachineEvent) × EventsLead (desk_of_setting s) handler_rules cell events (record cell { loop = loop })
-    × IsEndedLoop new loop
+    → (loop : Loop) × EventsLead (desk_of_setting s) handler_rules cell (stops_of cell.loop) (record cell { loop = loop }) × IsEndedLoop new loop

@@ -55,14 +55,14 @@ pub fn moves_count()
 
 /// A move of a play that is reached comes to one that is reached, whatever kind of move it is.
 pub fn moves_are_reached()
-    ensures conn { (s : CellSetting) (c : ℕ) (old new : ServedPlay) → IsReached s old.cell →
-        ComesTo (one_of_conn s c) old new → IsReachedFrom s old.cell new.cell }
-    ensures worker { (s : CellSetting) (w : ℕ) (old new : ServedPlay) → IsReached s old.cell →
-        ComesTo (one_of_worker s w) old new → IsReachedFrom s old.cell new.cell }
-    ensures outcome { (s : CellSetting) (old new : ServedPlay) → IsReached s old.cell →
-        ComesTo (one_of_outcome s) old new → IsReachedFrom s old.cell new.cell }
-    ensures opening { (s : CellSetting) (old new : ServedPlay) → IsReached s old.cell →
-        ComesTo (one_opening s) old new → IsReachedFrom s old.cell new.cell }
+    ensures conn { (s : CellSetting) (c : ℕ) (old new : ServedPlay) → IsReached s old →
+        ComesTo (one_of_conn s c) old new → IsReachedFrom s old new }
+    ensures worker { (s : CellSetting) (w : ℕ) (old new : ServedPlay) → IsReached s old →
+        ComesTo (one_of_worker s w) old new → IsReachedFrom s old new }
+    ensures outcome { (s : CellSetting) (old new : ServedPlay) → IsReached s old →
+        ComesTo (one_of_outcome s) old new → IsReachedFrom s old new }
+    ensures opening { (s : CellSetting) (old new : ServedPlay) → IsReached s old →
+        ComesTo (one_opening s) old new → IsReachedFrom s old new }
 {
     less_than_a_frame();
 }

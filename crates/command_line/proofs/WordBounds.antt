@@ -16,8 +16,8 @@ use Rattle.command_line.specs.CommandPairs.{pairs_of_words, command_pairs, most_
 use Rattle.command_line.specs.Limits.{limits_given, limits_of_numbers, limits_said, number_given}
 use Rattle.command_line.specs.Numbers.{bounded_number, number_of_word, number_within, one_number, seed_of_word}
 use Rattle.command_line.specs.Options.{Sayings, said_behind}
-use Rattle.command_line.specs.Served.{PlainServed, file_of_word, protocol_of_word, served_by, served_said, served_with, workers_of_word}
-use Rattle.command_line.specs.Words.{PlainCommand, check_behind, check_said, checks, command_named, limit_options, no_options, file_alone, records, rehearses, runs, serve_behind, serve_options, serve_said, serve_with, served_behind, serves, words_of, workload_behind, workload_by, workload_said, workload_with}
+use Rattle.command_line.specs.Served.{PlainServed, default_name_given, file_of_word, protocol_of_word, served_by, served_said, served_with, workers_of_word}
+use Rattle.command_line.specs.Words.{PlainCommand, check_behind, check_said, checks, command_named, served_options, no_options, file_alone, records, rehearses, runs, serve_behind, serve_options, serve_said, serve_with, served_behind, serves, words_of, workload_behind, workload_by, workload_said, workload_with}
 
 -- what holds of each answer of a part holds of the whole
 and_then_keeps : {A B : Type 0} (f : A → Option B) (x : Option A) (P : A → Type 0) (Q : B → Type 0) → IfSome x P → ((a : A) → P a → IfSome (f a) Q)
@@ -113,11 +113,11 @@ given_are_limits ms bs =
 
 -- ---- what is served
 
-with_limits : (idl protocol workers : List ℕ) (pairs : List (List ℕ)) (limits : Limits) → AreLimits limits
-    → IfSome (served_with idl protocol workers pairs limits) KeepsServedBounds
-with_limits idl protocol workers pairs limits are =
+with_limits : (idl protocol workers : List ℕ) (pairs : List (List ℕ)) (default_service : Option (List ℕ)) (limits : Limits) → AreLimits limits
+    → IfSome (served_with idl protocol workers pairs default_service limits) KeepsServedBounds
+with_limits idl protocol workers pairs default_service limits are =
     let made : (name : List ℕ) (spelling : Protocol) (count : ℕ) (bound : List NamedKind) → PlainServed
-    = λ name spelling count bound. record { idl = name; protocol = spelling; workers = count; pairs = bound; limits = limits } in
+    = λ name spelling count bound. record { idl = name; protocol = spelling; workers = count; pairs = bound; default_service = default_service; limits = limits } in
     and_then_keeps (λ (name : List ℕ). option_and_then (λ (spelling : Protocol). option_and_then (λ (count : ℕ).
     option_map (made name spelling count) (command_pairs pairs)) (workers_of_word workers)) (protocol_of_word protocol)) (file_of_word idl)
     (λ _. Unit {0}) KeepsServedBounds (any (file_of_word idl))
@@ -129,20 +129,23 @@ with_limits idl protocol workers pairs limits are =
     (λ count within. map_keeps (made name spelling count) (command_pairs pairs) AreFew KeepsServedBounds (pairs_are_few pairs)
     (λ bound few. record { workers = within.1; some = few.0; few = few.1; least = are.0; fits = are.1; most = are.2 }))))
 
-placed_keep : (words : List (List ℕ)) (limits : Limits) → AreLimits limits → IfSome (served_by words limits) KeepsServedBounds
-placed_keep (idl ∷ protocol ∷ workers ∷ pairs) limits are = with_limits idl protocol workers pairs limits are
-placed_keep (idl ∷ protocol ∷ []) limits are = tt
-placed_keep (idl ∷ []) limits are = tt
-placed_keep [] limits are = tt
+placed_keep : (words : List (List ℕ)) (default_service : Option (List ℕ)) (limits : Limits) → AreLimits limits
+    → IfSome (served_by words default_service limits) KeepsServedBounds
+placed_keep (idl ∷ protocol ∷ workers ∷ pairs) default_service limits are = with_limits idl protocol workers pairs default_service limits are
+placed_keep (idl ∷ protocol ∷ []) default_service limits are = tt
+placed_keep (idl ∷ []) default_service limits are = tt
+placed_keep [] default_service limits are = tt
 
 served_keep : (said : Sayings) → IfSome (served_said said) KeepsServedBounds
 served_keep said =
-    and_then_keeps (served_by (said [])) (limits_said said) AreLimits KeepsServedBounds (given_are_limits (said (codes "max-frame")) (said (codes "read-budget")))
-    (λ limits are. placed_keep (said []) limits are)
+    and_then_keeps (λ (limits : Limits). option_and_then (λ (name : Option (List ℕ)). served_by (said []) name limits) (default_name_given (said (codes "default"))))
+    (limits_said said) AreLimits KeepsServedBounds (given_are_limits (said (codes "max-frame")) (said (codes "read-budget")))
+    (λ limits are. and_then_keeps (λ (name : Option (List ℕ)). served_by (said []) name limits) (default_name_given (said (codes "default")))
+    (λ _. Unit {0}) KeepsServedBounds (any (default_name_given (said (codes "default")))) (λ name _. placed_keep (said []) name limits are))
 
 behind_keep : (words : List (List ℕ)) → IfSome (served_behind words) KeepsServedBounds
 behind_keep words =
-    and_then_keeps served_said (said_behind limit_options words) (λ _. Unit {0}) KeepsServedBounds (any (said_behind limit_options words)) (λ said _. served_keep said)
+    and_then_keeps served_said (said_behind served_options words) (λ _. Unit {0}) KeepsServedBounds (any (said_behind served_options words)) (λ said _. served_keep said)
 
 -- ---- the other commands
 

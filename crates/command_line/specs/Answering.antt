@@ -10,7 +10,7 @@ use Rattle.command_line.specs.Words.{PlainCommand, checks, rehearses, records, s
 
 -- what is served, in memory, as plain data
 abbrev pub plain_served : ServedIdl → PlainServed
-plain_served s = record { idl = s.idl; protocol = s.protocol; workers = s.workers; pairs = s.pairs; limits = s.limits }
+plain_served s = record { idl = s.idl; protocol = s.protocol; workers = s.workers; pairs = s.pairs; default_service = s.default_service; limits = s.limits }
 
 -- a command in memory, as plain data
 abbrev pub plain_command : Command → PlainCommand

@@ -6,7 +6,7 @@
 --   serve IDL PROTOCOL WORKERS NAME=KIND [NAME=KIND ..] --listen PORT --accept N --journal FILE
 --   workload SEED SIZE WORKERS
 --
--- `rehearse`, `record` and `serve` also take `--max-frame N` and `--read-budget N`.
+-- `rehearse`, `record` and `serve` also take `--max-frame N`, `--read-budget N` and `--default NAME`.
 use Rattle.std.specs.Prelude.{ℕ, List, [], ◌∷◌, codes, Option, None, option_map, option_and_then, if◌then◌else◌}
 use Rattle.std.specs.Str.{bytes_eq}
 use Rattle.command_line.specs.Numbers.{bounded_number, one_number, seed_of_word}
@@ -27,12 +27,12 @@ abbrev pub no_options : List (List ℕ)
 no_options = []
 
 -- the options of `rehearse` and `record`
-abbrev pub limit_options : List (List ℕ)
-limit_options = codes "max-frame" ∷ codes "read-budget" ∷ []
+abbrev pub served_options : List (List ℕ)
+served_options = codes "max-frame" ∷ codes "read-budget" ∷ codes "default" ∷ []
 
 -- the options of `serve`
 abbrev pub serve_options : List (List ℕ)
-serve_options = codes "max-frame" ∷ codes "read-budget" ∷ codes "listen" ∷ codes "accept" ∷ codes "journal" ∷ []
+serve_options = codes "max-frame" ∷ codes "read-budget" ∷ codes "default" ∷ codes "listen" ∷ codes "accept" ∷ codes "journal" ∷ []
 
 -- one word alone, the name of a file
 abbrev pub file_alone : List (List ℕ) → Option (List ℕ)
@@ -76,7 +76,7 @@ abbrev pub check_behind : List (List ℕ) → Option PlainCommand
 check_behind words = option_and_then check_said (said_behind no_options words)
 
 abbrev pub served_behind : List (List ℕ) → Option PlainServed
-served_behind words = option_and_then served_said (said_behind limit_options words)
+served_behind words = option_and_then served_said (said_behind served_options words)
 
 abbrev pub serve_behind : List (List ℕ) → Option PlainCommand
 serve_behind words = option_and_then serve_said (said_behind serve_options words)

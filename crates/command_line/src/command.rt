@@ -8,7 +8,7 @@ ghost use Rattle.command_line.specs.Lent.{lent_words};
 ghost use Rattle.command_line.specs.Words.{check_behind, check_said, command_named, file_alone, serve_behind, serve_said, serve_with, served_behind, words_of, workload_behind, workload_by, workload_said, workload_with, PlainCommand, rehearses, records};
 
 use crate::numbers::{bounded_number, one_number, seed_of_word};
-use crate::options::{LIMIT_OPTIONS, NO_OPTIONS, SERVE_OPTIONS};
+use crate::options::{NO_OPTIONS, SERVE_OPTIONS, SERVED_OPTIONS};
 use crate::served::{ServedIdl, file_of_word, served_said, workers_of_word};
 use crate::sorting::{Sorted, sorted_words};
 use service_binding::Word;
@@ -159,7 +159,7 @@ fn check_behind(alloc: Global, words: &[String]) -> Result<Option<Command>, Allo
 fn served_behind(alloc: Global, words: &[String]) -> Result<Option<ServedIdl>, AllocError>
     ensures { IfOk result (λ read. option_map plain_served read ≡ served_behind (map string_bytes words.now)) }
 {
-    match sorted_words(alloc, LIMIT_OPTIONS.as_slice(), words)? {
+    match sorted_words(alloc, SERVED_OPTIONS.as_slice(), words)? {
         Some(sorted) => served_said(alloc, &sorted),
         None => Ok(None),
     }

@@ -4,12 +4,13 @@
 pub(crate) static NO_OPTIONS: [&str; 0] = [];
 
 /// The options of `rehearse` and `record`.
-pub(crate) static LIMIT_OPTIONS: [&str; 2] = ["max-frame", "read-budget"];
+pub(crate) static SERVED_OPTIONS: [&str; 3] = ["max-frame", "read-budget", "default"];
 
 /// The options of `serve`.
-pub(crate) static SERVE_OPTIONS: [&str; 5] = [
+pub(crate) static SERVE_OPTIONS: [&str; 6] = [
     "max-frame",
     "read-budget",
+    "default",
     "listen",
     "accept",
     "journal",

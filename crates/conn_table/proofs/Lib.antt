@@ -3,3 +3,4 @@ pub mod Placing
 pub mod Sizing
 pub mod Lending
 pub mod Rising
+pub mod Servable

@@ -3,3 +3,4 @@ pub mod Slots
 pub mod Places
 pub mod Table
 pub mod Lending
+pub mod Servable

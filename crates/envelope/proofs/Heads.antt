@@ -14,8 +14,9 @@ use Rattle.envelope.specs.declared.head.Protocol.TheVariants.{Binary, Compact}
 use Rattle.envelope.specs.declared.head.Head.{Head}
 use Rattle.envelope.specs.Said.{Said, FitsHead, IsCall}
 use Rattle.envelope.specs.Spelling.{name_text, strict_text, old_text, IsSpelling, head_text}
-use Rattle.envelope.specs.Readout.{◌>>=◌, head_bytes, head_byte, head_i32, name_of, version, strict_head, old_head, either_head, compact_head, whole_head, call_type, head_at, IsHeadOrNoMemory, IsEncodedIn}
+use Rattle.envelope.specs.Readout.{◌>>=◌, head_bytes, head_byte, head_i32, name_of, version, strict_head, old_head, either_head, compact_head, whole_head, call_type, head_at, IsHead, IsHeadOrNoMemory, IsEncodedIn}
 use Rattle.envelope.specs.declared.head.HeadFault.{HeadFault}
+use Rattle.envelope.specs.declared.head.HeadFault.TheVariants.{Envelope, NoMemory}
 use Rattle.envelope.proofs.Pieces.{AreBytes, ok, fail, bind_found, bind_only, same_ok, piece_found, piece_only, IsByteFront, byte_found, byte_only, IsNumber, number_found, number_only, read_number, IsName, name_found, name_only, spelled_number, Found, same_found}
 use Rattle.envelope.proofs.CompactHeads.{compact_found, compact_only, compact_written}
 
@@ -269,6 +270,12 @@ no_prefix p one other text more a b = ap (λ (q : Said × List ℕ). q.1) (both 
 pub one_head : (p : Protocol) (one other : Said) (text : List ℕ) → IsSpelling p one text → IsSpelling p other text → one ≡ other
 one_head p one other text a b =
     ap (λ (q : Said × List ℕ). q.0) (both p one other text [] a (subst (IsSpelling p other) (sym (append_nil_is text)) b))
+
+-- what never is want of memory may as well be
+pub or_no_memory : (result : Result Head HeadFault) (meant : Result Head EnvelopeFault) → IsHead result meant → IsHeadOrNoMemory result meant
+or_no_memory (Ok head) meant exact = exact
+or_no_memory (Err (Envelope fault)) meant exact = exact
+or_no_memory (Err NoMemory) meant exact = tt
 
 -- what an answer says, where it is the one that reading gives
 pub found_by : (p : Protocol) (bytes : List ℕ) (result : Result Head HeadFault) → AreBytes bytes → IsHeadOrNoMemory result (head_at p bytes)

@@ -127,6 +127,16 @@ head_at protocol bytes = do
 abbrev pub said_by : Head → Said
 said_by head = record { name = head.name; kind = head.kind; id = head.id }
 
+-- what was answered, seen by view, is what is meant; want of memory is never answered
+abbrev pub MeansExactly : {X Y : Type 0} → (X → Y) → Result X HeadFault → Result Y EnvelopeFault → Type 0
+MeansExactly view (Ok x) meant = meant ≡ Ok (view x)
+MeansExactly view (Err (Envelope fault)) meant = meant ≡ Err fault
+MeansExactly view (Err NoMemory) meant = ⊥
+
+-- the head that was answered is this, or its fault
+abbrev pub IsHead : Result Head HeadFault → Result Head EnvelopeFault → Type 0
+IsHead result meant = MeansExactly (λ head. head) result meant
+
 -- what was answered, seen by view, is what is meant; want of memory may stand in its place
 abbrev pub MeansOrNoMemory : {X Y : Type 0} → (X → Y) → Result X HeadFault → Result Y EnvelopeFault → Type 0
 MeansOrNoMemory view (Ok x) meant = meant ≡ Ok (view x)

@@ -5,7 +5,7 @@ ghost use Rattle.std.specs.Int.{w32};
 ghost use Rattle.wire_num.specs.Fixed.{unsigned_of};
 ghost use Rattle.envelope.specs.Said.{Said, IsCall};
 ghost use Rattle.envelope.specs.Spelling.{IsSpelling};
-ghost use Rattle.envelope.specs.Readout.{name_of, strict_head, old_head, sized_name, compact_rest, compact_head, whole_head, head_at, MeansOrNoMemory, IsHeadOrNoMemory, IsEncodedIn};
+ghost use Rattle.envelope.specs.Readout.{name_of, strict_head, old_head, sized_name, compact_rest, compact_head, whole_head, head_at, IsHead, IsHeadOrNoMemory, IsEncodedIn, MeansExactly};
 
 use super::head::{
     COMPACT_MARK, COMPACT_VERSION, Head, HeadFault, LentHead, Protocol, STRICT_VERSION,
@@ -30,6 +30,7 @@ pub fn read_head(alloc: Global, protocol: Protocol, payload: &[u8]) -> Result<He
 }
 
 /// The head, or the fault that comes first.
+#[tactic(auto, using(crate::proofs::Heads::or_no_memory))]
 fn head_of(alloc: Global, protocol: Protocol, payload: &[u8]) -> Result<Head, HeadFault>
     ensures { IsHeadOrNoMemory result (head_at protocol payload.now) }
 {
@@ -52,10 +53,10 @@ fn kept(alloc: Global, head: &LentHead<'_>) -> Result<Head, HeadFault>
     })
 }
 
-/// Does what `read_head` does, but the name stays in the payload; takes no memory.
+/// Does what `read_head` does, but the name stays in the payload; takes no memory, and never answers that there is none.
 pub fn lend_head(protocol: Protocol, payload: &[u8]) -> Result<LentHead<'_>, HeadFault>
     ensures found { IfOk result (λ head. IsEncodedIn protocol payload.now head) }
-    ensures exact { IsHeadOrNoMemory result (head_at protocol payload.now) }
+    ensures exact { IsHead result (head_at protocol payload.now) }
 {
     lent(protocol, payload)
 }
@@ -63,7 +64,7 @@ pub fn lend_head(protocol: Protocol, payload: &[u8]) -> Result<LentHead<'_>, Hea
 /// The head, whose name is lent, or the fault that comes first.
 #[tactic(auto, unfolding(crate::specs::Readout::head_at, crate::specs::Readout::call_type))]
 fn lent(protocol: Protocol, payload: &[u8]) -> Result<LentHead<'_>, HeadFault>
-    ensures { IsHeadOrNoMemory result (head_at protocol payload.now) }
+    ensures { IsHead result (head_at protocol payload.now) }
 {
     let front = whole_head(protocol, payload)?;
     if front.kind != CALL && front.kind != ONEWAY {
@@ -91,7 +92,7 @@ struct Front<'a> {
 /// A whole head of any type.
 #[tactic(auto, unfolding(crate::specs::Readout::whole_head))]
 fn whole_head(protocol: Protocol, payload: &[u8]) -> Result<Front<'_>, HeadFault>
-    ensures { MeansOrNoMemory
+    ensures { MeansExactly
         (λ f. (record { name = f.name.now; kind = f.kind; id = f.id }, f.rest.now))
         result (whole_head protocol payload.now) }
 {
@@ -104,7 +105,7 @@ fn whole_head(protocol: Protocol, payload: &[u8]) -> Result<Front<'_>, HeadFault
 /// A strict or an old head.
 #[tactic(auto, unfolding(crate::specs::Readout::whole_head, crate::specs::Readout::either_head))]
 fn binary_head(payload: &[u8]) -> Result<Front<'_>, HeadFault>
-    ensures { MeansOrNoMemory
+    ensures { MeansExactly
         (λ f. (record { name = f.name.now; kind = f.kind; id = f.id }, f.rest.now))
         result (whole_head Protocol.Binary payload.now) }
 {
@@ -121,7 +122,7 @@ fn binary_head(payload: &[u8]) -> Result<Front<'_>, HeadFault>
 #[tactic(auto, unfolding(crate::specs::Readout::strict_head, crate::specs::Readout::version))]
 fn strict<'a>(first: &'a [u8], rest: &'a [u8]) -> Result<Front<'a>, HeadFault>
     requires { length first.now ≡ 4 }
-    ensures { MeansOrNoMemory
+    ensures { MeansExactly
         (λ f. (record { name = f.name.now; kind = f.kind; id = f.id }, f.rest.now))
         result (strict_head first.now rest.now) }
 {
@@ -154,7 +155,7 @@ fn version_of(first: &[u8]) -> EnvelopeFault
 /// An old head, of which the length of the name was read.
 #[tactic(auto, unfolding(crate::specs::Readout::old_head))]
 fn old(size: i32, rest: &[u8]) -> Result<Front<'_>, HeadFault>
-    ensures { MeansOrNoMemory
+    ensures { MeansExactly
         (λ f. (record { name = f.name.now; kind = f.kind; id = f.id }, f.rest.now))
         result (old_head size rest.now) }
 {
@@ -172,7 +173,7 @@ fn old(size: i32, rest: &[u8]) -> Result<Front<'_>, HeadFault>
 /// The name of this length, and the bytes behind it.
 #[tactic(auto, unfolding(crate::specs::Readout::name_of))]
 fn next_name(size: i32, bytes: &[u8]) -> Result<(&[u8], &[u8]), HeadFault>
-    ensures { MeansOrNoMemory (λ r. (r.0.now, r.1.now)) result (name_of size bytes.now) }
+    ensures { MeansExactly (λ r. (r.0.now, r.1.now)) result (name_of size bytes.now) }
 {
     if size < 0 {
         return Err(HeadFault::Envelope(EnvelopeFault::NameSize));
@@ -184,7 +185,7 @@ fn next_name(size: i32, bytes: &[u8]) -> Result<(&[u8], &[u8]), HeadFault>
 /// A compact head.
 #[tactic(auto, unfolding(crate::specs::Readout::compact_head))]
 fn compact_head(payload: &[u8]) -> Result<Front<'_>, HeadFault>
-    ensures { MeansOrNoMemory
+    ensures { MeansExactly
         (λ f. (record { name = f.name.now; kind = f.kind; id = f.id }, f.rest.now))
         result (compact_head payload.now) }
 {
@@ -202,7 +203,7 @@ fn compact_head(payload: &[u8]) -> Result<Front<'_>, HeadFault>
 /// A compact head of this type, of which the first two bytes were read.
 #[tactic(auto, unfolding(crate::specs::Readout::compact_rest))]
 fn compact_rest(kind: u8, rest: &[u8]) -> Result<Front<'_>, HeadFault>
-    ensures { MeansOrNoMemory
+    ensures { MeansExactly
         (λ f. (record { name = f.name.now; kind = f.kind; id = f.id }, f.rest.now))
         result (compact_rest kind rest.now) }
 {
@@ -220,7 +221,7 @@ fn compact_rest(kind: u8, rest: &[u8]) -> Result<Front<'_>, HeadFault>
 /// The name of this length, which has 31 bits, and the bytes behind it.
 #[tactic(auto, unfolding(crate::specs::Readout::sized_name))]
 fn sized_name(size: u32, bytes: &[u8]) -> Result<(&[u8], &[u8]), HeadFault>
-    ensures { MeansOrNoMemory (λ r. (r.0.now, r.1.now)) result (sized_name size bytes.now) }
+    ensures { MeansExactly (λ r. (r.0.now, r.1.now)) result (sized_name size bytes.now) }
 {
     if size >= 1 << 31 {
         return Err(HeadFault::from(EnvelopeFault::NameSize));

@@ -30,7 +30,7 @@ module _ (view : ServedHall) where
   not_answered key call services told faults b s t f =
       subst (λ (p : List ServiceState × (Option (List CallEntry) × ℕ)). Gives view (apply key call) no_memory (record view { memories = p.0; told = p.1.0; faults = p.1.1 }))
       (λ i. (sym s i, (sym t i, sym f i)))
-      (λ entries may. (entries, may, (view.faults, omega arith, (b, inl refl))))
+      (λ entries may. (entries, may, (view.faults, omega arith, (b, inl refl), refl)))
 
   -- what a journal tells once an entry is added
   abbrev entered_in : CallEntry → Option (List CallEntry)
@@ -66,17 +66,17 @@ module _ (view : ServedHall) where
       go (Ok u) (Ok c) tells breaks cause copies = λ entries may. (
         entries ++ e ∷ [],
         subst (λ (t : Option (List CallEntry)). MayHave t (entries ++ e ∷ [])) (sym tells) (may_have e view.told entries may),
-        (faults, cause.later, (b, subst (λ (a : PlainAnswer). TakesEffect handler_rules (filled view entries) key call a faults (filled target (entries ++ e ∷ []))) (sym copies) (took entries (breaks ∙ sym b)))),
+        (faults, cause.later, (b, subst (λ (a : PlainAnswer). TakesEffect handler_rules (filled view entries) key call a faults (filled target (entries ++ e ∷ []))) (sym copies) (took entries (breaks ∙ sym b))), cause.kept),
       )
       go (Ok u) (Err f) tells breaks cause copies = λ entries may. (
         entries ++ e ∷ [],
         subst (λ (t : Option (List CallEntry)). MayHave t (entries ++ e ∷ [])) (sym tells) (may_have e view.told entries may),
-        (faults, cause.later, (b, inr (answer, took entries (breaks ∙ sym b)))),
+        (faults, cause.later, (b, inr (answer, took entries (breaks ∙ sym b))), cause.kept),
       )
       go (Err f) copy tells breaks cause copies = λ entries may. (
         entries,
         subst (λ (t : Option (List CallEntry)). MayHave t entries) (sym tells) may,
-        (faults, cause.later, (b, cause.failed refl, (λ i. record (filled view entries) { memories = moved i; faults = faults; broken = breaks i }))),
+        (faults, cause.later, (b, cause.failed refl, (λ i. record (filled view entries) { memories = moved i; faults = faults; broken = breaks i })), tt),
       )
 
 -- a hall breaks where its journal failed

@@ -59,4 +59,5 @@ module _ (max : ℕ) (first links : LinksState) (k0 k1 : LoopConnections) (asks 
         none_stopped = g.none_stopped;
         taken = g.taken;
         owing = owing ∙ g.owing;
+        quiet = g.quiet;
       }

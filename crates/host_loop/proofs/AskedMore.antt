@@ -69,6 +69,7 @@ module _ (max : ℕ) (first links : LinksState) (kept : LoopConnections) (asks :
             let before : summed_calls refuses_job asks ≡ 0 = g.taken in
             omega arith;
         owing = g.owing;
+        quiet = g.quiet;
       }
 
   -- the hall is closed

@@ -81,6 +81,7 @@ module _ (limits : Limits) (small : limits.max_frame ≤ longest_payload) (first
         none_stopped = λ c is. none-some _ is;
         taken = refl;
         owing = owing;
+        quiet = refl;
       }
 
   pub serves_at_first : (desk : DeskMeaning) (booth : BoothView ServedHall) (seat own : HallSeat) → IsOpenedFor desk booth → seat ≡ newcomer booth 0 → own ≡ newcomer booth 1

@@ -26,12 +26,12 @@ use Rattle.call_history.specs.Calls.{asks_of}
 use Rattle.machine_model.specs.HallState.{HallState}
 use Rattle.machine_model.specs.SeenHall.{MayHave, filled}
 use Rattle.machine_model.specs.Loop.{Loop}
-use Rattle.machine_model.specs.AtFronts.{IsWithinBudget}
+use Rattle.machine_model.specs.AtFronts.{IsWithinBudget, IsBounded}
 use Rattle.machine_model.specs.Resting.{IsPlaceOfRest}
 use Rattle.machine_model.specs.OpenAtFronts.{marks_counted}
 use Rattle.machine_model.specs.Machine.{HaveAllEnded}
 use Rattle.machine_model.specs.Merge.{no_loop, calls_in, Weaves, IsOneHistory, cell_at_first}
-use Rattle.machine_model.proofs.Breaking.{broken_rose}
+use Rattle.machine_model.proofs.Breaking.{broken_rose, whole_count}
 use Rattle.machine_model.proofs.Fronts.{woven_fronts}
 use Rattle.machine_model.proofs.Merging.{merged_meets, first_is}
 use Rattle.machine_model.proofs.Running.{meets}
@@ -47,7 +47,7 @@ use Rattle.loop_conns.specs.Woven.{ServedItem, WeavesLent, all_held, IsPassedAtR
 use Rattle.loop_conns.specs.Going.{AreAllGone}
 use Rattle.host_loop.specs.Lengths.{transfer_of, LengthIsRight, AreLengths}
 use Rattle.host_loop.specs.Rests.{IsNotedRest, AreNotedRests}
-use Rattle.host_loop.specs.Served.{ServerSetting, ServedRun, ComesOutBy, IsBounded, AreServicesLeft, AreLinksLeft, rules_served, IsServed}
+use Rattle.host_loop.specs.Served.{ServerSetting, ServedRun, ComesOutBy, AreServicesLeft, AreLinksLeft, rules_served, IsServed}
 use Rattle.host_loop.specs.Ending.{EndTells, EndsServing}
 use Rattle.host_loop.proofs.Moments.{PassesBy, HasBehind, passes}
 use Rattle.host_loop.proofs.Troubles.{Accounted, account, closed_breaks}
@@ -158,6 +158,9 @@ module _ (s : ServerSetting) (run : ServedRun) (e : EndsServing s run) where
     torn h =
         subst (λ (x : ℕ × ℕ). Rose x.0 x.1) (λ i. (e.faults_before i, faults_are i)) (broken_rose handler_rules opening t.log t.one.opened.opened t.one.history (broken_is ∙ h))
 
+    kept : run.torn ≡ false → run.faults ≡ run.faults_before
+    kept h = sym faults_are ∙ (whole_count handler_rules opening t.log t.one.history (broken_is ∙ h)).1 ∙ e.faults_before
+
     bounded : (front back : List Mark) → loop.tape ≡ front ++ back → IsBounded s.desk.max_frame s.budget front
     bounded front back is =
         record {
@@ -243,7 +246,7 @@ module _ (s : ServerSetting) (run : ServedRun) (e : EndsServing s run) where
         go c (inr l) = (w.tied.unopened c l).1
 
     comes_out : (outcome : Outcome) → EndTells s run e.kept e.loop_seat e.own_seat outcome → ComesOutBy run outcome
-    comes_out AllOver so = (so.0, whole, unstopped)
+    comes_out AllOver so = (so.0, whole, unstopped, so.1.quiet)
       where
         goes_ended : HaveAllEnded so.1.loop e.kept.causes.items
         goes_ended = all_ended run.first run.links e.kept so.1.loop so.1.so_far.tied e.gone
@@ -294,6 +297,7 @@ module _ (s : ServerSetting) (run : ServedRun) (e : EndsServing s run) where
           headline = headline;
           services = services;
           torn = torn;
+          kept = kept;
           bounded = bounded;
           lengths = IfSome_then run.links.lengths w.lengths lengths_right;
           rests = IfSome_then run.links.rests w.rests all_noted;

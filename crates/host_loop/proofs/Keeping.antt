@@ -25,7 +25,7 @@ use Rattle.hall_pool.specs.Turns.{asks_made, HasMadeTurns}
 use Rattle.hall_pool.specs.Jobs.{HallSeat, AddsAsk}
 use Rattle.loop_conns.specs.declared.connections.LoopConnections.{LoopConnections}
 use Rattle.loop_conns.specs.Woven.{ServedAsk, HasWoven, LoopIsRunning}
-use Rattle.loop_conns.specs.Going.{SomeLoopIsRunning, AnyLoopIsRunning, KeepsGoing, AllKeepGoing, IsOpenAt, IsHandedOut, AllHandOut, collected_behind, IsCollected, GoesOnSettled, longest_payload}
+use Rattle.loop_conns.specs.Going.{SomeLoopIsRunning, AnyLoopIsRunning, KeepsGoing, AllKeepGoing, AllComeSoFar, IsOpenAt, IsHandedOut, AllHandOut, collected_behind, IsCollected, GoesOnSettled, longest_payload}
 use Rattle.loop_conns.proofs.Standing.{standing}
 use Rattle.host_loop.specs.Asked.{SubmitsJob}
 use Rattle.host_loop.specs.Going.{IsServing, HaltTells, IsHalted}
@@ -94,14 +94,13 @@ module _ (desk : DeskMeaning) (limits : Limits) (booth : BoothView ServedHall) (
     serves_on_all l1 k1 keeps budget = serves_on l1 k1 (keeps limits.max_frame s.small) budget
 
     -- The links have failed.
-    pub fails_on : (l1 : LinksState) (k1 : LoopConnections) → AllKeepGoing l0 k0 l1 k1 → k1.table.budget ≡ k0.table.budget → Rose l0.net_faults l1.net_faults
+    pub fails_on : (l1 : LinksState) (k1 : LoopConnections) → AllComeSoFar l0 k0 l1 k1 → k1.table.budget ≡ k0.table.budget → Rose l0.net_faults l1.net_faults
         → IsHalted desk limits booth first l1 k1 seat own NetFault
-    fails_on l1 k1 keeps budget rose =
-        let goes : LoopIsRunning limits.max_frame first l1 k1 (asks_made seat.mine) = keeps limits.max_frame s.small first (asks_made seat.mine) s.going in
+    fails_on l1 k1 comes budget rose =
         record {
           small = s.small;
           opened = s.opened;
-          woven = (goes.loop, goes.so_far);
+          woven = comes limits.max_frame s.small first (asks_made seat.mine) s.going;
           budget = budget ∙ s.budget;
           place = s.place;
           zeroth = s.zeroth;

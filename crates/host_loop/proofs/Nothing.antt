@@ -63,6 +63,7 @@ module _ (s : ServerSetting) (run : ServedRun) (e : ServesNothing s run) where
         headline = headline;
         services = record { count = ap length e.services; memories = λ h. e.services; ahead = λ h. absurd (false≢true (sym e.whole ∙ h)) };
         torn = λ h. absurd (false≢true (sym e.whole ∙ h));
+        kept = λ h. e.faults;
         bounded = λ front back is. record {
           few = woven_fronts s.desk.max_frame no_items no_loop refl front back is;
           sizes = within.fronts front back is;

@@ -15,8 +15,7 @@ use Rattle.call_rules.specs.Entries.{CallEntry}
 use Rattle.call_rules.specs.Desks.{DeskMeaning, desk_rules}
 use Rattle.call_rules.specs.Handling.{ServiceState, handler_rules}
 use Rattle.machine_model.specs.SeenHall.{MayHave}
-use Rattle.machine_model.specs.OpenAtFronts.{IsWithinMost}
-use Rattle.machine_model.specs.AtFronts.{IsWithinBudget}
+use Rattle.machine_model.specs.AtFronts.{IsBounded}
 use Rattle.loop_conns.specs.Tied.{CauseShows}
 use Rattle.host_loop.specs.Lengths.{AreLengths}
 use Rattle.host_loop.specs.Rests.{AreNotedRests}
@@ -40,18 +39,14 @@ pub record ServedRun : Type 0 where
   pub faults_before : ℕ
   pub faults : ℕ
 
--- It may come out so: all is over, the journal is whole, and no connection was stopped; the links failed; the journal failed; or memory ran out, of which nothing is
--- shown.
+-- It may come out so: all is over, the journal is whole, no connection was stopped, and the links have never failed to tell what is next; the links failed; the journal
+-- failed; or memory ran out, of which nothing is shown.
 abbrev pub ComesOutBy : ServedRun → Outcome → Type 0
-ComesOutBy run AllOver = (run.links.over ≡ true) × (run.torn ≡ false) × ((c : ℕ) → slice_get run.causes c ≢ Some Stopped)
+ComesOutBy run AllOver =
+    (run.links.over ≡ true) × (run.torn ≡ false) × ((c : ℕ) → slice_get run.causes c ≢ Some Stopped) × (run.links.net_faults ≡ run.first.net_faults)
 ComesOutBy run NetFault = Rose run.first.net_faults run.links.net_faults
 ComesOutBy run JournalFault = (run.torn ≡ true) × Rose run.faults_before run.faults
 ComesOutBy run NoMemory = Unit {0}
-
--- at this front of a tape no more than 1,024 connections are open, and the sizes under way are within the budget
-pub record IsBounded (max budget : ℕ) (front : List Mark) : Type 0 where
-  pub few : IsWithinMost front
-  pub sizes : IsWithinBudget max budget front
 
 -- What a run leaves of the services: as many as they were, with the memories after the journal's entries; or, where its last append failed, after one call more.
 pub record AreServicesLeft (s : ServerSetting) (run : ServedRun) (journal : List CallEntry) : Type 0 where
@@ -81,6 +76,7 @@ pub record IsServed (s : ServerSetting) (run : ServedRun) : Type 0 where
   pub headline : Headline (rules_served s) handler_rules s.services tape journal run.causes
   pub services : AreServicesLeft s run journal
   pub torn : run.torn ≡ true → Rose run.faults_before run.faults
+  pub kept : run.torn ≡ false → run.faults ≡ run.faults_before
   pub bounded : (front back : List Mark) → tape ≡ front ++ back → IsBounded s.desk.max_frame s.budget front
   pub lengths : IfSome run.links.lengths (AreLengths (rules_served s) journal tape)
   pub rests : IfSome run.links.rests (AreNotedRests (rules_served s) s.budget tape journal)

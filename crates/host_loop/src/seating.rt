@@ -2,6 +2,7 @@
 
 ghost use Rattle.std.specs.Prelude.{◌≡◌, ◌+◌, ◌≤◌, ℕ, All, [], length, map, vec_len, vec_capacity};
 ghost use Rattle.outside.specs.Opening.{AreFreshLinks};
+ghost use Rattle.conn_table.specs.Servable.{CanServe};
 ghost use Rattle.machine_model.specs.HallState.{IsNewlyOpened};
 ghost use Rattle.machine_model.specs.SeenHall.{MayHave, filled};
 ghost use Rattle.seat_booth.specs.Seats.{IsSeatOf};
@@ -142,12 +143,9 @@ pub(crate) fn serve_hall<
     workers: u32,
 ) -> Served<H, J>
     requires fresh { AreFreshLinks (L.state links.old) }
-    requires small { host.now.limits.max_frame ≤ longest_payload }
-    requires longest { (D.meaning host.now.desk.now).max_frame ≡ host.now.limits.max_frame }
+    requires can { CanServe host.now.limits workers (D.meaning host.now.desk.now).max_frame (D.meaning host.now.desk.now).slots (length hall.memories) }
     requires newly { IsNewlyOpened (filled hall []) }
     requires empty { MayHave hall.told [] }
-    requires slots { length hall.memories ≡ (D.meaning host.now.desk.now).slots }
-    requires workers { workers ≤ 8 }
     requires tools { AreNewTools host.now.limits.read_budget tools }
     ensures plan { L.plan links.new ≡ L.plan links.old }
     ensures served { IsServed

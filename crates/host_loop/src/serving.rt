@@ -1,10 +1,10 @@
 //! Serving: one loop over links, a hall at a booth, and workers on threads.
 
-ghost use Rattle.std.specs.Prelude.{◌≡◌, ◌≤◌, false, [], length, map};
+ghost use Rattle.std.specs.Prelude.{◌≡◌, false, [], length, map};
 ghost use Rattle.outside.specs.Opening.{AreFreshLinks};
 ghost use Rattle.machine_model.specs.SeenHall.{MayHave};
 ghost use Rattle.host_loop.specs.Served.{IsServed};
-ghost use Rattle.call_rules.specs.Desks.{longest_payload};
+ghost use Rattle.conn_table.specs.Servable.{CanServe};
 
 use crate::holdings::Host;
 use crate::laws::nothing_is_served;
@@ -33,7 +33,7 @@ pub struct Served<H: Handler, J: Journal> {
 
 /// Serves the connections of links until all is over, or the links or the journal fail, or memory runs out; then each connection that is
 /// open is stopped. With no workers, or where none could be started, the loop makes their turns itself. The outcome is the first fault that
-/// the loop met, which no count at the end tells. It may wait.
+/// the loop met, and All only where it met none; which of several was the first no count at the end tells. It may wait.
 pub fn serve<
     L: Links,
     D: Desk + Sync,
@@ -53,12 +53,7 @@ pub fn serve<
     limits: Limits,
 ) -> Served<H, J>
     requires fresh { AreFreshLinks (L.state links.old) }
-    requires workers { workers ≤ 8 }
-    requires some { 1 ≤ limits.max_frame }
-    requires within { limits.max_frame ≤ limits.read_budget }
-    requires budget { limits.read_budget ≤ longest_payload }
-    requires longest { (D.meaning desk.now).max_frame ≡ limits.max_frame }
-    requires slots { length handlers.items ≡ (D.meaning desk.now).slots }
+    requires can { CanServe limits workers (D.meaning desk.now).max_frame (D.meaning desk.now).slots (length handlers.items) }
     requires whole { J.torn journal ≡ false }
     requires empty { MayHave (J.told journal) [] }
     ensures plan { L.plan links.new ≡ L.plan links.old }

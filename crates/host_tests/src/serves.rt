@@ -28,6 +28,28 @@ const SERVE: [&str; 11] = [
 const TWO_PINGS: &[u8] =
     b"open\ndata 0 00000011800100010000000470696e670000000000\ndata 0 00000011800100010000000470696e670000000000\nend 0\n";
 
+/// Two services, of which one is the default.
+const SERVE_BY_DEFAULT: [&str; 14] = [
+    "serve",
+    "@tutorial",
+    "binary",
+    "2",
+    "Calculator=calculator",
+    "shared.SharedService=mirror",
+    "--default",
+    "Calculator",
+    "--listen",
+    "9090",
+    "--accept",
+    "10",
+    "--journal",
+    "calls.txt",
+];
+
+/// `ping`, by its bare name and by its service's.
+const PINGS_OF_A_DEFAULT: &[u8] =
+    b"open\ndata 0 00000011800100010000000470696e670000000000\ndata 0 0000001c800100010000000f43616c63756c61746f723a70696e670000000000\nend 0\n";
+
 /// Serves a port to which two calls come.
 fn served<R: Threads + Wait + Sync>(
     rt: &R,
@@ -45,6 +67,22 @@ fn served<R: Threads + Wait + Sync>(
 fn a_port_is_served(rt: HostRuntime) -> Result<(), Fail> {
     let alloc = rt.alloc();
     let ended = served(&rt, alloc, Given::empty(alloc))?;
+    assert!(rt; ended.is_done(b"listening 127.0.0.1:9090\nconn 0 End\ncalls 2\n"));
+    assert!(rt;
+        ended.journal.as_slice()
+            == b"call 0 0 0 ping {} empty\ncall 0 1 0 ping {} empty\n".as_slice()
+    );
+    Ok(())
+}
+
+#[test]
+fn a_port_has_a_default_service(rt: HostRuntime) -> Result<(), Fail> {
+    let alloc = rt.alloc();
+    let given = Given {
+        port: PINGS_OF_A_DEFAULT,
+        ..Given::empty(alloc)
+    };
+    let ended = given.run(&rt, alloc, &SERVE_BY_DEFAULT)?;
     assert!(rt; ended.is_done(b"listening 127.0.0.1:9090\nconn 0 End\ncalls 2\n"));
     assert!(rt;
         ended.journal.as_slice()

@@ -35,6 +35,38 @@ const TWO_SERVICES: &[&str] = &[
     "shared.SharedService=mirror",
 ];
 
+const BY_DEFAULT: &[&str] = &[
+    "rehearse",
+    "@tutorial",
+    "binary",
+    "0",
+    "Calculator=calculator",
+    "shared.SharedService=mirror",
+    "--default",
+    "Calculator",
+];
+
+const BY_ANOTHER_DEFAULT: &[&str] = &[
+    "rehearse",
+    "@tutorial",
+    "binary",
+    "0",
+    "--default=shared.SharedService",
+    "Calculator=calculator",
+    "shared.SharedService=mirror",
+];
+
+const BY_NO_SERVICE: &[&str] = &[
+    "rehearse",
+    "@tutorial",
+    "binary",
+    "0",
+    "Calculator=calculator",
+    "shared.SharedService=mirror",
+    "--default",
+    "Nobody",
+];
+
 const MIRRORED: &[&str] = &[
     "rehearse",
     "@tutorial",
@@ -174,8 +206,9 @@ by 0\"}\ncall 0 3 0 calculate {1=1i,2={1=15i,2=10i,3=2i}} ok 5i\ncall 0 4 0 getS
     ),
 ];
 
-/// Two services by their names, a value of another type than the result's, a missing field, a reply that is too large, and a store.
-const SERVED: [Served; 6] = [
+/// Two services by their names, a value of another type than the result's, a default, which bare names alone ask for, a missing field, a reply
+/// that is too large, and a store.
+const SERVED: [Served; 8] = [
     (
         TWO_SERVICES,
         NO_FILES,
@@ -198,6 +231,21 @@ const SERVED: [Served; 6] = [
 {1=7i,2=\"42\"}\ncall 0 4 0 add {1=1i,2=1i} ok 2i\nconn 0 End 00000011800100020000000470696e6700000000000000001d800100020000000963616c63756c\
 617465000000020800000000002a000000002a8001000200000009676574537472756374000000030c0000080001000000070b00020000000234320000000000178001000200\
 000003616464000000010800000000000200\ncalls 5\n",
+    ),
+    (
+        BY_DEFAULT,
+        NO_FILES,
+        b"0000001e8001000100000003616464000000010800010000000108000200000001000000002580010001\
+0000000a4e6f626f64793a61646400000001080001000000010800020000000100",
+        b"call 0 0 0 add {1=1i,2=1i} ok 2i\nconn 0 End 0000001780010002000000036164640000000108000000000002000000003c800100030000000361646400000001\
+0b00010000001e53657276696365206e616d65206e6f7420666f756e643a204e6f626f64790800020000000100\ncalls 1\n",
+    ),
+    (
+        BY_ANOTHER_DEFAULT,
+        NO_FILES,
+        b"0000001e800100010000000361646400000001080001000000010800020000000100",
+        b"conn 0 End 000000388001000300000003616464000000010b00010000001a496e76616c6964206d6574686f64206e616d653a2027616464270800020000000100\ncalls 0\
+\n",
     ),
     (
         MIRRORED,
@@ -279,7 +327,7 @@ fn services_of_any_idl_are_served(rt: HostRuntime) -> Result<(), Fail> {
 }
 
 /// Words and files that are refused, whatever the script, with their statuses and lines.
-const REFUSED: [(&[&str], &[Held], Status, &[u8]); 11] = [
+const REFUSED: [(&[&str], &[Held], Status, &[u8]); 13] = [
     (&["rehearse"], NO_FILES, Status::Usage, b"thriftd: usage\n"),
     (
         &[
@@ -355,6 +403,26 @@ const REFUSED: [(&[&str], &[Held], Status, &[u8]); 11] = [
         NO_FILES,
         Status::BindRefused,
         b"thriftd: bind shared.SharedService=mirror SameKind\n",
+    ),
+    (
+        BY_NO_SERVICE,
+        NO_FILES,
+        Status::BindRefused,
+        b"thriftd: bind Nobody NotBound\n",
+    ),
+    (
+        &[
+            "rehearse",
+            "@tutorial",
+            "binary",
+            "0",
+            "--default",
+            "Nobody",
+            "Calculator=store",
+        ],
+        NO_FILES,
+        Status::BindRefused,
+        b"thriftd: bind Calculator=store Unsuited\n",
     ),
     (
         TUTORIAL,

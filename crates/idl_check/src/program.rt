@@ -37,6 +37,7 @@ pub fn program_text<F: Files>(alloc: Global, files: &mut F, idl: &str) -> Result
     ensures sinks { F.sink_faults files.new ≡ F.sink_faults files.old }
     ensures later { F.faults files.old ≤ F.faults files.new }
     ensures rose { IfErr result (λ reason. is_file_fault reason ≡ true → Rose (F.faults files.old) (F.faults files.new)) }
+    ensures kept { OnOk result (F.faults files.new ≡ F.faults files.old) }
 {
     let schema = program_schema(alloc, files, idl)?;
     Ok(text_of(alloc, schema)?)
@@ -53,6 +54,7 @@ pub fn program_schema<F: Files>(alloc: Global, files: &mut F, idl: &str) -> Resu
     ensures sinks { F.sink_faults files.new ≡ F.sink_faults files.old }
     ensures later { F.faults files.old ≤ F.faults files.new }
     ensures rose { IfErr result (λ reason. is_file_fault reason ≡ true → Rose (F.faults files.old) (F.faults files.new)) }
+    ensures kept { OnOk result (F.faults files.new ≡ F.faults files.old) }
 {
     if idl == "@tutorial" {
         return tutorial_schema(alloc);
@@ -81,6 +83,7 @@ fn schema_among<F: Files>(alloc: Global, files: &mut F, main: &str) -> Result<Sc
     ensures sinks { F.sink_faults files.new ≡ F.sink_faults files.old }
     ensures later { F.faults files.old ≤ F.faults files.new }
     ensures rose { IfErr result (λ reason. is_file_fault reason ≡ true → Rose (F.faults files.old) (F.faults files.new)) }
+    ensures kept { OnOk result (F.faults files.new ≡ F.faults files.old) }
 {
     each_file_is_read_as_one_thing();
     match load(alloc, files, main) {

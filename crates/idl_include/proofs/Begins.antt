@@ -190,16 +190,17 @@ start_moves told other faults now name document before after wanted same later t
 
 pub start_goes : DeclaresTree → IncludesTree → (levels : ℕ) (above : List (List ℕ)) (told other : Option (List File)) (faults now : ℕ) (name : List ℕ) (document : Document) (before after : List IdlFile) (wanted : List Written)
     → AreBegun before → IsNewName name before → length before < most_files → IsOfSomeText document
-    → other ≡ told → faults ≤ now → ((reader : FileReader) → Tells told reader → IsRead name (reader name) (Ok document)) → IsStarted name document before after wanted
+    → other ≡ told → now ≡ faults → ((reader : FileReader) → Tells told reader → IsRead name (reader name) (Ok document)) → IsStarted name document before after wanted
     → LoadProceeds (load_stage told faults before) (load_stage other now after) (file_left (suc levels) above name before)
     (includes_left levels (name ∷ above) name (length before) wanted after)
-start_goes declares includes levels above told other faults now name document before after wanted begun new room text same later tells s =
+start_goes declares includes levels above told other faults now name document before after wanted begun new room text same quiet tells s =
     let more = one_more name document before after wanted s in
     record {
-      moves = start_moves told other faults now name document before after wanted same later tells s;
+      moves = start_moves told other faults now name document before after wanted same (omega (arith, quiet)) tells s;
       longer = omega (arith, more);
       begun = begun_push name document before after wanted begun new room text s;
       comes = λ reader r. started_is declares includes levels above name document before after wanted reader room s r;
+      quiet = quiet;
     }
 
 pub too_many_ends : (levels : ℕ) (above : List (List ℕ)) (told : Option (List File)) (faults : ℕ) (name : List ℕ) (begun : List IdlFile) (stop : LoadStop) → most_files ≤ length begun

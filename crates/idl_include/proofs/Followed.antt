@@ -14,7 +14,7 @@ use Rattle.idl_include.specs.Steps.{FileReader, LoadStage, file_left, includes_l
 use Rattle.idl_include.proofs.Stages.{moves_none, goes_on, goes_from, goes_to, goes_before, ends_on, ends_from, ends_before, steps_on}
 
 pub goes_none : (a : LoadStage) (was : FileReader → Loaded) → AreBegun a.begun → LoadProceeds a a was was
-goes_none a was begun = record { moves = moves_none a; longer = omega arith; begun = begun; comes = λ reader r. refl }
+goes_none a was begun = record { moves = moves_none a; longer = omega arith; begun = begun; comes = λ reader r. refl; quiet = refl }
 
 -- the includes behind one
 behind_one : ℕ → List (List ℕ) → List ℕ → ℕ → List WantedFile → FileReader → Program → Loaded

@@ -147,6 +147,7 @@ before_goes levels above file of number w told faults before after meant k l =
       longer = omega (arith, many);
       begun = k.begun;
       comes = λ reader r. by_case levels above file of w before (loaded_before number) reader meant ∙ ap loaded (sym l);
+      quiet = refl;
     }
 
 -- a new file was loaded, and its number is yet to be linked
@@ -175,6 +176,7 @@ new_goes levels above file of w a told faults between after name meant e g k l =
       longer = omega (arith, many);
       begun = k.begun;
       comes = λ reader r. ap (λ (n : ℕ). loaded (linked of n (program_in between))) (length-map a.begun file_in) ∙ ap loaded (sym l);
+      quiet = refl;
     } in
     goes_on a (load_stage told faults between) (load_stage told faults after) (include_left levels above file of w a.begun) (λ reader. next reader (program_in between)) (all_loaded after) first second
 

@@ -60,14 +60,15 @@ goes_on a b c was mid is g h = record {
   longer = omega (arith, g.longer, h.longer);
   begun = h.begun;
   comes = λ reader r. g.comes reader (h.moves.kept reader r) ∙ h.comes reader r;
+  quiet = h.quiet ∙ g.quiet;
 }
 
 -- what was left is spelled in another way
 pub goes_from : (a b : LoadStage) (was other is : FileReader → Loaded) → ((reader : FileReader) → other reader ≡ was reader) → LoadProceeds a b was is → LoadProceeds a b other is
-goes_from a b was other is e g = record { moves = g.moves; longer = g.longer; begun = g.begun; comes = λ reader r. e reader ∙ g.comes reader r }
+goes_from a b was other is e g = record { moves = g.moves; longer = g.longer; begun = g.begun; comes = λ reader r. e reader ∙ g.comes reader r; quiet = g.quiet }
 
 pub goes_to : (a b : LoadStage) (was is other : FileReader → Loaded) → ((reader : FileReader) → is reader ≡ other reader) → LoadProceeds a b was is → LoadProceeds a b was other
-goes_to a b was is other e g = record { moves = g.moves; longer = g.longer; begun = g.begun; comes = λ reader r. g.comes reader r ∙ e reader }
+goes_to a b was is other e g = record { moves = g.moves; longer = g.longer; begun = g.begun; comes = λ reader r. g.comes reader r ∙ e reader; quiet = g.quiet }
 
 -- something is left to do after it
 pub goes_before : (a b : LoadStage) (was : FileReader → Loaded) (files : List IdlFile) (next : FileReader → Program → Loaded) → LoadProceeds a b was (all_loaded files)
@@ -77,6 +78,7 @@ goes_before a b was files next g = record {
   longer = g.longer;
   begun = g.begun;
   comes = λ reader r. ap (λ (come : Loaded). and_then come (next reader)) (g.comes reader r);
+  quiet = g.quiet;
 }
 
 -- ---- ends

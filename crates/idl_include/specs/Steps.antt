@@ -58,12 +58,13 @@ pub record LoadMoves (before after : LoadStage) : Type 0 where
   pub kept : (reader : FileReader) → AreRead reader after.begun → AreRead reader before.begun
   pub read : (reader : FileReader) → Tells before.told reader → AreRead reader before.begun → AreRead reader after.begun
 
--- Loading went on: by each reader that is right about the files begun by now, what was left before comes to what is left now.
+-- Loading went on: by each reader that is right about the files begun by now, what was left before comes to what is left now; and no fault was counted.
 pub record LoadProceeds (before after : LoadStage) (was is : FileReader → Loaded) : Type 0 where
   pub moves : LoadMoves before after
   pub longer : length before.begun ≤ length after.begun
   pub begun : AreBegun after.begun
   pub comes : (reader : FileReader) → AreRead reader after.begun → was reader ≡ is reader
+  pub quiet : after.faults ≡ before.faults
 
 -- A file that wasn't begun before couldn't be read: where a reader, right about the files begun by then, gives it a flaw, loading stops there.
 pub record StopsUnread (told : Option (List File)) (begun : List IdlFile) (was : FileReader → Loaded) (fault : LoadFault) : Type 0 where

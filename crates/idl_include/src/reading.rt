@@ -1,6 +1,6 @@
 //! One file: its bytes, its tokens, its document.
 
-ghost use Rattle.std.specs.Prelude.{◌≡◌, ◌≢◌, ◌≤◌, ℕ, List, true, false, length, IfOk, IfErr};
+ghost use Rattle.std.specs.Prelude.{◌≡◌, ◌≢◌, ◌≤◌, ℕ, List, true, false, length, IfOk, IfErr, OnOk};
 ghost use Rattle.outside.specs.Cause.{Rose};
 ghost use Rattle.idl_token.specs.Limits.{longest_idl_text};
 ghost use Rattle.idl_token.specs.Tokens.{AreTokensOf, IsFirstLexFault};
@@ -29,6 +29,7 @@ pub(crate) fn read_file<F: Files>(
     ensures sinks { F.sink_faults files.new ≡ F.sink_faults files.old }
     ensures later { F.faults files.old ≤ F.faults files.new }
     ensures rose { IfErr result (λ stop. is_unread stop ≡ true → Rose (F.faults files.old) (F.faults files.new)) }
+    ensures kept { OnOk result (F.faults files.new ≡ F.faults files.old) }
     ensures outer { IfErr result (λ stop. is_wrong_want stop ≡ false) }
 {
     each_file_is_read_as_one_thing();

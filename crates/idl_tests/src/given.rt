@@ -107,3 +107,29 @@ pub(crate) fn comes_to(
     let found = outcome(alloc, files, fails.to_vec(alloc)?)?;
     Ok(found.as_slice() == wanted.as_bytes())
 }
+
+/// What a program of this one file comes to.
+fn one_file(alloc: Global, text: &str) -> Result<Vec<u8>, AllocError> {
+    let mut files = Vec::new(alloc);
+    add_file(alloc, &mut files, "a.thrift", text.as_bytes())?;
+    outcome(alloc, files, Vec::new(alloc))
+}
+
+/// Whether a program of this text is refused behind so many bytes, for this kind.
+pub(crate) fn is_refused(
+    alloc: Global,
+    made: (String, usize),
+    kind: &str,
+) -> Result<bool, AllocError> {
+    let (text, behind) = made;
+    let found = one_file(alloc, text.as_str())?;
+    let line = line_at(alloc, "a.thrift", behind, kind)?;
+    Ok(found.as_slice() == line.as_slice())
+}
+
+/// Whether a program of this text has a schema.
+pub(crate) fn has_schema(alloc: Global, made: (String, usize)) -> Result<bool, AllocError> {
+    let (text, _behind) = made;
+    let found = one_file(alloc, text.as_str())?;
+    Ok(found.as_slice().starts_with(b"file a\n"))
+}

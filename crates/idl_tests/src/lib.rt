@@ -1,7 +1,7 @@
 //! Tests of the IDL's crates, from `idl_token` to `idl_check`: tables of texts through both lexers (`idl_token`, `idl_plain`), through the parser (`idl_parser`) and
 //! the plain recognizer, and trees that are printed (`idl_printer`) and read again; constants over files that are loaded (`idl_const`, `const_evaluator`); and whole
 //! programs of files in memory, from their loading (`idl_include`) to the errors' line or the schema's text: each fault at each place where it can come, which of two
-//! faults is told, the most files, levels and values, and what numbers, defaults and equal keys come to.
+//! faults is told, the most files, levels and values, definitions that lead round, and what numbers, defaults and equal keys come to.
 #![tactic(auto)]
 
 #[cfg(test)]
@@ -26,6 +26,8 @@ mod given;
 mod loaded_consts;
 #[cfg(test)]
 mod loading;
+#[cfg(test)]
+mod looped;
 #[cfg(test)]
 mod most;
 #[cfg(test)]

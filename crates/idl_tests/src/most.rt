@@ -1,6 +1,6 @@
 //! The most that a program may have: files, levels of a value, values, fields without an id.
 
-use crate::given::{Making, add_file, line_at, outcome};
+use crate::given::{Making, add_file, has_schema, is_refused, outcome};
 use std::alloc::{AllocError, Global};
 use std::process::Abort;
 use std::test::Fail;
@@ -83,28 +83,6 @@ fn thousands(alloc: Global, count: u32, last: u32) -> Result<(String, usize), Al
     let behind = text.len();
     text.push_str("B]")?;
     Ok((text, behind))
-}
-
-/// What a program of this one file comes to.
-fn one_file(alloc: Global, text: &str) -> Result<Vec<u8>, AllocError> {
-    let mut files = Vec::new(alloc);
-    add_file(alloc, &mut files, "a.thrift", text.as_bytes())?;
-    outcome(alloc, files, Vec::new(alloc))
-}
-
-/// Whether a text is refused behind so many bytes, for this kind.
-fn is_refused(alloc: Global, made: (String, usize), kind: &str) -> Result<bool, AllocError> {
-    let (text, behind) = made;
-    let found = one_file(alloc, text.as_str())?;
-    let line = line_at(alloc, "a.thrift", behind, kind)?;
-    Ok(found.as_slice() == line.as_slice())
-}
-
-/// Whether a text has a schema.
-fn has_schema(alloc: Global, made: (String, usize)) -> Result<bool, AllocError> {
-    let (text, _behind) = made;
-    let found = one_file(alloc, text.as_str())?;
-    Ok(found.as_slice().starts_with(b"file a\n"))
 }
 
 #[test]

@@ -1,5 +1,5 @@
 -- Lines of words, with one blank between two words.
-use Rattle.std.specs.Prelude.{ℕ, zero, suc, ◌==◌, ◌++◌, not, Bool, List, [], ◌∷◌, is_some, if◌then◌else◌}
+use Rattle.std.specs.Prelude.{ℕ, zero, suc, ◌==◌, ◌++◌, not, Bool, List, [], ◌∷◌, None, Some, is_some, if◌then◌else◌}
 use Rattle.std.specs.List.{list_all}
 use Rattle.envelope.specs.declared.head.Protocol.{Protocol}
 use Rattle.service_binding.specs.Pairs.{NamedKind}
@@ -26,8 +26,13 @@ served idl protocol workers pairs max_frame read_budget = record {
   protocol = protocol;
   workers = workers;
   pairs = pairs;
+  default_service = None;
   limits = record { max_frame = max_frame; read_budget = read_budget };
 }
+
+-- the same, with the name of a default
+abbrev pub by_default : List ℕ → PlainServed → PlainServed
+by_default name s = record s { default_service = Some name }
 
 -- a pair so many times
 abbrev pub many : ℕ → NamedKind → List NamedKind

@@ -4,7 +4,7 @@ ghost use Rattle.std.specs.Prelude.{◌≡◌, [], ◌∷◌, codes, None, Some,
 ghost use Rattle.call_rules.specs.declared.kind.Kind.TheVariants as kinds;
 ghost use Rattle.envelope.specs.declared.head.Protocol.TheVariants as protocols;
 ghost use Rattle.command_line.specs.Words.{checks, rehearses, records, serves, runs, words_of};
-ghost use Rattle.input_tests.specs.Lines.{are_refused, many, served, split};
+ghost use Rattle.input_tests.specs.Lines.{are_refused, by_default, many, served, split};
 
 /// Words that are commands: checks.
 pub fn accepted_checks()
@@ -60,6 +60,35 @@ pub fn accepted_options()
         ≡ Some (rehearses (served (codes "a") protocols.Binary 0 ((codes "A", kinds.Store) ∷ []) 1 1)) }
     ensures i { words_of (split (codes "record --read-budget=30 --max-frame=30 a binary 0 A=store"))
         ≡ Some (records (served (codes "a") protocols.Binary 0 ((codes "A", kinds.Store) ∷ []) 30 30)) }
+{}
+
+/// Words that are commands: a default service.
+pub fn accepted_defaults()
+    ensures a { words_of (split (codes "rehearse a binary 0 A=store --default A"))
+        ≡ Some (rehearses (by_default (codes "A") (served (codes "a") protocols.Binary 0 ((codes "A", kinds.Store) ∷ []) 16384000 268435456))) }
+    ensures b { words_of (split (codes "record --default=B a compact 8 A=store --max-frame 30 B=mirror"))
+        ≡ Some (records (by_default (codes "B") (served (codes "a") protocols.Compact 8 ((codes "A", kinds.Store) ∷ (codes "B", kinds.Mirror) ∷ []) 30 268435456))) }
+    ensures c { words_of (split (codes "serve a binary 0 A=store --default=-=B --listen 1 --accept 1 --journal j"))
+        ≡ Some (serves (by_default (codes "-=B") (served (codes "a") protocols.Binary 0 ((codes "A", kinds.Store) ∷ []) 16384000 268435456)) 1 1 (codes "j")) }
+    ensures d { words_of (split (codes "rehearse a binary 0 A=store A=store A=store A=store A=store A=store A=store A=store A=store A=store A=store A=store A=store A=store A=store A=store --default A"))
+        ≡ Some (rehearses (by_default (codes "A") (served (codes "a") protocols.Binary 0 (many 16 (codes "A", kinds.Store)) 16384000 268435456))) }
+{}
+
+/// Words that are no command: a default service.
+pub fn refused_defaults()
+    ensures { are_refused (codes "rehearse a binary 0 A=store --default"
+        ∷ codes "rehearse a binary 0 A=store --default="
+        ∷ codes "rehearse a binary 0 A=store --default "
+        ∷ codes "rehearse a binary 0 A=store --default -A"
+        ∷ codes "rehearse a binary 0 A=store --default --max-frame=3"
+        ∷ codes "rehearse a binary 0 A=store --default A --default A"
+        ∷ codes "rehearse a binary 0 A=store --default=A --default B"
+        ∷ codes "rehearse a binary 0 --default A=store"
+        ∷ codes "serve a binary 0 A=store --default A --default=A --listen 1 --accept 1 --journal j"
+        ∷ codes "check a --default A"
+        ∷ codes "check --default=A a"
+        ∷ codes "workload 1 1 0 --default Calculator"
+        ∷ []) ≡ true }
 {}
 
 /// Words that are commands: serving.

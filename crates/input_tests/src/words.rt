@@ -38,6 +38,10 @@ check a- : check a-
 check check : check check
 record @tutorial compact 0000000008 Calculator=mirror : record @tutorial compact 8 Calculator=mirror --max-frame=16384000 --read-budget=268435456
 rehearse rehearse binary 0 a-b=store : rehearse rehearse binary 0 a-b=store --max-frame=16384000 --read-budget=268435456
+rehearse a binary 0 A=store --default A : rehearse a binary 0 A=store --default=A --max-frame=16384000 --read-budget=268435456
+record --default=B a compact 8 A=store --max-frame 30 B=mirror : record a compact 8 A=store B=mirror --default=B --max-frame=30 --read-budget=268435456
+serve a binary 0 A=store --default=-=B --listen 1 --accept 1 --journal j : serve a binary 0 A=store --default=-=B --max-frame=16384000 --read-budget=268435456 --listen=1 --accept=1 --journal=j
+rehearse a binary 0 A=store A=store A=store A=store A=store A=store A=store A=store A=store A=store A=store A=store A=store A=store A=store A=store --default A : rehearse a binary 0 A=store A=store A=store A=store A=store A=store A=store A=store A=store A=store A=store A=store A=store A=store A=store A=store --default=A --max-frame=16384000 --read-budget=268435456
 record --read-budget=30 --max-frame=30 a binary 0 A=store : record a binary 0 A=store --max-frame=30 --read-budget=30
 serve @tutorial binary 0 A=store --listen=65535 --accept=1 --journal=-- : serve @tutorial binary 0 A=store --max-frame=16384000 --read-budget=268435456 --listen=65535 --accept=1 --journal=--
 serve a --journal binary binary 0 --accept 1 A=store --listen 1 B=mirror : serve a binary 0 A=store B=mirror --max-frame=16384000 --read-budget=268435456 --listen=1 --accept=1 --journal=binary
@@ -172,6 +176,20 @@ record a binary 0 A=store -
 record -- a binary 0 A=store
 record a binary 0 A=store --read-budget +30000000";
 
+/// Words that are no command: a default service.
+const DEFAULTS: &str = "rehearse a binary 0 A=store --default
+rehearse a binary 0 A=store --default=
+rehearse a binary 0 A=store --default\x20
+rehearse a binary 0 A=store --default -A
+rehearse a binary 0 A=store --default --max-frame=3
+rehearse a binary 0 A=store --default A --default A
+rehearse a binary 0 A=store --default=A --default B
+rehearse a binary 0 --default A=store
+serve a binary 0 A=store --default A --default=A --listen 1 --accept 1 --journal j
+check a --default A
+check --default=A a
+workload 1 1 0 --default Calculator";
+
 /// Words that are no command: serving.
 const SERVING: &str = "serve a binary 0 A=store
 serve a binary 0 A=store --accept 1 --journal j
@@ -235,7 +253,15 @@ workload 1 1\x20
 workload x 1 0
 workload 1 1x 0";
 
-const REFUSED: [&str; 6] = [OTHER_COMMANDS, PLACES, PAIRS, OPTIONS, SERVING, WORKLOADS];
+const REFUSED: [&str; 7] = [
+    OTHER_COMMANDS,
+    PLACES,
+    PAIRS,
+    OPTIONS,
+    DEFAULTS,
+    SERVING,
+    WORKLOADS,
+];
 
 /// The words of a line.
 fn owned(alloc: Global, line: &str) -> Result<Vec<String>, AllocError> {
@@ -281,6 +307,9 @@ fn put_served(into: &mut Vec<u8>, command: &str, served: &ServedIdl) -> Result<(
     put_word(into, " ", protocol_word(served.protocol))?;
     put_number(into, " ", u64::from(served.workers))?;
     put_pairs(into, &served.pairs)?;
+    if let Some(name) = &served.default_service {
+        put_word(into, " --default=", name.as_str())?;
+    }
     put_number(into, " --max-frame=", u64::from(served.limits.max_frame))?;
     put_number(into, " --read-budget=", served.limits.read_budget)
 }

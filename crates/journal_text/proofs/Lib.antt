@@ -7,3 +7,4 @@ pub mod OneLine
 pub mod Sent
 mod Walks
 pub mod Written
+pub mod OneConnection

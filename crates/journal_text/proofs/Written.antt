@@ -52,7 +52,7 @@ line_held_back x y z start held line f g none one part =
 pub line_broken : (x y : Option (List ℕ)) (start held line : List ℕ) (f g : ℕ) → start ≡ [] → BreaksOff (told_more x start) (told_more y held) f g line
     → IsCutShort x y line
 line_broken x y start held line f g none one =
-    let handed : HandsOver (told_more x start) (told_more y held) f g line one.lost = one.handed in
+    let handed : IsTakenBut (told_more x start) (told_more y held) line one.lost = one.part in
     let whole : told_more (told_more y held) one.lost ≡ told_more (told_more x start) line =
     ap (λ t. told_more t one.lost) handed.taken ∙ told_twice (told_more x start) handed.front one.lost ∙ ap (told_more (told_more x start)) (sym handed.whole) in
     record { lost = held ++ one.lost; rest = sym (told_twice y held one.lost) ∙ whole ∙ from_empty x start line none }

@@ -1,6 +1,7 @@
 //! What holds of the lines of entries.
 
 ghost use Rattle.std.specs.Prelude.{◌≡◌, ◌≤◌, ℕ, List, length, Ok};
+ghost use Rattle.script_model.specs.Telling.{TellsConnections};
 ghost use Rattle.call_rules.specs.Entries.{CallEntry};
 ghost use Rattle.call_rules.specs.PlainCalls.{IsPlainCall};
 ghost use Rattle.journal_text.specs.EntryReading.{line_front};
@@ -21,4 +22,9 @@ pub fn lines_tell_entries()
     ensures again { (most : ℕ) (e : CallEntry) → length (call_line e) ≤ most → HasEntryLine e → line_front most (call_line e) ≡ Ok e }
     // What is read as an entry is its line.
     ensures found { (most : ℕ) (line : List ℕ) (e : CallEntry) → line_front most line ≡ Ok e → IsLineOf line e }
+{}
+
+/// An entry's connection can be told from its text, whatever was asked and answered.
+pub fn lines_tell_connections()
+    ensures { TellsConnections entry_text }
 {}

@@ -24,7 +24,7 @@ mod reading;
 mod sink_journal;
 mod spelling;
 
-pub use laws::{each_entry_is_one_line, lines_tell_entries};
+pub use laws::{each_entry_is_one_line, lines_tell_connections, lines_tell_entries};
 pub use list_journal::ListJournal;
 pub use printing::{print_entry, put_entry};
 pub use reading::read_entry;

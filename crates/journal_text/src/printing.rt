@@ -1,6 +1,6 @@
 //! Appends the lines of entries to vectors.
 
-ghost use Rattle.std.specs.Prelude.{◌≡◌, ◌++◌, IfOk, OnOk};
+ghost use Rattle.std.specs.Prelude.{◌≡◌, ◌++◌, IfOk, OnErr, OnOk};
 ghost use Rattle.call_rules.specs.PlainCalls.{IsPlainCall, IsPlainAnswer};
 ghost use Rattle.journal_text.specs.EntryText.{call_line};
 
@@ -20,11 +20,13 @@ pub fn print_entry(alloc: Global, entry: &Entry) -> Result<Vec<u8>, AllocError>
     Ok(line)
 }
 
-/// Appends the line of an entry. Where memory runs out, a part of it may have been appended.
+/// Appends the line of an entry. Where memory runs out, the bytes are as before.
 pub fn put_entry(into: &mut Vec<u8>, entry: &Entry) -> Result<(), AllocError>
-    ensures { OnOk result (into.new.items ≡ into.old.items ++ call_line entry.now) }
+    ensures ok { OnOk result (into.new.items ≡ into.old.items ++ call_line entry.now) }
+    ensures err { OnErr result (into.new.items ≡ into.old.items) }
 {
+    let start = into.as_slice().len();
     let mut out = VecSink::take_from(into);
     let spelled = spell_entry(&mut out, entry);
-    out.give_back(into, spelled)
+    out.give_back(into, start, spelled)
 }

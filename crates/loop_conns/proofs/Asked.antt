@@ -16,8 +16,8 @@ use Rattle.loop_conns.specs.declared.connections.ConnStage.{ConnStage}
 use Rattle.loop_conns.specs.declared.connections.ConnStage.TheVariants.{Lean, Laden, Gone}
 use Rattle.loop_conns.specs.declared.connections.LoopConnections.{LoopConnections}
 use Rattle.loop_conns.specs.Tied.{StageTells, AreTied}
-use Rattle.loop_conns.specs.Going.{AnyLoopIsRunning, AllKeepGoing, HasNoRoom, AreAllGone, IsAllOver}
-use Rattle.loop_conns.proofs.Noting.{noted_goes}
+use Rattle.loop_conns.specs.Going.{AnyLoopIsRunning, AllKeepGoing, AllComeSoFar, HasNoRoom, AreAllGone, IsAllOver}
+use Rattle.loop_conns.proofs.Noting.{IsStill, noted_woven, noted_goes}
 use Rattle.loop_conns.proofs.Opening.{IsAdded, opened_goes}
 use Rattle.call_rules.specs.Desks.{longest_payload}
 
@@ -55,20 +55,25 @@ said {E} ask l0 l1 hint known is h = subst (λ (k : Hint). AnswersAsk {E = E} as
 
 module _ {E : Type 0} (ask : Ask) (l0 l1 : LinksState) (k0 : LoopConnections) (result : Result Hint E) (h : AnswersAsk ask l0 l1 result)
     (idle : ask.idle ≡ true → k0.owing ≡ 0) (no_room : ask.held ≡ true → (c : ℕ) × HasNoRoom k0.table c) where
+  still : OpensNone l0 l1 → IsStill l0 l1
+  still n = record { listens = h.listens; opened = n.opened; is_open = n.is_open; tape = n.tape; left = h.left; faults = h.faults; lengths = h.lengths; later = h.later }
+
   -- no connection was opened
-  pub none_opened : OpensNone l0 l1 → AllKeepGoing l0 k0 l1 k0
-  none_opened n max small first asks g =
-      noted_goes max first l0 l1 k0 asks g ask idle no_room
-      (record { listens = h.listens; opened = n.opened; is_open = n.is_open; tape = n.tape; left = h.left; faults = h.faults; lengths = h.lengths; later = h.later }) h.rests
+  pub none_opened : l1.net_faults ≡ l0.net_faults → OpensNone l0 l1 → AllKeepGoing l0 k0 l1 k0
+  none_opened same n max small first asks g = noted_goes max first l0 l1 k0 asks g ask idle no_room (still n) h.rests same
+
+  -- none was, and the links may have failed
+  pub none_told : OpensNone l0 l1 → AllComeSoFar l0 k0 l1 k0
+  none_told n max small first asks g = (g.loop, noted_woven max first l0 l1 k0 asks g ask idle no_room (still n) h.rests)
 
   -- one was, and was added: the place was noted before
-  pub one_opened : (c : ℕ) (k1 : LoopConnections) → OpensNext ask c l0 l1 → IsAdded c k0 k1 → AllKeepGoing l0 k0 l1 k1
-  one_opened c k1 o a max small first asks g =
+  pub one_opened : l1.net_faults ≡ l0.net_faults → (c : ℕ) (k1 : LoopConnections) → OpensNext ask c l0 l1 → IsAdded c k0 k1 → AllKeepGoing l0 k0 l1 k1
+  one_opened same c k1 o a max small first asks g =
       let noted : LinksState = record l0 { rests = l1.rests } in
       let fits : max ≤ longest_payload = small in
       opened_goes max (omega arith) first noted l1 k0 k1 asks
       (noted_goes max first l0 noted k0 asks g ask idle no_room
-      (record { listens = refl; opened = refl; is_open = λ x. refl; tape = refl; left = λ x. refl; faults = λ x. refl; lengths = refl; later = omega arith }) h.rests)
+      (record { listens = refl; opened = refl; is_open = λ x. refl; tape = refl; left = λ x. refl; faults = λ x. refl; lengths = refl; later = omega arith }) h.rests refl)
       c
       (record {
         number = o.number;
@@ -82,7 +87,7 @@ module _ {E : Type 0} (ask : Ask) (l0 l1 : LinksState) (k0 : LoopConnections) (r
         faults = h.faults;
         lengths = h.lengths;
         rests = refl;
-        later = h.later;
+        kept = same;
       })
       a
 

@@ -1,5 +1,5 @@
 -- A loop goes on where one connection changes by an item of its own.
-use Rattle.std.proofs.Common.{◌≡◌, ◌≢◌, ℕ, ◌+◌, ◌<◌, ◌≤◌, ◌^◌, None, Some, List, [], ◌∷◌, ◌++◌, length, arith}
+use Rattle.std.proofs.Common.{◌≡◌, ◌≢◌, ℕ, ◌+◌, ◌<◌, ◌≤◌, ◌^◌, None, Some, List, [], ◌∷◌, ◌++◌, length, ◌∙◌, arith}
 use Rattle.outside.specs.declared.marks.Mark.{Mark}
 use Rattle.outside.specs.LinksState.{LinksState}
 use Rattle.host_model.specs.declared.cause.EndCause.{EndCause}
@@ -70,4 +70,5 @@ change_goes max small first l0 l1 k0 k1 asks g item c conn place cause marks h s
       none_stopped = changed_each (λ (k : LoopConn). k.cause ≢ Some Stopped) loop c conn g.none_stopped s.unstopped;
       taken = taken;
       owing = omega arith;
+      quiet = h.change.links.others.net_faults ∙ g.quiet;
     }

@@ -30,7 +30,7 @@ use Rattle.loop_conns.specs.declared.connections.ConnStage.{ConnStage}
 use Rattle.loop_conns.specs.declared.connections.ConnStage.TheVariants.{Lean, Laden, Gone}
 use Rattle.loop_conns.specs.declared.connections.LoopConnections.{LoopConnections}
 use Rattle.loop_conns.specs.Tied.{IsLaden, StageTells, AreTied, PhasesTell}
-use Rattle.loop_conns.specs.Woven.{ServedAsk, WeavesLent, held_if_open, all_held, IsPassedAtRest, owed_by, LoopIsRunning}
+use Rattle.loop_conns.specs.Woven.{ServedAsk, WeavesLent, held_if_open, all_held, IsPassedAtRest, owed_by, IsWovenTo, LoopIsRunning}
 use Rattle.loop_conns.specs.Going.{HasNoRoom}
 use Rattle.loop_conns.proofs.Tying.{place_moved}
 use Rattle.loop_conns.proofs.Owing.{owes_bytes, owes_outcome}
@@ -281,22 +281,27 @@ module _ (max : ℕ) (first l0 l1 : LinksState) (kept : LoopConnections) (asks :
       subst (λ o. IfSome o (AllByRecursion Passed)) (sym n.1)
       (noted_all Passed l0.tape ask n.0 l0.rests g.so_far.rests (λ marks is some. passed_here marks is (idle_if_some n.0 n.2 some ask.idle refl)))
 
-  pub noted_goes : IsStill l0 l1 → NotesItsPlace ask l0.tape l0.rests l1.rests → LoopIsRunning max first l1 kept asks
-  noted_goes s n =
+  pub noted_woven : IsStill l0 l1 → NotesItsPlace ask l0.tape l0.rests l1.rests → IsWovenTo max first l1 kept asks g.loop
+  noted_woven s n =
+      record {
+        weave = g.so_far.weave;
+        woven = g.so_far.woven;
+        asked = g.so_far.asked;
+        tied = still_tied first l0 l1 kept g.loop g.so_far.tied s;
+        within = g.so_far.within;
+        lengths = subst (λ o. IfSome o (λ lengths. WeavesLent max no_loop g.so_far.weave lengths g.loop)) (sym s.lengths) g.so_far.lengths;
+        rests = noted_rests n;
+      }
+
+  pub noted_goes : IsStill l0 l1 → NotesItsPlace ask l0.tape l0.rests l1.rests → l1.net_faults ≡ l0.net_faults → LoopIsRunning max first l1 kept asks
+  noted_goes s n same =
       record {
         loop = g.loop;
-        so_far = record {
-          weave = g.so_far.weave;
-          woven = g.so_far.woven;
-          asked = g.so_far.asked;
-          tied = still_tied first l0 l1 kept g.loop g.so_far.tied s;
-          within = g.so_far.within;
-          lengths = subst (λ o. IfSome o (λ lengths. WeavesLent max no_loop g.so_far.weave lengths g.loop)) (sym s.lengths) g.so_far.lengths;
-          rests = noted_rests n;
-        };
+        so_far = noted_woven s n;
         phases = g.phases;
         none_left = g.none_left;
         none_stopped = g.none_stopped;
         taken = g.taken;
         owing = g.owing;
+        quiet = same ∙ g.quiet;
       }

@@ -47,7 +47,7 @@ pub record IsOpenedNext (c : ℕ) (old new : LinksState) : Type 0 where
   pub faults : (x : ℕ) → new.faults x ≡ old.faults x
   pub lengths : new.lengths ≡ old.lengths
   pub rests : new.rests ≡ old.rests
-  pub later : old.net_faults ≤ new.net_faults
+  pub kept : new.net_faults ≡ old.net_faults
 
 -- and it was added to what is kept
 pub record IsAdded (c : ℕ) (old new : LoopConnections) : Type 0 where
@@ -166,7 +166,7 @@ module _ (max : ℕ) (small : max < 2 ^ 31) (first l0 l1 : LinksState) (k0 k1 : 
       let opened : l1.opened ≡ suc c = o.opened in
       let few : l1.opened < 2 ^ 32 = o.few in
       let since : first.net_faults ≤ l0.net_faults = tied.net_faults in
-      let later : l0.net_faults ≤ l1.net_faults = o.later in
+      let kept : l1.net_faults ≡ l0.net_faults = o.kept in
       record {
         tape =
             subst (λ t. MayHave t (g.loop.tape ++ Opened g.loop.count ∷ [])) (sym (o.tape ∙ ap (λ n. told_with l0.tape (Opened n ∷ [])) number))
@@ -241,4 +241,5 @@ module _ (max : ℕ) (small : max < 2 ^ 31) (first l0 l1 : LinksState) (k0 k1 : 
         none_stopped = λ x. each_unstopped x (cases_eq x c);
         taken = g.taken;
         owing = a.owing ∙ g.owing ∙ sym (sum_more (λ k. owed_by k.cause k) refl);
+        quiet = o.kept ∙ g.quiet;
       }

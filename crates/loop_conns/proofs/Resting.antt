@@ -49,6 +49,7 @@ module _ (max : ℕ) (first l0 l1 : LinksState) (k0 k1 : LoopConnections) (asks 
         none_stopped = g.none_stopped;
         taken = g.taken;
         owing = owing ∙ g.owing;
+        quiet = change.links.others.net_faults ∙ g.quiet;
       }
 
 -- A connection that is open was read from, or written to, and nothing moved.

@@ -44,6 +44,11 @@ AnyLoopIsRunning links kept = (max : ℕ) × (max ≤ longest_payload) × SomeLo
 abbrev pub AllKeepGoing : LinksState → LoopConnections → LinksState → LoopConnections → Type 0
 AllKeepGoing old_links old links new = (max : ℕ) → max ≤ longest_payload → KeepsGoing max old_links old links new
 
+-- whichever loop went on, has come so far
+abbrev pub AllComeSoFar : LinksState → LoopConnections → LinksState → LoopConnections → Type 0
+AllComeSoFar old_links old links new =
+    (max : ℕ) → max ≤ longest_payload → (first : LinksState) (asks : List ServedAsk) → LoopIsRunning max first old_links old asks → HasWoven max first links new asks
+
 -- connection c is open
 abbrev pub IsOpenAt : ℕ → LoopConnections → Type 0
 IsOpenAt c kept = slice_index_or kept.stages.items c Gone ≢ Gone

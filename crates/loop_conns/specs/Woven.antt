@@ -90,8 +90,8 @@ pub record IsWovenTo (max : ℕ) (first links : LinksState) (kept : LoopConnecti
 abbrev pub HasWoven : ℕ → LinksState → LinksState → LoopConnections → List ServedAsk → Type 0
 HasWoven max first links kept asks = (loop : Loop) × IsWovenTo max first links kept asks loop
 
--- One that goes on: each open connection's state tells of the machine's, no payload was left behind, no connection was stopped, the hall has taken each job, and it is
--- known how many connections owe something.
+-- One that goes on: each open connection's state tells of the machine's, no payload was left behind, no connection was stopped, the hall has taken each job, it is
+-- known how many connections owe something, and the links have counted no fault but of connections since they came in.
 pub record LoopIsRunning (max : ℕ) (first links : LinksState) (kept : LoopConnections) (asks : List ServedAsk) : Type 0 where
   pub loop : Loop
   pub so_far : IsWovenTo max first links kept asks loop
@@ -100,3 +100,4 @@ pub record LoopIsRunning (max : ℕ) (first links : LinksState) (kept : LoopConn
   pub none_stopped : (c : ℕ) → (loop.conns c).cause ≢ Some Stopped
   pub taken : summed_calls refuses_job asks ≡ 0
   pub owing : kept.owing ≡ all_owing loop
+  pub quiet : links.net_faults ≡ first.net_faults

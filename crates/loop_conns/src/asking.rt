@@ -1,9 +1,9 @@
 //! How links are asked what is next.
 
-ghost use Rattle.std.specs.Prelude.{◌≡◌, ℕ, IsTrue, IsErr, Ok, None, ◌<◌, ◌≤◌, length};
+ghost use Rattle.std.specs.Prelude.{◌≡◌, ℕ, IsTrue, IsErr, MatchResult, Ok, None, ◌<◌, ◌≤◌, length};
 ghost use Rattle.outside.specs.Cause.{Rose};
 ghost use Rattle.outside.specs.declared.answers.Hint.TheVariants.{Over};
-ghost use Rattle.loop_conns.specs.Going.{AnyLoopIsRunning, AllKeepGoing, HasNoRoom, HasPlace, IsAllOver};
+ghost use Rattle.loop_conns.specs.Going.{AnyLoopIsRunning, AllKeepGoing, AllComeSoFar, HasNoRoom, HasPlace, IsAllOver};
 
 use crate::connections::{ConnStage, LoopConnections};
 use conn_state::EndCause;
@@ -21,7 +21,10 @@ impl LoopConnections {
         requires under_way { AnyLoopIsRunning (L.state links.old) self.old }
         requires place { HasPlace self.old }
         requires held { IsTrue held → (c : ℕ) × HasNoRoom self.old.table c }
-        ensures going { AllKeepGoing (L.state links.old) self.old (L.state links.new) self.new }
+        // Where the links fail the loop has come so far, and doesn't go on.
+        ensures going { MatchResult result
+            (λ _. AllKeepGoing (L.state links.old) self.old (L.state links.new) self.new)
+            (λ _. AllComeSoFar (L.state links.old) self.old (L.state links.new) self.new) }
         ensures failed { IsErr result → Rose (L.state links.old).net_faults (L.state links.new).net_faults }
         ensures over { result ≡ Ok Over → IsAllOver (L.state links.new) self.new }
         ensures budget { self.new.table.budget ≡ self.old.table.budget }

@@ -1,4 +1,4 @@
--- A hall is broken, or closed by another than seat 0, only where its journal's count of faults rose.
+-- A hall is broken, or closed by another than seat 0, only where its journal's count of faults rose; and where it is whole the count is as it was.
 use Rattle.std.proofs.Common.{◌≡◌, ℕ, ◌+◌, ◌≤◌, ◌⊎◌, Bool, true, false, ◌||◌, cond, List, [], ◌∷◌, ◌++◌, refl, sym, ap, ◌∙◌, subst, inl, inr, ⊎_elim, arith, append_assoc, append-nil, eqb, min}
 use Rattle.std.proofs.lemmas.Bool.{cases_eq, false≢true, or_left, or_right, or_cases}
 use Rattle.std.proofs.Math.Nat.{min-le_left, min-le_right, le-min}
@@ -9,7 +9,7 @@ use Rattle.call_history.specs.History.{meaning_after, IsHistory}
 use Rattle.call_history.specs.Calls.{calls_by, ask_of, asks_of}
 use Rattle.call_history.specs.Laws.{calls_by-own}
 use Rattle.machine_model.specs.HallState.{HallState, IsNewlyOpened}
-use Rattle.machine_model.specs.HallRule.{HallOperation, submit, take_job, apply, put, collect, close, HallAnswer, done, job, empty, is_closed, applied, no_memory, journal_fault, is_broken, outcome, TakesEffect, ApplyGives, HallGives}
+use Rattle.machine_model.specs.HallRule.{HallOperation, submit, take_job, apply, put, collect, close, HallAnswer, done, job, empty, is_closed, applied, no_memory, journal_fault, is_broken, outcome, TakesEffect, ApplyGives, KeepsCount, HallGives}
 use Rattle.machine_model.specs.OwnCalls.{HallCall, HallAsk, any_of}
 use Rattle.machine_model.specs.Trouble.{tells_of_fault, is_close, any_fault_told, ClosesWhereTold}
 use Rattle.machine_model.proofs.Owning.{any_last}
@@ -109,6 +109,51 @@ module _ {C A M : Type 0} (r : ServiceRules C A M) where
         closed = λ h. inr refl;
       }
   troubles old new close _ g = absurd g
+
+  -- where a call leaves the hall whole it was whole before, and the count is as it was
+  abbrev StaysWhole : HallState C A M → HallState C A M → Type 0
+  StaysWhole old new = new.broken ≡ false → (old.broken ≡ false) × (new.faults ≡ old.faults)
+
+  whole_so : (old other new : HallState C A M) → new ≡ other → other.broken ≡ old.broken → other.faults ≡ old.faults → StaysWhole old new
+  whole_so old other new is b f =
+      λ h. (sym b ∙ sym (ap (λ (x : HallState C A M). x.broken) is) ∙ h, ap (λ (x : HallState C A M). x.faults) is ∙ f)
+
+  apply_whole : (old new : HallState C A M) (key : Key) (call : C) (answer : HallAnswer A) (faults : ℕ) → ApplyGives r old key call faults answer new → KeepsCount answer old.faults faults
+      → StaysWhole old new
+  apply_whole old new key call (applied reply) faults g same = whole_so old _ new g.1.1 refl same
+  apply_whole old new key call no_memory faults g same =
+      ⊎_elim (λ (t : new ≡ record old { faults = faults }). whole_so old _ new t refl same)
+      (λ (t : (reply : A) × TakesEffect r old key call reply faults new). whole_so old _ new t.1.1 refl same) g.1
+  apply_whole old new key call journal_fault faults g same = λ h. absurd (false≢true (sym h ∙ ap (λ (x : HallState C A M). x.broken) g.2))
+  apply_whole old new key call is_broken faults g same = whole_so old _ new g.1 refl same
+  apply_whole old new key call _ faults g same = absurd g
+
+  stays_whole : (old new : HallState C A M) (op : HallOperation C) (answer : HallAnswer A) → HallGives r old op answer new → StaysWhole old new
+  stays_whole old new (submit key payload) done g = whole_so old _ new g.1 refl refl
+  stays_whole old new (submit key payload) is_closed g = whole_so old _ new g.1 refl refl
+  stays_whole old new (submit key payload) _ g = absurd g
+  stays_whole old new take_job (job key payload) g = whole_so old _ new g.2 refl refl
+  stays_whole old new take_job empty g = whole_so old _ new g.2 refl refl
+  stays_whole old new take_job is_closed g = whole_so old _ new g.2 refl refl
+  stays_whole old new take_job _ g = absurd g
+  stays_whole old new (apply key call) answer g = apply_whole old new key call answer g.0 g.2 g.3
+  stays_whole old new (put key settled) done g = whole_so old _ new g refl refl
+  stays_whole old new (put key settled) _ g = absurd g
+  stays_whole old new collect (outcome key settled) g = whole_so old _ new g.2 refl refl
+  stays_whole old new collect empty g = whole_so old _ new g.2 refl refl
+  stays_whole old new collect is_closed g = whole_so old _ new g.2 refl refl
+  stays_whole old new collect _ g = absurd g
+  stays_whole old new close done g = whole_so old _ new g refl refl
+  stays_whole old new close _ g = absurd g
+
+  -- the same of a history
+  pub whole_count : (hall : HallState C A M) (log : List (HallCall C A M)) → IsHistory (HallGives r) hall log → StaysWhole hall (meaning_after hall log)
+  whole_count hall [] history = λ h. (h, refl)
+  whole_count hall (e ∷ log) history =
+      λ h.
+      let later : (e.after.broken ≡ false) × ((meaning_after e.after log).faults ≡ e.after.faults) = whole_count e.after log history.1 h in
+      let first : (hall.broken ≡ false) × (e.after.faults ≡ hall.faults) = stays_whole hall e.after e.op e.reply history.0 later.0 in
+      (first.0, later.1 ∙ first.1)
 
   module _ (opening : HallState C A M) where
     -- what is known of trouble after a history

@@ -243,17 +243,17 @@ module _ {C A M : Type 0} (d : DeskRules C A) (r : ServiceRules C A M) (small : 
     apply_result_is b answers (Some m) g e = (
       key,
       call,
-      (applied (r.rule call m).0, _, _, (payload, h, q, refl), (old.hall.faults, omega arith, (b, (is_its_answer m g, refl))), sym (same_Some _ new e)),
+      (applied (r.rule call m).0, _, _, (payload, h, q, refl), (old.hall.faults, omega arith, (b, (is_its_answer m g, refl)), refl), sym (same_Some _ new e)),
     )
     apply_result_is b lacks_for_answer (Some m) g e = (
       key,
       call,
-      (no_memory, _, _, (payload, h, q, refl), (old.hall.faults, omega arith, (b, inr ((r.rule call m).0, (is_its_answer m g, refl)))), sym (same_Some _ new e)),
+      (no_memory, _, _, (payload, h, q, refl), (old.hall.faults, omega arith, (b, inr ((r.rule call m).0, (is_its_answer m g, refl))), refl), sym (same_Some _ new e)),
     )
     apply_result_is b answers None g e = absurd (none-some new e)
     apply_result_is b lacks_for_answer None g e = absurd (none-some new e)
     apply_result_is b lacks_for_call m g e =
-        (key, call, (no_memory, _, old.hall, (payload, h, q, refl), (old.hall.faults, omega arith, (b, inl refl)), sym (same_Some _ new e)))
+        (key, call, (no_memory, _, old.hall, (payload, h, q, refl), (old.hall.faults, omega arith, (b, inl refl), refl), sym (same_Some _ new e)))
     apply_result_is b fails_journal m g e = (
       key,
       call,
@@ -262,13 +262,13 @@ module _ {C A M : Type 0} (d : DeskRules C A) (r : ServiceRules C A M) (small : 
         _,
         _,
         (payload, h, q, refl),
-        (old.hall.faults + 1, omega arith, (b, omega arith, refl)),
+        (old.hall.faults + 1, omega arith, (b, omega arith, refl), tt),
         sym (same_Some _ new e),
       ),
     )
 
     broken_is : old.hall.broken ≡ true → (apply_result : ApplyResult) → broken_plain old w key payload apply_result ≡ Some new → Steps d r old (applies w) new
-    broken_is b answers e = (key, call, (is_broken, _, old.hall, (payload, h, q, refl), (old.hall.faults, omega arith, (b, refl)), sym (same_Some _ new e)))
+    broken_is b answers e = (key, call, (is_broken, _, old.hall, (payload, h, q, refl), (old.hall.faults, omega arith, (b, refl), refl), sym (same_Some _ new e)))
     broken_is b lacks_for_call e = absurd (none-some new e)
     broken_is b lacks_for_answer e = absurd (none-some new e)
     broken_is b fails_journal e = absurd (none-some new e)

@@ -1,5 +1,5 @@
 -- The hall's answers, and the hall after each, are determined but for what is free.
-use Rattle.std.proofs.Common.{◌≡◌, ◌≢◌, ◌↔◌, ℕ, ◌<◌, ◌⊎◌, Bool, true, false, Option, None, Some, MatchOption, List, [], ◌∷◌, ◌++◌, length, slice_get, refl, sym, ap, ◌∙◌, subst, inl, inr, arith}
+use Rattle.std.proofs.Common.{◌≡◌, ◌≢◌, ◌↔◌, ℕ, ◌<◌, ◌⊎◌, Bool, true, false, Option, None, Some, MatchOption, List, [], ◌∷◌, ◌++◌, length, slice_get, refl, sym, ap, ◌∙◌, subst, inl, inr, ⊎_elim, arith}
 use Rattle.std.proofs.lemmas.Bool.{true≢false}
 use Rattle.outside.specs.declared.outcomes.Settled.{Settled}
 use Rattle.host_model.specs.declared.key.Key.{Key}
@@ -7,7 +7,7 @@ use Rattle.host_model.specs.Journal.{ServiceRules, after_call}
 use Rattle.host_model.proofs.Lists.{nil-cons, cons_parts}
 use Rattle.machine_model.proofs.Lists.{get_within}
 use Rattle.machine_model.specs.HallState.{Job, JobOutcome, HallState, without}
-use Rattle.machine_model.specs.HallRule.{HallOperation, submit, take_job, apply, put, collect, close, HallAnswer, done, job, empty, is_closed, applied, no_memory, journal_fault, is_broken, outcome, job_of, outcome_of, entry_under, SubmitGives, TakeGives, TakesEffect, ApplyGives, PutGives, CollectGives, CloseGives, HallGives}
+use Rattle.machine_model.specs.HallRule.{HallOperation, submit, take_job, apply, put, collect, close, HallAnswer, done, job, empty, is_closed, applied, no_memory, journal_fault, is_broken, outcome, job_of, outcome_of, entry_under, SubmitGives, TakeGives, TakesEffect, ApplyGives, KeepsCount, PutGives, CollectGives, CloseGives, HallGives}
 use Rattle.machine_model.specs.Determined.{IsFree, IsApply, IsSameButFaults}
 use Rattle.machine_model.specs.OwnCalls.{HallCan}
 
@@ -170,7 +170,7 @@ module _ {C A M : Type 0} (r : ServiceRules C A M) where
         go : (new ≡ record old { faults = t.0 }) ⊎ ((answer : A) × TakesEffect r old key call answer t.0 new)
             → IsSameButFaults old new ⊎ ((answer : A) × HallGives r old (apply key call) (applied answer) new)
         go (inl e) = inl (counted old old new old old.faults t.0 refl e)
-        go (inr u) = inr (u.0, (t.0, t.1, (t.2.0, u.1)))
+        go (inr u) = inr (u.0, (t.0, t.1, (t.2.0, u.1), t.3))
 
     unbroken : (answer : HallAnswer A) → old.broken ≡ false → answer ≢ is_broken → (old.broken ≡ true) ↔ (answer ≡ is_broken)
     unbroken answer f n = (λ e. absurd (true≢false (sym e ∙ f)), λ e. absurd (n e))
@@ -206,6 +206,23 @@ module _ {C A M : Type 0} (r : ServiceRules C A M) where
     count_kept close done t n = faults_of (record old { closed = true }) t refl
     count_kept close _ t n = absurd t
 
+    apply_kept : (key : Key) (call : C) (faults : ℕ) (answer : HallAnswer A) → ApplyGives r old key call faults answer new → KeepsCount answer old.faults faults → answer ≢ journal_fault
+        → new.faults ≡ old.faults
+    apply_kept key call faults (applied x) t same n = faults_of _ t.1.1 same
+    apply_kept key call faults no_memory t same n =
+        ⊎_elim (λ (u : new ≡ record old { faults = faults }). faults_of _ u same) (λ (u : (answer : A) × TakesEffect r old key call answer faults new). faults_of _ u.1.1 same) t.1
+    apply_kept key call faults journal_fault t same n = absurd (n refl)
+    apply_kept key call faults is_broken t same n = faults_of _ t.1 same
+    apply_kept key call faults _ t same n = absurd t
+
+    pub count_told : (op : HallOperation C) (answer : HallAnswer A) → HallGives r old op answer new → answer ≢ journal_fault → new.faults ≡ old.faults
+    count_told (submit key payload) answer t n = count_kept (submit key payload) answer t (λ f. f)
+    count_told take_job answer t n = count_kept take_job answer t (λ f. f)
+    count_told (apply key call) answer t n = apply_kept key call t.0 answer t.2 t.3 n
+    count_told (put key settled) answer t n = count_kept (put key settled) answer t (λ f. f)
+    count_told collect answer t n = count_kept collect answer t (λ f. f)
+    count_told close answer t n = count_kept close answer t (λ f. f)
+
   module _ (old : HallState C A M) where
     abbrev IsAnsweredThen : HallOperation C → Type 0
     IsAnsweredThen op = (answer : HallAnswer A) × (new : HallState C A M) × HallGives r old op answer new
@@ -225,7 +242,7 @@ module _ {C A M : Type 0} (r : ServiceRules C A M) where
     collects_some (x ∷ later) b j e = (outcome x.key x.settled, record old { outcomes = later }, (later, j, refl))
 
     applies_some : (key : Key) (call : C) (b : Bool) → old.broken ≡ b → r.slot call < length old.memories → IsAnsweredThen (apply key call)
-    applies_some key call true e l = (is_broken, record old { faults = old.faults }, (old.faults, omega arith, (e, refl)))
+    applies_some key call true e l = (is_broken, record old { faults = old.faults }, (old.faults, omega arith, (e, refl), refl))
     applies_some key call false e l =
         let t : (m : M) × (slice_get old.memories (r.slot call) ≡ Some m) = get_within old.memories (r.slot call) l in
         let a : A = (r.rule call t.0).0 in (
@@ -235,6 +252,7 @@ module _ {C A M : Type 0} (r : ServiceRules C A M) where
             old.faults,
             omega arith,
             (e, (subst (λ x. MatchOption x ⊥ (λ m. a ≡ (r.rule call m).0)) (sym t.1) refl, refl)),
+            refl,
           ),
         )
 

@@ -90,7 +90,7 @@ small_loop = loop_in (weave_plain 2 small_weave (Some no_loop))
 
 small_is_history : IsHistory (HallGives counting) tiny_hall small_history
 small_is_history =
-    ((refl, refl), (([], refl, refl), ((refl, refl), (([], refl, refl), ((0, omega arith, (refl, (refl, refl))), ((0, omega arith, (refl, (refl, refl))), (refl, (([], refl, refl), (refl, (([], refl, refl), (refl, ((refl, refl, refl), ((refl, refl, refl), tt)))))))))))))
+    ((refl, refl), (([], refl, refl), ((refl, refl), (([], refl, refl), ((0, omega arith, (refl, (refl, refl)), refl), ((0, omega arith, (refl, (refl, refl)), refl), (refl, (([], refl, refl), (refl, (([], refl, refl), (refl, ((refl, refl, refl), ((refl, refl, refl), tt)))))))))))))
 
 -- no seat from this number on has called
 abbrev all_below : ℕ → List (HallAsk ℕ ℕ) → Bool

@@ -7,7 +7,7 @@ use Rattle.host_model.specs.Frames.{Frames}
 use Rattle.host_model.specs.Marks.{marks_of, input}
 use Rattle.machine_model.specs.Loop.{LoopConn, Loop}
 use Rattle.machine_model.specs.Bounds.{sum_among}
-use Rattle.machine_model.specs.OpenAtFronts.{opening_of, closing_of, marks_counted}
+use Rattle.machine_model.specs.OpenAtFronts.{opening_of, closing_of, marks_counted, IsWithinMost}
 
 -- after these marks connection c is open: it was opened, and isn't closed
 abbrev pub IsOpenBehind : ℕ → List Mark → Type 0
@@ -41,6 +41,11 @@ summed sizes (suc n) = sizes n + summed sizes n
 -- After these marks the sizes of the frames under way, of which a byte behind the size was read, add up to the budget at most.
 abbrev pub IsWithinBudget : ℕ → ℕ → List Mark → Type 0
 IsWithinBudget max budget front = (sizes : ℕ → ℕ) (n : ℕ) → AreSizesBehind max size_begun front sizes → summed sizes n ≤ budget
+
+-- at this front of a tape no more than 1,024 connections are open, and the sizes under way are within the budget
+pub record IsBounded (max budget : ℕ) (front : List Mark) : Type 0 where
+  pub few : IsWithinMost front
+  pub sizes : IsWithinBudget max budget front
 
 -- the size of the frame under way on a connection that is open, where a byte behind it was read
 abbrev pub begun_if_open : Option EndCause → List ℕ → ℕ

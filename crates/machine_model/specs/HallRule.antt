@@ -39,6 +39,11 @@ outcome_of key settled = record { key = key; settled = settled }
 abbrev pub entry_under : {C A : Type 0} → Key → C → A → JournalEntry C A
 entry_under key call answer = record { key = key; call = call; answer = answer }
 
+-- the journal's count rises only where its failing is told
+abbrev pub KeepsCount : {A : Type 0} → HallAnswer A → ℕ → ℕ → Type 0
+KeepsCount journal_fault before now = Unit {0}
+KeepsCount _ before now = now ≡ before
+
 module _ {C A M : Type 0} where
   -- Submit: the job is the newest; a closed hall takes none.
   abbrev pub SubmitGives : HallState C A M → Key → List ℕ → HallAnswer A → HallState C A M → Type 0
@@ -91,11 +96,12 @@ module _ {C A M : Type 0} where
   CloseGives old done new = new ≡ record old { closed = true }
   CloseGives old _ new = ⊥
 
-  -- The rule of the hall: from old, an operation has this answer and leaves new. The journal's count never falls, and Apply alone may raise it.
+  -- The rule of the hall: from old, an operation has this answer and leaves new. The journal's count never falls, and only an Apply that tells of its failing raises it.
   abbrev pub HallGives : ServiceRules C A M → HallState C A M → HallOperation C → HallAnswer A → HallState C A M → Type 0
   HallGives r old (submit key payload) answer new = SubmitGives old key payload answer new
   HallGives r old take_job answer new = TakeGives old answer new
-  HallGives r old (apply key call) answer new = (faults : ℕ) × (old.faults ≤ faults) × ApplyGives r old key call faults answer new
+  HallGives r old (apply key call) answer new =
+      (faults : ℕ) × (old.faults ≤ faults) × ApplyGives r old key call faults answer new × KeepsCount answer old.faults faults
   HallGives r old (put key settled) answer new = PutGives old key settled answer new
   HallGives r old collect answer new = CollectGives old answer new
   HallGives r old close answer new = CloseGives old answer new

@@ -111,6 +111,7 @@ pub fn wrong_answers_of_the_hall()
     ensures another_answer { (new : HallState ℕ ℕ ℕ) → HallGives counting tiny_hall (apply (key_of 0 0) 10) (applied 6) new → ⊥ }
     ensures called_after_a_fault { (new : HallState ℕ ℕ ℕ) → HallGives counting (record tiny_hall { broken = true }) (apply (key_of 0 0) 10) (applied 5) new → ⊥ }
     ensures fault_without_a_cause { HallGives counting tiny_hall (apply (key_of 0 0) 10) journal_fault (record tiny_hall { memories = 6 ∷ []; broken = true }) → ⊥ }
+    ensures fault_untold { (new : HallState ℕ ℕ ℕ) → new.faults ≡ 1 → HallGives counting tiny_hall (apply (key_of 0 0) 10) (applied 5) new → ⊥ }
     ensures fault_forgotten { (new : HallState ℕ ℕ ℕ) → HallGives counting (record tiny_hall { broken = true }) (apply (key_of 0 0) 10) no_memory new → ⊥ }
 {}
 

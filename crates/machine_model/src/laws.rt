@@ -1,7 +1,7 @@
 //! Laws of the machine, each the contract of a function that does nothing. A size is a signed number of four bytes, hence the
 //! bound on the longest payload.
 
-ghost use Rattle.std.specs.Prelude.{◌≡◌, ◌≢◌, ◌↔◌, ℕ, suc, ◌+◌, ◌<◌, ◌≤◌, ◌^◌, ◌⊎◌, true, List, [], ◌∷◌, ◌++◌, length, map, Some};
+ghost use Rattle.std.specs.Prelude.{◌≡◌, ◌≢◌, ◌↔◌, ℕ, suc, ◌+◌, ◌<◌, ◌≤◌, ◌^◌, ◌⊎◌, true, false, List, [], ◌∷◌, ◌++◌, length, map, Some};
 ghost use Rattle.outside.specs.declared.outcomes.Settled.{Settled};
 ghost use Rattle.outside.specs.declared.marks.Mark.{Mark};
 ghost use Rattle.outside.specs.Cause.{Rose};
@@ -11,7 +11,7 @@ ghost use Rattle.host_model.specs.Journal.{JournalEntry, ServiceRules};
 ghost use Rattle.host_model.specs.DeskRules.{DeskRules};
 ghost use Rattle.host_model.specs.Headline.{Headline};
 ghost use Rattle.machine_model.specs.HallState.{HallState, IsNewlyOpened, keys_in};
-ghost use Rattle.machine_model.specs.HallRule.{HallOperation, submit, take_job, apply, collect, HallAnswer, job, applied, no_memory, is_broken, outcome, HallGives};
+ghost use Rattle.machine_model.specs.HallRule.{HallOperation, submit, take_job, apply, collect, HallAnswer, job, applied, no_memory, journal_fault, is_broken, outcome, HallGives};
 ghost use Rattle.machine_model.specs.Determined.{IsFree, IsApply, IsSameButFaults};
 ghost use Rattle.call_history.specs.History.{meaning_after, IsHistory};
 ghost use Rattle.call_history.specs.Calls.{seat_ask, calls_by, asks_of, AllAllowed};
@@ -35,7 +35,7 @@ use host_model::laws::{
 };
 
 /// What the hall is asked has an answer, and one alone, but for the free ones: memory may run out, and the journal may fail.
-/// The answer says what the hall is then, but for the journal's count of faults, which Apply alone may raise.
+/// The answer says what the hall is then, but for the journal's count of faults, which only an Apply raises that tells of its failing.
 pub fn one_answer<C, A, M>()
     ensures some { (r : ServiceRules C A M) (old : HallState C A M) (op : HallOperation C) →
         HallCan r old op → (answer : HallAnswer A) × (new : HallState C A M) × HallGives r old op answer new }
@@ -50,6 +50,8 @@ pub fn one_answer<C, A, M>()
         HallGives r old (apply key call) answer new → (old.broken ≡ true) ↔ (answer ≡ is_broken) }
     ensures count { (r : ServiceRules C A M) (old new : HallState C A M) (op : HallOperation C) (answer : HallAnswer A) →
         HallGives r old op answer new → (IsApply op → ⊥) → new.faults ≡ old.faults }
+    ensures told { (r : ServiceRules C A M) (old new : HallState C A M) (op : HallOperation C) (answer : HallAnswer A) →
+        HallGives r old op answer new → answer ≢ journal_fault → new.faults ≡ old.faults }
 {}
 
 /// In a history whose calls each seat was allowed to make, what a seat may ask next is what the hall can do.
@@ -105,10 +107,12 @@ pub fn own_calls_tell_the_loop<C, A, M>()
 {}
 
 /// A newly opened hall is broken, or tells of a failed journal, only where its journal's count rose; and, where no other seat closes it without having been
-/// told so, it is closed only where seat 0 has closed it or the count rose.
+/// told so, it is closed only where seat 0 has closed it or the count rose. Where it isn't broken the count is as it was.
 pub fn trouble_shows<C, A, M>()
     ensures broken { (r : ServiceRules C A M) (opening : HallState C A M) (log : List (HallCall C A M)) → IsNewlyOpened opening → IsHistory (HallGives r) opening log →
         (meaning_after opening log).broken ≡ true → Rose opening.faults (meaning_after opening log).faults }
+    ensures whole { (r : ServiceRules C A M) (opening : HallState C A M) (log : List (HallCall C A M)) → IsHistory (HallGives r) opening log →
+        (meaning_after opening log).broken ≡ false → (meaning_after opening log).faults ≡ opening.faults }
     ensures told { (r : ServiceRules C A M) (opening : HallState C A M) (log : List (HallCall C A M)) → IsNewlyOpened opening → IsHistory (HallGives r) opening log →
         any_fault_told (asks_of log) ≡ true → Rose opening.faults (meaning_after opening log).faults }
     ensures closed { (r : ServiceRules C A M) (opening : HallState C A M) (log : List (HallCall C A M)) → IsNewlyOpened opening → IsHistory (HallGives r) opening log →

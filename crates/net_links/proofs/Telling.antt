@@ -10,7 +10,7 @@ use Rattle.outside.specs.declared.answers.Hint.TheVariants.{Opened}
 use Rattle.outside.specs.Asking.{AnswersAsk, says_over}
 use Rattle.outside.specs.Closing.{Closes}
 use Rattle.net_links.specs.Account.{LinksAccount, state_of, may_open, most_connections, NumbersNext, after_opening, after_closing, after_net_fault}
-use Rattle.net_links.specs.Watching.{TellsWithin}
+use Rattle.net_links.specs.Watching.{TellsWithin, AcceptsOne}
 
 or_false : (b : Bool) → b ≡ (b || false)
 or_false true = refl
@@ -56,6 +56,13 @@ closes c old new is = subst (λ a. Closes c (state_of old) (state_of a)) (sym is
   faults = refl;
 }
 
+-- the number that the sockets tell of is the next one, and may be opened
+pub numbers_next : {F : Type 0} (room : Bool) (old : LinksAccount) (number : Option ℕ) (told : Result Hint F) (c : ℕ) → NumbersNext room old number → TellsWithin number told
+    → told ≡ Ok (Opened c) → (c ≡ old.opened) × ((room && may_open old) ≡ true)
+numbers_next room old number told c may within told-is =
+    let number-is : number ≡ Some c = subst (TellsWithin number) told-is within in
+    subst (NumbersNext room old) number-is may
+
 module _ {E : Type 0} where
   -- nothing could be told
   pub fails : (ask : Ask) (old new : LinksAccount) (e : E) → new ≡ after_net_fault old → old.net_faults ≤ new.net_faults → AnswersAsk ask (state_of old) (state_of new) (Err e)
@@ -71,6 +78,7 @@ module _ {E : Type 0} where
     faults = λ x. ap (λ a. (state_of a).faults x) is;
     later = later;
     failed = omega (arith, ap (λ a. a.net_faults) is);
+    kept = tt;
   }
 
   -- the next connection was opened, where it may be
@@ -102,12 +110,12 @@ module _ {E : Type 0} where
         faults = λ x. ap (λ a. (state_of a).faults x) is;
         later = omega (arith, ap (λ a. a.net_faults) is);
         failed = λ err. absurd (false≢true err);
+        kept = ap (λ a. a.net_faults) is;
       }
 
-  -- the same of a number that was handed to the sockets, and that they tell of
-  pub opens_next : {F : Type 0} (ask : Ask) (old new : LinksAccount) (number : Option ℕ) (told : Result Hint F) (c : ℕ) → NumbersNext ask.room old number → TellsWithin number told
-      → told ≡ Ok (Opened c) → new ≡ after_opening old → new.opened < 2 ^ 32 → AnswersAsk {E = E} ask (state_of old) (state_of new) (Ok (Opened c))
-  opens_next ask old new number told c may within told-is is few =
-      let number-is : number ≡ Some c = subst (TellsWithin number) told-is within in
-      let next = subst (NumbersNext ask.room old) number-is may in
-      subst (λ n. AnswersAsk {E = E} ask (state_of old) (state_of new) (Ok (Opened n))) (sym next.0) (opens ask old new next.1 is few)
+  -- a connection that is taken in, or isn't
+  pub takes_in : (ask : Ask) (old new : LinksAccount) (c : ℕ) (result : Result Hint E) → c ≡ old.opened → (ask.room && may_open old) ≡ true → AcceptsOne c old new result
+      → AnswersAsk {E = E} ask (state_of old) (state_of new) result
+  takes_in ask old new c (Ok hint) number may t =
+      subst (λ h. AnswersAsk {E = E} ask (state_of old) (state_of new) (Ok h)) (ap Opened (sym number) ∙ sym t.0) (opens ask old new may t.1 t.2)
+  takes_in ask old new c (Err e) number may t = fails ask old new e t.0 t.1

@@ -6,13 +6,14 @@ use Rattle.outside.specs.LinksState.{Listening, LinksState}
 pub use Rattle.limits.specs.Limits.{most_connections}
 
 -- Where the links listen; how many connections were opened; the numbers of those that are open, and whether it was said that all is over; the number of the
--- connection of each read or write that failed; and how often nothing could be told of what is next.
+-- connection of each read or write that failed, and how many of these there is room for; and how often nothing could be told of what is next.
 pub record LinksAccount : Type 0 where
   pub listening : Listening
   pub opened : ℕ
   pub numbers : List ℕ
   pub over : Bool
   pub failed : List ℕ
+  pub most_failed : ℕ
   pub net_faults : ℕ
 
 -- how often a read or a write of connection c failed
@@ -37,7 +38,7 @@ state_of a = record {
 
 -- nothing has happened
 abbrev pub fresh_account : Listening → LinksAccount
-fresh_account listening = record { listening = listening; opened = 0; numbers = []; over = false; failed = []; net_faults = 0 }
+fresh_account listening = record { listening = listening; opened = 0; numbers = []; over = false; failed = []; most_failed = 0; net_faults = 0 }
 
 -- one more connection may be opened: there is room for it, fewer were opened than are accepted, and it wasn't said that all is over
 abbrev pub may_open : LinksAccount → Bool
@@ -47,9 +48,10 @@ may_open a = not a.over && nat_lt a.opened a.listening.accept && nat_lt (length 
 abbrev pub is_spent : LinksAccount → Bool
 is_spent a = nat_eq a.opened a.listening.accept && nat_eq (length a.numbers) 0
 
--- the next connection was opened
+-- The next connection was opened; there is room then for one fault of each connection that is open, besides those that were counted.
 abbrev pub after_opening : LinksAccount → LinksAccount
-after_opening a = record a { opened = a.opened + 1; numbers = a.numbers ++ a.opened ∷ [] }
+after_opening a =
+    record a { opened = a.opened + 1; numbers = a.numbers ++ a.opened ∷ []; most_failed = length a.failed + (length a.numbers + 1) }
 
 -- connection c was closed
 abbrev pub after_closing : ℕ → LinksAccount → LinksAccount

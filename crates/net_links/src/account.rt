@@ -1,6 +1,6 @@
 //! What the links tell of what has happened on them.
 
-ghost use Rattle.std.specs.Prelude.{◌≡◌, ◌^◌, ◌<◌, ◌≤◌, true, is_ok, IfOk, if◌then◌else◌};
+ghost use Rattle.std.specs.Prelude.{◌≡◌, ◌^◌, ◌<◌, ◌≤◌, true, false, length, IfOk, OnOk, OnErr, if◌then◌else◌};
 ghost use Rattle.outside.specs.Memory.{is_listed};
 ghost use Rattle.net_links.specs.Account.{NumbersNext, fresh_account, may_open, is_spent, after_opening, after_closing, after_failing, after_net_fault, after_over};
 
@@ -22,6 +22,8 @@ pub(crate) struct Account {
     over: bool,
     /// The number of the connection of each read or write that failed.
     failed: Vec<u32>,
+    /// How many of these there is room for: those at the last opening, and one for each connection that was open then.
+    most_failed: usize,
     /// How often nothing could be told of what is next; it stands still at its type's end.
     net_faults: u64,
 }
@@ -39,10 +41,11 @@ impl Model for Account {
       numbers = a.numbers.items;
       over = a.over;
       failed = a.failed.items;
+      most_failed = a.most_failed;
       net_faults = a.net_faults;
     } };
 
-    ghost invariant = { λ a. most_connections ≤ vec_capacity a.numbers };
+    ghost invariant = { λ a. (most_connections ≤ vec_capacity a.numbers) × (a.most_failed ≤ vec_capacity a.failed) };
 }
 
 impl Account {
@@ -57,6 +60,7 @@ impl Account {
             numbers: Vec::with_capacity(alloc, MOST_CONNECTIONS)?,
             over: false,
             failed: Vec::new(alloc),
+            most_failed: 0,
             net_faults: 0,
         })
     }
@@ -96,14 +100,19 @@ impl Account {
         None
     }
 
-    /// Notes that the next connection was opened; takes no memory.
-    pub(crate) fn open(&mut self)
+    /// Notes that the next connection was opened, where there is memory for a fault of each one that is open.
+    pub(crate) fn open(&mut self) -> Result<(), AllocError>
         requires { may_open self.old ≡ true }
-        ensures account { self.new ≡ after_opening self.old }
-        ensures few { self.new.opened < 2 ^ 32 }
+        ensures account { OnOk result (self.new ≡ after_opening self.old) }
+        ensures few { OnOk result (self.new.opened < 2 ^ 32) }
+        ensures same { OnErr result (self.new ≡ self.old) }
     {
+        let more = self.numbers.len() + 1;
+        self.failed.reserve(more)?;
+        self.most_failed = self.failed.len() + more;
         self.numbers.push_reserved(self.opened);
         self.opened += 1;
+        Ok(())
     }
 
     /// Notes that a connection was closed; takes no memory.
@@ -113,12 +122,16 @@ impl Account {
         self.numbers.retain(|number| *number != c);
     }
 
-    /// A read or a write of a connection failed.
-    pub(crate) fn fail(&mut self, c: u32) -> Result<(), AllocError>
-        ensures { self.new ≡ (if is_ok result then after_failing c self.old else self.old) }
+    /// Counts that a read or a write of a connection failed, where there is room for it, and answers whether there is; takes no memory.
+    pub(crate) fn fail(&mut self, c: u32) -> bool
+        ensures account { self.new ≡ (if result then after_failing c self.old else self.old) }
+        ensures full { result ≡ false → self.old.most_failed ≤ length self.old.failed }
     {
-        self.failed.push(c)?;
-        Ok(())
+        if self.failed.len() < self.most_failed {
+            self.failed.push_reserved(c);
+            return true;
+        }
+        false
     }
 
     /// Nothing could be told of what is next.

@@ -1,9 +1,10 @@
 //! Links over the sockets of one poll.
 
-ghost use Rattle.std.specs.Prelude.{◌≡◌, IfOk};
+ghost use Rattle.std.specs.Prelude.{◌≡◌, true, IfOk};
 ghost use Rattle.outside.specs.Memory.{is_listed};
-ghost use Rattle.net_links.specs.Account.{fresh_account};
+ghost use Rattle.net_links.specs.Account.{fresh_account, may_open};
 ghost use Rattle.net_links.specs.Settling.{SettlesFailure};
+ghost use Rattle.net_links.specs.Watching.{AcceptsOne};
 
 use crate::account::Account;
 use crate::signal::NetBell;
@@ -18,7 +19,8 @@ use std::sync::Wait;
 /// Connections that are accepted at one port of the loopback address.
 ///
 /// Bytes are read ahead, and bytes that are written are gathered and sent before `next` waits, so that a mark of a write says that
-/// its bytes were taken. Where sending fails, the next read or write of that connection says so. The end of an input is told
+/// its bytes were taken. Where sending fails, the next read or write of that connection says so. Reading and writing take no memory:
+/// room for a fault of each connection is taken when it is opened. The end of an input is told
 /// once all that was gathered is sent, and `close` sends what the socket takes at once.
 #[derive(Drop)]
 pub struct NetLinks {
@@ -74,11 +76,28 @@ impl NetLinks {
         ensures { SettlesFailure c self.old self.new taken result }
     {
         match taken {
-            Taken::Failed => match self.account.fail(c) {
-                Ok(()) => Taken::Failed,
-                Err(_) => Taken::NoMemory,
-            },
+            Taken::Failed => {
+                if self.account.fail(c) {
+                    return Taken::Failed;
+                }
+                Taken::NotYet
+            }
             other => other,
+        }
+    }
+
+    /// Takes in a connection that the sockets have accepted. Where there is no memory for its faults, it is closed again, and a fault of the net is counted.
+    fn take_in(&mut self, c: u32) -> Result<Hint, Failed>
+        requires { may_open self.old ≡ true }
+        ensures { AcceptsOne c self.old self.new result }
+    {
+        match self.account.open() {
+            Ok(()) => Ok(Hint::Opened(c)),
+            Err(_) => {
+                self.sockets.close(c);
+                self.account.net_fault();
+                Err(Failed)
+            }
         }
     }
 }
@@ -105,10 +124,7 @@ impl Links for NetLinks {
         }
         let number = self.account.next_number(ask.room);
         match self.sockets.watch(rt, number) {
-            Ok(Hint::Opened(c)) => {
-                self.account.open();
-                Ok(Hint::Opened(c))
-            }
+            Ok(Hint::Opened(c)) => self.take_in(c),
             Ok(Hint::Readable(c)) => Ok(Hint::Readable(c)),
             Ok(Hint::Writable(c)) => Ok(Hint::Writable(c)),
             Ok(Hint::Woken) => Ok(Hint::Woken),

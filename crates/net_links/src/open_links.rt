@@ -118,7 +118,7 @@ impl OpenLinks {
         self.moved = 0;
     }
 
-    /// Takes bytes off the front of `bytes`, to be sent on a link before the loop waits.
+    /// Takes bytes off the front of `bytes`, to be sent on a link before the loop waits, or at once where there is no room to note the link.
     pub(crate) fn write(&mut self, c: u32, bytes: &[u8]) -> Taken
         ensures within { MovesWithin (length bytes.now) result }
         ensures no_end { result ≢ End }
@@ -133,6 +133,10 @@ impl OpenLinks {
         }
         if link.has_output() && !link.unsent {
             link.unsent = self.unsent.push(c).is_ok();
+            if !link.unsent {
+                link.flush(&mut self.pool);
+                list(&mut self.ready, link);
+            }
         }
         taken
     }

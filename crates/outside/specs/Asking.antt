@@ -1,5 +1,5 @@
 -- What links answer when they are asked what is next, and what that leaves.
-use Rattle.std.specs.Prelude.{◌≡◌, ◌≢◌, ℕ, suc, ◌<◌, ◌≤◌, ◌^◌, Bool, true, false, ◌||◌, List, [], ◌∷◌, ◌++◌, length, replicate, Option, Some, None, IfSome, Result, Ok, Err, IsErr}
+use Rattle.std.specs.Prelude.{◌≡◌, ◌≢◌, ℕ, suc, ◌<◌, ◌≤◌, ◌^◌, Bool, true, false, ◌||◌, List, [], ◌∷◌, ◌++◌, length, replicate, Option, Some, None, IfSome, Result, Ok, Err, IsErr, OnOk}
 use Rattle.outside.specs.Cause.{Rose}
 use Rattle.outside.specs.declared.marks.Mark.{Mark}
 use Rattle.outside.specs.declared.marks.Mark.TheVariants.{Opened as OpenedMark}
@@ -74,7 +74,7 @@ MoreArrives (Some old) (Some new) left = HasArrivedSince old new × IfSome left 
 MoreArrives None (Some new) left = ⊥
 MoreArrives (Some old) None left = ⊥
 
--- Links were asked what is next, and gave this answer. No byte is read or written meanwhile, but some may arrive.
+-- Links were asked what is next, and gave this answer. No byte is read or written meanwhile, but some may arrive; and a fault is counted just where they failed.
 pub record AnswersAsk {E : Type 0} (ask : Ask) (old new : LinksState) (result : Result Hint E) : Type 0 where
   pub listens : new.listens ≡ old.listens
   pub opens : AnswerOpens ask old new result
@@ -87,3 +87,4 @@ pub record AnswersAsk {E : Type 0} (ask : Ask) (old new : LinksState) (result : 
   pub faults : (x : ℕ) → new.faults x ≡ old.faults x
   pub later : old.net_faults ≤ new.net_faults
   pub failed : IsErr result → Rose old.net_faults new.net_faults
+  pub kept : OnOk result (new.net_faults ≡ old.net_faults)

@@ -1,5 +1,5 @@
 -- What a binder answers, and what is kept of the links that came back to it.
-use Rattle.std.specs.Prelude.{◌≡◌, ℕ, ◌≤◌, Bool, List, [], ◌∷◌, ◌++◌, Option, Some, None, Result, Err}
+use Rattle.std.specs.Prelude.{◌≡◌, ◌≢◌, ℕ, ◌≤◌, Bool, List, [], ◌∷◌, ◌++◌, Option, Some, None, Result, Err}
 use Rattle.outside.specs.Cause.{Rose}
 use Rattle.outside.specs.declared.marks.Mark.{Mark}
 use Rattle.outside.specs.declared.binder.BindFail.{BindFail}
@@ -32,7 +32,8 @@ abbrev pub told_past : Option (List PastLinks) → LinksState → Option (List P
 told_past None links = None
 told_past (Some past) links = past_with past links.over links.tape links.listens
 
--- the count of faults never falls, and links are said to have failed only where it rose
+-- the count of faults never falls, links are said to have failed only where it rose, and with any other answer it is as before
 pub record HasBindCause {A : Type 0} (before now : ℕ) (result : Result A BindFail) : Type 0 where
   pub later : before ≤ now
   pub failed : result ≡ Err Failed → Rose before now
+  pub kept : result ≢ Err Failed → now ≡ before

@@ -1,5 +1,5 @@
 -- The content of a store of files, which may be untold, and what a read of a whole file answers.
-use Rattle.std.specs.Prelude.{◌≡◌, ℕ, ◌<◌, ◌≤◌, List, [], ◌∷◌, length, Option, Some, None, Bool, true, false, nat_le, Result, Err, IfOk, if◌then◌else◌, ⊤}
+use Rattle.std.specs.Prelude.{◌≡◌, ℕ, ◌<◌, ◌≤◌, List, [], ◌∷◌, length, Option, Some, None, Bool, true, false, nat_le, Result, Err, IfOk, OnOk, if◌then◌else◌, ⊤}
 use Rattle.std.specs.Str.{bytes_eq}
 use Rattle.outside.specs.Cause.{Rose}
 use Rattle.outside.specs.declared.files.FileFail.{FileFail}
@@ -45,7 +45,8 @@ abbrev pub has_failed : {A : Type 0} → Result A FileFail → Bool
 has_failed (Err Failed) = true
 has_failed _ = false
 
--- the count of faults never falls, and a read is said to have failed only where it rose
+-- the count of faults never falls, a read is said to have failed only where it rose, and where the file was read the count is as before
 pub record HasFileCause {A : Type 0} (before now : ℕ) (result : Result A FileFail) : Type 0 where
   pub later : before ≤ now
   pub failed : result ≡ Err Failed → Rose before now
+  pub kept : OnOk result (now ≡ before)

@@ -1,6 +1,6 @@
 //! Files in memory.
 
-ghost use Rattle.std.specs.Prelude.{◌≡◌, ◌≤◌, ◌&&◌, Some, None, [], map, string_bytes, IfOk, IsErr, MatchOption, MatchResult, IsTrue, if◌then◌else◌};
+ghost use Rattle.std.specs.Prelude.{◌≡◌, ◌≤◌, ◌&&◌, false, Some, None, [], map, string_bytes, IfOk, IsErr, MatchOption, MatchResult, IsTrue, if◌then◌else◌};
 ghost use Rattle.outside.specs.Cause.{Rose, HasCause, next_if_faulty};
 ghost use Rattle.outside.specs.Files.{IsWholeFile, HasFileCause, content_of, fits, has_failed};
 ghost use Rattle.outside.specs.Making.{IsThere, MakesFile, with_file, told_with_file};
@@ -111,6 +111,7 @@ impl MemFiles {
         ensures fails { result ≡ is_listed self.old.fails self.old.call }
         ensures later { self.old.faults ≤ self.new.faults }
         ensures rose { IsTrue result → Rose self.old.faults self.new.faults }
+        ensures kept { result ≡ false → self.new.faults ≡ self.old.faults }
         ensures after { self.new ≡ (if is_listed self.old.fails self.old.call then after_failed_file self.old else after_file self.old) }
     {
         let call = self.call;

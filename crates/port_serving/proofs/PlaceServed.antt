@@ -56,6 +56,20 @@ module _ (s : ServerSetting) (place : PortPlace) (change : PlaceChange) (run : S
         torn = λ is. rose_back run.faults_before run.faults change.sink_faults_before change.sink_faults none (served.torn is) sinks;
       }
 
+-- Where all is over no sink that came back has counted a fault.
+pub sinks_stay : (s : ServerSetting) (run : ServedRun) (before now : ℕ) → IsServed s run → run.faults_before ≡ 0 → now ≡ next_if_faulty run.faults before
+    → run.outcome ≡ outcomes.All → now ≡ before
+sinks_stay s run before now served none back is =
+    let comes : ComesOutBy run outcomes.All = subst (ComesOutBy run) is served.comes_out in
+    same_count run.faults before now (served.kept comes.1 ∙ none) back
+
+-- Nor have the links that came back.
+pub links_stay : (s : ServerSetting) (run : ServedRun) (before now : ℕ) → IsServed s run → run.first.net_faults ≡ 0 → now ≡ next_if_faulty run.links.net_faults before
+    → run.outcome ≡ outcomes.All → now ≡ before
+links_stay s run before now served none back is =
+    let comes : ComesOutBy run outcomes.All = subst (ComesOutBy run) is served.comes_out in
+    same_count run.links.net_faults before now (comes.3 ∙ none) back
+
 -- The journal's fault is told of the files.
 pub journal_rose : (s : ServerSetting) (run : ServedRun) (before now : ℕ) → IsServed s run → run.faults_before ≡ 0 → now ≡ next_if_faulty run.faults before
     → run.outcome ≡ outcomes.JournalFault → Rose before now

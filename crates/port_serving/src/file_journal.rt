@@ -1,6 +1,6 @@
 //! A journal whose lines go into a file that was made for them.
 
-ghost use Rattle.std.specs.Prelude.{◌≡◌, [], List, Option, Some, false, IfOk, IfErr, Err, MatchResult};
+ghost use Rattle.std.specs.Prelude.{◌≡◌, [], List, Option, Some, false, IfOk, IfErr, OnOk, Err, MatchResult};
 ghost use Rattle.outside.specs.Cause.{Rose, next_if_faulty};
 ghost use Rattle.outside.specs.Files.{File};
 ghost use Rattle.outside.specs.Making.{told_with_file, IsThere};
@@ -94,6 +94,7 @@ pub(crate) fn open_journal<F: Files>(
         (λ fault. EndsOpening fault (F.files files.old) (F.files files.new) name.now) }
     ensures sinks { F.sink_faults files.new ≡ F.sink_faults files.old }
     ensures file_fault { result ≡ Err PortFault.FileFault → Rose (F.faults files.old) (F.faults files.new) }
+    ensures kept { OnOk result (F.faults files.new ≡ F.faults files.old) }
 {
     match files.create(alloc, name) {
         Ok(sink) => begin_journal(alloc, files, name, sink),
@@ -116,6 +117,7 @@ fn begin_journal<F: Files>(
         (λ _. F.files files.new ≡ told_with_file (F.files files.old) name.now (F.Out.taken sink)) }
     ensures sinks { F.sink_faults files.new ≡ F.sink_faults files.old }
     ensures faults { IfErr result (λ fault. fault ≡ PortFault.NoMemory) }
+    ensures kept { F.faults files.new ≡ F.faults files.old }
 {
     match FileJournal::new(alloc, sink) {
         Ok(journal) => Ok(journal),

@@ -1,6 +1,6 @@
 //! Listening at a port, and the line that tells so.
 
-ghost use Rattle.std.specs.Prelude.{◌≡◌, ◌≢◌, ◌≤◌, Err, MatchResult};
+ghost use Rattle.std.specs.Prelude.{◌≡◌, ◌≢◌, ◌≤◌, Err, MatchResult, OnOk};
 ghost use Rattle.outside.specs.Cause.{Rose};
 ghost use Rattle.port_serving.specs.Steps.{StartsListening, EndsListening};
 
@@ -24,6 +24,8 @@ pub(crate) fn listen<K: Sink, B: Binder>(
     ensures output_later { K.faults output.old ≤ K.faults output.new }
     ensures net_fault { result ≡ Err PortFault.NetFault → Rose (B.faults binder.old) (B.faults binder.new) }
     ensures write_fault { result ≡ Err PortFault.WriteFault → Rose (K.faults output.old) (K.faults output.new) }
+    ensures binder_kept { OnOk result (B.faults binder.new ≡ B.faults binder.old) }
+    ensures output_kept { OnOk result (K.faults output.new ≡ K.faults output.old) }
     ensures no_file_fault { result ≢ Err PortFault.FileFault }
     ensures no_journal_fault { result ≢ Err PortFault.JournalFault }
 {

@@ -1,6 +1,6 @@
 //! A port, served from its listening to the summary.
 
-ghost use Rattle.std.specs.Prelude.{◌≡◌, ◌≢◌, ◌≤◌, ℕ, false, [], List, Option, Some, length, map, Err};
+ghost use Rattle.std.specs.Prelude.{◌≡◌, ◌≢◌, ℕ, false, [], List, Option, Some, length, map, Err, OnOk};
 ghost use Rattle.outside.specs.Cause.{Rose};
 ghost use Rattle.outside.specs.Content.{told_more};
 ghost use Rattle.outside.specs.Files.{File};
@@ -12,7 +12,7 @@ ghost use Rattle.host_loop.specs.Served.{ServerSetting};
 ghost use Rattle.port_serving.specs.Places.{PortPlace, PlaceChange};
 ghost use Rattle.port_serving.specs.Served.{HasServedPort};
 ghost use Rattle.port_serving.specs.Answered.{MeansServedPort};
-ghost use Rattle.call_rules.specs.Desks.{longest_payload};
+ghost use Rattle.conn_table.specs.Servable.{CanServe};
 
 use crate::fault::PortFault;
 use crate::file_journal::{FileJournal, close_journal, open_journal};
@@ -67,12 +67,7 @@ pub fn serve_port<
     limits: Limits,
     place: &ServedPort<'_>,
 ) -> Result<(), PortFault>
-    requires workers { workers ≤ 8 }
-    requires some { 1 ≤ limits.max_frame }
-    requires within { limits.max_frame ≤ limits.read_budget }
-    requires budget { limits.read_budget ≤ longest_payload }
-    requires longest { (D.meaning desk.now).max_frame ≡ limits.max_frame }
-    requires slots { length handlers.items ≡ (D.meaning desk.now).slots }
+    requires can { CanServe limits workers (D.meaning desk.now).max_frame (D.meaning desk.now).slots (length handlers.items) }
     // Ok says that connections were served at this desk and from the memories that the handlers had until all was over, that the file holds the journal's lines, that
     // the links came back with the tape, and that the summary was written.
     ensures means { MeansServedPort
@@ -91,6 +86,11 @@ pub fn serve_port<
     ensures net_fault { result ≡ Err PortFault.NetFault → Rose (B.faults binder.old) (B.faults binder.new) }
     ensures write_fault { result ≡ Err PortFault.WriteFault → Rose (K.faults output.old) (K.faults output.new) }
     ensures journal_fault { result ≡ Err PortFault.JournalFault → Rose (F.sink_faults files.old) (F.sink_faults files.new) }
+    // Ok says too that no fault was met: of the files, the binder and its links, the output, and the journal's sink.
+    ensures files_kept { OnOk result (F.faults files.new ≡ F.faults files.old) }
+    ensures binder_kept { OnOk result (B.faults binder.new ≡ B.faults binder.old) }
+    ensures output_kept { OnOk result (K.faults output.new ≡ K.faults output.old) }
+    ensures sinks_kept { OnOk result (F.sink_faults files.new ≡ F.sink_faults files.old) }
 {
     let journal = open_journal(alloc, files, place.journal)?;
     match listen(alloc, output, binder, place.port, place.accept) {
@@ -130,12 +130,7 @@ fn serve_links<
     limits: Limits,
     place: &ServedPort<'_>,
 ) -> PortRun
-    requires workers { workers ≤ 8 }
-    requires some { 1 ≤ limits.max_frame }
-    requires within { limits.max_frame ≤ limits.read_budget }
-    requires budget { limits.read_budget ≤ longest_payload }
-    requires longest { (D.meaning desk.now).max_frame ≡ limits.max_frame }
-    requires slots { length handlers.items ≡ (D.meaning desk.now).slots }
+    requires can { CanServe limits workers (D.meaning desk.now).max_frame (D.meaning desk.now).slots (length handlers.items) }
     requires empty { journal.entries ≡ [] }
     requires whole { journal.torn ≡ false }
     requires faultless { F.Out.faults journal.sink ≡ 0 }
@@ -156,6 +151,9 @@ fn serve_links<
         result.ends result.calls result.outcome }
     ensures net_fault { result.outcome ≡ outcomes.NetFault → Rose (B.faults binder.old) (B.faults binder.new) }
     ensures journal_fault { result.outcome ≡ outcomes.JournalFault → Rose (F.sink_faults files.old) (F.sink_faults files.new) }
+    ensures files_kept { F.faults files.new ≡ F.faults files.old }
+    ensures binder_kept { result.outcome ≡ outcomes.All → B.faults binder.new ≡ B.faults binder.old }
+    ensures sinks_kept { result.outcome ≡ outcomes.All → F.sink_faults files.new ≡ F.sink_faults files.old }
 {
     let mut links = links;
     let run = serve(
@@ -186,6 +184,8 @@ fn finish<K: Sink>(alloc: Global, output: &mut K, run: &PortRun) -> Result<(), P
     ensures net_fault { result ≡ Err PortFault.NetFault → run.now.outcome ≡ outcomes.NetFault }
     ensures write_fault { result ≡ Err PortFault.WriteFault → Rose (K.faults output.old) (K.faults output.new) }
     ensures journal_fault { result ≡ Err PortFault.JournalFault → run.now.outcome ≡ outcomes.JournalFault }
+    ensures all { OnOk result (run.now.outcome ≡ outcomes.All) }
+    ensures output_kept { OnOk result (K.faults output.new ≡ K.faults output.old) }
 {
     let written = write_summary(alloc, output, run.ends.as_slice(), run.calls);
     match run.outcome {

@@ -1,9 +1,9 @@
 //! Which services are bound.
 
-ghost use Rattle.std.specs.Prelude.{◌≡◌, map, IfOk};
+ghost use Rattle.std.specs.Prelude.{◌≡◌, ◌<◌, length, map, Some, None, IfOk};
 ghost use Rattle.schema.specs.SchemaOf.{schema_of};
 ghost use Rattle.struct_skew.specs.Needs.{needs_of};
-ghost use Rattle.processor.specs.Bound.{bound_names, needs_in};
+ghost use Rattle.processor.specs.Bound.{bound_names, default_bound, needs_in};
 
 use schema::{Listed, Schema};
 use std::alloc::{AllocError, Global};
@@ -17,16 +17,38 @@ pub type BoundNames = Listed<(ByteText, u32)>;
 #[derive(Drop)]
 pub struct Bindings {
     pub(crate) names: BoundNames,
+    // The slot of the service that calls without a service's name ask for, if there is one.
+    pub(crate) default_slot: Option<u32>,
     pub(crate) needed: NeededFields,
 }
 
 impl Bindings {
-    /// Binds these services of a schema. It walks over all declared fields once.
+    /// Binds these services of a schema, none of them as the default. It walks over all declared fields once.
     pub fn new(alloc: Global, schema: &Schema, names: BoundNames) -> Result<Self, AllocError>
         ensures names { IfOk result (λ made. bound_names made ≡ names) }
+        ensures default_slot { IfOk result (λ made. default_bound made ≡ None) }
         ensures needed { IfOk result (λ made. needs_in made ≡ map needs_of (schema_of schema.now).structs) }
     {
         let needed = needed_fields(alloc, schema)?;
-        Ok(Bindings { names, needed })
+        Ok(Bindings {
+            names,
+            default_slot: None,
+            needed,
+        })
+    }
+
+    /// The same services, with the one at a slot as the default, which a name without a service asks for (TMultiplexedProcessor:
+    /// registerDefault).
+    pub fn with_default(self, slot: u32) -> Self
+        requires { slot < length (bound_names self) }
+        ensures names { bound_names result ≡ bound_names self }
+        ensures default_slot { default_bound result ≡ Some slot }
+        ensures needed { needs_in result ≡ needs_in self }
+    {
+        Bindings {
+            names: self.names,
+            default_slot: Some(slot),
+            needed: self.needed,
+        }
     }
 }

@@ -168,9 +168,13 @@ impl Office {
         requires name { length head.now.name ≤ longest_payload }
         requires within { head.now.behind ≤ length payload.now }
         ensures { IfOk result (λ d. plain_decision d ≡ decided_on_service (plain_office self.now) payload.now head.now
-            (service_asked self.now.bindings.names head.now.name)) }
+            (service_asked self.now.bindings.default_slot self.now.bindings.names head.now.name)) }
     {
-        match service_asked(self.bindings.names.as_slice(), head.name()) {
+        match service_asked(
+            self.bindings.default_slot,
+            self.bindings.names.as_slice(),
+            head.name(),
+        ) {
             Some(bound) => self.decide_on_function(alloc, payload, head, bound),
             None => self.refuse_service(alloc, head),
         }

@@ -3,7 +3,7 @@
 ghost use Rattle.std.specs.Prelude.{◌≡◌, ◌<◌, ◌^◌, length, position, IfSome};
 ghost use Rattle.std.specs.List.{slice_get};
 ghost use Rattle.std.specs.Option.{option_map, option_copied};
-ghost use Rattle.call_model.specs.Names.{separator_of, service_part, method_part, has_bound_name, only_slot, slot_asked, service_asked};
+ghost use Rattle.call_model.specs.Names.{separator_of, service_part, method_part, has_bound_name, only_slot, slot_by_default, slot_asked, service_asked};
 ghost use Rattle.processor.specs.Seen.{bound_of};
 
 use thrift_value::ByteText;
@@ -67,13 +67,23 @@ fn only_slot(bindings: &[(ByteText, u32)]) -> Option<usize>
     }
 }
 
+/// The slot that a name without a service asks for.
+fn slot_by_default(default_slot: Option<u32>, bindings: &[(ByteText, u32)]) -> Option<usize>
+    ensures { result ≡ slot_by_default default_slot bindings.now }
+{
+    match default_slot {
+        Some(slot) => Some(slot as usize),
+        None => only_slot(bindings),
+    }
+}
+
 /// The slot that a message's name asks for.
-fn slot_asked(bindings: &[(ByteText, u32)], name: &[u8]) -> Option<usize>
-    ensures { result ≡ slot_asked bindings.now (service_part name.now) }
+fn slot_asked(default_slot: Option<u32>, bindings: &[(ByteText, u32)], name: &[u8]) -> Option<usize>
+    ensures { result ≡ slot_asked default_slot bindings.now (service_part name.now) }
 {
     match service_part(name) {
         Some(service) => slot_named(bindings, service),
-        None => only_slot(bindings),
+        None => slot_by_default(default_slot, bindings),
     }
 }
 
@@ -85,11 +95,15 @@ fn binding_at(bindings: &[(ByteText, u32)], slot: usize) -> Option<&(ByteText, u
 }
 
 /// The service that a message's name asks for.
-pub(crate) fn service_asked(bindings: &[(ByteText, u32)], name: &[u8]) -> Option<BoundService>
+pub(crate) fn service_asked(
+    default_slot: Option<u32>,
+    bindings: &[(ByteText, u32)],
+    name: &[u8],
+) -> Option<BoundService>
     requires { length bindings.now < 2 ^ 32 }
-    ensures { option_map bound_of result ≡ service_asked bindings.now name.now }
+    ensures { option_map bound_of result ≡ service_asked default_slot bindings.now name.now }
 {
-    let slot = slot_asked(bindings, name)?;
+    let slot = slot_asked(default_slot, bindings, name)?;
     let binding = binding_at(bindings, slot)?;
     Some(BoundService {
         slot: slot as u32,

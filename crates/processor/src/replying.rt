@@ -150,9 +150,13 @@ impl Office {
         requires most { self.now.max_frame ≤ longest_payload }
         requires name { length head.now.name ≤ longest_payload }
         ensures { IfOk result (λ framed. framed.items ≡ reply_of_service (plain_office self.now) head.now (plain_answer answer.now)
-            (service_asked self.now.bindings.names head.now.name)) }
+            (service_asked self.now.bindings.default_slot self.now.bindings.names head.now.name)) }
     {
-        match service_asked(self.bindings.names.as_slice(), head.name()) {
+        match service_asked(
+            self.bindings.default_slot,
+            self.bindings.names.as_slice(),
+            head.name(),
+        ) {
             Some(bound) => self.reply_of_bound(alloc, head, bound, answer),
             None => Ok(Vec::new(alloc)),
         }

@@ -10,3 +10,4 @@ pub mod Pieces
 pub mod Served
 pub mod Sizes
 pub mod Counted
+pub mod ManyReports

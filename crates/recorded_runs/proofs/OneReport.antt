@@ -39,11 +39,11 @@ one_text a script text other x y more less =
     ∙ ap (λ (cs : List EndCause). report a.line y.tape y.journal cs) t.2 ∙ sym y.printed
 
 -- a script that was read
-abbrev read_as : ScriptPlan → Result ScriptPlan ScriptFault
+abbrev pub read_as : ScriptPlan → Result ScriptPlan ScriptFault
 read_as script = Ok script
 
 -- two scripts that one reading gives are one
-same_script : (script other : ScriptPlan) → read_as script ≡ read_as other → script ≡ other
+pub same_script : (script other : ScriptPlan) → read_as script ≡ read_as other → script ≡ other
 same_script script other e = cc
 
 -- one input has one report

@@ -37,12 +37,12 @@ plain_called desk is i (p ∷ ps) =
     (plain_called desk is (suc i) ps)
 
 -- entries of plain calls have lines of calls
-lined : (line : CallEntry → List ℕ) → ((e : CallEntry) → IsPlainCall e.call → IsCallLine (line e)) → (es : List CallEntry)
+pub lined : (line : CallEntry → List ℕ) → ((e : CallEntry) → IsPlainCall e.call → IsCallLine (line e)) → (es : List CallEntry)
     → AllByRecursion IsPlainNumbered (calls_of es) → HaveCallLines line es
 lined line lines [] a = tt
 lined line lines (e ∷ es) a = (lines e a.0, lined line lines es a.1)
 
-plain_done : (desk : DeskMeaning) → IsDesk desk → (es : List CallEntry) (ps : List (List ℕ)) → IsDone (desk_rules desk) es ps
+pub plain_done : (desk : DeskMeaning) → IsDesk desk → (es : List CallEntry) (ps : List (List ℕ)) → IsDone (desk_rules desk) es ps
     → AllByRecursion IsPlainNumbered (calls_of es)
 plain_done desk is es ps (inl e) = subst (AllByRecursion IsPlainNumbered) (sym e) (plain_called desk is 0 ps)
 plain_done desk is es ps (inr e) = subst (AllByRecursion IsPlainNumbered) (sym e) (plain_called desk is 0 (but_last ps))
@@ -55,7 +55,7 @@ run_lined a arrival text is lines x =
     let all = own_filter (λ e. e.key.c) x.journal (own_entries (desk_rules a.desk) handler_rules a.services arrival x.tape x.journal x.cause x.run) in
     let done : IsDone (desk_rules a.desk) x.journal talk.payloads =
     subst (λ es. IsDone (desk_rules a.desk) es talk.payloads) all
-    (done_of (desk_rules a.desk) talk.payloads talk.rest (entries_of 0 x.journal) _ x.cause (x.run.served 0 x.cause refl).allowed talk.ended) in
+    (done_of (desk_rules a.desk) talk.payloads talk.rest (entries_of 0 x.journal) _ x.cause talk.ended) in
     lined a.line lines x.journal (plain_done a.desk is x.journal talk.payloads done)
 
 -- a report is of one run

@@ -1,5 +1,5 @@
 -- What an answered recording says of its input and its output.
-use Rattle.std.specs.Prelude.{◌≡◌, ◌≢◌, ℕ, true, List, Option, Some, Result, slice_get}
+use Rattle.std.specs.Prelude.{◌≡◌, ◌≢◌, ℕ, true, List, ◌++◌, Option, Some, Result, slice_get}
 use Rattle.outside.specs.declared.marks.Mark.{Mark}
 use Rattle.host_model.specs.declared.cause.EndCause.{EndCause}
 use Rattle.host_model.specs.declared.cause.EndCause.TheVariants.{Stopped, NoMemory}
@@ -7,6 +7,7 @@ use Rattle.host_model.specs.Headline.{Headline}
 use Rattle.call_rules.specs.Entries.{CallEntry}
 use Rattle.call_rules.specs.Desks.{DeskMeaning, desk_rules}
 use Rattle.call_rules.specs.Handling.{ServiceState, handler_rules}
+use Rattle.machine_model.specs.AtFronts.{IsBounded}
 use Rattle.script_model.specs.ScriptLines.{ScriptPlan}
 use Rattle.script_model.specs.Playing.{always_ample}
 use Rattle.script_model.specs.Fed.{IsFedBy}
@@ -28,11 +29,12 @@ pub record Answering : Type 0 where
 abbrev pub HasNone : EndCause → List EndCause → Type 0
 HasNone cause causes = (c : ℕ) → slice_get causes c ≢ Some cause
 
--- A run of a script: its tape, journal and causes meet the headline; the script feeds it; and no connection has ended since the host stopped. Where none has
--- ended for want of memory, it is the one that the script determines.
+-- A run of a script: its tape, journal and causes meet the headline; the script feeds it; at no point were more connections open, or more bytes admitted, than
+-- may be; and no connection has ended since the host stopped. Where none has ended for want of memory, it is the one that the script determines.
 pub record IsRunOfScript (a : Answering) (script : ScriptPlan) (tape : List Mark) (journal : List CallEntry) (causes : List EndCause) : Type 0 where
   pub headline : Headline (desk_rules a.desk) handler_rules a.services tape journal causes
   pub fed : IsFedBy (desk_rules a.desk) a.budget script tape journal
+  pub bounded : (front back : List Mark) → tape ≡ front ++ back → IsBounded a.desk.max_frame a.budget front
   pub none_stopped : HasNone Stopped causes
   pub determined : HasNone NoMemory causes
       → IsRehearsedTo (desk_rules a.desk) handler_rules a.services always_ample a.budget a.workers script 0 tape journal causes

@@ -5,3 +5,4 @@ pub mod Refusals
 pub mod Steps
 pub mod ServedScripts
 pub mod Summaries
+pub mod CallLines

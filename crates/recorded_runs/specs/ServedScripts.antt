@@ -7,12 +7,13 @@ use Rattle.host_model.specs.Headline.{Headline}
 use Rattle.call_rules.specs.Entries.{CallEntry}
 use Rattle.call_rules.specs.Desks.{desk_rules}
 use Rattle.call_rules.specs.Handling.{handler_rules}
+use Rattle.machine_model.specs.AtFronts.{IsBounded}
 use Rattle.script_model.specs.ScriptLines.{ScriptPlan}
 use Rattle.script_model.specs.Fed.{IsFedBy}
 use Rattle.script_text.specs.Reading.{script_of_text}
 use Rattle.recorded_runs.specs.Recorded.{ScriptReading}
 use Rattle.recorded_runs.specs.Answered.{Answering, HasNone}
-use Rattle.host_loop.specs.Served.{ServerSetting, IsBounded}
+use Rattle.host_loop.specs.Served.{ServerSetting}
 
 -- the text of an input is read as a script for these workers, without lines of a schedule, or has a first fault
 abbrev pub script_to_serve : Answering → ScriptReading

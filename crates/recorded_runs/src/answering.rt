@@ -1,6 +1,6 @@
 //! A recording, answered from its input to its report.
 
-ghost use Rattle.std.specs.Prelude.{◌≡◌, ◌≢◌, ◌≤◌, false, [], List, length, map, Some, Err};
+ghost use Rattle.std.specs.Prelude.{◌≡◌, ◌≢◌, ◌≤◌, false, [], List, length, map, Some, Err, OnOk};
 ghost use Rattle.outside.specs.Cause.{Rose};
 ghost use Rattle.conn_table.specs.declared.run_limits.Outcome.TheVariants as outcomes;
 ghost use Rattle.call_rules.specs.Entries.{CallEntry};
@@ -9,7 +9,7 @@ ghost use Rattle.script_text.specs.Sound.{MovesItsWorkers};
 ghost use Rattle.cell_core.specs.Rehearsed.{AreWritten};
 ghost use Rattle.recorded_runs.specs.Answered.{Answering, IsRunOfScript, MeansAnswered};
 ghost use Rattle.recorded_runs.specs.Steps.{ReportsServed};
-ghost use Rattle.call_rules.specs.Desks.{longest_payload};
+ghost use Rattle.conn_table.specs.Servable.{CanServe};
 
 use crate::fault::ServingFault;
 use crate::input::read_input;
@@ -21,12 +21,10 @@ use run_report::{EntryLine, ReportedJournal, write_report};
 use script_text::Script;
 use std::alloc::Global;
 
-/// What became of a recording: the handlers and the journal as they are after the run, and whether its report was written.
+/// What became of a recording: the journal as it is after the run, and whether its report was written.
 #[derive(Drop)]
-pub struct Answered<H: Handler, J: ReportedJournal> {
-    /// The handlers, after all calls.
-    pub handlers: Vec<H>,
-    /// The journal of the calls.
+pub struct Answered<J: ReportedJournal> {
+    /// The journal of the calls, whose count of faults is no lower than before.
     pub journal: J,
     /// Whether the report was written.
     pub result: Result<(), ServingFault>,
@@ -47,13 +45,8 @@ pub fn answer_recorded<L: EntryLine, D: Desk, H: Handler, J: ReportedJournal, S:
     journal: J,
     workers: u32,
     limits: Limits,
-) -> Answered<H, J>
-    requires workers { workers ≤ 8 }
-    requires some { 1 ≤ limits.max_frame }
-    requires within { limits.max_frame ≤ limits.read_budget }
-    requires budget { limits.read_budget ≤ longest_payload }
-    requires longest { (D.meaning desk.now).max_frame ≡ limits.max_frame }
-    requires slots { length handlers.items ≡ (D.meaning desk.now).slots }
+) -> Answered<J>
+    requires can { CanServe limits workers (D.meaning desk.now).max_frame (D.meaning desk.now).slots (length handlers.items) }
     requires empty { J.told journal ≡ Some [] }
     requires whole { J.torn journal ≡ false }
     // Ok says that the input is a script, read to its end, and that the bytes added to the output are the report of a run of it at this desk and from the
@@ -64,13 +57,16 @@ pub fn answer_recorded<L: EntryLine, D: Desk, H: Handler, J: ReportedJournal, S:
     ensures read_fault { result.result ≡ Err ServingFault.ReadFault → Rose (S.faults input.old) (S.faults input.new) }
     ensures write_fault { result.result ≡ Err ServingFault.WriteFault → Rose (K.faults output.old) (K.faults output.new) }
     ensures journal_fault { result.result ≡ Err ServingFault.JournalFault → Rose (J.faults journal) (J.faults result.journal) }
+    ensures later { J.faults journal ≤ J.faults result.journal }
+    // Ok says too that no read and no write has failed.
+    ensures input_kept { OnOk result.result (S.faults input.new ≡ S.faults input.old) }
+    ensures output_kept { OnOk result.result (K.faults output.new ≡ K.faults output.old) }
 {
     match read_input(alloc, input, workers, true) {
         Ok(script) => run_and_report::<L, D, H, J, K>(
             alloc, &script, output, desk, handlers, journal, workers, limits,
         ),
         Err(fault) => Answered {
-            handlers,
             journal,
             result: Err(fault),
         },
@@ -87,14 +83,9 @@ fn run_and_report<L: EntryLine, D: Desk, H: Handler, J: ReportedJournal, K: Sink
     journal: J,
     workers: u32,
     limits: Limits,
-) -> Answered<H, J>
-    requires workers { workers ≤ 8 }
+) -> Answered<J>
+    requires can { CanServe limits workers (D.meaning desk.now).max_frame (D.meaning desk.now).slots (length handlers.items) }
     requires moves { MovesItsWorkers workers script.now }
-    requires some { 1 ≤ limits.max_frame }
-    requires within { limits.max_frame ≤ limits.read_budget }
-    requires budget { limits.read_budget ≤ longest_payload }
-    requires longest { (D.meaning desk.now).max_frame ≡ limits.max_frame }
-    requires slots { length handlers.items ≡ (D.meaning desk.now).slots }
     requires empty { J.told journal ≡ Some [] }
     requires whole { J.torn journal ≡ false }
     ensures reported { ReportsServed
@@ -102,20 +93,14 @@ fn run_and_report<L: EntryLine, D: Desk, H: Handler, J: ReportedJournal, K: Sink
         L.line script.now (K.taken output.old) (K.taken output.new) result.result }
     ensures write_fault { result.result ≡ Err ServingFault.WriteFault → Rose (K.faults output.old) (K.faults output.new) }
     ensures journal_fault { result.result ≡ Err ServingFault.JournalFault → Rose (J.faults journal) (J.faults result.journal) }
+    ensures later { J.faults journal ≤ J.faults result.journal }
     ensures no_read_fault { result.result ≢ Err ServingFault.ReadFault }
+    ensures output_kept { OnOk result.result (K.faults output.new ≡ K.faults output.old) }
 {
     let run = rehearse(alloc, script, desk, handlers, journal, workers, limits);
     let result = report_run::<L, H, J, K>(alloc, output, &run);
-    let Rehearsed {
-        handlers,
-        journal,
-        ..
-    } = run;
-    Answered {
-        handlers,
-        journal,
-        result,
-    }
+    let Rehearsed { journal, .. } = run;
+    Answered { journal, result }
 }
 
 /// Writes the report of a run that came to its end.
@@ -131,6 +116,7 @@ fn report_run<L: EntryLine, H: Handler, J: ReportedJournal, K: Sink>(
     ensures write_fault { result ≡ Err ServingFault.WriteFault → Rose (K.faults out.old) (K.faults out.new) }
     ensures journal_fault { result ≡ Err ServingFault.JournalFault → run.now.outcome ≡ outcomes.JournalFault }
     ensures no_read_fault { result ≢ Err ServingFault.ReadFault }
+    ensures output_kept { OnOk result (K.faults out.new ≡ K.faults out.old) }
 {
     match run.outcome {
         Outcome::All => {

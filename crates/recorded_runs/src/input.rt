@@ -58,6 +58,7 @@ pub fn read_input<S: Source>(
         (λ fault. EndsReading (script_of_text workers schedule) fault (S.left input.old)) }
     ensures moves { IfOk result (λ script. MovesItsWorkers workers script) }
     ensures fault { result ≡ Err ServingFault.ReadFault → Rose (S.faults input.old) (S.faults input.new) }
+    ensures kept { OnOk result (S.faults input.new ≡ S.faults input.old) }
 {
     scripts_are_sound();
     let text = read_whole(alloc, input)?;
@@ -71,6 +72,7 @@ fn read_whole<S: Source>(alloc: Global, source: &mut S) -> Result<Vec<u8>, Input
     ensures whole { IfOk result (λ text. length text.items ≤ longest_script → IsSpent (S.left source.new)) }
     ensures later { S.faults source.old ≤ S.faults source.new }
     ensures failed { result ≡ Err InputError.Failed → Rose (S.faults source.old) (S.faults source.new) }
+    ensures kept { OnOk result (S.faults source.new ≡ S.faults source.old) }
 {
     let mut room = make_room(alloc)?;
     read_through(alloc, source, room.as_mut_slice())
@@ -94,6 +96,7 @@ fn read_through<S: Source>(
     ensures whole { IfOk result (λ text. length text.items ≤ longest_script → IsSpent (S.left source.new)) }
     ensures later { S.faults source.old ≤ S.faults source.new }
     ensures failed { result ≡ Err InputError.Failed → Rose (S.faults source.old) (S.faults source.new) }
+    ensures kept { OnOk result (S.faults source.new ≡ S.faults source.old) }
 {
     let mut text = Vec::new(alloc);
     'reads: while text.len() <= LONGEST_SCRIPT {

@@ -1,6 +1,6 @@
 //! A recording, served from its input to its report.
 
-ghost use Rattle.std.specs.Prelude.{◌≡◌, ◌≢◌, ◌≤◌, false, [], List, length, map, Some, Err};
+ghost use Rattle.std.specs.Prelude.{◌≡◌, ◌≢◌, ◌≤◌, false, [], List, length, map, Some, Err, OnOk};
 ghost use Rattle.outside.specs.Cause.{Rose};
 ghost use Rattle.conn_table.specs.declared.run_limits.Outcome.TheVariants as outcomes;
 ghost use Rattle.call_rules.specs.Entries.{CallEntry};
@@ -9,7 +9,7 @@ ghost use Rattle.recorded_runs.specs.Recorded.{MeansRecorded};
 ghost use Rattle.recorded_runs.specs.Answered.{Answering};
 ghost use Rattle.recorded_runs.specs.Steps.{ReportsServed};
 ghost use Rattle.recorded_runs.specs.ServedScripts.{script_to_serve, IsServedScript};
-ghost use Rattle.call_rules.specs.Desks.{longest_payload};
+ghost use Rattle.conn_table.specs.Servable.{CanServe};
 
 use crate::{Answered, ServingFault, read_input};
 use call_rules::{Desk, Handler};
@@ -51,13 +51,8 @@ pub fn serve_recorded<
     workers: u32,
     gate: &G,
     limits: Limits,
-) -> Answered<H, J>
-    requires workers { workers ≤ 8 }
-    requires some { 1 ≤ limits.max_frame }
-    requires within { limits.max_frame ≤ limits.read_budget }
-    requires budget { limits.read_budget ≤ longest_payload }
-    requires longest { (D.meaning desk.now).max_frame ≡ limits.max_frame }
-    requires slots { length handlers.items ≡ (D.meaning desk.now).slots }
+) -> Answered<J>
+    requires can { CanServe limits workers (D.meaning desk.now).max_frame (D.meaning desk.now).slots (length handlers.items) }
     requires empty { J.told journal ≡ Some [] }
     requires whole { J.torn journal ≡ false }
     // Ok says that the input is a script, read to its end, and that the bytes added to the output are the report of a run of it at this desk and from the
@@ -70,13 +65,16 @@ pub fn serve_recorded<
     ensures read_fault { result.result ≡ Err ServingFault.ReadFault → Rose (S.faults input.old) (S.faults input.new) }
     ensures write_fault { result.result ≡ Err ServingFault.WriteFault → Rose (K.faults output.old) (K.faults output.new) }
     ensures journal_fault { result.result ≡ Err ServingFault.JournalFault → Rose (J.faults journal) (J.faults result.journal) }
+    ensures later { J.faults journal ≤ J.faults result.journal }
+    // Ok says too that no read and no write has failed.
+    ensures input_kept { OnOk result.result (S.faults input.new ≡ S.faults input.old) }
+    ensures output_kept { OnOk result.result (K.faults output.new ≡ K.faults output.old) }
 {
     match read_input(alloc, input, workers, false) {
         Ok(script) => serve_and_report::<L, D, H, J, K, G, R>(
             rt, alloc, script, output, desk, handlers, journal, workers, gate, limits,
         ),
         Err(fault) => Answered {
-            handlers,
             journal,
             result: Err(fault),
         },
@@ -103,13 +101,8 @@ fn serve_and_report<
     workers: u32,
     gate: &G,
     limits: Limits,
-) -> Answered<H, J>
-    requires workers { workers ≤ 8 }
-    requires some { 1 ≤ limits.max_frame }
-    requires within { limits.max_frame ≤ limits.read_budget }
-    requires budget { limits.read_budget ≤ longest_payload }
-    requires longest { (D.meaning desk.now).max_frame ≡ limits.max_frame }
-    requires slots { length handlers.items ≡ (D.meaning desk.now).slots }
+) -> Answered<J>
+    requires can { CanServe limits workers (D.meaning desk.now).max_frame (D.meaning desk.now).slots (length handlers.items) }
     requires empty { J.told journal ≡ Some [] }
     requires whole { J.torn journal ≡ false }
     ensures reported { ReportsServed
@@ -117,11 +110,12 @@ fn serve_and_report<
         L.line script (K.taken output.old) (K.taken output.new) result.result }
     ensures write_fault { result.result ≡ Err ServingFault.WriteFault → Rose (K.faults output.old) (K.faults output.new) }
     ensures journal_fault { result.result ≡ Err ServingFault.JournalFault → Rose (J.faults journal) (J.faults result.journal) }
+    ensures later { J.faults journal ≤ J.faults result.journal }
     ensures no_read_fault { result.result ≢ Err ServingFault.ReadFault }
+    ensures output_kept { OnOk result.result (K.faults output.new ≡ K.faults output.old) }
 {
     let Ok(mut links) = ScriptLinks::new(alloc, script) else {
         return Answered {
-            handlers,
             journal,
             result: Err(ServingFault::NoMemory),
         };
@@ -132,16 +126,8 @@ fn serve_and_report<
     links.follow_their_script();
     let tape = links.into_tape();
     let result = report_run::<L, H, J, K>(alloc, output, &tape, &run);
-    let Served {
-        handlers,
-        journal,
-        ..
-    } = run;
-    Answered {
-        handlers,
-        journal,
-        result,
-    }
+    let Served { journal, .. } = run;
+    Answered { journal, result }
 }
 
 /// Writes the report of a run that came to its end.
@@ -157,6 +143,7 @@ fn report_run<L: EntryLine, H: Handler, J: ReportedJournal, K: Sink>(
     ensures write_fault { result ≡ Err ServingFault.WriteFault → Rose (K.faults out.old) (K.faults out.new) }
     ensures journal_fault { result ≡ Err ServingFault.JournalFault → run.now.outcome ≡ outcomes.JournalFault }
     ensures no_read_fault { result ≢ Err ServingFault.ReadFault }
+    ensures output_kept { OnOk result (K.faults out.new ≡ K.faults out.old) }
 {
     match run.outcome {
         Outcome::All => {

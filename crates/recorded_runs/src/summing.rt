@@ -1,6 +1,6 @@
 //! A run of a workload, summed up.
 
-ghost use Rattle.std.specs.Prelude.{◌≡◌, ◌≢◌, ◌≤◌, List, length, Some, Err, IfOk};
+ghost use Rattle.std.specs.Prelude.{◌≡◌, ◌≢◌, ◌≤◌, List, length, Some, Err, IfOk, OnOk};
 ghost use Rattle.outside.specs.Cause.{Rose};
 ghost use Rattle.host_model.specs.declared.cause.EndCause.TheVariants.{NoMemory as RanOut};
 ghost use Rattle.conn_table.specs.declared.run_limits.Outcome.TheVariants as outcomes;
@@ -36,6 +36,7 @@ pub(crate) fn sum_up<H: Handler, J: ReportedJournal, K: Sink>(
     ensures summed { WritesSummary (work_text work.seed work.size) (K.taken out.old) (K.taken out.new) result }
     ensures write_fault { result ≡ Err faults.WriteFault → Rose (K.faults out.old) (K.faults out.new) }
     ensures journal_fault { result ≡ Err faults.JournalFault → run.now.outcome ≡ outcomes.JournalFault }
+    ensures output_kept { OnOk result (K.faults out.new ≡ K.faults out.old) }
 {
     match run.outcome {
         Outcome::All => {
@@ -115,6 +116,7 @@ fn hand_over<K: Sink>(out: &mut K, text: &[u8]) -> Result<(), ServingFault>
     ensures summed { WritesSummary text.now (K.taken out.old) (K.taken out.new) result }
     ensures write_fault { result ≡ Err faults.WriteFault → Rose (K.faults out.old) (K.faults out.new) }
     ensures no_journal_fault { result ≢ Err faults.JournalFault }
+    ensures output_kept { OnOk result (K.faults out.new ≡ K.faults out.old) }
 {
     match write_all(out, text) {
         Ok(()) => Ok(()),

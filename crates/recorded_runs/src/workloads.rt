@@ -1,13 +1,13 @@
 //! A workload, served from its seed to its summary.
 
-ghost use Rattle.std.specs.Prelude.{◌≡◌, ◌≤◌, false, [], length, map, Some, Err};
+ghost use Rattle.std.specs.Prelude.{◌≡◌, ◌≤◌, false, [], length, map, Some, Err, OnOk};
 ghost use Rattle.outside.specs.Cause.{Rose};
 ghost use Rattle.workload.specs.LoadPlan.{workload_plan};
 ghost use Rattle.workload.specs.ExpectedRun.{work_text};
 ghost use Rattle.workload.specs.Summed.{HasCalculator};
 ghost use Rattle.recorded_runs.specs.declared.fault.ServingFault.TheVariants as faults;
 ghost use Rattle.recorded_runs.specs.Summaries.{ServesCalculator, WritesSummary};
-ghost use Rattle.call_rules.specs.Desks.{longest_payload};
+ghost use Rattle.conn_table.specs.Servable.{CanServe};
 
 use crate::summing::sum_up;
 use crate::workload_laws::a_served_workload_comes_to_its_sum;
@@ -57,15 +57,10 @@ pub fn serve_workload<
     gate: &G,
     limits: Limits,
     work: Work,
-) -> Answered<H, J>
-    requires workers { workers ≤ 8 }
+) -> Answered<J>
+    requires can { CanServe limits workers (D.meaning desk.now).max_frame (D.meaning desk.now).slots (length handlers.items) }
     requires frames { 1 ≤ work.size }
     requires most { work.size ≤ 1000000 }
-    requires some { 1 ≤ limits.max_frame }
-    requires within { limits.max_frame ≤ limits.read_budget }
-    requires budget { limits.read_budget ≤ longest_payload }
-    requires longest { (D.meaning desk.now).max_frame ≡ limits.max_frame }
-    requires slots { length handlers.items ≡ (D.meaning desk.now).slots }
     requires calculators { ServesCalculator (D.meaning desk.now) }
     requires service { HasCalculator (map H.service handlers.items) }
     requires empty { J.told journal ≡ Some [] }
@@ -74,13 +69,15 @@ pub fn serve_workload<
     ensures summed { WritesSummary (work_text work.seed work.size) (K.taken output.old) (K.taken output.new) result.result }
     ensures write_fault { result.result ≡ Err faults.WriteFault → Rose (K.faults output.old) (K.faults output.new) }
     ensures journal_fault { result.result ≡ Err faults.JournalFault → Rose (J.faults journal) (J.faults result.journal) }
+    ensures later { J.faults journal ≤ J.faults result.journal }
+    // Ok says too that no write has failed.
+    ensures output_kept { OnOk result.result (K.faults output.new ≡ K.faults output.old) }
 {
     match generate(alloc, work.seed, work.size) {
         Ok(script) => serve_script::<D, H, J, K, G, R>(
             rt, alloc, script, output, desk, handlers, journal, workers, gate, limits, work,
         ),
         Err(_) => Answered {
-            handlers,
             journal,
             result: Err(ServingFault::NoMemory),
         },
@@ -107,16 +104,11 @@ fn serve_script<
     gate: &G,
     limits: Limits,
     work: Work,
-) -> Answered<H, J>
+) -> Answered<J>
     requires script { script ≡ workload_plan work.seed work.size }
-    requires workers { workers ≤ 8 }
+    requires can { CanServe limits workers (D.meaning desk.now).max_frame (D.meaning desk.now).slots (length handlers.items) }
     requires frames { 1 ≤ work.size }
     requires most { work.size ≤ 1000000 }
-    requires some { 1 ≤ limits.max_frame }
-    requires within { limits.max_frame ≤ limits.read_budget }
-    requires budget { limits.read_budget ≤ longest_payload }
-    requires longest { (D.meaning desk.now).max_frame ≡ limits.max_frame }
-    requires slots { length handlers.items ≡ (D.meaning desk.now).slots }
     requires calculators { ServesCalculator (D.meaning desk.now) }
     requires service { HasCalculator (map H.service handlers.items) }
     requires empty { J.told journal ≡ Some [] }
@@ -124,11 +116,12 @@ fn serve_script<
     ensures summed { WritesSummary (work_text work.seed work.size) (K.taken output.old) (K.taken output.new) result.result }
     ensures write_fault { result.result ≡ Err faults.WriteFault → Rose (K.faults output.old) (K.faults output.new) }
     ensures journal_fault { result.result ≡ Err faults.JournalFault → Rose (J.faults journal) (J.faults result.journal) }
+    ensures later { J.faults journal ≤ J.faults result.journal }
+    ensures output_kept { OnOk result.result (K.faults output.new ≡ K.faults output.old) }
 {
     a_served_workload_comes_to_its_sum();
     let Ok(mut links) = ScriptLinks::new(alloc, script) else {
         return Answered {
-            handlers,
             journal,
             result: Err(ServingFault::NoMemory),
         };
@@ -139,14 +132,6 @@ fn serve_script<
     links.follow_their_script();
     let tape = links.into_tape();
     let result = sum_up::<H, J, K>(alloc, output, &tape, &run, work);
-    let Served {
-        handlers,
-        journal,
-        ..
-    } = run;
-    Answered {
-        handlers,
-        journal,
-        result,
-    }
+    let Served { journal, .. } = run;
+    Answered { journal, result }
 }

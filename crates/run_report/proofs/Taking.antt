@@ -1,18 +1,15 @@
 -- The causes of a report that isn't written, from call to call.
-use Rattle.std.proofs.Common.{◌≡◌, ℕ, ◌≤◌, List, [], Option, Result, Ok, Err, MatchResult, arith, append_assoc, append-nil}
-use Rattle.outside.specs.Cause.{Rose}
+use Rattle.std.proofs.Common.{◌≡◌, ℕ, List, [], Option, Result, Ok, Err, MatchResult, subst, append_assoc, append-nil}
 use Rattle.outside.specs.Content.{told_more}
 use Rattle.outside.specs.Taken.{IsTakenBut, IsTakenInPart, TakesText}
 use Rattle.outside.proofs.Taking.{none_taken, none_in_part, all_taken, all_told, taken_on, next_taken, next_in_part, last_in_part, part_told}
 use Rattle.run_report.specs.declared.fault.ReportFault.{ReportFault}
 use Rattle.run_report.specs.Pieces.{HasReportCause}
 
--- the count rose in a later call
-pub cause_on : {A : Type 0} (before between now : ℕ) (result : Result A ReportFault) → before ≤ between → HasReportCause between now result
+-- the count was as before when a later call was made
+pub cause_on : {A : Type 0} (before between now : ℕ) (result : Result A ReportFault) → HasReportCause between now result → between ≡ before
     → HasReportCause before now result
-cause_on before between now result l h =
-    let k : between ≤ now = h.later in
-    record { later = omega arith; failed = λ e. let r : Rose between now = h.failed e in omega arith }
+cause_on before between now result h same = subst (λ n. HasReportCause n now result) same h
 
 -- a text was handed on whole, or a beginning of it
 pub whole_or_part : {A E : Type 0} (x y z : Option (List ℕ)) (text left : List ℕ) (result : Result A E) → IsTakenBut x y text left → TakesText y z left [] result

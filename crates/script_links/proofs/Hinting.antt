@@ -115,6 +115,7 @@ module _ (ask : Ask) (first s : ServedScript) (passed : IsPassedOver ask first s
     faults = λ x. counts x ∙ ap (λ (links : List PlainLink). (link_at links x).faults) passed.links;
     later = omega arith;
     failed = λ e. absurd (true≢false (sym e));
+    kept = refl;
   }
 
   -- where no connection is changed

@@ -15,7 +15,7 @@ use Rattle.outside.specs.Binding.{StartListening}
 use Rattle.script_links.specs.ServedScript.{ServedScript}
 use Rattle.script_links.specs.Shown.{links_told}
 use Rattle.script_links.proofs.Connected.{open_is_there}
-use Rattle.script_links.specs.Listens.{told_listening}
+use Rattle.script_links.specs.Listens.{ListeningScript, told_listening, listening_with}
 
 module _ (l : Listening) (s t : ServedScript) where
   changes : (c : ℕ) → ChangesOnly c (links_told s) (links_told t) → ChangesOnly c (told_listening l s) (told_listening l t)
@@ -108,7 +108,17 @@ module _ (l : Listening) (s t : ServedScript) where
       faults = a.faults;
       later = a.later;
       failed = a.failed;
+      kept = a.kept;
     }
+
+-- what a call leaves of the script it leaves of links that listen
+pub leaves : (x : ListeningScript) (s t : ServedScript) (l : Listening) (f : ServedScript → ServedScript) → record { served = s; listening = l } ≡ x → t ≡ f s
+    → record { served = t; listening = l } ≡ listening_with x (f x.served)
+leaves x s t l f is same =
+    let first : ListeningScript = record { served = t; listening = l } in
+    let second : ListeningScript = record { served = f s; listening = l } in
+    let here : first ≡ second = ap (λ (u : ServedScript). listening_with first u) same in
+    here ∙ ap (λ (y : ListeningScript). listening_with y (f y.served)) is
 
 -- links that are fresh start to listen
 pub starts : (l : Listening) (s : ServedScript) → AreFreshLinks (links_told s) → StartListening (Some []) l (told_listening l s)

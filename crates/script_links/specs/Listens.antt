@@ -14,6 +14,10 @@ pub record ListeningScript : Type 0 where
   pub served : ServedScript
   pub listening : Listening
 
+-- they listen there, and their script has come so far
+abbrev pub listening_with : ListeningScript → ServedScript → ListeningScript
+listening_with links served = record links { served = served }
+
 -- what they tell
 abbrev pub told_listening : Listening → ServedScript → LinksState
 told_listening listening served = record (links_told served) { listens = Some listening }

@@ -1,6 +1,6 @@
 //! A binder in memory.
 
-ghost use Rattle.std.specs.Prelude.{◌≡◌, ◌≢◌, ◌↔◌, ◌≤◌, Some, [], IfOk, IsSome, IsTrue, Err};
+ghost use Rattle.std.specs.Prelude.{◌≡◌, ◌≢◌, ◌↔◌, ◌≤◌, false, Some, [], IfOk, IsSome, IsTrue, Err};
 ghost use Rattle.outside.specs.Cause.{Rose, next_if_faulty};
 ghost use Rattle.outside.specs.Memory.{is_listed};
 ghost use Rattle.outside.specs.declared.binder.BindFail.TheVariants.{Failed};
@@ -61,6 +61,7 @@ impl MemBinder {
         ensures fails { result ≡ is_listed self.old.fails self.old.call }
         ensures later { self.old.faults ≤ self.new.faults }
         ensures rose { IsTrue result → Rose self.old.faults self.new.faults }
+        ensures kept { result ≡ false → self.new.faults ≡ self.old.faults }
         ensures after { self.new ≡ after_listen self.old }
     {
         let call = self.call;

@@ -1,11 +1,13 @@
 //! Links over a script that listen.
 
-ghost use Rattle.std.specs.Prelude.{◌≡◌, ◌<◌, true, length};
+ghost use Rattle.std.specs.Prelude.{◌≡◌, ◌<◌, true, length, Ok};
 ghost use Rattle.outside.specs.Asking.{AnswersAsk};
-ghost use Rattle.outside.specs.Reading.{Reads};
+ghost use Rattle.outside.specs.Reading.{Reads, bytes_read};
 ghost use Rattle.outside.specs.Writing.{WritesToConnection};
 ghost use Rattle.outside.specs.Closing.{Closes};
-ghost use Rattle.script_links.specs.Listens.{listening_told, plan_of_listening};
+ghost use Rattle.script_links.specs.ServedScript.{link_at};
+ghost use Rattle.script_links.specs.Plain.{next_of, hint_of, left_by_read, left_by_write, left_by_close, taken_by_read, taken_by_rules, MayComeTo};
+ghost use Rattle.script_links.specs.Listens.{listening_told, plan_of_listening, listening_with};
 ghost use Rattle.script_links.specs.Followed.{LinksPlan};
 
 use crate::past::PastChain;
@@ -15,7 +17,7 @@ use std::alloc::{AllocError, Global};
 use std::marker::Model;
 use std::sync::Wait;
 
-/// Links over a script that listen at a port, and accept so many connections at most.
+/// Links over a script that listen at a port, and accept so many connections at most. Each call does just what the links over the script do.
 #[derive(Drop)]
 pub struct BoundLinks {
     /// The links over the script.
@@ -55,6 +57,9 @@ impl Links for BoundLinks {
     fn next<R: Wait>(&mut self, rt: &R, ask: Ask) -> Result<Hint, Failed>
         ensures answers { AnswersAsk ask (listening_told self.old) (listening_told self.new) result }
         ensures same_plan { plan_of_listening self.new ≡ plan_of_listening self.old }
+        // It does the next line, or tells of a write, just as the rules of scripts say.
+        ensures hint { result ≡ Ok (hint_of (next_of ask self.old.served).came) }
+        ensures after { self.new ≡ listening_with self.old (next_of ask self.old.served).left }
     {
         self.links.next(rt, ask)
     }
@@ -64,6 +69,9 @@ impl Links for BoundLinks {
         requires room { 0 < length into.old }
         ensures reads { Reads c into.new (listening_told self.old) (listening_told self.new) result }
         ensures same_plan { plan_of_listening self.new ≡ plan_of_listening self.old }
+        // It takes of the oldest piece alone, and comes to no more than the script says.
+        ensures comes { MayComeTo (taken_by_read (length into.old) (link_at self.old.served.links c)) result }
+        ensures after { self.new ≡ listening_with self.old (left_by_read c (length into.old) (bytes_read into.new result) result self.old.served) }
     {
         self.links.read(c, into)
     }
@@ -73,6 +81,9 @@ impl Links for BoundLinks {
         requires some { 0 < length bytes.now }
         ensures writes { WritesToConnection c bytes.now (listening_told self.old) (listening_told self.new) result }
         ensures same_plan { plan_of_listening self.new ≡ plan_of_listening self.old }
+        // It goes by the next rule.
+        ensures comes { MayComeTo (taken_by_rules (length bytes.now) (link_at self.old.served.links c).rules) result }
+        ensures after { self.new ≡ listening_with self.old (left_by_write c bytes.now result self.old.served) }
     {
         self.links.write(c, bytes)
     }
@@ -81,6 +92,7 @@ impl Links for BoundLinks {
         requires { (listening_told self.old).is_open c ≡ true }
         ensures closes { Closes c (listening_told self.old) (listening_told self.new) }
         ensures same_plan { plan_of_listening self.new ≡ plan_of_listening self.old }
+        ensures after { self.new ≡ listening_with self.old (left_by_close c self.old.served) }
     {
         self.links.close(c);
     }

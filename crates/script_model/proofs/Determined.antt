@@ -1,5 +1,5 @@
 -- Two runs on the same bytes, whose marks are of the same kinds and whose journals are of one length, are one run.
-use Rattle.std.proofs.Common.{◌≡◌, ℕ, suc, ◌+◌, ◌-◌, ◌<◌, ◌≤◌, ◌^◌, ◌⊎◌, inl, inr, min, Option, None, Some, MatchOption, List, [], ◌∷◌, ◌++◌, length, map, slice_get, refl, sym, ap, ◌∙◌, subst, arith, true, true≢false, append_assoc, append-nil, length-append}
+use Rattle.std.proofs.Common.{◌≡◌, ℕ, suc, ◌+◌, ◌-◌, ◌<◌, ◌≤◌, ◌^◌, ◌⊎◌, inl, inr, min, Option, None, Some, MatchOption, List, [], ◌∷◌, ◌++◌, length, map, slice_get, refl, sym, ap, ◌∙◌, subst, arith, append_assoc, append-nil, length-append}
 use Rattle.std.specs.Int.{w32, to_be_bytes, from_be_bytes}
 use Rattle.std.specs.List.{AllByRecursion}
 use Rattle.std.proofs.lemmas.List.{length-map}
@@ -42,14 +42,14 @@ missing_one max rest m n small (a, inr x) (b, inr y) =
     omega (arith, size, long, x.all, y.all)
 
 -- a read at one place has one length
-one_length : (max : ℕ) (ends read bytes other : List ℕ) → max < 2 ^ 31 → TakesItsPart max ends read bytes → TakesItsPart max ends read other → length bytes ≡ length other
+pub one_length : (max : ℕ) (ends read bytes other : List ℕ) → max < 2 ^ 31 → TakesItsPart max ends read bytes → TakesItsPart max ends read other → length bytes ≡ length other
 one_length max ends read bytes other small a b =
     let split = only_split max read a.rest b.rest a.payloads b.payloads small a.frames b.frames in
     let same : a.missing ≡ b.missing = missing_one max b.rest a.missing b.missing small (subst (λ r. Completes max r a.missing) split.1 a.completes) b.completes in
     a.count ∙ ap (λ n. min (min n 65536) (piece_end ends (length read) - length read)) same ∙ sym b.count
 
 -- the same entries by the same keys and calls, since each answer is the service's
-one_answer : {A M : Type 0} (f : M → A) (o : Option M) (a b : A) → MatchOption o ⊥ (λ m. a ≡ f m) → MatchOption o ⊥ (λ m. b ≡ f m) → a ≡ b
+pub one_answer : {A M : Type 0} (f : M → A) (o : Option M) (a b : A) → MatchOption o ⊥ (λ m. a ≡ f m) → MatchOption o ⊥ (λ m. b ≡ f m) → a ≡ b
 one_answer f None a b x y = absurd x
 one_answer f (Some m) a b x y = x ∙ sym y
 
@@ -95,7 +95,7 @@ none_more xs ys (m ∷ more) e l =
 abbrev pub IsDone : {C A : Type 0} → DeskRules C A → List (JournalEntry C A) → List (List ℕ) → Type 0
 IsDone d es ps = Done d es ps ⊎ Done d es (but_last ps)
 
-same_calls : {C A : Type 0} (d : DeskRules C A) (ps : List (List ℕ)) (es fs : List (JournalEntry C A)) → IsDone d es ps → IsDone d fs ps → length es ≡ length fs
+pub same_calls : {C A : Type 0} (d : DeskRules C A) (ps : List (List ℕ)) (es fs : List (JournalEntry C A)) → IsDone d es ps → IsDone d fs ps → length es ≡ length fs
     → calls_of es ≡ calls_of fs
 same_calls d ps es fs (inl a) (inl b) l = a ∙ sym b
 same_calls d ps es fs (inr a) (inr b) l = a ∙ sym b
@@ -106,16 +106,17 @@ same_calls d ps es fs (inr a) (inl b) l =
     let t = more_called d 0 ps in
     sym (none_more (calls_of fs) (calls_of es) t.0 (b ∙ t.1 ∙ ap (λ c. c ++ t.0) (sym a)) (length-map fs _ ∙ sym l ∙ sym (length-map es _)))
 
+-- it is so by whichever cause a connection ended
 pub done_of : {C A : Type 0} (d : DeskRules C A) (ps : List (List ℕ)) (rest : List ℕ) (es : List (JournalEntry C A)) (out : List ℕ) (cause : EndCause)
-    → is_scripted cause ≡ true → EndsBy d ps rest es out cause → IsDone d es ps
-done_of d ps rest es out End s e = inl e.2.done
-done_of d ps rest es out Cut s e = inl e.3.done
-done_of d ps rest es out (SizeFault z) s e = inl e.3.done
-done_of d ps rest es out NoMemory s e = e.done
-done_of d ps rest es out (Envelope fault) s e = inl e.2.done
-done_of d ps rest es out ReadFault s e = absurd (true≢false (sym s))
-done_of d ps rest es out WriteFault s e = absurd (true≢false (sym s))
-done_of d ps rest es out Stopped s e = absurd (true≢false (sym s))
+    → EndsBy d ps rest es out cause → IsDone d es ps
+done_of d ps rest es out End e = inl e.2.done
+done_of d ps rest es out Cut e = inl e.3.done
+done_of d ps rest es out (SizeFault z) e = inl e.3.done
+done_of d ps rest es out (Envelope fault) e = inl e.2.done
+done_of d ps rest es out ReadFault e = inl e.2.done
+done_of d ps rest es out WriteFault e = inl e.2
+done_of d ps rest es out NoMemory e = e.done
+done_of d ps rest es out Stopped e = e.done
 
 module _ {C A M : Type 0} (d : DeskRules C A) (r : ServiceRules C A M) (memories : List M) (arrival : Arrival) where
   -- all marks and entries are of connection 0
@@ -162,7 +163,7 @@ module _ {C A M : Type 0} (d : DeskRules C A) (r : ServiceRules C A M) (memories
   same_inputs f f' (m ∷ b) (n ∷ b') e e' fronts own own' kinds =
       let k = cons_parts (kind_of m) (kind_of n) (map kind_of b) (map kind_of b') kinds in
       let one : read_by m ≡ read_by n =
-      same_read m n k.0 own.0 own'.0
+      same_read 0 m n k.0 own.0 own'.0
       (λ bytes other is is'. two_reads f f' b b' bytes other (e ∙ ap (λ t. f ++ t ∷ b) is) (e' ∙ ap (λ t. f' ++ t ∷ b') is') fronts) in
       let step : read_of (m ∷ []) ≡ read_of (n ∷ []) = read_first m [] own.0 ∙ ap (λ t. t ++ []) one ∙ sym (read_first n [] own'.0) in
       let now : read_of (f ++ m ∷ []) ≡ read_of (f' ++ n ∷ []) = read_append f (m ∷ []) ∙ (λ i. fronts i ++ step i) ∙ sym (read_append f' (n ∷ [])) in
@@ -187,9 +188,9 @@ module _ {C A M : Type 0} (d : DeskRules C A) (r : ServiceRules C A M) (memories
       let q : entries_of 0 journal ≡ journal = own_filter (λ e. e.key.c) journal own in
       let q' : entries_of 0 journal' ≡ journal' = own_filter (λ e. e.key.c) journal' own' in
       let done : IsDone d (entries_of 0 journal) t.payloads =
-      done_of d t.payloads t.rest (entries_of 0 journal) (wrote_of tape) cause (x.served 0 cause refl).allowed t.ended in
+      done_of d t.payloads t.rest (entries_of 0 journal) (wrote_of tape) cause t.ended in
       let done' : IsDone d (entries_of 0 journal') t'.payloads =
-      done_of d t'.payloads t'.rest (entries_of 0 journal') (wrote_of tape') cause' (y.served 0 cause' refl).allowed t'.ended in
+      done_of d t'.payloads t'.rest (entries_of 0 journal') (wrote_of tape') cause' t'.ended in
       let calls : calls_of (entries_of 0 journal) ≡ calls_of (entries_of 0 journal') =
       same_calls d t'.payloads (entries_of 0 journal) (entries_of 0 journal') (subst (IsDone d (entries_of 0 journal)) (same_split reads).0 done) done'
       (ap length q ∙ long ∙ sym (ap length q')) in
@@ -214,10 +215,10 @@ module _ {C A M : Type 0} (d : DeskRules C A) (r : ServiceRules C A M) (memories
   same_marks f (m ∷ b) (n ∷ b') e e' own own' kinds same =
       let k = cons_parts (kind_of m) (kind_of n) (map kind_of b) (map kind_of b') kinds in
       let reads : read_by m ≡ read_by n =
-      same_read m n k.0 own.0 own'.0
+      same_read 0 m n k.0 own.0 own'.0
       (λ bytes other is is'. two_reads f f b b' bytes other (e ∙ ap (λ t. f ++ t ∷ b) is) (e' ∙ ap (λ t. f ++ t ∷ b') is') refl) in
       let writes : written_by m ≡ written_by n =
-      same_written m n k.0 own.0 own'.0
+      same_written 0 m n k.0 own.0 own'.0
       (λ bytes other is is'. two_writes f b b' bytes other (e ∙ ap (λ t. f ++ t ∷ b) is) (e' ∙ ap (λ t. f ++ t ∷ b') is') same) in
       let one : m ≡ n = same_mark m n k.0 (own.0 ∙ sym own'.0) reads writes in
       let rest : b ≡ b' =

@@ -41,3 +41,8 @@ pub mod Draining
 pub mod Baring
 pub mod BarePlays
 pub mod Unending
+pub mod Openings
+pub mod MarkLines
+pub mod ManyRuns
+pub mod EndLines
+pub mod ManyTold

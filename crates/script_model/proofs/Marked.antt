@@ -19,12 +19,12 @@ kind_of (WriteFailed c) = 5
 kind_of (Closed c) = 6
 
 -- the mark of this kind and connection, with these bytes read or written
-abbrev mark_from : ℕ → ℕ → List ℕ → List ℕ → Mark
+abbrev pub mark_from : ℕ → ℕ → List ℕ → List ℕ → Mark
 mark_from kind c read wrote =
     if kind == 0 then Opened c else (if kind == 1 then Read c read else (if kind == 2 then Ended c else (if kind == 3 then Wrote c wrote
     else (if kind == 4 then ReadFailed c else (if kind == 5 then WriteFailed c else Closed c)))))
 
-mark_again : (m : Mark) → mark_from (kind_of m) (connection_of m) (read_by m) (written_by m) ≡ m
+pub mark_again : (m : Mark) → mark_from (kind_of m) (connection_of m) (read_by m) (written_by m) ≡ m
 mark_again (Opened c) = refl
 mark_again (Read c bytes) = refl
 mark_again (Ended c) = refl
@@ -73,29 +73,29 @@ is_write (ReadFailed c) k = absurd (let f : ⊥ = omega (arith, k) in f)
 is_write (WriteFailed c) k = absurd (let f : ⊥ = omega (arith, k) in f)
 is_write (Closed c) k = absurd (let f : ⊥ = omega (arith, k) in f)
 
--- two marks of one kind have read the same, if two reads have
-pub same_read : (m n : Mark) → kind_of m ≡ kind_of n → connection_of m ≡ 0 → connection_of n ≡ 0
-    → ((bytes other : List ℕ) → m ≡ Read 0 bytes → n ≡ Read 0 other → bytes ≡ other) → read_by m ≡ read_by n
-same_read (Opened c) n k x y h = no_read n (λ e. let f : ⊥ = omega (arith, k, e) in f)
-same_read (Read c bytes) n k x y h =
+-- two marks of one kind and one connection have read the same, if two reads have
+pub same_read : (at : ℕ) (m n : Mark) → kind_of m ≡ kind_of n → connection_of m ≡ at → connection_of n ≡ at
+    → ((bytes other : List ℕ) → m ≡ Read at bytes → n ≡ Read at other → bytes ≡ other) → read_by m ≡ read_by n
+same_read at (Opened c) n k x y h = no_read n (λ e. let f : ⊥ = omega (arith, k, e) in f)
+same_read at (Read c bytes) n k x y h =
     h bytes (read_by n) (ap (λ c. Read c bytes) x) (is_read n (sym k) ∙ ap (λ c. Read c (read_by n)) y)
-same_read (Ended c) n k x y h = no_read n (λ e. let f : ⊥ = omega (arith, k, e) in f)
-same_read (Wrote c bytes) n k x y h = no_read n (λ e. let f : ⊥ = omega (arith, k, e) in f)
-same_read (ReadFailed c) n k x y h = no_read n (λ e. let f : ⊥ = omega (arith, k, e) in f)
-same_read (WriteFailed c) n k x y h = no_read n (λ e. let f : ⊥ = omega (arith, k, e) in f)
-same_read (Closed c) n k x y h = no_read n (λ e. let f : ⊥ = omega (arith, k, e) in f)
+same_read at (Ended c) n k x y h = no_read n (λ e. let f : ⊥ = omega (arith, k, e) in f)
+same_read at (Wrote c bytes) n k x y h = no_read n (λ e. let f : ⊥ = omega (arith, k, e) in f)
+same_read at (ReadFailed c) n k x y h = no_read n (λ e. let f : ⊥ = omega (arith, k, e) in f)
+same_read at (WriteFailed c) n k x y h = no_read n (λ e. let f : ⊥ = omega (arith, k, e) in f)
+same_read at (Closed c) n k x y h = no_read n (λ e. let f : ⊥ = omega (arith, k, e) in f)
 
 -- and have written the same, if two writes have
-pub same_written : (m n : Mark) → kind_of m ≡ kind_of n → connection_of m ≡ 0 → connection_of n ≡ 0
-    → ((bytes other : List ℕ) → m ≡ Wrote 0 bytes → n ≡ Wrote 0 other → bytes ≡ other) → written_by m ≡ written_by n
-same_written (Opened c) n k x y h = no_written n (λ e. let f : ⊥ = omega (arith, k, e) in f)
-same_written (Read c bytes) n k x y h = no_written n (λ e. let f : ⊥ = omega (arith, k, e) in f)
-same_written (Ended c) n k x y h = no_written n (λ e. let f : ⊥ = omega (arith, k, e) in f)
-same_written (Wrote c bytes) n k x y h =
+pub same_written : (at : ℕ) (m n : Mark) → kind_of m ≡ kind_of n → connection_of m ≡ at → connection_of n ≡ at
+    → ((bytes other : List ℕ) → m ≡ Wrote at bytes → n ≡ Wrote at other → bytes ≡ other) → written_by m ≡ written_by n
+same_written at (Opened c) n k x y h = no_written n (λ e. let f : ⊥ = omega (arith, k, e) in f)
+same_written at (Read c bytes) n k x y h = no_written n (λ e. let f : ⊥ = omega (arith, k, e) in f)
+same_written at (Ended c) n k x y h = no_written n (λ e. let f : ⊥ = omega (arith, k, e) in f)
+same_written at (Wrote c bytes) n k x y h =
     h bytes (written_by n) (ap (λ c. Wrote c bytes) x) (is_write n (sym k) ∙ ap (λ c. Wrote c (written_by n)) y)
-same_written (ReadFailed c) n k x y h = no_written n (λ e. let f : ⊥ = omega (arith, k, e) in f)
-same_written (WriteFailed c) n k x y h = no_written n (λ e. let f : ⊥ = omega (arith, k, e) in f)
-same_written (Closed c) n k x y h = no_written n (λ e. let f : ⊥ = omega (arith, k, e) in f)
+same_written at (ReadFailed c) n k x y h = no_written n (λ e. let f : ⊥ = omega (arith, k, e) in f)
+same_written at (WriteFailed c) n k x y h = no_written n (λ e. let f : ⊥ = omega (arith, k, e) in f)
+same_written at (Closed c) n k x y h = no_written n (λ e. let f : ⊥ = omega (arith, k, e) in f)
 
 -- what connection 0 read and wrote by these marks
 abbrev pub read_of : List Mark → List ℕ

@@ -12,3 +12,4 @@ pub mod Rehearsing
 pub mod Showing
 pub mod Rows
 pub mod Ending
+pub mod Telling

@@ -5,8 +5,8 @@
 //! The files of `specs/`, in reading order: what arrives; what a read takes; what a write takes; a run of one connection and its report; the lines of a script,
 //! and what they say of each connection; what lets inputs end
 //! after all pieces; how much each write takes under its rule; what a line of rest asks of a run; the run that a script feeds;
-//! the moves of a machine in rehearsal; the whole rehearsal; what a script gives for its connections to move and to end; and a
-//! rehearsal told by what shows of it. Every script has a rehearsal (`steps`), which the script feeds (`feeding`), and what shows
+//! the moves of a machine in rehearsal; the whole rehearsal; what a script gives for its connections to move and to end; a
+//! rehearsal told by what shows of it; and which runs a report tells. Every script has a rehearsal (`steps`), which the script feeds (`feeding`), and what shows
 //! of it is one (`showing`). A crate that runs scripts says that its run is fed, and is the rehearsal where memory is ample:
 //!
 //! ```rust

@@ -11,10 +11,10 @@ use Rattle.script_text.specs.TextLines.{longest_script, text_lines}
 use Rattle.script_text.specs.LineForms.{SaidLine, runs, rules_so, said_of}
 use Rattle.script_text.specs.Reading.{ScriptSoFar, fault_of_line, over_behind, with_rule, with_said, unless_fault, read_said, read_line, fault_at, reads_on, read_from, plan_read, plan_of_lines, script_of_text}
 use Rattle.script_text.specs.Printing.{said_text, with_its_rules, said_from, said_in, print_of}
-use Rattle.script_text.specs.Sound.{IsReadBack, IsKeptScript}
+use Rattle.script_text.specs.Sound.{IsReadBack, IsKeptScript, IsUnscheduled}
 use Rattle.script_text.proofs.Written.{IsWritable, said_written, not_ignored}
 use Rattle.script_text.proofs.OneLine.{printed_lines}
-use Rattle.script_text.proofs.Standing.{over_all, Pass, AreRules, rules_at, IsReadTo, plan_stands, wider}
+use Rattle.script_text.proofs.Standing.{over_all, Pass, AreRules, rules_at, IsReadTo, plan_stands, wider, quiet_pass}
 
 -- a line that is written and has no fault is read
 line_on : (workers : ℕ) (schedule : Bool) (so : ScriptSoFar) (said : SaidLine) → IsWritable said → fault_of_line workers schedule so.over said ≡ None
@@ -185,6 +185,20 @@ plan_is_script workers schedule lines script within is =
     read_again 8 true script (record {
       over = to.over;
       pass = wider workers schedule [] script.lines within to.pass;
+      over_is = to.over_is;
+      rules = to.rules;
+      count = to.count;
+      opened = to.opened;
+      ended = to.ended;
+    })
+
+-- and for any number of workers, with lines of a schedule or without, where it has none
+pub plan_unscheduled : (workers : ℕ) (schedule : Bool) (script : ScriptPlan) → IsKeptScript script → IsUnscheduled script → IsReadBack workers schedule script
+plan_unscheduled workers schedule script kept quiet =
+    let to = plan_stands 8 true (map said_text (said_in script)) script kept in
+    read_again workers schedule script (record {
+      over = to.over;
+      pass = quiet_pass workers schedule [] script.lines quiet to.pass;
       over_is = to.over_is;
       rules = to.rules;
       count = to.count;

@@ -1,16 +1,16 @@
 -- What holds of what was read of a script, line by line.
-use Rattle.std.proofs.Common.{◌≡◌, ℕ, zero, suc, ◌+◌, ◌≤◌, Bool, true, false, not, cond, nat_le, max, List, [], ◌∷◌, ◌++◌, length, get_or, set, Option, Some, None, Result, Ok, Err, refl, ap, subst, ◌∙◌, arith, length-append, length-set}
-use Rattle.std.proofs.lemmas.Bool.{leb-false, lt-leb}
+use Rattle.std.proofs.Common.{◌≡◌, ℕ, zero, suc, ◌+◌, ◌≤◌, ◌||◌, Bool, true, false, not, cond, nat_le, max, List, [], ◌∷◌, ◌++◌, length, get_or, set, Option, Some, None, Result, Ok, Err, refl, ap, subst, ◌∙◌, arith, length-append, length-set}
+use Rattle.std.proofs.lemmas.Bool.{leb-false, lt-leb, true≢false}
 use Rattle.std.specs.Prelude.{MatchResult, ⊤}
 use Rattle.std.specs.List.{list_any, AllByRecursion}
 use Rattle.script_text.proofs.Cuts.{all-append}
-use Rattle.script_model.specs.ScriptLines.{PlanLine, opening, piece, input_end, input_fault, resting, turn_of_conn, turn_of_worker, turn_of_outcome, PlanRule, one_if_opens, openings, ScriptPlan}
+use Rattle.script_model.specs.ScriptLines.{PlanLine, opening, piece, input_end, input_fault, resting, turn_of_conn, turn_of_worker, turn_of_outcome, PlanRule, one_if_opens, openings, some_line, ScriptPlan}
 use Rattle.script_text.specs.declared.fault.ScriptFault.{ScriptFault}
 use Rattle.script_text.specs.declared.fault.ScriptKind.{ScriptKind}
 use Rattle.script_text.specs.declared.fault.ScriptKind.TheVariants.{NoEnd, NoWorker, Schedule}
 use Rattle.script_text.specs.TextLines.{is_passed_over}
 use Rattle.script_text.specs.LineForms.{SaidLine, runs, rules_so, said_of}
-use Rattle.script_text.specs.Reading.{ScriptSoFar, nothing_read, fault_of_line, over_behind, rules_opened, with_said, unless_fault, read_said, read_line, fault_at, reads_on, read_from, plan_read, plan_of_lines}
+use Rattle.script_text.specs.Reading.{ScriptSoFar, nothing_read, is_turn, fault_of_line, over_behind, rules_opened, with_said, unless_fault, read_said, read_line, fault_at, reads_on, read_from, plan_read, plan_of_lines}
 use Rattle.script_text.proofs.Written.{IsRule, IsWritable, CanBeWritten, said_can}
 
 -- the inputs after these lines, where those above left them so
@@ -200,3 +200,26 @@ pub wider : (workers : ℕ) (schedule : Bool) (over : List Bool) (lines : List P
 wider workers schedule over [] within pass = tt
 wider workers schedule over (line ∷ lines) within pass =
     ((wider_line workers schedule over line within pass.0.0, pass.0.1), wider workers schedule (over_behind line over) lines within pass.1)
+
+-- and for any number of workers, with lines of a schedule or without, where there is none
+neither : (one other : Bool) → (one || other) ≡ false → (one ≡ false) × (other ≡ false)
+neither true other is = absurd (true≢false is)
+neither false other is = (refl, is)
+
+quiet_line : (workers : ℕ) (schedule : Bool) (over : List Bool) (line : PlanLine) → is_turn line ≡ false → fault_of_line 8 true over (runs line) ≡ None
+    → fault_of_line workers schedule over (runs line) ≡ None
+quiet_line workers schedule over opening quiet clear = clear
+quiet_line workers schedule over (piece c bytes) quiet clear = clear
+quiet_line workers schedule over (input_end c) quiet clear = clear
+quiet_line workers schedule over (input_fault c) quiet clear = clear
+quiet_line workers schedule over resting quiet clear = clear
+quiet_line workers schedule over (turn_of_conn c) quiet clear = absurd (true≢false quiet)
+quiet_line workers schedule over (turn_of_worker w) quiet clear = absurd (true≢false quiet)
+quiet_line workers schedule over turn_of_outcome quiet clear = absurd (true≢false quiet)
+
+pub quiet_pass : (workers : ℕ) (schedule : Bool) (over : List Bool) (lines : List PlanLine) → some_line is_turn lines ≡ false → Pass 8 true over lines
+    → Pass workers schedule over lines
+quiet_pass workers schedule over [] quiet pass = tt
+quiet_pass workers schedule over (line ∷ lines) quiet pass =
+    let both = neither (is_turn line) (some_line is_turn lines) quiet in
+    ((quiet_line workers schedule over line both.0 pass.0.0, pass.0.1), quiet_pass workers schedule (over_behind line over) lines both.1 pass.1)

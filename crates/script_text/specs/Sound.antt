@@ -2,7 +2,7 @@
 use Rattle.std.specs.Prelude.{◌≡◌, ℕ, ◌<◌, ◌≤◌, Bool, true, false, ◌||◌, List, [], ◌∷◌, ◌++◌, map, length, get_or, Some, Ok}
 use Rattle.script_model.specs.ScriptLines.{PlanLine, piece, turn_of_worker, PlanRule, takes_most, ScriptPlan, openings, pieces_on, ends_input, fails_input, some_line, rules_of}
 use Rattle.script_model.specs.Rehearsing.{workers_among}
-use Rattle.script_text.specs.Reading.{most_connections, conn_of_line, plan_of_lines}
+use Rattle.script_text.specs.Reading.{most_connections, conn_of_line, is_turn, plan_of_lines}
 use Rattle.script_text.specs.Printing.{said_text, said_in}
 
 -- the lines of a script's print are read as the script
@@ -16,6 +16,10 @@ most_workers = 8
 -- the print of a script has no fault, whatever its length, for 8 workers and with lines of a schedule
 abbrev pub IsKeptScript : ScriptPlan → Type 0
 IsKeptScript script = IsReadBack most_workers true script
+
+-- no line is one of a schedule
+abbrev pub IsUnscheduled : ScriptPlan → Type 0
+IsUnscheduled script = some_line is_turn script.lines ≡ false
 
 -- a line lets the input of connection c end or fail
 abbrev pub closes_input : ℕ → PlanLine → Bool

@@ -7,14 +7,16 @@ ghost use Rattle.script_model.specs.Ending.{LetsAllEnd};
 ghost use Rattle.script_text.specs.TextLines.{longest_script};
 ghost use Rattle.script_text.specs.Reading.{script_of_text};
 ghost use Rattle.script_text.specs.Printing.{print_of};
-ghost use Rattle.script_text.specs.Sound.{IsKeptScript, IsSoundPlan, MovesItsWorkers, most_workers};
+ghost use Rattle.script_text.specs.Sound.{IsKeptScript, IsSoundPlan, IsUnscheduled, MovesItsWorkers, most_workers};
 
 /// A script that was read is read from its print as itself, with the same workers, and with lines of a schedule or without as before, where the print isn't
-/// too long; and so is each script, for 8 workers and with such lines.
+/// too long; and so is each script, for 8 workers and with such lines, and, where it has none, for any number of workers and with such lines or without.
 pub fn a_script_is_read_back()
     ensures read { (workers : ℕ) (schedule : Bool) (text : List ℕ) (script : ScriptPlan) → script_of_text workers schedule text ≡ Ok script →
         length (print_of script) ≤ longest_script → script_of_text workers schedule (print_of script) ≡ Ok script }
     ensures kept { (script : ScriptPlan) → IsKeptScript script → length (print_of script) ≤ longest_script → script_of_text most_workers true (print_of script) ≡ Ok script }
+    ensures unscheduled { (workers : ℕ) (schedule : Bool) (script : ScriptPlan) → IsKeptScript script → IsUnscheduled script →
+        length (print_of script) ≤ longest_script → script_of_text workers schedule (print_of script) ≡ Ok script }
     ensures sound { (workers : ℕ) (schedule : Bool) (text : List ℕ) (script : ScriptPlan) → workers ≤ most_workers → script_of_text workers schedule text ≡ Ok script → IsKeptScript script }
 {}
 

@@ -18,10 +18,10 @@ use Rattle.service_binding.proofs.Served.{number_known, number_within}
 ok_once : {A E : Type 0} (r : Result A E) (a b : A) → r ≡ Ok a → r ≡ Ok b → a ≡ b
 ok_once r a b p q = let e : Ok a ≡ Ok b = sym p ∙ q in cc
 
-err_once : {A E : Type 0} (r : Result A E) (a b : E) → r ≡ Err a → r ≡ Err b → a ≡ b
+pub err_once : {A E : Type 0} (r : Result A E) (a b : E) → r ≡ Err a → r ≡ Err b → a ≡ b
 err_once r a b p q = let e : Err a ≡ Err b = sym p ∙ q in cc
 
-no_both : {A E : Type 0} (r : Result A E) (a : A) (b : E) → r ≡ Ok a → r ≡ Err b → ⊥
+pub no_both : {A E : Type 0} (r : Result A E) (a : A) (b : E) → r ≡ Ok a → r ≡ Err b → ⊥
 no_both r a b p q = let e : Ok a ≡ Err b = sym p ∙ q in let f : ⊥ = cc in f
 
 -- a service has one list of shapes, so a handler suits it or doesn't

@@ -5,3 +5,4 @@ mod Taking
 mod Progressing
 mod Served
 mod Determined
+mod Defaulting

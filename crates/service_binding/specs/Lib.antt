@@ -3,6 +3,7 @@ pub mod Pairs
 pub mod Handlers
 pub mod Services
 pub mod Binding
+pub mod Defaults
 pub mod FirstRefusal
 pub mod Refusals
 pub mod Steps

@@ -3,7 +3,7 @@
 use std::alloc::AllocError;
 use thiserror::Error;
 
-/// Why a pair is refused: the first of these that holds.
+/// Why a pair is refused, or after all pairs the default: the first of these that holds.
 #[derive(Clone, Copy, Debug, Error)]
 pub enum BindKind {
     /// The schema has no service of its name.
@@ -21,12 +21,15 @@ pub enum BindKind {
     /// The handler that it takes doesn't suit the shapes of the service.
     #[error("the handler doesn't suit the service")]
     Unsuited,
+    /// It is the default, and no pair has its name.
+    #[error("the default is the name of no pair")]
+    NotBound,
 }
 
 /// Why nothing is bound.
 #[derive(Clone, Copy, Debug, Error)]
 pub enum BindFault {
-    /// The pair at this place, from 0, is the first that is refused, for this reason.
+    /// The pair at this place, from 0, is the first that is refused, for this reason; behind the last pair stands the default.
     #[error("pair {0} is refused: {1}")]
     Refused(u32, BindKind),
     /// Memory ran out, at any pair.

@@ -1,6 +1,7 @@
 -- Links that tell less of a script answer as links do.
 use Rattle.std.proofs.Common.{◌≡◌, ℕ, ◌≤◌, Bool, true, false, ◌||◌, Result, Ok, Err, List, refl, arith}
 use Rattle.outside.specs.Cause.{Rose}
+use Rattle.outside.proofs.Causes.{on_ok}
 use Rattle.outside.specs.declared.streams.Failed.{Failed}
 use Rattle.outside.specs.declared.answers.Ask.{Ask}
 use Rattle.outside.specs.declared.answers.Hint.{Hint}
@@ -110,6 +111,7 @@ module _ (n : ℕ) (s t : ServedScript) where
       faults = a.faults;
       later = omega arith;
       failed = λ is. absurd (none_rises (a.failed is));
+      kept = on_ok result refl;
     }
 
 -- nothing is told, and a fault more counted
@@ -126,4 +128,5 @@ fails s n m ask e rose later = record {
   faults = λ x. refl;
   later = later;
   failed = λ is. rose;
+  kept = tt;
 }

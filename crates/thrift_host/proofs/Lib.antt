@@ -6,3 +6,5 @@ pub mod Served
 pub mod Worked
 pub mod Checked
 mod BoundServices
+mod EntryLines
+mod Ended

@@ -7,7 +7,7 @@ use Rattle.idl_check.specs.Verdicts.{IsIdlVerdict, IsUnreadIdl}
 use Rattle.idl_check.specs.Telling.{TellsWhy}
 use Rattle.service_binding.specs.declared.fault.BindFault.{BindFault}
 use Rattle.service_binding.specs.declared.fault.BindFault.TheVariants as bind_faults
-use Rattle.service_binding.specs.FirstRefusal.{IsFirstRefusal, OnRefusal}
+use Rattle.service_binding.specs.FirstRefusal.{IsRefusedFirst, OnRefusal}
 use Rattle.recorded_runs.specs.declared.fault.ServingFault.{ServingFault}
 use Rattle.recorded_runs.specs.declared.fault.ServingFault.TheVariants as serving_faults
 use Rattle.recorded_runs.specs.Recorded.{Streams, MeansRecordedFault}
@@ -35,8 +35,8 @@ module _ (r : AskedRun) (ended : Status) (s : Streams) (e : Errors) where
   without_schema_means reasons.NoMemory why untouched h = stays _ h.0 untouched
 
   -- pairs that aren't bound
-  pub unbound_means : (fault : BindFault) → IsAccepted r (λ schema. OnRefusal fault (IsFirstRefusal schema r.handlers r.says.pairs)) → AreUntouched s
-      → EndsUnbound r.says.pairs fault ended e → MeansUnarranged r ended s
+  pub unbound_means : (fault : BindFault) → IsAccepted r (λ schema. OnRefusal fault (IsRefusedFirst schema r.handlers r.says.pairs r.says.default_service)) → AreUntouched s
+      → EndsUnbound r.says fault ended e → MeansUnarranged r ended s
   unbound_means (bind_faults.Refused place kind) (schema, has, first) untouched (inl h) = stays _ h.0 (schema, has, (place, kind, first, untouched))
   unbound_means (bind_faults.Refused place kind) at untouched (inr h) = stays _ h.0 untouched
   unbound_means bind_faults.NoMemory at untouched h = stays _ h.0 untouched
@@ -53,8 +53,8 @@ module _ (r : AskedRun) (ended : Status) (e : Errors) where
   without_schema_said reasons.FileFault why h = line_stays _ h.0 h.1
   without_schema_said reasons.NoMemory why h = line_stays _ h.0 h.1
 
-  pub unbound_said : (fault : BindFault) → IsAccepted r (λ schema. OnRefusal fault (IsFirstRefusal schema r.handlers r.says.pairs))
-      → EndsUnbound r.says.pairs fault ended e → SaysUnarranged r ended e
+  pub unbound_said : (fault : BindFault) → IsAccepted r (λ schema. OnRefusal fault (IsRefusedFirst schema r.handlers r.says.pairs r.says.default_service))
+      → EndsUnbound r.says fault ended e → SaysUnarranged r ended e
   unbound_said (bind_faults.Refused place kind) (schema, has, first) (inl h) = line_stays _ h.0 (schema, has, (place, kind, first, h.1))
   unbound_said (bind_faults.Refused place kind) at (inr h) = line_stays _ h.0 h.1
   unbound_said bind_faults.NoMemory at h = line_stays _ h.0 h.1
@@ -115,14 +115,14 @@ module _ (way : ScriptRunning) (r : AskedRun) (ended : Status) (s : Streams) (e 
   unanswered_said serving_faults.NoMemory at is = says _ is.0 is.1
 
   -- whatever it came to
-  pub run_means : {A : Type 0} (result : Result A RunFault) → TellsRun way r result s → EndsAfterRun r.says.pairs result ended e
+  pub run_means : {A : Type 0} (result : Result A RunFault) → TellsRun way r result s → EndsAfterRun r.says result ended e
       → MeansRun way r ended s
   run_means (Ok x) tells h = means _ h.0 tells
   run_means (Err (faults.NoSchema reason)) (why, untouched) h = unarranged_means way r s ended (without_schema_means r ended s e reason why untouched h)
   run_means (Err (faults.Unbound fault)) (at, untouched) h = unarranged_means way r s ended (unbound_means r ended s e fault at untouched h)
   run_means (Err (faults.Unanswered fault)) tells h = unanswered_means fault tells h
 
-  pub run_said : {A : Type 0} (result : Result A RunFault) → TellsRun way r result s → EndsAfterRun r.says.pairs result ended e
+  pub run_said : {A : Type 0} (result : Result A RunFault) → TellsRun way r result s → EndsAfterRun r.says result ended e
       → SaysRun way r ended s e
   run_said (Ok x) tells h = says _ h.0 h.1
   run_said (Err (faults.NoSchema reason)) tells h = unarranged_said way r s e ended (without_schema_said r ended e reason tells.0 h)

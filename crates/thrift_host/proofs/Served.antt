@@ -17,7 +17,6 @@ use Rattle.command_line.specs.Served.{PlainServed}
 use Rattle.command_line.specs.Words.{PlainCommand, serves}
 use Rattle.idl_check.specs.declared.refusal.NoSchema.{NoSchema}
 use Rattle.idl_check.specs.declared.refusal.NoSchema.TheVariants as reasons
-use Rattle.service_binding.specs.Pairs.{NamedKind}
 use Rattle.service_binding.specs.declared.fault.BindFault.{BindFault}
 use Rattle.service_binding.specs.declared.fault.BindFault.TheVariants as bind_faults
 use Rattle.thrift_host.specs.Top.{Means, asked_run, asked_place}
@@ -48,7 +47,7 @@ module _ (a : AskedServing) (c : HostChange) where
 
   module _ (ended : Status) (e : Errors) where
     -- whatever it came to
-    pub serving_means : {A : Type 0} (result : Result A ServeFault) → TellsServing a result c → EndsAfterServing a.run.says.pairs result ended e → MeansServing a c ended
+    pub serving_means : {A : Type 0} (result : Result A ServeFault) → TellsServing a result c → EndsAfterServing a.run.says result ended e → MeansServing a c ended
     serving_means (Ok x) tells h = subst (λ status. MeansServing a c status) (sym h.0) tells
     serving_means (Err (serve_faults.Unarranged (faults.NoSchema reason))) (why, (untouched, kept)) h =
         unarranged_serving ended (without_schema_means a.run ended c.streams e reason why untouched h) kept
@@ -61,7 +60,7 @@ module _ (a : AskedServing) (c : HostChange) where
     fixed_line : (status : Status) → SaysUnarranged a.run status e → ended ≡ status → SaysUnarranged a.run ended e
     fixed_line status h is = subst (λ status. SaysUnarranged a.run status e) (sym is) h
 
-    pub serving_said : {A : Type 0} (result : Result A ServeFault) → TellsServing a result c → EndsAfterServing a.run.says.pairs result ended e → SaysUnarranged a.run ended e
+    pub serving_said : {A : Type 0} (result : Result A ServeFault) → TellsServing a result c → EndsAfterServing a.run.says result ended e → SaysUnarranged a.run ended e
     serving_said (Ok x) tells h = fixed_line Done h.1 h.0
     serving_said (Err (serve_faults.Unarranged (faults.NoSchema reason))) tells h = without_schema_said a.run ended e reason tells.0 h
     serving_said (Err (serve_faults.Unarranged (faults.Unbound fault))) tells h = unbound_said a.run ended e fault tells.0 h
@@ -89,16 +88,16 @@ module _ (ended : Status) (e : Errors) (writes : IsWriteFault ended) where
   not_without_schema reasons.FileFault h = subst IsWriteFault h.0 writes
   not_without_schema reasons.NoMemory h = subst IsWriteFault h.0 writes
 
-  not_unbound : (pairs : List NamedKind) (fault : BindFault) → EndsUnbound pairs fault ended e → ⊥
-  not_unbound pairs (bind_faults.Refused place kind) (inl h) = subst IsWriteFault h.0 writes
-  not_unbound pairs (bind_faults.Refused place kind) (inr h) = subst IsWriteFault h.0 writes
-  not_unbound pairs bind_faults.NoMemory h = subst IsWriteFault h.0 writes
+  not_unbound : (says : PlainServed) (fault : BindFault) → EndsUnbound says fault ended e → ⊥
+  not_unbound says (bind_faults.Refused place kind) (inl h) = subst IsWriteFault h.0 writes
+  not_unbound says (bind_faults.Refused place kind) (inr h) = subst IsWriteFault h.0 writes
+  not_unbound says bind_faults.NoMemory h = subst IsWriteFault h.0 writes
 
   not_written : (a : AskedServing) (c : HostChange) {A : Type 0} (result : Result A ServeFault) → TellsServing a result c
-      → EndsAfterServing a.run.says.pairs result ended e → result ≡ Err (serve_faults.Unserved port_faults.WriteFault)
+      → EndsAfterServing a.run.says result ended e → result ≡ Err (serve_faults.Unserved port_faults.WriteFault)
   not_written a c (Ok x) tells h = absurd (subst IsWriteFault h.0 writes)
   not_written a c (Err (serve_faults.Unarranged (faults.NoSchema reason))) tells h = absurd (not_without_schema reason h)
-  not_written a c (Err (serve_faults.Unarranged (faults.Unbound fault))) tells h = absurd (not_unbound a.run.says.pairs fault h)
+  not_written a c (Err (serve_faults.Unarranged (faults.Unbound fault))) tells h = absurd (not_unbound a.run.says fault h)
   not_written a c (Err (serve_faults.Unarranged (faults.Unanswered fault))) tells h = absurd tells.0
   not_written a c (Err (serve_faults.Unserved port_faults.FileFault)) tells h = absurd (subst IsWriteFault h.0 writes)
   not_written a c (Err (serve_faults.Unserved port_faults.NetFault)) tells h = absurd (subst IsWriteFault h.0 writes)
@@ -108,7 +107,7 @@ module _ (ended : Status) (e : Errors) (writes : IsWriteFault ended) where
 
 -- so a write fault comes of one of the summary
 pub written_by : (a : AskedServing) (c : HostChange) (ended : Status) (e : Errors) {A : Type 0} (result : Result A ServeFault) → TellsServing a result c
-    → EndsAfterServing a.run.says.pairs result ended e → ended ≡ WriteFault → result ≡ Err (serve_faults.Unserved port_faults.WriteFault)
+    → EndsAfterServing a.run.says result ended e → ended ≡ WriteFault → result ≡ Err (serve_faults.Unserved port_faults.WriteFault)
 written_by a c ended e result tells h is = not_written ended e (subst IsWriteFault (sym is) tt) a c result tells h
 
 -- what a status says of serving it says of the words

@@ -63,7 +63,7 @@ module _ (r : AskedRun) (seed size : ℕ) (ended : Status) (s : Streams) (e : Er
   unanswered_workload serving_faults.NoMemory (unread, h) is = stays NoMemory is.0 (unread, h)
 
   -- whatever it came to
-  pub workload_means : {A : Type 0} (result : Result A RunFault) → TellsWorkload r seed size result s → EndsAfterRun r.says.pairs result ended e
+  pub workload_means : {A : Type 0} (result : Result A RunFault) → TellsWorkload r seed size result s → EndsAfterRun r.says result ended e
       → MeansWorkload r seed size ended s
   workload_means (Ok x) tells h = stays Done h.0 tells
   workload_means (Err (faults.NoSchema reason)) (why, untouched) h = unarranged_workload ended (without_schema_means r ended s e reason why untouched h)
@@ -82,7 +82,7 @@ module _ (r : AskedRun) (seed size : ℕ) (ended : Status) (s : Streams) (e : Er
   unanswered_said serving_faults.NoMemory h is = said NoMemory is.0 is.1
 
   -- and which line it says
-  pub workload_said : {A : Type 0} (result : Result A RunFault) → TellsWorkload r seed size result s → EndsAfterRun r.says.pairs result ended e → SaysUnarranged r ended e
+  pub workload_said : {A : Type 0} (result : Result A RunFault) → TellsWorkload r seed size result s → EndsAfterRun r.says result ended e → SaysUnarranged r ended e
   workload_said (Ok x) tells h = said Done h.0 h.1
   workload_said (Err (faults.NoSchema reason)) tells h = without_schema_said r ended e reason tells.0 h
   workload_said (Err (faults.Unbound fault)) tells h = unbound_said r ended e fault tells.0 h
@@ -136,6 +136,12 @@ bound_alone s handlers (b ∷ []) (service ∷ []) are test = (
 bound_alone s handlers (b ∷ []) (service ∷ other ∷ bound) are test = absurd are.1
 bound_alone s handlers (b ∷ other ∷ bindings) (service ∷ bound) are test = absurd are.1
 
+abbrev slot_found : Option ℕ → Result (Option ℕ) BindKind
+slot_found slot = Ok slot
+
+same_slot : (x y : Option ℕ) → slot_found x ≡ slot_found y → x ≡ y
+same_slot x y e = cc
+
 -- an office that is arranged for a workload is a calculator's
 arranged_calculator : (workers : ℕ) (files : Option (List File)) (handlers : List ServiceState) (office : PlainOffice) (services : List ServiceState) (s : PlainSchema)
     → IsArrangedAs (asked_workload workers files handlers) office services → office.schema ≡ s → has_calculator s ≡ true → IsCalculatorsOffice office × HasCalculator services
@@ -143,7 +149,8 @@ arranged_calculator workers files handlers office services s made same test =
     let a = made.arranged in
     let schema_is : a.schema ≡ s = sym (ap (λ (o : PlainOffice). o.schema) made.office_is) ∙ same in
     let both = bound_alone a.schema handlers a.bindings a.bound a.are_bound (subst (λ x. has_calculator x ≡ true) (sym schema_is) test) in
-    let arranged : IsCalculatorsOffice (arranged_office (asked_workload workers files handlers) a) = record { protocol = refl; bound = both.0; room = omega arith } in
+    let arranged : IsCalculatorsOffice (arranged_office (asked_workload workers files handlers) a) =
+    record { protocol = refl; bound = both.0; no_default = sym (same_slot None a.default_slot a.is_default); room = omega arith } in
     (subst IsCalculatorsOffice (sym made.office_is) arranged, subst HasCalculator (sym made.services_are) both.1)
 
 unworked : (r : AskedRun) (fault : RunFault) → TellsUnarranged r fault → TellsUnworked r fault

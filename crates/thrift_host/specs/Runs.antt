@@ -1,5 +1,5 @@
 -- What is promised of a command that runs a script: recorded connections, on which services of an IDL are served, in whatever way the runs are made.
-use Rattle.std.specs.Prelude.{ℕ, ◌⊎◌, List, Option}
+use Rattle.std.specs.Prelude.{◌≡◌, ℕ, ◌⊎◌, List, Option, Ok}
 use Rattle.outside.specs.Files.{File}
 use Rattle.call_rules.specs.Handling.{ServiceState}
 use Rattle.call_model.specs.Offices.{Binding, PlainOffice}
@@ -9,7 +9,8 @@ use Rattle.schema.specs.PlainSchema.{PlainSchema}
 use Rattle.schema.specs.Sound.{IsSound}
 use Rattle.service_binding.specs.declared.fault.BindKind.{BindKind}
 use Rattle.service_binding.specs.Binding.{AreBound}
-use Rattle.service_binding.specs.FirstRefusal.{IsFirstRefusal}
+use Rattle.service_binding.specs.Defaults.{slot_for_default}
+use Rattle.service_binding.specs.FirstRefusal.{IsRefusedFirst}
 use Rattle.service_binding.specs.Refusals.{refused_pair_text}
 use Rattle.command_line.specs.Served.{PlainServed}
 use Rattle.script_text.specs.declared.fault.ScriptFault.{ScriptFault}
@@ -48,18 +49,20 @@ pub record HasSchema (files : Option (List File)) (idl : List ℕ) (schema : Pla
   pub verdict : IsIdlVerdict files idl (accepted schema)
   pub sound : IsSound schema
 
--- its IDL has a schema, and its pairs are bound to services of that and to handlers
+-- its IDL has a schema, its pairs are bound to services of that and to handlers, and its default, if it has one, is the name of a pair
 pub record IsArranged (r : AskedRun) : Type 0 where
   pub schema : PlainSchema
   pub bindings : List Binding
   pub bound : List ServiceState
+  pub default_slot : Option ℕ
   pub has : HasSchema r.files r.says.idl schema
   pub are_bound : AreBound schema r.handlers r.says.pairs bindings bound
+  pub is_default : slot_for_default bindings r.says.default_service ≡ Ok default_slot
 
--- the office that decides on its payloads: this schema and these bindings, in the protocol of the words and with their longest payload
+-- the office that decides on its payloads: this schema, these bindings and this default, in the protocol of the words and with their longest payload
 abbrev pub arranged_office : (r : AskedRun) → IsArranged r → PlainOffice
 arranged_office r a =
-    record { schema = a.schema; bindings = a.bindings; protocol = r.says.protocol; max_frame = r.says.limits.max_frame }
+    record { schema = a.schema; bindings = a.bindings; default_slot = a.default_slot; protocol = r.says.protocol; max_frame = r.says.limits.max_frame }
 
 -- what answers calls at an office and by services: with the workers and the read budget of the words, and the lines of a journal
 abbrev pub answering_at : AskedRun → PlainOffice → List ServiceState → Answering
@@ -78,10 +81,10 @@ IsAnsweredBy r Holds = (a : IsArranged r) × Holds (answering_of r a)
 abbrev pub IsAccepted : AskedRun → (PlainSchema → Type 0) → Type 0
 IsAccepted r Holds = (schema : PlainSchema) × HasSchema r.files r.says.idl schema × Holds schema
 
--- a pair can't be bound: the first such one stands at a place, and is refused for a reason, of which this holds
+-- a pair or the default can't be bound: the first such one stands at a place, and is refused for a reason, of which this holds
 abbrev pub IsUnboundWith : AskedRun → (ℕ → BindKind → Type 0) → Type 0
 IsUnboundWith r Holds =
-    IsAccepted r (λ schema. (place : ℕ) × (kind : BindKind) × IsFirstRefusal schema r.handlers r.says.pairs place kind × Holds place kind)
+    IsAccepted r (λ schema. (place : ℕ) × (kind : BindKind) × IsRefusedFirst schema r.handlers r.says.pairs r.says.default_service place kind × Holds place kind)
 
 -- What a status says where nothing is arranged: the IDL has no schema, or the pairs aren't bound. First is the IDL, then the pairs. Nothing was read, and
 -- nothing written.
@@ -95,7 +98,7 @@ MeansUnarranged r _ s = ⊥
 -- Its line was added to the errors: a refused IDL's has the file, the place and the kind, a refused pair's the pair and why.
 abbrev pub SaysUnarranged : AskedRun → Status → Errors → Type 0
 SaysUnarranged r IdlRefused e = IsRefusedWith r.files r.says.idl (λ file at kind. IsSaid e (idl_refusal_text file at kind))
-SaysUnarranged r BindRefused e = IsUnboundWith r (λ place kind. IsSaid e (refused_pair_text r.says.pairs place kind))
+SaysUnarranged r BindRefused e = IsUnboundWith r (λ place kind. IsSaid e (refused_pair_text r.says.pairs r.says.default_service place kind))
 SaysUnarranged r status e = IsLineSaid status e
 
 module _ (way : ScriptRunning) (r : AskedRun) where

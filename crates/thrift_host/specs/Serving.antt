@@ -51,7 +51,7 @@ output_of c = record { taken_before = c.streams.taken_before; taken = c.streams.
 abbrev pub IsPlaceKept : PlaceChange → Type 0
 IsPlaceKept p = (p.files ≡ p.files_before) × (p.past ≡ p.past_before)
 
--- nothing was read, and nothing written, made or bound
+-- nothing was read, and nothing written; the files are as before, and no links came back
 abbrev pub IsAllUntouched : HostChange → Type 0
 IsAllUntouched c = AreUntouched c.streams × IsPlaceKept c.place
 

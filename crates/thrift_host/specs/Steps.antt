@@ -7,10 +7,10 @@ use Rattle.idl_check.specs.declared.refusal.NoSchema.TheVariants as reasons
 use Rattle.idl_check.specs.Lines.{idl_refusal_text}
 use Rattle.idl_check.specs.Verdicts.{IsIdlVerdict, IsUnreadIdl}
 use Rattle.idl_check.specs.Telling.{TellsWhy, is_file_fault}
-use Rattle.service_binding.specs.Pairs.{NamedKind}
+use Rattle.command_line.specs.Served.{PlainServed}
 use Rattle.service_binding.specs.declared.fault.BindFault.{BindFault}
 use Rattle.service_binding.specs.declared.fault.BindFault.TheVariants as bind_faults
-use Rattle.service_binding.specs.FirstRefusal.{IsFirstRefusal, OnRefusal}
+use Rattle.service_binding.specs.FirstRefusal.{IsRefusedFirst, OnRefusal}
 use Rattle.service_binding.specs.Refusals.{refused_pair_text}
 use Rattle.call_rules.specs.Handling.{ServiceState}
 use Rattle.call_model.specs.Offices.{PlainOffice}
@@ -52,10 +52,11 @@ abbrev pub EndsWriting : Status → Option (List ℕ) → Option (List ℕ) → 
 EndsWriting ended before now text e =
     (EndsAs status.Done ended e × (now ≡ told_more before text)) ⊎ (EndsAs status.WriteFault ended e × IsTakenInPart before now text)
 
--- how it ends where pairs aren't bound
-abbrev pub EndsUnbound : List NamedKind → BindFault → Status → Errors → Type 0
-EndsUnbound pairs (bind_faults.Refused place kind) ended e = EndsSaying status.BindRefused (refused_pair_text pairs place kind) ended e
-EndsUnbound pairs bind_faults.NoMemory ended e = EndsAs status.NoMemory ended e
+-- how it ends where pairs or a default aren't bound
+abbrev pub EndsUnbound : PlainServed → BindFault → Status → Errors → Type 0
+EndsUnbound says (bind_faults.Refused place kind) ended e =
+    EndsSaying status.BindRefused (refused_pair_text says.pairs says.default_service place kind) ended e
+EndsUnbound says bind_faults.NoMemory ended e = EndsAs status.NoMemory ended e
 
 -- how it ends where a recording isn't answered; the journal, which is a list, never fails
 abbrev pub EndsUnanswered : ServingFault → Status → Errors → Type 0
@@ -65,12 +66,12 @@ EndsUnanswered serving_faults.WriteFault ended e = EndsAs status.WriteFault ende
 EndsUnanswered serving_faults.JournalFault ended e = EndsAs status.NoMemory ended e
 EndsUnanswered serving_faults.NoMemory ended e = EndsAs status.NoMemory ended e
 
--- how it ends after a run with these pairs
-abbrev pub EndsAfterRun : {A : Type 0} → List NamedKind → Result A RunFault → Status → Errors → Type 0
-EndsAfterRun pairs (Ok _) ended e = EndsAs status.Done ended e
-EndsAfterRun pairs (Err (faults.NoSchema reason)) ended e = EndsWithout reason ended e
-EndsAfterRun pairs (Err (faults.Unbound fault)) ended e = EndsUnbound pairs fault ended e
-EndsAfterRun pairs (Err (faults.Unanswered fault)) ended e = EndsUnanswered fault ended e
+-- how it ends after a run of what the words say is served
+abbrev pub EndsAfterRun : {A : Type 0} → PlainServed → Result A RunFault → Status → Errors → Type 0
+EndsAfterRun says (Ok _) ended e = EndsAs status.Done ended e
+EndsAfterRun says (Err (faults.NoSchema reason)) ended e = EndsWithout reason ended e
+EndsAfterRun says (Err (faults.Unbound fault)) ended e = EndsUnbound says fault ended e
+EndsAfterRun says (Err (faults.Unanswered fault)) ended e = EndsUnanswered fault ended e
 
 -- an office, and the services in its slots, are those of an arrangement
 pub record IsArrangedAs (r : AskedRun) (office : PlainOffice) (services : List ServiceState) : Type 0 where
@@ -81,7 +82,7 @@ pub record IsArrangedAs (r : AskedRun) (office : PlainOffice) (services : List S
 -- why nothing is arranged
 abbrev pub TellsUnarranged : AskedRun → RunFault → Type 0
 TellsUnarranged r (faults.NoSchema reason) = TellsWhy (IsIdlVerdict r.files r.says.idl) (IsUnreadIdl r.files r.says.idl) reason
-TellsUnarranged r (faults.Unbound fault) = IsAccepted r (λ schema. OnRefusal fault (IsFirstRefusal schema r.handlers r.says.pairs))
+TellsUnarranged r (faults.Unbound fault) = IsAccepted r (λ schema. OnRefusal fault (IsRefusedFirst schema r.handlers r.says.pairs r.says.default_service))
 TellsUnarranged r (faults.Unanswered fault) = ⊥
 
 -- what a fault of a run says of its files, its input and its output
@@ -110,11 +111,11 @@ status_of_port port_faults.WriteFault = status.WriteFault
 status_of_port port_faults.JournalFault = status.JournalFault
 status_of_port port_faults.NoMemory = status.NoMemory
 
--- how it ends after serving at a port with these pairs
-abbrev pub EndsAfterServing : {A : Type 0} → List NamedKind → Result A ServeFault → Status → Errors → Type 0
-EndsAfterServing pairs (Ok _) ended e = EndsAs status.Done ended e
-EndsAfterServing pairs (Err (serve_faults.Unarranged fault)) ended e = EndsAfterRun {A = Unit {0}} pairs (Err fault) ended e
-EndsAfterServing pairs (Err (serve_faults.Unserved fault)) ended e = EndsAs (status_of_port fault) ended e
+-- how it ends after serving at a port what the words say is served
+abbrev pub EndsAfterServing : {A : Type 0} → PlainServed → Result A ServeFault → Status → Errors → Type 0
+EndsAfterServing says (Ok _) ended e = EndsAs status.Done ended e
+EndsAfterServing says (Err (serve_faults.Unarranged fault)) ended e = EndsAfterRun {A = Unit {0}} says (Err fault) ended e
+EndsAfterServing says (Err (serve_faults.Unserved fault)) ended e = EndsAs (status_of_port fault) ended e
 
 -- what serving at a port says of what it was given
 abbrev pub TellsServing : {A : Type 0} → AskedServing → Result A ServeFault → HostChange → Type 0

@@ -40,7 +40,7 @@ Means (Some (serves says port accept journal)) handlers status c =
 Means (Some (runs seed size workers)) handlers status c = MeansWorkload (asked_workload workers c.place.files_before handlers) seed size status c.streams
 Means _ handlers status c = MeansUsage status c.streams
 
--- All commands but `serve` leave the files as they were, and bind nothing.
+-- All commands but `serve` leave the files as they were, and no links come back to the binder.
 abbrev pub KeepsPlace : Option PlainCommand → PlaceChange → Type 0
 KeepsPlace (Some (serves says port accept journal)) p = ⊤
 KeepsPlace _ p = IsPlaceKept p

@@ -1,5 +1,5 @@
 -- What is promised of a workload that is run: the tutorial's calculator, served on the connections of a script that is made from a seed.
-use Rattle.std.specs.Prelude.{◌≡◌, ℕ, Bool, List, [], ◌∷◌, codes, Option}
+use Rattle.std.specs.Prelude.{◌≡◌, ℕ, Bool, List, [], ◌∷◌, codes, Option, None}
 use Rattle.outside.specs.Content.{told_more}
 use Rattle.outside.specs.Files.{File}
 use Rattle.outside.specs.Taken.{IsTakenInPart}
@@ -30,6 +30,7 @@ workload_says workers = record {
   protocol = Binary;
   workers = workers;
   pairs = calculator_pairs;
+  default_service = None;
   limits = record { max_frame = 16384000; read_budget = longest_payload };
 }
 

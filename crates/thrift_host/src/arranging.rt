@@ -1,10 +1,11 @@
 //! What a run stands on: the office of an IDL's services, and the handlers in its slots.
 
-ghost use Rattle.std.specs.Prelude.{◌≡◌, ◌≤◌, true, false, length, map, Option, List, IfOk, MatchResult};
+ghost use Rattle.std.specs.Prelude.{◌≡◌, ◌≤◌, true, false, length, map, Option, List, IfOk, OnOk, MatchResult};
 ghost use Rattle.outside.specs.Cause.{Rose};
 ghost use Rattle.outside.specs.Files.{File};
 ghost use Rattle.command_line.specs.Answering.{plain_served};
 ghost use Rattle.command_line.specs.Bounds.{KeepsServedBounds};
+ghost use Rattle.conn_table.specs.Servable.{CanServe};
 ghost use Rattle.processor.specs.Offices.{plain_office};
 ghost use Rattle.schema.specs.SchemaOf.{schema_of};
 ghost use Rattle.schema.specs.Sound.{IsSound};
@@ -44,12 +45,12 @@ pub(crate) fn arrange<F: Files, H: Handler>(
         (λ made. IsArrangedAs (record { says = plain_served served.now; files = F.files files.old; handlers = map H.service handlers.items })
         (plain_office made.0) (map H.service made.1.items))
         (λ fault. TellsUnarranged (record { says = plain_served served.now; files = F.files files.old; handlers = map H.service handlers.items }) fault) }
-    ensures slots { IfOk result (λ made. length made.1.items ≡ length (plain_office made.0).bindings) }
-    ensures longest { IfOk result (λ made. (plain_office made.0).max_frame ≡ served.now.limits.max_frame) }
+    ensures can { IfOk result (λ made. CanServe served.now.limits served.now.workers (plain_office made.0).max_frame (length (plain_office made.0).bindings) (length made.1.items)) }
     ensures files { F.files files.new ≡ F.files files.old }
     ensures sinks { F.sink_faults files.new ≡ F.sink_faults files.old }
     ensures later { F.faults files.old ≤ F.faults files.new }
     ensures file_fault { is_unread_file result ≡ true → Rose (F.faults files.old) (F.faults files.new) }
+    ensures files_kept { OnOk result (F.faults files.new ≡ F.faults files.old) }
 {
     match program_schema(alloc, files, served.idl.as_str()) {
         Ok(schema) => bind_pairs(alloc, served, schema, handlers),
@@ -70,12 +71,12 @@ pub(crate) fn bind_pairs<H: Handler>(
         (λ made. IsArrangedAs (record { says = plain_served served.now; files = files; handlers = map H.service handlers.items })
         (plain_office made.0) (map H.service made.1.items))
         (λ fault. TellsUnarranged (record { says = plain_served served.now; files = files; handlers = map H.service handlers.items }) fault) }
-    ensures slots { IfOk result (λ made. length made.1.items ≡ length (plain_office made.0).bindings) }
+    ensures can { IfOk result (λ made. CanServe served.now.limits served.now.workers (plain_office made.0).max_frame (length (plain_office made.0).bindings) (length made.1.items)) }
     ensures schema { IfOk result (λ made. (plain_office made.0).schema ≡ schema_of schema) }
-    ensures longest { IfOk result (λ made. (plain_office made.0).max_frame ≡ served.now.limits.max_frame) }
     ensures no_file { is_unread_file result ≡ false }
 {
-    match bind(alloc, &schema, &served.pairs, handlers) {
+    let default_service = served.default_name();
+    match bind(alloc, &schema, &served.pairs, handlers, default_service) {
         Ok((bindings, handlers)) => {
             let most = served.limits.max_frame;
             let office = Office::new(schema, bindings, served.protocol, most);

@@ -1,9 +1,10 @@
 //! The bindings of an office.
 
-ghost use Rattle.std.specs.Prelude.{◌≡◌, ◌≤◌, length, map, IfOk, IfErr};
+ghost use Rattle.std.specs.Prelude.{◌≡◌, ◌≤◌, ◌<◌, length, map, option_map, None, Ok, IfOk, IfErr, IfSome};
 ghost use Rattle.service_binding.specs.Binding.{AreBound};
-ghost use Rattle.service_binding.specs.FirstRefusal.{IsFirstRefusal, OnRefusal};
-ghost use Rattle.processor.specs.Bound.{bound_names, needs_in};
+ghost use Rattle.service_binding.specs.Defaults.{slot_for_default};
+ghost use Rattle.service_binding.specs.FirstRefusal.{IsRefusedFirst, OnRefusal};
+ghost use Rattle.processor.specs.Bound.{bound_names, default_bound, needs_in};
 ghost use Rattle.schema.specs.SchemaOf.{schema_of};
 ghost use Rattle.schema.specs.Sound.{IsSound};
 ghost use Rattle.thrift_host.specs.MayBeServed.{MayBeServed};
@@ -12,29 +13,51 @@ ghost use Rattle.struct_skew.specs.Needs.{needs_of};
 use call_rules::Handler;
 use processor::{Bindings, BoundNames};
 use schema::Schema;
-use service_binding::{BindFault, BindWords, bind_pairs};
+use service_binding::{BindFault, BindWords, bind_pairs, slot_for_default};
 use std::alloc::Global;
 
+/// Bindings with the service at a slot as the default, or with none.
+fn with_default(bindings: Bindings, slot: Option<u32>) -> Bindings
+    requires none { default_bound bindings ≡ None }
+    requires within { IfSome slot (λ place. place < length (bound_names bindings)) }
+    ensures names { bound_names result ≡ bound_names bindings }
+    ensures default_slot { default_bound result ≡ slot }
+    ensures needed { needs_in result ≡ needs_in bindings }
+{
+    match slot {
+        Some(slot) => bindings.with_default(slot),
+        None => bindings,
+    }
+}
+
 /// Binds each pair's name to its service and to a handler of its kind, and gives the handlers in the order of the pairs. The other
-/// handlers are dropped, and with a fault all are.
+/// handlers are dropped, and with a fault all are. The default is the name of the pair whose service a name without a service asks for;
+/// without one, that is the only service, if one alone is bound.
 pub fn bind<H: Handler>(
     alloc: Global,
     schema: &Schema,
     pairs: &BindWords,
     handlers: Vec<H>,
+    default_service: Option<&[u8]>,
 ) -> Result<(Bindings, Vec<H>), BindFault>
     requires sound { IsSound (schema_of schema.now) }
     requires some { 1 ≤ length pairs.now }
     requires few { length pairs.now ≤ 16 }
     // What is bound is determined, and so is what is refused.
     ensures bound { IfOk result (λ made. AreBound (schema_of schema.now) (map H.service handlers.items) pairs.now (bound_names made.0) (map H.service made.1.items)) }
-    ensures refused { IfErr result (λ fault. OnRefusal fault (IsFirstRefusal (schema_of schema.now) (map H.service handlers.items) pairs.now)) }
+    ensures by_default { IfOk result (λ made. slot_for_default (bound_names made.0) (option_map (λ name. name.now) default_service.entry) ≡ Ok (default_bound made.0)) }
+    ensures refused { IfErr result (λ fault. OnRefusal fault
+        (IsRefusedFirst (schema_of schema.now) (map H.service handlers.items) pairs.now (option_map (λ name. name.now) default_service.entry))) }
     // An office may be made of the bindings, and its slots are the handlers.
-    ensures served { IfOk result (λ made. MayBeServed (schema_of schema.now) (bound_names made.0)) }
+    ensures served { IfOk result (λ made. MayBeServed (schema_of schema.now) (bound_names made.0) (default_bound made.0)) }
     ensures needed { IfOk result (λ made. needs_in made.0 ≡ map needs_of (schema_of schema.now).structs) }
     ensures slots { IfOk result (λ made. length made.1.items ≡ length (bound_names made.0)) }
 {
     let (names, bound) = bind_pairs(alloc, schema, pairs, handlers)?;
+    let slot = match slot_for_default(&names, default_service) {
+        Ok(slot) => slot,
+        Err(kind) => return Err(BindFault::Refused(names.len() as u32, kind)),
+    };
     let bindings = Bindings::new(alloc, schema, BoundNames::new(names))?;
-    Ok((bindings, bound))
+    Ok((with_default(bindings, slot), bound))
 }

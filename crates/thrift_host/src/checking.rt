@@ -27,9 +27,12 @@ pub(crate) fn check<F: Files, K: Sink, E: Sink>(
     ensures said { SaysCheck (F.files files.old) idl.now result
         (record { taken_before = E.taken errors.old; taken = E.taken errors.new; faults_before = E.faults errors.old; faults = E.faults errors.new }) }
     ensures files { F.files files.new ≡ F.files files.old }
+    ensures sinks { F.sink_faults files.new ≡ F.sink_faults files.old }
     ensures file_fault { result ≡ Status.FileFault → Rose (F.faults files.old) (F.faults files.new) }
     ensures read_fault { result ≡ Status.ReadFault → ⊥ }
     ensures write_fault { result ≡ Status.WriteFault → Rose (K.faults output.old) (K.faults output.new) }
+    ensures files_kept { result ≡ Status.Done → F.faults files.new ≡ F.faults files.old }
+    ensures output_kept { result ≡ Status.Done → K.faults output.new ≡ K.faults output.old }
 {
     match program_text(alloc, files, idl) {
         Ok(text) => end_text(output, errors, &text),
@@ -42,6 +45,7 @@ fn end_text<K: Sink, E: Sink>(output: &mut K, errors: &mut E, text: &[u8]) -> St
     ensures ends { EndsWriting result (K.taken output.old) (K.taken output.new) text.now
         (record { taken_before = E.taken errors.old; taken = E.taken errors.new; faults_before = E.faults errors.old; faults = E.faults errors.new }) }
     ensures write_fault { result ≡ Status.WriteFault → Rose (K.faults output.old) (K.faults output.new) }
+    ensures output_kept { result ≡ Status.Done → K.faults output.new ≡ K.faults output.old }
 {
     match write_all(output, text) {
         Ok(()) => end(errors, Status::Done),

@@ -78,6 +78,12 @@ pub fn host<
     ensures write_fault { result ≡ Status.WriteFault → Rose (K.faults output.old) (K.faults output.new) }
     ensures net_fault { result ≡ Status.NetFault → Rose (B.faults binder.old) (B.faults binder.new) }
     ensures journal_fault { result ≡ Status.JournalFault → Rose (F.sink_faults files.old) (F.sink_faults files.new) }
+    // Done says that no fault was met: no count rose but that of the errors.
+    ensures files_kept { result ≡ Status.Done → F.faults files.new ≡ F.faults files.old }
+    ensures input_kept { result ≡ Status.Done → S.faults input.new ≡ S.faults input.old }
+    ensures output_kept { result ≡ Status.Done → K.faults output.new ≡ K.faults output.old }
+    ensures binder_kept { result ≡ Status.Done → B.faults binder.new ≡ B.faults binder.old }
+    ensures sinks_kept { result ≡ Status.Done → F.sink_faults files.new ≡ F.sink_faults files.old }
 {
     match read_words(alloc, words) {
         Ok(Command::Check(idl)) => check(alloc, files, output, errors, idl.as_str()),
@@ -140,12 +146,16 @@ fn rehearse_and_say<F: Files, S: Source, K: Sink, E: Sink, H: Handler>(
         (record { left_before = S.left input.old; left = S.left input.new; taken_before = K.taken output.old; taken = K.taken output.new })
         (record { taken_before = E.taken errors.old; taken = E.taken errors.new; faults_before = E.faults errors.old; faults = E.faults errors.new }) }
     ensures files { F.files files.new ≡ F.files files.old }
+    ensures sinks { F.sink_faults files.new ≡ F.sink_faults files.old }
     ensures file_fault { result ≡ Status.FileFault → Rose (F.faults files.old) (F.faults files.new) }
     ensures read_fault { result ≡ Status.ReadFault → Rose (S.faults input.old) (S.faults input.new) }
     ensures write_fault { result ≡ Status.WriteFault → Rose (K.faults output.old) (K.faults output.new) }
+    ensures files_kept { result ≡ Status.Done → F.faults files.new ≡ F.faults files.old }
+    ensures input_kept { result ≡ Status.Done → S.faults input.new ≡ S.faults input.old }
+    ensures output_kept { result ≡ Status.Done → K.faults output.new ≡ K.faults output.old }
 {
     let came_to = rehearse(alloc, files, input, output, served, handlers);
-    end_run(alloc, errors, &served.pairs, came_to)
+    end_run(alloc, errors, served, came_to)
 }
 
 /// Serves recorded connections by a loop with workers, as the words say, and ends the command with what became of it. It may wait.
@@ -177,12 +187,16 @@ fn record_and_say<
         (record { left_before = S.left input.old; left = S.left input.new; taken_before = K.taken output.old; taken = K.taken output.new })
         (record { taken_before = E.taken errors.old; taken = E.taken errors.new; faults_before = E.faults errors.old; faults = E.faults errors.new }) }
     ensures files { F.files files.new ≡ F.files files.old }
+    ensures sinks { F.sink_faults files.new ≡ F.sink_faults files.old }
     ensures file_fault { result ≡ Status.FileFault → Rose (F.faults files.old) (F.faults files.new) }
     ensures read_fault { result ≡ Status.ReadFault → Rose (S.faults input.old) (S.faults input.new) }
     ensures write_fault { result ≡ Status.WriteFault → Rose (K.faults output.old) (K.faults output.new) }
+    ensures files_kept { result ≡ Status.Done → F.faults files.new ≡ F.faults files.old }
+    ensures input_kept { result ≡ Status.Done → S.faults input.new ≡ S.faults input.old }
+    ensures output_kept { result ≡ Status.Done → K.faults output.new ≡ K.faults output.old }
 {
     let came_to = serve_script(rt, alloc, files, input, output, served, gate, handlers);
-    end_run(alloc, errors, &served.pairs, came_to)
+    end_run(alloc, errors, served, came_to)
 }
 
 /// Serves connections at a place as the words say, by a loop with workers, and ends the command with what became of it. It may wait.
@@ -221,11 +235,15 @@ fn serve_and_say<
     ensures write_fault { result ≡ Status.WriteFault → Rose (K.faults output.old) (K.faults output.new) }
     ensures net_fault { result ≡ Status.NetFault → Rose (B.faults binder.old) (B.faults binder.new) }
     ensures journal_fault { result ≡ Status.JournalFault → Rose (F.sink_faults files.old) (F.sink_faults files.new) }
+    ensures files_kept { result ≡ Status.Done → F.faults files.new ≡ F.faults files.old }
+    ensures output_kept { result ≡ Status.Done → K.faults output.new ≡ K.faults output.old }
+    ensures binder_kept { result ≡ Status.Done → B.faults binder.new ≡ B.faults binder.old }
+    ensures sinks_kept { result ≡ Status.Done → F.sink_faults files.new ≡ F.sink_faults files.old }
 {
     let came_to = serve_connections(
         rt, alloc, files, output, binder, served, place, gate, handlers,
     );
-    end_serving(alloc, errors, &served.pairs, came_to)
+    end_serving(alloc, errors, served, came_to)
 }
 
 /// Runs a workload on the tutorial's calculator, by a loop with workers, and ends the command with what became of it. It may wait.
@@ -248,15 +266,18 @@ fn work_and_say<F: Files, K: Sink, E: Sink, G: Gate + Sync, H: Handler, R: Threa
     ensures errors { SaysUnarranged (asked_workload workers (F.files files.old) (map H.service handlers.items)) result
         (record { taken_before = E.taken errors.old; taken = E.taken errors.new; faults_before = E.faults errors.old; faults = E.faults errors.new }) }
     ensures files { F.files files.new ≡ F.files files.old }
+    ensures sinks { F.sink_faults files.new ≡ F.sink_faults files.old }
     ensures file_fault { result ≡ Status.FileFault → Rose (F.faults files.old) (F.faults files.new) }
     ensures write_fault { result ≡ Status.WriteFault → Rose (K.faults output.old) (K.faults output.new) }
     ensures no_read_fault { result ≢ Status.ReadFault }
     ensures no_net_fault { result ≢ Status.NetFault }
     ensures no_journal_fault { result ≢ Status.JournalFault }
+    ensures files_kept { result ≡ Status.Done → F.faults files.new ≡ F.faults files.old }
+    ensures output_kept { result ≡ Status.Done → K.faults output.new ≡ K.faults output.old }
 {
     let Ok(served) = workload_words(alloc, workers) else {
         return end(errors, Status::NoMemory);
     };
     let came_to = work(rt, alloc, files, output, &served, gate, handlers, asked);
-    end_run(alloc, errors, &served.pairs, came_to)
+    end_run(alloc, errors, &served, came_to)
 }

@@ -1,6 +1,7 @@
 //! How a command that serves ends.
 
 ghost use Rattle.std.specs.Prelude.{◌≡◌, IfOk};
+ghost use Rattle.command_line.specs.Answering.{plain_served};
 ghost use Rattle.service_binding.specs.Refusals.{refused_pair_text};
 ghost use Rattle.recorded_runs.specs.Refusals.{refused_script_text};
 ghost use Rattle.thrift_host.specs.Steps.{EndsAfterRun, EndsAfterServing, EndsUnbound, EndsUnanswered, status_of_port};
@@ -11,44 +12,45 @@ use crate::checking::end_without_schema;
 use crate::saying::{end, end_saying};
 use crate::serving::ServeFault;
 use crate::status::Status;
+use command_line::ServedIdl;
 use outside::Sink;
 use port_serving::PortFault;
 use recorded_runs::{ServingFault, put_refused_script};
 use script_text::ScriptFault;
-use service_binding::{BindKind, BindWords, put_refused_pair};
+use service_binding::{BindKind, put_refused_pair};
 use std::alloc::{AllocError, Global};
 
-/// Ends the command with what became of a run with these pairs.
+/// Ends the command with what became of a run of what is served.
 pub(crate) fn end_run<E: Sink>(
     alloc: Global,
     errors: &mut E,
-    pairs: &BindWords,
+    served: &ServedIdl,
     came_to: Result<(), RunFault>,
 ) -> Status
-    ensures { EndsAfterRun pairs.now came_to result
+    ensures { EndsAfterRun (plain_served served.now) came_to result
         (record { taken_before = E.taken errors.old; taken = E.taken errors.new; faults_before = E.faults errors.old; faults = E.faults errors.new }) }
 {
     match came_to {
         Ok(()) => end(errors, Status::Done),
         Err(RunFault::NoSchema(reason)) => end_without_schema(alloc, errors, reason),
-        Err(RunFault::Unbound(fault)) => end_unbound(alloc, errors, pairs, fault),
+        Err(RunFault::Unbound(fault)) => end_unbound(alloc, errors, served, fault),
         Err(RunFault::Unanswered(fault)) => end_unanswered(alloc, errors, fault),
     }
 }
 
-/// Ends the command with what became of serving at a port with these pairs.
+/// Ends the command with what became of serving it at a port.
 pub(crate) fn end_serving<E: Sink>(
     alloc: Global,
     errors: &mut E,
-    pairs: &BindWords,
+    served: &ServedIdl,
     came_to: Result<(), ServeFault>,
 ) -> Status
-    ensures { EndsAfterServing pairs.now came_to result
+    ensures { EndsAfterServing (plain_served served.now) came_to result
         (record { taken_before = E.taken errors.old; taken = E.taken errors.new; faults_before = E.faults errors.old; faults = E.faults errors.new }) }
 {
     match came_to {
         Ok(()) => end(errors, Status::Done),
-        Err(ServeFault::Unarranged(fault)) => end_run(alloc, errors, pairs, Err(fault)),
+        Err(ServeFault::Unarranged(fault)) => end_run(alloc, errors, served, Err(fault)),
         Err(ServeFault::Unserved(fault)) => end(errors, port_status(fault)),
     }
 }
@@ -93,14 +95,14 @@ fn refused_script_line(alloc: Global, fault: ScriptFault) -> Result<Vec<u8>, All
     Ok(line)
 }
 
-/// Ends the command at pairs that aren't bound.
+/// Ends the command at pairs or a default that aren't bound.
 fn end_unbound<E: Sink>(
     alloc: Global,
     errors: &mut E,
-    pairs: &BindWords,
+    served: &ServedIdl,
     fault: BindFault,
 ) -> Status
-    ensures { EndsUnbound pairs.now fault result
+    ensures { EndsUnbound (plain_served served.now) fault result
         (record { taken_before = E.taken errors.old; taken = E.taken errors.new; faults_before = E.faults errors.old; faults = E.faults errors.new }) }
 {
     match fault {
@@ -108,23 +110,23 @@ fn end_unbound<E: Sink>(
             end_saying(
                 errors,
                 Status::BindRefused,
-                refused_pair_line(alloc, pairs, place, kind),
+                refused_pair_line(alloc, served, place, kind),
             )
         }
         BindFault::NoMemory => end(errors, Status::NoMemory),
     }
 }
 
-/// The errors' line of the pair at a place, which is refused.
+/// The errors' line of the pair at a place, or of the default behind the last pair, which is refused.
 fn refused_pair_line(
     alloc: Global,
-    pairs: &BindWords,
+    served: &ServedIdl,
     place: u32,
     kind: BindKind,
 ) -> Result<Vec<u8>, AllocError>
-    ensures { IfOk result (λ line. line.items ≡ refused_pair_text pairs.now place kind) }
+    ensures { IfOk result (λ line. line.items ≡ refused_pair_text served.now.pairs served.now.default_service place kind) }
 {
     let mut line = Vec::new(alloc);
-    put_refused_pair(&mut line, pairs, place, kind)?;
+    put_refused_pair(&mut line, &served.pairs, served.default_name(), place, kind)?;
     Ok(line)
 }

@@ -17,6 +17,7 @@ mod checking;
 mod command;
 mod ending;
 mod journal;
+pub mod laws;
 mod recording;
 mod rehearsing;
 mod saying;

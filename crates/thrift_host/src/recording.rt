@@ -1,8 +1,8 @@
 //! A recorded run: recorded connections, served by handlers of an IDL's services, by a loop with workers on threads.
 
-ghost use Rattle.std.specs.Prelude.{◌≡◌, ◌≤◌, true, length, map, Err};
+ghost use Rattle.std.specs.Prelude.{◌≡◌, true, length, map, Err, OnOk};
 ghost use Rattle.outside.specs.Cause.{Rose};
-ghost use Rattle.call_rules.specs.Desks.{longest_payload};
+ghost use Rattle.conn_table.specs.Servable.{CanServe};
 ghost use Rattle.call_model.specs.Desk.{desk_of};
 ghost use Rattle.command_line.specs.Answering.{plain_served};
 ghost use Rattle.command_line.specs.Bounds.{KeepsServedBounds};
@@ -50,9 +50,13 @@ pub(crate) fn serve_script<
         (record { says = plain_served served.now; files = F.files files.old; handlers = map H.service handlers.items }) result
         (record { left_before = S.left input.old; left = S.left input.new; taken_before = K.taken output.old; taken = K.taken output.new }) }
     ensures files { F.files files.new ≡ F.files files.old }
+    ensures sinks { F.sink_faults files.new ≡ F.sink_faults files.old }
     ensures file_fault { is_unread_file result ≡ true → Rose (F.faults files.old) (F.faults files.new) }
     ensures read_fault { result ≡ Err (faults.Unanswered serving_faults.ReadFault) → Rose (S.faults input.old) (S.faults input.new) }
     ensures write_fault { result ≡ Err (faults.Unanswered serving_faults.WriteFault) → Rose (K.faults output.old) (K.faults output.new) }
+    ensures files_kept { OnOk result (F.faults files.new ≡ F.faults files.old) }
+    ensures input_kept { OnOk result (S.faults input.new ≡ S.faults input.old) }
+    ensures output_kept { OnOk result (K.faults output.new ≡ K.faults output.old) }
 {
     match arrange(alloc, files, served, handlers) {
         Ok((office, handlers)) => {
@@ -81,12 +85,7 @@ fn run_recording<S: Source, K: Sink, G: Gate + Sync, H: Handler, R: Threads + Wa
     workers: u32,
     limits: Limits,
 ) -> Result<(), ServingFault>
-    requires workers { workers ≤ 8 }
-    requires some { 1 ≤ limits.max_frame }
-    requires within { limits.max_frame ≤ limits.read_budget }
-    requires budget { limits.read_budget ≤ longest_payload }
-    requires longest { (plain_office office.now).max_frame ≡ limits.max_frame }
-    requires slots { length handlers.items ≡ length (plain_office office.now).bindings }
+    requires can { CanServe limits workers (plain_office office.now).max_frame (length (plain_office office.now).bindings) (length handlers.items) }
     ensures means { MeansRecorded
         (script_to_serve (record { desk = desk_of (plain_office office.now); services = map H.service handlers.items; workers = workers; budget = limits.read_budget; line = entry_text }))
         (IsServedScript (record { desk = desk_of (plain_office office.now); services = map H.service handlers.items; workers = workers; budget = limits.read_budget; line = entry_text }))
@@ -94,6 +93,8 @@ fn run_recording<S: Source, K: Sink, G: Gate + Sync, H: Handler, R: Threads + Wa
         (record { left_before = S.left input.old; left = S.left input.new; taken_before = K.taken output.old; taken = K.taken output.new }) }
     ensures read_fault { result ≡ Err ServingFault.ReadFault → Rose (S.faults input.old) (S.faults input.new) }
     ensures write_fault { result ≡ Err ServingFault.WriteFault → Rose (K.faults output.old) (K.faults output.new) }
+    ensures input_kept { OnOk result (S.faults input.new ≡ S.faults input.old) }
+    ensures output_kept { OnOk result (K.faults output.new ≡ K.faults output.old) }
 {
     let journal = ReportedList::new(alloc);
     let answered = serve_recorded::<JournalLines, Office, H, ReportedList, S, K, G, R>(

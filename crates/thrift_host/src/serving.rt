@@ -1,8 +1,8 @@
 //! Connections at a port, served by handlers of an IDL's services, by a loop with workers on threads.
 
-ghost use Rattle.std.specs.Prelude.{◌≡◌, ◌≤◌, ℕ, List, Option, true, length, map, Err};
+ghost use Rattle.std.specs.Prelude.{◌≡◌, ℕ, List, Option, true, length, map, Err, OnOk};
 ghost use Rattle.outside.specs.Cause.{Rose};
-ghost use Rattle.call_rules.specs.Desks.{longest_payload};
+ghost use Rattle.conn_table.specs.Servable.{CanServe};
 ghost use Rattle.call_model.specs.Desk.{desk_of};
 ghost use Rattle.command_line.specs.Answering.{plain_served};
 ghost use Rattle.command_line.specs.Bounds.{KeepsServedBounds};
@@ -73,6 +73,10 @@ pub(crate) fn serve_connections<
     ensures net_fault { result ≡ Err (faults.Unserved port_faults.NetFault) → Rose (B.faults binder.old) (B.faults binder.new) }
     ensures write_fault { result ≡ Err (faults.Unserved port_faults.WriteFault) → Rose (K.faults output.old) (K.faults output.new) }
     ensures journal_fault { result ≡ Err (faults.Unserved port_faults.JournalFault) → Rose (F.sink_faults files.old) (F.sink_faults files.new) }
+    ensures files_kept { OnOk result (F.faults files.new ≡ F.faults files.old) }
+    ensures output_kept { OnOk result (K.faults output.new ≡ K.faults output.old) }
+    ensures binder_kept { OnOk result (B.faults binder.new ≡ B.faults binder.old) }
+    ensures sinks_kept { OnOk result (F.sink_faults files.new ≡ F.sink_faults files.old) }
 {
     match arrange(alloc, files, served, handlers) {
         Ok((office, handlers)) => {
@@ -103,12 +107,7 @@ fn run_port<F: Files, K: Sink, B: Binder, G: Gate + Sync, H: Handler, R: Threads
     workers: u32,
     limits: Limits,
 ) -> Result<(), PortFault>
-    requires workers { workers ≤ 8 }
-    requires some { 1 ≤ limits.max_frame }
-    requires within { limits.max_frame ≤ limits.read_budget }
-    requires budget { limits.read_budget ≤ longest_payload }
-    requires longest { (plain_office office.now).max_frame ≡ limits.max_frame }
-    requires slots { length handlers.items ≡ length (plain_office office.now).bindings }
+    requires can { CanServe limits workers (plain_office office.now).max_frame (length (plain_office office.now).bindings) (length handlers.items) }
     ensures means { MeansServedPort
         (record { desk = desk_of (plain_office office.now); services = map H.service handlers.items; budget = limits.read_budget })
         (record { listening = record { port = place.now.port; accept = place.now.accept }; journal = place.now.journal.now })
@@ -125,6 +124,10 @@ fn run_port<F: Files, K: Sink, B: Binder, G: Gate + Sync, H: Handler, R: Threads
     ensures net_fault { result ≡ Err PortFault.NetFault → Rose (B.faults binder.old) (B.faults binder.new) }
     ensures write_fault { result ≡ Err PortFault.WriteFault → Rose (K.faults output.old) (K.faults output.new) }
     ensures journal_fault { result ≡ Err PortFault.JournalFault → Rose (F.sink_faults files.old) (F.sink_faults files.new) }
+    ensures files_kept { OnOk result (F.faults files.new ≡ F.faults files.old) }
+    ensures output_kept { OnOk result (K.faults output.new ≡ K.faults output.old) }
+    ensures binder_kept { OnOk result (B.faults binder.new ≡ B.faults binder.old) }
+    ensures sinks_kept { OnOk result (F.sink_faults files.new ≡ F.sink_faults files.old) }
 {
     serve_port(
         rt, alloc, files, output, binder, office, handlers, gate, workers, limits, place,

@@ -1,9 +1,9 @@
 //! A workload: the tutorial's calculator, served on the connections of a script that is made from a seed, by a loop with workers on threads.
 
-ghost use Rattle.std.specs.Prelude.{◌≡◌, ◌≤◌, ℕ, List, Option, true, false, length, map, IfOk, MatchResult, Err};
+ghost use Rattle.std.specs.Prelude.{◌≡◌, ◌≤◌, ℕ, List, Option, true, false, length, map, IfOk, OnOk, MatchResult, Err};
 ghost use Rattle.outside.specs.Cause.{Rose};
 ghost use Rattle.outside.specs.Files.{File};
-ghost use Rattle.call_rules.specs.Desks.{longest_payload};
+ghost use Rattle.conn_table.specs.Servable.{CanServe};
 ghost use Rattle.command_line.specs.Answering.{plain_served};
 ghost use Rattle.processor.specs.Offices.{plain_office};
 ghost use Rattle.schema.specs.SchemaOf.{schema_of};
@@ -47,6 +47,7 @@ pub(crate) fn workload_words(alloc: Global, workers: u32) -> Result<ServedIdl, A
         protocol: Protocol::Binary,
         workers,
         pairs: BindWords::new(pairs),
+        default_service: None,
         limits: Limits {
             max_frame: 16_384_000,
             read_budget: 268_435_456,
@@ -73,8 +74,11 @@ pub(crate) fn work<F: Files, K: Sink, G: Gate + Sync, H: Handler, R: Threads + W
         (record { says = plain_served served.now; files = F.files files.old; handlers = map H.service handlers.items }) work.seed work.size result
         (record { left_before = left; left = left; taken_before = K.taken output.old; taken = K.taken output.new }) }
     ensures files { F.files files.new ≡ F.files files.old }
+    ensures sinks { F.sink_faults files.new ≡ F.sink_faults files.old }
     ensures file_fault { is_unread_file result ≡ true → Rose (F.faults files.old) (F.faults files.new) }
     ensures write_fault { result ≡ Err (faults.Unanswered serving_faults.WriteFault) → Rose (K.faults output.old) (K.faults output.new) }
+    ensures files_kept { OnOk result (F.faults files.new ≡ F.faults files.old) }
+    ensures output_kept { OnOk result (K.faults output.new ≡ K.faults output.old) }
 {
     match arrange_calculator(alloc, files, served, handlers) {
         Ok((office, handlers)) => {
@@ -103,10 +107,11 @@ fn arrange_calculator<F: Files, H: Handler>(
     ensures tells { MatchResult result
         (λ made. IsCalculatorsOffice (plain_office made.0) × HasCalculator (map H.service made.1.items))
         (λ fault. TellsUnworked (record { says = plain_served served.now; files = F.files files.old; handlers = map H.service handlers.items }) fault) }
-    ensures slots { IfOk result (λ made. length made.1.items ≡ length (plain_office made.0).bindings) }
-    ensures longest { IfOk result (λ made. (plain_office made.0).max_frame ≡ served.now.limits.max_frame) }
+    ensures can { IfOk result (λ made. CanServe served.now.limits served.now.workers (plain_office made.0).max_frame (length (plain_office made.0).bindings) (length made.1.items)) }
     ensures files { F.files files.new ≡ F.files files.old }
+    ensures sinks { F.sink_faults files.new ≡ F.sink_faults files.old }
     ensures file_fault { is_unread_file result ≡ true → Rose (F.faults files.old) (F.faults files.new) }
+    ensures files_kept { OnOk result (F.faults files.new ≡ F.faults files.old) }
 {
     match program_schema(alloc, files, served.idl.as_str()) {
         Ok(schema) => bind_calculator(alloc, served, schema, handlers),
@@ -127,8 +132,7 @@ fn bind_calculator<H: Handler>(
     ensures tells { (files : Option (List File)) → HasSchema files served.now.idl (schema_of schema) → MatchResult result
         (λ made. IsCalculatorsOffice (plain_office made.0) × HasCalculator (map H.service made.1.items))
         (λ fault. TellsUnworked (record { says = plain_served served.now; files = files; handlers = map H.service handlers.items }) fault) }
-    ensures slots { IfOk result (λ made. length made.1.items ≡ length (plain_office made.0).bindings) }
-    ensures longest { IfOk result (λ made. (plain_office made.0).max_frame ≡ served.now.limits.max_frame) }
+    ensures can { IfOk result (λ made. CanServe served.now.limits served.now.workers (plain_office made.0).max_frame (length (plain_office made.0).bindings) (length made.1.items)) }
     ensures no_file { is_unread_file result ≡ false }
 {
     if has_calculator(&schema) {
@@ -160,18 +164,14 @@ fn run_workload<K: Sink, G: Gate + Sync, H: Handler, R: Threads + Wait + Sync>(
     limits: Limits,
     work: Work,
 ) -> Result<(), ServingFault>
-    requires workers { workers ≤ 8 }
+    requires can { CanServe limits workers (plain_office office.now).max_frame (length (plain_office office.now).bindings) (length handlers.items) }
     requires frames { 1 ≤ work.size }
     requires most { work.size ≤ 1000000 }
-    requires some { 1 ≤ limits.max_frame }
-    requires within { limits.max_frame ≤ limits.read_budget }
-    requires budget { limits.read_budget ≤ longest_payload }
-    requires longest { (plain_office office.now).max_frame ≡ limits.max_frame }
-    requires slots { length handlers.items ≡ length (plain_office office.now).bindings }
     requires calculators { IsCalculatorsOffice (plain_office office.now) }
     requires service { HasCalculator (map H.service handlers.items) }
     ensures summed { WritesSummary (work_text work.seed work.size) (K.taken output.old) (K.taken output.new) result }
     ensures write_fault { result ≡ Err ServingFault.WriteFault → Rose (K.faults output.old) (K.faults output.new) }
+    ensures output_kept { OnOk result (K.faults output.new ≡ K.faults output.old) }
 {
     let journal = ReportedList::new(alloc);
     let answered = serve_workload::<Office, H, ReportedList, K, G, R>(

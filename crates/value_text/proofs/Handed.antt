@@ -1,10 +1,12 @@
 -- How what a sink takes of a text in one call goes on in the next.
-use Rattle.std.proofs.Common.{◌≡◌, ℕ, ℤ, codes, ◌+◌, ◌<◌, ◌≤◌, List, [], ◌∷◌, ◌++◌, length, drop, get_or, map, Option, Some, None, Result, Ok, Err, refl, sym, ap, ◌∙◌, subst, arith, append_assoc, add-one, drop-cons}
+use Rattle.std.proofs.Common.{◌≡◌, ℕ, ℤ, codes, ◌+◌, ◌<◌, ◌≤◌, List, [], ◌∷◌, ◌++◌, length, drop, get_or, map, Option, Some, None, Result, Ok, Err, refl, sym, ap, ◌∙◌, subst, append_assoc, add-one, drop-cons}
 use Rattle.std.specs.List.{flat_map}
 use Rattle.std.specs.Prelude.{MatchResult}
 use Rattle.std.specs.Result.{IsErr}
 use Rattle.outside.specs.Cause.{Rose}
 use Rattle.outside.specs.Content.{told_more}
+use Rattle.outside.specs.Taken.{IsTakenBut}
+use Rattle.outside.proofs.Taking.{none_taken, taken_on, taken_of_more}
 use Rattle.text_out.specs.Decimal.{decimal_of}
 use Rattle.text_out.specs.Hex.{hex_of}
 use Rattle.thrift_value.specs.declared.value.Value.{Value}
@@ -19,29 +21,36 @@ told_twice (Some c) a b = ap Some (append_assoc c a b)
 -- what was left is taken on
 pub handed_on : (x y z : Option (List ℕ)) (f g h : ℕ) (text left rest : List ℕ) → HandsOver x y f g text left → HandsOver y z g h left rest → HandsOver x z f h text rest
 handed_on x y z f g h text left rest one two =
-    let l : f ≤ g = one.later in
-    let m : g ≤ h = two.later in
     record {
       front = one.front ++ two.front;
       taken = two.taken ∙ ap (λ t. told_more t two.front) one.taken ∙ told_twice x one.front two.front;
       whole = one.whole ∙ ap (λ t. one.front ++ t) two.whole ∙ sym (append_assoc one.front two.front rest);
-      later = omega arith;
+      kept = two.kept ∙ one.kept;
     }
 
 -- of a longer text more is left
 pub handed_of_more : (x y : Option (List ℕ)) (f g : ℕ) (text left more : List ℕ) → HandsOver x y f g text left → HandsOver x y f g (text ++ more) (left ++ more)
 handed_of_more x y f g text left more one =
-    record { front = one.front; taken = one.taken; whole = ap (λ t. t ++ more) one.whole ∙ append_assoc one.front left more; later = one.later }
+    record { front = one.front; taken = one.taken; whole = ap (λ t. t ++ more) one.whole ∙ append_assoc one.front left more; kept = one.kept }
 
 pub broken_of_more : (x y : Option (List ℕ)) (f g : ℕ) (text more : List ℕ) → BreaksOff x y f g text → BreaksOff x y f g (text ++ more)
 broken_of_more x y f g text more one =
-    record { lost = one.lost ++ more; handed = handed_of_more x y f g text one.lost more one.handed; rose = one.rose }
+    record { lost = one.lost ++ more; part = taken_of_more x y text one.lost more one.part; later = one.later; rose = one.rose }
 
 pub broken_on : (x y z : Option (List ℕ)) (f g h : ℕ) (text left : List ℕ) → HandsOver x y f g text left → BreaksOff y z g h left → BreaksOff x z f h text
 broken_on x y z f g h text left one two =
-    let l : f ≤ g = one.later in
-    let r : Rose g h = two.rose in
-    record { lost = two.lost; handed = handed_on x y z f g h text left two.lost one two.handed; rose = omega arith }
+    let first : IsTakenBut x y text left = record { front = one.front; taken = one.taken; whole = one.whole } in
+    record {
+      lost = two.lost;
+      part = taken_on x y z text left two.lost first two.part;
+      later = subst (λ n. n ≤ h) one.kept two.later;
+      rose = subst (λ n. Rose n h) one.kept two.rose;
+    }
+
+-- a write failed, and took nothing
+pub breaks_here : (x y : Option (List ℕ)) (f g : ℕ) (text : List ℕ) → y ≡ x → f ≤ g → Rose f g → BreaksOff x y f g text
+breaks_here x y f g text same later rose =
+    record { lost = text; part = subst (λ o. IsTakenBut x o text text) (sym same) (none_taken x text); later = later; rose = rose }
 
 -- an error that is handed on, in front of what was to come
 pub breaks : {A E : Type 0} (x y : Option (List ℕ)) (f g : ℕ) (text more : List ℕ) (result : Result A E) → IsErr result → BreaksOff x y f g text

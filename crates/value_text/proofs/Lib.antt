@@ -16,3 +16,4 @@ pub mod Shows
 pub mod TextsAgain
 pub mod TextsFound
 pub mod ValueTexts
+pub mod VecSinks

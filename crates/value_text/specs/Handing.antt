@@ -2,18 +2,20 @@
 use Rattle.std.specs.Prelude.{◌≡◌, ℕ, ◌≤◌, List, [], ◌++◌, Option, Result, MatchResult}
 use Rattle.outside.specs.Cause.{Rose}
 use Rattle.outside.specs.Content.{told_more}
+use Rattle.outside.specs.Taken.{IsTakenBut}
 
--- of this text a sink took all but what is left, and its count of faults, from `faults` to `count`, didn't fall
+-- of this text a sink took all but what is left, and its count of faults, which was `faults`, is as it was
 pub record HandsOver (before now : Option (List ℕ)) (faults count : ℕ) (text left : List ℕ) : Type 0 where
   pub front : List ℕ
   pub taken : now ≡ told_more before front
   pub whole : text ≡ front ++ left
-  pub later : faults ≤ count
+  pub kept : count ≡ faults
 
 -- the sink took a beginning of this text, and its count of faults rose
 pub record BreaksOff (before now : Option (List ℕ)) (faults count : ℕ) (text : List ℕ) : Type 0 where
   pub lost : List ℕ
-  pub handed : HandsOver before now faults count text lost
+  pub part : IsTakenBut before now text lost
+  pub later : faults ≤ count
   pub rose : Rose faults count
 
 -- a call hands this text to a sink; where it fails, the sink took a beginning of it, and its count of faults rose

@@ -1,5 +1,5 @@
 //! A vector as a sink.
-ghost use Rattle.std.specs.Prelude.{◌≡◌, IsErr, IsOk, MatchResult};
+ghost use Rattle.std.specs.Prelude.{◌≡◌, take, IsErr, IsOk, MatchResult, OnErr, OnOk};
 
 use outside::{Failed, Sink};
 use std::alloc::AllocError;
@@ -26,19 +26,25 @@ impl VecSink {
         }
     }
 
-    /// Gives the vector back, and says how the writing went: a write fails for want of memory alone.
+    /// Gives the vector back, and says how the writing went: a write fails for want of memory alone, and then the vector gets no
+    /// more than its first `start` bytes.
     pub fn give_back(
         self,
         into: &mut Vec<u8>,
+        start: usize,
         written: Result<(), Failed>,
     ) -> Result<(), AllocError>
-        ensures content { into.new.items ≡ self.content.items }
+        ensures ok { OnOk result (into.new.items ≡ self.content.items) }
+        ensures err { OnErr result (into.new.items ≡ take start self.content.items) }
         ensures went { MatchResult result (λ _. IsOk written) (λ _. IsErr written) }
     {
         *into = self.content;
         match written {
             Ok(()) => Ok(()),
-            Err(Failed) => Err(AllocError),
+            Err(Failed) => {
+                into.truncate(start);
+                Err(AllocError)
+            }
         }
     }
 }

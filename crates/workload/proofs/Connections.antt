@@ -19,6 +19,7 @@ use Rattle.script_model.specs.ScriptLines.{governs, fails, fails_input, some_lin
 use Rattle.script_model.specs.Writing.{KeepsItsRules, writes_in}
 use Rattle.script_model.specs.Fed.{IsReadFrom}
 use Rattle.script_model.specs.Arrival.{bytes_of_pieces}
+use Rattle.script_model.proofs.Openings.{kept_at}
 use Rattle.workload.specs.LoadPlan.{connections_of, frames_on, bytes_on, workload_plan}
 use Rattle.workload.specs.ExpectedRun.{reply_at}
 use Rattle.workload.specs.Payloads.{payload_at, most_payload_bytes}
@@ -27,7 +28,6 @@ use Rattle.workload.proofs.Pieces.{pieces_joined}
 use Rattle.workload.proofs.Payloads.{split_so}
 use Rattle.workload.proofs.Plans.{no_rules, no_fault}
 use Rattle.workload.proofs.Parts.{LessThanAFrame, read_first, no_size, all_behind, in_middle}
-use Rattle.workload.proofs.LawsKept.{kept_at}
 use Rattle.workload.proofs.Talks.{AreReplied, all_go_on}
 
 not_both : (b : Bool) → b ≡ true → b ≡ false → ⊥

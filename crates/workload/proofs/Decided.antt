@@ -1,5 +1,5 @@
 -- What an office decides on the payload of a call of one of its functions, and what it replies.
-use Rattle.std.proofs.Common.{◌≡◌, ℕ, ℤ, pos, ◌≤◌, false, if◌then◌else◌, List, [], ◌∷◌, ◌++◌, length, Some, Result, Ok, ap, ◌∙◌}
+use Rattle.std.proofs.Common.{◌≡◌, ℕ, ℤ, pos, ◌≤◌, false, if◌then◌else◌, List, [], ◌∷◌, ◌++◌, length, Some, None, Result, Ok, ap, ◌∙◌}
 use Rattle.std.proofs.lemmas.Bool.{le-leb}
 use Rattle.outside.specs.declared.outcomes.EnvelopeFault.{EnvelopeFault}
 use Rattle.host_model.specs.Frames.{frame}
@@ -29,7 +29,7 @@ use Rattle.workload.specs.Calls.{answered}
 
 -- an office that serves one service in the binary protocol
 abbrev pub office_with : PlainSchema → Binding → ℕ → PlainOffice
-office_with s b max = record { schema = s; bindings = b ∷ []; protocol = Binary; max_frame = max }
+office_with s b max = record { schema = s; bindings = b ∷ []; default_slot = None; protocol = Binary; max_frame = max }
 
 abbrev pub bound_first : Binding → Bound
 bound_first b = record { slot = 0; service = b.1 }
@@ -49,7 +49,7 @@ abbrev pub reply_message : List ℕ → ℕ → ℤ → List ℕ
 reply_message method k n = head_text Binary (record { name = method; kind = reply; id = pos k }) ++ text binary_encoder (of_struct (field (pos 0) (of_i32 n) no_fields))
 
 module _ (s : PlainSchema) (b : Binding) (max : ℕ) (method : List ℕ) (k : ℕ) (args : Tree) (payload : List ℕ) (behind end : ℕ) (f : PlainFunction)
-    (head : head_at Binary payload ≡ head_read (call_head_at method k behind)) (asked : service_asked (b ∷ []) method ≡ Some (bound_first b)) (own : method_part method ≡ method)
+    (head : head_at Binary payload ≡ head_read (call_head_at method k behind)) (asked : service_asked None (b ∷ []) method ≡ Some (bound_first b)) (own : method_part method ≡ method)
     (found : function_named s b.1 method ≡ Some f) where
   abbrev office : PlainOffice
   office = office_with s b max

@@ -86,7 +86,7 @@ opens (suc n) before few =
     }
 
 -- a piece of one of n connections
-abbrev IsPieceUnder : ℕ → PlanLine → Type 0
+abbrev pub IsPieceUnder : ℕ → PlanLine → Type 0
 IsPieceUnder n (piece c bytes) = (c < n) × ((0 < length bytes) × EachByte bytes)
 IsPieceUnder n _ = ⊥
 
@@ -184,7 +184,7 @@ one_piece n i c bytes within each true is =
     ((within, (omega (arith, size, left, some), each_take 61 (drop (61 * i) bytes) (each_drop (61 * i) bytes each))), tt)
 one_piece n i c bytes within each false is = tt
 
-rounds_are_pieces : (streams : List (List ℕ)) → AllBytes streams → AllByRecursion (IsPieceUnder (length streams)) (rounds streams)
+pub rounds_are_pieces : (streams : List (List ℕ)) → AllBytes streams → AllByRecursion (IsPieceUnder (length streams)) (rounds streams)
 rounds_are_pieces streams all =
     all_flat (IsPieceUnder (length streams)) (round streams) (count_up 0 (most_pieces streams)) (always _ (count_up 0 (most_pieces streams)) (λ i.
     all_flat (IsPieceUnder (length streams)) (λ c. piece_line i c (get_or streams c [])) (count_up 0 (length streams)) (counted_under _ (length streams) 0 (λ c h.

@@ -9,7 +9,6 @@ pub mod Pieces
 pub mod Payloads
 pub mod Plans
 pub mod Parts
-pub mod LawsKept
 pub mod Histories
 pub mod Talks
 pub mod Connections
@@ -19,3 +18,4 @@ pub mod Decided
 pub mod Offices
 pub mod Bounds
 pub mod Tested
+pub mod Unscheduled

@@ -100,8 +100,10 @@ one_bound : (s : PlainSchema) (bindings : List Binding) → BindsCalculator s bi
 one_bound s (b ∷ []) is = (b, refl, is)
 one_bound s bindings is = absurd is
 
-office_is : (office : PlainOffice) (b : Binding) → office.bindings ≡ b ∷ [] → office.protocol ≡ Binary → office_with office.schema b office.max_frame ≡ office
-office_is office b one binary_is = λ i. record { schema = office.schema; bindings = sym one i; protocol = sym binary_is i; max_frame = office.max_frame }
+office_is : (office : PlainOffice) (b : Binding) → office.bindings ≡ b ∷ [] → office.default_slot ≡ None → office.protocol ≡ Binary
+    → office_with office.schema b office.max_frame ≡ office
+office_is office b one none binary_is =
+    λ i. record { schema = office.schema; bindings = sym one i; default_slot = sym none i; protocol = sym binary_is i; max_frame = office.max_frame }
 
 module _ (heads : HeadsAreRead) (structs : StructsAreRead) where
   head_back : (method : List ℕ) (k : ℕ) (args : Tree) → length method < 2 ^ 31 → All (λ b. b < 256) method → k < 2 ^ 31
@@ -122,7 +124,7 @@ module _ (heads : HeadsAreRead) (structs : StructsAreRead) where
     bound = one_bound office.schema office.bindings is.bound
 
     same : office_with office.schema bound.0 office.max_frame ≡ office
-    same = office_is office bound.0 bound.1 is.protocol
+    same = office_is office bound.0 bound.1 is.no_default is.protocol
 
     adding : (f : PlainFunction) × (function_named office.schema bound.0.1 (codes "add") ≡ Some f) × TakesAndGivesNumber office.schema.structs AreTwoNumbers f
     adding = one_found (TakesAndGivesNumber office.schema.structs AreTwoNumbers) (function_named office.schema bound.0.1 (codes "add")) bound.2.add

@@ -1,14 +1,13 @@
 -- What a run of a workload comes to, summed up over its connections.
-use Rattle.std.proofs.Common.{◌≡◌, ◌≢◌, ℕ, ℤ, zero, suc, ◌+◌, ◌+ℤ◌, ◌%◌, ◌^◌, ◌<◌, ◌≤◌, ◌⊎◌, ◌==◌, Some, List, [], ◌∷◌, ◌++◌, length, get_or, slice_get, refl, sym, ap, ◌∙◌, subst, inl, inr, arith}
+use Rattle.std.proofs.Common.{◌≡◌, ◌≢◌, ℕ, ℤ, zero, suc, ◌+◌, ◌+ℤ◌, ◌%◌, ◌^◌, ◌<◌, ◌≤◌, ◌==◌, Some, List, [], ◌∷◌, length, get_or, slice_get, refl, sym, ap, ◌∙◌, arith}
 use Rattle.std.specs.List.{flat_map, sum_by, AllByRecursion}
 use Rattle.std.proofs.Math.Nat.{mod-lt}
-use Rattle.std.proofs.lemmas.Bool.{cases_lt}
 use Rattle.std.proofs.lemmas.List.Sums.{sum_by-cons}
 use Rattle.std.proofs.lemmas.Option.{slice_get-get_or}
 use Rattle.outside.specs.declared.marks.Mark.{Mark}
 use Rattle.host_model.specs.declared.cause.EndCause.{EndCause}
 use Rattle.host_model.specs.declared.cause.EndCause.TheVariants.{End, NoMemory, Stopped}
-use Rattle.host_model.specs.Marks.{connection_of, marks_of, read_by, written_by, input, output, ending}
+use Rattle.host_model.specs.Marks.{connection_of, marks_of, read_by, written_by, input, output}
 use Rattle.host_model.specs.Journal.{entries_of}
 use Rattle.host_model.specs.DeskRules.{DeskRules}
 use Rattle.host_model.specs.Headline.{Headline}
@@ -18,6 +17,7 @@ use Rattle.call_rules.specs.Handling.{ServiceState, handler_rules}
 use Rattle.script_model.specs.ScriptLines.{count_up}
 use Rattle.script_model.specs.RestLines.{opened_in}
 use Rattle.script_model.specs.Fed.{IsFedBy}
+use Rattle.script_model.proofs.Openings.{all_kept, all_below, as_many_causes}
 use Rattle.workload.specs.CallFrames.{frame_at}
 use Rattle.workload.specs.LoadPlan.{connections_of, frames_on, workload_plan}
 use Rattle.workload.specs.SummaryText.{sum_over, answer_adds, sum_of_answers}
@@ -29,7 +29,6 @@ use Rattle.workload.specs.Calls.{call_in_load, answer_in_load}
 use Rattle.workload.specs.Summed.{HasCalculator, ComesToSum}
 use Rattle.workload.proofs.Plans.{openings_are}
 use Rattle.workload.proofs.Parts.{LessThanAFrame}
-use Rattle.workload.proofs.LawsKept.{all_kept, all_below, unopened, counted_in, opened_below}
 use Rattle.workload.proofs.Histories.{AnswersFrames, IsRight, all_right}
 use Rattle.workload.proofs.Talks.{IsReplied, AreReplied, Matches, Answers, done_matches, all_answered, as_many, sent_is}
 use Rattle.workload.proofs.Connections.{IsWhole, is_whole}
@@ -73,25 +72,11 @@ module _ (seed size : ℕ) (some : 1 ≤ size) (d : DeskRules PlainCall PlainAns
   cause_at : (c : ℕ) → c < length causes → slice_get causes c ≡ Some (get_or causes c End)
   cause_at c h = slice_get-get_or causes c End h
 
-  ended_opened : (c : ℕ) → c < length causes → c < conns
-  ended_opened c h =
-      let marks = (headline.each c (get_or causes c End) (cause_at c h)).marks in
-      opened_below conns c tape (marks.transfers ++ ending c (get_or causes c End)) opened marks.shape
+  as_many_conns : length causes ≡ conns
+  as_many_conns = as_many_causes d handler_rules services tape journal causes conns headline opened
 
   opened_ended : (c : ℕ) → c < conns → c < length causes
-  opened_ended c h = go (cases_lt c (length causes))
-    where
-      go : (c < length causes) ⊎ (length causes ≤ c) → c < length causes
-      go (inl low) = low
-      go (inr high) = absurd (counted_in conns 0 c (omega arith) (omega arith) (subst (AllByRecursion (λ x. x ≡ c → ⊥)) opened (unopened c tape (headline.no_marks c high))))
-
-  as_many_conns : length causes ≡ conns
-  as_many_conns = go (cases_lt (length causes) conns) (cases_lt conns (length causes))
-    where
-      go : (length causes < conns) ⊎ (conns ≤ length causes) → (conns < length causes) ⊎ (length causes ≤ conns) → length causes ≡ conns
-      go (inl low) other = let more = opened_ended (length causes) low in absurd (let f : ⊥ = omega (arith, more) in f)
-      go (inr one) (inl high) = let more = ended_opened conns high in absurd (let f : ⊥ = omega (arith, more) in f)
-      go (inr one) (inr two) = omega (arith, one, two)
+  opened_ended c h = omega (arith, as_many_conns, h)
 
   here : (c : ℕ) → AreReplied d (payload_at seed) (call_in_load seed) (answer_in_load seed) (reply_at seed) (frames_on conns c size)
   here c =

@@ -63,8 +63,9 @@ abbrev pub BindsCalculator : PlainSchema → List Binding → Type 0
 BindsCalculator s (b ∷ []) = IsCalculator s b.1
 BindsCalculator s _ = ⊥
 
--- an office that serves the calculator alone, in the binary protocol, and takes the frames of a workload
+-- an office that serves the calculator alone, without a default, in the binary protocol, and takes the frames of a workload
 pub record IsCalculatorsOffice (office : PlainOffice) : Type 0 where
   pub protocol : office.protocol ≡ Binary
   pub bound : BindsCalculator office.schema office.bindings
+  pub no_default : office.default_slot ≡ None
   pub room : most_payload_bytes ≤ office.max_frame

@@ -1,6 +1,6 @@
 //! Laws of workloads, each the contract of a function that does nothing.
 
-ghost use Rattle.std.specs.Prelude.{◌≡◌, ◌<◌, ◌^◌, ℕ, ℤ, List, length};
+ghost use Rattle.std.specs.Prelude.{◌≡◌, ◌<◌, ◌≤◌, ◌^◌, ℕ, ℤ, Bool, List, Ok, length};
 ghost use Rattle.std.specs.List.{flat_map, sum_by, AllByRecursion};
 ghost use Rattle.thrift_value.specs.Tree.{Tree, of_i32};
 ghost use Rattle.outside.specs.declared.marks.Mark.{Mark};
@@ -10,16 +10,29 @@ ghost use Rattle.call_rules.specs.Entries.{CallEntry};
 ghost use Rattle.call_rules.specs.PlainCalls.{success};
 ghost use Rattle.call_rules.specs.CalculatorRule.{calculator_rule};
 ghost use Rattle.script_model.specs.ScriptLines.{count_up};
+ghost use Rattle.script_text.specs.Printing.{print_of};
+ghost use Rattle.script_text.specs.Reading.{script_of_text};
 ghost use Rattle.script_text.specs.Sound.{IsKeptScript};
+ghost use Rattle.script_text.specs.TextLines.{longest_script};
 ghost use Rattle.workload.specs.CallFrames.{arguments_by};
 ghost use Rattle.workload.specs.LoadPlan.{frames_on, workload_plan};
 ghost use Rattle.workload.specs.SummaryText.{sum_over, sum_of_answers};
 ghost use Rattle.workload.specs.ExpectedRun.{method_at, frame_answer_by};
 
+use script_text::laws::a_script_is_read_back;
+
 /// Each workload is a script whose print has no fault.
 pub fn every_workload_is_kept()
     ensures { (seed size : ℕ) → IsKeptScript (workload_plan seed size) }
 {}
+
+/// Where the print of a workload isn't too long, it is read as the workload, for any number of workers, with lines of a schedule or without.
+pub fn every_workload_is_read_back()
+    ensures { (seed size workers : ℕ) (schedule : Bool) → length (print_of (workload_plan seed size)) ≤ longest_script
+        → script_of_text workers schedule (print_of (workload_plan seed size)) ≡ Ok (workload_plan seed size) }
+{
+    a_script_is_read_back();
+}
 
 /// What the calculator answers to frame k, whatever it remembers.
 pub fn frames_are_answered()

@@ -1,6 +1,6 @@
 //! Laws of workloads that are run, each the contract of a function that does nothing.
 
-ghost use Rattle.std.specs.Prelude.{◌≡◌, ◌≢◌, ◌<◌, ◌≤◌, ◌^◌, ◌*◌, true, ℕ, ℤ, Some, List, [], ◌∷◌, map, slice_get};
+ghost use Rattle.std.specs.Prelude.{◌≡◌, ◌≢◌, ◌<◌, ◌≤◌, ◌^◌, ◌*◌, true, ℕ, ℤ, Some, None, List, [], ◌∷◌, map, slice_get};
 ghost use Rattle.outside.specs.declared.marks.Mark.{Mark};
 ghost use Rattle.host_model.specs.declared.cause.EndCause.{EndCause};
 ghost use Rattle.host_model.specs.declared.cause.EndCause.TheVariants.{NoMemory, Stopped};
@@ -81,5 +81,5 @@ pub fn bytes_are_few()
 pub fn the_tests_tell_a_calculator()
     ensures service { (s : PlainSchema) (service : ℕ) → is_calculator s service ≡ true → IsCalculator s service }
     ensures office { (s : PlainSchema) (name : List ℕ) (service max : ℕ) → is_calculator s service ≡ true → most_payload_bytes ≤ max
-        → IsCalculatorsOffice (record { schema = s; bindings = (name, service) ∷ []; protocol = Binary; max_frame = max }) }
+        → IsCalculatorsOffice (record { schema = s; bindings = (name, service) ∷ []; default_slot = None; protocol = Binary; max_frame = max }) }
 {}

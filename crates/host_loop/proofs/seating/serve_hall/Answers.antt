@@ -1,15 +1,21 @@
-use Rattle.std.proofs.Common.{◌≤◌, [], map, refl, sym, ap, subst, ◌∙◌}
-use Rattle.call_rules.specs.Desks.{longest_payload}
+use Rattle.std.proofs.Common.{[], map, refl, sym, ap, subst, ◌∙◌}
+use Rattle.conn_table.proofs.Servable.{limits_are_small, desk_is_small}
 use Rattle.machine_model.specs.SeenHall.{MayHave}
 use Rattle.hall_core.specs.Meant.{ServedHall}
 use Rattle.host_loop.proofs.seating.serve_hall.Goals as goal
+
+pub serve_at-requires-clause-small : goal.serve_at-requires-clause-small
+serve_at-requires-clause-small g c κs within = limits_are_small c.requires.can
+
+pub serve_at-requires-clause-longest : goal.serve_at-requires-clause-longest
+serve_at-requires-clause-longest g c κs within = c.requires.can.longest
 
 pub returns-in-Err-clause-served : goal.returns-in-Err-clause-served
 returns-in-Err-clause-served g c =
     let is = c.in-Err.ensures.err in
     c.nothing_is_served.ensures _ _ (record {
       fresh = c.requires.fresh;
-      small = subst (λ n. n ≤ longest_payload) (sym c.requires.longest) c.requires.small;
+      small = desk_is_small c.requires.can;
       empty =
           subst (λ o. MayHave o [])
           (sym (ap g.J.Journal.told c.unserved.ensures.journal ∙ c.into_parts-handlers.ensures.told ∙ ap (λ (h : ServedHall). h.told) is)) c.requires.empty;

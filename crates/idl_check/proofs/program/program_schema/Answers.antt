@@ -1,5 +1,6 @@
-use Rattle.std.proofs.Common.{sym, ◌∙◌}
+use Rattle.std.proofs.Common.{refl, sym, ◌∙◌}
 use Rattle.outside.specs.Cause.{Rose}
+use Rattle.outside.proofs.Causes.{on_ok}
 use Rattle.idl_check.proofs.Telling.{of_tutorial, of_file, never_rises}
 use Rattle.idl_check.proofs.program.program_schema.Goals as goal
 
@@ -14,3 +15,6 @@ returns-clause-schema g c =
 pub returns-then-eq-clause-rose : goal.returns-then-eq-clause-rose
 returns-then-eq-clause-rose g c =
     let faults = g.F.Files.faults c.args.files.now in never_rises (Rose faults faults) c.tutorial_schema.result c.tutorial_schema.ensures.no_fault
+
+pub returns-then-eq-clause-kept : goal.returns-then-eq-clause-kept
+returns-then-eq-clause-kept g c = on_ok c.tutorial_schema.result refl

@@ -1,3 +1,4 @@
+use Rattle.outside.proofs.Causes.{on_ok}
 use Rattle.idl_check.proofs.Telling.{from_loaded, from_stopped}
 use Rattle.idl_check.proofs.program.schema_among.Goals as goal
 
@@ -10,3 +11,6 @@ pub returns-in-Err-clause-schema : goal.returns-in-Err-clause-schema
 returns-in-Err-clause-schema g c =
     from_stopped (g.F.Files.files c.args.files.now) c.args.main.now c.in-Err.fault c.unloaded.result c.each_file_is_read_as_one_thing.ensures.some
     c.in-Err.ensures.told c.in-Err.ensures.read c.unloaded.ensures.why c.unloaded.ensures.unread
+
+pub returns-in-Ok-clause-kept : goal.returns-in-Ok-clause-kept
+returns-in-Ok-clause-kept g c = on_ok c.checked_schema.result c.in-Ok.ensures.kept

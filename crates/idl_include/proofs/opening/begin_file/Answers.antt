@@ -41,7 +41,7 @@ returns-clause-steps g c = λ levels above.
     let law = c.a_document_declares_what_its_tree_does.ensures in
     start_goes law.declarations law.includes levels above (g.F.Files.files c.args.files.now) (g.F.Files.files c.read_file.new.files)
     (g.F.Files.faults c.args.files.now) (g.F.Files.faults c.read_file.new.files) c.args.name.now c.in_ok-document.document c.args.begun.now.items c.start.new.begun.items
-    (wanted_in c.in_ok-wanted.wanted.items) c.requires.begun c.requires.fresh room e.text e.same e.later e.told c.in_ok-wanted.ensures.started
+    (wanted_in c.in_ok-wanted.wanted.items) c.requires.begun c.requires.fresh room e.text e.same e.kept e.told c.in_ok-wanted.ensures.started
 
 pub returns-clause-one_more : goal.returns-clause-one_more
 returns-clause-one_more g c = one_more _ _ _ _ _ c.in_ok-wanted.ensures.started

@@ -1,5 +1,6 @@
 use Rattle.std.proofs.Common.{ℕ, List, refl, subst}
 use Rattle.idl_include.specs.Loads.{IsTextRead}
+use Rattle.outside.proofs.Causes.{on_ok}
 use Rattle.idl_include.proofs.OneFile.{read_is}
 use Rattle.idl_include.proofs.Failed.{failed_is, read_otherwise}
 use Rattle.idl_include.proofs.reading.read_file.Goals as goal
@@ -15,3 +16,6 @@ returns-in-Ok-clause-failed g c = read_otherwise (g.F.Files.files c.args.files.n
 
 pub returns-in-Err-clause-failed : goal.returns-in-Err-clause-failed
 returns-in-Err-clause-failed g c = failed_is (g.F.Files.files c.args.files.now) c.args.name.now _ c.in-Err.fail _ c.unread.result c.in-Err.ensures.read refl c.unread.ensures
+
+pub returns-in-Ok-clause-kept : goal.returns-in-Ok-clause-kept
+returns-in-Ok-clause-kept g c = on_ok c.document_of.result c.in-Ok.ensures.cause.kept

@@ -27,3 +27,6 @@ returns-in-Err-At-clause-told g c = λ reader t.
 pub returns-in-Err-At-clause-read : goal.returns-in-Err-At-clause-read
 returns-in-Err-At-clause-read g c = λ file.
     is_read_fault c.each_file_is_read_as_one_thing.ensures.some c.args.main.now c.new-above.result.items _ _ c.in-Err-At.fault c.in-Err-At.field-0 c.in-Err-At.field-0-is c.new-above.ensures.items c.new-begun.ensures.items c.in-Err-At.ensures.steps file
+
+pub returns-in-Ok-clause-kept : goal.returns-in-Ok-clause-kept
+returns-in-Ok-clause-kept g c = c.in-Ok.ensures.steps.quiet

@@ -35,5 +35,12 @@ returns-clause-called_after_a_fault c = λ new t. true≢false t.2.0
 pub returns-clause-fault_without_a_cause : goal.returns-clause-fault_without_a_cause
 returns-clause-fault_without_a_cause c = λ t. let f : next_count 0 ≤ t.0 = t.2.1 in let e : 0 ≡ t.0 = ap (λ (h : HallState ℕ ℕ ℕ). h.faults) t.2.2 in let g : ⊥ = omega arith in g
 
+pub returns-clause-fault_untold : goal.returns-clause-fault_untold
+returns-clause-fault_untold c = λ new one t.
+    let e : t.0 ≡ 0 = t.3 in
+    let f : new.faults ≡ t.0 = ap (λ (h : HallState ℕ ℕ ℕ). h.faults) t.2.1.1 in
+    let g : ⊥ = omega (arith, one) in
+    g
+
 pub returns-clause-fault_forgotten : goal.returns-clause-fault_forgotten
 returns-clause-fault_forgotten c = λ new t. true≢false t.2.0

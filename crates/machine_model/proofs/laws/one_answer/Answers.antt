@@ -1,4 +1,4 @@
-use Rattle.machine_model.proofs.Determining.{there_is, same_answer, same_hall, wanting, broken_where, count_kept}
+use Rattle.machine_model.proofs.Determining.{there_is, same_answer, same_hall, wanting, broken_where, count_kept, count_told}
 use Rattle.machine_model.proofs.laws.one_answer.Goals as goal
 
 pub returns-clause-some : goal.returns-clause-some
@@ -18,3 +18,6 @@ returns-clause-broken g c r old new key call answer t = broken_where r old new k
 
 pub returns-clause-count : goal.returns-clause-count
 returns-clause-count g c r old new op answer t n = count_kept r old new op answer t n
+
+pub returns-clause-told : goal.returns-clause-told
+returns-clause-told g c r old new op answer t n = count_told r old new op answer t n

@@ -1,9 +1,12 @@
-use Rattle.machine_model.proofs.Breaking.{broken_rose, told_rose, closed_rose}
+use Rattle.machine_model.proofs.Breaking.{broken_rose, told_rose, closed_rose, whole_count}
 use Rattle.machine_model.proofs.Telling.{turns_close}
 use Rattle.machine_model.proofs.laws.trouble_shows.Goals as goal
 
 pub returns-clause-broken : goal.returns-clause-broken
 returns-clause-broken g c r opening log opened history broken = broken_rose r opening log opened history broken
+
+pub returns-clause-whole : goal.returns-clause-whole
+returns-clause-whole g c r opening log history whole = (whole_count r opening log history whole).1
 
 pub returns-clause-told : goal.returns-clause-told
 returns-clause-told g c r opening log opened history told = told_rose r opening log opened history told

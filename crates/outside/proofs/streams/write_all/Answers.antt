@@ -1,4 +1,4 @@
-use Rattle.std.proofs.Common.{◌≡◌, List, ℕ, ◌++◌, ◌≤◌, take, ap, sym, ◌∙◌, take-append-drop, arith}
+use Rattle.std.proofs.Common.{◌≡◌, List, ℕ, ◌++◌, take, ap, sym, ◌∙◌, take-append-drop}
 use Rattle.outside.specs.Taken.{IsTakenBut}
 use Rattle.outside.proofs.Taking.{taken_on}
 use Rattle.outside.proofs.streams.write_all.Goals as goal
@@ -12,6 +12,4 @@ pieces-preserved g c =
     sym (take-append-drop c.in_ok-count.count rest) ∙ ap (λ t. take c.in_ok-count.count rest ++ t) (sym c.split_at.ensures.back) in
     let one : IsTakenBut (g.K.Sink.taken c.pieces.out) (g.K.Sink.taken c.write.new.self) rest behind =
     record { front = take c.in_ok-count.count rest; taken = w.told.told; whole = parts } in
-    let later : g.K.Sink.faults c.pieces.out ≤ g.K.Sink.faults c.write.new.self = w.cause.later in
-    let before : g.K.Sink.faults c.args.out.now ≤ g.K.Sink.faults c.pieces.out = c.pieces.invariant.later in
-    record { told = taken_on _ _ _ _ _ _ c.pieces.invariant.told one; later = omega arith }
+    record { told = taken_on _ _ _ _ _ _ c.pieces.invariant.told one; kept = w.cause.kept ∙ c.pieces.invariant.kept }

@@ -1,3 +1,5 @@
+use Rattle.std.proofs.Common.{◌∙◌}
+use Rattle.outside.proofs.Causes.{on_ok}
 use Rattle.port_serving.proofs.Filing.{unused, opened_so, no_file_fault}
 use Rattle.port_serving.proofs.file_journal.open_journal.Goals as goal
 
@@ -13,3 +15,6 @@ returns-in-Ok-clause-opened g c =
 
 pub returns-in-Ok-clause-file_fault : goal.returns-in-Ok-clause-file_fault
 returns-in-Ok-clause-file_fault g c is = absurd (no_file_fault c.begin_journal.result c.begin_journal.ensures.faults is)
+
+pub returns-in-Ok-clause-kept : goal.returns-in-Ok-clause-kept
+returns-in-Ok-clause-kept g c = on_ok c.begin_journal.result (c.begin_journal.ensures.kept ∙ c.in-Ok.ensures.cause.kept)

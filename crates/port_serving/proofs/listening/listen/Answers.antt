@@ -25,3 +25,6 @@ returns-in-Err-clause-listening g c =
     (fresh_back _ _ at (g.B.L.Links.state c.in_ok-links.links) c.in_ok-links.ensures.made
     (c.take_back.ensures.past ∙ ap (λ o. told_past o (g.B.L.Links.state c.in_ok-links.links)) c.in_ok-links.ensures.same))
     c.in-Err.ensures.told)
+
+pub returns-in-Ok-clause-binder_kept : goal.returns-in-Ok-clause-binder_kept
+returns-in-Ok-clause-binder_kept g c = c.in_ok-links.ensures.cause.kept (λ e. let never : ⊥ = cc in never)

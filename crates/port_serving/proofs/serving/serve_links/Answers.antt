@@ -4,7 +4,7 @@ use Rattle.outside.specs.LinksState.{Listening}
 use Rattle.host_loop.specs.Served.{ServerSetting, ServedRun}
 use Rattle.port_serving.specs.Places.{PortPlace, PlaceChange}
 use Rattle.port_serving.proofs.Linking.{they_listen}
-use Rattle.port_serving.proofs.PlaceServed.{has_served, net_rose, journal_rose}
+use Rattle.port_serving.proofs.PlaceServed.{has_served, sinks_stay, links_stay, net_rose, journal_rose}
 use Rattle.port_serving.proofs.Sent.{file_journal_send}
 use Rattle.port_serving.proofs.serving.serve_links.Goals as goal
 
@@ -61,4 +61,13 @@ returns-clause-net_fault g c is =
 pub returns-clause-journal_fault : goal.returns-clause-journal_fault
 returns-clause-journal_fault g c is =
     journal_rose _ _ (g.F.Files.sink_faults c.args.files.now) (g.F.Files.sink_faults c.close_journal.new.files) c.serve-run.ensures.served c.requires.faultless
+    c.close_journal.ensures.sinks is
+
+pub returns-clause-binder_kept : goal.returns-clause-binder_kept
+returns-clause-binder_kept g c is =
+    links_stay _ _ (g.B.Binder.faults c.args.binder.now) (g.B.Binder.faults c.take_back.new.self) c.serve-run.ensures.served c.requires.starts.faultless c.take_back.ensures.cause is
+
+pub returns-clause-sinks_kept : goal.returns-clause-sinks_kept
+returns-clause-sinks_kept g c is =
+    sinks_stay _ _ (g.F.Files.sink_faults c.args.files.now) (g.F.Files.sink_faults c.close_journal.new.files) c.serve-run.ensures.served c.requires.faultless
     c.close_journal.ensures.sinks is

@@ -1,6 +1,7 @@
-use Rattle.std.proofs.Common.{ℕ, List, Option, map, refl, sym, subst}
+use Rattle.std.proofs.Common.{ℕ, List, Option, map, refl, sym, subst, ◌∙◌}
 use Rattle.std.proofs.lemmas.Result.{err_from_is_err_and}
 use Rattle.outside.specs.Cause.{Rose}
+use Rattle.outside.proofs.Causes.{kept_on, on_ok, ok_then}
 use Rattle.outside.specs.Files.{File}
 use Rattle.outside.specs.LinksState.{Listening}
 use Rattle.outside.specs.Binding.{PastLinks, StartListening}
@@ -153,3 +154,17 @@ returns-in-Err-clause-means g c =
     (empty_file files_before files c.args.place.now.journal.now c.in_ok-journal.journal.entries c.in_ok-journal.journal.torn c.in_ok-journal.ensures.opened.none
     c.in_ok-journal.ensures.opened.whole (c.close_journal.ensures.kept files_before c.in_ok-journal.ensures.opened.files))
     c.in-Err.ensures.listening
+
+pub returns-in-Ok-clause-files_kept : goal.returns-in-Ok-clause-files_kept
+returns-in-Ok-clause-files_kept g c = on_ok c.finish.result (c.serve_links-run.ensures.files_kept ∙ c.in_ok-journal.ensures.kept)
+
+pub returns-in-Ok-clause-binder_kept : goal.returns-in-Ok-clause-binder_kept
+returns-in-Ok-clause-binder_kept g c = ok_then c.finish.result (λ all. c.serve_links-run.ensures.binder_kept all ∙ c.in-Ok.ensures.binder_kept) c.finish.ensures.all
+
+pub returns-in-Ok-clause-output_kept : goal.returns-in-Ok-clause-output_kept
+returns-in-Ok-clause-output_kept g c =
+    kept_on (g.K.Sink.faults c.args.output.now) (g.K.Sink.faults c.listen.new.output) (g.K.Sink.faults c.finish.new.output) c.finish.result c.in-Ok.ensures.output_kept
+    c.finish.ensures.output_kept
+
+pub returns-in-Ok-clause-sinks_kept : goal.returns-in-Ok-clause-sinks_kept
+returns-in-Ok-clause-sinks_kept g c = ok_then c.finish.result (λ all. c.serve_links-run.ensures.sinks_kept all ∙ c.open_journal.ensures.sinks) c.finish.ensures.all

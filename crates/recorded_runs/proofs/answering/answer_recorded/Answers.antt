@@ -1,4 +1,5 @@
 use Rattle.std.proofs.Common.{map}
+use Rattle.outside.proofs.Causes.{on_ok}
 use Rattle.recorded_runs.specs.Answered.{Answering, IsRunOfScript, script_for}
 use Rattle.recorded_runs.proofs.Coming.{answered, unread, no_write_fault, no_journal_fault}
 use Rattle.recorded_runs.proofs.answering.answer_recorded.Goals as goal
@@ -54,3 +55,6 @@ returns-in-Err-clause-journal_fault g c is =
     })
     in
     no_journal_fault (script_for a) c.in-Err.fault _ c.in-Err.ensures.input is
+
+pub returns-in-Ok-clause-input_kept : goal.returns-in-Ok-clause-input_kept
+returns-in-Ok-clause-input_kept g c = on_ok c.run_and_report.result.result c.in-Ok.ensures.kept

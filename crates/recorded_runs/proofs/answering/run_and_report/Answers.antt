@@ -1,4 +1,4 @@
-use Rattle.std.proofs.Common.{◌<◌, ◌^◌, map, refl, arith}
+use Rattle.std.proofs.Common.{◌<◌, ◌^◌, map, arith}
 use Rattle.recorded_runs.specs.Answered.{Answering}
 use Rattle.recorded_runs.proofs.Scripted.{ran_script}
 use Rattle.recorded_runs.proofs.answering.run_and_report.Goals as goal
@@ -14,7 +14,6 @@ returns-clause-reported g c =
       line = g.L.EntryLine.line;
     })
     in
-    let small : a.desk.max_frame < 2 ^ 31 = omega (arith, c.requires.longest, c.requires.within, c.requires.budget) in
+    let small : a.desk.max_frame < 2 ^ 31 = omega (arith, c.requires.can.longest, c.requires.can.within, c.requires.can.budget) in
     c.report_run-result.ensures.reported a c.args.script.now
-    (λ all entries told. ran_script a c.args.script.now _ _ _ entries (map g.H.Handler.service c.rehearse-run.result.handlers.items) small told
-    c.rehearse-run.ensures.run (c.rehearse-run.ensures.all all))
+    (λ all entries told. ran_script a c.args.script.now _ entries small told c.rehearse-run.ensures.run (c.rehearse-run.ensures.all all))

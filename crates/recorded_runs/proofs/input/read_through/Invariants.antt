@@ -1,4 +1,4 @@
-use Rattle.std.proofs.Common.{◌≡◌, ◌≤◌, ◌-◌, vec_len}
+use Rattle.std.proofs.Common.{◌≡◌, ◌-◌, vec_len}
 use Rattle.outside.specs.Content.{told_before}
 use Rattle.recorded_runs.proofs.input.read_through.Given as goal
 
@@ -6,7 +6,7 @@ use Rattle.recorded_runs.proofs.input.read_through.Given as goal
 abbrev pub invariant-reads : goal.invariant-reads
 invariant-reads g l = record {
   told : g.S.Source.left l.fn.source ≡ told_before l.text.items (g.S.Source.left l.source);
-  later : g.S.Source.faults l.fn.source ≤ g.S.Source.faults l.source;
+  kept : g.S.Source.faults l.source ≡ g.S.Source.faults l.fn.source;
 }
 
 -- each read that isn't the last gives a byte

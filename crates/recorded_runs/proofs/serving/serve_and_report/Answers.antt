@@ -33,7 +33,7 @@ returns-clause-reported g c =
       faults = g.J.Journal.faults c.serve-run.result.journal;
     })
     in
-    let small : a.desk.max_frame < 2 ^ 31 = omega (arith, c.requires.longest, c.requires.within, c.requires.budget) in
+    let small : a.desk.max_frame < 2 ^ 31 = omega (arith, c.requires.can.longest, c.requires.can.within, c.requires.can.budget) in
     c.report_run-result.ensures.reported a c.args.script
     (λ all entries told. subst (λ tape. IsServedScript a c.args.script tape entries c.serve-run.result.ends) (sym c.into_tape-tape.ensures)
     (ran a c.args.script c.in-Ok.links c.serve-run.new.links run entries small c.serve-run.ensures.served all refl told c.in-Ok.ensures.own c.serve-run.ensures.plan
@@ -41,3 +41,6 @@ returns-clause-reported g c =
 
 pub returns-clause-journal_fault : goal.returns-clause-journal_fault
 returns-clause-journal_fault g c is = journal_rose _ _ c.serve-run.ensures.served (c.report_run-result.ensures.journal_fault is)
+
+pub returns-clause-later : goal.returns-clause-later
+returns-clause-later g c = c.serve-run.ensures.served.faults

@@ -1,4 +1,5 @@
 use Rattle.std.proofs.Common.{map}
+use Rattle.outside.proofs.Causes.{on_ok}
 use Rattle.recorded_runs.specs.Answered.{Answering}
 use Rattle.recorded_runs.proofs.Coming.{answered, unread, no_write_fault, no_journal_fault}
 use Rattle.recorded_runs.specs.ServedScripts.{script_to_serve, IsServedScript}
@@ -55,3 +56,6 @@ returns-in-Err-clause-journal_fault g c is =
     })
     in
     no_journal_fault (script_to_serve a) c.in-Err.fault _ c.in-Err.ensures.input is
+
+pub returns-in-Ok-clause-input_kept : goal.returns-in-Ok-clause-input_kept
+returns-in-Ok-clause-input_kept g c = on_ok c.serve_and_report.result.result c.in-Ok.ensures.kept

@@ -33,7 +33,7 @@ sum_up-result-requires-clause-comes g c lives within all entries told none =
     })
     in
     let script : ScriptPlan = workload_plan c.args.work.seed c.args.work.size in
-    let small : a.desk.max_frame < 2 ^ 31 = omega (arith, c.requires.longest, c.requires.within, c.requires.budget) in
+    let small : a.desk.max_frame < 2 ^ 31 = omega (arith, c.requires.can.longest, c.requires.can.within, c.requires.can.budget) in
     let served : IsServedScript a c.args.script c.serve-run.new.links.tape entries c.serve-run.result.ends =
     ran a c.args.script c.in-Ok.links c.serve-run.new.links run entries small c.serve-run.ensures.served all refl told c.in-Ok.ensures.own c.serve-run.ensures.plan
     c.follow_their_script.ensures in
@@ -45,3 +45,6 @@ sum_up-result-requires-clause-comes g c lives within all entries told none =
 
 pub returns-clause-journal_fault : goal.returns-clause-journal_fault
 returns-clause-journal_fault g c is = journal_rose _ _ c.serve-run.ensures.served (c.sum_up-result.ensures.journal_fault is)
+
+pub returns-clause-later : goal.returns-clause-later
+returns-clause-later g c = c.serve-run.ensures.served.faults

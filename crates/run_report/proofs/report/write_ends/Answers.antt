@@ -1,4 +1,4 @@
-use Rattle.std.proofs.Common.{◌≤◌, ◌+◌, ◌++◌, drop, refl, subst, arith}
+use Rattle.std.proofs.Common.{◌+◌, ◌++◌, drop, refl, subst, ◌∙◌, arith}
 use Rattle.text_out.specs.Line.{line_of}
 use Rattle.host_model.specs.Report.{end_text}
 use Rattle.outside.specs.Taken.{IsTakenBut}
@@ -27,8 +27,6 @@ ends-preserved g c =
     let written = c.args.written.now in
     let bytes = c.index-written-c.result in
     let w = c.in_ok-write_end.ensures {u = tt} in
-    let later : g.K.Sink.faults c.ends.out ≤ g.K.Sink.faults c.write_end.new.out = w.cause.later in
-    let before : g.K.Sink.faults c.args.out.now ≤ g.K.Sink.faults c.ends.out = c.ends.invariant.later in
     record {
       told = next_taken _ (g.K.Sink.taken c.ends.out) _ _ c.ends.pending.items (line_of (end_text i _ bytes)) (ended_lines (i + 1) (drop (i + 1) causes) (drop (i + 1) written)) _
           (subst
@@ -36,5 +34,5 @@ ends-preserved g c =
           (c.ends.pending.items ++ t))
           (ended_left causes written i _ _ bytes bytes (omega arith) c.requires refl c.index-written-c.is) c.ends.invariant.told)
           w.told;
-      later = omega arith;
+      kept = w.cause.kept ∙ c.ends.invariant.kept;
     }

@@ -1,4 +1,4 @@
-use Rattle.std.proofs.Common.{◌≡◌, List, ℕ, [], ◌∷◌, ◌++◌, ◌≤◌, take, drop, ap, sym, subst, ◌∙◌, refl, take-append-drop, arith}
+use Rattle.std.proofs.Common.{◌≡◌, List, ℕ, [], ◌∷◌, ◌++◌, take, drop, ap, sym, subst, ◌∙◌, refl, take-append-drop, arith}
 use Rattle.text_out.specs.Hex.{hex_of}
 use Rattle.outside.specs.Taken.{IsTakenBut}
 use Rattle.outside.proofs.Taking.{next_taken, next_in_part, err_takes}
@@ -29,8 +29,6 @@ chunks-preserved g c =
     let w = c.in_ok-write_chunk.ensures {u = tt} in
     let e : hex_of c.chunks.rest.now ≡ hex_of c.split_at.result.0.now ++ hex_of c.split_at.result.1.now =
     hex_parts c.chunks.rest.now c.split_at.result.0.now c.split_at.result.1.now _ c.split_at.ensures.front c.split_at.ensures.back in
-    let later : g.K.Sink.faults c.chunks.out ≤ g.K.Sink.faults c.write_chunk.new.out = w.cause.later in
-    let before : g.K.Sink.faults c.args.out.now ≤ g.K.Sink.faults c.chunks.out = c.chunks.invariant.later in
     record {
       told = next_taken _ (g.K.Sink.taken c.chunks.out) _ _ c.chunks.pending.items (hex_of c.split_at.result.0.now) (hex_of c.split_at.result.1.now) _
           (subst
@@ -38,5 +36,5 @@ chunks-preserved g c =
           (c.chunks.pending.items ++ t))
           e c.chunks.invariant.told)
           w.told;
-      later = omega arith;
+      kept = w.cause.kept ∙ c.chunks.invariant.kept;
     }

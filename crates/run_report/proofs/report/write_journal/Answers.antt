@@ -1,4 +1,4 @@
-use Rattle.std.proofs.Common.{◌≤◌, arith}
+use Rattle.std.proofs.Common.{◌∙◌, arith}
 use Rattle.text_out.specs.Line.{line_of}
 use Rattle.outside.proofs.Taking.{line_taken, line_in_part, err_takes}
 use Rattle.run_report.proofs.report.write_journal.Goals as goal
@@ -13,10 +13,8 @@ returns-in_err-write_entry-clause-told g c =
 pub loop-entry-preserved : goal.loop-entry-preserved
 loop-entry-preserved g c =
     let w = c.in_ok-write_entry.ensures {u = tt} in
-    let later : g.K.Sink.faults c.loop-entry.out ≤ g.K.Sink.faults c.write_entry.new.out = w.cause.later in
-    let before : g.K.Sink.faults c.args.out.now ≤ g.K.Sink.faults c.loop-entry.out = c.loop-entry.invariant.later in
     record {
       told = line_taken (λ e. line_of (g.L.EntryLine.line e)) c.args.journal.now c.loop-entry.entry-index c.entry-item.result c.entry-item.result
           _ (g.K.Sink.taken c.loop-entry.out) _ _ c.loop-entry.pending.items _ (omega arith) c.entry-item.is c.loop-entry.invariant.told w.told;
-      later = omega arith;
+      kept = w.cause.kept ∙ c.loop-entry.invariant.kept;
     }

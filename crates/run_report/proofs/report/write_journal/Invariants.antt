@@ -1,4 +1,4 @@
-use Rattle.std.proofs.Common.{◌≤◌, ◌++◌, drop}
+use Rattle.std.proofs.Common.{◌≡◌, ◌++◌, drop}
 use Rattle.host_model.specs.Report.{journal_lines}
 use Rattle.outside.specs.Taken.{IsTakenBut}
 use Rattle.run_report.proofs.report.write_journal.Given as goal
@@ -7,5 +7,5 @@ abbrev pub invariant-loop-entry : goal.invariant-loop-entry
 invariant-loop-entry g l = record {
   told : IsTakenBut (g.K.Sink.taken l.fn.out) (g.K.Sink.taken l.out) (l.fn.pending.items ++ journal_lines g.L.EntryLine.line l.journal)
       (l.pending.items ++ journal_lines g.L.EntryLine.line (drop l.entry-index l.journal));
-  later : g.K.Sink.faults l.fn.out ≤ g.K.Sink.faults l.out;
+  kept : g.K.Sink.faults l.out ≡ g.K.Sink.faults l.fn.out;
 }

@@ -1,4 +1,4 @@
-use Rattle.std.proofs.Common.{◌≡◌, ◌<◌, ◌≤◌, ◌++◌, suc, List, length, ap, subst, arith}
+use Rattle.std.proofs.Common.{◌≡◌, ◌<◌, ◌++◌, suc, List, length, ap, subst, ◌∙◌, arith}
 use Rattle.outside.specs.declared.marks.Mark.{Mark}
 use Rattle.outside.specs.Taken.{IsTakenBut}
 use Rattle.host_model.specs.Report.{mark_text, tape_lines}
@@ -19,14 +19,12 @@ returns-in_err-write_mark-clause-told g c =
 pub tape-preserved : goal.tape-preserved
 tape-preserved g c =
     let w = c.in_ok-write_mark.ensures {u = tt} in
-    let later : g.K.Sink.faults c.tape.out ≤ g.K.Sink.faults c.write_mark.new.out = w.cause.later in
-    let before : g.K.Sink.faults c.args.out.now ≤ g.K.Sink.faults c.tape.out = c.tape.invariant.later in
     record {
       told = next_taken (g.K.Sink.taken c.args.out.now) (g.K.Sink.taken c.tape.out) (g.K.Sink.taken c.write_mark.new.out) (c.args.pending.now.items ++ tape_lines c.args.tape.now) c.tape.pending.items
           (line_of (mark_text (lent_mark c.in-Some.mark))) (tape_lines c.next.new.self) c.write_mark.new.pending.items
           (subst (λ (marks : List Mark). IsTakenBut (g.K.Sink.taken c.args.out.now) (g.K.Sink.taken c.tape.out) (c.args.pending.now.items ++ tape_lines c.args.tape.now) (c.tape.pending.items ++ tape_lines marks))
           c.in-Some.ensures c.tape.invariant.told) w.told;
-      later = omega arith;
+      kept = w.cause.kept ∙ c.tape.invariant.kept;
     }
 
 pub tape-smaller : goal.tape-smaller

@@ -1,4 +1,4 @@
-use Rattle.std.proofs.Common.{◌≤◌, ◌+◌, ◌++◌, drop, refl, subst, arith}
+use Rattle.std.proofs.Common.{◌+◌, ◌++◌, drop, refl, subst, ◌∙◌, arith}
 use Rattle.text_out.specs.Line.{line_of}
 use Rattle.outside.specs.Taken.{IsTakenBut}
 use Rattle.outside.proofs.Taking.{next_taken, next_in_part, err_takes}
@@ -22,8 +22,6 @@ conns-preserved g c =
     let i = c.conns.c in
     let causes = c.args.causes.now in
     let w = c.in_ok-write_conn.ensures {u = tt} in
-    let later : g.K.Sink.faults c.conns.out ≤ g.K.Sink.faults c.write_conn.new.out = w.cause.later in
-    let before : g.K.Sink.faults c.args.out.now ≤ g.K.Sink.faults c.conns.out = c.conns.invariant.later in
     record {
       told = next_taken _ (g.K.Sink.taken c.conns.out) _ _ c.conns.pending.items (line_of (conn_text i _)) (conn_lines (i + 1) (drop (i + 1) causes)) _
           (subst
@@ -31,5 +29,5 @@ conns-preserved g c =
           (c.conns.pending.items ++ t))
           (conns_left causes i _ _ (omega arith) refl) c.conns.invariant.told)
           w.told;
-      later = omega arith;
+      kept = w.cause.kept ∙ c.conns.invariant.kept;
     }

@@ -1,6 +1,6 @@
 use Rattle.std.proofs.Common.{true}
 use Rattle.script_text.specs.TextLines.{text_lines}
-use Rattle.script_text.proofs.ReadBack.{plan_read_back, plan_is_script, print_read, lines_read}
+use Rattle.script_text.proofs.ReadBack.{plan_read_back, plan_is_script, plan_unscheduled, print_read, lines_read}
 use Rattle.script_text.proofs.laws.a_script_is_read_back.Goals as goal
 
 pub returns-clause-read : goal.returns-clause-read
@@ -13,3 +13,6 @@ returns-clause-kept c = λ script kept short. print_read 8 true script kept shor
 pub returns-clause-sound : goal.returns-clause-sound
 returns-clause-sound c = λ workers schedule text script within is.
     plan_is_script workers schedule (text_lines text) script within (lines_read workers schedule text script is)
+
+pub returns-clause-unscheduled : goal.returns-clause-unscheduled
+returns-clause-unscheduled c = λ workers schedule script kept quiet short. print_read workers schedule script (plan_unscheduled workers schedule script kept quiet) short

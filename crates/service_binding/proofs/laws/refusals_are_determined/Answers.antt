@@ -1,5 +1,5 @@
-use Rattle.service_binding.proofs.Determined.{refused_once}
+use Rattle.service_binding.proofs.Defaulting.{refused_once_in_all}
 use Rattle.service_binding.proofs.laws.refusals_are_determined.Goals as goal
 
 pub returns : goal.returns
-returns c = refused_once
+returns c = refused_once_in_all

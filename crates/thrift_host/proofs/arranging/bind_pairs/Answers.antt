@@ -1,6 +1,8 @@
-use Rattle.std.proofs.Common.{map, refl, arith}
-use Rattle.processor.specs.Bound.{bound_names}
+use Rattle.std.proofs.Common.{length, map, refl, sym, ap, ◌∙◌, arith}
+use Rattle.call_model.specs.Offices.{PlainOffice}
+use Rattle.processor.specs.Bound.{bound_names, default_bound}
 use Rattle.schema.specs.SchemaOf.{schema_of}
+use Rattle.service_binding.specs.Defaults.{slot_for_default}
 use Rattle.command_line.specs.Answering.{plain_served}
 use Rattle.thrift_host.proofs.arranging.bind_pairs.Goals as goal
 
@@ -17,9 +19,22 @@ returns-in-Ok-clause-tells g c = λ files has.
             schema = schema_of c.args.schema;
             bindings = bound_names c.in-Ok.bindings;
             bound = map g.H.Handler.service c.in-Ok.handlers.items;
+            default_slot = default_bound c.in-Ok.bindings;
             has = has;
             are_bound = c.in-Ok.ensures.bound;
+            is_default = ap (slot_for_default (bound_names c.in-Ok.bindings)) (sym c.default_name-default_service.ensures) ∙ c.in-Ok.ensures.by_default;
           };
       office_is = c.new-office.ensures;
       services_are = refl;
+    }
+
+pub returns-in-Ok-clause-can : goal.returns-in-Ok-clause-can
+returns-in-Ok-clause-can g c =
+    record {
+      workers = c.requires.bounds.workers;
+      some = c.requires.bounds.least;
+      within = c.requires.bounds.fits;
+      budget = c.requires.bounds.most;
+      longest = ap (λ (o : PlainOffice). o.max_frame) c.new-office.ensures;
+      slots = c.in-Ok.ensures.slots ∙ sym (ap (λ (o : PlainOffice). length o.bindings) c.new-office.ensures);
     }

@@ -1,5 +1,8 @@
 use Rattle.std.proofs.Common.{None}
+use Rattle.command_line.specs.Answering.{plain_served}
+use Rattle.thrift_host.specs.Errors.{Errors}
 use Rattle.thrift_host.proofs.Served.{serving_means, serving_said, never_reads, written_by}
+use Rattle.thrift_host.proofs.Ended.{done_serving}
 use Rattle.thrift_host.proofs.command.serve_and_say.Goals as goal
 
 pub returns-clause-means : goal.returns-clause-means
@@ -19,3 +22,51 @@ pub returns-clause-write_fault : goal.returns-clause-write_fault
 returns-clause-write_fault g c = λ is.
     c.serve_connections-came_to.ensures.write_fault
     (written_by _ _ c.end_serving.result _ c.serve_connections-came_to.result (c.serve_connections-came_to.ensures.tells None) c.end_serving.ensures is)
+
+pub returns-clause-files_kept : goal.returns-clause-files_kept
+returns-clause-files_kept g c is =
+    let e : Errors =
+    (record {
+      taken_before = g.E.Sink.taken c.args.errors.now;
+      taken = g.E.Sink.taken c.end_serving.new.errors;
+      faults_before = g.E.Sink.faults c.args.errors.now;
+      faults = g.E.Sink.faults c.end_serving.new.errors;
+    })
+    in
+    done_serving (plain_served c.args.served.now) c.serve_connections-came_to.result c.end_serving.result e c.end_serving.ensures is c.serve_connections-came_to.ensures.files_kept
+
+pub returns-clause-output_kept : goal.returns-clause-output_kept
+returns-clause-output_kept g c is =
+    let e : Errors =
+    (record {
+      taken_before = g.E.Sink.taken c.args.errors.now;
+      taken = g.E.Sink.taken c.end_serving.new.errors;
+      faults_before = g.E.Sink.faults c.args.errors.now;
+      faults = g.E.Sink.faults c.end_serving.new.errors;
+    })
+    in
+    done_serving (plain_served c.args.served.now) c.serve_connections-came_to.result c.end_serving.result e c.end_serving.ensures is c.serve_connections-came_to.ensures.output_kept
+
+pub returns-clause-binder_kept : goal.returns-clause-binder_kept
+returns-clause-binder_kept g c is =
+    let e : Errors =
+    (record {
+      taken_before = g.E.Sink.taken c.args.errors.now;
+      taken = g.E.Sink.taken c.end_serving.new.errors;
+      faults_before = g.E.Sink.faults c.args.errors.now;
+      faults = g.E.Sink.faults c.end_serving.new.errors;
+    })
+    in
+    done_serving (plain_served c.args.served.now) c.serve_connections-came_to.result c.end_serving.result e c.end_serving.ensures is c.serve_connections-came_to.ensures.binder_kept
+
+pub returns-clause-sinks_kept : goal.returns-clause-sinks_kept
+returns-clause-sinks_kept g c is =
+    let e : Errors =
+    (record {
+      taken_before = g.E.Sink.taken c.args.errors.now;
+      taken = g.E.Sink.taken c.end_serving.new.errors;
+      faults_before = g.E.Sink.faults c.args.errors.now;
+      faults = g.E.Sink.faults c.end_serving.new.errors;
+    })
+    in
+    done_serving (plain_served c.args.served.now) c.serve_connections-came_to.result c.end_serving.result e c.end_serving.ensures is c.serve_connections-came_to.ensures.sinks_kept

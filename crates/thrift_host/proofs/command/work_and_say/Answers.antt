@@ -6,6 +6,7 @@ use Rattle.thrift_host.specs.Errors.{Errors}
 use Rattle.thrift_host.specs.Runs.{AskedRun, SaysUnarranged}
 use Rattle.thrift_host.specs.Workloads.{MeansWorkload}
 use Rattle.thrift_host.proofs.Worked.{workload_means, workload_said}
+use Rattle.thrift_host.proofs.Ended.{done_run}
 use Rattle.thrift_host.proofs.command.work_and_say.Goals as goal
 
 pub returns-clause-means : goal.returns-clause-means
@@ -62,3 +63,27 @@ returns-clause-no_read_fault g c = λ is.
     in
     subst (λ status. MeansWorkload r c.args.asked.seed c.args.asked.size status s) is
     (workload_means r c.args.asked.seed c.args.asked.size c.end_run.result s e c.work-came_to.result (c.work-came_to.ensures.tells None) c.end_run.ensures)
+
+pub returns-clause-files_kept : goal.returns-clause-files_kept
+returns-clause-files_kept g c is =
+    let e : Errors =
+    (record {
+      taken_before = g.E.Sink.taken c.args.errors.now;
+      taken = g.E.Sink.taken c.end_run.new.errors;
+      faults_before = g.E.Sink.faults c.args.errors.now;
+      faults = g.E.Sink.faults c.end_run.new.errors;
+    })
+    in
+    done_run (plain_served c.in-Ok.served) c.work-came_to.result c.end_run.result e c.end_run.ensures is c.work-came_to.ensures.files_kept
+
+pub returns-clause-output_kept : goal.returns-clause-output_kept
+returns-clause-output_kept g c is =
+    let e : Errors =
+    (record {
+      taken_before = g.E.Sink.taken c.args.errors.now;
+      taken = g.E.Sink.taken c.end_run.new.errors;
+      faults_before = g.E.Sink.faults c.args.errors.now;
+      faults = g.E.Sink.faults c.end_run.new.errors;
+    })
+    in
+    done_run (plain_served c.in-Ok.served) c.work-came_to.result c.end_run.result e c.end_run.ensures is c.work-came_to.ensures.output_kept

@@ -10,4 +10,4 @@ pub returns-clause-second : goal.returns-clause-second
 returns-clause-second c = refl
 
 pub returns-clause-office : goal.returns-clause-office
-returns-clause-office c = record { protocol = refl; bound = is_one tutorial_schema 0 refl; room = omega arith }
+returns-clause-office c = record { protocol = refl; bound = is_one tutorial_schema 0 refl; no_default = refl; room = omega arith }

@@ -6,4 +6,4 @@ pub returns-clause-service : goal.returns-clause-service
 returns-clause-service c = λ s service tested. is_one s service tested
 
 pub returns-clause-office : goal.returns-clause-office
-returns-clause-office c = λ s name service max tested room. record { protocol = refl; bound = is_one s service tested; room = room }
+returns-clause-office c = λ s name service max tested room. record { protocol = refl; bound = is_one s service tested; no_default = refl; room = room }

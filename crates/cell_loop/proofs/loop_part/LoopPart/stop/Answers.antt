@@ -13,7 +13,7 @@ pub returns-in-Over : goal.returns-in-Over
 returns-in-Over c =
     let stage : c.index.result.now ≡ slice_index_or c.args.self.now.stages.items c.args.c Lean =
     get_or_read c.args.self.now.stages.items c.args.c c.index.result.now c.requires.opened c.index.ensures Lean in
-    record { stopped = stops_none c.args.c c.args.self.now (subst StandIsOver (sym c.in-Over.is ∙ stage) tt); room = c.requires.under_way.room }
+    record { stopped = stops_none c.args.c c.args.self.now c.requires.opened (subst StandIsOver (sym c.in-Over.is ∙ stage) tt); room = c.requires.under_way.room }
 
 pub end-requires : goal.end-requires
 end-requires c =

@@ -12,7 +12,7 @@ pub follow-requires-clause-serving : goal.follow-requires-clause-serving
 follow-requires-clause-serving g c κs within =
     serves_on_all _ _ _ _ _ _ _ _
     (serves_alike _ _ _ _ _ _ _ _ c.in_ok-held.ensures.serving c.make_place.new.self c.make_place.ensures.table c.make_place.ensures.stages c.make_place.ensures.causes c.make_place.ensures.owing)
-    (g.L.Links.state c.next.new.links) c.next.new.self c.next.ensures.going c.next.ensures.budget
+    (g.L.Links.state c.next.new.links) c.next.new.self c.in-Ok-next.ensures.going c.next.ensures.budget
 
 pub returns-in_default-make_place-clause-halted : goal.returns-in_default-make_place-clause-halted
 returns-in_default-make_place-clause-halted g c =
@@ -23,4 +23,4 @@ pub returns-in-Err-clause-halted : goal.returns-in-Err-clause-halted
 returns-in-Err-clause-halted g c =
     fails_on _ _ _ _ _ _ _ _
     (serves_alike _ _ _ _ _ _ _ _ c.in_ok-held.ensures.serving c.make_place.new.self c.make_place.ensures.table c.make_place.ensures.stages c.make_place.ensures.causes c.make_place.ensures.owing)
-    (g.L.Links.state c.next.new.links) c.next.new.self c.next.ensures.going c.next.ensures.budget (c.next.ensures.failed (subst IsErr (sym c.in-Err.is) refl))
+    (g.L.Links.state c.next.new.links) c.next.new.self c.in-Err.ensures.going c.next.ensures.budget (c.next.ensures.failed (subst IsErr (sym c.in-Err.is) refl))

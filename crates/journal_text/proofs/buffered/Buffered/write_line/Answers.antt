@@ -1,5 +1,7 @@
 use Rattle.journal_text.specs.EntryText.{call_line}
+use Rattle.outside.proofs.Causes.{cause_on}
 use Rattle.journal_text.proofs.Written.{line_broken, cut_result, line_flushed}
+use Rattle.journal_text.proofs.Handing.{cause_of_break}
 use Rattle.journal_text.proofs.buffered.Buffered.write_line.Goals as goal
 
 pub returns-in_err-spell_entry-clause-taken : goal.returns-in_err-spell_entry-clause-taken
@@ -13,3 +15,13 @@ returns-clause-taken g c =
     line_flushed (g.K.Sink.taken c.args.self.now.sink) (g.K.Sink.taken c.spell_entry.new.out.sink) (g.K.Sink.taken c.flush.new.self.sink) c.args.self.now.held.items c.spell_entry.new.out.held.items
     (call_line c.args.entry.now) (g.K.Sink.faults c.args.self.now.sink) (g.K.Sink.faults c.spell_entry.new.out.sink) c.flush.result c.requires.none_held
     (c.in_ok-spell_entry.ensures {u = tt}) c.flush.ensures.taken
+
+pub returns-in_err-spell_entry-clause-cause : goal.returns-in_err-spell_entry-clause-cause
+returns-in_err-spell_entry-clause-cause g c =
+    cause_of_break _ _ (g.K.Sink.faults c.args.self.now.sink) (g.K.Sink.faults c.spell_entry.new.out.sink) (call_line c.args.entry.now) c.from_residual.result c.from_residual.ensures.0
+    (c.in_err-spell_entry.ensures {u = tt})
+
+pub returns-clause-cause : goal.returns-clause-cause
+returns-clause-cause g c =
+    cause_on (g.K.Sink.faults c.args.self.now.sink) (g.K.Sink.faults c.spell_entry.new.out.sink) (g.K.Sink.faults c.flush.new.self.sink) c.flush.result
+    (c.in_ok-spell_entry.ensures {u = tt}).kept c.flush.ensures.cause

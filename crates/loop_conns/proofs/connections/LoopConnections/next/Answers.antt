@@ -2,7 +2,7 @@ use Rattle.std.proofs.Common.{◌<◌, length, refl, arith}
 use Rattle.std.proofs.lemmas.Bool.{eqb-true}
 use Rattle.std.specs.Vec.{vec_capacity}
 use Rattle.outside.specs.declared.answers.Hint.TheVariants.{Opened, Readable, Writable, Woken, Over}
-use Rattle.loop_conns.proofs.Asked.{room_for_one, next_absent, said, none_opened, one_opened, over_so}
+use Rattle.loop_conns.proofs.Asked.{room_for_one, next_absent, said, none_opened, none_told, one_opened, over_so}
 use Rattle.loop_conns.proofs.connections.LoopConnections.next.Goals as goal
 
 pub add-requires-clause-room : goal.add-requires-clause-room
@@ -26,7 +26,7 @@ push_reserved-requires-in-Ok-Opened g c =
 pub returns-in-Ok-Opened-clause-going : goal.returns-in-Ok-Opened-clause-going
 returns-in-Ok-Opened-clause-going g c =
     let h = said _ _ _ c.in-Ok-Opened.field-0 (Opened c.in-Ok-Opened.c) c.in-Ok-Opened.field-0-is c.in-Ok-Opened.ensures.answers in
-    one_opened _ _ _ c.args.self.now _ h (λ e. eqb-true c.args.self.now.owing 0 e) c.requires.held c.in-Ok-Opened.c _ h.opens
+    one_opened _ _ _ c.args.self.now _ h (λ e. eqb-true c.args.self.now.owing 0 e) c.requires.held h.kept c.in-Ok-Opened.c _ h.opens
     (record {
       room = room_for_one c.full.result (length c.args.self.now.table.slots) c.full.ensures.full.1 c.full.ensures.few h.opens.room;
       table = c.add.ensures;
@@ -38,22 +38,22 @@ returns-in-Ok-Opened-clause-going g c =
 pub returns-in-Ok-Readable-clause-going : goal.returns-in-Ok-Readable-clause-going
 returns-in-Ok-Readable-clause-going g c =
     let h = said _ _ _ c.in-Ok-Readable.field-0 (Readable c.in-Ok-Readable.c) c.in-Ok-Readable.field-0-is c.in-Ok-Readable.ensures.answers in
-    none_opened _ _ _ c.args.self.now _ h (λ e. eqb-true c.args.self.now.owing 0 e) c.requires.held h.opens
+    none_opened _ _ _ c.args.self.now _ h (λ e. eqb-true c.args.self.now.owing 0 e) c.requires.held h.kept h.opens
 
 pub returns-in-Ok-Writable-clause-going : goal.returns-in-Ok-Writable-clause-going
 returns-in-Ok-Writable-clause-going g c =
     let h = said _ _ _ c.in-Ok-Writable.field-0 (Writable c.in-Ok-Writable.c) c.in-Ok-Writable.field-0-is c.in-Ok-Writable.ensures.answers in
-    none_opened _ _ _ c.args.self.now _ h (λ e. eqb-true c.args.self.now.owing 0 e) c.requires.held h.opens
+    none_opened _ _ _ c.args.self.now _ h (λ e. eqb-true c.args.self.now.owing 0 e) c.requires.held h.kept h.opens
 
 pub returns-in-Ok-Woken-clause-going : goal.returns-in-Ok-Woken-clause-going
 returns-in-Ok-Woken-clause-going g c =
     let h = said _ _ _ c.in-Ok-Woken.field-0 Woken c.in-Ok-Woken.field-0-is c.in-Ok-Woken.ensures.answers in
-    none_opened _ _ _ c.args.self.now _ h (λ e. eqb-true c.args.self.now.owing 0 e) c.requires.held h.opens
+    none_opened _ _ _ c.args.self.now _ h (λ e. eqb-true c.args.self.now.owing 0 e) c.requires.held h.kept h.opens
 
 pub returns-in-Ok-Over-clause-going : goal.returns-in-Ok-Over-clause-going
 returns-in-Ok-Over-clause-going g c =
     let h = said _ _ _ c.in-Ok-Over.field-0 Over c.in-Ok-Over.field-0-is c.in-Ok-Over.ensures.answers in
-    none_opened _ _ _ c.args.self.now _ h (λ e. eqb-true c.args.self.now.owing 0 e) c.requires.held h.opens
+    none_opened _ _ _ c.args.self.now _ h (λ e. eqb-true c.args.self.now.owing 0 e) c.requires.held h.kept h.opens
 
 pub returns-in-Ok-Over-clause-over : goal.returns-in-Ok-Over-clause-over
 returns-in-Ok-Over-clause-over g c =
@@ -62,7 +62,7 @@ returns-in-Ok-Over-clause-over g c =
 
 pub returns-in-Err-clause-going : goal.returns-in-Err-clause-going
 returns-in-Err-clause-going g c =
-    none_opened _ _ _ c.args.self.now _ c.in-Err.ensures.answers (λ e. eqb-true c.args.self.now.owing 0 e) c.requires.held c.in-Err.ensures.answers.opens
+    none_told _ _ _ c.args.self.now _ c.in-Err.ensures.answers (λ e. eqb-true c.args.self.now.owing 0 e) c.requires.held c.in-Err.ensures.answers.opens
 
 pub returns-in-Err-clause-failed : goal.returns-in-Err-clause-failed
 returns-in-Err-clause-failed g c = c.in-Err.ensures.answers.failed

@@ -1,15 +1,21 @@
--- What is kept of a list, and which connections a tape opens.
-use Rattle.std.proofs.Common.{◌≡◌, ℕ, zero, suc, ◌+◌, ◌<◌, ◌≤◌, ◌⊎◌, ◌==◌, Bool, true, false, cond, List, [], ◌∷◌, ◌++◌, refl, sym, ap, ◌∙◌, subst, inl, inr, arith, eq-eqb}
+-- What is kept of a list, which connections a tape opens, and that as many end as are opened.
+use Rattle.std.proofs.Common.{◌≡◌, ℕ, zero, suc, ◌+◌, ◌<◌, ◌≤◌, ◌⊎◌, ◌==◌, Bool, true, false, cond, List, [], ◌∷◌, ◌++◌, length, get_or, refl, sym, ap, ◌∙◌, subst, inl, inr, arith, eq-eqb}
 use Rattle.std.specs.List.{filter, AllByRecursion}
 use Rattle.std.proofs.lemmas.Bool.{cases_eq, cases_lt, eqb-false}
 use Rattle.std.proofs.lemmas.Grind.{flat_map-append}
+use Rattle.std.proofs.lemmas.Option.{slice_get-get_or}
 use Rattle.outside.specs.declared.marks.Mark.{Mark}
 use Rattle.outside.specs.declared.marks.Mark.TheVariants.{Opened, Read, Ended, Wrote, ReadFailed, WriteFailed, Closed}
-use Rattle.host_model.specs.Marks.{connection_of, marks_of}
+use Rattle.host_model.specs.declared.cause.EndCause.{EndCause}
+use Rattle.host_model.specs.declared.cause.EndCause.TheVariants.{End}
+use Rattle.host_model.specs.Marks.{connection_of, marks_of, ending}
+use Rattle.host_model.specs.Journal.{JournalEntry, ServiceRules}
+use Rattle.host_model.specs.DeskRules.{DeskRules}
+use Rattle.host_model.specs.Headline.{Headline}
 use Rattle.host_model.proofs.Lists.{nil-cons, cons_parts, all-append}
 use Rattle.script_model.specs.ScriptLines.{count_up}
 use Rattle.script_model.specs.RestLines.{opened_by, opened_in}
-use Rattle.workload.proofs.Parts.{in_middle}
+use Rattle.script_model.proofs.OneFed.{all_at}
 
 module _ {X : Type 0} (test : X → Bool) where
   -- an item that is kept stands among all, behind what is kept in front of it
@@ -90,4 +96,27 @@ pub opened_below : (n c : ℕ) (tape more : List Mark) → opened_in tape ≡ co
 opened_below n c tape more opened e =
     let t = kept_at (λ mark. connection_of mark == c) tape [] (Opened c) more e in
     let parts : opened_in tape ≡ opened_in t.0 ++ c ∷ opened_in t.1 = ap opened_in t.2 ∙ flat_map-append opened_by t.0 (Opened c ∷ t.1) in
-    in_middle (λ x. x < n) (opened_in t.0) c (opened_in t.1) (subst (AllByRecursion (λ x. x < n)) (sym opened ∙ parts) (each_below n 0 n (omega arith)))
+    all_at (λ x. x < n) (opened_in t.0) (opened_in t.1) c (subst (AllByRecursion (λ x. x < n)) (sym opened ∙ parts) (each_below n 0 n (omega arith)))
+
+module _ {C A M : Type 0} (d : DeskRules C A) (r : ServiceRules C A M) (memories : List M) (tape : List Mark) (journal : List (JournalEntry C A)) (causes : List EndCause)
+    (n : ℕ) (headline : Headline d r memories tape journal causes) (opened : opened_in tape ≡ count_up 0 n) where
+  ended_opened : (c : ℕ) → c < length causes → c < n
+  ended_opened c h =
+      let marks = (headline.each c (get_or causes c End) (slice_get-get_or causes c End h)).marks in
+      opened_below n c tape (marks.transfers ++ ending c (get_or causes c End)) opened marks.shape
+
+  opened_ended : (c : ℕ) → c < n → c < length causes
+  opened_ended c h = go (cases_lt c (length causes))
+    where
+      go : (c < length causes) ⊎ (length causes ≤ c) → c < length causes
+      go (inl low) = low
+      go (inr high) = absurd (counted_in n 0 c (omega arith) (omega arith) (subst (AllByRecursion (λ x. x ≡ c → ⊥)) opened (unopened c tape (headline.no_marks c high))))
+
+  -- there are as many causes as connections that are opened
+  pub as_many_causes : length causes ≡ n
+  as_many_causes = go (cases_lt (length causes) n) (cases_lt n (length causes))
+    where
+      go : (length causes < n) ⊎ (n ≤ length causes) → (n < length causes) ⊎ (length causes ≤ n) → length causes ≡ n
+      go (inl low) other = let more = opened_ended (length causes) low in absurd (let f : ⊥ = omega (arith, more) in f)
+      go (inr one) (inl high) = let more = ended_opened n high in absurd (let f : ⊥ = omega (arith, more) in f)
+      go (inr one) (inr two) = omega (arith, one, two)
