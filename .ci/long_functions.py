@@ -11,7 +11,9 @@ for name in sys.stdin.read().split():
         if not head:
             continue
         indent = head.group(1)
-        body = next((k for k in range(start, len(lines)) if lines[k].rstrip() == indent + "{" or lines[k].endswith(" {")), None)
+        # a record of a contract may stand in several lines, and opens no body
+        opens = lambda it: it.rstrip() == indent + "{" or it.endswith(" {") and not it.endswith("record {")
+        body = next((k for k in range(start, len(lines)) if opens(lines[k])), None)
         if body is None:
             continue
         end = next((k for k in range(body, len(lines)) if lines[k].rstrip() == indent + "}"), body)
