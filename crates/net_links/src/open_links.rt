@@ -25,9 +25,9 @@ pub(crate) struct OpenLinks {
     /// By the lowest bits of a link's number, the place at which the last one of these was found.
     found: Vec<usize>,
     pool: Pool,
-    /// The numbers of those of which something is to be told; a link that was closed may stand here still.
+    /// The numbers of those of which something is to be told, each once; there is room for all.
     ready: VecDeque<u32>,
-    /// The numbers of those whose output is to be sent before the loop waits; a link that was closed may stand here still.
+    /// The numbers of those whose output is to be sent before the loop waits, each once; there is room for all.
     unsent: Vec<u32>,
     /// How many bytes were read and written since events were looked for.
     moved: usize,
@@ -118,7 +118,7 @@ impl OpenLinks {
         self.moved = 0;
     }
 
-    /// Takes bytes off the front of `bytes`, to be sent on a link before the loop waits, or at once where there is no room to note the link.
+    /// Takes bytes off the front of `bytes`, to be sent on a link before the loop waits, or at once where the link can't be noted.
     pub(crate) fn write(&mut self, c: u32, bytes: &[u8]) -> Taken
         ensures within { MovesWithin (length bytes.now) result }
         ensures no_end { result ≢ End }
@@ -131,21 +131,27 @@ impl OpenLinks {
         if let Taken::Bytes(count) = taken {
             self.moved = self.moved.saturating_add(count);
         }
+        note_unsent(&mut self.unsent, link);
         if link.has_output() && !link.unsent {
-            link.unsent = self.unsent.push(c).is_ok();
-            if !link.unsent {
-                link.flush(&mut self.pool);
-                list(&mut self.ready, link);
-            }
+            link.flush(&mut self.pool);
+            list(&mut self.ready, link);
         }
         taken
     }
 
     /// A link isn't open any more. What the socket takes at once of its output is sent.
     pub(crate) fn close(&mut self, c: u32) {
-        if let Some(at) = self.place_of(c) {
-            self.links.remove(at).close(&mut self.pool);
+        let Some(at) = self.place_of(c) else {
+            return;
+        };
+        let link = self.links.remove(at);
+        if link.listed {
+            self.ready.retain(|number| *number != c);
         }
+        if link.unsent {
+            self.unsent.retain(|number| *number != c);
+        }
+        link.close(&mut self.pool);
     }
 
     /// Sends the output that waits, as far as the sockets take it at once.
@@ -214,9 +220,18 @@ fn slot_of(c: u32) -> usize {
     c as usize % MOST_CONNECTIONS
 }
 
-/// Lists a link of which something is to be told, where it isn't listed yet. There is room for each link once.
+/// Lists a link of which something is to be told, where it isn't listed yet. It takes no memory: there is room for each link once.
 fn list(ready: &mut VecDeque<u32>, link: &mut SocketLink) {
-    if link.is_due() && !link.listed {
-        link.listed = ready.push_back(link.number()).is_ok();
+    if link.is_due() && !link.listed && ready.len() < ready.capacity() {
+        ready.push_back_reserved(link.number());
+        link.listed = true;
+    }
+}
+
+/// Notes a link whose output is to be sent, where it isn't noted yet. It takes no memory: there is room for each link once.
+fn note_unsent(unsent: &mut Vec<u32>, link: &mut SocketLink) {
+    if link.has_output() && !link.unsent && unsent.len() < unsent.capacity() {
+        unsent.push_reserved(link.number());
+        link.unsent = true;
     }
 }
