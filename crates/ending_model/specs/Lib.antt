@@ -1,0 +1,2 @@
+pub mod DecidedEnds
+pub mod Failing
