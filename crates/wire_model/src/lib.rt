@@ -5,7 +5,8 @@
 //! A protocol has decoders of its own for field headers, numbers, texts and container headers, the spellings of these with
 //! their first faults, and what it writes of them ([`WireProtocol`]). From these parts the files of `specs/` make the reading
 //! of a whole value with its first fault, the spellings of a value, and the bytes that are written for it. A protocol proves
-//! of its parts alone that they agree (`IsProtocol`, in `parts_agree`); the laws then say it of every value.
+//! of its parts alone that they agree (`IsProtocol`, in `parts_agree`); the laws then say it of every value. A protocol whose
+//! parts are read at places of bytes, without memory, and whose values are passed over there, is a [`Wire`].
 //!
 //! A crate that reads says in its contract what it answers, and gets the rest by citing a law:
 //!
@@ -23,6 +24,8 @@
 #![tactic(auto)]
 
 pub mod laws;
+mod one_pass;
 mod protocol;
 
+pub use one_pass::{FieldHead, Wire};
 pub use protocol::WireProtocol;
