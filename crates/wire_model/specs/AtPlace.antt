@@ -1,13 +1,11 @@
 -- Parts of a value that are read at a place of bytes, and values that are passed over there.
-use Rattle.std.specs.Prelude.{◌≡◌, ⊤, ℕ, ◌&&◌, Bool, true, false, List, drop, Some, None, is_some, Result, Ok, Err}
-use Rattle.thrift_value.specs.declared.tag.Tag.{Tag}
-use Rattle.thrift_value.specs.declared.tag.Tag.TheVariants as tags
+use Rattle.std.specs.Prelude.{◌≡◌, ⊤, ℕ, ◌&&◌, Bool, List, drop, Some, None, is_some, Result, Ok, Err}
 use Rattle.thrift_value.specs.declared.wire_fault.WireFault.{WireFault}
 use Rattle.wire_model.specs.declared.one_pass.FieldHead.{FieldHead}
 use Rattle.wire_model.specs.declared.one_pass.FieldHead.TheVariants.{Stop, Field}
 use Rattle.wire_model.specs.Answering.{FaultsExactly}
 use Rattle.wire_model.specs.Decoder.{Unread}
-use Rattle.wire_model.specs.Wire.{FieldHeader, stop, typed, flagged}
+use Rattle.wire_model.specs.Wire.{FieldHeader, stop, typed, flagged, is_bool_tag}
 
 -- what is left from a place on, where so many values may still come
 abbrev pub left_at : List ℕ → ℕ → ℕ → Unread
@@ -24,11 +22,6 @@ abbrev pub head_of : FieldHead → FieldHeader
 head_of Stop = stop
 head_of (Field id tag None) = typed id tag
 head_of (Field id tag (Some flag)) = flagged id flag
-
--- whether this is the tag of bools
-abbrev pub is_bool_tag : Tag → Bool
-is_bool_tag tags.Bool = true
-is_bool_tag _ = false
 
 -- a field's head has a value exactly where it is a bool's, and bool fields have their values in their headers
 abbrev pub HasFlag : Bool → FieldHead → Type 0

@@ -1,5 +1,5 @@
 -- What a protocol reads by itself: the parts of a value that hold no other values.
-use Rattle.std.specs.Prelude.{⊤, ℕ, ℤ, Bool, List}
+use Rattle.std.specs.Prelude.{⊤, ℕ, ℤ, Bool, true, false, List}
 use Rattle.thrift_value.specs.declared.tag.Tag.{Tag}
 use Rattle.thrift_value.specs.declared.tag.Tag.TheVariants as tags
 use Rattle.thrift_value.specs.Tree.{Tree}
@@ -28,3 +28,8 @@ IsScalar tags.Map = ⊥
 IsScalar tags.Set = ⊥
 IsScalar tags.List = ⊥
 IsScalar _ = ⊤
+
+-- whether this is the tag of bools
+abbrev pub is_bool_tag : Tag → Bool
+is_bool_tag tags.Bool = true
+is_bool_tag _ = false
