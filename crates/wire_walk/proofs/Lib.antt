@@ -2,3 +2,4 @@ pub mod Faults
 pub mod Lists
 pub mod Opened
 pub mod Written
+pub mod PassedOver

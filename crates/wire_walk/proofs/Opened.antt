@@ -13,7 +13,7 @@ use Rattle.wire_model.specs.Wire.{Wire}
 use Rattle.wire_walk.proofs.Faults.{fails_on, fails_same, on_ok}
 
 -- how the values below a level are read, if one more may be opened
-unfoldable below : Wire → ℕ → Tag → Decoder Tree
+unfoldable pub below : Wire → ℕ → Tag → Decoder Tree
 below wire zero tag = fail TooDeep
 below wire (suc levels) tag = value wire levels tag
 
@@ -129,3 +129,9 @@ pub scalar_is : (wire : Wire) (levels : ℕ) (tag : Tag) (rest behind : Unread) 
     → wire.scalar tag behind ≡ value wire levels tag rest
 scalar_is wire levels tag rest behind one a b c d e =
     scalar_part wire levels (below wire levels) tag behind a b c d e ∙ sym (counted wire levels tag rest behind one)
+
+-- a value is counted first
+pub counted_first : (wire : Wire) (levels : ℕ) (tag : Tag) (rest : Unread)
+    → value wire levels tag rest ≡ go_on (count_value rest) (λ (_ : ⊤). parts wire levels (below wire levels) tag)
+unfolding layer
+counted_first wire levels tag rest = value_is wire levels tag rest

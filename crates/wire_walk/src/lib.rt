@@ -20,6 +20,7 @@
 mod codec;
 mod header;
 mod input;
+mod passing;
 mod reading;
 mod structs;
 mod writing;
@@ -27,6 +28,7 @@ mod writing;
 pub use codec::Codec;
 pub use header::Header;
 pub use input::Input;
+pub use passing::skip;
 pub use reading::read;
 pub use structs::{read_struct, write_struct};
 pub use writing::put;

@@ -57,7 +57,7 @@ pub fn read<'a, C: Codec>(
 }
 
 /// One level less, if there is one.
-fn deeper(levels: u32) -> Result<u32, WireFault>
+pub(crate) fn deeper(levels: u32) -> Result<u32, WireFault>
     ensures { MatchResult result (λ n. levels ≡ suc n) (λ fault. (levels ≡ 0) × (fault ≡ WireFault.TooDeep)) }
 {
     if levels == 0 {
