@@ -3,3 +3,4 @@ pub mod Lists
 pub mod Opened
 pub mod Written
 pub mod PassedOver
+pub mod AtPlaces

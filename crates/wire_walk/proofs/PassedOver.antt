@@ -4,7 +4,7 @@ use Rattle.std.proofs.Common.{◌≡◌, ℕ, suc, ℤ, pos, Bool, length, Resul
 use Rattle.thrift_value.specs.declared.tag.Tag.{Tag}
 use Rattle.thrift_value.specs.declared.wire_fault.WireFault.{WireFault}
 use Rattle.thrift_value.specs.declared.wire_fault.WireFault.TheVariants.{Short, BadType, BadSize, LongVarint, FieldRange, TooDeep, TooMany, NoMemory}
-use Rattle.thrift_value.specs.Tree.{Tree, of_bool, FieldTrees, field, ItemTrees, item, PairTrees, pair}
+use Rattle.thrift_value.specs.Tree.{Tree, of_bool, FieldTrees, field, item, PairTrees, pair}
 use Rattle.wire_model.specs.Answering.{FaultsExactly, AnswersExactly}
 use Rattle.wire_model.specs.AtPlace.{passed_over}
 use Rattle.wire_model.specs.Decoder.{Unread, go_on, give, count_value}

@@ -39,6 +39,13 @@ impl<'a> Input<'a> {
         self.bytes
     }
 
+    /// How many more values may come.
+    pub(crate) fn budget(&self) -> u32
+        ensures { result ≡ self.now.budget }
+    {
+        self.budget
+    }
+
     /// These bytes in place of those that are left; as many values may come.
     pub fn with_bytes(self, bytes: &'a [u8]) -> Input<'a>
         ensures { result ≡ record { bytes = bytes.now; budget = self.entry.budget } }
