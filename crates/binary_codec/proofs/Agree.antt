@@ -1,12 +1,13 @@
 -- The parts together.
-use Rattle.std.specs.Prelude.{ℤ, FitsSigned}
-use Rattle.std.specs.Int.{w16}
-use Rattle.std.proofs.Common.{◌≡◌, ◌++◌, Ok, refl, subst}
+use Rattle.std.specs.Prelude.{ℕ, ℤ, FitsSigned}
+use Rattle.std.specs.Int.{w16, w32}
+use Rattle.std.proofs.Common.{◌≡◌, ◌++◌, List, length, Ok, refl, subst}
 use Rattle.thrift_value.specs.declared.tag.Tag.{Tag}
 use Rattle.thrift_value.specs.Tags.{tag_of}
 use Rattle.thrift_value.specs.Tree.{Tree, of_bool}
-use Rattle.wire_model.specs.Wire.{IsScalar}
-use Rattle.wire_model.specs.Protocol.{DecodesPart, IsProtocol}
+use Rattle.wire_model.specs.Wire.{FieldHeader, stop, typed, flagged, IsScalar}
+use Rattle.wire_num.specs.Fixed.{unsigned_bytes}
+use Rattle.wire_model.specs.Protocol.{DecodesPart, IsFlaggedBy, IsProtocol}
 use Rattle.wire_model.specs.Encoder.{heading}
 use Rattle.binary_codec.specs.Faults.{HasHeaderFault, HasScalarFault, HasSizeFault, HasItemsFault, HasPairsFault}
 use Rattle.binary_codec.specs.Reading.{binary_field, binary_scalar, binary_span, binary_items, binary_pairs, binary}
@@ -17,6 +18,7 @@ use Rattle.binary_codec.proofs.Scalars.{scalar_found, scalar_only, scalar_byte, 
 use Rattle.binary_codec.proofs.Containers.{items_found, items_only, items_byte, items_written, items_range, pairs_found, pairs_only, pairs_byte, pairs_written, pairs_range}
 use Rattle.binary_codec.proofs.FaultTable.{field_fault_found, field_fault_only, scalar_fault_found, scalar_fault_only, span_fault_found, span_fault_only, items_fault_found, items_fault_only, pairs_fault_found, pairs_fault_only}
 use Rattle.binary_codec.proofs.PartsStay.{parts_stay}
+use Rattle.binary_codec.proofs.PartsUncounted.{parts_uncounted}
 use Rattle.binary_codec.proofs.ShortParts.{field_mends, scalar_mends, span_mends, items_mends, pairs_mends}
 
 field_decodes : (last : ℤ) → DecodesPart (binary_field last) (IsHeader last) (λ _. 0) HasHeaderFault
@@ -73,16 +75,23 @@ header_written : (last id : ℤ) (x : Tree) → FitsSigned w16 id → IsHeader l
 header_written last id (of_bool b) fits = (fits, refl)
 header_written last id x fits = (fits, refl)
 
+header_flag : (last : ℤ) (header : FieldHeader) (text : List ℕ) → IsHeader last header text → IsFlaggedBy binary_encoder.flags header
+header_flag last stop text h = tt
+header_flag last (typed id tag) text h = refl
+header_flag last (flagged id flag) text h = absurd h
+
 pub leaves_agree : IsProtocol binary binary_format binary_encoder
 leaves_agree = record {
   field = λ last fits. field_decodes last;
   id = λ last id tag text h. h.0;
   flagged_id = λ last id flag text h. absurd h;
+  header_flag = header_flag;
   scalar = scalar_decodes;
   span = span_decodes;
   items = items_decodes;
   pairs = pairs_decodes;
   stays = parts_stay;
+  uncounted = parts_uncounted;
   stop_written = λ last. refl;
   header_written = λ last id x last_fits fits. header_written last id x fits;
   scalar_written = scalar_written;
@@ -91,6 +100,7 @@ leaves_agree = record {
   pairs_written = pairs_written;
   scalar_range = λ x text is h. scalar_range x text h;
   span_range = λ bytes text h. (h.size, h.each);
+  span_end = λ bytes text h. (unsigned_bytes w32 (length bytes), h.whole);
   items_range = items_range;
   pairs_range = pairs_range;
 }

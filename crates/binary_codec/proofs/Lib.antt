@@ -6,4 +6,5 @@ pub mod Containers
 pub mod FaultTable
 pub mod PartsStay
 pub mod ShortParts
+pub mod PartsUncounted
 pub mod Agree

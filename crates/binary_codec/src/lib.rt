@@ -16,8 +16,10 @@ mod codec;
 mod codes;
 pub mod examples;
 mod numbers;
+mod places;
 mod protocol;
 mod structs;
 
+pub use places::BinaryWire;
 pub use protocol::Binary;
 pub use structs::{read_struct, write_struct};

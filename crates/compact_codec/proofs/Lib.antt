@@ -6,4 +6,5 @@ pub mod FieldHeaders
 pub mod Containers
 pub mod FaultTable
 pub mod ShortParts
+pub mod PartsUncounted
 pub mod Agree

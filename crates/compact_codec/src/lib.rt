@@ -17,8 +17,10 @@ mod codes;
 pub mod examples;
 mod headers;
 mod numbers;
+mod places;
 mod protocol;
 mod structs;
 
+pub use places::CompactWire;
 pub use protocol::Compact;
 pub use structs::{read_struct, write_struct};
