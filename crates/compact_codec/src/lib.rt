@@ -9,6 +9,9 @@
 //! if result.tag() == Tag::Struct && result.is_tidy() && result.has_small_sizes() && result.depth() <= 64 {
 //!     write_struct(&result, &mut reply)?;
 //! }
+//! // A part at a place, and the place behind a value that isn't wanted; neither takes memory.
+//! let (head, behind) = CompactWire::field(payload, at, last)?;
+//! let behind = CompactWire::skip(payload, behind, tag, level, &mut count)?;
 //! ```
 #![tactic(auto)]
 

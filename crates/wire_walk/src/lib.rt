@@ -1,5 +1,5 @@
-//! Reading and writing values: one walk over structs and containers for every protocol of Thrift, for crates that have a
-//! protocol's own parts. It nests, counts values and levels, and keeps the order of faults. It knows no byte of any
+//! Reading and writing values, and passing over them: one walk over structs and containers for every protocol of Thrift, for crates
+//! that have a protocol's own parts. It nests, counts values and levels, and keeps the order of faults. It knows no byte of any
 //! protocol, no message head and no IDL.
 //!
 //! ```
@@ -10,6 +10,9 @@
 //! // A value of a tag, by bounds of the caller's own. Ok of put tells a proof too that each number in it fits its type.
 //! let (value, rest) = read::<Binary>(alloc, Input::new(bytes, 100), 3, Tag::List)?;
 //! put::<Binary>(&value, &mut copy)?;
+//! // What is left behind a value, and the place behind one at a place, without memory.
+//! let rest = skip::<Binary>(rest, 64, Tag::Struct)?;
+//! let behind = skip_at::<Binary>(bytes, at, Tag::Struct, 1, &mut count)?;
 //! ```
 //!
 //! A protocol is a [`Codec`]: how field headers, numbers, texts and container headers are read and written. These readers
