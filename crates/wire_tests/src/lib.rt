@@ -25,6 +25,8 @@ mod notation;
 #[cfg(test)]
 mod numbers;
 #[cfg(test)]
+mod places;
+#[cfg(test)]
 mod projections;
 #[cfg(test)]
 mod struct_vectors;
