@@ -1,18 +1,18 @@
 -- The parts count no value.
-use Rattle.std.specs.Prelude.{ℤ, pos, negsuc, nat_le}
+use Rattle.std.specs.Prelude.{ℤ, pos, negsuc}
 use Rattle.std.specs.Int.{w8, w16, w32, w64}
-use Rattle.std.proofs.Common.{◌≡◌, ℕ, Bool, true, false, cond, eqb, List, length, Option, Some, None, Result, Ok, Err, refl}
+use Rattle.std.proofs.Common.{ℕ, Bool, true, false, cond, eqb, Result}
 use Rattle.wire_num.specs.Decoding.{decode_byte, decode_bytes, decode_unsigned, decode_signed}
 use Rattle.thrift_value.specs.declared.tag.Tag.{Tag}
 use Rattle.thrift_value.specs.declared.tag.Tag.TheVariants as tags
 use Rattle.thrift_value.specs.declared.wire_fault.WireFault.{WireFault}
-use Rattle.thrift_value.specs.declared.wire_fault.WireFault.TheVariants.{Short, BadSize, BadType}
+use Rattle.thrift_value.specs.declared.wire_fault.WireFault.TheVariants.{BadSize}
 use Rattle.thrift_value.specs.Tree.{of_bool, of_i8, of_i16, of_i32, of_i64, of_double}
-use Rattle.wire_model.specs.Decoder.{Unread, ◌>>=◌, give, fail}
+use Rattle.wire_model.specs.Decoder.{Unread, ◌>>=◌, give}
 use Rattle.wire_model.specs.Wire.{FieldHeader, stop, typed, IsScalar}
-use Rattle.wire_model.specs.Protocol.{IsUncounted, recounted, ArePartsUncounted}
+use Rattle.wire_model.specs.Protocol.{IsUncounted, ArePartsUncounted}
 use Rattle.wire_model.proofs.Recounted.{then_uncounted, give_uncounted, fail_uncounted, number_uncounted, tag_uncounted_if, room_uncounted}
-use Rattle.wire_model.specs.Pieces.{byte, some_bytes, within_room, tag_or_fault}
+use Rattle.wire_model.specs.Pieces.{byte, some_bytes, within_room}
 use Rattle.binary_codec.specs.Codes.{tag_of_code}
 use Rattle.binary_codec.specs.Reading.{unsigned, signed, tag_coded, header_coded, binary_field, binary_scalar, unsigned_size, binary_size, binary_span, items_coded, pairs_coded, binary_items, binary_pairs, binary}
 
