@@ -78,25 +78,62 @@ fn structs_of_apache_are_passed_over(rt: HostRuntime) {
     }
 }
 
-/// What stands before a field, and the place behind that: no field, or its id, tag and flag.
-type Head = (Option<(i16, Tag, Option<bool>)>, usize);
+/// What was found before a field, and the place behind that.
+type Head = Result<(FieldHead, usize), WireFault>;
 
-fn head<W: Wire>(bytes: &[u8], last: i16) -> Result<Head, WireFault> {
-    let (found, behind) = W::field(bytes, 0, last)?;
-    Ok(match found {
-        FieldHead::Stop => (None, behind),
-        FieldHead::Field { id, tag, flag } => (Some((id, tag, flag)), behind),
-    })
+// Whether the head of such a field was read, up to this place.
+fn is_field(read: Head, wanted: (i16, Tag, Option<bool>), place: usize) -> bool {
+    match read {
+        Ok((FieldHead::Field { id, tag, flag }, behind)) => {
+            id == wanted.0 && tag == wanted.1 && flag == wanted.2 && behind == place
+        }
+        _ => false,
+    }
 }
 
-fn are_heads_read() -> bool {
-    head::<BinaryWire>(b"\x02\0\x07\x01", 6) == Ok((Some((7, Tag::Bool, None)), 3))
-        && head::<BinaryWire>(b"\0", 6) == Ok((None, 1))
-        && head::<BinaryWire>(b"\x02\0", 6) == Err(Short)
-        && head::<CompactWire>(b"\x11", 6) == Ok((Some((7, Tag::Bool, Some(true))), 1))
-        && head::<CompactWire>(b"\x02\x0e", 6) == Ok((Some((7, Tag::Bool, Some(false))), 2))
-        && head::<CompactWire>(b"\x23\x01", 6) == Ok((Some((8, Tag::I8, None)), 1))
-        && head::<CompactWire>(b"\x1d", 6) == Err(BadType(13))
+// Whether the end of a struct was read, up to this place.
+fn is_stop(read: Head, place: usize) -> bool {
+    match read {
+        Ok((FieldHead::Stop, behind)) => behind == place,
+        _ => false,
+    }
+}
+
+// Whether this fault was found in place of a head.
+fn is_refused(read: Head, fault: WireFault) -> bool {
+    match read {
+        Ok(_) => false,
+        Err(found) => found == fault,
+    }
+}
+
+#[test]
+fn heads_are_read_at_their_places(rt: HostRuntime) {
+    assert!(rt;
+        is_field(
+            BinaryWire::field(b".\x02\0\x07\x01", 1, 6),
+            (7, Tag::Bool, None),
+            4
+        )
+    );
+    assert!(rt; is_stop(BinaryWire::field(b".\0", 1, 6), 2));
+    assert!(rt; is_refused(BinaryWire::field(b"\x02\0", 0, 6), Short));
+    assert!(rt;
+        is_field(
+            CompactWire::field(b".\x11", 1, 6),
+            (7, Tag::Bool, Some(true)),
+            2
+        )
+    );
+    assert!(rt;
+        is_field(
+            CompactWire::field(b"\x02\x0e", 0, 6),
+            (7, Tag::Bool, Some(false)),
+            2
+        )
+    );
+    assert!(rt; is_field(CompactWire::field(b"\x23\x01", 0, 6), (8, Tag::I8, None), 1));
+    assert!(rt; is_refused(CompactWire::field(b"\x1d", 0, 6), BadType(13)));
 }
 
 fn are_headers_read() -> bool {
@@ -128,7 +165,6 @@ fn is_number(read: Result<(Value, usize), WireFault>, number: i32, place: usize)
 
 #[test]
 fn parts_are_read_at_their_places(rt: HostRuntime) {
-    assert!(rt; are_heads_read());
     assert!(rt; are_headers_read());
     assert!(rt; are_texts_read());
     assert!(rt; is_number(BinaryWire::scalar(b".\xff\xff\xff\xfd", 1, Tag::I32), -3, 5));
