@@ -1,0 +1,5 @@
+pub mod Values
+pub mod FoundIn
+pub mod Likenesses
+pub mod ReadFields
+pub mod ReadValues

@@ -1,0 +1,7 @@
+pub mod InOrder
+pub mod Likeness
+pub mod NamedThings
+pub mod StructPairs
+pub mod Faults
+pub mod Breaks
+pub mod KeptValues
