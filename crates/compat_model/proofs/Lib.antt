@@ -3,3 +3,8 @@ pub mod FoundIn
 pub mod Likenesses
 pub mod ReadFields
 pub mod ReadValues
+pub mod OwnValues
+pub mod Standing
+pub mod Reached
+pub mod OneBreak
+pub mod SteadyRounds

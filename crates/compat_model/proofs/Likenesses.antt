@@ -1,6 +1,6 @@
 -- Values of a type, under a type that is like it.
-use Rattle.std.proofs.Common.{◌≡◌, ℕ, Bool, true, false, List, Ordering, Equal, refl, sym, ap, ap₂, ◌∙◌}
-use Rattle.std.specs.Prelude.{⊤, ◌&&◌}
+use Rattle.std.proofs.Common.{◌≡◌, ℕ, true, List, Equal, refl, sym, ap, ap₂, ◌∙◌}
+use Rattle.std.specs.Prelude.{◌&&◌}
 use Rattle.std.specs.Ordering.{ordering_then}
 use Rattle.std.proofs.lemmas.Bool.{false≢true, and_from, and_parts}
 use Rattle.std.proofs.lemmas.Cmp.{tied_itself}

@@ -1,31 +1,29 @@
 -- The fields of a struct that was written, as another struct reads them.
-use Rattle.std.proofs.Common.{◌≡◌, ℕ, zero, suc, ◌+◌, ℤ, ◌<ℤ◌, Bool, true, false, true≢false, cond, List, [], ◌∷◌, length, Option, Some, None, Result, Ok, Err, refl, sym, ap, ap₂, subst, ◌∙◌, arith}
-use Rattle.std.specs.Prelude.{⊤, MatchOption, ◌&&◌, ◌==◌, not, is_some, All}
+use Rattle.std.proofs.Common.{◌≡◌, ℕ, suc, ℤ, Bool, true, false, cond, List, [], ◌∷◌, length, Option, Some, None, Ok, Err, refl, sym, ap, ap₂, subst, ◌∙◌}
+use Rattle.std.specs.Prelude.{⊤, MatchOption, ◌&&◌, ◌==◌, not, is_some}
 use Rattle.std.specs.Ordering.{int_eq}
-use Rattle.std.proofs.lemmas.Bool.{false≢true, and_from}
+use Rattle.std.proofs.lemmas.Bool.{false≢true}
 use Rattle.thrift_value.specs.Plain.{plain, plain_fields}
 use Rattle.thrift_value.specs.Tidy.{IsBelowIds, AreRisingFields}
 use Rattle.thrift_value.specs.Tree.{Tree, of_struct, FieldTrees, no_fields, field}
 use Rattle.thrift_value.specs.TreeOf.{field_trees}
 use Rattle.schema.specs.declared.types.FieldNeed.TheVariants as need
 use Rattle.schema.specs.declared.types.FieldsKind.{FieldsKind}
-use Rattle.schema.specs.declared.types.FieldsKind.TheVariants.{Union}
 use Rattle.schema.specs.PlainKind.{PlainKind}
 use Rattle.schema.specs.PlainSchema.{PlainField, PlainStruct}
-use Rattle.schema.specs.WrittenAs.{field_with_id, HasFieldTree, HasItsFields, IsOneField}
-use Rattle.struct_skew.specs.declared.fault.SkewFault.{SkewFault}
+use Rattle.schema.specs.WrittenAs.{field_with_id, HasFieldTree}
 use Rattle.struct_skew.specs.declared.fault.SkewFault.TheVariants.{Missing, UnionFields}
 use Rattle.struct_skew.specs.Fits.{fits_kind}
 use Rattle.struct_skew.specs.Offers.{Offer, last_offer, last_offer_behind}
 use Rattle.struct_skew.specs.Projection.{is_required, is_union, counted_default, unsent_value, field_value, field_values, checked_struct, struct_value, meaning_of, offers_of}
 use Rattle.struct_skew.specs.Results.{with_value, and_if_ok, with_field_value}
 use Rattle.struct_skew.specs.Unions.{one_of_union}
-use Rattle.struct_skew.proofs.Deciding.{required_need, union_kind}
-use Rattle.struct_skew.proofs.Each.{Each, from_all}
+use Rattle.struct_skew.proofs.Deciding.{required_need}
+use Rattle.struct_skew.proofs.Each.{Each}
 use Rattle.struct_skew.proofs.FieldValues.{checked_alike}
 use Rattle.struct_skew.proofs.Rightness.{IsBelowDeclared, AreRisingDeclared, each_found}
 use Rattle.compat_model.specs.KeptValues.{value_under_id, IsKeptUnder, AreFieldsKeptUnder}
-use Rattle.compat_model.proofs.Values.{same_id, other_id, id_itself, ids_turned, low_id, high_id, no_value, has_value, AreAmong, among_themselves}
+use Rattle.compat_model.proofs.Values.{same_id, ids_turned, low_id, no_value, has_value, AreAmong, among_themselves}
 
 -- what is read of a value under a type
 pub record Reading (structs : List PlainStruct) (Strict : Type 0) (kind : PlainKind) (v : Tree) : Type 0 where
@@ -48,21 +46,20 @@ AreRead structs Strict declared (field id v more) =
 read_under : (structs : List PlainStruct) (Strict : Type 0) (declared : List PlainField) (g : PlainField) (v : Tree) (fields : FieldTrees)
     → field_with_id g.id declared ≡ Some g → value_under_id g.id fields ≡ Some v → AreRead structs Strict declared fields → FieldReading structs Strict g.kind v
 read_under structs Strict declared g v no_fields finds there read = absurd cc
-read_under structs Strict declared g v (field id u more) finds there read = by_test (int_eq id g.id) refl
+read_under structs Strict declared g v (field id u more) finds there read = by_test (int_eq id g.id) refl (λ behind. read_under structs Strict declared g v more finds behind read.1)
   where
-    by_test : (b : Bool) → int_eq id g.id ≡ b → FieldReading structs Strict g.kind v
-    by_test true e =
+    by_test : (b : Bool) → int_eq id g.id ≡ b → (value_under_id g.id more ≡ Some v → FieldReading structs Strict g.kind v) → FieldReading structs Strict g.kind v
+    by_test true e rest =
         let some : Some u ≡ Some v = sym (ap (λ t. cond t (Some u) (value_under_id g.id more)) e) ∙ there in
         let same : u ≡ v = cc in
         let found : field_with_id id declared ≡ Some g = ap (λ i. field_with_id i declared) (same_id id g.id e) ∙ finds in
         subst (FieldReading structs Strict g.kind) same (subst (λ o. MatchOption o ⊤ (λ (f : PlainField). FieldReading structs Strict f.kind u)) found read.0)
-    by_test false e =
-        read_under structs Strict declared g v more finds (sym (ap (λ t. cond t (Some u) (value_under_id g.id more)) e) ∙ there) read.1
+    by_test false e rest = rest (sym (ap (λ t. cond t (Some u) (value_under_id g.id more)) e) ∙ there)
 
 -- how many declared fields were sent
-abbrev sent_of : List PlainField → FieldTrees → ℕ
-sent_of [] fields = 0
-sent_of (f ∷ fs) fields = cond (is_some (value_under_id f.id fields)) 1 0 + sent_of fs fields
+abbrev pub sent_of : List PlainField → FieldTrees → ℕ
+sent_of [] sent = 0
+sent_of (f ∷ fs) sent = cond (is_some (value_under_id f.id sent)) (suc (sent_of fs sent)) (sent_of fs sent)
 
 module _ (structs : List PlainStruct) (g : PlainField) where
   abbrev plain_offer : ℤ → Tree → Offer
@@ -78,22 +75,25 @@ module _ (structs : List PlainStruct) (g : PlainField) where
   -- what isn't there isn't offered
   not_offered : (before : Option Offer) (fields : FieldTrees) → value_under_id g.id fields ≡ None → last_behind before fields ≡ before
   not_offered before no_fields none = refl
-  not_offered before (field id v more) none = by_test (int_eq id g.id) refl
+  not_offered before (field id v more) none = by_test (int_eq id g.id) refl (not_offered before more)
     where
-      by_test : (b : Bool) → int_eq id g.id ≡ b → last_behind before (field id v more) ≡ before
-      by_test true e = let some : Some v ≡ None = sym (ap (λ t. cond t (Some v) (value_under_id g.id more)) e) ∙ none in absurd cc
-      by_test false e =
+      by_test : (b : Bool) → int_eq id g.id ≡ b → (value_under_id g.id more ≡ None → last_behind before more ≡ before) → last_behind before (field id v more) ≡ before
+      by_test true e rest = let some : Some v ≡ None = sym (ap (λ t. cond t (Some v) (value_under_id g.id more)) e) ∙ none in absurd cc
+      by_test false e rest =
           ap (λ b. behind_one b (fits_kind g.kind (plain v)) before id v more) (ids_turned id g.id false e)
-          ∙ not_offered before more (sym (ap (λ t. cond t (Some v) (value_under_id g.id more)) e) ∙ none)
+          ∙ rest (sym (ap (λ t. cond t (Some v) (value_under_id g.id more)) e) ∙ none)
 
   -- what is there, and fits, is offered
   is_offered : (which : ℕ) (kind : FieldsKind) (before : Option Offer) (fields : FieldTrees) (v : Tree) → AreRisingFields fields → value_under_id g.id fields ≡ Some v
       → fits_kind g.kind (plain v) ≡ true → field_value which kind g (last_behind before fields) ≡ with_value Some (meaning_of structs (plain v) g.kind)
   is_offered which kind before no_fields v rising there fits = absurd cc
-  is_offered which kind before (field id u more) v rising there fits = by_test (int_eq id g.id) refl
+  is_offered which kind before (field id u more) v rising there fits =
+      by_test (int_eq id g.id) refl (λ behind. is_offered which kind before more v rising.1 behind fits)
     where
-      by_test : (b : Bool) → int_eq id g.id ≡ b → field_value which kind g (last_behind before (field id u more)) ≡ with_value Some (meaning_of structs (plain v) g.kind)
-      by_test true e =
+      by_test : (b : Bool) → int_eq id g.id ≡ b
+          → (value_under_id g.id more ≡ Some v → field_value which kind g (last_behind before more) ≡ with_value Some (meaning_of structs (plain v) g.kind))
+          → field_value which kind g (last_behind before (field id u more)) ≡ with_value Some (meaning_of structs (plain v) g.kind)
+      by_test true e rest =
           let some : Some u ≡ Some v = sym (ap (λ t. cond t (Some u) (value_under_id g.id more)) e) ∙ there in
           let same : u ≡ v = cc in
           let fit : fits_kind g.kind (plain u) ≡ true = ap (λ x. fits_kind g.kind (plain x)) same ∙ fits in
@@ -102,9 +102,9 @@ module _ (structs : List PlainStruct) (g : PlainField) where
           ∙ ap (λ b. field_value which kind g (behind_one true b before id u more)) fit
           ∙ ap (field_value which kind g) (not_offered (Some (plain_offer id u)) more none)
           ∙ ap (λ x. with_value Some (meaning_of structs (plain x) g.kind)) same
-      by_test false e =
+      by_test false e rest =
           ap (λ b. field_value which kind g (behind_one b (fits_kind g.kind (plain u)) before id u more)) (ids_turned id g.id false e)
-          ∙ is_offered which kind before more v rising.1 (sym (ap (λ t. cond t (Some u) (value_under_id g.id more)) e) ∙ there) fits
+          ∙ rest (sym (ap (λ t. cond t (Some u) (value_under_id g.id more)) e) ∙ there)
 
 -- a struct's declared fields, each of which has to be there only where it is
 module _ (structs : List PlainStruct) (Strict : Type 0) (which : ℕ) (e : PlainStruct) (declared_rise : AreRisingDeclared e.fields) (fields : FieldTrees) (rising : AreRisingFields fields)
@@ -181,7 +181,7 @@ module _ (structs : List PlainStruct) (Strict : Type 0) (which : ℕ) (e : Plain
         found = rest.found;
         are = ap₂ (with_field_value f.id) (one.is ∙ ap Ok is) rest.are;
         kept = λ id g v finds there strict. by_test id g v finds there strict (int_eq f.id id) refl;
-        count = λ union. rest.count union ∙ ap (λ b. cond b 1 0 + sent_of fs fields) (sym (ap is_some is) ∙ one.counts union);
+        count = λ union. rest.count union ∙ ap (λ b. cond b (suc (sent_of fs fields)) (sent_of fs fields)) (sym (ap is_some is) ∙ one.counts union);
       }
         where
           by_test : (id : ℤ) (g : PlainField) (v : Tree) → field_with_id id (f ∷ fs) ≡ Some g → value_under_id id fields ≡ Some v → Strict → (b : Bool) → int_eq f.id id ≡ b
@@ -193,7 +193,7 @@ module _ (structs : List PlainStruct) (Strict : Type 0) (which : ℕ) (e : Plain
         found = (f.id, w) ∷ rest.found;
         are = ap₂ (with_field_value f.id) (one.is ∙ ap Ok is) rest.are;
         kept = λ id g v finds there strict. by_test id g v finds there strict (int_eq f.id id) refl;
-        count = λ union. ap suc (rest.count union) ∙ ap (λ b. cond b 1 0 + sent_of fs fields) (sym (ap is_some is) ∙ one.counts union);
+        count = λ union. ap suc (rest.count union) ∙ ap (λ b. cond b (suc (sent_of fs fields)) (sent_of fs fields)) (sym (ap is_some is) ∙ one.counts union);
       }
         where
           by_test : (id : ℤ) (g : PlainField) (v : Tree) → field_with_id id (f ∷ fs) ≡ Some g → value_under_id id fields ≡ Some v → Strict → (b : Bool) → int_eq f.id id ≡ b
@@ -249,16 +249,16 @@ module _ (structs : List PlainStruct) (Strict : Type 0) (which : ℕ) (e : Plain
 none_sent : (id : ℤ) (v : Tree) (fs : List PlainField) → IsBelowDeclared id fs → sent_of fs (field id v no_fields) ≡ 0
 none_sent id v [] below = refl
 none_sent id v (f ∷ fs) below =
-    ap (λ b. cond (is_some (cond b (Some v) None)) 1 0 + sent_of fs (field id v no_fields)) (low_id id f.id below.0) ∙ none_sent id v fs below.1
+    ap (λ b. cond (is_some (cond b (Some v) None)) (suc (sent_of fs (field id v no_fields))) (sent_of fs (field id v no_fields))) (low_id id f.id below.0) ∙ none_sent id v fs below.1
 
 pub one_sent : (id : ℤ) (v : Tree) (fs : List PlainField) → AreRisingDeclared fs → is_some (field_with_id id fs) ≡ true → sent_of fs (field id v no_fields) ≡ 1
 one_sent id v [] rising there = absurd (false≢true there)
-one_sent id v (f ∷ fs) rising there = by_test (int_eq f.id id) refl
+one_sent id v (f ∷ fs) rising there = by_test (int_eq f.id id) refl (one_sent id v fs rising.1)
   where
-    by_test : (b : Bool) → int_eq f.id id ≡ b → sent_of (f ∷ fs) (field id v no_fields) ≡ 1
-    by_test true on =
-        ap (λ b. cond (is_some (cond b (Some v) None)) 1 0 + sent_of fs (field id v no_fields)) (ids_turned f.id id true on)
+    by_test : (b : Bool) → int_eq f.id id ≡ b → (is_some (field_with_id id fs) ≡ true → sent_of fs (field id v no_fields) ≡ 1) → sent_of (f ∷ fs) (field id v no_fields) ≡ 1
+    by_test true on rest =
+        ap (λ b. cond (is_some (cond b (Some v) None)) (suc (sent_of fs (field id v no_fields))) (sent_of fs (field id v no_fields))) (ids_turned f.id id true on)
         ∙ ap suc (none_sent id v fs (subst (λ i. IsBelowDeclared i fs) (same_id f.id id on) rising.0))
-    by_test false off =
-        ap (λ b. cond (is_some (cond b (Some v) None)) 1 0 + sent_of fs (field id v no_fields)) (ids_turned f.id id false off)
-        ∙ one_sent id v fs rising.1 (sym (ap (λ b. is_some (cond b (Some f) (field_with_id id fs))) off) ∙ there)
+    by_test false off rest =
+        ap (λ b. cond (is_some (cond b (Some v) None)) (suc (sent_of fs (field id v no_fields))) (sent_of fs (field id v no_fields))) (ids_turned f.id id false off)
+        ∙ rest (sym (ap (λ b. is_some (cond b (Some f) (field_with_id id fs))) off) ∙ there)

@@ -1,5 +1,5 @@
 -- Values that one schema writes and another reads: by one induction, each has a meaning, and is kept.
-use Rattle.std.proofs.Common.{◌≡◌, ℕ, ℤ, Bool, true, false, List, [], ◌∷◌, Option, Some, None, Result, Ok, Err, Ordering, Less, Equal, Greater, refl, sym, ap, ap₂, subst, ◌∙◌}
+use Rattle.std.proofs.Common.{◌≡◌, ℕ, ℤ, true, List, [], ◌∷◌, Option, Some, None, Ok, Less, Equal, refl, sym, ap, ap₂, subst, ◌∙◌}
 use Rattle.std.specs.Prelude.{⊤, All, MatchOption, is_some}
 use Rattle.std.specs.List.{slice_get}
 use Rattle.std.specs.Option.{option_map}
@@ -7,7 +7,7 @@ use Rattle.std.specs.Prelude.{unwrap_or}
 use Rattle.std.proofs.lemmas.Bool.{false≢true}
 use Rattle.std.proofs.lemmas.Cmp.{alike_right}
 use Rattle.thrift_value.specs.declared.tag.Tag.{Tag}
-use Rattle.thrift_value.specs.Order.{tree_cmp, items_cmp, pairs_cmp}
+use Rattle.thrift_value.specs.Order.{tree_cmp, items_cmp}
 use Rattle.thrift_value.specs.Plain.{plain, plain_fields, plain_items, plain_pairs}
 use Rattle.thrift_value.specs.Tidy.{IsTidy, AreTidyFields, AreTidyItems, AreTidyPairs, IsBelowItems, IsBelowKeys, AreRisingFields, AreRisingItems, AreRisingPairs}
 use Rattle.thrift_value.specs.Tree.{Tree, of_bool, of_i8, of_i16, of_i32, of_i64, of_double, of_bytes, of_struct, of_map, of_set, of_list, FieldTrees, no_fields, field, ItemTrees, no_items, item, PairTrees, no_pairs, pair}
@@ -22,15 +22,15 @@ use Rattle.schema.specs.WrittenAs.{field_with_id, HasFieldTree, HasItsFields, Is
 use Rattle.struct_skew.specs.Latest.{latest_of_each, ComesBefore, IsRisingBy}
 use Rattle.struct_skew.specs.Projection.{is_union, struct_value, key_cmp, map_meaning, set_meaning, list_meaning, meaning_of, offers_of, item_meanings, pair_meanings}
 use Rattle.struct_skew.specs.Results.{with_value, both_values, with_first}
-use Rattle.struct_skew.proofs.Each.{Each, from_all}
+use Rattle.struct_skew.proofs.Each.{from_all}
 use Rattle.struct_skew.proofs.LatestLaws.{rising_stay}
 use Rattle.struct_skew.proofs.MeaningsOfKinds.{IsScalar, meaning_of_scalar}
 use Rattle.struct_skew.proofs.Rightness.{AreRisingDeclared, rising_declared}
 use Rattle.struct_skew.proofs.StructsAt.{All-at}
-use Rattle.compat_model.specs.KeptValues.{declared_at, IsKeptUnder, AreFieldsKeptUnder, AreItemsKeptUnder, ArePairsKeptUnder}
+use Rattle.compat_model.specs.KeptValues.{AreFieldsKeptUnder, AreItemsKeptUnder, ArePairsKeptUnder}
 use Rattle.compat_model.specs.Likeness.{has_no_struct}
 use Rattle.compat_model.proofs.FoundIn.{each_at, declared_id}
-use Rattle.compat_model.proofs.Likenesses.{scalar_kept, kept_equal, items_equal, pairs_equal, AreLikeIn, like_fits}
+use Rattle.compat_model.proofs.Likenesses.{scalar_kept, kept_equal, items_equal, AreLikeIn, like_fits}
 use Rattle.compat_model.proofs.ReadFields.{Reading, FieldReading, AreRead, StructReading, struct_read, one_sent, sent_of}
 
 -- elements and pairs as lists
@@ -190,7 +190,7 @@ module _ (s t : PlainSchema) (P : ℕ → ℕ → Type 0) (Strict : Type 0) wher
         → MatchOption o ⊥ (λ (d : PlainStruct). HasItsFields d fields × AreFieldsWrittenAs s.structs d.fields fields)
         → ((d e : PlainStruct) → ReadsStruct d e → AreFieldsWrittenAs s.structs d.fields fields → AreRead t.structs Strict e.fields fields)
         → Read (kind_struct b) (of_struct fields)
-    struct_at_place a b fields is rising None p there here typed read = absurd typed
+    struct_at_place a b held is rising None p there here typed read = absurd typed
     struct_at_place a b fields is rising (Some d) None there here typed read = record {
       value = of_struct no_fields;
       means = ap (λ o. struct_value b o (offers_of t.structs (plain_fields fields))) here;

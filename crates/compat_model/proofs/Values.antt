@@ -1,5 +1,5 @@
 -- The values under ids.
-use Rattle.std.proofs.Common.{◌≡◌, ℤ, ◌<ℤ◌, Bool, true, false, true≢false, cond, Option, Some, None, refl, sym, ap, subst, ◌∙◌, ⊎_elim, arith}
+use Rattle.std.proofs.Common.{◌≡◌, ℤ, ◌<ℤ◌, Bool, true, false, true≢false, cond, Some, None, refl, sym, ap, ◌∙◌, ⊎_elim, arith}
 use Rattle.std.specs.Prelude.{⊤}
 use Rattle.std.specs.Ordering.{int_eq}
 use Rattle.std.proofs.lemmas.Bool.Decides.{Decides-int_eq}
@@ -52,13 +52,13 @@ has_value id (field next value more) there none = by_test (int_eq next id) refl 
 
 -- each of some fields stands among others
 abbrev pub AreAmong : FieldTrees → FieldTrees → Type 0
-AreAmong fields no_fields = ⊤
-AreAmong fields (field id value more) = (value_under_id id fields ≡ Some value) × AreAmong fields more
+AreAmong all no_fields = ⊤
+AreAmong all (field id value more) = (value_under_id id all ≡ Some value) × AreAmong all more
 
-among_more : (first : ℤ) (value : Tree) (fields rest : FieldTrees) → IsBelowIds first rest → AreAmong fields rest → AreAmong (field first value fields) rest
-among_more first value fields no_fields below among = tt
-among_more first value fields (field id v more) below among =
-    (ap (λ b. cond b (Some value) (value_under_id id fields)) (low_id first id below.0) ∙ among.0, among_more first value fields more below.1 among.1)
+among_more : (first : ℤ) (value : Tree) (all rest : FieldTrees) → IsBelowIds first rest → AreAmong all rest → AreAmong (field first value all) rest
+among_more first value all no_fields below among = tt
+among_more first value all (field id v more) below among =
+    (ap (λ b. cond b (Some value) (value_under_id id all)) (low_id first id below.0) ∙ among.0, among_more first value all more below.1 among.1)
 
 pub among_themselves : (fields : FieldTrees) → AreRisingFields fields → AreAmong fields fields
 among_themselves no_fields rising = tt

@@ -3,7 +3,7 @@ use Rattle.std.specs.Prelude.{ℕ, ℤ, pos, Bool, true, false, not, ◌&&◌, c
 use Rattle.std.specs.List.{slice_get}
 use Rattle.std.specs.Option.{option_map, option_or}
 use Rattle.schema.specs.LookUp.{fields_at}
-use Rattle.schema.specs.PlainSchema.{PlainField, PlainStruct, PlainSchema}
+use Rattle.schema.specs.PlainSchema.{PlainField, PlainSchema}
 use Rattle.schema.specs.WrittenAs.{field_with_id}
 use Rattle.struct_skew.specs.Projection.{is_required, is_union}
 use Rattle.struct_skew.specs.WrittenTests.{some_passes}
@@ -16,9 +16,13 @@ pub record StructFault : Type 0 where
   pub id : ℤ
   pub kind : BreakKind
 
+-- a fault of a field
+abbrev pub field_fault : BreakKind → PlainField → StructFault
+field_fault kind f = record { id = f.id; kind = kind }
+
 -- the first of some fields that passes a test
 abbrev pub first_at_fault : BreakKind → (PlainField → Bool) → List PlainField → Option StructFault
-first_at_fault kind test fields = option_map (λ (f : PlainField). record { id = f.id; kind = kind }) (find test fields)
+first_at_fault kind test fields = option_map (field_fault kind) (find test fields)
 
 -- one of two holds, and the other doesn't
 abbrev pub is_one_of_two : Bool → Bool → Bool

@@ -7,7 +7,7 @@ use Rattle.std.specs.declared.cmp.Ordering.TheVariants.{Equal}
 use Rattle.thrift_value.specs.Order.{tree_cmp}
 use Rattle.thrift_value.specs.Plain.{plain}
 use Rattle.thrift_value.specs.Tidy.{IsTidy}
-use Rattle.thrift_value.specs.Tree.{Tree, of_struct, of_map, of_set, of_list, FieldTrees, no_fields, field, ItemTrees, no_items, item, PairTrees, no_pairs, pair}
+use Rattle.thrift_value.specs.Tree.{Tree, of_struct, of_map, of_list, FieldTrees, no_fields, field, ItemTrees, no_items, item, PairTrees, no_pairs, pair}
 use Rattle.schema.specs.PlainKind.{PlainKind, kind_struct, kind_map, kind_list}
 use Rattle.schema.specs.PlainSchema.{PlainField, PlainStruct, PlainSchema}
 use Rattle.schema.specs.WrittenAs.{field_with_id, IsWrittenAs}

@@ -5,3 +5,4 @@ pub mod StructPairs
 pub mod Faults
 pub mod Breaks
 pub mod KeptValues
+pub mod Worked

@@ -1,6 +1,6 @@
 -- Pairs of structs, of which values of the first are written and read as the second.
 use Rattle.std.specs.Prelude.{ℕ, zero, suc, Bool, true, false, cond, ◌==◌, List, [], ◌∷◌, ◌++◌, map, flat_map, Option}
-use Rattle.std.specs.Option.{option_map, option_map_or}
+use Rattle.std.specs.Option.{option_map_or}
 use Rattle.schema.specs.Inherited.{functions_of}
 use Rattle.schema.specs.LookUp.{fields_at, field_at, function_named}
 use Rattle.schema.specs.PlainSchema.{PlainField, PlainStruct, PlainFunction, PlainService, PlainSchema}
