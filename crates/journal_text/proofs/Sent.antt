@@ -12,6 +12,7 @@ use Rattle.call_rules.specs.contracts.call.Call as Call
 use Rattle.call_rules.specs.contracts.call.Entry as Entry
 use Rattle.outside.specs.declared.streams.Sink.{Ghosts}
 use Rattle.journal_text.specs.contracts.sink_journal.SinkJournal as SinkJournal
+use Rattle.journal_text.specs.contracts.spool_journal.SpoolJournal as SpoolJournal
 use Rattle.journal_text.proofs.appended.Appended.TheSendSync.{the_send as appended_send}
 use Rattle.journal_text.proofs.buffered.Buffered.TheSendSync.{the_field_send as buffered_send}
 
@@ -29,3 +30,6 @@ entry_send = search (sendable, key_send, call_send, answer_send) depth 12
 
 pub journal_send : (K : RattleType) (sink : Ghosts K.Denot) → IsSend K → IsSend (SinkJournal.the_row K sink)
 journal_send K sink send = search (sendable, crosses, entry_send, appended_send, buffered_send) depth 20
+
+pub spool_journal_send : (K : RattleType) (sink : Ghosts K.Denot) → IsSend K → IsSend (SpoolJournal.the_row K sink)
+spool_journal_send K sink send = search (sendable, crosses, entry_send, appended_send, buffered_send) depth 20

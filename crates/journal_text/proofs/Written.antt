@@ -14,11 +14,11 @@ use Rattle.journal_text.specs.EntryText.{entry_text, call_line}
 use Rattle.journal_text.specs.JournalStates.{appended_count, IsWritten, IsCutShort}
 
 -- nothing more changes nothing
-told_none : (x : Option (List ℕ)) → told_more x [] ≡ x
+pub told_none : (x : Option (List ℕ)) → told_more x [] ≡ x
 told_none x = sym (all_told x x [] (none_taken x []))
 
 -- two texts, one behind the other
-told_twice : (x : Option (List ℕ)) (a b : List ℕ) → told_more (told_more x a) b ≡ told_more x (a ++ b)
+pub told_twice : (x : Option (List ℕ)) (a b : List ℕ) → told_more (told_more x a) b ≡ told_more x (a ++ b)
 told_twice x a b =
     let both : IsTakenBut x (told_more (told_more x a) b) (a ++ b) [] =
     taken_on x (told_more x a) (told_more (told_more x a) b) (a ++ b) b [] (record { front = a; taken = refl; whole = refl })
@@ -71,7 +71,7 @@ line_flushed x y z start held line f g (Ok a) none one passed = line_out x y z s
 line_flushed x y z start held line f g (Err e) none one part = line_held_back x y z start held line f g none one part
 
 -- the lines of the entries with one more
-lines_with : (entries : List CallEntry) (e : CallEntry)
+pub lines_with : (entries : List CallEntry) (e : CallEntry)
     → flat_map (λ e. line_of (entry_text e)) entries ++ call_line e ≡ flat_map (λ e. line_of (entry_text e)) (entries ++ e ∷ [])
 lines_with entries e =
     ap (λ t. flat_map (λ e. line_of (entry_text e)) entries ++ t) (sym (append-nil (call_line e)))

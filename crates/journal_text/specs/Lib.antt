@@ -3,3 +3,5 @@ pub mod EntryText
 pub mod JournalStates
 pub mod LineOf
 pub mod Lines
+pub mod Segments
+pub mod Spooled

@@ -12,9 +12,6 @@ use call_rules::Entry;
 use outside::{Failed, Sink, write_all};
 use std::alloc::Global;
 
-/// How many bytes are held at most.
-const MOST_HELD: usize = 4096;
-
 /// A sink and bytes on their way to it.
 #[derive(Drop)]
 pub(crate) struct Buffered<K> {
@@ -25,12 +22,13 @@ pub(crate) struct Buffered<K> {
 }
 
 impl<K> Buffered<K> {
-    /// A sink with a buffer in front; where there is no memory for one, the sink comes back.
-    pub(crate) fn over(alloc: Global, sink: K) -> Result<Self, K>
+    /// A sink with a buffer of so many bytes in front; where there is no memory for one, the sink comes back.
+    pub(crate) fn over(alloc: Global, sink: K, most: usize) -> Result<Self, K>
+        requires { 0 < most }
         ensures ok { IfOk result (λ made. (made.sink ≡ sink) × (made.held.items ≡ [])) }
         ensures err { IfErr result (λ given. given ≡ sink) }
     {
-        let Ok(held) = Vec::with_capacity(alloc, MOST_HELD) else {
+        let Ok(held) = Vec::with_capacity(alloc, most) else {
             return Err(sink);
         };
         Ok(Buffered { sink, held })
@@ -59,7 +57,7 @@ impl<K: Sink> Buffered<K> {
     }
 
     /// Hands all that is held to the sink.
-    fn flush(&mut self) -> Result<(), Failed>
+    pub(crate) fn flush(&mut self) -> Result<(), Failed>
         ensures taken { MatchResult result
             (λ _. K.taken self.new.sink ≡ told_more (K.taken self.old.sink) self.old.held.items)
             (λ _. IsTakenInPart (K.taken self.old.sink) (K.taken self.new.sink) self.old.held.items) }

@@ -15,7 +15,10 @@ use std::alloc::{AllocError, Global};
 use std::marker::Model;
 use std::snapshot::Snapshot;
 
-/// A journal that writes the line of each entry into a sink.
+/// How many bytes are held at most.
+const MOST_HELD: usize = 4096;
+
+/// A journal that writes the line of each entry into a sink, before the next one is entered.
 #[derive(Drop)]
 pub struct SinkJournal<K: Sink> {
     out: Buffered<K>,
@@ -52,7 +55,7 @@ impl<K: Sink> SinkJournal<K> {
         ensures err { IfErr result (λ no. no.0 ≡ sink) }
     {
         let opening = Snapshot::of(&sink);
-        match Buffered::over(alloc, sink) {
+        match Buffered::over(alloc, sink, MOST_HELD) {
             Err(sink) => Err(NoJournal(sink)),
             Ok(out) => Ok(SinkJournal {
                 out,

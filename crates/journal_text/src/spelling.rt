@@ -6,7 +6,8 @@ ghost use Rattle.thrift_value.specs.TreeOf.{tree_of};
 ghost use Rattle.value_text.specs.Handing.{HandsText};
 ghost use Rattle.value_text.specs.ValueText.{tree_text};
 ghost use Rattle.call_rules.specs.Answers.{plain_answer};
-ghost use Rattle.journal_text.specs.EntryText.{next_word, front_text, answered_text, call_line};
+ghost use Rattle.host_model.specs.Report.{journal_lines};
+ghost use Rattle.journal_text.specs.EntryText.{next_word, front_text, answered_text, call_line, entry_text};
 
 use crate::front::{MOST_FRONT, put_front};
 use call_rules::{Answer, Call, Entry, Key};
@@ -23,6 +24,16 @@ pub(crate) fn spell_entry<K: Sink>(out: &mut K, entry: &Entry) -> Result<(), Fai
     spell_asked(out, &entry.call)?;
     spell_answer(out, &entry.answer)?;
     hand(out, b"\n")
+}
+
+/// Hands the lines of entries to a sink.
+pub(crate) fn spell_entries<K: Sink>(out: &mut K, entries: &[Entry]) -> Result<(), Failed>
+    ensures { HandsText (K.taken out.old) (K.taken out.new) (K.faults out.old) (K.faults out.new) (journal_lines entry_text entries.now) result }
+{
+    for entry in entries {
+        spell_entry(out, entry)?;
+    }
+    Ok(())
 }
 
 /// Hands bytes to a sink.
