@@ -60,3 +60,17 @@ pub(crate) fn ping(alloc: Global, i: u64) -> Result<Entry, AllocError>
         answer: Answer::Empty,
     })
 }
+
+/// The same, answered with so many bytes.
+pub(crate) fn long_ping(alloc: Global, i: u64, count: usize) -> Result<Entry, AllocError>
+    ensures call { IfOk result (λ e. IsPlainCall e.call) }
+    ensures answer { IfOk result (λ e. IsPlainAnswer e.answer) }
+{
+    let Entry { key, call, .. } = ping(alloc, i)?;
+    let bytes = vec![in alloc; b'x'; count]?;
+    Ok(Entry {
+        key,
+        call,
+        answer: Answer::Success(Value::Bytes(ByteText::new(bytes))),
+    })
+}

@@ -7,7 +7,7 @@ use Rattle.std.specs.Slice.{IsItemAt}
 use Rattle.std.proofs.lemmas.Option.{slice_get_read, slice_get_past}
 use Rattle.std.specs.List.{AllByRecursion}
 use Rattle.std.proofs.lemmas.List.{take_all, drop_all}
-use Rattle.journal_text.specs.Segments.{joined}
+use Rattle.journal_text.specs.Segments.{chained}
 
 -- what stands behind a list
 pub behind : {X : Type 0} (xs ys : List X) (i place : ℕ) → i ≡ length xs + place → slice_get (xs ++ ys) i ≡ slice_get ys place
@@ -27,39 +27,39 @@ AllFull {X} full = AllByRecursion (λ (s : List X). length s ≡ 1024) full
 
 -- a place in a segment
 pub placed : {X : Type 0} (full : List (List X)) (last : List X) (number place i : ℕ) (d : List X) → AllFull full → number < length full → place < 1024
-    → i ≡ number * 1024 + place → slice_get (joined full ++ last) i ≡ slice_get (get_or full number d) place
+    → i ≡ number * 1024 + place → slice_get (chained full ++ last) i ≡ slice_get (get_or full number d) place
 placed [] last number place i d all h small at = absurd (omega (arith, h))
 placed (s ∷ full) last zero place i d all h small at =
     let length_is : length s ≡ 1024 = all.0 in
-    ap (λ t. slice_get t i) (append_assoc s (joined full) last)
-    ∙ within s (joined full ++ last) i (omega (arith, length_is, small, at))
+    ap (λ t. slice_get t i) (append_assoc s (chained full) last)
+    ∙ within s (chained full ++ last) i (omega (arith, length_is, small, at))
     ∙ ap (slice_get s) (omega (arith, at))
 placed (s ∷ full) last (suc number) place i d all h small at =
     let length_is : length s ≡ 1024 = all.0 in
     let next : i ≡ length s + (number * 1024 + place) = omega (arith, length_is, at) in
-    ap (λ t. slice_get t i) (append_assoc s (joined full) last)
-    ∙ behind s (joined full ++ last) i (number * 1024 + place) next
+    ap (λ t. slice_get t i) (append_assoc s (chained full) last)
+    ∙ behind s (chained full ++ last) i (number * 1024 + place) next
     ∙ placed full last number place (number * 1024 + place) d all.1 (omega (arith, h)) small refl
 
 -- a place behind the segments
 pub placed_last : {X : Type 0} (full : List (List X)) (last : List X) (place i : ℕ) → AllFull full → i ≡ length full * 1024 + place
-    → slice_get (joined full ++ last) i ≡ slice_get last place
+    → slice_get (chained full ++ last) i ≡ slice_get last place
 placed_last [] last place i all at = ap (slice_get last) (omega (arith, at))
 placed_last (s ∷ full) last place i all at =
     let length_is : length s ≡ 1024 = all.0 in
     let next : i ≡ length s + (length full * 1024 + place) = omega (arith, length_is, at) in
-    ap (λ t. slice_get t i) (append_assoc s (joined full) last)
-    ∙ behind s (joined full ++ last) i (length full * 1024 + place) next
+    ap (λ t. slice_get t i) (append_assoc s (chained full) last)
+    ∙ behind s (chained full ++ last) i (length full * 1024 + place) next
     ∙ placed_last full last place (length full * 1024 + place) all.1 refl
 
 -- how many there are in all
-pub joined_length : {X : Type 0} (full : List (List X)) (last : List X) → AllFull full → length (joined full ++ last) ≡ length full * 1024 + length last
-joined_length [] last all = omega arith
-joined_length (s ∷ full) last all =
+pub chained_length : {X : Type 0} (full : List (List X)) (last : List X) → AllFull full → length (chained full ++ last) ≡ length full * 1024 + length last
+chained_length [] last all = omega arith
+chained_length (s ∷ full) last all =
     let length_is : length s ≡ 1024 = all.0 in
-    let rest : length (joined full ++ last) ≡ length full * 1024 + length last = joined_length full last all.1 in
-    let both : length ((s ++ joined full) ++ last) ≡ length s + length (joined full ++ last) =
-    ap length (append_assoc s (joined full) last) ∙ length-append s (joined full ++ last) in
+    let rest : length (chained full ++ last) ≡ length full * 1024 + length last = chained_length full last all.1 in
+    let both : length ((s ++ chained full) ++ last) ≡ length s + length (chained full ++ last) =
+    ap length (append_assoc s (chained full) last) ∙ length-append s (chained full ++ last) in
     both ∙ omega (arith, length_is, rest)
 
 -- one segment more at the end
@@ -68,27 +68,27 @@ all_with [] s all is = (is, tt)
 all_with (t ∷ full) s all is = (all.0, all_with full s all.1 is)
 
 -- the entries of one segment more at the end
-pub joined_with : {X : Type 0} (full : List (List X)) (s : List X) → joined (full ++ s ∷ []) ≡ joined full ++ s
-joined_with [] s = append-nil s
-joined_with (t ∷ full) s = ap (λ r. t ++ r) (joined_with full s) ∙ sym (append_assoc t (joined full) s)
+pub chained_with : {X : Type 0} (full : List (List X)) (s : List X) → chained (full ++ s ∷ []) ≡ chained full ++ s
+chained_with [] s = append-nil s
+chained_with (t ∷ full) s = ap (λ r. t ++ r) (chained_with full s) ∙ sym (append_assoc t (chained full) s)
 
 -- the first segment
 pub first_taken : {X : Type 0} (full : List (List X)) (last first d : List X) → AllFull full → 0 < length full → first ≡ get_or full 0 d
-    → take 1024 (joined full ++ last) ≡ first
+    → take 1024 (chained full ++ last) ≡ first
 first_taken [] last first d all some is = absurd (omega (arith, some))
-first_taken (s ∷ full) last first d all some is = ap (take 1024) (append_assoc s (joined full) last) ∙ take_at s (joined full ++ last) 1024 all.0 ∙ sym is
+first_taken (s ∷ full) last first d all some is = ap (take 1024) (append_assoc s (chained full) last) ∙ take_at s (chained full ++ last) 1024 all.0 ∙ sym is
 
 -- and what stands behind it
-pub first_dropped : {X : Type 0} (full : List (List X)) (last : List X) → AllFull full → 0 < length full → drop 1024 (joined full ++ last) ≡ joined (drop 1 full) ++ last
+pub first_dropped : {X : Type 0} (full : List (List X)) (last : List X) → AllFull full → 0 < length full → drop 1024 (chained full ++ last) ≡ chained (drop 1 full) ++ last
 first_dropped [] last all some = absurd (omega (arith, some))
-first_dropped (s ∷ full) last all some = ap (drop 1024) (append_assoc s (joined full) last) ∙ drop_at s (joined full ++ last) 1024 all.0
+first_dropped (s ∷ full) last all some = ap (drop 1024) (append_assoc s (chained full) last) ∙ drop_at s (chained full ++ last) 1024 all.0
 
 -- where none is full
-pub last_taken : {X : Type 0} (full : List (List X)) (last : List X) → full ≡ [] → length last ≤ 1024 → take 1024 (joined full ++ last) ≡ last
-last_taken full last none few = ap (λ f. take 1024 (joined f ++ last)) none ∙ take_all 1024 last few
+pub last_taken : {X : Type 0} (full : List (List X)) (last : List X) → full ≡ [] → length last ≤ 1024 → take 1024 (chained full ++ last) ≡ last
+last_taken full last none few = ap (λ f. take 1024 (chained f ++ last)) none ∙ take_all 1024 last few
 
-pub last_dropped : {X : Type 0} (full : List (List X)) (last : List X) → full ≡ [] → length last ≤ 1024 → drop 1024 (joined full ++ last) ≡ []
-last_dropped full last none few = ap (λ f. drop 1024 (joined f ++ last)) none ∙ drop_all 1024 last few
+pub last_dropped : {X : Type 0} (full : List (List X)) (last : List X) → full ≡ [] → length last ≤ 1024 → drop 1024 (chained full ++ last) ≡ []
+last_dropped full last none few = ap (λ f. drop 1024 (chained f ++ last)) none ∙ drop_all 1024 last few
 
 -- what a look-up answers
 pub got : {X : Type 0} (xs : List X) (i : ℕ) (r : Option (Bor X)) → IsItemAt xs i r → option_copied r ≡ slice_get xs i
@@ -109,7 +109,7 @@ none_left (x ∷ xs) h = absurd (omega (arith, h))
 
 -- a number behind all entries
 pub none_past : {X : Type 0} (full : List (List X)) (last : List X) (i : ℕ) → AllFull full → length last ≤ 1024 → length full < i / 1024
-    → slice_get (joined full ++ last) i ≡ None
+    → slice_get (chained full ++ last) i ≡ None
 none_past full last i all small past =
-    let all_are : length (joined full ++ last) ≡ length full * 1024 + length last = joined_length full last all in
-    slice_get_past (joined full ++ last) i (omega (arith, all_are, small, past))
+    let all_are : length (chained full ++ last) ≡ length full * 1024 + length last = chained_length full last all in
+    slice_get_past (chained full ++ last) i (omega (arith, all_are, small, past))

@@ -8,9 +8,9 @@ use Rattle.call_rules.specs.Entries.{CallEntry}
 use Rattle.journal_text.specs.EntryText.{entry_text}
 
 -- lists, one behind the other
-abbrev pub joined : {X : Type 0} → List (List X) → List X
-joined [] = []
-joined (xs ∷ more) = xs ++ joined more
+abbrev pub chained : {X : Type 0} → List (List X) → List X
+chained [] = []
+chained (xs ∷ more) = xs ++ chained more
 
 -- how many entries a segment has room for
 abbrev pub segment_room : ℕ
@@ -25,7 +25,7 @@ pub record AreSegments (full : List (List CallEntry)) (last : List CallEntry) (f
   pub whole : AllByRecursion IsFull full
   pub held : 0 < length last + free → length last + free ≡ segment_room
   pub room : length last + free ≤ capacity
-  pub counted : count ≡ length (joined full ++ last)
+  pub counted : count ≡ length (chained full ++ last)
   pub bound : count + free < 2 ^ 64
 
 -- A sink that had taken `before` has taken the lines of the first segments, and a beginning of the next one's: those entries are left whose segments it didn't take whole.

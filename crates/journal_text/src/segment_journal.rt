@@ -10,7 +10,7 @@ ghost use Rattle.host_model.specs.Report.{journal_lines};
 ghost use Rattle.value_text.specs.Handing.{HandsText};
 ghost use Rattle.call_rules.specs.PlainCalls.{IsPlainCall, IsPlainAnswer};
 ghost use Rattle.journal_text.specs.EntryText.{entry_text};
-ghost use Rattle.journal_text.specs.Segments.{joined, segment_room, IsFull, IsSpooledInPart};
+ghost use Rattle.journal_text.specs.Segments.{chained, segment_room, IsFull, IsSpooledInPart};
 
 use crate::spelling::spell_entries;
 use call_rules::{Entry, Journal};
@@ -57,13 +57,13 @@ pub struct SegmentJournal {
 impl Model for SegmentJournal {
     ghost use Rattle.std.specs.Prelude.{◌++◌, vec_capacity};
     ghost use Rattle.journal_text.specs.JournalStates.{ListedEntries, listed_entries_code};
-    ghost use Rattle.journal_text.specs.Segments.{joined, AreSegments};
+    ghost use Rattle.journal_text.specs.Segments.{chained, AreSegments};
 
     ghost Value = { ListedEntries };
 
     ghost coded = { listed_entries_code };
 
-    ghost view = { λ j. record { entries = joined j.full.items ++ j.last.items; room = j.free } };
+    ghost view = { λ j. record { entries = chained j.full.items ++ j.last.items; room = j.free } };
 
     ghost invariant = { λ j. AreSegments j.full.items j.last.items j.free (vec_capacity j.last) j.count };
 }
@@ -200,7 +200,7 @@ impl Journal for SegmentJournal {
 /// Puts entries behind segments, where there are any; takes no memory.
 fn put_behind(full: &mut VecDeque<Segment>, entries: Vec<Entry>)
     requires room { deque_len full.old < deque_capacity full.old }
-    ensures joined { joined full.new.items ≡ joined full.old.items ++ entries.items }
+    ensures chained { chained full.new.items ≡ chained full.old.items ++ entries.items }
     ensures whole { AllByRecursion IsFull full.old.items → (0 < length entries.items → IsFull entries.items) → AllByRecursion IsFull full.new.items }
 {
     if entries.is_empty() {

@@ -3,7 +3,7 @@ use Rattle.host_model.specs.Report.{journal_lines}
 use Rattle.value_text.specs.Handing.{HandsOver}
 use Rattle.value_text.proofs.Handed.{breaks_last, hands_same}
 use Rattle.journal_text.specs.EntryText.{entry_text}
-use Rattle.journal_text.specs.Segments.{joined, segment_room}
+use Rattle.journal_text.specs.Segments.{chained, segment_room}
 use Rattle.journal_text.proofs.Segmented.{first_taken, first_dropped, last_taken, last_dropped, few, none_left}
 use Rattle.journal_text.proofs.segment_journal.SegmentJournal.spool_first.Goals as goal
 
@@ -50,7 +50,7 @@ pub returns-in_ok-spell_entries-in-Some-clause-left : goal.returns-in_ok-spell_e
 returns-in_ok-spell_entries-in-Some-clause-left g c =
     let full = c.self.inside.full.items in
     let last = c.self.inside.last.items in
-    ap (λ f. joined f ++ last) c.pop_front.ensures.rest ∙ sym (first_dropped full last c.self.invariant.whole c.in-Some.ensures.item.3.0)
+    ap (λ f. chained f ++ last) c.pop_front.ensures.rest ∙ sym (first_dropped full last c.self.invariant.whole c.in-Some.ensures.item.3.0)
     ∙ ap (λ v. drop segment_room v.entries) c.self.view_is
 
 pub returns-in_ok-spell_entries-in-None-clause-handed : goal.returns-in_ok-spell_entries-in-None-clause-handed
@@ -71,4 +71,4 @@ returns-in_ok-spell_entries-in-None-clause-left g c =
     let last = c.self.inside.last.items in
     let few_last : length last ≤ 1024 = few (length last) c.self.inside.free c.self.invariant.held in
     let none : full ≡ [] = none_left full c.in-None.ensures.item.3 in
-    ap (λ f. joined f ++ c.new.result.items) none ∙ c.new.ensures.items ∙ sym (last_dropped full last none few_last) ∙ ap (λ v. drop segment_room v.entries) c.self.view_is
+    ap (λ f. chained f ++ c.new.result.items) none ∙ c.new.ensures.items ∙ sym (last_dropped full last none few_last) ∙ ap (λ v. drop segment_room v.entries) c.self.view_is
