@@ -43,12 +43,12 @@ abbrev pub served_change : List PlainStruct → List PlainService → List Plain
 served_change old services new others = record { old = worked_schema old services; new = worked_schema new others }
 
 -- struct S with these fields, alone
-abbrev pub one_struct : FieldsKind → List PlainField → List PlainStruct
-one_struct kind fields = worked_struct (codes "S") kind fields ∷ []
+abbrev pub lone_struct : FieldsKind → List PlainField → List PlainStruct
+lone_struct kind fields = worked_struct (codes "S") kind fields ∷ []
 
 -- struct S { 1: i32 a }
 abbrev pub first_struct : List PlainStruct
-first_struct = one_struct of_kind.Struct (worked_field 1 Default kind_i32 ∷ [])
+first_struct = lone_struct of_kind.Struct (worked_field 1 Default kind_i32 ∷ [])
 
 -- the arguments of a function f: { 1: i32 a }, a struct R of an included file with its first field, and an exception E
 abbrev pub function_structs : FieldNeed → List PlainStruct

@@ -5,37 +5,37 @@ ghost use Rattle.schema.specs.declared.types.FieldsKind.TheVariants as of_kind;
 ghost use Rattle.schema.specs.PlainKind.{kind_i32, kind_i64, kind_text, kind_binary, kind_enum, kind_struct, kind_list, kind_map};
 ghost use Rattle.compat_model.specs.declared.break_kind.BreakKind.TheVariants as breaks;
 ghost use Rattle.compat_model.specs.Breaks.{IsCompatible, break_in_round};
-ghost use Rattle.compat_model.specs.Worked.{first_function, first_struct, function_change, function_structs, inherited_functions, one_function, one_struct, oneway_function, served_change, two_steps, worked_break, worked_change, worked_field, worked_function};
+ghost use Rattle.compat_model.specs.Worked.{first_function, first_struct, function_change, function_structs, inherited_functions, one_function, lone_struct, oneway_function, served_change, two_steps, worked_break, worked_change, worked_field, worked_function};
 
 /// What may change in a struct of the main file, and what may not.
 pub fn worked_structs()
-    ensures field_required { break_in_round (worked_change first_struct (one_struct of_kind.Struct (worked_field 1 Default kind_i32 ∷ (worked_field 2 Required kind_i32 ∷ [])))) 0
+    ensures field_required { break_in_round (worked_change first_struct (lone_struct of_kind.Struct (worked_field 1 Default kind_i32 ∷ (worked_field 2 Required kind_i32 ∷ [])))) 0
         ≡ worked_break (codes "S") 2 breaks.NewRequired }
-    ensures other_type { break_in_round (worked_change first_struct (one_struct of_kind.Struct (worked_field 1 Default kind_i64 ∷ []))) 0
+    ensures other_type { break_in_round (worked_change first_struct (lone_struct of_kind.Struct (worked_field 1 Default kind_i64 ∷ []))) 0
         ≡ worked_break (codes "S") 1 breaks.Unlike }
-    ensures unlike_first { break_in_round (worked_change first_struct (one_struct of_kind.Struct (worked_field 0 Required kind_i32 ∷ (worked_field 1 Default kind_i64 ∷ [])))) 0
+    ensures unlike_first { break_in_round (worked_change first_struct (lone_struct of_kind.Struct (worked_field 0 Required kind_i32 ∷ (worked_field 1 Default kind_i64 ∷ [])))) 0
         ≡ worked_break (codes "S") 1 breaks.Unlike }
-    ensures was_required { break_in_round (worked_change (one_struct of_kind.Struct (worked_field 1 Required kind_i32 ∷ [])) (one_struct of_kind.Struct (worked_field 1 Required kind_i32 ∷ []))) 0 ≡ None }
-    ensures field_lost { break_in_round (worked_change first_struct (one_struct of_kind.Struct [])) 0 ≡ None }
-    ensures to_exception { break_in_round (worked_change first_struct (one_struct of_kind.Exception (worked_field 1 Default kind_i32 ∷ []))) 0 ≡ None }
+    ensures was_required { break_in_round (worked_change (lone_struct of_kind.Struct (worked_field 1 Required kind_i32 ∷ [])) (lone_struct of_kind.Struct (worked_field 1 Required kind_i32 ∷ []))) 0 ≡ None }
+    ensures field_lost { break_in_round (worked_change first_struct (lone_struct of_kind.Struct [])) 0 ≡ None }
+    ensures to_exception { break_in_round (worked_change first_struct (lone_struct of_kind.Exception (worked_field 1 Default kind_i32 ∷ []))) 0 ≡ None }
     ensures gone { break_in_round (worked_change first_struct []) 0 ≡ worked_break (codes "S") 0 breaks.Gone }
-    ensures to_union { break_in_round (worked_change first_struct (one_struct of_kind.Union (worked_field 1 Optional kind_i32 ∷ []))) 0
+    ensures to_union { break_in_round (worked_change first_struct (lone_struct of_kind.Union (worked_field 1 Optional kind_i32 ∷ []))) 0
         ≡ worked_break (codes "S") 0 breaks.Kind }
-    ensures union_field { break_in_round (worked_change (one_struct of_kind.Union (worked_field 1 Optional kind_i32 ∷ (worked_field 2 Optional kind_i32 ∷ [])))
-        (one_struct of_kind.Union (worked_field 1 Optional kind_i32 ∷ []))) 0 ≡ worked_break (codes "S") 2 breaks.UnionField }
-    ensures union_grows { break_in_round (worked_change (one_struct of_kind.Union (worked_field 1 Optional kind_i32 ∷ []))
-        (one_struct of_kind.Union (worked_field 1 Optional kind_i32 ∷ (worked_field 2 Optional kind_i32 ∷ [])))) 0 ≡ None }
-    ensures struct_key { break_in_round (worked_change (one_struct of_kind.Struct (worked_field 1 Default (kind_map (kind_struct 0) kind_i32) ∷ []))
-        (one_struct of_kind.Struct (worked_field 1 Default (kind_map (kind_struct 0) kind_i32) ∷ []))) 0 ≡ worked_break (codes "S") 1 breaks.Unlike }
+    ensures union_field { break_in_round (worked_change (lone_struct of_kind.Union (worked_field 1 Optional kind_i32 ∷ (worked_field 2 Optional kind_i32 ∷ [])))
+        (lone_struct of_kind.Union (worked_field 1 Optional kind_i32 ∷ []))) 0 ≡ worked_break (codes "S") 2 breaks.UnionField }
+    ensures union_grows { break_in_round (worked_change (lone_struct of_kind.Union (worked_field 1 Optional kind_i32 ∷ []))
+        (lone_struct of_kind.Union (worked_field 1 Optional kind_i32 ∷ (worked_field 2 Optional kind_i32 ∷ [])))) 0 ≡ None }
+    ensures struct_key { break_in_round (worked_change (lone_struct of_kind.Struct (worked_field 1 Default (kind_map (kind_struct 0) kind_i32) ∷ []))
+        (lone_struct of_kind.Struct (worked_field 1 Default (kind_map (kind_struct 0) kind_i32) ∷ []))) 0 ≡ worked_break (codes "S") 1 breaks.Unlike }
 {}
 
 /// Numbers of 32 bits and enums are alike, and so are texts and bytes.
 pub fn worked_types()
-    ensures enum_number { break_in_round (worked_change first_struct (one_struct of_kind.Struct (worked_field 1 Default (kind_enum 0) ∷ []))) 0 ≡ None }
-    ensures text_bytes { break_in_round (worked_change (one_struct of_kind.Struct (worked_field 1 Default kind_text ∷ []))
-        (one_struct of_kind.Struct (worked_field 1 Default kind_binary ∷ []))) 0 ≡ None }
-    ensures elements { break_in_round (worked_change (one_struct of_kind.Struct (worked_field 1 Default (kind_list (kind_list kind_i32)) ∷ []))
-        (one_struct of_kind.Struct (worked_field 1 Default (kind_list (kind_list kind_i64)) ∷ []))) 0 ≡ worked_break (codes "S") 1 breaks.Unlike }
+    ensures enum_number { break_in_round (worked_change first_struct (lone_struct of_kind.Struct (worked_field 1 Default (kind_enum 0) ∷ []))) 0 ≡ None }
+    ensures text_bytes { break_in_round (worked_change (lone_struct of_kind.Struct (worked_field 1 Default kind_text ∷ []))
+        (lone_struct of_kind.Struct (worked_field 1 Default kind_binary ∷ []))) 0 ≡ None }
+    ensures elements { break_in_round (worked_change (lone_struct of_kind.Struct (worked_field 1 Default (kind_list (kind_list kind_i32)) ∷ []))
+        (lone_struct of_kind.Struct (worked_field 1 Default (kind_list (kind_list kind_i64)) ∷ []))) 0 ≡ worked_break (codes "S") 1 breaks.Unlike }
 {}
 
 /// What may change of a function, and what may not.
@@ -70,7 +70,7 @@ pub fn worked_reaches()
 
 /// A field that may be missing is no break, and neither is a struct that holds itself.
 pub fn worked_compatible()
-    ensures field_more { IsCompatible (worked_change first_struct (one_struct of_kind.Struct (worked_field 1 Default kind_i32 ∷ (worked_field 2 Optional kind_i32 ∷ [])))) }
-    ensures holds_itself { IsCompatible (worked_change (one_struct of_kind.Struct (worked_field 1 Optional (kind_struct 0) ∷ []))
-        (one_struct of_kind.Struct (worked_field 1 Optional (kind_struct 0) ∷ (worked_field 2 Optional kind_i32 ∷ [])))) }
+    ensures field_more { IsCompatible (worked_change first_struct (lone_struct of_kind.Struct (worked_field 1 Default kind_i32 ∷ (worked_field 2 Optional kind_i32 ∷ [])))) }
+    ensures holds_itself { IsCompatible (worked_change (lone_struct of_kind.Struct (worked_field 1 Optional (kind_struct 0) ∷ []))
+        (lone_struct of_kind.Struct (worked_field 1 Optional (kind_struct 0) ∷ (worked_field 2 Optional kind_i32 ∷ [])))) }
 {}

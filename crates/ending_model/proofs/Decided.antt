@@ -26,18 +26,30 @@ module _ {C A : Type 0} (d : DeskRules C A) (bytes left : List ℕ) (es : List (
       → EndsBy d payloads rest es out cause → IsOfBytes cause → MayBeUnread cause left → EndsOn d (bytes ++ left) cause
   decided End payloads rest frames before ends of_bytes none =
       record {
-        payloads = payloads; left = rest ++ left; whole = joined payloads rest frames.whole; each = frames.each; kept = ends.0;
+        payloads = payloads;
+        left = rest ++ left;
+        whole = joined payloads rest frames.whole;
+        each = frames.each;
+        kept = ends.0;
         ended = (λ i. ends.1 i ++ none i);
       }
   decided Cut payloads rest frames before ends of_bytes none =
       let same : rest ≡ rest ++ left = sym (append-nil rest) ∙ ap (λ b. rest ++ b) (sym none) in
       record {
-        payloads = payloads; left = rest; whole = joined payloads rest frames.whole ∙ ap (λ b. flat_map frame payloads ++ b) (sym same); each = frames.each;
-        kept = ends.0; ended = (ends.1, record { rest = frames.no_more; size = ends.2 });
+        payloads = payloads;
+        left = rest;
+        whole = joined payloads rest frames.whole ∙ ap (λ b. flat_map frame payloads ++ b) (sym same);
+        each = frames.each;
+        kept = ends.0;
+        ended = (ends.1, record { rest = frames.no_more; size = ends.2 });
       }
   decided (SizeFault z) payloads rest frames before ends of_bytes none =
       record {
-        payloads = payloads; left = rest ++ left; whole = joined payloads rest frames.whole; each = frames.each; kept = ends.0;
+        payloads = payloads;
+        left = rest ++ left;
+        whole = joined payloads rest frames.whole;
+        each = frames.each;
+        kept = ends.0;
         ended = (left, ap (λ b. b ++ left) ends.1, ends.2);
       }
   decided (Envelope fault) payloads rest frames before ends of_bytes none =

@@ -7,8 +7,7 @@ returns-clause-each g c d r memories budget script tape journal causes x headlin
 
 pub returns-clause-whole : goal.returns-clause-whole
 returns-clause-whole g c d r memories budget script tape journal causes x small headline fed goes within nowhere memory on =
-    let partial : LessThanAFrame d.max = λ size more. c.less_than_a_frame.ensures.payload d.max size more small in
-    (
+    let partial : LessThanAFrame d.max = λ size more. c.less_than_a_frame.ensures.payload d.max size more small in (
       ended_at d r memories budget script tape journal causes headline fed goes small partial x within nowhere memory on,
       answered d r memories budget script tape journal causes headline fed goes small partial x within nowhere memory on,
     )
