@@ -160,6 +160,14 @@ class BadSize(Exception):
     """A length below 0."""
 
 
+class TooDeep(Exception):
+    """A struct or container at level 65."""
+
+
+class BadType(Exception):
+    """A code of no type."""
+
+
 def size_of(left):
     size = i32(left.take(4))
     if size < 0:
@@ -167,22 +175,58 @@ def size_of(left):
     return size
 
 
-def fields(left):
-    """A struct of numbers, texts and such structs: its fields in order, with repeats."""
+def size_within(left):
+    size = size_of(left)
+    if size > len(left.bytes) - left.at:
+        raise Short
+    return size
+
+
+# How many bytes a number has, by the code of its type. Numbers but those of 32 bits are read and not kept.
+WIDTHS = {2: 1, 3: 1, 4: 8, 6: 2, 8: 4, 10: 8}
+NO_VALUE = object()
+
+
+def value_of(left, code, level):
+    """A value: a number of 32 bits, a text, or a struct; another one is none."""
+    if code in WIDTHS:
+        bytes_ = left.take(WIDTHS[code])
+        return i32(bytes_) if code == 8 else NO_VALUE
+    if code == 11:
+        return left.take(size_of(left))
+    if level > 64:
+        raise TooDeep
+    if code == 12:
+        return fields(left, level)
+    codes = left.take(2 if code == 13 else 1)
+    for _ in range(checked(size_within(left), codes)):
+        for inner in codes:
+            value_of(left, inner, level + 1)
+    return NO_VALUE
+
+
+def checked(size, codes):
+    """The size of a container, of whose elements the types are looked at where there are some."""
+    for code in codes if size else b"":
+        look_at_type(code)
+    return size
+
+
+def look_at_type(code):
+    if code not in WIDTHS and code not in (11, 12, 13, 14, 15):
+        raise BadType(code)
+
+
+def fields(left, level=1):
+    """A struct: its fields in order, with repeats."""
     found = []
     while True:
         code = left.take(1)[0]
         if code == 0:
             return found
+        look_at_type(code)
         place = int.from_bytes(left.take(2), "big", signed=True)
-        if code == 8:
-            found.append((place, i32(left.take(4))))
-        elif code == 11:
-            found.append((place, left.take(size_of(left))))
-        elif code == 12:
-            found.append((place, fields(left)))
-        else:
-            raise NotImplementedError("type %d" % code)
+        found.append((place, value_of(left, code, level + 1)))
 
 
 def text_of(value):
@@ -196,7 +240,7 @@ def text_of(value):
 
 METHODS = {b"ping": {}, b"zip": {}, b"add": {1: int, 2: int}, b"calculate": {1: int, 2: list}, b"getStruct": {1: int}}
 WORK = {1: int, 2: int, 3: int, 4: bytes}
-TEXTS = {"unknown": (1, "Invalid method name: '%s'"), "bad": (7, "Bad arguments: %s"), "broken": (6, "Internal error processing %s"),
+TEXTS = {"service": (1, "Service name not found: %s"), "unknown": (1, "Invalid method name: '%s'"), "bad": (7, "Bad arguments: %s"), "broken": (6, "Internal error processing %s"),
          "large": (6, "Reply is too large")}
 
 
@@ -206,7 +250,7 @@ def message(name, kind, number_, body):
 
 
 def exception(name, number_, code, text):
-    body = b"\x0b\x00\x01" + put32(len(text)) + text.encode() + b"\x08\x00\x02" + put32(code) + b"\x00"
+    body = b"\x0b\x00\x01" + put32(len(text)) + text.encode("latin-1") + b"\x08\x00\x02" + put32(code) + b"\x00"
     return message(name, 3, number_, body)
 
 
@@ -220,15 +264,20 @@ def decide(payload):
     found = head(payload)
     if isinstance(found, str):
         return "close", found
-    name, kind, number_, left = found
+    asked, kind, number_, left = found
+    service, colon, name = asked.partition(b":") if b":" in asked else (b"", b"", asked)
+    if colon and service != b"Calculator":
+        text = TEXTS["service"][1] % service.decode("latin-1")
+        return ("silent",) if kind == 4 else ("reply", exception(name, number_, 1, text))
     if name not in METHODS:
-        text = TEXTS["unknown"][1] % name.decode()
+        text = TEXTS["unknown"][1] % name.decode("latin-1")
         return ("silent",) if kind == 4 else ("reply", exception(name, number_, 1, text))
     silent = name == b"zip" or kind == 4
     try:
         read = fields(left)
-    except (Short, BadSize) as fault:
-        return ("silent",) if silent else ("reply", exception(name, number_, 7, TEXTS["bad"][1] % type(fault).__name__))
+    except (Short, BadSize, TooDeep, BadType) as fault:
+        why = " ".join([type(fault).__name__, *map(str, fault.args)])
+        return ("silent",) if silent else ("reply", exception(name, number_, 7, TEXTS["bad"][1] % why))
     args = fitting(read, METHODS[name])
     if name == b"calculate" and 2 in args:
         args[2] = dict(sorted({1: 0, **fitting(args[2], WORK)}.items()))
