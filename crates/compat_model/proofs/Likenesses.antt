@@ -13,7 +13,8 @@ use Rattle.thrift_value.proofs.TotalOrder.{tree_cmp_total}
 use Rattle.schema.specs.PlainKind.{PlainKind, kind_bool, kind_i8, kind_i16, kind_i32, kind_i64, kind_double, kind_text, kind_binary, kind_enum, kind_struct, kind_map, kind_set, kind_list}
 use Rattle.schema.specs.PlainSchema.{PlainStruct}
 use Rattle.schema.specs.WrittenAs.{IsWrittenAs, AreItemsWrittenAs, ArePairsWrittenAs}
-use Rattle.struct_skew.specs.Fits.{tag_of_kind, are_same_tags, each_item, each_pair, fits_kind}
+use Rattle.known_parts.specs.Parts.{tag_of_kind, are_same_tags}
+use Rattle.struct_skew.specs.Fits.{each_item, each_pair, fits_kind}
 use Rattle.struct_skew.proofs.Deciding.{same_tag}
 use Rattle.struct_skew.proofs.Each.{Each}
 use Rattle.struct_skew.proofs.Fitting.{fits_by_tag, IsNoContainer}

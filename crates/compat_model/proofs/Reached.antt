@@ -19,7 +19,7 @@ use Rattle.struct_skew.proofs.Deciding.{required_need, union_kind}
 use Rattle.struct_skew.proofs.Each.{Each}
 use Rattle.compat_model.specs.declared.break_kind.BreakKind.{BreakKind}
 use Rattle.compat_model.specs.declared.break_kind.BreakKind.TheVariants as breaks
-use Rattle.compat_model.specs.Breaks.{named_break, written_name, pair_break, IsCompatible}
+use Rattle.compat_model.specs.Breaks.{break_under, written_struct_name, pair_break, IsCompatible}
 use Rattle.compat_model.specs.Faults.{field_fault, first_at_fault, kind_fault, is_unknown, is_unlike, is_newly_required, lost_field, fields_fault, struct_fault}
 use Rattle.compat_model.specs.KeptValues.{IsKeptUnder, IsKeptOrTooLarge, KeepsValues}
 use Rattle.compat_model.specs.Likeness.{are_like, struct_places}
@@ -124,7 +124,7 @@ module _ (ch : SchemaChange) (backward : Bool) where
         let other = some_passes (sym there_e i) (λ (x : PlainStruct). is_union x.kind) in
         option_or (kind_fault one other)
         (fields_fault one (unwrap_or (option_map (λ (x : PlainStruct). x.fields) (sym there_d i)) []) (unwrap_or (option_map (λ (x : PlainStruct). x.fields) (sym there_e i)) [])))
-        ∙ none_mapped (named_break (written_name s a)) (struct_fault s a t b) (none_answers (pair_break ch) (pairs_reached ch n) (pair_of a b) (compatible (suc n)) here)
+        ∙ none_mapped (break_under (written_struct_name s a)) (struct_fault s a t b) (none_answers (pair_break ch) (pairs_reached ch n) (pair_of a b) (compatible (suc n)) here)
 
     closed : AreClosedPairs s t IsReached ⊤
     closed a b reached d e there_d there_e =

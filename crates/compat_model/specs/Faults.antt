@@ -25,9 +25,9 @@ abbrev pub first_at_fault : BreakKind → (PlainField → Bool) → List PlainFi
 first_at_fault kind test fields = option_map (field_fault kind) (find test fields)
 
 -- one of two holds, and the other doesn't
-abbrev pub is_one_of_two : Bool → Bool → Bool
-is_one_of_two true other = not other
-is_one_of_two false other = other
+abbrev pub holds_for_one_alone : Bool → Bool → Bool
+holds_for_one_alone true other = not other
+holds_for_one_alone false other = other
 
 -- the struct at a number is a union
 abbrev pub is_union_at : PlainSchema → ℕ → Bool
@@ -35,7 +35,7 @@ is_union_at s which = some_passes (slice_get s.structs which) (λ d. is_union d.
 
 -- one is a union, and the other isn't
 abbrev pub kind_fault : Bool → Bool → Option StructFault
-kind_fault one other = cond (is_one_of_two one other) (Some (record { id = pos 0; kind = breaks.Kind })) None
+kind_fault one other = cond (holds_for_one_alone one other) (Some (record { id = pos 0; kind = breaks.Kind })) None
 
 -- no field of the reader has this id
 abbrev pub is_unknown : List PlainField → PlainField → Bool

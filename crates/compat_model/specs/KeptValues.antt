@@ -25,7 +25,7 @@ abbrev pub declared_at : List PlainStruct → ℕ → List PlainField
 declared_at structs which = unwrap_or (option_map (λ (d : PlainStruct). d.fields) (slice_get structs which)) []
 
 abbrev mutual
-  -- a value that was written is kept in the one that is read under a type: a list element by element, a map by equal keys, of a
+  -- a value that was written is kept in the one that is read under a type: a list element by element, a map by equal keys and kept values, of a
   -- struct each field that the reader declares; other values are equal in the order of values
   pub IsKeptUnder : List PlainStruct → PlainKind → Tree → Tree → Type 0
   IsKeptUnder structs (kind_struct which) (of_struct fields) (of_struct others) = AreFieldsKeptUnder structs (declared_at structs which) fields others
@@ -33,7 +33,7 @@ abbrev mutual
   IsKeptUnder structs (kind_list kind) (of_list _ items) (of_list _ others) = AreItemsKeptUnder structs kind items others
   IsKeptUnder structs kind value other = tree_cmp value other ≡ Equal
 
-  -- each field that is declared is there, and kept
+  -- each field of the value that the reader declares is there, and kept
   pub AreFieldsKeptUnder : List PlainStruct → List PlainField → FieldTrees → FieldTrees → Type 0
   AreFieldsKeptUnder structs declared no_fields others = ⊤
   AreFieldsKeptUnder structs declared (field id value more) others =

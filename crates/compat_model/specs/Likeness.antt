@@ -1,7 +1,7 @@
 -- Two types, of which values of the first are written and read as the second.
 use Rattle.std.specs.Prelude.{ℕ, Bool, true, false, ◌&&◌, List, [], ◌∷◌, Option, Some, None}
 use Rattle.schema.specs.PlainKind.{PlainKind, kind_struct, kind_map, kind_set, kind_list}
-use Rattle.struct_skew.specs.Fits.{tag_of_kind, are_same_tags}
+use Rattle.known_parts.specs.Parts.{tag_of_kind, are_same_tags}
 
 -- no struct, union or exception stands in a type, at any depth
 abbrev pub has_no_struct : PlainKind → Bool

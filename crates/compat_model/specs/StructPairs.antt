@@ -31,7 +31,7 @@ reading_schema ch backward = cond backward ch.old ch.new
 abbrev pub pairs_at : Bool → List (ℕ × ℕ) → List StructPair
 pairs_at backward places = map (λ p. record { backward = backward; from = p.0; to = p.1 }) places
 
--- the structs at like places of a field and of those that may have its id
+-- the structs at like places of a field and of the one that may have its id
 abbrev pub field_places : PlainField → Option PlainField → List (ℕ × ℕ)
 field_places f other = option_map_or (λ (g : PlainField). struct_places f.kind g.kind) other []
 
@@ -46,10 +46,11 @@ abbrev pub pairs_of_struct : SchemaChange → ℕ → PlainStruct → List Struc
 pairs_of_struct ch which d =
     cond (is_main_struct d) (option_map_or (λ other. pairs_at false ((which, other) ∷ [])) (main_struct_named ch.new d.name) []) []
 
--- the pairs that a function of a service and the one of its name give, where a service of the new schema has one
+-- which pairs a function and the one of its name give
 abbrev pub PairsOfFunctions : Type 0
 PairsOfFunctions = PlainFunction → PlainFunction → List StructPair
 
+-- those of the functions of a service of the old main file, where the service of its name has functions of their names
 abbrev pub pairs_of_service : SchemaChange → PairsOfFunctions → ℕ → PlainService → List StructPair
 pairs_of_service ch pairs which v =
     cond (v.file == 0)
@@ -66,7 +67,7 @@ abbrev pub answer_pairs : PairsOfFunctions
 answer_pairs f g =
     pairs_at true (result_places g.result f.result) ++ flat_map (λ (t : PlainField). pairs_at true (field_places t (field_with_id t.id f.throws))) g.throws
 
--- the pairs of what is named: of all structs, then of all functions' arguments, then of their results and exceptions
+-- the pairs of what is named: of the old main file's structs, then of all functions' arguments, then of their results and exceptions
 abbrev pub named_pairs : SchemaChange → List StructPair
 named_pairs ch =
     gathered_from (pairs_of_struct ch) 0 ch.old.structs

@@ -56,6 +56,15 @@ function_structs need =
     worked_struct (codes "f") of_kind.Args (worked_field 1 Default kind_i32 ∷ []) ∷ included_struct (codes "R") (worked_field 1 need kind_i32 ∷ [])
     ∷ worked_struct (codes "E") of_kind.Exception [] ∷ []
 
+-- the arguments of a function f alone: { 1: .. }
+abbrev pub arguments_alone : PlainKind → List PlainStruct
+arguments_alone kind = worked_struct (codes "f") of_kind.Args (worked_field 1 Default kind ∷ []) ∷ []
+
+-- no arguments of a function f, and a union U of an included file with these fields
+abbrev pub answering : List PlainField → List PlainStruct
+answering fields =
+    worked_struct (codes "f") of_kind.Args [] ∷ record { file = 1; name = codes "U"; kind = of_kind.Union; fields = fields } ∷ []
+
 -- service V { .. f(1: i32 a) .. }
 abbrev pub one_function : PlainFunction → List PlainService
 one_function f = worked_service (codes "V") None (f ∷ []) ∷ []

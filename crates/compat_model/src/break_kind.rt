@@ -5,7 +5,7 @@
 pub enum BreakKind {
     /// A struct, a service or a function is no longer there.
     Gone,
-    /// One is a union, and the other isn't.
+    /// One of a pair's structs is a union, and the other isn't.
     Kind,
     /// A union has lost a field.
     UnionField,
@@ -15,7 +15,7 @@ pub enum BreakKind {
     NewRequired,
     /// A function has a reply in one schema alone.
     Oneway,
-    /// A function's result has another type.
+    /// A function's result has another type, or stands in one schema alone.
     Result,
     /// A function throws what its callers don't know.
     Throws,

@@ -13,7 +13,7 @@ ghost use Rattle.compat_model.specs.KeptValues.{KeepsValues};
 ghost use Rattle.compat_model.specs.StructPairs.{SchemaChange, StructPair, writing_schema, reading_schema, pairs_reached};
 
 /// Where a new schema has no break, every value of a struct that is written as the first of a pair is kept where it is read as the
-/// second: a known field is there, with an equal value or one that is kept in turn.
+/// second: its fields that the reader declares are there, equal or kept in turn; or it has too many levels or values.
 pub fn compatible_values_are_kept()
     ensures { (ch : SchemaChange) (n : ℕ) (p : StructPair) → IsSound ch.old → IsSound ch.new → IsCompatible ch → Contains (pairs_reached ch n) p
         → KeepsValues (writing_schema ch p.backward) p.from (reading_schema ch p.backward) p.to }
@@ -24,7 +24,7 @@ pub fn a_break_is_no_compatibility()
     ensures { (ch : SchemaChange) (b : PlainBreak) → IsFirstBreak ch b → IsCompatible ch → ⊥ }
 {}
 
-/// A change has one first break.
+/// A change has one first break at most.
 pub fn the_break_is_determined()
     ensures { (ch : SchemaChange) (b other : PlainBreak) → IsFirstBreak ch b → IsFirstBreak ch other → b ≡ other }
 {}

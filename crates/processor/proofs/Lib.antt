@@ -1,3 +1,4 @@
 mod Sized
 mod Texts
 mod GoingBack
+mod Arguing

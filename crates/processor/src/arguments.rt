@@ -1,23 +1,21 @@
-//! The arguments of a call, read and projected.
+//! The arguments of a call, read by what the function declares.
 
 ghost use Rattle.std.specs.Prelude.{◌≡◌, ◌≤◌, length, map, IfOk};
-ghost use Rattle.thrift_value.specs.declared.tag.Tag.TheVariants.{Struct as StructTag};
-ghost use Rattle.thrift_value.specs.Tags.{tag_of};
 ghost use Rattle.thrift_value.specs.TreeOf.{tree_of};
 ghost use Rattle.schema.specs.SchemaOf.{schema_of};
 ghost use Rattle.schema.specs.Sound.{IsSound, IsPlaceIn};
 ghost use Rattle.struct_skew.specs.Needs.{needs_of};
-ghost use Rattle.struct_skew.specs.Projection.{projection};
-ghost use Rattle.wire_model.specs.Answering.{AnswersOrNoMemory};
-ghost use Rattle.wire_model.specs.Place.{struct_at};
-ghost use Rattle.call_model.specs.Arguments.{wire_of, projected_or_fault, arguments_at};
+ghost use Rattle.struct_skew.specs.ReadAs.{ArgsOrNoMemory, read_then_projected};
+ghost use Rattle.call_model.specs.Arguments.{wire_of, arguments_at};
 ghost use Rattle.processor.specs.Seen.{arguments_seen};
 
+use binary_codec::BinaryWire;
+use compact_codec::CompactWire;
 use envelope::Protocol;
 use schema::Schema;
 use std::alloc::{AllocError, Global};
-use struct_skew::{NeededFields, SkewFault, project_with};
-use thrift_value::{Raw, Value, WireFault};
+use struct_skew::{ArgFault, NeededFields, SkewFault, read_as_with};
+use thrift_value::{Value, WireFault};
 
 /// Why there are no arguments.
 #[derive(Clone, Copy)]
@@ -28,47 +26,33 @@ pub(crate) enum ArgumentFault {
     Skew(SkewFault),
 }
 
-/// The struct at a place of a payload, as it was sent.
-fn read_raw(
-    alloc: Global,
-    protocol: Protocol,
-    payload: &[u8],
-    at: usize,
-) -> Result<(Raw, usize), WireFault>
-    requires { at ≤ length payload.now }
-    ensures exact { AnswersOrNoMemory (λ x. (tree_of x.0, x.1)) result (struct_at (wire_of protocol) payload.now at) }
-    ensures tagged { IfOk result (λ x. tag_of (tree_of x.0) ≡ StructTag) }
-{
-    match protocol {
-        Protocol::Binary => binary_codec::read_struct(alloc, payload, at),
-        Protocol::Compact => compact_codec::read_struct(alloc, payload, at),
-    }
-}
-
-/// The projection of a raw struct, or its fault.
-fn projected(
+/// The struct at a place of a payload, as the struct at a number declares it.
+fn read_by(
     alloc: Global,
     schema: &Schema,
     needed: &NeededFields,
+    protocol: Protocol,
     which: u32,
-    raw: &Raw,
-) -> Result<Result<Value, ArgumentFault>, AllocError>
+    payload: &[u8],
+    at: usize,
+) -> Result<(Value, usize), ArgFault>
     requires sound { IsSound (schema_of schema.now) }
     requires needed { needed.now ≡ map needs_of (schema_of schema.now).structs }
     requires place { IsPlaceIn (schema_of schema.now).structs which }
-    requires raw_struct { tag_of (tree_of raw.now) ≡ StructTag }
-    ensures { IfOk result (λ args. arguments_seen (schema_of schema.now) args
-        ≡ projected_or_fault (schema_of schema.now) (projection (schema_of schema.now) which (tree_of raw.now))) }
+    requires within { at ≤ length payload.now }
+    ensures { ArgsOrNoMemory (λ r. (tree_of r.0, r.1)) result (read_then_projected (wire_of protocol) (schema_of schema.now) which payload.now at) }
 {
-    match project_with(alloc, schema, needed, which, raw) {
-        Ok(value) => Ok(Ok(value)),
-        Err(SkewFault::NoMemory) => Err(AllocError),
-        Err(fault) => Ok(Err(ArgumentFault::Skew(fault))),
+    match protocol {
+        Protocol::Binary => {
+            read_as_with::<BinaryWire>(alloc, schema, needed, which, payload, at)
+        }
+        Protocol::Compact => {
+            read_as_with::<CompactWire>(alloc, schema, needed, which, payload, at)
+        }
     }
 }
 
 /// The arguments at a place of a payload, or their fault.
-#[tactic(auto, unfolding(call_model::specs::Arguments::arguments_at))]
 pub(crate) fn arguments_at(
     alloc: Global,
     schema: &Schema,
@@ -85,9 +69,10 @@ pub(crate) fn arguments_at(
     ensures { IfOk result (λ args. arguments_seen (schema_of schema.now) args
         ≡ arguments_at (schema_of schema.now) protocol which payload.now at) }
 {
-    match read_raw(alloc, protocol, payload, at) {
-        Ok((raw, _behind)) => projected(alloc, schema, needed, which, &raw),
-        Err(WireFault::NoMemory) => Err(AllocError),
-        Err(fault) => Ok(Err(ArgumentFault::Wire(fault))),
+    match read_by(alloc, schema, needed, protocol, which, payload, at) {
+        Ok((value, _behind)) => Ok(Ok(value)),
+        Err(ArgFault::Wire(fault)) => Ok(Err(ArgumentFault::Wire(fault))),
+        Err(ArgFault::Skew(fault)) => Ok(Err(ArgumentFault::Skew(fault))),
+        Err(ArgFault::NoMemory) => Err(AllocError),
     }
 }

@@ -17,7 +17,7 @@ use Rattle.schema.specs.declared.types.FieldsKind.{FieldsKind}
 use Rattle.struct_skew.specs.declared.fault.SkewFault.TheVariants.{UnionFields}
 use Rattle.struct_skew.specs.Unions.{one_of_union}
 use Rattle.struct_skew.specs.declared.fault.SkewFault.{SkewFault}
-use Rattle.struct_skew.specs.Fits.{tag_of_kind}
+use Rattle.known_parts.specs.Parts.{tag_of_kind}
 use Rattle.struct_skew.specs.Latest.{by_order, with_earlier, latest_of_each}
 use Rattle.struct_skew.specs.Orders.{value_cmp, pair_cmp}
 use Rattle.struct_skew.specs.Projection.{is_union, key_cmp, map_meaning, set_meaning}

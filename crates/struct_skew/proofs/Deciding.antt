@@ -22,7 +22,7 @@ use Rattle.schema.specs.declared.types.FieldsKind.TheVariants as of_kind
 use Rattle.schema.specs.PlainKind.{PlainKind, kind_bool, kind_i8, kind_i16, kind_i32, kind_i64, kind_double, kind_text, kind_binary, kind_enum, kind_struct, kind_map, kind_set, kind_list}
 use Rattle.schema.specs.PlainSchema.{PlainField, PlainStruct}
 use Rattle.schema.specs.WrittenAs.{field_with_id, HasFieldTree, IsOneField, HasItsFields, IsWrittenAs, AreFieldsWrittenAs, AreItemsWrittenAs, ArePairsWrittenAs, MayBeWrittenAs}
-use Rattle.struct_skew.specs.Fits.{are_same_tags}
+use Rattle.known_parts.specs.Parts.{are_same_tags}
 use Rattle.struct_skew.specs.Projection.{is_required, is_union}
 use Rattle.struct_skew.specs.TidyTests.{is_below_ids, is_below_items, is_below_keys, are_rising_fields, are_rising_items, are_rising_pairs, is_tidy, are_tidy_fields, are_tidy_items, are_tidy_pairs, has_small_sizes, have_fields_small_sizes, have_items_small_sizes, have_pairs_small_sizes}
 use Rattle.struct_skew.specs.WrittenTests.{some_passes, has_field_tree, is_one_field, has_required_fields, has_its_fields, is_written_as, are_fields_written_as, are_items_written_as, are_pairs_written_as, may_be_written}
@@ -196,7 +196,7 @@ of_some None test P each = never (λ h. h)
 of_some (Some x) test P each = each x
 
 -- a field with an id
-has_field : (id : ℤ) (fields : FieldTrees) → Decides (has_field_tree id fields) (HasFieldTree id fields)
+pub has_field : (id : ℤ) (fields : FieldTrees) → Decides (has_field_tree id fields) (HasFieldTree id fields)
 has_field id no_fields = never (λ h. h)
 has_field id (field next _ more) = Decides-or (int_eq next id) (has_field_tree id more) (Decides-int_eq next id) (has_field id more)
 

@@ -17,7 +17,8 @@ use Rattle.schema.specs.Sound.{IsSoundStruct, IsSound}
 use Rattle.schema.specs.WrittenAs.{field_with_id, HasFieldTree, HasItsFields, IsOneField, IsWrittenAs, AreFieldsWrittenAs, AreItemsWrittenAs, ArePairsWrittenAs}
 use Rattle.struct_skew.specs.declared.fault.SkewFault.TheVariants.{UnionFields, TooDeep, TooMany}
 use Rattle.struct_skew.specs.Filled.{HasItsDefaults, IsFilled, AreFieldsFilled, AreItemsFilled, ArePairsFilled}
-use Rattle.struct_skew.specs.Fits.{tag_of_kind, each_item, each_pair, fits_kind}
+use Rattle.struct_skew.specs.Fits.{each_item, each_pair, fits_kind}
+use Rattle.known_parts.specs.Parts.{tag_of_kind}
 use Rattle.struct_skew.specs.Latest.{latest_of_each, ComesBefore, IsRisingBy}
 use Rattle.struct_skew.specs.Offers.{last_offer}
 use Rattle.struct_skew.specs.Projection.{is_union, counted_default, field_value, field_values, checked_struct, struct_value, key_cmp, map_meaning, set_meaning, list_meaning, meaning_of, offers_of, item_meanings, pair_meanings, bounded, projection}
@@ -96,7 +97,7 @@ module _ (structs : List PlainStruct) where
 
   mutual
     -- a value of a type fits it
-    fits_itself : (kind : PlainKind) (v : Tree) → IsWrittenAs structs kind v → fits_kind kind (plain v) ≡ true
+    pub fits_itself : (kind : PlainKind) (v : Tree) → IsWrittenAs structs kind v → fits_kind kind (plain v) ≡ true
     fits_itself kind_bool (of_bool _) typed = refl
     fits_itself kind_i8 (of_i8 _) typed = refl
     fits_itself kind_i16 (of_i16 _) typed = refl
@@ -245,7 +246,7 @@ module _ (s : PlainSchema) (sound : All (IsSoundStruct s) s.structs) where
         (pairs_mean key value k t more (tidy.0.4, tidy.1.2) typed.2 filled.2)
 
 -- a value within its bounds
-within_bounds : (v : Tree) → depth_of v ≤ 64 → count_of v ≤ 4000000 → bounded v ≡ Ok v
+pub within_bounds : (v : Tree) → depth_of v ≤ 64 → count_of v ≤ 4000000 → bounded v ≡ Ok v
 within_bounds v levels values =
     ap (λ b. cond b (Err TooDeep) (cond (nat_lt 4000000 (count_of v)) (Err TooMany) (Ok v))) (le-ltb 64 (depth_of v) levels)
     ∙ ap (λ b. cond b (Err TooMany) (Ok v)) (le-ltb 4000000 (count_of v) values)

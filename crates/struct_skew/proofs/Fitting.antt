@@ -5,8 +5,8 @@ use Rattle.thrift_value.specs.declared.tag.Tag.{Tag}
 use Rattle.thrift_value.specs.Tags.{tag_of}
 use Rattle.thrift_value.specs.Tree.{Tree, of_map, of_set, of_list, ItemTrees, PairTrees}
 use Rattle.schema.specs.PlainKind.{PlainKind, kind_map, kind_set, kind_list}
-use Rattle.struct_skew.specs.Fits.{tag_of_kind, each_item, each_pair, are_same_tags, fits_kind}
-use Rattle.struct_skew.specs.Parts.{map_of_kind, set_of_kind, list_of_kind}
+use Rattle.struct_skew.specs.Fits.{each_item, each_pair, fits_kind}
+use Rattle.known_parts.specs.Parts.{tag_of_kind, are_same_tags, map_of_kind, set_of_kind, list_of_kind}
 
 -- a map, a set and a list under a type of parts that are known, or of none
 abbrev pub map_test : PairTrees → Option (PlainKind × PlainKind) → Bool

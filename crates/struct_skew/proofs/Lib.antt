@@ -21,3 +21,9 @@ pub mod Filling
 pub mod FoundFunctions
 pub mod FoundFields
 pub mod RequiredPlaces
+pub mod Alike
+pub mod PlainAlike
+pub mod KnownAlike
+pub mod FilledParts
+pub mod Settling
+pub mod ReadParts

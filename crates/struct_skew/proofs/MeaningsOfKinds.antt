@@ -7,7 +7,7 @@ use Rattle.thrift_value.specs.Tree.{Tree, of_struct, of_map, of_set, of_list, Fi
 use Rattle.schema.specs.PlainKind.{PlainKind, kind_struct, kind_map, kind_set, kind_list}
 use Rattle.schema.specs.PlainSchema.{PlainStruct}
 use Rattle.struct_skew.specs.declared.fault.SkewFault.{SkewFault}
-use Rattle.struct_skew.specs.Parts.{struct_of_kind, map_of_kind, set_of_kind, list_of_kind}
+use Rattle.known_parts.specs.Parts.{struct_of_kind, map_of_kind, set_of_kind, list_of_kind}
 use Rattle.struct_skew.specs.Projection.{meaning_of, offers_of, item_meanings, pair_meanings, struct_value, map_meaning, set_meaning, list_meaning}
 use Rattle.struct_skew.specs.Results.{with_value}
 

@@ -1,4 +1,4 @@
--- The fields that have to be there, by their places.
+-- Declared fields by their places, as those that have to be there.
 use Rattle.std.proofs.Common.{◌≡◌, ℕ, zero, suc, ◌+◌, Bool, true, false, cond, List, [], ◌∷◌, Option, Some, None, refl, sym, ap, ap₂, ◌∙◌, arith}
 use Rattle.std.specs.Prelude.{⊤, map, not, ◌&&◌, ◌||◌, MatchOption, unwrap_or}
 use Rattle.std.specs.List.{slice_get}
@@ -10,27 +10,31 @@ use Rattle.schema.specs.LookUp.{fields_at}
 use Rattle.schema.specs.PlainSchema.{PlainField, PlainStruct, PlainSchema}
 use Rattle.schema.specs.SchemaOf.{plain_field, plain_struct}
 use Rattle.struct_skew.specs.Needs.{places_from, is_required_field}
-use Rattle.struct_skew.specs.WrittenTests.{some_passes, has_field_tree, has_field_at, has_fields_at, has_required_fields, has_its_fields, is_struct_written, are_fields_written_as}
+use Rattle.struct_skew.specs.WrittenTests.{some_passes, has_field_tree, has_field_at, has_fields_at, has_fields_where, has_required_fields, has_its_fields, is_struct_written, are_fields_written_as}
 use Rattle.struct_skew.proofs.StructsAt.{slice_get-map}
 
 -- of a list's end, which begins at a place of the whole
-required_from : (fields : FieldTrees) (all : List PlainField) (n : ℕ) (fs : List PlainField) → ((k : ℕ) → slice_get all (n + k) ≡ slice_get fs k)
-    → has_fields_at all (places_from is_required_field n fs) fields ≡ has_required_fields fs fields
-required_from _ all n [] at = refl
-required_from fields all n (f ∷ fs) at =
-    by_need (is_required_field f) (required_from fields all (n + 1) fs (λ k. ap (slice_get all) (omega arith) ∙ at (suc k)))
+there_from : (test : PlainField → Bool) (fields : FieldTrees) (all : List PlainField) (n : ℕ) (fs : List PlainField) → ((k : ℕ) → slice_get all (n + k) ≡ slice_get fs k)
+    → has_fields_at all (places_from test n fs) fields ≡ has_fields_where test fs fields
+there_from test _ all n [] at = refl
+there_from test fields all n (f ∷ fs) at =
+    by_test (test f) (there_from test fields all (n + 1) fs (λ k. ap (slice_get all) (omega arith) ∙ at (suc k)))
   where
     here : slice_get all n ≡ Some f
     here = ap (slice_get all) (omega arith) ∙ at zero
 
-    by_need : (b : Bool) → has_fields_at all (places_from is_required_field (n + 1) fs) fields ≡ has_required_fields fs fields
-        → has_fields_at all (cond b (n ∷ places_from is_required_field (n + 1) fs) (places_from is_required_field (n + 1) fs)) fields
-        ≡ ((not b || has_field_tree f.id fields) && has_required_fields fs fields)
-    by_need true rest = ap₂ (λ o r. some_passes o (λ g. has_field_tree g.id fields) && r) here rest
-    by_need false rest = rest
+    by_test : (b : Bool) → has_fields_at all (places_from test (n + 1) fs) fields ≡ has_fields_where test fs fields
+        → has_fields_at all (cond b (n ∷ places_from test (n + 1) fs) (places_from test (n + 1) fs)) fields
+        ≡ ((not b || has_field_tree f.id fields) && has_fields_where test fs fields)
+    by_test true rest = ap₂ (λ o r. some_passes o (λ g. has_field_tree g.id fields) && r) here rest
+    by_test false rest = rest
+
+-- the fields at the places of those that pass a test are these
+pub there_at_places : (test : PlainField → Bool) (fields : FieldTrees) (fs : List PlainField) → has_fields_at fs (places_from test 0 fs) fields ≡ has_fields_where test fs fields
+there_at_places test fields fs = there_from test fields fs 0 fs (λ k. ap (slice_get fs) (omega arith))
 
 pub required_places : (fields : FieldTrees) (fs : List PlainField) → has_fields_at fs (places_from is_required_field 0 fs) fields ≡ has_required_fields fs fields
-required_places fields fs = required_from fields fs 0 fs (λ k. ap (slice_get fs) (omega arith))
+required_places fields fs = there_at_places is_required_field fields fs
 
 -- a declared field in memory, at its place
 pub at_place : (ds : List FieldDesc) (p : ℕ) (o : Option FieldDesc) (fields : FieldTrees) → o ≡ slice_get ds p

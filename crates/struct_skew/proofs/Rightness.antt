@@ -25,7 +25,8 @@ use Rattle.schema.specs.Sound.{IsKindIn, IsPlaceIn, IsSoundField, IsSoundStruct,
 use Rattle.schema.specs.WrittenAs.{field_with_id, HasFieldTree, HasItsFields, IsOneField, IsWrittenAs, AreFieldsWrittenAs, AreItemsWrittenAs, ArePairsWrittenAs}
 use Rattle.struct_skew.specs.declared.fault.SkewFault.{SkewFault}
 use Rattle.struct_skew.specs.declared.fault.SkewFault.TheVariants.{Missing, UnionFields}
-use Rattle.struct_skew.specs.Fits.{tag_of_kind, each_item, each_pair, fits_kind}
+use Rattle.struct_skew.specs.Fits.{each_item, each_pair, fits_kind}
+use Rattle.known_parts.specs.Parts.{tag_of_kind}
 use Rattle.struct_skew.specs.Latest.{latest_of_each, ComesBefore, IsRisingBy}
 use Rattle.struct_skew.specs.Offers.{Offer, is_offer_of, last_offer, last_offer_behind}
 use Rattle.struct_skew.specs.Projection.{is_required, is_union, counted_default, unsent_value, field_value, field_values, checked_struct, struct_value, key_cmp, map_meaning, set_meaning, list_meaning, meaning_of, offers_of, item_meanings, pair_meanings}

@@ -6,8 +6,7 @@ use Rattle.thrift_value.specs.Tags.{tag_of}
 use Rattle.thrift_value.specs.Tree.{Tree, of_struct, of_map, of_set, of_list, FieldTrees, ItemTrees, PairTrees}
 use Rattle.schema.specs.PlainKind.{PlainKind, kind_bool, kind_i8, kind_i16, kind_i32, kind_i64, kind_double, kind_text, kind_binary, kind_enum, kind_struct, kind_map, kind_set, kind_list}
 use Rattle.schema.specs.PlainSchema.{PlainStruct}
-use Rattle.struct_skew.specs.Fits.{tag_of_kind, are_same_tags}
-use Rattle.struct_skew.specs.Parts.{struct_of_kind, map_of_kind, set_of_kind, list_of_kind}
+use Rattle.known_parts.specs.Parts.{tag_of_kind, are_same_tags, struct_of_kind, map_of_kind, set_of_kind, list_of_kind}
 use Rattle.struct_skew.specs.WrittenTests.{is_written_as, is_struct_written, are_items_written_as, are_pairs_written_as}
 use Rattle.struct_skew.proofs.MeaningsOfKinds.{IsScalar}
 

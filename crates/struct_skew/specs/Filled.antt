@@ -5,7 +5,7 @@ use Rattle.thrift_value.specs.Tree.{Tree, of_struct, of_map, of_set, of_list, Fi
 use Rattle.schema.specs.PlainKind.{PlainKind, kind_struct, kind_map, kind_set, kind_list}
 use Rattle.schema.specs.PlainSchema.{PlainField, PlainStruct}
 use Rattle.schema.specs.WrittenAs.{field_with_id, HasFieldTree}
-use Rattle.struct_skew.specs.Fits.{tag_of_kind}
+use Rattle.known_parts.specs.Parts.{tag_of_kind}
 use Rattle.struct_skew.specs.Projection.{counted_default}
 
 -- each field with a default that counts is there

@@ -1,26 +1,9 @@
 -- Which raw values count under a type.
-use Rattle.std.specs.Prelude.{Bool, true, ◌&&◌, ◌==◌}
-use Rattle.thrift_value.specs.declared.tag.Tag.{Tag}
-use Rattle.thrift_value.specs.declared.tag.Tag.TheVariants as tag
-use Rattle.thrift_value.specs.Tags.{tag_of, rank}
+use Rattle.std.specs.Prelude.{Bool, true, ◌&&◌}
+use Rattle.thrift_value.specs.Tags.{tag_of}
 use Rattle.thrift_value.specs.Tree.{Tree, of_map, of_set, of_list, ItemTrees, no_items, item, PairTrees, no_pairs, pair}
-use Rattle.schema.specs.PlainKind.{PlainKind, kind_bool, kind_i8, kind_i16, kind_i32, kind_i64, kind_double, kind_text, kind_binary, kind_enum, kind_struct, kind_map, kind_set, kind_list}
-
--- the tag of the values of a type; an enum is a number of 32 bits
-abbrev pub tag_of_kind : PlainKind → Tag
-tag_of_kind kind_bool = tag.Bool
-tag_of_kind kind_i8 = tag.I8
-tag_of_kind kind_i16 = tag.I16
-tag_of_kind kind_i32 = tag.I32
-tag_of_kind kind_i64 = tag.I64
-tag_of_kind kind_double = tag.Double
-tag_of_kind kind_text = tag.Bytes
-tag_of_kind kind_binary = tag.Bytes
-tag_of_kind (kind_enum _) = tag.I32
-tag_of_kind (kind_struct _) = tag.Struct
-tag_of_kind (kind_map _ _) = tag.Map
-tag_of_kind (kind_set _) = tag.Set
-tag_of_kind (kind_list _) = tag.List
+use Rattle.schema.specs.PlainKind.{PlainKind, kind_map, kind_set, kind_list}
+use Rattle.known_parts.specs.Parts.{tag_of_kind, are_same_tags}
 
 -- each element passes a test
 abbrev pub each_item : (Tree → Bool) → ItemTrees → Bool
@@ -31,10 +14,6 @@ each_item test (item value more) = test value && each_item test more
 abbrev pub each_pair : (Tree → Bool) → (Tree → Bool) → PairTrees → Bool
 each_pair key_test value_test no_pairs = true
 each_pair key_test value_test (pair key value more) = (key_test key && value_test value) && each_pair key_test value_test more
-
--- two tags are the same
-abbrev pub are_same_tags : Tag → Tag → Bool
-are_same_tags one other = rank one == rank other
 
 -- a raw value fits a type: the tags agree, and each element of a container fits its declared type, deeply; so an empty container
 -- fits whatever tags it names, and a struct whatever its fields are (own choice: generated readers look at no element's type)

@@ -1,5 +1,4 @@
 pub mod Fits
-pub mod Parts
 pub mod Latest
 pub mod Merging
 pub mod Offers
@@ -11,8 +10,9 @@ pub mod Unions
 pub mod Plan
 pub mod Orders
 pub mod Structs
-pub mod Rows
 pub mod TidyTests
 pub mod WrittenTests
 pub mod ProjectionLaws
 pub mod Filled
+pub mod FilledTests
+pub mod ReadAs

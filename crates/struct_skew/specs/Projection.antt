@@ -14,7 +14,7 @@ use Rattle.schema.specs.PlainKind.{PlainKind, kind_struct, kind_map, kind_set, k
 use Rattle.schema.specs.PlainSchema.{PlainField, PlainStruct, PlainSchema}
 use Rattle.struct_skew.specs.declared.fault.SkewFault.{SkewFault}
 use Rattle.struct_skew.specs.declared.fault.SkewFault.TheVariants.{Missing, UnionFields, TooDeep, TooMany}
-use Rattle.struct_skew.specs.Fits.{tag_of_kind}
+use Rattle.known_parts.specs.Parts.{tag_of_kind}
 use Rattle.struct_skew.specs.Latest.{latest_of_each}
 use Rattle.struct_skew.specs.Offers.{Offer, last_offer}
 use Rattle.struct_skew.specs.Results.{with_value, and_if_ok, both_values, with_first, with_field_value}

@@ -6,7 +6,7 @@ use Rattle.thrift_value.specs.Order.{tree_cmp}
 use Rattle.thrift_value.specs.Sizes.{items_len, pairs_len}
 use Rattle.thrift_value.specs.Tags.{tag_of}
 use Rattle.thrift_value.specs.Tree.{Tree, of_bytes, of_struct, of_map, of_set, of_list, FieldTrees, no_fields, field, ItemTrees, no_items, item, PairTrees, no_pairs, pair}
-use Rattle.struct_skew.specs.Fits.{are_same_tags}
+use Rattle.known_parts.specs.Parts.{are_same_tags}
 
 -- an id is below the id of each of the fields
 abbrev pub is_below_ids : ℤ → FieldTrees → Bool

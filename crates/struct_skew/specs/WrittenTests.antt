@@ -6,7 +6,8 @@ use Rattle.thrift_value.specs.Tree.{Tree, of_bool, of_i8, of_i16, of_i32, of_i64
 use Rattle.schema.specs.PlainKind.{PlainKind, kind_bool, kind_i8, kind_i16, kind_i32, kind_i64, kind_double, kind_text, kind_binary, kind_enum, kind_struct, kind_map, kind_set, kind_list}
 use Rattle.schema.specs.PlainSchema.{PlainField, PlainStruct}
 use Rattle.schema.specs.WrittenAs.{field_with_id}
-use Rattle.struct_skew.specs.Projection.{is_required, is_union}
+use Rattle.struct_skew.specs.Needs.{is_required_field}
+use Rattle.struct_skew.specs.Projection.{is_union}
 use Rattle.struct_skew.specs.TidyTests.{has_small_sizes}
 
 -- there is an item, and it passes a test
@@ -24,10 +25,14 @@ abbrev pub is_one_field : FieldTrees → Bool
 is_one_field (field _ _ no_fields) = true
 is_one_field _ = false
 
+-- each of the declared fields that pass a test is there
+abbrev pub has_fields_where : (PlainField → Bool) → List PlainField → FieldTrees → Bool
+has_fields_where test [] _ = true
+has_fields_where test (f ∷ fs) fields = (not (test f) || has_field_tree f.id fields) && has_fields_where test fs fields
+
 -- each of the declared fields that has to be there is there
 abbrev pub has_required_fields : List PlainField → FieldTrees → Bool
-has_required_fields [] _ = true
-has_required_fields (f ∷ fs) fields = (not (is_required f.need) || has_field_tree f.id fields) && has_required_fields fs fields
+has_required_fields declared fields = has_fields_where is_required_field declared fields
 
 -- there is a declared field at a place, and it is there
 abbrev pub has_field_at : List PlainField → ℕ → FieldTrees → Bool

@@ -1,125 +1,12 @@
-//! What the types of a schema ask of raw values.
+//! Whether a raw value fits a type.
 ghost use Rattle.std.specs.Prelude.{◌≡◌, map};
-ghost use Rattle.std.specs.Option.{option_copied, option_map};
 ghost use Rattle.thrift_value.specs.TreeOf.{tree_of, item_trees, pair_tree, pair_trees};
 ghost use Rattle.schema.specs.PlainKind.{kind_of};
-ghost use Rattle.struct_skew.specs.Fits.{tag_of_kind, are_same_tags, each_item, each_pair, fits_kind};
-ghost use Rattle.struct_skew.specs.Parts.{struct_of_kind, map_of_kind, set_of_kind, list_of_kind};
+ghost use Rattle.struct_skew.specs.Fits.{each_item, each_pair, fits_kind};
 
+use known_parts::{are_same_tags, list_of_kind, map_of_kind, set_of_kind, tag_of_kind};
 use schema::TypeDesc;
-use thrift_value::{Tag, Value};
-
-/// The tag of the values of a type.
-pub(crate) fn tag_of_kind(kind: &TypeDesc) -> Tag
-    ensures { result ≡ tag_of_kind (kind_of kind.now) }
-{
-    match kind {
-        TypeDesc::Bool => Tag::Bool,
-        TypeDesc::I8 => Tag::I8,
-        TypeDesc::I16 => Tag::I16,
-        TypeDesc::I32 => Tag::I32,
-        TypeDesc::I64 => Tag::I64,
-        TypeDesc::Double => Tag::Double,
-        TypeDesc::Text => Tag::Bytes,
-        TypeDesc::Binary => Tag::Bytes,
-        TypeDesc::Enum(_) => Tag::I32,
-        TypeDesc::Struct(_) => Tag::Struct,
-        TypeDesc::Map(_, _) => Tag::Map,
-        TypeDesc::Set(_) => Tag::Set,
-        TypeDesc::List(_) => Tag::List,
-    }
-}
-
-/// The number of a struct's type.
-pub(crate) fn struct_of_kind(kind: &TypeDesc) -> Option<u32>
-    ensures { result ≡ struct_of_kind (kind_of kind.now) }
-{
-    match kind {
-        TypeDesc::Struct(which) => Some(*which),
-        TypeDesc::Bool
-        | TypeDesc::I8
-        | TypeDesc::I16
-        | TypeDesc::I32
-        | TypeDesc::I64
-        | TypeDesc::Double
-        | TypeDesc::Text
-        | TypeDesc::Binary
-        | TypeDesc::Enum(_)
-        | TypeDesc::Map(_, _)
-        | TypeDesc::Set(_)
-        | TypeDesc::List(_) => None,
-    }
-}
-
-/// The types of a map's keys and values.
-pub(crate) fn map_of_kind(kind: &TypeDesc) -> Option<(&TypeDesc, &TypeDesc)>
-    ensures { option_map (λ p. (kind_of p.0.now, kind_of p.1.now)) result ≡ map_of_kind (kind_of kind.now) }
-{
-    match kind {
-        TypeDesc::Map(key, value) => Some((key, value)),
-        TypeDesc::Bool
-        | TypeDesc::I8
-        | TypeDesc::I16
-        | TypeDesc::I32
-        | TypeDesc::I64
-        | TypeDesc::Double
-        | TypeDesc::Text
-        | TypeDesc::Binary
-        | TypeDesc::Enum(_)
-        | TypeDesc::Struct(_)
-        | TypeDesc::Set(_)
-        | TypeDesc::List(_) => None,
-    }
-}
-
-/// The type of a set's members.
-pub(crate) fn set_of_kind(kind: &TypeDesc) -> Option<&TypeDesc>
-    ensures { option_map kind_of (option_copied result) ≡ set_of_kind (kind_of kind.now) }
-{
-    match kind {
-        TypeDesc::Set(member) => Some(member),
-        TypeDesc::Bool
-        | TypeDesc::I8
-        | TypeDesc::I16
-        | TypeDesc::I32
-        | TypeDesc::I64
-        | TypeDesc::Double
-        | TypeDesc::Text
-        | TypeDesc::Binary
-        | TypeDesc::Enum(_)
-        | TypeDesc::Struct(_)
-        | TypeDesc::Map(_, _)
-        | TypeDesc::List(_) => None,
-    }
-}
-
-/// The type of a list's elements.
-pub(crate) fn list_of_kind(kind: &TypeDesc) -> Option<&TypeDesc>
-    ensures { option_map kind_of (option_copied result) ≡ list_of_kind (kind_of kind.now) }
-{
-    match kind {
-        TypeDesc::List(element) => Some(element),
-        TypeDesc::Bool
-        | TypeDesc::I8
-        | TypeDesc::I16
-        | TypeDesc::I32
-        | TypeDesc::I64
-        | TypeDesc::Double
-        | TypeDesc::Text
-        | TypeDesc::Binary
-        | TypeDesc::Enum(_)
-        | TypeDesc::Struct(_)
-        | TypeDesc::Map(_, _)
-        | TypeDesc::Set(_) => None,
-    }
-}
-
-/// Whether two tags are the same.
-pub(crate) fn are_same_tags(one: Tag, other: Tag) -> bool
-    ensures { result ≡ are_same_tags one other }
-{
-    one.cmp(&other).is_eq()
-}
+use thrift_value::Value;
 
 /// Whether a raw value fits a type. It recurses once a level that both have.
 #[tactic(auto, using(thrift_value::proofs::Trees::tree_equations, crate::proofs::Fitting::fits_map, crate::proofs::Fitting::fits_set, crate::proofs::Fitting::fits_list, crate::proofs::Fitting::fits_by_tag))]

@@ -2,13 +2,13 @@
 //! projection keeps the known fields, puts in defaults, and names what is missing.
 //!
 //! ```
-//! let needed = needed_fields(alloc, &schema)?;                    // once a schema
-//! let (raw, behind) = read_struct(alloc, payload, at)?;           // of binary_codec or compact_codec
-//! match project_with(alloc, &schema, &needed, which, &raw) {
-//!     Ok(value) => call(value),                                   // the declared fields alone
-//!     Err(SkewFault::Missing(which, id)) => complain(which, id),  // and so on
+//! let needed = needed_fields(alloc, &schema)?;                                        // once a schema
+//! match read_as_with::<BinaryWire>(alloc, &schema, &needed, which, payload, at) {     // of binary_codec, or CompactWire
+//!     Ok((value, behind)) => call(value),                                             // the declared fields alone
+//!     Err(ArgFault::Skew(SkewFault::Missing(which, id))) => complain(which, id),      // and so on
 //!     Err(_) => give_up(),
 //! }
+//! let value = project_with(alloc, &schema, &needed, which, &raw)?;                    // of a struct that stands in memory
 //! if value.is_tidy() && fits_with(&schema, &needed, &kind, &value) {   // what a handler answered
 //!     write(value);
 //! }
@@ -18,10 +18,12 @@
 //! `Projection.antt`, in this order; [`worked_fields`] and its kin have worked rows. Whether a value may be written under a type is
 //! said by `specs/WrittenTests.antt`, as a test that computes; [`the_tests_decide`] ties it to the schema's definition.
 //!
-//! Not here: bytes on a wire. A projection recurses once a level of the raw value, and `fits` once a level of its value. Where the
-//! defaults of a projection take more than 320 MB it answers want of memory, since few bytes can ask for many of them.
+//! Not here: how bytes stand for values, which a protocol says as a type. A projection recurses once a level of the raw value, and
+//! `fits` once a level of its value. Where the defaults of a projection take more than 320 MB it answers want of memory, since few
+//! bytes can ask for many of them.
 #![tactic(auto)]
 
+mod arg_fault;
 mod fault;
 mod kinds;
 mod laws;
@@ -30,19 +32,25 @@ mod needs;
 mod order;
 mod plan;
 mod public;
+mod reading;
 mod rows;
+mod settled;
 mod structs;
 mod values;
 mod written;
 
+pub use arg_fault::ArgFault;
 pub use fault::SkewFault;
 pub use laws::{
     a_fault_names_what_is_declared, a_filled_value_is_its_projection, a_found_function_is_sound,
-    a_projection_is_of_its_type, the_tests_decide,
+    a_projection_is_of_its_type, settled_values_mean_themselves, the_tests_decide,
+    what_is_known_decides,
 };
 pub use needs::{NeededFields, needed_fields};
 pub use public::{project, project_with};
+pub use reading::{read_as, read_as_with};
 pub use rows::{
     a_projection_is_bounded, worked_containers, worked_fields, worked_levels, worked_unions,
 };
+pub use settled::is_settled;
 pub use written::{fits, fits_with};

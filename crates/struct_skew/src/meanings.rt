@@ -13,7 +13,6 @@ ghost use Rattle.struct_skew.specs.Plan.{chosen_field, offer_at, planned_fields}
 ghost use Rattle.struct_skew.specs.Projection.{field_value, item_meanings, meaning_of, offers_of, pair_meanings, struct_value};
 
 use crate::fault::SkewFault;
-use crate::kinds::{list_of_kind, map_of_kind, set_of_kind, struct_of_kind};
 use crate::needs::{NeededFields, item};
 use crate::plan::{Choice, plan_of};
 use crate::structs::struct_at;
@@ -21,6 +20,7 @@ use crate::values::{
     as_field, both_of, checked_struct, copy_of, empty_struct, list_of, map_of, put_any, put_found,
     set_of, some_of, unsent_value,
 };
+use known_parts::{list_of_kind, map_of_kind, set_of_kind, struct_of_kind};
 use schema::{FieldDesc, Schema, StructDesc, StructKind, TypeDesc};
 use std::alloc::Global;
 use thrift_value::Value;

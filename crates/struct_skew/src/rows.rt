@@ -7,7 +7,7 @@ ghost use Rattle.thrift_value.specs.Tree.{Tree, of_i32, of_bytes, of_struct, of_
 ghost use Rattle.schema.specs.PlainKind.{kind_i32, kind_list, kind_struct};
 ghost use Rattle.struct_skew.specs.Fits.{fits_kind};
 ghost use Rattle.struct_skew.specs.Projection.{projection};
-ghost use Rattle.struct_skew.specs.Rows.{row_schema, sent_one, row_lists, nested_empty};
+ghost use Rattle.known_parts.specs.Rows.{row_schema, sent_one, row_lists, nested_empty};
 ghost use Rattle.struct_skew.specs.declared.fault.SkewFault.TheVariants as skew;
 
 /// Which field counts, and what stands for one that wasn't sent.

@@ -14,9 +14,9 @@ ghost use Rattle.struct_skew.specs.declared.fault.SkewFault.{SkewFault as Skew};
 ghost use Rattle.struct_skew.specs.declared.fault.SkewFault.TheVariants.{NoMemory};
 
 use crate::fault::SkewFault;
-use crate::kinds::tag_of_kind;
 use crate::needs::{is_required, is_union};
 use crate::order::{Keyed, in_order};
+use known_parts::tag_of_kind;
 use limits::{MOST_LEVELS, MOST_VALUES};
 use schema::{FieldDesc, StructKind, TypeDesc};
 use std::alloc::Global;

@@ -14,10 +14,10 @@ ghost use Rattle.struct_skew.specs.Needs.{is_required_field, needs_of, places_fr
 ghost use Rattle.struct_skew.specs.TidyTests.{has_small_sizes};
 ghost use Rattle.struct_skew.specs.WrittenTests.{are_fields_written_as, are_items_written_as, are_pairs_written_as, has_field_at, has_field_tree, has_fields_at, has_its_fields, has_required_fields, is_one_field, is_struct_written, is_written_as, may_be_written};
 
-use crate::kinds::{
+use crate::needs::{NeededFields, is_required, is_union, item};
+use known_parts::{
     are_same_tags, list_of_kind, map_of_kind, set_of_kind, struct_of_kind, tag_of_kind,
 };
-use crate::needs::{NeededFields, is_required, is_union, item};
 use schema::{FieldDesc, Schema, StructDesc, TypeDesc};
 use thrift_value::Value;
 
@@ -71,7 +71,11 @@ fn has_field_at(declared: &[FieldDesc], place: usize, fields: &[(i16, Value)]) -
 }
 
 /// Whether the declared field at each of these places is there.
-fn has_fields_at(declared: &[FieldDesc], places: &[usize], fields: &[(i16, Value)]) -> bool
+pub(crate) fn has_fields_at(
+    declared: &[FieldDesc],
+    places: &[usize],
+    fields: &[(i16, Value)],
+) -> bool
     ensures { result ≡ has_fields_at (map plain_field declared.now) places.now (field_trees (map field_tree fields.now)) }
 {
     for place in places {
@@ -132,7 +136,7 @@ fn required_of<'a>(
 }
 
 /// The declared field with an id of the struct at a number.
-fn declared_field<'a>(schema: &'a Schema, which: u32, id: &i16) -> Option<&'a FieldDesc>
+pub(crate) fn declared_field<'a>(schema: &'a Schema, which: u32, id: &i16) -> Option<&'a FieldDesc>
     requires { IsSound (schema_of schema.now) }
     ensures { option_map plain_field (option_copied result) ≡ field_with_id id.now (fields_at (schema_of schema.now) which) }
 {
@@ -142,7 +146,7 @@ fn declared_field<'a>(schema: &'a Schema, which: u32, id: &i16) -> Option<&'a Fi
 /// Whether a value is of a type. It recurses once a level that both have.
 #[tactic(auto, using(thrift_value::proofs::Trees::tree_equations, crate::proofs::Writing::written_equations))]
 #[cycle(writing)]
-fn is_written_as(
+pub(crate) fn is_written_as(
     value: &Value,
     schema: &Schema,
     needed: Option<&NeededFields>,

@@ -5,7 +5,7 @@ use Rattle.std.specs.Ordering.{int_eq}
 use Rattle.schema.specs.PlainKind.{PlainKind, kind_i32, kind_enum}
 use Rattle.schema.specs.PlainSchema.{PlainField, PlainStruct, PlainFunction, PlainSchema}
 use Rattle.schema.specs.LookUp.{function_named}
-use Rattle.struct_skew.specs.Parts.{struct_of_kind}
+use Rattle.known_parts.specs.Parts.{struct_of_kind}
 use Rattle.struct_skew.specs.Projection.{is_required, is_union}
 use Rattle.struct_skew.specs.WrittenTests.{some_passes}
 

@@ -6,7 +6,7 @@ ghost use Rattle.std.specs.Option.{option_copied};
 ghost use Rattle.schema.specs.PlainKind.{kind_of};
 ghost use Rattle.schema.specs.SchemaOf.{schema_of, plain_field, plain_function};
 ghost use Rattle.schema.specs.Sound.{IsSound};
-ghost use Rattle.struct_skew.specs.Parts.{struct_of_kind};
+ghost use Rattle.known_parts.specs.Parts.{struct_of_kind};
 ghost use Rattle.struct_skew.specs.Projection.{is_required, is_union};
 ghost use Rattle.workload.specs.CalculatorTests.{is_number, is_enum, holds_number, holds_enum, may_be_missing, are_work_fields, passes_as_struct, is_work, are_two_numbers, are_number_and_work, gives_number, is_add, is_calculate, is_calculator};
 

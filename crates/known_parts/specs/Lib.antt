@@ -1,0 +1,4 @@
+pub mod Parts
+pub mod Known
+pub mod KnownAt
+pub mod Rows

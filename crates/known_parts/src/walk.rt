@@ -1,0 +1,257 @@
+//! Reading by type: what is declared and fits is kept, and all else is passed over.
+ghost use Rattle.std.specs.Prelude.{◌≡◌, ◌≤◌, length, pos, Some, None};
+ghost use Rattle.wire_num.specs.Encoded.{AreByteSized};
+ghost use Rattle.std.specs.Option.{option_map};
+ghost use Rattle.thrift_value.specs.Tree.{of_bytes};
+ghost use Rattle.thrift_value.specs.TreeOf.{tree_of, fields_tree, items_tree, pairs_tree};
+ghost use Rattle.schema.specs.PlainKind.{kind_of};
+ghost use Rattle.schema.specs.SchemaOf.{schema_of};
+ghost use Rattle.schema.specs.Sound.{IsSound};
+ghost use Rattle.wire_model.specs.Answering.{AnswersOrNoMemory};
+ghost use Rattle.wire_model.specs.AtPlace.{head_of};
+ghost use Rattle.wire_model.specs.Wire.{IsScalar};
+ghost use Rattle.wire_model.specs.declared.one_pass.FieldHead.TheVariants.{Field};
+ghost use Rattle.wire_model.specs.Reading.{value, field_list, item_list, pair_list};
+ghost use Rattle.known_parts.specs.Known.{known, known_fields, known_items, known_pairs};
+ghost use Rattle.known_parts.specs.KnownAt.{head_value, known_value_at, read_seen};
+ghost use Rattle.known_parts.specs.Parts.{tag_of_kind};
+
+use crate::kinds::{are_same_tags, tag_of_kind};
+use crate::parts::{
+    both, declared_field, deeper, element_kind, keep, keep_some, kept_text, known_flag, list_of,
+    map_kinds, map_of, member_kind, set_of, struct_kind,
+};
+use crate::passing::{pass_items, pass_pairs};
+use crate::rest::{Rest, field, items, pairs, scalar, skip, span};
+use schema::{Schema, TypeDesc};
+use std::alloc::Global;
+use thrift_value::{Fields, Items, Pairs, Tag, Value, WireFault};
+use wire_model::laws::value_read_is_spelled;
+use wire_model::{FieldHead, Wire};
+
+/// Passes over a value whose tag isn't that of a type, so that nothing is known of it.
+fn unknown<'a, W: Wire>(
+    rest: Rest<'a>,
+    levels: u32,
+    tag: Tag,
+) -> Result<(Option<Value>, Rest<'a>), WireFault>
+    requires { levels ≤ 64 }
+    ensures { AnswersOrNoMemory (λ r. (option_map tree_of r.0, r.1)) result (read_seen (λ x. None) (value W.wire levels tag rest.entry)) }
+{
+    let rest = skip::<W>(rest, levels, tag)?;
+    Ok((None, rest))
+}
+
+/// The text in front, which is known.
+fn known_text<'a, W: Wire>(
+    alloc: Global,
+    rest: Rest<'a>,
+) -> Result<(Option<Value>, Rest<'a>), WireFault>
+    ensures { AnswersOrNoMemory (λ r. (option_map tree_of r.0, r.1)) result (read_seen (λ text. Some (of_bytes text)) (W.wire.span rest.entry)) }
+{
+    let (text, rest) = span::<W>(rest)?;
+    let value = kept_text(alloc, text)?;
+    Ok((Some(value), rest))
+}
+
+/// The value in front of a tag that is no text, struct or container, which is known.
+fn known_number<'a, W: Wire>(
+    rest: Rest<'a>,
+    tag: Tag,
+) -> Result<(Option<Value>, Rest<'a>), WireFault>
+    requires { IsScalar tag }
+    ensures { AnswersOrNoMemory (λ r. (option_map tree_of r.0, r.1)) result (read_seen (λ x. Some x) (W.wire.scalar tag rest.entry)) }
+{
+    let (value, rest) = scalar::<W>(rest, tag)?;
+    Ok((Some(value), rest))
+}
+
+/// What a type knows of the value of a tag in front, with so many levels that may still be opened.
+#[cycle(knowing)]
+pub(crate) fn known_value<'a, W: Wire>(
+    alloc: Global,
+    rest: Rest<'a>,
+    levels: u32,
+    schema: &Schema,
+    kind: &TypeDesc,
+    tag: Tag,
+) -> Result<(Option<Value>, Rest<'a>), WireFault>
+    requires sound { IsSound (schema_of schema.now) }
+    requires levels { levels ≤ 64 }
+    ensures { AnswersOrNoMemory (λ r. (option_map tree_of r.0, r.1)) result
+        (read_seen (λ x. known (schema_of schema.now) x (kind_of kind.now)) (value W.wire levels tag rest.entry)) }
+{
+    W::parts_agree();
+    value_read_is_spelled::<W>();
+    are_bytes(rest.bytes());
+    if !are_same_tags(tag_of_kind(kind), tag) {
+        return unknown::<W>(rest, levels, tag);
+    }
+    let rest = rest.count_value()?;
+    match tag {
+        Tag::Bytes => known_text::<W>(alloc, rest),
+        Tag::Struct => {
+            let levels = deeper(levels)?;
+            let (fields, rest) = known_fields::<W>(alloc, rest, levels, schema, struct_kind(kind))?;
+            Ok((Some(Value::Struct(fields)), rest))
+        }
+        Tag::Map => {
+            let levels = deeper(levels)?;
+            let (key_tag, value_tag, count, rest) = pairs::<W>(rest)?;
+            let (key, value) = map_kinds(kind);
+            let (found, rest) = known_pairs::<W>(
+                alloc, rest, levels, schema, key, value, key_tag, value_tag, count,
+            )?;
+            Ok((map_of(key, value, found), rest))
+        }
+        Tag::Set => {
+            let levels = deeper(levels)?;
+            let (tag, count, rest) = items::<W>(rest)?;
+            let member = member_kind(kind);
+            let (found, rest) = known_items::<W>(alloc, rest, levels, schema, member, tag, count)?;
+            Ok((set_of(member, found), rest))
+        }
+        Tag::List => {
+            let levels = deeper(levels)?;
+            let (tag, count, rest) = items::<W>(rest)?;
+            let element = element_kind(kind);
+            let (found, rest) = known_items::<W>(alloc, rest, levels, schema, element, tag, count)?;
+            Ok((list_of(element, found), rest))
+        }
+        tag => known_number::<W>(rest, tag),
+    }
+}
+
+/// Bytes are below 256.
+fn are_bytes(bytes: &[u8])
+    ensures { AreByteSized bytes.now }
+{}
+
+/// What is known of a field's value, whose header was read.
+#[cycle(knowing)]
+fn known_field<'a, W: Wire>(
+    alloc: Global,
+    rest: Rest<'a>,
+    levels: u32,
+    schema: &Schema,
+    which: u32,
+    id: &i16,
+    tag: Tag,
+    flag: Option<bool>,
+) -> Result<(Option<Value>, Rest<'a>), WireFault>
+    requires sound { IsSound (schema_of schema.now) }
+    requires levels { levels ≤ 64 }
+    ensures { AnswersOrNoMemory (λ r. (option_map tree_of r.0, r.1)) result
+        (read_seen (known_value_at (schema_of schema.now) which id.now) (head_value W.wire levels (head_of (Field id.now tag flag)) rest.entry)) }
+{
+    if let Some(flag) = flag {
+        let rest = rest.count_value()?;
+        return Ok((known_flag(schema, which, id, flag), rest));
+    }
+    match declared_field(schema, which, id) {
+        Some(declared) => known_value::<W>(alloc, rest, levels, schema, &declared.kind, tag),
+        None => unknown::<W>(rest, levels, tag),
+    }
+}
+
+/// What is known of the fields of a struct, up to its end.
+#[cycle(knowing)]
+pub(crate) fn known_fields<'a, W: Wire>(
+    alloc: Global,
+    rest: Rest<'a>,
+    levels: u32,
+    schema: &Schema,
+    which: u32,
+) -> Result<(Fields, Rest<'a>), WireFault>
+    requires sound { IsSound (schema_of schema.now) }
+    requires levels { levels ≤ 64 }
+    ensures { AnswersOrNoMemory (λ r. (fields_tree r.0, r.1)) result
+        (read_seen (known_fields (schema_of schema.now) which) (field_list W.wire (value W.wire levels) (length rest.entry.bytes) (pos 0) rest.entry)) }
+{
+    let mut fields = Vec::new(alloc);
+    let mut last = 0;
+    let mut rest = rest;
+    // Each header takes a byte at least: the count shows that the loop ends.
+    for step in 0..rest.bytes().len() {
+        let (head, behind) = field::<W>(rest, last)?;
+        match head {
+            FieldHead::Stop => return Ok((Fields::new(fields), behind)),
+            FieldHead::Field { id, tag, flag } => {
+                let (part, behind) = known_field::<W>(
+                    alloc, behind, levels, schema, which, &id, tag, flag,
+                )?;
+                keep_some(&mut fields, &id, part)?;
+                last = id;
+                rest = behind;
+                continue;
+            }
+        }
+    }
+    Err(WireFault::Short)
+}
+
+/// What is known of so many values of a tag: all of them, or nothing.
+#[cycle(knowing)]
+fn known_items<'a, W: Wire>(
+    alloc: Global,
+    rest: Rest<'a>,
+    levels: u32,
+    schema: &Schema,
+    kind: &TypeDesc,
+    tag: Tag,
+    count: u32,
+) -> Result<(Option<Items>, Rest<'a>), WireFault>
+    requires sound { IsSound (schema_of schema.now) }
+    requires levels { levels ≤ 64 }
+    ensures { AnswersOrNoMemory (λ r. (option_map items_tree r.0, r.1)) result
+        (read_seen (λ all. known_items (schema_of schema.now) all (kind_of kind.now)) (item_list (value W.wire levels) tag count rest.entry)) }
+{
+    let mut items = Vec::new(alloc);
+    let mut rest = rest;
+    for step in 0..count {
+        let (part, behind) = known_value::<W>(alloc, rest, levels, schema, kind, tag)?;
+        let Some(value) = part else {
+            let end = pass_items::<W>(behind, levels, tag, count - step - 1)?;
+            return Ok((None, end));
+        };
+        keep(&mut items, value)?;
+        rest = behind;
+    }
+    Ok((Some(Items::new(items)), rest))
+}
+
+/// What is known of so many pairs: all of them, or nothing.
+#[cycle(knowing)]
+fn known_pairs<'a, W: Wire>(
+    alloc: Global,
+    rest: Rest<'a>,
+    levels: u32,
+    schema: &Schema,
+    key_kind: &TypeDesc,
+    value_kind: &TypeDesc,
+    key_tag: Tag,
+    value_tag: Tag,
+    count: u32,
+) -> Result<(Option<Pairs>, Rest<'a>), WireFault>
+    requires sound { IsSound (schema_of schema.now) }
+    requires levels { levels ≤ 64 }
+    ensures { AnswersOrNoMemory (λ r. (option_map pairs_tree r.0, r.1)) result
+        (read_seen (λ all. known_pairs (schema_of schema.now) all (kind_of key_kind.now) (kind_of value_kind.now))
+        (pair_list (value W.wire levels) key_tag value_tag count rest.entry)) }
+{
+    let mut pairs = Vec::new(alloc);
+    let mut rest = rest;
+    for step in 0..count {
+        let (key, between) = known_value::<W>(alloc, rest, levels, schema, key_kind, key_tag)?;
+        let (value, behind) = known_value::<W>(
+            alloc, between, levels, schema, value_kind, value_tag,
+        )?;
+        let Some(found) = both(key, value) else {
+            let end = pass_pairs::<W>(behind, levels, key_tag, value_tag, count - step - 1)?;
+            return Ok((None, end));
+        };
+        keep(&mut pairs, found)?;
+        rest = behind;
+    }
+    Ok((Some(Pairs::new(pairs)), rest))
+}

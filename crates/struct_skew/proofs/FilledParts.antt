@@ -1,0 +1,87 @@
+-- In which values nothing is left to fill in, where the parts of the type are known or known to be none.
+use Rattle.std.proofs.Common.{◌≡◌, ℕ, Bool, true, List, Option, Some, None, refl, sym, ap, ◌∙◌}
+use Rattle.std.specs.Prelude.{◌&&◌}
+use Rattle.std.specs.List.{slice_get}
+use Rattle.thrift_value.specs.declared.tag.Tag.{Tag}
+use Rattle.thrift_value.specs.declared.value.Value as value
+use Rattle.thrift_value.specs.declared.value.Value.{Value}
+use Rattle.thrift_value.specs.declared.value.Items.{Items}
+use Rattle.thrift_value.specs.declared.value.Pairs.{Pairs}
+use Rattle.thrift_value.specs.Tree.{Tree, of_struct, of_map, of_set, of_list, FieldTrees, ItemTrees, PairTrees}
+use Rattle.thrift_value.specs.TreeOf.{tree_of, items_tree, pairs_tree}
+use Rattle.thrift_value.proofs.Trees.{tree_of-is_Map, tree_of-is_Set, tree_of-is_List}
+use Rattle.schema.specs.PlainKind.{PlainKind, kind_bool, kind_i8, kind_i16, kind_i32, kind_i64, kind_double, kind_text, kind_binary, kind_enum, kind_struct, kind_map, kind_set, kind_list}
+use Rattle.schema.specs.PlainSchema.{PlainStruct}
+use Rattle.known_parts.specs.Parts.{tag_of_kind, are_same_tags, struct_of_kind, map_of_kind, set_of_kind, list_of_kind}
+use Rattle.struct_skew.specs.FilledTests.{is_filled, is_struct_filled, are_items_filled, are_pairs_filled}
+use Rattle.struct_skew.proofs.MeaningsOfKinds.{IsScalar}
+
+-- a struct, a map, a set and a list under a type of parts that are known, or of none
+abbrev pub struct_filled : List PlainStruct → FieldTrees → Option ℕ → Bool
+struct_filled structs held (Some which) = is_struct_filled structs (slice_get structs which) held
+struct_filled structs held None = true
+
+abbrev pub map_filled : List PlainStruct → Tag → Tag → PairTrees → Option (PlainKind × PlainKind) → Bool
+map_filled structs k v pairs (Some p) = (are_same_tags k (tag_of_kind p.0) && are_same_tags v (tag_of_kind p.1)) && are_pairs_filled structs p.0 p.1 pairs
+map_filled structs k v pairs None = true
+
+abbrev pub items_filled : List PlainStruct → Tag → ItemTrees → Option PlainKind → Bool
+items_filled structs t items (Some kind) = are_same_tags t (tag_of_kind kind) && are_items_filled structs kind items
+items_filled structs t items None = true
+
+pub filled_struct : (structs : List PlainStruct) (kind : PlainKind) (fields : FieldTrees) → is_filled structs kind (of_struct fields) ≡ struct_filled structs fields (struct_of_kind kind)
+filled_struct structs (kind_struct _) _ = refl
+filled_struct structs _ _ = refl
+
+pub filled_map : (structs : List PlainStruct) (kind : PlainKind) (k v : Tag) (pairs : PairTrees) → is_filled structs kind (of_map k v pairs) ≡ map_filled structs k v pairs (map_of_kind kind)
+filled_map structs (kind_map key value) k v pairs = refl
+filled_map structs _ k v pairs = refl
+
+pub filled_set : (structs : List PlainStruct) (kind : PlainKind) (t : Tag) (items : ItemTrees) → is_filled structs kind (of_set t items) ≡ items_filled structs t items (set_of_kind kind)
+filled_set structs (kind_set member) t items = refl
+filled_set structs _ t items = refl
+
+pub filled_list : (structs : List PlainStruct) (kind : PlainKind) (t : Tag) (items : ItemTrees) → is_filled structs kind (of_list t items) ≡ items_filled structs t items (list_of_kind kind)
+filled_list structs (kind_list element) t items = refl
+filled_list structs _ t items = refl
+
+pub filled_scalar : (structs : List PlainStruct) (kind : PlainKind) (value : Tree) → IsScalar value → is_filled structs kind value ≡ true
+filled_scalar structs kind (of_struct _) h = absurd h
+filled_scalar structs kind (of_map _ _ _) h = absurd h
+filled_scalar structs kind (of_set _ _) h = absurd h
+filled_scalar structs kind (of_list _ _) h = absurd h
+filled_scalar structs kind_bool _ h = refl
+filled_scalar structs kind_i8 _ h = refl
+filled_scalar structs kind_i16 _ h = refl
+filled_scalar structs kind_i32 _ h = refl
+filled_scalar structs kind_i64 _ h = refl
+filled_scalar structs kind_double _ h = refl
+filled_scalar structs kind_text _ h = refl
+filled_scalar structs kind_binary _ h = refl
+filled_scalar structs (kind_enum _) _ h = refl
+filled_scalar structs (kind_struct _) _ h = refl
+filled_scalar structs (kind_map _ _) _ h = refl
+filled_scalar structs (kind_set _) _ h = refl
+filled_scalar structs (kind_list _) _ h = refl
+
+pub ruleset filled_equations = (filled_struct, filled_map, filled_set, filled_list, filled_scalar)
+
+-- containers in memory that name the tags of their declared types, by their elements
+pub map_by_pairs : (structs : List PlainStruct) (kind : PlainKind) (p : PlainKind × PlainKind) (v : Value) (k t : Tag) (pairs : Pairs) (r : Bool) → v ≡ value.Map k t pairs
+    → map_of_kind kind ≡ Some p → true ≡ (are_same_tags k (tag_of_kind p.0) && are_same_tags t (tag_of_kind p.1)) → r ≡ are_pairs_filled structs p.0 p.1 (pairs_tree pairs)
+    → r ≡ is_filled structs kind (tree_of v)
+map_by_pairs structs kind p v k t pairs r is parts tagged here =
+    here ∙ sym (ap (is_filled structs kind) (tree_of-is_Map v k t pairs is) ∙ filled_map structs kind k t (pairs_tree pairs) ∙ ap (map_filled structs k t (pairs_tree pairs)) parts
+    ∙ ap (λ b. b && are_pairs_filled structs p.0 p.1 (pairs_tree pairs)) (sym tagged))
+
+pub set_by_items : (structs : List PlainStruct) (kind member : PlainKind) (v : Value) (t : Tag) (items : Items) (r : Bool) → v ≡ value.Set t items
+    → set_of_kind kind ≡ Some member → true ≡ are_same_tags t (tag_of_kind member) → r ≡ are_items_filled structs member (items_tree items) → r ≡ is_filled structs kind (tree_of v)
+set_by_items structs kind member v t items r is part tagged here =
+    here ∙ sym (ap (is_filled structs kind) (tree_of-is_Set v t items is) ∙ filled_set structs kind t (items_tree items) ∙ ap (items_filled structs t (items_tree items)) part
+    ∙ ap (λ b. b && are_items_filled structs member (items_tree items)) (sym tagged))
+
+pub list_by_items : (structs : List PlainStruct) (kind element : PlainKind) (v : Value) (t : Tag) (items : Items) (r : Bool) → v ≡ value.List t items
+    → list_of_kind kind ≡ Some element → true ≡ are_same_tags t (tag_of_kind element) → r ≡ are_items_filled structs element (items_tree items) → r ≡ is_filled structs kind (tree_of v)
+list_by_items structs kind element v t items r is part tagged here =
+    here ∙ sym (ap (is_filled structs kind) (tree_of-is_List v t items is) ∙ filled_list structs kind t (items_tree items) ∙ ap (items_filled structs t (items_tree items)) part
+    ∙ ap (λ b. b && are_items_filled structs element (items_tree items)) (sym tagged))

@@ -1,0 +1,121 @@
+//! Arguments read by what a schema declares of them.
+ghost use Rattle.std.specs.Prelude.{◌≤◌, ◌≡◌, length, map};
+ghost use Rattle.thrift_value.specs.declared.tag.Tag.TheVariants.{Struct as StructTag};
+ghost use Rattle.thrift_value.specs.Tags.{tag_of};
+ghost use Rattle.thrift_value.specs.TreeOf.{tree_of};
+ghost use Rattle.schema.specs.PlainKind.{kind_struct};
+ghost use Rattle.schema.specs.SchemaOf.{schema_of};
+ghost use Rattle.schema.specs.Sound.{IsPlaceIn, IsSound};
+ghost use Rattle.wire_model.specs.Place.{IsWithinBounds};
+ghost use Rattle.struct_skew.specs.FilledTests.{is_settled};
+ghost use Rattle.struct_skew.specs.Needs.{needs_of};
+ghost use Rattle.struct_skew.specs.Projection.{projection};
+ghost use Rattle.struct_skew.specs.ReadAs.{placed_projection, read_then_projected, ArgsOrNoMemory};
+
+use crate::arg_fault::{ArgFault, arg_of_skew, arg_of_wire};
+use crate::laws::{settled_values_mean_themselves, what_is_known_decides};
+use crate::needs::{NeededFields, needed_fields};
+use crate::public::project_with;
+use crate::settled::is_settled;
+use known_parts::read_known;
+use schema::{Schema, TypeDesc};
+use std::alloc::Global;
+use thrift_value::Value;
+use wire_model::Wire;
+
+/// Whether a struct of this number means itself.
+fn is_settled_struct(value: &Value, schema: &Schema, needed: &NeededFields, which: u32) -> bool
+    requires sound { IsSound (schema_of schema.now) }
+    requires needed { needed.now ≡ map needs_of (schema_of schema.now).structs }
+    ensures { result ≡ is_settled (schema_of schema.now).structs (kind_struct which) (tree_of value.now) }
+{
+    let kind = TypeDesc::Struct(which);
+    is_settled(value, schema, needed, &kind)
+}
+
+/// The projection of what was read, with the place behind it.
+fn projected_at(
+    alloc: Global,
+    schema: &Schema,
+    needed: &NeededFields,
+    which: u32,
+    known: &Value,
+    behind: usize,
+) -> Result<(Value, usize), ArgFault>
+    requires sound { IsSound (schema_of schema.now) }
+    requires needed { needed.now ≡ map needs_of (schema_of schema.now).structs }
+    requires place { IsPlaceIn (schema_of schema.now).structs which }
+    requires known_struct { tag_of (tree_of known.now) ≡ StructTag }
+    ensures { ArgsOrNoMemory (λ r. (tree_of r.0, r.1)) result (placed_projection behind (projection (schema_of schema.now) which (tree_of known.now))) }
+{
+    match project_with(alloc, schema, needed, which, known) {
+        Ok(value) => Ok((value, behind)),
+        Err(fault) => Err(arg_of_skew(fault)),
+    }
+}
+
+/// What was read, where it means itself; else its projection.
+fn projected_with(
+    alloc: Global,
+    schema: &Schema,
+    needed: &NeededFields,
+    which: u32,
+    known: Value,
+    behind: usize,
+) -> Result<(Value, usize), ArgFault>
+    requires sound { IsSound (schema_of schema.now) }
+    requires needed { needed.now ≡ map needs_of (schema_of schema.now).structs }
+    requires place { IsPlaceIn (schema_of schema.now).structs which }
+    requires bounds { IsWithinBounds (tree_of known) }
+    ensures { ArgsOrNoMemory (λ r. (tree_of r.0, r.1)) result (placed_projection behind (projection (schema_of schema.now) which (tree_of known))) }
+{
+    settled_values_mean_themselves();
+    if is_settled_struct(&known, schema, needed, which) {
+        return Ok((known, behind));
+    }
+    projected_at(alloc, schema, needed, which, &known, behind)
+}
+
+/// The projection of the struct at a place on the struct at a number, and the place behind that struct, by what the schema's structs
+/// need; or the fault that comes first, one of the bytes before one of the projection. What isn't declared or doesn't fit is passed
+/// over, and a struct in which nothing is out of order is handed on as it was read.
+pub fn read_as_with<W: Wire>(
+    alloc: Global,
+    schema: &Schema,
+    needed: &NeededFields,
+    which: u32,
+    bytes: &[u8],
+    at: usize,
+) -> Result<(Value, usize), ArgFault>
+    requires sound { IsSound (schema_of schema.now) }
+    requires needed { needed.now ≡ map needs_of (schema_of schema.now).structs }
+    requires place { IsPlaceIn (schema_of schema.now).structs which }
+    requires within { at ≤ length bytes.now }
+    ensures { ArgsOrNoMemory (λ r. (tree_of r.0, r.1)) result (read_then_projected W.wire (schema_of schema.now) which bytes.now at) }
+{
+    what_is_known_decides();
+    match read_known::<W>(alloc, schema, which, bytes, at) {
+        Ok((known, behind)) => projected_with(alloc, schema, needed, which, known, behind),
+        Err(fault) => Err(arg_of_wire(fault)),
+    }
+}
+
+/// The same. It walks over all that the schema declares once: who reads more than once keeps `needed_fields` and calls
+/// `read_as_with`.
+pub fn read_as<W: Wire>(
+    alloc: Global,
+    schema: &Schema,
+    which: u32,
+    bytes: &[u8],
+    at: usize,
+) -> Result<(Value, usize), ArgFault>
+    requires sound { IsSound (schema_of schema.now) }
+    requires place { IsPlaceIn (schema_of schema.now).structs which }
+    requires within { at ≤ length bytes.now }
+    ensures { ArgsOrNoMemory (λ r. (tree_of r.0, r.1)) result (read_then_projected W.wire (schema_of schema.now) which bytes.now at) }
+{
+    match needed_fields(alloc, schema) {
+        Ok(needed) => read_as_with::<W>(alloc, schema, &needed, which, bytes, at),
+        Err(_) => Err(ArgFault::NoMemory),
+    }
+}
