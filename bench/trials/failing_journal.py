@@ -1,8 +1,9 @@
 """`thriftd serve` with a journal of which each line fails in turn, for bench/trials/recorded_runs.py.
 
 The journal's file may have so many bytes, by a limit of the system (RLIMIT_FSIZE), and the limit stands at every few bytes of a run's journal, so that each line is
-cut, in front and in the middle. Of clients that send all their calls at once each has to get a beginning of its replies; the file has to hold the lines of a legal
-history and a beginning of one more; status, errors' line and summary have to be those of docs/RUNNING.md. In `serve` no tape is told, so no more can be judged.
+cut, in front and in the middle. Lines are written once the server's buffer is full, and at its end. Of clients that send all their calls at once each has to get a
+beginning of its replies, and all of them where it has ended well; the file has to hold the lines of a legal history and a beginning of one more; status, errors' line
+and summary have to be those of docs/RUNNING.md. In `serve` no tape is told, so no more can be judged.
 """
 import os
 import resource
@@ -80,17 +81,20 @@ def connection(c, frames, entries):
     return conn
 
 
-def demand_beginning(conn, got, cause):
-    """The calls of a client are the first of its frames', and it got a beginning of their replies, all of them where it has ended well."""
+def demand_replies(conn, got, cause):
+    """The calls of a client that have a line are the first of its frames'. As far as these tell the replies, it got a beginning of them, or all where it has ended well."""
     count = len(conn.payloads)
     entered = [(entry.i, entry.method, entry.args, entry.silent) for entry in conn.entries]
     asked = judge.called(conn, count)
     judge.demand(entered == asked[:len(entered)], "client %d: its calls aren't those of its first frames", conn.c)
     first_without = asked[len(entered)][0] if len(entered) < len(asked) else count
-    most = conn.sent[:conn.sent_ends[first_without]]
-    judge.demand(most.startswith(got), "client %d: it got other bytes than a beginning of its replies", conn.c)
-    if cause == "End":
-        judge.demand(first_without == count and got == conn.sent, "client %d: it has ended well, and got %d bytes of %d", conn.c, len(got), len(conn.sent))
+    told = conn.sent[:conn.sent_ends[first_without]]
+    if cause == "End" and first_without == count:
+        judge.demand(got == told, "client %d: it has ended well, and got %d bytes of %d", conn.c, len(got), len(told))
+    elif cause == "End":
+        judge.demand(got.startswith(told), "client %d: it has ended well, and got other bytes than the replies that its lines tell", conn.c)
+    else:
+        judge.demand(told.startswith(got) or first_without < count and got.startswith(told), "client %d: it got other bytes than a beginning of its replies", conn.c)
 
 
 def next_lines(clients, entries, memory):
@@ -112,14 +116,17 @@ def demand_served(served, clients, is_cut):
         model.answer(memory, entry.method, entry.args)
     judge.demand(not part or any(line.startswith(part) for line in next_lines(clients, entries, memory)), "behind the whole lines: %s", part)
     judge.demand(served.first == "listening 127.0.0.1:%d\n" % served.port, "the first line is %r", served.first)
-    judge.demand(served.lines[-1:] == ["calls %d" % len(entries)], "the summary's end is %s, of %d calls", served.lines[-1:], len(entries))
+    asked = sum(len(judge.called(conn, len(conn.payloads))) for conn in (connection(c, frames, entries) for c, frames in enumerate(clients)))
+    ends = ["calls %d" % count for count in (range(len(entries), asked + 1) if is_cut else [asked])]
+    judge.demand(served.lines[-1:] and served.lines[-1] in ends, "the summary's end is %s, of %d calls, %d of which have a line", served.lines[-1:], asked, len(entries))
+    judge.demand(is_cut or len(entries) == asked, "%d calls were asked, and %d have a line", asked, len(entries))
     causes = [line.split(" ", 2) for line in served.lines[:-1]]
     judge.demand([words[:2] for words in causes] == [["conn", str(c)] for c in range(len(causes))], "the summary is %s", served.lines)
     judge.demand(len(causes) == len(clients) or is_cut and len(causes) < len(clients), "%d connections are told", len(causes))
     for c, frames in enumerate(clients):
         cause = causes[c][2] if c < len(causes) else "Stopped"
         judge.demand(cause == "End" or is_cut and cause == "Stopped", "connection %d: %s", c, cause)
-        demand_beginning(connection(c, frames, entries), served.got[c], cause)
+        demand_replies(connection(c, frames, entries), served.got[c], cause)
 
 
 def all_of(runs, clients):

@@ -3,7 +3,7 @@
 
 Worked scripts many times with two workers; writes of one byte, blocks, and writes, reads and inputs that fail or end at each place of three connections; ends, cuts
 and bad sizes while others have calls under way; a thousand connections one after the other and at once; threads that can't be started, for each number of them
-(as root alone); and of `thriftd serve` a journal whose n-th line fails, for each n (bench/trials/failing_journal.py). All of it takes some minutes, with --quick some
+(as root alone); and of `thriftd serve` a journal whose file is full at each few bytes (bench/trials/failing_journal.py). All of it takes some minutes, with --quick some
 twenty seconds. It prints a line for each part, how many runs there were, and ends with status 1 where a run ended otherwise than with status 0 and a right
 report. THRIFTD is the program that ./thriftd runs where it isn't said. It is no test of the gate.
 """
@@ -258,7 +258,7 @@ def main(words):
         if not unstarted_threads.all_of(runs, busy()):
             runs.wrong += 1
             print("not every number of threads was seen")
-    with runs.part("a journal whose n-th line fails"):
+    with runs.part("a journal whose file is full"):
         failing_journal.all_of(runs, clients())
     print("recorded runs: %d, %d wrong" % (runs.count, runs.wrong))
     return 1 if runs.wrong else 0

@@ -6,9 +6,12 @@ import socket
 from messages import add, connect, reply, sum_reply
 from server import Server, Wrong, check
 
-# The journal of a disk that is full soon: so many bytes fit, with one caller and with many.
+# The journal of a disk that is full soon: so many bytes fit, with one caller and with many. The server writes once so many bytes of lines stand in its memory.
 ROOM, ROOM_OF_MANY = 400, 4000
-CALLERS, CALLS = 8, 100
+BUFFER = 65_536
+# So many calls have lines that the buffer has room for, and so many more lines than it has.
+FEW, MOST = 20, 4000
+CALLERS, CALLS = 8, 500
 
 
 def refusals(bench, workers):
@@ -48,13 +51,32 @@ def closed_pipe():
 
 def failing(bench, workers):
     """While it serves: a journal that takes nothing, one that is full behind some lines, and an output that is closed behind the first line."""
+    limit = (resource.RLIMIT_FSIZE, ROOM)
+    failing_at_end(bench, workers, "/dev/full", None)
+    failing_at_end(bench, workers, None, limit)
     full = failing_journal(bench, workers, "/dev/full", None)
-    check(full == 0, "a call was answered whose line found no room")
-    some = failing_journal(bench, workers, None, (resource.RLIMIT_FSIZE, ROOM))
-    check(0 < some < ROOM, "%d calls were answered whose lines have %d bytes" % (some, ROOM))
+    some = failing_journal(bench, workers, None, limit)
     many = failing_journal_of_many(bench, workers)
     closed_output(bench, workers)
-    return "a journal that is full at once 9, behind %d calls 9, behind %d calls of %d clients 9, an output that is closed behind its first line 7" % (some, many, CALLERS)
+    return "a journal that is full 9, at the end and behind %d calls; behind some lines 9, at the end, behind %d calls, and behind %d calls of %d clients; an output that is closed behind its first line 7" % (
+        full, some, many, CALLERS)
+
+
+def lines_of(c, count):
+    """The lines of a client's calls."""
+    return "".join("call %d %d 0 add {1=%di,2=1i} ok %di\n" % (c, k, k, k + 1) for k in range(count))
+
+
+def failing_at_end(bench, workers, journal, limit):
+    """Few calls, all of which are answered: their lines are written when the server ends."""
+    server = Server(bench.program, bench.room, workers, 1, journal=journal, limit=limit)
+    server.await_listening()
+    with connect(server.port) as s:
+        for k in range(FEW):
+            s.sendall(add(k, 1, "", k))
+            check(is_answered(s, k), "a call isn't answered whose line the buffer has room for")
+    check(server.end(9) == "conn 0 End\ncalls %d\n" % FEW, "the summary isn't that of a connection that has ended well")
+    check_lines(server, limit, lines_of(0, FEW))
 
 
 def closed_output(bench, workers):
@@ -77,15 +99,16 @@ def failing_journal(bench, workers, journal, limit):
         done = call_until_stopped(s)
         check(not receive_or_broken(idle), "a connection isn't stopped")
     check(server.end(9) == "conn 0 Stopped\nconn 1 Stopped\ncalls %d\n" % done, "the summary isn't that of two connections that were stopped")
-    if limit:
-        check_lines(server, done)
+    room = BUFFER + (limit[1] if limit else 0)
+    check(len(lines_of(1, done)) <= room < len(lines_of(1, done + 1)), "%d calls were answered, whose lines have %d bytes" % (done, len(lines_of(1, done))))
+    check_lines(server, limit, lines_of(1, done + 1))
     return done
 
 
 def call_until_stopped(s):
     """How many calls were answered before the connection ended."""
     done = 0
-    while done < ROOM:
+    while done < MOST:
         s.sendall(add(done, 1, "", done))
         if not is_answered(s, done):
             break
@@ -110,16 +133,15 @@ def receive_or_broken(s):
         return b""
 
 
-def check_lines(server, done):
-    """The journal has the lines of the calls that were answered, and may have the beginning of the next one."""
-    lines = "".join("call 1 %d 0 add {1=%di,2=1i} ok %di\n" % (k, k, k + 1) for k in range(done + 1))
-    with open(server.journal) as kept:
-        text = kept.read()
-    check(lines.startswith(text) and text.count("\n") == done, "the journal isn't the lines of %d calls and a beginning" % done)
+def check_lines(server, limit, lines):
+    """The journal has as many bytes of these lines as there is room for."""
+    if limit:
+        with open(server.journal) as kept:
+            check(kept.read() == lines[:limit[1]], "the journal isn't the first %d bytes of its lines" % limit[1])
 
 
 def failing_journal_of_many(bench, workers):
-    """The same with many clients that send all their calls at once: each line is of a call that was made, and each reply has its line."""
+    """The same with many clients that send all their calls at once: each line is of a call that was made, and no more calls are told than were asked."""
     server = Server(bench.program, bench.room, workers, CALLERS + 1, limit=(resource.RLIMIT_FSIZE, ROOM_OF_MANY))
     server.await_listening()
     clients = [connect(server.port) for _ in range(CALLERS)]
@@ -131,12 +153,13 @@ def failing_journal_of_many(bench, workers):
     answered = [next((k for k in range(1, CALLS) if not is_answered(s, k)), CALLS) for s in clients]
     for s in clients:
         s.close()
+    *stopped, calls = server.end(9).splitlines()
+    made = int(calls.removeprefix("calls "))
     with open(server.journal) as kept:
         whole = kept.read().split("\n")[:-1]
-    stopped = "".join("conn %d Stopped\n" % c for c in range(CALLERS))
-    check(server.end(9) == "%scalls %d\n" % (stopped, len(whole)), "the summary isn't that of %d clients that were stopped behind %d calls" % (CALLERS, len(whole)))
-    for c, count in enumerate(answered):
-        own = [line.split(" ", 3)[3] for line in whole if line.startswith("call %d " % c)]
-        wanted = ["0 add {1=%di,2=1i} ok %di" % (k, k + 1) for k in range(len(own))]
-        check(own == wanted and count <= len(own), "connection %d has %d replies, and the lines %s" % (c, count, own[-1:]))
-    return len(whole)
+    check(stopped == ["conn %d Stopped" % c for c in range(CALLERS)], "the summary isn't that of %d clients that were stopped" % CALLERS)
+    check(len(whole) < made < CALLERS * CALLS and sum(answered) <= made, "%d lines, %d calls, %d of them answered" % (len(whole), made, sum(answered)))
+    for c in range(CALLERS):
+        own = [line for line in whole if line.startswith("call %d " % c)]
+        check("".join(line + "\n" for line in own) == lines_of(c, len(own)), "connection %d has the lines %s" % (c, own[-1:]))
+    return made

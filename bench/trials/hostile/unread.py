@@ -77,7 +77,6 @@ def unread(bench, workers):
         check(reply(keeper) == empty_reply(), "a put isn't answered")
         late, closing, breaking = ([Unread(stage.server.port, *kind) for kind in kinds for _ in range(EACH)] for _ in range(3))
         block(late + closing + breaking)
-        check_blocked(stage, late + closing + breaking)
         time.sleep(1)
         for client in late:
             client.read_late()
@@ -86,12 +85,6 @@ def unread(bench, workers):
         for client in breaking:
             reset(client.socket)
         keeper.close()
-        calls = [(1, 1)] + [(client.begun(),) * 2 for client in late] + [(1, client.begun()) for client in closing + breaking]
+        # Replies that nobody reads block the server: of who never reads fewer calls are made than were begun.
+        calls = [(1, 1)] + [(client.begun(),) * 2 for client in late] + [(1, client.begun() - 1) for client in closing + breaking]
         return stage.end([["End"]] * (1 + 2 * EACH) + [BROKEN] * 4 * EACH, calls)
-
-
-def check_blocked(stage, clients):
-    """Each client has begun more calls than were made, since the server can't write their replies."""
-    made = [line.split(" ", 2)[1] for line in stage.server.journal_lines()]
-    for c, client in enumerate(clients, 2):
-        check(made.count(str(c)) < client.begun(), "the replies that nobody reads don't block the server: %d of %d" % (made.count(str(c)), client.begun()))

@@ -9,9 +9,11 @@ use Rattle.outside.specs.declared.marks.Mark.{Mark}
 use Rattle.outside.specs.declared.marks.Mark.TheVariants.{Read, Wrote}
 use Rattle.outside.specs.declared.answers.RestPlace.{RestPlace}
 use Rattle.outside.specs.Cause.{Rose}
+use Rattle.outside.specs.Content.{IsSpent}
 use Rattle.host_model.specs.declared.cause.EndCause.{EndCause}
-use Rattle.host_model.specs.declared.cause.EndCause.TheVariants.{Stopped}
-use Rattle.host_model.specs.Journal.{after_call, after}
+use Rattle.host_model.specs.declared.cause.EndCause.TheVariants.{End, Cut, SizeFault, Envelope, ReadFault, WriteFault, NoMemory as RanOut, Stopped}
+use Rattle.host_model.specs.Marks.{marks_of, input, output}
+use Rattle.host_model.specs.Journal.{after_call, after, entries_of}
 use Rattle.host_model.specs.DeskRules.{DeskRules}
 use Rattle.host_model.specs.Headline.{Headline}
 use Rattle.host_model.proofs.Runs.{stands}
@@ -41,6 +43,8 @@ use Rattle.hall_pool.specs.Turns.{asks_made}
 use Rattle.hall_pool.specs.Crew.{HasServed}
 use Rattle.hall_pool.specs.Ends.{TellsOneHistory}
 use Rattle.hall_pool.proofs.Ending.{one_history}
+use Rattle.ending_model.specs.DecidedEnds.{EndsOn, IsOfBytes, MayBeUnread}
+use Rattle.ending_model.proofs.Decided.{talk_decides}
 use Rattle.loop_conns.specs.declared.connections.LoopConnections.{LoopConnections}
 use Rattle.loop_conns.specs.Tied.{CauseShows, IsOverOnLinks, StageTells, AreTied}
 use Rattle.loop_conns.specs.Woven.{ServedItem, WeavesLent, all_held, IsPassedAtRest, IsWovenTo}
@@ -56,6 +60,14 @@ use Rattle.host_loop.proofs.Lent.{MadeAt, made_at, lent_count, weave_grows}
 use Rattle.host_loop.proofs.Noted.{place_of_rest, over_budget, length_right}
 use Rattle.host_loop.proofs.Seen.{seat_breaks}
 use Rattle.call_rules.specs.Desks.{longest_payload}
+
+-- where neither the links nor the journal have failed, all is over, or memory ran out
+named : (run : ServedRun) (outcome : Outcome) → ComesOutBy run outcome → (Rose run.first.net_faults run.links.net_faults → ⊥)
+    → (Rose run.faults_before run.faults → ⊥) → (outcome ≡ AllOver) ⊎ (outcome ≡ NoMemory)
+named run AllOver so links journal = inl refl
+named run NetFault so links journal = absurd (links so)
+named run JournalFault so links journal = absurd (journal so.1)
+named run NoMemory so links journal = inr refl
 
 -- a call leaves as many memories as there were
 length-after_call : (memories : List ServiceState) (call : PlainCall) → length (after_call handler_rules memories call) ≡ length memories
@@ -231,6 +243,24 @@ module _ (s : ServerSetting) (run : ServedRun) (e : EndsServing s run) where
             let n : loop.count ≡ length e.kept.causes.items = w.tied.count in
             absurd (none-some cause (sym (slice_get_past e.kept.causes.items c (omega arith)) ∙ at))
 
+    -- what was read, and what is left, has decided an end that bytes may decide
+    on_bytes : (c : ℕ) (cause : EndCause) (unread : List ℕ) → slice_get run.causes c ≡ Some cause → IsOfBytes cause → MayBeUnread cause unread
+        → EndsOn d (input (marks_of c loop.tape) ++ unread) cause
+    on_bytes c cause unread at of_bytes none =
+        talk_decides d (input (marks_of c loop.tape)) unread (entries_of c t.entries) (output (marks_of c loop.tape)) cause (headline.each c cause at).talk of_bytes none
+
+    by_bytes : (c : ℕ) (cause : EndCause) (unread : List ℕ) → slice_get run.causes c ≡ Some cause → run.links.left c ≡ Some unread
+        → (Rose (run.first.faults c) (run.links.faults c) → ⊥) → cause ≢ Stopped
+        → (cause ≡ RanOut) ⊎ EndsOn d (input (marks_of c loop.tape) ++ unread) cause
+    by_bytes c End unread at told quiet goes = inr (on_bytes c End unread at tt (subst IsSpent told (shows c End at)))
+    by_bytes c Cut unread at told quiet goes = inr (on_bytes c Cut unread at tt (subst IsSpent told (shows c Cut at)))
+    by_bytes c (SizeFault z) unread at told quiet goes = inr (on_bytes c (SizeFault z) unread at tt tt)
+    by_bytes c (Envelope fault) unread at told quiet goes = inr (on_bytes c (Envelope fault) unread at tt tt)
+    by_bytes c ReadFault unread at told quiet goes = absurd (quiet (shows c ReadFault at))
+    by_bytes c WriteFault unread at told quiet goes = absurd (quiet (shows c WriteFault at))
+    by_bytes c RanOut unread at told quiet goes = inl refl
+    by_bytes c Stopped unread at told quiet goes = absurd (goes refl)
+
     left : AreLinksLeft run
     left =
         record {
@@ -305,6 +335,8 @@ module _ (s : ServerSetting) (run : ServedRun) (e : EndsServing s run) where
           ends = shows;
           left = left;
           faults = more_faults;
+          by_bytes = by_bytes;
+          outcome_is_named = named run run.outcome (comes_out run.outcome e.so);
         }
 
   pub ends_served : IsServed s run

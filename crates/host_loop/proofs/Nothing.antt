@@ -1,5 +1,5 @@
 -- Where nothing was served, what serving promises is so of an empty tape and an empty journal.
-use Rattle.std.proofs.Common.{◌≡◌, ℕ, ◌<◌, ◌≤◌, ◌^◌, Option, None, Some, IfSome, List, [], ◌∷◌, ◌++◌, length, slice_get, refl, sym, ap, ◌∙◌, subst, arith}
+use Rattle.std.proofs.Common.{◌≡◌, ℕ, ◌<◌, ◌≤◌, ◌^◌, Option, None, Some, IfSome, List, [], ◌∷◌, ◌++◌, length, slice_get, refl, sym, ap, ◌∙◌, subst, inr, arith}
 use Rattle.std.proofs.lemmas.Bool.{false≢true}
 use Rattle.std.proofs.lemmas.Option.{none-some, IfSome_then}
 use Rattle.outside.specs.declared.marks.Mark.{Mark}
@@ -80,6 +80,8 @@ module _ (s : ServerSetting) (run : ServedRun) (e : ServesNothing s run) where
           net_faults = let same : run.links.net_faults ≡ run.first.net_faults = ap (λ (l : LinksState). l.net_faults) e.links in omega arith;
         };
         faults = let same : run.faults ≡ run.faults_before = e.faults in omega arith;
+        by_bytes = λ c cause unread at told quiet goes. absurd (none-some cause (ap (λ l. slice_get l c) (sym e.causes) ∙ at));
+        outcome_is_named = λ links journal. inr e.outcome;
       }
     where
       no_items : List ServedItem

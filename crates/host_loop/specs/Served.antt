@@ -1,10 +1,11 @@
 -- What serving promises: the headline of its run, and what the links show of its ends, its bounds, its lengths and its places of rest.
-use Rattle.std.specs.Prelude.{◌≡◌, ◌≢◌, ℕ, ◌≤◌, Bool, true, false, Option, Some, IfSome, List, ◌++◌, length, slice_get}
+use Rattle.std.specs.Prelude.{◌≡◌, ◌≢◌, ℕ, ◌≤◌, ◌⊎◌, Bool, true, false, Option, Some, IfSome, List, ◌++◌, length, slice_get}
 use Rattle.outside.specs.declared.marks.Mark.{Mark}
 use Rattle.outside.specs.Cause.{Rose}
 use Rattle.outside.specs.LinksState.{LinksState}
 use Rattle.host_model.specs.declared.cause.EndCause.{EndCause}
-use Rattle.host_model.specs.declared.cause.EndCause.TheVariants.{Stopped}
+use Rattle.host_model.specs.declared.cause.EndCause.TheVariants.{Stopped, NoMemory as RanOut}
+use Rattle.host_model.specs.Marks.{marks_of, input}
 use Rattle.host_model.specs.Journal.{after_call, after}
 use Rattle.host_model.specs.DeskRules.{DeskRules}
 use Rattle.host_model.specs.Headline.{Headline}
@@ -16,6 +17,7 @@ use Rattle.call_rules.specs.Desks.{DeskMeaning, desk_rules}
 use Rattle.call_rules.specs.Handling.{ServiceState, handler_rules}
 use Rattle.machine_model.specs.SeenHall.{MayHave}
 use Rattle.machine_model.specs.AtFronts.{IsBounded}
+use Rattle.ending_model.specs.DecidedEnds.{EndsOn}
 use Rattle.loop_conns.specs.Tied.{CauseShows}
 use Rattle.host_loop.specs.Lengths.{AreLengths}
 use Rattle.host_loop.specs.Rests.{AreNotedRests}
@@ -67,7 +69,8 @@ abbrev pub rules_served : ServerSetting → DeskRules PlainCall PlainAnswer
 rules_served s = desk_rules s.desk
 
 -- A run of serving. There are a tape and a journal, those that links and journal tell, where they tell, of which the headline holds with the causes. The lengths and
--- places of rest that the links noted are right for this tape and this journal, and the links show each cause.
+-- places of rest that the links noted are right for this tape and this journal, and the links show each cause. Where no count of faults rose, a connection that wasn't stopped
+-- has ended for want of memory, or by what its bytes decide, those that were read and those that are left; and all is over, or memory ran out.
 pub record IsServed (s : ServerSetting) (run : ServedRun) : Type 0 where
   pub tape : List Mark
   pub journal : List CallEntry
@@ -84,3 +87,8 @@ pub record IsServed (s : ServerSetting) (run : ServedRun) : Type 0 where
   pub ends : (c : ℕ) (cause : EndCause) → slice_get run.causes c ≡ Some cause → CauseShows run.first run.links c cause
   pub left : AreLinksLeft run
   pub faults : run.faults_before ≤ run.faults
+  pub by_bytes : (c : ℕ) (cause : EndCause) (unread : List ℕ) → slice_get run.causes c ≡ Some cause → run.links.left c ≡ Some unread
+      → (Rose (run.first.faults c) (run.links.faults c) → ⊥) → cause ≢ Stopped
+      → (cause ≡ RanOut) ⊎ EndsOn (rules_served s) (input (marks_of c tape) ++ unread) cause
+  pub outcome_is_named : (Rose run.first.net_faults run.links.net_faults → ⊥) → (Rose run.faults_before run.faults → ⊥)
+      → (run.outcome ≡ AllOver) ⊎ (run.outcome ≡ NoMemory)

@@ -105,10 +105,10 @@ fn two_calls_of_a_port_are_under_way_at_once(rt: HostRuntime) -> Result<(), Fail
 }
 
 #[test]
-fn a_journal_whose_second_append_fails_stops_the_run(rt: HostRuntime) -> Result<(), Fail> {
+fn a_journal_whose_first_write_fails_has_lost_its_lines(rt: HostRuntime) -> Result<(), Fail> {
     let alloc = rt.alloc();
-    let second = vec![in alloc; 1u64]?;
-    let files = MemFiles::new(Vec::new(alloc), Vec::new(alloc)).with_sink_fails(second);
+    let first = vec![in alloc; 0u64]?;
+    let files = MemFiles::new(Vec::new(alloc), Vec::new(alloc)).with_sink_fails(first);
     let given = Given {
         files,
         ..Given::empty(alloc)
@@ -117,8 +117,9 @@ fn a_journal_whose_second_append_fails_stops_the_run(rt: HostRuntime) -> Result<
     assert!(rt; ended.status == Status::JournalFault);
     assert!(rt; ended.errors.as_slice() == b"thriftd: journal fault\n".as_slice());
     assert!(rt;
-        ended.output.as_slice() == b"listening 127.0.0.1:9090\nconn 0 Stopped\ncalls 1\n".as_slice()
+        ended.output.as_slice() == b"listening 127.0.0.1:9090\nconn 0 End\ncalls 2\n".as_slice()
     );
+    assert!(rt; ended.journal.as_slice().is_empty());
     Ok(())
 }
 

@@ -1,14 +1,13 @@
 -- How lines that stand in a buffer make up the bytes of a sink.
-use Rattle.std.proofs.Common.{◌≡◌, ℕ, ◌+◌, ◌-◌, ◌^◌, ◌≤◌, Bool, true, false, List, [], ◌∷◌, ◌++◌, length, min, Option, refl, sym, ap, ◌∙◌, arith, append-nil, length-append}
+use Rattle.std.proofs.Common.{◌≡◌, ℕ, ◌+◌, ◌-◌, ◌^◌, Bool, true, false, List, [], ◌∷◌, ◌++◌, length, min, Option, sym, ap, subst, ◌∙◌, arith, append-nil, length-append}
 use Rattle.outside.specs.Content.{told_more}
 use Rattle.outside.specs.Taken.{IsTakenInPart}
-use Rattle.outside.proofs.Taking.{all_told}
 use Rattle.value_text.specs.Handing.{HandsOver, BreaksOff}
 use Rattle.host_model.specs.Report.{journal_lines}
 use Rattle.call_rules.specs.Entries.{CallEntry}
 use Rattle.journal_text.specs.EntryText.{entry_text, call_line}
 use Rattle.journal_text.specs.JournalStates.{appended_count, IsCutShort}
-use Rattle.journal_text.specs.Spooled.{HasLinesWith, HasSomeLines, IsSpooled}
+use Rattle.journal_text.specs.Spooled.{HasLinesWith, IsSpooled}
 use Rattle.journal_text.proofs.Written.{told_none, told_twice, lines_with}
 
 -- a line behind the lines of the entries
@@ -32,20 +31,22 @@ spooled_on x y z held rest entries longer e count next f g failed whole before o
       begun = λ is. absurd (let never : ⊥ = cc in never);
     }
 
--- of a line a part was handed to the buffer
+-- of a line a part was handed to the buffer: the sink has taken a beginning of the lines of the entries and of this one
+pub line_short : (x y z : Option (List ℕ)) (held rest : List ℕ) (entries : List CallEntry) (e : CallEntry) (f g : ℕ) → HasLinesWith x y held entries
+    → BreaksOff (told_more y held) (told_more z rest) f g (call_line e) → IsCutShort x z (journal_lines entry_text (entries ++ e ∷ []))
+line_short x y z held rest entries e f g lines one =
+    let lost : List ℕ = one.lost in
+    let passed : told_more (told_more z rest) lost ≡ told_more (told_more y held) (call_line e) =
+    ap (λ t. told_more t lost) one.part.taken ∙ told_twice (told_more y held) one.part.front lost ∙ ap (told_more (told_more y held)) (sym one.part.whole) in
+    record { lost = rest ++ lost; rest = sym (told_twice z rest lost) ∙ passed ∙ line_behind x y held entries e lines }
+
 pub spool_torn : (x y z : Option (List ℕ)) (held rest : List ℕ) (entries same : List CallEntry) (e : CallEntry) (count kept f g : ℕ) (failed torn : Bool) → failed ≡ false
     → IsSpooled x y held entries count failed → BreaksOff (told_more y held) (told_more z rest) f g (call_line e) → torn ≡ true → same ≡ entries → kept ≡ count
     → IsSpooled x z rest same kept torn
 spool_torn x y z held rest entries same e count kept f g failed torn whole before one is_torn same_is kept_is =
-    let lost : List ℕ = one.lost in
-    let passed : told_more (told_more z rest) lost ≡ told_more (told_more y held) (call_line e) =
-    ap (λ t. told_more t lost) one.part.taken ∙ told_twice (told_more y held) one.part.front lost ∙ ap (told_more (told_more y held)) (sym one.part.whole) in
     let short : IsCutShort x z (journal_lines entry_text (same ++ e ∷ [])) =
-    record {
-      lost = rest ++ lost;
-      rest = sym (told_twice z rest lost) ∙ passed ∙ line_behind x y held entries e (before.lines whole)
-          ∙ ap (λ es. told_more x (journal_lines entry_text (es ++ e ∷ []))) (sym same_is);
-    } in
+    subst (λ (es : List CallEntry). IsCutShort x z (journal_lines entry_text (es ++ e ∷ []))) (sym same_is)
+    (line_short x y z held rest entries e f g (before.lines whole) one) in
     record {
       counted = kept_is ∙ before.counted ∙ ap appended_count (sym same_is);
       lines = λ is. absurd (let never : ⊥ = cc in never);

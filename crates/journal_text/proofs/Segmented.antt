@@ -1,5 +1,5 @@
 -- How entries lie in segments.
-use Rattle.std.proofs.Common.{◌≡◌, ℕ, suc, zero, ◌+◌, ◌*◌, ◌/◌, ◌<◌, ◌≤◌, List, [], ◌∷◌, ◌++◌, length, take, drop, refl, sym, ap, ◌∙◌, subst, arith, append_assoc, append-nil, length-append, take_at, drop_at}
+use Rattle.std.proofs.Common.{◌≡◌, ℕ, suc, zero, ◌+◌, ◌*◌, ◌/◌, ◌%◌, ◌<◌, ◌≤◌, List, [], ◌∷◌, ◌++◌, length, take, drop, refl, sym, ap, ◌∙◌, arith, append_assoc, append-nil, length-append, take_at, drop_at}
 use Rattle.std.specs.Borrow.{Bor}
 use Rattle.std.specs.Prelude.{Option, Some, None, slice_get, get_or}
 use Rattle.std.specs.Option.{option_copied}
@@ -101,6 +101,17 @@ few zero free held = omega arith
 few (suc n) free held =
     let e : suc n + free ≡ 1024 = held (omega arith) in
     omega (arith, e)
+
+-- where it has room for no more, the entries are those of whole segments
+pub whole_segments : {X : Type 0} (full : List (List X)) (last : List X) (free : ℕ) → AllFull full → (0 < length last + free → length last + free ≡ 1024) → free ≡ 0
+    → length (chained full ++ last) % 1024 ≡ 0
+whole_segments full [] free all held none =
+    let all_are : length (chained full ++ []) ≡ length full * 1024 + 0 = chained_length full [] all in
+    omega (arith, all_are)
+whole_segments full (x ∷ last) free all held none =
+    let all_are : length (chained full ++ x ∷ last) ≡ length full * 1024 + length (x ∷ last) = chained_length full (x ∷ last) all in
+    let one : length (x ∷ last) + free ≡ 1024 = held (omega arith) in
+    omega (arith, all_are, one, none)
 
 -- no segment
 pub none_left : {X : Type 0} (xs : List X) → length xs ≤ 0 → xs ≡ []

@@ -11,6 +11,7 @@ use Rattle.call_rules.specs.contracts.call.Answer as Answer
 use Rattle.call_rules.specs.contracts.call.Call as Call
 use Rattle.call_rules.specs.contracts.call.Entry as Entry
 use Rattle.outside.specs.declared.streams.Sink.{Ghosts}
+use Rattle.journal_text.specs.contracts.segment_journal.SegmentJournal as SegmentJournal
 use Rattle.journal_text.specs.contracts.sink_journal.SinkJournal as SinkJournal
 use Rattle.journal_text.specs.contracts.spool_journal.SpoolJournal as SpoolJournal
 use Rattle.journal_text.proofs.appended.Appended.TheSendSync.{the_send as appended_send}
@@ -33,3 +34,9 @@ journal_send K sink send = search (sendable, crosses, entry_send, appended_send,
 
 pub spool_journal_send : (K : RattleType) (sink : Ghosts K.Denot) → IsSend K → IsSend (SpoolJournal.the_row K sink)
 spool_journal_send K sink send = search (sendable, crosses, entry_send, appended_send, buffered_send) depth 20
+
+pub segment_journal_send : IsSend SegmentJournal.the_row
+segment_journal_send = search (sendable, crosses, entry_send) depth 20
+
+pub segment_journal_field_send : IsSend (SegmentJournal.the_field).row
+segment_journal_field_send = search (sendable, crosses, entry_send) depth 20

@@ -1,7 +1,6 @@
 -- How the lines of segments go to a sink, one segment after the other.
 use Rattle.std.proofs.Common.{◌≡◌, ℕ, ◌+◌, ◌*◌, List, [], ◌++◌, take, drop, Option, Result, Ok, Err, refl, sym, ap, ◌∙◌, subst, arith, append-nil, drop-drop, take-append-drop}
 use Rattle.std.specs.Prelude.{MatchResult}
-use Rattle.std.specs.List.{flat_map}
 use Rattle.std.specs.Result.{IsErr}
 use Rattle.std.proofs.Math.Seq.{take-add}
 use Rattle.std.proofs.lemmas.Grind.{flat_map-append}
@@ -10,7 +9,7 @@ use Rattle.outside.specs.Content.{told_more}
 use Rattle.outside.specs.Taken.{IsTakenInPart}
 use Rattle.outside.proofs.Causes.{cause_on}
 use Rattle.text_out.specs.Line.{line_of}
-use Rattle.value_text.specs.Handing.{HandsOver, BreaksOff, HandsText}
+use Rattle.value_text.specs.Handing.{HandsOver, BreaksOff}
 use Rattle.host_model.specs.Report.{journal_lines}
 use Rattle.call_rules.specs.Entries.{CallEntry}
 use Rattle.journal_text.specs.EntryText.{entry_text}

@@ -1,6 +1,6 @@
 //! A journal in memory, in segments.
 
-ghost use Rattle.std.specs.Prelude.{◌≡◌, ◌<◌, ◌≤◌, ◌∷◌, [], ◌++◌, length, slice_get, take, drop, OnOk, OnErr, IsOk, MatchResult};
+ghost use Rattle.std.specs.Prelude.{◌≡◌, ◌≢◌, ◌%◌, ◌<◌, ◌≤◌, ◌∷◌, [], ◌++◌, length, slice_get, take, drop, OnOk, OnErr, IsOk, MatchResult};
 ghost use Rattle.std.specs.List.{AllByRecursion};
 ghost use Rattle.std.specs.VecDeque.{deque_len, deque_capacity};
 ghost use Rattle.std.specs.Option.{option_copied};
@@ -172,11 +172,12 @@ impl Journal for SegmentJournal {
 
     ghost room = { λ j. j.room };
 
-    /// Takes a segment where the last one is full; else takes no memory.
+    /// Takes a segment where the number of entries is a multiple of 1,024 and none is held for the next one; else takes no memory.
     fn reserve(&mut self) -> Result<(), AllocError>
         ensures reserved { OnOk result (1 ≤ self.new.room) }
         ensures same { self.new.entries ≡ self.old.entries }
         ensures held { 1 ≤ self.old.room → IsOk result × (self.new ≡ self.old) }
+        ensures inside { length self.old.entries % segment_room ≢ 0 → IsOk result × (self.new ≡ self.old) }
         ensures err { OnErr result (self.new ≡ self.old) }
     {
         if self.free > 0 {

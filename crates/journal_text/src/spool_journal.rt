@@ -1,11 +1,13 @@
 //! A journal whose lines stand in a buffer before a sink takes them.
 
-ghost use Rattle.std.specs.Prelude.{◌≡◌, ◌∷◌, [], ◌++◌, false, true, IfOk, IfErr, IsOk, MatchResult};
+ghost use Rattle.std.specs.Prelude.{◌≡◌, ◌∷◌, [], ◌++◌, false, true, IfOk, IfErr, IsOk, OnErr, MatchResult};
 ghost use Rattle.outside.specs.Cause.{HasCause};
 ghost use Rattle.outside.specs.Content.{told_more};
 ghost use Rattle.outside.specs.Taken.{IsTakenInPart};
+ghost use Rattle.host_model.specs.Report.{journal_lines};
 ghost use Rattle.call_rules.specs.PlainCalls.{IsPlainCall, IsPlainAnswer};
-ghost use Rattle.journal_text.specs.JournalStates.{appended_count};
+ghost use Rattle.journal_text.specs.EntryText.{entry_text};
+ghost use Rattle.journal_text.specs.JournalStates.{appended_count, IsCutShort};
 ghost use Rattle.journal_text.specs.Spooled.{HasLinesWith, HasSomeLines};
 
 use crate::appended::Appended;
@@ -140,6 +142,8 @@ impl<K: Sink> Journal for SpoolJournal<K> {
         ensures torn { MatchResult result (λ _. self.new.failed ≡ false) (λ _. self.new.failed ≡ true) }
         ensures cause { HasCause (K.faults self.old.sink) (K.faults self.new.sink) result }
         ensures opening { self.new.opening ≡ self.old.opening }
+        // Where it fails, the sink has taken a beginning of the lines of the entries and of this one's.
+        ensures begun { OnErr result (IsCutShort (K.taken self.old.opening) (K.taken self.new.sink) (journal_lines entry_text (self.old.entries ++ entry ∷ []))) }
     {
         if let Err(fault) = spell_entry(&mut self.out, &entry) {
             self.failed = true;

@@ -1,5 +1,5 @@
 -- From what was done to what the answer says.
-use Rattle.std.proofs.Common.{◌≡◌, ◌⊎◌, inl, inr, ⊎_elim, ℕ, false, List, [], ◌++◌, Option, Result, Ok, Err, MatchResult, refl, sym, ap, ◌∙◌, subst}
+use Rattle.std.proofs.Common.{◌≡◌, ◌⊎◌, inl, inr, ⊎_elim, ℕ, Bool, false, List, [], ◌++◌, Option, Result, Ok, Err, MatchResult, refl, sym, ap, ◌∙◌, subst}
 use Rattle.outside.specs.Content.{told_more}
 use Rattle.outside.specs.Taken.{IsTakenBut, IsTakenInPart}
 use Rattle.outside.proofs.Taking.{all_taken, all_told, taken_on, taken_of_more}
@@ -57,31 +57,35 @@ module _ (s : ServerSetting) (place : PortPlace) (change : PlaceChange) where
   unlistened output faults.JournalFault file never = absurd never
 
   module _ (output : OutputChange) (between : Option (List ℕ)) (line : between ≡ told_more output.taken_before (listening_line place.listening.port))
-      (causes : List EndCause) (calls : ℕ) (outcome : Outcome) (served : HasServedPort s place change causes calls outcome) where
+      (causes : List EndCause) (calls : ℕ) (outcome : Outcome) (lost : Bool) (served : HasServedPort s place change causes calls outcome lost) where
+    -- how it came out, and whether lines are lost, by other names
+    so : (out : Outcome) (gone : Bool) → outcome ≡ out → lost ≡ gone → HasServedPort s place change causes calls out gone
+    so out gone is gone_is = subst (λ b. HasServedPort s place change causes calls out b) gone_is (subst (λ o. HasServedPort s place change causes calls o lost) is served)
+
     -- the summary was written whole
-    pub summed : outcome ≡ outcomes.All → output.taken ≡ told_more between (summary_lines causes calls) → HasServedAll s place change output
-    summed all rest =
+    pub summed : outcome ≡ outcomes.All → lost ≡ false → output.taken ≡ told_more between (summary_lines causes calls) → HasServedAll s place change output
+    summed all whole rest =
         record {
           causes = causes;
           calls = calls;
-          served = subst (HasServedPort s place change causes calls) all served;
+          served = so outcomes.All false all whole;
           written = both_told output.taken_before between output.taken (listening_line place.listening.port) (summary_lines causes calls) line rest;
         }
 
     -- or it was written in part
-    pub begun : {A E : Type 0} (result : Result A E) (out : Outcome) → outcome ≡ out
+    pub begun : {A E : Type 0} (result : Result A E) (out : Outcome) (gone : Bool) → outcome ≡ out → lost ≡ gone
         → MatchResult result (λ _. output.taken ≡ told_more between (summary_lines causes calls)) (λ _. IsTakenInPart between output.taken (summary_lines causes calls))
-        → HasServedTo s place change output out
-    begun result out is written =
+        → HasServedTo s place change output out gone
+    begun result out gone is gone_is written =
         record {
           causes = causes;
           calls = calls;
-          served = subst (HasServedPort s place change causes calls) is served;
+          served = so out gone is gone_is;
           begun = subst (λ o. IsTakenInPart o output.taken (summary_lines causes calls)) line (in_part between output.taken (summary_lines causes calls) result written);
         }
 
   -- a fault of the summary's other lines, where all were served
-  pub unwritten : (output : OutputChange) (fault : ReportFault) → HasServedTo s place change output outcomes.All → MeansPortFault s place change output (fault_of_summary fault)
+  pub unwritten : (output : OutputChange) (fault : ReportFault) → HasServedTo s place change output outcomes.All false → MeansPortFault s place change output (fault_of_summary fault)
   unwritten output reports.Failed h = inr h
   unwritten output reports.NoMemory h = inr (inr (inr h))
 

@@ -1,5 +1,7 @@
 -- What a file holds whose sink came back.
-use Rattle.std.proofs.Common.{◌≡◌, ℕ, Bool, true, false, List, [], ◌∷◌, ◌++◌, Option, Some, None, IfSome, Result, Ok, Err, IfErr, MatchResult, if◌then◌else◌, refl, sym, ap, ◌∙◌, subst}
+use Rattle.std.proofs.Common.{◌≡◌, ℕ, Bool, true, false, List, [], ◌∷◌, ◌++◌, Option, Some, None, IfSome, Result, Ok, Err, IfErr, MatchResult, if◌then◌else◌, refl, sym, ap, ◌∙◌, subst, arith, append-nil}
+use Rattle.std.specs.Prelude.{IfOk, OnOk}
+use Rattle.std.specs.Result.{is_err}
 use Rattle.std.specs.Str.{bytes_eq}
 use Rattle.std.proofs.lemmas.Option.{same_Some}
 use Rattle.std.proofs.lemmas.Slice.Eq.{bytes_eq-Decides}
@@ -10,10 +12,11 @@ use Rattle.outside.specs.Making.{with_file, told_with_file, IsThere}
 use Rattle.host_model.specs.Report.{journal_lines}
 use Rattle.call_rules.specs.Entries.{CallEntry}
 use Rattle.journal_text.specs.EntryText.{entry_text}
+use Rattle.journal_text.specs.Spooled.{HasLinesWith, HasSomeLines}
 use Rattle.port_serving.specs.declared.fault.PortFault.{PortFault}
 use Rattle.port_serving.specs.declared.fault.PortFault.TheVariants as faults
 use Rattle.port_serving.specs.Steps.{BeginsJournal, OpensJournal, EndsOpening}
-use Rattle.port_serving.specs.FileJournals.{IsUnused, KeepsLines, HoldsInFile, KeepsJournal}
+use Rattle.port_serving.specs.FileJournals.{IsUnused, AreLinesOf, KeepsLines, HoldsInFile, KeepsJournal}
 
 -- the bytes that were put last are those that a file holds
 twice_by : (b : Bool) (file : File) (files : List File) (name x y : List ℕ) → bytes_eq file.name name ≡ b
@@ -46,26 +49,38 @@ told : (before shown : Option (List File)) (name bytes : List ℕ) → told_with
 told before None name bytes is = tt
 told before (Some files) name bytes is = is
 
--- the file of a journal whose sink came back
-kept_by : (before : Option (List File)) (name : List ℕ) (taken : Option (List ℕ)) (entries : List CallEntry) (torn : Bool) → KeepsLines taken entries torn
-    → KeepsJournal before (told_with_file before name taken) name entries torn
-kept_by before name None entries torn lines =
-    record { bytes = journal_lines entry_text entries; held = untold before name (journal_lines entry_text entries); lines = λ whole. refl }
-kept_by before name (Some bytes) entries torn lines =
-    record { bytes = bytes; held = told before (told_with_file before name (Some bytes)) name bytes refl; lines = λ whole. lines whole bytes refl }
+-- no line is lost, whatever is said
+all_lines : (lost : Bool) (entries : List CallEntry) → AreLinesOf lost (journal_lines entry_text entries) entries
+all_lines false entries = refl
+all_lines true entries =
+    record {
+      more = [];
+      few = omega arith;
+      rest = [];
+      whole = append-nil (journal_lines entry_text entries) ∙ ap (journal_lines entry_text) (sym (append-nil entries));
+    }
 
-pub kept : (before between now : Option (List File)) (name : List ℕ) (taken : Option (List ℕ)) (entries : List CallEntry) (torn : Bool)
-    → between ≡ told_with_file before name (Some []) → now ≡ told_with_file between name taken → KeepsLines taken entries torn → KeepsJournal before now name entries torn
-kept before between now name taken entries torn made back lines =
-    subst (λ o. KeepsJournal before o name entries torn)
+-- the file of a journal whose sink came back
+kept_by : (before : Option (List File)) (name : List ℕ) (taken : Option (List ℕ)) (entries : List CallEntry) (lost : Bool) → KeepsLines taken entries lost
+    → KeepsJournal before (told_with_file before name taken) name entries lost
+kept_by before name None entries lost lines =
+    record { bytes = journal_lines entry_text entries; held = untold before name (journal_lines entry_text entries); lines = all_lines lost entries }
+kept_by before name (Some bytes) entries lost lines =
+    record { bytes = bytes; held = told before (told_with_file before name (Some bytes)) name bytes refl; lines = lines bytes refl }
+
+pub kept : (before between now : Option (List File)) (name : List ℕ) (taken : Option (List ℕ)) (entries : List CallEntry) (lost : Bool)
+    → between ≡ told_with_file before name (Some []) → now ≡ told_with_file between name taken → KeepsLines taken entries lost → KeepsJournal before now name entries lost
+kept before between now name taken entries lost made back lines =
+    subst (λ o. KeepsJournal before o name entries lost)
     (sym (back ∙ ap (λ o. told_with_file o name taken) made ∙ told_twice before name [] taken))
-    (kept_by before name taken entries torn lines)
+    (kept_by before name taken entries lost lines)
 
 -- without entries it is empty
-pub empty_file : (before now : Option (List File)) (name : List ℕ) (entries : List CallEntry) (torn : Bool) → entries ≡ [] → torn ≡ false
-    → KeepsJournal before now name entries torn → HoldsInFile before now name []
-empty_file before now name entries torn none whole k =
-    subst (HoldsInFile before now name) (k.lines whole ∙ ap (journal_lines entry_text) none) k.held
+pub empty_file : (before now : Option (List File)) (name : List ℕ) (entries : List CallEntry) (lost : Bool) → entries ≡ [] → lost ≡ false
+    → KeepsJournal before now name entries lost → HoldsInFile before now name []
+empty_file before now name entries lost none whole k =
+    let lines : k.bytes ≡ journal_lines entry_text entries = subst (λ b. AreLinesOf b k.bytes entries) whole k.lines in
+    subst (HoldsInFile before now name) (lines ∙ ap (journal_lines entry_text) none) k.held
 
 -- A sink that starts empty is unused.
 unused_by : (taken : Option (List ℕ)) → IfSome taken (λ all. all ≡ []) → IsUnused taken
@@ -80,38 +95,69 @@ unused (Some files) taken e = λ bytes is. sym (same_Some [] bytes (sym e ∙ is
 pub unused_still : (opening sink : Option (List ℕ)) → opening ≡ sink → IsUnused sink → IsUnused opening
 unused_still opening sink is u = subst IsUnused (sym is) u
 
--- what such a sink has taken is the lines
-pub lines_alone : (opening now : Option (List ℕ)) (entries : List CallEntry) (torn : Bool) → IsUnused opening
-    → (torn ≡ false → now ≡ told_more opening (journal_lines entry_text entries)) → KeepsLines now entries torn
-lines_alone None now entries torn u h = λ whole bytes is. let told_none : Some bytes ≡ None = sym is ∙ h whole in absurd (let never : ⊥ = cc in never)
-lines_alone (Some front) now entries torn u h =
-    λ whole bytes is.
-    same_Some bytes (journal_lines entry_text entries) (sym is ∙ h whole ∙ ap (λ f. Some (f ++ journal_lines entry_text entries)) (u front refl))
+-- what such a sink has taken, and what is lost, is a text
+alone : (opening now : Option (List ℕ)) (lost text : List ℕ) → IsUnused opening → told_more now lost ≡ told_more opening text → (bytes : List ℕ) → now ≡ Some bytes
+    → bytes ++ lost ≡ text
+alone None now lost text u h bytes is =
+    let told_none : Some (bytes ++ lost) ≡ None = ap (λ o. told_more o lost) (sym is) ∙ h in absurd (let never : ⊥ = cc in never)
+alone (Some front) now lost text u h bytes is =
+    same_Some (bytes ++ lost) text (ap (λ o. told_more o lost) (sym is) ∙ h ∙ ap (λ f. Some (f ++ text)) (u front refl))
+
+-- what it has taken is the lines, or a beginning of them
+pub lines_alone : (opening now : Option (List ℕ)) (held : List ℕ) (entries : List CallEntry) (failed : Bool) → IsUnused opening → (failed ≡ false → held ≡ [])
+    → (failed ≡ false → HasLinesWith opening now held entries) → (failed ≡ true → HasSomeLines opening now entries) → KeepsLines now entries failed
+lines_alone opening now held entries false u finished lines begun =
+    λ bytes is.
+    sym (append-nil bytes) ∙ ap (λ h. bytes ++ h) (sym (finished refl)) ∙ alone opening now held (journal_lines entry_text entries) u (lines refl) bytes is
+lines_alone opening now held entries true u finished lines begun =
+    λ bytes is.
+    let some : HasSomeLines opening now entries = begun refl in
+    record {
+      more = some.more;
+      few = some.few;
+      rest = some.begun.lost;
+      whole = alone opening now some.begun.lost (journal_lines entry_text (entries ++ some.more)) u some.begun.rest bytes is;
+    }
 
 -- the file of a sink that was handed back unused is empty
 emptied : (before between now : Option (List File)) (name : List ℕ) (taken : Option (List ℕ)) → between ≡ told_with_file before name (Some [])
     → now ≡ told_with_file between name taken → IsUnused taken → HoldsInFile before now name []
 emptied before between now name taken made back u =
-    empty_file before now name [] false refl refl (kept before between now name taken [] false made back (λ whole bytes is. u bytes is))
+    empty_file before now name [] false refl refl (kept before between now name taken [] false made back (λ bytes is. u bytes is))
 
 -- A journal was opened, or the file is empty.
-pub opened_so : {A : Type 0} (result : Result A PortFault) (entries : A → List CallEntry) (torn : A → Bool) (count : A → ℕ) (before between now : Option (List File)) (name : List ℕ)
+pub opened_so : {A : Type 0} (result : Result A PortFault) (entries : A → List CallEntry) (held : A → List ℕ) (failed : A → Bool) (count : A → ℕ) (before between now : Option (List File)) (name : List ℕ)
     (taken : Option (List ℕ)) → between ≡ told_with_file before name (Some []) → IsThere between name → IsUnused taken
-    → MatchResult result (λ j. BeginsJournal between now (entries j) (torn j) (count j)) (λ _. now ≡ told_with_file between name taken)
+    → MatchResult result (λ j. BeginsJournal between now (entries j) (held j) (failed j) (count j)) (λ _. now ≡ told_with_file between name taken)
     → IfErr result (λ fault. fault ≡ faults.NoMemory)
-    → MatchResult result (λ j. OpensJournal before now name (entries j) (torn j) (count j)) (λ fault. EndsOpening fault before now name)
-opened_so (Ok j) entries torn count before between now name taken made there u begun only =
+    → MatchResult result (λ j. OpensJournal before now name (entries j) (held j) (failed j) (count j)) (λ fault. EndsOpening fault before now name)
+opened_so (Ok j) entries held failed count before between now name taken made there u begun only =
     record {
       files = begun.files ∙ made;
       there = subst (λ o. IsThere o name) (sym begun.files) there;
       none = begun.none;
+      empty = begun.empty;
       whole = begun.whole;
       faultless = begun.faultless;
     }
-opened_so (Err fault) entries torn count before between now name taken made there u back only =
+opened_so (Err fault) entries held failed count before between now name taken made there u back only =
     subst (λ f. EndsOpening f before now name) (sym only) (emptied before between now name taken made back u)
 
 -- Want of memory is no fault of the files.
 pub no_file_fault : {A : Type 0} (result : Result A PortFault) → IfErr result (λ fault. fault ≡ faults.NoMemory) → result ≡ Err faults.FileFault → ⊥
 no_file_fault (Ok j) only is = let never : ⊥ = cc in never
 no_file_fault (Err fault) only is = let never : ⊥ = cc in never
+
+-- whether a call failed, told by a bool
+pub said_failed : {A E : Type 0} (result : Result A E) (lost failed : Bool) → lost ≡ is_err result
+    → MatchResult result (λ _. failed ≡ false) (λ _. failed ≡ true) → failed ≡ lost
+said_failed (Ok a) lost failed said is = is ∙ sym said
+said_failed (Err e) lost failed said is = is ∙ sym said
+
+pub said_empty : {A E : Type 0} (result : Result A E) (lost : Bool) (held : List ℕ) → lost ≡ is_err result → IfOk result (λ _. held ≡ []) → lost ≡ false → held ≡ []
+said_empty (Ok a) lost held said none whole = none
+said_empty (Err e) lost held said none whole = absurd (let both : true ≡ false = sym said ∙ whole in let never : ⊥ = cc in never)
+
+pub said_kept : {A E : Type 0} (result : Result A E) (lost : Bool) (before now : ℕ) → lost ≡ is_err result → OnOk result (now ≡ before) → lost ≡ false → now ≡ before
+said_kept (Ok a) lost before now said kept whole = kept
+said_kept (Err e) lost before now said kept whole = absurd (let both : true ≡ false = sym said ∙ whole in let never : ⊥ = cc in never)

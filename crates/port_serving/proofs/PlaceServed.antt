@@ -1,5 +1,5 @@
 -- From a run of serving over links that listen here, and a journal in a file, to a place that was served.
-use Rattle.std.proofs.Common.{◌≡◌, ℕ, ◌<◌, ◌≤◌, if◌then◌else◌, true, Option, Some, List, refl, sym, ap, ◌∙◌, subst, arith}
+use Rattle.std.proofs.Common.{◌≡◌, ℕ, ◌<◌, ◌≤◌, if◌then◌else◌, Bool, true, false, Option, Some, List, refl, sym, ap, ◌∙◌, subst, arith}
 use Rattle.std.proofs.lemmas.Bool.{lt-ltb}
 use Rattle.outside.specs.Cause.{Rose, next_count, next_if_faulty}
 use Rattle.outside.specs.Binding.{StartListening, told_past}
@@ -33,14 +33,30 @@ same_count faults count now none is = is ∙ ap (λ n. next_if_faulty n count) n
 pub rose_later : (before between now : ℕ) → before ≤ between → Rose between now → Rose before now
 rose_later before between now later rose = omega arith
 
-module _ (s : ServerSetting) (place : PortPlace) (change : PlaceChange) (run : ServedRun) (entries : List CallEntry) (calls : ℕ) (served : IsServed s run)
+-- Where lines are lost the sink has counted a fault: in the run, or at the end of the journal.
+pub lost_rose : (torn lost : Bool) (before between now : ℕ) → before ≡ 0 → (torn ≡ true → Rose before between) → between ≤ now
+    → (torn ≡ false → lost ≡ true → Rose between now) → lost ≡ true → Rose before now
+lost_rose true lost before between now none in_run later at_end is =
+    let first : Rose before between = in_run refl in
+    omega (arith, first, later)
+lost_rose false lost before between now none in_run later at_end is =
+    let last : Rose between now = at_end refl is in
+    omega (arith, last, none)
+
+-- Where no line is lost the journal hasn't failed.
+pub not_torn : (torn lost : Bool) → (torn ≡ true → lost ≡ true) → lost ≡ false → torn ≡ false
+not_torn false lost h whole = refl
+not_torn true lost h whole = absurd (let both : true ≡ false = sym (h refl) ∙ whole in let never : ⊥ = cc in never)
+
+module _ (s : ServerSetting) (place : PortPlace) (change : PlaceChange) (run : ServedRun) (entries : List CallEntry) (calls faults : ℕ) (lost : Bool) (served : IsServed s run)
     (told : run.told ≡ Some entries) (none : run.faults_before ≡ 0) (starts : StartListening change.past_before place.listening run.first)
-    (back : change.past ≡ told_past change.past_before run.links) (sinks : change.sink_faults ≡ next_if_faulty run.faults change.sink_faults_before)
-    (file : KeepsJournal change.files_before change.files place.journal entries run.torn) (counted : calls ≡ appended_count entries) where
+    (back : change.past ≡ told_past change.past_before run.links) (torn : run.torn ≡ true → lost ≡ true) (later : run.faults ≤ faults)
+    (at_end : run.torn ≡ false → lost ≡ true → Rose run.faults faults) (sinks : change.sink_faults ≡ next_if_faulty faults change.sink_faults_before)
+    (file : KeepsJournal change.files_before change.files place.journal entries lost) (counted : calls ≡ appended_count entries) where
   journal_is : entries ≡ served.journal
   journal_is = subst (λ o. MayHave o served.journal) told served.journal_told
 
-  pub has_served : HasServedPort s place change run.causes calls run.outcome
+  pub has_served : HasServedPort s place change run.causes calls run.outcome lost
   has_served =
       record {
         run = run;
@@ -52,30 +68,36 @@ module _ (s : ServerSetting) (place : PortPlace) (change : PlaceChange) (run : S
         back = links_back change.past_before change.past place.listening run.links served.tape back (served.left.listens ∙ starts.listens) served.tape_told;
         told = told ∙ ap Some journal_is;
         counted = counted ∙ ap appended_count journal_is;
-        file = subst (λ (es : List CallEntry). KeepsJournal change.files_before change.files place.journal es run.torn) journal_is file;
-        torn = λ is. rose_back run.faults_before run.faults change.sink_faults_before change.sink_faults none (served.torn is) sinks;
+        file = subst (λ (es : List CallEntry). KeepsJournal change.files_before change.files place.journal es lost) journal_is file;
+        torn = torn;
+        rose = λ is. rose_back run.faults_before faults change.sink_faults_before change.sink_faults none
+            (lost_rose run.torn lost run.faults_before run.faults faults none served.torn later at_end is) sinks;
       }
 
--- Where all is over no sink that came back has counted a fault.
-pub sinks_stay : (s : ServerSetting) (run : ServedRun) (before now : ℕ) → IsServed s run → run.faults_before ≡ 0 → now ≡ next_if_faulty run.faults before
-    → run.outcome ≡ outcomes.All → now ≡ before
-sinks_stay s run before now served none back is =
-    let comes : ComesOutBy run outcomes.All = subst (ComesOutBy run) is served.comes_out in
-    same_count run.faults before now (served.kept comes.1 ∙ none) back
+-- Where no line is lost no sink that came back has counted a fault.
+pub sinks_stay : (s : ServerSetting) (run : ServedRun) (lost : Bool) (faults before now : ℕ) → IsServed s run → run.faults_before ≡ 0 → (run.torn ≡ true → lost ≡ true)
+    → faults ≡ run.faults → now ≡ next_if_faulty faults before → lost ≡ false → now ≡ before
+sinks_stay s run lost faults before now served none torn kept back whole =
+    same_count faults before now (kept ∙ served.kept (not_torn run.torn lost torn whole) ∙ none) back
 
--- Nor have the links that came back.
+-- Where all is over no links that came back have counted one.
 pub links_stay : (s : ServerSetting) (run : ServedRun) (before now : ℕ) → IsServed s run → run.first.net_faults ≡ 0 → now ≡ next_if_faulty run.links.net_faults before
     → run.outcome ≡ outcomes.All → now ≡ before
 links_stay s run before now served none back is =
     let comes : ComesOutBy run outcomes.All = subst (ComesOutBy run) is served.comes_out in
     same_count run.links.net_faults before now (comes.3 ∙ none) back
 
--- The journal's fault is told of the files.
-pub journal_rose : (s : ServerSetting) (run : ServedRun) (before now : ℕ) → IsServed s run → run.faults_before ≡ 0 → now ≡ next_if_faulty run.faults before
-    → run.outcome ≡ outcomes.JournalFault → Rose before now
-journal_rose s run before now served none back is =
+-- Where the journal failed in the run lines are lost.
+pub journal_torn : (s : ServerSetting) (run : ServedRun) (lost : Bool) → IsServed s run → (run.torn ≡ true → lost ≡ true) → run.outcome ≡ outcomes.JournalFault → lost ≡ true
+journal_torn s run lost served torn is =
     let comes : ComesOutBy run outcomes.JournalFault = subst (ComesOutBy run) is served.comes_out in
-    rose_back run.faults_before run.faults before now none comes.1 back
+    torn comes.0
+
+-- Lines that are lost are told of the files.
+pub journal_rose : (s : ServerSetting) (run : ServedRun) (lost : Bool) (faults before now : ℕ) → IsServed s run → run.faults_before ≡ 0 → run.faults ≤ faults
+    → (run.torn ≡ false → lost ≡ true → Rose run.faults faults) → now ≡ next_if_faulty faults before → lost ≡ true → Rose before now
+journal_rose s run lost faults before now served none later at_end back is =
+    rose_back run.faults_before faults before now none (lost_rose run.torn lost run.faults_before run.faults faults none served.torn later at_end is) back
 
 -- The links' fault is told of the binder.
 pub net_rose : (s : ServerSetting) (run : ServedRun) (before now : ℕ) → IsServed s run → run.first.net_faults ≡ 0 → now ≡ next_if_faulty run.links.net_faults before

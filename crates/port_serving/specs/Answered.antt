@@ -1,5 +1,5 @@
 -- What an answer to serving at a place says of the files, the binder and the output.
-use Rattle.std.specs.Prelude.{◌≡◌, ◌⊎◌, ℕ, false, Option, List, [], Result, MatchResult}
+use Rattle.std.specs.Prelude.{◌≡◌, ◌⊎◌, ℕ, Bool, true, false, Option, List, [], Result, MatchResult}
 use Rattle.outside.specs.Content.{told_more}
 use Rattle.outside.specs.Taken.{IsTakenInPart}
 use Rattle.host_model.specs.declared.cause.EndCause.{EndCause}
@@ -38,29 +38,31 @@ module _ (place : PortPlace) (change : PlaceChange) (output : OutputChange) wher
     pub begun : IsTakenInPart output.taken_before output.taken (listening_line place.listening.port)
 
 module _ (s : ServerSetting) (place : PortPlace) (change : PlaceChange) (output : OutputChange) where
-  -- connections were served until all was over, and the summary was written
+  -- connections were served until all was over, no line of the journal is lost, and the summary was written
   pub record HasServedAll : Type 0 where
     pub causes : List EndCause
     pub calls : ℕ
-    pub served : HasServedPort s place change causes calls outcomes.All
+    pub served : HasServedPort s place change causes calls outcomes.All false
     pub written : output.taken ≡ told_more output.taken_before (summary place.listening.port causes calls)
 
-  -- Connections were served, which came out so. The summary's first line was written, and a beginning of the others.
-  pub record HasServedTo (outcome : Outcome) : Type 0 where
+  -- Connections were served, which came out so, and lines of the journal are lost or not. The summary's first line was written, and a beginning of the others.
+  pub record HasServedTo (outcome : Outcome) (lost : Bool) : Type 0 where
     pub causes : List EndCause
     pub calls : ℕ
-    pub served : HasServedPort s place change causes calls outcome
+    pub served : HasServedPort s place change causes calls outcome lost
     pub begun : IsTakenInPart (told_more output.taken_before (listening_line place.listening.port)) output.taken (summary_lines causes calls)
 
   -- What a fault says. The net's comes where it can't be listened, or of the links that were served; that of a write comes before a connection is served, or once all
-  -- is over; want of memory may come anywhere after the making of the file.
+  -- is over and the journal whole; the journal's, where it failed in the run, or at its end once all was over; want of memory may come anywhere after the making of
+  -- the file.
   abbrev pub MeansPortFault : PortFault → Type 0
   MeansPortFault faults.FileFault = IsUntouched place change output
-  MeansPortFault faults.NetFault = HasNotListened place change output ⊎ HasServedTo outcomes.NetFault
-  MeansPortFault faults.WriteFault = HasOnlyListened place change output ⊎ HasServedTo outcomes.All
-  MeansPortFault faults.JournalFault = HasServedTo outcomes.JournalFault
+  MeansPortFault faults.NetFault = HasNotListened place change output ⊎ ((lost : Bool) × HasServedTo outcomes.NetFault lost)
+  MeansPortFault faults.WriteFault = HasOnlyListened place change output ⊎ HasServedTo outcomes.All false
+  MeansPortFault faults.JournalFault = HasServedTo outcomes.JournalFault true ⊎ HasServedTo outcomes.All true
   MeansPortFault faults.NoMemory =
-      HasNotListened place change output ⊎ (HasOnlyListened place change output ⊎ (HasServedTo outcomes.NoMemory ⊎ HasServedTo outcomes.All))
+      HasNotListened place change output
+      ⊎ (HasOnlyListened place change output ⊎ (((lost : Bool) × HasServedTo outcomes.NoMemory lost) ⊎ HasServedTo outcomes.All false))
 
   -- what a result says: connections were served until all was over, or what the fault says
   abbrev pub MeansServedPort : {A : Type 0} → Result A PortFault → Type 0

@@ -1,5 +1,5 @@
 -- What serving at a place came to.
-use Rattle.std.specs.Prelude.{◌≡◌, ℕ, true, Some, List}
+use Rattle.std.specs.Prelude.{◌≡◌, ℕ, Bool, true, Some, List}
 use Rattle.outside.specs.Cause.{Rose}
 use Rattle.outside.specs.Binding.{StartListening}
 use Rattle.host_model.specs.declared.cause.EndCause.{EndCause}
@@ -11,8 +11,9 @@ use Rattle.port_serving.specs.Places.{PortPlace, PlaceChange, HasLinksBack}
 
 -- Connections were served at this place, ended by these causes, made so many calls, and it came out so. Behind it stands a run of serving, with the headline of its
 -- tape, its journal and these causes. Its links listened here, nothing had happened on them and they had counted no fault, and they came back with that tape, where it
--- is told. The journal is told, as many calls stand in it as were counted, and the file keeps it.
-pub record HasServedPort (s : ServerSetting) (place : PortPlace) (change : PlaceChange) (causes : List EndCause) (calls : ℕ) (outcome : Outcome) : Type 0 where
+-- is told. The journal is told, as many calls stand in it as were counted, and the file keeps it, but for lines that are lost: only where a sink of the files has failed,
+-- and always where the journal failed in the run.
+pub record HasServedPort (s : ServerSetting) (place : PortPlace) (change : PlaceChange) (causes : List EndCause) (calls : ℕ) (outcome : Outcome) (lost : Bool) : Type 0 where
   pub run : ServedRun
   pub served : IsServed s run
   pub causes_are : run.causes ≡ causes
@@ -22,5 +23,6 @@ pub record HasServedPort (s : ServerSetting) (place : PortPlace) (change : Place
   pub back : HasLinksBack change.past_before change.past place.listening served.tape run.links.over
   pub told : run.told ≡ Some served.journal
   pub counted : calls ≡ appended_count served.journal
-  pub file : KeepsJournal change.files_before change.files place.journal served.journal run.torn
-  pub torn : run.torn ≡ true → Rose change.sink_faults_before change.sink_faults
+  pub file : KeepsJournal change.files_before change.files place.journal served.journal lost
+  pub torn : run.torn ≡ true → lost ≡ true
+  pub rose : lost ≡ true → Rose change.sink_faults_before change.sink_faults

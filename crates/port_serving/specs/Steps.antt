@@ -27,19 +27,21 @@ abbrev pub fault_of_summary : ReportFault → PortFault
 fault_of_summary reports.Failed = faults.WriteFault
 fault_of_summary reports.NoMemory = faults.NoMemory
 
--- A journal was begun: it has no entries, is whole, and has counted no fault; the files are as they were.
-pub record BeginsJournal (before now : Option (List File)) (entries : List CallEntry) (torn : Bool) (count : ℕ) : Type 0 where
+-- A journal was begun: it has no entries, holds nothing, is whole, and has counted no fault; the files are as they were.
+pub record BeginsJournal (before now : Option (List File)) (entries : List CallEntry) (held : List ℕ) (failed : Bool) (count : ℕ) : Type 0 where
   pub files : now ≡ before
   pub none : entries ≡ []
-  pub whole : torn ≡ false
+  pub empty : held ≡ []
+  pub whole : failed ≡ false
   pub faultless : count ≡ 0
 
--- A journal was opened over a new file of this name: it has no entries, is whole, and has counted no fault.
-pub record OpensJournal (before now : Option (List File)) (name : List ℕ) (entries : List CallEntry) (torn : Bool) (count : ℕ) : Type 0 where
+-- A journal was opened over a new file of this name: it has no entries, holds nothing, is whole, and has counted no fault.
+pub record OpensJournal (before now : Option (List File)) (name : List ℕ) (entries : List CallEntry) (held : List ℕ) (failed : Bool) (count : ℕ) : Type 0 where
   pub files : now ≡ told_with_file before name (Some [])
   pub there : IsThere now name
   pub none : entries ≡ []
-  pub whole : torn ≡ false
+  pub empty : held ≡ []
+  pub whole : failed ≡ false
   pub faultless : count ≡ 0
 
 -- what is known of the files where none was opened

@@ -1,6 +1,6 @@
 //! A journal whose lines go into a file that was made for them.
 
-ghost use Rattle.std.specs.Prelude.{◌≡◌, [], List, Option, Some, false, IfOk, IfErr, OnOk, Err, MatchResult};
+ghost use Rattle.std.specs.Prelude.{◌≡◌, ◌≤◌, [], List, Option, Some, true, false, IfOk, IfErr, OnOk, Err, MatchResult};
 ghost use Rattle.outside.specs.Cause.{Rose, next_if_faulty};
 ghost use Rattle.outside.specs.Files.{File};
 ghost use Rattle.outside.specs.Making.{told_with_file, IsThere};
@@ -10,7 +10,7 @@ ghost use Rattle.port_serving.specs.Steps.{BeginsJournal, OpensJournal, EndsOpen
 
 use crate::fault::PortFault;
 use call_rules::{Entry, Journal};
-use journal_text::{NoJournal, SinkJournal};
+use journal_text::{NoJournal, SpoolJournal};
 use outside::{Failed, Files, Sink};
 use std::alloc::{AllocError, Global};
 use std::marker::Model;
@@ -18,16 +18,16 @@ use std::marker::Model;
 /// A journal over a sink that had taken nothing when it was handed in.
 #[derive(Drop)]
 pub(crate) struct FileJournal<K: Sink> {
-    journal: SinkJournal<K>,
+    journal: SpoolJournal<K>,
 }
 
 impl<K: Sink> Model for FileJournal<K> {
-    ghost use Rattle.journal_text.specs.JournalStates.{WrittenEntries, written_entries_code};
+    ghost use Rattle.journal_text.specs.Spooled.{SpooledEntries, spooled_entries_code};
     ghost use Rattle.port_serving.specs.FileJournals.{IsUnused};
 
-    ghost Value = { WrittenEntries K };
+    ghost Value = { SpooledEntries K };
 
-    ghost coded = { written_entries_code K.code };
+    ghost coded = { spooled_entries_code K.code };
 
     ghost view = { λ j. j.journal };
 
@@ -38,10 +38,10 @@ impl<K: Sink> FileJournal<K> {
     /// A journal without entries over a sink that has taken nothing.
     fn new(alloc: Global, sink: K) -> Result<Self, NoJournal<K>>
         requires unused { IsUnused (K.taken sink) }
-        ensures ok { IfOk result (λ journal. journal ≡ record { sink = sink; opening = sink; entries = []; torn = false }) }
+        ensures ok { IfOk result (λ journal. journal ≡ record { sink = sink; opening = sink; held = []; entries = []; failed = false }) }
         ensures err { IfErr result (λ no. no.0 ≡ sink) }
     {
-        match SinkJournal::new(alloc, sink) {
+        match SpoolJournal::new(alloc, sink) {
             Ok(journal) => Ok(FileJournal { journal }),
             Err(no) => Err(no),
         }
@@ -54,10 +54,27 @@ impl<K: Sink> FileJournal<K> {
         self.journal.count()
     }
 
-    /// Gives the sink; takes no memory. Unless an append failed, the sink has taken the lines of the entries and nothing else, where it tells.
+    /// Writes what is held, unless a write has failed before; says whether lines are lost.
+    pub(crate) fn finish(&mut self) -> bool
+        ensures failed { self.new.failed ≡ result }
+        ensures torn { self.old.failed ≡ true → result ≡ true }
+        ensures empty { result ≡ false → self.new.held ≡ [] }
+        ensures entries { self.new.entries ≡ self.old.entries }
+        ensures later { K.faults self.old.sink ≤ K.faults self.new.sink }
+        ensures rose { self.old.failed ≡ false → result ≡ true → Rose (K.faults self.old.sink) (K.faults self.new.sink) }
+        ensures kept { result ≡ false → K.faults self.new.sink ≡ K.faults self.old.sink }
+    {
+        if self.journal.failed() {
+            return true;
+        }
+        self.journal.finish().is_err()
+    }
+
+    /// Gives the sink; takes no memory. Unless lines are lost, the sink has taken the lines of the entries and nothing else, where it tells.
     fn into_sink(self) -> K
+        requires finished { self.failed ≡ false → self.held ≡ [] }
         ensures sink { result ≡ self.sink }
-        ensures lines { KeepsLines (K.taken result) self.entries self.torn }
+        ensures lines { KeepsLines (K.taken result) self.entries self.failed }
     {
         self.journal.into_sink()
     }
@@ -70,7 +87,7 @@ impl<K: Sink> Journal for FileJournal<K> {
 
     ghost faults = { λ j. K.faults j.sink };
 
-    ghost torn = { λ j. j.torn };
+    ghost torn = { λ j. j.failed };
 
     ghost room = { λ _. 1 };
 
@@ -90,7 +107,7 @@ pub(crate) fn open_journal<F: Files>(
     name: &str,
 ) -> Result<FileJournal<F::Out>, PortFault>
     ensures opened { MatchResult result
-        (λ journal. OpensJournal (F.files files.old) (F.files files.new) name.now journal.entries journal.torn (F.Out.faults journal.sink))
+        (λ journal. OpensJournal (F.files files.old) (F.files files.new) name.now journal.entries journal.held journal.failed (F.Out.faults journal.sink))
         (λ fault. EndsOpening fault (F.files files.old) (F.files files.new) name.now) }
     ensures sinks { F.sink_faults files.new ≡ F.sink_faults files.old }
     ensures file_fault { result ≡ Err PortFault.FileFault → Rose (F.faults files.old) (F.faults files.new) }
@@ -113,7 +130,7 @@ fn begin_journal<F: Files>(
     requires unused { IsUnused (F.Out.taken sink) }
     requires faultless { F.Out.faults sink ≡ 0 }
     ensures begun { MatchResult result
-        (λ journal. BeginsJournal (F.files files.old) (F.files files.new) journal.entries journal.torn (F.Out.faults journal.sink))
+        (λ journal. BeginsJournal (F.files files.old) (F.files files.new) journal.entries journal.held journal.failed (F.Out.faults journal.sink))
         (λ _. F.files files.new ≡ told_with_file (F.files files.old) name.now (F.Out.taken sink)) }
     ensures sinks { F.sink_faults files.new ≡ F.sink_faults files.old }
     ensures faults { IfErr result (λ fault. fault ≡ PortFault.NoMemory) }
@@ -128,11 +145,12 @@ fn begin_journal<F: Files>(
     }
 }
 
-/// Hands the sink of a journal back to the files; takes no memory.
+/// Hands the sink of a journal, of which nothing is held, back to the files; takes no memory.
 pub(crate) fn close_journal<F: Files>(files: &mut F, name: &str, journal: FileJournal<F::Out>)
     requires there { IsThere (F.files files.old) name.now }
+    requires finished { journal.failed ≡ false → journal.held ≡ [] }
     ensures kept { (before : Option (List File)) → F.files files.old ≡ told_with_file before name.now (Some [])
-        → KeepsJournal before (F.files files.new) name.now journal.entries journal.torn }
+        → KeepsJournal before (F.files files.new) name.now journal.entries journal.failed }
     ensures sinks { F.sink_faults files.new ≡ next_if_faulty (F.Out.faults journal.sink) (F.sink_faults files.old) }
     ensures same { F.faults files.new ≡ F.faults files.old }
 {

@@ -1,4 +1,4 @@
-//! Connections at a port, served by the loop with workers on threads: the journal goes line by line into a file that is made for it, and a summary tells at which port
+//! Connections at a port, served by the loop with workers on threads: the journal's lines go through a buffer into a file that is made for it, and a summary tells at which port
 //! connections are awaited, and at the end what each ended by and how many calls there were. It knows no words, IDL or statuses, and decides nothing of calls.
 //!
 //! ```rust

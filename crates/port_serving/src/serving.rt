@@ -1,6 +1,6 @@
 //! A port, served from its listening to the summary.
 
-ghost use Rattle.std.specs.Prelude.{◌≡◌, ◌≢◌, ℕ, false, [], List, Option, Some, length, map, Err, OnOk};
+ghost use Rattle.std.specs.Prelude.{◌≡◌, ◌≢◌, ℕ, true, false, [], List, Option, Some, length, map, Err, OnOk};
 ghost use Rattle.outside.specs.Cause.{Rose};
 ghost use Rattle.outside.specs.Content.{told_more};
 ghost use Rattle.outside.specs.Files.{File};
@@ -36,15 +36,17 @@ struct PortRun {
     calls: u64,
     /// How the run came out.
     outcome: Outcome,
+    /// Whether lines of the journal are lost: a write of them failed, in the run or at the journal's end.
+    lost: bool,
 }
 
 /// Serves connections at a place, by a loop and so many workers on threads: the journal's file is made, the port listened at, and the first line of the summary written
-/// before a connection is served; then the links and the journal's sink are handed back, and the rest of the summary is written, also where the net or the journal
-/// failed, as far as output and memory allow. It may wait.
+/// before a connection is served; then the links are handed back, the journal's last lines written, unless a write of them has failed, its sink handed back, and the
+/// rest of the summary is written, also where the net or the journal failed, as far as output and memory allow. It may wait.
 ///
 /// # Errors
 ///
-/// The first fault that was met. FileFault, NetFault, WriteFault and JournalFault come only where the count of faults rose. With FileFault nothing was touched; a
+/// The first fault that was met: that of the run, then that of the journal's end, then that of the summary. FileFault, NetFault, WriteFault and JournalFault come only where the count of faults rose. With FileFault nothing was touched; a
 /// WriteFault on the first line comes before a connection is served.
 pub fn serve_port<
     F: Files,
@@ -69,7 +71,7 @@ pub fn serve_port<
 ) -> Result<(), PortFault>
     requires can { CanServe limits workers (D.meaning desk.now).max_frame (D.meaning desk.now).slots (length handlers.items) }
     // Ok says that connections were served at this desk and from the memories that the handlers had until all was over, that the file holds the journal's lines, that
-    // the links came back with the tape, and that the summary was written.
+    // the links came back with the tape, and that the summary was written. JournalFault says that the file holds a beginning of these lines and of one call's more.
     ensures means { MeansServedPort
         (record { desk = D.meaning desk.now; services = map H.service handlers.items; budget = limits.read_budget })
         (record { listening = record { port = place.now.port; accept = place.now.accept }; journal = place.now.journal.now })
@@ -132,7 +134,7 @@ fn serve_links<
 ) -> PortRun
     requires can { CanServe limits workers (D.meaning desk.now).max_frame (D.meaning desk.now).slots (length handlers.items) }
     requires empty { journal.entries ≡ [] }
-    requires whole { journal.torn ≡ false }
+    requires whole { journal.failed ≡ false }
     requires faultless { F.Out.faults journal.sink ≡ 0 }
     requires there { IsThere (F.files files.old) place.now.journal.now }
     requires starts { StartListening (B.past binder.old) (record { port = place.now.port; accept = place.now.accept }) (B.L.state links) }
@@ -148,12 +150,13 @@ fn serve_links<
           past_before = B.past binder.old;
           past = B.past binder.new;
         })
-        result.ends result.calls result.outcome }
+        result.ends result.calls result.outcome result.lost }
     ensures net_fault { result.outcome ≡ outcomes.NetFault → Rose (B.faults binder.old) (B.faults binder.new) }
-    ensures journal_fault { result.outcome ≡ outcomes.JournalFault → Rose (F.sink_faults files.old) (F.sink_faults files.new) }
+    ensures torn { result.outcome ≡ outcomes.JournalFault → result.lost ≡ true }
+    ensures journal_fault { result.lost ≡ true → Rose (F.sink_faults files.old) (F.sink_faults files.new) }
     ensures files_kept { F.faults files.new ≡ F.faults files.old }
     ensures binder_kept { result.outcome ≡ outcomes.All → B.faults binder.new ≡ B.faults binder.old }
-    ensures sinks_kept { result.outcome ≡ outcomes.All → F.sink_faults files.new ≡ F.sink_faults files.old }
+    ensures sinks_kept { result.lost ≡ false → F.sink_faults files.new ≡ F.sink_faults files.old }
 {
     let mut links = links;
     let run = serve(
@@ -162,34 +165,41 @@ fn serve_links<
     binder.take_back(links);
     let Served {
         ends,
-        journal,
+        mut journal,
         outcome,
         ..
     } = run;
     let calls = journal.count();
+    let lost = journal.finish();
     close_journal(files, place.journal, journal);
     PortRun {
         ends,
         calls,
         outcome,
+        lost,
     }
 }
 
-/// Writes the summary's other lines, and answers by what the run came to.
+/// Writes the summary's other lines, and answers by what the run came to, then by what became of the journal's lines.
 fn finish<K: Sink>(alloc: Global, output: &mut K, run: &PortRun) -> Result<(), PortFault>
+    requires torn { run.now.outcome ≡ outcomes.JournalFault → run.now.lost ≡ true }
     ensures means { (s : ServerSetting) (place : PortPlace) (change : PlaceChange) (before : Option (List ℕ))
-        → HasServedPort s place change run.now.ends run.now.calls run.now.outcome → K.taken output.old ≡ told_more before (listening_line place.listening.port)
+        → HasServedPort s place change run.now.ends run.now.calls run.now.outcome run.now.lost → K.taken output.old ≡ told_more before (listening_line place.listening.port)
         → MeansServedPort s place change (record { taken_before = before; taken = K.taken output.new }) result }
     ensures no_file_fault { result ≢ Err PortFault.FileFault }
     ensures net_fault { result ≡ Err PortFault.NetFault → run.now.outcome ≡ outcomes.NetFault }
     ensures write_fault { result ≡ Err PortFault.WriteFault → Rose (K.faults output.old) (K.faults output.new) }
-    ensures journal_fault { result ≡ Err PortFault.JournalFault → run.now.outcome ≡ outcomes.JournalFault }
+    ensures journal_fault { result ≡ Err PortFault.JournalFault → run.now.lost ≡ true }
     ensures all { OnOk result (run.now.outcome ≡ outcomes.All) }
+    ensures whole { OnOk result (run.now.lost ≡ false) }
     ensures output_kept { OnOk result (K.faults output.new ≡ K.faults output.old) }
 {
     let written = write_summary(alloc, output, run.ends.as_slice(), run.calls);
     match run.outcome {
         Outcome::All => {
+            if run.lost {
+                return Err(PortFault::JournalFault);
+            }
             written?;
             Ok(())
         }

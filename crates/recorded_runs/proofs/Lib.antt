@@ -11,3 +11,4 @@ pub mod Served
 pub mod Sizes
 pub mod Counted
 pub mod ManyReports
+mod Summed

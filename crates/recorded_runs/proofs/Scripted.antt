@@ -15,6 +15,7 @@ use Rattle.script_model.specs.ScriptLines.{ScriptPlan}
 use Rattle.script_model.specs.Playing.{always_ample}
 use Rattle.script_model.specs.Fed.{IsFedBy}
 use Rattle.script_model.specs.Showing.{IsRehearsedTo}
+use Rattle.ending_model.proofs.FedEnds.{each_ends}
 use Rattle.cell_loop.specs.Settings.{CellSetting}
 use Rattle.cell_loop.specs.Stops.{stops_of}
 use Rattle.cell_core.specs.Rehearsed.{SeenRun, IsSeenRun, IsSeenRehearsal}
@@ -41,11 +42,15 @@ pub ran_script : (a : Answering) (script : ScriptPlan) (run : SeenRun) (entries 
     → IsSeenRehearsal (setting_of a) script run → IsRunOfScript a script run.tape entries run.causes
 ran_script a script run entries small told seen rehearsal =
     let same : entries ≡ rehearsal.last.hall.journal = subst (λ o. MayHave o rehearsal.last.hall.journal) told rehearsal.looks.told in
+    let headline = meets_headline a run entries small told seen in
+    let fed : IsFedBy (desk_rules a.desk) a.budget script run.tape entries =
+    subst (λ (es : List CallEntry). IsFedBy (desk_rules a.desk) a.budget script run.tape es) (sym same) rehearsal.fed in
     record {
-      headline = meets_headline a run entries small told seen;
-      fed = subst (λ (es : List CallEntry). IsFedBy (desk_rules a.desk) a.budget script run.tape es) (sym same) rehearsal.fed;
+      headline = headline;
+      fed = fed;
       bounded = seen.bounded;
       none_stopped = rehearsal.none_stopped;
+      ends = λ c h. each_ends (desk_rules a.desk) handler_rules a.services a.budget script run.tape entries run.causes headline fed rehearsal.none_stopped c h;
       determined = λ none. subst (λ (es : List CallEntry). IsRehearsedTo (desk_rules a.desk) handler_rules a.services always_ample a.budget a.workers script 0 run.tape es run.causes)
           (sym same) (rehearsal.with_ample none);
     }

@@ -16,6 +16,7 @@ use Rattle.machine_model.specs.SeenHall.{MayHave}
 use Rattle.script_model.specs.ScriptLines.{ScriptPlan}
 use Rattle.script_model.specs.Fed.{IsFedBy}
 use Rattle.script_model.proofs.Holding.{AreBytes}
+use Rattle.ending_model.proofs.FedEnds.{each_ends}
 use Rattle.script_links.specs.ServedScript.{ServedScript}
 use Rattle.script_links.specs.Shown.{links_told}
 use Rattle.script_links.specs.Shows.{lent_behind}
@@ -80,7 +81,13 @@ module _ (a : Answering) (script : ScriptPlan) (links : ServedScript) (run : Ser
       let comes : ComesOutBy run outcomes.All = subst (ComesOutBy run) all served.comes_out in
       subst (λ (t : List Mark). IsServedScript a script t journal run.causes) (sym tape_same)
       (subst (λ (es : List CallEntry). IsServedScript a script served.tape es run.causes) (sym journal_same)
-      (record { headline = served.headline; fed = fed_so; bounded = served.bounded; none_stopped = comes.2 }))
+      (record {
+        headline = served.headline;
+        fed = fed_so;
+        bounded = served.bounded;
+        none_stopped = comes.2;
+        ends = λ c h. each_ends (desk_rules a.desk) handler_rules a.services a.budget script served.tape served.journal run.causes served.headline fed_so comes.2 c h;
+      }))
 
 -- The same of links that were served and then told what they followed.
 pub ran : (a : Answering) (script : ScriptPlan) (before links : ServedScript) (run : ServedRun) (journal : List CallEntry) → a.desk.max_frame < 2 ^ 31 → IsServed (setting_of a) run

@@ -1,5 +1,5 @@
 -- What an answered recording says of its input and its output.
-use Rattle.std.specs.Prelude.{◌≡◌, ◌≢◌, ℕ, true, List, ◌++◌, Option, Some, Result, slice_get}
+use Rattle.std.specs.Prelude.{◌≡◌, ◌≢◌, ℕ, ◌<◌, true, List, ◌++◌, Option, Some, Result, slice_get}
 use Rattle.outside.specs.declared.marks.Mark.{Mark}
 use Rattle.host_model.specs.declared.cause.EndCause.{EndCause}
 use Rattle.host_model.specs.declared.cause.EndCause.TheVariants.{Stopped, NoMemory}
@@ -8,10 +8,11 @@ use Rattle.call_rules.specs.Entries.{CallEntry}
 use Rattle.call_rules.specs.Desks.{DeskMeaning, desk_rules}
 use Rattle.call_rules.specs.Handling.{ServiceState, handler_rules}
 use Rattle.machine_model.specs.AtFronts.{IsBounded}
-use Rattle.script_model.specs.ScriptLines.{ScriptPlan}
+use Rattle.script_model.specs.ScriptLines.{ScriptPlan, openings}
 use Rattle.script_model.specs.Playing.{always_ample}
 use Rattle.script_model.specs.Fed.{IsFedBy}
 use Rattle.script_model.specs.Showing.{IsRehearsedTo}
+use Rattle.ending_model.specs.Failing.{EndsByItsPieces}
 use Rattle.script_text.specs.declared.fault.ScriptFault.{ScriptFault}
 use Rattle.script_text.specs.Reading.{script_of_text}
 use Rattle.recorded_runs.specs.declared.fault.ServingFault.{ServingFault}
@@ -30,12 +31,14 @@ abbrev pub HasNone : EndCause → List EndCause → Type 0
 HasNone cause causes = (c : ℕ) → slice_get causes c ≢ Some cause
 
 -- A run of a script: its tape, journal and causes meet the headline; the script feeds it; at no point were more connections open, or more bytes admitted, than
--- may be; and no connection has ended since the host stopped. Where none has ended for want of memory, it is the one that the script determines.
+-- may be; and no connection has ended since the host stopped. Each that the script opens has ended; one that nothing lets fail, for want of memory or by what its
+-- pieces decide. Where none has ended for want of memory, it is the one that the script determines.
 pub record IsRunOfScript (a : Answering) (script : ScriptPlan) (tape : List Mark) (journal : List CallEntry) (causes : List EndCause) : Type 0 where
   pub headline : Headline (desk_rules a.desk) handler_rules a.services tape journal causes
   pub fed : IsFedBy (desk_rules a.desk) a.budget script tape journal
   pub bounded : (front back : List Mark) → tape ≡ front ++ back → IsBounded a.desk.max_frame a.budget front
   pub none_stopped : HasNone Stopped causes
+  pub ends : (c : ℕ) → c < openings script.lines → EndsByItsPieces (desk_rules a.desk) script causes c
   pub determined : HasNone NoMemory causes
       → IsRehearsedTo (desk_rules a.desk) handler_rules a.services always_ample a.budget a.workers script 0 tape journal causes
 

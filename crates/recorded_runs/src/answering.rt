@@ -120,12 +120,11 @@ fn report_run<L: EntryLine, H: Handler, J: ReportedJournal, K: Sink>(
 {
     match run.outcome {
         Outcome::All => {
-            let entries = run.journal.entries();
-            write_report::<L, K>(
+            write_report::<L, J, K>(
                 alloc,
                 out,
                 &run.tape,
-                entries,
+                &run.journal,
                 run.ends.as_slice(),
                 run.outs.as_slice(),
             )?;

@@ -151,8 +151,7 @@ fn report_run<L: EntryLine, H: Handler, J: ReportedJournal, K: Sink>(
             let Ok(outs) = written(alloc, tape.marks(), ends.len()) else {
                 return Err(ServingFault::NoMemory);
             };
-            let entries = run.journal.entries();
-            write_report::<L, K>(alloc, out, tape, entries, ends, outs.as_slice())?;
+            write_report::<L, J, K>(alloc, out, tape, &run.journal, ends, outs.as_slice())?;
             Ok(())
         }
         Outcome::JournalFault => Err(ServingFault::JournalFault),

@@ -8,19 +8,20 @@ ghost use Rattle.call_rules.specs.Entries.{CallEntry};
 ghost use Rattle.recorded_runs.specs.declared.fault.ServingFault.TheVariants as faults;
 ghost use Rattle.recorded_runs.specs.Answered.{HasNone};
 ghost use Rattle.workload.specs.ExpectedRun.{work_text};
+ghost use Rattle.workload.specs.SummaryText.{sum_of_answers};
 ghost use Rattle.workload.specs.Summed.{ComesToSum};
 ghost use Rattle.recorded_runs.specs.Summaries.{WritesSummary, is_want, some_ran_out};
 
 use crate::ServingFault;
 use crate::workloads::Work;
-use call_rules::{Entry, Handler};
+use call_rules::Handler;
 use conn_table::Outcome;
 use host_loop::Served;
 use host_model::EndCause;
 use outside::{Sink, Tape, write_all};
 use run_report::ReportedJournal;
 use std::alloc::{AllocError, Global};
-use workload::{Summary, bytes_read, bytes_written, print_summary, sum_of_answers};
+use workload::{Summary, answer_adds, bytes_read, bytes_written, print_summary};
 
 /// Writes the summary of a run that came to its end, where no connection ran out of memory.
 pub(crate) fn sum_up<H: Handler, J: ReportedJournal, K: Sink>(
@@ -44,8 +45,7 @@ pub(crate) fn sum_up<H: Handler, J: ReportedJournal, K: Sink>(
             if ran_out(ends) {
                 return Err(ServingFault::NoMemory);
             }
-            let entries = run.journal.entries();
-            let text = summary(alloc, tape, entries, ends, work)?;
+            let text = summary(alloc, tape, &run.journal, ends, work)?;
             hand_over(out, text.as_slice())
         }
         Outcome::JournalFault => Err(ServingFault::JournalFault),
@@ -80,27 +80,41 @@ fn is_want(cause: EndCause) -> bool
 }
 
 /// The summary that is counted from a run.
-fn summary(
+fn summary<J: ReportedJournal>(
     alloc: Global,
     tape: &Tape,
-    entries: &[Entry],
+    journal: &J,
     ends: &[EndCause],
     work: Work,
 ) -> Result<Vec<u8>, AllocError>
     requires most { work.size ≤ 1000000 }
-    requires comes { ComesToSum work.seed work.size tape.now entries.now ends.now }
+    requires comes { (entries : List CallEntry) → J.told journal.now ≡ Some entries → ComesToSum work.seed work.size tape.now entries ends.now }
     ensures { IfOk result (λ text. text.items ≡ work_text work.seed work.size) }
 {
     let counted = Summary {
         connections: summed_calls(ends),
         frames: u64::from(work.size),
-        calls: entries.len() as u64,
+        calls: journal.count(),
         bytes_in: bytes_read(tape),
         bytes_out: bytes_written(tape),
-        sum: sum_of_answers(entries),
+        sum: sum_of_answers(journal),
     };
     let text = print_summary(alloc, &counted)?;
     Ok(text)
+}
+
+/// The sum over the answers of a journal: the i32 of each success that has one.
+fn sum_of_answers<J: ReportedJournal>(journal: &J) -> i128
+    ensures { result ≡ sum_of_answers (J.listed journal.now) }
+{
+    let mut sum: i128 = 0;
+    for i in 0..journal.count() {
+        let Some(one) = journal.entry(i) else {
+            unreachable!();
+        };
+        sum += i128::from(answer_adds(&one.answer));
+    }
+    sum
 }
 
 /// How many connections have ended, which are few.

@@ -1,6 +1,7 @@
 //! What a report asks of the journal: its entries, and the line of each.
 
-ghost use Rattle.std.specs.Prelude.{◌≡◌, ◌++◌, ℕ, List, Some, All, OnOk};
+ghost use Rattle.std.specs.Prelude.{◌≡◌, ◌++◌, ℕ, List, Some, length, slice_get, IfSome, OnOk};
+ghost use Rattle.std.specs.Option.{option_copied};
 ghost use Rattle.text_out.specs.Line.{line_of};
 ghost use Rattle.call_rules.specs.Entries.{CallEntry};
 ghost use Rattle.call_rules.specs.PlainCalls.{IsPlainCall, IsPlainAnswer};
@@ -21,10 +22,20 @@ pub trait EntryLine {
         ensures { OnOk result (into.new.items ≡ into.old.items ++ line_of (line entry.now)) };
 }
 
-/// A journal whose entries stand in memory.
+/// A journal whose entries stand in memory, each of which is plain.
 pub trait ReportedJournal: Journal {
-    /// The entries, in the order in which they took effect.
-    fn entries(&self) -> &[Entry]
-        ensures told { Self.told self.now ≡ Some result.now }
-        ensures plain { All IsPlainEntry result.now };
+    // Its entries, in the order in which they took effect.
+    ghost listed: { Self → List CallEntry };
+
+    /// How many entries there are.
+    fn count(&self) -> u64
+        ensures { result ≡ length (listed self.now) };
+
+    /// The entry of this number, counted from 0.
+    fn entry(&self, i: u64) -> Option<&Entry>
+        ensures entry { option_copied result ≡ slice_get (listed self.now) i }
+        ensures plain { IfSome result (λ entry. IsPlainEntry entry.now) };
+
+    // It tells them.
+    ghost tells: { (journal : Self) → Self.told journal ≡ Some (listed journal) };
 }

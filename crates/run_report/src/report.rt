@@ -1,6 +1,6 @@
 //! The report of a run, which goes to a sink in pieces, so that its memory doesn't grow with the run.
 
-ghost use Rattle.std.specs.Prelude.{◌≡◌, ◌<◌, ℕ, [], ◌++◌, codes, length, take, All, MatchResult, OnOk};
+ghost use Rattle.std.specs.Prelude.{◌≡◌, ◌<◌, ℕ, [], ◌++◌, codes, length, take, MatchResult, OnOk};
 ghost use Rattle.outside.specs.Content.{told_more};
 ghost use Rattle.outside.specs.Taken.{TakesText};
 ghost use Rattle.text_out.specs.Hex.{hex_of};
@@ -11,7 +11,7 @@ ghost use Rattle.run_report.specs.Entries.{IsPlainEntry};
 ghost use Rattle.run_report.specs.Written.{outputs, ended_lines};
 ghost use Rattle.run_report.specs.Pieces.{HasReportCause};
 
-use crate::entries::EntryLine;
+use crate::entries::{EntryLine, ReportedJournal};
 use crate::fault::ReportFault;
 use crate::lines::{put_count, put_end, put_mark};
 use call_rules::Entry;
@@ -28,46 +28,44 @@ const CHUNK: usize = 32_768;
 
 /// Writes the report of a run: its tape, its journal, and what each connection, by its number, ended by and was sent.
 #[tactic(auto, using(crate::proofs::Taking::taking))]
-pub fn write_report<L: EntryLine, K: Sink>(
+pub fn write_report<L: EntryLine, J: ReportedJournal, K: Sink>(
     alloc: Global,
     out: &mut K,
     tape: &Tape,
-    journal: &[Entry],
+    journal: &J,
     causes: &[EndCause],
     written: &[Bytes],
 ) -> Result<(), ReportFault>
-    requires plain { All IsPlainEntry journal.now }
     requires written { written.now ≡ outputs tape.now 0 causes.now }
     ensures told { MatchResult result
-        (λ _. K.taken out.new ≡ told_more (K.taken out.old) (report L.line tape.now journal.now causes.now))
-        (λ _. (n : ℕ) × (K.taken out.new ≡ told_more (K.taken out.old) (take n (report L.line tape.now journal.now causes.now)))) }
+        (λ _. K.taken out.new ≡ told_more (K.taken out.old) (report L.line tape.now (J.listed journal.now) causes.now))
+        (λ _. (n : ℕ) × (K.taken out.new ≡ told_more (K.taken out.old) (take n (report L.line tape.now (J.listed journal.now) causes.now)))) }
     ensures cause { HasReportCause (K.faults out.old) (K.faults out.new) result }
 {
     let mut pending = Vec::new(alloc);
-    write_lines::<L, K>(out, &mut pending, tape, journal, causes, written)?;
+    write_lines::<L, J, K>(out, &mut pending, tape, journal, causes, written)?;
     flush(out, &mut pending)
 }
 
 /// Writes the lines of the report, the last of which stay pending.
 #[tactic(auto, using(crate::proofs::Taking::taking))]
-fn write_lines<L: EntryLine, K: Sink>(
+fn write_lines<L: EntryLine, J: ReportedJournal, K: Sink>(
     out: &mut K,
     pending: &mut Vec<u8>,
     tape: &Tape,
-    journal: &[Entry],
+    journal: &J,
     causes: &[EndCause],
     written: &[Bytes],
 ) -> Result<(), ReportFault>
-    requires plain { All IsPlainEntry journal.now }
     requires written { written.now ≡ outputs tape.now 0 causes.now }
     ensures told { TakesText (K.taken out.old) (K.taken out.new)
-        (pending.old.items ++ report L.line tape.now journal.now causes.now) pending.new.items result }
+        (pending.old.items ++ report L.line tape.now (J.listed journal.now) causes.now) pending.new.items result }
     ensures cause { HasReportCause (K.faults out.old) (K.faults out.new) result }
 {
     write_tape(out, pending, tape)?;
-    write_journal::<L, K>(out, pending, journal)?;
+    write_journal::<L, J, K>(out, pending, journal)?;
     write_ends(out, pending, causes, written)?;
-    write_count(out, pending, journal.len() as u64)
+    write_count(out, pending, journal.count())
 }
 
 /// Writes the lines of the tape.
@@ -102,17 +100,19 @@ fn write_mark<K: Sink>(
 
 /// Writes the lines of the journal.
 #[tactic(auto, using(crate::proofs::Taking::taking))]
-fn write_journal<L: EntryLine, K: Sink>(
+fn write_journal<L: EntryLine, J: ReportedJournal, K: Sink>(
     out: &mut K,
     pending: &mut Vec<u8>,
-    journal: &[Entry],
+    journal: &J,
 ) -> Result<(), ReportFault>
-    requires plain { All IsPlainEntry journal.now }
     ensures told { TakesText (K.taken out.old) (K.taken out.new)
-        (pending.old.items ++ (journal_lines L.line journal.now)) pending.new.items result }
+        (pending.old.items ++ (journal_lines L.line (J.listed journal.now))) pending.new.items result }
     ensures cause { HasReportCause (K.faults out.old) (K.faults out.new) result }
 {
-    for entry in journal {
+    for i in 0..journal.count() {
+        let Some(entry) = journal.entry(i) else {
+            unreachable!();
+        };
         write_entry::<L, K>(out, pending, entry)?;
     }
     Ok(())

@@ -27,7 +27,7 @@ type Fails = [&'static [u64]; 4];
 /// What fails, to what it leads, the summary, and what the journal's file holds.
 type Row = (Fails, Result<(), PortFault>, &'static [u8], &'static [u8]);
 
-const ROWS: [Row; 6] = [
+const ROWS: [Row; 7] = [
     (
         [&[], &[], &[], &[]],
         Ok(()),
@@ -35,10 +35,17 @@ const ROWS: [Row; 6] = [
         b"call 0 0 0 p {} empty\ncall 0 1 0 p {} empty\n",
     ),
     (
-        [&[], &[1], &[], &[]],
+        [&[], &[0], &[], &[]],
         Err(PortFault::JournalFault),
-        b"listening 127.0.0.1:9090\nconn 0 Stopped\ncalls 1\n",
-        b"call 0 0 0 p {} empty\n",
+        b"listening 127.0.0.1:9090\nconn 0 End\ncalls 2\n",
+        b"",
+    ),
+    // The journal's fault comes before the summary's.
+    (
+        [&[], &[0], &[1], &[]],
+        Err(PortFault::JournalFault),
+        b"listening 127.0.0.1:9090\n",
+        b"",
     ),
     ([&[0], &[], &[], &[]], Err(PortFault::FileFault), b"", b""),
     ([&[], &[], &[], &[0]], Err(PortFault::NetFault), b"", b""),

@@ -8,3 +8,4 @@ pub mod Checked
 mod BoundServices
 mod EntryLines
 mod Ended
+mod Completed

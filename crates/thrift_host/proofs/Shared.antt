@@ -1,5 +1,5 @@
--- An office may be shared by threads, since each of its parts may. A search for all of it at once runs out of steps.
-use denote.Param.Send.{IsSync, sendable}
+-- An office may be shared by threads, since each of its parts may, and a journal may be sent to one. A search for all of it at once runs out of steps.
+use denote.Param.Send.{IsSend, IsSync, sendable}
 use Rattle.std.proofs.vec.Vec.TheSendSync.{the_sync as vec_sync}
 use Rattle.std.proofs.boxed.Box.TheSendSync.{the_sync as box_sync}
 use Rattle.std.proofs.alloc.Global.TheSendSync.{the_sync as global_sync}
@@ -23,6 +23,8 @@ use Rattle.schema.specs.contracts.types.StructDesc as StructDesc
 use Rattle.schema.specs.contracts.types.TypeDesc as TypeDesc
 use Rattle.processor.proofs.bindings.Bindings.TheSendSync.{the_field_sync as bindings_sync}
 use Rattle.processor.specs.contracts.office.Office as Office
+use Rattle.journal_text.proofs.Sent.{segment_journal_field_send}
+use Rattle.thrift_host.specs.contracts.journal.ReportedList as ReportedList
 
 type_sync : IsSync TypeDesc.the_row
 type_sync = search (sendable, types.crosses, box_sync, global_sync) depth 12
@@ -59,3 +61,6 @@ schema_sync = search (sendable, listed_sync, file_sync, struct_sync, enum_sync, 
 
 pub office_sync : IsSync Office.the_row
 office_sync = search (sendable, schema_sync, bindings_sync) depth 12
+
+pub reported_send : IsSend ReportedList.the_row
+reported_send = search (sendable, segment_journal_field_send) depth 12

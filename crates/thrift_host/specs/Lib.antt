@@ -4,5 +4,6 @@ pub mod Runs
 pub mod Serving
 pub mod Workloads
 pub mod Top
+pub mod Complete
 pub mod Steps
 pub mod MayBeServed

@@ -1,10 +1,11 @@
 //! The top call.
 
-ghost use Rattle.std.specs.Prelude.{◌≡◌, ◌≢◌, ◌≤◌, ℕ, List, Option, map, string_bytes};
+ghost use Rattle.std.specs.Prelude.{◌≡◌, ◌≢◌, ◌≤◌, ◌⊎◌, ℕ, List, Option, map, string_bytes};
 ghost use Rattle.outside.specs.Cause.{Rose};
 ghost use Rattle.command_line.specs.Answering.{plain_served};
 ghost use Rattle.command_line.specs.Bounds.{KeepsServedBounds};
 ghost use Rattle.command_line.specs.Words.{words_of};
+ghost use Rattle.thrift_host.specs.Complete.{IsWellAsked, NoneRose};
 ghost use Rattle.thrift_host.specs.Top.{Means, Says, KeepsPlace, asked_run, asked_place};
 ghost use Rattle.thrift_host.specs.Runs.{MeansRun, SaysRun, SaysUnarranged, rehearsing, recording};
 ghost use Rattle.thrift_host.specs.Serving.{MeansServing, host_change, place_change};
@@ -20,9 +21,11 @@ use crate::status::Status;
 use crate::workloads::{work, workload_words};
 use call_rules::Handler;
 use command_line::{Command, ServedIdl, WordsFault, read_words};
+use idl_check::refusal_laws::an_idl_has_one_verdict;
 use outside::{Binder, Files, Gate, Sink, Source};
 use port_serving::ServedPort;
 use recorded_runs::Work;
+use service_binding::what_is_bound_is_not_refused;
 use std::alloc::Global;
 use std::sync::Wait;
 use std::thread::Threads;
@@ -79,6 +82,71 @@ pub fn host<
     ensures net_fault { result ≡ Status.NetFault → Rose (B.faults binder.old) (B.faults binder.new) }
     ensures journal_fault { result ≡ Status.JournalFault → Rose (F.sink_faults files.old) (F.sink_faults files.new) }
     // Done says that no fault was met: no count rose but that of the errors.
+    ensures files_kept { result ≡ Status.Done → F.faults files.new ≡ F.faults files.old }
+    ensures input_kept { result ≡ Status.Done → S.faults input.new ≡ S.faults input.old }
+    ensures output_kept { result ≡ Status.Done → K.faults output.new ≡ K.faults output.old }
+    ensures binder_kept { result ≡ Status.Done → B.faults binder.new ≡ B.faults binder.old }
+    ensures sinks_kept { result ≡ Status.Done → F.sink_faults files.new ≡ F.sink_faults files.old }
+    // Where the words are a command, and what it needs of IDL, pairs, default, handlers and input is there and told, it is done unless a count rose, or memory ran out.
+    ensures complete { IsWellAsked (words_of (map string_bytes words.now)) (map H.service handlers.items)
+        (host_change (S.left input.old) (S.left input.new) (K.taken output.old) (K.taken output.new)
+        (place_change (F.files files.old) (F.files files.new) (F.sink_faults files.old) (F.sink_faults files.new) (B.past binder.old) (B.past binder.new)))
+        → NoneRose (record {
+          files_before = F.faults files.old;
+          files = F.faults files.new;
+          input_before = S.faults input.old;
+          input = S.faults input.new;
+          output_before = K.faults output.old;
+          output = K.faults output.new;
+          binder_before = B.faults binder.old;
+          binder = B.faults binder.new;
+          sinks_before = F.sink_faults files.old;
+          sinks = F.sink_faults files.new;
+        }) → (result ≡ Status.Done) ⊎ (result ≡ Status.NoMemory) }
+{
+    an_idl_has_one_verdict();
+    what_is_bound_is_not_refused();
+    command_of(
+        rt, alloc, words, files, input, output, errors, binder, gate, handlers,
+    )
+}
+
+/// Runs the command of these words.
+fn command_of<
+    F: Files,
+    S: Source,
+    K: Sink,
+    E: Sink,
+    B: Binder,
+    G: Gate + Sync,
+    H: Handler,
+    R: Threads + Wait + Sync,
+>(
+    rt: &R,
+    alloc: Global,
+    words: &[String],
+    files: &mut F,
+    input: &mut S,
+    output: &mut K,
+    errors: &mut E,
+    binder: &mut B,
+    gate: &G,
+    handlers: Vec<H>,
+) -> Status
+    ensures means { Means (words_of (map string_bytes words.now)) (map H.service handlers.items) result
+        (host_change (S.left input.old) (S.left input.new) (K.taken output.old) (K.taken output.new)
+        (place_change (F.files files.old) (F.files files.new) (F.sink_faults files.old) (F.sink_faults files.new) (B.past binder.old) (B.past binder.new))) }
+    ensures errors { Says (words_of (map string_bytes words.now)) (map H.service handlers.items) result
+        (host_change (S.left input.old) (S.left input.new) (K.taken output.old) (K.taken output.new)
+        (place_change (F.files files.old) (F.files files.new) (F.sink_faults files.old) (F.sink_faults files.new) (B.past binder.old) (B.past binder.new)))
+        (record { taken_before = E.taken errors.old; taken = E.taken errors.new; faults_before = E.faults errors.old; faults = E.faults errors.new }) }
+    ensures place { KeepsPlace (words_of (map string_bytes words.now))
+        (place_change (F.files files.old) (F.files files.new) (F.sink_faults files.old) (F.sink_faults files.new) (B.past binder.old) (B.past binder.new)) }
+    ensures file_fault { result ≡ Status.FileFault → Rose (F.faults files.old) (F.faults files.new) }
+    ensures read_fault { result ≡ Status.ReadFault → Rose (S.faults input.old) (S.faults input.new) }
+    ensures write_fault { result ≡ Status.WriteFault → Rose (K.faults output.old) (K.faults output.new) }
+    ensures net_fault { result ≡ Status.NetFault → Rose (B.faults binder.old) (B.faults binder.new) }
+    ensures journal_fault { result ≡ Status.JournalFault → Rose (F.sink_faults files.old) (F.sink_faults files.new) }
     ensures files_kept { result ≡ Status.Done → F.faults files.new ≡ F.faults files.old }
     ensures input_kept { result ≡ Status.Done → S.faults input.new ≡ S.faults input.old }
     ensures output_kept { result ≡ Status.Done → K.faults output.new ≡ K.faults output.old }

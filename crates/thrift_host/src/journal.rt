@@ -4,7 +4,7 @@ ghost use Rattle.std.specs.Prelude.{◌≡◌, []};
 ghost use Rattle.journal_text.specs.EntryText.{entry_text};
 
 use call_rules::{Entry, Journal};
-use journal_text::{ListJournal, put_entry};
+use journal_text::{SegmentJournal, put_entry};
 use outside::Failed;
 use run_report::{EntryLine, ReportedJournal};
 use std::alloc::{AllocError, Global};
@@ -21,11 +21,11 @@ impl EntryLine for JournalLines {
     }
 }
 
-/// A list of entries, to be reported. It never fails.
+/// Entries in memory, to be reported. It never fails.
 #[derive(Drop)]
 pub(crate) struct ReportedList {
     /// The entries, each of which is plain.
-    list: ListJournal,
+    list: SegmentJournal,
 }
 
 impl Model for ReportedList {
@@ -48,7 +48,7 @@ impl ReportedList {
         ensures { result.entries ≡ [] }
     {
         ReportedList {
-            list: ListJournal::new(alloc),
+            list: SegmentJournal::new(alloc),
         }
     }
 }
@@ -74,7 +74,17 @@ impl Journal for ReportedList {
 }
 
 impl ReportedJournal for ReportedList {
-    fn entries(&self) -> &[Entry] {
-        self.list.entries()
+    ghost use Rattle.std.specs.Prelude.{refl};
+
+    ghost listed = { λ j. j.entries };
+
+    fn count(&self) -> u64 {
+        self.list.count()
     }
+
+    fn entry(&self, i: u64) -> Option<&Entry> {
+        self.list.entry(i)
+    }
+
+    ghost tells = { λ _. refl };
 }

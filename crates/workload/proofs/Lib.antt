@@ -3,7 +3,6 @@ pub mod Kept
 pub mod FrameBytes
 pub mod Grouped
 pub mod Answered
-pub mod Summed
 pub mod Carried
 pub mod Pieces
 pub mod Payloads

@@ -4,7 +4,8 @@
 //! ```rust
 //! let script = generate(alloc, 1, 1000)?;
 //! let (bytes_in, bytes_out) = (bytes_read(&tape), bytes_written(&tape));
-//! let summary = Summary { connections: 8, frames: 1000, calls, bytes_in, bytes_out, sum: sum_of_answers(journal) };
+//! let sum = answers.map(|answer| i128::from(answer_adds(answer))).sum();
+//! let summary = Summary { connections: 8, frames: 1000, calls, bytes_in, bytes_out, sum };
 //! let text = print_summary(alloc, &summary)?;
 //! assert!(rt; is_calculator(&schema, service));
 //! ```
@@ -29,6 +30,6 @@ mod traffic;
 
 pub use making::generate;
 pub use streams::connections_of;
-pub use summary::{Summary, print_summary, sum_of_answers};
+pub use summary::{Summary, answer_adds, print_summary};
 pub use testing::is_calculator;
 pub use traffic::{bytes_read, bytes_written};

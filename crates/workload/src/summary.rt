@@ -3,9 +3,9 @@
 ghost use Rattle.std.specs.Prelude.{◌≡◌, ◌++◌, pos, IfOk, OnOk};
 ghost use Rattle.call_rules.specs.Answers.{plain_answer};
 ghost use Rattle.thrift_value.specs.TreeOf.{tree_of};
-ghost use Rattle.workload.specs.SummaryText.{told_number, workload_text, value_adds, answer_adds, sum_of_answers};
+ghost use Rattle.workload.specs.SummaryText.{told_number, workload_text, value_adds, answer_adds};
 
-use call_rules::{Answer, Entry};
+use call_rules::Answer;
 use std::alloc::{AllocError, Global};
 use text_out::decimal;
 use thrift_value::Value;
@@ -59,19 +59,8 @@ fn put_told(into: &mut Vec<u8>, word: &[u8], n: i128) -> Result<(), AllocError>
     Ok(())
 }
 
-/// The sum over the answers of a journal: the i32 of each success that has one.
-pub fn sum_of_answers(journal: &[Entry]) -> i128
-    ensures { result ≡ sum_of_answers journal.now }
-{
-    let mut sum: i128 = 0;
-    for entry in journal {
-        sum += i128::from(answer_adds(&entry.answer));
-    }
-    sum
-}
-
-/// What an answer adds to the sum.
-fn answer_adds(answer: &Answer) -> i32
+/// What an answer adds to the sum of a run: its number, where it is a success with an i32, else 0.
+pub fn answer_adds(answer: &Answer) -> i32
     ensures { result ≡ answer_adds (plain_answer answer.now) }
 {
     match answer {

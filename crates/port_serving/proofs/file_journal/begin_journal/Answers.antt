@@ -8,7 +8,8 @@ returns-in-Ok-clause-begun g c =
     record {
       files = refl;
       none = ap (λ j. j.entries) c.in-Ok.ensures.ok;
-      whole = ap (λ j. j.torn) c.in-Ok.ensures.ok;
+      empty = ap (λ j. j.held) c.in-Ok.ensures.ok;
+      whole = ap (λ j. j.failed) c.in-Ok.ensures.ok;
       faultless = ap (λ j. g.F.Out.Sink.faults j.sink) c.in-Ok.ensures.ok ∙ c.requires.faultless;
     }
 

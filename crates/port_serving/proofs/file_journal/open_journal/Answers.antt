@@ -8,7 +8,7 @@ begin_journal-requires-clause-unused g c κs within = unused (g.F.Files.files c.
 
 pub returns-in-Ok-clause-opened : goal.returns-in-Ok-clause-opened
 returns-in-Ok-clause-opened g c =
-    opened_so c.begin_journal.result (λ j. j.entries) (λ j. j.torn) (λ j. g.F.Out.Sink.faults j.sink) (g.F.Files.files c.args.files.now)
+    opened_so c.begin_journal.result (λ j. j.entries) (λ j. j.held) (λ j. j.failed) (λ j. g.F.Out.Sink.faults j.sink) (g.F.Files.files c.args.files.now)
     (g.F.Files.files c.create.new.self) (g.F.Files.files c.begin_journal.new.files) c.args.name.now (g.F.Out.Sink.taken c.in-Ok.sink) c.in-Ok.ensures.made.files
     c.in-Ok.ensures.made.there (unused (g.F.Files.files c.args.files.now) (g.F.Out.Sink.taken c.in-Ok.sink) c.in-Ok.ensures.made.empty) c.begin_journal.ensures.begun
     c.begin_journal.ensures.faults

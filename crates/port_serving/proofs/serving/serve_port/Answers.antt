@@ -46,6 +46,9 @@ serve_links-run-requires-clause-starts g c κs within =
 pub close_journal-requires-clause-there : goal.close_journal-requires-clause-there
 close_journal-requires-clause-there g c κs within = c.in_ok-journal.ensures.opened.there
 
+pub close_journal-requires-clause-finished : goal.close_journal-requires-clause-finished
+close_journal-requires-clause-finished g c κs within whole = c.in_ok-journal.ensures.opened.empty
+
 pub returns-in_err-journal-clause-means : goal.returns-in_err-journal-clause-means
 returns-in_err-journal-clause-means g c =
     let s : ServerSetting =
@@ -109,9 +112,10 @@ returns-in-Ok-clause-means g c =
     let ends = c.serve_links-run.result.ends in
     let calls = c.serve_links-run.result.calls in
     let outcome = c.serve_links-run.result.outcome in
-    let served : HasServedPort s place change ends calls outcome =
-    subst (λ o. HasServedPort s place (changed files_before files sinks_before sinks o past) ends calls outcome) c.in-Ok.ensures.listening.same
-    (subst (λ n. HasServedPort s place (changed files_before files n sinks (g.B.Binder.past c.listen.new.binder) past) ends calls outcome) c.open_journal.ensures.sinks
+    let lost = c.serve_links-run.result.lost in
+    let served : HasServedPort s place change ends calls outcome lost =
+    subst (λ o. HasServedPort s place (changed files_before files sinks_before sinks o past) ends calls outcome lost) c.in-Ok.ensures.listening.same
+    (subst (λ n. HasServedPort s place (changed files_before files n sinks (g.B.Binder.past c.listen.new.binder) past) ends calls outcome lost) c.open_journal.ensures.sinks
     (c.serve_links-run.ensures.served files_before c.in_ok-journal.ensures.opened.files))
     in
     c.finish.ensures.means s place change taken_before served c.in-Ok.ensures.listening.line
@@ -151,7 +155,7 @@ returns-in-Err-clause-means g c =
     changed files_before files sinks_before (g.F.Files.sink_faults c.close_journal.new.files) past_before (g.B.Binder.past c.listen.new.binder) in
     let output : OutputChange = record { taken_before = taken_before; taken = g.K.Sink.taken c.listen.new.output } in
     unlistened s place change output c.in-Err.fault
-    (empty_file files_before files c.args.place.now.journal.now c.in_ok-journal.journal.entries c.in_ok-journal.journal.torn c.in_ok-journal.ensures.opened.none
+    (empty_file files_before files c.args.place.now.journal.now c.in_ok-journal.journal.entries c.in_ok-journal.journal.failed c.in_ok-journal.ensures.opened.none
     c.in_ok-journal.ensures.opened.whole (c.close_journal.ensures.kept files_before c.in_ok-journal.ensures.opened.files))
     c.in-Err.ensures.listening
 
@@ -167,4 +171,4 @@ returns-in-Ok-clause-output_kept g c =
     c.finish.ensures.output_kept
 
 pub returns-in-Ok-clause-sinks_kept : goal.returns-in-Ok-clause-sinks_kept
-returns-in-Ok-clause-sinks_kept g c = ok_then c.finish.result (λ all. c.serve_links-run.ensures.sinks_kept all ∙ c.open_journal.ensures.sinks) c.finish.ensures.all
+returns-in-Ok-clause-sinks_kept g c = ok_then c.finish.result (λ whole. c.serve_links-run.ensures.sinks_kept whole ∙ c.open_journal.ensures.sinks) c.finish.ensures.whole

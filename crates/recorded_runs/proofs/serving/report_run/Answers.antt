@@ -10,23 +10,23 @@ use Rattle.recorded_runs.proofs.serving.report_run.Goals as goal
 pub returns-in_default-clause-reported : goal.returns-in_default-clause-reported
 returns-in_default-clause-reported g c a script run = inl refl
 
-pub write_report-requires-clause-written : goal.write_report-requires-clause-written
-write_report-requires-clause-written g c = written_so _ _ _ _ _ _ (sym c.marks.ensures) refl c.as_slice.ensures c.in-Ok.ensures
+pub write_report-requires : goal.write_report-requires
+write_report-requires g c = record { written = written_so _ _ _ _ _ _ (sym c.marks.ensures) refl c.as_slice.ensures c.in-Ok.ensures }
 
 pub returns-in_err-write_report-in-All-clause-reported : goal.returns-in_err-write_report-in-All-clause-reported
 returns-in_err-write_report-in-All-clause-reported g c a script run =
     let p = err_from_is_err_and c.from_residual.result c.from_residual.ensures.1 in
-    let reports : ReportsRunOf (IsServedScript a) g.L.EntryLine.line script (report g.L.EntryLine.line c.args.tape.now c.entries-entries.result.now c.as_slice-ends.result.now) =
-    text_of (IsServedScript a) g.L.EntryLine.line script c.args.tape.now c.args.tape.now c.args.run.now.ends c.as_slice-ends.result.now c.entries-entries.result.now
-    refl c.as_slice-ends.ensures (run c.in-All.is c.entries-entries.result.now c.entries-entries.ensures.told) in
+    let reports : ReportsRunOf (IsServedScript a) g.L.EntryLine.line script (report g.L.EntryLine.line c.args.tape.now (g.J.ReportedJournal.listed c.args.run.now.journal) c.as_slice-ends.result.now) =
+    text_of (IsServedScript a) g.L.EntryLine.line script c.args.tape.now c.args.tape.now c.args.run.now.ends c.as_slice-ends.result.now (g.J.ReportedJournal.listed c.args.run.now.journal)
+    refl c.as_slice-ends.ensures (run c.in-All.is (g.J.ReportedJournal.listed c.args.run.now.journal) (g.met.J.ReportedJournal.tells c.args.run.now.journal)) in
     rw (p.1, p.2)
     (in_part (IsServedScript a) g.L.EntryLine.line script _ c.in_err-write_report-in-All.ensures.told.0 _ _ c.in_err-write_report-in-All.field-0.0 reports
     c.in_err-write_report-in-All.ensures.told.1)
 
 pub returns-in_ok-write_report-in-All-clause-reported : goal.returns-in_ok-write_report-in-All-clause-reported
 returns-in_ok-write_report-in-All-clause-reported g c a script run = (
-  report g.L.EntryLine.line c.args.tape.now c.entries-entries.result.now c.as_slice-ends.result.now,
-  text_of (IsServedScript a) g.L.EntryLine.line script c.args.tape.now c.args.tape.now c.args.run.now.ends c.as_slice-ends.result.now c.entries-entries.result.now
-      refl c.as_slice-ends.ensures (run c.in-All.is c.entries-entries.result.now c.entries-entries.ensures.told),
+  report g.L.EntryLine.line c.args.tape.now (g.J.ReportedJournal.listed c.args.run.now.journal) c.as_slice-ends.result.now,
+  text_of (IsServedScript a) g.L.EntryLine.line script c.args.tape.now c.args.tape.now c.args.run.now.ends c.as_slice-ends.result.now (g.J.ReportedJournal.listed c.args.run.now.journal)
+      refl c.as_slice-ends.ensures (run c.in-All.is (g.J.ReportedJournal.listed c.args.run.now.journal) (g.met.J.ReportedJournal.tells c.args.run.now.journal)),
   c.in_ok-write_report-in-All.ensures.told,
 )

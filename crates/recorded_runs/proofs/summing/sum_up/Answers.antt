@@ -6,7 +6,7 @@ use Rattle.recorded_runs.proofs.Counted.{none_ran_out}
 use Rattle.recorded_runs.proofs.summing.sum_up.Goals as goal
 
 pub summary-requires-clause-comes : goal.summary-requires-clause-comes
-summary-requires-clause-comes g c =
-    subst (ComesToSum c.args.work.seed c.args.work.size c.args.tape.now c.entries-entries.result.now) (sym c.as_slice-ends.ensures)
-    (c.requires.comes c.in-All.is c.entries-entries.result.now c.entries-entries.ensures.told
+summary-requires-clause-comes g c entries is =
+    subst (ComesToSum c.args.work.seed c.args.work.size c.args.tape.now entries) (sym c.as_slice-ends.ensures)
+    (c.requires.comes c.in-All.is entries is
     (subst (HasNone NoMemory) c.as_slice-ends.ensures (none_ran_out c.as_slice-ends.result.now (sym c.ran_out.ensures ∙ c.if-ran_out.false))))

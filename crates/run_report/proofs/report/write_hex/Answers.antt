@@ -1,4 +1,4 @@
-use Rattle.std.proofs.Common.{◌≡◌, List, ℕ, [], ◌∷◌, ◌++◌, take, drop, ap, sym, subst, ◌∙◌, refl, take-append-drop, arith}
+use Rattle.std.proofs.Common.{◌≡◌, List, ℕ, [], ◌∷◌, ◌++◌, take, drop, ap, sym, subst, ◌∙◌, refl, take-append-drop}
 use Rattle.text_out.specs.Hex.{hex_of}
 use Rattle.outside.specs.Taken.{IsTakenBut}
 use Rattle.outside.proofs.Taking.{next_taken, next_in_part, err_takes}

@@ -4,7 +4,7 @@ use Rattle.text_out.specs.Line.{line_of}
 use Rattle.host_model.specs.declared.cause.EndCause.{EndCause}
 use Rattle.host_model.specs.Report.{end_lines, journal_lines, numbered, report, tape_lines}
 use Rattle.call_rules.specs.Entries.{CallEntry}
-use Rattle.outside.specs.Taken.{IsTakenBut}
+use Rattle.outside.specs.Taken.{IsTakenBut, TakesText}
 use Rattle.outside.proofs.Taking.{none_taken, next_taken, next_in_part, last_takes, err_takes}
 use Rattle.run_report.specs.Written.{outputs, ended_lines}
 use Rattle.run_report.proofs.Ended.{ended_as_told, as_many}
@@ -57,14 +57,14 @@ after_journal t x y z pending left rest f h =
 
 pub returns-in_err-write_tape-clause-told : goal.returns-in_err-write_tape-clause-told
 returns-in_err-write_tape-clause-told g c =
-    let t : Told = record { line = g.L.EntryLine.line; tape = c.args.tape.now; journal = c.args.journal.now; causes = c.args.causes.now; written = c.args.written.now; same = c.requires.written } in
+    let t : Told = record { line = g.L.EntryLine.line; tape = c.args.tape.now; journal = g.J.ReportedJournal.listed c.args.journal.now; causes = c.args.causes.now; written = c.args.written.now; same = c.requires.written } in
     err_takes _ _ _ _ c.from_residual.result c.from_residual.ensures.0
     (next_in_part _ _ _ _ c.args.pending.now.items (tape_lines t.tape) _ (at_first t (g.K.Sink.taken c.args.out.now) c.args.pending.now.items)
     (c.in_err-write_tape.ensures {u = tt}).told)
 
 pub returns-in_err-write_journal-clause-told : goal.returns-in_err-write_journal-clause-told
 returns-in_err-write_journal-clause-told g c =
-    let t : Told = record { line = g.L.EntryLine.line; tape = c.args.tape.now; journal = c.args.journal.now; causes = c.args.causes.now; written = c.args.written.now; same = c.requires.written } in
+    let t : Told = record { line = g.L.EntryLine.line; tape = c.args.tape.now; journal = g.J.ReportedJournal.listed c.args.journal.now; causes = c.args.causes.now; written = c.args.written.now; same = c.requires.written } in
     err_takes _ _ _ _ c.from_residual-in_err-write_journal.result c.from_residual-in_err-write_journal.ensures.0
     (next_in_part _ (g.K.Sink.taken c.write_tape.new.out) _ _ c.write_tape.new.pending.items (journal_text t) _
     (after_tape t (g.K.Sink.taken c.args.out.now) (g.K.Sink.taken c.write_tape.new.out) c.args.pending.now.items c.write_tape.new.pending.items
@@ -73,7 +73,7 @@ returns-in_err-write_journal-clause-told g c =
 
 pub returns-in_err-write_ends-clause-told : goal.returns-in_err-write_ends-clause-told
 returns-in_err-write_ends-clause-told g c =
-    let t : Told = record { line = g.L.EntryLine.line; tape = c.args.tape.now; journal = c.args.journal.now; causes = c.args.causes.now; written = c.args.written.now; same = c.requires.written } in
+    let t : Told = record { line = g.L.EntryLine.line; tape = c.args.tape.now; journal = g.J.ReportedJournal.listed c.args.journal.now; causes = c.args.causes.now; written = c.args.written.now; same = c.requires.written } in
     err_takes _ _ _ _ c.from_residual-in_err-write_ends.result c.from_residual-in_err-write_ends.ensures.0
     (next_in_part _ (g.K.Sink.taken c.write_journal.new.out) _ _ c.write_journal.new.pending.items (ended_lines 0 t.causes t.written) _
     (after_journal t (g.K.Sink.taken c.args.out.now) (g.K.Sink.taken c.write_tape.new.out) (g.K.Sink.taken c.write_journal.new.out) c.args.pending.now.items
@@ -82,14 +82,16 @@ returns-in_err-write_ends-clause-told g c =
 
 pub returns-clause-told : goal.returns-clause-told
 returns-clause-told g c =
-    let t : Told = record { line = g.L.EntryLine.line; tape = c.args.tape.now; journal = c.args.journal.now; causes = c.args.causes.now; written = c.args.written.now; same = c.requires.written } in
+    let t : Told = record { line = g.L.EntryLine.line; tape = c.args.tape.now; journal = g.J.ReportedJournal.listed c.args.journal.now; causes = c.args.causes.now; written = c.args.written.now; same = c.requires.written } in
     last_takes _ (g.K.Sink.taken c.write_ends.new.out) _ _ _ _ c.write_count.result
     (next_taken _ (g.K.Sink.taken c.write_journal.new.out) _ _ c.write_journal.new.pending.items (ended_lines 0 t.causes t.written) (count_line t)
     c.write_ends.new.pending.items
     (after_journal t (g.K.Sink.taken c.args.out.now) (g.K.Sink.taken c.write_tape.new.out) (g.K.Sink.taken c.write_journal.new.out) c.args.pending.now.items
     c.write_tape.new.pending.items c.write_journal.new.pending.items (c.in_ok-write_tape.ensures {u = tt}).told (c.in_ok-write_journal.ensures {u = tt}).told)
     (c.in_ok-write_ends.ensures {u = tt}).told)
-    c.write_count.ensures.told
+    (subst
+    (λ n. TakesText (g.K.Sink.taken c.write_ends.new.out) (g.K.Sink.taken c.write_count.new.out) (c.write_ends.new.pending.items ++ line_of (numbered (codes "calls") n))
+    c.write_count.new.pending.items c.write_count.result) c.count.ensures c.write_count.ensures.told)
 
 pub write_ends-requires : goal.write_ends-requires
 write_ends-requires g c = ap length c.requires.written ∙ as_many c.args.tape.now 0 c.args.causes.now

@@ -16,6 +16,6 @@ returns-clause-told g c =
     in_the_end _ (g.K.Sink.taken c.write_lines.new.out) _ _ c.write_lines.new.pending.items c.flush.result
     (subst
     (λ t. IsTakenBut (g.K.Sink.taken c.args.out.now) (g.K.Sink.taken c.write_lines.new.out)
-    (t ++ report g.L.EntryLine.line c.args.tape.now c.args.journal.now c.args.causes.now) c.write_lines.new.pending.items)
+    (t ++ report g.L.EntryLine.line c.args.tape.now (g.J.ReportedJournal.listed c.args.journal.now) c.args.causes.now) c.write_lines.new.pending.items)
     c.new-pending.ensures.items (c.in_ok-write_lines.ensures {u = tt}).told)
     c.flush.ensures.told

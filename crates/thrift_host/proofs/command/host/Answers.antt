@@ -1,21 +1,76 @@
-use Rattle.std.proofs.Common.{◌∙◌, None, Some, ap, map, refl}
-use Rattle.command_line.specs.Answering.{plain_command}
-use Rattle.thrift_host.specs.Serving.{host_change, place_change}
-use Rattle.thrift_host.proofs.Checked.{never_net, never_journal}
-use Rattle.thrift_host.proofs.Served.{serving_asked}
+use Rattle.std.proofs.Common.{map}
+use Rattle.command_line.specs.Words.{words_of}
+use Rattle.std.specs.Prelude.{string_bytes}
+use Rattle.thrift_host.specs.Complete.{HostCounts}
+use Rattle.thrift_host.specs.Serving.{HostChange, host_change, place_change}
+use Rattle.thrift_host.proofs.Completed.{FaultsShow, only_done}
 use Rattle.thrift_host.proofs.command.host.Goals as goal
 
-pub returns-in-Ok-Check-clause-net_fault : goal.returns-in-Ok-Check-clause-net_fault
-returns-in-Ok-Check-clause-net_fault g c = λ is. absurd (never_net _ _ _ c.check.result (c.check.ensures.means None) is)
+pub returns-clause-complete : goal.returns-clause-complete
+returns-clause-complete g c asked none =
+    let change : HostChange =
+    host_change (g.S.Source.left c.args.input.now) (g.S.Source.left c.command_of.new.input) (g.K.Sink.taken c.args.output.now) (g.K.Sink.taken c.command_of.new.output)
+    (place_change (g.F.Files.files c.args.files.now) (g.F.Files.files c.command_of.new.files) (g.F.Files.sink_faults c.args.files.now)
+    (g.F.Files.sink_faults c.command_of.new.files) (g.B.Binder.past c.args.binder.now) (g.B.Binder.past c.command_of.new.binder)) in
+    let counts : HostCounts =
+    (record {
+      files_before = g.F.Files.faults c.args.files.now;
+      files = g.F.Files.faults c.command_of.new.files;
+      input_before = g.S.Source.faults c.args.input.now;
+      input = g.S.Source.faults c.command_of.new.input;
+      output_before = g.K.Sink.faults c.args.output.now;
+      output = g.K.Sink.faults c.command_of.new.output;
+      binder_before = g.B.Binder.faults c.args.binder.now;
+      binder = g.B.Binder.faults c.command_of.new.binder;
+      sinks_before = g.F.Files.sink_faults c.args.files.now;
+      sinks = g.F.Files.sink_faults c.command_of.new.files;
+    }) in
+    let shows : FaultsShow counts c.command_of.result =
+    (record {
+      files = c.command_of.ensures.file_fault;
+      input = c.command_of.ensures.read_fault;
+      output = c.command_of.ensures.write_fault;
+      binder = c.command_of.ensures.net_fault;
+      sinks = c.command_of.ensures.journal_fault;
+    }) in
+    only_done c.an_idl_has_one_verdict.ensures c.what_is_bound_is_not_refused.ensures (words_of (map string_bytes c.args.words.now))
+    (map g.H.Handler.service c.args.handlers.items) c.command_of.result change counts c.command_of.ensures.means shows asked none
 
-pub returns-in-Ok-Check-clause-journal_fault : goal.returns-in-Ok-Check-clause-journal_fault
-returns-in-Ok-Check-clause-journal_fault g c = λ is. absurd (never_journal _ _ _ c.check.result (c.check.ensures.means None) is)
+pub returns-clause-means : goal.returns-clause-means
+returns-clause-means g c = c.command_of.ensures.means
 
-pub returns-in-Ok-Serve-clause-means : goal.returns-in-Ok-Serve-clause-means
-returns-in-Ok-Serve-clause-means g c =
-    serving_asked _ _ _ _ _ (map g.H.Handler.service c.args.handlers.items) c.serve_and_say.result
-    (host_change (g.S.Source.left c.args.input.now) (g.S.Source.left c.args.input.now) (g.K.Sink.taken c.args.output.now) (g.K.Sink.taken c.serve_and_say.new.output)
-    (place_change (g.F.Files.files c.args.files.now) (g.F.Files.files c.serve_and_say.new.files) (g.F.Files.sink_faults c.args.files.now)
-    (g.F.Files.sink_faults c.serve_and_say.new.files) (g.B.Binder.past c.args.binder.now) (g.B.Binder.past c.serve_and_say.new.binder)))
-    refl c.as_str-in-Ok-Serve.ensures (c.serve_and_say.ensures.means (g.S.Source.left c.args.input.now)) _
-    (c.in-Ok-Serve.ensures.answers ∙ ap (λ command. Some (plain_command command)) c.in-Ok-Serve.field-0-is)
+pub returns-clause-errors : goal.returns-clause-errors
+returns-clause-errors g c = c.command_of.ensures.errors
+
+pub returns-clause-place : goal.returns-clause-place
+returns-clause-place g c = c.command_of.ensures.place
+
+pub returns-clause-file_fault : goal.returns-clause-file_fault
+returns-clause-file_fault g c = c.command_of.ensures.file_fault
+
+pub returns-clause-read_fault : goal.returns-clause-read_fault
+returns-clause-read_fault g c = c.command_of.ensures.read_fault
+
+pub returns-clause-write_fault : goal.returns-clause-write_fault
+returns-clause-write_fault g c = c.command_of.ensures.write_fault
+
+pub returns-clause-net_fault : goal.returns-clause-net_fault
+returns-clause-net_fault g c = c.command_of.ensures.net_fault
+
+pub returns-clause-journal_fault : goal.returns-clause-journal_fault
+returns-clause-journal_fault g c = c.command_of.ensures.journal_fault
+
+pub returns-clause-files_kept : goal.returns-clause-files_kept
+returns-clause-files_kept g c = c.command_of.ensures.files_kept
+
+pub returns-clause-input_kept : goal.returns-clause-input_kept
+returns-clause-input_kept g c = c.command_of.ensures.input_kept
+
+pub returns-clause-output_kept : goal.returns-clause-output_kept
+returns-clause-output_kept g c = c.command_of.ensures.output_kept
+
+pub returns-clause-binder_kept : goal.returns-clause-binder_kept
+returns-clause-binder_kept g c = c.command_of.ensures.binder_kept
+
+pub returns-clause-sinks_kept : goal.returns-clause-sinks_kept
+returns-clause-sinks_kept g c = c.command_of.ensures.sinks_kept

@@ -1,4 +1,4 @@
-use Rattle.std.proofs.Common.{◌≡◌, ℕ, ◌+◌, ◌*◌, ◌/◌, ◌%◌, ◌<◌, length, refl, sym, ap, ◌∙◌, arith, slice_get}
+use Rattle.std.proofs.Common.{◌≡◌, ℕ, ◌+◌, ◌*◌, ◌/◌, ◌%◌, ◌<◌, length, sym, ap, ◌∙◌, arith, slice_get}
 use Rattle.journal_text.proofs.Segmented.{placed, placed_last, got, few, none_past}
 use Rattle.journal_text.proofs.segment_journal.SegmentJournal.entry.Goals as goal
 

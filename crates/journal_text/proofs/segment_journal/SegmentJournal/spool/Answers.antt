@@ -1,4 +1,4 @@
-use Rattle.std.proofs.Common.{◌≡◌, ◌<◌, ◌-◌, length, drop, ap, ◌∙◌, arith, length-drop}
+use Rattle.std.proofs.Common.{◌≡◌, ◌<◌, ◌-◌, length, ap, ◌∙◌, arith, length-drop}
 use Rattle.journal_text.specs.Segments.{segment_room}
 use Rattle.journal_text.proofs.Spooling.{next_spooled}
 use Rattle.journal_text.proofs.segment_journal.SegmentJournal.spool.Goals as goal

@@ -1,0 +1,149 @@
+-- A command that is well asked, and on whose way nothing fails, is done, or memory runs out.
+use Rattle.std.proofs.Common.{◌≡◌, ℕ, Bool, true, false, List, [], Option, None, Some, Result, Ok, Err, ◌⊎◌, inl, inr, refl, sym, ap, subst, ◌∙◌, true≢false}
+use Rattle.std.proofs.lemmas.Bool.{false≢true}
+use Rattle.outside.specs.Cause.{Rose}
+use Rattle.outside.specs.Files.{File}
+use Rattle.call_rules.specs.Handling.{ServiceState}
+use Rattle.schema.specs.PlainSchema.{PlainSchema}
+use Rattle.schema.specs.Sound.{IsSound}
+use Rattle.idl_token.specs.declared.Place.{Place}
+use Rattle.idl_check.specs.declared.kinds.IdlFaultKind.{IdlFaultKind}
+use Rattle.idl_check.specs.Verdicts.{IdlVerdict, accepted, refused, is_the_tutorial, IsVerdictBy, IsIdlVerdict}
+use Rattle.service_binding.specs.declared.fault.BindKind.{BindKind}
+use Rattle.service_binding.specs.Binding.{NumberedName, AreBound}
+use Rattle.service_binding.specs.Defaults.{slot_for_default}
+use Rattle.service_binding.specs.FirstRefusal.{IsRefusedFirst}
+use Rattle.service_binding.specs.Pairs.{NamedKind}
+use Rattle.command_line.specs.Words.{PlainCommand, checks, rehearses, records, serves, runs}
+use Rattle.script_text.specs.Reading.{script_of_text}
+use Rattle.recorded_runs.specs.Recorded.{Streams, ScriptReading}
+use Rattle.thrift_host.specs.declared.status.Status.{Status}
+use Rattle.thrift_host.specs.declared.status.Status.TheVariants.{Done, Usage, IdlRefused, ScriptRefused, BindRefused, FileFault, ReadFault, WriteFault, NetFault, JournalFault, NoMemory}
+use Rattle.thrift_host.specs.Checks.{AreUntouched, IsRefusedWith, MeansCheck}
+use Rattle.thrift_host.specs.Complete.{HostCounts, NoneRose, IsIdlTold, IsGoodIdl, IsRunReady, IsGoodInput, IsWellAsked}
+use Rattle.thrift_host.specs.Runs.{AskedRun, IsArranged, ScriptRunning, rehearsing, recording, answering_of, IsUnboundWith, MeansUnarranged, MeansRun}
+use Rattle.thrift_host.specs.Serving.{AskedServing, HostChange, MeansServing}
+use Rattle.thrift_host.specs.Top.{asked_run, asked_place, Means}
+use Rattle.thrift_host.specs.Workloads.{asked_workload, MeansWorkload}
+
+abbrev pub OneVerdict : Type 0
+OneVerdict = (files : List File) (idl : List ℕ) (a b : IdlVerdict) → IsIdlVerdict (Some files) idl a → IsIdlVerdict (Some files) idl b → a ≡ b
+
+abbrev pub BoundIsGood : Type 0
+BoundIsGood = (s : PlainSchema) (services : List ServiceState) (pairs : List NamedKind) (default_service : Option (List ℕ)) (bindings : List NumberedName)
+    (bound : List ServiceState) (slot : Option ℕ) (place : ℕ) (kind : BindKind) → IsSound s → AreBound s services pairs bindings bound
+    → slot_for_default bindings default_service ≡ Ok slot → IsRefusedFirst s services pairs default_service place kind → ⊥
+
+abbrev is_accepted : IdlVerdict → Bool
+is_accepted (accepted schema) = true
+is_accepted (refused file at kind) = false
+
+abbrev schema_or : PlainSchema → IdlVerdict → PlainSchema
+schema_or other (accepted schema) = schema
+schema_or other (refused file at kind) = other
+
+abbrev is_read : {A E : Type 0} → Result A E → Bool
+is_read (Ok x) = true
+is_read (Err e) = false
+
+-- a status that refuses nothing
+abbrev pub IsNoRefusal : Status → Type 0
+IsNoRefusal Usage = ⊥
+IsNoRefusal IdlRefused = ⊥
+IsNoRefusal ScriptRefused = ⊥
+IsNoRefusal BindRefused = ⊥
+IsNoRefusal _ = Unit {0}
+
+-- a status that comes of a fault comes where its count rose
+pub record FaultsShow (n : HostCounts) (status : Status) : Type 0 where
+  pub files : status ≡ FileFault → Rose n.files_before n.files
+  pub input : status ≡ ReadFault → Rose n.input_before n.input
+  pub output : status ≡ WriteFault → Rose n.output_before n.output
+  pub binder : status ≡ NetFault → Rose n.binder_before n.binder
+  pub sinks : status ≡ JournalFault → Rose n.sinks_before n.sinks
+
+-- of the IDL that the program holds files say nothing
+among : (idl : List ℕ) (v : IdlVerdict) → is_the_tutorial idl ≡ true → IsIdlVerdict None idl v → IsIdlVerdict (Some []) idl v
+among idl v is h = subst (λ b. IsVerdictBy b (Some []) idl v) (sym is) (subst (λ b. IsVerdictBy b None idl v) is h)
+
+module _ (one : OneVerdict) (good : BoundIsGood) where
+  one_told : (files : Option (List File)) (idl : List ℕ) (a b : IdlVerdict) → IsIdlTold files idl → IsIdlVerdict files idl a → IsIdlVerdict files idl b → a ≡ b
+  one_told (Some files) idl a b told x y = one files idl a b x y
+  one_told None idl a b (inl some) x y = absurd (false≢true some)
+  one_told None idl a b (inr is) x y = one [] idl a b (among idl a is x) (among idl b is y)
+
+  not_refused : (files : Option (List File)) (idl : List ℕ) (schema : PlainSchema) (Holds : List ℕ → Place → IdlFaultKind → Type 0)
+      → IsIdlTold files idl → IsIdlVerdict files idl (accepted schema) → IsRefusedWith files idl Holds → ⊥
+  not_refused files idl schema Holds told v h = true≢false (ap is_accepted (one_told files idl (accepted schema) (refused h.0 h.1 h.2) told v h.3))
+
+  not_unbound : (r : AskedRun) (Holds : ℕ → BindKind → Type 0) → IsRunReady r → IsUnboundWith r Holds → ⊥
+  not_unbound r Holds ready h =
+      let a : IsArranged r = ready.arranged in
+      let same : a.schema ≡ h.0 = ap (schema_or a.schema) (one_told r.files r.says.idl (accepted a.schema) (accepted h.0) ready.told a.has.verdict h.1.verdict) in
+      good a.schema r.handlers r.says.pairs r.says.default_service a.bindings a.bound a.default_slot h.2.0 h.2.1 a.has.sound a.are_bound a.is_default
+      (subst (λ s. IsRefusedFirst s r.handlers r.says.pairs r.says.default_service h.2.0 h.2.1) (sym same) h.2.2)
+
+  -- nothing is refused where a run is ready
+  unarranged_goes : (r : AskedRun) (s : Streams) (status : Status) → IsRunReady r → MeansUnarranged r status s → IsNoRefusal status
+  unarranged_goes r s Usage ready h = absurd h
+  unarranged_goes r s IdlRefused ready h = absurd (not_refused r.files r.says.idl ready.arranged.schema (λ _ _ _. AreUntouched s) ready.told ready.arranged.has.verdict h)
+  unarranged_goes r s ScriptRefused ready h = absurd h
+  unarranged_goes r s BindRefused ready h = absurd (not_unbound r (λ _ _. AreUntouched s) ready h)
+  unarranged_goes r s _ ready h = tt
+
+  check_goes : (files : Option (List File)) (idl : List ℕ) (s : Streams) (status : Status) → IsGoodIdl files idl → MeansCheck files idl status s → IsNoRefusal status
+  check_goes files idl s Usage asked h = absurd h
+  check_goes files idl s IdlRefused asked h = absurd (not_refused files idl asked.schema (λ _ _ _. AreUntouched s) asked.told asked.verdict h)
+  check_goes files idl s ScriptRefused asked h = absurd h
+  check_goes files idl s BindRefused asked h = absurd h
+  check_goes files idl s _ asked h = tt
+
+  run_goes : (way : ScriptRunning) (r : AskedRun) (reading : ScriptReading) → ((a : IsArranged r) → way.script_in (answering_of r a) ≡ reading)
+      → (s : Streams) (status : Status) → IsRunReady r → IsGoodInput reading s.left_before → MeansRun way r status s → IsNoRefusal status
+  run_goes way r reading same s ScriptRefused ready input h =
+      true≢false (ap is_read (sym input.is_script ∙ sym (ap (λ f. f input.text) (same h.0)) ∙ h.1.1 input.text input.told))
+  run_goes way r reading same s Usage ready input h = unarranged_goes r s Usage ready h
+  run_goes way r reading same s IdlRefused ready input h = unarranged_goes r s IdlRefused ready h
+  run_goes way r reading same s BindRefused ready input h = unarranged_goes r s BindRefused ready h
+  run_goes way r reading same s _ ready input h = tt
+
+  serve_goes : (a : AskedServing) (c : HostChange) (status : Status) → IsRunReady a.run → MeansServing a c status → IsNoRefusal status
+  serve_goes a c Usage ready h = absurd h
+  serve_goes a c IdlRefused ready h = unarranged_goes a.run c.streams IdlRefused ready h.0
+  serve_goes a c ScriptRefused ready h = absurd h
+  serve_goes a c BindRefused ready h = unarranged_goes a.run c.streams BindRefused ready h.0
+  serve_goes a c _ ready h = tt
+
+  work_goes : (r : AskedRun) (seed size : ℕ) (s : Streams) (status : Status) → IsRunReady r → MeansWorkload r seed size status s → IsNoRefusal status
+  work_goes r seed size s Done ready h = tt
+  work_goes r seed size s WriteFault ready h = tt
+  work_goes r seed size s status ready h = unarranged_goes r s status ready h
+
+  goes : (words : Option PlainCommand) (handlers : List ServiceState) (status : Status) (c : HostChange) → Means words handlers status c
+      → IsWellAsked words handlers c → IsNoRefusal status
+  goes (Some (checks idl)) handlers status c h asked = check_goes c.place.files_before idl c.streams status asked h
+  goes (Some (rehearses says)) handlers status c h asked =
+      run_goes rehearsing (asked_run says c.place.files_before handlers) (script_of_text says.workers true) (λ a. refl) c.streams status asked.0 asked.1 h
+  goes (Some (records says)) handlers status c h asked =
+      run_goes recording (asked_run says c.place.files_before handlers) (script_of_text says.workers false) (λ a. refl) c.streams status asked.0 asked.1 h
+  goes (Some (serves says port accept journal)) handlers status c h asked =
+      serve_goes (record { run = asked_run says c.place.files_before handlers; place = asked_place port accept journal }) c status asked h.1
+  goes (Some (runs seed size workers)) handlers status c h asked = work_goes (asked_workload workers c.place.files_before handlers) seed size c.streams status asked h
+  goes None handlers status c h asked = absurd asked
+
+  pub only_done : (words : Option PlainCommand) (handlers : List ServiceState) (status : Status) (c : HostChange) (n : HostCounts) → Means words handlers status c
+      → FaultsShow n status → IsWellAsked words handlers c → NoneRose n → (status ≡ Done) ⊎ (status ≡ NoMemory)
+  only_done words handlers status c n h shows asked none = by status shows (goes words handlers status c h asked)
+    where
+      by : (ended : Status) → FaultsShow n ended → IsNoRefusal ended → (ended ≡ Done) ⊎ (ended ≡ NoMemory)
+      by Done f r = inl refl
+      by NoMemory f r = inr refl
+      by FileFault f r = absurd (none.files (f.files refl))
+      by ReadFault f r = absurd (none.input (f.input refl))
+      by WriteFault f r = absurd (none.output (f.output refl))
+      by NetFault f r = absurd (none.binder (f.binder refl))
+      by JournalFault f r = absurd (none.sinks (f.sinks refl))
+      by Usage f r = absurd r
+      by IdlRefused f r = absurd r
+      by ScriptRefused f r = absurd r
+      by BindRefused f r = absurd r

@@ -1,0 +1,69 @@
+-- Commands that can't but be done, where nothing fails and memory suffices.
+use Rattle.std.specs.Prelude.{◌≡◌, ◌⊎◌, ℕ, true, false, List, Option, None, Some, IsSome, Ok}
+use Rattle.outside.specs.Cause.{Rose}
+use Rattle.outside.specs.Files.{File}
+use Rattle.call_rules.specs.Handling.{ServiceState}
+use Rattle.schema.specs.PlainSchema.{PlainSchema}
+use Rattle.idl_check.specs.Verdicts.{accepted, is_the_tutorial, IsIdlVerdict}
+use Rattle.command_line.specs.Words.{PlainCommand, checks, rehearses, records, serves, runs}
+use Rattle.script_model.specs.ScriptLines.{ScriptPlan}
+use Rattle.script_text.specs.Reading.{script_of_text}
+use Rattle.recorded_runs.specs.Recorded.{ScriptReading}
+use Rattle.thrift_host.specs.Runs.{AskedRun, IsArranged}
+use Rattle.thrift_host.specs.Serving.{HostChange}
+use Rattle.thrift_host.specs.Workloads.{asked_workload}
+use Rattle.thrift_host.specs.Top.{asked_run}
+
+-- How often had failed, before a command and then: the files, the input, the output and the binder; and the sinks that came back to the files.
+pub record HostCounts : Type 0 where
+  pub files_before : ℕ
+  pub files : ℕ
+  pub input_before : ℕ
+  pub input : ℕ
+  pub output_before : ℕ
+  pub output : ℕ
+  pub binder_before : ℕ
+  pub binder : ℕ
+  pub sinks_before : ℕ
+  pub sinks : ℕ
+
+-- None of these counts rose. One that stands at its end tells nothing.
+pub record NoneRose (n : HostCounts) : Type 0 where
+  pub files : Rose n.files_before n.files → ⊥
+  pub input : Rose n.input_before n.input → ⊥
+  pub output : Rose n.output_before n.output → ⊥
+  pub binder : Rose n.binder_before n.binder → ⊥
+  pub sinks : Rose n.sinks_before n.sinks → ⊥
+
+-- the files tell, or the IDL is the one that the program holds
+abbrev pub IsIdlTold : Option (List File) → List ℕ → Type 0
+IsIdlTold files idl = IsSome files ⊎ (is_the_tutorial idl ≡ true)
+
+-- an IDL that is told is accepted
+pub record IsGoodIdl (files : Option (List File)) (idl : List ℕ) : Type 0 where
+  pub told : IsIdlTold files idl
+  pub schema : PlainSchema
+  pub verdict : IsIdlVerdict files idl (accepted schema)
+
+-- A run that is asked for can be made: its IDL is told, with a schema, to which and to handlers its pairs are bound; its default, if it has one, is the name of a pair.
+pub record IsRunReady (r : AskedRun) : Type 0 where
+  pub told : IsIdlTold r.files r.says.idl
+  pub arranged : IsArranged r
+
+-- the input tells, and is a script
+pub record IsGoodInput (script_in : ScriptReading) (left_before : Option (List ℕ)) : Type 0 where
+  pub text : List ℕ
+  pub script : ScriptPlan
+  pub told : left_before ≡ Some text
+  pub is_script : script_in text ≡ Ok script
+
+-- The words are a command, and what it needs is there: what can be wrong with IDL, pairs, default, handlers and input isn't.
+abbrev pub IsWellAsked : Option PlainCommand → List ServiceState → HostChange → Type 0
+IsWellAsked (Some (checks idl)) handlers c = IsGoodIdl c.place.files_before idl
+IsWellAsked (Some (rehearses says)) handlers c =
+    IsRunReady (asked_run says c.place.files_before handlers) × IsGoodInput (script_of_text says.workers true) c.streams.left_before
+IsWellAsked (Some (records says)) handlers c =
+    IsRunReady (asked_run says c.place.files_before handlers) × IsGoodInput (script_of_text says.workers false) c.streams.left_before
+IsWellAsked (Some (serves says port accept journal)) handlers c = IsRunReady (asked_run says c.place.files_before handlers)
+IsWellAsked (Some (runs seed size workers)) handlers c = IsRunReady (asked_workload workers c.place.files_before handlers)
+IsWellAsked None handlers c = ⊥
