@@ -1,0 +1,5 @@
+pub mod Plain
+pub mod Tables
+pub mod Fresh
+pub mod Answered
+pub mod Lines
