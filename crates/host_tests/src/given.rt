@@ -67,6 +67,19 @@ pub(crate) struct Given {
     pub(crate) port: &'static [u8],
     /// The port can't be listened at.
     pub(crate) is_taken: bool,
+    /// Which call on the links of the port fails, by its number among those of its kind, from 0.
+    pub(crate) failing: Option<(LinkCall, u64)>,
+}
+
+/// What a call on links is.
+#[derive(Clone, Copy)]
+pub(crate) enum LinkCall {
+    /// It asks what is next.
+    Next,
+    /// A read of connection 0.
+    Read,
+    /// A write on connection 0.
+    Write,
 }
 
 impl Given {
@@ -79,6 +92,7 @@ impl Given {
             errors: MemSink::new(alloc, Vec::new(alloc)),
             port: b"",
             is_taken: false,
+            failing: None,
         }
     }
 
@@ -123,8 +137,10 @@ impl Given {
             mut errors,
             port,
             is_taken,
+            failing,
         } = self;
-        let mut binder = binder_over(alloc, port, is_taken)?;
+        let binder = binder_over(alloc, port, is_taken)?;
+        let mut binder = with_failing(alloc, binder, failing)?;
         let status = host(
             rt,
             alloc,
@@ -156,6 +172,23 @@ fn binder_over(alloc: Global, script: &[u8], is_taken: bool) -> Result<MemBinder
     match read_script(alloc, script, 0, false) {
         Ok(script) => Ok(MemBinder::new(script, fails)),
         Err(_) => Err(AllocError),
+    }
+}
+
+/// A binder on whose links this call fails.
+fn with_failing(
+    alloc: Global,
+    binder: MemBinder,
+    failing: Option<(LinkCall, u64)>,
+) -> Result<MemBinder, AllocError> {
+    let Some((kind, call)) = failing else {
+        return Ok(binder);
+    };
+    let calls = vec![in alloc; call]?;
+    match kind {
+        LinkCall::Next => Ok(binder.with_net_fails(calls)),
+        LinkCall::Read => Ok(binder.with_link_fails(0, calls, Vec::new(alloc))),
+        LinkCall::Write => Ok(binder.with_link_fails(0, Vec::new(alloc), calls)),
     }
 }
 

@@ -9,6 +9,8 @@ mod apache;
 #[cfg(test)]
 mod budgets;
 #[cfg(test)]
+mod devices;
+#[cfg(test)]
 mod frame_limits;
 #[cfg(test)]
 mod given;

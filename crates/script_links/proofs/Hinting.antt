@@ -1,7 +1,6 @@
 -- What links over a script answer that are asked what is next, as links tell it.
-use Rattle.std.proofs.Common.{◌≡◌, ◌≢◌, ℕ, zero, suc, ◌+◌, ◌<◌, ◌≤◌, ◌^◌, Bool, true, false, ◌&&◌, ◌||◌, not, if◌then◌else◌, Option, None, Some, List, [], ◌∷◌, ◌++◌, length, replicate, Result, Ok, Err, refl, sym, ap, ◌∙◌, subst, arith, true≢false, append_assoc, add-one}
+use Rattle.std.proofs.Common.{◌≡◌, ℕ, zero, suc, ◌+◌, ◌<◌, ◌^◌, Bool, true, false, ◌&&◌, ◌||◌, not, if◌then◌else◌, Some, List, [], ◌∷◌, ◌++◌, length, replicate, Result, Ok, refl, sym, ap, ◌∙◌, subst, arith, true≢false, append_assoc}
 use Rattle.std.specs.List.{list_any}
-use Rattle.std.proofs.lemmas.Bool.{and_parts}
 use Rattle.std.proofs.lemmas.List.{append-nil}
 use Rattle.outside.specs.declared.streams.Failed.{Failed}
 use Rattle.outside.specs.declared.marks.Mark.{Mark}
@@ -9,19 +8,15 @@ use Rattle.outside.specs.declared.marks.Mark.TheVariants.{Opened as OpenedMark}
 use Rattle.outside.specs.declared.answers.Ask.{Ask}
 use Rattle.outside.specs.declared.answers.Hint.{Hint}
 use Rattle.outside.specs.declared.answers.Hint.TheVariants.{Opened, Readable, Writable, Woken, Over}
-use Rattle.outside.specs.LinksState.{LinksState}
-use Rattle.outside.specs.Told.{told_with}
-use Rattle.outside.specs.Asking.{OpensNext, OpensNone, AnswerOpens, says_over, place_asked, NotesItsPlace, HasArrivedSince, MoreArrives, AnswersAsk}
+use Rattle.outside.specs.Asking.{OpensNone, AnswerOpens, says_over, place_asked, NotesItsPlace, HasArrivedSince, MoreArrives, AnswersAsk}
 use Rattle.script_model.specs.Arrival.{bytes_of_pieces}
-use Rattle.script_model.specs.Playing.{InputFinish, finishes, faults}
-use Rattle.script_links.specs.declared.link.LinkStage.{LinkStage}
-use Rattle.script_links.specs.declared.link.LinkStage.TheVariants.{Coming, Open, Ended, Closed}
+use Rattle.script_model.specs.Playing.{finishes, faults}
 use Rattle.script_links.specs.declared.step.Step.{Step}
 use Rattle.script_links.specs.declared.step.Step.TheVariants.{Opens, Arrives, Ends, Fails, Rests, Passes}
 use Rattle.script_links.specs.declared.step.Came.{Came}
 use Rattle.script_links.specs.declared.step.Came.TheVariants.{Gives, Waits, GoesOn}
-use Rattle.script_links.specs.ServedScript.{PlainLink, ServedScript, no_link, link_at, with_link, is_coming, is_open_stage, is_open_at}
-use Rattle.script_links.specs.Plain.{Next, with_opening, with_arrival, with_finish, came_of, after_step, on_open, may_rest, is_open_link, has_unread, next_so, next_at_end, next_from, next_of_blocked, next_of, hint_of}
+use Rattle.script_links.specs.ServedScript.{PlainLink, ServedScript, link_at, with_link, is_coming, is_open_stage, is_open_at}
+use Rattle.script_links.specs.Plain.{Next, with_opening, with_arrival, with_finish, came_of, after_step, may_rest, is_open_link, has_unread, next_so, next_from, next_of_blocked, next_of, hint_of}
 use Rattle.script_links.specs.Shown.{links_told, arrived_of}
 use Rattle.outside.specs.declared.answers.RestPlace.{RestPlace}
 use Rattle.script_links.specs.Kept.{IsOverAtEnd}
@@ -43,7 +38,7 @@ pub record IsPassedOver (ask : Ask) (old new : ServedScript) : Type 0 where
 none_passed : (ask : Ask) (s : ServedScript) → IsPassedOver ask s s
 none_passed ask s = record { opened = refl; links = refl; over = refl; tape = refl; lengths = refl; count = 0; rests = sym (append-nil s.rests); idle = λ e. refl }
 
-or_false : (b : Bool) → (b || false) ≡ b
+pub or_false : (b : Bool) → (b || false) ≡ b
 or_false true = refl
 or_false false = refl
 

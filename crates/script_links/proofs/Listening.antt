@@ -1,11 +1,12 @@
 -- Links over a script that listen answer as links do.
-use Rattle.std.proofs.Common.{◌≡◌, ℕ, suc, ◌+◌, ◌<◌, ◌≤◌, true, Result, Ok, Err, Some, List, [], length, refl, sym, ap, ◌∙◌, arith}
+use Rattle.std.proofs.Common.{◌≡◌, ℕ, suc, ◌<◌, ◌≤◌, Bool, true, false, Result, Ok, Err, Some, List, [], length, refl, sym, ap, arith, true≢false, append-nil}
+use Rattle.outside.specs.Cause.{Rose}
 use Rattle.outside.specs.declared.streams.Failed.{Failed}
 use Rattle.outside.specs.declared.answers.Ask.{Ask}
 use Rattle.outside.specs.declared.answers.Hint.{Hint}
 use Rattle.outside.specs.declared.answers.Hint.TheVariants.{Opened, Readable, Writable, Woken, Over}
 use Rattle.outside.specs.declared.answers.Taken.{Taken}
-use Rattle.outside.specs.LinksState.{Listening, LinksState, ChangesOnly}
+use Rattle.outside.specs.LinksState.{Listening, ChangesOnly}
 use Rattle.outside.specs.Asking.{OpensNext, AnswerOpens, AnswersAsk}
 use Rattle.outside.specs.Reading.{Reads}
 use Rattle.outside.specs.Writing.{WritesToConnection}
@@ -15,23 +16,26 @@ use Rattle.outside.specs.Binding.{StartListening}
 use Rattle.script_links.specs.ServedScript.{ServedScript}
 use Rattle.script_links.specs.Shown.{links_told}
 use Rattle.script_links.proofs.Connected.{open_is_there}
-use Rattle.script_links.specs.Listens.{ListeningScript, told_listening, listening_with}
+use Rattle.script_links.proofs.Arriving.{arrives_same}
+use Rattle.script_links.proofs.Hinting.{or_false}
+use Rattle.script_links.proofs.FollowedToEnd.{KeepsScript}
+use Rattle.script_links.specs.Listens.{told_listening}
 
-module _ (l : Listening) (s t : ServedScript) where
-  changes : (c : ℕ) → ChangesOnly c (links_told s) (links_told t) → ChangesOnly c (told_listening l s) (told_listening l t)
+module _ (l : Listening) (n : ℕ) (s t : ServedScript) where
+  changes : (c : ℕ) → ChangesOnly c (links_told s) (links_told t) → ChangesOnly c (told_listening l n s) (told_listening l n t)
   changes c k = record {
     listens = refl;
     opened = k.opened;
     over = k.over;
     rests = k.rests;
-    net_faults = k.net_faults;
+    net_faults = refl;
     is_open = k.is_open;
     left = k.left;
     arrived = k.arrived;
     faults = k.faults;
   }
 
-  pub reads : (c : ℕ) (into : List ℕ) (taken : Taken) → Reads c into (links_told s) (links_told t) taken → Reads c into (told_listening l s) (told_listening l t) taken
+  pub reads : (c : ℕ) (into : List ℕ) (taken : Taken) → Reads c into (links_told s) (links_told t) taken → Reads c into (told_listening l n s) (told_listening l n t) taken
   reads c into taken r = record {
     others = changes c r.others;
     still_open = r.still_open;
@@ -46,7 +50,7 @@ module _ (l : Listening) (s t : ServedScript) where
     faults = r.faults;
   }
 
-  pub writes : (c : ℕ) (bytes : List ℕ) (taken : Taken) → WritesToConnection c bytes (links_told s) (links_told t) taken → WritesToConnection c bytes (told_listening l s) (told_listening l t) taken
+  pub writes : (c : ℕ) (bytes : List ℕ) (taken : Taken) → WritesToConnection c bytes (links_told s) (links_told t) taken → WritesToConnection c bytes (told_listening l n s) (told_listening l n t) taken
   writes c bytes taken w = record {
     others = changes c w.others;
     still_open = w.still_open;
@@ -59,7 +63,7 @@ module _ (l : Listening) (s t : ServedScript) where
     faults = w.faults;
   }
 
-  pub closes : (c : ℕ) → Closes c (links_told s) (links_told t) → Closes c (told_listening l s) (told_listening l t)
+  pub closes : (c : ℕ) → Closes c (links_told s) (links_told t) → Closes c (told_listening l n s) (told_listening l n t)
   closes c k = record {
     others = changes c k.others;
     closed = k.closed;
@@ -71,7 +75,7 @@ module _ (l : Listening) (s t : ServedScript) where
   }
 
   module _ (ask : Ask) (within : length t.links ≤ l.accept) where
-    opens_next : (c : ℕ) → OpensNext ask c (links_told s) (links_told t) → OpensNext ask c (told_listening l s) (told_listening l t)
+    opens_next : (c : ℕ) → OpensNext ask c (links_told s) (links_told t) → OpensNext ask c (told_listening l n s) (told_listening l n t)
     opens_next c o =
         let below : c < length t.links = open_is_there t.links c o.is_open in
         let next : t.opened ≡ suc c = o.opened in
@@ -87,18 +91,17 @@ module _ (l : Listening) (s t : ServedScript) where
           tape = o.tape;
         }
 
-    opens : (result : Result Hint Failed) → AnswerOpens ask (links_told s) (links_told t) result → AnswerOpens ask (told_listening l s) (told_listening l t) result
-    opens (Ok (Opened c)) o = opens_next c o
-    opens (Ok (Readable c)) o = record { opened = o.opened; is_open = o.is_open; tape = o.tape }
-    opens (Ok (Writable c)) o = record { opened = o.opened; is_open = o.is_open; tape = o.tape }
-    opens (Ok Woken) o = record { opened = o.opened; is_open = o.is_open; tape = o.tape }
-    opens (Ok Over) o = record { opened = o.opened; is_open = o.is_open; tape = o.tape }
-    opens (Err e) o = record { opened = o.opened; is_open = o.is_open; tape = o.tape }
+    opens : (hint : Hint) → AnswerOpens {E = Failed} ask (links_told s) (links_told t) (Ok hint) → AnswerOpens {E = Failed} ask (told_listening l n s) (told_listening l n t) (Ok hint)
+    opens (Opened c) o = opens_next c o
+    opens (Readable c) o = record { opened = o.opened; is_open = o.is_open; tape = o.tape }
+    opens (Writable c) o = record { opened = o.opened; is_open = o.is_open; tape = o.tape }
+    opens Woken o = record { opened = o.opened; is_open = o.is_open; tape = o.tape }
+    opens Over o = record { opened = o.opened; is_open = o.is_open; tape = o.tape }
 
-    pub answers : (result : Result Hint Failed) → AnswersAsk ask (links_told s) (links_told t) result → AnswersAsk ask (told_listening l s) (told_listening l t) result
-    answers result a = record {
+    pub answers : (hint : Hint) → AnswersAsk {E = Failed} ask (links_told s) (links_told t) (Ok hint) → AnswersAsk {E = Failed} ask (told_listening l n s) (told_listening l n t) (Ok hint)
+    answers hint a = record {
       listens = refl;
-      opens = opens result a.opens;
+      opens = opens hint a.opens;
       over = a.over;
       none_open = a.none_open;
       rests = a.rests;
@@ -106,22 +109,38 @@ module _ (l : Listening) (s t : ServedScript) where
       left = a.left;
       arrived = a.arrived;
       faults = a.faults;
-      later = a.later;
-      failed = a.failed;
-      kept = a.kept;
+      later = omega arith;
+      failed = λ e. absurd (true≢false (sym e));
+      kept = refl;
     }
 
--- what a call leaves of the script it leaves of links that listen
-pub leaves : (x : ListeningScript) (s t : ServedScript) (l : Listening) (f : ServedScript → ServedScript) → record { served = s; listening = l } ≡ x → t ≡ f s
-    → record { served = t; listening = l } ≡ listening_with x (f x.served)
-leaves x s t l f is same =
-    let first : ListeningScript = record { served = t; listening = l } in
-    let second : ListeningScript = record { served = f s; listening = l } in
-    let here : first ≡ second = ap (λ (u : ServedScript). listening_with first u) same in
-    here ∙ ap (λ (y : ListeningScript). listening_with y (f y.served)) is
+-- links that fail when they are asked what is next count a fault, and nothing else has changed
+pub fails_to_answer : (ask : Ask) (l : Listening) (n m : ℕ) (s : ServedScript) (e : Failed) → Rose n m → n ≤ m → AnswersAsk {E = Failed} ask (told_listening l n s) (told_listening l m s) (Err e)
+fails_to_answer ask l n m s e rose later = record {
+  listens = refl;
+  opens = record { opened = refl; is_open = λ x. refl; tape = refl };
+  over = sym (or_false s.over);
+  none_open = λ is. absurd (true≢false (sym (ap is_answer is)));
+  rests = (0, ap Some (sym (append-nil s.rests)), λ is. refl);
+  lengths = refl;
+  left = λ x. refl;
+  arrived = λ x. arrives_same s.links x;
+  faults = λ x. refl;
+  later = later;
+  failed = λ is. rose;
+  kept = tt;
+}
+  where
+    is_answer : Result Hint Failed → Bool
+    is_answer (Ok hint) = true
+    is_answer (Err e) = false
+
+-- so many links at most stay so many
+pub still_few : (most : ℕ) (s t : ServedScript) → KeepsScript s t → length s.links ≤ most → length t.links ≤ most
+still_few most s t k few = let same : length t.links ≡ length s.links = k.count in omega arith
 
 -- links that are fresh start to listen
-pub starts : (l : Listening) (s : ServedScript) → AreFreshLinks (links_told s) → StartListening (Some []) l (told_listening l s)
+pub starts : (l : Listening) (s : ServedScript) → AreFreshLinks (links_told s) → StartListening (Some []) l (told_listening l 0 s)
 starts l s fresh = record {
   fresh = record { opened = fresh.opened; none_open = fresh.none_open; over = fresh.over; tape = fresh.tape; rests = fresh.rests; lengths = fresh.lengths };
   tape = ap Some fresh.tape;

@@ -1,5 +1,5 @@
 -- What reads over a script leave, as links tell it.
-use Rattle.std.proofs.Common.{◌≡◌, ◌≢◌, ℕ, zero, suc, ◌+◌, ◌-◌, ◌^◌, ◌<◌, ◌≤◌, Bool, true, false, min, nat_lt, nat_le, if◌then◌else◌, Option, None, Some, List, [], ◌∷◌, ◌++◌, length, take, drop, slice_get, refl, sym, ap, ◌∙◌, subst, arith, true≢false, append_assoc, length-append}
+use Rattle.std.proofs.Common.{◌≡◌, ℕ, suc, ◌+◌, ◌-◌, ◌<◌, ◌≤◌, Bool, true, false, min, nat_lt, nat_le, if◌then◌else◌, Option, None, Some, List, [], ◌∷◌, ◌++◌, length, take, drop, slice_get, refl, sym, ap, ◌∙◌, subst, arith, true≢false, append_assoc, length-append}
 use Rattle.std.specs.List.{list_all}
 use Rattle.std.proofs.lemmas.Bool.{and_parts, ltb-true, ltb-false, leb-true}
 use Rattle.std.proofs.lemmas.List.{append-nil, take_all, take-append-drop}
@@ -9,7 +9,6 @@ use Rattle.outside.specs.declared.marks.Mark.TheVariants.{Read, Ended as EndedMa
 use Rattle.outside.specs.declared.answers.Taken.{Taken}
 use Rattle.outside.specs.declared.answers.Taken.TheVariants.{Bytes, End, NotYet, Failed, NoMemory}
 use Rattle.outside.specs.LinksState.{Arrived, nothing_arrived}
-use Rattle.outside.specs.Faults.{MovesWithin}
 use Rattle.outside.specs.Reading.{Reads, bytes_read}
 use Rattle.script_model.specs.Arrival.{bytes_of_pieces}
 use Rattle.script_model.specs.Playing.{InputFinish, finishes, faults, most_read}
@@ -17,7 +16,7 @@ use Rattle.script_links.specs.ServedScript.{PlainLink, ServedScript, link_at, wi
 use Rattle.script_links.specs.Plain.{oldest_of, shown_finish, with_read, with_bytes_read, with_end, with_fault, taken_at_finish, taken_of_piece, taken_by_read, left_by_read, MayComeTo, IsFrontOfPiece}
 use Rattle.script_links.specs.Shown.{links_told, arrived_of, is_end_of_input}
 use Rattle.script_links.proofs.Connected.{open_is_there, own_changed}
-use Rattle.script_links.proofs.Keeping.{IsSoundLink, sound_parts, count_in}
+use Rattle.script_links.proofs.Keeping.{sound_parts, count_in}
 use Rattle.script_links.proofs.Telling.{touches_only, stays, rises}
 
 abbrev is_bytes : Taken → Bool
@@ -213,6 +212,46 @@ module _ (c : ℕ) (into : List ℕ) (s : ServedScript) (here : is_open_at s.lin
           let none : length (piece ++ bytes_of_pieces (take k (drop 1 link.pieces))) ≡ 0 = ap length (sym whole ∙ empty) in
           omega arith
 
+  -- a read that fails, and one for which there is no memory
+  fault_comes : Reads c into (links_told s) (links_told (left_by_read c (length into) [] Failed s)) Failed
+  fault_comes =
+      let mine : link_at (with_link c with_fault s.links) c ≡ with_fault link = own with_fault in
+      record {
+        others = touches_only c with_fault s s.blocked (s.tape ++ ReadFailed c ∷ []) s.lengths;
+        still_open = ap (λ (l : PlainLink). is_open_stage l.stage) mine ∙ sym here;
+        tape = refl;
+        lengths = ap Some (sym (append-nil s.lengths));
+        within = tt;
+        left = ap (λ (l : PlainLink). Some (bytes_of_pieces l.pieces)) (sym mine);
+        arrived = ap (λ (l : PlainLink). Some (arrived_of l)) (sym mine);
+        ended = λ e. absurd (true≢false (sym (ap says_end e)));
+        not_yet = λ e. absurd (true≢false (sym (ap says_later e)));
+        nothing = λ e. tt;
+        faults = rises link.faults (link_at (with_link c with_fault s.links) c).faults (sound_parts link sound).faults (ap (λ (l : PlainLink). l.faults) mine);
+      }
+
+  lack_comes : Reads c into (links_told s) (links_told s) NoMemory
+  lack_comes = record {
+    others = stays c (links_told s);
+    still_open = refl;
+    tape = ap Some (sym (append-nil s.tape));
+    lengths = ap Some (sym (append-nil s.lengths));
+    within = tt;
+    left = refl;
+    arrived = refl;
+    ended = λ e. absurd (true≢false (sym (ap says_end e)));
+    not_yet = λ e. absurd (true≢false (sym (ap says_later e)));
+    nothing = λ e. tt;
+    faults = refl;
+  }
+
+  pub reads_failed : (taken : Taken) → MayComeTo Failed taken → Reads c into (links_told s) (links_told (left_by_read c (length into) (bytes_read into taken) taken s)) taken
+  reads_failed (Bytes count) comes = absurd (true≢false (ap is_bytes comes))
+  reads_failed End comes = absurd (true≢false (ap says_end comes))
+  reads_failed NotYet comes = absurd (true≢false (ap says_later comes))
+  reads_failed Failed comes = fault_comes
+  reads_failed NoMemory comes = lack_comes
+
   -- A read that comes to this, whose bytes stand in front of what was lent, is one of links.
   pub reads : (taken : Taken) → MayComeTo (taken_by_read (length into) link) taken → IsFrontOfPiece taken into (oldest_of link)
       → Reads c into (links_told s) (links_told (left_by_read c (length into) (bytes_read into taken) taken s)) taken
@@ -249,38 +288,6 @@ module _ (c : ℕ) (into : List ℕ) (s : ServedScript) (here : is_open_at s.lin
         arrived = refl;
         ended = λ e. absurd (true≢false (ap says_later e));
         not_yet = λ e. λ i. record { bytes = none_there none i; ended = is_end_of_input (finish_later (shown_finish link) comes i) };
-        nothing = λ e. tt;
-        faults = refl;
-      }
-
-      fault_comes : Reads c into (links_told s) (links_told (left_by_read c (length into) [] Failed s)) Failed
-      fault_comes =
-          let mine : link_at (with_link c with_fault s.links) c ≡ with_fault link = own with_fault in
-          record {
-            others = touches_only c with_fault s s.blocked (s.tape ++ ReadFailed c ∷ []) s.lengths;
-            still_open = ap (λ (l : PlainLink). is_open_stage l.stage) mine ∙ sym here;
-            tape = refl;
-            lengths = ap Some (sym (append-nil s.lengths));
-            within = tt;
-            left = ap (λ (l : PlainLink). Some (bytes_of_pieces l.pieces)) (sym mine);
-            arrived = ap (λ (l : PlainLink). Some (arrived_of l)) (sym mine);
-            ended = λ e. absurd (true≢false (sym (ap says_end e)));
-            not_yet = λ e. absurd (true≢false (sym (ap says_later e)));
-            nothing = λ e. tt;
-            faults = rises link.faults (link_at (with_link c with_fault s.links) c).faults (sound_parts link sound).faults (ap (λ (l : PlainLink). l.faults) mine);
-          }
-
-      lack_comes : Reads c into (links_told s) (links_told s) NoMemory
-      lack_comes = record {
-        others = stays c (links_told s);
-        still_open = refl;
-        tape = ap Some (sym (append-nil s.tape));
-        lengths = ap Some (sym (append-nil s.lengths));
-        within = tt;
-        left = refl;
-        arrived = refl;
-        ended = λ e. absurd (true≢false (sym (ap says_end e)));
-        not_yet = λ e. absurd (true≢false (sym (ap says_later e)));
         nothing = λ e. tt;
         faults = refl;
       }

@@ -8,4 +8,5 @@ pub mod Shows
 pub mod Followed
 pub mod Serves
 pub mod Past
+pub mod Failing
 pub mod Listens

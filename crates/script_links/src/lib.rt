@@ -15,6 +15,7 @@
 mod binder;
 mod bound;
 mod building;
+mod call_list;
 mod connections;
 mod copy;
 pub mod laws;

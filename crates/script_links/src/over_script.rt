@@ -10,7 +10,7 @@ ghost use Rattle.script_links.specs.Plain.{next_of, hint_of, left_by_read, left_
 ghost use Rattle.script_links.specs.Shown.{links_told};
 ghost use Rattle.outside.specs.Opening.{AreFreshLinks};
 ghost use Rattle.script_model.specs.ScriptLines.{ScriptPlan};
-ghost use Rattle.script_links.specs.Followed.{LinksPlan, plan_of_links, AreLinksOf, AreFirstLinksOf, FollowsScript};
+ghost use Rattle.script_links.specs.Followed.{LinksPlan, plan_of_links, AreLinksOf, FollowsScript};
 
 use crate::serving::ScriptServing;
 use crate::step::Came;
@@ -26,6 +26,14 @@ use std::sync::{Arc, Wait};
 pub struct ScriptBell {
     /// The word.
     rung: Arc<AtomicU64, Global>,
+}
+
+impl ScriptBell {
+    /// One more bell of this word.
+    pub(crate) fn of_word(rung: &Arc<AtomicU64, Global>) -> Result<ScriptBell, AllocError> {
+        let rung = Arc::try_clone(rung)?;
+        Ok(ScriptBell { rung })
+    }
 }
 
 impl Bell for ScriptBell {
@@ -63,16 +71,6 @@ impl ScriptLinks {
         ensures own { IfOk result (λ links. AreLinksOf script links) }
     {
         let serving = ScriptServing::new(alloc, script)?;
-        let rung = Arc::new(alloc, AtomicU64::new(0))?;
-        Ok(ScriptLinks { serving, rung })
-    }
-
-    /// Links over this script that open so many connections at most; the lines of the others are passed over. They take the same room.
-    pub fn accepting(alloc: Global, script: Script, accept: u32) -> Result<ScriptLinks, AllocError>
-        ensures fresh { IfOk result (λ links. AreFreshLinks (links_told links)) }
-        ensures own { IfOk result (λ links. AreFirstLinksOf accept script links) }
-    {
-        let serving = ScriptServing::of_first(alloc, script, accept as usize)?;
         let rung = Arc::new(alloc, AtomicU64::new(0))?;
         Ok(ScriptLinks { serving, rung })
     }
@@ -123,8 +121,7 @@ impl Links for ScriptLinks {
     ghost state = { links_told };
 
     fn bell(&self, _alloc: Global) -> Result<ScriptBell, AllocError> {
-        let rung = Arc::try_clone(&self.rung)?;
-        Ok(ScriptBell { rung })
+        ScriptBell::of_word(&self.rung)
     }
 
     fn next<R: Wait>(&mut self, rt: &R, ask: Ask) -> Result<Hint, Failed>
@@ -173,7 +170,7 @@ impl Links for ScriptLinks {
 }
 
 /// The hint that a call comes to; where nothing is to be told, the bell is waited for.
-fn told<R: Wait>(rt: &R, rung: &AtomicU64, came: Came) -> Hint
+pub(crate) fn told<R: Wait>(rt: &R, rung: &AtomicU64, came: Came) -> Hint
     ensures { result ≡ hint_of came }
 {
     match came {

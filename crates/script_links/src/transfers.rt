@@ -24,7 +24,7 @@ impl ScriptServing {
         match self.links.answer_read(c as usize, into.len()) {
             Taken::Bytes(count) => self.read_bytes(c, into, count),
             Taken::End => self.mark_end(c),
-            Taken::Failed => self.mark_fault(c),
+            Taken::Failed => self.fail_read(c),
             Taken::NotYet => Taken::NotYet,
             Taken::NoMemory => Taken::NoMemory,
         }
@@ -100,8 +100,8 @@ impl ScriptServing {
         Taken::End
     }
 
-    /// Marks that a read of connection `c` failed.
-    fn mark_fault(&mut self, c: u32) -> Taken
+    /// A read of connection `c`, which is open, fails: that is marked and counted.
+    pub fn fail_read(&mut self, c: u32) -> Taken
         requires kept { IsKeptServing self.old }
         requires open_still { is_open_at (served_of self.old).links c ≡ true }
         ensures comes { MayComeTo Failed result }
@@ -155,8 +155,8 @@ impl ScriptServing {
         Taken::Bytes(count)
     }
 
-    /// Marks that a write of these bytes on connection `c` failed.
-    fn fail_write(&mut self, c: u32, bytes: &[u8]) -> Taken
+    /// A write of these bytes on connection `c`, which is open, fails: that is marked and counted, and the next rule is used up.
+    pub fn fail_write(&mut self, c: u32, bytes: &[u8]) -> Taken
         requires kept { IsKeptServing self.old }
         requires open_still { is_open_at (served_of self.old).links c ≡ true }
         ensures comes { MayComeTo Failed result }

@@ -1,7 +1,5 @@
-use Rattle.std.proofs.Common.{◌≡◌, List, [], ◌∷◌, ◌++◌, Some, Bool, sym, ap, ◌∙◌}
-use Rattle.outside.specs.declared.marks.Mark.{Mark}
-use Rattle.outside.specs.LinksState.{Listening}
-use Rattle.outside.specs.Binding.{PastLinks}
+use Rattle.std.proofs.Common.{◌≡◌, [], ◌∷◌, ◌++◌, Some, ap, ◌∙◌}
+use Rattle.outside.specs.Cause.{next_if_faulty}
 use Rattle.script_links.specs.Listens.{ListeningScript, BinderState}
 use Rattle.script_links.specs.Past.{past_in_chain}
 use Rattle.std.specs.Box.{with_value}
@@ -12,20 +10,24 @@ use Rattle.script_links.proofs.binder.MemBinderBinder.take_back.Goals as goal
 pub returns-clause-after : goal.returns-clause-after
 returns-clause-after c =
     let before : past_in_chain c.replace.result ≡ c.args.self.now.past = ap past_in_chain c.replace.ensures.value ∙ ap (λ (b : BinderState). b.past) c.self.view_is in
-    let tape : c.into_tape-tape.result ≡ c.args.links.served.tape = c.into_tape-tape.ensures ∙ ap (λ (l : ListeningScript). l.served.tape) c.links.view_is in
-    let over : c.is_over-over.result ≡ c.args.links.served.over = c.is_over-over.ensures ∙ ap (λ (l : ListeningScript). l.served.over) c.links.view_is in
+    let tape : c.finish-tape.result ≡ c.args.links.served.tape = c.finish-tape.ensures ∙ ap (λ (l : ListeningScript). l.served.tape) c.links.view_is in
+    let over : c.links.inside.serving.over ≡ c.args.links.served.over = ap (λ (l : ListeningScript). l.served.over) c.links.view_is in
     let listening : record { port = c.links.inside.port; accept = c.links.inside.accept } ≡ c.args.links.listening = ap (λ (l : ListeningScript). l.listening) c.links.view_is in
-    let whole : past_in_chain (Behind (with_value c.links.inside.room c.replace.result) (record { tape = c.into_tape-tape.result; over = c.is_over-over.result; port = c.links.inside.port; accept = c.links.inside.accept }))
+    let net : c.links.inside.net_faults ≡ c.args.links.net_faults = ap (λ (l : ListeningScript). l.net_faults) c.links.view_is in
+    let whole : past_in_chain (Behind (with_value c.links.inside.room c.replace.result) (record { tape = c.finish-tape.result; over = c.links.inside.serving.over; port = c.links.inside.port; accept = c.links.inside.accept }))
     ≡ c.args.self.now.past ++ record { tape = c.args.links.served.tape; over = c.args.links.served.over; listening = c.args.links.listening } ∷ [] =
-    past_behind (with_value c.links.inside.room c.replace.result) (record { tape = c.into_tape-tape.result; over = c.is_over-over.result; port = c.links.inside.port; accept = c.links.inside.accept })
+    past_behind (with_value c.links.inside.room c.replace.result) (record { tape = c.finish-tape.result; over = c.links.inside.serving.over; port = c.links.inside.port; accept = c.links.inside.accept })
     ∙ (λ i. before i ++ record { tape = tape i; over = over i; listening = listening i } ∷ []) in
-    λ i. record {
+    c.count_links.ensures ∙ (λ i. record {
       script = (c.self.view_is i).script;
-      fails = (c.self.view_is i).fails;
-      call = (c.self.view_is i).call;
-      faults = (c.self.view_is i).faults;
+      listens = (c.self.view_is i).listens;
+      plan = (c.self.view_is i).plan;
+      faults = next_if_faulty (net i) (c.self.view_is i).faults;
       past = whole i;
-    }
+    })
 
 pub returns-clause-past : goal.returns-clause-past
 returns-clause-past c = ap (λ (b : BinderState). Some b.past) (returns-clause-after c)
+
+pub returns-clause-cause : goal.returns-clause-cause
+returns-clause-cause c = ap (λ (b : BinderState). b.faults) (returns-clause-after c)
