@@ -7,9 +7,8 @@ tree as text, made from the value that was written; the script ends with a failu
 bytes gives another text. Run: bench/vectors/binary_vectors.py structs > crates/wire_tests/src/struct_vectors.rt, or with heads into
 the other file, and then rt fmt in the crate.
 
-The text of a tree: its values in the order of the wire, with a blank between them. A number is its kind, a colon and its
-digits, a double the hexadecimal digits of its bits, bytes their hexadecimal digits; a struct is followed by the ids of its
-fields, a container by the kinds of its elements and their number, and then come their values.
+The text of a tree is that of `value_text`: a number with the letter of its kind behind it, a double as the letter d and the hexadecimal
+digits of its bits, bytes in quotes; a struct as its ids and values in braces, a container as its kinds and what it holds.
 """
 import struct
 import sys
@@ -87,24 +86,30 @@ def depth(value):
     return 0
 
 
+LETTERS = {"i8": "b", "i16": "s", "i32": "i", "i64": "l"}
+
+
+def quoted(data):
+    """Bytes in quotes; other than printable ones by their hexadecimal digits."""
+    return '"' + "".join("\\" + chr(b) if b in (34, 92) else chr(b) if 32 <= b < 127 else f"\\x{b:02x}" for b in data) + '"'
+
+
 def shown(value):
     """The text of a tree."""
     kind = value[0]
     if kind == "bool":
         return "true" if value[1] else "false"
     if kind == "double":
-        return "double:" + struct.pack(">d", value[1]).hex()
+        return "d" + struct.pack(">d", value[1]).hex()
     if kind == "bytes":
-        return "bytes:" + value[1].hex()
+        return quoted(value[1])
     if kind == "struct":
-        inner = [shown(x) for _, x in value[1]]
-        return " ".join(["struct:" + ",".join(str(number_) for number_, _ in value[1])] + inner)
+        return "{" + ",".join(f"{id_}={shown(x)}" for id_, x in value[1]) + "}"
     if kind == "map":
-        inner = [shown(x) for pair in value[3] for x in pair]
-        return " ".join([f"map:{value[1]},{value[2]}:{len(value[3])}"] + inner)
+        return f"map<{value[1]},{value[2]}>{{" + ",".join(f"{shown(key)}={shown(x)}" for key, x in value[3]) + "}"
     if kind in ("set", "list"):
-        return " ".join([f"{kind}:{value[1]}:{len(value[2])}"] + [shown(x) for x in value[2]])
-    return f"{kind}:{value[1]}"
+        return f"{kind}<{value[1]}>[" + ",".join(shown(x) for x in value[2]) + "]"
+    return f"{value[1]}{LETTERS[kind]}"
 
 
 KINDS = {code: kind for kind, code in CODES.items()}
@@ -219,13 +224,13 @@ def as_read(data):
 # Structs that are read otherwise than by Apache's library, and the text of what is read here: an empty container keeps
 # the tag bool, whatever kind it names, and a bool is true where its byte is 1 alone.
 DIFFERENCES = [
-    (written(("struct", [(1, ("list", "i32", []))])), "struct:1 list:bool:0"),
-    (written(("struct", [(2, ("set", "bytes", []))])), "struct:2 set:bool:0"),
-    (written(("struct", [(3, ("map", "i64", "struct", []))])), "struct:3 map:bool,bool:0"),
-    (written(("struct", [(1, ("list", "list", [("list", "double", [])]))])), "struct:1 list:list:1 list:bool:0"),
-    (b"\x02\0\x01\x02\0", "struct:1 false"),
-    (b"\x02\0\x01\xff\0", "struct:1 false"),
-    (b"\x0f\0\x01\x02\0\0\0\x03\0\x01\x7f\0", "struct:1 list:bool:3 false true false"),
+    (written(("struct", [(1, ("list", "i32", []))])), "{1=list<bool>[]}"),
+    (written(("struct", [(2, ("set", "bytes", []))])), "{2=set<bool>[]}"),
+    (written(("struct", [(3, ("map", "i64", "struct", []))])), "{3=map<bool,bool>{}}"),
+    (written(("struct", [(1, ("list", "list", [("list", "double", [])]))])), "{1=list<list>[list<bool>[]]}"),
+    (b"\x02\0\x01\x02\0", "{1=false}"),
+    (b"\x02\0\x01\xff\0", "{1=false}"),
+    (b"\x0f\0\x01\x02\0\0\0\x03\0\x01\x7f\0", "{1=list<bool>[false,true,false]}"),
 ]
 
 
@@ -246,7 +251,7 @@ def print_structs():
             data = written(value)
             if as_read(data) != shown(value):
                 sys.exit(f"Apache reads {as_read(data)} for {shown(value)}")
-            print(f"    ({literal(data)}, {count(value)}, {depth(value)}, b\"{shown(value)}\"),")
+            print(f"    ({literal(data)}, {count(value)}, {depth(value)}, {literal(shown(value).encode())}),")
         print("];\n")
         print(f"fn table_{place}() -> &'static [Row] {{\n    &TABLE_{place}\n}}\n")
     print("/// All the structs, in several tables.")
@@ -256,7 +261,7 @@ def print_structs():
     print("/// read here. An empty container keeps the tag bool, and a bool is true where its byte is 1 alone.")
     print(f"pub(crate) const DIFFERENCES: [(&[u8], &[u8], &[u8]); {len(DIFFERENCES)}] = [")
     for data, here in DIFFERENCES:
-        print(f"    ({literal(data)}, b\"{as_read(data)}\", b\"{here}\"),")
+        print(f"    ({literal(data)}, {literal(as_read(data).encode())}, {literal(here.encode())}),")
     print("];")
 
 

@@ -81,9 +81,9 @@ def structs():
 # Structs that are read otherwise than by Apache's library, and the text of what is read here: an empty container keeps the tag
 # bool, whatever kind it names, and a bool among elements is true where its byte is 1 alone.
 DIFFERENCES = [
-    (written(("struct", [(1, ("list", "i32", []))])), "struct:1 list:bool:0"),
-    (written(("struct", [(2, ("set", "bytes", []))])), "struct:2 set:bool:0"),
-    (written(("struct", [(1, ("list", "list", [("list", "double", [])]))])), "struct:1 list:list:1 list:bool:0"),
+    (written(("struct", [(1, ("list", "i32", []))])), "{1=list<bool>[]}"),
+    (written(("struct", [(2, ("set", "bytes", []))])), "{2=set<bool>[]}"),
+    (written(("struct", [(1, ("list", "list", [("list", "double", [])]))])), "{1=list<list>[list<bool>[]]}"),
 ]
 
 
@@ -99,7 +99,7 @@ def print_structs():
             data = written(value)
             if as_read(data) != common.shown(value):
                 sys.exit(f"Apache reads {as_read(data)} for {common.shown(value)}")
-            print(f"    ({common.literal(data)}, {common.count(value)}, {common.depth(value)}, b\"{common.shown(value)}\"),")
+            print(f"    ({common.literal(data)}, {common.count(value)}, {common.depth(value)}, {common.literal(common.shown(value).encode())}),")
         print("];\n")
         print(f"fn table_{place}() -> &'static [Row] {{\n    &TABLE_{place}\n}}\n")
     print("/// All the structs, in several tables.")
@@ -109,7 +109,7 @@ def print_structs():
     print("/// read here. An empty container keeps the tag bool.")
     print(f"pub(crate) const DIFFERENCES: [(&[u8], &[u8], &[u8]); {len(DIFFERENCES)}] = [")
     for data, here in DIFFERENCES:
-        print(f"    ({common.literal(data)}, b\"{as_read(data)}\", b\"{here}\"),")
+        print(f"    ({common.literal(data)}, {common.literal(as_read(data).encode())}, {common.literal(here.encode())}),")
     print("];")
 
 

@@ -46,6 +46,11 @@ impl FaultyJournal {
             torn: false,
         }
     }
+
+    // Its entries, the oldest first.
+    pub(crate) fn entries(&self) -> &[Entry] {
+        self.list.entries()
+    }
 }
 
 impl Journal for FaultyJournal {
@@ -74,7 +79,17 @@ impl Journal for FaultyJournal {
 }
 
 impl ReportedJournal for FaultyJournal {
-    fn entries(&self) -> &[Entry] {
-        self.list.entries()
+    ghost use Rattle.std.specs.Prelude.{refl};
+
+    ghost listed = { λ j. j.0.entries };
+
+    fn count(&self) -> u64 {
+        self.list.entries().len() as u64
     }
+
+    fn entry(&self, i: u64) -> Option<&Entry> {
+        self.list.entries().get(i as usize)
+    }
+
+    ghost tells = { λ _. refl };
 }

@@ -4,21 +4,17 @@
 #![tactic(auto)]
 
 #[cfg(test)]
-mod calculations;
-#[cfg(test)]
 mod entries;
 #[cfg(test)]
 mod faulty_journals;
 #[cfg(test)]
-mod journals;
+mod handlers;
 #[cfg(test)]
-mod kept_texts;
+mod journals;
 #[cfg(test)]
 mod lines;
 #[cfg(test)]
 mod machines;
-#[cfg(test)]
-mod mirrored;
 #[cfg(test)]
 mod offices;
 #[cfg(test)]
@@ -27,5 +23,3 @@ mod plain_runs;
 mod recordings;
 #[cfg(test)]
 mod value_texts;
-#[cfg(test)]
-mod values;

@@ -1,11 +1,11 @@
 //! The lines of entries.
 
-use crate::entries::{entry, nothing, ping, two};
-use call_rules::{Answer, Entry};
+use crate::entries::ping;
+use call_rules::{Answer, Call, Entry, Key};
 use journal_text::{print_entry, put_entry, read_entry};
 use std::alloc::{AllocError, Global};
 use std::test::Fail;
-use thrift_value::Value;
+use thrift_value::{ByteText, Fields, Value};
 use value_text::TextFault;
 
 const LINES: [&[u8]; 5] = [
@@ -32,72 +32,123 @@ const REFUSED: [(&[u8], usize); 12] = [
     (b"call 0 0 0 p {} empty\n\n", 22),
 ];
 
-// The entry of each line.
-fn row(alloc: Global, number: usize) -> Result<Entry, AllocError> {
-    let none = nothing(alloc);
+// The method of each line.
+fn method(number: usize) -> &'static [u8] {
     match number {
-        0 => entry(alloc, 0, b"ping", false, none, Answer::Empty),
-        1 => {
-            let sum = Answer::Success(Value::I32(-1));
-            entry(alloc, 1, b"add", false, two(alloc, 1, -2)?, sum)
-        }
-        2 => entry(alloc, 2, b"zip", true, none, Answer::Empty),
-        3 => {
-            let thrown = Answer::Throws(1, two(alloc, 4, 0)?);
-            entry(alloc, 3, b"calculate", false, two(alloc, 1, 0)?, thrown)
-        }
-        _ => entry(alloc, u64::MAX, b"add_", false, none, Answer::Broken),
+        0 => b"ping",
+        1 => b"add",
+        2 => b"zip",
+        3 => b"calculate",
+        _ => b"add_",
     }
 }
 
-// Whether a row's entry has this line.
-fn is_printed(alloc: Global, number: usize, line: &[u8]) -> Result<bool, AllocError> {
-    let entry = row(alloc, number)?;
-    let mut text = Vec::new(alloc);
-    put_entry(&mut text, &entry)?;
-    Ok(text.as_slice() == line)
+// A struct of these fields, which are numbers.
+fn numbers(alloc: Global, fields: &[(i16, i32)]) -> Result<Value, AllocError> {
+    let mut values = Vec::new(alloc);
+    for (id, number) in fields {
+        values.push((*id, Value::I32(*number)))?;
+    }
+    Ok(Value::Struct(Fields::new(values)))
 }
 
-// Whether the line of a call without arguments is this one.
-fn is_ping(alloc: Global, line: &[u8]) -> Result<bool, AllocError> {
-    let entry = ping(alloc, 0)?;
-    let text = print_entry(alloc, &entry)?;
-    Ok(text.as_slice() == line)
+// The arguments of each line.
+fn arguments(alloc: Global, number: usize) -> Result<Value, AllocError> {
+    match number {
+        1 => numbers(alloc, &[(1, 1), (2, -2)]),
+        3 => numbers(alloc, &[(1, 1), (2, 0)]),
+        _ => numbers(alloc, &[]),
+    }
 }
 
-// Whether an entry is read from this line, and has it.
-fn is_read(alloc: Global, line: &[u8]) -> Result<bool, AllocError> {
-    let Ok(entry) = read_entry(alloc, line) else {
-        return Ok(false);
+// The answer of each line.
+fn answer(alloc: Global, number: usize) -> Result<Answer, AllocError> {
+    match number {
+        1 => Ok(Answer::Success(Value::I32(-1))),
+        3 => Ok(Answer::Throws(1, numbers(alloc, &[(1, 4), (2, 0)])?)),
+        4 => Ok(Answer::Broken),
+        _ => Ok(Answer::Empty),
+    }
+}
+
+// The entry of each line.
+fn row(alloc: Global, number: usize) -> Result<Entry, AllocError> {
+    let method = method(number).to_vec(alloc)?;
+    let args = arguments(alloc, number)?;
+    let call = Call {
+        slot: 0,
+        method: ByteText::new(method),
+        args,
+        silent: number == 2,
     };
+    let i = if number < 4 { number as u64 } else { u64::MAX };
+    match answer(alloc, number) {
+        Ok(answer) => Ok(Entry {
+            key: Key { c: 0, i },
+            call,
+            answer,
+        }),
+        Err(full) => Err(full),
+    }
+}
+
+/// Whether an entry has this line.
+pub(crate) fn is_line_of(alloc: Global, entry: &Entry, line: &[u8]) -> bool {
     let mut text = Vec::new(alloc);
-    put_entry(&mut text, &entry)?;
+    put_entry(&mut text, entry).is_ok() && text.as_slice() == line
+}
+
+// Whether a row's entry has this line.
+fn is_printed(alloc: Global, number: usize, line: &[u8]) -> bool {
+    match row(alloc, number) {
+        Ok(entry) => is_line_of(alloc, &entry, line),
+        Err(_) => false,
+    }
+}
+
+// The line of a call without arguments.
+fn ping_line(alloc: Global) -> Result<Vec<u8>, AllocError> {
+    match ping(alloc, 0) {
+        Ok(entry) => print_entry(alloc, &entry),
+        Err(full) => Err(full),
+    }
+}
+
+fn is_ping(alloc: Global, line: &[u8]) -> Result<bool, AllocError> {
+    let text = ping_line(alloc)?;
     Ok(text.as_slice() == line)
+}
+
+// Whether the entry that is read from a line has it.
+fn read_again(alloc: Global, line: &[u8]) -> Result<bool, TextFault> {
+    match read_entry(alloc, line) {
+        Ok(entry) => Ok(is_line_of(alloc, &entry, line)),
+        Err(fault) => Err(fault),
+    }
 }
 
 // Whether a line is refused at a place.
 fn is_refused(alloc: Global, line: &[u8], place: usize) -> bool {
-    match read_entry(alloc, line) {
+    match read_again(alloc, line) {
         Err(TextFault::At(found)) => found == place,
         _ => false,
     }
 }
 
 #[test]
-fn lines_are_read(rt: HostRuntime) -> Result<(), Fail> {
-    for line in LINES {
-        assert!(rt; is_read(rt.alloc(), line)?);
+fn lines_are_read(rt: HostRuntime) {
+    for line in &LINES {
+        assert!(rt; matches!(read_again(rt.alloc(), line), Ok(true)));
     }
-    for (line, place) in REFUSED {
-        assert!(rt; is_refused(rt.alloc(), line, place));
+    for (line, place) in &REFUSED {
+        assert!(rt; is_refused(rt.alloc(), line, *place));
     }
-    Ok(())
 }
 
 #[test]
 fn entries_have_their_lines(rt: HostRuntime) -> Result<(), Fail> {
     for (number, line) in LINES.iter().enumerate() {
-        assert!(rt; is_printed(rt.alloc(), number, line)?);
+        assert!(rt; is_printed(rt.alloc(), number, line));
     }
     assert!(rt; is_ping(rt.alloc(), b"call 0 0 0 p {} empty\n")?);
     Ok(())

@@ -124,8 +124,8 @@ fn run_script(
     requires few { workers ≤ 8 }
     requires moves { MovesItsWorkers workers script.now }
 {
-    let desk = office(alloc, Protocol::Compact)?;
     let handlers = one_mirror(alloc)?;
+    let desk = office(alloc, Protocol::Compact)?;
     let limits = Limits {
         max_frame: 268_435_456,
         read_budget: 268_435_456,
@@ -233,22 +233,39 @@ fn came_to_the_same(
     were_sent_so(alloc, tape, outs)
 }
 
+// Whether a script runs so that it comes to what the plain machine has.
+fn runs_as(
+    alloc: Global,
+    script: &Script,
+    workers: u32,
+    row: &Run,
+    plain: &PlainCell<u8, u8, u8>,
+) -> Result<bool, AllocError>
+    requires few { workers ≤ 8 }
+    requires moves { MovesItsWorkers workers script.now }
+{
+    let run = run_script(alloc, script, workers, row.2)?;
+    if run.outcome != row.3 {
+        return Ok(false);
+    }
+    came_to_the_same(alloc, &run, plain)
+}
+
 // Whether a run comes to what the plain machine comes to by its events.
-fn runs_plainly(alloc: Global, row: Run) -> Result<bool, AllocError> {
+fn runs_plainly(alloc: Global, row: &Run) -> Result<bool, AllocError> {
     let workers = row.1.min(8);
-    let Some(script) = script_of(alloc, row.0, workers) else {
+    let Some(plain) = after(alloc, row.4)? else {
         return Ok(false);
     };
-    let run = run_script(alloc, &script, workers, row.2)?;
-    match after(alloc, row.4)? {
-        Some(plain) => Ok(run.outcome == row.3 && came_to_the_same(alloc, &run, &plain)?),
+    match script_of(alloc, row.0, workers) {
+        Some(script) => runs_as(alloc, &script, workers, row, &plain),
         None => Ok(false),
     }
 }
 
 #[test]
 fn runs_are_those_of_the_plain_machine(rt: HostRuntime) -> Result<(), Fail> {
-    for row in RUNS {
+    for row in &RUNS {
         assert!(rt; runs_plainly(rt.alloc(), row)?, "{:?}", row.4);
     }
     Ok(())

@@ -82,8 +82,9 @@ pub(crate) fn office(alloc: Global, protocol: Protocol) -> Result<Office, AllocE
     ensures one { IfOk result (λ office. length (plain_office office).bindings ≡ 1) }
     ensures longest { IfOk result (λ office. (plain_office office).max_frame ≡ 268435456) }
 {
+    let names = named(alloc)?;
     let schema = example(alloc)?;
-    let bindings = Bindings::new(alloc, &schema, named(alloc)?)?;
+    let bindings = Bindings::new(alloc, &schema, names)?;
     Ok(Office::new(schema, bindings, protocol, 268_435_456))
 }
 
@@ -111,14 +112,14 @@ fn is_decided<D: Desk>(
     Ok(is_outcome(&decision, wanted))
 }
 
-fn office_decides(alloc: Global, row: Decided) -> Result<bool, AllocError> {
+fn office_decides(alloc: Global, row: &Decided) -> Result<bool, AllocError> {
     let desk = office(alloc, row.0)?;
     is_decided(alloc, &desk, row.1, row.2)
 }
 
 #[test]
 fn payloads_are_decided(rt: HostRuntime) -> Result<(), Fail> {
-    for row in DECIDED {
+    for row in &DECIDED {
         assert!(rt; office_decides(rt.alloc(), row)?);
     }
     Ok(())
@@ -152,15 +153,15 @@ fn is_replied<D: Desk>(
     Ok(found.as_slice() == frame)
 }
 
-fn office_replies(alloc: Global, row: Replied) -> Result<bool, AllocError> {
-    let desk = office(alloc, row.0)?;
+fn office_replies(alloc: Global, row: &Replied) -> Result<bool, AllocError> {
     let answer = Answer::Success(list_of_one(alloc)?);
+    let desk = office(alloc, row.0)?;
     is_replied(alloc, &desk, row.1, &answer, row.2)
 }
 
 #[test]
 fn calls_are_replied_to(rt: HostRuntime) -> Result<(), Fail> {
-    for row in REPLIED {
+    for row in &REPLIED {
         assert!(rt; office_replies(rt.alloc(), row)?);
     }
     Ok(())

@@ -1,7 +1,13 @@
 //! Value texts that are read, and the places at which others are refused.
 
+ghost use Rattle.std.specs.Prelude.{◌≤◌, length};
+ghost use Rattle.thrift_value.specs.Measures.{depth_of};
+ghost use Rattle.thrift_value.specs.Tidy.{IsTidy};
+ghost use Rattle.thrift_value.specs.TreeOf.{tree_of};
+
 use std::alloc::{AllocError, Global};
 use std::test::Fail;
+use thrift_value::Value;
 use value_text::{TextFault, VecSink, print, read, read_front, spell};
 
 // A text of each kind of value.
@@ -49,39 +55,58 @@ const REFUSED: [(&[u8], usize); 20] = [
     (b"map<i8,i8>{1b,", 13),
 ];
 
-// Whether a text is read, and printed and spelled to itself.
-fn is_read(alloc: Global, text: &[u8]) -> Result<bool, AllocError> {
-    let Ok(value) = read(alloc, text) else {
-        return Ok(false);
-    };
-    let again = print(alloc, &value)?;
+// Whether a value is printed as this text.
+fn is_printed(alloc: Global, value: &Value, text: &[u8]) -> Result<bool, AllocError>
+    requires tidy { IsTidy (tree_of value.now) }
+    requires levels { depth_of (tree_of value.now) ≤ 64 }
+{
+    let printed = print(alloc, value)?;
+    Ok(printed.as_slice() == text)
+}
+
+// Whether a value is spelled as this text.
+fn is_spelled(alloc: Global, value: &Value, text: &[u8]) -> bool
+    requires tidy { IsTidy (tree_of value.now) }
+    requires levels { depth_of (tree_of value.now) ≤ 64 }
+{
     let mut out = VecSink::take_from(&mut Vec::new(alloc));
-    if spell(&value, &mut out).is_err() {
-        return Err(AllocError);
+    spell(value, &mut out).is_ok() && out.content.as_slice() == text
+}
+
+// Whether the value that is read from a text is printed and spelled as it.
+fn read_again(alloc: Global, text: &[u8]) -> Result<bool, TextFault> {
+    match read(alloc, text) {
+        Ok(value) => Ok(
+            matches!(is_printed(alloc, &value, text), Ok(true)) && is_spelled(alloc, &value, text),
+        ),
+        Err(fault) => Err(fault),
     }
-    Ok(again.as_slice() == text && out.content.as_slice() == text)
+}
+
+// Whether a text is read, and printed and spelled to itself.
+fn is_read(alloc: Global, text: &[u8]) -> bool {
+    matches!(read_again(alloc, text), Ok(true))
 }
 
 // Whether a text is refused at a place.
 fn is_refused(alloc: Global, text: &[u8], place: usize) -> bool {
-    match read(alloc, text) {
+    match read_again(alloc, text) {
         Err(TextFault::At(found)) => found == place,
         _ => false,
     }
 }
 
 #[test]
-fn texts_are_read(rt: HostRuntime) -> Result<(), Fail> {
-    for text in READ {
-        assert!(rt; is_read(rt.alloc(), text)?);
+fn texts_are_read(rt: HostRuntime) {
+    for text in &READ {
+        assert!(rt; is_read(rt.alloc(), text));
     }
-    Ok(())
 }
 
 #[test]
 fn texts_are_refused(rt: HostRuntime) {
-    for (text, place) in REFUSED {
-        assert!(rt; is_refused(rt.alloc(), text, place));
+    for (text, place) in &REFUSED {
+        assert!(rt; is_refused(rt.alloc(), text, *place));
     }
 }
 
@@ -98,12 +123,20 @@ fn nested(alloc: Global, levels: u32) -> Result<Vec<u8>, AllocError> {
     Ok(text)
 }
 
+fn is_deepest_read(alloc: Global) -> Result<bool, AllocError> {
+    let text = nested(alloc, 64)?;
+    Ok(is_read(alloc, text.as_slice()))
+}
+
+fn is_deeper_refused(alloc: Global) -> Result<bool, AllocError> {
+    let text = nested(alloc, 65)?;
+    Ok(is_refused(alloc, text.as_slice(), 64 * 11))
+}
+
 #[test]
 fn levels_end(rt: HostRuntime) -> Result<(), Fail> {
-    let deepest = nested(rt.alloc(), 64)?;
-    assert!(rt; is_read(rt.alloc(), deepest.as_slice())?);
-    let deeper = nested(rt.alloc(), 65)?;
-    assert!(rt; is_refused(rt.alloc(), deeper.as_slice(), 64 * 11));
+    assert!(rt; is_deepest_read(rt.alloc())?);
+    assert!(rt; is_deeper_refused(rt.alloc())?);
     Ok(())
 }
 
@@ -115,8 +148,17 @@ fn parts_are_refused_at_their_end(rt: HostRuntime) {
     }
 }
 
+// Whether a value is read at one place up to another.
+fn is_front(alloc: Global, text: &[u8], at: usize, behind: usize) -> bool
+    requires { at ≤ length text.now }
+{
+    match read_front(alloc, text, at) {
+        Ok((_, found)) => found == behind,
+        Err(_) => false,
+    }
+}
+
 #[test]
 fn a_front_is_read(rt: HostRuntime) {
-    let read = read_front(rt.alloc(), b"ok 5i", 3);
-    assert!(rt; matches!(read, Ok((_, 5))));
+    assert!(rt; is_front(rt.alloc(), b"ok 5i", 3, 5));
 }

@@ -1,7 +1,7 @@
 //! A connection's whole path, sizes that no frame has, and each way to end.
 
-ghost use Rattle.std.specs.Prelude.{◌<◌, ◌≤◌, ◌^◌, length, IfOk};
-ghost use Rattle.conn_state.specs.Phase.{wanted, IsWaiting};
+ghost use Rattle.std.specs.Prelude.{◌≡◌, ◌<◌, ◌≤◌, ◌^◌, length, IfOk, OnOk};
+ghost use Rattle.conn_state.specs.Phase.{fresh_conn, wanted, IsReady, IsWaiting};
 
 use conn_state::Conn;
 use host_model::EndCause;
@@ -21,16 +21,18 @@ fn sized(bytes: &[u8; 4]) -> Conn {
     conn
 }
 
-#[test]
-fn a_frame_goes_in_by_pieces_and_its_reply_goes_out_by_pieces(rt: HostRuntime) -> Result<(), Fail> {
-    let mut conn = Conn::new();
+/// Takes a frame of three bytes by pieces.
+fn takes_a_frame<R: Abort>(rt: &R, alloc: Global, conn: &mut Conn) -> Result<(), Fail>
+    requires { conn.old ≡ fresh_conn }
+    ensures { OnOk result (IsReady conn.new.phase) }
+{
     assert!(rt; conn.want() == 4);
     conn.took(b"\0\0\0", MOST);
     assert!(rt; conn.want() == 1);
     conn.took(b"\x03", MOST);
     assert!(rt; conn.want() == 0);
     assert!(rt; conn.asks() == Some(3));
-    conn.admit(rt.alloc())?;
+    conn.admit(alloc)?;
     assert!(rt; conn.asks() == None);
     assert!(rt; conn.want() == 3);
     conn.took(b"ab", MOST);
@@ -38,10 +40,23 @@ fn a_frame_goes_in_by_pieces_and_its_reply_goes_out_by_pieces(rt: HostRuntime) -
     assert!(rt; conn.frames() == 0);
     conn.took(b"c", MOST);
     assert!(rt; conn.frames() == 1);
+    Ok(())
+}
+
+#[test]
+fn a_frame_goes_in_by_pieces(rt: HostRuntime) -> Result<(), Fail> {
+    let mut conn = Conn::new();
+    takes_a_frame(&rt, rt.alloc(), &mut conn)?;
     let (number, payload) = conn.give();
-    assert!(rt; number == 0);
-    assert!(rt; payload.as_slice() == b"abc".as_slice());
-    conn.answered(Settled::Reply(Bytes::new(b"\0\0\0\x01x".to_vec(rt.alloc())?)));
+    assert!(rt; number == 0 && payload.as_slice() == b"abc".as_slice());
+    Ok(())
+}
+
+/// Writes a reply of five bytes by pieces, and ends.
+fn writes_a_reply<R: Abort>(rt: &R, alloc: Global, conn: &mut Conn) -> Result<(), Fail>
+    requires { IsWaiting conn.old.phase }
+{
+    conn.answered(Settled::Reply(Bytes::new(b"\0\0\0\x01x".to_vec(alloc)?)));
     assert!(rt; conn.pending() == b"\0\0\0\x01x".as_slice());
     conn.wrote(4);
     assert!(rt; conn.pending() == b"x".as_slice());
@@ -54,28 +69,54 @@ fn a_frame_goes_in_by_pieces_and_its_reply_goes_out_by_pieces(rt: HostRuntime) -
 }
 
 #[test]
+fn a_reply_goes_out_by_pieces(rt: HostRuntime) -> Result<(), Fail> {
+    let mut conn = handed_out(rt.alloc())?;
+    writes_a_reply(&rt, rt.alloc(), &mut conn)
+}
+
+/// Why a connection ends that has taken the four bytes of this size.
+fn cause_of(bytes: &[u8; 4]) -> Option<EndCause> {
+    sized(bytes).cause()
+}
+
+/// The frame that it asks for.
+fn asked(bytes: &[u8; 4]) -> Option<u32> {
+    sized(bytes).asks()
+}
+
+#[test]
 fn a_size_that_no_frame_has_ends_the_connection(rt: HostRuntime) {
-    assert!(rt; sized(b"\0\0\0\0").cause() == Some(EndCause::SizeFault(0)));
-    assert!(rt; sized(b"\xff\xff\xff\xff").cause() == Some(EndCause::SizeFault(-1)));
-    assert!(rt; sized(b"\x00\xfa\x00\x01").cause() == Some(EndCause::SizeFault(16_384_001)));
-    assert!(rt; sized(b"\x00\xfa\x00\x00").asks() == Some(16_384_000));
-    assert!(rt; sized(b"\0\0\0\x01").asks() == Some(1));
+    assert!(rt; cause_of(b"\0\0\0\0") == Some(EndCause::SizeFault(0)));
+    assert!(rt; cause_of(b"\xff\xff\xff\xff") == Some(EndCause::SizeFault(-1)));
+    assert!(rt; cause_of(b"\x00\xfa\x00\x01") == Some(EndCause::SizeFault(16_384_001)));
+    assert!(rt; asked(b"\x00\xfa\x00\x00") == Some(16_384_000));
+    assert!(rt; asked(b"\0\0\0\x01") == Some(1));
+}
+
+/// How a connection ends whose input ends inside a size.
+fn cut_in_a_size() -> Option<EndCause> {
+    let mut conn = Conn::new();
+    conn.took(b"\0", MOST);
+    conn.end_of_input();
+    conn.cause()
 }
 
 #[test]
 fn an_input_that_ends_inside_a_size_is_cut(rt: HostRuntime) {
+    assert!(rt; cut_in_a_size() == Some(EndCause::Cut));
+}
+
+/// How a new connection ends, before and after it is ended from outside.
+fn ended_from_outside() -> (Option<EndCause>, Option<EndCause>) {
     let mut conn = Conn::new();
-    conn.took(b"\0", MOST);
-    conn.end_of_input();
-    assert!(rt; conn.cause() == Some(EndCause::Cut));
+    let before = conn.cause();
+    conn.end(EndCause::Stopped);
+    (before, conn.cause())
 }
 
 #[test]
 fn a_connection_is_ended_from_outside(rt: HostRuntime) {
-    let mut conn = Conn::new();
-    assert!(rt; conn.cause() == None);
-    conn.end(EndCause::Stopped);
-    assert!(rt; conn.cause() == Some(EndCause::Stopped));
+    assert!(rt; ended_from_outside() == (None, Some(EndCause::Stopped)));
 }
 
 /// A connection whose first frame is handed out.
@@ -90,17 +131,26 @@ fn handed_out(alloc: Global) -> Result<Conn, AllocError>
     Ok(conn)
 }
 
+/// How a connection ends with this outcome, and how many bytes it wants then.
+fn settled(alloc: Global, outcome: Settled) -> Result<(Option<EndCause>, usize), AllocError> {
+    match handed_out(alloc) {
+        Ok(mut conn) => {
+            conn.answered(outcome);
+            Ok((conn.cause(), conn.want()))
+        }
+        Err(full) => Err(full),
+    }
+}
+
 #[test]
 fn an_outcome_may_end_the_connection_or_have_no_reply(rt: HostRuntime) -> Result<(), Fail> {
-    let mut refused = handed_out(rt.alloc())?;
-    refused.answered(Settled::Close(EnvelopeFault::Short));
-    assert!(rt; refused.cause() == Some(EndCause::Envelope(EnvelopeFault::Short)));
-    let mut unsettled = handed_out(rt.alloc())?;
-    unsettled.answered(Settled::NoMemory);
-    assert!(rt; unsettled.cause() == Some(EndCause::NoMemory));
-    let mut silent = handed_out(rt.alloc())?;
-    silent.answered(Settled::Nothing);
-    assert!(rt; silent.want() == 4);
+    let short = EnvelopeFault::Short;
+    let refused = settled(rt.alloc(), Settled::Close(short))?;
+    assert!(rt; refused.0 == Some(EndCause::Envelope(short)));
+    let unsettled = settled(rt.alloc(), Settled::NoMemory)?;
+    assert!(rt; unsettled.0 == Some(EndCause::NoMemory));
+    let silent = settled(rt.alloc(), Settled::Nothing)?;
+    assert!(rt; silent == (None, 4));
     Ok(())
 }
 
@@ -134,14 +184,14 @@ fn take_piece(
     Ok(())
 }
 
-/// The payloads that come out of a stream which is cut into pieces of at most `cut` bytes, and how the connection ended.
-fn payloads_of(
+/// Appends the payloads that come out of a stream which is cut into pieces of at most `cut` bytes; how the connection ended.
+fn put_payloads(
     alloc: Global,
     stream: &[u8],
     cut: usize,
-) -> Result<(Vec<Vec<u8>>, Option<EndCause>), AllocError> {
+    payloads: &mut Vec<Vec<u8>>,
+) -> Result<Option<EndCause>, AllocError> {
     let mut conn = Conn::new();
-    let mut payloads = Vec::new(alloc);
     let mut left = stream;
     for _ in 0..stream.len() {
         let count = conn.want().min(cut).min(left.len());
@@ -149,10 +199,10 @@ fn payloads_of(
             break;
         }
         let (piece, behind) = left.split_at(count);
-        take_piece(alloc, &mut conn, piece, &mut payloads)?;
+        take_piece(alloc, &mut conn, piece, payloads)?;
         left = behind;
     }
-    Ok((payloads, conn.cause()))
+    Ok(conn.cause())
 }
 
 /// Whether two lists have the same payloads.
@@ -176,34 +226,59 @@ fn is_split_so(
     payloads: &[Vec<u8>],
     cause: Option<EndCause>,
 ) -> Result<bool, AllocError> {
-    let (found, ended) = payloads_of(alloc, stream, cut)?;
+    let mut found = Vec::new(alloc);
+    let ended = put_payloads(alloc, stream, cut, &mut found)?;
     Ok(ended == cause && are_same(found.as_slice(), payloads))
 }
 
-/// However a stream is cut, the payloads are those of the plain split, and a size that no frame has ends the connection.
-fn splits_as_plain<R: Abort>(
-    rt: &R,
+/// Whether a stream has these payloads and this end, however it is cut.
+fn is_split_always_so(
+    alloc: Global,
+    stream: &[u8],
+    payloads: &[Vec<u8>],
+    cause: Option<EndCause>,
+) -> Result<bool, AllocError> {
+    for cut in &[1, 2, 3, 64] {
+        if !is_split_so(alloc, stream, *cut, payloads, cause)? {
+            return Ok(false);
+        }
+    }
+    Ok(true)
+}
+
+/// Whether, however a stream is cut, the payloads are those of the plain split, and it ends so.
+fn splits_as_plain(
     alloc: Global,
     stream: &[u8],
     cause: Option<EndCause>,
-) -> Result<(), Fail> {
+) -> Result<bool, AllocError> {
     let (payloads, _) = split(alloc, SMALL, stream)?;
-    for cut in [1, 2, 3, 64] {
-        assert!(rt; is_split_so(alloc, stream, cut, payloads.as_slice(), cause)?);
-    }
-    Ok(())
+    is_split_always_so(alloc, stream, payloads.as_slice(), cause)
 }
+
+/// Streams, and how their connections end: a size that no frame has ends one.
+const STREAMS: [(&[u8], Option<EndCause>); 6] = [
+    (b"", None),
+    (b"\0\0\0\x02ab\0\0\0\x01c\0\0\0\x05de", None),
+    (b"\0\0\0\x08abcdefgh\0\0", None),
+    (
+        b"\0\0\0\x01a\0\0\0\0\0\0\0\x01b",
+        Some(EndCause::SizeFault(0)),
+    ),
+    (
+        b"\0\0\0\x03abc\0\0\0\x09defghijkl",
+        Some(EndCause::SizeFault(9)),
+    ),
+    (
+        b"\xff\xff\xff\xff\0\0\0\x01a",
+        Some(EndCause::SizeFault(-1)),
+    ),
+];
 
 #[test]
 fn a_stream_is_split_as_the_plain_program_splits_it(rt: HostRuntime) -> Result<(), Fail> {
-    let alloc = rt.alloc();
-    splits_as_plain(&rt, alloc, b"", None)?;
-    splits_as_plain(&rt, alloc, b"\0\0\0\x02ab\0\0\0\x01c\0\0\0\x05de", None)?;
-    splits_as_plain(&rt, alloc, b"\0\0\0\x08abcdefgh\0\0", None)?;
-    let zero = Some(EndCause::SizeFault(0));
-    splits_as_plain(&rt, alloc, b"\0\0\0\x01a\0\0\0\0\0\0\0\x01b", zero)?;
-    let nine = Some(EndCause::SizeFault(9));
-    splits_as_plain(&rt, alloc, b"\0\0\0\x03abc\0\0\0\x09defghijkl", nine)?;
-    let below_zero = Some(EndCause::SizeFault(-1));
-    splits_as_plain(&rt, alloc, b"\xff\xff\xff\xff\0\0\0\x01a", below_zero)
+    for (stream, cause) in &STREAMS {
+        assert!(rt; splits_as_plain(rt.alloc(), stream, *cause)?);
+    }
+    Ok(())
 }

@@ -8,41 +8,62 @@ use std::alloc::{AllocError, Global};
 use std::io;
 use std::test::Fail;
 
+/// Whether a source of `frame` in pieces of two, whose second read fails, is read so.
+fn is_read_in_pieces(source: &mut MemSource) -> bool {
+    let mut into = [0u8; 4];
+    source.read(&mut into) == Ok(2)
+        && source.read(&mut into) == Err(Failed)
+        && source.faults() == 1
+        && source.left() == b"ame".as_slice()
+        && source.read(&mut into) == Ok(2)
+        && source.read(&mut into) == Ok(1)
+        && source.read(&mut into) == Ok(0)
+}
+
+fn gives_pieces(alloc: Global) -> Result<bool, AllocError> {
+    let content = b"frame".to_vec(alloc)?;
+    let fails = vec![in alloc; 1]?;
+    let mut source = MemSource::in_pieces(content, fails, 2);
+    Ok(is_read_in_pieces(&mut source))
+}
+
 #[test]
 fn a_source_gives_its_bytes_in_pieces_and_fails_where_told(rt: HostRuntime) -> Result<(), Fail> {
-    let content = b"frame".to_vec(rt.alloc())?;
-    let fails = [1].to_vec(rt.alloc())?;
-    let mut source = MemSource::in_pieces(content, fails, 2);
-    let mut into = [0u8; 4];
-    assert!(rt; source.read(&mut into) == Ok(2));
-    assert!(rt; source.read(&mut into) == Err(Failed));
-    assert!(rt; source.faults() == 1);
-    assert!(rt; source.left() == b"ame".as_slice());
-    assert!(rt; source.read(&mut into) == Ok(2));
-    assert!(rt; source.read(&mut into) == Ok(1));
-    assert!(rt; source.read(&mut into) == Ok(0));
+    assert!(rt; gives_pieces(rt.alloc())?);
     Ok(())
+}
+
+/// Whether a sink whose second write fails takes pieces so.
+fn is_written(sink: &mut MemSink) -> bool {
+    sink.write(b"frame") == Ok(5)
+        && sink.write(b"lost") == Err(Failed)
+        && sink.write(b"d") == Ok(1)
+        && sink.faults() == 1
+        && sink.wants() == 0
+        && sink.bytes() == b"framed".as_slice()
+}
+
+fn keeps_bytes(alloc: Global) -> Result<bool, AllocError> {
+    let fails = vec![in alloc; 1]?;
+    let mut sink = MemSink::new(alloc, fails);
+    let is_told = is_written(&mut sink);
+    Ok(is_told && sink.into_bytes().as_slice() == b"framed".as_slice())
 }
 
 #[test]
 fn a_sink_keeps_its_bytes_and_fails_where_told(rt: HostRuntime) -> Result<(), Fail> {
-    let mut sink = MemSink::new(rt.alloc(), [1].to_vec(rt.alloc())?);
-    assert!(rt; sink.write(b"frame") == Ok(5));
-    assert!(rt; sink.write(b"lost") == Err(Failed));
-    assert!(rt; sink.write(b"d") == Ok(1));
-    assert!(rt; sink.faults() == 1);
-    assert!(rt; sink.wants() == 0);
-    assert!(rt; sink.bytes() == b"framed".as_slice());
-    assert!(rt; sink.into_bytes().as_slice() == b"framed".as_slice());
+    assert!(rt; keeps_bytes(rt.alloc())?);
     Ok(())
 }
 
+fn takes_the_front(alloc: Global) -> bool {
+    let mut sink = MemSink::in_pieces(alloc, Vec::new(alloc), 1);
+    sink.write(b"abc") == Ok(1) && sink.bytes() == b"a".as_slice()
+}
+
 #[test]
-fn a_sink_in_pieces_takes_the_front(rt: HostRuntime) -> Result<(), Fail> {
-    let mut sink = MemSink::in_pieces(rt.alloc(), Vec::new(rt.alloc()), 1);
-    assert!(rt; sink.write(b"abc") == Ok(1));
-    assert!(rt; sink.bytes() == b"a".as_slice());
-    Ok(())
+fn a_sink_in_pieces_takes_the_front(rt: HostRuntime) {
+    assert!(rt; takes_the_front(rt.alloc()));
 }
 
 #[test]
@@ -71,15 +92,28 @@ fn tape_of(alloc: Global, bytes: &[u8]) -> Result<Tape, AllocError> {
     Ok(log.finish())
 }
 
+/// Whether a tape has these two marks.
+fn has_opened_and_read(tape: &Tape, bytes: &[u8]) -> bool {
+    let mut marks = tape.marks();
+    matches!(marks.next(), Some(MarkAt::Opened(0)))
+        && matches!(marks.next(), Some(MarkAt::Read(0, read)) if read == bytes)
+        && marks.next().is_none()
+}
+
+fn is_on_tape(alloc: Global) -> Result<bool, AllocError> {
+    let tape = tape_of(alloc, b"ab")?;
+    Ok(has_opened_and_read(&tape, b"ab"))
+}
+
+fn are_bytes_kept(alloc: Global) -> Result<bool, AllocError> {
+    let bytes = Bytes::new(b"ab".to_vec(alloc)?);
+    Ok(bytes.as_slice() == b"ab".as_slice())
+}
+
 #[test]
 fn lists_give_back_what_they_were_made_of(rt: HostRuntime) -> Result<(), Fail> {
-    let bytes = Bytes::new(b"ab".to_vec(rt.alloc())?);
-    assert!(rt; bytes.as_slice() == b"ab".as_slice());
-    let tape = tape_of(rt.alloc(), bytes.as_slice())?;
-    let mut marks = tape.marks();
-    assert!(rt; matches!(marks.next(), Some(MarkAt::Opened(0))));
-    assert!(rt; matches!(marks.next(), Some(MarkAt::Read(0, b"ab"))));
-    assert!(rt; marks.next().is_none());
+    assert!(rt; are_bytes_kept(rt.alloc())?);
+    assert!(rt; is_on_tape(rt.alloc())?);
     Ok(())
 }
 
@@ -111,52 +145,58 @@ fn some_files(alloc: Global) -> Result<MemFiles, AllocError> {
     Ok(MemFiles::new(files, [2, 3, 4].to_vec(alloc)?))
 }
 
-/// Whether these bytes were read.
-fn holds(read: Result<Vec<u8>, FileFail>, bytes: &[u8]) -> bool {
-    match read {
-        Ok(file) => file.as_slice() == bytes,
-        Err(_) => false,
+/// A file's name, how many bytes it may have, and what reading it comes to.
+type ReadRow = (&'static str, usize, Result<&'static [u8], FileFail>);
+
+const IN_MEMORY: [ReadRow; 6] = [
+    ("a", 5, Ok(b"first")),
+    ("a", 4, Err(FileFail::TooLong)),
+    ("a", 5, Err(FileFail::Failed)),
+    ("c", 5, Err(FileFail::Absent)),
+    ("a", 4, Err(FileFail::TooLong)),
+    ("b", 0, Ok(b"")),
+];
+
+const OF_THE_SYSTEM: [ReadRow; 3] = [
+    ("/dev/null", 0, Ok(b"")),
+    ("/dev/zero", 9, Err(FileFail::TooLong)),
+    ("/no/such/file", 9, Err(FileFail::Absent)),
+];
+
+/// Whether reading a file comes to what its row says.
+fn is_read<F: Files>(alloc: Global, files: &mut F, row: &ReadRow) -> bool {
+    match (files.read_whole(alloc, row.0, row.1), row.2) {
+        (Ok(file), Ok(bytes)) => file.as_slice() == bytes,
+        (Err(found), Err(cause)) => found == cause,
+        _ => false,
     }
 }
 
-/// Whether nothing was read for this cause.
-fn fails(read: Result<Vec<u8>, FileFail>, cause: FileFail) -> bool {
-    match read {
-        Ok(_) => false,
-        Err(found) => found == cause,
+fn are_read<F: Files>(alloc: Global, files: &mut F, rows: &[ReadRow]) -> bool {
+    for row in rows {
+        if !is_read(alloc, files, row) {
+            return false;
+        }
     }
+    true
+}
+
+fn are_read_in_memory(alloc: Global) -> Result<bool, AllocError> {
+    let mut files = some_files(alloc)?;
+    Ok(are_read(alloc, &mut files, &IN_MEMORY) && files.faults() == 3)
 }
 
 #[test]
 fn a_file_is_read_whole_or_not_at_all(rt: HostRuntime) -> Result<(), Fail> {
-    let mut files = some_files(rt.alloc())?;
-    assert!(rt; holds(files.read_whole(rt.alloc(), "a", 5), b"first"));
-    assert!(rt; fails(files.read_whole(rt.alloc(), "a", 4), FileFail::TooLong));
-    assert!(rt; fails(files.read_whole(rt.alloc(), "a", 5), FileFail::Failed));
-    assert!(rt; fails(files.read_whole(rt.alloc(), "c", 5), FileFail::Absent));
-    assert!(rt; fails(files.read_whole(rt.alloc(), "a", 4), FileFail::TooLong));
-    assert!(rt; holds(files.read_whole(rt.alloc(), "b", 0), b""));
-    assert!(rt; files.faults() == 3);
+    assert!(rt; are_read_in_memory(rt.alloc())?);
     Ok(())
 }
 
 #[test]
 fn the_systems_files_are_read_by_their_paths(rt: HostRuntime) {
     let mut files = RealFiles::new(&rt);
-    assert!(rt; holds(files.read_whole(rt.alloc(), "/dev/null", 0), b""));
-    assert!(rt;
-        fails(
-            files.read_whole(rt.alloc(), "/dev/zero", 9),
-            FileFail::TooLong
-        )
-    );
-    assert!(rt;
-        fails(
-            files.read_whole(rt.alloc(), "/no/such/file", 9),
-            FileFail::Absent
-        )
-    );
+    assert!(rt; are_read(rt.alloc(), &mut files, &OF_THE_SYSTEM));
     assert!(rt; files.faults() == 0);
-    assert!(rt; fails(files.read_whole(rt.alloc(), "/", 9), FileFail::Failed));
+    assert!(rt; is_read(rt.alloc(), &mut files, &("/", 9, Err(FileFail::Failed))));
     assert!(rt; files.faults() == 1);
 }

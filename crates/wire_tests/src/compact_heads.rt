@@ -1,37 +1,17 @@
 //! Heads of the compact protocol, read and written, and each fault at its place.
 
 use crate::compact_head_vectors::MESSAGES;
-use crate::heads::{is_fault, is_read_or_refused, is_written};
-use envelope::{Protocol, read_head};
+use crate::heads::{is_read_or_refused, is_refused, is_written};
+use envelope::Protocol;
 use outside::EnvelopeFault;
 use outside::EnvelopeFault::{LongVarint, MessageType, NameSize, Short, Version};
 use std::test::Fail;
 
 #[test]
 fn heads_of_apache(rt: HostRuntime) -> Result<(), Fail> {
-    for (payload, name, kind, id, behind) in &MESSAGES {
-        assert!(rt;
-            is_read_or_refused(
-                Protocol::Compact,
-                rt.alloc(),
-                payload,
-                name,
-                *kind,
-                *id,
-                *behind
-            )
-        );
-        assert!(rt;
-            is_written(
-                Protocol::Compact,
-                rt.alloc(),
-                payload,
-                name,
-                *kind,
-                *id,
-                *behind
-            )?
-        );
+    for row in &MESSAGES {
+        assert!(rt; is_read_or_refused(Protocol::Compact, rt.alloc(), row));
+        assert!(rt; is_written(Protocol::Compact, rt.alloc(), row)?);
     }
     Ok(())
 }
@@ -55,6 +35,6 @@ const FAULTS: [(&[u8], EnvelopeFault); 12] = [
 #[test]
 fn faults_in_reading_order(rt: HostRuntime) {
     for (payload, fault) in &FAULTS {
-        assert!(rt; is_fault(read_head(rt.alloc(), Protocol::Compact, payload), *fault));
+        assert!(rt; is_refused(Protocol::Compact, rt.alloc(), payload, *fault));
     }
 }

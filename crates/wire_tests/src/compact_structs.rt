@@ -1,8 +1,7 @@
 //! Structs of the compact protocol, read and written, and each fault at its place.
 
-use crate::apache::{holding, is_fault, is_read_as};
+use crate::apache::{hold, is_read_otherwise, is_refused};
 use crate::compact_struct_vectors::{DIFFERENCES, tables};
-use compact_codec::read_struct;
 use envelope::Protocol;
 use std::test::Fail;
 use thrift_value::WireFault;
@@ -11,17 +10,15 @@ use thrift_value::WireFault::{BadSize, BadType, FieldRange, LongVarint, Short};
 #[test]
 fn structs_of_apache_are_read_and_written_again(rt: HostRuntime) -> Result<(), Fail> {
     for rows in tables() {
-        assert_eq!(rt; holding(Protocol::Compact, rt.alloc(), rows)?, rows.len());
+        assert!(rt; hold(Protocol::Compact, rt.alloc(), rows)?);
     }
     Ok(())
 }
 
 #[test]
 fn structs_are_read_otherwise_by_own_choice(rt: HostRuntime) -> Result<(), Fail> {
-    for (bytes, apache, here) in &DIFFERENCES {
-        let read = read_struct(rt.alloc(), bytes, 0);
-        assert!(rt; is_read_as(rt.alloc(), read, here, bytes.len())?);
-        assert!(rt; *here != *apache);
+    for row in &DIFFERENCES {
+        assert!(rt; is_read_otherwise(Protocol::Compact, rt.alloc(), row)?);
     }
     Ok(())
 }
@@ -55,6 +52,6 @@ const FAULTS: [(&[u8], WireFault); 22] = [
 #[test]
 fn faults_in_reading_order(rt: HostRuntime) {
     for (bytes, fault) in &FAULTS {
-        assert!(rt; is_fault(read_struct(rt.alloc(), bytes, 0), *fault));
+        assert!(rt; is_refused(Protocol::Compact, rt.alloc(), bytes, *fault));
     }
 }

@@ -1,14 +1,16 @@
 //! Heads read and written, and each fault at its place.
 
 use crate::head_vectors::MESSAGES;
-use envelope::{Head, HeadFault, Protocol, read_head, write_head};
+use envelope::{HeadFault, Protocol, read_head, write_head};
 use outside::EnvelopeFault;
 use outside::EnvelopeFault::{MessageType, NameSize, Short, Version};
 use std::alloc::{AllocError, Global};
 use std::test::Fail;
 
-// The bytes of a payload, and of its head the name, the type, the sequence id and the place behind it.
-const HEADS: [(&[u8], &[u8], u8, i32, usize); 7] = [
+/// The bytes of a payload, and of its head the name, the type, the sequence id and the place behind it.
+pub(crate) type Row = (&'static [u8], &'static [u8], u8, i32, usize);
+
+const HEADS: [Row; 7] = [
     (b"\x80\x01\0\x01\0\0\0\x04ping\0\0\0\0\0", b"ping", 1, 0, 16),
     (
         b"\x80\x01\0\x04\0\0\0\x03zip\xff\xff\xff\xff\0",
@@ -49,113 +51,80 @@ const HEADS: [(&[u8], &[u8], u8, i32, usize); 7] = [
     ),
 ];
 
-/// Whether a head was read: name, type, sequence id and the place behind it.
-fn is_head(read: Result<Head, HeadFault>, name: &[u8], kind: u8, id: i32, behind: usize) -> bool {
-    match read {
+/// Whether the head of a row is read.
+fn is_head(protocol: Protocol, alloc: Global, row: &Row) -> bool {
+    match read_head(alloc, protocol, row.0) {
         Ok(head) => {
-            let is_told = head.kind == kind && head.id == id && head.behind == behind;
-            head.name.as_slice() == name && is_told
+            let is_told = head.kind == row.2 && head.id == row.3 && head.behind == row.4;
+            is_told && head.name.as_slice() == row.1
         }
         Err(_) => false,
     }
 }
 
-/// Whether this fault was found.
-pub(crate) fn is_fault(read: Result<Head, HeadFault>, fault: EnvelopeFault) -> bool {
-    match read {
+/// Whether this fault is found in a payload.
+pub(crate) fn is_refused(
+    protocol: Protocol,
+    alloc: Global,
+    payload: &[u8],
+    fault: EnvelopeFault,
+) -> bool {
+    match read_head(alloc, protocol, payload) {
         Ok(_) => false,
         Err(found) => found == HeadFault::Envelope(fault),
     }
 }
 
 /// Whether a message is read as its row says; one of type 2 or 3 is a reply, and refused.
-pub(crate) fn is_read_or_refused(
-    protocol: Protocol,
-    alloc: Global,
-    payload: &[u8],
-    name: &[u8],
-    kind: u8,
-    id: i32,
-    behind: usize,
-) -> bool {
-    let read = read_head(alloc, protocol, payload);
-    match kind {
-        1 | 4 => is_head(read, name, kind, id, behind),
-        2 | 3 => is_fault(read, MessageType(kind)),
+pub(crate) fn is_read_or_refused(protocol: Protocol, alloc: Global, row: &Row) -> bool {
+    match row.2 {
+        1 | 4 => is_head(protocol, alloc, row),
+        2 | 3 => is_refused(protocol, alloc, row.0, MessageType(row.2)),
         _ => false,
     }
 }
 
 #[test]
 fn heads_in_both_forms(rt: HostRuntime) {
-    for (payload, name, kind, id, behind) in &HEADS {
-        let read = read_head(rt.alloc(), Protocol::Binary, payload);
-        assert!(rt; is_head(read, name, *kind, *id, *behind));
+    for row in &HEADS {
+        assert!(rt; is_head(Protocol::Binary, rt.alloc(), row));
     }
 }
 
 #[test]
 fn heads_of_apache(rt: HostRuntime) {
-    for (payload, name, kind, id, behind) in &MESSAGES {
-        assert!(rt;
-            is_read_or_refused(
-                Protocol::Binary,
-                rt.alloc(),
-                payload,
-                name,
-                *kind,
-                *id,
-                *behind
-            )
-        );
+    for row in &MESSAGES {
+        assert!(rt; is_read_or_refused(Protocol::Binary, rt.alloc(), row));
     }
 }
 
 /// What is written of a head; nothing where the name is long.
-pub(crate) fn written(
-    protocol: Protocol,
-    alloc: Global,
-    name: &[u8],
-    kind: u8,
-    id: i32,
-) -> Result<Vec<u8>, AllocError> {
+fn written(protocol: Protocol, alloc: Global, row: &Row) -> Result<Vec<u8>, AllocError> {
     let mut into = Vec::new(alloc);
-    if name.len() < 1000 {
-        write_head(protocol, name, kind, id, &mut into)?;
+    if row.1.len() < 1000 {
+        write_head(protocol, row.1, row.2, row.3, &mut into)?;
     }
     Ok(into)
 }
 
-/// Whether a head is written as a payload begins.
-pub(crate) fn is_written(
-    protocol: Protocol,
-    alloc: Global,
-    payload: &[u8],
-    name: &[u8],
-    kind: u8,
-    id: i32,
-    behind: usize,
-) -> Result<bool, AllocError> {
-    let head = written(protocol, alloc, name, kind, id)?;
-    Ok(head.len() == behind && payload.starts_with(head.as_slice()))
+/// Whether the head of a row is written as its payload begins.
+pub(crate) fn is_written(protocol: Protocol, alloc: Global, row: &Row) -> Result<bool, AllocError> {
+    let head = written(protocol, alloc, row)?;
+    Ok(head.len() == row.4 && row.0.starts_with(head.as_slice()))
+}
+
+/// Whether the head of a row is written as it stands there, where that is in the strict form.
+fn is_written_if_strict(alloc: Global, row: &Row) -> Result<bool, AllocError> {
+    if !row.0.starts_with(b"\x80") {
+        return Ok(true);
+    }
+    is_written(Protocol::Binary, alloc, row)
 }
 
 #[test]
 fn strict_heads_of_apache_are_written(rt: HostRuntime) -> Result<(), Fail> {
-    for (payload, name, kind, id, behind) in &MESSAGES {
-        let is_strict = payload.starts_with(b"\x80");
-        assert!(rt;
-            !is_strict
-                || is_written(
-                    Protocol::Binary,
-                    rt.alloc(),
-                    payload,
-                    name,
-                    *kind,
-                    *id,
-                    *behind
-                )?
-        );
+    for row in &MESSAGES {
+        assert!(rt; is_written_if_strict(rt.alloc(), row)?);
     }
     Ok(())
 }
@@ -200,7 +169,7 @@ const FAULTS: [(&[u8], EnvelopeFault); 24] = [
 #[test]
 fn faults_in_reading_order(rt: HostRuntime) {
     for (payload, fault) in &FAULTS {
-        assert!(rt; is_fault(read_head(rt.alloc(), Protocol::Binary, payload), *fault));
+        assert!(rt; is_refused(Protocol::Binary, rt.alloc(), payload, *fault));
     }
 }
 
@@ -211,9 +180,14 @@ fn dots_and_a_head(alloc: Global) -> Result<Vec<u8>, AllocError> {
     Ok(into)
 }
 
+fn is_head_behind_dots(alloc: Global) -> Result<bool, AllocError> {
+    let wanted = b"..\x80\x01\0\x02\0\0\0\x03add\0\0\0\x01".as_slice();
+    let found = dots_and_a_head(alloc)?;
+    Ok(found.as_slice() == wanted)
+}
+
 #[test]
 fn a_written_head_stands_behind_what_was_there(rt: HostRuntime) -> Result<(), Fail> {
-    let wanted = b"..\x80\x01\0\x02\0\0\0\x03add\0\0\0\x01".as_slice();
-    assert!(rt; dots_and_a_head(rt.alloc())?.as_slice() == wanted);
+    assert!(rt; is_head_behind_dots(rt.alloc())?);
     Ok(())
 }

@@ -1,5 +1,5 @@
 //! Tests of `wire_num`, `thrift_value`, `envelope`, `wire_walk`, `struct_skew` and the two codecs, `binary_codec` and `compact_codec`: numbers, values, structs and
-//! heads, with tables of what Apache Thrift's own library writes; projections, and what may be written.
+//! heads, with tables of what Apache Thrift's own library writes; projections, what is read in one pass, and what may be written.
 #![tactic(auto)]
 
 #[cfg(test)]
@@ -21,13 +21,15 @@ mod head_vectors;
 #[cfg(test)]
 mod heads;
 #[cfg(test)]
-mod notation;
-#[cfg(test)]
 mod numbers;
+#[cfg(test)]
+mod one_pass;
 #[cfg(test)]
 mod places;
 #[cfg(test)]
 mod projections;
+#[cfg(test)]
+mod sent;
 #[cfg(test)]
 mod struct_vectors;
 #[cfg(test)]

@@ -1,39 +1,40 @@
 //! Structs read and written, and each fault at its place.
 
-use crate::apache::{holding, is_fault, is_read_as, written_again};
+use crate::apache::{hold, is_read_as, is_read_otherwise, is_refused, is_written_again};
 use crate::struct_vectors::{DIFFERENCES, tables};
 use binary_codec::{Binary, read_struct};
 use envelope::Protocol;
 use std::alloc::{AllocError, Global};
 use std::test::Fail;
 use thrift_value::WireFault::{BadSize, BadType, Short, TooDeep, TooMany};
-use thrift_value::{Raw, Tag, Value, WireFault};
+use thrift_value::{Tag, Value, WireFault};
 use wire_walk::{Input, read};
 
 #[test]
 fn structs_of_apache_are_read_and_written_again(rt: HostRuntime) -> Result<(), Fail> {
     for rows in tables() {
-        assert_eq!(rt; holding(Protocol::Binary, rt.alloc(), rows)?, rows.len());
+        assert!(rt; hold(Protocol::Binary, rt.alloc(), rows)?);
     }
     Ok(())
 }
 
 #[test]
 fn structs_are_read_otherwise_by_own_choice(rt: HostRuntime) -> Result<(), Fail> {
-    for (bytes, apache, here) in &DIFFERENCES {
-        let read = read_struct(rt.alloc(), bytes, 0);
-        assert!(rt; is_read_as(rt.alloc(), read, here, bytes.len())?);
-        assert!(rt; *here != *apache);
+    for row in &DIFFERENCES {
+        assert!(rt; is_read_otherwise(Protocol::Binary, rt.alloc(), row)?);
     }
     Ok(())
 }
 
+// Repeated fields, with bytes in front and behind.
+fn are_fields_kept(alloc: Global) -> Result<bool, AllocError> {
+    let bytes = b"..\x03\0\x02\x05\x03\0\x01\x06\x03\0\x02\x05\0..";
+    is_read_as(alloc, read_struct(alloc, bytes, 2), b"{2=5b,1=6b,2=5b}", 15)
+}
+
 #[test]
 fn fields_come_as_they_stand(rt: HostRuntime) -> Result<(), Fail> {
-    // Repeats too, with bytes in front and behind.
-    let bytes = b"..\x03\0\x02\x05\x03\0\x01\x06\x03\0\x02\x05\0..";
-    let read = read_struct(rt.alloc(), bytes, 2);
-    assert!(rt; is_read_as(rt.alloc(), read, b"struct:2,1,2 i8:5 i8:6 i8:5", 15)?);
+    assert!(rt; are_fields_kept(rt.alloc())?);
     Ok(())
 }
 
@@ -61,8 +62,8 @@ const EMPTY: [(&[u8], usize); 6] = [
 ];
 
 // Whether such a container was read up to this place.
-fn is_none_of_bool(read: Result<(Raw, usize), WireFault>, place: usize) -> bool {
-    match read {
+fn is_none_of_bool(alloc: Global, bytes: &[u8], place: usize) -> bool {
+    match read_struct(alloc, bytes, 0) {
         Ok((found, behind)) => holds_none_of_bool(&found) && behind == place,
         Err(_) => false,
     }
@@ -71,7 +72,7 @@ fn is_none_of_bool(read: Result<(Raw, usize), WireFault>, place: usize) -> bool 
 #[test]
 fn empty_containers_name_bool(rt: HostRuntime) {
     for (bytes, place) in &EMPTY {
-        assert!(rt; is_none_of_bool(read_struct(rt.alloc(), bytes, 0), *place));
+        assert!(rt; is_none_of_bool(rt.alloc(), bytes, *place));
     }
 }
 
@@ -142,7 +143,7 @@ const FAULTS: [(&[u8], WireFault); 48] = [
 #[test]
 fn faults_in_reading_order(rt: HostRuntime) {
     for (bytes, fault) in &FAULTS {
-        assert!(rt; is_fault(read_struct(rt.alloc(), bytes, 0), *fault));
+        assert!(rt; is_refused(Protocol::Binary, rt.alloc(), bytes, *fault));
     }
 }
 
@@ -220,18 +221,22 @@ fn long_list(alloc: Global, count: u32) -> Result<Vec<u8>, AllocError> {
 }
 
 // Whether a struct of so many values is read to its end and written again.
-fn is_written_again(alloc: Global, bytes: &[u8], count: u64) -> bool {
-    match written_again(Protocol::Binary, alloc, bytes) {
-        Ok(Some((value, behind, written))) => {
-            value.count() == count && behind == bytes.len() && written.as_slice() == bytes
+fn is_whole_again(alloc: Global, bytes: &[u8], count: u64) -> bool {
+    match read_struct(alloc, bytes, 0) {
+        Ok((value, behind)) if value.count() == count && behind == bytes.len() => {
+            is_written_again(Protocol::Binary, alloc, bytes)
         }
         _ => false,
     }
 }
 
+fn is_long_list_written_again(alloc: Global) -> Result<bool, AllocError> {
+    let bytes = long_list(alloc, 99_998)?;
+    Ok(is_whole_again(alloc, bytes.as_slice(), 100_000))
+}
+
 #[test]
 fn a_struct_of_a_hundred_thousand_values_is_read(rt: HostRuntime) -> Result<(), Fail> {
-    let bytes = long_list(rt.alloc(), 99_998)?;
-    assert!(rt; is_written_again(rt.alloc(), bytes.as_slice(), 100_000));
+    assert!(rt; is_long_list_written_again(rt.alloc())?);
     Ok(())
 }

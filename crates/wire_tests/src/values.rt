@@ -23,9 +23,9 @@ fn listed(alloc: Global, items: &[i32]) -> Result<Value, AllocError> {
 
 // map<bytes, bool>{"a": true, "b": false}
 fn mapped(alloc: Global) -> Result<Value, AllocError> {
-    let mut pairs = Vec::new(alloc);
-    pairs.push((text(alloc, b"a")?, Value::Bool(true)))?;
-    pairs.push((text(alloc, b"b")?, Value::Bool(false)))?;
+    let a = text(alloc, b"a")?;
+    let b = text(alloc, b"b")?;
+    let pairs = vec![in alloc; (a, Value::Bool(true)), (b, Value::Bool(false))]?;
     Ok(Value::Map(Tag::Bytes, Tag::Bool, Pairs::new(pairs)))
 }
 
@@ -45,12 +45,25 @@ fn is_as_its_copy(alloc: Global, value: &Value) -> Result<bool, AllocError> {
     Ok(is_same && copy.count() == value.count() && copy.is_tidy())
 }
 
+fn is_measured(value: &Value) -> bool {
+    value.tag() == Tag::Struct
+        && value.count() == 10
+        && value.depth() == 2
+        && value.is_tidy()
+        && value.has_small_sizes()
+}
+
+fn is_worked(alloc: Global) -> Result<bool, AllocError> {
+    match worked(alloc) {
+        Ok(value) if is_measured(&value) => is_as_its_copy(alloc, &value),
+        Ok(_) => Ok(false),
+        Err(full) => Err(full),
+    }
+}
+
 #[test]
 fn worked_value(rt: HostRuntime) -> Result<(), Fail> {
-    let value = worked(rt.alloc())?;
-    assert!(rt; value.tag() == Tag::Struct && value.count() == 10 && value.depth() == 2);
-    assert!(rt; value.is_tidy() && value.has_small_sizes());
-    assert!(rt; is_as_its_copy(rt.alloc(), &value)?);
+    assert!(rt; is_worked(rt.alloc())?);
     Ok(())
 }
 
@@ -115,13 +128,22 @@ fn are_ordered(values: &[Value]) -> bool {
     true
 }
 
+fn are_all_ordered(alloc: Global) -> Result<bool, AllocError> {
+    let values = in_order(alloc)?;
+    Ok(values.len() == 20 && are_ordered(values.as_slice()))
+}
+
+// Whether two empty lists are the same, whatever they are lists of.
+fn are_empty_lists_the_same(alloc: Global) -> bool {
+    let bools = Value::List(Tag::Bool, Items::new(Vec::new(alloc)));
+    let texts = Value::List(Tag::Bytes, Items::new(Vec::new(alloc)));
+    bools.compare(&texts) == Ordering::Equal
+}
+
 #[test]
 fn order(rt: HostRuntime) -> Result<(), Fail> {
-    let values = in_order(rt.alloc())?;
-    assert!(rt; values.len() == 20 && are_ordered(values.as_slice()));
-    let bools = Value::List(Tag::Bool, Items::new(Vec::new(rt.alloc())));
-    let texts = Value::List(Tag::Bytes, Items::new(Vec::new(rt.alloc())));
-    assert!(rt; bools.compare(&texts) == Ordering::Equal);
+    assert!(rt; are_all_ordered(rt.alloc())?);
+    assert!(rt; are_empty_lists_the_same(rt.alloc()));
     Ok(())
 }
 
@@ -141,13 +163,20 @@ fn falling(alloc: Global) -> Result<Value, AllocError> {
     Ok(Value::Struct(Fields::new(fields)))
 }
 
+// Whether a value could be made, and is tidy or not.
+fn is_tidy(made: Result<Value, AllocError>, wanted: bool) -> bool {
+    match made {
+        Ok(value) => value.is_tidy() == wanted,
+        Err(_) => false,
+    }
+}
+
 #[test]
-fn untidy_values(rt: HostRuntime) -> Result<(), Fail> {
-    assert!(rt; !twice(rt.alloc())?.is_tidy());
-    assert!(rt; listed(rt.alloc(), &[4, 4])?.is_tidy());
-    assert!(rt; !other_tag(rt.alloc())?.is_tidy());
-    assert!(rt; !falling(rt.alloc())?.is_tidy());
-    Ok(())
+fn untidy_values(rt: HostRuntime) {
+    assert!(rt; is_tidy(twice(rt.alloc()), false));
+    assert!(rt; is_tidy(listed(rt.alloc(), &[4, 4]), true));
+    assert!(rt; is_tidy(other_tag(rt.alloc()), false));
+    assert!(rt; is_tidy(falling(rt.alloc()), false));
 }
 
 // A list of so many numbers.
@@ -169,11 +198,19 @@ fn largest(alloc: Global) -> Result<Value, AllocError> {
     Ok(value)
 }
 
+fn is_largest(alloc: Global) -> Result<bool, AllocError> {
+    match largest(alloc) {
+        Ok(value) if value.depth() == 64 && value.count() == 4_000_000 && value.is_tidy() => {
+            is_as_its_copy(alloc, &value)
+        }
+        Ok(_) => Ok(false),
+        Err(full) => Err(full),
+    }
+}
+
 #[test]
 fn deep_and_wide(rt: HostRuntime) -> Result<(), Fail> {
-    let value = largest(rt.alloc())?;
-    assert!(rt; value.depth() == 64 && value.count() == 4_000_000 && value.is_tidy());
-    assert!(rt; is_as_its_copy(rt.alloc(), &value)?);
+    assert!(rt; is_largest(rt.alloc())?);
     Ok(())
 }
 
@@ -216,9 +253,13 @@ fn lists(rt: HostRuntime) -> Result<(), Fail> {
     Ok(())
 }
 
+fn is_kept(alloc: Global) -> Result<bool, AllocError> {
+    let name = ByteText::new(b"ping".to_vec(alloc)?);
+    Ok(name.as_slice() == b"ping".as_slice())
+}
+
 #[test]
 fn bytes_are_kept(rt: HostRuntime) -> Result<(), Fail> {
-    let name = ByteText::new(b"ping".to_vec(rt.alloc())?);
-    assert!(rt; name.as_slice() == b"ping".as_slice());
+    assert!(rt; is_kept(rt.alloc())?);
     Ok(())
 }

@@ -6,4 +6,4 @@ use Rattle.call_tests.proofs.offices.office.Goals as goal
 pub new-requires-2-clause-sound : goal.new-requires-2-clause-sound
 new-requires-2-clause-sound c =
     served_soundly (schema_of c.in_ok-schema.schema) c.in_ok-bindings.bindings.names c.in_ok-bindings.bindings.default_slot c.args.protocol c.in_ok-schema.ensures
-    (c.in_ok-bindings.ensures.names ∙ c.in_ok-named.ensures) c.in_ok-bindings.ensures.default_slot
+    (c.in_ok-bindings.ensures.names ∙ c.in_ok-names.ensures) c.in_ok-bindings.ensures.default_slot
