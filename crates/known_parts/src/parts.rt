@@ -36,24 +36,54 @@ pub(crate) fn kept_text(alloc: Global, text: &[u8]) -> Result<Value, AllocError>
     Ok(Value::Bytes(ByteText::new(text.to_vec(alloc)?)))
 }
 
-/// One more at the end of a list.
-pub(crate) fn keep<T: Drop>(list: &mut Vec<T>, item: T) -> Result<(), AllocError>
+/// The most items for which room is taken before they are read.
+const MOST_EXPECTED: usize = 1024;
+
+/// The most fields for which room is taken before they are read, of a struct that may be sent with few of many.
+const MOST_EXPECTED_FIELDS: usize = 4;
+
+/// Takes room for as many items as are expected, where none is there yet, so that a short list has just the room that it needs.
+fn make_room<T: Drop>(list: &mut Vec<T>, expected: usize) -> Result<(), AllocError>
+    ensures { list.new.items ≡ list.old.items }
+{
+    if list.is_empty() {
+        list.reserve_exact(expected)?;
+    }
+    Ok(())
+}
+
+/// One more at the end of a list of which so many are expected.
+pub(crate) fn keep<T: Drop>(list: &mut Vec<T>, expected: u32, item: T) -> Result<(), AllocError>
     ensures { OnOk result (list.new.items ≡ list.old.items ++ item ∷ []) }
 {
+    make_room(list, (expected as usize).min(MOST_EXPECTED))?;
     list.push(item)?;
     Ok(())
 }
 
-/// One more at the end of fields, where there is one.
+/// How many fields are expected of the struct at a number: as many as it declares, and few where these are many.
+pub(crate) fn expected_fields(schema: &Schema, which: u32) -> usize {
+    match schema.structs.as_slice().get(which as usize) {
+        Some(desc) => desc.fields.as_slice().len().min(MOST_EXPECTED_FIELDS),
+        None => 0,
+    }
+}
+
+/// One more at the end of fields of which so many are expected, where there is one.
 pub(crate) fn keep_some(
     list: &mut Vec<(i16, Value)>,
+    expected: usize,
     id: &i16,
     item: Option<Value>,
 ) -> Result<(), AllocError>
     ensures { OnOk result (list.new.items ≡ with_some_more list.old.items (option_map (λ value. (id.now, value)) item)) }
 {
     match item {
-        Some(value) => keep(list, (*id, value)),
+        Some(value) => {
+            make_room(list, expected)?;
+            list.push((*id, value))?;
+            Ok(())
+        }
         None => Ok(()),
     }
 }

@@ -18,8 +18,8 @@ ghost use Rattle.known_parts.specs.Parts.{tag_of_kind};
 
 use crate::kinds::{are_same_tags, tag_of_kind};
 use crate::parts::{
-    both, declared_field, deeper, element_kind, keep, keep_some, kept_text, known_flag, list_of,
-    map_kinds, map_of, member_kind, set_of, struct_kind,
+    both, declared_field, deeper, element_kind, expected_fields, keep, keep_some, kept_text,
+    known_flag, list_of, map_kinds, map_of, member_kind, set_of, struct_kind,
 };
 use crate::passing::{pass_items, pass_pairs};
 use crate::rest::{Rest, field, items, pairs, scalar, skip, span};
@@ -169,6 +169,7 @@ pub(crate) fn known_fields<'a, W: Wire>(
         (read_seen (known_fields (schema_of schema.now) which) (field_list W.wire (value W.wire levels) (length rest.entry.bytes) (pos 0) rest.entry)) }
 {
     let mut fields = Vec::new(alloc);
+    let expected = expected_fields(schema, which);
     let mut last = 0;
     let mut rest = rest;
     // Each header takes a byte at least: the count shows that the loop ends.
@@ -180,7 +181,7 @@ pub(crate) fn known_fields<'a, W: Wire>(
                 let (part, behind) = known_field::<W>(
                     alloc, behind, levels, schema, which, &id, tag, flag,
                 )?;
-                keep_some(&mut fields, &id, part)?;
+                keep_some(&mut fields, expected, &id, part)?;
                 last = id;
                 rest = behind;
                 continue;
@@ -214,7 +215,7 @@ fn known_items<'a, W: Wire>(
             let end = pass_items::<W>(behind, levels, tag, count - step - 1)?;
             return Ok((None, end));
         };
-        keep(&mut items, value)?;
+        keep(&mut items, count, value)?;
         rest = behind;
     }
     Ok((Some(Items::new(items)), rest))
@@ -250,7 +251,7 @@ fn known_pairs<'a, W: Wire>(
             let end = pass_pairs::<W>(behind, levels, key_tag, value_tag, count - step - 1)?;
             return Ok((None, end));
         };
-        keep(&mut pairs, found)?;
+        keep(&mut pairs, count, found)?;
         rest = behind;
     }
     Ok((Some(Pairs::new(pairs)), rest))
