@@ -30,6 +30,8 @@ def generated(folder):
             out.write(text)
     subprocess.run(["thrift", "-r", "-gen", "py", "tutorial.thrift"], cwd=folder, check=True)
     sys.path.insert(0, os.path.join(folder, "gen-py"))
+    # (tutorial.py beside this script has the name of a generated package)
+    sys.modules.pop("tutorial", None)
     return [importlib.import_module(m) for m in ("tutorial.Calculator", "tutorial.ttypes", "shared.ttypes")]
 
 

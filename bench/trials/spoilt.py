@@ -3,9 +3,10 @@
 
 Good texts are spoilt at random (bytes changed, dropped, doubled, moved, or put in the place of others), and the program (the one that ./thriftd runs) is run on them,
 one part after the other, for so many seconds in all:
-  idl      `check`, on the files of examples/: it prints a schema and ends with 0, or tells one fault with its place and ends with 2
-  script   `rehearse` and `record` in the binary protocol, on scripts of examples/ and random ones: the rehearsal says what the model of rehearsal_model.py says, and
-           judge.py finds nothing in the recording
+  idl      `check`, on the files of examples/ and those below the folder that IDLS names, where it is set, each beside its neighbours: it prints a schema and ends with 0,
+           or tells one fault with its place and ends with 2, or a file that can't be read, with 5
+  script   `rehearse` and `record` in the binary protocol, on scripts of examples/, on what Apache's client sent (apache_calls.py) and on random ones: the rehearsal says
+           what the model of rehearsal_model.py says, and judge.py finds nothing in the recording
   compact  the same in the compact protocol, for which there is no model: a rehearsal says the same each time, and a recording the same refusals
   port     `serve`, to which connections bring spoilt calls; behind them one on which nothing is spoilt is answered, and the server ends by itself with status 0
 Nothing may crash, take longer than ten seconds, or more memory than it may: 30 MB, and 100 bytes for each byte of its input. What is found is told with the number of
@@ -15,12 +16,14 @@ import os
 import random
 import re
 import resource
+import shutil
 import socket
 import subprocess
 import sys
 import tempfile
 import time
 
+import failing_memory as session
 import judge
 import rehearsal_mixes as mixes
 import rehearsal_model as model
@@ -31,6 +34,7 @@ EXAMPLES = os.path.join(TOP, "examples")
 FAULT = re.compile(rb"thriftd: idl [^ ]+ \d+:\d+ [A-Z][A-Za-z0-9]*\n")
 REFUSED = re.compile(rb"thriftd: script \d+ [A-Z][A-Za-z]*\n")
 SECONDS, MEMORY, MEMORY_A_BYTE = 10, 30 << 20, 100
+COMPACT = session.on_three(session.COMPACT_PING, session.COMPACT_ADD)
 # Bytes that texts of IDLs, scripts and frames have, and ones at their limits.
 PARTS = [b"\x0f\0\x01\x0f", b"\x0d\0\x02\x08\x0b", b"\x0e", b"\x0c\0\x02", b"\x80\x01\0\x01", b"\0\0\0\x03", b"\x7f\xff\xff\xff", b"\0\0\0\0", b"struct ", b"union ", b"1: ", b"-1: ", b"32767: ", b"list<", b"map<i32,", b"set<", b">", b"{", b"}", b"[", b"]", b"(", b")", b"=", b",", b"\"", b"'", b"\\", b"/*", b"*/",
          b"//", b"#", b"\n", b"\0", b"\xff", b"9223372036854775807", b"9223372036854775808", b"1e400", b"0x", b"include ", b"extends ", b"throws", b"oneway ", b"const ",
@@ -106,29 +110,48 @@ def ran(words, text, size):
     return done.returncode, done.stdout, done.stderr
 
 
-def held(ending):
-    """The files of examples/ that end so."""
-    for name in sorted(os.listdir(EXAMPLES)):
+def held(folder, ending):
+    """The files of a folder that end so."""
+    for name in sorted(os.listdir(folder)):
         if name.endswith(ending):
-            with open(os.path.join(EXAMPLES, name), "rb") as file:
+            with open(os.path.join(folder, name), "rb") as file:
                 yield file.read()
 
 
+def recorded(protocol):
+    """What Apache's client sent, by plain names and by names with a service: two scripts, or none where it isn't there."""
+    words = ["/usr/bin/python3", os.path.join(TOP, "bench", "trials", "apache_calls.py"), PROGRAM, protocol, "--frames"]
+    lines = [line.split(" ") for line in subprocess.run(words, capture_output=True, text=True, check=False).stdout.splitlines() if line.startswith(protocol)]
+    for name in sorted({line[1] for line in lines}):
+        yield ("open\n" + "".join("data 0 %s\n" % line[3] for line in lines if line[1] == name) + "end 0\n").encode()
+
+
 class Idl:
-    """Spoilt IDLs, which are checked."""
+    """Spoilt IDLs, which are checked; beside each stand copies of its neighbours. A text to check comes behind the line of its folder's number."""
 
     def __init__(self, folder):
-        self.seeds, self.name = list(held(".thrift")), os.path.join(folder, "spoilt.thrift")
+        above = [EXAMPLES] + sorted({at for at, _, names in os.walk(os.environ.get("IDLS") or folder) for name in names if name.endswith(".thrift")})
+        self.folders = [os.path.join(folder, "idls-%d" % k) for k in range(len(above))]
+        for at, copy in zip(above, self.folders):
+            shutil.copytree(at, copy, ignore=lambda _, names: [name for name in names if not name.endswith(".thrift")])
+        self.seeds = [(k, text) for k, at in enumerate(self.folders) for text in held(at, ".thrift")]
 
     def make(self, rng):
-        return spoilt(rng, rng.choice(self.seeds))
+        k, text = rng.choice(self.seeds)
+        return b"%d\n" % k + spoilt(rng, text)
 
     def look(self, text):
-        with open(self.name, "wb") as out:
+        k, text = text.split(b"\n", 1)
+        at = self.folders[int(k)]
+        name = os.path.join(at, "spoilt.thrift")
+        with open(name, "wb") as out:
             out.write(text)
-        status, output, errors = ran(["check", self.name], b"", len(text))
+        status, output, errors = ran(["check", name], b"", sum(file.stat().st_size for file in os.scandir(at)))
+        os.remove(name)
         if status == 0:
             demand(output and not errors, "status 0 and %r" % errors)
+        elif status == 5:
+            demand(not output and errors == b"thriftd: file fault\n", "status 5 and %r" % errors)
         else:
             demand(status == 2 and not output and FAULT.fullmatch(errors), "status %d and %r" % (status, errors))
 
@@ -139,7 +162,7 @@ class Script:
     protocol = "binary"
 
     def __init__(self, _folder):
-        self.seeds = list(held(".script"))
+        self.seeds = list(recorded(self.protocol)) + (list(held(EXAMPLES, ".script")) if self.protocol == "binary" else [COMPACT])
 
     def make(self, rng):
         script = rng.choice([rng.choice(self.seeds), mixes.script(rng, 2)])
@@ -172,6 +195,9 @@ class Compact(Script):
 
     protocol = "compact"
 
+    def make(self, rng):
+        return rng.choice([spoilt, spoilt_inside])(rng, rng.choice(self.seeds))
+
     def look_at_rehearsal(self, text, status, output, errors):
         demand(ran(self.words("rehearse"), text, len(text)) == (status, output, errors), "two rehearsals differ")
         demand((status == 0 and not errors) or (status == 3 and REFUSED.fullmatch(errors)), "status %d and %r" % (status, errors))
@@ -193,9 +219,11 @@ class Port:
 
     def __init__(self, folder):
         self.journal = os.path.join(folder, "journal")
+        self.seeds = [b"".join(bytes.fromhex(line[7:].decode()) for line in script.split(b"\n") if line.startswith(b"data 0 ")) for script in recorded("binary")]
 
     def make(self, rng):
-        return [spoilt(rng, mixes.incoming(rng) or mixes.PING) for _ in range(self.connections)]
+        seeds = [mixes.incoming(rng) or mixes.PING for _ in range(self.connections)]
+        return [spoilt(rng, rng.choice([seed, *self.seeds])) for seed in seeds]
 
     def look(self, inputs):
         port = free_port()
@@ -225,8 +253,8 @@ def send(port, text):
             s.shutdown(socket.SHUT_WR)
             while part := s.recv(65536):
                 came += part
-        except (ConnectionError, socket.timeout) as fault:
-            demand(isinstance(fault, ConnectionError), "a connection isn't ended")
+        except OSError as fault:
+            demand(not isinstance(fault, TimeoutError), "a connection isn't ended")
         return came
 
 
