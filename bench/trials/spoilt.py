@@ -31,7 +31,7 @@ from built import TOP, built_program
 
 PROGRAM = built_program()
 EXAMPLES = os.path.join(TOP, "examples")
-FAULT = re.compile(rb"thriftd: idl [^ ]+ \d+:\d+ [A-Z][A-Za-z0-9]*\n")
+FAULT = re.compile(rb"thriftd: idl .+ \d+:\d+ [A-Z][A-Za-z0-9]*\n", re.DOTALL)
 REFUSED = re.compile(rb"thriftd: script \d+ [A-Z][A-Za-z]*\n")
 SECONDS, MEMORY, MEMORY_A_BYTE = 10, 30 << 20, 100
 COMPACT = session.on_three(session.COMPACT_PING, session.COMPACT_ADD)
