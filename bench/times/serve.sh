@@ -5,7 +5,8 @@
 # Beside the program stand Apache's TNonblockingServer without workers and with four (libthrift-dev), and its THsHaServer with four where Java is there
 # (libthrift-java, default-jdk-headless). It prints for each cell the calls a second, the server's processor time for a call, and the latency at the half and
 # the 99th of a hundred, in microseconds, each the median of so many rounds (3 where none are given) in which the servers take turns; then each server's memory at its start and with 1,000 connections that are idle,
-# and the milliseconds of a processor that it takes meanwhile, in two seconds.
+# and the milliseconds of a processor that it takes meanwhile, in two seconds. CELLS, a cell a line, and KINDS, a server a line, leave others out: with
+# CELLS='64 16' and KINDS=$'thriftd 0\nnonblocking 0' it ends after that cell, with the ratio of the two in each round.
 set -euo pipefail
 here=$(dirname "$(readlink -f "${BASH_SOURCE[0]}")")
 thriftd=${1:-$(THRIFTD_PATH_ONLY=1 "$here/../../thriftd")} seconds=${2:-5} rounds=${3:-3}
@@ -28,6 +29,12 @@ if command -v thrift > /dev/null; then
     kinds+=("hsha 4")
   fi
 fi
+
+[ -z "${KINDS:-}" ] || mapfile -t kinds <<< "$KINDS"
+mapfile -t cells <<< "${CELLS:-1 1
+8 1
+64 1
+64 16}"
 
 # start KIND WORKERS CONNECTIONS: starts a server, and waits until it listens at $port
 start() {
@@ -58,7 +65,7 @@ median() {
 }
 
 printf '%-14s %-6s %10s %8s %8s %8s\n' server cell calls/s us/call half 99th
-for cell in "1 1" "8 1" "64 1" "64 16"; do
+for cell in "${cells[@]}"; do
   read -r connections depth <<< "$cell"
   rm -f "$room"/figures-*
   for _ in $(seq "$rounds"); do
@@ -73,7 +80,11 @@ for cell in "1 1" "8 1" "64 1" "64 16"; do
     figures=$room/figures-${kind/ /-}
     printf '%-14s %-6s %10s %8s %8s %8s\n' "$kind" "${cell/ /x}" "$(median 1 "$figures")" "$(median 2 "$figures")" "$(median 3 "$figures")" "$(median 4 "$figures")"
   done
+  if [ "${#kinds[@]}" = 2 ]; then
+    paste "$room/figures-${kinds[0]/ /-}" "$room/figures-${kinds[1]/ /-}" | awk '{ printf "%s%.2f", (NR > 1 ? ", " : "ratio in each round: "), $1 / $5 } END { print "" }'
+  fi
 done
+[ -z "${CELLS:-}" ] || exit 0
 printf '%-14s %12s %15s %13s\n' server 'KB at start' 'KB, 1,000 idle' 'ms, 1,000 idle'
 for kind in "${kinds[@]}"; do
   read -r name workers <<< "$kind"

@@ -20,7 +20,6 @@ import judge
 import rehearsal_model as model
 from built import built_program
 
-PROGRAM = built_program()
 SHIM = r"""
 #define _GNU_SOURCE
 #include <dlfcn.h>
@@ -62,7 +61,7 @@ class Runs:
     """Runs of the program on one script."""
 
     def __init__(self, folder, words, text):
-        self.words, self.text, self.count = words, text, os.path.join(folder, "count")
+        self.line, self.text, self.count = [built_program(), *words], text, os.path.join(folder, "count")
         source, self.shim = os.path.join(folder, "shim.c"), os.path.join(folder, "shim.so")
         with open(source, "w", encoding="ascii") as out:
             out.write(SHIM)
@@ -71,7 +70,7 @@ class Runs:
     def run(self, fails_at):
         """Status, output and errors where so many allocations succeed but the last; 0 is none that fails."""
         environment = {**os.environ, "LD_PRELOAD": self.shim, "FAILS_AT": str(fails_at), "COUNT_TO": self.count}
-        done = subprocess.run([PROGRAM, *self.words], input=self.text, capture_output=True, env=environment, check=False)
+        done = subprocess.run(self.line, input=self.text, capture_output=True, env=environment, check=False)
         return done.returncode, done.stdout.decode(), done.stderr.decode()
 
     def allocations(self):

@@ -191,6 +191,40 @@ fn a_spool_that_breaks_off_leaves_whole_segments(rt: HostRuntime) -> Result<(), 
     Ok(())
 }
 
+// Whether a journal of two entries is spooled into a sink that takes a byte at a time as far as the write of this number, which fails, and keeps both unless all are taken.
+fn is_spooled_until(
+    alloc: Global,
+    journal: &mut SegmentJournal,
+    fail: usize,
+    lines: &[u8],
+) -> Result<bool, AllocError> {
+    let fails = vec![in alloc; fail as u64]?;
+    let mut out = MemSink::in_pieces(alloc, fails, 1);
+    let is_whole = journal.spool(&mut out).is_ok() && journal.count() == 0;
+    let is_kept = journal.count() == 2;
+    let taken = out.into_bytes();
+    Ok(taken.as_slice() == lines.split_at(fail.min(lines.len())).0
+        && (if fail < lines.len() {
+            is_kept
+        } else {
+            is_whole
+        }))
+}
+
+fn is_spooled_in_bytes(alloc: Global, fail: usize) -> Result<bool, AllocError> {
+    let lines = lines_of(alloc, 0, 2)?;
+    let mut journal = segments(alloc, 2);
+    is_spooled_until(alloc, &mut journal, fail, lines.as_slice())
+}
+
+#[test]
+fn each_write_of_a_spool_may_fail(rt: HostRuntime) -> Result<(), Fail> {
+    for fail in 0..=44usize {
+        assert!(rt; is_spooled_in_bytes(rt.alloc(), fail)?);
+    }
+    Ok(())
+}
+
 // A journal whose lines stand in a buffer, over a sink that takes so many bytes at a time and fails at the write of this number; whether it is finished. Of an answer
 // of so many bytes and another call so many bytes are taken then, so many entries are counted, and it has failed or not.
 type Buffered = (usize, (usize, u64, bool), (usize, u64, bool));
@@ -251,6 +285,18 @@ fn is_buffered(alloc: Global, row: &Buffered) -> Result<bool, AllocError> {
 fn lines_stand_in_a_buffer(rt: HostRuntime) -> Result<(), Fail> {
     for row in &BUFFERED {
         assert!(rt; is_buffered(rt.alloc(), row)?);
+    }
+    Ok(())
+}
+
+// How many bytes the lines of two calls have, of which one is answered with three.
+const TWO_LINES: usize = 47;
+
+#[test]
+fn each_write_of_a_byte_may_fail(rt: HostRuntime) -> Result<(), Fail> {
+    for fail in 0..=TWO_LINES {
+        let row = (3, (1, fail as u64, true), (fail, 2, fail < TWO_LINES));
+        assert!(rt; is_buffered(rt.alloc(), &row)?);
     }
     Ok(())
 }
