@@ -17,7 +17,7 @@ use Rattle.command_line.specs.Limits.{limits_given, limits_of_numbers, limits_sa
 use Rattle.command_line.specs.Numbers.{bounded_number, number_of_word, number_within, one_number, seed_of_word}
 use Rattle.command_line.specs.Options.{Sayings, said_behind}
 use Rattle.command_line.specs.Served.{PlainServed, default_name_given, file_of_word, protocol_of_word, served_by, served_said, served_with, workers_of_word}
-use Rattle.command_line.specs.Words.{PlainCommand, check_behind, check_said, checks, command_named, served_options, no_options, file_alone, records, rehearses, runs, serve_behind, serve_options, serve_said, serve_with, served_behind, serves, words_of, workload_behind, workload_by, workload_said, workload_with}
+use Rattle.command_line.specs.Words.{PlainCommand, check_behind, check_said, checks, command_named, compares, compat_behind, compat_by, compat_said, compat_with, served_options, no_options, file_alone, records, rehearses, runs, serve_behind, serve_options, serve_said, serve_with, served_behind, serves, words_of, workload_behind, workload_by, workload_said, workload_with}
 
 -- what holds of each answer of a part holds of the whole
 and_then_keeps : {A B : Type 0} (f : A → Option B) (x : Option A) (P : A → Type 0) (Q : B → Type 0) → IfSome x P → ((a : A) → P a → IfSome (f a) Q)
@@ -154,6 +154,22 @@ checks_keep words =
     and_then_keeps check_said (said_behind no_options words) (λ _. Unit {0}) KeepsBounds (any (said_behind no_options words))
     (λ said _. map_keeps checks (file_alone (said [])) (λ _. Unit {0}) KeepsBounds (any (file_alone (said []))) (λ idl _. tt))
 
+compat_keep : (old new : List ℕ) → IfSome (compat_with old new) KeepsBounds
+compat_keep old new =
+    and_then_keeps (λ (first : List ℕ). option_map (λ (second : List ℕ). compares first second) (file_of_word new)) (file_of_word old)
+    (λ _. Unit {0}) KeepsBounds (any (file_of_word old))
+    (λ first _. map_keeps (λ (second : List ℕ). compares first second) (file_of_word new) (λ _. Unit {0}) KeepsBounds (any (file_of_word new)) (λ second _. tt))
+
+compat_words : (words : List (List ℕ)) → IfSome (compat_by words) KeepsBounds
+compat_words [] = tt
+compat_words (old ∷ []) = tt
+compat_words (old ∷ new ∷ []) = compat_keep old new
+compat_words (old ∷ new ∷ other ∷ words) = tt
+
+compats_keep : (words : List (List ℕ)) → IfSome (compat_behind words) KeepsBounds
+compats_keep words =
+    and_then_keeps compat_said (said_behind no_options words) (λ _. Unit {0}) KeepsBounds (any (said_behind no_options words)) (λ said _. compat_words (said []))
+
 serve_keep : (served : PlainServed) (ports accepts journals : List (List ℕ)) → KeepsServedBounds served → IfSome (serve_with served ports accepts journals) KeepsBounds
 serve_keep served ports accepts journals keeps =
     and_then_keeps (λ (port : ℕ). option_and_then (λ (accept : ℕ). option_map (λ (journal : List ℕ). serves served port accept journal) (file_alone journals))
@@ -198,7 +214,8 @@ named_keep name words =
     (either (bytes_eq name (codes "rehearse")) _ _ KeepsBounds (map_keeps rehearses (served_behind words) KeepsServedBounds KeepsBounds (behind_keep words) (λ served keeps. keeps))
     (either (bytes_eq name (codes "record")) _ _ KeepsBounds (map_keeps records (served_behind words) KeepsServedBounds KeepsBounds (behind_keep words) (λ served keeps. keeps))
     (either (bytes_eq name (codes "serve")) _ _ KeepsBounds (serves_keep words)
-    (tested (bytes_eq name (codes "workload")) (workload_behind words) KeepsBounds (λ _. workloads_keep words)))))
+    (either (bytes_eq name (codes "workload")) _ _ KeepsBounds (workloads_keep words)
+    (tested (bytes_eq name (codes "compat")) (compat_behind words) KeepsBounds (λ _. compats_keep words))))))
 
 pub words_keep : (words : List (List ℕ)) → IfSome (words_of words) KeepsBounds
 words_keep [] = tt

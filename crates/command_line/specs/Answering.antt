@@ -1,12 +1,12 @@
 -- What a call of the reader may answer, where a definition says what the words are.
 use Rattle.std.specs.Prelude.{◌≡◌, ⊤, Option, None, Some, Result, Ok, Err}
 use Rattle.command_line.specs.declared.command.Command.{Command}
-use Rattle.command_line.specs.declared.command.Command.TheVariants.{Check, Rehearse, Record, Serve, Workload}
+use Rattle.command_line.specs.declared.command.Command.TheVariants.{Check, Compat, Rehearse, Record, Serve, Workload}
 use Rattle.command_line.specs.declared.command.WordsFault.{WordsFault}
 use Rattle.command_line.specs.declared.command.WordsFault.TheVariants.{Usage, NoMemory}
 use Rattle.command_line.specs.declared.served.ServedIdl.{ServedIdl}
 use Rattle.command_line.specs.Served.{PlainServed}
-use Rattle.command_line.specs.Words.{PlainCommand, checks, rehearses, records, serves, runs}
+use Rattle.command_line.specs.Words.{PlainCommand, checks, compares, rehearses, records, serves, runs}
 
 -- what is served, in memory, as plain data
 abbrev pub plain_served : ServedIdl → PlainServed
@@ -15,6 +15,7 @@ plain_served s = record { idl = s.idl; protocol = s.protocol; workers = s.worker
 -- a command in memory, as plain data
 abbrev pub plain_command : Command → PlainCommand
 plain_command (Check idl) = checks idl
+plain_command (Compat idls) = compares idls.old idls.new
 plain_command (Rehearse served) = rehearses (plain_served served)
 plain_command (Record served) = records (plain_served served)
 plain_command (Serve served port accept journal) = serves (plain_served served) port accept journal

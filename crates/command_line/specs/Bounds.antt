@@ -2,7 +2,7 @@
 use Rattle.std.specs.Prelude.{ℕ, ◌≤◌, ⊤, length}
 use Rattle.call_rules.specs.Desks.{longest_payload}
 use Rattle.command_line.specs.Served.{PlainServed}
-use Rattle.command_line.specs.Words.{PlainCommand, checks, rehearses, records, serves, runs}
+use Rattle.command_line.specs.Words.{PlainCommand, checks, compares, rehearses, records, serves, runs}
 
 -- those of what is served: 0 to 8 workers, 1 to 16 pairs, and a read budget in which the longest payload fits
 pub record KeepsServedBounds (s : PlainServed) : Type 0 where
@@ -20,6 +20,7 @@ IsFromTo least most n = (least ≤ n) × (n ≤ most)
 -- a command keeps its bounds
 abbrev pub KeepsBounds : PlainCommand → Type 0
 KeepsBounds (checks idl) = ⊤
+KeepsBounds (compares old new) = ⊤
 KeepsBounds (rehearses served) = KeepsServedBounds served
 KeepsBounds (records served) = KeepsServedBounds served
 KeepsBounds (serves served port accept journal) = KeepsServedBounds served × IsFromTo 1 65535 port × IsFromTo 1 1000000 accept

@@ -1,6 +1,7 @@
 -- The program's words, and the command that they are.
 --
 --   check IDL
+--   compat OLD NEW
 --   rehearse IDL PROTOCOL WORKERS NAME=KIND [NAME=KIND ..]
 --   record IDL PROTOCOL WORKERS NAME=KIND [NAME=KIND ..]
 --   serve IDL PROTOCOL WORKERS NAME=KIND [NAME=KIND ..] --listen PORT --accept N --journal FILE
@@ -13,16 +14,17 @@ use Rattle.command_line.specs.Numbers.{bounded_number, one_number, seed_of_word}
 use Rattle.command_line.specs.Options.{Sayings, said_behind}
 use Rattle.command_line.specs.Served.{PlainServed, file_of_word, served_said, workers_of_word}
 
--- an IDL is checked; a script is rehearsed, or recorded, or connections to a port are served, as many as are accepted, with a journal; or a
+-- an IDL is checked; an IDL is compared with the one that comes after it; a script is rehearsed, or recorded, or connections to a port are served, as many as are accepted, with a journal; or a
 -- generated script is run
 pub data PlainCommand : Type 0 where
   checks : (idl : List ℕ) → PlainCommand
+  compares : (old : List ℕ) → (new : List ℕ) → PlainCommand
   rehearses : PlainServed → PlainCommand
   records : PlainServed → PlainCommand
   serves : PlainServed → (port : ℕ) → (accept : ℕ) → (journal : List ℕ) → PlainCommand
   runs : (seed : ℕ) → (size : ℕ) → (workers : ℕ) → PlainCommand
 
--- the options of `check` and `workload`
+-- the options of `check`, `compat` and `workload`
 abbrev pub no_options : List (List ℕ)
 no_options = []
 
@@ -42,6 +44,19 @@ file_alone _ = None
 -- `check`
 abbrev pub check_said : Sayings → Option PlainCommand
 check_said said = option_map checks (file_alone (said []))
+
+-- `compat`, by a word for each of the two
+abbrev pub compat_with : (old new : List ℕ) → Option PlainCommand
+compat_with old new = option_and_then (λ (first : List ℕ). option_map (λ (second : List ℕ). compares first second) (file_of_word new)) (file_of_word old)
+
+-- `compat`, by the words in their places
+abbrev pub compat_by : List (List ℕ) → Option PlainCommand
+compat_by (old ∷ new ∷ []) = compat_with old new
+compat_by _ = None
+
+-- `compat`
+abbrev pub compat_said : Sayings → Option PlainCommand
+compat_said said = compat_by (said [])
 
 -- where and how `serve` listens: the port, how many connections it accepts, and the journal's file
 abbrev pub serve_with : PlainServed → (ports accepts journals : List (List ℕ)) → Option PlainCommand
@@ -71,9 +86,12 @@ workload_by _ = None
 abbrev pub workload_said : Sayings → Option PlainCommand
 workload_said said = workload_by (said [])
 
--- what the words behind `check`, `rehearse`, `record`, `serve` and `workload` are
+-- what the words behind `check`, `compat`, `rehearse`, `record`, `serve` and `workload` are
 abbrev pub check_behind : List (List ℕ) → Option PlainCommand
 check_behind words = option_and_then check_said (said_behind no_options words)
+
+abbrev pub compat_behind : List (List ℕ) → Option PlainCommand
+compat_behind words = option_and_then compat_said (said_behind no_options words)
 
 abbrev pub served_behind : List (List ℕ) → Option PlainServed
 served_behind words = option_and_then served_said (said_behind served_options words)
@@ -92,6 +110,7 @@ command_named name words =
     else if bytes_eq name (codes "record") then option_map records (served_behind words)
     else if bytes_eq name (codes "serve") then serve_behind words
     else if bytes_eq name (codes "workload") then workload_behind words
+    else if bytes_eq name (codes "compat") then compat_behind words
     else None
 
 -- The command that the words are; none where they are no command.

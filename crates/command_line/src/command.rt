@@ -5,7 +5,7 @@ ghost use Rattle.command_line.specs.Answering.{AnswersWords, plain_command, plai
 ghost use Rattle.command_line.specs.Bounds.{KeepsBounds};
 ghost use Rattle.command_line.specs.Clapped.{sorted_said};
 ghost use Rattle.command_line.specs.Lent.{lent_words};
-ghost use Rattle.command_line.specs.Words.{check_behind, check_said, command_named, file_alone, serve_behind, serve_said, serve_with, served_behind, words_of, workload_behind, workload_by, workload_said, workload_with, PlainCommand, rehearses, records};
+ghost use Rattle.command_line.specs.Words.{check_behind, check_said, command_named, compat_behind, compat_by, compat_said, compat_with, file_alone, serve_behind, serve_said, serve_with, served_behind, words_of, workload_behind, workload_by, workload_said, workload_with, PlainCommand, rehearses, records};
 
 use crate::numbers::{bounded_number, one_number, seed_of_word};
 use crate::options::{NO_OPTIONS, SERVE_OPTIONS, SERVED_OPTIONS};
@@ -15,11 +15,22 @@ use service_binding::Word;
 use std::alloc::{AllocError, Global};
 use thiserror::Error;
 
+/// The IDLs that are compared.
+#[derive(Drop)]
+pub struct ComparedIdls {
+    /// The name of the old one.
+    pub old: Word,
+    /// The name of the one that comes after it.
+    pub new: Word,
+}
+
 /// What the words ask for.
 #[derive(Drop)]
 pub enum Command {
     /// The IDL of this name is checked, and its schema printed.
     Check(Word),
+    /// An IDL is compared with the one that comes after it.
+    Compat(ComparedIdls),
     /// The script that the input is runs without threads.
     Rehearse(ServedIdl),
     /// The script that the input is runs with a loop and workers.
@@ -75,6 +86,36 @@ fn check_said(alloc: Global, sorted: &Sorted<'_>) -> Result<Option<Command>, All
         Some(idl) => Ok(Some(Command::Check(idl))),
         None => Ok(None),
     }
+}
+
+/// Makes `compat` of a word for each of the two.
+fn compat_with(alloc: Global, old: &str, new: &str) -> Result<Option<Command>, AllocError>
+    ensures { IfOk result (λ read. option_map plain_command read ≡ compat_with old.now new.now) }
+{
+    let Some(old) = file_of_word(alloc, old)? else {
+        return Ok(None);
+    };
+    let Some(new) = file_of_word(alloc, new)? else {
+        return Ok(None);
+    };
+    Ok(Some(Command::Compat(ComparedIdls { old, new })))
+}
+
+/// Makes `compat` of the words in their places.
+fn compat_by(alloc: Global, words: &[&str]) -> Result<Option<Command>, AllocError>
+    ensures { IfOk result (λ read. option_map plain_command read ≡ compat_by (lent_words words.now)) }
+{
+    match words {
+        [old, new] => compat_with(alloc, old, new),
+        _ => Ok(None),
+    }
+}
+
+/// Makes `compat` of what sorted words say.
+fn compat_said(alloc: Global, sorted: &Sorted<'_>) -> Result<Option<Command>, AllocError>
+    ensures { IfOk result (λ read. option_map plain_command read ≡ compat_said (sorted_said sorted.now)) }
+{
+    compat_by(alloc, sorted.beside(""))
 }
 
 /// Makes `serve` of the values of its own options.
@@ -155,6 +196,16 @@ fn check_behind(alloc: Global, words: &[String]) -> Result<Option<Command>, Allo
     }
 }
 
+/// What the words behind `compat` are.
+fn compat_behind(alloc: Global, words: &[String]) -> Result<Option<Command>, AllocError>
+    ensures { IfOk result (λ read. option_map plain_command read ≡ compat_behind (map string_bytes words.now)) }
+{
+    match sorted_words(alloc, NO_OPTIONS.as_slice(), words)? {
+        Some(sorted) => compat_said(alloc, &sorted),
+        None => Ok(None),
+    }
+}
+
 /// What the words behind `rehearse` and `record` are.
 fn served_behind(alloc: Global, words: &[String]) -> Result<Option<ServedIdl>, AllocError>
     ensures { IfOk result (λ read. option_map plain_served read ≡ served_behind (map string_bytes words.now)) }
@@ -217,6 +268,9 @@ fn command_named(alloc: Global, name: &str, words: &[String]) -> Result<Option<C
     }
     if name == "workload" {
         return workload_behind(alloc, words);
+    }
+    if name == "compat" {
+        return compat_behind(alloc, words);
     }
     Ok(None)
 }

@@ -24,5 +24,5 @@ mod pairs;
 mod served;
 mod sorting;
 
-pub use command::{Command, WordsFault, read_words};
+pub use command::{Command, ComparedIdls, WordsFault, read_words};
 pub use served::ServedIdl;

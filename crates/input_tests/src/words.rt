@@ -31,6 +31,7 @@ serve a binary 0 A=store --listen=1 --accept 2 --journal=a=b : serve a binary 0 
 serve a binary 0 A=store --listen=1 --accept 2 --journal=-j : serve a binary 0 A=store --max-frame=16384000 --read-budget=268435456 --listen=1 --accept=2 --journal=-j
 serve a binary 0 --max-frame 5 A=store --listen 0000000003 --read-budget=6 --accept=0000000002 --journal j.k : serve a binary 0 A=store --max-frame=5 --read-budget=6 --listen=3 --accept=2 --journal=j.k
 workload 1 2 3 : workload 1 2 3
+compat a.thrift b.thrift : compat a.thrift b.thrift
 workload 9999999999999999999 1000000 8 : workload 9999999999999999999 1000000 8
 workload 0000000000000000000 0000000001 0000000000 : workload 0 1 0
 check = : check =
@@ -236,6 +237,9 @@ workload -1 1 0
 workload +1 1 0
 workload  1 0
 workload 1 1 0 --max-frame 3
+compat a.thrift
+compat a.thrift b.thrift c.thrift
+compat  b.thrift
 workload 1 1 0 -
 workload 1 1 0 --
 workload -- 1 1 0
@@ -318,6 +322,10 @@ fn put_served(into: &mut Vec<u8>, command: &str, served: &ServedIdl) -> Result<(
 fn put_command(into: &mut Vec<u8>, read: &Command) -> Result<(), AllocError> {
     match read {
         Command::Check(idl) => put_word(into, "check ", idl.as_str()),
+        Command::Compat(idls) => {
+            put_word(into, "compat ", idls.old.as_str())?;
+            put_word(into, " ", idls.new.as_str())
+        }
         Command::Rehearse(served) => put_served(into, "rehearse ", served),
         Command::Record(served) => put_served(into, "record ", served),
         Command::Serve {

@@ -9,18 +9,21 @@ use Rattle.schema.specs.Sound.{IsSound}
 use Rattle.idl_token.specs.declared.Place.{Place}
 use Rattle.idl_check.specs.declared.kinds.IdlFaultKind.{IdlFaultKind}
 use Rattle.idl_check.specs.Verdicts.{IdlVerdict, accepted, refused, is_the_tutorial, IsVerdictBy, IsIdlVerdict}
+use Rattle.compat_model.specs.Breaks.{PlainBreak, IsCompatible, IsFirstBreak}
+use Rattle.compat_model.specs.StructPairs.{SchemaChange}
 use Rattle.service_binding.specs.declared.fault.BindKind.{BindKind}
 use Rattle.service_binding.specs.Binding.{NumberedName, AreBound}
 use Rattle.service_binding.specs.Defaults.{slot_for_default}
 use Rattle.service_binding.specs.FirstRefusal.{IsRefusedFirst}
 use Rattle.service_binding.specs.Pairs.{NamedKind}
-use Rattle.command_line.specs.Words.{PlainCommand, checks, rehearses, records, serves, runs}
+use Rattle.command_line.specs.Words.{PlainCommand, checks, compares, rehearses, records, serves, runs}
 use Rattle.script_text.specs.Reading.{script_of_text}
 use Rattle.recorded_runs.specs.Recorded.{Streams, ScriptReading}
 use Rattle.thrift_host.specs.declared.status.Status.{Status}
-use Rattle.thrift_host.specs.declared.status.Status.TheVariants.{Done, Usage, IdlRefused, ScriptRefused, BindRefused, FileFault, ReadFault, WriteFault, NetFault, JournalFault, NoMemory}
+use Rattle.thrift_host.specs.declared.status.Status.TheVariants.{Done, Usage, IdlRefused, ScriptRefused, BindRefused, FileFault, ReadFault, WriteFault, NetFault, JournalFault, NoMemory, Incompatible}
 use Rattle.thrift_host.specs.Checks.{AreUntouched, IsRefusedWith, MeansCheck}
-use Rattle.thrift_host.specs.Complete.{HostCounts, NoneRose, IsIdlTold, IsGoodIdl, IsRunReady, IsGoodInput, IsWellAsked}
+use Rattle.thrift_host.specs.Compats.{MeansCompat}
+use Rattle.thrift_host.specs.Complete.{HostCounts, NoneRose, IsIdlTold, IsGoodIdl, IsGoodChange, IsRunReady, IsGoodInput, IsWellAsked}
 use Rattle.thrift_host.specs.Runs.{AskedRun, IsArranged, ScriptRunning, rehearsing, recording, answering_of, IsUnboundWith, MeansUnarranged, MeansRun}
 use Rattle.thrift_host.specs.Serving.{AskedServing, HostChange, MeansServing}
 use Rattle.thrift_host.specs.Top.{asked_run, asked_place, Means}
@@ -33,6 +36,9 @@ abbrev pub BoundIsGood : Type 0
 BoundIsGood = (s : PlainSchema) (services : List ServiceState) (pairs : List NamedKind) (default_service : Option (List ℕ)) (bindings : List NumberedName)
     (bound : List ServiceState) (slot : Option ℕ) (place : ℕ) (kind : BindKind) → IsSound s → AreBound s services pairs bindings bound
     → slot_for_default bindings default_service ≡ Ok slot → IsRefusedFirst s services pairs default_service place kind → ⊥
+
+abbrev pub BreakIsNone : Type 0
+BreakIsNone = (ch : SchemaChange) (b : PlainBreak) → IsFirstBreak ch b → IsCompatible ch → ⊥
 
 abbrev is_accepted : IdlVerdict → Bool
 is_accepted (accepted schema) = true
@@ -52,6 +58,7 @@ IsNoRefusal Usage = ⊥
 IsNoRefusal IdlRefused = ⊥
 IsNoRefusal ScriptRefused = ⊥
 IsNoRefusal BindRefused = ⊥
+IsNoRefusal Incompatible = ⊥
 IsNoRefusal _ = Unit {0}
 
 -- a status that comes of a fault comes where its count rose
@@ -66,7 +73,7 @@ pub record FaultsShow (n : HostCounts) (status : Status) : Type 0 where
 among : (idl : List ℕ) (v : IdlVerdict) → is_the_tutorial idl ≡ true → IsIdlVerdict None idl v → IsIdlVerdict (Some []) idl v
 among idl v is h = subst (λ b. IsVerdictBy b (Some []) idl v) (sym is) (subst (λ b. IsVerdictBy b None idl v) is h)
 
-module _ (one : OneVerdict) (good : BoundIsGood) where
+module _ (one : OneVerdict) (good : BoundIsGood) (never : BreakIsNone) where
   one_told : (files : Option (List File)) (idl : List ℕ) (a b : IdlVerdict) → IsIdlTold files idl → IsIdlVerdict files idl a → IsIdlVerdict files idl b → a ≡ b
   one_told (Some files) idl a b told x y = one files idl a b x y
   one_told None idl a b (inl some) x y = absurd (false≢true some)
@@ -89,6 +96,7 @@ module _ (one : OneVerdict) (good : BoundIsGood) where
   unarranged_goes r s IdlRefused ready h = absurd (not_refused r.files r.says.idl ready.arranged.schema (λ _ _ _. AreUntouched s) ready.told ready.arranged.has.verdict h)
   unarranged_goes r s ScriptRefused ready h = absurd h
   unarranged_goes r s BindRefused ready h = absurd (not_unbound r (λ _ _. AreUntouched s) ready h)
+  unarranged_goes r s Incompatible ready h = absurd h
   unarranged_goes r s _ ready h = tt
 
   check_goes : (files : Option (List File)) (idl : List ℕ) (s : Streams) (status : Status) → IsGoodIdl files idl → MeansCheck files idl status s → IsNoRefusal status
@@ -96,7 +104,30 @@ module _ (one : OneVerdict) (good : BoundIsGood) where
   check_goes files idl s IdlRefused asked h = absurd (not_refused files idl asked.schema (λ _ _ _. AreUntouched s) asked.told asked.verdict h)
   check_goes files idl s ScriptRefused asked h = absurd h
   check_goes files idl s BindRefused asked h = absurd h
+  check_goes files idl s Incompatible asked h = absurd h
   check_goes files idl s _ asked h = tt
+
+  -- where there is a break, the change isn't compatible
+  not_broken : (files : Option (List File)) (old new : List ℕ) (ch : SchemaChange) (b : PlainBreak) → IsGoodChange files old new
+      → IsIdlVerdict files old (accepted ch.old) → IsIdlVerdict files new (accepted ch.new) → IsFirstBreak ch b → ⊥
+  not_broken files old new ch b asked first second broken =
+      let same_old : asked.before.schema ≡ ch.old =
+      ap (schema_or ch.old) (one_told files old (accepted asked.before.schema) (accepted ch.old) asked.before.told asked.before.verdict first) in
+      let same_new : asked.after.schema ≡ ch.new =
+      ap (schema_or ch.new) (one_told files new (accepted asked.after.schema) (accepted ch.new) asked.after.told asked.after.verdict second) in
+      never ch b broken (subst IsCompatible (λ i. record { old = same_old i; new = same_new i }) asked.compatible)
+
+  compat_goes : (files : Option (List File)) (old new : List ℕ) (s : Streams) (status : Status) → IsGoodChange files old new → MeansCompat files old new status s
+      → IsNoRefusal status
+  compat_goes files old new s Usage asked h = absurd h
+  compat_goes files old new s IdlRefused asked (inl h) =
+      absurd (not_refused files old asked.before.schema (λ _ _ _. AreUntouched s) asked.before.told asked.before.verdict h)
+  compat_goes files old new s IdlRefused asked (inr h) =
+      absurd (not_refused files new asked.after.schema (λ _ _ _. AreUntouched s) asked.after.told asked.after.verdict h.2)
+  compat_goes files old new s ScriptRefused asked h = absurd h
+  compat_goes files old new s BindRefused asked h = absurd h
+  compat_goes files old new s Incompatible asked h = absurd (not_broken files old new h.0 h.2.0 asked h.1.0 h.1.1 h.2.1)
+  compat_goes files old new s _ asked h = tt
 
   run_goes : (way : ScriptRunning) (r : AskedRun) (reading : ScriptReading) → ((a : IsArranged r) → way.script_in (answering_of r a) ≡ reading)
       → (s : Streams) (status : Status) → IsRunReady r → IsGoodInput reading s.left_before → MeansRun way r status s → IsNoRefusal status
@@ -105,6 +136,7 @@ module _ (one : OneVerdict) (good : BoundIsGood) where
   run_goes way r reading same s Usage ready input h = unarranged_goes r s Usage ready h
   run_goes way r reading same s IdlRefused ready input h = unarranged_goes r s IdlRefused ready h
   run_goes way r reading same s BindRefused ready input h = unarranged_goes r s BindRefused ready h
+  run_goes way r reading same s Incompatible ready input h = unarranged_goes r s Incompatible ready h
   run_goes way r reading same s _ ready input h = tt
 
   serve_goes : (a : AskedServing) (c : HostChange) (status : Status) → IsRunReady a.run → MeansServing a c status → IsNoRefusal status
@@ -112,6 +144,7 @@ module _ (one : OneVerdict) (good : BoundIsGood) where
   serve_goes a c IdlRefused ready h = unarranged_goes a.run c.streams IdlRefused ready h.0
   serve_goes a c ScriptRefused ready h = absurd h
   serve_goes a c BindRefused ready h = unarranged_goes a.run c.streams BindRefused ready h.0
+  serve_goes a c Incompatible ready h = absurd h
   serve_goes a c _ ready h = tt
 
   work_goes : (r : AskedRun) (seed size : ℕ) (s : Streams) (status : Status) → IsRunReady r → MeansWorkload r seed size status s → IsNoRefusal status
@@ -122,6 +155,7 @@ module _ (one : OneVerdict) (good : BoundIsGood) where
   goes : (words : Option PlainCommand) (handlers : List ServiceState) (status : Status) (c : HostChange) → Means words handlers status c
       → IsWellAsked words handlers c → IsNoRefusal status
   goes (Some (checks idl)) handlers status c h asked = check_goes c.place.files_before idl c.streams status asked h
+  goes (Some (compares old new)) handlers status c h asked = compat_goes c.place.files_before old new c.streams status asked h
   goes (Some (rehearses says)) handlers status c h asked =
       run_goes rehearsing (asked_run says c.place.files_before handlers) (script_of_text says.workers true) (λ a. refl) c.streams status asked.0 asked.1 h
   goes (Some (records says)) handlers status c h asked =
@@ -147,3 +181,4 @@ module _ (one : OneVerdict) (good : BoundIsGood) where
       by IdlRefused f r = absurd r
       by ScriptRefused f r = absurd r
       by BindRefused f r = absurd r
+      by Incompatible f r = absurd r

@@ -5,6 +5,8 @@ pub mod Told
 pub mod Served
 pub mod Worked
 pub mod Checked
+pub mod Compared
+pub mod Unread
 mod BoundServices
 mod EntryLines
 mod Ended

@@ -5,7 +5,8 @@ use Rattle.outside.specs.Files.{File}
 use Rattle.call_rules.specs.Handling.{ServiceState}
 use Rattle.schema.specs.PlainSchema.{PlainSchema}
 use Rattle.idl_check.specs.Verdicts.{accepted, is_the_tutorial, IsIdlVerdict}
-use Rattle.command_line.specs.Words.{PlainCommand, checks, rehearses, records, serves, runs}
+use Rattle.compat_model.specs.Breaks.{IsCompatible}
+use Rattle.command_line.specs.Words.{PlainCommand, checks, compares, rehearses, records, serves, runs}
 use Rattle.script_model.specs.ScriptLines.{ScriptPlan}
 use Rattle.script_text.specs.Reading.{script_of_text}
 use Rattle.recorded_runs.specs.Recorded.{ScriptReading}
@@ -45,6 +46,12 @@ pub record IsGoodIdl (files : Option (List File)) (idl : List ℕ) : Type 0 wher
   pub schema : PlainSchema
   pub verdict : IsIdlVerdict files idl (accepted schema)
 
+-- two IDLs that are told are accepted, and the second is compatible with the first
+pub record IsGoodChange (files : Option (List File)) (old new : List ℕ) : Type 0 where
+  pub before : IsGoodIdl files old
+  pub after : IsGoodIdl files new
+  pub compatible : IsCompatible (record { old = before.schema; new = after.schema })
+
 -- A run that is asked for can be made: its IDL is told, with a schema, to which and to handlers its pairs are bound; its default, if it has one, is the name of a pair.
 pub record IsRunReady (r : AskedRun) : Type 0 where
   pub told : IsIdlTold r.files r.says.idl
@@ -60,6 +67,7 @@ pub record IsGoodInput (script_in : ScriptReading) (left_before : Option (List �
 -- The words are a command, and what it needs is there: what can be wrong with IDL, pairs, default, handlers and input isn't.
 abbrev pub IsWellAsked : Option PlainCommand → List ServiceState → HostChange → Type 0
 IsWellAsked (Some (checks idl)) handlers c = IsGoodIdl c.place.files_before idl
+IsWellAsked (Some (compares old new)) handlers c = IsGoodChange c.place.files_before old new
 IsWellAsked (Some (rehearses says)) handlers c =
     IsRunReady (asked_run says c.place.files_before handlers) × IsGoodInput (script_of_text says.workers true) c.streams.left_before
 IsWellAsked (Some (records says)) handlers c =

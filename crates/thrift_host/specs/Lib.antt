@@ -1,9 +1,11 @@
 pub mod Errors
 pub mod Checks
+pub mod Compats
 pub mod Runs
 pub mod Serving
 pub mod Workloads
 pub mod Top
 pub mod Complete
 pub mod Steps
+pub mod CompatSteps
 pub mod MayBeServed

@@ -7,6 +7,8 @@ use Rattle.idl_check.specs.declared.refusal.NoSchema.TheVariants as reasons
 use Rattle.idl_check.specs.Lines.{idl_refusal_text}
 use Rattle.idl_check.specs.Verdicts.{IsIdlVerdict, IsUnreadIdl}
 use Rattle.idl_check.specs.Telling.{TellsWhy, is_file_fault}
+use Rattle.command_line.specs.declared.command.WordsFault.{WordsFault}
+use Rattle.command_line.specs.declared.command.WordsFault.TheVariants as words_faults
 use Rattle.command_line.specs.Served.{PlainServed}
 use Rattle.service_binding.specs.declared.fault.BindFault.{BindFault}
 use Rattle.service_binding.specs.declared.fault.BindFault.TheVariants as bind_faults
@@ -40,6 +42,11 @@ EndsAs meant ended e = (ended ≡ meant) × IsLineSaid meant e
 -- it ended with this status and this line, or with want of memory
 abbrev pub EndsSaying : (meant : Status) → List ℕ → (ended : Status) → Errors → Type 0
 EndsSaying meant text ended e = ((ended ≡ meant) × IsSaid e text) ⊎ EndsAs status.NoMemory ended e
+
+-- how it ends where the words weren't read as a command
+abbrev pub EndsWithoutCommand : WordsFault → Status → Errors → Type 0
+EndsWithoutCommand words_faults.Usage ended e = EndsAs status.Usage ended e
+EndsWithoutCommand words_faults.NoMemory ended e = EndsAs status.NoMemory ended e
 
 -- how it ends where an IDL has no schema
 abbrev pub EndsWithout : NoSchema → Status → Errors → Type 0

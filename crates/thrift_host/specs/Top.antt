@@ -3,12 +3,13 @@ use Rattle.std.specs.Prelude.{◌≡◌, ⊤, ℕ, List, Option, Some}
 use Rattle.outside.specs.Files.{File}
 use Rattle.call_rules.specs.Handling.{ServiceState}
 use Rattle.command_line.specs.Served.{PlainServed}
-use Rattle.command_line.specs.Words.{PlainCommand, checks, rehearses, records, serves, runs}
+use Rattle.command_line.specs.Words.{PlainCommand, checks, compares, rehearses, records, serves, runs}
 use Rattle.port_serving.specs.Places.{PortPlace, PlaceChange}
 use Rattle.thrift_host.specs.declared.status.Status.{Status}
 use Rattle.thrift_host.specs.declared.status.Status.TheVariants.{Usage, NoMemory}
 use Rattle.thrift_host.specs.Errors.{Errors, IsLineSaid}
 use Rattle.thrift_host.specs.Checks.{AreUntouched, MeansCheck, SaysCheck}
+use Rattle.thrift_host.specs.Compats.{MeansCompat, SaysCompat}
 use Rattle.thrift_host.specs.Runs.{AskedRun, SaysUnarranged, MeansRun, SaysRun, rehearsing, recording}
 use Rattle.thrift_host.specs.Serving.{HostChange, IsPlaceKept, MeansServing}
 use Rattle.thrift_host.specs.Workloads.{asked_workload, MeansWorkload}
@@ -32,6 +33,7 @@ MeansUsage _ s = ⊥
 -- of the input.
 abbrev pub Means : Option PlainCommand → List ServiceState → Status → HostChange → Type 0
 Means (Some (checks idl)) handlers status c = MeansCheck c.place.files_before idl status c.streams
+Means (Some (compares old new)) handlers status c = MeansCompat c.place.files_before old new status c.streams
 Means (Some (rehearses says)) handlers status c = MeansRun rehearsing (asked_run says c.place.files_before handlers) status c.streams
 Means (Some (records says)) handlers status c = MeansRun recording (asked_run says c.place.files_before handlers) status c.streams
 Means (Some (serves says port accept journal)) handlers status c =
@@ -48,6 +50,7 @@ KeepsPlace _ p = IsPlaceKept p
 -- The line of its status was added to the errors.
 abbrev pub Says : Option PlainCommand → List ServiceState → Status → HostChange → Errors → Type 0
 Says (Some (checks idl)) handlers status c e = SaysCheck c.place.files_before idl status e
+Says (Some (compares old new)) handlers status c e = SaysCompat c.place.files_before old new status e
 Says (Some (rehearses says)) handlers status c e = SaysRun rehearsing (asked_run says c.place.files_before handlers) status c.streams e
 Says (Some (records says)) handlers status c e = SaysRun recording (asked_run says c.place.files_before handlers) status c.streams e
 Says (Some (serves says port accept journal)) handlers status c e = SaysUnarranged (asked_run says c.place.files_before handlers) status e

@@ -41,7 +41,7 @@ pub(crate) fn check<F: Files, K: Sink, E: Sink>(
 }
 
 /// Ends the command with a text for the output.
-fn end_text<K: Sink, E: Sink>(output: &mut K, errors: &mut E, text: &[u8]) -> Status
+pub(crate) fn end_text<K: Sink, E: Sink>(output: &mut K, errors: &mut E, text: &[u8]) -> Status
     ensures ends { EndsWriting result (K.taken output.old) (K.taken output.new) text.now
         (record { taken_before = E.taken errors.old; taken = E.taken errors.new; faults_before = E.faults errors.old; faults = E.faults errors.new }) }
     ensures write_fault { result ≡ Status.WriteFault → Rose (K.faults output.old) (K.faults output.new) }

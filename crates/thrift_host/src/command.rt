@@ -12,15 +12,17 @@ ghost use Rattle.thrift_host.specs.Serving.{MeansServing, host_change, place_cha
 ghost use Rattle.thrift_host.specs.Workloads.{MeansWorkload, asked_workload};
 
 use crate::checking::check;
+use crate::comparing::compare;
 use crate::ending::{end_run, end_serving};
 use crate::recording::serve_script;
 use crate::rehearsing::rehearse;
-use crate::saying::end;
+use crate::saying::{end, end_without_command};
 use crate::serving::serve_connections;
 use crate::status::Status;
 use crate::workloads::{work, workload_words};
 use call_rules::Handler;
-use command_line::{Command, ServedIdl, WordsFault, read_words};
+use command_line::{Command, ServedIdl, read_words};
+use compat_model::a_break_is_no_compatibility;
 use idl_check::refusal_laws::an_idl_has_one_verdict;
 use outside::{Binder, Files, Gate, Sink, Source};
 use port_serving::ServedPort;
@@ -30,7 +32,8 @@ use std::alloc::Global;
 use std::sync::Wait;
 use std::thread::Threads;
 
-/// Runs the command of these words, which leave the program's name out: it checks an IDL and writes the text of its schema to the output; it runs the
+/// Runs the command of these words, which leave the program's name out: it checks an IDL and writes the text of its schema to the output; it compares an IDL
+/// with the one that comes after it, and writes whether its values and calls survive; it runs the
 /// script of recorded connections that its input is, with these handlers, and writes the report there, without threads, or by a loop with workers that pass the
 /// gate; it serves connections at a port that the binder listens at, with a journal among the files; or it runs a workload, whose script is made from a seed, on the
 /// tutorial's calculator, and writes its summary to the output. Where it isn't done it says why on the errors, in one
@@ -59,6 +62,8 @@ pub fn host<
     // Usage comes exactly where the words are no command, but for want of memory.
     // An IDL is checked: Done says that the text of its schema was added to the output, and nothing else. It and IdlRefused come exactly by the
     // files, since each IDL has one verdict. Nothing is read of the input.
+    // An IDL is compared with the one that comes after it: Done says that both have schemas of which the second reads what the first writes and calls it, and that
+    // `compatible` was added to the output; Incompatible says that there is a first break, and that its line was added.
     // A script is run: Done says that the IDL has a schema, to which and to handlers the pairs are bound, that the input is a script, read to its end,
     // and that the bytes added to the output are the report of a run of it, whose tape, journal and causes meet the headline at the office of these, from
     // the memories of the handlers, and which the script feeds. Of a rehearsal, where no connection has ended for want of memory, it is the one that the
@@ -106,6 +111,7 @@ pub fn host<
 {
     an_idl_has_one_verdict();
     what_is_bound_is_not_refused();
+    a_break_is_no_compatibility();
     command_of(
         rt, alloc, words, files, input, output, errors, binder, gate, handlers,
     )
@@ -155,6 +161,7 @@ fn command_of<
 {
     match read_words(alloc, words) {
         Ok(Command::Check(idl)) => check(alloc, files, output, errors, idl.as_str()),
+        Ok(Command::Compat(idls)) => compare(alloc, files, output, errors, &idls),
         Ok(Command::Rehearse(served)) => rehearse_and_say(
             alloc, files, input, output, errors, &served, handlers,
         ),
@@ -190,8 +197,7 @@ fn command_of<
                 rt, alloc, files, output, errors, asked, workers, gate, handlers,
             )
         }
-        Err(WordsFault::NoMemory) => end(errors, Status::NoMemory),
-        Err(WordsFault::Usage) => end(errors, Status::Usage),
+        Err(fault) => end_without_command(errors, fault),
     }
 }
 

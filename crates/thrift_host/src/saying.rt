@@ -2,10 +2,11 @@
 
 ghost use Rattle.std.specs.Prelude.{◌≡◌, ⊤, Some, None, MatchOption, MatchResult};
 ghost use Rattle.thrift_host.specs.Errors.{IsSaid, IsLineSaid, error_text};
-ghost use Rattle.thrift_host.specs.Steps.{EndsAs};
+ghost use Rattle.thrift_host.specs.Steps.{EndsAs, EndsWithoutCommand};
 ghost use Rattle.thrift_host.specs.declared.status.Status.TheVariants as statuses;
 
 use crate::status::Status;
+use command_line::WordsFault;
 use outside::{Sink, write_all};
 use std::alloc::AllocError;
 
@@ -43,6 +44,17 @@ pub(crate) fn end_saying<E: Sink>(
     }
 }
 
+/// Ends the command at words that were read as none.
+pub(crate) fn end_without_command<E: Sink>(errors: &mut E, fault: WordsFault) -> Status
+    ensures { EndsWithoutCommand fault result
+        (record { taken_before = E.taken errors.old; taken = E.taken errors.new; faults_before = E.faults errors.old; faults = E.faults errors.new }) }
+{
+    match fault {
+        WordsFault::Usage => end(errors, Status::Usage),
+        WordsFault::NoMemory => end(errors, Status::NoMemory),
+    }
+}
+
 /// Hands a line to the errors, as far as they take it.
 fn say<E: Sink>(errors: &mut E, line: &[u8])
     ensures { IsSaid
@@ -64,6 +76,7 @@ fn error_line(status: Status) -> Option<&'static str>
         Status::NetFault => Some("thriftd: net fault\n"),
         Status::JournalFault => Some("thriftd: journal fault\n"),
         Status::NoMemory => Some("thriftd: no memory\n"),
+        Status::Incompatible => Some("thriftd: incompatible\n"),
         Status::IdlRefused | Status::ScriptRefused | Status::BindRefused => None,
     }
 }

@@ -25,4 +25,6 @@ pub enum Status {
     JournalFault = 9,
     /// Memory ran out.
     NoMemory = 10,
+    /// The values or calls of an IDL don't survive the one that comes after it.
+    Incompatible = 15,
 }

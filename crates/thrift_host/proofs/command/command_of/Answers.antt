@@ -2,7 +2,9 @@ use Rattle.std.proofs.Common.{◌∙◌, None, Some, ap, map, refl}
 use Rattle.command_line.specs.Answering.{plain_command}
 use Rattle.thrift_host.specs.Serving.{host_change, place_change}
 use Rattle.thrift_host.proofs.Checked.{never_net, never_journal}
+use Rattle.thrift_host.proofs.Compared.{no_net, no_journal, no_read}
 use Rattle.thrift_host.proofs.Served.{serving_asked}
+use Rattle.thrift_host.proofs.Unread.{unread_means, unread_says, unread_place, of_words, not_of_words}
 use Rattle.thrift_host.proofs.command.command_of.Goals as goal
 
 pub returns-in-Ok-Check-clause-net_fault : goal.returns-in-Ok-Check-clause-net_fault
@@ -19,3 +21,36 @@ returns-in-Ok-Serve-clause-means g c =
     (g.F.Files.sink_faults c.serve_and_say.new.files) (g.B.Binder.past c.args.binder.now) (g.B.Binder.past c.serve_and_say.new.binder)))
     refl c.as_str-in-Ok-Serve.ensures (c.serve_and_say.ensures.means (g.S.Source.left c.args.input.now)) _
     (c.in-Ok-Serve.ensures.answers ∙ ap (λ command. Some (plain_command command)) c.in-Ok-Serve.field-0-is)
+
+pub returns-in-Ok-Compat-clause-net_fault : goal.returns-in-Ok-Compat-clause-net_fault
+returns-in-Ok-Compat-clause-net_fault g c = λ is. absurd (no_net _ _ _ c.compare.result _ (c.compare.ensures.means None) is)
+
+pub returns-in-Ok-Compat-clause-journal_fault : goal.returns-in-Ok-Compat-clause-journal_fault
+returns-in-Ok-Compat-clause-journal_fault g c = λ is. absurd (no_journal _ _ _ c.compare.result _ (c.compare.ensures.means None) is)
+
+pub returns-in-Ok-Compat-clause-read_fault : goal.returns-in-Ok-Compat-clause-read_fault
+returns-in-Ok-Compat-clause-read_fault g c = λ is. absurd (no_read _ _ _ c.compare.result _ (c.compare.ensures.means None) is)
+
+pub returns-in-Err-clause-means : goal.returns-in-Err-clause-means
+returns-in-Err-clause-means g c = unread_means c.in-Err.fault c.end_without_command.result _ c.end_without_command.ensures _ _ _ c.in-Err.ensures.answers ((refl, refl), (refl, refl))
+
+pub returns-in-Err-clause-errors : goal.returns-in-Err-clause-errors
+returns-in-Err-clause-errors g c = unread_says c.in-Err.fault c.end_without_command.result _ c.end_without_command.ensures _ _ _ c.in-Err.ensures.answers
+
+pub returns-in-Err-clause-place : goal.returns-in-Err-clause-place
+returns-in-Err-clause-place g c = unread_place _ _ (refl, refl)
+
+pub returns-in-Err-clause-file_fault : goal.returns-in-Err-clause-file_fault
+returns-in-Err-clause-file_fault g c = λ is. absurd (not_of_words _ _ (of_words c.in-Err.fault c.end_without_command.result _ c.end_without_command.ensures) (λ h. h) is)
+
+pub returns-in-Err-clause-read_fault : goal.returns-in-Err-clause-read_fault
+returns-in-Err-clause-read_fault g c = λ is. absurd (not_of_words _ _ (of_words c.in-Err.fault c.end_without_command.result _ c.end_without_command.ensures) (λ h. h) is)
+
+pub returns-in-Err-clause-write_fault : goal.returns-in-Err-clause-write_fault
+returns-in-Err-clause-write_fault g c = λ is. absurd (not_of_words _ _ (of_words c.in-Err.fault c.end_without_command.result _ c.end_without_command.ensures) (λ h. h) is)
+
+pub returns-in-Err-clause-net_fault : goal.returns-in-Err-clause-net_fault
+returns-in-Err-clause-net_fault g c = λ is. absurd (not_of_words _ _ (of_words c.in-Err.fault c.end_without_command.result _ c.end_without_command.ensures) (λ h. h) is)
+
+pub returns-in-Err-clause-journal_fault : goal.returns-in-Err-clause-journal_fault
+returns-in-Err-clause-journal_fault g c = λ is. absurd (not_of_words _ _ (of_words c.in-Err.fault c.end_without_command.result _ c.end_without_command.ensures) (λ h. h) is)

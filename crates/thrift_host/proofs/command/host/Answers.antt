@@ -33,7 +33,7 @@ returns-clause-complete g c asked none =
       binder = c.command_of.ensures.net_fault;
       sinks = c.command_of.ensures.journal_fault;
     }) in
-    only_done c.an_idl_has_one_verdict.ensures c.what_is_bound_is_not_refused.ensures (words_of (map string_bytes c.args.words.now))
+    only_done c.an_idl_has_one_verdict.ensures c.what_is_bound_is_not_refused.ensures c.a_break_is_no_compatibility.ensures (words_of (map string_bytes c.args.words.now))
     (map g.H.Handler.service c.args.handlers.items) c.command_of.result change counts c.command_of.ensures.means shows asked none
 
 pub returns-clause-means : goal.returns-clause-means
