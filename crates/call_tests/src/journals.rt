@@ -203,12 +203,14 @@ fn is_spooled_until(
     let is_whole = journal.spool(&mut out).is_ok() && journal.count() == 0;
     let is_kept = journal.count() == 2;
     let taken = out.into_bytes();
-    Ok(taken.as_slice() == lines.split_at(fail.min(lines.len())).0
-        && (if fail < lines.len() {
-            is_kept
-        } else {
-            is_whole
-        }))
+    Ok(
+        taken.as_slice() == lines.split_at(fail.min(lines.len())).0
+            && (if fail < lines.len() {
+                is_kept
+            } else {
+                is_whole
+            }),
+    )
 }
 
 fn is_spooled_in_bytes(alloc: Global, fail: usize) -> Result<bool, AllocError> {
