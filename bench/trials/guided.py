@@ -72,7 +72,7 @@ def main(folder, seconds, *flags):
             out.write(seed)
     with open(words, "w", encoding="ascii") as out:
         out.write("".join('"%s"\n' % word for word in WORDS))
-    limits = ["-max_total_time=" + seconds, "-timeout=10", "-rss_limit_mb=1024", "-max_len=20000", "-detect_leaks=0", "-close_fd_mask=3"]
+    limits = ["-max_total_time=" + seconds, "-timeout=10", "-rss_limit_mb=1024", "-max_len=20000", "-detect_leaks=0", "-close_fd_mask=2"]
     return subprocess.run([program, *limits, "-dict=" + words, "-artifact_prefix=" + folder + "/found-", *flags, corpus], check=False).returncode
 
 
