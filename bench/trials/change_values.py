@@ -143,7 +143,7 @@ def frame(method, body):
 def replies(program, main, frames):
     """What a mirror that serves Mirrored of this IDL replies: of each frame the message's type, and its struct's fields."""
     script = "open\n" + "".join("data 0 %s\n" % one.hex() for one in frames) + "end 0\n"
-    run = subprocess.run([program, "rehearse", main, "binary", "0", "Mirrored=mirror"], input=script, stdout=subprocess.PIPE, text=True, timeout=60, check=True)
+    run = subprocess.run([program, "rehearse", main, "binary", "0", "Mirrored=mirror"], input=script, stdout=subprocess.PIPE, text=True, timeout=600, check=True)
     line = next(line for line in run.stdout.splitlines() if line.startswith("conn 0 "))
     data, at, made = bytes.fromhex(line.split()[-1]), 0, []
     while at < len(data):
@@ -232,10 +232,11 @@ def main():
             pairs = [(one, other) for back, one, other in model.pairs_of(old, new) if back == backward]
             if pairs and not judged(program, folder + "/reading", writer, reader, pairs, rng, met):
                 sys.exit(1)
-    if at_the_limits(program, folder) != [True, "too large"] * 2:
-        print("%s: the limits aren't where they should be: %r" % (folder, at_the_limits(program, folder)))
+    print(", ".join("%s %d" % pair for pair in met.most_common()), flush=True)
+    limits = at_the_limits(program, folder)
+    if limits != [True, "too large"] * 2:
+        print("%s: the limits aren't where they should be: %r" % (folder, limits))
         sys.exit(1)
-    print(", ".join("%s %d" % pair for pair in met.most_common()))
 
 
 if __name__ == "__main__":
