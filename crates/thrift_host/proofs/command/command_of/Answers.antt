@@ -23,13 +23,22 @@ returns-in-Ok-Serve-clause-means g c =
     (c.in-Ok-Serve.ensures.answers ∙ ap (λ command. Some (plain_command command)) c.in-Ok-Serve.field-0-is)
 
 pub returns-in-Ok-Compat-clause-net_fault : goal.returns-in-Ok-Compat-clause-net_fault
-returns-in-Ok-Compat-clause-net_fault g c = λ is. absurd (no_net _ _ _ c.compare.result _ (c.compare.ensures.means None) is)
+returns-in-Ok-Compat-clause-net_fault g c = λ is.
+    absurd (no_net (g.F.Files.files c.args.files.now) c.in-Ok-Compat.idls.old c.in-Ok-Compat.idls.new c.compare.result
+    (record { left_before = None; left = None; taken_before = g.K.Sink.taken c.args.output.now; taken = g.K.Sink.taken c.compare.new.output })
+    (c.compare.ensures.means None) is)
 
 pub returns-in-Ok-Compat-clause-journal_fault : goal.returns-in-Ok-Compat-clause-journal_fault
-returns-in-Ok-Compat-clause-journal_fault g c = λ is. absurd (no_journal _ _ _ c.compare.result _ (c.compare.ensures.means None) is)
+returns-in-Ok-Compat-clause-journal_fault g c = λ is.
+    absurd (no_journal (g.F.Files.files c.args.files.now) c.in-Ok-Compat.idls.old c.in-Ok-Compat.idls.new c.compare.result
+    (record { left_before = None; left = None; taken_before = g.K.Sink.taken c.args.output.now; taken = g.K.Sink.taken c.compare.new.output })
+    (c.compare.ensures.means None) is)
 
 pub returns-in-Ok-Compat-clause-read_fault : goal.returns-in-Ok-Compat-clause-read_fault
-returns-in-Ok-Compat-clause-read_fault g c = λ is. absurd (no_read _ _ _ c.compare.result _ (c.compare.ensures.means None) is)
+returns-in-Ok-Compat-clause-read_fault g c = λ is.
+    absurd (no_read (g.F.Files.files c.args.files.now) c.in-Ok-Compat.idls.old c.in-Ok-Compat.idls.new c.compare.result
+    (record { left_before = None; left = None; taken_before = g.K.Sink.taken c.args.output.now; taken = g.K.Sink.taken c.compare.new.output })
+    (c.compare.ensures.means None) is)
 
 pub returns-in-Err-clause-means : goal.returns-in-Err-clause-means
 returns-in-Err-clause-means g c = unread_means c.in-Err.fault c.end_without_command.result _ c.end_without_command.ensures _ _ _ c.in-Err.ensures.answers ((refl, refl), (refl, refl))
