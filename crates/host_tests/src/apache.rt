@@ -1,7 +1,7 @@
 //! What Apache's Python client sends for each method of the tutorial, and what comes of it: `bench/trials/apache_calls.py` writes such frames, and gives the
 //! replies back to the client, which reads them as the calculator's results.
 
-use crate::services::serve;
+use crate::services::{Served, each_is_served};
 use std::test::Fail;
 
 /// Fourteen calls in the binary protocol, one frame behind the other.
@@ -56,30 +56,31 @@ all 0 13 0 getStruct {1=3i} ok {1=3i,2=\"9\"}\nconn 0 End 000000098241000470696e
 6f7065726174696f6e000000000017824100096765745374727563740c00150418022d33000000000016824100096765745374727563740c0015061801390000\ncalls 14\
 \n";
 
+/// The words of rehearsals in the two protocols.
+const BINARY: [&str; 5] = [
+    "rehearse",
+    "@tutorial",
+    "binary",
+    "0",
+    "Calculator=calculator",
+];
+
+const COMPACT: [&str; 5] = [
+    "rehearse",
+    "@tutorial",
+    "compact",
+    "0",
+    "Calculator=calculator",
+];
+
 #[test]
 fn the_python_client_is_answered(rt: HostRuntime) -> Result<(), Fail> {
-    let words = [
-        "rehearse",
-        "@tutorial",
-        "binary",
-        "0",
-        "Calculator=calculator",
-    ];
-    let ended = serve(&rt, rt.alloc(), &words, &[], BINARY_FRAMES)?;
-    assert!(rt; ended.is_done_with(BINARY_REPORT));
-    Ok(())
+    let calls: [Served; 1] = [(&BINARY, &[], BINARY_FRAMES, BINARY_REPORT)];
+    each_is_served(&rt, rt.alloc(), &calls)
 }
 
 #[test]
 fn the_python_client_is_answered_in_the_compact_protocol(rt: HostRuntime) -> Result<(), Fail> {
-    let words = [
-        "rehearse",
-        "@tutorial",
-        "compact",
-        "0",
-        "Calculator=calculator",
-    ];
-    let ended = serve(&rt, rt.alloc(), &words, &[], COMPACT_FRAMES)?;
-    assert!(rt; ended.is_done_with(COMPACT_REPORT));
-    Ok(())
+    let calls: [Served; 1] = [(&COMPACT, &[], COMPACT_FRAMES, COMPACT_REPORT)];
+    each_is_served(&rt, rt.alloc(), &calls)
 }

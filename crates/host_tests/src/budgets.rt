@@ -1,7 +1,6 @@
 //! Connections that want more than the read budget: which goes on first, and what gives room back.
 
-use crate::limits_given::{Run, Setting, has_its_report};
-use std::process::Abort;
+use crate::limits_given::{Run, Setting, each_has_its_report};
 use std::test::Fail;
 
 /// One worker, and room for one frame.
@@ -100,8 +99,5 @@ conn 1 Envelope Short -;conn 2 SizeFault 2 -;calls 0;",
 
 #[test]
 fn frames_wait_for_the_budget(rt: HostRuntime) -> Result<(), Fail> {
-    for run in &BUDGETS {
-        assert!(rt; has_its_report(&rt, rt.alloc(), run)?, "{:?}", run.1);
-    }
-    Ok(())
+    each_has_its_report(&rt, rt.alloc(), &BUDGETS)
 }

@@ -1,6 +1,6 @@
 //! A session that is cut at each of its bytes, and a port where each call on its links fails in turn.
 
-use crate::given::{Given, LinkCall, run_script};
+use crate::given::{Called, Ended, Given, run_script};
 use std::alloc::{AllocError, Global};
 use std::process::Abort;
 use std::sync::Wait;
@@ -35,7 +35,7 @@ fn ends_so<R: Threads + Wait + Sync>(
     let (front, _) = SESSION.split_at(count.saturating_mul(2).min(SESSION.len()));
     script.extend_from_slice(front)?;
     script.extend_from_slice(b"\nend 0\n")?;
-    let ended = run_script(rt, alloc, script)?;
+    let ended = run_script(rt, alloc, script.as_slice())?;
     Ok(ended.is_done_with(b"") && has(ended.output.as_slice(), cause))
 }
 
@@ -49,17 +49,25 @@ fn has(text: &[u8], part: &[u8]) -> bool {
     false
 }
 
-#[test]
-fn a_session_that_is_cut_ends_well_behind_whole_frames_alone(rt: HostRuntime) -> Result<(), Fail> {
+/// Sees that it ends well behind whole frames alone.
+fn each_place_is_an_end<R: Abort + Threads + Wait + Sync>(
+    rt: &R,
+    alloc: Global,
+) -> Result<(), Fail> {
     for count in 0..=204 {
         let cause: &[u8] = if FRAMES.contains(&count) {
             b"\nconn 0 End "
         } else {
             b"\nconn 0 Cut "
         };
-        assert!(rt; ends_so(&rt, rt.alloc(), count, cause)?, "{count}");
+        assert!(rt; ends_so(rt, alloc, count, cause)?, "{count}");
     }
     Ok(())
+}
+
+#[test]
+fn a_session_that_is_cut_ends_well_behind_whole_frames_alone(rt: HostRuntime) -> Result<(), Fail> {
+    each_place_is_an_end(&rt, rt.alloc())
 }
 
 const SERVE: [&str; 11] = [
@@ -80,22 +88,19 @@ const SERVE: [&str; 11] = [
 const TWO_PINGS: &[u8] =
     b"open\ndata 0 00000011800100010000000470696e670000000000\ndata 0 00000011800100010000000470696e670000000000\nend 0\n";
 
-/// What a port to which two calls come writes, to its output and then to its errors, where this call on its links fails, by its number.
-fn said<R: Threads + Wait + Sync>(
+/// What a port to which two calls come, where this call fails, comes to.
+fn served<R: Threads + Wait + Sync>(
     rt: &R,
     alloc: Global,
-    kind: LinkCall,
+    kind: Called,
     call: u64,
-) -> Result<Vec<u8>, AllocError> {
+) -> Result<Ended, AllocError> {
     let given = Given {
         port: TWO_PINGS,
         failing: Some((kind, call)),
-        ..Given::empty(alloc)
+        ..Given::empty()
     };
-    let ended = given.run(rt, alloc, &SERVE)?;
-    let mut all = ended.output;
-    all.extend_from_slice(ended.errors.as_slice())?;
-    Ok(all)
+    given.run(rt, alloc, &SERVE)
 }
 
 /// What is said behind the line that tells where the port is, as the first, the second and each later call of a kind fails, and at last none does.
@@ -128,27 +133,31 @@ const DONE: &[u8] = b"conn 0 End\ncalls 2\n";
 /// More calls of a kind than there are.
 const MANY: u64 = 20;
 
+/// The first of these places, this one and the one after it, whose text is what is said behind that line, to the output and then as errors.
+fn place_of(ended: &Ended, ends: Ends, at: usize) -> Option<usize> {
+    let output = ended.output.as_slice();
+    let said = output.strip_prefix(b"listening 127.0.0.1:9090\n".as_slice())?;
+    for place in [at, at.saturating_add(1)] {
+        let end: &[u8] = ends.get(place)?;
+        if end.strip_prefix(said) == Some(ended.errors.as_slice()) {
+            return Some(place);
+        }
+    }
+    None
+}
+
 /// Whether each of these is said, in this order, as each call of a kind fails in turn, and nothing else.
 fn ends_in_turn<R: Threads + Wait + Sync>(
     rt: &R,
     alloc: Global,
     ends: Ends,
-    kind: LinkCall,
+    kind: Called,
 ) -> Result<bool, AllocError> {
     let mut at: usize = 0;
     for call in 0..MANY {
-        let said = said(rt, alloc, kind, call)?;
-        let Some(end) = said
-            .as_slice()
-            .strip_prefix(b"listening 127.0.0.1:9090\n".as_slice())
-        else {
-            return Ok(false);
-        };
-        if ends.get(at) != Some(&end) {
-            at = at.saturating_add(1);
-        }
-        if ends.get(at) != Some(&end) {
-            return Ok(false);
+        match place_of(&served(rt, alloc, kind, call)?, ends, at) {
+            Some(place) => at = place,
+            None => return Ok(false),
         }
     }
     Ok(at.saturating_add(1) == ends.len())
@@ -157,8 +166,8 @@ fn ends_in_turn<R: Threads + Wait + Sync>(
 #[test]
 fn each_call_on_links_may_fail(rt: HostRuntime) -> Result<(), Fail> {
     let alloc = rt.alloc();
-    assert!(rt; ends_in_turn(&rt, alloc, NEXTS, LinkCall::Next)?);
-    assert!(rt; ends_in_turn(&rt, alloc, READS, LinkCall::Read)?);
-    assert!(rt; ends_in_turn(&rt, alloc, WRITES, LinkCall::Write)?);
+    assert!(rt; ends_in_turn(&rt, alloc, NEXTS, Called::Next)?);
+    assert!(rt; ends_in_turn(&rt, alloc, READS, Called::Read)?);
+    assert!(rt; ends_in_turn(&rt, alloc, WRITES, Called::Write)?);
     Ok(())
 }

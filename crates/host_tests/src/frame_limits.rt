@@ -1,7 +1,6 @@
 //! Payloads and replies as long as they may be, and a byte longer.
 
-use crate::limits_given::{PLAIN, Run, has_its_report};
-use std::process::Abort;
+use crate::limits_given::{PLAIN, Run, each_has_its_report};
 use std::test::Fail;
 
 const LIMITS: [Run; 9] = [
@@ -76,8 +75,5 @@ calls 0;",
 
 #[test]
 fn lengths_have_their_limits(rt: HostRuntime) -> Result<(), Fail> {
-    for run in &LIMITS {
-        assert!(rt; has_its_report(&rt, rt.alloc(), run)?, "{:?}", run.1);
-    }
-    Ok(())
+    each_has_its_report(&rt, rt.alloc(), &LIMITS)
 }

@@ -3,7 +3,7 @@
 use calculator::Calculator;
 use call_rules::Handler;
 use house_handlers::{Mirror, Store};
-use outside::{EmptyGate, Files, Gate, MemFiles, MemSink, MemSource};
+use outside::{Binder, EmptyGate, Files, Gate, MemFiles, MemSink, MemSource, Sink, Source};
 use script_links::MemBinder;
 use script_text::read_script;
 use std::alloc::{AllocError, Global};
@@ -34,21 +34,27 @@ pub(crate) struct Ended {
 }
 
 impl Ended {
+    /// Whether it ended with this status, this output and this line of errors.
+    pub(crate) fn is_so(&self, status: Status, output: &[u8], errors: &[u8]) -> bool {
+        self.status == status
+            && self.output.as_slice() == output
+            && self.errors.as_slice() == errors
+    }
+
     /// Whether it ended with this status and this line of errors, and wrote nothing else.
     pub(crate) fn is_refused(&self, status: Status, line: &[u8]) -> bool {
-        self.status == status && self.errors.as_slice() == line && self.output.is_empty()
+        self.is_so(status, b"", line)
     }
 
     /// Whether it was done, wrote this and said nothing.
     pub(crate) fn is_done(&self, output: &[u8]) -> bool {
-        self.status == Status::Done && self.output.as_slice() == output && self.errors.is_empty()
+        self.is_so(Status::Done, output, b"")
     }
 
     /// Whether it ended with a write fault after so many bytes of this text.
     pub(crate) fn is_broken_behind(&self, text: &[u8], count: usize) -> bool {
-        self.status == Status::WriteFault
-            && self.errors.as_slice() == b"thriftd: write fault\n".as_slice()
-            && self.output.as_slice() == text.split_at(count.min(text.len())).0
+        let front = text.split_at(count.min(text.len())).0;
+        self.is_so(Status::WriteFault, front, b"thriftd: write fault\n")
     }
 
     /// Whether it was done, and what it wrote ends so.
@@ -57,41 +63,52 @@ impl Ended {
     }
 }
 
-/// The files and streams that a command is given, and a script of what comes to a port.
-#[derive(Drop)]
-pub(crate) struct Given {
-    pub(crate) files: MemFiles,
-    pub(crate) input: MemSource,
-    pub(crate) output: MemSink,
-    pub(crate) errors: MemSink,
-    pub(crate) port: &'static [u8],
-    /// The port can't be listened at.
-    pub(crate) is_taken: bool,
-    /// Which call on the links of the port fails, by its number among those of its kind, from 0.
-    pub(crate) failing: Option<(LinkCall, u64)>,
-}
+/// A file's name and what it holds.
+pub(crate) type Held<'a> = (&'a str, &'a [u8]);
 
-/// What a call on links is.
-#[derive(Clone, Copy)]
-pub(crate) enum LinkCall {
-    /// It asks what is next.
+/// The kinds of calls of which one may fail.
+#[derive(Clone, Copy, PartialEq, Eq)]
+pub(crate) enum Called {
+    /// It reads a file, or makes one.
+    File,
+    /// It writes the journal.
+    Journal,
+    /// It reads the input.
+    Input,
+    /// It writes the output.
+    Output,
+    /// It writes a line of errors.
+    Errors,
+    /// It listens at the port.
+    Listen,
+    /// It asks the links of the port what is next.
     Next,
-    /// A read of connection 0.
+    /// It reads connection 0.
     Read,
-    /// A write on connection 0.
+    /// It writes on connection 0.
     Write,
 }
 
-impl Given {
-    /// No file and an empty input, with sinks that take each piece whole; nothing fails.
-    pub(crate) fn empty(alloc: Global) -> Given {
+/// What a command is given, as plain data: files, an input, and a script of what comes to a port.
+#[derive(Clone, Copy)]
+pub(crate) struct Given<'a> {
+    pub(crate) files: &'a [Held<'a>],
+    pub(crate) input: &'a [u8],
+    pub(crate) port: &'a [u8],
+    /// How many bytes a read of the input gives, and how many a write of the output takes.
+    pub(crate) pieces: (usize, usize),
+    /// Which call fails, by its number among those of its kind, from 0.
+    pub(crate) failing: Option<(Called, u64)>,
+}
+
+impl<'a> Given<'a> {
+    /// No file and an empty input, with streams that give and take all at once; nothing fails.
+    pub(crate) fn empty() -> Given<'a> {
         Given {
-            files: MemFiles::new(Vec::new(alloc), Vec::new(alloc)),
-            input: MemSource::new(Vec::new(alloc), Vec::new(alloc)),
-            output: MemSink::new(alloc, Vec::new(alloc)),
-            errors: MemSink::new(alloc, Vec::new(alloc)),
+            files: &[],
+            input: b"",
             port: b"",
-            is_taken: false,
+            pieces: (usize::MAX, usize::MAX),
             failing: None,
         }
     }
@@ -114,34 +131,121 @@ impl Given {
         words: &[&str],
         gate: &G,
     ) -> Result<Ended, AllocError> {
-        let words = owned(alloc, words)?;
         let calculator: Box<dyn Handler> = Box::new(alloc, Calculator::new(alloc))?;
         let store: Box<dyn Handler> = Box::new(alloc, Store::new(alloc))?;
         let mirror: Box<dyn Handler> = Box::new(alloc, Mirror::new())?;
         let handlers = vec![in alloc; calculator, store, mirror]?;
-        self.run_with(rt, alloc, words.as_slice(), gate, handlers)
+        self.run_with(rt, alloc, words, gate, handlers)
     }
 
     fn run_with<G: Gate + Sync, H: Handler, R: Threads + Wait + Sync>(
         self,
         rt: &R,
         alloc: Global,
-        words: &[String],
+        words: &[&str],
         gate: &G,
         handlers: Vec<H>,
     ) -> Result<Ended, AllocError> {
-        let Given {
+        let words = owned(alloc, words)?;
+        let streams = self.streams_of(alloc)?;
+        Ok(streams.ended_by(rt, alloc, words.as_slice(), gate, handlers))
+    }
+
+    /// The calls of this kind that fail.
+    fn fails_of(self, alloc: Global, kind: Called) -> Result<Vec<u64>, AllocError> {
+        match self.failing {
+            Some((failing, call)) if failing == kind => Ok(vec![in alloc; call]?),
+            _ => Ok(Vec::new(alloc)),
+        }
+    }
+
+    fn files_of(self, alloc: Global) -> Result<MemFiles, AllocError> {
+        let fails = self.fails_of(alloc, Called::File)?;
+        let files = MemFiles::new(held_files(alloc, self.files)?, fails);
+        Ok(files.with_sink_fails(self.fails_of(alloc, Called::Journal)?))
+    }
+
+    fn input_of(self, alloc: Global) -> Result<MemSource, AllocError> {
+        let fails = self.fails_of(alloc, Called::Input)?;
+        Ok(MemSource::in_pieces(self.input.to_vec(alloc)?, fails, self.pieces.0.max(1)))
+    }
+
+    fn output_of(self, alloc: Global) -> Result<MemSink, AllocError> {
+        let fails = self.fails_of(alloc, Called::Output)?;
+        Ok(MemSink::in_pieces(alloc, fails, self.pieces.1.max(1)))
+    }
+
+    fn errors_of(self, alloc: Global) -> Result<MemSink, AllocError> {
+        Ok(MemSink::new(alloc, self.fails_of(alloc, Called::Errors)?))
+    }
+
+    /// Links over a script, in place of a port.
+    fn binder_of(self, alloc: Global) -> Result<MemBinder, AllocError> {
+        let fails = self.fails_of(alloc, Called::Listen)?;
+        match read_script(alloc, self.port, 0, false) {
+            Ok(script) => self.with_failing(alloc, MemBinder::new(script, fails)),
+            Err(_) => Err(AllocError),
+        }
+    }
+
+    /// A binder on whose links the call fails that is to.
+    fn with_failing(self, alloc: Global, binder: MemBinder) -> Result<MemBinder, AllocError> {
+        match self.failing {
+            Some((Called::Next, call)) => Ok(binder.with_net_fails(vec![in alloc; call]?)),
+            Some((Called::Read, call)) => {
+                Ok(binder.with_link_fails(0, vec![in alloc; call]?, Vec::new(alloc)))
+            }
+            Some((Called::Write, call)) => {
+                Ok(binder.with_link_fails(0, Vec::new(alloc), vec![in alloc; call]?))
+            }
+            _ => Ok(binder),
+        }
+    }
+
+    fn streams_of(self, alloc: Global) -> Result<Streams, AllocError> {
+        let files = self.files_of(alloc)?;
+        let input = self.input_of(alloc)?;
+        let output = self.output_of(alloc)?;
+        let errors = self.errors_of(alloc)?;
+        let binder = self.binder_of(alloc)?;
+        Ok(Streams {
+            files,
+            input,
+            output,
+            errors,
+            binder,
+        })
+    }
+}
+
+/// What a command runs over.
+#[derive(Drop)]
+struct Streams {
+    files: MemFiles,
+    input: MemSource,
+    output: MemSink,
+    errors: MemSink,
+    binder: MemBinder,
+}
+
+impl Streams {
+    /// Runs the command of these words, and takes what it wrote.
+    fn ended_by<G: Gate + Sync, H: Handler, R: Threads + Wait + Sync>(
+        self,
+        rt: &R,
+        alloc: Global,
+        words: &[String],
+        gate: &G,
+        handlers: Vec<H>,
+    ) -> Ended {
+        let Streams {
             mut files,
             mut input,
             mut output,
             mut errors,
-            port,
-            is_taken,
-            failing,
+            mut binder,
         } = self;
-        let binder = binder_over(alloc, port, is_taken)?;
-        let mut binder = with_failing(alloc, binder, failing)?;
-        let status = host(
+        let status = status_of(
             rt,
             alloc,
             words,
@@ -154,42 +258,40 @@ impl Given {
             handlers,
         );
         let journal = files.read_whole(alloc, JOURNAL, 1_000_000);
-        Ok(Ended {
+        Ended {
             status,
             output: output.into_bytes(),
             errors: errors.into_bytes(),
             journal: journal.unwrap_or_else(|_| Vec::new(alloc)),
-        })
+        }
     }
 }
 
-/// Links over a script, in place of a port.
-fn binder_over(alloc: Global, script: &[u8], is_taken: bool) -> Result<MemBinder, AllocError> {
-    let mut fails = Vec::new(alloc);
-    if is_taken {
-        fails.push(0u64)?;
-    }
-    match read_script(alloc, script, 0, false) {
-        Ok(script) => Ok(MemBinder::new(script, fails)),
-        Err(_) => Err(AllocError),
-    }
-}
-
-/// A binder on whose links this call fails.
-fn with_failing(
+/// Calls `host`. What its contract says isn't handed on: the tests look at what was written.
+fn status_of<
+    F: Files,
+    S: Source,
+    K: Sink,
+    E: Sink,
+    B: Binder,
+    G: Gate + Sync,
+    H: Handler,
+    R: Threads + Wait + Sync,
+>(
+    rt: &R,
     alloc: Global,
-    binder: MemBinder,
-    failing: Option<(LinkCall, u64)>,
-) -> Result<MemBinder, AllocError> {
-    let Some((kind, call)) = failing else {
-        return Ok(binder);
-    };
-    let calls = vec![in alloc; call]?;
-    match kind {
-        LinkCall::Next => Ok(binder.with_net_fails(calls)),
-        LinkCall::Read => Ok(binder.with_link_fails(0, calls, Vec::new(alloc))),
-        LinkCall::Write => Ok(binder.with_link_fails(0, Vec::new(alloc), calls)),
-    }
+    words: &[String],
+    files: &mut F,
+    input: &mut S,
+    output: &mut K,
+    errors: &mut E,
+    binder: &mut B,
+    gate: &G,
+    handlers: Vec<H>,
+) -> Status {
+    host(
+        rt, alloc, words, files, input, output, errors, binder, gate, handlers,
+    )
 }
 
 fn owned(alloc: Global, words: &[&str]) -> Result<Vec<String>, AllocError> {
@@ -200,30 +302,29 @@ fn owned(alloc: Global, words: &[&str]) -> Result<Vec<String>, AllocError> {
     Ok(all)
 }
 
-/// A file's name and what it holds.
-pub(crate) type Held = (&'static str, &'static [u8]);
+fn held_file(alloc: Global, name: &str, text: &[u8]) -> Result<(String, Vec<u8>), AllocError> {
+    let name = String::from_str(alloc, name)?;
+    Ok((name, text.to_vec(alloc)?))
+}
 
-/// Makes these files; the calls with these numbers fail.
-pub(crate) fn files_of(
-    alloc: Global,
-    held: &[Held],
-    fails: &[u64],
-) -> Result<MemFiles, AllocError> {
+fn held_files(alloc: Global, held: &[Held]) -> Result<Vec<(String, Vec<u8>)>, AllocError> {
     let mut files = Vec::new(alloc);
     for (name, text) in held {
-        files.push((String::from_str(alloc, name)?, text.to_vec(alloc)?))?;
+        files.push(held_file(alloc, name, text)?)?;
     }
-    Ok(MemFiles::new(files, fails.to_vec(alloc)?))
+    Ok(files)
 }
 
 /// Runs the command on a script, over streams that never fail.
 pub(crate) fn run_script<R: Threads + Wait + Sync>(
     rt: &R,
     alloc: Global,
-    script: Vec<u8>,
+    script: &[u8],
 ) -> Result<Ended, AllocError> {
-    let mut given = Given::empty(alloc);
-    given.input = MemSource::new(script, Vec::new(alloc));
+    let given = Given {
+        input: script,
+        ..Given::empty()
+    };
     given.run(rt, alloc, &REHEARSE)
 }
 
@@ -231,10 +332,11 @@ pub(crate) fn run_script<R: Threads + Wait + Sync>(
 pub(crate) fn check_text<R: Threads + Wait + Sync>(
     rt: &R,
     alloc: Global,
-    text: Vec<u8>,
+    text: &[u8],
 ) -> Result<Ended, AllocError> {
-    let file = (String::from_str(alloc, "a.thrift")?, text);
-    let mut given = Given::empty(alloc);
-    given.files = MemFiles::new(vec![in alloc; file]?, Vec::new(alloc));
+    let given = Given {
+        files: &[("a.thrift", text)],
+        ..Given::empty()
+    };
     given.run(rt, alloc, &["check", "a.thrift"])
 }

@@ -1,7 +1,6 @@
 //! IDLs through the top call: the schemas that are printed, and what is refused where.
 
-use crate::given::{Ended, Given, Held, check_text, files_of};
-use outside::MemSink;
+use crate::given::{Called, Ended, Given, Held, check_text};
 use std::alloc::{AllocError, Global};
 use std::process::Abort;
 use std::sync::Wait;
@@ -9,8 +8,11 @@ use std::test::Fail;
 use std::thread::Threads;
 use thrift_host::Status;
 
+/// A text, and what is written of it.
+type Row = (&'static [u8], &'static [u8]);
+
 /// Texts with their schemas.
-const ACCEPTED: [(&[u8], &[u8]); 3] = [
+const ACCEPTED: [Row; 3] = [
     (b"", b"file a\n"),
     (
         b"struct S { 1: double d = 2 }",
@@ -23,7 +25,7 @@ const ACCEPTED: [(&[u8], &[u8]); 3] = [
 ];
 
 /// Texts with the errors' line: one of each kind, but for those that need long texts or many files.
-const REFUSED: [(&[u8], &[u8]); 32] = [
+const REFUSED: [Row; 32] = [
     (
         b"struct S { 1: &T a }",
         b"thriftd: idl a.thrift 1:15 Refused\n",
@@ -139,37 +141,71 @@ const REFUSED: [(&[u8], &[u8]); 32] = [
     ),
 ];
 
-#[test]
-fn texts_are_judged(rt: HostRuntime) -> Result<(), Fail> {
-    let alloc = rt.alloc();
-    for (text, schema) in &ACCEPTED {
-        assert!(rt;
-            check_text(&rt, alloc, text.to_vec(alloc)?)?.is_done(schema),
-            "{text:?}"
-        );
-    }
-    for (text, line) in &REFUSED {
-        let ended = check_text(&rt, alloc, text.to_vec(alloc)?)?;
-        assert!(rt; ended.is_refused(Status::IdlRefused, line), "{text:?}");
+/// Whether a text has this schema.
+fn has_schema<R: Threads + Wait + Sync>(
+    rt: &R,
+    alloc: Global,
+    text: &[u8],
+    schema: &[u8],
+) -> Result<bool, AllocError> {
+    Ok(check_text(rt, alloc, text)?.is_done(schema))
+}
+
+/// Sees that each text has its schema.
+fn each_has_schema<R: Abort + Threads + Wait + Sync>(
+    rt: &R,
+    alloc: Global,
+    rows: &[Row],
+) -> Result<(), Fail> {
+    for (text, schema) in rows {
+        assert!(rt; has_schema(rt, alloc, text, schema)?, "{text:?}");
     }
     Ok(())
 }
 
-/// What a text of so many blanks comes to.
-fn check_blanks<R: Threads + Wait + Sync>(
+#[test]
+fn texts_are_accepted(rt: HostRuntime) -> Result<(), Fail> {
+    each_has_schema(&rt, rt.alloc(), &ACCEPTED)
+}
+
+/// Whether a text is refused by this line.
+fn is_refused_so<R: Threads + Wait + Sync>(
     rt: &R,
     alloc: Global,
-    count: usize,
-) -> Result<Ended, AllocError> {
-    check_text(rt, alloc, vec![in alloc; b' '; count]?)
+    text: &[u8],
+    line: &[u8],
+) -> Result<bool, AllocError> {
+    Ok(check_text(rt, alloc, text)?.is_refused(Status::IdlRefused, line))
+}
+
+/// Sees that each text is.
+fn each_is_refused_so<R: Abort + Threads + Wait + Sync>(
+    rt: &R,
+    alloc: Global,
+    rows: &[Row],
+) -> Result<(), Fail> {
+    for (text, line) in rows {
+        assert!(rt; is_refused_so(rt, alloc, text, line)?, "{text:?}");
+    }
+    Ok(())
+}
+
+#[test]
+fn texts_are_refused(rt: HostRuntime) -> Result<(), Fail> {
+    each_is_refused_so(&rt, rt.alloc(), &REFUSED)
+}
+
+/// Whether a text of the most blanks has a schema, and one of a blank more is refused.
+fn have_a_longest<R: Threads + Wait + Sync>(rt: &R, alloc: Global) -> Result<bool, AllocError> {
+    let blanks = vec![in alloc; b' '; 4_194_305]?;
+    let longer = blanks.as_slice();
+    let line = b"thriftd: idl a.thrift 0:0 TooLong\n";
+    Ok(has_schema(rt, alloc, &longer[1..], b"file a\n")? && is_refused_so(rt, alloc, longer, line)?)
 }
 
 #[test]
 fn texts_have_a_longest(rt: HostRuntime) -> Result<(), Fail> {
-    assert!(rt; check_blanks(&rt, rt.alloc(), 4_194_304)?.is_done(b"file a\n"));
-    let longer = check_blanks(&rt, rt.alloc(), 4_194_305)?;
-    let line = b"thriftd: idl a.thrift 0:0 TooLong\n";
-    assert!(rt; longer.is_refused(Status::IdlRefused, line));
+    assert!(rt; have_a_longest(&rt, rt.alloc())?);
     Ok(())
 }
 
@@ -205,37 +241,71 @@ const ABSENT: &[u8] = b"thriftd: idl a.thrift 0:0 Absent\n";
 
 const FAULT: &[u8] = b"thriftd: file fault\n";
 
-/// What `check a.thrift` comes to: files, the numbers of the reads that fail, the status and the errors' line. An absent file is absent also where
-/// its read is to fail.
-const PROGRAMS: [(&[Held], &[u64], Status, &[u8]); 6] = [
-    (CIRCLE, &[], Status::IdlRefused, CYCLE),
-    (BEHIND, &[], Status::IdlRefused, UNKNOWN),
-    (&[], &[], Status::IdlRefused, ABSENT),
-    (&[], &[0], Status::IdlRefused, ABSENT),
-    (TWO_FILES, &[0], Status::FileFault, FAULT),
-    (TWO_FILES, &[1], Status::FileFault, FAULT),
+/// The first call on files fails.
+const FIRST: Option<(Called, u64)> = Some((Called::File, 0));
+
+/// The second does.
+const SECOND: Option<(Called, u64)> = Some((Called::File, 1));
+
+/// What `check a.thrift` comes to: files, the call that fails, the status and the errors' line. An absent file is absent also where its read is to
+/// fail.
+type Program = (
+    &'static [Held<'static>],
+    Option<(Called, u64)>,
+    Status,
+    &'static [u8],
+);
+
+const PROGRAMS: [Program; 6] = [
+    (CIRCLE, None, Status::IdlRefused, CYCLE),
+    (BEHIND, None, Status::IdlRefused, UNKNOWN),
+    (&[], None, Status::IdlRefused, ABSENT),
+    (&[], FIRST, Status::IdlRefused, ABSENT),
+    (TWO_FILES, FIRST, Status::FileFault, FAULT),
+    (TWO_FILES, SECOND, Status::FileFault, FAULT),
 ];
 
-/// Runs the program where these files are there, and the reads with these numbers fail.
+/// Runs the program where these files are there, and this call fails.
 fn run_beside<R: Threads + Wait + Sync>(
     rt: &R,
     alloc: Global,
     words: &[&str],
     held: &[Held],
-    fails: &[u64],
+    failing: Option<(Called, u64)>,
 ) -> Result<Ended, AllocError> {
-    let mut given = Given::empty(alloc);
-    given.files = files_of(alloc, held, fails)?;
+    let given = Given {
+        files: held,
+        failing,
+        ..Given::empty()
+    };
     given.run(rt, alloc, words)
+}
+
+/// Whether a program is refused so.
+fn is_judged_so<R: Threads + Wait + Sync>(
+    rt: &R,
+    alloc: Global,
+    row: &Program,
+) -> Result<bool, AllocError> {
+    let ended = run_beside(rt, alloc, &["check", "a.thrift"], row.0, row.1)?;
+    Ok(ended.is_refused(row.2, row.3))
+}
+
+/// Sees that each program is.
+fn each_is_judged_so<R: Abort + Threads + Wait + Sync>(
+    rt: &R,
+    alloc: Global,
+    rows: &[Program],
+) -> Result<(), Fail> {
+    for row in rows {
+        assert!(rt; is_judged_so(rt, alloc, row)?, "{:?}", row.3);
+    }
+    Ok(())
 }
 
 #[test]
 fn programs_are_judged(rt: HostRuntime) -> Result<(), Fail> {
-    for (held, fails, status, line) in &PROGRAMS {
-        let ended = run_beside(&rt, rt.alloc(), &["check", "a.thrift"], held, fails)?;
-        assert!(rt; ended.is_refused(*status, line));
-    }
-    Ok(())
+    each_is_judged_so(&rt, rt.alloc(), &PROGRAMS)
 }
 
 const TUTORIAL: &[u8] = b"file tutorial
@@ -264,35 +334,57 @@ service SharedService
   shared.SharedStruct getStruct(1 default i32 key)
 ";
 
+/// Whether the two files have their schemas.
+fn are_two_printed<R: Threads + Wait + Sync>(rt: &R, alloc: Global) -> Result<bool, AllocError> {
+    Ok(run_beside(rt, alloc, &["check", "a.thrift"], TWO_FILES, None)?.is_done(TWO_SCHEMAS))
+}
+
+/// Whether the tutorial has its schema, for which no file is read.
+fn is_tutorial_printed<R: Threads + Wait + Sync>(
+    rt: &R,
+    alloc: Global,
+) -> Result<bool, AllocError> {
+    Ok(run_beside(rt, alloc, &["check", "@tutorial"], &[], FIRST)?.is_done(TUTORIAL))
+}
+
 #[test]
 fn schemas_are_printed(rt: HostRuntime) -> Result<(), Fail> {
-    let two = run_beside(&rt, rt.alloc(), &["check", "a.thrift"], TWO_FILES, &[])?;
-    assert!(rt; two.is_done(TWO_SCHEMAS));
-    let tutorial = run_beside(&rt, rt.alloc(), &["check", "@tutorial"], &[], &[0])?;
-    assert!(rt; tutorial.is_done(TUTORIAL));
+    assert!(rt; are_two_printed(&rt, rt.alloc())?);
+    assert!(rt; is_tutorial_printed(&rt, rt.alloc())?);
     Ok(())
 }
 
-/// Checks the two files over a sink that takes ten bytes at a time, and whose write of this number fails.
-fn print_until<R: Threads + Wait + Sync>(
+/// Whether the text of the two files' schemas, of which a write takes ten bytes, is broken off where the write of this number fails, or whole where there
+/// are no more than so many.
+fn prints_until<R: Threads + Wait + Sync>(
     rt: &R,
     alloc: Global,
-    fails: u64,
-) -> Result<Ended, AllocError> {
-    let mut given = Given::empty(alloc);
-    given.files = files_of(alloc, TWO_FILES, &[])?;
-    given.output = MemSink::in_pieces(alloc, vec![in alloc; fails]?, 10);
-    given.run(rt, alloc, &["check", "a.thrift"])
+    fails: usize,
+) -> Result<bool, AllocError> {
+    let given = Given {
+        files: TWO_FILES,
+        pieces: (usize::MAX, 10),
+        failing: Some((Called::Output, fails as u64)),
+        ..Given::empty()
+    };
+    let ended = given.run(rt, alloc, &["check", "a.thrift"])?;
+    if fails < 12 {
+        return Ok(ended.is_broken_behind(TWO_SCHEMAS, fails.saturating_mul(10)));
+    }
+    Ok(ended.is_done(TWO_SCHEMAS))
+}
+
+/// Sees that of each write.
+fn each_write_fails<R: Abort + Threads + Wait + Sync>(rt: &R, alloc: Global) -> Result<(), Fail> {
+    for number in 0..=12 {
+        assert!(rt; prints_until(rt, alloc, number)?, "{number}");
+    }
+    Ok(())
 }
 
 #[test]
 fn each_write_may_fail(rt: HostRuntime) -> Result<(), Fail> {
-    for number in 0..12 {
-        let ended = print_until(&rt, rt.alloc(), number)?;
-        assert!(rt; ended.is_broken_behind(TWO_SCHEMAS, (number as usize).saturating_mul(10)));
-    }
-    assert!(rt; print_until(&rt, rt.alloc(), 12)?.is_done(TWO_SCHEMAS));
-    Ok(())
+    each_write_fails(&rt, rt.alloc())
 }
 
 /// Words that are no command.
@@ -304,11 +396,29 @@ const WORDS: [&[&str]; 5] = [
     &[],
 ];
 
-#[test]
-fn other_words_are_refused(rt: HostRuntime) -> Result<(), Fail> {
-    for words in &WORDS {
-        let ended = run_beside(&rt, rt.alloc(), words, &[("b.thrift", b"")], &[])?;
-        assert!(rt; ended.is_refused(Status::Usage, b"thriftd: usage\n"));
+/// Whether words are no command.
+fn are_refused<R: Threads + Wait + Sync>(
+    rt: &R,
+    alloc: Global,
+    words: &[&str],
+) -> Result<bool, AllocError> {
+    let ended = run_beside(rt, alloc, words, &[("b.thrift", b"")], None)?;
+    Ok(ended.is_refused(Status::Usage, b"thriftd: usage\n"))
+}
+
+/// Sees that each of these are none.
+fn each_are_refused<R: Abort + Threads + Wait + Sync>(
+    rt: &R,
+    alloc: Global,
+    rows: &[&[&str]],
+) -> Result<(), Fail> {
+    for words in rows {
+        assert!(rt; are_refused(rt, alloc, words)?, "{words:?}");
     }
     Ok(())
+}
+
+#[test]
+fn other_words_are_refused(rt: HostRuntime) -> Result<(), Fail> {
+    each_are_refused(&rt, rt.alloc(), &WORDS)
 }

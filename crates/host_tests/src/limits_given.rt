@@ -1,13 +1,11 @@
 //! What the tests share: scripts and reports in short, and the command, run on a script in memory.
 
-use calculator::Calculator;
-use outside::{EmptyGate, MemFiles, MemSink, MemSource};
-use script_links::MemBinder;
-use script_text::read_script;
+use crate::given::{Ended, Given};
 use std::alloc::{AllocError, Global};
+use std::process::Abort;
 use std::sync::Wait;
+use std::test::Fail;
 use std::thread::Threads;
-use thrift_host::host;
 
 /// The workers, the longest payload and the read budget of a rehearsal, as its words.
 pub(crate) type Setting = (&'static str, &'static str, &'static str);
@@ -57,8 +55,11 @@ fn put(into: &mut Vec<u8>, short: &[u8]) -> Result<(), AllocError> {
     Ok(())
 }
 
+/// A text in short, so many times.
+pub(crate) type Part<'a> = (usize, &'a [u8]);
+
 /// What texts in short stand for, each so many times, one behind the other.
-pub(crate) fn whole(alloc: Global, parts: &[(usize, &[u8])]) -> Result<Vec<u8>, AllocError> {
+pub(crate) fn whole(alloc: Global, parts: &[Part]) -> Result<Vec<u8>, AllocError> {
     let mut text = Vec::new(alloc);
     for (count, short) in parts {
         for _ in 0..*count {
@@ -68,9 +69,26 @@ pub(crate) fn whole(alloc: Global, parts: &[(usize, &[u8])]) -> Result<Vec<u8>, 
     Ok(text)
 }
 
-fn words_of(alloc: Global, setting: Setting) -> Result<Vec<String>, AllocError> {
-    let mut words = Vec::new(alloc);
-    for word in [
+impl Ended {
+    /// Whether this was written, to its output and then to its errors.
+    pub(crate) fn wrote(&self, all: &[u8]) -> bool {
+        all.strip_prefix(self.output.as_slice()) == Some(self.errors.as_slice())
+    }
+}
+
+/// Whether the rehearsal of a script writes this report and no line of errors, or, where it is refused, this line alone.
+pub(crate) fn reports<R: Threads + Wait + Sync>(
+    rt: &R,
+    alloc: Global,
+    setting: Setting,
+    script: &[u8],
+    report: &[u8],
+) -> Result<bool, AllocError> {
+    let given = Given {
+        input: script,
+        ..Given::empty()
+    };
+    let words = [
         "rehearse",
         "@tutorial",
         "binary",
@@ -80,65 +98,40 @@ fn words_of(alloc: Global, setting: Setting) -> Result<Vec<String>, AllocError> 
         setting.1,
         "--read-budget",
         setting.2,
-    ] {
-        words.push(String::from_str(alloc, word)?)?;
-    }
-    Ok(words)
+    ];
+    Ok(given.run(rt, alloc, &words)?.wrote(report))
 }
 
-/// What a rehearsal of a script writes, to its output and then to its errors.
-fn written<R: Threads + Wait + Sync>(
+/// Does the same for both in short, in parts.
+pub(crate) fn reports_in_parts<R: Threads + Wait + Sync>(
     rt: &R,
     alloc: Global,
     setting: Setting,
-    script: Vec<u8>,
-) -> Result<Vec<u8>, AllocError> {
-    let words = words_of(alloc, setting)?;
-    let handlers = vec![in alloc; Calculator::new(alloc)]?;
-    let mut files = MemFiles::new(Vec::new(alloc), Vec::new(alloc));
-    let mut input = MemSource::new(script, Vec::new(alloc));
-    let mut output = MemSink::new(alloc, Vec::new(alloc));
-    let mut errors = MemSink::new(alloc, Vec::new(alloc));
-    let Ok(nothing) = read_script(alloc, b"", 0, false) else {
-        return Err(AllocError);
-    };
-    let mut binder = MemBinder::new(nothing, Vec::new(alloc));
-    let _ = host(
-        rt,
-        alloc,
-        words.as_slice(),
-        &mut files,
-        &mut input,
-        &mut output,
-        &mut errors,
-        &mut binder,
-        &EmptyGate,
-        handlers,
-    );
-    let mut all = output.into_bytes();
-    all.extend_from_slice(errors.into_bytes().as_slice())?;
-    Ok(all)
-}
-
-/// Whether the rehearsal of a script has this report, and no line of errors.
-pub(crate) fn reports<R: Threads + Wait + Sync>(
-    rt: &R,
-    alloc: Global,
-    setting: Setting,
-    script: Vec<u8>,
-    report: &[u8],
+    script: &[Part],
+    report: &[Part],
 ) -> Result<bool, AllocError> {
-    let all = written(rt, alloc, setting, script)?;
-    Ok(all.as_slice() == report)
+    let script = whole(alloc, script)?;
+    let report = whole(alloc, report)?;
+    reports(rt, alloc, setting, script.as_slice(), report.as_slice())
 }
 
 /// Whether a run has its report.
-pub(crate) fn has_its_report<R: Threads + Wait + Sync>(
+fn has_its_report<R: Threads + Wait + Sync>(
     rt: &R,
     alloc: Global,
     run: &Run,
 ) -> Result<bool, AllocError> {
-    let script = whole(alloc, &[(1, run.1)])?;
-    let report = whole(alloc, &[(1, run.2)])?;
-    reports(rt, alloc, run.0, script, report.as_slice())
+    reports_in_parts(rt, alloc, run.0, &[(1, run.1)], &[(1, run.2)])
+}
+
+/// Sees that each run has its report.
+pub(crate) fn each_has_its_report<R: Abort + Threads + Wait + Sync>(
+    rt: &R,
+    alloc: Global,
+    runs: &[Run],
+) -> Result<(), Fail> {
+    for run in runs {
+        assert!(rt; has_its_report(rt, alloc, run)?, "{:?}", run.1);
+    }
+    Ok(())
 }

@@ -1,7 +1,6 @@
 //! Scripts of many connections, with the ends of their reports.
 
-use crate::given::Given;
-use outside::MemSource;
+use crate::given::{Given, REHEARSE, run_script};
 use std::alloc::{AllocError, Global};
 use std::process::Abort;
 use std::sync::Wait;
@@ -10,18 +9,12 @@ use std::thread::Threads;
 use thrift_host::Status;
 
 /// A run: its words, its script, and how its report ends.
-type Run = (&'static [&'static str], &'static [u8], &'static [u8]);
+pub(crate) type Run = (&'static [&'static str], &'static [u8], &'static [u8]);
 
 const RUNS: [Run; 9] = [
     // A store that one connection fills and another reads.
     (
-        &[
-            "rehearse",
-            "@tutorial",
-            "binary",
-            "0",
-            "Calculator=calculator",
-        ],
+        &REHEARSE,
         b"open\nopen\ndata 0 00000036800100010000000963616c63756c61746500000001080001000000070c00020800010000001408000200000016080\
 003000000010000\nrest\ndata 1 0000001d8001000100000009676574537472756374000000010800010000000700\nend 0\nend 1\n",
         b"call 0 0 0 calculate {1=7i,2={1=20i,2=22i,3=1i}} ok 42i\ncall 1 0 0 getStruct {1=7i} ok {1=7i,2=\"42\"}\nconn 0 End 0000\
@@ -30,13 +23,7 @@ const RUNS: [Run; 9] = [
     ),
     // The same without a rest: each pass asks the connections in order.
     (
-        &[
-            "rehearse",
-            "@tutorial",
-            "binary",
-            "0",
-            "Calculator=calculator",
-        ],
+        &REHEARSE,
         b"open\nopen\ndata 1 0000001d8001000100000009676574537472756374000000010800010000000700\ndata 0 00000036800100010000000963\
 616c63756c61746500000001080001000000070c00020800010000001408000200000016080003000000010000\nend 0\nend 1\n",
         b"call 0 0 0 calculate {1=7i,2={1=20i,2=22i,3=1i}} ok 42i\ncall 1 0 0 getStruct {1=7i} ok {1=7i,2=\"42\"}\nconn 0 End 0000\
@@ -65,13 +52,7 @@ read 1 30\ntape wrote 1 27\ntape end 1\ntape close 1\ncall 0 0 0 add {1=1i,2=1i}
     ),
     // Three bytes are written, and then a write fails.
     (
-        &[
-            "rehearse",
-            "@tutorial",
-            "binary",
-            "0",
-            "Calculator=calculator",
-        ],
+        &REHEARSE,
         b"open\nwrite 0 3\nwritefail 0\ndata 0 00000011800100010000000470696e670000000000\nend 0\n",
         b"call 0 0 0 ping {} empty\nconn 0 WriteFault 000000\ncalls 1\n",
     ),
@@ -93,26 +74,14 @@ s 2\n",
     ),
     // Half a size, a payload without its last byte, nothing at all, and a read that fails.
     (
-        &[
-            "rehearse",
-            "@tutorial",
-            "binary",
-            "0",
-            "Calculator=calculator",
-        ],
+        &REHEARSE,
         b"open\nopen\nopen\nopen\ndata 0 0000\ndata 1 00000011800100010000000470696e6700000000\ndata 3 00\nend 0\nend 1\nend 2\nre\
 adfail 3\n",
         b"conn 0 Cut -\nconn 1 Cut -\nconn 2 End -\nconn 3 ReadFault -\ncalls 0\n",
     ),
     // Blocked writes are tried again, and a frame comes in bytes.
     (
-        &[
-            "rehearse",
-            "@tutorial",
-            "binary",
-            "0",
-            "Calculator=calculator",
-        ],
+        &REHEARSE,
         b"open\nblock 0\nwrite 0 20\nblock 0\ndata 0 00\ndata 0 00\ndata 0 00\ndata 0 11\ndata 0 80\ndata 0 01\ndata 0 00\ndata 0 \
 01\ndata 0 00\ndata 0 00\ndata 0 00\ndata 0 04\ndata 0 70\ndata 0 69\ndata 0 6e\ndata 0 67\ndata 0 00\ndata 0 00\ndata \
 0 00\ndata 0 00\ndata 0 00\nend 0\n",
@@ -133,13 +102,7 @@ adfail 3\n",
     ),
     // A size that is refused, a head that is, and a connection that goes on beside them.
     (
-        &[
-            "rehearse",
-            "@tutorial",
-            "binary",
-            "0",
-            "Calculator=calculator",
-        ],
+        &REHEARSE,
         b"open\nopen\nopen\ndata 0 00000000\ndata 1 00000011800200010000000470696e670000000000\ndata 2 000000118001000100000004706\
 96e670000000000\nend 0\nend 1\nend 2\n",
         b"call 2 0 0 ping {} empty\nconn 0 SizeFault 0 -\nconn 1 Envelope Version 80020001 -\nconn 2 End 0000001180010002000000047\
@@ -149,17 +112,28 @@ adfail 3\n",
 
 /// Whether a run is done, and its report ends so.
 fn ends_so<R: Threads + Wait + Sync>(rt: &R, alloc: Global, run: &Run) -> Result<bool, AllocError> {
-    let mut given = Given::empty(alloc);
-    given.input = MemSource::new(run.1.to_vec(alloc)?, Vec::new(alloc));
+    let given = Given {
+        input: run.1,
+        ..Given::empty()
+    };
     Ok(given.run(rt, alloc, run.0)?.is_done_with(run.2))
+}
+
+/// Sees that each run is done, and its report ends so.
+pub(crate) fn each_ends_so<R: Abort + Threads + Wait + Sync>(
+    rt: &R,
+    alloc: Global,
+    runs: &[Run],
+) -> Result<(), Fail> {
+    for run in runs {
+        assert!(rt; ends_so(rt, alloc, run)?, "{:?}", run.2);
+    }
+    Ok(())
 }
 
 #[test]
 fn runs_have_their_ends(rt: HostRuntime) -> Result<(), Fail> {
-    for run in &RUNS {
-        assert!(rt; ends_so(&rt, rt.alloc(), run)?, "{:?}", run.2);
-    }
-    Ok(())
+    each_ends_so(&rt, rt.alloc(), &RUNS)
 }
 
 /// A script that opens so many connections, of which the first one ends.
@@ -172,22 +146,21 @@ fn opened(alloc: Global, count: usize) -> Result<Vec<u8>, AllocError> {
     Ok(script)
 }
 
-/// How the script of so many connections is refused.
+/// Whether the script of so many connections is refused so.
 fn is_refused_so<R: Threads + Wait + Sync>(
-    alloc: Global,
     rt: &R,
+    alloc: Global,
     count: usize,
     line: &[u8],
 ) -> Result<bool, AllocError> {
-    let mut given = Given::empty(alloc);
-    given.input = MemSource::new(opened(alloc, count)?, Vec::new(alloc));
-    let ended = given.run(rt, alloc, &crate::given::REHEARSE)?;
+    let script = opened(alloc, count)?;
+    let ended = run_script(rt, alloc, script.as_slice())?;
     Ok(ended.is_refused(Status::ScriptRefused, line))
 }
 
 #[test]
 fn at_most_1024_connections_are_opened(rt: HostRuntime) -> Result<(), Fail> {
-    assert!(rt; is_refused_so(rt.alloc(), &rt, 1_024, b"thriftd: script 1026 NoEnd\n")?);
-    assert!(rt; is_refused_so(rt.alloc(), &rt, 1_025, b"thriftd: script 1025 TooMany\n")?);
+    assert!(rt; is_refused_so(&rt, rt.alloc(), 1_024, b"thriftd: script 1026 NoEnd\n")?);
+    assert!(rt; is_refused_so(&rt, rt.alloc(), 1_025, b"thriftd: script 1025 TooMany\n")?);
     Ok(())
 }

@@ -1,6 +1,6 @@
 //! As many connections as may be open at once, each with a call, and payloads longer than a read.
 
-use crate::limits_given::{Setting, reports, whole};
+use crate::limits_given::{Part, Setting, reports, reports_in_parts, whole};
 use std::alloc::{AllocError, Global};
 use std::process::Abort;
 use std::sync::Wait;
@@ -57,7 +57,13 @@ fn most_are_served<R: Threads + Wait + Sync>(rt: &R, alloc: Global) -> Result<bo
         ],
     )?;
     report.extend_from_slice(b"calls 1024\n")?;
-    reports(rt, alloc, EIGHT_WORKERS, script, report.as_slice())
+    reports(
+        rt,
+        alloc,
+        EIGHT_WORKERS,
+        script.as_slice(),
+        report.as_slice(),
+    )
 }
 
 #[test]
@@ -75,25 +81,21 @@ fn ended_have<R: Threads + Wait + Sync>(
 ) -> Result<bool, AllocError> {
     let mut script = each(alloc, &[b"open;end #;"])?;
     script.extend_from_slice(openings)?;
-    reports(rt, alloc, EIGHT_WORKERS, script, report)
+    reports(rt, alloc, EIGHT_WORKERS, script.as_slice(), report)
+}
+
+/// Whether each of them is reported to have ended.
+fn each_has_ended<R: Threads + Wait + Sync>(rt: &R, alloc: Global) -> Result<bool, AllocError> {
+    let mut report = each(alloc, &[b"%open #;", b"%end #;%close #;", b"conn # End -;"])?;
+    report.extend_from_slice(b"calls 0\n")?;
+    ended_have(rt, alloc, b"", report.as_slice())
 }
 
 #[test]
 fn openings_count_also_where_inputs_have_ended(rt: HostRuntime) -> Result<(), Fail> {
-    let mut report = each(
-        rt.alloc(),
-        &[b"%open #;", b"%end #;%close #;", b"conn # End -;"],
-    )?;
-    report.extend_from_slice(b"calls 0\n")?;
-    assert!(rt; ended_have(&rt, rt.alloc(), b"", report.as_slice())?);
-    assert!(rt;
-        ended_have(
-            &rt,
-            rt.alloc(),
-            b"open\n",
-            b"thriftd: script 2049 TooMany\n"
-        )?
-    );
+    assert!(rt; each_has_ended(&rt, rt.alloc())?);
+    let line = b"thriftd: script 2049 TooMany\n";
+    assert!(rt; ended_have(&rt, rt.alloc(), b"open\n", line)?);
     Ok(())
 }
 
@@ -105,26 +107,17 @@ fn is_read_so<R: Threads + Wait + Sync>(
     longest: &'static str,
     behind: &[u8],
 ) -> Result<bool, AllocError> {
-    let script = whole(
-        alloc,
-        &[
-            (
-                1,
-                b"open;data 0 00010001800100010000000361646400000001080001000000010800020000000",
-            ),
-            (1, b"10b00030000ffdc"),
-            (65_500, b"00"),
-            (1, b"00;end 0;"),
-        ],
-    )?;
-    let report = whole(alloc, &[(1, b"%open 0;%read 0 4;"), (1, behind)])?;
-    reports(
-        rt,
-        alloc,
-        ("0", longest, "268435456"),
-        script,
-        report.as_slice(),
-    )
+    let script: [Part; 4] = [
+        (
+            1,
+            b"open;data 0 00010001800100010000000361646400000001080001000000010800020000000",
+        ),
+        (1, b"10b00030000ffdc"),
+        (65_500, b"00"),
+        (1, b"00;end 0;"),
+    ];
+    let report: [Part; 2] = [(1, b"%open 0;%read 0 4;"), (1, behind)];
+    reports_in_parts(rt, alloc, ("0", longest, "268435456"), &script, &report)
 }
 
 #[test]

@@ -1,15 +1,25 @@
 //! A call whose bytes end at each place, and a reply whose writes are of one byte, are blocked or fail at each place.
 
-use crate::limits_given::{PLAIN, PONG, reports, whole};
+use crate::limits_given::{PLAIN, PONG, Part, reports_in_parts};
 use std::alloc::{AllocError, Global};
 use std::process::Abort;
 use std::sync::Wait;
 use std::test::Fail;
 use std::thread::Threads;
-use text_out::decimal;
 
 /// How many bytes `ping` has, and its reply.
 const SIZE: usize = 21;
+
+/// Numbers up to that.
+const NUMBERS: [&[u8]; 22] = [
+    b"0", b"1", b"2", b"3", b"4", b"5", b"6", b"7", b"8", b"9", b"10", b"11", b"12", b"13", b"14",
+    b"15", b"16", b"17", b"18", b"19", b"20", b"21",
+];
+
+/// A number of these.
+fn decimal(number: usize) -> &'static [u8] {
+    NUMBERS[number.min(SIZE)]
+}
 
 /// The first `count` bytes of the call, in hexadecimal.
 fn call_front(count: usize) -> &'static [u8] {
@@ -25,22 +35,23 @@ fn reply_front(count: usize) -> &'static [u8] {
     }
 }
 
-/// The report of a connection that called `ping`, with the lines of the marks behind the call's, its cause and what it was sent.
-fn report_of(
-    alloc: Global,
-    marks: &[u8],
-    cause: &[u8],
-    sent: &[u8],
-) -> Result<Vec<u8>, AllocError> {
-    let mut report = whole(alloc, &[(1, b"%open 0;%read 0 4;%read 0 17;")])?;
-    report.extend_from_slice(marks)?;
-    report.extend_from_slice(b"tape close 0\ncall 0 0 0 ping {} empty\nconn 0 ")?;
-    report.extend_from_slice(cause)?;
-    report.push(b' ')?;
-    report.extend_from_slice(sent)?;
-    report.extend_from_slice(b"\ncalls 1\n")?;
-    Ok(report)
-}
+/// How an input ends: its line, its mark and the connection's cause.
+type End = [&'static [u8]; 3];
+
+const ENDED: End = [b"end 0;", b"%end 0;", b"End"];
+
+const CUT: End = [b"end 0;", b"%end 0;", b"Cut"];
+
+const FAILED: End = [b"readfail 0;", b"%readfail 0;", b"ReadFault"];
+
+/// The first lines of the report of a connection that called `ping`.
+const FRONT: Part<'static> = (1, b"%open 0;%read 0 4;%read 0 17;");
+
+/// The lines behind its marks, up to its cause.
+const CALLED: Part<'static> = (1, b"%close 0;call 0 0 0 ping {} empty;conn 0 ");
+
+/// The last line, behind what it was sent.
+const CALLS: Part<'static> = (1, b";calls 1;");
 
 /// Whether a connection whose write fails after so many of one byte was sent these.
 fn fails_at<R: Threads + Wait + Sync>(
@@ -48,76 +59,76 @@ fn fails_at<R: Threads + Wait + Sync>(
     alloc: Global,
     count: usize,
 ) -> Result<bool, AllocError> {
-    let script = whole(
-        alloc,
-        &[
-            (1, b"open;data 0 P;"),
-            (count, b"write 0 1;"),
-            (1, b"writefail 0;end 0;"),
-        ],
-    )?;
-    let marks = whole(alloc, &[(count, b"%wrote 0 1;"), (1, b"%writefail 0;")])?;
-    let report = report_of(alloc, marks.as_slice(), b"WriteFault", reply_front(count))?;
-    reports(rt, alloc, PLAIN, script, report.as_slice())
+    let script: [Part; 3] = [
+        (1, b"open;data 0 P;"),
+        (count, b"write 0 1;"),
+        (1, b"writefail 0;end 0;"),
+    ];
+    let report: [Part; 7] = [
+        FRONT,
+        (count, b"%wrote 0 1;"),
+        (1, b"%writefail 0;"),
+        CALLED,
+        (1, b"WriteFault "),
+        (1, reply_front(count)),
+        CALLS,
+    ];
+    reports_in_parts(rt, alloc, PLAIN, &script, &report)
+}
+
+/// Sees that of each place.
+fn each_fails<R: Abort + Threads + Wait + Sync>(rt: &R, alloc: Global) -> Result<(), Fail> {
+    for count in 0..SIZE {
+        assert!(rt; fails_at(rt, alloc, count)?, "{count}");
+    }
+    Ok(())
 }
 
 #[test]
 fn a_write_fails_at_each_place(rt: HostRuntime) -> Result<(), Fail> {
-    for count in 0..SIZE {
-        assert!(rt; fails_at(&rt, rt.alloc(), count)?, "{count}");
-    }
-    Ok(())
+    each_fails(&rt, rt.alloc())
 }
 
-/// The mark of a write of the rest of the reply, after so many bytes.
-fn rest_of_reply(alloc: Global, count: usize) -> Result<Vec<u8>, AllocError> {
-    let mut mark = b"tape wrote 0 ".to_vec(alloc)?;
-    decimal(&mut mark, (SIZE - count.min(SIZE)) as i128)?;
-    mark.push(b'\n')?;
-    Ok(mark)
-}
-
-/// Whether a connection whose write is blocked after so many of one byte gets its whole reply, and then its input ends so, or a read fails.
+/// Whether a connection whose write is blocked after so many of one byte gets its whole reply, and then its input ends so.
 fn goes_on_behind<R: Threads + Wait + Sync>(
     rt: &R,
     alloc: Global,
     count: usize,
-    end: &[u8],
-    mark: &[u8],
-    cause: &[u8],
+    end: &End,
 ) -> Result<bool, AllocError> {
-    let script = whole(
-        alloc,
-        &[
-            (1, b"open;"),
-            (count, b"write 0 1;"),
-            (1, b"block 0;data 0 P;"),
-            (1, end),
-        ],
-    )?;
-    let mut marks = whole(alloc, &[(count, b"%wrote 0 1;")])?;
-    marks.extend_from_slice(rest_of_reply(alloc, count)?.as_slice())?;
-    marks.extend_from_slice(mark)?;
-    let report = report_of(alloc, marks.as_slice(), cause, PONG)?;
-    reports(rt, alloc, PLAIN, script, report.as_slice())
+    let script: [Part; 4] = [
+        (1, b"open;"),
+        (count, b"write 0 1;"),
+        (1, b"block 0;data 0 P;"),
+        (1, end[0]),
+    ];
+    let report: [Part; 10] = [
+        FRONT,
+        (count, b"%wrote 0 1;"),
+        (1, b"%wrote 0 "),
+        (1, decimal(SIZE.saturating_sub(count))),
+        (1, b";"),
+        (1, end[1]),
+        CALLED,
+        (1, end[2]),
+        (1, b" Q"),
+        CALLS,
+    ];
+    reports_in_parts(rt, alloc, PLAIN, &script, &report)
+}
+
+/// Sees both of each place.
+fn each_goes_on<R: Abort + Threads + Wait + Sync>(rt: &R, alloc: Global) -> Result<(), Fail> {
+    for count in 0..SIZE {
+        assert!(rt; goes_on_behind(rt, alloc, count, &ENDED)?, "{count}");
+        assert!(rt; goes_on_behind(rt, alloc, count, &FAILED)?, "{count}");
+    }
+    Ok(())
 }
 
 #[test]
 fn a_write_is_blocked_at_each_place(rt: HostRuntime) -> Result<(), Fail> {
-    for count in 0..SIZE {
-        let ended = goes_on_behind(&rt, rt.alloc(), count, b"end 0;", b"tape end 0\n", b"End")?;
-        assert!(rt; ended, "{count}");
-        let failed = goes_on_behind(
-            &rt,
-            rt.alloc(),
-            count,
-            b"readfail 0;",
-            b"tape readfail 0\n",
-            b"ReadFault",
-        )?;
-        assert!(rt; failed, "{count}");
-    }
-    Ok(())
+    each_goes_on(&rt, rt.alloc())
 }
 
 /// Whether a reply that is written byte by byte, each write after such lines, is whole.
@@ -126,44 +137,28 @@ fn is_whole_behind<R: Threads + Wait + Sync>(
     alloc: Global,
     lines: &[u8],
 ) -> Result<bool, AllocError> {
-    let script = whole(
-        alloc,
-        &[
-            (1, b"open;data 0 P;end 0;"),
-            (SIZE, lines),
-            (1, b"writefail 0;"),
-        ],
-    )?;
-    let marks = whole(alloc, &[(SIZE, b"%wrote 0 1;"), (1, b"%end 0;")])?;
-    let report = report_of(alloc, marks.as_slice(), b"End", PONG)?;
-    reports(rt, alloc, PLAIN, script, report.as_slice())
+    let script: [Part; 3] = [
+        (1, b"open;data 0 P;end 0;"),
+        (SIZE, lines),
+        (1, b"writefail 0;"),
+    ];
+    let report: [Part; 6] = [
+        FRONT,
+        (SIZE, b"%wrote 0 1;"),
+        (1, b"%end 0;"),
+        CALLED,
+        (1, b"End Q"),
+        CALLS,
+    ];
+    reports_in_parts(rt, alloc, PLAIN, &script, &report)
 }
 
 #[test]
 fn a_reply_is_written_byte_by_byte(rt: HostRuntime) -> Result<(), Fail> {
-    for lines in [
-        b"write 0 1;".as_slice(),
-        b"block 0;write 0 1;".as_slice(),
-        b"block 0;block 0;write 0 1;".as_slice(),
-    ] {
-        assert!(rt; is_whole_behind(&rt, rt.alloc(), lines)?, "{lines:?}");
-    }
+    assert!(rt; is_whole_behind(&rt, rt.alloc(), b"write 0 1;")?);
+    assert!(rt; is_whole_behind(&rt, rt.alloc(), b"block 0;write 0 1;")?);
+    assert!(rt; is_whole_behind(&rt, rt.alloc(), b"block 0;block 0;write 0 1;")?);
     Ok(())
-}
-
-/// The marks of reading so many bytes of the call, of which fewer than all came.
-fn marks_of_front(alloc: Global, count: usize) -> Result<Vec<u8>, AllocError> {
-    let front: &[u8] = if count > 4 { b"tape read 0 4\n" } else { b"" };
-    let mut marks = front.to_vec(alloc)?;
-    if count > 0 {
-        marks.extend_from_slice(b"tape read 0 ")?;
-        decimal(
-            &mut marks,
-            if count > 4 { count - 4 } else { count } as i128,
-        )?;
-        marks.push(b'\n')?;
-    }
-    Ok(marks)
 }
 
 /// Whether a connection to which so many bytes of the call came, fewer than all, ends so.
@@ -171,42 +166,42 @@ fn ends_behind<R: Threads + Wait + Sync>(
     rt: &R,
     alloc: Global,
     count: usize,
-    end: &[u8],
-    behind: &[u8],
+    end: &End,
 ) -> Result<bool, AllocError> {
-    let line: &[u8] = if count == 0 { b"" } else { b";data 0 " };
-    let script = whole(
-        alloc,
-        &[
-            (1, b"open"),
-            (1, line),
-            (1, call_front(count)),
-            (1, b";"),
-            (1, end),
-        ],
-    )?;
-    let mut report = whole(alloc, &[(1, b"%open 0;")])?;
-    report.extend_from_slice(marks_of_front(alloc, count)?.as_slice())?;
-    report.extend_from_slice(whole(alloc, &[(1, behind)])?.as_slice())?;
-    reports(rt, alloc, PLAIN, script, report.as_slice())
+    let script: [Part; 5] = [
+        (1, b"open"),
+        ((count > 0) as usize, b";data 0 "),
+        (1, call_front(count)),
+        (1, b";"),
+        (1, end[0]),
+    ];
+    // The size comes first, and what is behind it then.
+    let rest = if count > 4 { count - 4 } else { count };
+    let report: [Part; 9] = [
+        (1, b"%open 0;"),
+        ((count > 4) as usize, b"%read 0 4;"),
+        ((count > 0) as usize, b"%read 0 "),
+        ((count > 0) as usize, decimal(rest)),
+        ((count > 0) as usize, b";"),
+        (1, end[1]),
+        (1, b"%close 0;conn 0 "),
+        (1, end[2]),
+        (1, b" -;calls 0;"),
+    ];
+    reports_in_parts(rt, alloc, PLAIN, &script, &report)
+}
+
+/// Sees both of each place.
+fn each_ends<R: Abort + Threads + Wait + Sync>(rt: &R, alloc: Global) -> Result<(), Fail> {
+    for count in 0..SIZE {
+        let end = if count == 0 { &ENDED } else { &CUT };
+        assert!(rt; ends_behind(rt, alloc, count, end)?, "{count}");
+        assert!(rt; ends_behind(rt, alloc, count, &FAILED)?, "{count}");
+    }
+    Ok(())
 }
 
 #[test]
 fn a_call_ends_at_each_place(rt: HostRuntime) -> Result<(), Fail> {
-    for count in 0..SIZE {
-        let behind: &[u8] = match count {
-            0 => b"%end 0;%close 0;conn 0 End -;calls 0;",
-            _ => b"%end 0;%close 0;conn 0 Cut -;calls 0;",
-        };
-        assert!(rt;
-            ends_behind(&rt, rt.alloc(), count, b"end 0;", behind)?,
-            "{count}"
-        );
-        let behind = b"%readfail 0;%close 0;conn 0 ReadFault -;calls 0;";
-        assert!(rt;
-            ends_behind(&rt, rt.alloc(), count, b"readfail 0;", behind)?,
-            "{count}"
-        );
-    }
-    Ok(())
+    each_ends(&rt, rt.alloc())
 }

@@ -1,8 +1,7 @@
 //! Recorded connections through the top call: what is written, and what is refused.
 
-use crate::given::{Ended, Given, REHEARSE, run_script};
+use crate::given::{Called, Ended, Given, REHEARSE, run_script};
 use limits::LONGEST_SCRIPT;
-use outside::{MemSink, MemSource};
 use std::alloc::{AllocError, Global};
 use std::process::Abort;
 use std::sync::Wait;
@@ -10,32 +9,17 @@ use std::test::Fail;
 use std::thread::Threads;
 use thrift_host::Status;
 
-/// Runs the command on `PING`, given and taken a byte at a time, with these numbers of the reads and writes that fail.
-fn run_ping<R: Threads + Wait + Sync>(
-    rt: &R,
-    alloc: Global,
-    reads: &[u64],
-    writes: &[u64],
-) -> Result<Ended, AllocError> {
-    let mut given = Given::empty(alloc);
-    given.input = ping_in_bytes(alloc, reads)?;
-    given.output = MemSink::in_pieces(alloc, writes.to_vec(alloc)?, 1);
-    given.run(rt, alloc, &REHEARSE)
-}
-
-fn ping_in_bytes(alloc: Global, reads: &[u64]) -> Result<MemSource, AllocError> {
-    let script = PING.to_vec(alloc)?;
-    Ok(MemSource::in_pieces(script, reads.to_vec(alloc)?, 1))
-}
-
 const PING: &[u8] = b"open\ndata 0 00000011800100010000000470696e670000000000\nend 0\n";
 
 const PING_REPORT: &[u8] =
     b"tape open 0\ntape read 0 4\ntape read 0 17\ntape wrote 0 21\ntape end 0\ntape close 0\n\
 call 0 0 0 ping {} empty\nconn 0 End 00000011800100020000000470696e670000000000\ncalls 1\n";
 
+/// A script, and how its report ends.
+type Row = (&'static [u8], &'static [u8]);
+
 /// Scripts with the last two lines of their reports, or all where they are two.
-const REPORTS: [(&[u8], &[u8]); 10] = [
+const REPORTS: [Row; 10] = [
     (
         b"# both calls in one piece\nopen\n\ndata 0 00000011800100010000000470696e6700000000000000001E80010001000000036164640000000108000100000001080002000000010\
 0\nend 0",
@@ -74,20 +58,47 @@ const REPORTS: [(&[u8], &[u8]); 10] = [
     ),
 ];
 
+/// Whether a script has this report, and nothing is said.
+fn is_reported<R: Threads + Wait + Sync>(
+    rt: &R,
+    alloc: Global,
+    script: &[u8],
+    report: &[u8],
+) -> Result<bool, AllocError> {
+    Ok(run_script(rt, alloc, script)?.is_done(report))
+}
+
 #[test]
 fn ping_is_reported_whole(rt: HostRuntime) -> Result<(), Fail> {
-    let ended = run_script(&rt, rt.alloc(), PING.to_vec(rt.alloc())?)?;
-    assert!(rt; ended.status == Status::Done && ended.errors.is_empty());
-    assert!(rt; ended.output.as_slice() == PING_REPORT);
+    assert!(rt; is_reported(&rt, rt.alloc(), PING, PING_REPORT)?);
+    Ok(())
+}
+
+/// Whether a script is run, and its report ends so.
+fn ends_so<R: Threads + Wait + Sync>(
+    rt: &R,
+    alloc: Global,
+    script: &[u8],
+    end: &[u8],
+) -> Result<bool, AllocError> {
+    Ok(run_script(rt, alloc, script)?.is_done_with(end))
+}
+
+/// Sees that each script is.
+fn each_ends_so<R: Abort + Threads + Wait + Sync>(
+    rt: &R,
+    alloc: Global,
+    rows: &[Row],
+) -> Result<(), Fail> {
+    for (script, end) in rows {
+        assert!(rt; ends_so(rt, alloc, script, end)?, "{end:?}");
+    }
     Ok(())
 }
 
 #[test]
 fn connections_end_as_recorded(rt: HostRuntime) -> Result<(), Fail> {
-    for (script, end) in &REPORTS {
-        assert!(rt; run_script(&rt, rt.alloc(), script.to_vec(rt.alloc())?)?.is_done_with(end));
-    }
-    Ok(())
+    each_ends_so(&rt, rt.alloc(), &REPORTS)
 }
 
 /// The hexadecimal of a call of `add`.
@@ -118,59 +129,114 @@ conn 0 End 000000178001000200000003616464000000010800000000000200\ncalls 1\n",
     Ok(report)
 }
 
+fn is_reported_byte_by_byte<R: Threads + Wait + Sync>(
+    rt: &R,
+    alloc: Global,
+) -> Result<bool, AllocError> {
+    let script = byte_by_byte(alloc)?;
+    let report = report_byte_by_byte(alloc)?;
+    is_reported(rt, alloc, script.as_slice(), report.as_slice())
+}
+
 #[test]
 fn bytes_may_come_one_by_one(rt: HostRuntime) -> Result<(), Fail> {
-    let report = report_byte_by_byte(rt.alloc())?;
-    let ended = run_script(&rt, rt.alloc(), byte_by_byte(rt.alloc())?)?;
-    assert!(rt; ended.status == Status::Done);
-    assert!(rt; ended.output.as_slice() == report.as_slice());
+    assert!(rt; is_reported_byte_by_byte(&rt, rt.alloc())?);
+    Ok(())
+}
+
+/// What the command comes to on `PING`, given and taken a byte at a time, where this call fails.
+fn run_ping<R: Threads + Wait + Sync>(
+    rt: &R,
+    alloc: Global,
+    kind: Called,
+    call: u64,
+) -> Result<Ended, AllocError> {
+    let given = Given {
+        input: PING,
+        pieces: (1, 1),
+        failing: Some((kind, call)),
+        ..Given::empty()
+    };
+    given.run(rt, alloc, &REHEARSE)
+}
+
+/// Whether it comes to a read fault, or, where no read has that number, is done.
+fn reads_until<R: Threads + Wait + Sync>(
+    rt: &R,
+    alloc: Global,
+    call: u64,
+) -> Result<bool, AllocError> {
+    let ended = run_ping(rt, alloc, Called::Input, call)?;
+    // One read a byte, and one that finds the end.
+    if call <= PING.len() as u64 {
+        return Ok(ended.is_refused(Status::ReadFault, b"thriftd: read fault\n"));
+    }
+    Ok(ended.is_done(PING_REPORT))
+}
+
+/// Sees that of each read, and of one that isn't made.
+fn each_read_fails<R: Abort + Threads + Wait + Sync>(rt: &R, alloc: Global) -> Result<(), Fail> {
+    for call in 0..=PING.len() as u64 + 1 {
+        assert!(rt; reads_until(rt, alloc, call)?, "{call}");
+    }
     Ok(())
 }
 
 #[test]
 fn each_read_may_fail(rt: HostRuntime) -> Result<(), Fail> {
-    // One read a byte, and one that finds the end.
-    let reads = PING.len() as u64 + 1;
-    for call in 0..reads {
-        let ended = run_ping(&rt, rt.alloc(), &[call], &[])?;
-        assert!(rt; ended.is_refused(Status::ReadFault, b"thriftd: read fault\n"));
-    }
-    let ended = run_ping(&rt, rt.alloc(), &[reads], &[])?;
-    assert!(rt; ended.status == Status::Done);
-    Ok(())
+    each_read_fails(&rt, rt.alloc())
 }
 
-/// Whether a run ended at a write that failed, when so many bytes of the report were written.
-fn ended_at_a_write(ended: &Ended, written: u64) -> bool {
-    let is_cut = ended.output.len() as u64 == written && PING_REPORT.starts_with(&ended.output);
-    let is_told = ended.errors.as_slice() == b"thriftd: write fault\n".as_slice();
-    ended.status == Status::WriteFault && is_cut && is_told
+/// Whether it comes to a write fault behind as many bytes of the report, or, where no write has that number, is done.
+fn writes_until<R: Threads + Wait + Sync>(
+    rt: &R,
+    alloc: Global,
+    call: usize,
+) -> Result<bool, AllocError> {
+    let ended = run_ping(rt, alloc, Called::Output, call as u64)?;
+    if call < PING_REPORT.len() {
+        return Ok(ended.is_broken_behind(PING_REPORT, call));
+    }
+    Ok(ended.is_done(PING_REPORT))
+}
+
+/// Sees that of each write, and of one that isn't made.
+fn each_write_fails<R: Abort + Threads + Wait + Sync>(rt: &R, alloc: Global) -> Result<(), Fail> {
+    for call in 0..=PING_REPORT.len() {
+        assert!(rt; writes_until(rt, alloc, call)?, "{call}");
+    }
+    Ok(())
 }
 
 #[test]
 fn each_write_may_fail(rt: HostRuntime) -> Result<(), Fail> {
-    let writes = PING_REPORT.len() as u64;
-    for call in 0..writes {
-        assert!(rt; ended_at_a_write(&run_ping(&rt, rt.alloc(), &[], &[call])?, call));
-    }
-    let ended = run_ping(&rt, rt.alloc(), &[], &[writes])?;
-    assert!(rt; ended.status == Status::Done);
-    assert!(rt; ended.output.as_slice() == PING_REPORT);
-    Ok(())
+    each_write_fails(&rt, rt.alloc())
+}
+
+/// Whether a script is refused where the line that says so isn't written.
+fn is_refused_silently<R: Threads + Wait + Sync>(
+    rt: &R,
+    alloc: Global,
+) -> Result<bool, AllocError> {
+    let given = Given {
+        input: b"open",
+        failing: Some((Called::Errors, 0)),
+        ..Given::empty()
+    };
+    Ok(
+        given
+            .run(rt, alloc, &REHEARSE)?
+            .is_refused(Status::ScriptRefused, b""),
+    )
 }
 
 #[test]
 fn a_line_that_is_not_written_changes_no_status(rt: HostRuntime) -> Result<(), Fail> {
-    let errors = MemSink::new(rt.alloc(), vec![in rt.alloc(); 0]?);
-    let mut given = Given::empty(rt.alloc());
-    given.input = MemSource::new(b"open".to_vec(rt.alloc())?, Vec::new(rt.alloc()));
-    given.errors = errors;
-    let ended = given.run(&rt, rt.alloc(), &REHEARSE)?;
-    assert!(rt; ended.status == Status::ScriptRefused && ended.errors.is_empty());
+    assert!(rt; is_refused_silently(&rt, rt.alloc())?);
     Ok(())
 }
 
-/// Runs the command on a comment of so many bytes, with a connection behind it that opens and ends.
+/// What a comment of so many bytes comes to, with a connection behind it that opens and ends.
 fn run_comment<R: Threads + Wait + Sync>(
     rt: &R,
     alloc: Global,
@@ -178,14 +244,20 @@ fn run_comment<R: Threads + Wait + Sync>(
 ) -> Result<Ended, AllocError> {
     let mut script = vec![in alloc; b'#'; count]?;
     script.extend_from_slice(b"\nopen\nend 0\n")?;
-    run_script(rt, alloc, script)
+    run_script(rt, alloc, script.as_slice())
+}
+
+/// Whether a script of the most bytes is run, and one of a byte more refused.
+fn have_a_longest<R: Threads + Wait + Sync>(rt: &R, alloc: Global) -> Result<bool, AllocError> {
+    if !run_comment(rt, alloc, LONGEST_SCRIPT - 12)?.is_done_with(b"") {
+        return Ok(false);
+    }
+    let line = b"thriftd: script 0 TooLong\n";
+    Ok(run_comment(rt, alloc, LONGEST_SCRIPT - 11)?.is_refused(Status::ScriptRefused, line))
 }
 
 #[test]
 fn scripts_have_a_longest(rt: HostRuntime) -> Result<(), Fail> {
-    let longest = run_comment(&rt, rt.alloc(), LONGEST_SCRIPT - 12)?;
-    assert!(rt; longest.status == Status::Done);
-    let longer = run_comment(&rt, rt.alloc(), LONGEST_SCRIPT - 11)?;
-    assert!(rt; longer.is_refused(Status::ScriptRefused, b"thriftd: script 0 TooLong\n"));
+    assert!(rt; have_a_longest(&rt, rt.alloc())?);
     Ok(())
 }

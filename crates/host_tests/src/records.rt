@@ -1,8 +1,8 @@
 //! Scripts of many connections, served by a loop with two workers on threads.
 
-use crate::given::{Ended, Given};
+use crate::given::Given;
+use crate::machines::{Run, each_ends_so};
 use crate::meeting::Meeting;
-use outside::{EmptyGate, Gate, MemSource};
 use std::alloc::{AllocError, Global};
 use std::process::Abort;
 use std::sync::Wait;
@@ -67,53 +67,47 @@ pub(crate) const PINGS: &[u8] =
 const PINGS_END: &[u8] =
     b"conn 0 End 00000011800100020000000470696e670000000000\nconn 1 End 00000011800100020000000470696e670000000000\ncalls 2\n";
 
-/// The words of runs, their scripts, and how their reports end.
-const RUNS: [(&[&str], &[u8], &[u8]); 3] = [
+/// Runs by a loop and workers.
+const RUNS: [Run; 3] = [
     (&RECORD, KEPT, KEPT_END),
     (&RECORD, TURNED, TURNED_END),
     (&RECORD_LEAST, SUMS, SUMS_END),
 ];
 
-/// Runs the command of these words on a script.
-fn served<G: Gate + Sync, R: Threads + Wait + Sync>(
-    rt: &R,
-    alloc: Global,
-    words: &[&str],
-    script: &[u8],
-    gate: &G,
-) -> Result<Ended, AllocError> {
-    let mut given = Given::empty(alloc);
-    given.input = MemSource::new(script.to_vec(alloc)?, Vec::new(alloc));
-    given.run_behind(rt, alloc, words, gate)
+/// What is given where the input is this script.
+fn on_script(script: &'static [u8]) -> Given<'static> {
+    Given {
+        input: script,
+        ..Given::empty()
+    }
 }
 
 #[test]
 fn recorded_runs_have_their_ends(rt: HostRuntime) -> Result<(), Fail> {
-    for (words, script, end) in RUNS {
-        let ended = served(&rt, rt.alloc(), words, script, &EmptyGate)?;
-        assert!(rt; ended.is_done_with(end));
-    }
-    Ok(())
+    each_ends_so(&rt, rt.alloc(), &RUNS)
+}
+
+/// Whether a script with a schedule is refused.
+fn has_no_schedule<R: Threads + Wait + Sync>(rt: &R, alloc: Global) -> Result<bool, AllocError> {
+    let ended = on_script(b"open\nloop 0\nend 0\n").run(rt, alloc, &RECORD)?;
+    Ok(ended.is_refused(Status::ScriptRefused, b"thriftd: script 2 Schedule\n"))
 }
 
 #[test]
 fn recorded_scripts_have_no_schedule(rt: HostRuntime) -> Result<(), Fail> {
-    let ended = served(
-        &rt,
-        rt.alloc(),
-        &RECORD,
-        b"open\nloop 0\nend 0\n",
-        &EmptyGate,
-    )?;
-    assert!(rt; ended.is_refused(Status::ScriptRefused, b"thriftd: script 2 Schedule\n"));
+    assert!(rt; has_no_schedule(&rt, rt.alloc())?);
     Ok(())
+}
+
+/// Whether two calls meet at a gate, and are answered.
+fn meet<R: Threads + Wait + Sync>(rt: &R, alloc: Global) -> Result<bool, AllocError> {
+    let gate = Meeting::new();
+    let ended = on_script(PINGS).run_behind(rt, alloc, &RECORD, &gate)?;
+    Ok(gate.has_met() && ended.is_done_with(PINGS_END))
 }
 
 #[test]
 fn two_calls_are_under_way_at_once(rt: HostRuntime) -> Result<(), Fail> {
-    let gate = Meeting::new();
-    let ended = served(&rt, rt.alloc(), &RECORD, PINGS, &gate)?;
-    assert!(rt; gate.has_met());
-    assert!(rt; ended.is_done_with(PINGS_END));
+    assert!(rt; meet(&rt, rt.alloc())?);
     Ok(())
 }

@@ -1,7 +1,6 @@
 //! Lines of a schedule for what can't move: they change nothing.
 
-use crate::limits_given::{PLAIN, Run, Setting, has_its_report};
-use std::process::Abort;
+use crate::limits_given::{PLAIN, Run, Setting, each_has_its_report};
 use std::test::Fail;
 
 /// Two workers, and the limits that hold where none are given.
@@ -88,8 +87,5 @@ loop 0;loop 0;",
 
 #[test]
 fn what_can_not_move_makes_no_move(rt: HostRuntime) -> Result<(), Fail> {
-    for run in &SCHEDULES {
-        assert!(rt; has_its_report(&rt, rt.alloc(), run)?, "{:?}", run.1);
-    }
-    Ok(())
+    each_has_its_report(&rt, rt.alloc(), &SCHEDULES)
 }

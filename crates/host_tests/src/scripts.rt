@@ -1,12 +1,18 @@
 //! Texts that are scripts, with the pieces that are read of them, and texts that are none.
 
 use crate::given::run_script;
+use std::alloc::{AllocError, Global};
 use std::process::Abort;
+use std::sync::Wait;
 use std::test::Fail;
+use std::thread::Threads;
 use thrift_host::Status;
 
+/// A text, and what is written of it.
+type Row = (&'static [u8], &'static [u8]);
+
 /// Scripts with the beginnings of their reports, which have a read for each piece.
-const SCRIPTS: [(&[u8], &[u8]); 8] = [
+const SCRIPTS: [Row; 8] = [
     (b"", b"calls 0\n"),
     (b"\n# none\n", b"calls 0\n"),
     (b"open\nend 0\n", b"tape open 0\ntape end 0\n"),
@@ -27,7 +33,7 @@ const SCRIPTS: [(&[u8], &[u8]); 8] = [
 ];
 
 /// Texts that are no scripts, with the line of their first fault and what it is.
-const NO_SCRIPTS: [(&[u8], &[u8]); 27] = [
+const NO_SCRIPTS: [Row; 27] = [
     (b"open", b"thriftd: script 2 NoEnd\n"),
     (b"open\n", b"thriftd: script 2 NoEnd\n"),
     (b"open\ndata 0 41\n", b"thriftd: script 3 NoEnd\n"),
@@ -72,23 +78,57 @@ const NO_SCRIPTS: [(&[u8], &[u8]); 27] = [
     ),
 ];
 
+/// Whether a script is run, and its report begins so.
+fn is_read_so<R: Threads + Wait + Sync>(
+    rt: &R,
+    alloc: Global,
+    text: &[u8],
+    front: &[u8],
+) -> Result<bool, AllocError> {
+    let ended = run_script(rt, alloc, text)?;
+    Ok(ended.status == Status::Done && ended.output.as_slice().starts_with(front))
+}
+
+/// Sees that each script is.
+fn each_is_read_so<R: Abort + Threads + Wait + Sync>(
+    rt: &R,
+    alloc: Global,
+    rows: &[Row],
+) -> Result<(), Fail> {
+    for (text, front) in rows {
+        assert!(rt; is_read_so(rt, alloc, text, front)?, "{text:?}");
+    }
+    Ok(())
+}
+
 #[test]
 fn scripts_are_read_in_pieces(rt: HostRuntime) -> Result<(), Fail> {
-    for (text, front) in &SCRIPTS {
-        let ended = run_script(&rt, rt.alloc(), text.to_vec(rt.alloc())?)?;
-        assert!(rt;
-            ended.status == Status::Done && ended.output.as_slice().starts_with(front),
-            "{text:?}"
-        );
+    each_is_read_so(&rt, rt.alloc(), &SCRIPTS)
+}
+
+/// Whether a text is refused by this line.
+fn is_refused<R: Threads + Wait + Sync>(
+    rt: &R,
+    alloc: Global,
+    text: &[u8],
+    line: &[u8],
+) -> Result<bool, AllocError> {
+    Ok(run_script(rt, alloc, text)?.is_refused(Status::ScriptRefused, line))
+}
+
+/// Sees that each is.
+fn each_is_refused<R: Abort + Threads + Wait + Sync>(
+    rt: &R,
+    alloc: Global,
+    rows: &[Row],
+) -> Result<(), Fail> {
+    for (text, line) in rows {
+        assert!(rt; is_refused(rt, alloc, text, line)?, "{text:?}");
     }
     Ok(())
 }
 
 #[test]
 fn other_texts_are_refused(rt: HostRuntime) -> Result<(), Fail> {
-    for (text, line) in &NO_SCRIPTS {
-        let ended = run_script(&rt, rt.alloc(), text.to_vec(rt.alloc())?)?;
-        assert!(rt; ended.is_refused(Status::ScriptRefused, line), "{text:?}");
-    }
-    Ok(())
+    each_is_refused(&rt, rt.alloc(), &NO_SCRIPTS)
 }

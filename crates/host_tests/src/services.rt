@@ -1,7 +1,6 @@
 //! Services of IDLs through the top call: calls, replies and refused heads in both protocols, and what is refused of pairs.
 
-use crate::given::{Ended, Given, Held, files_of};
-use outside::{MemSink, MemSource};
+use crate::given::{Called, Ended, Given, Held};
 use std::alloc::{AllocError, Global};
 use std::process::Abort;
 use std::sync::Wait;
@@ -113,9 +112,9 @@ binary swap(1: binary key, 2: binary value), list<binary> keys(), oneway void fo
 )];
 
 /// Words, files, the frames of a connection in hexadecimal, and how the report of it ends.
-type Served = (
+pub(crate) type Served = (
     &'static [&'static str],
-    &'static [Held],
+    &'static [Held<'static>],
     &'static [u8],
     &'static [u8],
 );
@@ -298,36 +297,55 @@ pub(crate) fn serve<R: Threads + Wait + Sync>(
     held: &[Held],
     frames: &[u8],
 ) -> Result<Ended, AllocError> {
-    let mut given = Given::empty(alloc);
-    given.files = files_of(alloc, held, &[])?;
-    given.input = MemSource::new(script_of_frames(alloc, frames)?, Vec::new(alloc));
+    let script = script_of_frames(alloc, frames)?;
+    let given = Given {
+        files: held,
+        input: script.as_slice(),
+        ..Given::empty()
+    };
     given.run(rt, alloc, words)
+}
+
+/// Whether a rehearsal is done, and its report ends so.
+fn is_served<R: Threads + Wait + Sync>(
+    rt: &R,
+    alloc: Global,
+    row: &Served,
+) -> Result<bool, AllocError> {
+    Ok(serve(rt, alloc, row.0, row.1, row.2)?.is_done_with(row.3))
+}
+
+/// Sees that each is.
+pub(crate) fn each_is_served<R: Abort + Threads + Wait + Sync>(
+    rt: &R,
+    alloc: Global,
+    rows: &[Served],
+) -> Result<(), Fail> {
+    for row in rows {
+        assert!(rt; is_served(rt, alloc, row)?, "{:?}", row.3);
+    }
+    Ok(())
 }
 
 #[test]
 fn the_calculator_is_served(rt: HostRuntime) -> Result<(), Fail> {
-    for (words, held, frames, end) in &CALCULATED {
-        assert!(rt;
-            serve(&rt, rt.alloc(), words, held, frames)?.is_done_with(end),
-            "{end:?}"
-        );
-    }
-    Ok(())
+    each_is_served(&rt, rt.alloc(), &CALCULATED)
 }
 
 #[test]
 fn services_of_any_idl_are_served(rt: HostRuntime) -> Result<(), Fail> {
-    for (words, held, frames, end) in &SERVED {
-        assert!(rt;
-            serve(&rt, rt.alloc(), words, held, frames)?.is_done_with(end),
-            "{end:?}"
-        );
-    }
-    Ok(())
+    each_is_served(&rt, rt.alloc(), &SERVED)
 }
 
 /// Words and files that are refused, whatever the script, with their statuses and lines.
-const REFUSED: [(&[&str], &[Held], Status, &[u8]); 13] = [
+type Refused = (
+    &'static [&'static str],
+    &'static [Held<'static>],
+    Status,
+    &'static [u8],
+);
+
+const REFUSED: [Refused; 13] = [
     (&["rehearse"], NO_FILES, Status::Usage, b"thriftd: usage\n"),
     (
         &[
@@ -438,44 +456,84 @@ const REFUSED: [(&[&str], &[Held], Status, &[u8]); 13] = [
     ),
 ];
 
-#[test]
-fn the_first_refusal_is_told(rt: HostRuntime) -> Result<(), Fail> {
-    for (words, held, status, line) in &REFUSED {
-        let ended = serve(&rt, rt.alloc(), words, held, b"0")?;
-        assert!(rt; ended.is_refused(*status, line), "{line:?}");
+/// Whether a rehearsal is refused so, whose script is none.
+fn is_refused_so<R: Threads + Wait + Sync>(
+    rt: &R,
+    alloc: Global,
+    row: &Refused,
+) -> Result<bool, AllocError> {
+    Ok(serve(rt, alloc, row.0, row.1, b"0")?.is_refused(row.2, row.3))
+}
+
+/// Sees that each is refused so.
+fn each_is_refused_so<R: Abort + Threads + Wait + Sync>(
+    rt: &R,
+    alloc: Global,
+    rows: &[Refused],
+) -> Result<(), Fail> {
+    for row in rows {
+        assert!(rt; is_refused_so(rt, alloc, row)?, "{:?}", row.3);
     }
     Ok(())
 }
 
-/// The frame of a call that is answered with an exception, and its report.
+#[test]
+fn the_first_refusal_is_told(rt: HostRuntime) -> Result<(), Fail> {
+    each_is_refused_so(&rt, rt.alloc(), &REFUSED)
+}
+
+/// The frame of a call that is answered with an exception.
 const DIVISION: &[u8] =
     b"00000036800100010000000963616c63756c61746500000001080001000000010c00020800010000000108000200000000080003000000040000";
 
-/// Runs that over a sink that takes a hundred bytes at a time, and whose write of this number fails.
+/// How many bytes a write of its report takes.
+const PIECE: usize = 100;
+
+/// What it comes to where the write of this number fails.
 fn serve_until<R: Threads + Wait + Sync>(
     rt: &R,
     alloc: Global,
-    fails: u64,
+    fails: usize,
 ) -> Result<Ended, AllocError> {
-    let mut given = Given::empty(alloc);
-    given.input = MemSource::new(script_of_frames(alloc, DIVISION)?, Vec::new(alloc));
-    given.output = MemSink::in_pieces(alloc, vec![in alloc; fails]?, 100);
+    let script = script_of_frames(alloc, DIVISION)?;
+    let given = Given {
+        input: script.as_slice(),
+        pieces: (usize::MAX, PIECE),
+        failing: Some((Called::Output, fails as u64)),
+        ..Given::empty()
+    };
     given.run(rt, alloc, TUTORIAL)
+}
+
+/// Whether the report is broken off there, or, where no write has that number, whole.
+fn writes_until<R: Threads + Wait + Sync>(
+    rt: &R,
+    alloc: Global,
+    report: &[u8],
+    fails: usize,
+) -> Result<bool, AllocError> {
+    let ended = serve_until(rt, alloc, fails)?;
+    let count = fails.saturating_mul(PIECE);
+    if count < report.len() {
+        return Ok(ended.is_broken_behind(report, count));
+    }
+    Ok(ended.is_done(report))
+}
+
+/// Sees that of each write, and of one that isn't made.
+fn each_write_fails<R: Abort + Threads + Wait + Sync>(
+    rt: &R,
+    alloc: Global,
+    report: &[u8],
+) -> Result<(), Fail> {
+    for number in 0..=report.len().div_ceil(PIECE) {
+        assert!(rt; writes_until(rt, alloc, report, number)?, "{number}");
+    }
+    Ok(())
 }
 
 #[test]
 fn each_write_of_a_report_may_fail(rt: HostRuntime) -> Result<(), Fail> {
     let whole = serve(&rt, rt.alloc(), TUTORIAL, NO_FILES, DIVISION)?;
-    let pieces = (whole.output.len() as u64 + 99) / 100;
-    for number in 0..pieces {
-        let ended = serve_until(&rt, rt.alloc(), number)?;
-        assert!(rt;
-            ended.is_broken_behind(
-                whole.output.as_slice(),
-                (number as usize).saturating_mul(100)
-            )
-        );
-    }
-    assert!(rt; serve_until(&rt, rt.alloc(), pieces)?.is_done(whole.output.as_slice()));
-    Ok(())
+    each_write_fails(&rt, rt.alloc(), whole.output.as_slice())
 }

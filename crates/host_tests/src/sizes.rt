@@ -63,21 +63,26 @@ fn ends_plainly<R: Threads + Wait + Sync>(
     alloc: Global,
     bytes: &[u8],
 ) -> Result<bool, AllocError> {
-    let ended = run_script(rt, alloc, script_of(alloc, bytes)?)?;
+    let script = script_of(alloc, bytes)?;
     let end = plain_end(alloc, bytes)?;
-    Ok(ended.is_done_with(end.as_slice()))
+    Ok(run_script(rt, alloc, script.as_slice())?.is_done_with(end.as_slice()))
+}
+
+/// Whether that holds of three texts, one behind the other.
+fn end_plainly<R: Threads + Wait + Sync>(
+    rt: &R,
+    alloc: Global,
+    parts: [&[u8]; 3],
+) -> Result<bool, AllocError> {
+    let bytes = joined(alloc, parts[0], parts[1], parts[2])?;
+    ends_plainly(rt, alloc, bytes.as_slice())
 }
 
 #[test]
 fn the_plain_split_agrees(rt: HostRuntime) -> Result<(), Fail> {
-    for (first, second, third) in [
-        (PING, ADD, b"".as_slice()),
-        (ADD, ADD, b"\0\0".as_slice()),
-        (ADD, PING, b"\0\0\0\x02a".as_slice()),
-    ] {
-        let bytes = joined(rt.alloc(), first, second, third)?;
-        assert!(rt; ends_plainly(&rt, rt.alloc(), bytes.as_slice())?);
-    }
+    assert!(rt; end_plainly(&rt, rt.alloc(), [PING, ADD, b""])?);
+    assert!(rt; end_plainly(&rt, rt.alloc(), [ADD, ADD, b"\0\0"])?);
+    assert!(rt; end_plainly(&rt, rt.alloc(), [ADD, PING, b"\0\0\0\x02a"])?);
     Ok(())
 }
 
@@ -99,16 +104,26 @@ fn repeated(
 
 const DATA: &[u8] = b"data 0 00000011800100010000000470696e670000000000\n";
 
+/// Whether a script of a hundred thousand frames is run.
+fn many_are_called<R: Threads + Wait + Sync>(rt: &R, alloc: Global) -> Result<bool, AllocError> {
+    let script = repeated(alloc, b"open\n", DATA, 100_000, b"end 0\n")?;
+    Ok(run_script(rt, alloc, script.as_slice())?.is_done_with(b"\ncalls 100000\n"))
+}
+
 #[test]
 fn a_script_of_many_frames_runs(rt: HostRuntime) -> Result<(), Fail> {
-    let script = repeated(rt.alloc(), b"open\n", DATA, 100_000, b"end 0\n")?;
-    assert!(rt; run_script(&rt, rt.alloc(), script)?.is_done_with(b"\ncalls 100000\n"));
+    assert!(rt; many_are_called(&rt, rt.alloc())?);
     Ok(())
+}
+
+/// Whether an IDL of fifty thousand numbers has its schema.
+fn many_are_checked<R: Threads + Wait + Sync>(rt: &R, alloc: Global) -> Result<bool, AllocError> {
+    let text = repeated(alloc, b"const list<i32> A = [", b"1\n", 50_000, b"2]")?;
+    Ok(check_text(rt, alloc, text.as_slice())?.is_done_with(b",1i,1i,2i]\n"))
 }
 
 #[test]
 fn an_idl_of_many_tokens_is_checked(rt: HostRuntime) -> Result<(), Fail> {
-    let text = repeated(rt.alloc(), b"const list<i32> A = [", b"1\n", 50_000, b"2]")?;
-    assert!(rt; check_text(&rt, rt.alloc(), text)?.is_done_with(b",1i,1i,2i]\n"));
+    assert!(rt; many_are_checked(&rt, rt.alloc())?);
     Ok(())
 }

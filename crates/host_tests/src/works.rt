@@ -7,9 +7,13 @@ use std::process::Abort;
 use std::sync::Wait;
 use std::sync::atomic::{AtomicU64, Ordering};
 use std::test::Fail;
+use std::thread::Threads;
+
+/// The words of a workload.
+type Words = [&'static str; 4];
 
 /// The words of workloads with their summaries.
-const ROWS: [([&str; 4], &[u8]); 3] = [
+const ROWS: [(Words, &[u8]); 3] = [
     (
         ["workload", "1", "1", "0"],
         b"connections 1\nframes 1\ncalls 1\nbytes in 34\nbytes out 27\nsum 56323\n",
@@ -24,13 +28,27 @@ const ROWS: [([&str; 4], &[u8]); 3] = [
     ),
 ];
 
-#[test]
-fn workloads_are_summed_up(rt: HostRuntime) -> Result<(), Fail> {
+/// Whether a workload has this summary.
+fn is_summed_up<R: Threads + Wait + Sync>(
+    rt: &R,
+    alloc: Global,
+    words: &Words,
+    summary: &[u8],
+) -> Result<bool, AllocError> {
+    Ok(Given::empty().run(rt, alloc, words)?.is_done(summary))
+}
+
+/// Sees that each has.
+fn each_is_summed_up<R: Abort + Threads + Wait + Sync>(rt: &R, alloc: Global) -> Result<(), Fail> {
     for (words, summary) in &ROWS {
-        let ended = Given::empty(rt.alloc()).run(&rt, rt.alloc(), words)?;
-        assert!(rt; ended.is_done(summary), "{words:?}");
+        assert!(rt; is_summed_up(rt, alloc, words, summary)?, "{words:?}");
     }
     Ok(())
+}
+
+#[test]
+fn workloads_are_summed_up(rt: HostRuntime) -> Result<(), Fail> {
+    each_is_summed_up(&rt, rt.alloc())
 }
 
 /// Counts the outcomes of each frame of the first eight connections, and those of others.
@@ -80,12 +98,21 @@ impl Gate for Counting {
     }
 }
 
+/// Whether each of so many frames of a workload has one outcome.
+fn puts_each_once<R: Threads + Wait + Sync>(
+    rt: &R,
+    alloc: Global,
+    words: &Words,
+    frames: usize,
+) -> Result<bool, AllocError> {
+    let gate = Counting::of(alloc, frames)?;
+    let ended = Given::empty().run_behind(rt, alloc, words, &gate)?;
+    Ok(ended.is_done_with(b"") && gate.has_each_once())
+}
+
 #[test]
 fn each_outcome_is_put_once(rt: HostRuntime) -> Result<(), Fail> {
-    for (words, frames) in [(ROWS[0].0, 1), (["workload", "7", "1000", "2"], 1000)] {
-        let gate = Counting::of(rt.alloc(), frames)?;
-        let ended = Given::empty(rt.alloc()).run_behind(&rt, rt.alloc(), &words, &gate)?;
-        assert!(rt; ended.is_done_with(b"") && gate.has_each_once());
-    }
+    assert!(rt; puts_each_once(&rt, rt.alloc(), &ROWS[0].0, 1)?);
+    assert!(rt; puts_each_once(&rt, rt.alloc(), &["workload", "7", "1000", "2"], 1_000)?);
     Ok(())
 }
