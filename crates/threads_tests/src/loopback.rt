@@ -1,9 +1,8 @@
 //! A client calls over a loopback socket.
 
-use crate::byte_desk::{ByteDesk, LIMITS};
 use crate::journal::KeyJournal;
+use crate::running::serve_links;
 use conn_table::Outcome;
-use host_loop::serve;
 use host_model::EndCause;
 use house_handlers::Mirror;
 use net_links::NetBinder;
@@ -37,16 +36,14 @@ fn clients_are_served(rt: HostRuntime) -> Result<(), Fail> {
         let port = links.port()?;
         let first = thread::spawn(&rt, move || ask(&rt, port))?;
         let second = thread::spawn(&rt, move || ask(&rt, port))?;
-        let served = serve(
+        let served = serve_links(
             &rt,
             rt.alloc(),
+            &EmptyGate,
             &mut links,
-            &ByteDesk {},
             vec![in rt.alloc(); Mirror::new()]?,
             KeyJournal::new(rt.alloc(), 1_000),
             workers,
-            &EmptyGate,
-            LIMITS,
         );
         let backs = (first.join(&rt), second.join(&rt));
         binder.take_back(links);

@@ -1,7 +1,9 @@
 //! One script, served over links of it and rehearsed.
 
-ghost use Rattle.std.specs.Prelude.{◌≡◌, ◌≤◌, IfSome, length};
+ghost use Rattle.std.specs.Prelude.{◌≡◌, ◌≤◌, IfSome, false, length};
+ghost use Rattle.outside.specs.Opening.{AreFreshLinks};
 ghost use Rattle.script_text.specs.Sound.{MovesItsWorkers};
+ghost use Rattle.threads_tests.specs.Untold.{untold};
 
 use crate::breaking::BreakingLinks;
 use crate::byte_desk::{ByteDesk, LIMITS};
@@ -10,7 +12,7 @@ use crate::meeting::Meeting;
 use cell_core::{Rehearsed, rehearse};
 use host_loop::{Served, serve};
 use house_handlers::Mirror;
-use outside::{Cursor, MarkAt};
+use outside::{Cursor, Gate, Links, MarkAt};
 use script_links::ScriptLinks;
 use script_text::laws::scripts_are_sound;
 use script_text::{Script, read_script};
@@ -51,6 +53,58 @@ pub(crate) fn script_of(alloc: Global, text: &[u8]) -> Option<Script>
     }
 }
 
+/// Calls `serve` with the desk and the limits of all runs. What its contract says isn't handed on: the tests look at what was done.
+pub(crate) fn serve_links<L: Links, G: Gate + Sync, R: Threads + Wait + Sync>(
+    rt: &R,
+    alloc: Global,
+    gate: &G,
+    links: &mut L,
+    handlers: Vec<Mirror>,
+    journal: KeyJournal,
+    workers: u32,
+) -> Served<Mirror, KeyJournal>
+    requires fresh { AreFreshLinks (L.state links.old) }
+    requires few { workers ≤ 8 }
+    requires one { length handlers.items ≡ 1 }
+    requires whole { journal.torn ≡ false }
+{
+    serve(
+        rt,
+        alloc,
+        links,
+        &ByteDesk {},
+        handlers,
+        journal,
+        workers,
+        gate,
+        LIMITS,
+    )
+}
+
+/// Serves over links, where the journal fails at this append.
+fn run_over<R: Threads + Wait + Sync>(
+    rt: &R,
+    alloc: Global,
+    gate: &Meeting,
+    links: BreakingLinks,
+    handlers: Vec<Mirror>,
+    workers: u32,
+    append: usize,
+) -> Run
+    requires fresh { AreFreshLinks (untold links.links links.faults) }
+    requires few { workers ≤ 8 }
+    requires one { length handlers.items ≡ 1 }
+{
+    let mut links = links;
+    let journal = KeyJournal::new(alloc, append);
+    let served = serve_links(rt, alloc, gate, &mut links, handlers, journal, workers);
+    Run {
+        is_broken: links.faults > 0,
+        links: links.links,
+        served,
+    }
+}
+
 /// Serves a script with so many workers, where the journal fails at this append, and the links at this ask.
 pub(crate) fn served<R: Threads + Wait + Sync>(
     rt: &R,
@@ -77,24 +131,10 @@ pub(crate) fn served_behind<R: Threads + Wait + Sync>(
 ) -> Option<Run>
     requires { workers ≤ 8 }
 {
+    let handlers = one_mirror(alloc)?;
     let links = ScriptLinks::new(alloc, script_of(alloc, text)?).ok()?;
-    let mut links = BreakingLinks::new(links, ask);
-    let served = serve(
-        rt,
-        alloc,
-        &mut links,
-        &ByteDesk {},
-        one_mirror(alloc)?,
-        KeyJournal::new(alloc, append),
-        workers,
-        gate,
-        LIMITS,
-    );
-    Some(Run {
-        is_broken: links.faults > 0,
-        links: links.links,
-        served,
-    })
+    let links = BreakingLinks::new(links, ask);
+    Some(run_over(rt, alloc, gate, links, handlers, workers, append))
 }
 
 /// Rehearses a script without workers, where the journal fails at this append.
@@ -103,8 +143,8 @@ pub(crate) fn rehearsed(
     text: &[u8],
     fails_at: usize,
 ) -> Option<Rehearsed<Mirror, KeyJournal>> {
-    let script = script_of(alloc, text)?;
     let handlers = one_mirror(alloc)?;
+    let script = script_of(alloc, text)?;
     let journal = KeyJournal::new(alloc, fails_at);
     Some(rehearse(alloc, &script, &ByteDesk {}, handlers, journal, 0, LIMITS))
 }

@@ -1,14 +1,19 @@
 //! Scripts are served as they are rehearsed: each connection has the same marks and the same end, and as many calls are made.
 
+ghost use Rattle.std.specs.Prelude.{◌≤◌};
+
 use crate::journal::KeyJournal;
 use crate::meeting::Meeting;
 use crate::running::{NEVER, Run, has_same_marks, rehearsed, served, served_behind};
 use cell_core::Rehearsed;
 use conn_table::Outcome;
 use house_handlers::Mirror;
+use std::alloc::Global;
+use std::sync::Wait;
 use std::test::Fail;
+use std::thread::Threads;
 
-pub(crate) const SCRIPTS: [&[u8]; 8] = [
+const SCRIPTS: [&[u8]; 8] = [
     // Calls on one connection, with a silent one between them; the last one comes in two pieces.
     b"open\ndata 0 0000000105000000010100000001\ndata 0 06\nend 0\n",
     // Three connections, of which the first calls nothing, and rests between their lines.
@@ -28,7 +33,7 @@ pub(crate) const SCRIPTS: [&[u8]; 8] = [
 ];
 
 /// Whether serving a script came to what its rehearsal came to.
-pub(crate) fn came_to_the_same(run: &Run, other: &Rehearsed<Mirror, KeyJournal>) -> bool {
+fn came_to_the_same(run: &Run, other: &Rehearsed<Mirror, KeyJournal>) -> bool {
     let ends = other.ends.as_slice();
     if run.served.outcome != other.outcome
         || run.served.ends.as_slice() != ends
@@ -44,37 +49,65 @@ pub(crate) fn came_to_the_same(run: &Run, other: &Rehearsed<Mirror, KeyJournal>)
     true
 }
 
+/// Whether a script is served by so many workers as it is rehearsed.
+fn is_served_so<R: Threads + Wait + Sync>(
+    rt: &R,
+    alloc: Global,
+    text: &[u8],
+    workers: u32,
+    other: &Rehearsed<Mirror, KeyJournal>,
+) -> bool
+    requires { workers ≤ 8 }
+{
+    match served(rt, alloc, text, workers, NEVER, NEVER) {
+        Some(run) => came_to_the_same(&run, other),
+        None => false,
+    }
+}
+
+/// Whether it is so by no worker, one, two and eight.
+fn is_always_served_so<R: Threads + Wait + Sync>(
+    rt: &R,
+    alloc: Global,
+    text: &[u8],
+    other: &Rehearsed<Mirror, KeyJournal>,
+) -> bool {
+    is_served_so(rt, alloc, text, 0, other)
+        && is_served_so(rt, alloc, text, 1, other)
+        && is_served_so(rt, alloc, text, 2, other)
+        && is_served_so(rt, alloc, text, 8, other)
+}
+
+/// Whether a script is rehearsed to its end, and always served so.
+fn is_served_as_rehearsed<R: Threads + Wait + Sync>(rt: &R, alloc: Global, text: &[u8]) -> bool {
+    match rehearsed(alloc, text, NEVER) {
+        Some(other) => {
+            other.outcome == Outcome::All && is_always_served_so(rt, alloc, text, &other)
+        }
+        None => false,
+    }
+}
+
 #[test]
 fn scripts_are_served_as_they_are_rehearsed(rt: HostRuntime) -> Result<(), Fail> {
-    let alloc = rt.alloc();
-    for text in SCRIPTS {
-        let Some(other) = rehearsed(alloc, text, NEVER) else {
-            panic!(rt; "it is rehearsed")
-        };
-        assert!(rt; other.outcome == Outcome::All);
-        for workers in [0, 1, 2, 8] {
-            let Some(run) = served(&rt, alloc, text, workers, NEVER, NEVER) else {
-                panic!(rt; "it is served")
-            };
-            assert!(rt;
-                came_to_the_same(&run, &other),
-                "{workers} {:?} {:?} {}",
-                text,
-                run.served.ends.as_slice(),
-                run.served.journal.keys.len()
-            );
-        }
+    for text in &SCRIPTS {
+        assert!(rt; is_served_as_rehearsed(&rt, rt.alloc(), text));
     }
     Ok(())
 }
 
-#[test]
-fn two_calls_are_under_way_at_once(rt: HostRuntime) -> Result<(), Fail> {
+/// Whether two calls meet at a gate, and all is served.
+fn meet<R: Threads + Wait + Sync>(rt: &R, alloc: Global) -> bool {
     let gate = Meeting::of(2);
     let text = b"open\nopen\ndata 0 0000000105\ndata 1 0000000107\nend 0\nend 1\n";
-    let Some(run) = served_behind(&rt, rt.alloc(), &gate, text, 2, NEVER, NEVER) else {
-        panic!(rt; "it is served")
-    };
-    assert!(rt; run.served.outcome == Outcome::All && gate.has_met());
+    match served_behind(rt, alloc, &gate, text, 2, NEVER, NEVER) {
+        Some(run) => run.served.outcome == Outcome::All && gate.has_met(),
+        None => false,
+    }
+}
+
+#[test]
+fn two_calls_are_under_way_at_once(rt: HostRuntime) -> Result<(), Fail> {
+    assert!(rt; meet(&rt, rt.alloc()));
     Ok(())
 }

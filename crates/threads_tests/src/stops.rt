@@ -106,17 +106,25 @@ fn stops_right<R: Threads + Wait + Sync>(
     }
 }
 
-#[test]
-fn a_journal_and_links_that_fail_stop_what_is_open(rt: HostRuntime) -> Result<(), Fail> {
-    for workers in [0, 4] {
-        for append in 0..=CALLS {
-            for ask in 0..=ASKS {
-                let ask = if ask < ASKS { ask } else { NEVER };
-                let right = stops_right(&rt, rt.alloc(), workers, append, ask);
-                assert!(rt; right, "{workers} {append} {ask}");
+/// Whether that holds of each append and each ask, and where nothing fails.
+fn all_stop_right<R: Threads + Wait + Sync>(rt: &R, alloc: Global, workers: u32) -> bool
+    requires { workers ≤ 8 }
+{
+    for append in 0..=CALLS {
+        for ask in 0..=ASKS {
+            let ask = if ask < ASKS { ask } else { NEVER };
+            if !stops_right(rt, alloc, workers, append, ask) {
+                return false;
             }
         }
     }
+    true
+}
+
+#[test]
+fn a_journal_and_links_that_fail_stop_what_is_open(rt: HostRuntime) -> Result<(), Fail> {
+    assert!(rt; all_stop_right(&rt, rt.alloc(), 0));
+    assert!(rt; all_stop_right(&rt, rt.alloc(), 4));
     Ok(())
 }
 
@@ -138,9 +146,7 @@ fn replies_to_the_first<R: Threads + Wait + Sync>(rt: &R, alloc: Global, workers
 
 #[test]
 fn a_call_whose_append_fails_has_no_reply(rt: HostRuntime) -> Result<(), Fail> {
-    for workers in [0, 4] {
-        let right = replies_to_the_first(&rt, rt.alloc(), workers);
-        assert!(rt; right, "{workers}");
-    }
+    assert!(rt; replies_to_the_first(&rt, rt.alloc(), 0));
+    assert!(rt; replies_to_the_first(&rt, rt.alloc(), 4));
     Ok(())
 }
