@@ -1,9 +1,7 @@
 //! Comparisons of an IDL with the one that comes after it, through the top call.
 
-use crate::given::{Ended, Given};
-use outside::{MemFiles, MemSink};
+use crate::given::{Called, Ended, Given};
 use std::alloc::{AllocError, Global};
-use std::process::Abort;
 use std::sync::Wait;
 use std::test::Fail;
 use std::thread::Threads;
@@ -25,24 +23,19 @@ service W { void f() } service V extends W {} => service W {} service V extends 
 exception E {} service V { i8 f(1: i8 a) throws (1: E e) } => exception E {} service V { i8 f(1: i8 a) throws (1: E e 3: E g 2: E h) } => break f 2 Throws
 service V { i8 f() } => service V { void f() } => break f 0 Result";
 
-/// The files of two IDLs, where the calls with these numbers fail.
-fn both(alloc: Global, old: &[u8], new: &[u8], fails: &[u64]) -> Result<MemFiles, AllocError> {
-    let mut files = Vec::new(alloc);
-    files.push((String::from_str(alloc, "a.thrift")?, old.to_vec(alloc)?))?;
-    files.push((String::from_str(alloc, "b.thrift")?, new.to_vec(alloc)?))?;
-    Ok(MemFiles::new(files, fails.to_vec(alloc)?))
-}
-
-/// Compares two IDLs; the writes with these numbers fail.
+/// Compares two IDLs, where a call fails.
 fn compared<R: Threads + Wait + Sync>(
     rt: &R,
     alloc: Global,
-    files: MemFiles,
-    writes: Vec<u64>,
+    old: &[u8],
+    new: &[u8],
+    failing: Option<(Called, u64)>,
 ) -> Result<Ended, AllocError> {
-    let mut given = Given::empty(alloc);
-    given.files = files;
-    given.output = MemSink::new(alloc, writes);
+    let given = Given {
+        files: &[("a.thrift", old), ("b.thrift", new)],
+        failing,
+        ..Given::empty()
+    };
     given.run(rt, alloc, &["compat", "a.thrift", "b.thrift"])
 }
 
@@ -70,38 +63,55 @@ fn is_told<R: Threads + Wait + Sync>(rt: &R, alloc: Global, row: &str) -> Result
     let Some((new, line)) = more.split_once(" => ") else {
         return Ok(false);
     };
-    let files = both(alloc, old.as_bytes(), new.as_bytes(), &[])?;
-    let ended = compared(rt, alloc, files, Vec::new(alloc))?;
+    let ended = compared(rt, alloc, old.as_bytes(), new.as_bytes(), None)?;
     Ok(has_told(&ended, line))
+}
+
+/// Whether the change of each row is.
+fn are_told<R: Threads + Wait + Sync>(
+    rt: &R,
+    alloc: Global,
+    rows: &str,
+) -> Result<bool, AllocError> {
+    for row in rows.split('\n') {
+        if !is_told(rt, alloc, row)? {
+            return Ok(false);
+        }
+    }
+    Ok(true)
 }
 
 #[test]
 fn changes_are_told(rt: HostRuntime) -> Result<(), Fail> {
-    for row in CHANGES.split('\n') {
-        assert!(rt; is_told(&rt, rt.alloc(), row)?);
-    }
+    assert!(rt; are_told(&rt, rt.alloc(), CHANGES)?);
     Ok(())
+}
+
+/// Whether the tutorial is compatible with itself.
+fn is_tutorial_compatible<R: Threads + Wait + Sync>(
+    rt: &R,
+    alloc: Global,
+) -> Result<bool, AllocError> {
+    let ended = Given::empty().run(rt, alloc, &["compat", "@tutorial", "@tutorial"])?;
+    Ok(ended.is_done(b"compatible\n"))
 }
 
 #[test]
 fn the_tutorial_is_compatible_with_itself(rt: HostRuntime) -> Result<(), Fail> {
-    let given = Given::empty(rt.alloc());
-    let ended = given.run(&rt, rt.alloc(), &["compat", "@tutorial", "@tutorial"])?;
-    assert!(rt; ended.is_done(b"compatible\n"));
+    assert!(rt; is_tutorial_compatible(&rt, rt.alloc())?);
     Ok(())
 }
 
-/// Whether a comparison with this IDL ends so, where the calls of the files with these numbers fail.
+/// Whether a comparison with this IDL is refused by this line, where a call fails.
 fn ends_before<R: Threads + Wait + Sync>(
     rt: &R,
     alloc: Global,
     new: &[u8],
-    fails: &[u64],
+    failing: Option<(Called, u64)>,
     status: Status,
     line: &[u8],
 ) -> Result<bool, AllocError> {
-    let files = both(alloc, b"struct S { 1: i32 a }", new, fails)?;
-    let ended = compared(rt, alloc, files, Vec::new(alloc))?;
+    let ended = compared(rt, alloc, b"struct S { 1: i32 a }", new, failing)?;
     Ok(ended.is_refused(status, line))
 }
 
@@ -112,7 +122,7 @@ fn a_new_idl_is_refused(rt: HostRuntime) -> Result<(), Fail> {
             &rt,
             rt.alloc(),
             b"struct T { 1: X a }",
-            &[],
+            None,
             Status::IdlRefused,
             b"thriftd: idl b.thrift 1:15 UnknownType\n",
         )?
@@ -127,20 +137,23 @@ fn a_new_idl_is_not_read(rt: HostRuntime) -> Result<(), Fail> {
             &rt,
             rt.alloc(),
             b"",
-            &[1],
+            Some((Called::File, 1)),
             Status::FileFault,
-            b"thriftd: file fault\n"
+            b"thriftd: file fault\n",
         )?
     );
     Ok(())
 }
 
+/// Whether the line of a comparison isn't written, where its write fails.
+fn is_line_lost<R: Threads + Wait + Sync>(rt: &R, alloc: Global) -> Result<bool, AllocError> {
+    let ended = compared(rt, alloc, b"struct S {}", b"", Some((Called::Output, 0)))?;
+    Ok(ended.is_refused(Status::WriteFault, b"thriftd: write fault\n"))
+}
+
 #[test]
 fn a_line_is_not_written(rt: HostRuntime) -> Result<(), Fail> {
-    let alloc = rt.alloc();
-    let files = both(alloc, b"struct S {}", b"", &[])?;
-    let ended = compared(&rt, alloc, files, vec![in alloc; 0u64]?)?;
-    assert!(rt; ended.is_refused(Status::WriteFault, b"thriftd: write fault\n"));
+    assert!(rt; is_line_lost(&rt, rt.alloc())?);
     Ok(())
 }
 
@@ -163,17 +176,17 @@ fn chain(alloc: Global) -> Result<Vec<u8>, AllocError> {
     Ok(text)
 }
 
-/// Both of two IDLs are this chain.
-fn chains(alloc: Global) -> Result<MemFiles, AllocError> {
+/// Whether the chain is compatible with itself.
+fn is_chain_compatible<R: Threads + Wait + Sync>(
+    rt: &R,
+    alloc: Global,
+) -> Result<bool, AllocError> {
     let text = chain(alloc)?;
-    both(alloc, &text, &text, &[])
+    Ok(compared(rt, alloc, &text, &text, None)?.is_done(b"compatible\n"))
 }
 
 #[test]
 fn a_long_chain_is_compatible_with_itself(rt: HostRuntime) -> Result<(), Fail> {
-    let alloc = rt.alloc();
-    let files = chains(alloc)?;
-    let ended = compared(&rt, alloc, files, Vec::new(alloc))?;
-    assert!(rt; ended.is_done(b"compatible\n"));
+    assert!(rt; is_chain_compatible(&rt, rt.alloc())?);
     Ok(())
 }
