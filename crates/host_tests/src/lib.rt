@@ -17,6 +17,8 @@ mod frame_limits;
 #[cfg(test)]
 mod given;
 #[cfg(test)]
+mod hostile;
+#[cfg(test)]
 mod idls;
 #[cfg(test)]
 mod limits_given;

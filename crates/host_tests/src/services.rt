@@ -282,7 +282,7 @@ list<bytes>[\"a\"]\noneway 0 4 0 forget {1=\"a\"} empty\ncall 0 5 0 get {1=\"a\"
 ];
 
 /// The script of a connection with these frames, given as hexadecimal in one piece.
-fn script_of_frames(alloc: Global, frames: &[u8]) -> Result<Vec<u8>, AllocError> {
+pub(crate) fn script_of_frames(alloc: Global, frames: &[u8]) -> Result<Vec<u8>, AllocError> {
     let mut script = b"open\ndata 0 ".to_vec(alloc)?;
     script.extend_from_slice(frames)?;
     script.extend_from_slice(b"\nend 0\n")?;
