@@ -2,12 +2,11 @@
 """Times `compat` on schemas at size: changes.py [THRIFTD]
 
 A chain of 10,000 structs, of which each holds the next, and a service of 100,000 functions, each compared with itself, and with one in which what comes last has changed.
-Prints seconds and MB of each run; ends with status 1 where one takes more than two seconds or 500 MB, or doesn't say what it should."""
+Prints seconds of a processor and MB of each run; ends with status 1 where one takes more than two seconds or 500 MB, or doesn't say what it should."""
 import os
 import subprocess
 import sys
 import tempfile
-import time
 
 sys.path.insert(0, os.path.join(os.path.dirname(os.path.abspath(__file__)), "..", "trials"))
 from built import built_program
@@ -24,12 +23,11 @@ def functions(last):
 
 
 def measured(program, old, new):
-    """How `compat` ends, its output, its seconds and its MB."""
+    """How `compat` ends, its output, its seconds of a processor and its MB."""
     with tempfile.TemporaryFile() as output:
-        start = time.monotonic()
         child = subprocess.Popen([program, "compat", old, new], stdin=subprocess.DEVNULL, stdout=output, stderr=subprocess.DEVNULL)
         _, status, used = os.wait4(child.pid, 0)
-        seconds = time.monotonic() - start
+        seconds = used.ru_utime + used.ru_stime
         output.seek(0)
         return os.waitstatus_to_exitcode(status), output.read().decode(), seconds, used.ru_maxrss / 1024
 
