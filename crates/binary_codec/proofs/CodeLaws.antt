@@ -32,7 +32,7 @@ unfolding tag_of_code
 code_is code t e =
     code_if code 2 tags.Bool t _ refl (λ e. code_if code 3 tags.I8 t _ refl (λ e. code_if code 4 tags.Double t _ refl (λ e. code_if code 6 tags.I16 t _ refl
     (λ e. code_if code 8 tags.I32 t _ refl (λ e. code_if code 10 tags.I64 t _ refl (λ e. code_if code 11 tags.Bytes t _ refl (λ e. code_if code 12 tags.Struct t _ refl
-    (λ e. code_if code 13 tags.Map t _ refl (λ e. code_if code 14 tags.Set t _ refl (λ e. code_if code 15 tags.List t _ refl (none_is_some code t) e) e) e) e) e) e) e) e) e) e) e
+    (λ e. code_if code 13 tags.Map t _ refl (λ e. code_if code 14 tags.Set t _ refl (λ e. code_if code 15 tags.List t _ refl (λ e. code_if code 16 tags.Uuid t _ refl (none_is_some code t) e) e) e) e) e) e) e) e) e) e) e) e
 
 pub tag_is : (t : Tag) → tag_of_code (code_of t) ≡ Some t
 unfolding tag_of_code
@@ -47,6 +47,7 @@ tag_is tags.Struct = refl
 tag_is tags.Map = refl
 tag_is tags.Set = refl
 tag_is tags.List = refl
+tag_is tags.Uuid = refl
 
 -- each code is a byte, and none is that of a struct's end
 pub code_small : (t : Tag) → (code_of t < 256) × (0 < code_of t)
@@ -61,6 +62,7 @@ code_small tags.Struct = (omega arith, omega arith)
 code_small tags.Map = (omega arith, omega arith)
 code_small tags.Set = (omega arith, omega arith)
 code_small tags.List = (omega arith, omega arith)
+code_small tags.Uuid = (omega arith, omega arith)
 
 tag_found_if : (o : Option Tag) (code : ℕ) (before after : Unread) (t : Tag) → tag_of_code code ≡ o → tag_or_fault code o before ≡ Ok (t, after) → (code ≡ code_of t) × (after ≡ before)
 tag_found_if None code before after t is e = absurd cc

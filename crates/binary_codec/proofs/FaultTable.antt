@@ -1,6 +1,6 @@
 -- Each part has the first fault that the table tells of the bytes that are left, and no other.
 use Rattle.std.specs.Prelude.{ℤ, pos, negsuc}
-use Rattle.std.specs.Int.{w8, w16, w32, w64}
+use Rattle.std.specs.Int.{w8, w16, w32, w64, w128}
 use Rattle.std.proofs.Common.{◌≡◌, inl, inr, ℕ, suc, ◌^◌, ◌<◌, ◌≤◌, Bool, true, false, cond, eqb, leb, List, [], ◌∷◌, ◌++◌, length, Option, Some, None, Result, Ok, Err, refl, sym, ap, subst, ◌∙◌, arith}
 use Rattle.std.proofs.lemmas.Bool.{eqb-false, ne_eqb, leb-true, leb-false, lt-leb}
 use Rattle.std.proofs.lemmas.Int.{fits_signed_from_abs}
@@ -13,7 +13,7 @@ use Rattle.thrift_value.specs.declared.tag.Tag.{Tag}
 use Rattle.thrift_value.specs.declared.tag.Tag.TheVariants as tags
 use Rattle.thrift_value.specs.declared.wire_fault.WireFault.{WireFault}
 use Rattle.thrift_value.specs.declared.wire_fault.WireFault.TheVariants.{Short, BadType, BadSize}
-use Rattle.thrift_value.specs.Tree.{of_bool, of_i8, of_i16, of_i32, of_i64, of_double}
+use Rattle.thrift_value.specs.Tree.{of_bool, of_i8, of_i16, of_i32, of_i64, of_double, of_uuid}
 use Rattle.wire_model.specs.Decoder.{Unread, ◌>>=◌, give}
 use Rattle.wire_model.specs.Wire.{FieldHeader, stop, typed, IsScalar}
 use Rattle.wire_model.proofs.Steps.{went_on, goes_on, failed, fails, ok_is}
@@ -133,6 +133,9 @@ scalar_fault_found tags.I64 is unread fault fits e =
 scalar_fault_found tags.Double is unread fault fits e =
     let s = fixed_fault 8 (unsigned_of w64) unread fault (given_no_fault (unsigned w64 unread) (λ n. of_double n) fault (failed (unsigned w64 unread) (λ n. give (of_double n)) fault e)) in
     scalar_fault_is tags.Double fault unread.bytes s.0 s.1
+scalar_fault_found tags.Uuid is unread fault fits e =
+    let s = fixed_fault 16 (unsigned_of w128) unread fault (given_no_fault (unsigned w128 unread) (λ n. of_uuid n) fault (failed (unsigned w128 unread) (λ n. give (of_uuid n)) fault e)) in
+    scalar_fault_is tags.Uuid fault unread.bytes s.0 s.1
 scalar_fault_found tags.Bytes is unread fault fits e = absurd is
 scalar_fault_found tags.Struct is unread fault fits e = absurd is
 scalar_fault_found tags.Map is unread fault fits e = absurd is
@@ -147,6 +150,7 @@ scalar_short tags.I16 is unread less = fails (signed w16 unread) (λ n. give (of
 scalar_short tags.I32 is unread less = fails (signed w32 unread) (λ n. give (of_i32 n)) Short (fixed_short 4 (signed_of w32) unread less)
 scalar_short tags.I64 is unread less = fails (signed w64 unread) (λ n. give (of_i64 n)) Short (fixed_short 8 (signed_of w64) unread less)
 scalar_short tags.Double is unread less = fails (unsigned w64 unread) (λ n. give (of_double n)) Short (fixed_short 8 (unsigned_of w64) unread less)
+scalar_short tags.Uuid is unread less = fails (unsigned w128 unread) (λ n. give (of_uuid n)) Short (fixed_short 16 (unsigned_of w128) unread less)
 scalar_short tag is unread less = absurd is
 
 pub scalar_fault_only : (tag : Tag) → IsScalar tag → (unread : Unread) (fault : WireFault) → HasScalarFault tag fault unread.bytes → binary_scalar tag unread ≡ Err fault

@@ -1,13 +1,14 @@
 -- A part that isn't Short stays, whatever follows the bytes.
 use Rattle.std.specs.Prelude.{ℤ, pos, negsuc}
-use Rattle.std.specs.Int.{w8, w16, w32, w64}
+use Rattle.std.specs.Int.{w8, w16, w32, w64, w128}
 use Rattle.std.proofs.Common.{ℕ, Bool, true, false, cond, eqb, Result}
 use Rattle.wire_num.proofs.Widths.{wide_8, wide_16, wide_32, wide_64}
+use Rattle.wire_num.proofs.Halves.{wide_128}
 use Rattle.thrift_value.specs.declared.tag.Tag.{Tag}
 use Rattle.thrift_value.specs.declared.tag.Tag.TheVariants as tags
 use Rattle.thrift_value.specs.declared.wire_fault.WireFault.{WireFault}
 use Rattle.thrift_value.specs.declared.wire_fault.WireFault.TheVariants.{BadSize}
-use Rattle.thrift_value.specs.Tree.{of_bool, of_i8, of_i16, of_i32, of_i64, of_double}
+use Rattle.thrift_value.specs.Tree.{of_bool, of_i8, of_i16, of_i32, of_i64, of_double, of_uuid}
 use Rattle.wire_model.specs.Decoder.{Unread, ◌>>=◌, give}
 use Rattle.wire_model.specs.Wire.{FieldHeader, stop, typed, IsScalar}
 use Rattle.wire_model.specs.Protocol.{StaysAs, ArePartsStable}
@@ -47,6 +48,7 @@ scalar_stays tags.I16 is = then_stays (signed w16) (signed w16) (λ n. give (of_
 scalar_stays tags.I32 is = then_stays (signed w32) (signed w32) (λ n. give (of_i32 n)) (λ n. give (of_i32 n)) (signed_stays w32 wide_32) (λ n. give_stays (of_i32 n))
 scalar_stays tags.I64 is = then_stays (signed w64) (signed w64) (λ n. give (of_i64 n)) (λ n. give (of_i64 n)) (signed_stays w64 wide_64) (λ n. give_stays (of_i64 n))
 scalar_stays tags.Double is = then_stays (unsigned w64) (unsigned w64) (λ n. give (of_double n)) (λ n. give (of_double n)) (unsigned_stays w64 wide_64) (λ n. give_stays (of_double n))
+scalar_stays tags.Uuid is = then_stays (unsigned w128) (unsigned w128) (λ n. give (of_uuid n)) (λ n. give (of_uuid n)) (unsigned_stays w128 wide_128) (λ n. give_stays (of_uuid n))
 scalar_stays tag is = absurd is
 
 -- ---- lengths and sizes

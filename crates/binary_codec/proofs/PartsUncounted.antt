@@ -1,13 +1,13 @@
 -- The parts count no value.
 use Rattle.std.specs.Prelude.{ℤ, pos, negsuc}
-use Rattle.std.specs.Int.{w8, w16, w32, w64}
+use Rattle.std.specs.Int.{w8, w16, w32, w64, w128}
 use Rattle.std.proofs.Common.{ℕ, Bool, true, false, cond, eqb, Result}
 use Rattle.wire_num.specs.Decoding.{decode_byte, decode_bytes, decode_unsigned, decode_signed}
 use Rattle.thrift_value.specs.declared.tag.Tag.{Tag}
 use Rattle.thrift_value.specs.declared.tag.Tag.TheVariants as tags
 use Rattle.thrift_value.specs.declared.wire_fault.WireFault.{WireFault}
 use Rattle.thrift_value.specs.declared.wire_fault.WireFault.TheVariants.{BadSize}
-use Rattle.thrift_value.specs.Tree.{of_bool, of_i8, of_i16, of_i32, of_i64, of_double}
+use Rattle.thrift_value.specs.Tree.{of_bool, of_i8, of_i16, of_i32, of_i64, of_double, of_uuid}
 use Rattle.wire_model.specs.Decoder.{Unread, ◌>>=◌, give}
 use Rattle.wire_model.specs.Wire.{FieldHeader, stop, typed, IsScalar}
 use Rattle.wire_model.specs.Protocol.{IsUncounted, ArePartsUncounted}
@@ -41,6 +41,7 @@ scalar_uncounted tags.I16 is = then_uncounted (signed w16) (λ n. give (of_i16 n
 scalar_uncounted tags.I32 is = then_uncounted (signed w32) (λ n. give (of_i32 n)) (number_uncounted (decode_signed w32)) (λ n. give_uncounted (of_i32 n))
 scalar_uncounted tags.I64 is = then_uncounted (signed w64) (λ n. give (of_i64 n)) (number_uncounted (decode_signed w64)) (λ n. give_uncounted (of_i64 n))
 scalar_uncounted tags.Double is = then_uncounted (unsigned w64) (λ n. give (of_double n)) (number_uncounted (decode_unsigned w64)) (λ n. give_uncounted (of_double n))
+scalar_uncounted tags.Uuid is = then_uncounted (unsigned w128) (λ n. give (of_uuid n)) (number_uncounted (decode_unsigned w128)) (λ n. give_uncounted (of_uuid n))
 scalar_uncounted tag is = absurd is
 
 size_of : (z : ℤ) → IsUncounted (unsigned_size z)

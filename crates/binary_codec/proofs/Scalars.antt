@@ -1,12 +1,12 @@
 -- Numbers and bools.
 use Rattle.std.specs.Prelude.{ℤ, FitsSigned}
-use Rattle.std.specs.Int.{Width, w8, w16, w32, w64}
+use Rattle.std.specs.Int.{Width, w8, w16, w32, w64, w128}
 use Rattle.std.proofs.Common.{◌≡◌, ℕ, ◌<◌, ◌≤◌, Bool, true, false, eqb, List, [], ◌∷◌, ◌++◌, length, Ok, refl, ap, subst, ◌∙◌, arith}
 use Rattle.std.proofs.lemmas.Bool.{eqb-true, eqb-false, ne_eqb}
 use Rattle.wire_num.specs.Fixed.{unsigned_bytes, signed_bytes}
 use Rattle.thrift_value.specs.declared.tag.Tag.{Tag}
 use Rattle.thrift_value.specs.declared.tag.Tag.TheVariants as tags
-use Rattle.thrift_value.specs.Tree.{Tree, of_bool, of_i8, of_i16, of_i32, of_i64, of_double}
+use Rattle.thrift_value.specs.Tree.{Tree, of_bool, of_i8, of_i16, of_i32, of_i64, of_double, of_uuid}
 use Rattle.thrift_value.specs.Tags.{tag_of}
 use Rattle.thrift_value.specs.Ranges.{IsInRange}
 use Rattle.wire_model.specs.Decoder.{Unread, ◌>>=◌, give}
@@ -20,6 +20,7 @@ use Rattle.binary_codec.specs.Reading.{unsigned, signed, binary_scalar}
 use Rattle.binary_codec.specs.Spelling.{IsScalarText}
 use Rattle.binary_codec.specs.Written.{scalar_text}
 use Rattle.wire_num.proofs.Widths.{IsWide, wide_8, wide_16, wide_32, wide_64}
+use Rattle.wire_num.proofs.Halves.{wide_128}
 use Rattle.binary_codec.proofs.FixedNumbers.{unsigned_found, unsigned_given, signed_found, signed_given}
 
 abbrev rest : List ℕ → ℕ → Unread
@@ -59,6 +60,12 @@ scalar_found tags.Double is before after x fits e =
     let f = unsigned_found w64 wide_64 before one.0.1 n fits one.1 in
     subst (λ (y : Tree × Unread). IsInFront (IsText tags.Double) y.0 before y.1) (ok_is (of_double n, one.0.1) (x, after) one.2)
     (record { text = unsigned_bytes w64 n; whole = f.whole; spells = (refl, (f.small, refl)); budget = f.budget })
+scalar_found tags.Uuid is before after x fits e =
+    let one = went_on (unsigned w128 before) (λ n. give (of_uuid n)) (x, after) e in
+    let n = one.0.0 in
+    let f = unsigned_found w128 wide_128 before one.0.1 n fits one.1 in
+    subst (λ (y : Tree × Unread). IsInFront (IsText tags.Uuid) y.0 before y.1) (ok_is (of_uuid n, one.0.1) (x, after) one.2)
+    (record { text = unsigned_bytes w128 n; whole = f.whole; spells = (refl, (f.small, refl)); budget = f.budget })
 scalar_found tags.Bytes is before after x fits e = absurd is
 scalar_found tags.Struct is before after x fits e = absurd is
 scalar_found tags.Map is before after x fits e = absurd is
@@ -88,6 +95,9 @@ scalar_only (of_i64 n) text more left h = signed_only w64 wide_64 (λ n. of_i64 
 scalar_only (of_double n) text more left h =
     ap (λ (t : List ℕ). binary_scalar tags.Double (rest (t ++ more) left)) h.1
     ∙ goes_on (unsigned w64 (rest (unsigned_bytes w64 n ++ more) left)) (λ n. give (of_double n)) n (rest more left) _ (unsigned_given w64 wide_64 n more left h.0) refl
+scalar_only (of_uuid n) text more left h =
+    ap (λ (t : List ℕ). binary_scalar tags.Uuid (rest (t ++ more) left)) h.1
+    ∙ goes_on (unsigned w128 (rest (unsigned_bytes w128 n ++ more) left)) (λ n. give (of_uuid n)) n (rest more left) _ (unsigned_given w128 wide_128 n more left h.0) refl
 scalar_only x text more left h = absurd h
 
 long : (text t : List ℕ) → text ≡ t → 1 ≤ length t → 1 ≤ length text
@@ -101,6 +111,7 @@ scalar_byte (of_i16 n) text h = long text (signed_bytes w16 n) h.1 (omega arith)
 scalar_byte (of_i32 n) text h = long text (signed_bytes w32 n) h.1 (omega arith)
 scalar_byte (of_i64 n) text h = long text (signed_bytes w64 n) h.1 (omega arith)
 scalar_byte (of_double n) text h = long text (unsigned_bytes w64 n) h.1 (omega arith)
+scalar_byte (of_uuid n) text h = long text (unsigned_bytes w128 n) h.1 (omega arith)
 scalar_byte x text h = absurd h
 
 pub scalar_written : (x : Tree) → IsScalar (tag_of x) → IsInRange x → IsScalarText x (scalar_text x)
@@ -111,6 +122,7 @@ scalar_written (of_i16 n) is r = (r, refl)
 scalar_written (of_i32 n) is r = (r, refl)
 scalar_written (of_i64 n) is r = (r, refl)
 scalar_written (of_double n) is r = (r, refl)
+scalar_written (of_uuid n) is r = (r, refl)
 scalar_written x is r = absurd is
 
 pub scalar_range : (x : Tree) (text : List ℕ) → IsScalarText x text → IsInRange x
@@ -120,4 +132,5 @@ scalar_range (of_i16 n) text h = h.0
 scalar_range (of_i32 n) text h = h.0
 scalar_range (of_i64 n) text h = h.0
 scalar_range (of_double n) text h = h.0
+scalar_range (of_uuid n) text h = h.0
 scalar_range x text h = absurd h

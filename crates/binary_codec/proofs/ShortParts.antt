@@ -20,7 +20,7 @@ header_len : (bytes : List ℕ) → HasHeaderFault Short bytes → length bytes 
 header_len bytes (inl none) = let l : length bytes ≡ 0 = ap length none in omega arith
 header_len bytes (inr (tag, b)) = let l : length bytes ≡ suc (length b.behind) = ap length b.whole in let less : length b.behind < 2 = b.such in omega arith
 
-scalar_small : (tag : Tag) → scalar_len tag < 9
+scalar_small : (tag : Tag) → scalar_len tag < 17
 scalar_small tags.Bool = omega arith
 scalar_small tags.I8 = omega arith
 scalar_small tags.I16 = omega arith
@@ -32,9 +32,10 @@ scalar_small tags.Struct = omega arith
 scalar_small tags.Map = omega arith
 scalar_small tags.Set = omega arith
 scalar_small tags.List = omega arith
+scalar_small tags.Uuid = omega arith
 
-scalar_bound : (tag : Tag) (bytes : List ℕ) → HasScalarFault tag Short bytes → length bytes < 9
-scalar_bound tag bytes less = let l : length bytes < scalar_len tag = less in let s : scalar_len tag < 9 = scalar_small tag in omega arith
+scalar_bound : (tag : Tag) (bytes : List ℕ) → HasScalarFault tag Short bytes → length bytes < 17
+scalar_bound tag bytes less = let l : length bytes < scalar_len tag = less in let s : scalar_len tag < 17 = scalar_small tag in omega arith
 
 size_bound : (bytes : List ℕ) → HasSizeFault Short bytes → length bytes < 2 ^ 31 + 4
 size_bound bytes (inl less) = omega (arith, less)
@@ -66,7 +67,7 @@ field_mends last = mended (binary_field last) 3 (λ unread fits e. header_len un
 
 pub scalar_mends : (tag : Tag) → IsScalar tag → (unread : Unread) → AreByteSized unread.bytes → binary_scalar tag unread ≡ Err Short
     → (more : List ℕ) × AreByteSized more × (binary_scalar tag (and_more more unread) ≡ Err Short → ⊥)
-scalar_mends tag is = mended (binary_scalar tag) 9 (λ unread fits e. scalar_bound tag unread.bytes (scalar_fault_found tag is unread Short fits e))
+scalar_mends tag is = mended (binary_scalar tag) 17 (λ unread fits e. scalar_bound tag unread.bytes (scalar_fault_found tag is unread Short fits e))
 
 pub span_mends : (unread : Unread) → AreByteSized unread.bytes → binary_span unread ≡ Err Short
     → (more : List ℕ) × AreByteSized more × (binary_span (and_more more unread) ≡ Err Short → ⊥)

@@ -1,4 +1,4 @@
--- The codes of the kinds of values (Thrift binary protocol, 'Struct').
+-- The codes of the kinds of values (Thrift binary protocol, 'Struct'). Own choice: that of a uuid is 16.
 use Rattle.std.specs.Prelude.{ℕ, Option, Some, None, ◌==◌, if◌then◌else◌}
 use Rattle.thrift_value.specs.declared.tag.Tag.{Tag}
 use Rattle.thrift_value.specs.declared.tag.Tag.TheVariants as tags
@@ -16,6 +16,7 @@ code_of tags.Struct = 12
 code_of tags.Map = 13
 code_of tags.Set = 14
 code_of tags.List = 15
+code_of tags.Uuid = 16
 
 -- the tag of a code
 unfoldable pub tag_of_code : ℕ → Option Tag
@@ -31,4 +32,5 @@ tag_of_code code =
     else if code == 13 then Some tags.Map
     else if code == 14 then Some tags.Set
     else if code == 15 then Some tags.List
+    else if code == 16 then Some tags.Uuid
     else None

@@ -1,7 +1,7 @@
 -- Bytes and values of the worked examples.
 use Rattle.std.specs.Prelude.{ℕ, zero, suc, pos, List, [], ◌∷◌, ◌++◌}
 use Rattle.thrift_value.specs.declared.tag.Tag.TheVariants as tags
-use Rattle.thrift_value.specs.Tree.{Tree, of_i32, of_bytes, of_struct, of_map, of_set, of_list, no_fields, field, no_items, item, no_pairs, pair}
+use Rattle.thrift_value.specs.Tree.{Tree, of_i32, of_bytes, of_struct, of_map, of_set, of_list, of_uuid, no_fields, field, no_items, item, no_pairs, pair}
 
 -- `add(1, 2)`: two numbers
 abbrev pub two_numbers : Tree
@@ -29,6 +29,14 @@ lookup =
 abbrev pub lookup_bytes : List ℕ
 lookup_bytes =
     13 ∷ 0 ∷ 3 ∷ 11 ∷ 14 ∷ 0 ∷ 0 ∷ 0 ∷ 1 ∷ 0 ∷ 0 ∷ 0 ∷ 2 ∷ 97 ∷ 98 ∷ 8 ∷ 0 ∷ 0 ∷ 0 ∷ 1 ∷ 0 ∷ 0 ∷ 0 ∷ 7 ∷ 0 ∷ []
+
+-- a struct of a uuid
+abbrev pub uuid_alone : Tree
+uuid_alone = of_struct (field (pos 1) (of_uuid 88962710306127702866241727433142015) no_fields)
+
+-- its bytes
+abbrev pub uuid_alone_bytes : List ℕ
+uuid_alone_bytes = 16 ∷ 0 ∷ 1 ∷ 0 ∷ 17 ∷ 34 ∷ 51 ∷ 68 ∷ 85 ∷ 102 ∷ 119 ∷ 136 ∷ 153 ∷ 170 ∷ 187 ∷ 204 ∷ 221 ∷ 238 ∷ 255 ∷ 0 ∷ []
 
 -- so many lists in one another, the last of them empty
 abbrev pub nested_lists : ℕ → List ℕ

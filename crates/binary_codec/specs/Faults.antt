@@ -26,6 +26,7 @@ scalar_len tags.I16 = 2
 scalar_len tags.I32 = 4
 scalar_len tags.I64 = 8
 scalar_len tags.Double = 8
+scalar_len tags.Uuid = 16
 scalar_len _ = 1
 
 -- a number or a bool: cut off

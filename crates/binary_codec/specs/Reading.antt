@@ -1,11 +1,11 @@
 -- How the binary protocol reads the parts of a value that hold no other values.
 use Rattle.std.specs.Prelude.{ℕ, ℤ, pos, negsuc, List, ◌==◌, if◌then◌else◌}
-use Rattle.std.specs.Int.{Width, w8, w16, w32, w64}
+use Rattle.std.specs.Int.{Width, w8, w16, w32, w64, w128}
 use Rattle.wire_num.specs.Decoding.{decode_unsigned, decode_signed}
 use Rattle.thrift_value.specs.declared.tag.Tag.{Tag}
 use Rattle.thrift_value.specs.declared.tag.Tag.TheVariants as tags
 use Rattle.thrift_value.specs.declared.wire_fault.WireFault.TheVariants.{Short, BadSize}
-use Rattle.thrift_value.specs.Tree.{Tree, of_bool, of_i8, of_i16, of_i32, of_i64, of_double}
+use Rattle.thrift_value.specs.Tree.{Tree, of_bool, of_i8, of_i16, of_i32, of_i64, of_double, of_uuid}
 use Rattle.wire_model.specs.Decoder.{Decoder, ◌>>=◌, give, fail, uncounted}
 use Rattle.wire_model.specs.Pieces.{byte, some_bytes, tag_or_fault, within_room}
 use Rattle.wire_model.specs.Wire.{FieldHeader, stop, typed, Wire}
@@ -39,7 +39,7 @@ binary_field last = do
   header_coded code
 
 -- a number or a bool (Thrift binary protocol, 'Integer encoding', 'Double encoding', 'Boolean encoding'). Own choice: a byte
--- that is neither 0 nor 1 is false
+-- that is neither 0 nor 1 is false, and a uuid is sixteen bytes, the highest first
 unfoldable pub binary_scalar : Tag → Decoder Tree
 binary_scalar tags.Bool = do
   b ← byte
@@ -59,6 +59,9 @@ binary_scalar tags.I64 = do
 binary_scalar tags.Double = do
   n ← unsigned w64
   give (of_double n)
+binary_scalar tags.Uuid = do
+  n ← unsigned w128
+  give (of_uuid n)
 binary_scalar tag = fail Short
 
 -- a length that isn't negative, or BadSize

@@ -1,10 +1,10 @@
 -- Which bytes stand for the parts of a value in the binary protocol.
 use Rattle.std.specs.Prelude.{◌≡◌, ◌<◌, ◌^◌, ℕ, zero, suc, ℤ, true, false, List, [], ◌∷◌, ◌++◌, length, FitsSigned}
-use Rattle.std.specs.Int.{w8, w16, w32, w64}
+use Rattle.std.specs.Int.{w8, w16, w32, w64, w128}
 use Rattle.wire_num.specs.Fixed.{unsigned_bytes, signed_bytes}
 use Rattle.thrift_value.specs.declared.tag.Tag.{Tag}
 use Rattle.thrift_value.specs.declared.tag.Tag.TheVariants as tags
-use Rattle.thrift_value.specs.Tree.{Tree, of_bool, of_i8, of_i16, of_i32, of_i64, of_double}
+use Rattle.thrift_value.specs.Tree.{Tree, of_bool, of_i8, of_i16, of_i32, of_i64, of_double, of_uuid}
 use Rattle.wire_model.specs.Wire.{FieldHeader, stop, typed, flagged}
 use Rattle.wire_model.specs.Format.{Format}
 use Rattle.wire_num.specs.Encoded.{AreByteSized}
@@ -18,7 +18,7 @@ IsHeader last (typed id tag) text = FitsSigned w16 id × (text ≡ code_of tag �
 IsHeader last (flagged id flag) text = ⊥
 
 -- a number or a bool (Thrift binary protocol, 'Integer encoding', 'Double encoding', 'Boolean encoding'): true is the
--- byte 1, and 0 is false. Own choice: every other byte is false too
+-- byte 1, and 0 is false. Own choice: every other byte is false too, and a uuid is its sixteen bytes, the highest first
 abbrev pub IsScalarText : Tree → List ℕ → Type 0
 IsScalarText (of_bool true) text = text ≡ 1 ∷ []
 IsScalarText (of_bool false) text = (b : ℕ) × (b < 256) × (b ≡ 1 → ⊥) × (text ≡ b ∷ [])
@@ -27,6 +27,7 @@ IsScalarText (of_i16 n) text = FitsSigned w16 n × (text ≡ signed_bytes w16 n)
 IsScalarText (of_i32 n) text = FitsSigned w32 n × (text ≡ signed_bytes w32 n)
 IsScalarText (of_i64 n) text = FitsSigned w64 n × (text ≡ signed_bytes w64 n)
 IsScalarText (of_double n) text = (n < 2 ^ 64) × (text ≡ unsigned_bytes w64 n)
+IsScalarText (of_uuid n) text = (n < 2 ^ 128) × (text ≡ unsigned_bytes w128 n)
 IsScalarText _ text = ⊥
 
 -- a length and that many bytes (Thrift binary protocol, 'Binary encoding')

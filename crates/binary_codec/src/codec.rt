@@ -7,11 +7,11 @@ ghost use Rattle.binary_codec.specs.Reading.{binary_field, binary_scalar, binary
 ghost use Rattle.binary_codec.specs.Written.{header_text, scalar_text, span_text, items_header, pairs_header};
 
 use crate::codes::{code_of, tag_coded};
-use crate::numbers::{i8_in, i16_in, i32_in, i64_in, size_in, u8_in, u64_in};
+use crate::numbers::{i8_in, i16_in, i32_in, i64_in, size_in, u8_in, u64_in, u128_in};
 use crate::protocol::Binary;
 use std::alloc::AllocError;
 use thrift_value::{Tag, Value, WireFault};
-use wire_num::{put_be64, put_i16, put_i32, put_i64, put_u8};
+use wire_num::{put_be64, put_be128, put_i16, put_i32, put_i64, put_u8};
 use wire_walk::{Codec, Header, Input};
 
 impl Codec for Binary {
@@ -28,7 +28,7 @@ impl Codec for Binary {
     }
 
     // A number (Thrift binary protocol, 'Integer encoding', 'Double encoding'), or a bool, whose byte is 1 or 0 ('Boolean
-    // encoding'). Own choice: every byte but 1 is false.
+    // encoding'). Own choice: every byte but 1 is false, and a uuid is sixteen bytes, the highest first.
     #[tactic(auto, unfolding(crate::specs::Reading::binary_scalar))]
     fn scalar<'a>(tag: Tag, rest: Input<'a>) -> Result<(Value, Input<'a>), WireFault> {
         match tag {
@@ -55,6 +55,10 @@ impl Codec for Binary {
             Tag::Double => {
                 let (bits, rest) = u64_in(rest)?;
                 Ok((Value::Double(bits), rest))
+            }
+            Tag::Uuid => {
+                let (number, rest) = u128_in(rest)?;
+                Ok((Value::Uuid(number), rest))
             }
             _ => Err(WireFault::Short),
         }
@@ -118,6 +122,7 @@ impl Codec for Binary {
             Value::I32(number) => put_i32(into, *number),
             Value::I64(number) => put_i64(into, *number),
             Value::Double(bits) => put_be64(into, *bits),
+            Value::Uuid(number) => put_be128(into, *number),
             _ => Ok(()),
         }
     }

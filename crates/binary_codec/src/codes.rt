@@ -1,4 +1,4 @@
-//! The codes of the kinds of values (Thrift binary protocol, 'Struct').
+//! The codes of the kinds of values (Thrift binary protocol, 'Struct'). Own choice: that of a uuid is 16.
 
 ghost use Rattle.std.specs.Prelude.{◌≡◌};
 ghost use Rattle.wire_model.specs.Answering.{AnswersExactly};
@@ -24,6 +24,7 @@ pub(crate) fn code_of(tag: Tag) -> u8
         Tag::Map => 13,
         Tag::Set => 14,
         Tag::List => 15,
+        Tag::Uuid => 16,
     }
 }
 
@@ -44,6 +45,7 @@ fn tag_of_code(code: u8) -> Option<Tag>
         13 => Some(Tag::Map),
         14 => Some(Tag::Set),
         15 => Some(Tag::List),
+        16 => Some(Tag::Uuid),
         _ => None,
     }
 }

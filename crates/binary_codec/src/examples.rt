@@ -3,13 +3,13 @@
 ghost use Rattle.std.specs.Prelude.{◌≡◌, pos, negsuc, ◌^◌, [], ◌∷◌, ◌++◌, Ok, Err, true, false};
 ghost use Rattle.thrift_value.specs.declared.tag.Tag.TheVariants as tags;
 ghost use Rattle.thrift_value.specs.declared.wire_fault.WireFault.TheVariants as faults;
-ghost use Rattle.thrift_value.specs.Tree.{of_bool, of_i8, of_i32, of_double, of_struct, of_map, of_list, no_fields, field, no_items, no_pairs};
+ghost use Rattle.thrift_value.specs.Tree.{of_bool, of_i8, of_i32, of_double, of_struct, of_map, of_list, of_uuid, no_fields, field, no_items, no_pairs};
 ghost use Rattle.wire_model.specs.Place.{struct_at, found_struct};
 ghost use Rattle.wire_model.specs.Reading.{value};
 ghost use Rattle.wire_model.specs.Encoder.{text};
 ghost use Rattle.binary_codec.specs.Reading.{binary};
 ghost use Rattle.binary_codec.specs.Written.{binary_encoder};
-ghost use Rattle.binary_codec.specs.Examples.{two_numbers, two_numbers_bytes, empty_list, empty_list_bytes, lookup, lookup_bytes, deep, deep_bytes};
+ghost use Rattle.binary_codec.specs.Examples.{two_numbers, two_numbers_bytes, empty_list, empty_list_bytes, lookup, lookup_bytes, uuid_alone, uuid_alone_bytes, deep, deep_bytes};
 
 /// Structs that are read, and the places behind them.
 pub fn structs_are_read()
@@ -24,6 +24,7 @@ pub fn structs_are_read()
     ensures map { struct_at binary lookup_bytes 0 ≡ found_struct lookup 25 }
     ensures any_byte_is_false { struct_at binary (2 ∷ 0 ∷ 1 ∷ 2 ∷ 0 ∷ []) 0 ≡ found_struct (of_struct (field (pos 1) (of_bool false) no_fields)) 5 }
     ensures one_is_true { struct_at binary (2 ∷ 0 ∷ 1 ∷ 1 ∷ 0 ∷ []) 0 ≡ found_struct (of_struct (field (pos 1) (of_bool true) no_fields)) 5 }
+    ensures uuid { struct_at binary uuid_alone_bytes 0 ≡ found_struct uuid_alone 20 }
     ensures sixty_four_levels { struct_at binary (deep_bytes 63) 0 ≡ found_struct (deep 63) 319 }
 {}
 
@@ -37,6 +38,8 @@ pub fn first_faults()
     ensures long_length { struct_at binary (11 ∷ 0 ∷ 1 ∷ 0 ∷ 0 ∷ 0 ∷ 2 ∷ 97 ∷ []) 0 ≡ Err faults.Short }
     ensures size_before_type { struct_at binary (15 ∷ 0 ∷ 1 ∷ 99 ∷ 255 ∷ 0 ∷ 0 ∷ 0 ∷ []) 0 ≡ Err faults.BadSize }
     ensures room_before_type { struct_at binary (15 ∷ 0 ∷ 1 ∷ 99 ∷ 0 ∷ 0 ∷ 0 ∷ 2 ∷ 0 ∷ []) 0 ≡ Err faults.Short }
+    ensures half_a_uuid { struct_at binary (16 ∷ 0 ∷ 1 ∷ 0 ∷ 0 ∷ 0 ∷ 0 ∷ 0 ∷ 0 ∷ 0 ∷ 1 ∷ []) 0 ≡ Err faults.Short }
+    ensures type_behind_a_uuid { struct_at binary (17 ∷ 0 ∷ 1 ∷ 0 ∷ []) 0 ≡ Err (faults.BadType 17) }
     ensures element_type { struct_at binary (15 ∷ 0 ∷ 1 ∷ 99 ∷ 0 ∷ 0 ∷ 0 ∷ 1 ∷ 0 ∷ []) 0 ≡ Err (faults.BadType 99) }
     ensures key_type_first { struct_at binary (13 ∷ 0 ∷ 1 ∷ 98 ∷ 99 ∷ 0 ∷ 0 ∷ 0 ∷ 1 ∷ 0 ∷ []) 0 ≡ Err (faults.BadType 98) }
     ensures huge_list { struct_at binary (15 ∷ 0 ∷ 1 ∷ 8 ∷ 127 ∷ 255 ∷ 255 ∷ 255 ∷ 0 ∷ 0 ∷ 0 ∷ 0 ∷ 0 ∷ 0 ∷ 0 ∷ []) 0 ≡ Err faults.Short }
@@ -54,5 +57,6 @@ pub fn structs_are_written()
     ensures signed { text binary_encoder (of_i8 (negsuc 0)) ≡ 255 ∷ [] }
     ensures bools { text binary_encoder (of_struct (field (pos 1) (of_bool true) (field (pos 2) (of_bool false) no_fields)))
         ≡ 2 ∷ 0 ∷ 1 ∷ 1 ∷ 2 ∷ 0 ∷ 2 ∷ 0 ∷ 0 ∷ [] }
+    ensures uuid { text binary_encoder uuid_alone ≡ uuid_alone_bytes }
     ensures double { text binary_encoder (of_double (2 ^ 56)) ≡ 1 ∷ 0 ∷ 0 ∷ 0 ∷ 0 ∷ 0 ∷ 0 ∷ 0 ∷ [] }
 {}

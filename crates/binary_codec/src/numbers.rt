@@ -1,12 +1,14 @@
 //! Numbers in front of what is left, none of them a value of its own (Thrift binary protocol, 'Integer encoding').
 
-ghost use Rattle.std.specs.Int.{w8, w16, w32, w64};
+ghost use Rattle.std.specs.Int.{w8, w16, w32, w64, w128};
 ghost use Rattle.wire_model.specs.Answering.{AnswersExactly};
 ghost use Rattle.wire_model.specs.Pieces.{byte};
 ghost use Rattle.binary_codec.specs.Reading.{unsigned, signed, binary_size};
 
 use thrift_value::WireFault;
-use wire_num::{decode_be64, decode_i8, decode_i16, decode_i32, decode_i64, decode_u8};
+use wire_num::{
+    decode_be64, decode_be128, decode_i8, decode_i16, decode_i32, decode_i64, decode_u8,
+};
 use wire_walk::Input;
 
 /// A byte.
@@ -54,6 +56,14 @@ pub(crate) fn u64_in(input: Input<'_>) -> Result<(u64, Input<'_>), WireFault>
     ensures { AnswersExactly (λ r. (r.0, r.1)) result (unsigned w64 input.entry) }
 {
     let (number, behind) = decode_be64(input.bytes())?;
+    Ok((number, input.with_bytes(behind)))
+}
+
+/// Reads a hundred and twenty-eight bits, unsigned.
+pub(crate) fn u128_in(input: Input<'_>) -> Result<(u128, Input<'_>), WireFault>
+    ensures { AnswersExactly (λ r. (r.0, r.1)) result (unsigned w128 input.entry) }
+{
+    let (number, behind) = decode_be128(input.bytes())?;
     Ok((number, input.with_bytes(behind)))
 }
 

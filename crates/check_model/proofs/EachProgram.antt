@@ -16,7 +16,7 @@ use Rattle.idl_include.specs.Names.{NamedType, an_alias, an_enum, a_struct, type
 use Rattle.idl_include.specs.Cycles.{alias_graph}
 use Rattle.idl_include.specs.ConstNames.{same_place}
 use Rattle.idl_include.specs.Spots.{Spotted, type_use, thrown_spot, struct_spot, Spot, spots_of, default_spots, result_spots}
-use Rattle.schema.specs.PlainKind.{PlainKind, kind_bool, kind_i8, kind_i16, kind_i32, kind_i64, kind_double, kind_text, kind_binary, kind_enum, kind_struct, kind_map, kind_set, kind_list}
+use Rattle.schema.specs.PlainKind.{PlainKind, kind_bool, kind_i8, kind_i16, kind_i32, kind_i64, kind_double, kind_text, kind_binary, kind_uuid, kind_enum, kind_struct, kind_map, kind_set, kind_list}
 use Rattle.schema.specs.PlainSchema.{PlainConstant, PlainSchema}
 use Rattle.check_model.specs.Resolved.{map_kind, named_kind, kind_by, alias_kind, TypeMeans}
 use Rattle.check_model.specs.FiniteValues.{HasFiniteValue}
@@ -266,6 +266,7 @@ module _ (program : Program) (leads : (graph : Graph) (a b : ℕ) → Told (Lead
       by kind_i32 m = no_struct kind_i32 m refl
       by kind_i64 m = no_struct kind_i64 m refl
       by kind_double m = no_struct kind_double m refl
+      by kind_uuid m = no_struct kind_uuid m refl
       by kind_text m = no_struct kind_text m refl
       by kind_binary m = no_struct kind_binary m refl
       by (kind_enum n) m = no_struct (kind_enum n) m refl

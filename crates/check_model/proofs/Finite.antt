@@ -6,7 +6,7 @@ use Rattle.schema.specs.declared.types.FieldNeed.{FieldNeed}
 use Rattle.schema.specs.declared.types.FieldNeed.TheVariants as wanted
 use Rattle.schema.specs.declared.types.FieldsKind.{FieldsKind}
 use Rattle.schema.specs.declared.types.FieldsKind.TheVariants as fields
-use Rattle.schema.specs.PlainKind.{PlainKind, kind_bool, kind_i8, kind_i16, kind_i32, kind_i64, kind_double, kind_text, kind_binary, kind_enum, kind_struct, kind_map, kind_set, kind_list}
+use Rattle.schema.specs.PlainKind.{PlainKind, kind_bool, kind_i8, kind_i16, kind_i32, kind_i64, kind_double, kind_text, kind_binary, kind_uuid, kind_enum, kind_struct, kind_map, kind_set, kind_list}
 use Rattle.schema.specs.PlainSchema.{PlainField, PlainStruct, PlainSchema}
 use Rattle.check_model.specs.FiniteValues.{kind_has, field_allows, has_no_items, fields_have, has_value_within, HasFiniteValue}
 
@@ -25,6 +25,7 @@ kind_below f g below kind_i16 e = refl
 kind_below f g below kind_i32 e = refl
 kind_below f g below kind_i64 e = refl
 kind_below f g below kind_double e = refl
+kind_below f g below kind_uuid e = refl
 kind_below f g below kind_text e = refl
 kind_below f g below kind_binary e = refl
 kind_below f g below (kind_enum _) e = refl

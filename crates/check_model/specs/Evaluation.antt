@@ -18,7 +18,7 @@ use Rattle.schema.specs.declared.types.FieldNeed.{FieldNeed}
 use Rattle.schema.specs.declared.types.FieldNeed.TheVariants as wanted
 use Rattle.schema.specs.declared.types.FieldsKind.{FieldsKind}
 use Rattle.schema.specs.declared.types.FieldsKind.TheVariants as fields
-use Rattle.schema.specs.PlainKind.{PlainKind, kind_bool, kind_i8, kind_i16, kind_i32, kind_i64, kind_double, kind_text, kind_binary, kind_enum, kind_struct, kind_map, kind_set, kind_list}
+use Rattle.schema.specs.PlainKind.{PlainKind, kind_bool, kind_i8, kind_i16, kind_i32, kind_i64, kind_double, kind_text, kind_binary, kind_uuid, kind_enum, kind_struct, kind_map, kind_set, kind_list}
 use Rattle.schema.specs.PlainSchema.{PlainField, PlainStruct, PlainSchema}
 use Rattle.check_model.specs.FieldLists.{NumberedField, FieldsDecl, fields_by_id, field_lists}
 use Rattle.check_model.specs.TidyRows.{tidy_members, tidy_pairs}
@@ -44,6 +44,7 @@ kind_tag kind_i64 = tag.I64
 kind_tag kind_double = tag.Double
 kind_tag kind_text = tag.Bytes
 kind_tag kind_binary = tag.Bytes
+kind_tag kind_uuid = tag.Uuid
 kind_tag (kind_enum _) = tag.I32
 kind_tag (kind_struct _) = tag.Struct
 kind_tag (kind_map _ _) = tag.Map

@@ -8,7 +8,7 @@ use Rattle.idl_include.specs.Declarations.{TypedefDecl}
 use Rattle.idl_include.specs.Program.{Program}
 use Rattle.idl_include.specs.Numbering.{Filed, typedefs_of}
 use Rattle.idl_include.specs.Names.{NamedType, an_alias, an_enum, a_struct, type_named}
-use Rattle.schema.specs.PlainKind.{PlainKind, kind_bool, kind_i8, kind_i16, kind_i32, kind_i64, kind_double, kind_text, kind_binary, kind_enum, kind_struct, kind_map, kind_set, kind_list}
+use Rattle.schema.specs.PlainKind.{PlainKind, kind_bool, kind_i8, kind_i16, kind_i32, kind_i64, kind_double, kind_text, kind_binary, kind_uuid, kind_enum, kind_struct, kind_map, kind_set, kind_list}
 
 -- a base type; `byte` is `i8` (Thrift IDL, 'Base Types')
 abbrev pub base_kind : Base → PlainKind
@@ -21,6 +21,7 @@ base_kind base.I64 = kind_i64
 base_kind base.Double = kind_double
 base_kind base.String = kind_text
 base_kind base.Binary = kind_binary
+base_kind base.Uuid = kind_uuid
 
 -- what a name means that stands for a type, where typedefs mean what `alias` says
 abbrev pub named_kind : (ℕ → Option PlainKind) → NamedType → Option PlainKind

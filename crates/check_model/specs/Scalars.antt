@@ -1,8 +1,9 @@
 -- Constants of one value: integers, doubles, literals and values of enums, against a type (Thrift IDL, 'Constant Values').
 use Rattle.std.specs.Prelude.{ℕ, ℤ, pos, negsuc, ◌&&◌, ◌-◌, ◌^◌, int_le, neg_ℤ, nat_eq, Bool, true, false, List, Option, Some, None, Result, Ok, Err, if◌then◌else◌}
-use Rattle.thrift_value.specs.Tree.{Tree, of_bool, of_i8, of_i16, of_i32, of_i64, of_double, of_bytes}
-use Rattle.schema.specs.PlainKind.{PlainKind, kind_bool, kind_i8, kind_i16, kind_i32, kind_i64, kind_double, kind_text, kind_binary, kind_enum}
-use Rattle.check_model.specs.Worths.{ConstFlaw, wrong_kind, out_of_range, double_constant}
+use Rattle.thrift_value.specs.Tree.{Tree, of_bool, of_i8, of_i16, of_i32, of_i64, of_double, of_uuid, of_bytes}
+use Rattle.idl_token.specs.Uuids.{uuid_number}
+use Rattle.schema.specs.PlainKind.{PlainKind, kind_bool, kind_i8, kind_i16, kind_i32, kind_i64, kind_double, kind_text, kind_binary, kind_uuid, kind_enum}
+use Rattle.check_model.specs.Worths.{ConstFlaw, wrong_kind, out_of_range, double_constant, bad_uuid}
 use Rattle.check_model.specs.WholeDoubles.{double_number, int_as_double, double_bits}
 
 -- a value, or what is wrong
@@ -21,6 +22,11 @@ ranged tree bits n = if has_bits bits n then Ok (tree n) else Err out_of_range
 abbrev pub doubled : Option ℤ → OneWorth
 doubled (Some n) = Ok (of_double (double_bits n))
 doubled None = Err double_constant
+
+-- a number as a uuid
+abbrev pub as_uuid : Option ℕ → OneWorth
+as_uuid (Some n) = Ok (of_uuid n)
+as_uuid None = Err bad_uuid
 
 -- a number that is 0 or 1
 abbrev pub truth : ℤ → OneWorth
@@ -47,6 +53,7 @@ double_worth _ text = Err wrong_kind
 abbrev pub literal_worth : PlainKind → List ℕ → OneWorth
 literal_worth kind_text bytes = Ok (of_bytes bytes)
 literal_worth kind_binary bytes = Ok (of_bytes bytes)
+literal_worth kind_uuid bytes = as_uuid (uuid_number bytes)
 literal_worth _ bytes = Err wrong_kind
 
 -- the number of a value of the enum of some number

@@ -9,6 +9,7 @@ pub data ConstFlaw : Type 0 where
   out_of_range : ConstFlaw
   unknown_name : ConstFlaw
   double_constant : ConstFlaw
+  bad_uuid : ConstFlaw
   const_cycle : ConstFlaw
   unknown_field : ConstFlaw
   missing_field : ConstFlaw

@@ -2,6 +2,7 @@
 
 ghost use Rattle.std.specs.Prelude.{◌≡◌, ◌^◌, ◌*◌, pos, negsuc, codes, true, false, None, Some, [], ◌∷◌};
 ghost use Rattle.thrift_value.specs.Tree.{of_bool, of_i32, of_double, of_struct, no_fields, field, item, no_items, pair, no_pairs};
+ghost use Rattle.idl_token.specs.Uuids.{uuid_number};
 ghost use Rattle.idl_parser.specs.declared.tree.Base.TheVariants as base;
 ghost use Rattle.idl_include.specs.TypeExpr.{base_expr, name_expr, list_expr};
 ghost use Rattle.idl_include.specs.ConstExpr.{int_const, literal_const, map_const, const_entry, no_entries};
@@ -29,6 +30,10 @@ pub fn values()
     ensures two { double_bits (pos 2) ≡ 4 * 16 ^ 15 }
     ensures minus_three { double_bits (negsuc 2) ≡ 13837309855095848960 }
     ensures two_to_53 { double_bits (pos (2 ^ 53)) ≡ 4845873199050653696 }
+    ensures uuid { uuid_number (codes "00112233-4455-6677-8899-AaBbCcDdEeFf") ≡ Some 88962710306127702866241727433142015 }
+    ensures short_uuid { uuid_number (codes "00112233-4455-6677-8899-aabbccddeef") ≡ None }
+    ensures long_uuid { uuid_number (codes "00112233-4455-6677-8899-aabbccddeeff0") ≡ None }
+    ensures moved_dash { uuid_number (codes "00112233-4455-6677-889-9aabbccddeeff") ≡ None }
     ensures members { tidy_members (item (of_i32 (pos 2)) (item (of_i32 (negsuc 0)) (item (of_i32 (pos 2)) no_items)))
         ≡ item (of_i32 (negsuc 0)) (item (of_i32 (pos 2)) no_items) }
     ensures pairs { tidy_pairs (pair (of_i32 (pos 2)) (of_bool true) (pair (of_i32 (pos 1)) (of_bool true) (pair (of_i32 (pos 2)) (of_bool false) no_pairs)))

@@ -16,7 +16,7 @@ use Rattle.idl_include.specs.Names.{an_alias, an_enum, a_struct, type_named}
 use Rattle.idl_names.specs.declared.filed.InFile.{InFile}
 use Rattle.idl_names.specs.FiledIn.{filed_structs}
 use Rattle.schema.specs.declared.types.TypeDesc.{TypeDesc}
-use Rattle.schema.specs.PlainKind.{PlainKind, kind_bool, kind_i8, kind_i16, kind_i32, kind_i64, kind_double, kind_text, kind_binary, kind_enum, kind_struct, kind_map, kind_set, kind_list}
+use Rattle.schema.specs.PlainKind.{PlainKind, kind_bool, kind_i8, kind_i16, kind_i32, kind_i64, kind_double, kind_text, kind_binary, kind_uuid, kind_enum, kind_struct, kind_map, kind_set, kind_list}
 use Rattle.check_model.specs.Resolved.{base_kind, named_kind, map_kind, kind_by, alias_kind, TypeMeans}
 use Rattle.check_model.specs.Passes.{MeansException}
 use Rattle.check_model.proofs.FirstOnes.{somes, none_some}
@@ -34,6 +34,7 @@ not_base base.I16 k e = cc
 not_base base.I32 k e = cc
 not_base base.I64 k e = cc
 not_base base.Double k e = cc
+not_base base.Uuid k e = cc
 not_base base.String k e = cc
 not_base base.Binary k e = cc
 
@@ -104,6 +105,7 @@ of_kind program file type kind_i16 m = λ k p. let e = one_meaning program file 
 of_kind program file type kind_i32 m = λ k p. let e = one_meaning program file type kind_i32 (kind_struct k) m p in cc
 of_kind program file type kind_i64 m = λ k p. let e = one_meaning program file type kind_i64 (kind_struct k) m p in cc
 of_kind program file type kind_double m = λ k p. let e = one_meaning program file type kind_double (kind_struct k) m p in cc
+of_kind program file type kind_uuid m = λ k p. let e = one_meaning program file type kind_uuid (kind_struct k) m p in cc
 of_kind program file type kind_text m = λ k p. let e = one_meaning program file type kind_text (kind_struct k) m p in cc
 of_kind program file type kind_binary m = λ k p. let e = one_meaning program file type kind_binary (kind_struct k) m p in cc
 of_kind program file type (kind_enum n) m = λ k p. let e = one_meaning program file type (kind_enum n) (kind_struct k) m p in cc

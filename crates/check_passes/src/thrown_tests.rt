@@ -156,7 +156,8 @@ fn struct_number(kind: &TypeDesc) -> Option<u32>
     match kind {
         TypeDesc::Struct(which) => Some(*which),
         TypeDesc::Bool | TypeDesc::I8 | TypeDesc::I16 | TypeDesc::I32 | TypeDesc::I64 => None,
-        TypeDesc::Double | TypeDesc::Text | TypeDesc::Binary | TypeDesc::Enum(_) => None,
+        TypeDesc::Double | TypeDesc::Text | TypeDesc::Binary | TypeDesc::Uuid => None,
+        TypeDesc::Enum(_) => None,
         TypeDesc::Map(_, _) | TypeDesc::Set(_) | TypeDesc::List(_) => None,
     }
 }

@@ -33,6 +33,7 @@ fn base_kind(base: Base) -> TypeDesc
         Base::Double => TypeDesc::Double,
         Base::String => TypeDesc::Text,
         Base::Binary => TypeDesc::Binary,
+        Base::Uuid => TypeDesc::Uuid,
     }
 }
 

@@ -38,7 +38,7 @@ IsIts t code = IsCompactCode t code × IsTakenCode code
 pub code_is : (code : ℕ) (t : Tag) → compact_tag code ≡ Some t → IsIts t code
 unfolding compact_tag
 code_is code t e =
-    code_if IsIts code 1 tags.Bool t _ (inl refl, (omega arith, omega arith)) (λ e. code_if IsIts code 2 tags.Bool t _ (inr refl, (omega arith, omega arith)) (λ e. code_if IsIts code 3 tags.I8 t _ (refl, (omega arith, omega arith)) (λ e. code_if IsIts code 4 tags.I16 t _ (refl, (omega arith, omega arith)) (λ e. code_if IsIts code 5 tags.I32 t _ (refl, (omega arith, omega arith)) (λ e. code_if IsIts code 6 tags.I64 t _ (refl, (omega arith, omega arith)) (λ e. code_if IsIts code 7 tags.Double t _ (refl, (omega arith, omega arith)) (λ e. code_if IsIts code 8 tags.Bytes t _ (refl, (omega arith, omega arith)) (λ e. code_if IsIts code 9 tags.List t _ (refl, (omega arith, omega arith)) (λ e. code_if IsIts code 10 tags.Set t _ (refl, (omega arith, omega arith)) (λ e. code_if IsIts code 11 tags.Map t _ (refl, (omega arith, omega arith)) (λ e. code_if IsIts code 12 tags.Struct t _ (refl, (omega arith, omega arith)) (λ e. none_is_some IsIts code t e) e) e) e) e) e) e) e) e) e) e) e) e
+    code_if IsIts code 1 tags.Bool t _ (inl refl, (omega arith, omega arith)) (λ e. code_if IsIts code 2 tags.Bool t _ (inr refl, (omega arith, omega arith)) (λ e. code_if IsIts code 3 tags.I8 t _ (refl, (omega arith, omega arith)) (λ e. code_if IsIts code 4 tags.I16 t _ (refl, (omega arith, omega arith)) (λ e. code_if IsIts code 5 tags.I32 t _ (refl, (omega arith, omega arith)) (λ e. code_if IsIts code 6 tags.I64 t _ (refl, (omega arith, omega arith)) (λ e. code_if IsIts code 7 tags.Double t _ (refl, (omega arith, omega arith)) (λ e. code_if IsIts code 8 tags.Bytes t _ (refl, (omega arith, omega arith)) (λ e. code_if IsIts code 9 tags.List t _ (refl, (omega arith, omega arith)) (λ e. code_if IsIts code 10 tags.Set t _ (refl, (omega arith, omega arith)) (λ e. code_if IsIts code 11 tags.Map t _ (refl, (omega arith, omega arith)) (λ e. code_if IsIts code 12 tags.Struct t _ (refl, (omega arith, omega arith)) (λ e. code_if IsIts code 13 tags.Uuid t _ (refl, (omega arith, omega arith)) (λ e. none_is_some IsIts code t e) e) e) e) e) e) e) e) e) e) e) e) e) e
 
 pub tag_is : (t : Tag) (code : ℕ) → IsCompactCode t code → compact_tag code ≡ Some t
 unfolding compact_tag
@@ -54,6 +54,7 @@ tag_is tags.Struct code e = ap compact_tag e
 tag_is tags.Map code e = ap compact_tag e
 tag_is tags.Set code e = ap compact_tag e
 tag_is tags.List code e = ap compact_tag e
+tag_is tags.Uuid code e = ap compact_tag e
 
 -- each code that is taken has a tag, and no other
 pub taken_tag : (code : ℕ) → IsTakenCode code → (t : Tag) × (compact_tag code ≡ Some t)
@@ -71,9 +72,10 @@ taken_tag (suc (suc (suc (suc (suc (suc (suc (suc (suc zero))))))))) h = (tags.L
 taken_tag (suc (suc (suc (suc (suc (suc (suc (suc (suc (suc zero)))))))))) h = (tags.Set, refl)
 taken_tag (suc (suc (suc (suc (suc (suc (suc (suc (suc (suc (suc zero))))))))))) h = (tags.Map, refl)
 taken_tag (suc (suc (suc (suc (suc (suc (suc (suc (suc (suc (suc (suc zero)))))))))))) h = (tags.Struct, refl)
-taken_tag (suc (suc (suc (suc (suc (suc (suc (suc (suc (suc (suc (suc (suc n))))))))))))) h = absurd (let l : (suc (suc (suc (suc (suc (suc (suc (suc (suc (suc (suc (suc (suc n))))))))))))) ≤ 12 = h.1 in let f : ⊥ = omega arith in f)
+taken_tag (suc (suc (suc (suc (suc (suc (suc (suc (suc (suc (suc (suc (suc zero))))))))))))) h = (tags.Uuid, refl)
+taken_tag (suc (suc (suc (suc (suc (suc (suc (suc (suc (suc (suc (suc (suc (suc n)))))))))))))) h = absurd (let l : (suc (suc (suc (suc (suc (suc (suc (suc (suc (suc (suc (suc (suc (suc n)))))))))))))) ≤ 13 = h.1 in let f : ⊥ = omega arith in f)
 
-free_above : (code : ℕ) → 12 < code → code < 16 → compact_tag code ≡ None
+free_above : (code : ℕ) → 13 < code → code < 16 → compact_tag code ≡ None
 unfolding compact_tag
 free_above zero above small = absurd (let f : ⊥ = omega arith in f)
 free_above (suc zero) above small = absurd (let f : ⊥ = omega arith in f)
@@ -88,7 +90,7 @@ free_above (suc (suc (suc (suc (suc (suc (suc (suc (suc zero))))))))) above smal
 free_above (suc (suc (suc (suc (suc (suc (suc (suc (suc (suc zero)))))))))) above small = absurd (let f : ⊥ = omega arith in f)
 free_above (suc (suc (suc (suc (suc (suc (suc (suc (suc (suc (suc zero))))))))))) above small = absurd (let f : ⊥ = omega arith in f)
 free_above (suc (suc (suc (suc (suc (suc (suc (suc (suc (suc (suc (suc zero)))))))))))) above small = absurd (let f : ⊥ = omega arith in f)
-free_above (suc (suc (suc (suc (suc (suc (suc (suc (suc (suc (suc (suc (suc zero))))))))))))) above small = refl
+free_above (suc (suc (suc (suc (suc (suc (suc (suc (suc (suc (suc (suc (suc zero))))))))))))) above small = absurd (let f : ⊥ = omega arith in f)
 free_above (suc (suc (suc (suc (suc (suc (suc (suc (suc (suc (suc (suc (suc (suc zero)))))))))))))) above small = refl
 free_above (suc (suc (suc (suc (suc (suc (suc (suc (suc (suc (suc (suc (suc (suc (suc zero))))))))))))))) above small = refl
 free_above (suc (suc (suc (suc (suc (suc (suc (suc (suc (suc (suc (suc (suc (suc (suc (suc n)))))))))))))))) above small = absurd (let f : ⊥ = omega arith in f)
@@ -101,7 +103,7 @@ free_tag code (inr h) = free_above code h.0 h.1
 pub none_is_free : (code : ℕ) → code < 16 → compact_tag code ≡ None → IsFreeCode code
 none_is_free zero small none = inl refl
 none_is_free (suc n) small none =
-    elim (cases_lt 12 (suc n)) [
+    elim (cases_lt 13 (suc n)) [
       | inl above ↦ inr (above, small)
       | inr le ↦
           let t = taken_tag (suc n) (omega arith, le) in
@@ -162,6 +164,7 @@ code_half tags.Struct code e = (omega arith, omega arith)
 code_half tags.Map code e = (omega arith, omega arith)
 code_half tags.Set code e = (omega arith, omega arith)
 code_half tags.List code e = (omega arith, omega arith)
+code_half tags.Uuid code e = (omega arith, omega arith)
 
 pub written_code_is : (t : Tag) → IsCompactCode t (compact_code t)
 written_code_is tags.Bool = inl refl
@@ -175,6 +178,7 @@ written_code_is tags.Struct = refl
 written_code_is tags.Map = refl
 written_code_is tags.Set = refl
 written_code_is tags.List = refl
+written_code_is tags.Uuid = refl
 
 pub free_half : (code : ℕ) → IsFreeCode code → code < 16
 free_half code (inl e) = omega arith

@@ -1,16 +1,16 @@
 -- Each part has the first fault that the table tells of the bytes that are left, and no other: numbers, and headers of containers.
-use Rattle.std.specs.Int.{w8, w32, w64}
+use Rattle.std.specs.Int.{w8, w32, w64, w128}
 use Rattle.std.proofs.Common.{◌≡◌, inl, inr, ℕ, ◌+◌, ◌*◌, ◌/◌, ◌%◌, ◌<◌, ◌≤◌, Bool, true, false, cond, eqb, List, [], ◌∷◌, length, Err, refl, sym, ap, subst, ◌∙◌, arith}
 use Rattle.std.proofs.lemmas.Bool.{eqb-true, eqb-false, ne_eqb}
-use Rattle.wire_num.specs.Decoding.{decode_byte, decode_signed}
+use Rattle.wire_num.specs.Decoding.{decode_byte, decode_unsigned, decode_signed}
 use Rattle.wire_num.specs.Encoded.{AreByteSized}
-use Rattle.wire_num.specs.Fixed.{signed_of}
+use Rattle.wire_num.specs.Fixed.{unsigned_of, signed_of}
 use Rattle.wire_num.specs.LowFirst.{low_first_of, decode_low_first}
 use Rattle.thrift_value.specs.declared.tag.Tag.{Tag}
 use Rattle.thrift_value.specs.declared.tag.Tag.TheVariants as tags
 use Rattle.thrift_value.specs.declared.wire_fault.WireFault.{WireFault}
 use Rattle.thrift_value.specs.declared.wire_fault.WireFault.TheVariants.{Short, BadType}
-use Rattle.thrift_value.specs.Tree.{of_i8, of_i16, of_i32, of_i64, of_double}
+use Rattle.thrift_value.specs.Tree.{of_i8, of_i16, of_i32, of_i64, of_double, of_uuid}
 use Rattle.wire_model.specs.Decoder.{Unread}
 use Rattle.wire_model.specs.Pieces.{byte, Begins, within_room}
 use Rattle.wire_model.specs.Wire.{IsScalar}
@@ -45,6 +45,8 @@ scalar_fault_found tags.I32 is unread fault fits e = varint_fault_found (decode_
 scalar_fault_found tags.I64 is unread fault fits e = varint_fault_found (decode_zigzag w64) 10 (zigzag_faults w64) unread fault (making_fault (decode_zigzag w64) of_i64 unread fault e)
 scalar_fault_found tags.Double is unread fault fits e =
     let b = fixed_fault 8 (low_first_of w64) unread fault (making_fault (decode_low_first w64) of_double unread fault e) in short_is tags.Double fault unread.bytes b.0 b.1
+scalar_fault_found tags.Uuid is unread fault fits e =
+    let b = fixed_fault 16 (unsigned_of w128) unread fault (making_fault (decode_unsigned w128) of_uuid unread fault e) in short_is tags.Uuid fault unread.bytes b.0 b.1
 scalar_fault_found tags.Bytes is unread fault fits e = absurd is
 scalar_fault_found tags.Struct is unread fault fits e = absurd is
 scalar_fault_found tags.Map is unread fault fits e = absurd is
@@ -57,6 +59,7 @@ scalar_fault_only tags.I16 is unread fault h = making_fails decode_short of_i16 
 scalar_fault_only tags.I32 is unread fault h = making_fails (decode_zigzag w32) of_i32 unread fault (varint_fault_only (decode_zigzag w32) 5 (zigzag_faults w32) unread fault h)
 scalar_fault_only tags.I64 is unread fault h = making_fails (decode_zigzag w64) of_i64 unread fault (varint_fault_only (decode_zigzag w64) 10 (zigzag_faults w64) unread fault h)
 scalar_fault_only tags.Double is unread Short h = making_fails (decode_low_first w64) of_double unread Short (fixed_short 8 (low_first_of w64) unread h)
+scalar_fault_only tags.Uuid is unread Short h = making_fails (decode_unsigned w128) of_uuid unread Short (fixed_short 16 (unsigned_of w128) unread h)
 scalar_fault_only tags.Bool is unread Short h = making_fails decode_byte as_bool unread Short (byte_short unread h)
 scalar_fault_only tags.I8 is unread Short h = making_fails (decode_signed w8) of_i8 unread Short (fixed_short 1 (signed_of w8) unread h)
 scalar_fault_only tags.Bytes is unread fault h = absurd is

@@ -135,6 +135,7 @@ by_code tags.Struct code last id text e h = subst (λ (k : ℕ). IsHeading last 
 by_code tags.Map code last id text e h = subst (λ (k : ℕ). IsHeading last id k text) e h
 by_code tags.Set code last id text e h = subst (λ (k : ℕ). IsHeading last id k text) e h
 by_code tags.List code last id text e h = subst (λ (k : ℕ). IsHeading last id k text) e h
+by_code tags.Uuid code last id text e h = subst (λ (k : ℕ). IsHeading last id k text) e h
 
 -- a byte is its halves
 pub halves : (x : ℕ) → x ≡ 16 * (x / 16) + x % 16
@@ -210,6 +211,7 @@ field_only last (typed id tags.List) text more left is = heading_only last id 9 
 field_only last (typed id tags.Set) text more left is = heading_only last id 10 tags.Set text more left refl is
 field_only last (typed id tags.Map) text more left is = heading_only last id 11 tags.Map text more left refl is
 field_only last (typed id tags.Struct) text more left is = heading_only last id 12 tags.Struct text more left refl is
+field_only last (typed id tags.Uuid) text more left is = heading_only last id 13 tags.Uuid text more left refl is
 field_only last (flagged id true) text more left is = heading_only last id 1 tags.Bool text more left (inl refl) is
 field_only last (flagged id false) text more left is = heading_only last id 2 tags.Bool text more left (inr refl) is
 
@@ -229,6 +231,7 @@ typed_heading last id tags.List text is = is
 typed_heading last id tags.Set text is = is
 typed_heading last id tags.Map text is = is
 typed_heading last id tags.Struct text is = is
+typed_heading last id tags.Uuid text is = is
 
 pub field_byte : (last : ℤ) (h : FieldHeader) (text : List ℕ) → IsCompactHeader last h text → 1 ≤ length text
 field_byte last stop text is = let l : length text ≡ 1 = ap length is in omega arith

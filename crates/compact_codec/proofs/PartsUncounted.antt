@@ -1,15 +1,15 @@
 -- The parts count no value.
 use Rattle.std.specs.Prelude.{ℤ, pos, negsuc}
-use Rattle.std.specs.Int.{w8, w32, w64}
+use Rattle.std.specs.Int.{w8, w32, w64, w128}
 use Rattle.std.proofs.Common.{ℕ, ◌/◌, ◌%◌, ◌^◌, ◌+ℤ◌, Bool, true, false, cond, eqb, ltb, Result}
-use Rattle.wire_num.specs.Decoding.{decode_byte, decode_bytes, decode_signed}
+use Rattle.wire_num.specs.Decoding.{decode_byte, decode_bytes, decode_unsigned, decode_signed}
 use Rattle.wire_num.specs.LowFirst.{decode_low_first}
 use Rattle.wire_num.specs.Varint.{decode_varint}
 use Rattle.thrift_value.specs.declared.tag.Tag.{Tag}
 use Rattle.thrift_value.specs.declared.tag.Tag.TheVariants as tags
 use Rattle.thrift_value.specs.declared.wire_fault.WireFault.{WireFault}
 use Rattle.thrift_value.specs.declared.wire_fault.WireFault.TheVariants.{BadSize, FieldRange}
-use Rattle.thrift_value.specs.Tree.{of_bool, of_i8, of_i16, of_i32, of_i64, of_double}
+use Rattle.thrift_value.specs.Tree.{of_bool, of_i8, of_i16, of_i32, of_i64, of_double, of_uuid}
 use Rattle.wire_model.specs.Decoder.{Unread, ◌>>=◌, give, fail}
 use Rattle.wire_model.specs.Pieces.{byte, some_bytes, within_room}
 use Rattle.wire_model.specs.Protocol.{IsUncounted, ArePartsUncounted}
@@ -17,7 +17,7 @@ use Rattle.wire_model.specs.Wire.{FieldHeader, stop, IsScalar}
 use Rattle.wire_model.proofs.Recounted.{then_uncounted, give_uncounted, fail_uncounted, number_uncounted, tag_uncounted_if, room_uncounted}
 use Rattle.compact_codec.specs.Codes.{compact_tag}
 use Rattle.compact_codec.specs.Numbers.{decode_short, decode_zigzag}
-use Rattle.compact_codec.specs.Reading.{compact_i8, compact_i16, compact_signed, compact_double, compact_unsigned, tag_in_half, id_in_range, id_by_delta, header_by, header_in_byte, compact_field, compact_scalar, size_in_range, compact_size, compact_span, items_size, items_in_half, items_in_byte, compact_items, pairs_in_byte, pairs_of_size, compact_pairs, compact}
+use Rattle.compact_codec.specs.Reading.{compact_i8, compact_i16, compact_signed, compact_double, compact_uuid, compact_unsigned, tag_in_half, id_in_range, id_by_delta, header_by, header_in_byte, compact_field, compact_scalar, size_in_range, compact_size, compact_span, items_size, items_in_half, items_in_byte, compact_items, pairs_in_byte, pairs_of_size, compact_pairs, compact}
 
 tag_uncounted : (code : ℕ) → IsUncounted (tag_in_half code)
 unfolding tag_in_half
@@ -60,6 +60,7 @@ scalar_uncounted tags.I16 is = then_uncounted compact_i16 (λ n. give (of_i16 n)
 scalar_uncounted tags.I32 is = then_uncounted (compact_signed w32) (λ n. give (of_i32 n)) (number_uncounted (decode_zigzag w32)) (λ n. give_uncounted (of_i32 n))
 scalar_uncounted tags.I64 is = then_uncounted (compact_signed w64) (λ n. give (of_i64 n)) (number_uncounted (decode_zigzag w64)) (λ n. give_uncounted (of_i64 n))
 scalar_uncounted tags.Double is = then_uncounted compact_double (λ n. give (of_double n)) (number_uncounted (decode_low_first w64)) (λ n. give_uncounted (of_double n))
+scalar_uncounted tags.Uuid is = then_uncounted compact_uuid (λ n. give (of_uuid n)) (number_uncounted (decode_unsigned w128)) (λ n. give_uncounted (of_uuid n))
 scalar_uncounted tag is = absurd is
 
 ranged_uncounted : (b : Bool) (n : ℕ) → IsUncounted (cond b (within_room n) (fail BadSize))

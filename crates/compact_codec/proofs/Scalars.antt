@@ -1,19 +1,20 @@
 -- Numbers and bools.
 use Rattle.std.specs.Prelude.{FitsSigned}
-use Rattle.std.specs.Int.{w8, w16, w32, w64}
+use Rattle.std.specs.Int.{w8, w16, w32, w64, w128}
 use Rattle.std.proofs.Common.{◌≡◌, ℕ, ◌<◌, ◌≤◌, Bool, true, false, eqb, List, [], ◌∷◌, ◌++◌, length, Ok, refl, sym, ap, subst, ◌∙◌, arith}
 use Rattle.std.proofs.lemmas.Bool.{eqb-true, eqb-false, ne_eqb}
-use Rattle.wire_num.specs.Decoding.{decode_byte, decode_signed}
+use Rattle.wire_num.specs.Decoding.{decode_byte, decode_unsigned, decode_signed}
 use Rattle.wire_num.specs.Encoded.{AreByteSized}
-use Rattle.wire_num.specs.Fixed.{IsByte, IsSigned, signed_bytes}
+use Rattle.wire_num.specs.Fixed.{IsByte, IsUnsigned, IsSigned, unsigned_bytes, signed_bytes}
 use Rattle.wire_num.specs.LowFirst.{decode_low_first, IsLowFirst, low_first_bytes}
-use Rattle.wire_num.proofs.Numbers.{byte_decodes, signed_decodes, low_first_decodes_64}
+use Rattle.wire_num.proofs.Numbers.{byte_decodes, unsigned_decodes, signed_decodes, low_first_decodes_64}
+use Rattle.wire_num.proofs.Halves.{wide_128}
 use Rattle.wire_num.proofs.Varints.{put_32, put_64}
 use Rattle.wire_num.proofs.Widths.{wide_8}
 use Rattle.wire_num.specs.Zigzag.{zigzag}
 use Rattle.thrift_value.specs.declared.tag.Tag.{Tag}
 use Rattle.thrift_value.specs.declared.tag.Tag.TheVariants as tags
-use Rattle.thrift_value.specs.Tree.{Tree, of_bool, of_i8, of_i16, of_i32, of_i64, of_double}
+use Rattle.thrift_value.specs.Tree.{Tree, of_bool, of_i8, of_i16, of_i32, of_i64, of_double, of_uuid}
 use Rattle.thrift_value.specs.Tags.{tag_of}
 use Rattle.thrift_value.specs.Ranges.{IsInRange}
 use Rattle.wire_model.specs.Decoder.{Unread}
@@ -53,6 +54,8 @@ scalar_found tags.I64 is before after x fits e =
     making_found (decode_zigzag w64) (IsZigzag w64) of_i64 (IsText tags.I64) (zigzag_decodes w64) (λ n text h. (refl, h)) before after x fits e
 scalar_found tags.Double is before after x fits e =
     making_found (decode_low_first w64) (IsLowFirst w64) of_double (IsText tags.Double) low_first_decodes_64 (λ n text h. (refl, h)) before after x fits e
+scalar_found tags.Uuid is before after x fits e =
+    making_found (decode_unsigned w128) (IsUnsigned w128) of_uuid (IsText tags.Uuid) (unsigned_decodes w128 wide_128) (λ n text h. (refl, h)) before after x fits e
 scalar_found tags.Bytes is before after x fits e = absurd is
 scalar_found tags.Struct is before after x fits e = absurd is
 scalar_found tags.Map is before after x fits e = absurd is
@@ -73,6 +76,7 @@ scalar_only (of_i16 n) text more left h = making_only decode_short IsShort of_i1
 scalar_only (of_i32 n) text more left h = making_only (decode_zigzag w32) (IsZigzag w32) of_i32 (zigzag_decodes w32) n text more left h
 scalar_only (of_i64 n) text more left h = making_only (decode_zigzag w64) (IsZigzag w64) of_i64 (zigzag_decodes w64) n text more left h
 scalar_only (of_double n) text more left h = making_only (decode_low_first w64) (IsLowFirst w64) of_double low_first_decodes_64 n text more left h
+scalar_only (of_uuid n) text more left h = making_only (decode_unsigned w128) (IsUnsigned w128) of_uuid (unsigned_decodes w128 wide_128) n text more left h
 scalar_only x text more left h = absurd h
 
 long : (text t : List ℕ) → text ≡ t → 1 ≤ length t → 1 ≤ length text
@@ -86,6 +90,7 @@ scalar_byte (of_i16 n) text h = groups_some w32 (zigzag h.0) text h.1
 scalar_byte (of_i32 n) text h = groups_some w32 (zigzag n) text h
 scalar_byte (of_i64 n) text h = groups_some w64 (zigzag n) text h
 scalar_byte (of_double n) text h = long text (low_first_bytes w64 n) h.1 (omega arith)
+scalar_byte (of_uuid n) text h = long text (unsigned_bytes w128 n) h.1 (omega arith)
 scalar_byte x text h = absurd h
 
 pub scalar_written : (x : Tree) → IsScalar (tag_of x) → IsInRange x → IsCompactScalar x (compact_scalar_text x)
@@ -96,6 +101,7 @@ scalar_written (of_i16 n) is r = (n, put_32 (zigzag n) (short_small n r), sym (l
 scalar_written (of_i32 n) is r = put_32 (zigzag n) (zigzag_small n r)
 scalar_written (of_i64 n) is r = put_64 (zigzag n) (zigzag_small_64 n r)
 scalar_written (of_double n) is r = (r, refl)
+scalar_written (of_uuid n) is r = (r, refl)
 scalar_written x is r = absurd is
 
 pub scalar_range : (x : Tree) (text : List ℕ) → IsCompactScalar x text → IsInRange x
@@ -105,6 +111,7 @@ scalar_range (of_i16 n) text h = subst (FitsSigned w16) (sym h.2) (low_fits h.0)
 scalar_range (of_i32 n) text h = zigzag_fits n (varint_small (zigzag n) text h)
 scalar_range (of_i64 n) text h = zigzag_fits_64 n (varint_small_64 (zigzag n) text h)
 scalar_range (of_double n) text h = h.0
+scalar_range (of_uuid n) text h = h.0
 scalar_range x text h = absurd h
 
 pub scalar_stays : (tag : Tag) → IsScalar tag → StaysAs (compact_scalar tag) (compact_scalar tag)
@@ -115,4 +122,5 @@ scalar_stays tags.I16 is = making_stays decode_short IsShort of_i16 short_decode
 scalar_stays tags.I32 is = making_stays (decode_zigzag w32) (IsZigzag w32) of_i32 (zigzag_decodes w32)
 scalar_stays tags.I64 is = making_stays (decode_zigzag w64) (IsZigzag w64) of_i64 (zigzag_decodes w64)
 scalar_stays tags.Double is = making_stays (decode_low_first w64) (IsLowFirst w64) of_double low_first_decodes_64
+scalar_stays tags.Uuid is = making_stays (decode_unsigned w128) (IsUnsigned w128) of_uuid (unsigned_decodes w128 wide_128)
 scalar_stays tag is = absurd is

@@ -19,7 +19,7 @@ field_bound : (last : ℤ) (bytes : List ℕ) → HasFieldFault last Short bytes
 field_bound last bytes (inl none) = let l : length bytes ≡ 0 = ap length none in omega arith
 field_bound last bytes (inr (code, taken, b)) = let l : length bytes ≡ suc (length b.behind) = ap length b.whole in let less : length b.behind < 5 = b.such.0 in omega arith
 
-scalar_bound : (tag : Tag) (bytes : List ℕ) → HasNumberFault tag Short bytes → length bytes < 10
+scalar_bound : (tag : Tag) (bytes : List ℕ) → HasNumberFault tag Short bytes → length bytes < 17
 scalar_bound tags.Bool bytes h = omega (arith, h)
 scalar_bound tags.I8 bytes h = omega (arith, h)
 scalar_bound tags.I16 bytes h = omega (arith, h.0)
@@ -31,6 +31,7 @@ scalar_bound tags.Struct bytes h = omega (arith, h)
 scalar_bound tags.Map bytes h = omega (arith, h)
 scalar_bound tags.Set bytes h = omega (arith, h)
 scalar_bound tags.List bytes h = omega (arith, h)
+scalar_bound tags.Uuid bytes h = omega (arith, h)
 
 items_bound : (bytes : List ℕ) → HasListFault Short bytes → length bytes < 2 ^ 31 + 6
 items_bound bytes (inl none) = let l : length bytes ≡ 0 = ap length none in omega arith
@@ -49,7 +50,7 @@ field_mends last = mended (compact_field last) 6 (λ unread fits e. field_bound 
 
 pub scalar_mends : (tag : Tag) → IsScalar tag → (unread : Unread) → AreByteSized unread.bytes → compact_scalar tag unread ≡ Err Short
     → (more : List ℕ) × AreByteSized more × (compact_scalar tag (and_more more unread) ≡ Err Short → ⊥)
-scalar_mends tag is = mended (compact_scalar tag) 10 (λ unread fits e. scalar_bound tag unread.bytes (scalar_fault_found tag is unread Short fits e))
+scalar_mends tag is = mended (compact_scalar tag) 17 (λ unread fits e. scalar_bound tag unread.bytes (scalar_fault_found tag is unread Short fits e))
 
 pub span_mends : (unread : Unread) → AreByteSized unread.bytes → compact_span unread ≡ Err Short
     → (more : List ℕ) × AreByteSized more × (compact_span (and_more more unread) ≡ Err Short → ⊥)

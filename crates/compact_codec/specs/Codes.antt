@@ -1,4 +1,5 @@
--- The codes of the kinds of values (Thrift compact protocol, 'Struct', 'List and Set'). Each takes half a byte.
+-- The codes of the kinds of values (Thrift compact protocol, 'Struct', 'List and Set'). Each takes half a byte. Own choice: that of a uuid is
+-- 13.
 use Rattle.std.specs.Prelude.{◌≡◌, ◌⊎◌, ℕ, Bool, true, false, Option, Some, None, ◌==◌, if◌then◌else◌}
 use Rattle.thrift_value.specs.declared.tag.Tag.{Tag}
 use Rattle.thrift_value.specs.declared.tag.Tag.TheVariants as tags
@@ -21,6 +22,7 @@ compact_code tags.List = 9
 compact_code tags.Set = 10
 compact_code tags.Map = 11
 compact_code tags.Struct = 12
+compact_code tags.Uuid = 13
 
 -- the codes that stand for a tag. Own choice: that of false is a bool's too
 abbrev pub IsCompactCode : Tag → ℕ → Type 0
@@ -42,4 +44,5 @@ compact_tag code =
     else if code == 10 then Some tags.Set
     else if code == 11 then Some tags.Map
     else if code == 12 then Some tags.Struct
+    else if code == 13 then Some tags.Uuid
     else None

@@ -1,7 +1,7 @@
 -- Bytes and values of the worked examples.
 use Rattle.std.specs.Prelude.{ℕ, zero, suc, pos, negsuc, true, false, List, [], ◌∷◌, ◌++◌}
 use Rattle.thrift_value.specs.declared.tag.Tag.TheVariants as tags
-use Rattle.thrift_value.specs.Tree.{Tree, of_bool, of_i32, of_bytes, of_struct, of_map, of_set, of_list, no_fields, field, no_items, item, no_pairs, pair}
+use Rattle.thrift_value.specs.Tree.{Tree, of_bool, of_i32, of_bytes, of_struct, of_map, of_set, of_list, of_uuid, no_fields, field, no_items, item, no_pairs, pair}
 
 -- `add(1, 2)`: two numbers
 abbrev pub small_numbers : Tree
@@ -10,6 +10,14 @@ small_numbers = of_struct (field (pos 1) (of_i32 (pos 1)) (field (pos 2) (of_i32
 -- its bytes
 abbrev pub small_numbers_bytes : List ℕ
 small_numbers_bytes = 21 ∷ 2 ∷ 21 ∷ 4 ∷ 0 ∷ []
+
+-- a struct of a uuid
+abbrev pub lone_uuid : Tree
+lone_uuid = of_struct (field (pos 1) (of_uuid 88962710306127702866241727433142015) no_fields)
+
+-- its bytes
+abbrev pub lone_uuid_bytes : List ℕ
+lone_uuid_bytes = 29 ∷ 0 ∷ 17 ∷ 34 ∷ 51 ∷ 68 ∷ 85 ∷ 102 ∷ 119 ∷ 136 ∷ 153 ∷ 170 ∷ 187 ∷ 204 ∷ 221 ∷ 238 ∷ 255 ∷ 0 ∷ []
 
 -- fields by small and large steps, and a struct among them whose fields begin at 0 again
 abbrev pub steps : Tree

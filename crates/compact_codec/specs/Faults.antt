@@ -9,13 +9,13 @@ use Rattle.thrift_value.specs.declared.wire_fault.WireFault.TheVariants.{Short, 
 use Rattle.wire_model.specs.Format.{FaultTable}
 use Rattle.wire_model.specs.Pieces.{Begins}
 
--- the code of no tag: 0, or above that of a struct
+-- the code of no tag: 0, or above that of a uuid
 abbrev pub IsFreeCode : ℕ → Type 0
-IsFreeCode code = (code ≡ 0) ⊎ ((12 < code) × (code < 16))
+IsFreeCode code = (code ≡ 0) ⊎ ((13 < code) × (code < 16))
 
 -- the code of a tag
 abbrev pub IsTakenCode : ℕ → Type 0
-IsTakenCode code = (0 < code) × (code ≤ 12)
+IsTakenCode code = (0 < code) × (code ≤ 13)
 
 -- a varint of at most so many bytes: cut off, or with no end among so many (Thrift compact protocol, 'Integer encoding')
 abbrev pub HasVarintFault : ℕ → WireFault → List ℕ → Type 0
@@ -41,6 +41,7 @@ HasNumberFault tags.I16 fault bytes = HasVarintFault 5 fault bytes
 HasNumberFault tags.I32 fault bytes = HasVarintFault 5 fault bytes
 HasNumberFault tags.I64 fault bytes = HasVarintFault 10 fault bytes
 HasNumberFault tags.Double Short bytes = length bytes < 8
+HasNumberFault tags.Uuid Short bytes = length bytes < 16
 HasNumberFault tag Short bytes = length bytes < 1
 HasNumberFault tag _ bytes = ⊥
 

@@ -1,13 +1,13 @@
 -- How the compact protocol reads the parts of a value that hold no other values.
 use Rattle.std.specs.Prelude.{◌/◌, ◌%◌, ◌^◌, ◌+ℤ◌, ℕ, ℤ, pos, negsuc, List, ◌==◌, nat_lt, if◌then◌else◌}
-use Rattle.std.specs.Int.{Width, w8, w32, w64}
-use Rattle.wire_num.specs.Decoding.{decode_signed}
+use Rattle.std.specs.Int.{Width, w8, w32, w64, w128}
+use Rattle.wire_num.specs.Decoding.{decode_unsigned, decode_signed}
 use Rattle.wire_num.specs.LowFirst.{decode_low_first}
 use Rattle.wire_num.specs.Varint.{decode_varint}
 use Rattle.thrift_value.specs.declared.tag.Tag.{Tag}
 use Rattle.thrift_value.specs.declared.tag.Tag.TheVariants as tags
 use Rattle.thrift_value.specs.declared.wire_fault.WireFault.TheVariants.{Short, BadSize, FieldRange}
-use Rattle.thrift_value.specs.Tree.{Tree, of_bool, of_i8, of_i16, of_i32, of_i64, of_double}
+use Rattle.thrift_value.specs.Tree.{Tree, of_bool, of_i8, of_i16, of_i32, of_i64, of_double, of_uuid}
 use Rattle.wire_model.specs.Decoder.{Decoder, ◌>>=◌, give, fail, uncounted}
 use Rattle.wire_model.specs.Pieces.{byte, some_bytes, within_room, tag_or_fault}
 use Rattle.wire_model.specs.Wire.{FieldHeader, stop, typed, flagged, Wire}
@@ -29,6 +29,10 @@ compact_signed width unread = uncounted (decode_zigzag width) unread
 -- the 64 bits of a double
 abbrev pub compact_double : Decoder ℕ
 compact_double unread = uncounted (decode_low_first w64) unread
+
+-- the 128 bits of a uuid. Own choice: the highest byte comes first
+abbrev pub compact_uuid : Decoder ℕ
+compact_uuid unread = uncounted (decode_unsigned w128) unread
 
 -- an unsigned number of 32 bits
 abbrev pub compact_unsigned : Decoder ℕ
@@ -88,6 +92,9 @@ compact_scalar tags.I64 = do
 compact_scalar tags.Double = do
   n ← compact_double
   give (of_double n)
+compact_scalar tags.Uuid = do
+  n ← compact_uuid
+  give (of_uuid n)
 compact_scalar tag = fail Short
 
 -- a length or size below 2^31, or BadSize; and no more than the bytes that are left

@@ -1,13 +1,13 @@
 -- Which bytes stand for the parts of a value in the compact protocol.
 use Rattle.std.specs.Prelude.{◌≡◌, ◌<◌, ◌+◌, ◌*◌, ◌^◌, ◌+ℤ◌, ℕ, zero, suc, ℤ, pos, true, false, List, [], ◌∷◌, ◌++◌, length, FitsSigned}
-use Rattle.std.specs.Int.{w8, w16, w32, w64}
+use Rattle.std.specs.Int.{w8, w16, w32, w64, w128}
 use Rattle.wire_num.specs.Encoded.{AreByteSized}
-use Rattle.wire_num.specs.Fixed.{IsSigned}
+use Rattle.wire_num.specs.Fixed.{IsUnsigned, IsSigned}
 use Rattle.wire_num.specs.LowFirst.{IsLowFirst}
 use Rattle.wire_num.specs.Varint.{IsVarint}
 use Rattle.thrift_value.specs.declared.tag.Tag.{Tag}
 use Rattle.thrift_value.specs.declared.tag.Tag.TheVariants as tags
-use Rattle.thrift_value.specs.Tree.{Tree, of_bool, of_i8, of_i16, of_i32, of_i64, of_double}
+use Rattle.thrift_value.specs.Tree.{Tree, of_bool, of_i8, of_i16, of_i32, of_i64, of_double, of_uuid}
 use Rattle.wire_model.specs.Wire.{FieldHeader, stop, typed, flagged}
 use Rattle.wire_model.specs.Format.{Format}
 use Rattle.compact_codec.specs.Codes.{flag_code, compact_code, IsCompactCode}
@@ -35,7 +35,7 @@ IsCompactHeader last (typed id tag) text = IsHeading last id (compact_code tag) 
 IsCompactHeader last (flagged id flag) text = IsHeading last id (flag_code flag) text
 
 -- a number or a bool (Thrift compact protocol, 'Integer encoding', 'Double encoding', 'Boolean encoding'): true is the byte 1,
--- and 2 is false. Own choice: every other byte is false too
+-- and 2 is false. Own choice: every other byte is false too, and a uuid is its sixteen bytes, the highest first
 abbrev pub IsCompactScalar : Tree → List ℕ → Type 0
 IsCompactScalar (of_bool true) text = text ≡ 1 ∷ []
 IsCompactScalar (of_bool false) text = (b : ℕ) × (b < 256) × (b ≡ 1 → ⊥) × (text ≡ b ∷ [])
@@ -44,6 +44,7 @@ IsCompactScalar (of_i16 n) text = IsShort n text
 IsCompactScalar (of_i32 n) text = IsZigzag w32 n text
 IsCompactScalar (of_i64 n) text = IsZigzag w64 n text
 IsCompactScalar (of_double n) text = IsLowFirst w64 n text
+IsCompactScalar (of_uuid n) text = IsUnsigned w128 n text
 IsCompactScalar _ text = ⊥
 
 -- a length and that many bytes (Thrift compact protocol, 'Binary encoding')

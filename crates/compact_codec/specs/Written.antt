@@ -1,12 +1,12 @@
 -- What is written of the parts of a value in the compact protocol: varints in their shortest form.
 use Rattle.std.specs.Prelude.{◌+◌, ◌*◌, ◌-ℤ◌, ℕ, ℤ, pos, negsuc, true, List, [], ◌∷◌, ◌++◌, length, ◌==◌, nat_lt, if◌then◌else◌}
-use Rattle.std.specs.Int.{w8, w32, w64}
-use Rattle.wire_num.specs.Fixed.{signed_bytes}
+use Rattle.std.specs.Int.{w8, w32, w64, w128}
+use Rattle.wire_num.specs.Fixed.{unsigned_bytes, signed_bytes}
 use Rattle.wire_num.specs.LowFirst.{low_first_bytes}
 use Rattle.wire_num.specs.Varint.{varint_bytes}
 use Rattle.wire_num.specs.Zigzag.{zigzag}
 use Rattle.thrift_value.specs.declared.tag.Tag.{Tag}
-use Rattle.thrift_value.specs.Tree.{Tree, of_bool, of_i8, of_i16, of_i32, of_i64, of_double}
+use Rattle.thrift_value.specs.Tree.{Tree, of_bool, of_i8, of_i16, of_i32, of_i64, of_double, of_uuid}
 use Rattle.wire_model.specs.Wire.{FieldHeader, stop, typed, flagged}
 use Rattle.wire_model.specs.Encoder.{Encoder}
 use Rattle.compact_codec.specs.Codes.{flag_code, compact_code}
@@ -30,7 +30,7 @@ compact_header last stop = 0 ∷ []
 compact_header last (typed id tag) = heading_bytes (compact_code tag) last id
 compact_header last (flagged id flag) = heading_bytes (flag_code flag) last id
 
--- a number or a bool, a bool as 1 or 2
+-- a number or a bool, a bool as 1 or 2; a uuid is its sixteen bytes, the highest first
 abbrev pub compact_scalar_text : Tree → List ℕ
 compact_scalar_text (of_bool flag) = flag_code flag ∷ []
 compact_scalar_text (of_i8 n) = signed_bytes w8 n
@@ -38,6 +38,7 @@ compact_scalar_text (of_i16 n) = varint_bytes w32 (zigzag n)
 compact_scalar_text (of_i32 n) = varint_bytes w32 (zigzag n)
 compact_scalar_text (of_i64 n) = varint_bytes w64 (zigzag n)
 compact_scalar_text (of_double n) = low_first_bytes w64 n
+compact_scalar_text (of_uuid n) = unsigned_bytes w128 n
 compact_scalar_text _ = []
 
 -- a length and the bytes

@@ -10,11 +10,11 @@ use crate::codes::{code_of, code_of_flag, tag_coded};
 use crate::headers::{
     header_by, id_by_delta, items_in_half, items_size, pairs_in_byte, put_heading,
 };
-use crate::numbers::{double_in, i8_in, i16_in, i32_in, i64_in, size_in, u8_in};
+use crate::numbers::{double_in, i8_in, i16_in, i32_in, i64_in, size_in, u8_in, uuid_in};
 use crate::protocol::Compact;
 use std::alloc::AllocError;
 use thrift_value::{Tag, Value, WireFault};
-use wire_num::{put_le64, put_u8, put_varint32, put_varint64, zigzag32, zigzag64};
+use wire_num::{put_be128, put_le64, put_u8, put_varint32, put_varint64, zigzag32, zigzag64};
 use wire_walk::{Codec, Header, Input};
 
 impl Codec for Compact {
@@ -32,7 +32,7 @@ impl Codec for Compact {
     }
 
     // A number (Thrift compact protocol, 'Integer encoding', 'Double encoding'), or a bool, whose byte is 1 or 2 ('Boolean
-    // encoding'). Own choice: every byte but 1 is false.
+    // encoding'). Own choice: every byte but 1 is false, and a uuid is sixteen bytes, the highest first.
     #[tactic(auto, unfolding(crate::specs::Reading::compact_scalar))]
     fn scalar<'a>(tag: Tag, rest: Input<'a>) -> Result<(Value, Input<'a>), WireFault> {
         match tag {
@@ -59,6 +59,10 @@ impl Codec for Compact {
             Tag::Double => {
                 let (bits, rest) = double_in(rest)?;
                 Ok((Value::Double(bits), rest))
+            }
+            Tag::Uuid => {
+                let (number, rest) = uuid_in(rest)?;
+                Ok((Value::Uuid(number), rest))
             }
             _ => Err(WireFault::Short),
         }
@@ -111,6 +115,7 @@ impl Codec for Compact {
             Value::I32(number) => put_varint32(into, zigzag32(*number)),
             Value::I64(number) => put_varint64(into, zigzag64(*number)),
             Value::Double(bits) => put_le64(into, *bits),
+            Value::Uuid(number) => put_be128(into, *number),
             _ => Ok(()),
         }
     }

@@ -1,4 +1,5 @@
-//! The codes of the kinds of values, each half a byte (Thrift compact protocol, 'Struct', 'List and Set').
+//! The codes of the kinds of values, each half a byte (Thrift compact protocol, 'Struct', 'List and Set'). Own choice: that of a
+//! uuid is 13.
 
 ghost use Rattle.std.specs.Prelude.{◌≡◌, ◌<◌};
 ghost use Rattle.wire_model.specs.Answering.{AnswersExactly};
@@ -33,6 +34,7 @@ pub(crate) fn code_of(tag: Tag) -> u8
         Tag::Set => 10,
         Tag::Map => 11,
         Tag::Struct => 12,
+        Tag::Uuid => 13,
     }
 }
 
@@ -54,6 +56,7 @@ fn tag_of_code(code: u8) -> Option<Tag>
         10 => Some(Tag::Set),
         11 => Some(Tag::Map),
         12 => Some(Tag::Struct),
+        13 => Some(Tag::Uuid),
         _ => None,
     }
 }

@@ -6,11 +6,12 @@ ghost use Rattle.std.specs.Int.{w32, w64};
 ghost use Rattle.wire_model.specs.Answering.{AnswersExactly};
 ghost use Rattle.wire_model.specs.Pieces.{byte, within_room};
 ghost use Rattle.compact_codec.specs.Numbers.{low_16};
-ghost use Rattle.compact_codec.specs.Reading.{compact_i8, compact_i16, compact_signed, compact_double, compact_unsigned, compact_size};
+ghost use Rattle.compact_codec.specs.Reading.{compact_i8, compact_i16, compact_signed, compact_double, compact_uuid, compact_unsigned, compact_size};
 
 use thrift_value::WireFault;
 use wire_num::{
-    decode_i8, decode_le64, decode_u8, decode_varint32, decode_varint64, unzigzag32, unzigzag64,
+    decode_be128, decode_i8, decode_le64, decode_u8, decode_varint32, decode_varint64, unzigzag32,
+    unzigzag64,
 };
 use wire_walk::Input;
 
@@ -67,6 +68,14 @@ pub(crate) fn double_in(input: Input<'_>) -> Result<(u64, Input<'_>), WireFault>
     ensures { AnswersExactly (λ r. (r.0, r.1)) result (compact_double input.entry) }
 {
     let (number, behind) = decode_le64(input.bytes())?;
+    Ok((number, input.with_bytes(behind)))
+}
+
+/// The sixteen bytes of a uuid, the highest first.
+pub(crate) fn uuid_in(input: Input<'_>) -> Result<(u128, Input<'_>), WireFault>
+    ensures { AnswersExactly (λ r. (r.0, r.1)) result (compact_uuid input.entry) }
+{
+    let (number, behind) = decode_be128(input.bytes())?;
     Ok((number, input.with_bytes(behind)))
 }
 

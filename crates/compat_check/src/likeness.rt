@@ -29,6 +29,7 @@ fn has_no_struct(kind: &TypeDesc) -> bool
         | TypeDesc::Double
         | TypeDesc::Text
         | TypeDesc::Binary
+        | TypeDesc::Uuid
         | TypeDesc::Enum(_) => true,
     }
 }
@@ -71,6 +72,7 @@ pub(crate) fn are_like(kind: &TypeDesc, other: &TypeDesc) -> bool
         | TypeDesc::Double
         | TypeDesc::Text
         | TypeDesc::Binary
+        | TypeDesc::Uuid
         | TypeDesc::Enum(_)
         | TypeDesc::Struct(_) => have_same_tags(kind, other),
     }
@@ -127,6 +129,7 @@ pub(crate) fn push_places(
         | TypeDesc::Double
         | TypeDesc::Text
         | TypeDesc::Binary
+        | TypeDesc::Uuid
         | TypeDesc::Enum(_)
         | TypeDesc::Set(_) => Ok(()),
     }

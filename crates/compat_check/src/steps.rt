@@ -38,6 +38,7 @@ fn spend_on_parts(left: &mut u32, kind: &TypeDesc) -> Result<(), AllocError> {
         | TypeDesc::Double
         | TypeDesc::Text
         | TypeDesc::Binary
+        | TypeDesc::Uuid
         | TypeDesc::Enum(_)
         | TypeDesc::Struct(_) => Ok(()),
     }
@@ -65,6 +66,7 @@ fn spend_on_type(left: &mut u32, kind: &TypeDesc) -> Result<(), AllocError> {
         | TypeDesc::Double
         | TypeDesc::Text
         | TypeDesc::Binary
+        | TypeDesc::Uuid
         | TypeDesc::Enum(_)
         | TypeDesc::Struct(_) => Ok(()),
     }

@@ -8,9 +8,9 @@ use Rattle.thrift_value.specs.declared.tag.Tag.{Tag}
 use Rattle.thrift_value.specs.Order.{tree_cmp, items_cmp, pairs_cmp}
 use Rattle.thrift_value.specs.Plain.{plain, plain_items, plain_pairs}
 use Rattle.thrift_value.specs.Tags.{tag_of}
-use Rattle.thrift_value.specs.Tree.{Tree, of_bool, of_i8, of_i16, of_i32, of_i64, of_double, of_bytes, of_struct, of_map, of_set, of_list, ItemTrees, no_items, item, PairTrees, no_pairs, pair}
+use Rattle.thrift_value.specs.Tree.{Tree, of_bool, of_i8, of_i16, of_i32, of_i64, of_double, of_bytes, of_struct, of_map, of_set, of_list, of_uuid, ItemTrees, no_items, item, PairTrees, no_pairs, pair}
 use Rattle.thrift_value.proofs.TotalOrder.{tree_cmp_total}
-use Rattle.schema.specs.PlainKind.{PlainKind, kind_bool, kind_i8, kind_i16, kind_i32, kind_i64, kind_double, kind_text, kind_binary, kind_enum, kind_struct, kind_map, kind_set, kind_list}
+use Rattle.schema.specs.PlainKind.{PlainKind, kind_bool, kind_i8, kind_i16, kind_i32, kind_i64, kind_double, kind_text, kind_binary, kind_uuid, kind_enum, kind_struct, kind_map, kind_set, kind_list}
 use Rattle.schema.specs.PlainSchema.{PlainStruct}
 use Rattle.schema.specs.WrittenAs.{IsWrittenAs, AreItemsWrittenAs, ArePairsWrittenAs}
 use Rattle.known_parts.specs.Parts.{tag_of_kind, are_same_tags}
@@ -109,6 +109,7 @@ module _ (P : ℕ → ℕ → Type 0) (Strict : Type 0) where
       like_fits kind_i32 l (of_i32 n) like typed = scalar_fits l (of_i32 n) (tag_of_kind kind_i32) tt refl like
       like_fits kind_i64 l (of_i64 n) like typed = scalar_fits l (of_i64 n) (tag_of_kind kind_i64) tt refl like
       like_fits kind_double l (of_double n) like typed = scalar_fits l (of_double n) (tag_of_kind kind_double) tt refl like
+      like_fits kind_uuid l (of_uuid n) like typed = scalar_fits l (of_uuid n) (tag_of_kind kind_uuid) tt refl like
       like_fits kind_text l (of_bytes b) like typed = scalar_fits l (of_bytes b) (tag_of_kind kind_text) tt refl like
       like_fits kind_binary l (of_bytes b) like typed = scalar_fits l (of_bytes b) (tag_of_kind kind_binary) tt refl like
       like_fits (kind_enum e) l (of_i32 n) like typed = scalar_fits l (of_i32 n) (tag_of_kind (kind_enum e)) tt refl like

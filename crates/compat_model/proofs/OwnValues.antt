@@ -5,7 +5,7 @@ use Rattle.std.specs.List.{slice_get}
 use Rattle.thrift_value.specs.Plain.{plain}
 use Rattle.thrift_value.specs.Tidy.{IsTidy}
 use Rattle.thrift_value.specs.Tree.{Tree}
-use Rattle.schema.specs.PlainKind.{PlainKind, kind_bool, kind_i8, kind_i16, kind_i32, kind_i64, kind_double, kind_text, kind_binary, kind_enum, kind_struct, kind_map, kind_set, kind_list}
+use Rattle.schema.specs.PlainKind.{PlainKind, kind_bool, kind_i8, kind_i16, kind_i32, kind_i64, kind_double, kind_text, kind_binary, kind_uuid, kind_enum, kind_struct, kind_map, kind_set, kind_list}
 use Rattle.schema.specs.PlainSchema.{PlainField, PlainStruct, PlainSchema}
 use Rattle.schema.specs.Sound.{IsSound}
 use Rattle.schema.specs.WrittenAs.{IsWrittenAs}
@@ -26,6 +26,7 @@ like_itself kind_i16 = refl
 like_itself kind_i32 = refl
 like_itself kind_i64 = refl
 like_itself kind_double = refl
+like_itself kind_uuid = refl
 like_itself kind_text = refl
 like_itself kind_binary = refl
 like_itself (kind_enum _) = refl

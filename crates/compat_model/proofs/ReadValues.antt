@@ -10,12 +10,12 @@ use Rattle.thrift_value.specs.declared.tag.Tag.{Tag}
 use Rattle.thrift_value.specs.Order.{tree_cmp, items_cmp}
 use Rattle.thrift_value.specs.Plain.{plain, plain_fields, plain_items, plain_pairs}
 use Rattle.thrift_value.specs.Tidy.{IsTidy, AreTidyFields, AreTidyItems, AreTidyPairs, IsBelowItems, IsBelowKeys, AreRisingFields, AreRisingItems, AreRisingPairs}
-use Rattle.thrift_value.specs.Tree.{Tree, of_bool, of_i8, of_i16, of_i32, of_i64, of_double, of_bytes, of_struct, of_map, of_set, of_list, FieldTrees, no_fields, field, ItemTrees, no_items, item, PairTrees, no_pairs, pair}
+use Rattle.thrift_value.specs.Tree.{Tree, of_bool, of_i8, of_i16, of_i32, of_i64, of_double, of_bytes, of_struct, of_map, of_set, of_list, of_uuid, FieldTrees, no_fields, field, ItemTrees, no_items, item, PairTrees, no_pairs, pair}
 use Rattle.thrift_value.specs.TreeOf.{item_trees, pair_trees}
 use Rattle.thrift_value.proofs.TotalOrder.{tree_cmp_total}
 use Rattle.schema.specs.declared.types.FieldNeed.TheVariants.{Required}
 use Rattle.schema.specs.declared.types.FieldsKind.TheVariants.{Union}
-use Rattle.schema.specs.PlainKind.{PlainKind, kind_bool, kind_i8, kind_i16, kind_i32, kind_i64, kind_double, kind_text, kind_binary, kind_enum, kind_struct, kind_map, kind_set, kind_list}
+use Rattle.schema.specs.PlainKind.{PlainKind, kind_bool, kind_i8, kind_i16, kind_i32, kind_i64, kind_double, kind_text, kind_binary, kind_uuid, kind_enum, kind_struct, kind_map, kind_set, kind_list}
 use Rattle.schema.specs.PlainSchema.{PlainField, PlainStruct, PlainSchema}
 use Rattle.schema.specs.Sound.{IsSoundStruct}
 use Rattle.schema.specs.WrittenAs.{field_with_id, HasFieldTree, HasItsFields, IsOneField, IsWrittenAs, AreFieldsWrittenAs, AreItemsWrittenAs, ArePairsWrittenAs}
@@ -217,6 +217,7 @@ module _ (s t : PlainSchema) (P : ℕ → ℕ → Type 0) (Strict : Type 0) wher
       read kind_i32 l (of_i32 n) like tidy typed = scalar_read l (of_i32 n) tt refl
       read kind_i64 l (of_i64 n) like tidy typed = scalar_read l (of_i64 n) tt refl
       read kind_double l (of_double n) like tidy typed = scalar_read l (of_double n) tt refl
+      read kind_uuid l (of_uuid n) like tidy typed = scalar_read l (of_uuid n) tt refl
       read kind_text l (of_bytes b) like tidy typed = scalar_read l (of_bytes b) tt refl
       read kind_binary l (of_bytes b) like tidy typed = scalar_read l (of_bytes b) tt refl
       read (kind_enum _) l (of_i32 n) like tidy typed = scalar_read l (of_i32 n) tt refl

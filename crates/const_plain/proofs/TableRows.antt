@@ -4,7 +4,7 @@ use Rattle.std.specs.Prelude.{◌&&◌, int_le, neg_ℤ}
 use Rattle.std.proofs.lemmas.Bool.{false≢true}
 use Rattle.std.proofs.lemmas.Bool.Decides.{nat_tests}
 use Rattle.thrift_value.specs.Tree.{Tree, of_bool, of_i8, of_i16, of_i32, of_i64}
-use Rattle.schema.specs.PlainKind.{PlainKind, kind_bool, kind_i8, kind_i16, kind_i32, kind_i64, kind_double, kind_text, kind_binary, kind_enum, kind_struct, kind_map, kind_set, kind_list}
+use Rattle.schema.specs.PlainKind.{PlainKind, kind_bool, kind_i8, kind_i16, kind_i32, kind_i64, kind_double, kind_text, kind_binary, kind_uuid, kind_enum, kind_struct, kind_map, kind_set, kind_list}
 use Rattle.check_model.specs.Worths.{wrong_kind, out_of_range}
 use Rattle.check_model.specs.WholeDoubles.{int_as_double}
 use Rattle.check_model.specs.Scalars.{has_bits, ranged, truth, doubled, int_worth, enum_worth}
@@ -74,6 +74,7 @@ taken kind_i64 n h = in_bits of_i64 64 n true h
 taken kind_double n h = ap doubled (as_double n true h)
 taken kind_text n h = absurd (none_between n h)
 taken kind_binary n h = absurd (none_between n h)
+taken kind_uuid n h = absurd (none_between n h)
 taken (kind_enum _) n h = in_bits of_i32 32 n true h
 taken (kind_struct _) n h = absurd (none_between n h)
 taken (kind_map _ _) n h = absurd (none_between n h)
@@ -93,6 +94,7 @@ refused kind_i64 n h = in_bits of_i64 64 n false h
 refused kind_double n h = ap doubled (as_double n false h)
 refused kind_text n h = refl
 refused kind_binary n h = refl
+refused kind_uuid n h = refl
 refused (kind_enum _) n h = in_bits of_i32 32 n false h
 refused (kind_struct _) n h = refl
 refused (kind_map _ _) n h = refl
@@ -112,6 +114,7 @@ as_integer kind_i64 which n none sized = refl
 as_integer kind_double which n none sized = absurd (false≢true sized)
 as_integer kind_text which n none sized = absurd (false≢true sized)
 as_integer kind_binary which n none sized = absurd (false≢true sized)
+as_integer kind_uuid which n none sized = absurd (false≢true sized)
 as_integer (kind_enum other) which n none sized = absurd (not_none other none)
 as_integer (kind_struct _) which n none sized = absurd (false≢true sized)
 as_integer (kind_map _ _) which n none sized = absurd (false≢true sized)
@@ -127,6 +130,7 @@ no_integer kind_i64 which n none sized = absurd (false≢true (sym sized))
 no_integer kind_double which n none sized = refl
 no_integer kind_text which n none sized = refl
 no_integer kind_binary which n none sized = refl
+no_integer kind_uuid which n none sized = refl
 no_integer (kind_enum other) which n none sized = absurd (not_none other none)
 no_integer (kind_struct _) which n none sized = refl
 no_integer (kind_map _ _) which n none sized = refl

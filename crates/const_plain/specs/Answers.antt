@@ -4,7 +4,7 @@ use Rattle.idl_token.specs.declared.Place.{Place}
 use Rattle.thrift_value.specs.declared.value.Value.{Value}
 use Rattle.thrift_value.specs.Tree.{Tree}
 use Rattle.thrift_value.specs.TreeOf.{tree_of}
-use Rattle.check_model.specs.Worths.{ConstFlaw, wrong_kind, out_of_range, unknown_name, double_constant, const_cycle, unknown_field, missing_field, too_large, Worth, valued, flawed}
+use Rattle.check_model.specs.Worths.{ConstFlaw, wrong_kind, out_of_range, unknown_name, double_constant, bad_uuid, const_cycle, unknown_field, missing_field, too_large, Worth, valued, flawed}
 use Rattle.check_model.specs.Scalars.{OneWorth}
 use Rattle.const_plain.specs.declared.faults.PlainFault.{PlainFault}
 use Rattle.const_plain.specs.declared.faults.PlainFault.TheVariants as fault
@@ -16,6 +16,7 @@ plain_flaw fault.WrongKind = Some wrong_kind
 plain_flaw fault.OutOfRange = Some out_of_range
 plain_flaw fault.UnknownName = Some unknown_name
 plain_flaw fault.DoubleConstant = Some double_constant
+plain_flaw fault.BadUuid = Some bad_uuid
 plain_flaw fault.ConstCycle = Some const_cycle
 plain_flaw fault.UnknownField = Some unknown_field
 plain_flaw fault.MissingField = Some missing_field

@@ -4,7 +4,7 @@ use Rattle.std.specs.Ordering.{int_eq}
 use Rattle.thrift_value.specs.declared.tag.Tag.{Tag}
 use Rattle.thrift_value.specs.declared.tag.Tag.TheVariants as tag
 use Rattle.thrift_value.specs.Tree.{Tree, of_bool, of_i8, of_i16, of_i32, of_i64, of_double}
-use Rattle.schema.specs.PlainKind.{PlainKind, kind_bool, kind_i8, kind_i16, kind_i32, kind_i64, kind_double, kind_text, kind_binary, kind_enum, kind_struct, kind_map, kind_set, kind_list}
+use Rattle.schema.specs.PlainKind.{PlainKind, kind_bool, kind_i8, kind_i16, kind_i32, kind_i64, kind_double, kind_text, kind_binary, kind_uuid, kind_enum, kind_struct, kind_map, kind_set, kind_list}
 use Rattle.check_model.specs.Scalars.{has_bits}
 use Rattle.check_model.specs.WholeDoubles.{double_bits}
 use Rattle.const_plain.specs.declared.faults.PlainFault.TheVariants as fault
@@ -28,6 +28,7 @@ row_of_kind kind_i64 = integers tag.I64 (neg_ℤ (pos (2 ^ 63))) (pos (2 ^ 63 - 
 row_of_kind kind_double = record { tag = tag.Double; lowest = neg_ℤ (pos (2 ^ 53)); highest = pos (2 ^ 53); otherwise = fault.DoubleConstant }
 row_of_kind kind_text = no_integers tag.Bytes
 row_of_kind kind_binary = no_integers tag.Bytes
+row_of_kind kind_uuid = no_integers tag.Uuid
 row_of_kind (kind_enum _) = integers tag.I32 (neg_ℤ (pos (2 ^ 31))) (pos (2 ^ 31 - 1))
 row_of_kind (kind_struct _) = no_integers tag.Struct
 row_of_kind (kind_map _ _) = no_integers tag.Map

@@ -41,7 +41,8 @@ pub(crate) fn braces_of(kind: &TypeDesc) -> Option<Braces<'_>>
         | TypeDesc::I64
         | TypeDesc::Double
         | TypeDesc::Text
-        | TypeDesc::Binary => None,
+        | TypeDesc::Binary
+        | TypeDesc::Uuid => None,
     }
 }
 
@@ -61,7 +62,8 @@ pub(crate) fn element_of(kind: &TypeDesc) -> Option<&TypeDesc>
         | TypeDesc::I64
         | TypeDesc::Double
         | TypeDesc::Text
-        | TypeDesc::Binary => None,
+        | TypeDesc::Binary
+        | TypeDesc::Uuid => None,
     }
 }
 

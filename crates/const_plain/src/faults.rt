@@ -14,6 +14,8 @@ pub enum PlainFault {
     UnknownName,
     /// A double that isn't a whole number within plus or minus 2^53.
     DoubleConstant,
+    /// A literal that writes no uuid.
+    BadUuid,
     /// The value needs itself.
     ConstCycle,
     /// The struct has no field of the name.

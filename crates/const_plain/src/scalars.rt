@@ -3,7 +3,8 @@
 ghost use Rattle.std.specs.Prelude.{◌≡◌, true};
 ghost use Rattle.schema.specs.PlainKind.{kind_of, kind_enum};
 ghost use Rattle.thrift_value.specs.Tree.{of_bytes};
-ghost use Rattle.check_model.specs.Scalars.{int_worth, double_worth, literal_worth, enum_worth};
+ghost use Rattle.check_model.specs.Scalars.{as_uuid, int_worth, double_worth, literal_worth, enum_worth};
+ghost use Rattle.idl_token.specs.Uuids.{uuid_number};
 ghost use Rattle.const_plain.specs.Answers.{IsPlainOne};
 ghost use Rattle.const_plain.specs.Table.{has_room, integer_tree, is_sized, enum_of_kind};
 
@@ -11,6 +12,7 @@ use crate::bits::double_bits;
 use crate::doubles::double_written;
 use crate::faults::PlainFault;
 use crate::table::{is_within, row_of};
+use idl_token::uuid_value;
 use lists::ByteText;
 use schema::TypeDesc;
 use std::alloc::Global;
@@ -29,7 +31,9 @@ fn under_tag(tag: Tag, number: i64) -> Result<Value, PlainFault>
         Tag::I32 => Ok(Value::I32(number as i32)),
         Tag::I64 => Ok(Value::I64(number)),
         Tag::Double => Ok(Value::Double(double_bits(number)?)),
-        Tag::Bytes | Tag::Struct | Tag::Map | Tag::Set | Tag::List => Err(PlainFault::NoMemory),
+        Tag::Bytes | Tag::Struct | Tag::Map | Tag::Set | Tag::List | Tag::Uuid => {
+            Err(PlainFault::NoMemory)
+        }
     }
 }
 
@@ -58,6 +62,15 @@ pub(crate) fn double_value(
     double_written(alloc, text.as_slice())
 }
 
+/// A uuid that a literal writes.
+#[tactic(auto, using(thrift_value::proofs::Trees::tree_equations))]
+fn uuid_written(bytes: &ByteText) -> Result<Value, PlainFault>
+    ensures { IsPlainOne (as_uuid (uuid_number bytes.now)) result }
+{
+    let number = uuid_value(bytes.as_slice()).ok_or(PlainFault::BadUuid)?;
+    Ok(Value::Uuid(number))
+}
+
 /// A literal.
 #[tactic(auto, using(thrift_value::proofs::Trees::tree_equations))]
 pub(crate) fn literal_value(
@@ -67,6 +80,9 @@ pub(crate) fn literal_value(
 ) -> Result<Value, PlainFault>
     ensures { IsPlainOne (literal_worth (kind_of kind.now) bytes.now) result }
 {
+    if row_of(kind).tag == Tag::Uuid {
+        return uuid_written(bytes);
+    }
     if row_of(kind).tag != Tag::Bytes {
         return Err(PlainFault::WrongKind);
     }
@@ -89,6 +105,7 @@ fn enum_of(kind: &TypeDesc) -> Option<u32>
         | TypeDesc::Double
         | TypeDesc::Text
         | TypeDesc::Binary
+        | TypeDesc::Uuid
         | TypeDesc::Struct(_)
         | TypeDesc::Map(_, _)
         | TypeDesc::Set(_)

@@ -78,6 +78,14 @@ const BYTES: TypeRow = TypeRow {
     otherwise: PlainFault::WrongKind,
 };
 
+/// A uuid.
+const UUID: TypeRow = TypeRow {
+    tag: Tag::Uuid,
+    lowest: 1,
+    highest: 0,
+    otherwise: PlainFault::WrongKind,
+};
+
 /// A struct, a union or an exception.
 const STRUCT: TypeRow = TypeRow {
     tag: Tag::Struct,
@@ -124,6 +132,7 @@ pub(crate) fn row_of(kind: &TypeDesc) -> TypeRow
         TypeDesc::I64 => I64,
         TypeDesc::Double => DOUBLE,
         TypeDesc::Text | TypeDesc::Binary => BYTES,
+        TypeDesc::Uuid => UUID,
         TypeDesc::Struct(_) => STRUCT,
         TypeDesc::Map(_, _) => MAP,
         TypeDesc::Set(_) => SET,

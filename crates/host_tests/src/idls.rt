@@ -12,11 +12,19 @@ use thrift_host::Status;
 type Row = (&'static [u8], &'static [u8]);
 
 /// Texts with their schemas.
-const ACCEPTED: [Row; 3] = [
+const ACCEPTED: [Row; 5] = [
     (b"", b"file a\n"),
     (
         b"struct S { 1: double d = 2 }",
         b"file a\nstruct S\n  1 default double d = d4000000000000000\n",
+    ),
+    (
+        b"const uuid U = \"00112233-4455-6677-8899-AABBCCDDEEFF\"",
+        b"file a\nconst U uuid u00112233445566778899aabbccddeeff\n",
+    ),
+    (
+        b"union U { 1: uuid a }\nexception X { 1: required map<uuid,U> m = {}, 2: uuid d = '00000000-0000-0000-0000-00000000000a' }",
+        b"file a\nunion U\n  1 optional uuid a\nexception X\n  1 required map<uuid,a.U> m = map<uuid,struct>{}\n  2 default uuid d = u0000000000000000000000000000000a\n",
     ),
     (
         b"typedef set<E> T\nenum E { A, B = 5, C }\nunion U { 2: T t, 1: E e = E.C }\nconst T X = [5, E.A, 5]",
@@ -25,7 +33,7 @@ const ACCEPTED: [Row; 3] = [
 ];
 
 /// Texts with the errors' line: one of each kind, but for those that need long texts or many files.
-const REFUSED: [Row; 32] = [
+const REFUSED: [Row; 37] = [
     (
         b"struct S { 1: &T a }",
         b"thriftd: idl a.thrift 1:15 Refused\n",
@@ -126,6 +134,23 @@ const REFUSED: [Row; 32] = [
     (
         b"struct S { 1: double d = 0.5 }",
         b"thriftd: idl a.thrift 1:26 DoubleConstant\n",
+    ),
+    (
+        b"const uuid U = \"x\"",
+        b"thriftd: idl a.thrift 1:16 BadUuid\n",
+    ),
+    (
+        b"struct S { 1: uuid u = '00112233-4455-6677-8899-aabbccddeef' }",
+        b"thriftd: idl a.thrift 1:24 BadUuid\n",
+    ),
+    (b"struct uuid {}", b"thriftd: idl a.thrift 1:8 Found\n"),
+    (
+        b"struct S { 1: i32 uuid }",
+        b"thriftd: idl a.thrift 1:19 Found\n",
+    ),
+    (
+        b"struct S { 1: i32 uuid.x }",
+        b"thriftd: idl a.thrift 1:19 DottedName\n",
     ),
     (
         b"const i32 A = A",

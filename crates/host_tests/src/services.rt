@@ -76,6 +76,10 @@ const MIRRORED: &[&str] = &[
 
 const REQUIRED: &[&str] = &["rehearse", "r.thrift", "binary", "0", "R=mirror"];
 
+const IDENTIFIED: &[&str] = &["rehearse", "u.thrift", "binary", "0", "U=mirror"];
+
+const IDENTIFIED_COMPACT: &[&str] = &["rehearse", "u.thrift", "compact", "0", "U=mirror"];
+
 const SHORT_FRAMES: &[&str] = &[
     "rehearse",
     "--max-frame=18",
@@ -104,6 +108,8 @@ const R_FILE: &[Held] = &[(
 )];
 
 const E_FILE: &[Held] = &[("e.thrift", b"service E { binary e(1: binary x) }")];
+
+const U_FILE: &[Held] = &[("u.thrift", b"service U { uuid e(1: uuid x) }")];
 
 const STORE_FILE: &[Held] = &[(
     "store.thrift",
@@ -207,7 +213,19 @@ by 0\"}\ncall 0 3 0 calculate {1=1i,2={1=15i,2=10i,3=2i}} ok 5i\ncall 0 4 0 getS
 
 /// Two services by their names, a value of another type than the result's, a default, which bare names alone ask for, a missing field, a reply
 /// that is too large, and a store.
-const SERVED: [Served; 8] = [
+const SERVED: [Served; 10] = [
+    (
+        IDENTIFIED,
+        U_FILE,
+        b"000000218001000100000001650000000110000100112233445566778899aabbccddeeff00",
+        b"call 0 0 0 e {1=u00112233445566778899aabbccddeeff} ok u00112233445566778899aabbccddeeff\nconn 0 End 000000218001000200000001650000000110000000112233445566778899aabbccddeeff00\ncalls 1\n",
+    ),
+    (
+        IDENTIFIED_COMPACT,
+        U_FILE,
+        b"0000001782210101651d00112233445566778899aabbccddeeff00",
+        b"call 0 0 0 e {1=u00112233445566778899aabbccddeeff} ok u00112233445566778899aabbccddeeff\nconn 0 End 0000001882410101650d0000112233445566778899aabbccddeeff00\ncalls 1\n",
+    ),
     (
         TWO_SERVICES,
         NO_FILES,

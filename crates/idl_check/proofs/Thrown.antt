@@ -9,7 +9,7 @@ use Rattle.idl_include.specs.TypeExpr.{TypeExpr}
 use Rattle.idl_include.specs.Numbering.{Filed, structs_of}
 use Rattle.schema.specs.declared.types.FieldsKind.{FieldsKind}
 use Rattle.schema.specs.declared.types.FieldsKind.TheVariants as fields
-use Rattle.schema.specs.PlainKind.{PlainKind, kind_bool, kind_i8, kind_i16, kind_i32, kind_i64, kind_double, kind_text, kind_binary, kind_enum, kind_struct, kind_map, kind_set, kind_list}
+use Rattle.schema.specs.PlainKind.{PlainKind, kind_bool, kind_i8, kind_i16, kind_i32, kind_i64, kind_double, kind_text, kind_binary, kind_uuid, kind_enum, kind_struct, kind_map, kind_set, kind_list}
 use Rattle.schema.specs.PlainSchema.{PlainStruct, PlainSchema}
 use Rattle.schema.specs.Sound.{IsStructOf, IsException}
 use Rattle.check_model.specs.FieldLists.{kind_said, fields_of_struct, field_lists}
@@ -69,6 +69,7 @@ module _ (D : DefaultRule) (program : Program) (schema : PlainSchema) (is : IsSc
     is_exception kind_i32 means = no_struct kind_i32 means refl
     is_exception kind_i64 means = no_struct kind_i64 means refl
     is_exception kind_double means = no_struct kind_double means refl
+    is_exception kind_uuid means = no_struct kind_uuid means refl
     is_exception kind_text means = no_struct kind_text means refl
     is_exception kind_binary means = no_struct kind_binary means refl
     is_exception (kind_enum n) means = no_struct (kind_enum n) means refl

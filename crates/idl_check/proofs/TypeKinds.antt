@@ -86,6 +86,7 @@ module _ (program : Program) where
     base_in base.I32 = tt
     base_in base.I64 = tt
     base_in base.Double = tt
+    base_in base.Uuid = tt
     base_in base.String = tt
     base_in base.Binary = tt
 

@@ -5,7 +5,7 @@ use Rattle.idl_token.specs.declared.LexKind.TheVariants as lex
 use Rattle.idl_parser.specs.declared.ParseKind.{ParseKind}
 use Rattle.idl_parser.specs.declared.ParseKind.TheVariants as parse
 use Rattle.idl_include.specs.Readings.{LoadFlawKind, absent, too_long, bad_name, lexed_badly, parsed_badly, includes_itself, same_base, too_many}
-use Rattle.check_model.specs.Worths.{ConstFlaw, wrong_kind, out_of_range, unknown_name, double_constant, const_cycle, unknown_field, missing_field, too_large}
+use Rattle.check_model.specs.Worths.{ConstFlaw, wrong_kind, out_of_range, unknown_name, double_constant, bad_uuid, const_cycle, unknown_field, missing_field, too_large}
 use Rattle.check_model.specs.Passes.{Pass, dotted_name, duplicate_name, unknown_type, typedef_cycle, field_id, duplicate_id, enum_number, service_cycle, duplicate_function, oneway_not_void, oneway_throws, not_exception, struct_loop, bad_constant}
 use Rattle.check_model.specs.FirstFlaw.{FlawKind, found_by, of_value}
 use Rattle.idl_check.specs.declared.kinds.IdlFaultKind.{IdlFaultKind}
@@ -61,6 +61,7 @@ kind_of_value wrong_kind = kinds.WrongKind
 kind_of_value out_of_range = kinds.OutOfRange
 kind_of_value unknown_name = kinds.UnknownName
 kind_of_value double_constant = kinds.DoubleConstant
+kind_of_value bad_uuid = kinds.BadUuid
 kind_of_value const_cycle = kinds.ConstCycle
 kind_of_value unknown_field = kinds.UnknownField
 kind_of_value missing_field = kinds.MissingField

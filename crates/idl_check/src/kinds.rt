@@ -80,6 +80,8 @@ pub enum IdlFaultKind {
     UnknownName,
     /// A double that isn't a whole number within plus or minus 2^53.
     DoubleConstant,
+    /// A literal that writes no uuid.
+    BadUuid,
     /// A value that needs itself.
     ConstCycle,
     /// The struct has no field of the name.
@@ -166,6 +168,7 @@ fn value_kind(fault: ConstFault) -> Option<IdlFaultKind>
         ConstFault::OutOfRange => Some(IdlFaultKind::OutOfRange),
         ConstFault::UnknownName => Some(IdlFaultKind::UnknownName),
         ConstFault::DoubleConstant => Some(IdlFaultKind::DoubleConstant),
+        ConstFault::BadUuid => Some(IdlFaultKind::BadUuid),
         ConstFault::ConstCycle => Some(IdlFaultKind::ConstCycle),
         ConstFault::UnknownField => Some(IdlFaultKind::UnknownField),
         ConstFault::MissingField => Some(IdlFaultKind::MissingField),
@@ -210,6 +213,7 @@ pub(crate) fn idl_kind_word(kind: IdlFaultKind) -> &'static str
         IdlFaultKind::OutOfRange => "OutOfRange",
         IdlFaultKind::UnknownName => "UnknownName",
         IdlFaultKind::DoubleConstant => "DoubleConstant",
+        IdlFaultKind::BadUuid => "BadUuid",
         IdlFaultKind::ConstCycle => "ConstCycle",
         IdlFaultKind::UnknownField => "UnknownField",
         IdlFaultKind::MissingField => "MissingField",

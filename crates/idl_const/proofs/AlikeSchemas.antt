@@ -5,10 +5,10 @@ use Rattle.std.specs.List.{slice_get, AllByRecursion, AllZip}
 use Rattle.std.specs.Ordering.{int_eq}
 use Rattle.std.proofs.lemmas.List.Elements.{All-from_recursion, recursion_from_All}
 use Rattle.idl_include.specs.Program.{Program}
-use Rattle.thrift_value.specs.Tree.{Tree, of_bool, of_i8, of_i16, of_i32, of_i64, of_double, of_bytes, of_struct, of_map, of_set, of_list, FieldTrees, no_fields, field, ItemTrees, no_items, item, PairTrees, no_pairs, pair}
+use Rattle.thrift_value.specs.Tree.{Tree, of_bool, of_i8, of_i16, of_i32, of_i64, of_double, of_bytes, of_struct, of_map, of_set, of_list, of_uuid, FieldTrees, no_fields, field, ItemTrees, no_items, item, PairTrees, no_pairs, pair}
 use Rattle.schema.specs.declared.types.FieldNeed.TheVariants.{Required}
 use Rattle.schema.specs.declared.types.FieldsKind.{FieldsKind}
-use Rattle.schema.specs.PlainKind.{PlainKind, kind_bool, kind_i8, kind_i16, kind_i32, kind_i64, kind_double, kind_text, kind_binary, kind_enum, kind_struct, kind_map, kind_set, kind_list}
+use Rattle.schema.specs.PlainKind.{PlainKind, kind_bool, kind_i8, kind_i16, kind_i32, kind_i64, kind_double, kind_text, kind_binary, kind_uuid, kind_enum, kind_struct, kind_map, kind_set, kind_list}
 use Rattle.schema.specs.PlainSchema.{PlainField, PlainStruct, PlainSchema}
 use Rattle.schema.specs.WrittenAs.{field_with_id, HasFieldTree, HasItsFields, IsWrittenAs, AreFieldsWrittenAs, AreItemsWrittenAs, ArePairsWrittenAs}
 use Rattle.check_model.specs.FieldLists.{NumberedField, FieldsDecl, fields_by_id, field_lists}
@@ -100,6 +100,7 @@ module _ (first second : List PlainStruct) (alike : AllZip AreAlikeStructs first
     written_alike kind_i32 (of_i32 _) h = tt
     written_alike kind_i64 (of_i64 _) h = tt
     written_alike kind_double (of_double _) h = tt
+    written_alike kind_uuid (of_uuid _) h = tt
     written_alike kind_text (of_bytes _) h = tt
     written_alike kind_binary (of_bytes _) h = tt
     written_alike (kind_enum _) (of_i32 _) h = tt

@@ -1,11 +1,12 @@
 -- Values without others inside may be written as the types that they were evaluated against.
 use Rattle.std.proofs.Common.{◌≡◌, ℕ, ℤ, pos, negsuc, ◌<◌, ◌^◌, nat_eq, Bool, true, false, cond, List, length, Option, Some, None, Ok, Err, refl, subst, arith}
-use Rattle.thrift_value.specs.Tree.{Tree, of_bool, of_i8, of_i16, of_i32, of_i64, of_double, of_bytes}
-use Rattle.schema.specs.PlainKind.{PlainKind, kind_bool, kind_i8, kind_i16, kind_i32, kind_i64, kind_double, kind_text, kind_binary, kind_enum}
+use Rattle.thrift_value.specs.Tree.{Tree, of_bool, of_i8, of_i16, of_i32, of_i64, of_double, of_uuid, of_bytes}
+use Rattle.idl_token.specs.Uuids.{uuid_number}
+use Rattle.schema.specs.PlainKind.{PlainKind, kind_bool, kind_i8, kind_i16, kind_i32, kind_i64, kind_double, kind_text, kind_binary, kind_uuid, kind_enum}
 use Rattle.schema.specs.PlainSchema.{PlainStruct}
-use Rattle.check_model.specs.Worths.{ConstFlaw, wrong_kind, out_of_range, double_constant}
+use Rattle.check_model.specs.Worths.{ConstFlaw, wrong_kind, out_of_range, double_constant, bad_uuid}
 use Rattle.check_model.specs.WholeDoubles.{double_number, int_as_double, double_bits}
-use Rattle.check_model.specs.Scalars.{OneWorth, has_bits, doubled, truth, int_worth, double_worth, literal_worth, enum_worth}
+use Rattle.check_model.specs.Scalars.{OneWorth, has_bits, doubled, as_uuid, truth, int_worth, double_worth, literal_worth, enum_worth}
 use Rattle.idl_const.proofs.Elements.{IsElement}
 
 -- a value, and what is wrong
@@ -56,6 +57,9 @@ module _ (structs : List PlainStruct) (levels : ℕ) where
   binary_is : (bytes : List ℕ) → length bytes < 2 ^ 31 → IsElement structs kind_binary levels (of_bytes bytes)
   binary_is bytes few = record { written = tt; tag = refl; tagged = tt; ordered = tt; deep = omega arith; small = few }
 
+  uuid_is : (n : ℕ) → IsElement structs kind_uuid levels (of_uuid n)
+  uuid_is n = record { written = tt; tag = refl; tagged = tt; ordered = tt; deep = omega arith; small = tt }
+
   truth_by : (a b : Bool) (v : Tree) → cond a (ok_worth (of_bool false)) (cond b (ok_worth (of_bool true)) (err_worth out_of_range)) ≡ ok_worth v → IsElement structs kind_bool levels v
   truth_by true b v e = kept kind_bool (of_bool false) v e (bool_is false)
   truth_by false b v e = kept_if b kind_bool (of_bool true) v out_of_range e (bool_is true)
@@ -67,6 +71,10 @@ module _ (structs : List PlainStruct) (levels : ℕ) where
   doubled_is : (o : Option ℤ) (v : Tree) → doubled o ≡ ok_worth v → IsElement structs kind_double levels v
   doubled_is None v e = absurd (no_err double_constant v e)
   doubled_is (Some n) v e = kept kind_double (of_double (double_bits n)) v e (double_is (double_bits n))
+
+  as_uuid_is : (o : Option ℕ) (v : Tree) → as_uuid o ≡ ok_worth v → IsElement structs kind_uuid levels v
+  as_uuid_is None v e = absurd (no_err bad_uuid v e)
+  as_uuid_is (Some n) v e = kept kind_uuid (of_uuid n) v e (uuid_is n)
 
   pub int_element : (kind : PlainKind) (n : ℤ) (v : Tree) → int_worth kind n ≡ ok_worth v → IsElement structs kind levels v
   int_element kind_bool n v e = truth_is n v e
@@ -85,6 +93,7 @@ module _ (structs : List PlainStruct) (levels : ℕ) where
   pub literal_element : (kind : PlainKind) (bytes : List ℕ) (v : Tree) → length bytes < 2 ^ 31 → literal_worth kind bytes ≡ ok_worth v → IsElement structs kind levels v
   literal_element kind_text bytes v few e = kept kind_text (of_bytes bytes) v e (text_is bytes few)
   literal_element kind_binary bytes v few e = kept kind_binary (of_bytes bytes) v e (binary_is bytes few)
+  literal_element kind_uuid bytes v few e = as_uuid_is (uuid_number bytes) v e
   literal_element _ bytes v few e = absurd (no_err wrong_kind v e)
 
   pub number_element : (kind : PlainKind) (which : ℕ) (n : ℤ) (v : Tree) → enum_worth kind which n ≡ ok_worth v → IsElement structs kind levels v

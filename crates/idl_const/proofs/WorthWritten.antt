@@ -12,7 +12,7 @@ use Rattle.thrift_value.specs.Sizes.{items_len, pairs_len}
 use Rattle.schema.specs.declared.types.FieldNeed.TheVariants.{Required}
 use Rattle.schema.specs.declared.types.FieldsKind.{FieldsKind}
 use Rattle.schema.specs.declared.types.FieldsKind.TheVariants as fields
-use Rattle.schema.specs.PlainKind.{PlainKind, kind_bool, kind_i8, kind_i16, kind_i32, kind_i64, kind_double, kind_text, kind_binary, kind_enum, kind_struct, kind_map, kind_set, kind_list}
+use Rattle.schema.specs.PlainKind.{PlainKind, kind_bool, kind_i8, kind_i16, kind_i32, kind_i64, kind_double, kind_text, kind_binary, kind_uuid, kind_enum, kind_struct, kind_map, kind_set, kind_list}
 use Rattle.schema.specs.PlainSchema.{PlainField, PlainStruct, PlainSchema}
 use Rattle.schema.specs.Sound.{IsKindIn}
 use Rattle.schema.specs.WrittenAs.{HasItsFields, HasFieldTree}
@@ -91,6 +91,7 @@ module _ (s : Setting) (named : NamedWorth) (file : ℕ) (good : (which : ℕ) �
   row_made kind_i32 left count items m takes room h = absurd (false≢true takes)
   row_made kind_i64 left count items m takes room h = absurd (false≢true takes)
   row_made kind_double left count items m takes room h = absurd (false≢true takes)
+  row_made kind_uuid left count items m takes room h = absurd (false≢true takes)
   row_made kind_text left count items m takes room h = absurd (false≢true takes)
   row_made kind_binary left count items m takes room h = absurd (false≢true takes)
   row_made (kind_enum which) left count items m takes room h = absurd (false≢true takes)
@@ -106,6 +107,7 @@ module _ (s : Setting) (named : NamedWorth) (file : ℕ) (good : (which : ℕ) �
   element_known kind_i32 known = known
   element_known kind_i64 known = known
   element_known kind_double known = known
+  element_known kind_uuid known = known
   element_known kind_text known = known
   element_known kind_binary known = known
   element_known (kind_enum which) known = known
@@ -206,6 +208,7 @@ module _ (s : Setting) (named : NamedWorth) (file : ℕ) (good : (which : ℕ) �
   braces_made kind_i32 left count at _ v n takes known room on_pairs on_given e = absurd (false≢true takes)
   braces_made kind_i64 left count at _ v n takes known room on_pairs on_given e = absurd (false≢true takes)
   braces_made kind_double left count at _ v n takes known room on_pairs on_given e = absurd (false≢true takes)
+  braces_made kind_uuid left count at _ v n takes known room on_pairs on_given e = absurd (false≢true takes)
   braces_made kind_text left count at _ v n takes known room on_pairs on_given e = absurd (false≢true takes)
   braces_made kind_binary left count at _ v n takes known room on_pairs on_given e = absurd (false≢true takes)
   braces_made (kind_enum which) left count at _ v n takes known room on_pairs on_given e = absurd (false≢true takes)

@@ -4,7 +4,7 @@ use Rattle.thrift_value.specs.declared.value.Value.{Value}
 use Rattle.idl_token.specs.declared.Place.{Place}
 use Rattle.thrift_value.specs.Tree.{Tree}
 use Rattle.thrift_value.specs.TreeOf.{tree_of}
-use Rattle.check_model.specs.Worths.{ConstFlaw, wrong_kind, out_of_range, unknown_name, double_constant, const_cycle, unknown_field, missing_field, too_large, Worth, valued, flawed}
+use Rattle.check_model.specs.Worths.{ConstFlaw, wrong_kind, out_of_range, unknown_name, double_constant, bad_uuid, const_cycle, unknown_field, missing_field, too_large, Worth, valued, flawed}
 use Rattle.check_model.specs.Scalars.{OneWorth}
 use Rattle.idl_const.specs.declared.faults.ConstFault.{ConstFault}
 use Rattle.idl_const.specs.declared.faults.ConstFault.TheVariants as fault
@@ -16,6 +16,7 @@ flaw_of fault.WrongKind = Some wrong_kind
 flaw_of fault.OutOfRange = Some out_of_range
 flaw_of fault.UnknownName = Some unknown_name
 flaw_of fault.DoubleConstant = Some double_constant
+flaw_of fault.BadUuid = Some bad_uuid
 flaw_of fault.ConstCycle = Some const_cycle
 flaw_of fault.UnknownField = Some unknown_field
 flaw_of fault.MissingField = Some missing_field

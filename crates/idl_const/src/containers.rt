@@ -25,6 +25,7 @@ fn kind_tag(kind: &TypeDesc) -> Tag
         TypeDesc::I64 => Tag::I64,
         TypeDesc::Double => Tag::Double,
         TypeDesc::Text | TypeDesc::Binary => Tag::Bytes,
+        TypeDesc::Uuid => Tag::Uuid,
         TypeDesc::Struct(_) => Tag::Struct,
         TypeDesc::Map(_, _) => Tag::Map,
         TypeDesc::Set(_) => Tag::Set,
@@ -47,6 +48,7 @@ pub(crate) fn takes_brackets(kind: &TypeDesc) -> bool
         | TypeDesc::Double
         | TypeDesc::Text
         | TypeDesc::Binary
+        | TypeDesc::Uuid
         | TypeDesc::Enum(_)
         | TypeDesc::Struct(_)
         | TypeDesc::Map(_, _) => false,
@@ -68,6 +70,7 @@ pub(crate) fn takes_braces(kind: &TypeDesc) -> bool
         | TypeDesc::Double
         | TypeDesc::Text
         | TypeDesc::Binary
+        | TypeDesc::Uuid
         | TypeDesc::Enum(_)
         | TypeDesc::Set(_)
         | TypeDesc::List(_) => false,
@@ -90,6 +93,7 @@ pub(crate) fn element_kind(kind: &TypeDesc) -> &TypeDesc
         | TypeDesc::Double
         | TypeDesc::Text
         | TypeDesc::Binary
+        | TypeDesc::Uuid
         | TypeDesc::Enum(_)
         | TypeDesc::Struct(_)
         | TypeDesc::Map(_, _) => kind,
@@ -125,6 +129,7 @@ pub(crate) fn row_value(
         | TypeDesc::Double
         | TypeDesc::Text
         | TypeDesc::Binary
+        | TypeDesc::Uuid
         | TypeDesc::Enum(_)
         | TypeDesc::Struct(_)
         | TypeDesc::Map(_, _) => Ok(Value::List(kind_tag(kind), Items::new(items))),

@@ -19,6 +19,9 @@ pub enum ConstFault {
     /// A double that isn't a whole number within plus or minus 2^53.
     #[error("the double isn't a whole number within 2^53")]
     DoubleConstant,
+    /// A literal that writes no uuid.
+    #[error("the literal is no uuid")]
+    BadUuid,
     /// The value needs itself.
     #[error("the value needs itself")]
     ConstCycle,

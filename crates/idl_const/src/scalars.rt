@@ -2,11 +2,13 @@
 
 ghost use Rattle.schema.specs.PlainKind.{kind_of, kind_enum};
 ghost use Rattle.thrift_value.specs.Tree.{of_i8, of_i16, of_i32, of_i64, of_bytes};
-ghost use Rattle.check_model.specs.Scalars.{ranged, truth, int_worth, double_worth, literal_worth, enum_worth};
+ghost use Rattle.check_model.specs.Scalars.{ranged, as_uuid, truth, int_worth, double_worth, literal_worth, enum_worth};
+ghost use Rattle.idl_token.specs.Uuids.{uuid_number};
 ghost use Rattle.idl_const.specs.Flaws.{IsOneWorth};
 
 use crate::doubles::{double_of, double_written};
 use crate::faults::ConstFault;
+use idl_token::uuid_value;
 use lists::ByteText;
 use schema::TypeDesc;
 use std::alloc::Global;
@@ -80,6 +82,7 @@ pub(crate) fn int_value(kind: &TypeDesc, number: i64) -> Result<Value, ConstFaul
         TypeDesc::Enum(_) => as_i32(number),
         TypeDesc::Text
         | TypeDesc::Binary
+        | TypeDesc::Uuid
         | TypeDesc::Struct(_)
         | TypeDesc::Map(_, _)
         | TypeDesc::Set(_)
@@ -101,6 +104,7 @@ pub(crate) fn double_value(kind: &TypeDesc, text: &ByteText) -> Result<Value, Co
         | TypeDesc::I64
         | TypeDesc::Text
         | TypeDesc::Binary
+        | TypeDesc::Uuid
         | TypeDesc::Enum(_)
         | TypeDesc::Struct(_)
         | TypeDesc::Map(_, _)
@@ -120,6 +124,7 @@ pub(crate) fn literal_value(
 {
     match kind {
         TypeDesc::Text | TypeDesc::Binary => text_value(alloc, bytes),
+        TypeDesc::Uuid => uuid_written(bytes),
         TypeDesc::Bool
         | TypeDesc::I8
         | TypeDesc::I16
@@ -140,6 +145,17 @@ fn text_value(alloc: Global, bytes: &ByteText) -> Result<Value, ConstFault>
     ensures { IsOneWorth (Ok (of_bytes bytes.now)) result }
 {
     Ok(Value::Bytes(bytes.try_clone(alloc)?))
+}
+
+/// A uuid that a literal writes.
+#[tactic(auto, using(thrift_value::proofs::Trees::tree_equations))]
+fn uuid_written(bytes: &ByteText) -> Result<Value, ConstFault>
+    ensures { IsOneWorth (as_uuid (uuid_number bytes.now)) result }
+{
+    match uuid_value(bytes.as_slice()) {
+        Some(number) => Ok(Value::Uuid(number)),
+        None => Err(ConstFault::BadUuid),
+    }
 }
 
 /// The number of a value of an enum, as one of this enum.
@@ -172,6 +188,7 @@ pub(crate) fn enum_value(kind: &TypeDesc, which: u32, number: i64) -> Result<Val
         | TypeDesc::Double
         | TypeDesc::Text
         | TypeDesc::Binary
+        | TypeDesc::Uuid
         | TypeDesc::Struct(_)
         | TypeDesc::Map(_, _)
         | TypeDesc::Set(_)

@@ -50,6 +50,7 @@ base_is base.I64 = refl
 base_is base.Double = refl
 base_is base.String = refl
 base_is base.Binary = refl
+base_is base.Uuid = refl
 
 -- types
 type_base : (b : Base) (at : _) → type_expr (type_step (of_type.Base at b)) ≡ base_expr b

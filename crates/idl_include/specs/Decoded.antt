@@ -46,6 +46,7 @@ base_of word.I64 = base.I64
 base_of word.DoubleWord = base.Double
 base_of word.StringWord = base.String
 base_of word.Binary = base.Binary
+base_of word.Uuid = base.Uuid
 base_of _ = base.Bool
 
 -- a type

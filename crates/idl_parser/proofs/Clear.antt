@@ -26,7 +26,7 @@ clear_base = (
     tt,
     (
       tt,
-      (tt, (tt, (tt, (tt, (tt, tt, refl, refl, refl), refl, refl, refl), refl, refl, refl), refl, refl, refl), refl, refl, refl),
+      (tt, (tt, (tt, (tt, (tt, (tt, tt, refl, refl, refl), refl, refl, refl), refl, refl, refl), refl, refl, refl), refl, refl, refl), refl, refl, refl),
       refl,
       refl,
       refl,

@@ -14,7 +14,7 @@ value_starts = word.Int ∷ word.Double ∷ word.Literal ∷ word.Identifier ∷
 -- types
 abbrev pub type_starts : List Terminal
 type_starts =
-    word.Bool ∷ word.Byte ∷ word.I8 ∷ word.I16 ∷ word.I32 ∷ word.I64 ∷ word.DoubleWord ∷ word.StringWord ∷ word.Binary
+    word.Bool ∷ word.Byte ∷ word.I8 ∷ word.I16 ∷ word.I32 ∷ word.I64 ∷ word.DoubleWord ∷ word.StringWord ∷ word.Binary ∷ word.Uuid
     ∷ word.Identifier ∷ word.Map ∷ word.Set ∷ word.List ∷ []
 
 -- fields

@@ -75,6 +75,7 @@ base_word base.I64 = word.I64
 base_word base.Double = word.DoubleWord
 base_word base.String = word.StringWord
 base_word base.Binary = word.Binary
+base_word base.Uuid = word.Uuid
 
 -- one level of a type, with the trees of what it holds in their places
 abbrev pub type_step : TypeTree-F Node → Node

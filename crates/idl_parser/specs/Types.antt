@@ -9,7 +9,7 @@ use Rattle.idl_parser.specs.Parts.{identifier, annotated}
 unfoldable pub base : Phrase
 base =
     either (kept_word word.Bool) (either (kept_word word.Byte) (either (kept_word word.I8) (either (kept_word word.I16) (either (kept_word word.I32)
-    (either (kept_word word.I64) (either (kept_word word.DoubleWord) (either (kept_word word.StringWord) (kept_word word.Binary))))))))
+    (either (kept_word word.I64) (either (kept_word word.DoubleWord) (either (kept_word word.StringWord) (either (kept_word word.Binary) (kept_word word.Uuid)))))))))
 
 -- `cpp_type` and a literal, or nothing; nothing is kept of it
 unfoldable pub cpp_type : Phrase

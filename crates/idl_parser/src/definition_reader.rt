@@ -273,6 +273,7 @@ impl<'a> SymbolReader<'a> {
             Terminal::DoubleWord,
             Terminal::StringWord,
             Terminal::Binary,
+            Terminal::Uuid,
             Terminal::Identifier,
             Terminal::Map,
             Terminal::Set,

@@ -60,6 +60,8 @@ pub enum Base {
     String,
     /// `binary`
     Binary,
+    /// `uuid`
+    Uuid,
 }
 
 /// A type (Thrift IDL, 'Types').

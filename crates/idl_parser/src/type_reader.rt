@@ -27,6 +27,7 @@ pub fn base_terminal(base: Base) -> Terminal
         Base::Double => Terminal::DoubleWord,
         Base::String => Terminal::StringWord,
         Base::Binary => Terminal::Binary,
+        Base::Uuid => Terminal::Uuid,
     }
 }
 
@@ -89,7 +90,10 @@ impl<'a> SymbolReader<'a> {
         if self.starts(&[Terminal::StringWord]) {
             return Base::String;
         }
-        Base::Binary
+        if self.starts(&[Terminal::Binary]) {
+            return Base::Binary;
+        }
+        Base::Uuid
     }
 
     /// The word of a base type, and its place.
@@ -116,6 +120,7 @@ impl<'a> SymbolReader<'a> {
             Terminal::DoubleWord,
             Terminal::StringWord,
             Terminal::Binary,
+            Terminal::Uuid,
         ])
     }
 

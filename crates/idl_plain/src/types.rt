@@ -13,7 +13,8 @@ use std::alloc::{AllocError, Global};
 fn base(alloc: Global) -> Result<PlainPhrase, AllocError>
     ensures { IfOk result (λ p. outline_of p ≡ outline base) }
 {
-    let mut words = PlainPhrase::One(Terminal::Binary);
+    let mut words = PlainPhrase::One(Terminal::Uuid);
+    words = either(alloc, PlainPhrase::One(Terminal::Binary), words)?;
     words = either(alloc, PlainPhrase::One(Terminal::StringWord), words)?;
     words = either(alloc, PlainPhrase::One(Terminal::DoubleWord), words)?;
     words = either(alloc, PlainPhrase::One(Terminal::I64), words)?;

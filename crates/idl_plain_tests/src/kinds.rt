@@ -20,7 +20,7 @@ const OTHER: Held = (
 );
 
 /// What stands in a file, behind which `const` and a type begin a constant; the type; and what it means, or nothing.
-const ROWS: [(&str, &str, &str); 30] = [
+const ROWS: [(&str, &str, &str); 31] = [
     ("", "bool", "bool"),
     ("", "byte", "i8"),
     ("", "i8", "i8"),
@@ -30,6 +30,7 @@ const ROWS: [(&str, &str, &str); 30] = [
     ("", "double", "double"),
     ("", "string", "string"),
     ("", "binary", "binary"),
+    ("", "uuid", "uuid"),
     ("", "map<bool,set<list<i8>>>", "map<bool,set<list<i8>>>"),
     ("struct R {} union S {} exception X {}", "X", "struct 2"),
     ("enum D {} enum E {}", "list<E>", "list<enum 1>"),
@@ -70,6 +71,7 @@ fn put_kind(into: &mut String, kind: &TypeDesc) -> Result<(), AllocError> {
         TypeDesc::Double => into.push_str("double"),
         TypeDesc::Text => into.push_str("string"),
         TypeDesc::Binary => into.push_str("binary"),
+        TypeDesc::Uuid => into.push_str("uuid"),
         TypeDesc::Enum(which) => put_number(into, "enum", *which),
         TypeDesc::Struct(which) => put_number(into, "struct", *which),
         TypeDesc::Map(key, value) => {

@@ -104,6 +104,74 @@ pub(crate) const DOUBLES: [Row; 36] = [
     ("double", "^{}", "WrongKind"),
 ];
 
+/// Uuids: literals of 36 bytes alone.
+pub(crate) const UUIDS: [Row; 24] = [
+    (
+        "uuid",
+        "'00112233-4455-6677-8899-aabbccddeeff'",
+        "u00112233445566778899aabbccddeeff",
+    ),
+    (
+        "uuid",
+        "\"00112233-4455-6677-8899-AABBCCDDEEFF\"",
+        "u00112233445566778899aabbccddeeff",
+    ),
+    (
+        "uuid",
+        "'ffffffff-ffff-ffff-ffff-ffffffffffff'",
+        "uffffffffffffffffffffffffffffffff",
+    ),
+    (
+        "uuid",
+        "'00000000-0000-0000-0000-000000000000'",
+        "u00000000000000000000000000000000",
+    ),
+    ("uuid", "^'x'", "BadUuid"),
+    ("uuid", "^''", "BadUuid"),
+    ("uuid", "^'00112233-4455-6677-8899-aabbccddeef'", "BadUuid"),
+    (
+        "uuid",
+        "^'00112233-4455-6677-8899-aabbccddeeff0'",
+        "BadUuid",
+    ),
+    ("uuid", "^'00112233-4455-6677-889-9aabbccddeeff'", "BadUuid"),
+    ("uuid", "^'0011223-34455-6677-8899-aabbccddeeff'", "BadUuid"),
+    ("uuid", "^'001122334455-6677-8899-aabbccddeeff-'", "BadUuid"),
+    ("uuid", "^'{0112233-4455-6677-8899-aabbccddeef}'", "BadUuid"),
+    (
+        "uuid",
+        "^'{00112233-4455-6677-8899-aabbccddeeff}'",
+        "BadUuid",
+    ),
+    ("uuid", "^'0011223g-4455-6677-8899-aabbccddeeff'", "BadUuid"),
+    (
+        "uuid",
+        "^'00112233-4455-6677-8899-aabbccddeef\\n'",
+        "BadUuid",
+    ),
+    ("uuid", "^'00112233445566778899aabbccddeeff'", "BadUuid"),
+    ("uuid", "^0", "WrongKind"),
+    ("uuid", "^1.0", "WrongKind"),
+    ("uuid", "^E.X", "WrongKind"),
+    ("uuid", "^[]", "WrongKind"),
+    ("uuid", "^{}", "WrongKind"),
+    (
+        "set<uuid>",
+        "['00112233-4455-6677-8899-aabbccddeeff', '00112233-4455-6677-8899-AABBCCDDEEFF']",
+        "set<uuid>[u00112233445566778899aabbccddeeff]",
+    ),
+    (
+        "map<uuid,i8>",
+        "{'00112233-4455-6677-8899-aabbccddeeff': 1, '00000000-0000-0000-0000-000000000001': 2}",
+        "map<uuid,i8>{u00000000000000000000000000000001=2b,u00112233445566778899aabbccddeeff=1b}",
+    ),
+    (
+        "list<uuid>",
+        "['00112233-4455-6677-8899-aabbccddeeff', ^'']",
+        "BadUuid",
+    ),
+];
+
 /// Enums, texts and bytes.
 pub(crate) const ENUMS: [Row; 30] = [
     ("E", "8", "8i"),

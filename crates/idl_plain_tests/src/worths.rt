@@ -5,7 +5,7 @@ ghost use Rattle.idl_include.specs.SourcesOf.{AreFiles, sources_in};
 use crate::answers::{fault_text, plain_text, real_text};
 use crate::loaded::{Held, loaded_beside};
 use crate::schemas::schema_without;
-use crate::worth_rows::{CONTAINERS, DOUBLES, ENUMS, NAMES, NUMBERS, STRUCTS};
+use crate::worth_rows::{CONTAINERS, DOUBLES, ENUMS, NAMES, NUMBERS, STRUCTS, UUIDS};
 use check_plain::{Based, kind_of_type};
 use const_plain::Environment;
 use idl_include::Sources;
@@ -190,6 +190,12 @@ fn numbers_are_worth_the_same(rt: HostRuntime) -> Result<(), Fail> {
 #[test]
 fn doubles_are_worth_the_same(rt: HostRuntime) -> Result<(), Fail> {
     assert_eq!(rt; first_wrong(rt.alloc(), &DOUBLES)?, None);
+    Ok(())
+}
+
+#[test]
+fn uuids_are_worth_the_same(rt: HostRuntime) -> Result<(), Fail> {
+    assert_eq!(rt; first_wrong(rt.alloc(), &UUIDS)?, None);
     Ok(())
 }
 

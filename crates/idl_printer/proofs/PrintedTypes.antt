@@ -19,7 +19,7 @@ use Rattle.idl_parser.specs.Types.{base as base_phrase, cpp_type, map_type_rest,
 use Rattle.idl_parser.specs.Trees.{base_word, type_step, type_node}
 use Rattle.idl_printer.specs.Printed.{base_text, type_text_step, type_text}
 use Rattle.idl_printer.proofs.PrintedPhrases.{Prints, IsWordOf, IsNothing, prints_pair, prints_after, prints_before, prints_quiet, prints_quiet_front, prints_either, prints_never, prints_kept, prints_anywhere, nothing_maybe, sign_word, word_end, word_quiet}
-use Rattle.idl_printer.proofs.PrintedWords.{bool_word, byte_word, i8_word, i16_word, i32_word, i64_word, double_word, string_word, binary_word, map_word, set_word, list_word, less_sign, greater_sign, comma_sign}
+use Rattle.idl_printer.proofs.PrintedWords.{bool_word, byte_word, i8_word, i16_word, i32_word, i64_word, double_word, string_word, binary_word, uuid_word, map_word, set_word, list_word, less_sign, greater_sign, comma_sign}
 use Rattle.idl_printer.proofs.PrintedLeaves.{prints_identifier}
 
 pub no_annotation : IsNothing annotation
@@ -40,12 +40,13 @@ base_word_of base.I64 = i64_word
 base_word_of base.Double = double_word
 base_word_of base.String = string_word
 base_word_of base.Binary = binary_word
+base_word_of base.Uuid = uuid_word
 
 pub by_words : {P : List ℕ → Bool} {x : Node} {text : List ℕ} → ((k : Terminal) → Prints P (kept_word k) x text) → Prints P base_phrase x text
 unfolding base_phrase
 by_words each =
     prints_either (each word.Bool) (prints_either (each word.Byte) (prints_either (each word.I8) (prints_either (each word.I16) (prints_either (each word.I32)
-    (prints_either (each word.I64) (prints_either (each word.DoubleWord) (prints_either (each word.StringWord) (each word.Binary))))))))
+    (prints_either (each word.I64) (prints_either (each word.DoubleWord) (prints_either (each word.StringWord) (prints_either (each word.Binary) (each word.Uuid)))))))))
 
 -- phrases of which no such tree is made
 pub word_no_leaf : {P : List ℕ → Bool} {text : List ℕ} (k j : Terminal) (bytes : List ℕ) (at : Place) → Prints P (kept_word k) (leaf j bytes at) text

@@ -109,6 +109,10 @@ pub binary_word : IsWordOf parted word.Binary (keyword_text word.Binary)
 unfolding keywords kind_of_word
 binary_word = keyword word.Binary (keyword_text word.Binary) refl refl
 
+pub uuid_word : IsWordOf parted word.Uuid (keyword_text word.Uuid)
+unfolding keywords kind_of_word
+uuid_word = keyword word.Uuid (keyword_text word.Uuid) refl refl
+
 pub map_word : IsWordOf parted word.Map (keyword_text word.Map)
 unfolding keywords kind_of_word
 map_word = keyword word.Map (keyword_text word.Map) refl refl

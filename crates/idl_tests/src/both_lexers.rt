@@ -56,7 +56,7 @@ fn is_fault(
 const WORDS_AND_BLANKS: [(&[u8], &[(TokenKind, u32, u32)]); 13] = [
     (b"struct Work.x_1", &[(Keyword, 0, 6), (Identifier, 7, 15)]),
     (b"true false", &[(Int, 0, 4), (Int, 5, 10)]),
-    (b"uuid uuid.x", &[(Refused, 0, 4), (Identifier, 5, 11)]),
+    (b"uuid uuid.x", &[(Keyword, 0, 4), (Identifier, 5, 11)]),
     (b"xsd_a.b async", &[(Refused, 0, 7), (Identifier, 8, 13)]),
     (b"i32 i32x", &[(Keyword, 0, 3), (Identifier, 4, 8)]),
     (

@@ -114,12 +114,34 @@ const LEFT_OUT: [(&str, Expected); 8] = [
     // Refused words.
     ("struct S { 1: &T a }", Some((Refused, 1, 15))),
     ("senum", Some((Refused, 1, 1))),
-    ("const uuid x", Some((Refused, 1, 7))),
+    ("const senum x", Some((Refused, 1, 7))),
     ("struct S {} &", Some((Refused, 1, 13))),
-    ("enum E { A = uuid } x", Some((Refused, 1, 14))),
-    ("enum E { A = x } uuid", Some((Found, 1, 14))),
-    ("x uuid", Some((Found, 1, 1))),
-    ("'uuid'", Some((Found, 1, 1))),
+    ("enum E { A = senum } x", Some((Refused, 1, 14))),
+    ("enum E { A = x } senum", Some((Found, 1, 14))),
+    ("x senum", Some((Found, 1, 1))),
+    ("'senum'", Some((Found, 1, 1))),
+];
+
+// Such texts of uuids, which are types and no names.
+const OF_UUIDS: [(&str, Expected); 12] = [
+    (
+        "struct S { 1: uuid a = 'x' b, uuid c }",
+        Some((Found, 1, 29)),
+    ),
+    ("struct S { 1: uuid a = 'x' uuid c }", None),
+    (
+        "service S { uuid e(1: uuid x) throws (1: X x) uuid f() }",
+        None,
+    ),
+    ("typedef map<uuid, list<uuid>> T const uuid A = 'x'", None),
+    ("const uuid x", Some((Found, 1, 13))),
+    ("struct uuid {}", Some((Found, 1, 8))),
+    ("struct S { 1: i32 uuid }", Some((Found, 1, 19))),
+    ("struct S { 1: i32 uuid.x }", None),
+    ("service S { void uuid() }", Some((Found, 1, 18))),
+    ("enum E { uuid }", Some((Found, 1, 10))),
+    ("enum E { A = uuid }", Some((Found, 1, 14))),
+    ("namespace py uuid", Some((Found, 1, 14))),
 ];
 
 // Texts for the recognizer with so many levels.
@@ -155,6 +177,7 @@ fn both_find_the_same(rt: HostRuntime) {
     expect(&rt, alloc, &HEADERS_AND_TYPES);
     expect(&rt, alloc, &DEFINITIONS);
     expect(&rt, alloc, &LEFT_OUT);
+    expect(&rt, alloc, &OF_UUIDS);
 }
 
 #[test]

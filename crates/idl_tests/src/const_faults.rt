@@ -20,7 +20,7 @@ const TYPES: &str =
     "enum E { X } enum F { Y } struct S { 1: required i8 a } union U { 1: i8 a 2: i8 b }";
 
 // A type, a value, where in it the fault is, and the fault.
-const FAULTS: [(&str, &str, usize, ConstFault); 18] = [
+const FAULTS: [(&str, &str, usize, ConstFault); 24] = [
     ("bool", "2", 0, ConstFault::OutOfRange),
     ("i8", "128", 0, ConstFault::OutOfRange),
     ("i16", "-32769", 0, ConstFault::OutOfRange),
@@ -29,6 +29,22 @@ const FAULTS: [(&str, &str, usize, ConstFault); 18] = [
     ("E", "2147483648", 0, ConstFault::OutOfRange),
     ("E", "F.Y", 0, ConstFault::WrongKind),
     ("double", "1.5", 0, ConstFault::DoubleConstant),
+    ("uuid", "'x'", 0, ConstFault::BadUuid),
+    (
+        "uuid",
+        "'00112233-4455-6677-8899-aabbccddeef'",
+        0,
+        ConstFault::BadUuid,
+    ),
+    (
+        "uuid",
+        "'{00112233-4455-6677-8899-aabbccddeeff}'",
+        0,
+        ConstFault::BadUuid,
+    ),
+    ("uuid", "1", 0, ConstFault::WrongKind),
+    ("uuid", "E.X", 0, ConstFault::WrongKind),
+    ("list<uuid>", "['']", 1, ConstFault::BadUuid),
     ("string", "1", 0, ConstFault::WrongKind),
     ("binary", "[]", 0, ConstFault::WrongKind),
     ("list<i8>", "[1, 128]", 4, ConstFault::OutOfRange),

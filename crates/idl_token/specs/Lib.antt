@@ -5,6 +5,7 @@ pub mod Runs
 pub mod Classes
 pub mod Words
 pub mod Numbers
+pub mod Uuids
 pub mod Literals
 pub mod Blanks
 pub mod Wholes

@@ -27,6 +27,7 @@ keywords =
     ∷ (codes "required", word.Required) ∷ (codes "optional", word.Optional) ∷ (codes "bool", word.Bool) ∷ (codes "byte", word.Byte)
     ∷ (codes "i8", word.I8) ∷ (codes "i16", word.I16) ∷ (codes "i32", word.I32) ∷ (codes "i64", word.I64)
     ∷ (codes "double", word.DoubleWord) ∷ (codes "string", word.StringWord) ∷ (codes "binary", word.Binary)
+    ∷ (codes "uuid", word.Uuid)
     ∷ (codes "map", word.Map) ∷ (codes "set", word.Set) ∷ (codes "list", word.List) ∷ (codes "cpp_type", word.CppType) ∷ []
 
 -- the terminal of the first row with this text, of rows with a text and a terminal
@@ -61,7 +62,7 @@ is_truth_word text = is_one_of truth_words text
 
 -- the words that are left out by name
 unfoldable pub refused_words : List (List ℕ)
-refused_words = codes "senum" ∷ codes "slist" ∷ codes "uuid" ∷ []
+refused_words = codes "senum" ∷ codes "slist" ∷ []
 
 -- the words that begin so are left out too
 unfoldable pub refused_front : List ℕ

@@ -18,7 +18,8 @@
 //! ```
 //!
 //! The laws say that a text has one list of tokens or one first fault, and which tokens a text has that
-//! was put together of tokens and white space. What is public besides the above, kinds of bytes, words and
+//! was put together of tokens and white space. `uuid_value` is the number of the uuid that a literal writes, for those who evaluate
+//! constants. What is public besides the above, kinds of bytes, words and
 //! numbers and what stands in front of a text, is for the plain lexer of `idl_plain`.
 #![tactic(auto)]
 
@@ -44,6 +45,7 @@ mod pieces;
 mod places;
 mod runs;
 mod terminal;
+mod uuids;
 mod words;
 
 pub use blanks::blank_in;
@@ -57,6 +59,7 @@ pub use numbers::{int_value, is_big_double, is_big_int, is_hexadecimal, sign_in}
 pub use pieces::{Piece, is_sign, kind_of_sign, opening_fault};
 pub use places::place_at;
 pub use terminal::{Terminal, same};
+pub use uuids::uuid_value;
 pub use words::{keyword_of, keyword_text, kind_of_word};
 
 /// What a token is.

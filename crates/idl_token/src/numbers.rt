@@ -122,7 +122,8 @@ pub(crate) fn int_len(text: &[u8]) -> usize
     decimal_len(text).max(hexadecimal_len(text))
 }
 
-fn digit_value(byte: u8) -> u8
+/// The value of a hexadecimal digit of either case.
+pub(crate) fn digit_value(byte: u8) -> u8
     ensures { result ≡ digit_value byte }
 {
     if byte.is_ascii_digit() {

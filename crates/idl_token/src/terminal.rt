@@ -65,6 +65,8 @@ pub enum Terminal {
     StringWord,
     /// `binary`
     Binary,
+    /// `uuid`
+    Uuid,
     /// `map`
     Map,
     /// `set`

@@ -11,7 +11,7 @@ use crate::runs::{ByteRun, run_len};
 use crate::terminal::{Terminal, same};
 
 /// The keywords with their terminals: the lexer, the parser and the printer look them up here.
-const KEYWORDS: [(&str, Terminal); 29] = [
+const KEYWORDS: [(&str, Terminal); 30] = [
     ("namespace", Terminal::Namespace),
     ("include", Terminal::Include),
     ("cpp_include", Terminal::CppInclude),
@@ -37,6 +37,7 @@ const KEYWORDS: [(&str, Terminal); 29] = [
     ("double", Terminal::DoubleWord),
     ("string", Terminal::StringWord),
     ("binary", Terminal::Binary),
+    ("uuid", Terminal::Uuid),
     ("map", Terminal::Map),
     ("set", Terminal::Set),
     ("list", Terminal::List),
@@ -117,10 +118,7 @@ fn is_truth_word(text: &[u8]) -> bool
 fn is_refused(text: &[u8]) -> bool
     ensures { result ≡ is_refused text.now }
 {
-    text == b"senum".as_slice()
-        || text == b"slist".as_slice()
-        || text == b"uuid".as_slice()
-        || text.starts_with(b"xsd_")
+    text == b"senum".as_slice() || text == b"slist".as_slice() || text.starts_with(b"xsd_")
 }
 
 /// What a word is.

@@ -8,7 +8,7 @@ use Rattle.idl_include.specs.TypeExpr.{TypeExpr}
 use Rattle.idl_include.specs.Declarations.{StructDecl}
 use Rattle.idl_include.specs.Program.{Program}
 use Rattle.idl_include.specs.Numbering.{Filed, structs_of}
-use Rattle.schema.specs.PlainKind.{PlainKind, kind_bool, kind_i8, kind_i16, kind_i32, kind_i64, kind_double, kind_text, kind_binary, kind_enum, kind_struct, kind_map, kind_set, kind_list}
+use Rattle.schema.specs.PlainKind.{PlainKind, kind_bool, kind_i8, kind_i16, kind_i32, kind_i64, kind_double, kind_text, kind_binary, kind_uuid, kind_enum, kind_struct, kind_map, kind_set, kind_list}
 use Rattle.check_model.specs.Resolved.{TypeMeans}
 use Rattle.check_model.specs.Passes.{MeansException}
 use Rattle.check_model.proofs.Meanings.{one_meaning}
@@ -37,6 +37,7 @@ names_one program file t kind_i16 means e = absurd (true≢false (sym e))
 names_one program file t kind_i32 means e = absurd (true≢false (sym e))
 names_one program file t kind_i64 means e = absurd (true≢false (sym e))
 names_one program file t kind_double means e = absurd (true≢false (sym e))
+names_one program file t kind_uuid means e = absurd (true≢false (sym e))
 names_one program file t kind_text means e = absurd (true≢false (sym e))
 names_one program file t kind_binary means e = absurd (true≢false (sym e))
 names_one program file t (kind_enum _) means e = absurd (true≢false (sym e))

@@ -66,6 +66,7 @@ pub(crate) fn copied(
         TypeDesc::Double => Ok(TypeDesc::Double),
         TypeDesc::Text => Ok(TypeDesc::Text),
         TypeDesc::Binary => Ok(TypeDesc::Binary),
+        TypeDesc::Uuid => Ok(TypeDesc::Uuid),
         TypeDesc::Enum(which) => Ok(TypeDesc::Enum(*which)),
         TypeDesc::Struct(which) => Ok(TypeDesc::Struct(*which)),
         TypeDesc::Map(key, value) => {

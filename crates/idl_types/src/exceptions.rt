@@ -50,6 +50,7 @@ fn is_exception_kind(structs: &[InFile<'_, Struct>], kind: &TypeDesc) -> bool
         | TypeDesc::Double
         | TypeDesc::Text
         | TypeDesc::Binary
+        | TypeDesc::Uuid
         | TypeDesc::Enum(_)
         | TypeDesc::Map(_, _)
         | TypeDesc::Set(_)

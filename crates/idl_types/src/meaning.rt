@@ -37,6 +37,7 @@ fn base_type(base: Base) -> TypeDesc
         Base::Double => TypeDesc::Double,
         Base::String => TypeDesc::Text,
         Base::Binary => TypeDesc::Binary,
+        Base::Uuid => TypeDesc::Uuid,
     }
 }
 

@@ -8,7 +8,7 @@ use Rattle.text_out.specs.Decimal.{natural_of, decimal_of}
 use Rattle.std.proofs.lemmas.Fmt.{decimal_digit}
 use Rattle.thrift_value.specs.declared.tag.Tag.TheVariants.{Struct}
 use Rattle.thrift_value.specs.Tags.{tag_of}
-use Rattle.thrift_value.specs.Tree.{Tree, of_bool, of_i8, of_i16, of_i32, of_i64, of_double, of_bytes, of_struct, of_map, of_set, of_list}
+use Rattle.thrift_value.specs.Tree.{Tree, of_bool, of_i8, of_i16, of_i32, of_i64, of_double, of_bytes, of_struct, of_map, of_set, of_list, of_uuid}
 use Rattle.thrift_value.specs.Ranges.{IsInRange}
 use Rattle.value_text.specs.ValueText.{tree_text}
 use Rattle.value_text.specs.Fronts.{◌>>=◌, behind_word, positive_at, integer_at}
@@ -128,6 +128,7 @@ a_struct (of_i16 n) e = absurd cc
 a_struct (of_i32 n) e = absurd cc
 a_struct (of_i64 n) e = absurd cc
 a_struct (of_double bits) e = absurd cc
+a_struct (of_uuid bits) e = absurd cc
 a_struct (of_bytes bytes) e = absurd cc
 a_struct (of_struct fields) e = tt
 a_struct (of_map key value pairs) e = absurd cc

@@ -1,7 +1,7 @@
 -- An entry's text has no newline.
 use Rattle.std.proofs.Common.{◌≡◌, ◌≢◌, ℕ, zero, suc, ◌/◌, ◌%◌, ◌==◌, ◌&&◌, nat_le, ℤ, pos, negsuc, Bool, true, false, if◌then◌else◌, List, [], ◌∷◌, ◌++◌, get_or, codes, IsTrue, refl, sym, ap, ◌∙◌, arith}
 use Rattle.std.specs.Prelude.{All}
-use Rattle.std.specs.Int.{w64, to_be_bytes}
+use Rattle.std.specs.Int.{w64, w128, to_be_bytes}
 use Rattle.std.specs.List.{flat_map}
 use Rattle.std.proofs.lemmas.Bool.{true≢false}
 use Rattle.text_out.specs.Bytes.{quotation_mark, escape_mark, hex_mark}
@@ -11,8 +11,8 @@ use Rattle.text_out.specs.Quoted.{quoted_byte}
 use Rattle.host_model.proofs.Lists.{all-append}
 use Rattle.script_model.proofs.ReportLines.{IsOneLine, natural_one_line, plain_text}
 use Rattle.thrift_value.specs.declared.tag.Tag.{Tag}
-use Rattle.thrift_value.specs.declared.tag.Tag.TheVariants.{Bool as BoolTag, I8, I16, I32, I64, Double, Bytes, Struct, Map, Set, List as ListTag}
-use Rattle.thrift_value.specs.Tree.{Tree, of_bool, of_i8, of_i16, of_i32, of_i64, of_double, of_bytes, of_struct, of_map, of_set, of_list, FieldTrees, no_fields, field, ItemTrees, no_items, item, PairTrees, no_pairs, pair}
+use Rattle.thrift_value.specs.declared.tag.Tag.TheVariants.{Bool as BoolTag, I8, I16, I32, I64, Double, Bytes, Struct, Map, Set, List as ListTag, Uuid}
+use Rattle.thrift_value.specs.Tree.{Tree, of_bool, of_i8, of_i16, of_i32, of_i64, of_double, of_bytes, of_struct, of_map, of_set, of_list, of_uuid, FieldTrees, no_fields, field, ItemTrees, no_items, item, PairTrees, no_pairs, pair}
 use Rattle.value_text.specs.ValueText.{tag_word, number_and_letter, tree_text, listed_fields, listed_items, listed_pairs, further_fields, further_items, further_pairs}
 use Rattle.call_rules.specs.PlainCalls.{PlainAnswer, success, empty, throws, broken, is_method_byte, IsPlainCall}
 use Rattle.call_rules.specs.Entries.{CallEntry}
@@ -74,6 +74,7 @@ tag_line Struct = plain_text (codes "struct") refl
 tag_line Map = plain_text (codes "map") refl
 tag_line Set = plain_text (codes "set") refl
 tag_line ListTag = plain_text (codes "list") refl
+tag_line Uuid = plain_text (codes "uuid") refl
 
 number_line : (z : ℤ) (letter : List ℕ) → IsOneLine letter → IsOneLine (number_and_letter z letter)
 number_line z letter a = join (decimal_of z) letter (decimal_line z) a
@@ -93,6 +94,7 @@ mutual
   tree_line (of_i32 n) = number_line n (codes "i") (plain_text (codes "i") refl)
   tree_line (of_i64 n) = number_line n (codes "l") (plain_text (codes "l") refl)
   tree_line (of_double bits) = join (codes "d") (hex_of (to_be_bytes w64 bits)) (plain_text (codes "d") refl) (hex_line (to_be_bytes w64 bits))
+  tree_line (of_uuid number) = join (codes "u") (hex_of (to_be_bytes w128 number)) (plain_text (codes "u") refl) (hex_line (to_be_bytes w128 number))
   tree_line (of_bytes bytes) =
       ((λ e. omega (arith, e)), join (flat_map quoted_byte bytes) (codes "\"") (quoted_bytes_line bytes) (plain_text (codes "\"") refl))
   tree_line (of_struct fields) =

@@ -8,7 +8,7 @@ use Rattle.thrift_value.specs.declared.tag.Tag.TheVariants as tags
 use Rattle.thrift_value.specs.declared.wire_fault.WireFault.{WireFault}
 use Rattle.thrift_value.specs.declared.wire_fault.WireFault.TheVariants.{Short, BadType, BadSize, LongVarint, FieldRange, TooDeep, TooMany, NoMemory}
 use Rattle.thrift_value.specs.Tags.{tag_of, rank}
-use Rattle.thrift_value.specs.Tree.{Tree, of_bool, of_i8, of_i16, of_i32, of_i64, of_double, of_bytes, of_struct, of_map, of_set, of_list, FieldTrees, ItemTrees, PairTrees}
+use Rattle.thrift_value.specs.Tree.{Tree, of_bool, of_i8, of_i16, of_i32, of_i64, of_double, of_bytes, of_struct, of_map, of_set, of_list, of_uuid, FieldTrees, ItemTrees, PairTrees}
 use Rattle.schema.specs.PlainKind.{PlainKind, kind_struct, kind_map, kind_set, kind_list}
 use Rattle.schema.specs.PlainSchema.{PlainSchema}
 use Rattle.wire_model.specs.Answering.{FaultsOrNoMemory, FaultsExactly, AnswersOrNoMemory}
@@ -119,6 +119,7 @@ module _ (s : PlainSchema) where
   other_tag (of_i32 n) kind e = ap (λ c. cond c (Some (of_i32 n)) None) e
   other_tag (of_i64 n) kind e = ap (λ c. cond c (Some (of_i64 n)) None) e
   other_tag (of_double n) kind e = ap (λ c. cond c (Some (of_double n)) None) e
+  other_tag (of_uuid n) kind e = ap (λ c. cond c (Some (of_uuid n)) None) e
   other_tag (of_bytes n) kind e = ap (λ c. cond c (Some (of_bytes n)) None) e
 
   pub tag_unknown : (x : Tree) (kind : PlainKind) (tag : Tag) → tag_of x ≡ tag → false ≡ are_same_tags (tag_of_kind kind) tag → known s x kind ≡ None
@@ -137,6 +138,7 @@ module _ (s : PlainSchema) where
   leaf_known (of_i32 x) kind tag is e a b c d = ap (λ y. cond y (Some (of_i32 x)) None) (ap (are_same_tags (tag_of_kind kind)) is ∙ sym e)
   leaf_known (of_i64 x) kind tag is e a b c d = ap (λ y. cond y (Some (of_i64 x)) None) (ap (are_same_tags (tag_of_kind kind)) is ∙ sym e)
   leaf_known (of_double x) kind tag is e a b c d = ap (λ y. cond y (Some (of_double x)) None) (ap (are_same_tags (tag_of_kind kind)) is ∙ sym e)
+  leaf_known (of_uuid x) kind tag is e a b c d = ap (λ y. cond y (Some (of_uuid x)) None) (ap (are_same_tags (tag_of_kind kind)) is ∙ sym e)
   leaf_known (of_bytes x) kind tag is e a b c d = ap (λ y. cond y (Some (of_bytes x)) None) (ap (are_same_tags (tag_of_kind kind)) is ∙ sym e)
 
   pub text_known : (text : List ℕ) (kind : PlainKind) (tag : Tag) → tag ≡ tags.Bytes → true ≡ are_same_tags (tag_of_kind kind) tag → known s (of_bytes text) kind ≡ Some (of_bytes text)
@@ -152,7 +154,7 @@ module _ (s : PlainSchema) where
 tag_at_rank : ℕ → Tag
 tag_at_rank n =
     cond (n == 0) tags.Bool (cond (n == 1) tags.I8 (cond (n == 2) tags.I16 (cond (n == 3) tags.I32 (cond (n == 4) tags.I64 (cond (n == 5) tags.Double
-    (cond (n == 6) tags.Bytes (cond (n == 7) tags.Struct (cond (n == 8) tags.Map (cond (n == 9) tags.Set tags.List)))))))))
+    (cond (n == 6) tags.Bytes (cond (n == 7) tags.Struct (cond (n == 8) tags.Map (cond (n == 9) tags.Set (cond (n == 10) tags.List tags.Uuid))))))))))
 
 its_rank : (t : Tag) → tag_at_rank (rank t) ≡ t
 unfolding tag_at_rank
@@ -167,6 +169,7 @@ its_rank tags.Struct = refl
 its_rank tags.Map = refl
 its_rank tags.Set = refl
 its_rank tags.List = refl
+its_rank tags.Uuid = refl
 
 pub same_tags : (a b : Tag) → true ≡ are_same_tags a b → a ≡ b
 same_tags a b e = sym (its_rank a) ∙ ap tag_at_rank (eqb-true (rank a) (rank b) (sym e)) ∙ its_rank b

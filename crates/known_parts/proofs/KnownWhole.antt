@@ -4,7 +4,7 @@ use Rattle.thrift_value.specs.declared.tag.Tag.TheVariants as tags
 use Rattle.thrift_value.specs.declared.wire_fault.WireFault.{WireFault}
 use Rattle.thrift_value.specs.Measures.{count_of, depth_of}
 use Rattle.thrift_value.specs.Tags.{tag_of}
-use Rattle.thrift_value.specs.Tree.{Tree, of_bool, of_i8, of_i16, of_i32, of_i64, of_double, of_bytes, of_struct, of_map, of_set, of_list, FieldTrees}
+use Rattle.thrift_value.specs.Tree.{Tree, of_bool, of_i8, of_i16, of_i32, of_i64, of_double, of_bytes, of_struct, of_map, of_set, of_list, of_uuid, FieldTrees}
 use Rattle.schema.specs.PlainKind.{PlainKind, kind_struct}
 use Rattle.schema.specs.PlainSchema.{PlainSchema}
 use Rattle.wire_model.specs.Decoder.{Unread, go_on, give}
@@ -50,6 +50,7 @@ module _ (s : PlainSchema) (which : ℕ) where
   part_bounded (of_i32 _) deep many within = within
   part_bounded (of_i64 _) deep many within = within
   part_bounded (of_double _) deep many within = within
+  part_bounded (of_uuid _) deep many within = within
   part_bounded (of_bytes _) deep many within = within
   part_bounded (of_map _ _ _) deep many within = within
   part_bounded (of_set _ _) deep many within = within

@@ -3,7 +3,7 @@ use Rattle.std.specs.Prelude.{ℕ, Bool, ◌==◌, Option, Some, None}
 use Rattle.thrift_value.specs.declared.tag.Tag.{Tag}
 use Rattle.thrift_value.specs.declared.tag.Tag.TheVariants as tag
 use Rattle.thrift_value.specs.Tags.{rank}
-use Rattle.schema.specs.PlainKind.{PlainKind, kind_bool, kind_i8, kind_i16, kind_i32, kind_i64, kind_double, kind_text, kind_binary, kind_enum, kind_struct, kind_map, kind_set, kind_list}
+use Rattle.schema.specs.PlainKind.{PlainKind, kind_bool, kind_i8, kind_i16, kind_i32, kind_i64, kind_double, kind_text, kind_binary, kind_uuid, kind_enum, kind_struct, kind_map, kind_set, kind_list}
 
 -- the tag of the values of a type; an enum is a number of 32 bits
 abbrev pub tag_of_kind : PlainKind → Tag
@@ -15,6 +15,7 @@ tag_of_kind kind_i64 = tag.I64
 tag_of_kind kind_double = tag.Double
 tag_of_kind kind_text = tag.Bytes
 tag_of_kind kind_binary = tag.Bytes
+tag_of_kind kind_uuid = tag.Uuid
 tag_of_kind (kind_enum _) = tag.I32
 tag_of_kind (kind_struct _) = tag.Struct
 tag_of_kind (kind_map _ _) = tag.Map

@@ -20,6 +20,7 @@ pub fn tag_of_kind(kind: &TypeDesc) -> Tag
         TypeDesc::Double => Tag::Double,
         TypeDesc::Text => Tag::Bytes,
         TypeDesc::Binary => Tag::Bytes,
+        TypeDesc::Uuid => Tag::Uuid,
         TypeDesc::Enum(_) => Tag::I32,
         TypeDesc::Struct(_) => Tag::Struct,
         TypeDesc::Map(_, _) => Tag::Map,
@@ -42,6 +43,7 @@ pub fn struct_of_kind(kind: &TypeDesc) -> Option<u32>
         | TypeDesc::Double
         | TypeDesc::Text
         | TypeDesc::Binary
+        | TypeDesc::Uuid
         | TypeDesc::Enum(_)
         | TypeDesc::Map(_, _)
         | TypeDesc::Set(_)
@@ -63,6 +65,7 @@ pub fn map_of_kind(kind: &TypeDesc) -> Option<(&TypeDesc, &TypeDesc)>
         | TypeDesc::Double
         | TypeDesc::Text
         | TypeDesc::Binary
+        | TypeDesc::Uuid
         | TypeDesc::Enum(_)
         | TypeDesc::Struct(_)
         | TypeDesc::Set(_)
@@ -84,6 +87,7 @@ pub fn set_of_kind(kind: &TypeDesc) -> Option<&TypeDesc>
         | TypeDesc::Double
         | TypeDesc::Text
         | TypeDesc::Binary
+        | TypeDesc::Uuid
         | TypeDesc::Enum(_)
         | TypeDesc::Struct(_)
         | TypeDesc::Map(_, _)
@@ -105,6 +109,7 @@ pub fn list_of_kind(kind: &TypeDesc) -> Option<&TypeDesc>
         | TypeDesc::Double
         | TypeDesc::Text
         | TypeDesc::Binary
+        | TypeDesc::Uuid
         | TypeDesc::Enum(_)
         | TypeDesc::Struct(_)
         | TypeDesc::Map(_, _)

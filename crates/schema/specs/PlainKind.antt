@@ -15,6 +15,7 @@ pub data PlainKind : Type 0 where
   kind_double : PlainKind
   kind_text : PlainKind
   kind_binary : PlainKind
+  kind_uuid : PlainKind
   kind_enum : ℕ → PlainKind
   kind_struct : ℕ → PlainKind
   kind_map : PlainKind → PlainKind → PlainKind
@@ -31,6 +32,7 @@ kind_step layer.I64 = kind_i64
 kind_step layer.Double = kind_double
 kind_step layer.Text = kind_text
 kind_step layer.Binary = kind_binary
+kind_step layer.Uuid = kind_uuid
 kind_step (layer.Enum which) = kind_enum which
 kind_step (layer.Struct which) = kind_struct which
 kind_step (layer.Map key value) = kind_map key.value value.value

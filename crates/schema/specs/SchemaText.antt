@@ -13,7 +13,7 @@ use Rattle.schema.specs.declared.types.FieldsKind.TheVariants as of_kind
 use Rattle.schema.specs.declared.types.DefRef.{DefRef}
 use Rattle.schema.specs.declared.types.DefRef.TheVariants as definition
 use Rattle.schema.specs.LookUp.{base_at, dotted, fields_at}
-use Rattle.schema.specs.PlainKind.{PlainKind, kind_bool, kind_i8, kind_i16, kind_i32, kind_i64, kind_double, kind_text, kind_binary, kind_enum, kind_struct, kind_map, kind_set, kind_list}
+use Rattle.schema.specs.PlainKind.{PlainKind, kind_bool, kind_i8, kind_i16, kind_i32, kind_i64, kind_double, kind_text, kind_binary, kind_uuid, kind_enum, kind_struct, kind_map, kind_set, kind_list}
 use Rattle.schema.specs.PlainSchema.{PlainField, PlainStruct, PlainEnum, PlainFunction, PlainService, PlainAlias, PlainConstant, PlainFile, PlainSchema}
 use Rattle.schema.specs.Shapes.{joined, oneway_front}
 
@@ -41,6 +41,7 @@ kind_name s kind_i64 = codes "i64"
 kind_name s kind_double = codes "double"
 kind_name s kind_text = codes "string"
 kind_name s kind_binary = codes "binary"
+kind_name s kind_uuid = codes "uuid"
 kind_name s (kind_enum which) = text_at (enum_name s) s.enums which
 kind_name s (kind_struct which) = text_at (struct_name s) s.structs which
 kind_name s (kind_map key value) = codes "map<" ++ (kind_name s key ++ (codes "," ++ (kind_name s value ++ codes ">")))

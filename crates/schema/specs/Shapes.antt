@@ -9,7 +9,7 @@ use Rattle.schema.specs.declared.types.FnDesc.{FnDesc}
 use Rattle.schema.specs.SchemaOf.{plain_function}
 use Rattle.schema.specs.Inherited.{functions_of}
 use Rattle.schema.specs.LookUp.{fields_at}
-use Rattle.schema.specs.PlainKind.{PlainKind, kind_bool, kind_i8, kind_i16, kind_i32, kind_i64, kind_double, kind_text, kind_binary, kind_enum, kind_struct, kind_map, kind_set, kind_list}
+use Rattle.schema.specs.PlainKind.{PlainKind, kind_bool, kind_i8, kind_i16, kind_i32, kind_i64, kind_double, kind_text, kind_binary, kind_uuid, kind_enum, kind_struct, kind_map, kind_set, kind_list}
 use Rattle.schema.specs.PlainSchema.{PlainField, PlainFunction, PlainSchema}
 
 -- texts with a separator between them
@@ -27,6 +27,7 @@ kind_tags kind_i64 = codes "i64"
 kind_tags kind_double = codes "double"
 kind_tags kind_text = codes "bytes"
 kind_tags kind_binary = codes "bytes"
+kind_tags kind_uuid = codes "uuid"
 kind_tags (kind_enum _) = codes "i32"
 kind_tags (kind_struct _) = codes "struct"
 kind_tags (kind_map key value) = codes "map<" ++ (kind_tags key ++ (codes "," ++ (kind_tags value ++ codes ">")))

@@ -3,10 +3,10 @@ use Rattle.std.specs.Prelude.{◌≡◌, ⊤, ℤ, List, All, MatchOption, ◌�
 use Rattle.std.specs.List.{slice_get, find}
 use Rattle.std.specs.Ordering.{int_eq}
 use Rattle.thrift_value.specs.Sizes.{HasSmallSizes}
-use Rattle.thrift_value.specs.Tree.{Tree, of_bool, of_i8, of_i16, of_i32, of_i64, of_double, of_bytes, of_struct, of_map, of_set, of_list, FieldTrees, no_fields, field, ItemTrees, no_items, item, PairTrees, no_pairs, pair}
+use Rattle.thrift_value.specs.Tree.{Tree, of_bool, of_i8, of_i16, of_i32, of_i64, of_double, of_bytes, of_struct, of_map, of_set, of_list, of_uuid, FieldTrees, no_fields, field, ItemTrees, no_items, item, PairTrees, no_pairs, pair}
 use Rattle.schema.specs.declared.types.FieldNeed.TheVariants.{Required}
 use Rattle.schema.specs.declared.types.FieldsKind.TheVariants.{Union}
-use Rattle.schema.specs.PlainKind.{PlainKind, kind_bool, kind_i8, kind_i16, kind_i32, kind_i64, kind_double, kind_text, kind_binary, kind_enum, kind_struct, kind_map, kind_set, kind_list}
+use Rattle.schema.specs.PlainKind.{PlainKind, kind_bool, kind_i8, kind_i16, kind_i32, kind_i64, kind_double, kind_text, kind_binary, kind_uuid, kind_enum, kind_struct, kind_map, kind_set, kind_list}
 use Rattle.schema.specs.PlainSchema.{PlainField, PlainStruct}
 
 -- the first of the fields that has this id
@@ -41,6 +41,7 @@ abbrev mutual
   IsWrittenAs structs kind_double (of_double _) = ⊤
   IsWrittenAs structs kind_text (of_bytes _) = ⊤
   IsWrittenAs structs kind_binary (of_bytes _) = ⊤
+  IsWrittenAs structs kind_uuid (of_uuid _) = ⊤
   IsWrittenAs structs (kind_enum _) (of_i32 _) = ⊤
   IsWrittenAs structs (kind_struct which) (of_struct fields) =
       MatchOption (slice_get structs which) ⊥ (λ s. HasItsFields s fields × AreFieldsWrittenAs structs s.fields fields)

@@ -33,6 +33,7 @@ fn put_tags(into: &mut Vec<u8>, kind: &TypeDesc, levels: u32) -> Result<(), Allo
         TypeDesc::I64 => into.extend_from_slice(b"i64"),
         TypeDesc::Double => into.extend_from_slice(b"double"),
         TypeDesc::Text | TypeDesc::Binary => into.extend_from_slice(b"bytes"),
+        TypeDesc::Uuid => into.extend_from_slice(b"uuid"),
         TypeDesc::Struct(_) => into.extend_from_slice(b"struct"),
         TypeDesc::Map(key, value) => {
             into.extend_from_slice(b"map<")?;

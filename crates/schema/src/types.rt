@@ -22,6 +22,8 @@ pub enum TypeDesc {
     Text,
     /// `binary`
     Binary,
+    /// `uuid`
+    Uuid,
     /// An enum, by its number.
     Enum(u32),
     /// A struct, union or exception, by its number.

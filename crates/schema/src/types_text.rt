@@ -105,6 +105,7 @@ pub(crate) fn put_kind(
         TypeDesc::Double => into.extend_from_slice(b"double"),
         TypeDesc::Text => into.extend_from_slice(b"string"),
         TypeDesc::Binary => into.extend_from_slice(b"binary"),
+        TypeDesc::Uuid => into.extend_from_slice(b"uuid"),
         TypeDesc::Enum(which) => put_enum_name(into, schema, *which),
         TypeDesc::Struct(which) => put_struct_name(into, schema, *which),
         TypeDesc::Map(key, value) => {

@@ -48,6 +48,7 @@ fn kind_below(ranks: &[u32], bound: u32, kind: &TypeDesc) -> bool
         | TypeDesc::Double
         | TypeDesc::Text
         | TypeDesc::Binary
+        | TypeDesc::Uuid
         | TypeDesc::Enum(_)
         | TypeDesc::Map(_, _)
         | TypeDesc::Set(_)

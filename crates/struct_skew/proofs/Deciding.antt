@@ -14,12 +14,12 @@ use Rattle.thrift_value.specs.Order.{tree_cmp}
 use Rattle.thrift_value.specs.Sizes.{items_len, pairs_len, HasSmallSizes, HaveFieldsSmallSizes, HaveItemsSmallSizes, HavePairsSmallSizes}
 use Rattle.thrift_value.specs.Tags.{tag_of, rank}
 use Rattle.thrift_value.specs.Tidy.{IsTidy, AreTidyFields, AreTidyItems, AreTidyPairs, IsBelowIds, IsBelowItems, IsBelowKeys, AreRisingFields, AreRisingItems, AreRisingPairs}
-use Rattle.thrift_value.specs.Tree.{Tree, of_bool, of_i8, of_i16, of_i32, of_i64, of_double, of_bytes, of_struct, of_map, of_set, of_list, FieldTrees, no_fields, field, ItemTrees, no_items, item, PairTrees, no_pairs, pair}
+use Rattle.thrift_value.specs.Tree.{Tree, of_bool, of_i8, of_i16, of_i32, of_i64, of_double, of_bytes, of_struct, of_map, of_set, of_list, of_uuid, FieldTrees, no_fields, field, ItemTrees, no_items, item, PairTrees, no_pairs, pair}
 use Rattle.schema.specs.declared.types.FieldNeed.{FieldNeed}
 use Rattle.schema.specs.declared.types.FieldNeed.TheVariants as need
 use Rattle.schema.specs.declared.types.FieldsKind.{FieldsKind}
 use Rattle.schema.specs.declared.types.FieldsKind.TheVariants as of_kind
-use Rattle.schema.specs.PlainKind.{PlainKind, kind_bool, kind_i8, kind_i16, kind_i32, kind_i64, kind_double, kind_text, kind_binary, kind_enum, kind_struct, kind_map, kind_set, kind_list}
+use Rattle.schema.specs.PlainKind.{PlainKind, kind_bool, kind_i8, kind_i16, kind_i32, kind_i64, kind_double, kind_text, kind_binary, kind_uuid, kind_enum, kind_struct, kind_map, kind_set, kind_list}
 use Rattle.schema.specs.PlainSchema.{PlainField, PlainStruct}
 use Rattle.schema.specs.WrittenAs.{field_with_id, HasFieldTree, IsOneField, HasItsFields, IsWrittenAs, AreFieldsWrittenAs, AreItemsWrittenAs, ArePairsWrittenAs, MayBeWrittenAs}
 use Rattle.known_parts.specs.Parts.{are_same_tags}
@@ -52,7 +52,7 @@ comes_first Greater = never (λ e. absurd cc)
 tag_ranked : ℕ → Tag
 tag_ranked n =
     cond (n == 0) tag.Bool (cond (n == 1) tag.I8 (cond (n == 2) tag.I16 (cond (n == 3) tag.I32 (cond (n == 4) tag.I64 (cond (n == 5) tag.Double
-    (cond (n == 6) tag.Bytes (cond (n == 7) tag.Struct (cond (n == 8) tag.Map (cond (n == 9) tag.Set tag.List)))))))))
+    (cond (n == 6) tag.Bytes (cond (n == 7) tag.Struct (cond (n == 8) tag.Map (cond (n == 9) tag.Set (cond (n == 10) tag.List tag.Uuid))))))))))
 
 its_tag : (t : Tag) → tag_ranked (rank t) ≡ t
 unfolding tag_ranked
@@ -67,6 +67,7 @@ its_tag tag.Struct = refl
 its_tag tag.Map = refl
 its_tag tag.Set = refl
 its_tag tag.List = refl
+its_tag tag.Uuid = refl
 
 pub same_tag : (a b : Tag) → Decides (are_same_tags a b) (a ≡ b)
 same_tag a b =
@@ -107,6 +108,7 @@ mutual
   decides_tidy (of_i32 _) = always (record { tagged = tt; in_order = tt })
   decides_tidy (of_i64 _) = always (record { tagged = tt; in_order = tt })
   decides_tidy (of_double _) = always (record { tagged = tt; in_order = tt })
+  decides_tidy (of_uuid _) = always (record { tagged = tt; in_order = tt })
   decides_tidy (of_bytes _) = always (record { tagged = tt; in_order = tt })
   decides_tidy (of_struct fields) =
       let both = Decides-and (are_rising_fields fields) (are_tidy_fields fields) (rising_fields fields) (tidy_fields fields) in (
@@ -172,6 +174,7 @@ mutual
   decides_sizes (of_i32 _) = always tt
   decides_sizes (of_i64 _) = always tt
   decides_sizes (of_double _) = always tt
+  decides_sizes (of_uuid _) = always tt
 
   small_fields : (fields : FieldTrees) → Decides (have_fields_small_sizes fields) (HaveFieldsSmallSizes fields)
   small_fields no_fields = always tt
@@ -245,6 +248,7 @@ mutual
   decides_type structs kind_i32 (of_i32 _) = always tt
   decides_type structs kind_i64 (of_i64 _) = always tt
   decides_type structs kind_double (of_double _) = always tt
+  decides_type structs kind_uuid (of_uuid _) = always tt
   decides_type structs kind_text (of_bytes _) = always tt
   decides_type structs kind_binary (of_bytes _) = always tt
   decides_type structs (kind_enum _) (of_i32 _) = always tt

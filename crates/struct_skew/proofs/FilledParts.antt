@@ -10,7 +10,7 @@ use Rattle.thrift_value.specs.declared.value.Pairs.{Pairs}
 use Rattle.thrift_value.specs.Tree.{Tree, of_struct, of_map, of_set, of_list, FieldTrees, ItemTrees, PairTrees}
 use Rattle.thrift_value.specs.TreeOf.{tree_of, items_tree, pairs_tree}
 use Rattle.thrift_value.proofs.Trees.{tree_of-is_Map, tree_of-is_Set, tree_of-is_List}
-use Rattle.schema.specs.PlainKind.{PlainKind, kind_bool, kind_i8, kind_i16, kind_i32, kind_i64, kind_double, kind_text, kind_binary, kind_enum, kind_struct, kind_map, kind_set, kind_list}
+use Rattle.schema.specs.PlainKind.{PlainKind, kind_bool, kind_i8, kind_i16, kind_i32, kind_i64, kind_double, kind_text, kind_binary, kind_uuid, kind_enum, kind_struct, kind_map, kind_set, kind_list}
 use Rattle.schema.specs.PlainSchema.{PlainStruct}
 use Rattle.known_parts.specs.Parts.{tag_of_kind, are_same_tags, struct_of_kind, map_of_kind, set_of_kind, list_of_kind}
 use Rattle.struct_skew.specs.FilledTests.{is_filled, is_struct_filled, are_items_filled, are_pairs_filled}
@@ -56,6 +56,7 @@ filled_scalar structs kind_i16 _ h = refl
 filled_scalar structs kind_i32 _ h = refl
 filled_scalar structs kind_i64 _ h = refl
 filled_scalar structs kind_double _ h = refl
+filled_scalar structs kind_uuid _ h = refl
 filled_scalar structs kind_text _ h = refl
 filled_scalar structs kind_binary _ h = refl
 filled_scalar structs (kind_enum _) _ h = refl

@@ -8,10 +8,10 @@ use Rattle.thrift_value.specs.Measures.{count_of, depth_of}
 use Rattle.thrift_value.specs.Order.{tree_cmp}
 use Rattle.thrift_value.specs.Plain.{plain, plain_fields, plain_items, plain_pairs}
 use Rattle.thrift_value.specs.Tidy.{IsTidy, AreTidyFields, AreTidyItems, AreTidyPairs, IsBelowItems, IsBelowKeys, AreRisingFields, AreRisingItems, AreRisingPairs}
-use Rattle.thrift_value.specs.Tree.{Tree, of_bool, of_i8, of_i16, of_i32, of_i64, of_double, of_bytes, of_struct, of_map, of_set, of_list, FieldTrees, no_fields, field, ItemTrees, no_items, item, PairTrees, no_pairs, pair}
+use Rattle.thrift_value.specs.Tree.{Tree, of_bool, of_i8, of_i16, of_i32, of_i64, of_double, of_bytes, of_struct, of_map, of_set, of_list, of_uuid, FieldTrees, no_fields, field, ItemTrees, no_items, item, PairTrees, no_pairs, pair}
 use Rattle.thrift_value.specs.TreeOf.{field_trees, item_trees, pair_trees}
 use Rattle.schema.specs.declared.types.FieldNeed.TheVariants as need
-use Rattle.schema.specs.PlainKind.{PlainKind, kind_bool, kind_i8, kind_i16, kind_i32, kind_i64, kind_double, kind_text, kind_binary, kind_enum, kind_struct, kind_map, kind_set, kind_list}
+use Rattle.schema.specs.PlainKind.{PlainKind, kind_bool, kind_i8, kind_i16, kind_i32, kind_i64, kind_double, kind_text, kind_binary, kind_uuid, kind_enum, kind_struct, kind_map, kind_set, kind_list}
 use Rattle.schema.specs.PlainSchema.{PlainField, PlainStruct, PlainSchema}
 use Rattle.schema.specs.Sound.{IsSoundStruct, IsSound}
 use Rattle.schema.specs.WrittenAs.{field_with_id, HasFieldTree, HasItsFields, IsOneField, IsWrittenAs, AreFieldsWrittenAs, AreItemsWrittenAs, ArePairsWrittenAs}
@@ -104,6 +104,7 @@ module _ (structs : List PlainStruct) where
     fits_itself kind_i32 (of_i32 _) typed = refl
     fits_itself kind_i64 (of_i64 _) typed = refl
     fits_itself kind_double (of_double _) typed = refl
+    fits_itself kind_uuid (of_uuid _) typed = refl
     fits_itself kind_text (of_bytes _) typed = refl
     fits_itself kind_binary (of_bytes _) typed = refl
     fits_itself (kind_enum _) (of_i32 _) typed = refl
@@ -202,6 +203,7 @@ module _ (s : PlainSchema) (sound : All (IsSoundStruct s) s.structs) where
     itself kind_i32 (of_i32 _) tidy typed filled = refl
     itself kind_i64 (of_i64 _) tidy typed filled = refl
     itself kind_double (of_double _) tidy typed filled = refl
+    itself kind_uuid (of_uuid _) tidy typed filled = refl
     itself kind_text (of_bytes _) tidy typed filled = refl
     itself kind_binary (of_bytes _) tidy typed filled = refl
     itself (kind_enum _) (of_i32 _) tidy typed filled = refl

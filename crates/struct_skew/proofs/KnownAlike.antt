@@ -8,7 +8,7 @@ use Rattle.std.proofs.lemmas.Bool.{and_from}
 use Rattle.std.proofs.lemmas.Bool.Decides.{Decides-int_eq}
 use Rattle.thrift_value.specs.declared.tag.Tag.{Tag}
 use Rattle.thrift_value.specs.Tags.{tag_of}
-use Rattle.thrift_value.specs.Tree.{Tree, of_bool, of_i8, of_i16, of_i32, of_i64, of_double, of_bytes, of_struct, of_map, of_set, of_list, FieldTrees, no_fields, field, ItemTrees, no_items, item, PairTrees, no_pairs, pair}
+use Rattle.thrift_value.specs.Tree.{Tree, of_bool, of_i8, of_i16, of_i32, of_i64, of_double, of_bytes, of_struct, of_map, of_set, of_list, of_uuid, FieldTrees, no_fields, field, ItemTrees, no_items, item, PairTrees, no_pairs, pair}
 use Rattle.schema.specs.LookUp.{field_at}
 use Rattle.schema.specs.PlainKind.{PlainKind, kind_struct, kind_map, kind_set, kind_list}
 use Rattle.schema.specs.PlainSchema.{PlainField, PlainStruct, PlainSchema}
@@ -186,6 +186,7 @@ module _ (s : PlainSchema) (sound : All (IsSoundStruct s) s.structs) where
     keeps (of_i32 n) kind = by_tag s kind (of_i32 n) (are_same_tags (tag_of_kind kind) (tag_of (of_i32 n))) (fits_by_tag kind (of_i32 n) tt)
     keeps (of_i64 n) kind = by_tag s kind (of_i64 n) (are_same_tags (tag_of_kind kind) (tag_of (of_i64 n))) (fits_by_tag kind (of_i64 n) tt)
     keeps (of_double n) kind = by_tag s kind (of_double n) (are_same_tags (tag_of_kind kind) (tag_of (of_double n))) (fits_by_tag kind (of_double n) tt)
+    keeps (of_uuid n) kind = by_tag s kind (of_uuid n) (are_same_tags (tag_of_kind kind) (tag_of (of_uuid n))) (fits_by_tag kind (of_uuid n) tt)
     keeps (of_bytes text) kind = by_tag s kind (of_bytes text) (are_same_tags (tag_of_kind kind) (tag_of (of_bytes text))) (fits_by_tag kind (of_bytes text) tt)
 
     offers_keep : (which : ℕ) (f : PlainField) → field_at s which f.id ≡ Some f → (fields : FieldTrees) (one other : Option Offer) → AreAlike f one other

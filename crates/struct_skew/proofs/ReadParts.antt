@@ -3,7 +3,7 @@ use Rattle.std.proofs.Common.{◌≡◌, ℕ, Bool, true, false, Result, Ok, Err
 use Rattle.std.specs.Prelude.{⊤}
 use Rattle.thrift_value.specs.declared.wire_fault.WireFault.{WireFault}
 use Rattle.thrift_value.specs.declared.wire_fault.WireFault.TheVariants as wire_fault
-use Rattle.thrift_value.specs.Tree.{Tree, of_bool, of_i8, of_i16, of_i32, of_i64, of_double, of_bytes, of_struct, of_map, of_set, of_list, FieldTrees}
+use Rattle.thrift_value.specs.Tree.{Tree, of_bool, of_i8, of_i16, of_i32, of_i64, of_double, of_bytes, of_struct, of_map, of_set, of_list, of_uuid, FieldTrees}
 use Rattle.schema.specs.PlainSchema.{PlainSchema}
 use Rattle.wire_model.specs.Answering.{FaultsOrNoMemory}
 use Rattle.known_parts.specs.Known.{known_fields}
@@ -31,6 +31,7 @@ module _ (s : PlainSchema) (which : ℕ) where
   part_decides (of_i32 _) law = refl
   part_decides (of_i64 _) law = refl
   part_decides (of_double _) law = refl
+  part_decides (of_uuid _) law = refl
   part_decides (of_bytes _) law = refl
   part_decides (of_map _ _ _) law = refl
   part_decides (of_set _ _) law = refl

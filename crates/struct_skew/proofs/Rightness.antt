@@ -11,7 +11,7 @@ use Rattle.thrift_value.specs.Order.{tree_cmp}
 use Rattle.thrift_value.specs.Sizes.{items_len, pairs_len, HasSmallSizes, HaveFieldsSmallSizes, HaveItemsSmallSizes, HavePairsSmallSizes}
 use Rattle.thrift_value.specs.Tags.{tag_of}
 use Rattle.thrift_value.specs.Tidy.{IsTidy, AreWellTaggedFields, AreWellTaggedItems, AreWellTaggedPairs, AreFieldsInOrder, AreItemsInOrder, ArePairsInOrder, IsBelowIds, IsBelowItems, IsBelowKeys, AreRisingFields, AreRisingItems, AreRisingPairs}
-use Rattle.thrift_value.specs.Tree.{Tree, of_bool, of_i8, of_i16, of_i32, of_i64, of_double, of_bytes, of_struct, of_map, of_set, of_list, FieldTrees, no_fields, field, ItemTrees, no_items, item, PairTrees, no_pairs, pair}
+use Rattle.thrift_value.specs.Tree.{Tree, of_bool, of_i8, of_i16, of_i32, of_i64, of_double, of_bytes, of_struct, of_map, of_set, of_list, of_uuid, FieldTrees, no_fields, field, ItemTrees, no_items, item, PairTrees, no_pairs, pair}
 use Rattle.thrift_value.specs.TreeOf.{field_trees, item_trees, pair_trees}
 use Rattle.thrift_value.proofs.TotalOrder.{tree_cmp_total}
 use Rattle.std.proofs.lemmas.Cmp.{on_total}
@@ -19,7 +19,7 @@ use Rattle.schema.specs.declared.types.FieldNeed.TheVariants as need
 use Rattle.schema.specs.declared.types.FieldsKind.{FieldsKind}
 use Rattle.schema.specs.declared.types.FieldsKind.TheVariants as of_kind
 use Rattle.schema.specs.LookUp.{field_at}
-use Rattle.schema.specs.PlainKind.{PlainKind, kind_bool, kind_i8, kind_i16, kind_i32, kind_i64, kind_double, kind_text, kind_binary, kind_enum, kind_struct, kind_map, kind_set, kind_list}
+use Rattle.schema.specs.PlainKind.{PlainKind, kind_bool, kind_i8, kind_i16, kind_i32, kind_i64, kind_double, kind_text, kind_binary, kind_uuid, kind_enum, kind_struct, kind_map, kind_set, kind_list}
 use Rattle.schema.specs.PlainSchema.{PlainField, PlainStruct, PlainSchema}
 use Rattle.schema.specs.Sound.{IsKindIn, IsPlaceIn, IsSoundField, IsSoundStruct, IsValueOf}
 use Rattle.schema.specs.WrittenAs.{field_with_id, HasFieldTree, HasItsFields, IsOneField, IsWrittenAs, AreFieldsWrittenAs, AreItemsWrittenAs, ArePairsWrittenAs}
@@ -53,6 +53,7 @@ written_tag structs kind_i16 (of_i16 _) h = refl
 written_tag structs kind_i32 (of_i32 _) h = refl
 written_tag structs kind_i64 (of_i64 _) h = refl
 written_tag structs kind_double (of_double _) h = refl
+written_tag structs kind_uuid (of_uuid _) h = refl
 written_tag structs kind_text (of_bytes _) h = refl
 written_tag structs kind_binary (of_bytes _) h = refl
 written_tag structs (kind_enum _) (of_i32 _) h = refl
@@ -396,6 +397,7 @@ module _ (s : PlainSchema) (sound : All (IsSoundStruct s) s.structs) (small : Ty
     meaning_right (of_i32 _) (kind_enum _) inn fits sized = record { tidy = record { tagged = tt; in_order = tt }; typed = tt; sized = sized }
     meaning_right (of_i64 _) kind_i64 inn fits sized = record { tidy = record { tagged = tt; in_order = tt }; typed = tt; sized = sized }
     meaning_right (of_double _) kind_double inn fits sized = record { tidy = record { tagged = tt; in_order = tt }; typed = tt; sized = sized }
+    meaning_right (of_uuid _) kind_uuid inn fits sized = record { tidy = record { tagged = tt; in_order = tt }; typed = tt; sized = sized }
     meaning_right (of_bytes _) kind_text inn fits sized = record { tidy = record { tagged = tt; in_order = tt }; typed = tt; sized = sized }
     meaning_right (of_bytes _) kind_binary inn fits sized = record { tidy = record { tagged = tt; in_order = tt }; typed = tt; sized = sized }
     meaning_right (of_struct fields) (kind_struct which) inn fits sized =

@@ -4,7 +4,7 @@ use Rattle.std.specs.List.{slice_get}
 use Rattle.thrift_value.specs.declared.tag.Tag.{Tag}
 use Rattle.thrift_value.specs.Tags.{tag_of}
 use Rattle.thrift_value.specs.Tree.{Tree, of_struct, of_map, of_set, of_list, FieldTrees, ItemTrees, PairTrees}
-use Rattle.schema.specs.PlainKind.{PlainKind, kind_bool, kind_i8, kind_i16, kind_i32, kind_i64, kind_double, kind_text, kind_binary, kind_enum, kind_struct, kind_map, kind_set, kind_list}
+use Rattle.schema.specs.PlainKind.{PlainKind, kind_bool, kind_i8, kind_i16, kind_i32, kind_i64, kind_double, kind_text, kind_binary, kind_uuid, kind_enum, kind_struct, kind_map, kind_set, kind_list}
 use Rattle.schema.specs.PlainSchema.{PlainStruct}
 use Rattle.known_parts.specs.Parts.{tag_of_kind, are_same_tags, struct_of_kind, map_of_kind, set_of_kind, list_of_kind}
 use Rattle.struct_skew.specs.WrittenTests.{is_written_as, is_struct_written, are_items_written_as, are_pairs_written_as}
@@ -50,6 +50,7 @@ written_scalar structs kind_i16 _ h = refl
 written_scalar structs kind_i32 _ h = refl
 written_scalar structs kind_i64 _ h = refl
 written_scalar structs kind_double _ h = refl
+written_scalar structs kind_uuid _ h = refl
 written_scalar structs kind_text _ h = refl
 written_scalar structs kind_binary _ h = refl
 written_scalar structs (kind_enum _) _ h = refl

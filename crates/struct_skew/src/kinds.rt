@@ -33,6 +33,7 @@ pub(crate) fn fits_kind(raw: &Value, kind: &TypeDesc) -> bool
         | Value::I32(_)
         | Value::I64(_)
         | Value::Double(_)
+        | Value::Uuid(_)
         | Value::Bytes(_)
         | Value::Struct(_) => are_same_tags(tag_of_kind(kind), raw.tag()),
     }

@@ -73,6 +73,7 @@ pub(crate) fn meaning(
         | Value::I32(_)
         | Value::I64(_)
         | Value::Double(_)
+        | Value::Uuid(_)
         | Value::Bytes(_) => copy_of(alloc, raw),
     }
 }

@@ -19,7 +19,7 @@ use thrift_value::{Raw, Value};
 
 /// The room that the defaults of one projection may take, in bytes: twice what 4,000,000 values take. Past it the answer is want
 /// of memory.
-const DEFAULTS_ROOM: u64 = 320_000_000;
+const DEFAULTS_ROOM: u64 = 384_000_000;
 
 /// The projection of a raw struct on the struct at a number, by what the schema's structs need. It takes time for the raw struct
 /// and the result, however many fields are declared.

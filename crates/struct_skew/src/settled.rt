@@ -75,13 +75,8 @@ fn is_filled(value: &Value, schema: &Schema, needed: &NeededFields, kind: &TypeD
             }
             None => true,
         },
-        Value::Bool(_)
-        | Value::I8(_)
-        | Value::I16(_)
-        | Value::I32(_)
-        | Value::I64(_)
-        | Value::Double(_)
-        | Value::Bytes(_) => true,
+        Value::Bool(_) | Value::I8(_) | Value::I16(_) | Value::I32(_) | Value::I64(_) => true,
+        Value::Double(_) | Value::Uuid(_) | Value::Bytes(_) => true,
     }
 }
 

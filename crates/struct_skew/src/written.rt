@@ -179,6 +179,7 @@ pub(crate) fn is_written_as(
         | Value::I32(_)
         | Value::I64(_)
         | Value::Double(_)
+        | Value::Uuid(_)
         | Value::Bytes(_) => are_same_tags(tag_of_kind(kind), value.tag()),
     }
 }

@@ -5,7 +5,7 @@ use Rattle.std.specs.Ordering.{ordering_then, int_cmp, bool_cmp, is_eq, MatchOrd
 use Rattle.std.specs.Cmp.Lexicographic.{slice_cmp}
 use Rattle.std.proofs.lemmas.Cmp.{ranked, int_ranked, tied_itself}
 use Rattle.thrift_value.specs.declared.tag.Tag.{Tag}
-use Rattle.thrift_value.specs.Tree.{Tree, of_bool, of_i8, of_i16, of_i32, of_i64, of_double, of_bytes, of_struct, of_map, of_set, of_list, FieldTrees, no_fields, field, ItemTrees, no_items, item, PairTrees, no_pairs, pair}
+use Rattle.thrift_value.specs.Tree.{Tree, of_bool, of_i8, of_i16, of_i32, of_i64, of_double, of_bytes, of_struct, of_map, of_set, of_list, of_uuid, FieldTrees, no_fields, field, ItemTrees, no_items, item, PairTrees, no_pairs, pair}
 use Rattle.thrift_value.specs.Tags.{tag_of}
 use Rattle.thrift_value.specs.Order.{tree_cmp, fields_cmp, items_cmp, pairs_cmp}
 use Rattle.thrift_value.specs.Tidy.{IsWellTagged, AreWellTaggedFields, AreWellTaggedItems, AreWellTaggedPairs}
@@ -82,6 +82,7 @@ same_tag (of_struct _) (of_struct _) e = refl
 same_tag (of_map _ _ _) (of_map _ _ _) e = refl
 same_tag (of_set _ _) (of_set _ _) e = refl
 same_tag (of_list _ _) (of_list _ _) e = refl
+same_tag (of_uuid _) (of_uuid _) e = refl
 same_tag x y e = absurd (unequal _ refl e)
 
 mutual
@@ -92,6 +93,7 @@ mutual
   same_plain (of_i32 a) (of_i32 b) h g e = ap of_i32 (int_same a b e)
   same_plain (of_i64 a) (of_i64 b) h g e = ap of_i64 (int_same a b e)
   same_plain (of_double a) (of_double b) h g e = ap of_double (nat_same a b e)
+  same_plain (of_uuid a) (of_uuid b) h g e = ap of_uuid (nat_same a b e)
   same_plain (of_bytes a) (of_bytes b) h g e = ap of_bytes (bytes_same a b e)
   same_plain (of_struct a) (of_struct b) h g e = ap of_struct (same_plain_fields a b h g e)
   same_plain (of_map _ _ no_pairs) (of_map _ _ no_pairs) h g e = refl

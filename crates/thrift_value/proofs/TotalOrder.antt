@@ -5,7 +5,7 @@ use Rattle.std.specs.Cmp.{IsTotalOrder}
 use Rattle.std.specs.Cmp.Lexicographic.{slice_cmp}
 use Rattle.std.proofs.lemmas.Bool.Decides.{nat_tests}
 use Rattle.std.proofs.lemmas.Cmp.{lists_total, on_total, int_cmp_total}
-use Rattle.thrift_value.specs.Tree.{Tree, of_bool, of_i8, of_i16, of_i32, of_i64, of_double, of_bytes, of_struct, of_map, of_set, of_list, FieldTrees, no_fields, field, ItemTrees, no_items, item, PairTrees, no_pairs, pair}
+use Rattle.thrift_value.specs.Tree.{Tree, of_bool, of_i8, of_i16, of_i32, of_i64, of_double, of_bytes, of_struct, of_map, of_set, of_list, of_uuid, FieldTrees, no_fields, field, ItemTrees, no_items, item, PairTrees, no_pairs, pair}
 use Rattle.thrift_value.specs.Order.{tree_cmp, fields_cmp, items_cmp, pairs_cmp}
 
 -- a bool as a number
@@ -31,6 +31,7 @@ abbrev mutual
   numbers (of_map _ _ ps) rest = pos 8 ∷ pair_numbers ps rest
   numbers (of_set _ xs) rest = pos 9 ∷ item_numbers xs rest
   numbers (of_list _ xs) rest = pos 10 ∷ item_numbers xs rest
+  numbers (of_uuid n) rest = pos 11 ∷ (pos n ∷ rest)
 
   pub field_numbers : FieldTrees → List ℤ → List ℤ
   field_numbers no_fields rest = pos 0 ∷ rest
@@ -87,6 +88,7 @@ mutual
   texts_cmp-numbers (of_map _ _ a) (of_map _ _ b) s t = texts_cmp-pairs a b s t
   texts_cmp-numbers (of_set _ a) (of_set _ b) s t = texts_cmp-items a b s t
   texts_cmp-numbers (of_list _ a) (of_list _ b) s t = texts_cmp-items a b s t
+  texts_cmp-numbers (of_uuid a) (of_uuid b) s t = rw (nat_cmp-pos a b) refl
   texts_cmp-numbers x y s t = refl
 
   texts_cmp-fields : (a b : FieldTrees) (s t : List ℤ) → texts_cmp (field_numbers a s) (field_numbers b t) ≡ ordering_then (fields_cmp a b) (texts_cmp s t)

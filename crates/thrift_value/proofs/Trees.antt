@@ -7,10 +7,10 @@ use Rattle.thrift_value.specs.declared.value.Fields.{Fields}
 use Rattle.thrift_value.specs.declared.value.Items.{Items}
 use Rattle.thrift_value.specs.declared.value.Pairs.{Pairs}
 use Rattle.thrift_value.specs.declared.value.Value.TheFolds.{the_lemmas}
-use Rattle.thrift_value.specs.Tree.{of_bool, of_i8, of_i16, of_i32, of_i64, of_double, of_bytes, of_struct, of_map, of_set, of_list}
+use Rattle.thrift_value.specs.Tree.{of_bool, of_i8, of_i16, of_i32, of_i64, of_double, of_bytes, of_struct, of_map, of_set, of_list, of_uuid}
 use Rattle.thrift_value.specs.TreeOf.{tree_of, fields_tree, items_tree, pairs_tree}
 
--- the tree of a number, a bool and bytes
+-- the tree of a number, a bool, a uuid and bytes
 pub tree_of-Bool : (b : Bool) → tree_of (value.Bool b) ≡ of_bool b
 tree_of-Bool b = search (rules, the_lemmas)
 
@@ -28,6 +28,9 @@ tree_of-I64 n = search (rules, the_lemmas)
 
 pub tree_of-Double : (n : ℕ) → tree_of (value.Double n) ≡ of_double n
 tree_of-Double n = search (rules, the_lemmas)
+
+pub tree_of-Uuid : (n : ℕ) → tree_of (value.Uuid n) ≡ of_uuid n
+tree_of-Uuid n = search (rules, the_lemmas)
 
 pub tree_of-Bytes : (text : List ℕ) → tree_of (value.Bytes text) ≡ of_bytes text
 tree_of-Bytes text = search (rules, the_lemmas)
@@ -59,4 +62,4 @@ pub tree_of-is_List : (v : Value) (t : Tag) (items : Items) → v ≡ value.List
 tree_of-is_List v t items is = ap tree_of is ∙ tree_of-List t items
 
 -- all of them
-pub ruleset tree_equations = (tree_of-Bool, tree_of-I8, tree_of-I16, tree_of-I32, tree_of-I64, tree_of-Double, tree_of-Bytes, tree_of-Struct, tree_of-Map, tree_of-Set, tree_of-List, tree_of-is_Struct, tree_of-is_Map, tree_of-is_Set, tree_of-is_List)
+pub ruleset tree_equations = (tree_of-Bool, tree_of-I8, tree_of-I16, tree_of-I32, tree_of-I64, tree_of-Double, tree_of-Uuid, tree_of-Bytes, tree_of-Struct, tree_of-Map, tree_of-Set, tree_of-List, tree_of-is_Struct, tree_of-is_Map, tree_of-is_Set, tree_of-is_List)

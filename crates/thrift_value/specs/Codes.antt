@@ -6,8 +6,8 @@ use base.Stored.{Gv, gnil, gnum, gcons, num}
 use denote.Struct.Codes.{itself}
 use Rattle.std.specs.Coded.{Coded, code_by}
 use Rattle.thrift_value.specs.declared.tag.Tag.{Tag}
-use Rattle.thrift_value.specs.declared.tag.Tag.TheVariants.{Bool as BoolTag, I8, I16, I32, I64, Double, Bytes, Struct, Map, Set, List as ListTag}
-use Rattle.thrift_value.specs.Tree.{Tree, of_bool, of_i8, of_i16, of_i32, of_i64, of_double, of_bytes, of_struct, of_map, of_set, of_list, FieldTrees, no_fields, field, ItemTrees, no_items, item, PairTrees, no_pairs, pair}
+use Rattle.thrift_value.specs.declared.tag.Tag.TheVariants.{Bool as BoolTag, I8, I16, I32, I64, Double, Bytes, Struct, Map, Set, List as ListTag, Uuid}
+use Rattle.thrift_value.specs.Tree.{Tree, of_bool, of_i8, of_i16, of_i32, of_i64, of_double, of_bytes, of_struct, of_map, of_set, of_list, of_uuid, FieldTrees, no_fields, field, ItemTrees, no_items, item, PairTrees, no_pairs, pair}
 use Rattle.thrift_value.specs.Tags.{rank}
 
 -- the codes of a truth value, a whole number and bytes
@@ -44,6 +44,7 @@ abbrev mutual
   code_of (of_map key value pairs) = node_code 8 key value (pairs_code pairs)
   code_of (of_set tag items) = node_code 9 tag BoolTag (items_code items)
   code_of (of_list tag items) = node_code 10 tag BoolTag (items_code items)
+  code_of (of_uuid n) = leaf_code 11 (gnum n)
 
   fields_code : FieldTrees → Gv
   fields_code no_fields = gnil
@@ -83,7 +84,8 @@ bytes_in (gcons a b) = num a ∷ bytes_in b
 abbrev tag_at : ℕ → Tag
 tag_at n =
     if n == 0 then BoolTag else if n == 1 then I8 else if n == 2 then I16 else if n == 3 then I32 else if n == 4 then I64 else if n == 5 then Double
-    else if n == 6 then Bytes else if n == 7 then Struct else if n == 8 then Map else if n == 9 then Set else ListTag
+    else if n == 6 then Bytes else if n == 7 then Struct else if n == 8 then Map else if n == 9 then Set
+    else if n == 10 then ListTag else Uuid
 
 -- all that a code may be read as: a tree, the parts of a struct, of a set or a list and of a map, and two trees
 record Readings : Type 0 where
@@ -100,7 +102,7 @@ tree_by kind one other content inner =
     if kind == 0 then of_bool (bool_in content) else if kind == 1 then of_i8 (int_in content) else if kind == 2 then of_i16 (int_in content)
     else if kind == 3 then of_i32 (int_in content) else if kind == 4 then of_i64 (int_in content) else if kind == 5 then of_double (num content)
     else if kind == 6 then of_bytes (bytes_in content) else if kind == 7 then of_struct inner.fields else if kind == 8 then of_map one other inner.pairs
-    else if kind == 9 then of_set one inner.items else of_list one inner.items
+    else if kind == 9 then of_set one inner.items else if kind == 10 then of_list one inner.items else of_uuid (num content)
 
 -- a code that is no tree's
 abbrev unread : Readings
@@ -147,6 +149,7 @@ same_tag Struct = refl
 same_tag Map = refl
 same_tag Set = refl
 same_tag ListTag = refl
+same_tag Uuid = refl
 
 mutual
   -- the tree in a tree's code is that tree
@@ -162,6 +165,7 @@ mutual
   same_tree (of_map key value pairs) = λ i. of_map (same_tag key i) (same_tag value i) (same_pairs pairs i)
   same_tree (of_set tag items) = λ i. of_set (same_tag tag i) (same_items items i)
   same_tree (of_list tag items) = λ i. of_list (same_tag tag i) (same_items items i)
+  same_tree (of_uuid n) = refl
 
   same_fields : (fields : FieldTrees) → (read (fields_code fields)).fields ≡ fields
   same_fields no_fields = refl

@@ -3,11 +3,11 @@ use Rattle.std.specs.declared.cmp.Ordering.{Ordering}
 use Rattle.std.specs.declared.cmp.Ordering.TheVariants.{Less, Equal, Greater}
 use Rattle.std.specs.Ordering.{ordering_then, nat_cmp, int_cmp, bool_cmp}
 use Rattle.std.specs.Cmp.Lexicographic.{slice_cmp}
-use Rattle.thrift_value.specs.Tree.{Tree, of_bool, of_i8, of_i16, of_i32, of_i64, of_double, of_bytes, of_struct, of_map, of_set, of_list, FieldTrees, no_fields, field, ItemTrees, no_items, item, PairTrees, no_pairs, pair}
+use Rattle.thrift_value.specs.Tree.{Tree, of_bool, of_i8, of_i16, of_i32, of_i64, of_double, of_bytes, of_struct, of_map, of_set, of_list, of_uuid, FieldTrees, no_fields, field, ItemTrees, no_items, item, PairTrees, no_pairs, pair}
 use Rattle.thrift_value.specs.Tags.{tag_of, rank}
 
 abbrev mutual
-  -- the order of two values: false before true, numbers by size, doubles by the number of their bits
+  -- the order of two values: false before true, numbers and uuids by size, doubles by the number of their bits
   pub tree_cmp : Tree → Tree → Ordering
   tree_cmp (of_bool a) (of_bool b) = bool_cmp a b
   tree_cmp (of_i8 a) (of_i8 b) = int_cmp a b
@@ -20,6 +20,7 @@ abbrev mutual
   tree_cmp (of_map _ _ a) (of_map _ _ b) = pairs_cmp a b
   tree_cmp (of_set _ a) (of_set _ b) = items_cmp a b
   tree_cmp (of_list _ a) (of_list _ b) = items_cmp a b
+  tree_cmp (of_uuid a) (of_uuid b) = nat_cmp a b
   tree_cmp x y = nat_cmp (rank (tag_of x)) (rank (tag_of y))
 
   -- fields one by one, the id before the value; a prefix comes first

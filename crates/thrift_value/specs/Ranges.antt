@@ -1,10 +1,10 @@
 -- The numbers that may stand in a value.
 use Rattle.std.specs.Prelude.{⊤, ◌<◌, ◌^◌, All, FitsSigned}
 use Rattle.std.specs.Int.{w8, w16, w32, w64}
-use Rattle.thrift_value.specs.Tree.{Tree, of_bool, of_i8, of_i16, of_i32, of_i64, of_double, of_bytes, of_struct, of_map, of_set, of_list, FieldTrees, no_fields, field, ItemTrees, no_items, item, PairTrees, no_pairs, pair}
+use Rattle.thrift_value.specs.Tree.{Tree, of_bool, of_i8, of_i16, of_i32, of_i64, of_double, of_bytes, of_struct, of_map, of_set, of_list, of_uuid, FieldTrees, no_fields, field, ItemTrees, no_items, item, PairTrees, no_pairs, pair}
 
 abbrev mutual
-  -- each number fits its type: integers their width, a double 64 bits, bytes 8 bits and field ids 16 (Thrift type system, 'Base Types')
+  -- each number fits its type: integers their width, a double 64 bits, a uuid 128, bytes 8 and field ids 16 (Thrift type system, 'Base Types')
   pub IsInRange : Tree → Type 0
   IsInRange (of_bool _) = ⊤
   IsInRange (of_i8 n) = FitsSigned w8 n
@@ -17,6 +17,7 @@ abbrev mutual
   IsInRange (of_map _ _ pairs) = ArePairsInRange pairs
   IsInRange (of_set _ items) = AreItemsInRange items
   IsInRange (of_list _ items) = AreItemsInRange items
+  IsInRange (of_uuid n) = n < 2 ^ 128
 
   -- the same of each field, its id included
   pub AreFieldsInRange : FieldTrees → Type 0

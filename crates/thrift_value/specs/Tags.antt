@@ -1,8 +1,8 @@
 -- Tags: the kinds of values.
 use Rattle.std.specs.Prelude.{ℕ}
 use Rattle.thrift_value.specs.declared.tag.Tag.{Tag}
-use Rattle.thrift_value.specs.declared.tag.Tag.TheVariants.{Bool, I8, I16, I32, I64, Double, Bytes, Struct, Map, Set, List}
-use Rattle.thrift_value.specs.Tree.{Tree, of_bool, of_i8, of_i16, of_i32, of_i64, of_double, of_bytes, of_struct, of_map, of_set, of_list}
+use Rattle.thrift_value.specs.declared.tag.Tag.TheVariants.{Bool, I8, I16, I32, I64, Double, Bytes, Struct, Map, Set, List, Uuid}
+use Rattle.thrift_value.specs.Tree.{Tree, of_bool, of_i8, of_i16, of_i32, of_i64, of_double, of_bytes, of_struct, of_map, of_set, of_list, of_uuid}
 
 -- the tag of a value
 abbrev pub tag_of : Tree → Tag
@@ -17,6 +17,7 @@ tag_of (of_struct _) = Struct
 tag_of (of_map _ _ _) = Map
 tag_of (of_set _ _) = Set
 tag_of (of_list _ _) = List
+tag_of (of_uuid _) = Uuid
 
 -- where a tag stands among the tags, in the order of values
 abbrev pub rank : Tag → ℕ
@@ -31,3 +32,4 @@ rank Struct = 7
 rank Map = 8
 rank Set = 9
 rank List = 10
+rank Uuid = 11

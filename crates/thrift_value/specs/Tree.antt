@@ -4,7 +4,7 @@ use Rattle.std.specs.Prelude.{ℕ, ℤ, Bool, List}
 use Rattle.thrift_value.specs.declared.tag.Tag.{Tag}
 
 mutual
-  -- a value; a double is the number that its 64 bits make, and a container keeps the tags that it names
+  -- a value; a double and a uuid are the number that their bits make, and a container keeps the tags that it names
   pub data Tree : Type 0 where
     of_bool : Bool → Tree
     of_i8 : ℤ → Tree
@@ -17,6 +17,7 @@ mutual
     of_map : Tag → Tag → PairTrees → Tree
     of_set : Tag → ItemTrees → Tree
     of_list : Tag → ItemTrees → Tree
+    of_uuid : ℕ → Tree
 
   -- the fields of a struct, each with its id
   pub data FieldTrees : Type 0 where

@@ -7,7 +7,7 @@ use Rattle.thrift_value.specs.declared.value.Pairs.{Pairs}
 use Rattle.thrift_value.specs.declared.value.Value.TheOpen.{Value-F, Fields-F, Items-F, Pairs-F}
 use Rattle.thrift_value.specs.declared.value.Value.TheOpen as layer
 use Rattle.thrift_value.specs.declared.value.Value.TheFolds.{fold-Value}
-use Rattle.thrift_value.specs.Tree.{Tree, of_bool, of_i8, of_i16, of_i32, of_i64, of_double, of_bytes, of_struct, of_map, of_set, of_list, FieldTrees, no_fields, field, ItemTrees, no_items, item, PairTrees, no_pairs, pair}
+use Rattle.thrift_value.specs.Tree.{Tree, of_bool, of_i8, of_i16, of_i32, of_i64, of_double, of_bytes, of_struct, of_map, of_set, of_list, of_uuid, FieldTrees, no_fields, field, ItemTrees, no_items, item, PairTrees, no_pairs, pair}
 
 -- the fields of a struct
 abbrev pub fields_of : Fields → List (ℤ × Value)
@@ -49,6 +49,7 @@ tree_step (layer.Struct fields) = of_struct fields
 tree_step (layer.Map key value pairs) = of_map key value pairs
 tree_step (layer.Set element items) = of_set element items
 tree_step (layer.List element items) = of_list element items
+tree_step (layer.Uuid n) = of_uuid n
 
 -- the tree of a value
 abbrev pub tree_of : Value → Tree

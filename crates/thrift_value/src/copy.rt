@@ -48,6 +48,7 @@ impl Value {
             Value::Map(key, value, pairs) => Ok(Value::Map(*key, *value, pairs.try_clone(alloc)?)),
             Value::Set(element, items) => Ok(Value::Set(*element, items.try_clone(alloc)?)),
             Value::List(element, items) => Ok(Value::List(*element, items.try_clone(alloc)?)),
+            Value::Uuid(n) => Ok(Value::Uuid(*n)),
         }
     }
 }

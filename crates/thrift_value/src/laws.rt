@@ -8,7 +8,7 @@ ghost use Rattle.thrift_value.specs.Order.{tree_cmp};
 ghost use Rattle.thrift_value.specs.Plain.{plain, HasMeasuresOf};
 ghost use Rattle.thrift_value.specs.Ranges.{IsInRange};
 ghost use Rattle.thrift_value.specs.Tidy.{IsTidy, IsWellTagged};
-ghost use Rattle.thrift_value.specs.Tree.{Tree, of_bool, of_i8, of_i16, of_i32, of_i64, of_double, of_bytes, of_struct, of_map, of_set, of_list};
+ghost use Rattle.thrift_value.specs.Tree.{Tree, of_bool, of_i8, of_i16, of_i32, of_i64, of_double, of_bytes, of_struct, of_map, of_set, of_list, of_uuid};
 ghost use Rattle.thrift_value.specs.TreeOf.{tree_of, fields_tree, items_tree, pairs_tree};
 
 use crate::tag::Tag;
@@ -27,6 +27,7 @@ pub fn trees_of_values()
     ensures map { (k v : _) (pairs : _) → tree_of (Value.Map k v pairs) ≡ of_map k v (pairs_tree pairs) }
     ensures set { (t : _) (items : _) → tree_of (Value.Set t items) ≡ of_set t (items_tree items) }
     ensures list { (t : _) (items : _) → tree_of (Value.List t items) ≡ of_list t (items_tree items) }
+    ensures uuid { (n : _) → tree_of (Value.Uuid n) ≡ of_uuid n }
 {}
 
 /// What a copy has in common with its value.

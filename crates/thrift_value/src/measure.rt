@@ -20,6 +20,7 @@ impl Value {
             | Value::I32(_)
             | Value::I64(_)
             | Value::Double(_)
+            | Value::Uuid(_)
             | Value::Bytes(_) => 1,
             Value::Struct(fields) => fields.count().saturating_add(1),
             Value::Map(_, _, pairs) => pairs.count().saturating_add(1),
@@ -41,6 +42,7 @@ impl Value {
             | Value::I32(_)
             | Value::I64(_)
             | Value::Double(_)
+            | Value::Uuid(_)
             | Value::Bytes(_) => 0,
             Value::Struct(fields) => fields.depth().saturating_add(1),
             Value::Map(_, _, pairs) => pairs.depth().saturating_add(1),

@@ -23,7 +23,8 @@ impl Value {
             | Value::I16(_)
             | Value::I32(_)
             | Value::I64(_)
-            | Value::Double(_) => true,
+            | Value::Double(_)
+            | Value::Uuid(_) => true,
             Value::Bytes(text) => text.as_slice().len() <= MAX_SIZE,
             Value::Struct(fields) => fields.have_small_sizes(),
             Value::Map(_, _, pairs) => {

@@ -24,4 +24,6 @@ pub enum Tag {
     Set,
     /// A list.
     List,
+    /// A number of 128 bits that names something.
+    Uuid,
 }

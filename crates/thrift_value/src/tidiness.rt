@@ -21,6 +21,7 @@ impl Value {
             | Value::I32(_)
             | Value::I64(_)
             | Value::Double(_)
+            | Value::Uuid(_)
             | Value::Bytes(_) => true,
             Value::Struct(fields) => {
                 if !fields.rise() {

@@ -32,6 +32,8 @@ pub enum Value {
     Set(Tag, Items),
     /// The tag of the elements, and the elements.
     List(Tag, Items),
+    /// The sixteen bytes of a uuid as one number, the highest byte first.
+    Uuid(u128),
 }
 
 /// A value as it came: in wire order, and with repeats.
@@ -78,6 +80,7 @@ impl Value {
             Value::Map(_, _, _) => Tag::Map,
             Value::Set(_, _) => Tag::Set,
             Value::List(_, _) => Tag::List,
+            Value::Uuid(_) => Tag::Uuid,
         }
     }
 }

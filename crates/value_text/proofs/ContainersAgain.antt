@@ -3,7 +3,7 @@ use Rattle.std.proofs.Common.{◌≡◌, ℕ, zero, suc, ◌+◌, ◌<◌, Bool,
 use Rattle.std.proofs.lemmas.List.Elements.{recursion_from_All}
 use Rattle.thrift_value.specs.declared.tag.Tag.{Tag}
 use Rattle.thrift_value.specs.declared.tag.Tag.TheVariants as tags
-use Rattle.thrift_value.specs.Tree.{Tree, of_bool, of_i8, of_i16, of_i32, of_i64, of_double, of_bytes, of_struct, of_map, of_set, of_list, FieldTrees, ItemTrees, PairTrees}
+use Rattle.thrift_value.specs.Tree.{Tree, of_bool, of_i8, of_i16, of_i32, of_i64, of_double, of_bytes, of_struct, of_map, of_set, of_list, of_uuid, FieldTrees, ItemTrees, PairTrees}
 use Rattle.thrift_value.specs.TreeOf.{field_trees, item_trees, pair_trees}
 use Rattle.text_out.specs.Quoted.{quoted_byte}
 use Rattle.value_text.specs.declared.form.Container.TheVariants.{Struct, Map, Set, List as ListForm}
@@ -16,7 +16,7 @@ use Rattle.value_text.proofs.RowLaws.{AreChained, shown, list_again}
 use Rattle.value_text.proofs.GoodTrees.{IsGood, FieldFits, ItemFits, PairFits, chained_fields, chained_items, chained_pairs}
 use Rattle.value_text.proofs.LeafLaws.{i8_again, i16_again, i32_again, i64_again}
 use Rattle.value_text.proofs.Shows.{show_field, show_pair, listed_fields_is, listed_items_is, listed_pairs_is, as_fields, as_items, as_pairs, FitsShort, roomy, few, bytes_are_few}
-use Rattle.value_text.proofs.TextsAgain.{ReadsValues, field_again, item_again, pair_again, item_open, field_open, pair_open, form_is, by_form, by_number, bool_again, double_again, bytes_again}
+use Rattle.value_text.proofs.TextsAgain.{ReadsValues, field_again, item_again, pair_again, item_open, field_open, pair_open, form_is, by_form, by_number, bool_again, double_again, uuid_again, bytes_again}
 
 -- the word of a tag
 tag_again : (tag : Tag) (rest : List ℕ) → tag_at (tag_word tag ++ rest) ≡ Ok (tag, rest)
@@ -32,6 +32,7 @@ tag_again tags.Struct rest = refl
 tag_again tags.Map rest = refl
 tag_again tags.Set rest = refl
 tag_again tags.List rest = refl
+tag_again tags.Uuid rest = refl
 
 -- what a list that was read makes
 abbrev made : {A : Type 0} → (List A → Tree) → List A × List ℕ → Result (Tree × List ℕ) ℕ
@@ -201,6 +202,7 @@ by_containers most levels deep wanted (of_i16 n) rest short good e = by_number m
 by_containers most levels deep wanted (of_i32 n) rest short good e = by_number most levels wanted (tree_text (of_i32 n) ++ rest) (of_i32 n) rest (i32_again wanted n rest good.in_range e)
 by_containers most levels deep wanted (of_i64 n) rest short good e = by_number most levels wanted (tree_text (of_i64 n) ++ rest) (of_i64 n) rest (i64_again wanted n rest good.in_range e)
 by_containers most levels deep wanted (of_double n) rest short good e = double_again most levels wanted n rest good.in_range e
+by_containers most levels deep wanted (of_uuid n) rest short good e = uuid_again most levels wanted n rest good.in_range e
 by_containers most levels deep wanted (of_bytes bytes) rest short good e =
     bytes_again most levels wanted bytes rest (omega (arith, short, bytes_are_few bytes, length-append (flat_map quoted_byte bytes) (34 ∷ []))) (recursion_from_All (λ b. b < 256) bytes good.in_range) e
 by_containers most levels deep wanted (of_struct fields) rest short good e =

@@ -10,7 +10,7 @@ use Rattle.thrift_value.specs.TreeOf.{field_trees, item_trees, pair_trees}
 use Rattle.text_out.specs.Decimal.{decimal_of}
 use Rattle.value_text.specs.declared.form.Form.{Form}
 use Rattle.value_text.specs.declared.form.Form.TheVariants.{Alone, Holding}
-use Rattle.value_text.specs.declared.form.Leaf.TheVariants.{Yes, No, Number, Double, Quoted}
+use Rattle.value_text.specs.declared.form.Leaf.TheVariants.{Yes, No, Number, Double, Uuid, Quoted}
 use Rattle.value_text.specs.declared.form.Container.{Container}
 use Rattle.value_text.specs.declared.form.Container.TheVariants.{Struct, Map, Set, List as ListForm}
 use Rattle.value_text.specs.ValueText.{tree_text, tag_word, listed_fields, listed_items, listed_pairs}
@@ -24,7 +24,7 @@ use Rattle.value_text.proofs.GoodTrees.{IsGood, FieldFits, ItemFits, PairFits, g
 use Rattle.value_text.proofs.LeafLaws.{kind_is}
 use Rattle.value_text.proofs.Shows.{show_field, show_pair, listed_fields_is, listed_items_is, listed_pairs_is}
 use Rattle.value_text.proofs.ContainersAgain.{items_text, pairs_text}
-use Rattle.value_text.proofs.TextsFound.{IsFound, FindsValues, past_found, form_found, bool_found, number_found, double_found, bytes_found, signed16}
+use Rattle.value_text.proofs.TextsFound.{IsFound, FindsValues, past_found, form_found, bool_found, number_found, double_found, uuid_found, bytes_found, signed16}
 
 -- ---- entries
 
@@ -220,6 +220,7 @@ formed_found most levels deep wanted (Alone Yes) text x rest allowed e = bool_fo
 formed_found most levels deep wanted (Alone No) text x rest allowed e = bool_found levels wanted false (codes "false") text x rest refl allowed e
 formed_found most levels deep wanted (Alone Number) text x rest allowed e = number_found levels wanted text x rest e
 formed_found most levels deep wanted (Alone Double) text x rest allowed e = double_found levels wanted text x rest allowed e
+formed_found most levels deep wanted (Alone Uuid) text x rest allowed e = uuid_found levels wanted text x rest allowed e
 formed_found most levels deep wanted (Alone Quoted) text x rest allowed e = bytes_found most levels wanted text x rest allowed e
 formed_found most levels deep wanted (Holding container) text x rest allowed e = as_found wanted levels (container_tag container) text x rest allowed (deep container text x rest e)
 

@@ -22,7 +22,7 @@ abbrev tag_ranked : ℕ → Tag
 tag_ranked n =
     if n == 0 then tags.Bool else if n == 1 then tags.I8 else if n == 2 then tags.I16 else if n == 3 then tags.I32 else if n == 4 then tags.I64
     else if n == 5 then tags.Double else if n == 6 then tags.Bytes else if n == 7 then tags.Struct else if n == 8 then tags.Map else if n == 9 then tags.Set
-    else tags.List
+    else if n == 10 then tags.List else tags.Uuid
 
 ranked : (tag : Tag) → tag_ranked (rank tag) ≡ tag
 ranked tags.Bool = refl
@@ -36,6 +36,7 @@ ranked tags.Struct = refl
 ranked tags.Map = refl
 ranked tags.Set = refl
 ranked tags.List = refl
+ranked tags.Uuid = refl
 
 -- where one tag is wanted only that may stand
 pub wanted_is : (wanted : Option Tag) (tag : Tag) → is_wanted wanted tag ≡ true → (wanted ≡ None) ⊎ (wanted ≡ Some tag)

@@ -3,11 +3,12 @@ use Rattle.std.proofs.Common.{◌≡◌, ℕ, ◌+◌, ◌^◌, ◌<◌, ◌≤�
 use Rattle.std.proofs.lemmas.Bool.{cases_Bool}
 use Rattle.std.proofs.lemmas.Nat.{from_be_bytes-to_be_bytes_8}
 use Rattle.std.specs.Prelude.{FitsSigned}
-use Rattle.std.specs.Int.{w16, w64, to_be_bytes, from_be_bytes}
+use Rattle.std.specs.Int.{w16, w64, w128, to_be_bytes, from_be_bytes}
+use Rattle.wire_num.proofs.Halves.{wide_128}
 use Rattle.thrift_value.specs.declared.tag.Tag.{Tag}
 use Rattle.thrift_value.specs.declared.tag.Tag.TheVariants as tags
 use Rattle.thrift_value.specs.Tags.{tag_of}
-use Rattle.thrift_value.specs.Tree.{Tree, of_bool, of_i8, of_i16, of_i32, of_i64, of_double, of_bytes, of_struct, of_map, of_set, of_list}
+use Rattle.thrift_value.specs.Tree.{Tree, of_bool, of_i8, of_i16, of_i32, of_i64, of_double, of_bytes, of_struct, of_map, of_set, of_list, of_uuid}
 use Rattle.thrift_value.specs.Measures.{depth_of, fields_depth, items_depth, pairs_depth}
 use Rattle.thrift_value.specs.Ranges.{IsInRange}
 use Rattle.text_out.specs.Decimal.{decimal_of}
@@ -15,11 +16,11 @@ use Rattle.text_out.specs.Hex.{hex_of}
 use Rattle.text_out.specs.Quoted.{quoted_byte}
 use Rattle.value_text.specs.declared.form.Form.{Form}
 use Rattle.value_text.specs.declared.form.Form.TheVariants.{Alone}
-use Rattle.value_text.specs.declared.form.Leaf.TheVariants.{Yes, No, Number, Double, Quoted}
+use Rattle.value_text.specs.declared.form.Leaf.TheVariants.{Yes, No, Number, Double, Uuid, Quoted}
 use Rattle.value_text.specs.ValueText.{tree_text, tag_word, listed_fields, listed_items, listed_pairs}
 use Rattle.value_text.specs.Fronts.{◌>>=◌, quoted_at}
 use Rattle.value_text.specs.Rows.{rest_behind}
-use Rattle.value_text.specs.Reading.{form_of, form_or, form_at, is_form_wanted, is_wanted, id_comes_behind, bool_at, double_at, bytes_at, formed_at, value_by, value_text_at, deeper_at, field_text_at, id_at, assigned_at, item_at, pair_text_at, has_level, comes_behind, last_key}
+use Rattle.value_text.specs.Reading.{form_of, form_or, form_at, is_form_wanted, is_wanted, id_comes_behind, bool_at, double_at, uuid_at, bytes_at, formed_at, value_by, value_text_at, deeper_at, field_text_at, id_at, assigned_at, item_at, pair_text_at, has_level, comes_behind, last_key}
 use Rattle.value_text.proofs.GoodTrees.{IsGood, FieldFits, ItemFits, PairFits}
 use Rattle.value_text.proofs.QuotedLaws.{AreBytes, hex_again, quoted_again}
 use Rattle.value_text.proofs.Numbers.{IsWithin, integer_again}
@@ -59,6 +60,40 @@ double_again most levels wanted n rest low e =
     by_form most levels wanted (tree_text (of_double n) ++ rest) (Alone Double) (form_is wanted 100 _ (Alone Double) refl e)
     ∙ ap (λ r. r >>= λ bytes. Ok (of_double (from_be_bytes w64 bytes.0), bytes.1)) (hex_again (to_be_bytes w64 n) rest (eight_bytes n))
     ∙ ap (λ m. Ok (of_double m, rest)) (from_be_bytes-to_be_bytes_8 n low)
+
+sixteen_bytes : (n : ℕ) → AreBytes (to_be_bytes w128 n)
+sixteen_bytes n = (
+  omega arith,
+  (
+    omega arith,
+    (
+      omega arith,
+      (
+        omega arith,
+        (
+          omega arith,
+          (
+            omega arith,
+            (
+              omega arith,
+              (
+                omega arith,
+                (omega arith, (omega arith, (omega arith, (omega arith, (omega arith, (omega arith, (omega arith, (omega arith, tt)))))))),
+              ),
+            ),
+          ),
+        ),
+      ),
+    ),
+  ),
+)
+
+pub uuid_again : (most levels : ℕ) (wanted : Option Tag) (n : ℕ) (rest : List ℕ) → n < 2 ^ 128 → is_wanted wanted tags.Uuid ≡ true → value_text_at most levels wanted (tree_text (of_uuid n) ++ rest) ≡ Ok (of_uuid n, rest)
+unfolding uuid_at
+uuid_again most levels wanted n rest low e =
+    by_form most levels wanted (tree_text (of_uuid n) ++ rest) (Alone Uuid) (form_is wanted 117 _ (Alone Uuid) refl e)
+    ∙ ap (λ r. r >>= λ bytes. Ok (of_uuid (from_be_bytes w128 bytes.0), bytes.1)) (hex_again (to_be_bytes w128 n) rest (sixteen_bytes n))
+    ∙ ap (λ m. Ok (of_uuid m, rest)) (wide_128.again n low)
 
 pub bytes_again : (most levels : ℕ) (wanted : Option Tag) (bytes rest : List ℕ) → length bytes < most → AreBytes bytes → is_wanted wanted tags.Bytes ≡ true → value_text_at most levels wanted (tree_text (of_bytes bytes) ++ rest) ≡ Ok (of_bytes bytes, rest)
 unfolding bytes_at
@@ -120,6 +155,7 @@ level_for levels (of_i32 n) le = leaf_level levels
 level_for levels (of_i64 n) le = leaf_level levels
 level_for levels (of_double n) le = leaf_level levels
 level_for levels (of_bytes bytes) le = leaf_level levels
+level_for levels (of_uuid n) le = leaf_level levels
 level_for levels (of_struct fields) le = inner_level levels (fields_depth fields) le
 level_for levels (of_map key tag pairs) le = inner_level levels (pairs_depth pairs) le
 level_for levels (of_set tag items) le = inner_level levels (items_depth items) le
@@ -160,6 +196,7 @@ value_open (of_i16 n) h = number_open n (codes "s") (wider n 32767 (omega arith)
 value_open (of_i32 n) h = number_open n (codes "i") (wider n 2147483647 (omega arith) (fits32 n h))
 value_open (of_i64 n) h = number_open n (codes "l") h
 value_open (of_double n) h = (100, hex_of (to_be_bytes w64 n), refl, refl, refl)
+value_open (of_uuid n) h = (117, hex_of (to_be_bytes w128 n), refl, refl, refl)
 value_open (of_bytes bytes) h = (34, flat_map quoted_byte bytes ++ 34 ∷ [], refl, refl, refl)
 value_open (of_struct fields) h = (123, listed_fields fields ++ codes "}", refl, refl, refl)
 value_open (of_map key tag pairs) h = (109, codes "ap<" ++ (tag_word key ++ (codes "," ++ (tag_word tag ++ (codes ">{" ++ (listed_pairs pairs ++ codes "}"))))), refl, refl, refl)

@@ -3,18 +3,20 @@ use Rattle.std.proofs.Common.{◌≡◌, ℕ, zero, suc, ◌^◌, ◌<◌, ◌�
 use Rattle.std.proofs.lemmas.Nat.{be_bytes_8}
 use Rattle.std.proofs.lemmas.List.Elements.{All-from_recursion}
 use Rattle.std.specs.Prelude.{FitsSigned}
-use Rattle.std.specs.Int.{w8, w16, w32, w64, from_be_bytes}
+use Rattle.std.specs.Int.{w8, w16, w32, w64, w128, from_be_bytes}
+use Rattle.wire_num.specs.Encoded.{AreByteSized}
+use Rattle.wire_num.proofs.Halves.{wide_128}
 use Rattle.thrift_value.specs.declared.tag.Tag.{Tag}
 use Rattle.thrift_value.specs.declared.tag.Tag.TheVariants as tags
 use Rattle.thrift_value.specs.Tags.{tag_of}
-use Rattle.thrift_value.specs.Tree.{Tree, of_bool, of_i8, of_i16, of_i32, of_i64, of_double, of_bytes}
+use Rattle.thrift_value.specs.Tree.{Tree, of_bool, of_i8, of_i16, of_i32, of_i64, of_double, of_uuid, of_bytes}
 use Rattle.text_out.specs.Decimal.{decimal_of}
 use Rattle.text_out.specs.Hex.{hex_of}
 use Rattle.text_out.specs.Quoted.{quoted_byte}
 use Rattle.value_text.specs.declared.form.Form.{Form}
 use Rattle.value_text.specs.ValueText.{tree_text}
 use Rattle.value_text.specs.Fronts.{◌>>=◌, behind_word, integer_at, hex_at, quoted_at}
-use Rattle.value_text.specs.Reading.{form_of, form_or, form_at, is_form_wanted, is_wanted, greatest, fits_bits, typed_as, lettered, typed_at, number_text_at, bool_at, double_at, bytes_at, value_text_at}
+use Rattle.value_text.specs.Reading.{form_of, form_or, form_at, is_form_wanted, is_wanted, greatest, fits_bits, typed_as, lettered, typed_at, number_text_at, bool_at, double_at, uuid_at, bytes_at, value_text_at}
 use Rattle.value_text.proofs.Choices.{went_on, chosen, held, one_ok, had_to}
 use Rattle.value_text.proofs.Numbers.{IsWithin, integer_found}
 use Rattle.value_text.proofs.QuotedLaws.{AreBytes, hex_found, quoted_found}
@@ -173,6 +175,20 @@ double_found levels wanted text x rest allowed e =
     (record {
       whole = past_found (codes "d") text digits.0 digits.1 ∙ ap (λ t. 100 ∷ t) (hex.0 ∙ ap (λ bs. hex_of bs ++ bytes.0.1) (sym back));
       good = record { tagged = tt; in_order = tt; in_range = eight_below bytes.0.0 each; depth = omega arith };
+      kind = allowed;
+    })
+
+pub uuid_found : (levels : ℕ) (wanted : Option Tag) (text : List ℕ) (x : Tree) (rest : List ℕ) → is_wanted wanted tags.Uuid ≡ true → uuid_at text ≡ Ok (x, rest) → IsFound wanted levels text x rest
+unfolding uuid_at
+uuid_found levels wanted text x rest allowed e =
+    let digits = went_on (behind_word (codes "u") text) (λ digits. hex_at 16 digits >>= λ bytes. Ok (of_uuid (from_be_bytes w128 bytes.0), bytes.1)) (x, rest) e in
+    let bytes = went_on (hex_at 16 digits.0) (λ bytes. Ok (of_uuid (from_be_bytes w128 bytes.0), bytes.1)) (x, rest) digits.2 in
+    let hex = hex_found 16 digits.0 bytes.0.0 bytes.0.1 bytes.1 in
+    let each : AreByteSized bytes.0.0 = All-from_recursion (λ b. b < 256) bytes.0.0 hex.2 in
+    subst (λ (y : Tree × List ℕ). IsFound wanted levels text y.0 y.1) (one_ok (of_uuid (from_be_bytes w128 bytes.0.0), bytes.0.1) (x, rest) bytes.2)
+    (record {
+      whole = past_found (codes "u") text digits.0 digits.1 ∙ ap (λ t. 117 ∷ t) (hex.0 ∙ ap (λ bs. hex_of bs ++ bytes.0.1) (sym (wide_128.back bytes.0.0 hex.1 each)));
+      good = record { tagged = tt; in_order = tt; in_range = wide_128.below bytes.0.0 each; depth = omega arith };
       kind = allowed;
     })
 

@@ -7,10 +7,10 @@ use Rattle.thrift_value.specs.declared.value.Value.{Value}
 use Rattle.thrift_value.specs.declared.value.Fields.{Fields}
 use Rattle.thrift_value.specs.declared.value.Items.{Items}
 use Rattle.thrift_value.specs.declared.value.Pairs.{Pairs}
-use Rattle.thrift_value.specs.Tree.{Tree, of_bool, of_i8, of_i16, of_i32, of_i64, of_double, of_bytes}
+use Rattle.thrift_value.specs.Tree.{Tree, of_bool, of_i8, of_i16, of_i32, of_i64, of_double, of_uuid, of_bytes}
 use Rattle.thrift_value.specs.TreeOf.{tree_of, field_tree, pair_tree, field_trees, item_trees, pair_trees, fields_of, items_of, pairs_of}
-use Rattle.thrift_value.proofs.Trees.{tree_of-Bool, tree_of-I8, tree_of-I16, tree_of-I32, tree_of-I64, tree_of-Double, tree_of-Bytes, tree_of-Struct, tree_of-Map, tree_of-Set, tree_of-List}
-use Rattle.value_text.specs.ValueText.{tag_word, number_and_letter, double_text, tree_text, listed_fields, listed_items, listed_pairs}
+use Rattle.thrift_value.proofs.Trees.{tree_of-Bool, tree_of-I8, tree_of-I16, tree_of-I32, tree_of-I64, tree_of-Double, tree_of-Uuid, tree_of-Bytes, tree_of-Struct, tree_of-Map, tree_of-Set, tree_of-List}
+use Rattle.value_text.specs.ValueText.{tag_word, number_and_letter, double_text, uuid_text, tree_text, listed_fields, listed_items, listed_pairs}
 
 -- the text of a value that is known to be one of a tree
 known_text : (v known : Value) (tree : Tree) → v ≡ known → tree_of known ≡ tree → tree_text tree ≡ tree_text (tree_of v)
@@ -38,6 +38,9 @@ i64_text v n m is same = ap (λ k. number_and_letter k (codes "l")) same ∙ kno
 
 pub bits_text : (v : Value) (bits : ℕ) → v ≡ value.Double bits → double_text bits ≡ tree_text (tree_of v)
 bits_text v bits is = known_text v (value.Double bits) (of_double bits) is (tree_of-Double bits)
+
+pub wide_text : (v : Value) (n : ℕ) → v ≡ value.Uuid n → uuid_text n ≡ tree_text (tree_of v)
+wide_text v n is = known_text v (value.Uuid n) (of_uuid n) is (tree_of-Uuid n)
 
 pub bytes_text : (v : Value) (bytes shown : List ℕ) → v ≡ value.Bytes bytes → shown ≡ bytes → quoted_of shown ≡ tree_text (tree_of v)
 bytes_text v bytes shown is same = ap quoted_of same ∙ known_text v (value.Bytes bytes) (of_bytes bytes) is (tree_of-Bytes bytes)

@@ -2,7 +2,7 @@
 -- stands in front, how many bytes are left at the first byte with which none goes on.
 use Rattle.std.specs.Prelude.{ℕ, zero, suc, ◌+◌, ◌*◌, ◌-◌, Bool, ℤ, pos, neg_ℤ, ◌==◌, ◌&&◌, nat_le, min, List, [], ◌∷◌, length, Option, Some, None, Result, Ok, Err, if◌then◌else◌}
 use Rattle.thrift_value.specs.declared.tag.Tag.{Tag}
-use Rattle.thrift_value.specs.declared.tag.Tag.TheVariants.{Bool as BoolTag, I8, I16, I32, I64, Double, Bytes, Struct, Map, Set, List as ListTag}
+use Rattle.thrift_value.specs.declared.tag.Tag.TheVariants.{Bool as BoolTag, I8, I16, I32, I64, Double, Bytes, Struct, Map, Set, List as ListTag, Uuid}
 use Rattle.text_out.specs.Bytes.{minus_sign, zero_digit, quotation_mark, escape_mark, hex_mark}
 use Rattle.value_text.specs.ValueText.{tag_word}
 
@@ -24,7 +24,7 @@ behind_word (c ∷ cs) (b ∷ bs) = if b == c then behind_word cs bs else stuck 
 
 -- the tags, in the order of values
 abbrev pub all_tags : List Tag
-all_tags = BoolTag ∷ I8 ∷ I16 ∷ I32 ∷ I64 ∷ Double ∷ Bytes ∷ Struct ∷ Map ∷ Set ∷ ListTag ∷ []
+all_tags = BoolTag ∷ I8 ∷ I16 ∷ I32 ∷ I64 ∷ Double ∷ Bytes ∷ Struct ∷ Map ∷ Set ∷ ListTag ∷ Uuid ∷ []
 
 -- a tag whose word was read, or another one
 abbrev pub tag_or : Result (List ℕ) ℕ → Tag → (ℕ → Result (Tag × List ℕ) ℕ) → Result (Tag × List ℕ) ℕ

@@ -3,16 +3,16 @@
 -- id, a key or a member that doesn't come behind the one before it is at fault at the first byte behind it.
 use Rattle.std.specs.Prelude.{ℕ, zero, suc, ◌-◌, ◌^◌, ◌==◌, ◌&&◌, not, Bool, true, false, ℤ, pos, neg_ℤ, int_le, int_lt, List, [], ◌∷◌, codes, length, drop, Option, Some, None, Result, Ok, Err, if◌then◌else◌}
 use Rattle.std.specs.Ordering.{is_lt}
-use Rattle.std.specs.Int.{w64, from_be_bytes}
+use Rattle.std.specs.Int.{w64, w128, from_be_bytes}
 use Rattle.text_out.specs.Bytes.{minus_sign, quotation_mark}
 use Rattle.thrift_value.specs.declared.tag.Tag.{Tag}
-use Rattle.thrift_value.specs.declared.tag.Tag.TheVariants.{Bool as BoolTag, I8, I16, I32, I64, Double as DoubleTag, Bytes as BytesTag, Struct as StructTag, Map as MapTag, Set as SetTag, List as ListTag}
+use Rattle.thrift_value.specs.declared.tag.Tag.TheVariants.{Bool as BoolTag, I8, I16, I32, I64, Double as DoubleTag, Bytes as BytesTag, Struct as StructTag, Map as MapTag, Set as SetTag, List as ListTag, Uuid as UuidTag}
 use Rattle.thrift_value.specs.Tags.{rank}
 use Rattle.thrift_value.specs.Order.{tree_cmp}
-use Rattle.thrift_value.specs.Tree.{Tree, of_bool, of_i8, of_i16, of_i32, of_i64, of_double, of_bytes, of_struct, of_map, of_set, of_list}
+use Rattle.thrift_value.specs.Tree.{Tree, of_bool, of_i8, of_i16, of_i32, of_i64, of_double, of_bytes, of_struct, of_map, of_set, of_list, of_uuid}
 use Rattle.thrift_value.specs.TreeOf.{field_trees, item_trees, pair_trees}
 use Rattle.value_text.specs.declared.form.Leaf.{Leaf}
-use Rattle.value_text.specs.declared.form.Leaf.TheVariants.{Yes, No, Number, Double, Quoted}
+use Rattle.value_text.specs.declared.form.Leaf.TheVariants.{Yes, No, Number, Double, Uuid, Quoted}
 use Rattle.value_text.specs.declared.form.Container.{Container}
 use Rattle.value_text.specs.declared.form.Container.TheVariants.{Struct, Map, Set, List as ListForm}
 use Rattle.value_text.specs.declared.form.Form.{Form}
@@ -24,6 +24,7 @@ use Rattle.value_text.specs.Rows.{found_or, list_at}
 abbrev pub form_of : ℕ → Option Form
 form_of b =
     if b == 116 then Some (Alone Yes) else if b == 102 then Some (Alone No) else if b == 100 then Some (Alone Double)
+    else if b == 117 then Some (Alone Uuid)
     else if b == quotation_mark then Some (Alone Quoted) else if b == 123 then Some (Holding Struct) else if b == 109 then Some (Holding Map)
     else if b == 115 then Some (Holding Set) else if b == 108 then Some (Holding ListForm) else if b == minus_sign then Some (Alone Number)
     else if is_digit b then Some (Alone Number) else None
@@ -48,6 +49,7 @@ is_leaf_wanted wanted Yes = is_wanted wanted BoolTag
 is_leaf_wanted wanted No = is_wanted wanted BoolTag
 is_leaf_wanted wanted Number = is_number_wanted wanted
 is_leaf_wanted wanted Double = is_wanted wanted DoubleTag
+is_leaf_wanted wanted Uuid = is_wanted wanted UuidTag
 is_leaf_wanted wanted Quoted = is_wanted wanted BytesTag
 
 -- the tag of values that hold others
@@ -113,6 +115,13 @@ double_at text = do
   bytes ← hex_at 8 digits
   Ok (of_double (from_be_bytes w64 bytes.0), bytes.1)
 
+-- a uuid
+unfoldable pub uuid_at : List ℕ → Result (Tree × List ℕ) ℕ
+uuid_at text = do
+  digits ← behind_word (codes "u") text
+  bytes ← hex_at 16 digits
+  Ok (of_uuid (from_be_bytes w128 bytes.0), bytes.1)
+
 -- bytes between quotation marks
 unfoldable pub bytes_at : ℕ → List ℕ → Result (Tree × List ℕ) ℕ
 bytes_at most text = do
@@ -126,6 +135,7 @@ leaf_at most wanted Yes text = bool_at true (codes "true") text
 leaf_at most wanted No text = bool_at false (codes "false") text
 leaf_at most wanted Number text = number_text_at wanted text
 leaf_at most wanted Double text = double_at text
+leaf_at most wanted Uuid text = uuid_at text
 leaf_at most wanted Quoted text = bytes_at most text
 
 -- `=` and a value

@@ -1,12 +1,12 @@
 -- The text of a value: one line, from which the value can be told.
 use Rattle.std.specs.Prelude.{ℕ, ℤ, true, false, List, [], ◌++◌, codes}
-use Rattle.std.specs.Int.{w64, to_be_bytes}
+use Rattle.std.specs.Int.{w64, w128, to_be_bytes}
 use Rattle.text_out.specs.Decimal.{decimal_of}
 use Rattle.text_out.specs.Hex.{hex_of}
 use Rattle.text_out.specs.Quoted.{quoted_of}
 use Rattle.thrift_value.specs.declared.tag.Tag.{Tag}
-use Rattle.thrift_value.specs.declared.tag.Tag.TheVariants.{Bool, I8, I16, I32, I64, Double, Bytes, Struct, Map, Set, List as ListTag}
-use Rattle.thrift_value.specs.Tree.{Tree, of_bool, of_i8, of_i16, of_i32, of_i64, of_double, of_bytes, of_struct, of_map, of_set, of_list, FieldTrees, no_fields, field, ItemTrees, no_items, item, PairTrees, no_pairs, pair}
+use Rattle.thrift_value.specs.declared.tag.Tag.TheVariants.{Bool, I8, I16, I32, I64, Double, Bytes, Struct, Map, Set, List as ListTag, Uuid}
+use Rattle.thrift_value.specs.Tree.{Tree, of_bool, of_i8, of_i16, of_i32, of_i64, of_double, of_bytes, of_struct, of_map, of_set, of_list, of_uuid, FieldTrees, no_fields, field, ItemTrees, no_items, item, PairTrees, no_pairs, pair}
 
 -- the word of a tag
 abbrev pub tag_word : Tag → List ℕ
@@ -21,6 +21,7 @@ tag_word Struct = codes "struct"
 tag_word Map = codes "map"
 tag_word Set = codes "set"
 tag_word ListTag = codes "list"
+tag_word Uuid = codes "uuid"
 
 -- a number's decimal and the letter of its type
 abbrev pub number_and_letter : ℤ → List ℕ → List ℕ
@@ -29,6 +30,10 @@ number_and_letter n letter = decimal_of n ++ letter
 -- the 64 bits of a double as hexadecimal digits, the highest first
 abbrev pub double_text : ℕ → List ℕ
 double_text bits = codes "d" ++ hex_of (to_be_bytes w64 bits)
+
+-- the 128 bits of a uuid as hexadecimal digits, the highest first
+abbrev pub uuid_text : ℕ → List ℕ
+uuid_text number = codes "u" ++ hex_of (to_be_bytes w128 number)
 
 abbrev mutual
   -- the text of a value
@@ -46,6 +51,7 @@ abbrev mutual
       codes "map<" ++ (tag_word key ++ (codes "," ++ (tag_word value ++ (codes ">{" ++ (listed_pairs pairs ++ codes "}")))))
   tree_text (of_set element items) = codes "set<" ++ (tag_word element ++ (codes ">[" ++ (listed_items items ++ codes "]")))
   tree_text (of_list element items) = codes "list<" ++ (tag_word element ++ (codes ">[" ++ (listed_items items ++ codes "]")))
+  tree_text (of_uuid number) = uuid_text number
 
   -- fields, each its id and its value, with commas between them
   pub listed_fields : FieldTrees → List ℕ

@@ -20,6 +20,8 @@ pub(crate) enum Leaf {
     Number,
     /// A double.
     Double,
+    /// A uuid.
+    Uuid,
     /// Bytes between quotation marks.
     Quoted,
 }
@@ -54,6 +56,7 @@ fn form_of(byte: u8) -> Option<Form>
         b't' => Some(Form::Alone(Leaf::Yes)),
         b'f' => Some(Form::Alone(Leaf::No)),
         b'd' => Some(Form::Alone(Leaf::Double)),
+        b'u' => Some(Form::Alone(Leaf::Uuid)),
         b'"' => Some(Form::Alone(Leaf::Quoted)),
         b'{' => Some(Form::Holding(Container::Struct)),
         b'm' => Some(Form::Holding(Container::Map)),
@@ -90,6 +93,7 @@ fn rank_of(tag: Tag) -> u8
         Tag::Map => 8,
         Tag::Set => 9,
         Tag::List => 10,
+        Tag::Uuid => 11,
     }
 }
 
@@ -129,6 +133,7 @@ fn is_number(tag: Tag) -> bool
         Tag::Map => false,
         Tag::Set => false,
         Tag::List => false,
+        Tag::Uuid => false,
     }
 }
 
@@ -141,6 +146,7 @@ fn is_leaf_wanted(wanted: Option<Tag>, leaf: Leaf) -> bool
         Leaf::No => is_wanted(wanted, Tag::Bool),
         Leaf::Number => is_number_wanted(wanted),
         Leaf::Double => is_wanted(wanted, Tag::Double),
+        Leaf::Uuid => is_wanted(wanted, Tag::Uuid),
         Leaf::Quoted => is_wanted(wanted, Tag::Bytes),
     }
 }
@@ -210,6 +216,7 @@ fn greatest_of(tag: Tag) -> u64
         Tag::Map => 0x7fff_ffff_ffff_ffff,
         Tag::Set => 0x7fff_ffff_ffff_ffff,
         Tag::List => 0x7fff_ffff_ffff_ffff,
+        Tag::Uuid => 0x7fff_ffff_ffff_ffff,
     }
 }
 
@@ -229,6 +236,7 @@ fn is_leaf_tag(tag: Tag) -> bool
         Tag::I64 => true,
         Tag::Double => true,
         Tag::Bytes => true,
+        Tag::Uuid => true,
     }
 }
 

@@ -85,6 +85,7 @@ pub(crate) fn tag_at(text: &[u8]) -> Result<(Tag, &[u8]), TextStop>
         Tag::Map,
         Tag::Set,
         Tag::List,
+        Tag::Uuid,
     ];
     tag_among(&tags, text.len(), text)
 }
@@ -220,6 +221,30 @@ pub(crate) fn eight_at(text: &[u8]) -> Result<([u8; 8], &[u8]), TextStop>
     let (g, rest) = hex_byte_at(rest)?;
     let (h, rest) = hex_byte_at(rest)?;
     Ok(([a, b, c, d, e, f, g, h], rest))
+}
+
+/// Sixteen bytes of two hexadecimal digits each.
+#[tactic(auto, unfolding(crate::specs::Fronts::hex_at))]
+pub(crate) fn sixteen_at(text: &[u8]) -> Result<([u8; 16], &[u8]), TextStop>
+    ensures { Gives (λ r. (r.0, r.1.now)) result (hex_at 16 text.now) }
+{
+    let (a, rest) = hex_byte_at(text)?;
+    let (b, rest) = hex_byte_at(rest)?;
+    let (c, rest) = hex_byte_at(rest)?;
+    let (d, rest) = hex_byte_at(rest)?;
+    let (e, rest) = hex_byte_at(rest)?;
+    let (f, rest) = hex_byte_at(rest)?;
+    let (g, rest) = hex_byte_at(rest)?;
+    let (h, rest) = hex_byte_at(rest)?;
+    let (i, rest) = hex_byte_at(rest)?;
+    let (j, rest) = hex_byte_at(rest)?;
+    let (k, rest) = hex_byte_at(rest)?;
+    let (l, rest) = hex_byte_at(rest)?;
+    let (m, rest) = hex_byte_at(rest)?;
+    let (n, rest) = hex_byte_at(rest)?;
+    let (o, rest) = hex_byte_at(rest)?;
+    let (p, rest) = hex_byte_at(rest)?;
+    Ok(([a, b, c, d, e, f, g, h, i, j, k, l, m, n, o, p], rest))
 }
 
 /// Whether a byte stands as it is between quotation marks.

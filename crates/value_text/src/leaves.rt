@@ -3,10 +3,10 @@ ghost use Rattle.std.specs.Prelude.{◌≡◌, MatchOption, None, Some};
 ghost use Rattle.thrift_value.specs.Tree.{of_i8, of_i16, of_i32, of_i64};
 ghost use Rattle.thrift_value.specs.TreeOf.{tree_of};
 ghost use Rattle.value_text.specs.Answering.{Gives};
-ghost use Rattle.value_text.specs.Reading.{bool_at, bytes_at, double_at, leaf_at, lettered, most_rounds, number_text_at, typed_as, typed_at};
+ghost use Rattle.value_text.specs.Reading.{bool_at, bytes_at, double_at, leaf_at, lettered, most_rounds, number_text_at, typed_as, typed_at, uuid_at};
 
 use crate::form::{Leaf, greatest, is_wanted};
-use crate::fronts::{eight_at, integer_at, past, quoted_at};
+use crate::fronts::{eight_at, integer_at, past, quoted_at, sixteen_at};
 use crate::stop::TextStop;
 use std::alloc::Global;
 use thrift_value::{ByteText, Tag, Value};
@@ -123,6 +123,16 @@ fn double_at(text: &[u8]) -> Result<(Value, &[u8]), TextStop>
     Ok((Value::Double(u64::from_be_bytes(bytes)), rest))
 }
 
+/// A uuid.
+#[tactic(auto, unfolding(crate::specs::Reading::uuid_at), using(thrift_value::proofs::Trees::tree_equations))]
+fn uuid_at(text: &[u8]) -> Result<(Value, &[u8]), TextStop>
+    ensures { Gives (λ r. (tree_of r.0, r.1.now)) result (uuid_at text.now) }
+{
+    let digits = past(b"u", text)?;
+    let (bytes, rest) = sixteen_at(digits)?;
+    Ok((Value::Uuid(u128::from_be_bytes(bytes)), rest))
+}
+
 /// Bytes between quotation marks.
 #[tactic(auto, unfolding(crate::specs::Reading::bytes_at), using(thrift_value::proofs::Trees::tree_equations))]
 fn bytes_at(alloc: Global, text: &[u8]) -> Result<(Value, &[u8]), TextStop>
@@ -147,6 +157,7 @@ pub(crate) fn leaf_at(
         Leaf::No => bool_at(false, b"false", text),
         Leaf::Number => number_at(wanted, text),
         Leaf::Double => double_at(text),
+        Leaf::Uuid => uuid_at(text),
         Leaf::Quoted => bytes_at(alloc, text),
     }
 }

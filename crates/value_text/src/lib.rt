@@ -13,8 +13,8 @@
 //! A text with values in it, as a line of a journal, is written part by part with `spell_value`, and read so with `value_at`, `past`,
 //! `positive_at` and `integer_at`.
 //!
-//! Integers have the letter of their type behind them (`b`, `s`, `i`, `l`), a double is `d` and its 64 bits in hexadecimal, bytes
-//! stand between quotation marks, and a container names its tags. Not here: names of an IDL, which a value doesn't have.
+//! Integers have the letter of their type behind them (`b`, `s`, `i`, `l`), a double is `d` and its 64 bits in hexadecimal, a
+//! uuid `u` and its 128 bits, bytes stand between quotation marks, and a container names its tags. Not here: names of an IDL, which a value doesn't have.
 #![tactic(auto)]
 
 ghost use Rattle.std.specs.Prelude.{◌≡◌, ◌≤◌, ◌+◌, ◌++◌, ℕ, List, length, drop, Ok, IfOk};

@@ -1,6 +1,6 @@
 //! Hands the texts of values to a sink, and takes no memory.
 ghost use Rattle.std.specs.Prelude.{◌≡◌, ◌++◌, ◌<◌, ◌≤◌, ◌∷◌, [], codes, drop, length, map, IfOk, IfSome, MatchResult, if◌then◌else◌};
-ghost use Rattle.std.specs.Int.{w64, to_be_bytes};
+ghost use Rattle.std.specs.Int.{w64, w128, to_be_bytes};
 ghost use Rattle.std.specs.List.{flat_map, prefix_len};
 ghost use Rattle.outside.specs.Cause.{HasCause};
 ghost use Rattle.outside.specs.Content.{told_more};
@@ -12,7 +12,7 @@ ghost use Rattle.thrift_value.specs.Tidy.{IsTidy};
 ghost use Rattle.thrift_value.specs.TreeOf.{tree_of, field_tree, pair_tree, field_trees, item_trees, pair_trees};
 ghost use Rattle.value_text.specs.Handing.{HandsOver, HandsText, BreaksOff};
 ghost use Rattle.value_text.specs.Plain.{is_plain};
-ghost use Rattle.value_text.specs.ValueText.{tag_word, number_and_letter, double_text, tree_text, listed_fields, listed_items, listed_pairs, further_fields, further_items, further_pairs};
+ghost use Rattle.value_text.specs.ValueText.{tag_word, number_and_letter, double_text, uuid_text, tree_text, listed_fields, listed_items, listed_pairs, further_fields, further_items, further_pairs};
 
 use crate::words::word_of;
 use itoa::Buffer;
@@ -130,6 +130,20 @@ fn spell_bits<K: Sink>(out: &mut K, bits: u64) -> Result<(), Failed>
     spell_hex(out, &bits.to_be_bytes())
 }
 
+fn spell_uuid<K: Sink>(out: &mut K, number: u128) -> Result<(), Failed>
+    ensures { HandsText (K.taken out.old) (K.taken out.new) (K.faults out.old) (K.faults out.new) (uuid_text number) result }
+{
+    hand_over(out, b"u")?;
+    spell_wide(out, number)
+}
+
+/// Writes 128 bits as hexadecimal digits, the highest first.
+fn spell_wide<K: Sink>(out: &mut K, number: u128) -> Result<(), Failed>
+    ensures { HandsText (K.taken out.old) (K.taken out.new) (K.faults out.old) (K.faults out.new) (hex_of (to_be_bytes w128 number)) result }
+{
+    spell_hex(out, &number.to_be_bytes())
+}
+
 /// Writes each byte as two hexadecimal digits.
 fn spell_hex<K: Sink>(out: &mut K, bytes: &[u8]) -> Result<(), Failed>
     ensures { HandsText (K.taken out.old) (K.taken out.new) (K.faults out.old) (K.faults out.new) (hex_of bytes.now) result }
@@ -244,6 +258,7 @@ pub fn spell_value<K: Sink>(out: &mut K, value: &Value) -> Result<(), Failed>
         Value::I32(n) => spell_number(out, i64::from(*n), b'i'),
         Value::I64(n) => spell_number(out, *n, b'l'),
         Value::Double(bits) => spell_double(out, *bits),
+        Value::Uuid(number) => spell_uuid(out, *number),
         Value::Bytes(text) => spell_quoted(out, text.as_slice()),
         Value::Struct(fields) => spell_struct(out, fields.as_slice()),
         Value::Map(key, value, pairs) => spell_map(out, *key, *value, pairs.as_slice()),

@@ -20,5 +20,6 @@ pub(crate) fn word_of(tag: Tag) -> &'static str
         Tag::Map => "map",
         Tag::Set => "set",
         Tag::List => "list",
+        Tag::Uuid => "uuid",
     }
 }

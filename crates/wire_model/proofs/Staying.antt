@@ -128,6 +128,7 @@ parts_stay wire s levels v h tags.I16 = s.scalar tags.I16 tt
 parts_stay wire s levels v h tags.I32 = s.scalar tags.I32 tt
 parts_stay wire s levels v h tags.I64 = s.scalar tags.I64 tt
 parts_stay wire s levels v h tags.Double = s.scalar tags.Double tt
+parts_stay wire s levels v h tags.Uuid = s.scalar tags.Uuid tt
 
 layer_stays : (wire : Wire) → ArePartsStable wire → (levels : ℕ) (v : Tag → Decoder Tree) → ((tag : Tag) → StaysAs (v tag) (v tag)) → (tag : Tag) → StaysAs (layer wire levels v tag) (layer wire levels v tag)
 unfolding layer

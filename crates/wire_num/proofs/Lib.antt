@@ -1,4 +1,5 @@
 pub mod Widths
+pub mod Halves
 pub mod Fronts
 pub mod Numbers
 pub mod Mapped

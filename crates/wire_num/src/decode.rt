@@ -1,7 +1,7 @@
 //! Decoding a number in front of bytes.
 
 ghost use Rattle.std.specs.Prelude.{◌≡◌, ◌≤◌, length, Ok, Err, MatchResult, IfOk};
-ghost use Rattle.std.specs.Int.{w8, w16, w32, w64};
+ghost use Rattle.std.specs.Int.{w8, w16, w32, w64, w128};
 ghost use Rattle.wire_num.specs.Decoding.{decode_bytes, decode_byte, decode_unsigned, decode_signed};
 ghost use Rattle.wire_num.specs.LowFirst.{decode_low_first};
 
@@ -86,6 +86,17 @@ pub fn decode_be64(bytes: &[u8]) -> Result<(u64, &[u8]), NumFault>
 {
     let (front, behind) = decode_bytes(bytes, 8)?;
     Ok((BigEndian::read_u64(front), behind))
+}
+
+/// A hundred and twenty-eight bits as an unsigned number, and the bytes behind them.
+pub fn decode_be128(bytes: &[u8]) -> Result<(u128, &[u8]), NumFault>
+    ensures read { MatchResult result
+        (λ r. decode_unsigned w128 bytes.now ≡ Ok (r.0, r.1.now))
+        (λ fault. decode_unsigned w128 bytes.now ≡ Err fault) }
+    ensures behind { IfOk result (λ r. length r.1.now ≤ length bytes.now) }
+{
+    let (front, behind) = decode_bytes(bytes, 16)?;
+    Ok((BigEndian::read_u128(front), behind))
 }
 
 /// Sixty-four bits as an unsigned number, the lowest byte first, and the bytes behind it.

@@ -1,7 +1,7 @@
 //! What holds of all numbers.
 
 ghost use Rattle.std.specs.Prelude.{◌≡◌, ◌<◌, ◌≤◌, ◌^◌, ◌↔◌, ℕ, ℤ, List, length, take, FitsSigned, Err};
-ghost use Rattle.std.specs.Int.{w8, w16, w32, w64};
+ghost use Rattle.std.specs.Int.{w8, w16, w32, w64, w128};
 ghost use Rattle.wire_num.specs.Decoding.{decode_byte, decode_unsigned, decode_signed};
 ghost use Rattle.wire_num.specs.Encoded.{Decodes};
 ghost use Rattle.wire_num.specs.Fixed.{IsByte, IsUnsigned, IsSigned};
@@ -18,6 +18,7 @@ pub fn fixed_numbers_are_decoded()
     ensures i32 { Decodes (decode_signed w32) (IsSigned w32) }
     ensures i64 { Decodes (decode_signed w64) (IsSigned w64) }
     ensures be64 { Decodes (decode_unsigned w64) (IsUnsigned w64) }
+    ensures be128 { Decodes (decode_unsigned w128) (IsUnsigned w128) }
     ensures le64 { Decodes (decode_low_first w64) (IsLowFirst w64) }
 {}
 

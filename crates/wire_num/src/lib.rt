@@ -26,14 +26,14 @@ mod zigzag;
 
 pub use at::{be64_at, i16_at, i32_at, i64_at, le64_at, u8_at, varint32_at, varint64_at};
 pub use decode::{
-    decode_be64, decode_bytes, decode_i8, decode_i16, decode_i32, decode_i64, decode_le64,
-    decode_u8,
+    decode_be64, decode_be128, decode_bytes, decode_i8, decode_i16, decode_i32, decode_i64,
+    decode_le64, decode_u8,
 };
 pub use fault::NumFault;
 pub use laws::{
     fixed_numbers_are_decoded, varint_faults_are_exact, varints_are_decoded,
     written_varints_are_shortest, zigzag_goes_both_ways,
 };
-pub use put::{put_be64, put_i16, put_i32, put_i64, put_le64, put_u8};
+pub use put::{put_be64, put_be128, put_i16, put_i32, put_i64, put_le64, put_u8};
 pub use varint::{decode_varint32, decode_varint64, put_varint32, put_varint64};
 pub use zigzag::{unzigzag32, unzigzag64, zigzag32, zigzag64};

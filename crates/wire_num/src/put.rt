@@ -2,7 +2,7 @@
 //! 'Integer encoding').
 
 ghost use Rattle.std.specs.Prelude.{◌≡◌, ◌∷◌, [], ◌++◌, OnErr, OnOk};
-ghost use Rattle.std.specs.Int.{w16, w32, w64};
+ghost use Rattle.std.specs.Int.{w16, w32, w64, w128};
 ghost use Rattle.wire_num.specs.Fixed.{unsigned_bytes, signed_bytes};
 ghost use Rattle.wire_num.specs.LowFirst.{low_first_bytes};
 
@@ -55,6 +55,16 @@ pub fn put_be64(into: &mut Vec<u8>, number: u64) -> Result<(), AllocError>
 {
     let mut bytes = [0u8; 8];
     BigEndian::write_u64(&mut bytes, number);
+    into.extend_from_slice(&bytes)
+}
+
+/// Appends the 16 bytes of an unsigned number.
+pub fn put_be128(into: &mut Vec<u8>, number: u128) -> Result<(), AllocError>
+    ensures ok { OnOk result (into.new.items ≡ into.old.items ++ unsigned_bytes w128 number) }
+    ensures err { OnErr result (into.new.items ≡ into.old.items) }
+{
+    let mut bytes = [0u8; 16];
+    BigEndian::write_u128(&mut bytes, number);
     into.extend_from_slice(&bytes)
 }
 

@@ -33,7 +33,7 @@ const FAULTS: [(&[u8], WireFault); 22] = [
     (b"\x16\x80\x80\x80\x80\x80\x80\x80\x80\x80", Short),
     (b"\x16\x80\x80\x80\x80\x80\x80\x80\x80\x80\x80", LongVarint),
     (b"\x10", BadType(0)),
-    (b"\x0d", BadType(13)),
+    (b"\x0e", BadType(14)),
     (b"\x1e", BadType(14)),
     (b"\xff", BadType(15)),
     (b"\x03\xfe\xff\x03\x00\x13\x00", FieldRange),
@@ -45,8 +45,8 @@ const FAULTS: [(&[u8], WireFault); 22] = [
     (b"\x19\xf3\xff\xff\xff\xff\x07\0\0\0", Short),
     (b"\x19\x2f\0", Short),
     (b"\x19\x1f\0", BadType(15)),
-    (b"\x1b\x01\xd0\0", BadType(13)),
-    (b"\x1b\x02\x3d\0", BadType(13)),
+    (b"\x1b\x01\xe0\0", BadType(14)),
+    (b"\x1b\x02\x3e\0", BadType(14)),
 ];
 
 #[test]

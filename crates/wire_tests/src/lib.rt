@@ -35,4 +35,6 @@ mod struct_vectors;
 #[cfg(test)]
 mod structs;
 #[cfg(test)]
+mod uuids;
+#[cfg(test)]
 mod values;

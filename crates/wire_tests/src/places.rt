@@ -133,7 +133,7 @@ fn heads_are_read_at_their_places(rt: HostRuntime) {
         )
     );
     assert!(rt; is_field(CompactWire::field(b"\x23\x01", 0, 6), (8, Tag::I8, None), 1));
-    assert!(rt; is_refused(CompactWire::field(b"\x1d", 0, 6), BadType(13)));
+    assert!(rt; is_refused(CompactWire::field(b"\x1e", 0, 6), BadType(14)));
 }
 
 fn are_headers_read() -> bool {

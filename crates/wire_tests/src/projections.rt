@@ -91,6 +91,28 @@ fn may_go(alloc: Global, sent: &[(i16, Option<bool>)]) -> Result<bool, AllocErro
     fits_example(alloc, &kind, &list)
 }
 
+// Whether a uuid may be written under uuid alone, and nothing else under it.
+fn fits_itself_alone(alloc: Global) -> Result<bool, AllocError> {
+    let uuid = Value::Uuid(7);
+    let number = Value::I64(7);
+    if !fits_example(alloc, &TypeDesc::Uuid, &uuid)? {
+        return Ok(false);
+    }
+    if fits_example(alloc, &TypeDesc::Binary, &uuid)? {
+        return Ok(false);
+    }
+    if fits_example(alloc, &TypeDesc::I64, &uuid)? {
+        return Ok(false);
+    }
+    Ok(!fits_example(alloc, &TypeDesc::Uuid, &number)?)
+}
+
+#[test]
+fn uuids_fit_uuid_alone(rt: HostRuntime) -> Result<(), Fail> {
+    assert!(rt; fits_itself_alone(rt.alloc())?);
+    Ok(())
+}
+
 #[test]
 fn declared_fields_may_be_written(rt: HostRuntime) -> Result<(), Fail> {
     assert!(rt; may_go(rt.alloc(), &[])?);

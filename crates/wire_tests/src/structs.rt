@@ -108,7 +108,7 @@ const FAULTS: [(&[u8], WireFault); 48] = [
     (b"\x05\0\x01\0\0", BadType(5)),
     (b"\x07\0\x01\0\0", BadType(7)),
     (b"\x09\0\x01\0\0", BadType(9)),
-    (b"\x10\0\x01\0\0", BadType(16)),
+    (b"\x11\0\x01\0\0", BadType(17)),
     (b"\xff", BadType(255)),
     (b"\x0c\0\x01\x80\0\x01\0\0", BadType(128)),
     (b"\x0f\0\x01\0\0\0\0\x01\0\0", BadType(0)),

@@ -108,11 +108,20 @@ fn containers(alloc: Global) -> Result<Vec<Value>, AllocError> {
     Ok(values)
 }
 
+fn uuids(alloc: Global) -> Result<Vec<Value>, AllocError> {
+    Ok(vec![in alloc;
+        Value::Uuid(0),
+        Value::Uuid(0xffff_ffff_ffff_ffff),
+        Value::Uuid(0x1_0000_0000_0000_0000),
+    ]?)
+}
+
 // All of them.
 fn in_order(alloc: Global) -> Result<Vec<Value>, AllocError> {
     let mut values = scalars(alloc)?;
     values.append(&mut texts(alloc)?)?;
     values.append(&mut containers(alloc)?)?;
+    values.append(&mut uuids(alloc)?)?;
     Ok(values)
 }
 
@@ -130,7 +139,7 @@ fn are_ordered(values: &[Value]) -> bool {
 
 fn are_all_ordered(alloc: Global) -> Result<bool, AllocError> {
     let values = in_order(alloc)?;
-    Ok(values.len() == 20 && are_ordered(values.as_slice()))
+    Ok(values.len() == 23 && are_ordered(values.as_slice()))
 }
 
 // Whether two empty lists are the same, whatever they are lists of.

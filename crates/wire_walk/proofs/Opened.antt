@@ -118,6 +118,7 @@ scalar_part wire levels below tags.I16 rest a b c d e = refl
 scalar_part wire levels below tags.I32 rest a b c d e = refl
 scalar_part wire levels below tags.I64 rest a b c d e = refl
 scalar_part wire levels below tags.Double rest a b c d e = refl
+scalar_part wire levels below tags.Uuid rest a b c d e = refl
 scalar_part wire levels below tags.Bytes rest a b c d e = absurd (a refl)
 scalar_part wire levels below tags.Struct rest a b c d e = absurd (b refl)
 scalar_part wire levels below tags.Map rest a b c d e = absurd (c refl)

@@ -46,7 +46,8 @@ pub fn put<C: Codec>(value: &Value, into: &mut Vec<u8>) -> Result<(), AllocError
         | Value::I16(_)
         | Value::I32(_)
         | Value::I64(_)
-        | Value::Double(_) => {
+        | Value::Double(_)
+        | Value::Uuid(_) => {
             number_fits(value);
             C::put_scalar(value, into)
         }
@@ -74,6 +75,9 @@ fn number_fits(value: &Value)
         }
         Value::Double(bits) => {
             let _number = *bits;
+        }
+        Value::Uuid(number) => {
+            let _number = *number;
         }
         Value::Bool(_) | Value::Bytes(_) | Value::Struct(_) | Value::Map(_, _, _) => {}
         Value::Set(_, _) | Value::List(_, _) => {}

@@ -175,6 +175,7 @@ fn struct_of_kind(kind: &TypeDesc) -> Option<u32>
         | TypeDesc::Double
         | TypeDesc::Text
         | TypeDesc::Binary
+        | TypeDesc::Uuid
         | TypeDesc::Enum(_)
         | TypeDesc::Map(_, _)
         | TypeDesc::Set(_)
@@ -195,6 +196,7 @@ fn is_number(kind: &TypeDesc) -> bool
         | TypeDesc::Double
         | TypeDesc::Text
         | TypeDesc::Binary
+        | TypeDesc::Uuid
         | TypeDesc::Enum(_)
         | TypeDesc::Struct(_)
         | TypeDesc::Map(_, _)
@@ -217,6 +219,7 @@ fn is_enum(kind: &TypeDesc) -> bool
         | TypeDesc::Double
         | TypeDesc::Text
         | TypeDesc::Binary
+        | TypeDesc::Uuid
         | TypeDesc::Struct(_)
         | TypeDesc::Map(_, _)
         | TypeDesc::Set(_)

@@ -63,3 +63,11 @@ returns-clause-one_value_too_many c = refl
 pub returns-clause-no_stop : goal.returns-clause-no_stop
 unfolding value layer parts field_list field_behind item_list pair_list binary_field binary_scalar binary_size binary_span binary_items binary_pairs tag_coded tag_of_code
 returns-clause-no_stop c = refl
+
+pub returns-clause-half_a_uuid : goal.returns-clause-half_a_uuid
+unfolding value layer parts field_list field_behind item_list pair_list binary_field binary_scalar binary_size binary_span binary_items binary_pairs tag_coded tag_of_code
+returns-clause-half_a_uuid c = refl
+
+pub returns-clause-type_behind_a_uuid : goal.returns-clause-type_behind_a_uuid
+unfolding value layer parts field_list field_behind item_list pair_list binary_field binary_scalar binary_size binary_span binary_items binary_pairs tag_coded tag_of_code
+returns-clause-type_behind_a_uuid c = refl

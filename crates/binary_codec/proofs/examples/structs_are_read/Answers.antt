@@ -43,3 +43,7 @@ returns-clause-any_codes_of_no_pairs c = refl
 pub returns-clause-repeats_in_wire_order : goal.returns-clause-repeats_in_wire_order
 unfolding value layer parts field_list field_behind item_list pair_list binary_field binary_scalar binary_size binary_span binary_items binary_pairs tag_coded tag_of_code
 returns-clause-repeats_in_wire_order c = refl
+
+pub returns-clause-uuid : goal.returns-clause-uuid
+unfolding value layer parts field_list field_behind item_list pair_list binary_field binary_scalar binary_size binary_span binary_items binary_pairs tag_coded tag_of_code
+returns-clause-uuid c = refl

@@ -16,5 +16,8 @@ returns-clause-signed c = refl
 pub returns-clause-bools : goal.returns-clause-bools
 returns-clause-bools c = refl
 
+pub returns-clause-uuid : goal.returns-clause-uuid
+returns-clause-uuid c = refl
+
 pub returns-clause-double : goal.returns-clause-double
 returns-clause-double c = refl

@@ -42,3 +42,15 @@ returns-clause-members c = refl
 pub returns-clause-pairs : goal.returns-clause-pairs
 unfolding double_number int_as_double double_bits tidy_members tidy_pairs
 returns-clause-pairs c = refl
+
+pub returns-clause-uuid : goal.returns-clause-uuid
+returns-clause-uuid c = refl
+
+pub returns-clause-short_uuid : goal.returns-clause-short_uuid
+returns-clause-short_uuid c = refl
+
+pub returns-clause-long_uuid : goal.returns-clause-long_uuid
+returns-clause-long_uuid c = refl
+
+pub returns-clause-moved_dash : goal.returns-clause-moved_dash
+returns-clause-moved_dash c = refl

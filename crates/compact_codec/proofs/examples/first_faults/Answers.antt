@@ -83,3 +83,7 @@ returns-clause-one_value_too_many c = refl
 pub returns-clause-a_flag_counts : goal.returns-clause-a_flag_counts
 unfolding value layer parts field_list field_behind item_list pair_list compact_field compact_scalar compact_size compact_span compact_items compact_pairs tag_in_half compact_tag
 returns-clause-a_flag_counts c = refl
+
+pub returns-clause-half_a_uuid : goal.returns-clause-half_a_uuid
+unfolding value layer parts field_list field_behind item_list pair_list compact_field compact_scalar compact_size compact_span compact_items compact_pairs tag_in_half compact_tag
+returns-clause-half_a_uuid c = refl

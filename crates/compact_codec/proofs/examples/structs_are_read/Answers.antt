@@ -51,3 +51,7 @@ returns-clause-empty_map c = refl
 pub returns-clause-sixty_four_levels : goal.returns-clause-sixty_four_levels
 unfolding value layer parts field_list field_behind item_list pair_list compact_field compact_scalar compact_size compact_span compact_items compact_pairs tag_in_half compact_tag
 returns-clause-sixty_four_levels c = refl
+
+pub returns-clause-uuid : goal.returns-clause-uuid
+unfolding value layer parts field_list field_behind item_list pair_list compact_field compact_scalar compact_size compact_span compact_items compact_pairs tag_in_half compact_tag
+returns-clause-uuid c = refl

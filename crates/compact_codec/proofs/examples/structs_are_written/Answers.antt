@@ -22,5 +22,8 @@ returns-clause-empty_map c = refl
 pub returns-clause-signed : goal.returns-clause-signed
 returns-clause-signed c = refl
 
+pub returns-clause-uuid : goal.returns-clause-uuid
+returns-clause-uuid c = refl
+
 pub returns-clause-double : goal.returns-clause-double
 returns-clause-double c = refl

@@ -1,4 +1,4 @@
-use Rattle.thrift_value.proofs.Trees.{tree_of-Bool, tree_of-I8, tree_of-I16, tree_of-I32, tree_of-I64, tree_of-Double, tree_of-Bytes, tree_of-Struct, tree_of-Map, tree_of-Set, tree_of-List}
+use Rattle.thrift_value.proofs.Trees.{tree_of-Bool, tree_of-I8, tree_of-I16, tree_of-I32, tree_of-I64, tree_of-Double, tree_of-Bytes, tree_of-Struct, tree_of-Map, tree_of-Set, tree_of-List, tree_of-Uuid}
 use Rattle.thrift_value.proofs.laws.trees_of_values.Goals as goal
 
 pub returns : goal.returns
@@ -14,4 +14,5 @@ returns c = record {
   map = tree_of-Map;
   set = tree_of-Set;
   list = tree_of-List;
+  uuid = tree_of-Uuid;
 }

@@ -53,6 +53,7 @@ small_leaves = record {
   i32 = λ _. (λ _. tt, λ _. refl);
   i64 = λ _. (λ _. tt, λ _. refl);
   double = λ _. (λ _. tt, λ _. refl);
+  uuid = λ _. (λ _. tt, λ _. refl);
 }
 
 pub Value::has_small_sizes-returns-in-Bool : goal.Value::has_small_sizes-returns-in-Bool
@@ -72,6 +73,9 @@ Value::has_small_sizes-returns-in-Bool-5 t c = of_number (λ x. IsTrue true ↔ 
 
 pub Value::has_small_sizes-returns-in-Bool-6 : goal.Value::has_small_sizes-returns-in-Bool-6
 Value::has_small_sizes-returns-in-Bool-6 t c = of_number (λ x. IsTrue true ↔ HasSmallSizes x) small_leaves c.args.self.now c.in-Bool.is
+
+pub Value::has_small_sizes-returns-in-Bool-7 : goal.Value::has_small_sizes-returns-in-Bool-7
+Value::has_small_sizes-returns-in-Bool-7 t c = of_number (λ x. IsTrue true ↔ HasSmallSizes x) small_leaves c.args.self.now c.in-Bool.is
 
 small_map : (x : Tree) (key value : Tag) (pairs : PairTrees) → x ≡ of_map key value pairs → HasSmallSizes x ↔ (HavePairsSmallSizes pairs × (pairs_len pairs < 2 ^ 31))
 small_map x key value pairs is = (λ w. let at = subst HasSmallSizes is w in (at.1, at.0), λ h. subst HasSmallSizes (sym is) (h.1, h.0))

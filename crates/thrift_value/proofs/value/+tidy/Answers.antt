@@ -117,6 +117,7 @@ tidy_leaves = record {
   i32 = λ _. (λ _. record { tagged = tt; in_order = tt }, λ _. refl);
   i64 = λ _. (λ _. record { tagged = tt; in_order = tt }, λ _. refl);
   double = λ _. (λ _. record { tagged = tt; in_order = tt }, λ _. refl);
+  uuid = λ _. (λ _. record { tagged = tt; in_order = tt }, λ _. refl);
 }
 
 pub Value::is_tidy-returns-in-Bool : goal.Value::is_tidy-returns-in-Bool
@@ -139,3 +140,6 @@ Value::is_tidy-returns-in-Bool-6 t c = of_leaf (λ x. IsTrue true ↔ IsTidy x) 
 
 pub Value::is_tidy-returns-in-Bool-7 : goal.Value::is_tidy-returns-in-Bool-7
 Value::is_tidy-returns-in-Bool-7 t c = of_leaf (λ x. IsTrue true ↔ IsTidy x) tidy_leaves c.args.self.now (λ _. (λ _. record { tagged = tt; in_order = tt }, λ _. refl)) c.in-Bool.is
+
+pub Value::is_tidy-returns-in-Bool-8 : goal.Value::is_tidy-returns-in-Bool-8
+Value::is_tidy-returns-in-Bool-8 t c = of_leaf (λ x. IsTrue true ↔ IsTidy x) tidy_leaves c.args.self.now (λ _. (λ _. record { tagged = tt; in_order = tt }, λ _. refl)) c.in-Bool.is

@@ -5,7 +5,7 @@ use Rattle.std.specs.List.{flat_map}
 use Rattle.thrift_value.specs.TreeOf.{tree_of, pair_tree, item_trees, pair_trees}
 use Rattle.value_text.specs.ValueText.{tag_word, number_and_letter, tree_text, listed_items, listed_pairs}
 use Rattle.value_text.proofs.Handed.{goes_on, hands_more, breaks, breaks_last, both_handed, hands_same, next_handed, next_fails, first_handed, next_field, next_item, next_pair, opened_fields, first_field, fields_begin, items_begin, pairs_begin}
-use Rattle.value_text.proofs.ValueTexts.{bool_text, i8_text, i16_text, i32_text, i64_text, bits_text, bytes_text, struct_text, map_text, set_text, list_text, map_opened, list_opened}
+use Rattle.value_text.proofs.ValueTexts.{bool_text, i8_text, i16_text, i32_text, i64_text, bits_text, wide_text, bytes_text, struct_text, map_text, set_text, list_text, map_opened, list_opened}
 use Rattle.value_text.proofs.spelling.+value_speller.Goals as goal
 
 pub spell_struct-returns-in_err-spell_fields : goal.spell_struct-returns-in_err-spell_fields
@@ -199,6 +199,11 @@ pub spell_value-returns-in-Double : goal.spell_value-returns-in-Double
 spell_value-returns-in-Double g t c =
     hands_same (g.K.Sink.taken c.args.out.now) (g.K.Sink.taken c.spell_double.new.out) (g.K.Sink.faults c.args.out.now) (g.K.Sink.faults c.spell_double.new.out) _ (tree_text (tree_of c.args.value.now)) c.spell_double.result
     (bits_text c.args.value.now c.in-Double.bits c.in-Double.is) c.spell_double.ensures
+
+pub spell_value-returns-in-Uuid : goal.spell_value-returns-in-Uuid
+spell_value-returns-in-Uuid g t c =
+    hands_same (g.K.Sink.taken c.args.out.now) (g.K.Sink.taken c.spell_uuid.new.out) (g.K.Sink.faults c.args.out.now) (g.K.Sink.faults c.spell_uuid.new.out) _ (tree_text (tree_of c.args.value.now)) c.spell_uuid.result
+    (wide_text c.args.value.now c.in-Uuid.number c.in-Uuid.is) c.spell_uuid.ensures
 
 pub spell_value-returns-in-Bytes : goal.spell_value-returns-in-Bytes
 spell_value-returns-in-Bytes g t c =

@@ -1,6 +1,7 @@
-use Rattle.std.specs.Int.{w8, w16, w32, w64}
+use Rattle.std.specs.Int.{w8, w16, w32, w64, w128}
 use Rattle.wire_num.proofs.Numbers.{byte_decodes, unsigned_decodes, signed_decodes, low_first_decodes_64}
 use Rattle.wire_num.proofs.Widths.{wide_8, wide_16, wide_32, wide_64}
+use Rattle.wire_num.proofs.Halves.{wide_128}
 use Rattle.wire_num.proofs.laws.fixed_numbers_are_decoded.Goals as goal
 
 pub returns-clause-byte : goal.returns-clause-byte
@@ -20,6 +21,9 @@ returns-clause-i64 c = signed_decodes w64 wide_64
 
 pub returns-clause-be64 : goal.returns-clause-be64
 returns-clause-be64 c = unsigned_decodes w64 wide_64
+
+pub returns-clause-be128 : goal.returns-clause-be128
+returns-clause-be128 c = unsigned_decodes w128 wide_128
 
 pub returns-clause-le64 : goal.returns-clause-le64
 returns-clause-le64 c = low_first_decodes_64
