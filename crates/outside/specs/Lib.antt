@@ -16,4 +16,6 @@ pub mod Reading
 pub mod Writing
 pub mod Closing
 pub mod Opening
+pub mod Pipes
+pub mod Calling
 pub mod Binding

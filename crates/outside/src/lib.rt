@@ -2,7 +2,7 @@
 //! that may be untold and a count of faults; kinds in memory that tell everything, for tests and proofs; and thin
 //! adapters over the standard streams and the system's files that tell nothing. It decides nothing about their bytes.
 //! Of connections it has what a loop sees: links, the bell that wakes the loop, the binder that makes them, and the gate
-//! that a worker passes; and the tape of what happened, in two vectors, so that a mark takes no memory of its own.
+//! that a worker passes; what a client sees, a pipe, which the binder dials; and the tape of what happened, in two vectors, so that a mark takes no memory of its own.
 //!
 //! A layer above takes `S: Source`, `K: Sink` or `F: Files` and hands each `Failed` on with its cause: the count rose.
 //!
@@ -35,6 +35,7 @@ mod mem_sink;
 mod mem_source;
 mod octets;
 mod outcomes;
+mod pipe;
 mod real;
 mod real_files;
 mod streams;
@@ -54,6 +55,7 @@ pub use mem_sink::MemSink;
 pub use mem_source::MemSource;
 pub use octets::Bytes;
 pub use outcomes::{EnvelopeFault, Settled};
+pub use pipe::Pipe;
 pub use real::{RealIn, RealOut};
 pub use real_files::RealFiles;
 pub use streams::{Failed, Sink, Source, write_all};
