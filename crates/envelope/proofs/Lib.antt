@@ -1,3 +1,4 @@
 pub mod Pieces
 pub mod CompactHeads
 pub mod Heads
+pub mod ReplyHeads

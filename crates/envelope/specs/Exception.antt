@@ -7,11 +7,8 @@ use Rattle.wire_num.specs.Varint.{varint_bytes}
 use Rattle.wire_num.specs.Zigzag.{zigzag}
 use Rattle.envelope.specs.declared.head.Protocol.{Protocol}
 use Rattle.envelope.specs.declared.head.Protocol.TheVariants.{Binary, Compact}
+use Rattle.envelope.specs.Said.{exception}
 use Rattle.envelope.specs.Spelling.{name_text, compact_name, head_text}
-
--- the type of an exception
-abbrev pub exception_type : ℕ
-exception_type = 3
 
 -- what went wrong: for whom to read, and as a code
 pub record Failure : Type 0 where
@@ -41,7 +38,7 @@ failure_struct Compact failure = compact_text_field failure.text ++ (compact_cod
 
 -- the head of an exception that answers a call of this name and sequence id
 unfoldable pub exception_head : Protocol → List ℕ → ℤ → List ℕ
-exception_head protocol name id = head_text protocol (record { name = name; kind = exception_type; id = id })
+exception_head protocol name id = head_text protocol (record { name = name; kind = exception; id = id })
 
 -- the whole message
 abbrev pub exception_text : Protocol → List ℕ → ℤ → Failure → List ℕ

@@ -13,7 +13,7 @@ use Rattle.envelope.specs.declared.head.Protocol.TheVariants.{Binary, Compact}
 use Rattle.envelope.specs.declared.head.Head.{Head}
 use Rattle.envelope.specs.declared.head.HeadFault.{HeadFault}
 use Rattle.envelope.specs.declared.head.HeadFault.TheVariants.{Envelope, NoMemory}
-use Rattle.envelope.specs.Said.{Said, call, call_without_reply, IsCall}
+use Rattle.envelope.specs.Said.{Said, call, call_without_reply, reply, exception, IsCall, IsReply}
 use Rattle.envelope.specs.Spelling.{strict_mark, strict_version, compact_mark, compact_version, IsSpelling}
 
 -- one step of a reading and then the next, unless the first is at fault
@@ -123,6 +123,17 @@ head_at protocol bytes = do
   _ ← call_type whole.0.kind
   Ok (record { name = whole.0.name; kind = whole.0.kind; id = whole.0.id; behind = length bytes - length whole.1 })
 
+-- the type has to be one that a client takes
+unfoldable pub reply_kind : ℕ → Result ⊤ EnvelopeFault
+reply_kind kind = if kind == reply || kind == exception then Ok tt else Err (MessageType kind)
+
+-- the head in front of these bytes, where they answer a call: a whole head, and then its type
+unfoldable pub reply_head_at : Protocol → List ℕ → Result Head EnvelopeFault
+reply_head_at protocol bytes = do
+  whole ← whole_head protocol bytes
+  _ ← reply_kind whole.0.kind
+  Ok (record { name = whole.0.name; kind = whole.0.kind; id = whole.0.id; behind = length bytes - length whole.1 })
+
 -- what a head that was read says
 abbrev pub said_by : Head → Said
 said_by head = record { name = head.name; kind = head.kind; id = head.id }
@@ -154,4 +165,13 @@ pub record IsEncodedIn (protocol : Protocol) (bytes : List ℕ) (head : Head) : 
   pub whole : bytes ≡ text ++ rest
   pub spelled : IsSpelling protocol (said_by head) text
   pub call : IsCall head.kind
+  pub behind : head.behind ≡ length text
+
+-- an answer's head stands in front of the bytes, up to the place behind it
+pub record IsReplyIn (protocol : Protocol) (bytes : List ℕ) (head : Head) : Type 0 where
+  pub text : List ℕ
+  pub rest : List ℕ
+  pub whole : bytes ≡ text ++ rest
+  pub spelled : IsSpelling protocol (said_by head) text
+  pub reply : IsReply head.kind
   pub behind : head.behind ≡ length text

@@ -33,3 +33,15 @@ call_without_reply = 4
 -- the types that a host takes
 abbrev pub IsCall : ℕ → Type 0
 IsCall kind = (kind ≡ call) ⊎ (kind ≡ call_without_reply)
+
+-- the type of a reply
+abbrev pub reply : ℕ
+reply = 2
+
+-- the type of an exception
+abbrev pub exception : ℕ
+exception = 3
+
+-- the types of what answers a call
+abbrev pub IsReply : ℕ → Type 0
+IsReply kind = (kind ≡ reply) ⊎ (kind ≡ exception)

@@ -1,8 +1,8 @@
 //! What holds of all heads.
 ghost use Rattle.std.specs.Prelude.{◌≡◌, ◌++◌, ℕ, List, [], Ok, length};
-ghost use Rattle.envelope.specs.Said.{Said, FitsHead, IsCall};
+ghost use Rattle.envelope.specs.Said.{Said, FitsHead, IsCall, IsReply};
 ghost use Rattle.envelope.specs.Spelling.{IsSpelling, head_text};
-ghost use Rattle.envelope.specs.Readout.{head_at};
+ghost use Rattle.envelope.specs.Readout.{head_at, reply_head_at};
 
 use super::head::Protocol;
 
@@ -15,6 +15,13 @@ pub fn written_heads_are_spelled()
 pub fn heads_are_read_back()
     ensures { (p : Protocol) (said : Said) (more : List ℕ) → FitsHead p said → IsCall said.kind
         → head_at p (head_text p said ++ more)
+        ≡ Ok (record { name = said.name; kind = said.kind; id = said.id; behind = length (head_text p said) }) }
+{}
+
+/// What was written of an answer is read back as it is, whatever follows.
+pub fn reply_heads_are_read_back()
+    ensures { (p : Protocol) (said : Said) (more : List ℕ) → FitsHead p said → IsReply said.kind
+        → reply_head_at p (head_text p said ++ more)
         ≡ Ok (record { name = said.name; kind = said.kind; id = said.id; behind = length (head_text p said) }) }
 {}
 

@@ -21,10 +21,14 @@ mod exception;
 mod head;
 mod laws;
 mod read;
+mod reply;
 mod write;
 
 pub use exception::write_exception;
 pub use head::{Head, HeadFault, LentHead, Protocol};
-pub use laws::{heads_are_read_back, no_head_is_a_prefix, written_heads_are_spelled};
+pub use laws::{
+    heads_are_read_back, no_head_is_a_prefix, reply_heads_are_read_back, written_heads_are_spelled,
+};
 pub use read::{lend_head, read_head};
+pub use reply::{lend_reply_head, read_reply_head};
 pub use write::write_head;

@@ -41,7 +41,7 @@ fn head_of(alloc: Global, protocol: Protocol, payload: &[u8]) -> Result<Head, He
 }
 
 /// A head with a name of its own.
-fn kept(alloc: Global, head: &LentHead<'_>) -> Result<Head, HeadFault>
+pub(crate) fn kept(alloc: Global, head: &LentHead<'_>) -> Result<Head, HeadFault>
     ensures { IsHeadOrNoMemory result (Ok head.now) }
 {
     let name = head.name().to_vec(alloc)?;
@@ -82,16 +82,16 @@ const ONEWAY: u8 = 4;
 
 /// What a head says, in the payload's own bytes, and the bytes behind it.
 #[derive(Clone, Copy)]
-struct Front<'a> {
-    name: &'a [u8],
-    kind: u8,
-    id: i32,
-    rest: &'a [u8],
+pub(crate) struct Front<'a> {
+    pub(crate) name: &'a [u8],
+    pub(crate) kind: u8,
+    pub(crate) id: i32,
+    pub(crate) rest: &'a [u8],
 }
 
 /// A whole head of any type.
 #[tactic(auto, unfolding(crate::specs::Readout::whole_head))]
-fn whole_head(protocol: Protocol, payload: &[u8]) -> Result<Front<'_>, HeadFault>
+pub(crate) fn whole_head(protocol: Protocol, payload: &[u8]) -> Result<Front<'_>, HeadFault>
     ensures { MeansExactly
         (λ f. (record { name = f.name.now; kind = f.kind; id = f.id }, f.rest.now))
         result (whole_head protocol payload.now) }

@@ -111,6 +111,10 @@ bounded value =
     else if nat_lt most_values (count_of value) then Err TooMany
     else Ok value
 
+-- what a raw value means under a type, where it has at most 64 levels and 4,000,000 values
+abbrev pub meaning_within_bounds : PlainSchema → PlainKind → Tree → Result Tree SkewFault
+meaning_within_bounds s kind raw = and_if_ok (meaning_of s.structs raw kind) bounded
+
 -- the projection of a raw value on the struct at a number
 abbrev pub projection : PlainSchema → ℕ → Tree → Result Tree SkewFault
-projection s which raw = and_if_ok (meaning_of s.structs raw (kind_struct which)) bounded
+projection s which raw = meaning_within_bounds s (kind_struct which) raw

@@ -47,7 +47,7 @@ pub use laws::{
     what_is_known_decides,
 };
 pub use needs::{NeededFields, needed_fields};
-pub use public::{project, project_with};
+pub use public::{fits_kind, project, project_value, project_with};
 pub use reading::{read_as, read_as_with};
 pub use rows::{
     a_projection_is_bounded, worked_containers, worked_fields, worked_levels, worked_unions,

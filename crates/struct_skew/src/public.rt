@@ -7,9 +7,12 @@ ghost use Rattle.schema.specs.SchemaOf.{schema_of};
 ghost use Rattle.schema.specs.Sound.{IsSound, IsPlaceIn};
 ghost use Rattle.struct_skew.specs.Answering.{ProjectsOrNoMemory};
 ghost use Rattle.struct_skew.specs.Needs.{needs_of};
-ghost use Rattle.struct_skew.specs.Projection.{projection};
+ghost use Rattle.struct_skew.specs.Projection.{meaning_within_bounds, projection};
+ghost use Rattle.struct_skew.specs.Fits.{fits_kind};
+ghost use Rattle.schema.specs.PlainKind.{kind_of};
 
 use crate::fault::SkewFault;
+use crate::kinds;
 use crate::meanings::meaning;
 use crate::needs::{NeededFields, needed_fields};
 use crate::values::bounded_of;
@@ -20,6 +23,30 @@ use thrift_value::{Raw, Value};
 /// The room that the defaults of one projection may take, in bytes: twice what 4,000,000 values take. Past it the answer is want
 /// of memory.
 const DEFAULTS_ROOM: u64 = 384_000_000;
+
+/// Whether a raw value counts under a type: the tags agree, and each element of a container fits its declared type.
+pub fn fits_kind(raw: &Raw, kind: &TypeDesc) -> bool
+    ensures { result ≡ fits_kind (kind_of kind.now) (tree_of raw.now) }
+{
+    kinds::fits_kind(raw, kind)
+}
+
+/// What a raw value means under a type, by what the schema's structs need: each struct in it is projected.
+pub fn project_value(
+    alloc: Global,
+    schema: &Schema,
+    needed: &NeededFields,
+    kind: &TypeDesc,
+    raw: &Raw,
+) -> Result<Value, SkewFault>
+    requires sound { IsSound (schema_of schema.now) }
+    requires needed { needed.now ≡ map needs_of (schema_of schema.now).structs }
+    ensures { ProjectsOrNoMemory tree_of result (meaning_within_bounds (schema_of schema.now) (kind_of kind.now) (tree_of raw.now)) }
+{
+    let mut room = DEFAULTS_ROOM;
+    let found = meaning(raw, alloc, schema, needed, kind, &mut room);
+    bounded_of(found)
+}
 
 /// The projection of a raw struct on the struct at a number, by what the schema's structs need. It takes time for the raw struct
 /// and the result, however many fields are declared.
@@ -36,10 +63,8 @@ pub fn project_with(
     requires raw_struct { tag_of (tree_of raw.now) ≡ StructTag }
     ensures { ProjectsOrNoMemory tree_of result (projection (schema_of schema.now) which (tree_of raw.now)) }
 {
-    let mut room = DEFAULTS_ROOM;
     let kind = TypeDesc::Struct(which);
-    let found = meaning(raw, alloc, schema, needed, &kind, &mut room);
-    bounded_of(found)
+    project_value(alloc, schema, needed, &kind, raw)
 }
 
 /// The projection of a raw struct on the struct at a number. It walks over all that the schema declares once: who projects more
