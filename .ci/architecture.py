@@ -1,6 +1,6 @@
-"""Prints each crate, file and name in the tables of docs/ARCHITECTURE.md that there isn't, and each crate that its map leaves out; nothing where all is well.
+"""Prints each crate, file and name in the map and the tables of docs/ARCHITECTURE.md that there isn't, and each crate that its map leaves out; nothing where all is well.
 
-A cell is read from left to right. `crate` is one of crates.txt, and what comes after it is of that crate: words with capitals (of the column Definition) are files
+The map is a list, whose items begin with the crates that they are about. A cell is read from left to right. `crate` is one of crates.txt, and what comes after it is of that crate: words with capitals (of the column Definition) are files
 of specs/, and words that stand alone between commas, semicolons and colons (of the other columns) are modules of src/. Names in backquotes are defined in the
 files or modules before them, or where none is, anywhere in the crate. `crate::Name` is defined in that crate. Other words are prose.
 """
@@ -94,17 +94,25 @@ def rows(text):
         head = cells and (head or cells)
 
 
+def mapped(text):
+    """Yields the crates of each item of the map, with the number of its line."""
+    is_map = False
+    for number, line in enumerate(text.split("\n"), 1):
+        is_map = line == "## The map" or is_map and not line.startswith("In a crate,")
+        if is_map and line.startswith("- "):
+            yield number, re.findall(r"`(\w+)`", line.partition(":")[0])
+
+
 def faults(text):
     """Yields what is wrong with the tables of this text."""
     named, rules = set(), set()
+    for number, crates in mapped(text):
+        named.update(crates)
+        yield from (f"{number}: there is no crate `{it}`" for it in crates if it not in CRATES)
     for number, head, cells in rows(text):
         for title, cell in zip(head, cells):
             lost = []
-            if title == "Crate":
-                crates = re.findall(r"`(\w+)`", cell)
-                named.update(crates)
-                lost = [f"crate `{it}`" for it in crates if it not in CRATES]
-            elif title not in ("Rule", "Step", "Storey", "What it is", "Stands on"):
+            if title not in ("Rule", "Step"):
                 lost = missing_of(cell, title == "Definition")
             yield from (f"{number}: there is no {it} ({title}: {cells[0] or cells[1]})" for it in lost)
         if head[0] == "Rule" and cells[0] in rules:

@@ -1,7 +1,7 @@
 """Prints the public calls of the program's libraries by what they may do: those that may wait, those that may take memory, and those that take none.
 
 calls.py                   prints them
-calls.py --update FILE     writes them between the lines '<!-- calls -->' and '<!-- end of calls -->' of FILE
+calls.py --update FILE     writes them between the lines '<!-- calls -->' and '<!-- end of calls -->' of FILE: those that may wait, and of the others the numbers
 calls.py --check FILE      says so where other ones stand there
 calls.py --doubtful        prints the calls whose signature leaves it open, with their signatures
 
@@ -227,20 +227,20 @@ def calls():
                 yield crate, name, head, kinds
 
 
-def lists():
-    """Yields the text of the three lists, a line a crate."""
+def lists(is_whole):
+    """Yields the text of the three lists, a line a crate; where not all is asked for, the first one, and of the others their numbers."""
     known = list(calls())
-    for title, belongs in (
-        ("may wait; those with a star may take memory too", lambda kinds: "wait" in kinds),
-        ("wait for nobody, and may take memory", lambda kinds: kinds == {"take"}),
-        ("wait for nobody, and take none", lambda kinds: not kinds),
+    for title, belongs, is_shown in (
+        ("may wait; those with a star may take memory too", lambda kinds: "wait" in kinds, True),
+        ("wait for nobody, and may take memory", lambda kinds: kinds == {"take"}, is_whole),
+        ("wait for nobody, and take none", lambda kinds: not kinds, is_whole),
     ):
         by_crate = {}
         for crate, name, _, kinds in known:
             if belongs(kinds):
                 by_crate.setdefault(crate, set()).add(f"`{name}`{'*' if kinds == {'wait', 'take'} else ''}")
-        yield f"\n{sum(map(len, by_crate.values()))} calls {title}:\n\n"
-        for crate, names in by_crate.items():
+        yield f"\n{sum(map(len, by_crate.values()))} calls {title}" + (":\n\n" if is_shown else ".\n")
+        for crate, names in by_crate.items() if is_shown else ():
             yield f"- {crate}: {', '.join(sorted(names))}\n"
 
 
@@ -254,7 +254,7 @@ def main(words):
             if bool(says) != ("take" in kinds) or gets and "take" not in kinds or name in BY_KIND | NEVER:
                 print(f"{crate}\t{'+'.join(sorted(kinds)) or 'none'}\t{name}\t{head}")
         return
-    found = "".join(lists()).lstrip("\n")
+    found = "".join(lists(not words)).lstrip("\n")
     if not words:
         print(found, end="")
         return

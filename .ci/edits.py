@@ -1,4 +1,4 @@
-"""Prints the edits that the prover has to refuse, a line a crate: those that the gate tries, and those of bench/edits.
+"""Prints the edits that the prover has to refuse: those that the gate tries, a line a crate, and how many stand in bench/edits.
 
 edits.py                   prints them
 edits.py --update FILE     writes them between the lines '<!-- edits -->' and '<!-- end of edits -->' of FILE
@@ -18,12 +18,15 @@ def names(folder):
 
 
 def lines():
-    """Yields the line of each crate that has edits."""
+    """Yields the line of each crate that has edits in the gate, and one of how many there are outside of it."""
+    outside = []
     for crate in sorted(os.listdir(f"{TOP}/crates")):
-        parts = [("gate", names(f"{TOP}/crates/{crate}/must-fail")), ("outside", names(f"{TOP}/bench/edits/{crate}"))]
-        said = "; ".join(f"*{where}* {', '.join(found)}" for where, found in parts if found)
-        if said:
-            yield f"- `{crate}`: {said}\n"
+        gate, other = names(f"{TOP}/crates/{crate}/must-fail"), names(f"{TOP}/bench/edits/{crate}")
+        if gate:
+            yield f"- `{crate}`: {', '.join(gate)}\n"
+        if other:
+            outside.append(len(other))
+    yield f"\nOutside the gate stand {sum(outside)} more, of {len(outside)} crates.\n"
 
 
 found = "".join(lines())
