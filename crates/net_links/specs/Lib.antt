@@ -2,3 +2,4 @@ pub mod Account
 pub mod Transfers
 pub mod Settling
 pub mod Watching
+pub mod Piping

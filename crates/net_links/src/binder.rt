@@ -1,20 +1,21 @@
-//! Makes links over sockets, and takes them back.
+//! Makes links and pipes over sockets, and takes them back.
 
 ghost use Rattle.std.specs.Prelude.{◌≡◌};
 
 use crate::net_links::NetLinks;
+use crate::pipe::NetPipe;
 use outside::{BindFail, Binder};
 use std::alloc::Global;
 use std::io::ErrorKind;
 use std::marker::Model;
-use std::net::Net;
+use std::net::{Ipv4Addr, Net, OpenStream, SocketAddr, TcpStream};
 
-/// Binds ports of the loopback address, 127.0.0.1.
+/// Binds and dials ports of the loopback address, 127.0.0.1.
 #[derive(Drop)]
 pub struct NetBinder<'a, N: Net> {
-    /// What binds them.
+    /// What binds and connects them.
     net: &'a N,
-    /// How many ports couldn't be listened at, and how many links came back with a fault; it stands still at its type's end.
+    /// How many ports couldn't be listened at or dialled, and how many links and pipes came back with a fault; it stands still at its type's end.
     faults: u64,
 }
 
@@ -34,7 +35,7 @@ impl<'a, N: Net> NetBinder<'a, N> {
         NetBinder { net, faults: 0 }
     }
 
-    /// How many ports couldn't be listened at, and how many links came back with a fault.
+    /// How many ports couldn't be listened at or dialled, and how many links and pipes came back with a fault.
     pub fn faults(&self) -> u64
         ensures { result ≡ self.now }
     {
@@ -46,10 +47,17 @@ impl<'a, N: Net> Binder for NetBinder<'a, N> {
     ghost use Rattle.std.specs.Prelude.{None};
 
     type L = NetLinks;
+    type P = NetPipe<N::Stream>;
 
     ghost past = { λ _. None };
 
+    ghost called = { λ _. None };
+
     ghost faults = { λ b. b };
+
+    fn tells(&self) -> bool {
+        false
+    }
 
     fn listen(&mut self, alloc: Global, port: u16, accept: u32) -> Result<NetLinks, BindFail> {
         match NetLinks::new(self.net, alloc, port, accept) {
@@ -64,6 +72,26 @@ impl<'a, N: Net> Binder for NetBinder<'a, N> {
 
     fn take_back(&mut self, links: NetLinks) {
         if links.net_faults() > 0 {
+            self.faults = self.faults.saturating_add(1);
+        }
+    }
+
+    fn dial(&mut self, _alloc: Global, port: u16) -> Result<NetPipe<N::Stream>, BindFail> {
+        match TcpStream::connect(self.net, SocketAddr::from((Ipv4Addr::LOCALHOST, port))) {
+            Ok(stream) => {
+                let _ = stream.set_nodelay(true);
+                Ok(NetPipe::over(stream, port))
+            }
+            Err(error) if error.kind() == ErrorKind::OutOfMemory => Err(BindFail::NoMemory),
+            Err(_) => {
+                self.faults = self.faults.saturating_add(1);
+                Err(BindFail::Failed)
+            }
+        }
+    }
+
+    fn hang_up(&mut self, pipe: NetPipe<N::Stream>) {
+        if pipe.read_faults() > 0 || pipe.write_faults() > 0 {
             self.faults = self.faults.saturating_add(1);
         }
     }
