@@ -20,6 +20,7 @@ pub(crate) fn listen<K: Sink, B: Binder>(
     ensures listening { MatchResult result
         (λ links. StartsListening (B.past binder.old) (B.past binder.new) (record { port = port; accept = accept }) (K.taken output.old) (K.taken output.new) (B.L.state links))
         (λ fault. EndsListening fault (B.past binder.old) (B.past binder.new) (record { port = port; accept = accept }) (K.taken output.old) (K.taken output.new)) }
+    ensures called { B.called binder.new ≡ B.called binder.old }
     ensures binder_later { B.faults binder.old ≤ B.faults binder.new }
     ensures output_later { K.faults output.old ≤ K.faults output.new }
     ensures net_fault { result ≡ Err PortFault.NetFault → Rose (B.faults binder.old) (B.faults binder.new) }

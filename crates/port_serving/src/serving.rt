@@ -84,6 +84,8 @@ pub fn serve_port<
           past = B.past binder.new;
         })
         (record { taken_before = K.taken output.old; taken = K.taken output.new }) result }
+    // No port was dialled.
+    ensures called { B.called binder.new ≡ B.called binder.old }
     ensures file_fault { result ≡ Err PortFault.FileFault → Rose (F.faults files.old) (F.faults files.new) }
     ensures net_fault { result ≡ Err PortFault.NetFault → Rose (B.faults binder.old) (B.faults binder.new) }
     ensures write_fault { result ≡ Err PortFault.WriteFault → Rose (K.faults output.old) (K.faults output.new) }
@@ -151,6 +153,7 @@ fn serve_links<
           past = B.past binder.new;
         })
         result.ends result.calls result.outcome result.lost }
+    ensures called { B.called binder.new ≡ B.called binder.old }
     ensures net_fault { result.outcome ≡ outcomes.NetFault → Rose (B.faults binder.old) (B.faults binder.new) }
     ensures torn { result.outcome ≡ outcomes.JournalFault → result.lost ≡ true }
     ensures journal_fault { result.lost ≡ true → Rose (F.sink_faults files.old) (F.sink_faults files.new) }
