@@ -21,3 +21,5 @@ pub mod Firsts
 pub mod Copying
 pub mod Listening
 pub mod PastRows
+pub mod CalledRows
+pub mod Piping

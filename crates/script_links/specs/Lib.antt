@@ -10,3 +10,6 @@ pub mod Serves
 pub mod Past
 pub mod Failing
 pub mod Listens
+pub mod Answering
+pub mod Called
+pub mod Binding

@@ -1,17 +1,15 @@
 -- Links over a script that listen, of whose calls some may be to fail.
-use Rattle.std.specs.Prelude.{ℕ, Bool, List, [], ◌∷◌, ◌++◌, Some, if◌then◌else◌}
-use Rattle.outside.specs.Cause.{next_count, next_if_faulty}
+use Rattle.std.specs.Prelude.{ℕ, Bool, List, Some, if◌then◌else◌}
+use Rattle.outside.specs.Cause.{next_count}
 use Rattle.outside.specs.declared.answers.Ask.{Ask}
 use Rattle.outside.specs.declared.answers.Taken.{Taken}
 use Rattle.outside.specs.declared.answers.Taken.TheVariants.{Failed}
 use Rattle.outside.specs.LinksState.{Listening, LinksState}
-use Rattle.outside.specs.Binding.{PastLinks}
-use Rattle.script_model.specs.ScriptLines.{ScriptPlan}
 use Rattle.script_links.specs.ServedScript.{ServedScript, link_at}
 use Rattle.script_links.specs.Plain.{next_of, left_by_read, left_by_write, taken_by_read, taken_by_rules}
 use Rattle.script_links.specs.Shown.{links_told}
 use Rattle.script_links.specs.Followed.{LinksPlan, plan_of_links}
-use Rattle.script_links.specs.Failing.{CountedCalls, FaultPlan, fails_next, read_fails, write_fails, after_counting, after_asking, after_reading, after_writing}
+use Rattle.script_links.specs.Failing.{FaultPlan, fails_next, read_fails, write_fails, after_asking, after_reading, after_writing}
 
 -- links over a script, where they listen, which of their calls are to fail, and how often asking what is next failed
 pub record ListeningScript : Type 0 where
@@ -59,22 +57,3 @@ left_by_reading c lent bytes taken links = record links { plan = after_reading c
 -- after a write of these bytes that came to this
 abbrev pub left_by_writing : ℕ → List ℕ → Taken → ListeningScript → ListeningScript
 left_by_writing c bytes taken links = record links { plan = after_writing c links.plan; served = left_by_write c bytes taken links.served }
-
--- A binder over a script: which of its calls to listen are to fail, and which calls on links that it makes; how many faults were counted; and the links that came back.
-pub record BinderState : Type 0 where
-  pub script : ScriptPlan
-  pub listens : CountedCalls
-  pub plan : FaultPlan
-  pub faults : ℕ
-  pub past : List PastLinks
-
--- it was asked for links
-abbrev pub after_listen : BinderState → BinderState
-after_listen b = record b { listens = after_counting b.listens; faults = if fails_next b.listens then next_count b.faults else b.faults }
-
--- these links came back
-abbrev pub after_return : ListeningScript → BinderState → BinderState
-after_return links b = record b {
-  faults = next_if_faulty links.net_faults b.faults;
-  past = b.past ++ record { tape = links.served.tape; over = links.served.over; listening = links.listening } ∷ [];
-}

@@ -1,16 +1,21 @@
 //! A binder in memory.
 
-ghost use Rattle.std.specs.Prelude.{◌≡◌, ◌≢◌, ◌↔◌, ◌≤◌, false, Some, [], IfOk, IsSome, IsTrue, Err};
+ghost use Rattle.std.specs.Prelude.{◌≡◌, ◌≢◌, ◌↔◌, ◌≤◌, true, false, Some, [], IfOk, IsSome, IsTrue, MatchResult, Err};
 ghost use Rattle.outside.specs.Cause.{Rose, next_if_faulty};
 ghost use Rattle.outside.specs.declared.binder.BindFail.TheVariants.{Failed};
 ghost use Rattle.outside.specs.Binding.{StartListening, HasBindCause, told_past};
+ghost use Rattle.outside.specs.Calling.{StartsCalling, told_called, next_if_either};
 ghost use Rattle.script_links.specs.Failing.{uncalled, none_fails, fails_next};
 ghost use Rattle.script_links.specs.Followed.{AreFirstLinksOf};
-ghost use Rattle.script_links.specs.Listens.{listening_told, after_listen, after_return};
+ghost use Rattle.script_links.specs.Answering.{fresh_pipe, no_answer, pipe_told};
+ghost use Rattle.script_links.specs.Listens.{listening_told};
+ghost use Rattle.script_links.specs.Binding.{after_call, after_return, after_dial, after_hanging_up};
 
 use crate::bound::BoundLinks;
 use crate::call_list::{CallList, FailingCalls};
+use crate::called::CalledChain;
 use crate::copy::copy_of;
+use crate::mem_pipe::{Answer, MemPipe, hung_up};
 use crate::past::{PastChain, PastRow};
 use crate::serving::ScriptServing;
 use lists::Listed;
@@ -22,13 +27,14 @@ use std::mem;
 use std::sync::Arc;
 use std::sync::atomic::AtomicU64;
 
-/// Makes links over a script. The calls to listen whose numbers were given, counted from 0, fail and count a fault each; and so do calls on the links.
+/// Makes links over a script, and pipes over bytes. The calls to listen and to dial whose numbers were given, counted together from 0, fail and count a fault each; and
+/// so do calls on the links and on the pipes.
 #[derive(Drop)]
 pub struct MemBinder {
     /// The script.
     script: Script,
-    /// The calls to listen.
-    listens: CallList,
+    /// The calls to listen and to dial.
+    calls: CallList,
     /// The numbers of the calls that ask what is next and are to fail on each links, where any are.
     nexts: Option<Listed<u64>>,
     /// The connection of which reads and writes are to fail on each links.
@@ -37,42 +43,52 @@ pub struct MemBinder {
     reads: Option<Listed<u64>>,
     /// The numbers of these writes, where any are.
     writes: Option<Listed<u64>>,
+    /// What the pipe of the next call to dial answers, where that was said.
+    answer: Option<Answer>,
     /// How many calls failed; it stands still at its type's end.
     faults: u64,
     /// The links that came back.
     past: PastChain,
+    /// The pipes that were hung up.
+    called: CalledChain,
 }
 
 impl Model for MemBinder {
     ghost use Rattle.script_links.specs.Failing.{uncalled, numbers_given};
-    ghost use Rattle.script_links.specs.Listens.{BinderState};
+    ghost use Rattle.script_links.specs.Answering.{answer_given};
+    ghost use Rattle.script_links.specs.Binding.{BinderState};
     ghost use Rattle.script_links.specs.Past.{past_in_chain};
+    ghost use Rattle.script_links.specs.Called.{called_in_chain};
 
     ghost Value = { BinderState };
 
     ghost view = { λ b. record {
       script = b.script;
-      listens = b.listens;
+      calls = b.calls;
       plan = record { nexts = uncalled (numbers_given b.nexts); conn = b.conn; reads = uncalled (numbers_given b.reads); writes = uncalled (numbers_given b.writes) };
+      answer = answer_given b.answer;
       faults = b.faults;
       past = past_in_chain b.past;
+      called = called_in_chain b.called;
     } };
 }
 
 impl MemBinder {
-    /// Makes a binder over this script, with the numbers of the calls to listen that are to fail; takes no memory.
+    /// Makes a binder over this script, with the numbers of the calls to listen and to dial that are to fail, counted together; takes no memory.
     pub fn new(script: Script, fails: Vec<u64>) -> Self
-        ensures { result ≡ record { script = script; listens = uncalled fails.items; plan = none_fails; faults = 0; past = [] } }
+        ensures { result ≡ record { script = script; calls = uncalled fails.items; plan = none_fails; answer = no_answer; faults = 0; past = []; called = [] } }
     {
         MemBinder {
             script,
-            listens: CallList::new(fails),
+            calls: CallList::new(fails),
             nexts: None,
             conn: 0,
             reads: None,
             writes: None,
+            answer: None,
             faults: 0,
             past: PastChain::Nothing,
+            called: CalledChain::Nothing,
         }
     }
 
@@ -96,15 +112,25 @@ impl MemBinder {
         binder
     }
 
-    /// Counts a call to listen, and a fault where it is to fail.
+    /// The same binder, of which the next pipe that it dials answers this; the reads and writes of it whose numbers are given, counted together from 0, fail and count a
+    /// fault each. Any other pipe gives its end at once, and fails nowhere. Takes no memory.
+    pub fn with_pipe(self, reply: Vec<u8>, fails: Vec<u64>) -> MemBinder
+        ensures { result ≡ record self { answer = record { reply = reply.items; fails = fails.items } } }
+    {
+        let mut binder = self;
+        binder.answer = Some(Answer { reply, fails });
+        binder
+    }
+
+    /// Counts a call to listen or to dial, and a fault where it is to fail.
     fn count_call(&mut self) -> bool
-        ensures fails { result ≡ fails_next self.old.listens }
+        ensures fails { result ≡ fails_next self.old.calls }
         ensures later { self.old.faults ≤ self.new.faults }
         ensures rose { IsTrue result → Rose self.old.faults self.new.faults }
         ensures kept { result ≡ false → self.new.faults ≡ self.old.faults }
-        ensures after { self.new ≡ after_listen self.old }
+        ensures after { self.new ≡ after_call self.old }
     {
-        let fails = self.listens.count();
+        let fails = self.calls.count();
         if fails {
             self.faults = self.faults.saturating_add(1);
         }
@@ -116,6 +142,15 @@ impl MemBinder {
         ensures { self.new ≡ record self.old { faults = next_if_faulty net_faults self.old.faults } }
     {
         if net_faults > 0 {
+            self.faults = self.faults.saturating_add(1);
+        }
+    }
+
+    /// Counts a fault where a read or a write of a pipe has failed that was hung up.
+    fn count_pipe(&mut self, read_faults: u64, write_faults: u64)
+        ensures { self.new ≡ record self.old { faults = next_if_either read_faults write_faults self.old.faults } }
+    {
+        if read_faults > 0 || write_faults > 0 {
             self.faults = self.faults.saturating_add(1);
         }
     }
@@ -156,24 +191,50 @@ impl MemBinder {
             room,
         })
     }
+
+    /// Makes a pipe to this port, which answers what was said.
+    fn answering(&mut self, alloc: Global, port: u16) -> Result<MemPipe, AllocError>
+        ensures own { IfOk result (λ pipe. pipe ≡ fresh_pipe port self.old.answer) }
+        ensures after { MatchResult result (λ _. self.new ≡ record self.old { answer = no_answer }) (λ _. self.new ≡ self.old) }
+    {
+        let room = Box::new(alloc, CalledChain::Nothing)?;
+        let answer = match mem::replace(&mut self.answer, None) {
+            Some(answer) => answer,
+            None => Answer {
+                reply: Vec::new(alloc),
+                fails: Vec::new(alloc),
+            },
+        };
+        Ok(MemPipe::new(alloc, port, answer, room))
+    }
 }
 
 impl Binder for MemBinder {
     type L = BoundLinks;
+    type P = MemPipe;
 
     ghost past = { λ b. Some b.past };
 
+    ghost called = { λ b. Some b.called };
+
     ghost faults = { λ b. b.faults };
+
+    fn tells(&self) -> bool
+        ensures { result ≡ true }
+    {
+        true
+    }
 
     fn listen(&mut self, alloc: Global, port: u16, accept: u32) -> Result<BoundLinks, BindFail>
         ensures made { IfOk result (λ links. StartListening (Some self.old.past) (record { port = port; accept = accept }) (listening_told links)) }
         ensures same { Some self.new.past ≡ Some self.old.past }
+        ensures called_same { Some self.new.called ≡ Some self.old.called }
         ensures cause { HasBindCause self.old.faults self.new.faults result }
         // It fails where it was told to, and nowhere else; its links are over the script's first connections, and fail where they were told to.
-        ensures fails { result ≡ Err Failed ↔ IsTrue (fails_next self.old.listens) }
+        ensures fails { result ≡ Err Failed ↔ IsTrue (fails_next self.old.calls) }
         ensures own { IfOk result (λ links. AreFirstLinksOf accept self.old.script links.served) }
         ensures plan { IfOk result (λ links. links.plan ≡ self.old.plan) }
-        ensures after { self.new ≡ after_listen self.old }
+        ensures after { self.new ≡ after_call self.old }
     {
         if self.count_call() {
             return Err(BindFail::Failed);
@@ -187,6 +248,7 @@ impl Binder for MemBinder {
     fn take_back(&mut self, links: BoundLinks)
         requires { IsSome (listening_told links).listens }
         ensures past { Some self.new.past ≡ told_past (Some self.old.past) (listening_told links) }
+        ensures called_same { Some self.new.called ≡ Some self.old.called }
         ensures cause { self.new.faults ≡ next_if_faulty (listening_told links).net_faults self.old.faults }
         ensures after { self.new ≡ after_return links self.old }
     {
@@ -211,5 +273,36 @@ impl Binder for MemBinder {
             },
         );
         self.count_links(net_faults);
+    }
+
+    fn dial(&mut self, alloc: Global, port: u16) -> Result<MemPipe, BindFail>
+        ensures made { IfOk result (λ pipe. StartsCalling (Some self.old.called) port (pipe_told pipe)) }
+        ensures same { Some self.new.called ≡ Some self.old.called }
+        ensures past_same { Some self.new.past ≡ Some self.old.past }
+        ensures cause { HasBindCause self.old.faults self.new.faults result }
+        // It fails where it was told to, and nowhere else; its pipe answers what was said, and fails where it was told to.
+        ensures fails { result ≡ Err Failed ↔ IsTrue (fails_next self.old.calls) }
+        ensures own { IfOk result (λ pipe. pipe ≡ fresh_pipe port self.old.answer) }
+        ensures after { MatchResult result (λ _. self.new ≡ after_dial self.old) (λ _. self.new ≡ after_call self.old) }
+    {
+        if self.count_call() {
+            return Err(BindFail::Failed);
+        }
+        match self.answering(alloc, port) {
+            Ok(pipe) => Ok(pipe),
+            Err(AllocError) => Err(BindFail::NoMemory),
+        }
+    }
+
+    fn hang_up(&mut self, pipe: MemPipe)
+        ensures called { Some self.new.called ≡ told_called (Some self.old.called) (pipe_told pipe) }
+        ensures past_same { Some self.new.past ≡ Some self.old.past }
+        ensures cause { self.new.faults ≡ next_if_either (pipe_told pipe).read_faults (pipe_told pipe).write_faults self.old.faults }
+        ensures after { self.new ≡ after_hanging_up pipe self.old }
+    {
+        let (read_faults, write_faults) = (pipe.read_faults(), pipe.write_faults());
+        let before = mem::replace(&mut self.called, CalledChain::Nothing);
+        self.called = hung_up(pipe, before);
+        self.count_pipe(read_faults, write_faults);
     }
 }

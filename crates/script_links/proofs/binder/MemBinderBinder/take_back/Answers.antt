@@ -1,6 +1,7 @@
 use Rattle.std.proofs.Common.{◌≡◌, [], ◌∷◌, ◌++◌, Some, ap, ◌∙◌}
 use Rattle.outside.specs.Cause.{next_if_faulty}
-use Rattle.script_links.specs.Listens.{ListeningScript, BinderState}
+use Rattle.script_links.specs.Listens.{ListeningScript}
+use Rattle.script_links.specs.Binding.{BinderState}
 use Rattle.script_links.specs.Past.{past_in_chain}
 use Rattle.std.specs.Box.{with_value}
 use Rattle.script_links.specs.declared.past.PastChain.{Behind}
@@ -20,10 +21,12 @@ returns-clause-after c =
     ∙ (λ i. before i ++ record { tape = tape i; over = over i; listening = listening i } ∷ []) in
     c.count_links.ensures ∙ (λ i. record {
       script = (c.self.view_is i).script;
-      listens = (c.self.view_is i).listens;
+      calls = (c.self.view_is i).calls;
       plan = (c.self.view_is i).plan;
+      answer = (c.self.view_is i).answer;
       faults = next_if_faulty (net i) (c.self.view_is i).faults;
       past = whole i;
+      called = (c.self.view_is i).called;
     })
 
 pub returns-clause-past : goal.returns-clause-past
@@ -31,3 +34,6 @@ returns-clause-past c = ap (λ (b : BinderState). Some b.past) (returns-clause-a
 
 pub returns-clause-cause : goal.returns-clause-cause
 returns-clause-cause c = ap (λ (b : BinderState). b.faults) (returns-clause-after c)
+
+pub returns-clause-called_same : goal.returns-clause-called_same
+returns-clause-called_same c = ap (λ (b : BinderState). Some b.called) (returns-clause-after c)
