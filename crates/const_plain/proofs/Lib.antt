@@ -8,5 +8,6 @@ pub mod OneMore
 pub mod RowTrees
 pub mod Spelled
 pub mod TableRows
+pub mod UuidParts
 pub mod WholeBits
 pub mod WholeParts

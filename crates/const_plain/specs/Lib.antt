@@ -3,4 +3,5 @@ pub mod InMemory
 pub mod Scopes
 pub mod Saturated
 pub mod Table
+pub mod UuidGroups
 pub mod BracesOf

@@ -10,10 +10,10 @@
 //! ```
 //!
 //! The modules, bottom up: what constants are evaluated in (`environment`), the 64 bits of whole numbers (`bits`), which numbers with
-//! a fraction or an exponent are whole (`decimals`, `doubles`), the tag and the integers of each type (`table`), by these one value
-//! against a type (`scalars`), members and pairs in order (`tidy`), containers (`containers`), fields of structs (`fields`) and
-//! their defaults (`defaults`), which given values are free (`given`), counting (`counting`), and the walk (`walk`), one cycle of
-//! functions.
+//! a fraction or an exponent are whole (`decimals`, `doubles`), the uuids of literals (`uuids`), the tag and the integers of each type
+//! (`table`), by these one value against a type (`scalars`), members and pairs in order (`tidy`), containers (`containers`), fields of
+//! structs (`fields`) and their defaults (`defaults`), which given values are free (`given`), counting (`counting`), and the walk
+//! (`walk`), one cycle of functions.
 //!
 //! Want of memory is the one answer that the contracts leave free. It is also the answer where calls nest more than 10,000 deep, and
 //! of two numbers that are refused before: an exponent of more than 64 bits, and an enum's value of more than 32.
@@ -32,6 +32,7 @@ mod given;
 mod scalars;
 mod table;
 mod tidy;
+mod uuids;
 mod walk;
 
 pub use environment::Environment;

@@ -12,7 +12,7 @@ use crate::bits::double_bits;
 use crate::doubles::double_written;
 use crate::faults::PlainFault;
 use crate::table::{is_within, row_of};
-use idl_token::uuid_value;
+use crate::uuids::uuid_in;
 use lists::ByteText;
 use schema::TypeDesc;
 use std::alloc::Global;
@@ -67,7 +67,7 @@ pub(crate) fn double_value(
 fn uuid_written(bytes: &ByteText) -> Result<Value, PlainFault>
     ensures { IsPlainOne (as_uuid (uuid_number bytes.now)) result }
 {
-    let number = uuid_value(bytes.as_slice()).ok_or(PlainFault::BadUuid)?;
+    let number = uuid_in(bytes.as_slice()).ok_or(PlainFault::BadUuid)?;
     Ok(Value::Uuid(number))
 }
 

@@ -17,11 +17,7 @@ const EXCEPTION: u8 = 3;
 /// The head in front of a payload that answers a call, of a reply or an exception, in the forms that `read_head` takes (Thrift binary
 /// and compact protocol, 'Message').
 #[tactic(auto, using(crate::proofs::Heads::or_no_memory))]
-pub fn read_reply_head(
-    alloc: Global,
-    protocol: Protocol,
-    payload: &[u8],
-) -> Result<Head, HeadFault>
+pub fn read_reply_head(alloc: Global, protocol: Protocol, payload: &[u8]) -> Result<Head, HeadFault>
     ensures exact { IsHeadOrNoMemory result (reply_head_at protocol payload.now) }
 {
     match lent_reply(protocol, payload) {

@@ -9,12 +9,12 @@ pub record PipeAccount : Type 0 where
   pub write_faults : ℕ
 
 -- nothing has happened
-abbrev pub fresh_pipe : ℕ → PipeAccount
-fresh_pipe port = record { port = port; read_faults = 0; write_faults = 0 }
+abbrev pub fresh_net_pipe : ℕ → PipeAccount
+fresh_net_pipe port = record { port = port; read_faults = 0; write_faults = 0 }
 
 -- the same as what a pipe is to those who use it
-abbrev pub pipe_told : PipeAccount → PipeState
-pipe_told p = record {
+abbrev pub net_pipe_told : PipeAccount → PipeState
+net_pipe_told p = record {
   port = p.port;
   written = None;
   given = None;

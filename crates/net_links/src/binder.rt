@@ -47,6 +47,7 @@ impl<'a, N: Net> Binder for NetBinder<'a, N> {
     ghost use Rattle.std.specs.Prelude.{None};
 
     type L = NetLinks;
+
     type P = NetPipe<N::Stream>;
 
     ghost past = { λ _. None };

@@ -1,7 +1,7 @@
 //! Pipes over sockets.
 
 ghost use Rattle.std.specs.Prelude.{◌≡◌, ◌≤◌, ◌<◌, length, IfOk, refl};
-ghost use Rattle.net_links.specs.Piping.{fresh_pipe, pipe_told};
+ghost use Rattle.net_links.specs.Piping.{fresh_net_pipe, net_pipe_told};
 
 use outside::{Failed, Pipe, Sink, Source};
 use std::io::{self, ErrorKind, Read, Write};
@@ -33,7 +33,7 @@ impl<S: Read + Write + Drop> Model for NetPipe<S> {
 impl<S: Read + Write + Drop> NetPipe<S> {
     /// A pipe to this port over a stream that was connected to it.
     pub(crate) fn over(stream: S, port: u16) -> Self
-        ensures { result ≡ fresh_pipe port }
+        ensures { result ≡ fresh_net_pipe port }
     {
         NetPipe {
             stream,
@@ -85,7 +85,7 @@ impl<S: Read + Write + Drop> Sink for NetPipe<S> {
 }
 
 impl<S: Read + Write + Drop> Pipe for NetPipe<S> {
-    ghost state = { pipe_told };
+    ghost state = { net_pipe_told };
 
     fn receive(&mut self, into: &mut [u8]) -> Result<usize, Failed> {
         match read_some(&mut self.stream, into) {

@@ -3,10 +3,10 @@ use Rattle.std.proofs.Common.{◌≡◌, ℕ, ◌+◌, ◌<◌, ◌≤◌, List,
 use Rattle.std.specs.Prelude.{◌||◌}
 use Rattle.std.proofs.lemmas.List.{take_at, length-take-le, take-append-drop, nil_from_length}
 use Rattle.outside.specs.Pipes.{Receives, is_end}
-use Rattle.script_links.specs.Answering.{AnsweringPipe, pipe_told, after_receiving}
+use Rattle.script_links.specs.Answering.{AnsweringPipe, mem_pipe_told, after_receiving}
 
 pub receives_so : {E : Type 0} (p : AnsweringPipe) (lent into : List ℕ) (count : ℕ) → count ≡ min (length p.left) (length lent) → into ≡ take count p.left ++ drop count lent
-    → Receives {E = E} into (pipe_told p) (pipe_told (after_receiving (length lent) count p)) (Ok count)
+    → Receives {E = E} into (mem_pipe_told p) (mem_pipe_told (after_receiving (length lent) count p)) (Ok count)
 receives_so p lent into count counts copied =
     let in_left : count ≤ length p.left = omega arith in
     let in_room : count ≤ length lent = omega arith in
@@ -17,11 +17,14 @@ receives_so p lent into count counts copied =
       port = refl;
       written = refl;
       write_faults = refl;
-      moved = (record {
-        bound = omega arith;
-        given_more = ap (λ (xs : List ℕ). Some (p.given ++ xs)) (sym front);
-        taken_off = ap Some (sym (take-append-drop count p.left) ∙ ap (λ (xs : List ℕ). xs ++ drop count p.left) (sym front));
-        ended = λ none room. nil_from_length (drop count p.left) (omega (arith, length-drop count p.left));
-      }, ap (λ (n : ℕ). Some (p.ended || is_end n count)) (sym same));
+      moved = (
+        record {
+          bound = omega arith;
+          given_more = ap (λ (xs : List ℕ). Some (p.given ++ xs)) (sym front);
+          taken_off = ap Some (sym (take-append-drop count p.left) ∙ ap (λ (xs : List ℕ). xs ++ drop count p.left) (sym front));
+          ended = λ none room. nil_from_length (drop count p.left) (omega (arith, length-drop count p.left));
+        },
+        ap (λ (n : ℕ). Some (p.ended || is_end n count)) (sym same),
+      );
       cause = record { later = omega arith; failed = λ e. absurd (let g : ⊥ = cc in g); kept = refl };
     }

@@ -6,18 +6,18 @@ use Rattle.outside.specs.Calling.{PastPipe}
 use Rattle.script_links.specs.Failing.{CountedCalls, uncalled, fails_next, after_counting}
 
 -- What a pipe is made with: what it answers, and the numbers of its reads and writes that are to fail, counted together from 0.
-pub record PlainAnswer : Type 0 where
+pub record PlainPipeReply : Type 0 where
   pub reply : List ℕ
   pub fails : List ℕ
 
 -- nothing is answered, and no call is to fail
-abbrev pub no_answer : PlainAnswer
-no_answer = record { reply = []; fails = [] }
+abbrev pub no_pipe_reply : PlainPipeReply
+no_pipe_reply = record { reply = []; fails = [] }
 
 -- the answer that was given, where one was
-abbrev pub answer_given : Option PlainAnswer → PlainAnswer
-answer_given None = no_answer
-answer_given (Some answer) = answer
+abbrev pub pipe_reply_given : Option PlainPipeReply → PlainPipeReply
+pipe_reply_given None = no_pipe_reply
+pipe_reply_given (Some answer) = answer
 
 -- A pipe in memory: the port; what was written; what was read of the answer, and what is left of it; whether a read has answered the end; which reads and writes are
 -- to fail; how many reads failed, and how many writes; and how many writes found no memory.
@@ -33,8 +33,8 @@ pub record AnsweringPipe : Type 0 where
   pub wants : ℕ
 
 -- nothing has happened on it
-abbrev pub fresh_pipe : ℕ → PlainAnswer → AnsweringPipe
-fresh_pipe port answer = record {
+abbrev pub fresh_mem_pipe : ℕ → PlainPipeReply → AnsweringPipe
+fresh_mem_pipe port answer = record {
   port = port;
   written = [];
   given = [];
@@ -47,8 +47,8 @@ fresh_pipe port answer = record {
 }
 
 -- what it tells
-abbrev pub pipe_told : AnsweringPipe → PipeState
-pipe_told p = record {
+abbrev pub mem_pipe_told : AnsweringPipe → PipeState
+mem_pipe_told p = record {
   port = p.port;
   written = Some p.written;
   given = Some p.given;

@@ -6,7 +6,7 @@ use Rattle.outside.specs.Calling.{PastPipe, next_if_either}
 use Rattle.script_model.specs.ScriptLines.{ScriptPlan}
 use Rattle.script_links.specs.Failing.{CountedCalls, FaultPlan, fails_next, after_counting}
 use Rattle.script_links.specs.Listens.{ListeningScript}
-use Rattle.script_links.specs.Answering.{PlainAnswer, AnsweringPipe, no_answer, past_pipe}
+use Rattle.script_links.specs.Answering.{PlainPipeReply, AnsweringPipe, no_pipe_reply, past_pipe}
 
 -- A binder over a script: which of its calls to listen and to dial are to fail, counted together, and which calls on links that it makes; what the next pipe answers;
 -- how many faults were counted; and the links that came back, and the pipes that were hung up.
@@ -14,14 +14,14 @@ pub record BinderState : Type 0 where
   pub script : ScriptPlan
   pub calls : CountedCalls
   pub plan : FaultPlan
-  pub answer : PlainAnswer
+  pub answer : PlainPipeReply
   pub faults : ℕ
   pub past : List PastLinks
   pub called : List PastPipe
 
 -- it was asked for links, or for a pipe
-abbrev pub after_call : BinderState → BinderState
-after_call b = record b { calls = after_counting b.calls; faults = if fails_next b.calls then next_count b.faults else b.faults }
+abbrev pub after_binder_call : BinderState → BinderState
+after_binder_call b = record b { calls = after_counting b.calls; faults = if fails_next b.calls then next_count b.faults else b.faults }
 
 -- these links came back
 abbrev pub after_return : ListeningScript → BinderState → BinderState
@@ -32,7 +32,7 @@ after_return links b = record b {
 
 -- a pipe was dialled: what the next one answers isn't said
 abbrev pub after_dial : BinderState → BinderState
-after_dial b = record (after_call b) { answer = no_answer }
+after_dial b = record (after_binder_call b) { answer = no_pipe_reply }
 
 -- this pipe was hung up
 abbrev pub after_hanging_up : AnsweringPipe → BinderState → BinderState

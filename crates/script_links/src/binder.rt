@@ -7,15 +7,15 @@ ghost use Rattle.outside.specs.Binding.{StartListening, HasBindCause, told_past}
 ghost use Rattle.outside.specs.Calling.{StartsCalling, told_called, next_if_either};
 ghost use Rattle.script_links.specs.Failing.{uncalled, none_fails, fails_next};
 ghost use Rattle.script_links.specs.Followed.{AreFirstLinksOf};
-ghost use Rattle.script_links.specs.Answering.{fresh_pipe, no_answer, pipe_told};
+ghost use Rattle.script_links.specs.Answering.{fresh_mem_pipe, no_pipe_reply, mem_pipe_told};
 ghost use Rattle.script_links.specs.Listens.{listening_told};
-ghost use Rattle.script_links.specs.Binding.{after_call, after_return, after_dial, after_hanging_up};
+ghost use Rattle.script_links.specs.Binding.{after_binder_call, after_return, after_dial, after_hanging_up};
 
 use crate::bound::BoundLinks;
 use crate::call_list::{CallList, FailingCalls};
 use crate::called::CalledChain;
 use crate::copy::copy_of;
-use crate::mem_pipe::{Answer, MemPipe, hung_up};
+use crate::mem_pipe::{MemPipe, PipeReply, hung_up};
 use crate::past::{PastChain, PastRow};
 use crate::serving::ScriptServing;
 use lists::Listed;
@@ -44,7 +44,7 @@ pub struct MemBinder {
     /// The numbers of these writes, where any are.
     writes: Option<Listed<u64>>,
     /// What the pipe of the next call to dial answers, where that was said.
-    answer: Option<Answer>,
+    answer: Option<PipeReply>,
     /// How many calls failed; it stands still at its type's end.
     faults: u64,
     /// The links that came back.
@@ -55,7 +55,7 @@ pub struct MemBinder {
 
 impl Model for MemBinder {
     ghost use Rattle.script_links.specs.Failing.{uncalled, numbers_given};
-    ghost use Rattle.script_links.specs.Answering.{answer_given};
+    ghost use Rattle.script_links.specs.Answering.{pipe_reply_given};
     ghost use Rattle.script_links.specs.Binding.{BinderState};
     ghost use Rattle.script_links.specs.Past.{past_in_chain};
     ghost use Rattle.script_links.specs.Called.{called_in_chain};
@@ -66,7 +66,7 @@ impl Model for MemBinder {
       script = b.script;
       calls = b.calls;
       plan = record { nexts = uncalled (numbers_given b.nexts); conn = b.conn; reads = uncalled (numbers_given b.reads); writes = uncalled (numbers_given b.writes) };
-      answer = answer_given b.answer;
+      answer = pipe_reply_given b.answer;
       faults = b.faults;
       past = past_in_chain b.past;
       called = called_in_chain b.called;
@@ -76,7 +76,7 @@ impl Model for MemBinder {
 impl MemBinder {
     /// Makes a binder over this script, with the numbers of the calls to listen and to dial that are to fail, counted together; takes no memory.
     pub fn new(script: Script, fails: Vec<u64>) -> Self
-        ensures { result ≡ record { script = script; calls = uncalled fails.items; plan = none_fails; answer = no_answer; faults = 0; past = []; called = [] } }
+        ensures { result ≡ record { script = script; calls = uncalled fails.items; plan = none_fails; answer = no_pipe_reply; faults = 0; past = []; called = [] } }
     {
         MemBinder {
             script,
@@ -118,7 +118,7 @@ impl MemBinder {
         ensures { result ≡ record self { answer = record { reply = reply.items; fails = fails.items } } }
     {
         let mut binder = self;
-        binder.answer = Some(Answer { reply, fails });
+        binder.answer = Some(PipeReply { reply, fails });
         binder
     }
 
@@ -128,7 +128,7 @@ impl MemBinder {
         ensures later { self.old.faults ≤ self.new.faults }
         ensures rose { IsTrue result → Rose self.old.faults self.new.faults }
         ensures kept { result ≡ false → self.new.faults ≡ self.old.faults }
-        ensures after { self.new ≡ after_call self.old }
+        ensures after { self.new ≡ after_binder_call self.old }
     {
         let fails = self.calls.count();
         if fails {
@@ -194,13 +194,13 @@ impl MemBinder {
 
     /// Makes a pipe to this port, which answers what was said.
     fn answering(&mut self, alloc: Global, port: u16) -> Result<MemPipe, AllocError>
-        ensures own { IfOk result (λ pipe. pipe ≡ fresh_pipe port self.old.answer) }
-        ensures after { MatchResult result (λ _. self.new ≡ record self.old { answer = no_answer }) (λ _. self.new ≡ self.old) }
+        ensures own { IfOk result (λ pipe. pipe ≡ fresh_mem_pipe port self.old.answer) }
+        ensures after { MatchResult result (λ _. self.new ≡ record self.old { answer = no_pipe_reply }) (λ _. self.new ≡ self.old) }
     {
         let room = Box::new(alloc, CalledChain::Nothing)?;
         let answer = match mem::replace(&mut self.answer, None) {
             Some(answer) => answer,
-            None => Answer {
+            None => PipeReply {
                 reply: Vec::new(alloc),
                 fails: Vec::new(alloc),
             },
@@ -211,6 +211,7 @@ impl MemBinder {
 
 impl Binder for MemBinder {
     type L = BoundLinks;
+
     type P = MemPipe;
 
     ghost past = { λ b. Some b.past };
@@ -234,7 +235,7 @@ impl Binder for MemBinder {
         ensures fails { result ≡ Err Failed ↔ IsTrue (fails_next self.old.calls) }
         ensures own { IfOk result (λ links. AreFirstLinksOf accept self.old.script links.served) }
         ensures plan { IfOk result (λ links. links.plan ≡ self.old.plan) }
-        ensures after { self.new ≡ after_call self.old }
+        ensures after { self.new ≡ after_binder_call self.old }
     {
         if self.count_call() {
             return Err(BindFail::Failed);
@@ -276,14 +277,14 @@ impl Binder for MemBinder {
     }
 
     fn dial(&mut self, alloc: Global, port: u16) -> Result<MemPipe, BindFail>
-        ensures made { IfOk result (λ pipe. StartsCalling (Some self.old.called) port (pipe_told pipe)) }
+        ensures made { IfOk result (λ pipe. StartsCalling (Some self.old.called) port (mem_pipe_told pipe)) }
         ensures same { Some self.new.called ≡ Some self.old.called }
         ensures past_same { Some self.new.past ≡ Some self.old.past }
         ensures cause { HasBindCause self.old.faults self.new.faults result }
         // It fails where it was told to, and nowhere else; its pipe answers what was said, and fails where it was told to.
         ensures fails { result ≡ Err Failed ↔ IsTrue (fails_next self.old.calls) }
-        ensures own { IfOk result (λ pipe. pipe ≡ fresh_pipe port self.old.answer) }
-        ensures after { MatchResult result (λ _. self.new ≡ after_dial self.old) (λ _. self.new ≡ after_call self.old) }
+        ensures own { IfOk result (λ pipe. pipe ≡ fresh_mem_pipe port self.old.answer) }
+        ensures after { MatchResult result (λ _. self.new ≡ after_dial self.old) (λ _. self.new ≡ after_binder_call self.old) }
     {
         if self.count_call() {
             return Err(BindFail::Failed);
@@ -295,9 +296,9 @@ impl Binder for MemBinder {
     }
 
     fn hang_up(&mut self, pipe: MemPipe)
-        ensures called { Some self.new.called ≡ told_called (Some self.old.called) (pipe_told pipe) }
+        ensures called { Some self.new.called ≡ told_called (Some self.old.called) (mem_pipe_told pipe) }
         ensures past_same { Some self.new.past ≡ Some self.old.past }
-        ensures cause { self.new.faults ≡ next_if_either (pipe_told pipe).read_faults (pipe_told pipe).write_faults self.old.faults }
+        ensures cause { self.new.faults ≡ next_if_either (mem_pipe_told pipe).read_faults (mem_pipe_told pipe).write_faults self.old.faults }
         ensures after { self.new ≡ after_hanging_up pipe self.old }
     {
         let (read_faults, write_faults) = (pipe.read_faults(), pipe.write_faults());

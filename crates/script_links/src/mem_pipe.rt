@@ -4,7 +4,7 @@ ghost use Rattle.std.specs.Prelude.{◌≡◌, ◌↔◌, Some, [], ◌∷◌, �
 ghost use Rattle.outside.specs.Pipes.{Receives, Sends, is_end};
 ghost use Rattle.script_links.specs.Failing.{fails_next};
 ghost use Rattle.script_links.specs.Called.{called_in_chain};
-ghost use Rattle.script_links.specs.Answering.{fresh_pipe, pipe_told, past_pipe, after_receiving, after_failed_receiving, after_sending, after_failed_sending};
+ghost use Rattle.script_links.specs.Answering.{fresh_mem_pipe, mem_pipe_told, past_pipe, after_receiving, after_failed_receiving, after_sending, after_failed_sending};
 
 use crate::call_list::CallList;
 use crate::called::{CalledChain, CalledRow};
@@ -14,17 +14,17 @@ use std::marker::Model;
 
 /// What a pipe answers, and which of its reads and writes are to fail, by their numbers, counted together from 0.
 #[derive(Drop)]
-pub struct Answer {
+pub struct PipeReply {
     /// The bytes that reads give.
     pub reply: Vec<u8>,
     /// The numbers.
     pub fails: Vec<u64>,
 }
 
-impl Model for Answer {
-    ghost use Rattle.script_links.specs.Answering.{PlainAnswer};
+impl Model for PipeReply {
+    ghost use Rattle.script_links.specs.Answering.{PlainPipeReply};
 
-    ghost Value = { PlainAnswer };
+    ghost Value = { PlainPipeReply };
 
     ghost view = { λ a. record { reply = a.reply.items; fails = a.fails.items } };
 }
@@ -77,8 +77,8 @@ impl Model for MemPipe {
 
 impl MemPipe {
     /// A pipe to this port, at which this is answered; this box is kept until it is hung up. Takes no memory.
-    pub(crate) fn new(alloc: Global, port: u16, answer: Answer, room: Box<CalledChain>) -> Self
-        ensures { result ≡ fresh_pipe port answer }
+    pub(crate) fn new(alloc: Global, port: u16, answer: PipeReply, room: Box<CalledChain>) -> Self
+        ensures { result ≡ fresh_mem_pipe port answer }
     {
         MemPipe {
             port,
@@ -139,10 +139,10 @@ impl Sink for MemPipe {
 }
 
 impl Pipe for MemPipe {
-    ghost state = { pipe_told };
+    ghost state = { mem_pipe_told };
 
     fn receive(&mut self, into: &mut [u8]) -> Result<usize, Failed>
-        ensures receives { Receives into.new (pipe_told self.old) (pipe_told self.new) result }
+        ensures receives { Receives into.new (mem_pipe_told self.old) (mem_pipe_told self.new) result }
         // It fails where it was told to, and nowhere else; else it gives what there is room for.
         ensures fails { IsErr result ↔ IsTrue (fails_next self.old.calls) }
         ensures count { IfOk result (λ count. count ≡ min (length self.old.left) (length into.old)) }
@@ -163,7 +163,7 @@ impl Pipe for MemPipe {
     }
 
     fn send(&mut self, bytes: &[u8]) -> Result<usize, Failed>
-        ensures sends { Sends bytes.now (pipe_told self.old) (pipe_told self.new) result }
+        ensures sends { Sends bytes.now (mem_pipe_told self.old) (mem_pipe_told self.new) result }
         // It fails where it was told to; else it takes all bytes, or finds no memory.
         ensures fails { IsTrue (fails_next self.old.calls) → IsErr result }
         ensures count { IfOk result (λ count. count ≡ length bytes.now) }

@@ -1,6 +1,6 @@
 //! Tests of what waits: the booth (`seat_booth`); workers round a hall, and crews on threads beside a loop (`hall_pool`); serving (`host_loop`), as scripts of
 //! several connections beside their rehearsal (`cell_core`), with journals and links that fail, inputs and outputs of single bytes, a client that doesn't pause, one
-//! over loopback, and a port (`port_serving`); links over sockets (`net_links`).
+//! over loopback, and a port (`port_serving`), and one that is asked (`port_asking`); links and pipes over sockets (`net_links`).
 #![tactic(auto)]
 
 #[cfg(test)]
@@ -11,6 +11,8 @@ mod byte_desk;
 mod counts;
 #[cfg(test)]
 mod crews;
+#[cfg(test)]
+mod dialling;
 #[cfg(test)]
 mod echo;
 #[cfg(test)]

@@ -5,7 +5,7 @@ use Rattle.std.proofs.lemmas.List.{drop-drop}
 use Rattle.outside.specs.Pipes.{Receives, is_end}
 use Rattle.outside.specs.declared.streams.Failed.{Failed}
 use Rattle.script_links.specs.Failing.{after_counting}
-use Rattle.script_links.specs.Answering.{AnsweringPipe, pipe_told, after_receiving}
+use Rattle.script_links.specs.Answering.{AnsweringPipe, mem_pipe_told, after_receiving}
 use Rattle.script_links.proofs.Piping.{receives_so}
 use Rattle.script_links.proofs.mem_pipe.MemPipePipe.receive.Goals as goal
 
@@ -55,5 +55,5 @@ returns-clause-receives c =
     let left = c.split_at.ensures.back ∙ ap (λ (xs : List ℕ). drop c.self.inside.at xs) c.as_slice.ensures.value ∙ ap (λ (p : AnsweringPipe). p.left) c.self.view_is in
     let count = c.fill-count.ensures.count ∙ ap (λ (xs : List ℕ). min (length xs) (length c.args.into.now)) left in
     let copied = c.fill-count.ensures.copied ∙ ap (λ (xs : List ℕ). take c.fill-count.result xs ++ drop c.fill-count.result c.args.into.now) left in
-    subst (λ (p : AnsweringPipe). Receives {E = Failed} c.fill-count.new.into (pipe_told c.args.self.now) (pipe_told p) (Ok c.fill-count.result)) (sym (returns-clause-after c))
+    subst (λ (p : AnsweringPipe). Receives {E = Failed} c.fill-count.new.into (mem_pipe_told c.args.self.now) (mem_pipe_told p) (Ok c.fill-count.result)) (sym (returns-clause-after c))
     (receives_so c.args.self.now c.args.into.now c.fill-count.new.into c.fill-count.result count copied)

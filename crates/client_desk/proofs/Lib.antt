@@ -1,0 +1,3 @@
+mod GoingOut
+mod Sizes
+mod Soundness

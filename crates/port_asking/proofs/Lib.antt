@@ -1,0 +1,5 @@
+pub mod SentBytes
+pub mod HeardBytes
+pub mod Framing
+pub mod Talking
+pub mod Hanging
