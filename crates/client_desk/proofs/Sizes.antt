@@ -12,7 +12,7 @@ use Rattle.schema.specs.PlainSchema.{PlainFunction}
 use Rattle.thrift_value.specs.Tree.{Tree}
 use Rattle.wire_model.specs.Encoder.{text}
 use Rattle.call_model.specs.Replies.{encoder_of}
-use Rattle.client_desk.specs.Asking.{asked_type, call_text, frame_within}
+use Rattle.client_desk.specs.Asking.{asked_type, call_message, frame_within}
 use Rattle.client_desk.specs.declared.ask_fault.AskFault.TheVariants.{TooLarge}
 
 compact_name_longer : (name : List ℕ) → length name ≤ length (compact_name name)
@@ -23,15 +23,15 @@ head_longer : (p : Protocol) (said : Said) → length said.name ≤ length (head
 head_longer Binary said = omega (arith, length-append said.name (to_be_bytes w32 (of_z w32 said.id)))
 head_longer Compact said = omega (arith, compact_name_longer said.name, length-append (compact_id said.id) (compact_name said.name))
 
-call_longer : (p : Protocol) (name : List ℕ) (f : PlainFunction) (args : Tree) (id : ℤ) → length name ≤ length (call_text p name f args id)
-unfolding call_text
+call_longer : (p : Protocol) (name : List ℕ) (f : PlainFunction) (args : Tree) (id : ℤ) → length name ≤ length (call_message p name f args id)
+unfolding call_message
 call_longer p name f args id =
     let said : Said = record { name = name; kind = asked_type f; id = id } in
     omega (arith, head_longer p said, length-append (head_text p said) (text (encoder_of p) args))
 
 -- a message whose name alone is too long is too long
 pub too_long : (most : ℕ) (p : Protocol) (name : List ℕ) (f : PlainFunction) (args : Tree) (id : ℤ) → most < length name
-    → frame_within most (call_text p name f args id) ≡ Err TooLarge
+    → frame_within most (call_message p name f args id) ≡ Err TooLarge
 too_long most p name f args id long =
-    let payload = call_text p name f args id in
+    let payload = call_message p name f args id in
     ap (λ t. if t then Ok (frame payload) else Err TooLarge) (lt-leb (length payload) most (omega (arith, long, call_longer p name f args id)))

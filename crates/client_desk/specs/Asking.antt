@@ -32,12 +32,12 @@ abbrev pub asked_type : PlainFunction → ℕ
 asked_type f = if f.oneway then call_without_reply else call
 
 -- the payload of a message of this name: a head, and the arguments as they are written
-unfoldable pub call_text : Protocol → List ℕ → PlainFunction → Tree → ℤ → List ℕ
-call_text protocol name f args id = head_text protocol (record { name = name; kind = asked_type f; id = id }) ++ text (encoder_of protocol) args
+unfoldable pub call_message : Protocol → List ℕ → PlainFunction → Tree → ℤ → List ℕ
+call_message protocol name f args id = head_text protocol (record { name = name; kind = asked_type f; id = id }) ++ text (encoder_of protocol) args
 
 -- the payload that asks for a method's call
 abbrev pub asked_payload : PlainClient → PlainFunction → List ℕ → Tree → ℤ → List ℕ
-asked_payload c f method args id = call_text c.protocol (asked_name c method) f args id
+asked_payload c f method args id = call_message c.protocol (asked_name c method) f args id
 
 -- a value has at most 64 levels and 4,000,000 values
 abbrev pub is_small : Tree → Bool
@@ -67,8 +67,8 @@ asked_of_function c method args id (Some f) =
     if may_go_out c.schema f.args args then frame_within c.max_frame (asked_payload c f method args id) else Err Unfit
 
 -- the frame that asks for a method's call, or why there is none
-abbrev pub asked : PlainClient → List ℕ → Tree → ℤ → Result (List ℕ) AskFault
-asked c method args id = asked_of_function c method args id (function_named c.schema c.service method)
+abbrev pub asked_frame : PlainClient → List ℕ → Tree → ℤ → Result (List ℕ) AskFault
+asked_frame c method args id = asked_of_function c method args id (function_named c.schema c.service method)
 
 -- the fault is the one that comes first; want of memory is free
 abbrev pub AskFaultsOrNoMemory : {Y : Type 0} → AskFault → Result Y AskFault → Type 0

@@ -17,6 +17,7 @@ use Rattle.thrift_value.specs.declared.wire_fault.WireFault.{WireFault}
 use Rattle.thrift_value.specs.Tree.{Tree, of_i32, of_bytes, of_struct, FieldTrees, no_fields, field}
 use Rattle.wire_model.specs.Place.{struct_at}
 use Rattle.call_model.specs.Arguments.{wire_of}
+use Rattle.call_rules.specs.Arguments.{fields_in}
 use Rattle.call_model.specs.Replies.{success_id}
 use Rattle.client_desk.specs.Clients.{PlainClient}
 use Rattle.client_desk.specs.declared.heard_fault.HeardFault.{HeardFault}
@@ -99,11 +100,6 @@ heard_result s f sent None = heard_thrown s f (first_thrown f.throws sent)
 abbrev pub heard_reply : PlainClient → Option PlainFunction → FieldTrees → Result PlainHeard HeardFault
 heard_reply c (Some f) sent = heard_result c.schema f sent (result_in f.result sent)
 heard_reply c None sent = Ok missing
-
--- the fields of a struct
-abbrev pub fields_in : Tree → FieldTrees
-fields_in (of_struct fields) = fields
-fields_in _ = no_fields
 
 -- an answer by its type and the fields of its struct
 abbrev pub heard_fields : PlainClient → List ℕ → ℕ → FieldTrees → Result PlainHeard HeardFault

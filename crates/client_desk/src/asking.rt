@@ -36,7 +36,7 @@ impl Client {
     ghost use Rattle.schema.specs.SchemaOf.{schema_of, plain_function};
     ghost use Rattle.schema.specs.Sound.{IsSound, IsPlaceIn};
     ghost use Rattle.thrift_value.specs.TreeOf.{tree_of};
-    ghost use Rattle.client_desk.specs.Asking.{asked, asked_name, asked_of_function, call_text, frame_within, AsksOrNoMemory, GoesOut};
+    ghost use Rattle.client_desk.specs.Asking.{asked_frame, asked_name, asked_of_function, call_message, frame_within, AsksOrNoMemory, GoesOut};
     ghost use Rattle.client_desk.specs.ClientOf.{plain_client};
 
     /// The name of a message that asks for a method's call, where the service's stands in front.
@@ -53,7 +53,7 @@ impl Client {
     }
 
     /// The payload of a message of this name, behind four bytes for its size.
-    #[tactic(auto, unfolding(crate::specs::Asking::call_text))]
+    #[tactic(auto, unfolding(crate::specs::Asking::call_message))]
     fn open_call(
         &self,
         alloc: Global,
@@ -65,7 +65,7 @@ impl Client {
         requires name { length name.now ≤ longest_payload }
         requires args { GoesOut (tree_of args.now) }
         ensures { IfOk result (λ framed. framed.items
-            ≡ 0 ∷ 0 ∷ 0 ∷ 0 ∷ call_text self.now.protocol name.now (plain_function function.now) (tree_of args.now) id) }
+            ≡ 0 ∷ 0 ∷ 0 ∷ 0 ∷ call_message self.now.protocol name.now (plain_function function.now) (tree_of args.now) id) }
     {
         let mut framed = opened(alloc, CALL_ROOM + name.len())?;
         write_head(self.protocol, name, asked_type(function), id, &mut framed)?;
@@ -85,7 +85,7 @@ impl Client {
         requires most { self.now.max_frame ≤ longest_payload }
         requires args { GoesOut (tree_of args.now) }
         ensures { AsksOrNoMemory (λ framed. framed.items) result
-            (frame_within self.now.max_frame (call_text self.now.protocol name.now (plain_function function.now) (tree_of args.now) id)) }
+            (frame_within self.now.max_frame (call_message self.now.protocol name.now (plain_function function.now) (tree_of args.now) id)) }
     {
         if name.len() > self.max_frame as usize {
             return Err(AskFault::TooLarge);
@@ -109,7 +109,7 @@ impl Client {
         requires most { self.now.max_frame ≤ longest_payload }
         requires args { GoesOut (tree_of args.now) }
         ensures { AsksOrNoMemory (λ framed. framed.items) result (frame_within self.now.max_frame
-            (call_text self.now.protocol (asked_name (plain_client self.now) method.now) (plain_function function.now) (tree_of args.now) id)) }
+            (call_message self.now.protocol (asked_name (plain_client self.now) method.now) (plain_function function.now) (tree_of args.now) id)) }
     {
         if self.named {
             let name = self.service_and_method(alloc, method)?;
@@ -149,7 +149,7 @@ impl Client {
         args: &Value,
         id: i32,
     ) -> Result<Vec<u8>, AskFault>
-        ensures exact { AsksOrNoMemory (λ framed. framed.items) result (asked (plain_client self.now) method.now (tree_of args.now) id) }
+        ensures exact { AsksOrNoMemory (λ framed. framed.items) result (asked_frame (plain_client self.now) method.now (tree_of args.now) id) }
     {
         a_found_function_is_sound();
         match self.schema.function(self.service, method) {

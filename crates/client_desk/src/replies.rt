@@ -6,7 +6,8 @@ ghost use Rattle.std.specs.Option.{option_map, option_copied, option_or};
 ghost use Rattle.schema.specs.PlainKind.{kind_of};
 ghost use Rattle.schema.specs.SchemaOf.{plain_field};
 ghost use Rattle.thrift_value.specs.TreeOf.{tree_of, field_tree, field_trees};
-ghost use Rattle.client_desk.specs.Hearing.{as_bytes, as_fitting, as_i32, fields_in, first_thrown, last_as, under_id};
+ghost use Rattle.call_rules.specs.Arguments.{fields_in};
+ghost use Rattle.client_desk.specs.Hearing.{as_bytes, as_fitting, as_i32, first_thrown, last_as, under_id};
 
 use schema::{FieldDesc, TypeDesc};
 use struct_skew::fits_kind;

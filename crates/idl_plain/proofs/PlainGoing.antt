@@ -7,7 +7,7 @@ use Rattle.std.proofs.lemmas.List.{drop_more, drop_all}
 use Rattle.idl_token.specs.Terminals.{code, same}
 use Rattle.idl_parser.specs.Phrases.{Lexeme, Node, none, placed, place_at, Phrase, one, deep, chain, either, maybe, many, marked, Times, Derives}
 use Rattle.idl_plain.specs.PlainPhrases.{outline, terminals, DerivesFront, BeginsWith}
-use Rattle.idl_plain.specs.PlainEnds.{is_at, is_end, ends, is_possible, goes_on}
+use Rattle.idl_plain.specs.PlainEnds.{is_at, is_at_end, ends, is_possible, goes_on}
 use Rattle.idl_parser.proofs.Sound.{cut}
 use Rattle.idl_plain.proofs.PlainLists.{Among, any_among, among_any, or_left, or_right, or_cases, and_both, and_cases, place_of, symbol_at, is_there, none_left, at_end, parted, no_symbols}
 use Rattle.idl_plain.proofs.PlainEnding.{found, complete}
@@ -79,15 +79,15 @@ row_then join p (suc count) ts x mid rest h s =
 then_row : (join : Node → Node → Node) (p : Phrase) (ts mid rest : List Lexeme) → DerivesFront p ts mid → DerivesFront (many join p) mid rest → DerivesFront (many join p) ts rest
 then_row join p ts mid rest l r = (join l.0 r.0, (suc r.1.0, (mid, l.0, r.0, l.1, r.1.1, refl)))
 
-nothing_left : (p : Phrase) (ts : List Lexeme) (from : ℕ) → is_end (terminals ts) from ≡ true → BeginsWith p [] → BeginsWith p (drop from ts)
+nothing_left : (p : Phrase) (ts : List Lexeme) (from : ℕ) → is_at_end (terminals ts) from ≡ true → BeginsWith p [] → BeginsWith p (drop from ts)
 nothing_left p ts from h b = subst (BeginsWith p) (sym (none_left ts from h)) b
 
 -- some phrase begins so where the recognizer goes on
 pub begun : (p : Phrase) (ts : List Lexeme) (from : ℕ) → from ≤ length ts → goes_on (outline p) (terminals ts) from ≡ true → BeginsWith p (drop from ts)
-begun (one k f) ts from inside h = elim (or_cases (is_end (terminals ts) from) (is_at (terminals ts) from k && is_end (terminals ts) (from + 1)) h) [
+begun (one k f) ts from inside h = elim (or_cases (is_at_end (terminals ts) from) (is_at (terminals ts) from k && is_at_end (terminals ts) (from + 1)) h) [
   | inl e ↦ nothing_left (one k f) ts from e (sample_of (one k f) refl)
   | inr b ↦
-      let both = and_cases (is_at (terminals ts) from k) (is_end (terminals ts) (from + 1)) b in
+      let both = and_cases (is_at (terminals ts) from k) (is_at_end (terminals ts) (from + 1)) b in
       let s = symbol_at ts from k both.0 in
       let last : drop from ts ≡ s.symbol ∷ [] = s.stands ∙ ap (λ r. s.symbol ∷ r) (none_left ts (from + 1) both.1) in
       ([], (f s.symbol, (s.symbol, s.is, append-nil (drop from ts) ∙ last, refl)))
@@ -113,14 +113,14 @@ begun (either p q) ts from inside h = elim (or_cases (goes_on (outline p) (termi
   | inl l ↦ let b = begun p ts from inside l in (b.0, (b.1.0, inl b.1.1))
   | inr r ↦ let b = begun q ts from inside r in (b.0, (b.1.0, inr b.1.1))
 ]
-begun (maybe f p) ts from inside h = elim (or_cases (is_end (terminals ts) from) (goes_on (outline p) (terminals ts) from) h) [
+begun (maybe f p) ts from inside h = elim (or_cases (is_at_end (terminals ts) from) (goes_on (outline p) (terminals ts) from) h) [
   | inl e ↦ nothing_left (maybe f p) ts from e ([], (none, inl (refl, refl)))
   | inr g ↦ let b = begun p ts from inside g in (b.0, (f b.1.0, inr (b.1.0, b.1.1, refl)))
 ]
 begun (many join p) ts from inside h =
-    elim (or_cases (list_any (is_end (terminals ts)) (ends (outline (many join p)) (terminals ts) from)) (list_any (goes_on (outline p) (terminals ts)) (ends (outline (many join p)) (terminals ts) from)) h) [
+    elim (or_cases (list_any (is_at_end (terminals ts)) (ends (outline (many join p)) (terminals ts) from)) (list_any (goes_on (outline p) (terminals ts)) (ends (outline (many join p)) (terminals ts) from)) h) [
       | inl a ↦
-          let m = any_among (is_end (terminals ts)) (ends (outline (many join p)) (terminals ts) from) a in
+          let m = any_among (is_at_end (terminals ts)) (ends (outline (many join p)) (terminals ts) from) a in
           let l = found (many join p) ts from m.0 inside m.1 in
           ([], subst (λ l. DerivesFront (many join p) l []) (sym (append-nil (drop from ts))) (subst (DerivesFront (many join p) (drop from ts)) (none_left ts m.0 m.2) l.stands))
       | inr a ↦
@@ -137,7 +137,7 @@ begun (marked p) ts from inside h =
 abbrev pub Onward : (Node → Node → Node) → Phrase → List Lexeme → ℕ → Type 0
 Onward join p ts from =
     (at : ℕ) × Among at (ends (outline (many join p)) (terminals ts) from)
-    × ((is_end (terminals ts) at ≡ true) ⊎ (goes_on (outline p) (terminals ts) at ≡ true))
+    × ((is_at_end (terminals ts) at ≡ true) ⊎ (goes_on (outline p) (terminals ts) at ≡ true))
 
 here_in_row : (join : Node → Node → Node) (p : Phrase) (ts : List Lexeme) (from : ℕ) → from ≤ length ts → Among from (ends (outline (many join p)) (terminals ts) from)
 here_in_row join p ts from inside = complete (many join p) ts from from inside inside (none, (zero, (refl, refl)))
@@ -176,13 +176,13 @@ pub goes : (p : Phrase) (ts : List Lexeme) (from : ℕ) → from ≤ length ts �
 goes (one k f) ts from inside (more, (x, h)) = one_goes (drop from ts) refl h.2
   where
     one_goes : (left : List Lexeme) → drop from ts ≡ left → left ++ more ≡ h.0 ∷ [] → goes_on (outline (one k f)) (terminals ts) from ≡ true
-    one_goes [] is e = or_left (is_end (terminals ts) from) (is_at (terminals ts) from k && is_end (terminals ts) (from + 1)) (at_end ts from is)
+    one_goes [] is e = or_left (is_at_end (terminals ts) from) (is_at (terminals ts) from k && is_at_end (terminals ts) (from + 1)) (at_end ts from is)
     one_goes (t ∷ left) is e =
         let first : t ≡ h.0 = cc in
         let rest : left ++ more ≡ [] = cc in
         let last = no_symbols left more rest in
-        or_right (is_end (terminals ts) from) (is_at (terminals ts) from k && is_end (terminals ts) (from + 1))
-        (and_both (is_at (terminals ts) from k) (is_end (terminals ts) (from + 1))
+        or_right (is_at_end (terminals ts) from) (is_at (terminals ts) from k && is_at_end (terminals ts) (from + 1))
+        (and_both (is_at (terminals ts) from k) (is_at_end (terminals ts) (from + 1))
         (is_there ts from k t left is (ap (λ t. same t.what k) first ∙ h.1))
         (at_end ts (from + 1) (behind_one ts from t left inside is ∙ last)))
 goes (deep k) ts from inside (more, (x, h)) = absurd h
@@ -208,17 +208,17 @@ goes (either p q) ts from inside (more, (x, inl h)) =
 goes (either p q) ts from inside (more, (x, inr h)) =
     or_right (goes_on (outline p) (terminals ts) from) (goes_on (outline q) (terminals ts) from) (goes q ts from inside (more, (x, h)))
 goes (maybe f p) ts from inside (more, (x, inl h)) =
-    or_left (is_end (terminals ts) from) (goes_on (outline p) (terminals ts) from) (at_end ts from (no_symbols (drop from ts) more h.0))
+    or_left (is_at_end (terminals ts) from) (goes_on (outline p) (terminals ts) from) (at_end ts from (no_symbols (drop from ts) more h.0))
 goes (maybe f p) ts from inside (more, (x, inr h)) =
-    or_right (is_end (terminals ts) from) (goes_on (outline p) (terminals ts) from) (goes p ts from inside (more, (h.0, h.1)))
+    or_right (is_at_end (terminals ts) from) (goes_on (outline p) (terminals ts) from) (goes p ts from inside (more, (h.0, h.1)))
 goes (many join p) ts from inside (more, (x, h)) =
     let o = row_onward join p ts (goes p ts) h.0 from more x inside h.1 in
     elim o.2 [
       | inl e ↦
-          or_left (list_any (is_end (terminals ts)) (ends (outline (many join p)) (terminals ts) from)) (list_any (goes_on (outline p) (terminals ts)) (ends (outline (many join p)) (terminals ts) from))
-          (among_any (is_end (terminals ts)) o.0 (ends (outline (many join p)) (terminals ts) from) o.1 e)
+          or_left (list_any (is_at_end (terminals ts)) (ends (outline (many join p)) (terminals ts) from)) (list_any (goes_on (outline p) (terminals ts)) (ends (outline (many join p)) (terminals ts) from))
+          (among_any (is_at_end (terminals ts)) o.0 (ends (outline (many join p)) (terminals ts) from) o.1 e)
       | inr g ↦
-          or_right (list_any (is_end (terminals ts)) (ends (outline (many join p)) (terminals ts) from)) (list_any (goes_on (outline p) (terminals ts)) (ends (outline (many join p)) (terminals ts) from))
+          or_right (list_any (is_at_end (terminals ts)) (ends (outline (many join p)) (terminals ts) from)) (list_any (goes_on (outline p) (terminals ts)) (ends (outline (many join p)) (terminals ts) from))
           (among_any (goes_on (outline p) (terminals ts)) o.0 (ends (outline (many join p)) (terminals ts) from) o.1 g)
     ]
 goes (marked p) ts from inside (more, (x, h)) = goes p ts from inside (more, (h.0, h.1))

@@ -8,7 +8,7 @@ use Rattle.idl_token.specs.declared.terminal.Terminal.{Terminal}
 use Rattle.idl_token.specs.Terminals.{same}
 use Rattle.idl_parser.specs.Phrases.{Lexeme}
 use Rattle.idl_plain.specs.PlainPhrases.{terminals}
-use Rattle.idl_plain.specs.PlainEnds.{is_at, is_end}
+use Rattle.idl_plain.specs.PlainEnds.{is_at, is_at_end}
 
 -- an element of a list
 abbrev pub Among : ℕ → List ℕ → Type 0
@@ -125,10 +125,10 @@ terminals_long [] = refl
 terminals_long (t ∷ ts) = ap suc (terminals_long ts)
 
 -- the end
-pub none_left : (ts : List Lexeme) (at : ℕ) → is_end (terminals ts) at ≡ true → drop at ts ≡ []
+pub none_left : (ts : List Lexeme) (at : ℕ) → is_at_end (terminals ts) at ≡ true → drop at ts ≡ []
 none_left ts at h = drop_all at ts (let long = leb-true (length (terminals ts)) at h in omega (arith, long, terminals_long ts))
 
-pub at_end : (ts : List Lexeme) (at : ℕ) → drop at ts ≡ [] → is_end (terminals ts) at ≡ true
+pub at_end : (ts : List Lexeme) (at : ℕ) → drop at ts ≡ [] → is_at_end (terminals ts) at ≡ true
 at_end ts at h = le-leb (length (terminals ts)) at (omega (arith, length-drop at ts, ap length h, terminals_long ts))
 
 -- two ways to part a list

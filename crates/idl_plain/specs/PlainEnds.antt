@@ -16,8 +16,8 @@ abbrev pub is_at : List Terminal → ℕ → Terminal → Bool
 is_at ts at k = is_symbol k (slice_get ts at)
 
 -- no symbol is left from a place on
-abbrev pub is_end : List Terminal → ℕ → Bool
-is_end ts at = nat_le (length ts) at
+abbrev pub is_at_end : List Terminal → ℕ → Bool
+is_at_end ts at = nat_le (length ts) at
 
 -- the places after so many steps at most, from any of some places
 abbrev pub times : ℕ → (ℕ → List ℕ) → List ℕ → List ℕ
@@ -44,12 +44,12 @@ is_possible (row p) = true
 
 -- some such phrase begins with all symbols from a place on
 abbrev pub goes_on : Outline → List Terminal → ℕ → Bool
-goes_on (symbol k) ts from = is_end ts from || (is_at ts from k && is_end ts (from + 1))
+goes_on (symbol k) ts from = is_at_end ts from || (is_at ts from k && is_at_end ts (from + 1))
 goes_on (never k) ts from = false
 goes_on (both p q) ts from = (goes_on p ts from && is_possible q) || list_any (goes_on q ts) (ends p ts from)
 goes_on (choice p q) ts from = goes_on p ts from || goes_on q ts from
-goes_on (perhaps p) ts from = is_end ts from || goes_on p ts from
-goes_on (row p) ts from = list_any (is_end ts) (ends (row p) ts from) || list_any (goes_on p ts) (ends (row p) ts from)
+goes_on (perhaps p) ts from = is_at_end ts from || goes_on p ts from
+goes_on (row p) ts from = list_any (is_at_end ts) (ends (row p) ts from) || list_any (goes_on p ts) (ends (row p) ts from)
 
 -- how many phrases there are in a phrase, itself included
 abbrev pub size : Outline → ℕ

@@ -5,7 +5,7 @@ ghost use Rattle.idl_parser.specs.Phrases as grammar;
 ghost use Rattle.idl_parser.specs.Phrases.{Lexeme};
 ghost use Rattle.idl_plain.specs.PlainPhrases.{outline, outline_of, terminals, BeginsWith};
 ghost use Rattle.idl_plain.specs.PlainEnds as by_cases;
-ghost use Rattle.idl_plain.specs.PlainEnds.{is_end, is_possible};
+ghost use Rattle.idl_plain.specs.PlainEnds.{is_at_end, is_possible};
 
 use crate::endings::{ends_from, is_at};
 use crate::phrase::PlainPhrase;
@@ -46,7 +46,7 @@ fn goes_on_from(
             goes_on_from(alloc, second, symbols, from)
         }
         PlainPhrase::Maybe(inner) => {
-            if is_end(symbols, from) {
+            if is_at_end(symbols, from) {
                 return Ok(true);
             }
             goes_on_from(alloc, inner, symbols, from)
@@ -95,23 +95,23 @@ fn is_possible(phrase: &PlainPhrase) -> bool
 
 /// Whether nothing is left from a place on, or one such symbol alone.
 fn is_all(symbols: &[Terminal], from: usize, wanted: Terminal) -> bool
-    ensures { result ≡ (is_end symbols.now from || (by_cases.is_at symbols.now from wanted && is_end symbols.now (from + 1))) }
+    ensures { result ≡ (is_at_end symbols.now from || (by_cases.is_at symbols.now from wanted && is_at_end symbols.now (from + 1))) }
 {
-    if is_end(symbols, from) {
+    if is_at_end(symbols, from) {
         return true;
     }
-    is_at(symbols, from, wanted) && is_end(symbols, from + 1)
+    is_at(symbols, from, wanted) && is_at_end(symbols, from + 1)
 }
 
-fn is_end(symbols: &[Terminal], at: usize) -> bool
-    ensures is { result ≡ is_end symbols.now at }
+fn is_at_end(symbols: &[Terminal], at: usize) -> bool
+    ensures is { result ≡ is_at_end symbols.now at }
     ensures within { result ≡ false → at < length symbols.now }
 {
     symbols.len() <= at
 }
 
 fn one_is_end(symbols: &[Terminal], places: &[usize]) -> bool
-    ensures { result ≡ list_any (is_end symbols.now) places.now }
+    ensures { result ≡ list_any (is_at_end symbols.now) places.now }
 {
-    places.iter().any(|at| is_end(symbols, *at))
+    places.iter().any(|at| is_at_end(symbols, *at))
 }

@@ -8,7 +8,8 @@ use Rattle.thrift_value.specs.Tree.{of_i32, of_struct, no_fields, field}
 use Rattle.host_model.specs.Frames.{frame}
 use Rattle.script_model.specs.ScriptLines.{count_up}
 use Rattle.workload.specs.CallFrames.{message_frame, adds, frame_at}
-use Rattle.workload.specs.ExpectedRun.{frame_answer, reply, reply_at, bytes_in, bytes_out}
+use Rattle.envelope.specs.Said.{reply}
+use Rattle.workload.specs.ExpectedRun.{frame_answer, reply_at, bytes_in, bytes_out}
 use Rattle.workload.specs.Payloads.{payload_at}
 use Rattle.workload.proofs.Payloads.{framed, is_payload}
 

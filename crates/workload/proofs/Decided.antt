@@ -24,7 +24,7 @@ use Rattle.call_model.specs.Arguments.{projected_or_fault, read_as_arguments, ar
 use Rattle.call_model.specs.Decisions.{call_made, decided_on_function, decided_on_service, decided_on_head, decision, failure_frame}
 use Rattle.call_model.specs.Failures.{too_large}
 use Rattle.call_model.specs.Replies.{success_fields, may_go_back, reply_head, reply_text, within_frame, result_frame, reply_of_function, reply_of_service, reply_to_head, reply_of}
-use Rattle.workload.specs.ExpectedRun.{reply}
+use Rattle.envelope.specs.Said.{reply}
 use Rattle.workload.specs.Calls.{answered}
 
 -- an office that serves one service in the binary protocol

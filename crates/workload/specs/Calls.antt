@@ -4,7 +4,8 @@ use Rattle.thrift_value.specs.Tree.{of_i32, of_struct, no_fields, field}
 use Rattle.call_rules.specs.PlainCalls.{PlainCall, PlainAnswer, success}
 use Rattle.workload.specs.Numbers.{number_at}
 use Rattle.workload.specs.CallFrames.{message_frame, arguments_by}
-use Rattle.workload.specs.ExpectedRun.{frame_answer, method_at, reply}
+use Rattle.envelope.specs.Said.{reply}
+use Rattle.workload.specs.ExpectedRun.{frame_answer, method_at}
 
 -- the call of frame k, by the number that it is made of
 abbrev pub call_by : ℕ → ℕ → PlainCall

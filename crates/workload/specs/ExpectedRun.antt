@@ -2,6 +2,7 @@
 use Rattle.std.specs.Prelude.{ℕ, ℤ, pos, ◌+◌, ◌+ℤ◌, ◌-ℤ◌, List, codes, length, if◌then◌else◌}
 use Rattle.std.specs.List.{sum_by}
 use Rattle.thrift_value.specs.Tree.{of_i32, of_struct, no_fields, field}
+use Rattle.envelope.specs.Said.{reply}
 use Rattle.script_model.specs.ScriptLines.{count_up}
 use Rattle.workload.specs.Numbers.{number_at, first_number, second_number}
 use Rattle.workload.specs.CallFrames.{message_frame, adds, frame_at}
@@ -19,10 +20,6 @@ frame_answer seed k = frame_answer_by k (number_at seed (k + 1))
 -- the method that frame k calls
 abbrev pub method_at : ℕ → List ℕ
 method_at k = if adds k then codes "add" else codes "calculate"
-
--- the type of a reply
-abbrev pub reply : ℕ
-reply = 2
 
 -- the reply to frame k: the result has the id 0
 abbrev pub reply_at : ℕ → ℕ → List ℕ
