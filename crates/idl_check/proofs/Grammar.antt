@@ -120,7 +120,7 @@ keeps_annotated p h = (of_left, h, keeps_annotation)
 -- types
 keeps_base : Keeps base
 unfolding base
-keeps_base = (a_word _, (a_word _, (a_word _, (a_word _, (a_word _, (a_word _, (a_word _, (a_word _, a_word _))))))))
+keeps_base = (a_word _, (a_word _, (a_word _, (a_word _, (a_word _, (a_word _, (a_word _, (a_word _, (a_word _, a_word _)))))))))
 
 keeps_cpp_type : Keeps cpp_type
 unfolding cpp_type
