@@ -1,5 +1,5 @@
 -- What is known of arguments that may go out.
-use Rattle.std.proofs.Common.{◌≡◌, ℕ, ◌≤◌, true, List, refl}
+use Rattle.std.proofs.Common.{◌≡◌, ℕ, true, List, refl}
 use Rattle.std.specs.Prelude.{nat_le, ◌&&◌, is_ok}
 use Rattle.std.proofs.lemmas.Bool.{and_parts, leb-true, false≢true}
 use Rattle.limits.specs.Limits.{most_levels, most_values}

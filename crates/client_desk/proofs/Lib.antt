@@ -1,3 +1,3 @@
-mod GoingOut
-mod Sizes
+pub mod GoingOut
+pub mod Sizes
 mod Soundness

@@ -23,7 +23,7 @@ head_longer : (p : Protocol) (said : Said) → length said.name ≤ length (head
 head_longer Binary said = omega (arith, length-append said.name (to_be_bytes w32 (of_z w32 said.id)))
 head_longer Compact said = omega (arith, compact_name_longer said.name, length-append (compact_id said.id) (compact_name said.name))
 
-call_longer : (p : Protocol) (name : List ℕ) (f : PlainFunction) (args : Tree) (id : ℤ) → length name ≤ length (call_message p name f args id)
+pub call_longer : (p : Protocol) (name : List ℕ) (f : PlainFunction) (args : Tree) (id : ℤ) → length name ≤ length (call_message p name f args id)
 unfolding call_message
 call_longer p name f args id =
     let said : Said = record { name = name; kind = asked_type f; id = id } in

@@ -1,7 +1,6 @@
 -- What is known of a client in memory, which keeps no more than that it is sound.
-use Rattle.std.proofs.Common.{◌≡◌, ◌≤◌, ℕ, List, [], ◌∷◌, Some, None, refl, arith}
+use Rattle.std.proofs.Common.{◌≤◌, [], ◌∷◌, None, arith}
 use Rattle.std.proofs.Math.Logic.{∥∥₁_elim, ∥∥₁_prop}
-use Rattle.std.specs.Prelude.{All}
 use Rattle.std.proofs.lemmas.List.Elements.{All-nil, All-cons}
 use Rattle.call_rules.specs.Desks.{longest_payload}
 use Rattle.schema.specs.Sound.{IsSound, IsPlaceIn}

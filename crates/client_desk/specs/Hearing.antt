@@ -1,5 +1,5 @@
 -- What a payload answers to a call (Thrift RPC specification, 'Response' and 'Application Exceptions').
-use Rattle.std.specs.Prelude.{ℕ, ℤ, pos, ◌==◌, Bool, if◌then◌else◌, List, [], ◌∷◌, Option, Some, None, unwrap_or, Result, Ok, Err}
+use Rattle.std.specs.Prelude.{ℕ, ℤ, pos, ◌==◌, if◌then◌else◌, List, [], ◌∷◌, Option, Some, None, unwrap_or, Result, Ok, Err}
 use Rattle.std.specs.Ordering.{int_eq}
 use Rattle.std.specs.Str.{bytes_eq}
 use Rattle.outside.specs.declared.outcomes.EnvelopeFault.{EnvelopeFault}
@@ -14,10 +14,10 @@ use Rattle.std.specs.Option.{option_map, option_or}
 use Rattle.struct_skew.specs.Fits.{fits_kind}
 use Rattle.struct_skew.specs.Projection.{meaning_within_bounds}
 use Rattle.thrift_value.specs.declared.wire_fault.WireFault.{WireFault}
-use Rattle.thrift_value.specs.Tree.{Tree, of_i32, of_bytes, of_struct, FieldTrees, no_fields, field}
+use Rattle.thrift_value.specs.Tree.{Tree, of_i32, of_bytes, FieldTrees, no_fields, field}
 use Rattle.wire_model.specs.Place.{struct_at}
-use Rattle.call_model.specs.Arguments.{wire_of}
 use Rattle.call_rules.specs.Arguments.{fields_in}
+use Rattle.call_model.specs.Arguments.{wire_of}
 use Rattle.call_model.specs.Replies.{success_id}
 use Rattle.client_desk.specs.Clients.{PlainClient}
 use Rattle.client_desk.specs.declared.heard_fault.HeardFault.{HeardFault}

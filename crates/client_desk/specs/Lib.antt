@@ -4,3 +4,4 @@ pub mod Asking
 pub mod Hearing
 pub mod HeardFaults
 pub mod HeardOf
+pub mod Worked

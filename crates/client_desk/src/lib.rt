@@ -12,7 +12,7 @@
 //! ```
 //!
 //! The files of `specs/`, in reading order: who calls (`Clients`); the frame that asks for a call (`Asking`); what a payload answers to it
-//! (`Hearing`).
+//! (`Hearing`). [`worked_calls`] and [`worked_replies`] have worked rows.
 #![tactic(auto)]
 
 mod arguments;
@@ -24,8 +24,10 @@ mod heard;
 mod heard_fault;
 mod hearing;
 mod replies;
+mod rows;
 
 pub use ask_fault::AskFault;
 pub use client::Client;
 pub use heard::Heard;
 pub use heard_fault::HeardFault;
+pub use rows::{worked_calls, worked_replies};

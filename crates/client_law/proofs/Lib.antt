@@ -1,0 +1,10 @@
+mod Bytes
+mod Names
+mod Asked
+mod Budgets
+mod Written
+mod Each
+mod HeardValues
+mod Failed
+mod Replied
+mod Heard

@@ -1,0 +1,2 @@
+pub mod ServedAlone
+pub mod HeardSo
