@@ -1,0 +1,6 @@
+pub mod Kinds
+pub mod HeardText
+pub mod Calls
+pub mod PortCallOf
+pub mod Called
+pub mod Steps
