@@ -10,7 +10,7 @@ use crate::codes::{code_of, tag_coded};
 use crate::numbers::{i8_in, i16_in, i32_in, i64_in, size_in, u8_in, u64_in, u128_in};
 use crate::protocol::Binary;
 use std::alloc::AllocError;
-use thrift_value::{Tag, Value, WireFault};
+use thrift_value::{Tag, Uuid, Value, WireFault};
 use wire_num::{put_be64, put_be128, put_i16, put_i32, put_i64, put_u8};
 use wire_walk::{Codec, Header, Input};
 
@@ -58,7 +58,7 @@ impl Codec for Binary {
             }
             Tag::Uuid => {
                 let (number, rest) = u128_in(rest)?;
-                Ok((Value::Uuid(number), rest))
+                Ok((Value::Uuid(Uuid::new(number)), rest))
             }
             _ => Err(WireFault::Short),
         }
@@ -122,7 +122,7 @@ impl Codec for Binary {
             Value::I32(number) => put_i32(into, *number),
             Value::I64(number) => put_i64(into, *number),
             Value::Double(bits) => put_be64(into, *bits),
-            Value::Uuid(number) => put_be128(into, *number),
+            Value::Uuid(uuid) => put_be128(into, uuid.number()),
             _ => Ok(()),
         }
     }

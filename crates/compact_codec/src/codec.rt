@@ -13,7 +13,7 @@ use crate::headers::{
 use crate::numbers::{double_in, i8_in, i16_in, i32_in, i64_in, size_in, u8_in, uuid_in};
 use crate::protocol::Compact;
 use std::alloc::AllocError;
-use thrift_value::{Tag, Value, WireFault};
+use thrift_value::{Tag, Uuid, Value, WireFault};
 use wire_num::{put_be128, put_le64, put_u8, put_varint32, put_varint64, zigzag32, zigzag64};
 use wire_walk::{Codec, Header, Input};
 
@@ -62,7 +62,7 @@ impl Codec for Compact {
             }
             Tag::Uuid => {
                 let (number, rest) = uuid_in(rest)?;
-                Ok((Value::Uuid(number), rest))
+                Ok((Value::Uuid(Uuid::new(number)), rest))
             }
             _ => Err(WireFault::Short),
         }
@@ -115,7 +115,7 @@ impl Codec for Compact {
             Value::I32(number) => put_varint32(into, zigzag32(*number)),
             Value::I64(number) => put_varint64(into, zigzag64(*number)),
             Value::Double(bits) => put_le64(into, *bits),
-            Value::Uuid(number) => put_be128(into, *number),
+            Value::Uuid(uuid) => put_be128(into, uuid.number()),
             _ => Ok(()),
         }
     }

@@ -16,7 +16,7 @@ use crate::uuids::uuid_in;
 use lists::ByteText;
 use schema::TypeDesc;
 use std::alloc::Global;
-use thrift_value::{Tag, Value};
+use thrift_value::{Tag, Uuid, Value};
 
 /// An integer under a tag that has room for it.
 #[tactic(auto, using(thrift_value::proofs::Trees::tree_equations))]
@@ -68,7 +68,7 @@ fn uuid_written(bytes: &ByteText) -> Result<Value, PlainFault>
     ensures { IsPlainOne (as_uuid (uuid_number bytes.now)) result }
 {
     let number = uuid_in(bytes.as_slice()).ok_or(PlainFault::BadUuid)?;
-    Ok(Value::Uuid(number))
+    Ok(Value::Uuid(Uuid::new(number)))
 }
 
 /// A literal.

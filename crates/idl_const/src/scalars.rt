@@ -12,7 +12,7 @@ use idl_token::uuid_value;
 use lists::ByteText;
 use schema::TypeDesc;
 use std::alloc::Global;
-use thrift_value::Value;
+use thrift_value::{Uuid, Value};
 
 /// A number that is 0 or 1.
 #[tactic(auto, using(thrift_value::proofs::Trees::tree_equations))]
@@ -153,7 +153,7 @@ fn uuid_written(bytes: &ByteText) -> Result<Value, ConstFault>
     ensures { IsOneWorth (as_uuid (uuid_number bytes.now)) result }
 {
     match uuid_value(bytes.as_slice()) {
-        Some(number) => Ok(Value::Uuid(number)),
+        Some(number) => Ok(Value::Uuid(Uuid::new(number))),
         None => Err(ConstFault::BadUuid),
     }
 }

@@ -25,7 +25,7 @@ impl Value {
             (Value::Map(_, _, a), Value::Map(_, _, b)) => a.compare(b),
             (Value::Set(_, a), Value::Set(_, b)) => a.compare(b),
             (Value::List(_, a), Value::List(_, b)) => a.compare(b),
-            (Value::Uuid(a), Value::Uuid(b)) => a.cmp(b),
+            (Value::Uuid(a), Value::Uuid(b)) => a.number().cmp(&b.number()),
             _ => self.tag().cmp(&other.tag()),
         }
     }

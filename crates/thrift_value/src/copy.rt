@@ -2,6 +2,7 @@
 ghost use Rattle.std.specs.Prelude.{◌≡◌, ◌++◌, ◌∷◌, [], IfOk, OnOk, IsErr, MatchResult};
 ghost use Rattle.thrift_value.specs.TreeOf.{tree_of, fields_tree, items_tree, pairs_tree};
 
+use crate::uuid::Uuid;
 use crate::value::{Fields, Items, Pairs, Value};
 use std::alloc::{AllocError, Global};
 
@@ -48,7 +49,7 @@ impl Value {
             Value::Map(key, value, pairs) => Ok(Value::Map(*key, *value, pairs.try_clone(alloc)?)),
             Value::Set(element, items) => Ok(Value::Set(*element, items.try_clone(alloc)?)),
             Value::List(element, items) => Ok(Value::List(*element, items.try_clone(alloc)?)),
-            Value::Uuid(n) => Ok(Value::Uuid(*n)),
+            Value::Uuid(uuid) => Ok(Value::Uuid(Uuid::new(uuid.number()))),
         }
     }
 }

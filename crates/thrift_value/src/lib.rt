@@ -28,6 +28,7 @@ mod measure;
 mod sizes;
 mod tag;
 mod tidiness;
+mod uuid;
 mod value;
 mod wire_fault;
 
@@ -38,5 +39,6 @@ pub use laws::{
 };
 pub use lists::ByteText;
 pub use tag::Tag;
+pub use uuid::Uuid;
 pub use value::{Fields, Items, Pairs, Raw, Value};
 pub use wire_fault::WireFault;

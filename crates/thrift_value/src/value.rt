@@ -3,6 +3,7 @@ ghost use Rattle.thrift_value.specs.Tags.{tag_of};
 ghost use Rattle.thrift_value.specs.TreeOf.{tree_of, fields_of, items_of, pairs_of};
 
 use crate::tag::Tag;
+use crate::uuid::Uuid;
 use lists::ByteText;
 
 /// A value of a Thrift type. Strings and binaries are both bytes, an enum is an `I32`, and a double
@@ -32,8 +33,8 @@ pub enum Value {
     Set(Tag, Items),
     /// The tag of the elements, and the elements.
     List(Tag, Items),
-    /// The sixteen bytes of a uuid as one number, the highest byte first.
-    Uuid(u128),
+    /// The sixteen bytes of a uuid.
+    Uuid(Uuid),
 }
 
 /// A value as it came: in wire order, and with repeats.

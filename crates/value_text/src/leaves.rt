@@ -9,7 +9,7 @@ use crate::form::{Leaf, greatest, is_wanted};
 use crate::fronts::{eight_at, integer_at, past, quoted_at, sixteen_at};
 use crate::stop::TextStop;
 use std::alloc::Global;
-use thrift_value::{ByteText, Tag, Value};
+use thrift_value::{ByteText, Tag, Uuid, Value};
 
 /// A number as one of 8 bits, where it is one and one may stand there.
 #[tactic(auto, using(thrift_value::proofs::Trees::tree_equations))]
@@ -130,7 +130,8 @@ fn uuid_at(text: &[u8]) -> Result<(Value, &[u8]), TextStop>
 {
     let digits = past(b"u", text)?;
     let (bytes, rest) = sixteen_at(digits)?;
-    Ok((Value::Uuid(u128::from_be_bytes(bytes)), rest))
+    let number = u128::from_be_bytes(bytes);
+    Ok((Value::Uuid(Uuid::new(number)), rest))
 }
 
 /// Bytes between quotation marks.

@@ -258,7 +258,7 @@ pub fn spell_value<K: Sink>(out: &mut K, value: &Value) -> Result<(), Failed>
         Value::I32(n) => spell_number(out, i64::from(*n), b'i'),
         Value::I64(n) => spell_number(out, *n, b'l'),
         Value::Double(bits) => spell_double(out, *bits),
-        Value::Uuid(number) => spell_uuid(out, *number),
+        Value::Uuid(uuid) => spell_uuid(out, uuid.number()),
         Value::Bytes(text) => spell_quoted(out, text.as_slice()),
         Value::Struct(fields) => spell_struct(out, fields.as_slice()),
         Value::Map(key, value, pairs) => spell_map(out, *key, *value, pairs.as_slice()),

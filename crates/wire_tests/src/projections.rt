@@ -9,7 +9,7 @@ use schema_example::example;
 use std::alloc::{AllocError, Global};
 use std::test::Fail;
 use struct_skew::{SkewFault, fits, fits_with, needed_fields, project};
-use thrift_value::{Fields, Items, Tag, Value};
+use thrift_value::{Fields, Items, Tag, Uuid, Value};
 
 // The fields of a struct by their ids: a bool, or another kind of value where there is none.
 const SENT: [&[(i16, Option<bool>)]; 6] = [
@@ -93,7 +93,7 @@ fn may_go(alloc: Global, sent: &[(i16, Option<bool>)]) -> Result<bool, AllocErro
 
 // Whether a uuid may be written under uuid alone, and nothing else under it.
 fn fits_itself_alone(alloc: Global) -> Result<bool, AllocError> {
-    let uuid = Value::Uuid(7);
+    let uuid = Value::Uuid(Uuid::new(7));
     let number = Value::I64(7);
     if !fits_example(alloc, &TypeDesc::Uuid, &uuid)? {
         return Ok(false);

@@ -1,7 +1,7 @@
 use std::alloc::{AllocError, Global};
 use std::cmp::Ordering;
 use std::test::Fail;
-use thrift_value::{ByteText, Fields, FnShapes, Items, Pairs, Tag, Value};
+use thrift_value::{ByteText, Fields, FnShapes, Items, Pairs, Tag, Uuid, Value};
 
 fn text(alloc: Global, bytes: &[u8]) -> Result<Value, AllocError> {
     Ok(Value::Bytes(ByteText::new(bytes.to_vec(alloc)?)))
@@ -110,9 +110,9 @@ fn containers(alloc: Global) -> Result<Vec<Value>, AllocError> {
 
 fn uuids(alloc: Global) -> Result<Vec<Value>, AllocError> {
     Ok(vec![in alloc;
-        Value::Uuid(0),
-        Value::Uuid(0xffff_ffff_ffff_ffff),
-        Value::Uuid(0x1_0000_0000_0000_0000),
+        Value::Uuid(Uuid::new(0)),
+        Value::Uuid(Uuid::new(0xffff_ffff_ffff_ffff)),
+        Value::Uuid(Uuid::new(0x1_0000_0000_0000_0000)),
     ]?)
 }
 

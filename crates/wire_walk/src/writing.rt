@@ -76,8 +76,8 @@ fn number_fits(value: &Value)
         Value::Double(bits) => {
             let _number = *bits;
         }
-        Value::Uuid(number) => {
-            let _number = *number;
+        Value::Uuid(uuid) => {
+            let _number = uuid.number();
         }
         Value::Bool(_) | Value::Bytes(_) | Value::Struct(_) | Value::Map(_, _, _) => {}
         Value::Set(_, _) | Value::List(_, _) => {}
