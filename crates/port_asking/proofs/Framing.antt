@@ -1,10 +1,10 @@
 -- What is known of a frame of which parts were heard.
-use Rattle.std.proofs.Common.{◌≡◌, ℕ, ℤ, pos, ◌<◌, ◌≤◌, ◌^◌, Bool, true, false, List, [], ◌++◌, length, Result, Ok, Err, refl, sym, ap, ◌∙◌, subst, arith}
+use Rattle.std.proofs.Common.{◌≡◌, ℕ, ℤ, pos, ◌<◌, ◌≤◌, ◌^◌, true, false, List, ◌++◌, length, Ok, Err, sym, ap, ◌∙◌, subst, arith}
 use Rattle.std.specs.Int.{w32, to_be_bytes}
 use Rattle.outside.specs.Cause.{Rose}
 use Rattle.outside.specs.Pipes.{PipeState}
-use Rattle.host_model.specs.Frames.{frame, size_bytes, IsPayload, IsOutside, IsPartial}
-use Rattle.port_asking.specs.Steps.{HasGot, HasBytes, HasFewer, HasHeard, HasPart, HasHeardFrame, fault_of}
+use Rattle.host_model.specs.Frames.{frame, size_bytes, IsOutside, IsPartial}
+use Rattle.port_asking.specs.Steps.{HasGot, HasHeard, HasHeardFrame, fault_of}
 use Rattle.port_asking.specs.declared.fault.AskingFault.{AskingFault}
 use Rattle.port_asking.specs.declared.fault.AskingFault.TheVariants as faults
 use Rattle.port_asking.specs.declared.hearing.Unheard.{Unheard}

@@ -1,12 +1,11 @@
 -- What is known of who dialled, once the pipe was hung up.
-use Rattle.std.proofs.Common.{◌≡◌, ◌≢◌, ℕ, ℤ, ◌<◌, ◌≤◌, Bool, true, false, List, [], ◌∷◌, ◌++◌, Option, Some, None, Result, Ok, Err, inl, inr, refl, sym, ap, subst, ◌∙◌, cond, lt-ltb, arith}
+use Rattle.std.proofs.Common.{◌≡◌, ℕ, ◌<◌, Bool, true, false, List, [], ◌∷◌, ◌++◌, Option, Some, None, Result, Ok, Err, inl, inr, refl, ap, subst, ◌∙◌, cond, lt-ltb, arith}
 use Rattle.std.specs.Prelude.{◌⊎◌, ◌||◌, nat_lt}
 use Rattle.outside.specs.Cause.{Rose, next_count}
 use Rattle.outside.specs.Content.{told_more}
 use Rattle.outside.specs.Binding.{HasBindCause}
 use Rattle.outside.specs.Pipes.{PipeState, told_end}
 use Rattle.outside.specs.Calling.{PastPipe, StartsCalling, called_with, told_called, next_if_either}
-use Rattle.outside.specs.declared.binder.BindFail.{BindFail}
 use Rattle.outside.specs.declared.binder.BindFail.TheVariants as fails
 use Rattle.port_asking.specs.Steps.{HasMoved, HasNoFault, HasMovedInPart, HasTalked}
 use Rattle.port_asking.specs.Asked.{exchanged, IsBrokenExchange, MayCome, PipeTells, MayBeUndialled, HungUpOne, AskedSo, MeansAsked, HasAskingCause}

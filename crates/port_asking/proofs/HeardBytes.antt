@@ -1,11 +1,11 @@
 -- What is heard on a pipe in pieces.
-use Rattle.std.proofs.Common.{◌≡◌, ℕ, zero, suc, ◌<◌, ◌≤◌, Bool, true, false, List, [], ◌++◌, length, take, Option, Some, None, Result, Ok, Err, refl, sym, ap, ap₂, ◌∙◌, lt-ltb, eq-eqb, ne_eqb, append_assoc, append-nil, subst, arith}
-use Rattle.std.specs.Prelude.{◌&&◌, ◌||◌, nat_lt, nat_eq}
+use Rattle.std.proofs.Common.{◌≡◌, ℕ, ◌<◌, Bool, true, false, List, [], ◌++◌, length, take, Option, Some, None, Ok, Err, refl, sym, ap, ap₂, ◌∙◌, lt-ltb, eq-eqb, ne_eqb, append_assoc, append-nil, subst, arith}
+use Rattle.std.specs.Prelude.{◌&&◌, nat_lt, nat_eq}
 use Rattle.std.proofs.lemmas.Bool.{and_right}
 use Rattle.outside.specs.Cause.{Rose}
 use Rattle.outside.specs.Content.{told_more}
 use Rattle.outside.specs.Pipes.{PipeState, Receives, told_end, is_end}
-use Rattle.port_asking.specs.Steps.{HasGot, HasBytes, HasFewer, HasHeard}
+use Rattle.port_asking.specs.Steps.{HasGot, HasHeard}
 use Rattle.port_asking.specs.declared.hearing.Unheard.TheVariants as unheard
 
 -- these bytes were read and no end, nothing was sent, and no read failed

@@ -1,8 +1,7 @@
 -- What is sent on a pipe in pieces.
-use Rattle.std.proofs.Common.{◌≡◌, ℕ, ◌≤◌, List, [], ◌++◌, length, take, drop, Option, Result, Ok, Err, refl, sym, ap, ◌∙◌, take-append-drop, arith}
-use Rattle.outside.specs.Cause.{Rose, HasCause}
-use Rattle.outside.specs.Content.{HasWritten}
-use Rattle.outside.specs.Taken.{IsTakenBut, IsTakenInPart}
+use Rattle.std.proofs.Common.{◌≡◌, ℕ, ◌≤◌, List, [], take, drop, Ok, Err, refl, sym, ◌∙◌, take-append-drop, arith}
+use Rattle.outside.specs.Cause.{Rose}
+use Rattle.outside.specs.Taken.{IsTakenBut}
 use Rattle.outside.proofs.Taking.{none_taken, taken_on, all_told}
 use Rattle.outside.specs.Pipes.{PipeState, Sends}
 use Rattle.port_asking.specs.Steps.{HasSent}

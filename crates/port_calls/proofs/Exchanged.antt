@@ -3,8 +3,6 @@ use Rattle.std.proofs.Common.{◌≡◌, ℕ, suc, ◌+◌, ◌<◌, Bool, true,
 use Rattle.std.specs.Prelude.{⊤}
 use Rattle.std.specs.List.{position_from}
 use Rattle.outside.specs.Calling.{PastPipe}
-use Rattle.outside.specs.Content.{told_more}
-use Rattle.outside.specs.Taken.{IsTakenInPart}
 use Rattle.call_model.specs.Names.{separator_of}
 use Rattle.client_desk.specs.Clients.{PlainClient}
 use Rattle.schema.specs.LookUp.{is_service_name, service_named}

@@ -160,20 +160,20 @@ pub(crate) fn map_of(
     }
 }
 
-/// How much room a value takes, in bytes: about 48 a value, and its texts.
+/// How much room a value takes, in bytes: about 40 a value, and its texts.
 #[cycle(weighing)]
 fn weight(value: &Value) -> u64 {
     match value {
-        Value::Bytes(text) => 48u64.saturating_add(text.as_slice().len() as u64),
+        Value::Bytes(text) => 40u64.saturating_add(text.as_slice().len() as u64),
         Value::Struct(fields) => {
-            let mut sum: u64 = 48;
+            let mut sum: u64 = 40;
             for (_, value) in fields.as_slice() {
                 sum = sum.saturating_add(weight(value));
             }
             sum
         }
         Value::Map(_, _, pairs) => {
-            let mut sum: u64 = 48;
+            let mut sum: u64 = 40;
             for (key, value) in pairs.as_slice() {
                 sum = sum
                     .saturating_add(weight(key))
@@ -183,13 +183,13 @@ fn weight(value: &Value) -> u64 {
         }
         Value::Set(_, items) => weight_of_items(items.as_slice()),
         Value::List(_, items) => weight_of_items(items.as_slice()),
-        _ => 48,
+        _ => 40,
     }
 }
 
 #[cycle(weighing)]
 fn weight_of_items(items: &[Value]) -> u64 {
-    let mut sum: u64 = 48;
+    let mut sum: u64 = 40;
     for value in items {
         sum = sum.saturating_add(weight(value));
     }

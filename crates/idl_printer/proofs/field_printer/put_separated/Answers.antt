@@ -1,4 +1,4 @@
-use Rattle.std.proofs.Common.{◌≡◌, ◌++◌, ◌∙◌, List, map, ap, sym}
+use Rattle.std.proofs.Common.{◌++◌, ◌∙◌, List, map, ap, sym}
 use Rattle.idl_parser.specs.declared.tree.Field.{Field}
 use Rattle.idl_printer.specs.Printed.{behind_comma, field_text, separated}
 use Rattle.idl_printer.proofs.Appends.{walked, walked_through}

@@ -1,4 +1,4 @@
-use Rattle.std.proofs.Common.{◌≡◌, Vec, Global, ℕ}
+use Rattle.std.proofs.Common.{Vec, Global, ℕ}
 use Rattle.port_asking.proofs.Hanging.{hung_up, asking_cause}
 use Rattle.port_asking.proofs.asking.ask_port.Goals as goal
 

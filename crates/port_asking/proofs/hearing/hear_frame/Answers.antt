@@ -1,4 +1,4 @@
-use Rattle.std.proofs.Common.{rules, arith, ◌≡◌, ◌<◌, ◌≤◌, ◌∙◌, Vec, Global, ℕ, length, pos, Result, Ok, Err, refl, sym, subst}
+use Rattle.std.proofs.Common.{rules, ◌≡◌, ◌<◌, ◌≤◌, ◌∙◌, Vec, Global, ℕ, length, pos, Result, Err, refl, sym, subst}
 use Rattle.host_model.specs.Frames.{size_bytes}
 use Rattle.port_asking.specs.Steps.{HasHeardFrame, fault_of}
 use Rattle.port_asking.specs.declared.fault.AskingFault.{AskingFault}

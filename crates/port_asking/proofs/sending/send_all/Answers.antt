@@ -1,4 +1,4 @@
-use Rattle.std.proofs.Common.{◌≡◌, List, ℕ, sym, subst}
+use Rattle.std.proofs.Common.{List, ℕ, sym, subst}
 use Rattle.port_asking.proofs.SentBytes.{HasSentBut, sent_on}
 use Rattle.port_asking.proofs.sending.send_all.Goals as goal
 

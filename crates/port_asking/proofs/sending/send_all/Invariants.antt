@@ -1,4 +1,4 @@
-use Rattle.std.proofs.Common.{◌≡◌, ◌≤◌, length}
+use Rattle.std.proofs.Common.{length}
 use Rattle.port_asking.proofs.SentBytes.{HasSentBut}
 use Rattle.port_asking.proofs.sending.send_all.Given as goal
 
