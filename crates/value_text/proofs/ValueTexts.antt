@@ -39,8 +39,8 @@ i64_text v n m is same = ap (λ k. number_and_letter k (codes "l")) same ∙ kno
 pub bits_text : (v : Value) (bits : ℕ) → v ≡ value.Double bits → double_text bits ≡ tree_text (tree_of v)
 bits_text v bits is = known_text v (value.Double bits) (of_double bits) is (tree_of-Double bits)
 
-pub wide_text : (v : Value) (n : ℕ) → v ≡ value.Uuid n → uuid_text n ≡ tree_text (tree_of v)
-wide_text v n is = known_text v (value.Uuid n) (of_uuid n) is (tree_of-Uuid n)
+pub wide_text : (v : Value) (n number : ℕ) → v ≡ value.Uuid n → number ≡ n → uuid_text number ≡ tree_text (tree_of v)
+wide_text v n number is counted = ap uuid_text counted ∙ known_text v (value.Uuid n) (of_uuid n) is (tree_of-Uuid n)
 
 pub bytes_text : (v : Value) (bytes shown : List ℕ) → v ≡ value.Bytes bytes → shown ≡ bytes → quoted_of shown ≡ tree_text (tree_of v)
 bytes_text v bytes shown is same = ap quoted_of same ∙ known_text v (value.Bytes bytes) (of_bytes bytes) is (tree_of-Bytes bytes)

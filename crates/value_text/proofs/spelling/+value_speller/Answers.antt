@@ -203,7 +203,7 @@ spell_value-returns-in-Double g t c =
 pub spell_value-returns-in-Uuid : goal.spell_value-returns-in-Uuid
 spell_value-returns-in-Uuid g t c =
     hands_same (g.K.Sink.taken c.args.out.now) (g.K.Sink.taken c.spell_uuid.new.out) (g.K.Sink.faults c.args.out.now) (g.K.Sink.faults c.spell_uuid.new.out) _ (tree_text (tree_of c.args.value.now)) c.spell_uuid.result
-    (wide_text c.args.value.now c.in-Uuid.uuid c.in-Uuid.is) c.spell_uuid.ensures
+    (wide_text c.args.value.now c.in-Uuid.uuid c.number.result c.in-Uuid.is c.number.ensures) c.spell_uuid.ensures
 
 pub spell_value-returns-in-Bytes : goal.spell_value-returns-in-Bytes
 spell_value-returns-in-Bytes g t c =
