@@ -27,3 +27,6 @@ pub mod KnownAlike
 pub mod FilledParts
 pub mod Settling
 pub mod ReadParts
+pub mod InPlace
+pub mod Apart
+pub mod TakingOut

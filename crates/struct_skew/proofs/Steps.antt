@@ -30,7 +30,7 @@ abbrev pub behind : {B : Type 0} → List B → Result (List B) SkewFault → Re
 behind xs (Ok ys) = Ok (xs ++ ys)
 behind xs (Err fault) = Err fault
 
-behind_first : {B : Type 0} (xs : List B) (y : B) (rest : Result (List B) SkewFault) → behind xs (with_first (Ok y) rest) ≡ behind (xs ++ y ∷ []) rest
+pub behind_first : {B : Type 0} (xs : List B) (y : B) (rest : Result (List B) SkewFault) → behind xs (with_first (Ok y) rest) ≡ behind (xs ++ y ∷ []) rest
 behind_first xs y (Ok ys) = ap Ok (sym (append_assoc xs (y ∷ []) ys))
 behind_first xs y (Err e) = refl
 

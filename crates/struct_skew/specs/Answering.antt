@@ -1,5 +1,5 @@
 -- What a call may answer, where a definition says what is projected.
-use Rattle.std.specs.Prelude.{◌≡◌, ⊤, List, [], ◌∷◌, ◌++◌, Option, option_to_list, Result, Ok, Err, MatchResult}
+use Rattle.std.specs.Prelude.{◌≡◌, ⊤, ℕ, List, [], ◌∷◌, ◌++◌, slice_set, Option, option_to_list, Result, Ok, Err, MatchResult}
 use Rattle.struct_skew.specs.declared.fault.SkewFault.{SkewFault}
 use Rattle.struct_skew.specs.declared.fault.SkewFault.TheVariants.{NoMemory}
 
@@ -22,3 +22,8 @@ Puts (Err fault) out old new = out ≡ Err fault
 abbrev pub PutsSome : {X : Type 0} → Result (Option X) SkewFault → Result ⊤ SkewFault → List X → List X → Type 0
 PutsSome (Ok x) out old new = MatchResult out (λ _. new ≡ old ++ option_to_list x) (λ fault. fault ≡ NoMemory)
 PutsSome (Err fault) out old new = out ≡ Err fault
+
+-- a value that was found stands at a place from then on, or its fault is told
+abbrev pub PutsAt : {X : Type 0} → ℕ → Result X SkewFault → Result ⊤ SkewFault → List X → List X → Type 0
+PutsAt place (Ok x) out old new = (out ≡ Ok tt) × (new ≡ slice_set old place x)
+PutsAt place (Err fault) out old new = out ≡ Err fault

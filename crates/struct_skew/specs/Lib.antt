@@ -8,6 +8,7 @@ pub mod Answering
 pub mod Needs
 pub mod Unions
 pub mod Plan
+pub mod TakenOut
 pub mod Orders
 pub mod Structs
 pub mod TidyTests

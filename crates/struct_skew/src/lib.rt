@@ -18,6 +18,9 @@
 //! `Projection.antt`, in this order; [`worked_fields`] and its kin have worked rows. Whether a value may be written under a type is
 //! said by `specs/WrittenTests.antt`, as a test that computes; [`the_tests_decide`] ties it to the schema's definition.
 //!
+//! What [`read_as`] has read is handed on where it means itself, and else settled in its own tree; what stands in memory already is
+//! projected by a copy, and stays.
+//!
 //! Not here: how bytes stand for values, which a protocol says as a type. A projection recurses once a level of the raw value, and
 //! `fits` once a level of its value. Where the defaults of a projection take more than 320 MB it answers want of memory, since few
 //! bytes can ask for many of them.
@@ -25,6 +28,7 @@
 
 mod arg_fault;
 mod fault;
+mod in_place;
 mod kinds;
 mod laws;
 mod meanings;
@@ -35,6 +39,7 @@ mod public;
 mod reading;
 mod rows;
 mod settled;
+mod slots;
 mod structs;
 mod values;
 mod written;

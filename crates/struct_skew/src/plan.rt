@@ -6,6 +6,7 @@ ghost use Rattle.schema.specs.SchemaOf.{plain_field};
 ghost use Rattle.struct_skew.specs.Fits.{fits_kind};
 ghost use Rattle.struct_skew.specs.Offers.{is_sent_for};
 ghost use Rattle.struct_skew.specs.Plan.{AllAt, place_cmp, unsent_choice, is_choice_at, IsPlaceOfId, KeepsFollowing, Plans};
+ghost use Rattle.struct_skew.specs.TakenOut.{AreApart, AreApartBelow};
 
 use crate::kinds::fits_kind;
 use crate::order::{Keyed, in_order};
@@ -96,7 +97,8 @@ fn put_sent(
     sent: &[(i16, Value)],
 ) -> Result<(), AllocError>
     requires { AllPairs (λ (f g : PlainField). f.id <ℤ g.id) (map plain_field declared.now) }
-    ensures { OnOk result (KeepsFollowing (map plain_field declared.now) (field_trees (map field_tree sent.now)) into.old.items into.new.items) }
+    ensures counts { OnOk result (KeepsFollowing (map plain_field declared.now) (field_trees (map field_tree sent.now)) into.old.items into.new.items) }
+    ensures apart { OnOk result (AreApartBelow 0 into.old.items → AreApart into.new.items) }
 {
     for index in 0..sent.len() {
         let (id, value) = &sent[index];
@@ -105,7 +107,7 @@ fn put_sent(
     Ok(())
 }
 
-/// The plan for a struct: what is needed of it, and what is sent.
+/// The plan for a struct: what is needed of it, and what is sent. No raw field is sent for two declared ones.
 pub(crate) fn plan_of(
     alloc: Global,
     required: &[usize],
@@ -114,7 +116,8 @@ pub(crate) fn plan_of(
     sent: &[(i16, Value)],
 ) -> Result<Vec<Choice>, AllocError>
     requires { AllPairs (λ (f g : PlainField). f.id <ℤ g.id) (map plain_field declared.now) }
-    ensures { IfOk result (λ plan. Plans required.now defaulted.now (map plain_field declared.now) (field_trees (map field_tree sent.now)) plan.items) }
+    ensures counts { IfOk result (λ plan. Plans required.now defaulted.now (map plain_field declared.now) (field_trees (map field_tree sent.now)) plan.items) }
+    ensures apart { IfOk result (λ plan. AreApart plan.items) }
 {
     let mut choices = Vec::new(alloc);
     put_unsent(&mut choices, required)?;

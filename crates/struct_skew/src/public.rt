@@ -22,7 +22,7 @@ use thrift_value::{Raw, Value};
 
 /// The room that the defaults of one projection may take, in bytes: twice what 4,000,000 values take. Past it the answer is want
 /// of memory.
-const DEFAULTS_ROOM: u64 = 320_000_000;
+pub(crate) const DEFAULTS_ROOM: u64 = 320_000_000;
 
 /// Whether a raw value counts under a type: the tags agree, and each element of a container fits its declared type.
 pub fn fits_kind(raw: &Raw, kind: &TypeDesc) -> bool

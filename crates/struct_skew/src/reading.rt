@@ -1,23 +1,28 @@
 //! Arguments read by what a schema declares of them.
 ghost use Rattle.std.specs.Prelude.{◌≤◌, ◌≡◌, length, map};
-ghost use Rattle.thrift_value.specs.declared.tag.Tag.TheVariants.{Struct as StructTag};
-ghost use Rattle.thrift_value.specs.Tags.{tag_of};
+ghost use Rattle.limits.specs.Limits.{most_levels};
+ghost use Rattle.thrift_value.specs.Measures.{depth_of};
 ghost use Rattle.thrift_value.specs.TreeOf.{tree_of};
 ghost use Rattle.schema.specs.PlainKind.{kind_struct};
 ghost use Rattle.schema.specs.SchemaOf.{schema_of};
 ghost use Rattle.schema.specs.Sound.{IsPlaceIn, IsSound};
 ghost use Rattle.wire_model.specs.Place.{IsWithinBounds};
+ghost use Rattle.struct_skew.specs.Answering.{ProjectsOrNoMemory};
 ghost use Rattle.struct_skew.specs.FilledTests.{is_settled};
 ghost use Rattle.struct_skew.specs.Needs.{needs_of};
 ghost use Rattle.struct_skew.specs.Projection.{projection};
 ghost use Rattle.struct_skew.specs.ReadAs.{placed_projection, read_then_projected, ArgsOrNoMemory};
 
 use crate::arg_fault::{ArgFault, arg_of_skew, arg_of_wire};
+use crate::fault::SkewFault;
+use crate::in_place::settle_value;
 use crate::laws::{settled_values_mean_themselves, what_is_known_decides};
 use crate::needs::{NeededFields, needed_fields};
-use crate::public::project_with;
+use crate::public::DEFAULTS_ROOM;
 use crate::settled::is_settled;
+use crate::values::bounded_of;
 use known_parts::read_known;
+use limits::MOST_LEVELS;
 use schema::{Schema, TypeDesc};
 use std::alloc::Global;
 use thrift_value::Value;
@@ -33,22 +38,40 @@ fn is_settled_struct(value: &Value, schema: &Schema, needed: &NeededFields, whic
     is_settled(value, schema, needed, &kind)
 }
 
-/// The projection of what was read, with the place behind it.
-fn projected_at(
+/// The projection of a struct that was read, made in its own tree.
+fn settled_struct(
     alloc: Global,
     schema: &Schema,
     needed: &NeededFields,
     which: u32,
-    known: &Value,
+    known: Value,
+) -> Result<Value, SkewFault>
+    requires sound { IsSound (schema_of schema.now) }
+    requires needed { needed.now ≡ map needs_of (schema_of schema.now).structs }
+    requires deep { depth_of (tree_of known) ≤ most_levels }
+    ensures { ProjectsOrNoMemory tree_of result (projection (schema_of schema.now) which (tree_of known)) }
+{
+    let kind = TypeDesc::Struct(which);
+    let mut room = DEFAULTS_ROOM;
+    let found = settle_value(known, MOST_LEVELS, alloc, schema, needed, &kind, &mut room);
+    bounded_of(found)
+}
+
+/// The projection of what was read, with the place behind it.
+fn settled_at(
+    alloc: Global,
+    schema: &Schema,
+    needed: &NeededFields,
+    which: u32,
+    known: Value,
     behind: usize,
 ) -> Result<(Value, usize), ArgFault>
     requires sound { IsSound (schema_of schema.now) }
     requires needed { needed.now ≡ map needs_of (schema_of schema.now).structs }
-    requires place { IsPlaceIn (schema_of schema.now).structs which }
-    requires known_struct { tag_of (tree_of known.now) ≡ StructTag }
-    ensures { ArgsOrNoMemory (λ r. (tree_of r.0, r.1)) result (placed_projection behind (projection (schema_of schema.now) which (tree_of known.now))) }
+    requires deep { depth_of (tree_of known) ≤ most_levels }
+    ensures { ArgsOrNoMemory (λ r. (tree_of r.0, r.1)) result (placed_projection behind (projection (schema_of schema.now) which (tree_of known))) }
 {
-    match project_with(alloc, schema, needed, which, known) {
+    match settled_struct(alloc, schema, needed, which, known) {
         Ok(value) => Ok((value, behind)),
         Err(fault) => Err(arg_of_skew(fault)),
     }
@@ -65,7 +88,6 @@ fn projected_with(
 ) -> Result<(Value, usize), ArgFault>
     requires sound { IsSound (schema_of schema.now) }
     requires needed { needed.now ≡ map needs_of (schema_of schema.now).structs }
-    requires place { IsPlaceIn (schema_of schema.now).structs which }
     requires bounds { IsWithinBounds (tree_of known) }
     ensures { ArgsOrNoMemory (λ r. (tree_of r.0, r.1)) result (placed_projection behind (projection (schema_of schema.now) which (tree_of known))) }
 {
@@ -73,12 +95,12 @@ fn projected_with(
     if is_settled_struct(&known, schema, needed, which) {
         return Ok((known, behind));
     }
-    projected_at(alloc, schema, needed, which, &known, behind)
+    settled_at(alloc, schema, needed, which, known, behind)
 }
 
 /// The projection of the struct at a place on the struct at a number, and the place behind that struct, by what the schema's structs
 /// need; or the fault that comes first, one of the bytes before one of the projection. What isn't declared or doesn't fit is passed
-/// over, and a struct in which nothing is out of order is handed on as it was read.
+/// over. A struct in which nothing is out of order is handed on as it was read, and any other is settled in its own tree.
 pub fn read_as_with<W: Wire>(
     alloc: Global,
     schema: &Schema,

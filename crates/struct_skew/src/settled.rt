@@ -1,4 +1,4 @@
-//! Whether a value means itself, so that its projection needs no copy of it.
+//! Whether a value means itself, so that nothing is to be done for its projection.
 ghost use Rattle.std.specs.Prelude.{◌≡◌, ◌&&◌, map};
 ghost use Rattle.std.specs.List.{slice_get};
 ghost use Rattle.thrift_value.specs.TreeOf.{tree_of, field_tree, field_trees, item_trees, pair_tree, pair_trees};

@@ -78,7 +78,7 @@ struct_meaning-returns t c =
     let offers = raw_offers structs c.args.sent.now in
     let declared : map plain_field c.in-Some.desc.now.fields ≡ map plain_field c.as_slice-3.result.now = ap (map plain_field) (sym c.as_slice-3.ensures) in
     let plan : IsPlanFor s.kind (map plain_field c.as_slice-3.result.now) offers c.in_ok-plan.plan.items =
-    c.in_ok-plan.ensures structs s declared
+    c.in_ok-plan.ensures.counts structs s declared
     (c.as_slice.ensures.value ∙ ap (λ (n : PlainNeeds). n.required) c.in-Some.ensures.needed) (c.as_slice-2.ensures.value ∙ ap (λ (n : PlainNeeds). n.defaulted) c.in-Some.ensures.needed) in
     let here : IsPlanFor s.kind s.fields offers c.as_slice-4.result.now =
     subst (λ fs. IsPlanFor s.kind fs offers c.as_slice-4.result.now) (sym declared) (subst (IsPlanFor s.kind (map plain_field c.as_slice-3.result.now) offers) (sym c.as_slice-4.ensures.value) plan) in
