@@ -1,11 +1,11 @@
 -- Choices of which no two name the same raw field.
-use Rattle.std.proofs.Common.{◌≡◌, ℕ, ◌+◌, ◌<◌, List, [], ◌∷◌, ◌++◌, map, Option, Some, None, Ordering, Less, Equal, Greater, refl, sym, ap, subst, ◌∙◌, append-nil, arith}
-use Rattle.std.specs.Prelude.{⊤, IfSome, option_to_list}
+use Rattle.std.proofs.Common.{◌≡◌, ℕ, ◌+◌, ◌<◌, List, [], ◌∷◌, ◌++◌, map, Option, Some, None, Ordering, Less, Equal, Greater, sym, ap, subst, ◌∙◌, append-nil, inl, inr, arith}
+use Rattle.std.specs.Prelude.{IfSome, option_to_list}
 use Rattle.std.specs.List.{AllByRecursion}
 use Rattle.std.proofs.lemmas.List.{map-append}
 use Rattle.struct_skew.specs.declared.plan.Choice.{Choice}
 use Rattle.struct_skew.specs.Latest.{by_order, with_earlier, latest_of_each}
-use Rattle.struct_skew.specs.Plan.{place_cmp, unsent_choice}
+use Rattle.struct_skew.specs.Plan.{place_cmp, unsent_choice, IsThinned}
 use Rattle.struct_skew.specs.TakenOut.{NameApart, AreApart, AreApartBelow}
 
 apart_flipped : (c d : Choice) → NameApart c d → NameApart d c
@@ -75,6 +75,13 @@ sent_apart n into new None named put apart =
     subst (AreApartBelow (n + 1)) (sym (put ∙ append-nil into)) (all_below_more n into apart.0, apart.1)
 sent_apart n into new (Some c) named put apart =
     subst (AreApartBelow (n + 1)) (sym put) (one_below n into c named apart.0, one_apart n into c named apart.0 apart.1)
+
+-- choices that are put in order, or stay as they are
+pub thinned_apart : (n : ℕ) (old new : List Choice) → IsThinned old new → AreApartBelow n old → AreApartBelow n new
+thinned_apart n old new (inl same) apart = subst (AreApartBelow n) (sym same) apart
+thinned_apart n old new (inr ordered) apart =
+    subst (AreApartBelow n) (sym ordered)
+    (all_latest place_cmp (λ (d : Choice). IfSome d.sent (λ i. i < n)) old apart.0, apart_latest place_cmp old apart.1)
 
 -- choices for which nothing is sent
 unsent_below : (places : List ℕ) → AllByRecursion (λ (d : Choice). IfSome d.sent (λ i. i < 0)) (map unsent_choice places)

@@ -146,6 +146,13 @@ module _ (kind : FieldsKind) (offers : List Offer) where
     passive = λ lacks. kept.passive (front_lacks q choices (c ∷ []) lacks);
   }
 
+  -- choices in order, of each place the last, lead to the same
+  pub Follows-in_order : (choices : List Choice) (rest : List Offer) (q : ℕ) (f : PlainField) → Follows kind offers choices rest q f → Follows kind offers (latest_of_each place_cmp choices) rest q f
+  Follows-in_order choices rest q f kept = record {
+    sent = ap (λ x. last_offer_behind f (offer_of offers x) rest) (latest_at-in_order q choices) ∙ kept.sent;
+    passive = λ lacks. kept.passive (none_latest_at q choices (sym (latest_at-in_order q choices) ∙ latest_at-none q (latest_of_each place_cmp choices) lacks));
+  }
+
   -- when no raw field is left, the choices in order are a plan
   Suits-in_order : (choices : List Choice) (q : ℕ) (f : PlainField) → Follows kind offers choices [] q f → Suits kind offers (latest_of_each place_cmp choices) q f
   Suits-in_order choices q f kept = record {

@@ -1,5 +1,5 @@
 -- Steps of making a plan.
-use Rattle.std.proofs.Common.{◌≡◌, ℕ, zero, suc, ◌+◌, ◌<◌, ℤ, List, [], ◌∷◌, ◌++◌, length, map, drop, get_or, Option, Some, sym, ap, subst, ◌∙◌, arith}
+use Rattle.std.proofs.Common.{◌≡◌, ℕ, zero, suc, ◌+◌, ◌<◌, ℤ, List, [], ◌∷◌, ◌++◌, length, map, drop, get_or, Option, Some, sym, ap, subst, ◌∙◌, inl, inr, arith}
 use Rattle.std.specs.Prelude.{IfSome, option_to_list}
 use Rattle.std.specs.List.{slice_get}
 use Rattle.std.proofs.lemmas.List.{drop_more}
@@ -10,9 +10,9 @@ use Rattle.schema.specs.PlainSchema.{PlainField, PlainStruct}
 use Rattle.struct_skew.specs.declared.plan.Choice.{Choice}
 use Rattle.struct_skew.specs.Latest.{latest_of_each}
 use Rattle.struct_skew.specs.Offers.{Offer, is_sent_for}
-use Rattle.struct_skew.specs.Plan.{AllAt, place_cmp, unsent_choice, is_choice_at, Follows, KeepsFollowing, Plans}
+use Rattle.struct_skew.specs.Plan.{AllAt, place_cmp, unsent_choice, is_choice_at, Follows, IsThinned, KeepsFollowing, Plans}
 use Rattle.struct_skew.specs.Projection.{meaning_of, offers_of}
-use Rattle.struct_skew.proofs.PlanLaws.{AllAt-both, Follows-more, plan_in_order}
+use Rattle.struct_skew.proofs.PlanLaws.{AllAt-both, AllAt-then, Follows-in_order, Follows-more, plan_in_order}
 use Rattle.struct_skew.proofs.PlannedFields.{Follows-start}
 
 -- the raw fields of a struct, in memory
@@ -46,6 +46,14 @@ sent_more fields sent i x into new choice low here is named put structs kind kep
     (λ q f own kept_here. Follows-more kind (raw_offers structs sent) into (raw_offer structs x) (raw_offers structs (drop (i + 1) sent)) i choice q f
     (offer_there structs sent i x low here) named own kept_here)
     0 fields is (subst P front kept))
+
+-- choices that are put in order, or stay as they are, lead to the same
+pub thinned_follow : (fields : List PlainField) (kind : FieldsKind) (offers rest : List Offer) (old new : List Choice) → IsThinned old new
+    → AllAt (Follows kind offers old rest) 0 fields → AllAt (Follows kind offers new rest) 0 fields
+thinned_follow fields kind offers rest old new (inl same) kept = subst (λ cs. AllAt (Follows kind offers cs rest) 0 fields) (sym same) kept
+thinned_follow fields kind offers rest old new (inr ordered) kept =
+    subst (λ cs. AllAt (Follows kind offers cs rest) 0 fields) (sym ordered)
+    (AllAt-then (Follows kind offers old rest) (Follows kind offers (latest_of_each place_cmp old) rest) (Follows-in_order kind offers old rest) 0 fields kept)
 
 -- what is needed and what is sent, in order, is a plan
 pub planned : (required defaulted : List ℕ) (fields : List PlainField) (sent : List (ℤ × Value)) (start one two all plan : List Choice)

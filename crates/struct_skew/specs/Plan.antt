@@ -1,5 +1,5 @@
 -- How the raw fields of a struct are assigned to its declared ones.
-use Rattle.std.specs.Prelude.{◌≡◌, ⊤, IfSome, ℕ, ℤ, ◌+◌, ◌<◌, length, Bool, false, ◌==◌, if◌then◌else◌, List, [], ◌∷◌, Option, Some, None, option_and_then, Result, Ok}
+use Rattle.std.specs.Prelude.{◌≡◌, ◌⊎◌, ⊤, IfSome, ℕ, ℤ, ◌+◌, ◌<◌, length, Bool, false, ◌==◌, if◌then◌else◌, List, [], ◌∷◌, Option, Some, None, option_and_then, Result, Ok}
 use Rattle.std.specs.List.{slice_get, list_any}
 use Rattle.std.specs.declared.cmp.Ordering.{Ordering}
 use Rattle.std.specs.Ordering.{nat_cmp, int_eq}
@@ -8,7 +8,7 @@ use Rattle.schema.specs.declared.types.FieldsKind.{FieldsKind}
 use Rattle.schema.specs.PlainSchema.{PlainField, PlainStruct}
 use Rattle.struct_skew.specs.declared.fault.SkewFault.{SkewFault}
 use Rattle.struct_skew.specs.declared.plan.Choice.{Choice}
-use Rattle.struct_skew.specs.Latest.{IsRisingBy}
+use Rattle.struct_skew.specs.Latest.{latest_of_each, IsRisingBy}
 use Rattle.struct_skew.specs.Needs.{needs_of}
 use Rattle.struct_skew.specs.Offers.{Offer, last_offer, last_offer_behind}
 use Rattle.struct_skew.specs.Projection.{is_required, counted_default, field_value, offers_of}
@@ -99,6 +99,10 @@ abbrev pub KeepsFollowing : List PlainField → FieldTrees → List Choice → L
 KeepsFollowing fields sent old new =
     (structs : List PlainStruct) (kind : FieldsKind) → AllAt (Follows kind (offers_of structs sent) old (offers_of structs sent)) 0 fields
     → AllAt (Follows kind (offers_of structs sent) new []) 0 fields
+
+-- choices stay as they are, or are put in order, of each declared field the last
+abbrev pub IsThinned : List Choice → List Choice → Type 0
+IsThinned old new = (new ≡ old) ⊎ (new ≡ latest_of_each place_cmp old)
 
 -- choices are a plan for each struct of these fields and needs, whatever structs there are
 abbrev pub Plans : List ℕ → List ℕ → List PlainField → FieldTrees → List Choice → Type 0

@@ -5,7 +5,7 @@ ghost use Rattle.schema.specs.PlainSchema.{PlainField};
 ghost use Rattle.schema.specs.SchemaOf.{plain_field};
 ghost use Rattle.struct_skew.specs.Fits.{fits_kind};
 ghost use Rattle.struct_skew.specs.Offers.{is_sent_for};
-ghost use Rattle.struct_skew.specs.Plan.{AllAt, place_cmp, unsent_choice, is_choice_at, IsPlaceOfId, KeepsFollowing, Plans};
+ghost use Rattle.struct_skew.specs.Plan.{AllAt, place_cmp, unsent_choice, is_choice_at, IsPlaceOfId, IsThinned, KeepsFollowing, Plans};
 ghost use Rattle.struct_skew.specs.TakenOut.{AreApart, AreApartBelow};
 
 use crate::kinds::fits_kind;
@@ -13,6 +13,7 @@ use crate::order::{Keyed, in_order};
 use schema::FieldDesc;
 use std::alloc::{AllocError, Global};
 use std::cmp::Ordering;
+use std::mem;
 use thrift_value::Value;
 
 /// A declared field and the raw field that is sent for it, by their places.
@@ -90,8 +91,25 @@ fn put_choice(into: &mut Vec<Choice>, choice: Option<Choice>) -> Result<(), Allo
     }
 }
 
+/// How many choices there are at least before they are put in order while more are made.
+const FEW_CHOICES: usize = 1024;
+
+/// Puts choices in order, of each declared field the last, where there are more than so many: so a field that is sent many times
+/// takes no room for each time.
+fn thin_out(alloc: Global, choices: &mut Vec<Choice>, most: usize) -> Result<(), AllocError>
+    ensures { OnOk result (IsThinned choices.old.items choices.new.items) }
+{
+    if choices.as_slice().len() <= most {
+        return Ok(());
+    }
+    let all = mem::replace(choices, Vec::new(alloc));
+    *choices = in_order(alloc, all)?;
+    Ok(())
+}
+
 /// Appends the choices that come of the raw fields, of which those that come later count.
 fn put_sent(
+    alloc: Global,
     into: &mut Vec<Choice>,
     declared: &[FieldDesc],
     sent: &[(i16, Value)],
@@ -100,9 +118,11 @@ fn put_sent(
     ensures counts { OnOk result (KeepsFollowing (map plain_field declared.now) (field_trees (map field_tree sent.now)) into.old.items into.new.items) }
     ensures apart { OnOk result (AreApartBelow 0 into.old.items → AreApart into.new.items) }
 {
+    let most = declared.len().saturating_mul(2).max(FEW_CHOICES);
     for index in 0..sent.len() {
         let (id, value) = &sent[index];
         put_choice(into, choice_of(declared, id, value, index))?;
+        thin_out(alloc, into, most)?;
     }
     Ok(())
 }
@@ -122,6 +142,6 @@ pub(crate) fn plan_of(
     let mut choices = Vec::new(alloc);
     put_unsent(&mut choices, required)?;
     put_unsent(&mut choices, defaulted)?;
-    put_sent(&mut choices, declared, sent)?;
+    put_sent(alloc, &mut choices, declared, sent)?;
     in_order(alloc, choices)
 }

@@ -1,13 +1,16 @@
-use Rattle.std.proofs.Common.{arith, map}
+use Rattle.std.proofs.Common.{◌+◌, arith, map, drop}
 use Rattle.schema.specs.SchemaOf.{plain_field}
-use Rattle.struct_skew.proofs.Apart.{sent_apart}
-use Rattle.struct_skew.proofs.PlanSteps.{sent_more}
+use Rattle.struct_skew.proofs.Apart.{sent_apart, thinned_apart}
+use Rattle.struct_skew.proofs.PlanSteps.{raw_offers, sent_more, thinned_follow}
 use Rattle.struct_skew.proofs.plan.put_sent.Goals as goal
 
 pub loop-index-preserved : goal.loop-index-preserved
 loop-index-preserved c = record {
   counts = λ structs kind start.
-      sent_more (map plain_field c.args.declared.now) c.args.sent.now c.loop-index.index c.index-sent-index.result _ _ c.choice_of.result (omega arith) c.index-sent-index.is
-      c.choice_of.ensures.choice c.choice_of.ensures.sent c.in_ok-put_choice.ensures structs kind (c.loop-index.invariant.counts structs kind start);
-  apart = λ start. sent_apart c.loop-index.index _ _ c.choice_of.result c.choice_of.ensures.sent c.in_ok-put_choice.ensures (c.loop-index.invariant.apart start);
+      thinned_follow (map plain_field c.args.declared.now) kind (raw_offers structs c.args.sent.now) (raw_offers structs (drop (c.loop-index.index + 1) c.args.sent.now)) _ _ c.in_ok-thin_out.ensures
+      (sent_more (map plain_field c.args.declared.now) c.args.sent.now c.loop-index.index c.index-sent-index.result _ _ c.choice_of.result (omega arith) c.index-sent-index.is
+      c.choice_of.ensures.choice c.choice_of.ensures.sent c.in_ok-put_choice.ensures structs kind (c.loop-index.invariant.counts structs kind start));
+  apart = λ start.
+      thinned_apart (c.loop-index.index + 1) _ _ c.in_ok-thin_out.ensures
+      (sent_apart c.loop-index.index _ _ c.choice_of.result c.choice_of.ensures.sent c.in_ok-put_choice.ensures (c.loop-index.invariant.apart start));
 }
