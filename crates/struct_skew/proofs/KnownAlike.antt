@@ -1,6 +1,6 @@
 -- What is known of a value means what the value means.
-use Rattle.std.proofs.Common.{◌≡◌, ℕ, ℤ, Bool, true, false, true≢false, cond, List, [], ◌∷◌, Option, Some, None, refl, sym, ap, ap₂, ◌∙◌}
-use Rattle.std.specs.Prelude.{⊤, ◌&&◌, is_some, unwrap_or}
+use Rattle.std.proofs.Common.{◌≡◌, ℕ, ℤ, Bool, true, false, cond, [], Option, Some, None, refl, sym, ap, ap₂, ◌∙◌}
+use Rattle.std.specs.Prelude.{◌&&◌, is_some, unwrap_or}
 use Rattle.std.specs.List.{slice_get}
 use Rattle.std.specs.Option.{option_map}
 use Rattle.std.specs.Ordering.{int_eq}
@@ -20,8 +20,8 @@ use Rattle.struct_skew.specs.Fits.{each_item, each_pair, fits_kind}
 use Rattle.struct_skew.specs.Offers.{Offer, last_offer, last_offer_behind}
 use Rattle.struct_skew.specs.Projection.{struct_value, map_meaning, set_meaning, list_meaning, meaning_of, offers_of, item_meanings, pair_meanings, bounded, projection}
 use Rattle.struct_skew.specs.Results.{with_value, and_if_ok, both_values, with_first}
-use Rattle.struct_skew.proofs.Alike.{AreAlike, AreAllAlike, none_alike, alike_on, alike_past, struct_alike}
-use Rattle.struct_skew.proofs.Each.{Each, Each-then}
+use Rattle.struct_skew.proofs.Alike.{AreAlike, none_alike, alike_on, alike_past, struct_alike}
+use Rattle.struct_skew.proofs.Each.{Each-then}
 use Rattle.struct_skew.proofs.Fitting.{fits_by_tag}
 use Rattle.struct_skew.proofs.Rightness.{rising_declared, each_found}
 use Rattle.struct_skew.proofs.StructsAt.{All-at}

@@ -1,6 +1,5 @@
 -- From what is known of a struct that was read to its projection.
-use Rattle.std.proofs.Common.{◌≡◌, ℕ, Bool, true, false, Result, Ok, Err, refl, sym, ap, subst, ◌∙◌}
-use Rattle.std.specs.Prelude.{⊤}
+use Rattle.std.proofs.Common.{◌≡◌, ℕ, Result, Ok, Err, refl, sym, ap, ◌∙◌}
 use Rattle.thrift_value.specs.declared.wire_fault.WireFault.{WireFault}
 use Rattle.thrift_value.specs.declared.wire_fault.WireFault.TheVariants as wire_fault
 use Rattle.thrift_value.specs.Tree.{Tree, of_bool, of_i8, of_i16, of_i32, of_i64, of_double, of_bytes, of_struct, of_map, of_set, of_list, of_uuid, FieldTrees}
@@ -10,10 +9,9 @@ use Rattle.known_parts.specs.Known.{known_fields}
 use Rattle.known_parts.specs.KnownAt.{known_struct, known_found}
 use Rattle.struct_skew.specs.declared.fault.SkewFault.{SkewFault}
 use Rattle.struct_skew.specs.declared.fault.SkewFault.TheVariants as skew_fault
-use Rattle.struct_skew.specs.declared.arg_fault.ArgFault.{ArgFault}
 use Rattle.struct_skew.specs.Answering.{SkewsOrNoMemory}
 use Rattle.struct_skew.specs.Projection.{projection}
-use Rattle.struct_skew.specs.ReadAs.{placed_projection, projected_read, arg_of_wire, arg_of_skew, ArgFaultsOrNoMemory, ArgsOrNoMemory}
+use Rattle.struct_skew.specs.ReadAs.{placed_projection, projected_read, arg_of_wire, arg_of_skew, ArgFaultsOrNoMemory}
 
 -- what an answer has, else another
 abbrev found_or : {A : Type 0} → A → Result A WireFault → A

@@ -1,4 +1,4 @@
-use Rattle.std.proofs.Common.{◌≡◌, Ok, sym, ap, subst, ◌∙◌}
+use Rattle.std.proofs.Common.{sym, subst}
 use Rattle.thrift_value.specs.TreeOf.{tree_of}
 use Rattle.schema.specs.SchemaOf.{schema_of}
 use Rattle.wire_model.specs.Place.{struct_at}

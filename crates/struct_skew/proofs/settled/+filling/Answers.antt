@@ -1,7 +1,7 @@
 use Rattle.std.proofs.Common.{◌≡◌, map, sym, ap, ◌∙◌}
 use Rattle.std.specs.Option.{option_map, option_copied}
 use Rattle.thrift_value.specs.TreeOf.{tree_of, item_trees, pair_tree, pair_trees}
-use Rattle.schema.specs.PlainKind.{PlainKind, kind_of}
+use Rattle.schema.specs.PlainKind.{kind_of}
 use Rattle.schema.specs.SchemaOf.{schema_of}
 use Rattle.known_parts.specs.Parts.{are_same_tags, set_of_kind, list_of_kind}
 use Rattle.struct_skew.specs.FilledTests.{are_items_filled, are_pairs_filled}

@@ -1,4 +1,4 @@
-use Rattle.std.proofs.Common.{◌≡◌, ap, map, ◌∙◌}
+use Rattle.std.proofs.Common.{ap, map, ◌∙◌}
 use Rattle.thrift_value.specs.TreeOf.{field_tree, field_trees}
 use Rattle.schema.specs.SchemaOf.{plain_field, plain_struct}
 use Rattle.struct_skew.specs.Needs.{PlainNeeds, is_defaulted_field}
