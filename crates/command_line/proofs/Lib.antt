@@ -8,4 +8,6 @@ mod Telling
 mod Sorts
 mod OptionsNext
 mod Beside
+mod FlagWords
+mod FlaglessWords
 pub mod WordBounds

@@ -16,8 +16,10 @@ use Rattle.command_line.specs.CommandPairs.{pairs_of_words, command_pairs, most_
 use Rattle.command_line.specs.Limits.{limits_given, limits_of_numbers, limits_said, number_given}
 use Rattle.command_line.specs.Numbers.{bounded_number, number_of_word, number_within, one_number, seed_of_word}
 use Rattle.command_line.specs.Options.{Sayings, said_behind}
+use Rattle.command_line.specs.Flags.{said_behind_with}
+use Rattle.command_line.specs.Calls.{PlainAsking, asking_by, asking_said, asking_with, is_set}
 use Rattle.command_line.specs.Served.{PlainServed, default_name_given, file_of_word, protocol_of_word, served_by, served_said, served_with, workers_of_word}
-use Rattle.command_line.specs.Words.{PlainCommand, check_behind, check_said, checks, command_named, compares, compat_behind, compat_by, compat_said, compat_with, served_options, no_options, file_alone, records, rehearses, runs, serve_behind, serve_options, serve_said, serve_with, served_behind, serves, words_of, workload_behind, workload_by, workload_said, workload_with}
+use Rattle.command_line.specs.Words.{PlainCommand, call_behind, call_flags, call_options, calls, check_behind, check_said, checks, command_named, compares, compat_behind, compat_by, compat_said, compat_with, served_options, no_options, file_alone, records, rehearses, runs, serve_behind, serve_options, serve_said, serve_with, served_behind, serves, words_of, workload_behind, workload_by, workload_said, workload_with}
 
 -- what holds of each answer of a part holds of the whole
 and_then_keeps : {A B : Type 0} (f : A → Option B) (x : Option A) (P : A → Type 0) (Q : B → Type 0) → IfSome x P → ((a : A) → P a → IfSome (f a) Q)
@@ -206,6 +208,32 @@ workloads_keep : (words : List (List ℕ)) → IfSome (workload_behind words) Ke
 workloads_keep words =
     and_then_keeps workload_said (said_behind no_options words) (λ _. Unit {0}) KeepsBounds (any (said_behind no_options words)) (λ said _. workload_words (said []))
 
+abbrev CallsAPort : PlainAsking → Type 0
+CallsAPort asking = IsFromTo 1 65535 asking.port
+
+asking_keep : (idl protocol name method args : List ℕ) (multiplexed : Bool) (port : ℕ) → IsFromTo 1 65535 port
+    → IfSome (asking_with idl protocol name method args multiplexed port) CallsAPort
+asking_keep idl protocol name method args multiplexed port is =
+    let made : (file : List ℕ) (spelling : Protocol) → PlainAsking
+    = λ file spelling. record { idl = file; protocol = spelling; name = name; method = method; args = args; multiplexed = multiplexed; port = port } in
+    and_then_keeps (λ (file : List ℕ). option_map (made file) (protocol_of_word protocol)) (file_of_word idl) (λ _. Unit {0}) CallsAPort (any (file_of_word idl))
+    (λ file _. map_keeps (made file) (protocol_of_word protocol) (λ _. Unit {0}) CallsAPort (any (protocol_of_word protocol)) (λ spelling _. is))
+
+asking_words : (words : List (List ℕ)) (multiplexed : Bool) (port : ℕ) → IsFromTo 1 65535 port → IfSome (asking_by words multiplexed port) CallsAPort
+asking_words [] multiplexed port is = tt
+asking_words (idl ∷ []) multiplexed port is = tt
+asking_words (idl ∷ protocol ∷ []) multiplexed port is = tt
+asking_words (idl ∷ protocol ∷ name ∷ []) multiplexed port is = tt
+asking_words (idl ∷ protocol ∷ name ∷ method ∷ []) multiplexed port is = tt
+asking_words (idl ∷ protocol ∷ name ∷ method ∷ args ∷ []) multiplexed port is = asking_keep idl protocol name method args multiplexed port is
+asking_words (idl ∷ protocol ∷ name ∷ method ∷ args ∷ other ∷ words) multiplexed port is = tt
+
+calls_keep : (words : List (List ℕ)) → IfSome (call_behind words) CallsAPort
+calls_keep words =
+    and_then_keeps asking_said (said_behind_with call_options call_flags words) (λ _. Unit {0}) CallsAPort (any (said_behind_with call_options call_flags words))
+    (λ said _. and_then_keeps (λ (port : ℕ). asking_by (said []) (is_set (said (codes "multiplexed"))) port) (one_number 1 65535 (said (codes "to")))
+    (IsFromTo 1 65535) CallsAPort (one_keeps 1 65535 (said (codes "to"))) (λ port is. asking_words (said []) (is_set (said (codes "multiplexed"))) port is))
+
 -- ---- every command
 
 named_keep : (name : List ℕ) (words : List (List ℕ)) → IfSome (command_named name words) KeepsBounds
@@ -215,7 +243,9 @@ named_keep name words =
     (either (bytes_eq name (codes "record")) _ _ KeepsBounds (map_keeps records (served_behind words) KeepsServedBounds KeepsBounds (behind_keep words) (λ served keeps. keeps))
     (either (bytes_eq name (codes "serve")) _ _ KeepsBounds (serves_keep words)
     (either (bytes_eq name (codes "workload")) _ _ KeepsBounds (workloads_keep words)
-    (tested (bytes_eq name (codes "compat")) (compat_behind words) KeepsBounds (λ _. compats_keep words))))))
+    (either (bytes_eq name (codes "compat")) _ _ KeepsBounds (compats_keep words)
+    (tested (bytes_eq name (codes "call")) (option_map calls (call_behind words)) KeepsBounds
+    (λ _. map_keeps calls (call_behind words) CallsAPort KeepsBounds (calls_keep words) (λ asking is. is))))))))
 
 pub words_keep : (words : List (List ℕ)) → IfSome (words_of words) KeepsBounds
 words_keep [] = tt

@@ -2,7 +2,7 @@
 use Rattle.std.specs.Prelude.{ℕ, ◌≤◌, ⊤, length}
 use Rattle.call_rules.specs.Desks.{longest_payload}
 use Rattle.command_line.specs.Served.{PlainServed}
-use Rattle.command_line.specs.Words.{PlainCommand, checks, compares, rehearses, records, serves, runs}
+use Rattle.command_line.specs.Words.{PlainCommand, checks, compares, rehearses, records, serves, runs, calls}
 
 -- those of what is served: 0 to 8 workers, 1 to 16 pairs, and a read budget in which the longest payload fits
 pub record KeepsServedBounds (s : PlainServed) : Type 0 where
@@ -25,3 +25,4 @@ KeepsBounds (rehearses served) = KeepsServedBounds served
 KeepsBounds (records served) = KeepsServedBounds served
 KeepsBounds (serves served port accept journal) = KeepsServedBounds served × IsFromTo 1 65535 port × IsFromTo 1 1000000 accept
 KeepsBounds (runs seed size workers) = IsFromTo 1 1000000 size × IsFromTo 0 8 workers
+KeepsBounds (calls asking) = IsFromTo 1 65535 asking.port

@@ -1,10 +1,13 @@
 pub mod Lent
 pub mod Options
+pub mod Flags
 pub mod Numbers
 pub mod CommandPairs
 pub mod Limits
 pub mod Served
+pub mod Calls
 pub mod Words
 pub mod Bounds
 pub mod Answering
 pub mod Clapped
+pub mod Flagless

@@ -6,16 +6,19 @@
 --   record IDL PROTOCOL WORKERS NAME=KIND [NAME=KIND ..]
 --   serve IDL PROTOCOL WORKERS NAME=KIND [NAME=KIND ..] --listen PORT --accept N --journal FILE
 --   workload SEED SIZE WORKERS
+--   call IDL PROTOCOL NAME METHOD ARGS --to PORT [--multiplexed]
 --
 -- `rehearse`, `record` and `serve` also take `--max-frame N`, `--read-budget N` and `--default NAME`.
 use Rattle.std.specs.Prelude.{ℕ, List, [], ◌∷◌, codes, Option, None, option_map, option_and_then, if◌then◌else◌}
 use Rattle.std.specs.Str.{bytes_eq}
 use Rattle.command_line.specs.Numbers.{bounded_number, one_number, seed_of_word}
 use Rattle.command_line.specs.Options.{Sayings, said_behind}
+use Rattle.command_line.specs.Flags.{said_behind_with}
+use Rattle.command_line.specs.Calls.{PlainAsking, asking_said}
 use Rattle.command_line.specs.Served.{PlainServed, file_of_word, served_said, workers_of_word}
 
--- an IDL is checked; an IDL is compared with the one that comes after it; a script is rehearsed, or recorded, or connections to a port are served, as many as are accepted, with a journal; or a
--- generated script is run
+-- an IDL is checked; an IDL is compared with the one that comes after it; a script is rehearsed, or recorded, or connections to a port are served, as many as are accepted, with a journal; a
+-- generated script is run; or a port is called
 pub data PlainCommand : Type 0 where
   checks : (idl : List ℕ) → PlainCommand
   compares : (old : List ℕ) → (new : List ℕ) → PlainCommand
@@ -23,6 +26,7 @@ pub data PlainCommand : Type 0 where
   records : PlainServed → PlainCommand
   serves : PlainServed → (port : ℕ) → (accept : ℕ) → (journal : List ℕ) → PlainCommand
   runs : (seed : ℕ) → (size : ℕ) → (workers : ℕ) → PlainCommand
+  calls : PlainAsking → PlainCommand
 
 -- the options of `check`, `compat` and `workload`
 abbrev pub no_options : List (List ℕ)
@@ -35,6 +39,13 @@ served_options = codes "max-frame" ∷ codes "read-budget" ∷ codes "default" �
 -- the options of `serve`
 abbrev pub serve_options : List (List ℕ)
 serve_options = codes "max-frame" ∷ codes "read-budget" ∷ codes "default" ∷ codes "listen" ∷ codes "accept" ∷ codes "journal" ∷ []
+
+-- the options of `call`, and its flags
+abbrev pub call_options : List (List ℕ)
+call_options = codes "to" ∷ []
+
+abbrev pub call_flags : List (List ℕ)
+call_flags = codes "multiplexed" ∷ []
 
 -- one word alone, the name of a file
 abbrev pub file_alone : List (List ℕ) → Option (List ℕ)
@@ -86,7 +97,7 @@ workload_by _ = None
 abbrev pub workload_said : Sayings → Option PlainCommand
 workload_said said = workload_by (said [])
 
--- what the words behind `check`, `compat`, `rehearse`, `record`, `serve` and `workload` are
+-- what the words behind `check`, `compat`, `rehearse`, `record`, `serve`, `workload` and `call` are
 abbrev pub check_behind : List (List ℕ) → Option PlainCommand
 check_behind words = option_and_then check_said (said_behind no_options words)
 
@@ -102,6 +113,9 @@ serve_behind words = option_and_then serve_said (said_behind serve_options words
 abbrev pub workload_behind : List (List ℕ) → Option PlainCommand
 workload_behind words = option_and_then workload_said (said_behind no_options words)
 
+abbrev pub call_behind : List (List ℕ) → Option PlainAsking
+call_behind words = option_and_then asking_said (said_behind_with call_options call_flags words)
+
 -- the command of this name, with the words behind it
 abbrev pub command_named : List ℕ → List (List ℕ) → Option PlainCommand
 command_named name words =
@@ -111,6 +125,7 @@ command_named name words =
     else if bytes_eq name (codes "serve") then serve_behind words
     else if bytes_eq name (codes "workload") then workload_behind words
     else if bytes_eq name (codes "compat") then compat_behind words
+    else if bytes_eq name (codes "call") then option_map calls (call_behind words)
     else None
 
 -- The command that the words are; none where they are no command.

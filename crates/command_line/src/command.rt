@@ -1,14 +1,16 @@
 //! The command, read from its words.
 
 ghost use Rattle.std.specs.Prelude.{◌≡◌, map, option_map, string_bytes, IfOk};
-ghost use Rattle.command_line.specs.Answering.{AnswersWords, plain_command, plain_served};
+ghost use Rattle.command_line.specs.Answering.{AnswersWords, plain_asking, plain_command, plain_served};
 ghost use Rattle.command_line.specs.Bounds.{KeepsBounds};
 ghost use Rattle.command_line.specs.Clapped.{sorted_said};
 ghost use Rattle.command_line.specs.Lent.{lent_words};
-ghost use Rattle.command_line.specs.Words.{check_behind, check_said, command_named, compat_behind, compat_by, compat_said, compat_with, file_alone, serve_behind, serve_said, serve_with, served_behind, words_of, workload_behind, workload_by, workload_said, workload_with, PlainCommand, rehearses, records};
+ghost use Rattle.command_line.specs.Words.{call_behind, calls, check_behind, check_said, command_named, compat_behind, compat_by, compat_said, compat_with, file_alone, serve_behind, serve_said, serve_with, served_behind, words_of, workload_behind, workload_by, workload_said, workload_with, PlainCommand, rehearses, records};
 
+use crate::calling::{AskedCall, asking_said};
+use crate::flags::flagless_words;
 use crate::numbers::{bounded_number, one_number, seed_of_word};
-use crate::options::{NO_OPTIONS, SERVE_OPTIONS, SERVED_OPTIONS};
+use crate::options::{CALL_FLAGS, CALL_OPTIONS, NO_OPTIONS, SERVE_OPTIONS, SERVED_OPTIONS};
 use crate::served::{ServedIdl, file_of_word, served_said, workers_of_word};
 use crate::sorting::{Sorted, sorted_words};
 use service_binding::Word;
@@ -55,6 +57,8 @@ pub enum Command {
         /// How many workers there are, 0 to 8.
         workers: u32,
     },
+    /// A port is called.
+    Call(AskedCall),
 }
 
 /// Why no command was read.
@@ -236,6 +240,26 @@ fn workload_behind(alloc: Global, words: &[String]) -> Result<Option<Command>, A
     }
 }
 
+/// What the words behind `call` are.
+fn call_behind(alloc: Global, words: &[String]) -> Result<Option<AskedCall>, AllocError>
+    ensures { IfOk result (λ read. option_map plain_asking read ≡ call_behind (map string_bytes words.now)) }
+{
+    let Some(words) = flagless_words(alloc, CALL_FLAGS.as_slice(), words)? else {
+        return Ok(None);
+    };
+    match sorted_words(alloc, CALL_OPTIONS.as_slice(), words.as_slice())? {
+        Some(sorted) => asking_said(alloc, &sorted),
+        None => Ok(None),
+    }
+}
+
+/// What is asked of a port.
+fn called(asked: Option<AskedCall>) -> Option<Command>
+    ensures { option_map plain_command result ≡ option_map calls (option_map plain_asking asked) }
+{
+    Some(Command::Call(asked?))
+}
+
 /// What is served is rehearsed.
 fn rehearsed(served: Option<ServedIdl>) -> Option<Command>
     ensures { option_map plain_command result ≡ option_map rehearses (option_map plain_served served) }
@@ -271,6 +295,9 @@ fn command_named(alloc: Global, name: &str, words: &[String]) -> Result<Option<C
     }
     if name == "compat" {
         return compat_behind(alloc, words);
+    }
+    if name == "call" {
+        return Ok(called(call_behind(alloc, words)?));
     }
     Ok(None)
 }

@@ -1,6 +1,6 @@
 //! The options of each command.
 
-/// The options of `check` and `workload`.
+/// The options of `check`, `compat` and `workload`.
 pub(crate) static NO_OPTIONS: [&str; 0] = [];
 
 /// The options of `rehearse` and `record`.
@@ -15,3 +15,9 @@ pub(crate) static SERVE_OPTIONS: [&str; 6] = [
     "accept",
     "journal",
 ];
+
+/// The options of `call`, and behind them its flags, made options.
+pub(crate) static CALL_OPTIONS: [&str; 2] = ["to", "multiplexed"];
+
+/// The words of the flags of `call`.
+pub(crate) static CALL_FLAGS: [&str; 1] = ["--multiplexed"];

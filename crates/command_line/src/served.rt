@@ -56,7 +56,7 @@ pub(crate) fn file_of_word(alloc: Global, word: &str) -> Result<Option<Word>, Al
 }
 
 /// The protocol that a word names.
-fn protocol_of_word(word: &str) -> Option<Protocol>
+pub(crate) fn protocol_of_word(word: &str) -> Option<Protocol>
     ensures { result ≡ protocol_of_word word.now }
 {
     if word == "binary" {

@@ -79,7 +79,7 @@ pub(crate) enum Called {
     Output,
     /// It writes a line of errors.
     Errors,
-    /// It listens at the port.
+    /// It listens at a port, or dials one.
     Listen,
     /// It asks the links of the port what is next.
     Next,
@@ -87,14 +87,18 @@ pub(crate) enum Called {
     Read,
     /// It writes on connection 0.
     Write,
+    /// It writes on a pipe that was dialled, or reads it.
+    Pipe,
 }
 
-/// What a command is given, as plain data: files, an input, and a script of what comes to a port.
+/// What a command is given, as plain data: files, an input, a script of what comes to a port, and what a port answers.
 #[derive(Clone, Copy)]
 pub(crate) struct Given<'a> {
     pub(crate) files: &'a [Held<'a>],
     pub(crate) input: &'a [u8],
     pub(crate) port: &'a [u8],
+    /// What a port answers that is dialled.
+    pub(crate) reply: &'a [u8],
     /// How many bytes a read of the input gives, and how many a write of the output takes.
     pub(crate) pieces: (usize, usize),
     /// Which call fails, by its number among those of its kind, from 0.
@@ -108,6 +112,7 @@ impl<'a> Given<'a> {
             files: &[],
             input: b"",
             port: b"",
+            reply: b"",
             pieces: (usize::MAX, usize::MAX),
             failing: None,
         }
@@ -182,8 +187,12 @@ impl<'a> Given<'a> {
     /// Links over a script, in place of a port.
     fn binder_of(self, alloc: Global) -> Result<MemBinder, AllocError> {
         let fails = self.fails_of(alloc, Called::Listen)?;
+        let reply = self.reply.to_vec(alloc)?;
+        let pipe = self.fails_of(alloc, Called::Pipe)?;
         match read_script(alloc, self.port, 0, false) {
-            Ok(script) => self.with_failing(alloc, MemBinder::new(script, fails)),
+            Ok(script) => {
+                self.with_failing(alloc, MemBinder::new(script, fails).with_pipe(reply, pipe))
+            }
             Err(_) => Err(AllocError),
         }
     }

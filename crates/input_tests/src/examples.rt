@@ -1,9 +1,9 @@
 //! The definition's value on a table of words, each the contract of a function that does nothing.
 
-ghost use Rattle.std.specs.Prelude.{◌≡◌, [], ◌∷◌, codes, None, Some, true};
+ghost use Rattle.std.specs.Prelude.{◌≡◌, [], ◌∷◌, codes, None, Some, true, false};
 ghost use Rattle.call_rules.specs.declared.kind.Kind.TheVariants as kinds;
 ghost use Rattle.envelope.specs.declared.head.Protocol.TheVariants as protocols;
-ghost use Rattle.command_line.specs.Words.{checks, rehearses, records, serves, runs, words_of};
+ghost use Rattle.command_line.specs.Words.{checks, rehearses, records, serves, runs, calls, words_of};
 ghost use Rattle.input_tests.specs.Lines.{are_refused, by_default, many, served, split};
 
 /// Words that are commands: checks.
@@ -335,5 +335,47 @@ pub fn refused_workloads()
         ∷ codes "workload 1 1 "
         ∷ codes "workload x 1 0"
         ∷ codes "workload 1 1x 0"
+        ∷ []) ≡ true }
+{}
+
+/// Words that are commands: calls.
+pub fn accepted_calls()
+    ensures a { words_of (split (codes "call @tutorial binary Calculator add {1=1i,2=1i} --to 9090"))
+        ≡ Some (calls (record { idl = codes "@tutorial"; protocol = protocols.Binary; name = codes "Calculator"; method = codes "add"; args = codes "{1=1i,2=1i}"; multiplexed = false; port = 9090 })) }
+    ensures b { words_of (split (codes "call --multiplexed a compact b.S m {} --to=1"))
+        ≡ Some (calls (record { idl = codes "a"; protocol = protocols.Compact; name = codes "b.S"; method = codes "m"; args = codes "{}"; multiplexed = true; port = 1 })) }
+    ensures c { words_of (split (codes "call a --to 0000000007 binary a:b --multiplexed m ="))
+        ≡ Some (calls (record { idl = codes "a"; protocol = protocols.Binary; name = codes "a:b"; method = codes "m"; args = codes "="; multiplexed = true; port = 7 })) }
+    ensures d { words_of (split (codes "call a binary   x --to 65535"))
+        ≡ Some (calls (record { idl = codes "a"; protocol = protocols.Binary; name = codes ""; method = codes ""; args = codes "x"; multiplexed = false; port = 65535 })) }
+{}
+
+/// Words that are no command: calls.
+pub fn refused_calls()
+    ensures { are_refused (codes "call"
+        ∷ codes "call a binary N m {}"
+        ∷ codes "call a binary N m --to 1"
+        ∷ codes "call a binary N m {} x --to 1"
+        ∷ codes "call  binary N m {} --to 1"
+        ∷ codes "call a text N m {} --to 1"
+        ∷ codes "call a Binary N m {} --to 1"
+        ∷ codes "call a binary -N m {} --to 1"
+        ∷ codes "call a binary N -m {} --to 1"
+        ∷ codes "call a binary N m -1i --to 1"
+        ∷ codes "call a binary N m {} --to 0"
+        ∷ codes "call a binary N m {} --to 65536"
+        ∷ codes "call a binary N m {} --to"
+        ∷ codes "call a binary N m {} --to="
+        ∷ codes "call a binary N m {} --to -1"
+        ∷ codes "call a binary N m {} --to 1 --to 1"
+        ∷ codes "call a binary N m {} --to 1 --multiplexed --multiplexed"
+        ∷ codes "call a binary N m {} --to 1 --multiplexed="
+        ∷ codes "call a binary N m {} --to 1 --multiplexed=1"
+        ∷ codes "call a binary N m {} --to --multiplexed 1"
+        ∷ codes "call a binary N m {} --to 1 -multiplexed"
+        ∷ codes "call a binary N m {} --to 1 --multiplex"
+        ∷ codes "call a binary N m {} --to 1 --max-frame 3"
+        ∷ codes "check a --multiplexed"
+        ∷ codes "rehearse a binary 0 A=store --multiplexed"
         ∷ []) ≡ true }
 {}

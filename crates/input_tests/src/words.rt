@@ -1,6 +1,6 @@
 //! What is read of a table of words, the one of `examples`.
 
-use command_line::{Command, ServedIdl, WordsFault, read_words};
+use command_line::{AskedCall, Command, ServedIdl, WordsFault, read_words};
 use envelope::Protocol;
 use service_binding::{BindWords, kind_word};
 use std::alloc::{AllocError, Global};
@@ -46,7 +46,11 @@ rehearse a binary 0 A=store A=store A=store A=store A=store A=store A=store A=st
 record --read-budget=30 --max-frame=30 a binary 0 A=store : record a binary 0 A=store --max-frame=30 --read-budget=30
 serve @tutorial binary 0 A=store --listen=65535 --accept=1 --journal=-- : serve @tutorial binary 0 A=store --max-frame=16384000 --read-budget=268435456 --listen=65535 --accept=1 --journal=--
 serve a --journal binary binary 0 --accept 1 A=store --listen 1 B=mirror : serve a binary 0 A=store B=mirror --max-frame=16384000 --read-budget=268435456 --listen=1 --accept=1 --journal=binary
-workload 0 1 0 : workload 0 1 0";
+workload 0 1 0 : workload 0 1 0
+call @tutorial binary Calculator add {1=1i,2=1i} --to 9090 : call @tutorial binary Calculator add {1=1i,2=1i} --to=9090
+call --multiplexed a compact b.S m {} --to=1 : call a compact b.S m {} --to=1 --multiplexed
+call a --to 0000000007 binary a:b --multiplexed m = : call a binary a:b m = --to=7 --multiplexed
+call a binary   x --to 65535 : call a binary   x --to=65535";
 
 /// Words that are no command: other commands.
 const OTHER_COMMANDS: &str = "
@@ -257,7 +261,34 @@ workload 1 1\x20
 workload x 1 0
 workload 1 1x 0";
 
-const REFUSED: [&str; 7] = [
+/// Words that are no command: calls.
+const CALLS: &str = "call
+call a binary N m {}
+call a binary N m --to 1
+call a binary N m {} x --to 1
+call  binary N m {} --to 1
+call a text N m {} --to 1
+call a Binary N m {} --to 1
+call a binary -N m {} --to 1
+call a binary N -m {} --to 1
+call a binary N m -1i --to 1
+call a binary N m {} --to 0
+call a binary N m {} --to 65536
+call a binary N m {} --to
+call a binary N m {} --to=
+call a binary N m {} --to -1
+call a binary N m {} --to 1 --to 1
+call a binary N m {} --to 1 --multiplexed --multiplexed
+call a binary N m {} --to 1 --multiplexed=
+call a binary N m {} --to 1 --multiplexed=1
+call a binary N m {} --to --multiplexed 1
+call a binary N m {} --to 1 -multiplexed
+call a binary N m {} --to 1 --multiplex
+call a binary N m {} --to 1 --max-frame 3
+check a --multiplexed
+rehearse a binary 0 A=store --multiplexed";
+
+const REFUSED: [&str; 8] = [
     OTHER_COMMANDS,
     PLACES,
     PAIRS,
@@ -265,6 +296,7 @@ const REFUSED: [&str; 7] = [
     DEFAULTS,
     SERVING,
     WORKLOADS,
+    CALLS,
 ];
 
 /// The words of a line.
@@ -318,6 +350,20 @@ fn put_served(into: &mut Vec<u8>, command: &str, served: &ServedIdl) -> Result<(
     put_number(into, " --read-budget=", served.limits.read_budget)
 }
 
+/// Adds what is asked of a port.
+fn put_asked(into: &mut Vec<u8>, asked: &AskedCall) -> Result<(), AllocError> {
+    put_word(into, "call ", asked.idl.as_str())?;
+    put_word(into, " ", protocol_word(asked.protocol))?;
+    put_word(into, " ", asked.name.as_str())?;
+    put_word(into, " ", asked.method.as_str())?;
+    put_word(into, " ", asked.args.as_str())?;
+    put_number(into, " --to=", u64::from(asked.port))?;
+    if asked.multiplexed {
+        return put_word(into, " --multiplexed", "");
+    }
+    Ok(())
+}
+
 /// Adds a command.
 fn put_command(into: &mut Vec<u8>, read: &Command) -> Result<(), AllocError> {
     match read {
@@ -328,6 +374,7 @@ fn put_command(into: &mut Vec<u8>, read: &Command) -> Result<(), AllocError> {
         }
         Command::Rehearse(served) => put_served(into, "rehearse ", served),
         Command::Record(served) => put_served(into, "record ", served),
+        Command::Call(asked) => put_asked(into, asked),
         Command::Serve {
             served,
             port,

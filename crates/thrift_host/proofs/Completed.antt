@@ -16,11 +16,11 @@ use Rattle.service_binding.specs.Binding.{NumberedName, AreBound}
 use Rattle.service_binding.specs.Defaults.{slot_for_default}
 use Rattle.service_binding.specs.FirstRefusal.{IsRefusedFirst}
 use Rattle.service_binding.specs.Pairs.{NamedKind}
-use Rattle.command_line.specs.Words.{PlainCommand, checks, compares, rehearses, records, serves, runs}
+use Rattle.command_line.specs.Words.{PlainCommand, checks, compares, rehearses, records, serves, runs, calls}
 use Rattle.script_text.specs.Reading.{script_of_text}
 use Rattle.recorded_runs.specs.Recorded.{Streams, ScriptReading}
 use Rattle.thrift_host.specs.declared.status.Status.{Status}
-use Rattle.thrift_host.specs.declared.status.Status.TheVariants.{Done, Usage, IdlRefused, ScriptRefused, BindRefused, FileFault, ReadFault, WriteFault, NetFault, JournalFault, NoMemory, Incompatible}
+use Rattle.thrift_host.specs.declared.status.Status.TheVariants.{Done, Usage, IdlRefused, ScriptRefused, BindRefused, FileFault, ReadFault, WriteFault, NetFault, JournalFault, NoMemory, CallRefused, ReplyRefused, Incompatible}
 use Rattle.thrift_host.specs.Checks.{AreUntouched, IsRefusedWith, MeansCheck}
 use Rattle.thrift_host.specs.Compats.{MeansCompat}
 use Rattle.thrift_host.specs.Complete.{HostCounts, NoneRose, IsIdlTold, IsGoodIdl, IsGoodChange, IsRunReady, IsGoodInput, IsWellAsked}
@@ -58,6 +58,8 @@ IsNoRefusal Usage = ⊥
 IsNoRefusal IdlRefused = ⊥
 IsNoRefusal ScriptRefused = ⊥
 IsNoRefusal BindRefused = ⊥
+IsNoRefusal CallRefused = ⊥
+IsNoRefusal ReplyRefused = ⊥
 IsNoRefusal Incompatible = ⊥
 IsNoRefusal _ = Unit {0}
 
@@ -96,6 +98,8 @@ module _ (one : OneVerdict) (good : BoundIsGood) (never : BreakIsNone) where
   unarranged_goes r s IdlRefused ready h = absurd (not_refused r.files r.says.idl ready.arranged.schema (λ _ _ _. AreUntouched s) ready.told ready.arranged.has.verdict h)
   unarranged_goes r s ScriptRefused ready h = absurd h
   unarranged_goes r s BindRefused ready h = absurd (not_unbound r (λ _ _. AreUntouched s) ready h)
+  unarranged_goes r s CallRefused ready h = absurd h
+  unarranged_goes r s ReplyRefused ready h = absurd h
   unarranged_goes r s Incompatible ready h = absurd h
   unarranged_goes r s _ ready h = tt
 
@@ -104,6 +108,8 @@ module _ (one : OneVerdict) (good : BoundIsGood) (never : BreakIsNone) where
   check_goes files idl s IdlRefused asked h = absurd (not_refused files idl asked.schema (λ _ _ _. AreUntouched s) asked.told asked.verdict h)
   check_goes files idl s ScriptRefused asked h = absurd h
   check_goes files idl s BindRefused asked h = absurd h
+  check_goes files idl s CallRefused asked h = absurd h
+  check_goes files idl s ReplyRefused asked h = absurd h
   check_goes files idl s Incompatible asked h = absurd h
   check_goes files idl s _ asked h = tt
 
@@ -126,6 +132,8 @@ module _ (one : OneVerdict) (good : BoundIsGood) (never : BreakIsNone) where
       absurd (not_refused files new asked.after.schema (λ _ _ _. AreUntouched s) asked.after.told asked.after.verdict h.2)
   compat_goes files old new s ScriptRefused asked h = absurd h
   compat_goes files old new s BindRefused asked h = absurd h
+  compat_goes files old new s CallRefused asked h = absurd h
+  compat_goes files old new s ReplyRefused asked h = absurd h
   compat_goes files old new s Incompatible asked h = absurd (not_broken files old new h.0 h.2.0 asked h.1.0 h.1.1 h.2.1)
   compat_goes files old new s _ asked h = tt
 
@@ -136,6 +144,8 @@ module _ (one : OneVerdict) (good : BoundIsGood) (never : BreakIsNone) where
   run_goes way r reading same s Usage ready input h = unarranged_goes r s Usage ready h
   run_goes way r reading same s IdlRefused ready input h = unarranged_goes r s IdlRefused ready h
   run_goes way r reading same s BindRefused ready input h = unarranged_goes r s BindRefused ready h
+  run_goes way r reading same s CallRefused ready input h = unarranged_goes r s CallRefused ready h
+  run_goes way r reading same s ReplyRefused ready input h = unarranged_goes r s ReplyRefused ready h
   run_goes way r reading same s Incompatible ready input h = unarranged_goes r s Incompatible ready h
   run_goes way r reading same s _ ready input h = tt
 
@@ -144,6 +154,8 @@ module _ (one : OneVerdict) (good : BoundIsGood) (never : BreakIsNone) where
   serve_goes a c IdlRefused ready h = unarranged_goes a.run c.streams IdlRefused ready h.0
   serve_goes a c ScriptRefused ready h = absurd h
   serve_goes a c BindRefused ready h = unarranged_goes a.run c.streams BindRefused ready h.0
+  serve_goes a c CallRefused ready h = absurd h
+  serve_goes a c ReplyRefused ready h = absurd h
   serve_goes a c Incompatible ready h = absurd h
   serve_goes a c _ ready h = tt
 
@@ -163,6 +175,7 @@ module _ (one : OneVerdict) (good : BoundIsGood) (never : BreakIsNone) where
   goes (Some (serves says port accept journal)) handlers status c h asked =
       serve_goes (record { run = asked_run says c.place.files_before handlers; place = asked_place port accept journal }) c status asked h.1
   goes (Some (runs seed size workers)) handlers status c h asked = work_goes (asked_workload workers c.place.files_before handlers) seed size c.streams status asked h
+  goes (Some (calls asking)) handlers status c h asked = absurd asked
   goes None handlers status c h asked = absurd asked
 
   pub only_done : (words : Option PlainCommand) (handlers : List ServiceState) (status : Status) (c : HostChange) (n : HostCounts) → Means words handlers status c
@@ -181,4 +194,6 @@ module _ (one : OneVerdict) (good : BoundIsGood) (never : BreakIsNone) where
       by IdlRefused f r = absurd r
       by ScriptRefused f r = absurd r
       by BindRefused f r = absurd r
+      by CallRefused f r = absurd r
+      by ReplyRefused f r = absurd r
       by Incompatible f r = absurd r

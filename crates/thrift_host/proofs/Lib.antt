@@ -6,6 +6,7 @@ pub mod Served
 pub mod Worked
 pub mod Checked
 pub mod Compared
+pub mod Called
 pub mod Unread
 mod BoundServices
 mod EntryLines

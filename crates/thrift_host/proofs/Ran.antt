@@ -12,7 +12,7 @@ use Rattle.recorded_runs.specs.declared.fault.ServingFault.{ServingFault}
 use Rattle.recorded_runs.specs.declared.fault.ServingFault.TheVariants as serving_faults
 use Rattle.recorded_runs.specs.Recorded.{Streams, MeansRecordedFault}
 use Rattle.thrift_host.specs.declared.status.Status.{Status}
-use Rattle.thrift_host.specs.declared.status.Status.TheVariants.{Done, Usage, IdlRefused, ScriptRefused, BindRefused, FileFault, ReadFault, WriteFault, NetFault, JournalFault, NoMemory, Incompatible}
+use Rattle.thrift_host.specs.declared.status.Status.TheVariants.{Done, Usage, IdlRefused, ScriptRefused, BindRefused, FileFault, ReadFault, WriteFault, NetFault, JournalFault, NoMemory, CallRefused, ReplyRefused, Incompatible}
 use Rattle.thrift_host.specs.declared.arranging.RunFault.{RunFault}
 use Rattle.thrift_host.specs.declared.arranging.RunFault.TheVariants as faults
 use Rattle.thrift_host.specs.Errors.{Errors}
@@ -72,6 +72,8 @@ unarranged_means way r s ReadFault h = absurd h
 unarranged_means way r s WriteFault h = absurd h
 unarranged_means way r s NetFault h = absurd h
 unarranged_means way r s JournalFault h = absurd h
+unarranged_means way r s CallRefused h = absurd h
+unarranged_means way r s ReplyRefused h = absurd h
 unarranged_means way r s Incompatible h = absurd h
 
 unarranged_said : (way : ScriptRunning) (r : AskedRun) (s : Streams) (e : Errors) (status : Status) → SaysUnarranged r status e → SaysRun way r status s e
@@ -86,6 +88,8 @@ unarranged_said way r s e ReadFault h = h
 unarranged_said way r s e WriteFault h = h
 unarranged_said way r s e NetFault h = h
 unarranged_said way r s e JournalFault h = h
+unarranged_said way r s e CallRefused h = h
+unarranged_said way r s e ReplyRefused h = h
 unarranged_said way r s e Incompatible h = h
 
 module _ (way : ScriptRunning) (r : AskedRun) (ended : Status) (s : Streams) (e : Errors) where

@@ -4,7 +4,7 @@ use Rattle.std.specs.Prelude.{⊤}
 use Rattle.port_serving.specs.declared.fault.PortFault.{PortFault}
 use Rattle.port_serving.specs.declared.fault.PortFault.TheVariants as port_faults
 use Rattle.thrift_host.specs.declared.status.Status.{Status}
-use Rattle.thrift_host.specs.declared.status.Status.TheVariants.{Done, Usage, IdlRefused, ScriptRefused, BindRefused, FileFault, ReadFault, WriteFault, NetFault, JournalFault, NoMemory, Incompatible}
+use Rattle.thrift_host.specs.declared.status.Status.TheVariants.{Done, Usage, IdlRefused, ScriptRefused, BindRefused, FileFault, ReadFault, WriteFault, NetFault, JournalFault, NoMemory, CallRefused, ReplyRefused, Incompatible}
 use Rattle.thrift_host.specs.declared.arranging.RunFault.TheVariants as faults
 use Rattle.thrift_host.specs.declared.serving.ServeFault.{ServeFault}
 use Rattle.thrift_host.specs.declared.serving.ServeFault.TheVariants as serve_faults
@@ -36,6 +36,8 @@ module _ (a : AskedServing) (c : HostChange) where
   unarranged_serving WriteFault h kept = absurd h
   unarranged_serving NetFault h kept = absurd h
   unarranged_serving JournalFault h kept = absurd h
+  unarranged_serving CallRefused h kept = absurd h
+  unarranged_serving ReplyRefused h kept = absurd h
   unarranged_serving Incompatible h kept = absurd h
 
   -- a port that isn't served to the end

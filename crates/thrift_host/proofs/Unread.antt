@@ -4,7 +4,7 @@ use Rattle.call_rules.specs.Handling.{ServiceState}
 use Rattle.command_line.specs.declared.command.WordsFault.{WordsFault}
 use Rattle.command_line.specs.declared.command.WordsFault.TheVariants as words_faults
 use Rattle.command_line.specs.Answering.{AnswersWords}
-use Rattle.command_line.specs.Words.{PlainCommand, checks, compares, rehearses, records, serves, runs}
+use Rattle.command_line.specs.Words.{PlainCommand, checks, compares, rehearses, records, serves, runs, calls}
 use Rattle.port_serving.specs.Places.{PlaceChange}
 use Rattle.thrift_host.specs.declared.status.Status.{Status}
 use Rattle.thrift_host.specs.declared.status.Status.TheVariants.{Usage, NoMemory}
@@ -21,6 +21,7 @@ memory_means (Some (rehearses says)) handlers c same = inl same.0.1
 memory_means (Some (records says)) handlers c same = inl same.0.1
 memory_means (Some (serves says port accept journal)) handlers c same = (same.0.0, inl same)
 memory_means (Some (runs seed size workers)) handlers c same = same.0
+memory_means (Some (calls asking)) handlers c same = same.0.0
 memory_means None handlers c same = same.0
 
 memory_says : (meant : Option PlainCommand) (handlers : List ServiceState) (c : HostChange) (e : Errors) → IsLineSaid NoMemory e → Says meant handlers NoMemory c e
@@ -30,6 +31,7 @@ memory_says (Some (rehearses says)) handlers c e said = said
 memory_says (Some (records says)) handlers c e said = said
 memory_says (Some (serves says port accept journal)) handlers c e said = said
 memory_says (Some (runs seed size workers)) handlers c e said = said
+memory_says (Some (calls asking)) handlers c e said = tt
 memory_says None handlers c e said = said
 
 pub unread_place : (meant : Option PlainCommand) (p : PlaceChange) → IsPlaceKept p → KeepsPlace meant p
@@ -39,6 +41,7 @@ unread_place (Some (rehearses says)) p kept = kept
 unread_place (Some (records says)) p kept = kept
 unread_place (Some (serves says port accept journal)) p kept = tt
 unread_place (Some (runs seed size workers)) p kept = kept
+unread_place (Some (calls asking)) p kept = kept
 unread_place None p kept = kept
 
 -- a status that has to do with words or memory

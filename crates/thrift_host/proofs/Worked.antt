@@ -27,7 +27,7 @@ use Rattle.workload.specs.Summed.{HasCalculator}
 use Rattle.workload.proofs.Tested.{is_one}
 use Rattle.recorded_runs.specs.Summaries.{EndsSummary}
 use Rattle.thrift_host.specs.declared.status.Status.{Status}
-use Rattle.thrift_host.specs.declared.status.Status.TheVariants.{Done, Usage, IdlRefused, ScriptRefused, BindRefused, FileFault, ReadFault, WriteFault, NetFault, JournalFault, NoMemory, Incompatible}
+use Rattle.thrift_host.specs.declared.status.Status.TheVariants.{Done, Usage, IdlRefused, ScriptRefused, BindRefused, FileFault, ReadFault, WriteFault, NetFault, JournalFault, NoMemory, CallRefused, ReplyRefused, Incompatible}
 use Rattle.thrift_host.specs.declared.arranging.RunFault.{RunFault}
 use Rattle.thrift_host.specs.declared.arranging.RunFault.TheVariants as faults
 use Rattle.thrift_host.specs.Errors.{Errors}
@@ -52,6 +52,8 @@ module _ (r : AskedRun) (seed size : ℕ) (ended : Status) (s : Streams) (e : Er
   unarranged_workload ReadFault h = h
   unarranged_workload NetFault h = h
   unarranged_workload JournalFault h = h
+  unarranged_workload CallRefused h = h
+  unarranged_workload ReplyRefused h = h
   unarranged_workload Incompatible h = h
   unarranged_workload NoMemory h = h
 

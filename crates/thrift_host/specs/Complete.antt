@@ -6,7 +6,7 @@ use Rattle.call_rules.specs.Handling.{ServiceState}
 use Rattle.schema.specs.PlainSchema.{PlainSchema}
 use Rattle.idl_check.specs.Verdicts.{accepted, is_the_tutorial, IsIdlVerdict}
 use Rattle.compat_model.specs.Breaks.{IsCompatible}
-use Rattle.command_line.specs.Words.{PlainCommand, checks, compares, rehearses, records, serves, runs}
+use Rattle.command_line.specs.Words.{PlainCommand, checks, compares, rehearses, records, serves, runs, calls}
 use Rattle.script_model.specs.ScriptLines.{ScriptPlan}
 use Rattle.script_text.specs.Reading.{script_of_text}
 use Rattle.recorded_runs.specs.Recorded.{ScriptReading}
@@ -64,7 +64,8 @@ pub record IsGoodInput (script_in : ScriptReading) (left_before : Option (List �
   pub told : left_before ≡ Some text
   pub is_script : script_in text ≡ Ok script
 
--- The words are a command, and what it needs is there: what can be wrong with IDL, pairs, default, handlers and input isn't.
+-- The words are a command, and what it needs is there: what can be wrong with IDL, pairs, default, handlers and input isn't. What a call needs stands elsewhere, since a reply may
+-- be refused.
 abbrev pub IsWellAsked : Option PlainCommand → List ServiceState → HostChange → Type 0
 IsWellAsked (Some (checks idl)) handlers c = IsGoodIdl c.place.files_before idl
 IsWellAsked (Some (compares old new)) handlers c = IsGoodChange c.place.files_before old new
@@ -74,4 +75,5 @@ IsWellAsked (Some (records says)) handlers c =
     IsRunReady (asked_run says c.place.files_before handlers) × IsGoodInput (script_of_text says.workers false) c.streams.left_before
 IsWellAsked (Some (serves says port accept journal)) handlers c = IsRunReady (asked_run says c.place.files_before handlers)
 IsWellAsked (Some (runs seed size workers)) handlers c = IsRunReady (asked_workload workers c.place.files_before handlers)
+IsWellAsked (Some (calls asking)) handlers c = ⊥
 IsWellAsked None handlers c = ⊥

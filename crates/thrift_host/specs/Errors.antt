@@ -4,7 +4,7 @@ use Rattle.outside.specs.Cause.{Rose}
 use Rattle.outside.specs.Content.{told_more}
 use Rattle.text_out.specs.Line.{line_of}
 use Rattle.thrift_host.specs.declared.status.Status.{Status}
-use Rattle.thrift_host.specs.declared.status.Status.TheVariants.{Done, Usage, IdlRefused, ScriptRefused, BindRefused, FileFault, ReadFault, WriteFault, NetFault, JournalFault, NoMemory, Incompatible}
+use Rattle.thrift_host.specs.declared.status.Status.TheVariants.{Done, Usage, IdlRefused, ScriptRefused, BindRefused, FileFault, ReadFault, WriteFault, NetFault, JournalFault, NoMemory, CallRefused, ReplyRefused, Incompatible}
 
 -- What a call did to its errors: what they had taken before and after it, and how often they had failed.
 pub record Errors : Type 0 where
@@ -32,6 +32,8 @@ error_text WriteFault = Some (line_of (codes "thriftd: write fault"))
 error_text NetFault = Some (line_of (codes "thriftd: net fault"))
 error_text JournalFault = Some (line_of (codes "thriftd: journal fault"))
 error_text NoMemory = Some (line_of (codes "thriftd: no memory"))
+error_text CallRefused = None
+error_text ReplyRefused = None
 error_text Incompatible = Some (line_of (codes "thriftd: incompatible"))
 
 -- the one fixed line of a status was added to the errors

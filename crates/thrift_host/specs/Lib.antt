@@ -4,8 +4,10 @@ pub mod Compats
 pub mod Runs
 pub mod Serving
 pub mod Workloads
+pub mod Calls
 pub mod Top
 pub mod Complete
 pub mod Steps
 pub mod CompatSteps
+pub mod CallSteps
 pub mod MayBeServed

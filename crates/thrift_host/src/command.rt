@@ -6,11 +6,12 @@ ghost use Rattle.command_line.specs.Answering.{plain_served};
 ghost use Rattle.command_line.specs.Bounds.{KeepsServedBounds};
 ghost use Rattle.command_line.specs.Words.{words_of};
 ghost use Rattle.thrift_host.specs.Complete.{IsWellAsked, NoneRose};
-ghost use Rattle.thrift_host.specs.Top.{Means, Says, KeepsPlace, asked_run, asked_place};
+ghost use Rattle.thrift_host.specs.Top.{Means, MeansCalled, Says, KeepsPlace, asked_run, asked_place};
 ghost use Rattle.thrift_host.specs.Runs.{MeansRun, SaysRun, SaysUnarranged, rehearsing, recording};
 ghost use Rattle.thrift_host.specs.Serving.{MeansServing, host_change, place_change};
 ghost use Rattle.thrift_host.specs.Workloads.{MeansWorkload, asked_workload};
 
+use crate::calling::call;
 use crate::checking::check;
 use crate::comparing::compare;
 use crate::ending::{end_run, end_serving};
@@ -35,7 +36,7 @@ use std::thread::Threads;
 /// Runs the command of these words, which leave the program's name out: it checks an IDL and writes the text of its schema to the output; it compares an IDL
 /// with the one that comes after it, and writes whether its values and calls survive; it runs the
 /// script of recorded connections that its input is, with these handlers, and writes the report there, without threads, or by a loop with workers that pass the
-/// gate; it serves connections at a port that the binder listens at, with a journal among the files; or it runs a workload, whose script is made from a seed, on the
+/// gate; it serves connections at a port that the binder listens at, with a journal among the files; it calls a method of a service at a port, and writes what it came to; or it runs a workload, whose script is made from a seed, on the
 /// tutorial's calculator, and writes its summary to the output. Where it isn't done it says why on the errors, in one
 /// line. A write of that line that fails changes nothing. It may wait.
 pub fn host<
@@ -72,6 +73,8 @@ pub fn host<
     // A port is served: Done says the same of IDL and pairs, that connections were served until all was over, that one tape more came back to the binder, that the
     // journal's file holds the lines of the calls and nothing else, and that the summary was added to the output; and that tape, calls and causes meet the headline.
     // A workload is run: Done says that the summary of its seed and size was added to the output, and nothing else.
+    // A method is called at a port: Done says that the frame of the call was sent there through one pipe, which was hung up, and that the line of the one frame that came back was
+    // added to the output, or of a call without a reply. CallRefused says that no port was dialled, and ReplyRefused that what came back is no answer.
     ensures means { Means (words_of (map string_bytes words.now)) (map H.service handlers.items) result
         (host_change (S.left input.old) (S.left input.new) (K.taken output.old) (K.taken output.new)
         (place_change (F.files files.old) (F.files files.new) (F.sink_faults files.old) (F.sink_faults files.new) (B.past binder.old) (B.past binder.new))) }
@@ -81,6 +84,9 @@ pub fn host<
         (record { taken_before = E.taken errors.old; taken = E.taken errors.new; faults_before = E.faults errors.old; faults = E.faults errors.new }) }
     ensures place { KeepsPlace (words_of (map string_bytes words.now))
         (place_change (F.files files.old) (F.files files.new) (F.sink_faults files.old) (F.sink_faults files.new) (B.past binder.old) (B.past binder.new)) }
+    ensures called { MeansCalled (words_of (map string_bytes words.now)) (F.files files.old) result
+        (record { called_before = B.called binder.old; called = B.called binder.new; taken_before = K.taken output.old; taken = K.taken output.new })
+        (record { taken_before = E.taken errors.old; taken = E.taken errors.new; faults_before = E.faults errors.old; faults = E.faults errors.new }) }
     ensures file_fault { result ≡ Status.FileFault → Rose (F.faults files.old) (F.faults files.new) }
     ensures read_fault { result ≡ Status.ReadFault → Rose (S.faults input.old) (S.faults input.new) }
     ensures write_fault { result ≡ Status.WriteFault → Rose (K.faults output.old) (K.faults output.new) }
@@ -148,6 +154,9 @@ fn command_of<
         (record { taken_before = E.taken errors.old; taken = E.taken errors.new; faults_before = E.faults errors.old; faults = E.faults errors.new }) }
     ensures place { KeepsPlace (words_of (map string_bytes words.now))
         (place_change (F.files files.old) (F.files files.new) (F.sink_faults files.old) (F.sink_faults files.new) (B.past binder.old) (B.past binder.new)) }
+    ensures called { MeansCalled (words_of (map string_bytes words.now)) (F.files files.old) result
+        (record { called_before = B.called binder.old; called = B.called binder.new; taken_before = K.taken output.old; taken = K.taken output.new })
+        (record { taken_before = E.taken errors.old; taken = E.taken errors.new; faults_before = E.faults errors.old; faults = E.faults errors.new }) }
     ensures file_fault { result ≡ Status.FileFault → Rose (F.faults files.old) (F.faults files.new) }
     ensures read_fault { result ≡ Status.ReadFault → Rose (S.faults input.old) (S.faults input.new) }
     ensures write_fault { result ≡ Status.WriteFault → Rose (K.faults output.old) (K.faults output.new) }
@@ -162,6 +171,7 @@ fn command_of<
     match read_words(alloc, words) {
         Ok(Command::Check(idl)) => check(alloc, files, output, errors, idl.as_str()),
         Ok(Command::Compat(idls)) => compare(alloc, files, output, errors, &idls),
+        Ok(Command::Call(asked)) => call(alloc, files, output, errors, binder, &asked),
         Ok(Command::Rehearse(served)) => rehearse_and_say(
             alloc, files, input, output, errors, &served, handlers,
         ),

@@ -8,11 +8,12 @@
 //!
 //! `host` takes the files, the streams, the binder and the handlers that it works with, so that a test or `main` hands in its own; it opens nothing by itself.
 //! It prints the schema of an IDL, compares an IDL with the one that comes after it, and it serves the services of any IDL in either protocol: on recorded connections, without threads or by a loop with workers,
-//! and at a port; and it runs a workload, whose script is made from a seed.
+//! and at a port; it calls a method of a service at a port; and it runs a workload, whose script is made from a seed.
 #![tactic(auto)]
 
 mod arranging;
 mod binding;
+mod calling;
 mod checking;
 mod command;
 mod comparing;

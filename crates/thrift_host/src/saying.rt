@@ -77,6 +77,10 @@ fn error_line(status: Status) -> Option<&'static str>
         Status::JournalFault => Some("thriftd: journal fault\n"),
         Status::NoMemory => Some("thriftd: no memory\n"),
         Status::Incompatible => Some("thriftd: incompatible\n"),
-        Status::IdlRefused | Status::ScriptRefused | Status::BindRefused => None,
+        Status::IdlRefused
+        | Status::ScriptRefused
+        | Status::BindRefused
+        | Status::CallRefused
+        | Status::ReplyRefused => None,
     }
 }

@@ -19,12 +19,16 @@ pub enum Status {
     ReadFault = 6,
     /// A write of the output failed.
     WriteFault = 7,
-    /// The port can't be listened at, or its links failed.
+    /// The port can't be listened at or not dialled, or its links or its pipe failed.
     NetFault = 8,
     /// A write of the journal failed.
     JournalFault = 9,
     /// Memory ran out.
     NoMemory = 10,
+    /// A call isn't made: no port was dialled.
+    CallRefused = 13,
+    /// What came back for a call is no answer to it.
+    ReplyRefused = 14,
     /// The values or calls of an IDL don't survive the one that comes after it.
     Incompatible = 15,
 }

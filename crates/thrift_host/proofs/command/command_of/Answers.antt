@@ -1,6 +1,7 @@
 use Rattle.std.proofs.Common.{◌∙◌, None, Some, ap, map, refl}
 use Rattle.command_line.specs.Answering.{plain_command}
 use Rattle.thrift_host.specs.Serving.{host_change, place_change}
+use Rattle.thrift_host.proofs.Called.{no_read as call_reads_nothing, no_journal as call_has_no_journal, unread_called}
 use Rattle.thrift_host.proofs.Checked.{never_net, never_journal}
 use Rattle.thrift_host.proofs.Compared.{no_net, no_journal, no_read}
 use Rattle.thrift_host.proofs.Served.{serving_asked}
@@ -39,6 +40,15 @@ returns-in-Ok-Compat-clause-read_fault g c = λ is.
     absurd (no_read (g.F.Files.files c.args.files.now) c.in-Ok-Compat.idls.old c.in-Ok-Compat.idls.new c.compare.result
     (record { left_before = None; left = None; taken_before = g.K.Sink.taken c.args.output.now; taken = g.K.Sink.taken c.compare.new.output })
     (c.compare.ensures.means None) is)
+
+pub returns-in-Ok-Call-clause-read_fault : goal.returns-in-Ok-Call-clause-read_fault
+returns-in-Ok-Call-clause-read_fault g c = λ is. absurd (call_reads_nothing _ _ _ _ c.call.result c.call.ensures.means is)
+
+pub returns-in-Ok-Call-clause-journal_fault : goal.returns-in-Ok-Call-clause-journal_fault
+returns-in-Ok-Call-clause-journal_fault g c = λ is. absurd (call_has_no_journal _ _ _ _ c.call.result c.call.ensures.means is)
+
+pub returns-in-Err-clause-called : goal.returns-in-Err-clause-called
+returns-in-Err-clause-called g c = unread_called c.in-Err.fault c.end_without_command.result _ _ _ c.end_without_command.ensures (refl, refl) _ c.in-Err.ensures.answers
 
 pub returns-in-Err-clause-means : goal.returns-in-Err-clause-means
 returns-in-Err-clause-means g c = unread_means c.in-Err.fault c.end_without_command.result _ c.end_without_command.ensures _ _ _ c.in-Err.ensures.answers ((refl, refl), (refl, refl))

@@ -45,6 +45,9 @@ returns-clause-errors g c = c.command_of.ensures.errors
 pub returns-clause-place : goal.returns-clause-place
 returns-clause-place g c = c.command_of.ensures.place
 
+pub returns-clause-called : goal.returns-clause-called
+returns-clause-called g c = c.command_of.ensures.called
+
 pub returns-clause-file_fault : goal.returns-clause-file_fault
 returns-clause-file_fault g c = c.command_of.ensures.file_fault
 
