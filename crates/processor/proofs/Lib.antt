@@ -2,3 +2,5 @@ mod Sized
 mod Texts
 mod GoingBack
 mod Arguing
+mod Tabled
+mod Searched

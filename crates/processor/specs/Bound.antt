@@ -15,3 +15,7 @@ default_bound b = b.default_slot
 -- what the structs of their schema need
 abbrev pub needs_in : Bindings → List PlainNeeds
 needs_in b = b.needed
+
+-- the tables of their schema's functions, one for each service
+abbrev pub tables_in : Bindings → List (List ℕ)
+tables_in b = b.tables

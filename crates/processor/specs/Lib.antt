@@ -1,3 +1,4 @@
+pub mod Tables
 pub mod Bound
 pub mod Seen
 pub mod Offices

@@ -6,12 +6,12 @@ ghost use Rattle.thrift_value.specs.TreeOf.{tree_of};
 ghost use Rattle.call_rules.specs.Answers.{plain_decision};
 ghost use Rattle.schema.specs.SchemaOf.{plain_function};
 ghost use Rattle.call_model.specs.Decisions.{is_sent_oneway, is_silent};
-ghost use Rattle.call_model.specs.Names.{method_part};
 
 use crate::arguments::{ArgumentFault, arguments_at};
 use crate::failures::{FailureText, bad_arguments, no_method, no_service};
 use crate::frames::failure_frame;
-use crate::names::{BoundService, method_part, service_asked};
+use crate::functions::function_by_name;
+use crate::names::{BoundService, name_parts, service_asked};
 use crate::office::Office;
 use call_rules::{Call, Decision};
 use envelope::{HeadFault, LentHead, lend_head};
@@ -69,14 +69,20 @@ impl Office {
 
     /// A message whose method its service hasn't.
     #[tactic(auto, unfolding(call_model::specs::Decisions::refused))]
-    fn refuse_method(&self, alloc: Global, head: &LentHead<'_>) -> Result<Decision, AllocError>
+    fn refuse_method(
+        &self,
+        alloc: Global,
+        head: &LentHead<'_>,
+        method: &[u8],
+    ) -> Result<Decision, AllocError>
         requires name { length head.now.name ≤ longest_payload }
+        requires method { method.now ≡ method_part head.now.name }
         ensures { IfOk result (λ d. plain_decision d ≡ refused self.now.protocol head.now (is_sent_oneway head.now) (no_method (method_part head.now.name))) }
     {
         if is_sent_oneway(head) {
             return Ok(Decision::Silent);
         }
-        let failure = no_method(alloc, head.name())?;
+        let failure = no_method(alloc, method)?;
         self.refuse(alloc, head, &failure)
     }
 
@@ -108,12 +114,14 @@ impl Office {
         alloc: Global,
         payload: &[u8],
         head: &LentHead<'_>,
+        method: &[u8],
         bound: BoundService,
         function: &FnDesc,
     ) -> Result<Decision, AllocError>
         requires sound { IsSound (schema_of self.now.schema) }
         requires place { IsPlaceIn (schema_of self.now.schema).structs function.now.args }
         requires name { length head.now.name ≤ longest_payload }
+        requires method { method.now ≡ method_part head.now.name }
         requires within { head.now.behind ≤ length payload.now }
         ensures { IfOk result (λ d. plain_decision d ≡ call_made (plain_office self.now) head.now (bound_of bound) (plain_function function.now)
             (arguments_at (schema_of self.now.schema) self.now.protocol function.now.args payload.now head.now.behind)) }
@@ -128,7 +136,7 @@ impl Office {
             payload,
             head.behind(),
         )? {
-            Ok(args) => invoked(alloc, bound.slot, head, args, silent),
+            Ok(args) => invoked(alloc, bound.slot, method, args, silent),
             Err(fault) => self.refuse_arguments(alloc, head, silent, fault),
         }
     }
@@ -140,18 +148,20 @@ impl Office {
         alloc: Global,
         payload: &[u8],
         head: &LentHead<'_>,
+        method: &[u8],
         bound: BoundService,
     ) -> Result<Decision, AllocError>
         requires sound { IsSound (schema_of self.now.schema) }
         requires name { length head.now.name ≤ longest_payload }
+        requires method { method.now ≡ method_part head.now.name }
         requires within { head.now.behind ≤ length payload.now }
         ensures { IfOk result (λ d. plain_decision d ≡ decided_on_function (plain_office self.now) payload.now head.now (bound_of bound)
             (function_asked (plain_office self.now) (bound_of bound) head.now.name)) }
     {
-        let method = method_part(head.name());
-        match self.schema.function(bound.service, method) {
-            Some(function) => self.call(alloc, payload, head, bound, function),
-            None => self.refuse_method(alloc, head),
+        let tables = self.bindings.tables.as_slice();
+        match function_by_name(&self.schema, tables, bound.service, method) {
+            Some(function) => self.call(alloc, payload, head, method, bound, function),
+            None => self.refuse_method(alloc, head, method),
         }
     }
 
@@ -170,12 +180,13 @@ impl Office {
         ensures { IfOk result (λ d. plain_decision d ≡ decided_on_service (plain_office self.now) payload.now head.now
             (service_asked self.now.bindings.default_slot self.now.bindings.names head.now.name)) }
     {
+        let parts = name_parts(head.name());
         match service_asked(
             self.bindings.default_slot,
             self.bindings.names.as_slice(),
-            head.name(),
+            parts.service,
         ) {
-            Some(bound) => self.decide_on_function(alloc, payload, head, bound),
+            Some(bound) => self.decide_on_function(alloc, payload, head, parts.method, bound),
             None => self.refuse_service(alloc, head),
         }
     }
@@ -200,13 +211,13 @@ impl Office {
 fn invoked(
     alloc: Global,
     slot: u32,
-    head: &LentHead<'_>,
+    method: &[u8],
     args: Value,
     silent: bool,
 ) -> Result<Decision, AllocError>
-    ensures { IfOk result (λ d. plain_decision d ≡ Invoke (record { slot = slot; method = method_part head.now.name; args = tree_of args; silent = silent })) }
+    ensures { IfOk result (λ d. plain_decision d ≡ Invoke (record { slot = slot; method = method.now; args = tree_of args; silent = silent })) }
 {
-    let method = method_part(head.name()).to_vec(alloc)?;
+    let method = method.to_vec(alloc)?;
     Ok(Decision::Invoke(Call {
         slot,
         method: ByteText::new(method),

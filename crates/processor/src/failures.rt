@@ -5,12 +5,12 @@ ghost use Rattle.std.specs.List.{slice_get};
 ghost use Rattle.std.specs.Option.{option_map, option_copied};
 ghost use Rattle.schema.specs.SchemaOf.{schema_of, plain_struct};
 ghost use Rattle.schema.specs.Sound.{IsSound};
-ghost use Rattle.call_model.specs.Names.{method_part, service_part};
+ghost use Rattle.call_model.specs.Names.{service_part};
 ghost use Rattle.call_model.specs.Failures.{bad_arguments, field_name, no_method, no_result, no_service, skew_fault_text, struct_name_at, too_large, wire_fault_text};
 ghost use Rattle.processor.specs.Seen.{argument_fault_text, failure_of};
 
 use crate::arguments::ArgumentFault;
-use crate::names::{method_part, service_part};
+use crate::names::name_parts;
 use schema::{Schema, StructDesc};
 use std::alloc::{AllocError, Global};
 use struct_skew::SkewFault;
@@ -60,19 +60,19 @@ pub(crate) fn no_service(alloc: Global, name: &[u8]) -> Result<FailureText, Allo
 fn service_or_whole(name: &[u8]) -> &[u8]
     ensures { result.now ≡ unwrap_or (service_part name.now) name.now }
 {
-    match service_part(name) {
+    match name_parts(name).service {
         Some(service) => service,
         None => name,
     }
 }
 
-/// The service has no function of the name's method.
-pub(crate) fn no_method(alloc: Global, name: &[u8]) -> Result<FailureText, AllocError>
-    ensures { IfOk result (λ failure. failure_of failure ≡ no_method (method_part name.now)) }
+/// The service has no function of this name.
+pub(crate) fn no_method(alloc: Global, method: &[u8]) -> Result<FailureText, AllocError>
+    ensures { IfOk result (λ failure. failure_of failure ≡ no_method method.now) }
 {
-    let mut text = beside_name(alloc, name)?;
+    let mut text = beside_name(alloc, method)?;
     text.extend_from_slice(b"Invalid method name: '")?;
-    text.extend_from_slice(method_part(name))?;
+    text.extend_from_slice(method)?;
     text.extend_from_slice(b"'")?;
     Ok(FailureText {
         text,
@@ -198,12 +198,12 @@ pub(crate) fn bad_arguments(
 }
 
 /// The call has no result that may go back.
-pub(crate) fn no_result(alloc: Global, name: &[u8]) -> Result<FailureText, AllocError>
-    ensures { IfOk result (λ failure. failure_of failure ≡ no_result (method_part name.now)) }
+pub(crate) fn no_result(alloc: Global, method: &[u8]) -> Result<FailureText, AllocError>
+    ensures { IfOk result (λ failure. failure_of failure ≡ no_result method.now) }
 {
-    let mut text = beside_name(alloc, name)?;
+    let mut text = beside_name(alloc, method)?;
     text.extend_from_slice(b"Internal error processing ")?;
-    text.extend_from_slice(method_part(name))?;
+    text.extend_from_slice(method)?;
     Ok(FailureText {
         text,
         code: INTERNAL_ERROR,

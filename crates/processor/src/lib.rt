@@ -3,7 +3,7 @@
 //!
 //! ```
 //! let names = BoundNames::new(vec![in alloc; (ByteText::new(b"Calculator".to_vec(alloc)?), 0)]?);
-//! let bindings = Bindings::new(alloc, &schema, names)?;                         // walks over the schema once
+//! let bindings = Bindings::new(alloc, &schema, names)?;                         // walks over the schema once, and sorts its functions
 //! let office = Office::new(schema, bindings, Protocol::Binary, 16_384_000);      // takes no memory
 //! match office.decide(alloc, payload)? {
 //!     Decision::Invoke(call) => {
@@ -26,10 +26,12 @@ mod bindings;
 mod deciding;
 mod failures;
 mod frames;
+mod functions;
 mod names;
 mod office;
 mod replying;
 mod results;
+mod tabling;
 
 pub use bindings::{Bindings, BoundNames};
 pub use office::Office;

@@ -1,9 +1,9 @@
 //! Which service and which method a message's name asks for.
 
-ghost use Rattle.std.specs.Prelude.{◌≡◌, ◌<◌, ◌^◌, length, position, IfSome};
+ghost use Rattle.std.specs.Prelude.{◌≡◌, ◌<◌, ◌^◌, length, option_and_then, position, IfSome};
 ghost use Rattle.std.specs.List.{slice_get};
 ghost use Rattle.std.specs.Option.{option_map, option_copied};
-ghost use Rattle.call_model.specs.Names.{separator_of, service_part, method_part, has_bound_name, only_slot, slot_by_default, slot_asked, service_asked};
+ghost use Rattle.call_model.specs.Names.{bound_at, separator_of, service_part, method_part, has_bound_name, only_slot, slot_by_default, slot_asked};
 ghost use Rattle.processor.specs.Seen.{bound_of};
 
 use thrift_value::ByteText;
@@ -15,6 +15,15 @@ pub(crate) struct BoundService {
     pub(crate) service: u32,
 }
 
+/// The parts of a message's name, which is cut at its first `:`.
+#[derive(Clone, Copy)]
+pub(crate) struct NameParts<'a> {
+    /// Names a service; none where there is no `:`.
+    pub(crate) service: Option<&'a [u8]>,
+    /// Names a method.
+    pub(crate) method: &'a [u8],
+}
+
 /// The place of the first `:` in a name.
 fn separator_of(name: &[u8]) -> Option<usize>
     ensures found { result ≡ separator_of name.now }
@@ -23,24 +32,28 @@ fn separator_of(name: &[u8]) -> Option<usize>
     name.iter().position(|byte| *byte == b':')
 }
 
-/// The part of a name in front of its first `:`, which names a service.
-pub(crate) fn service_part(name: &[u8]) -> Option<&[u8]>
-    ensures { option_map (λ part. part.now) result ≡ service_part name.now }
+/// Cuts a name at its first `:`.
+pub(crate) fn name_parts(name: &[u8]) -> NameParts<'_>
+    ensures service { option_map (λ part. part.now) result.service ≡ service_part name.now }
+    ensures method { result.method.now ≡ method_part name.now }
 {
     match separator_of(name) {
-        Some(at) => Some(name.split_at(at).0),
-        None => None,
+        Some(at) => NameParts {
+            service: Some(name.split_at(at).0),
+            method: name.split_at(at + 1).1,
+        },
+        None => NameParts {
+            service: None,
+            method: name,
+        },
     }
 }
 
-/// The part of a name behind its first `:`, or the whole name, which names a method.
+/// The part of a name behind its first `:`, or the whole name.
 pub(crate) fn method_part(name: &[u8]) -> &[u8]
     ensures { result.now ≡ method_part name.now }
 {
-    match separator_of(name) {
-        Some(at) => name.split_at(at + 1).1,
-        None => name,
-    }
+    name_parts(name).method
 }
 
 /// Whether a binding has a name.
@@ -77,11 +90,15 @@ fn slot_by_default(default_slot: Option<u32>, bindings: &[(ByteText, u32)]) -> O
     }
 }
 
-/// The slot that a message's name asks for.
-fn slot_asked(default_slot: Option<u32>, bindings: &[(ByteText, u32)], name: &[u8]) -> Option<usize>
-    ensures { result ≡ slot_asked default_slot bindings.now (service_part name.now) }
+/// The slot that a name asks for, by its part that names a service.
+fn slot_asked(
+    default_slot: Option<u32>,
+    bindings: &[(ByteText, u32)],
+    service: Option<&[u8]>,
+) -> Option<usize>
+    ensures { result ≡ slot_asked default_slot bindings.now (option_map (λ part. part.now) service.entry) }
 {
-    match service_part(name) {
+    match service {
         Some(service) => slot_named(bindings, service),
         None => slot_by_default(default_slot, bindings),
     }
@@ -94,16 +111,16 @@ fn binding_at(bindings: &[(ByteText, u32)], slot: usize) -> Option<&(ByteText, u
     bindings.get(slot)
 }
 
-/// The service that a message's name asks for.
+/// The service that a name asks for, by its part that names one.
 pub(crate) fn service_asked(
     default_slot: Option<u32>,
     bindings: &[(ByteText, u32)],
-    name: &[u8],
+    service: Option<&[u8]>,
 ) -> Option<BoundService>
     requires { length bindings.now < 2 ^ 32 }
-    ensures { option_map bound_of result ≡ service_asked default_slot bindings.now name.now }
+    ensures { option_map bound_of result ≡ option_and_then (bound_at bindings.now) (slot_asked default_slot bindings.now (option_map (λ part. part.now) service.entry)) }
 {
-    let slot = slot_asked(default_slot, bindings, name)?;
+    let slot = slot_asked(default_slot, bindings, service)?;
     let binding = binding_at(bindings, slot)?;
     Some(BoundService {
         slot: slot as u32,

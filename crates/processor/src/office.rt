@@ -1,10 +1,11 @@
 //! What an office holds.
 
-ghost use Rattle.std.specs.Prelude.{◌≡◌, map};
+ghost use Rattle.std.specs.Prelude.{◌≡◌, map, true};
 ghost use Rattle.schema.specs.SchemaOf.{schema_of};
 ghost use Rattle.struct_skew.specs.Needs.{needs_of};
 ghost use Rattle.call_model.specs.Offices.{IsSoundOffice};
-ghost use Rattle.processor.specs.Bound.{bound_names, default_bound, needs_in};
+ghost use Rattle.processor.specs.Bound.{bound_names, default_bound, needs_in, tables_in};
+ghost use Rattle.processor.specs.Tables.{are_tables};
 
 use crate::bindings::Bindings;
 use call_rules::{Answer, Decision, Desk};
@@ -23,19 +24,22 @@ pub struct Office {
     pub(crate) max_frame: u32,
     ghost sound: { ∥ IsSoundOffice (record { schema = schema_of schema; bindings = bound_names bindings; default_slot = default_bound bindings; protocol = protocol; max_frame = max_frame }) ∥₁ },
     ghost needed: { needs_in bindings ≡ map needs_of (schema_of schema).structs },
+    ghost tabled: { are_tables (schema_of schema).services (tables_in bindings) ≡ true },
 }
 
 impl Office {
-    ghost use Rattle.std.specs.Prelude.{◌≡◌, map};
+    ghost use Rattle.std.specs.Prelude.{◌≡◌, map, true};
     ghost use Rattle.schema.specs.SchemaOf.{schema_of};
     ghost use Rattle.struct_skew.specs.Needs.{needs_of};
-    ghost use Rattle.processor.specs.Bound.{bound_names, default_bound, needs_in};
+    ghost use Rattle.processor.specs.Bound.{bound_names, default_bound, needs_in, tables_in};
+    ghost use Rattle.processor.specs.Tables.{are_tables};
     ghost use Rattle.processor.specs.Offices.{plain_office};
 
     /// Makes the office of these services, which are bound by this schema; takes no memory.
     pub fn new(schema: Schema, bindings: Bindings, protocol: Protocol, max_frame: u32) -> Self
         requires sound { IsSoundOffice (record { schema = schema_of schema; bindings = bound_names bindings; default_slot = default_bound bindings; protocol = protocol; max_frame = max_frame }) }
         requires needed { needs_in bindings ≡ map needs_of (schema_of schema).structs }
+        requires tabled { are_tables (schema_of schema).services (tables_in bindings) ≡ true }
         ensures { plain_office result ≡ record { schema = schema_of schema; bindings = bound_names bindings; default_slot = default_bound bindings; protocol = protocol; max_frame = max_frame } }
     {
         Office {

@@ -2,7 +2,8 @@
 
 use crate::failures::{no_result, too_large};
 use crate::frames::{SIZE_BYTES, failure_frame, opened, with_size};
-use crate::names::{BoundService, method_part, service_asked};
+use crate::functions::function_by_name;
+use crate::names::{BoundService, name_parts, service_asked};
 use crate::office::Office;
 use crate::results::{ResultField, bytes_in, put_result, result_field};
 use call_rules::Answer;
@@ -31,11 +32,17 @@ impl Office {
     ghost use Rattle.processor.specs.Seen.{bound_of};
 
     /// The frame that tells that a call has no result.
-    fn without_result(&self, alloc: Global, head: &LentHead<'_>) -> Result<Vec<u8>, AllocError>
+    fn without_result(
+        &self,
+        alloc: Global,
+        head: &LentHead<'_>,
+        method: &[u8],
+    ) -> Result<Vec<u8>, AllocError>
         requires name { length head.now.name ≤ longest_payload }
+        requires method { method.now ≡ method_part head.now.name }
         ensures { IfOk result (λ framed. framed.items ≡ failure_frame self.now.protocol head.now (no_result (method_part head.now.name))) }
     {
-        let failure = no_result(alloc, head.name())?;
+        let failure = no_result(alloc, method)?;
         failure_frame(alloc, self.protocol, head, &failure)
     }
 
@@ -54,15 +61,17 @@ impl Office {
         &self,
         alloc: Global,
         head: &LentHead<'_>,
+        method: &[u8],
         field: ResultField<'_>,
     ) -> Result<Vec<u8>, AllocError>
         requires most { self.now.max_frame ≤ longest_payload }
         requires name { length head.now.name ≤ longest_payload }
+        requires method { method.now ≡ method_part head.now.name }
         requires sizes { HasSmallField field }
         ensures { IfOk result (λ framed. framed.items
             ≡ within_frame (plain_office self.now) head.now (reply_text self.now.protocol head.now (lent_fields field.entry))) }
     {
-        let framed = self.open_reply(alloc, head, field)?;
+        let framed = self.open_reply(alloc, head, method, field)?;
         if framed.len() - SIZE_BYTES > self.max_frame as usize {
             return self.above_frame(alloc, head);
         }
@@ -75,21 +84,17 @@ impl Office {
         &self,
         alloc: Global,
         head: &LentHead<'_>,
+        method: &[u8],
         field: ResultField<'_>,
     ) -> Result<Vec<u8>, AllocError>
         requires name { length head.now.name ≤ longest_payload }
+        requires method { method.now ≡ method_part head.now.name }
         requires sizes { HasSmallField field }
         ensures { IfOk result (λ framed. framed.items ≡ 0 ∷ 0 ∷ 0 ∷ 0 ∷ reply_text self.now.protocol head.now (lent_fields field.entry)) }
     {
-        let room = REPLY_ROOM + head.name().len() + bytes_in(field);
+        let room = REPLY_ROOM + method.len() + bytes_in(field);
         let mut framed = opened(alloc, room)?;
-        write_head(
-            self.protocol,
-            method_part(head.name()),
-            REPLY,
-            head.id(),
-            &mut framed,
-        )?;
+        write_head(self.protocol, method, REPLY, head.id(), &mut framed)?;
         put_result(self.protocol, field, &mut framed)?;
         Ok(framed)
     }
@@ -100,18 +105,20 @@ impl Office {
         &self,
         alloc: Global,
         head: &LentHead<'_>,
+        method: &[u8],
         function: &FnDesc,
         answer: &Answer,
     ) -> Result<Vec<u8>, AllocError>
         requires sound { IsSound (schema_of self.now.schema) }
         requires most { self.now.max_frame ≤ longest_payload }
         requires name { length head.now.name ≤ longest_payload }
+        requires method { method.now ≡ method_part head.now.name }
         ensures { IfOk result (λ framed. framed.items ≡ result_frame (plain_office self.now) head.now
             (result_fields (schema_of self.now.schema).structs (plain_function function.now) (plain_answer answer.now))) }
     {
         match result_field(&self.schema, &self.bindings.needed, function, answer) {
-            Some(field) => self.with_result(alloc, head, field),
-            None => self.without_result(alloc, head),
+            Some(field) => self.with_result(alloc, head, method, field),
+            None => self.without_result(alloc, head, method),
         }
     }
 
@@ -121,18 +128,20 @@ impl Office {
         &self,
         alloc: Global,
         head: &LentHead<'_>,
+        method: &[u8],
         bound: BoundService,
         answer: &Answer,
     ) -> Result<Vec<u8>, AllocError>
         requires sound { IsSound (schema_of self.now.schema) }
         requires most { self.now.max_frame ≤ longest_payload }
         requires name { length head.now.name ≤ longest_payload }
+        requires method { method.now ≡ method_part head.now.name }
         ensures { IfOk result (λ framed. framed.items ≡ reply_of_function (plain_office self.now) head.now (plain_answer answer.now)
             (function_asked (plain_office self.now) (bound_of bound) head.now.name)) }
     {
-        let method = method_part(head.name());
-        match self.schema.function(bound.service, method) {
-            Some(function) => self.reply_to_answer(alloc, head, function, answer),
+        let tables = self.bindings.tables.as_slice();
+        match function_by_name(&self.schema, tables, bound.service, method) {
+            Some(function) => self.reply_to_answer(alloc, head, method, function, answer),
             None => Ok(Vec::new(alloc)),
         }
     }
@@ -152,12 +161,13 @@ impl Office {
         ensures { IfOk result (λ framed. framed.items ≡ reply_of_service (plain_office self.now) head.now (plain_answer answer.now)
             (service_asked self.now.bindings.default_slot self.now.bindings.names head.now.name)) }
     {
+        let parts = name_parts(head.name());
         match service_asked(
             self.bindings.default_slot,
             self.bindings.names.as_slice(),
-            head.name(),
+            parts.service,
         ) {
-            Some(bound) => self.reply_of_bound(alloc, head, bound, answer),
+            Some(bound) => self.reply_of_bound(alloc, head, parts.method, bound, answer),
             None => Ok(Vec::new(alloc)),
         }
     }

@@ -16,12 +16,13 @@ ghost use Rattle.schema.specs.Sound.{IsSound};
 ghost use Rattle.schema.specs.WrittenAs.{field_with_id};
 ghost use Rattle.wire_model.specs.Encoder.{behind_heading, heading, text};
 ghost use Rattle.call_model.specs.Replies.{alone_under, deepest_result, encoder_of, may_go_back, result_fields, success_fields, throws_fields};
-ghost use Rattle.processor.specs.Results.{HasSmallField, lent_fields};
+ghost use Rattle.processor.specs.Results.{HasSmallField, is_sizeless, lent_fields};
 
 use binary_codec::Binary;
 use call_rules::Answer;
 use compact_codec::Compact;
 use envelope::Protocol;
+use known_parts::{are_same_tags, tag_of_kind};
 use schema::{FieldDesc, FnDesc, Schema, TypeDesc};
 use std::alloc::AllocError;
 use struct_skew::{NeededFields, fits_with};
@@ -67,6 +68,27 @@ fn is_shallow(value: &Value) -> bool
     value.depth() <= DEEPEST_RESULT
 }
 
+/// Whether a value is a bool, a number or a uuid: then it is tidy, has no levels, and is of a type by its tag.
+#[tactic(auto, using(thrift_value::proofs::Trees::tree_equations))]
+fn is_sizeless(value: &Value) -> bool
+    ensures { result ≡ is_sizeless (tree_of value.now) }
+{
+    match value {
+        Value::Bool(_)
+        | Value::I8(_)
+        | Value::I16(_)
+        | Value::I32(_)
+        | Value::I64(_)
+        | Value::Double(_)
+        | Value::Uuid(_) => true,
+        Value::Bytes(_)
+        | Value::Struct(_)
+        | Value::Map(_, _, _)
+        | Value::Set(_, _)
+        | Value::List(_, _) => false,
+    }
+}
+
 /// Whether a value may go back under a type.
 #[tactic(auto, unfolding(call_model::specs::Replies::may_go_back))]
 fn may_go_back(schema: &Schema, needed: &NeededFields, kind: &TypeDesc, value: &Value) -> bool
@@ -74,6 +96,9 @@ fn may_go_back(schema: &Schema, needed: &NeededFields, kind: &TypeDesc, value: &
     requires needed { needed.now ≡ map needs_of (schema_of schema.now).structs }
     ensures { result ≡ may_go_back (schema_of schema.now).structs (kind_of kind.now) (tree_of value.now) }
 {
+    if is_sizeless(value) {
+        return are_same_tags(tag_of_kind(kind), value.tag());
+    }
     if !is_tidy(value) {
         return false;
     }

@@ -1,10 +1,11 @@
 //! The bindings of an office.
 
-ghost use Rattle.std.specs.Prelude.{◌≡◌, ◌≤◌, ◌<◌, length, map, option_map, None, Ok, IfOk, IfErr, IfSome};
+ghost use Rattle.std.specs.Prelude.{◌≡◌, ◌≤◌, ◌<◌, length, map, option_map, true, None, Ok, IfOk, IfErr, IfSome};
 ghost use Rattle.service_binding.specs.Binding.{AreBound};
 ghost use Rattle.service_binding.specs.Defaults.{slot_for_default};
 ghost use Rattle.service_binding.specs.FirstRefusal.{IsRefusedFirst, OnRefusal};
-ghost use Rattle.processor.specs.Bound.{bound_names, default_bound, needs_in};
+ghost use Rattle.processor.specs.Bound.{bound_names, default_bound, needs_in, tables_in};
+ghost use Rattle.processor.specs.Tables.{are_tables};
 ghost use Rattle.schema.specs.SchemaOf.{schema_of};
 ghost use Rattle.schema.specs.Sound.{IsSound};
 ghost use Rattle.thrift_host.specs.MayBeServed.{MayBeServed};
@@ -23,6 +24,7 @@ fn with_default(bindings: Bindings, slot: Option<u32>) -> Bindings
     ensures names { bound_names result ≡ bound_names bindings }
     ensures default_slot { default_bound result ≡ slot }
     ensures needed { needs_in result ≡ needs_in bindings }
+    ensures tabled { tables_in result ≡ tables_in bindings }
 {
     match slot {
         Some(slot) => bindings.with_default(slot),
@@ -51,6 +53,7 @@ pub fn bind<H: Handler>(
     // An office may be made of the bindings, and its slots are the handlers.
     ensures served { IfOk result (λ made. MayBeServed (schema_of schema.now) (bound_names made.0) (default_bound made.0)) }
     ensures needed { IfOk result (λ made. needs_in made.0 ≡ map needs_of (schema_of schema.now).structs) }
+    ensures tabled { IfOk result (λ made. are_tables (schema_of schema.now).services (tables_in made.0) ≡ true) }
     ensures slots { IfOk result (λ made. length made.1.items ≡ length (bound_names made.0)) }
 {
     let (names, bound) = bind_pairs(alloc, schema, pairs, handlers)?;
