@@ -66,7 +66,16 @@ fn called<R: Threads + Wait + Sync>(
     given.run(
         rt,
         alloc,
-        &["call", "@tutorial", "binary", service, method, args, "--to", "9090"],
+        &[
+            "call",
+            "@tutorial",
+            "binary",
+            service,
+            method,
+            args,
+            "--to",
+            "9090",
+        ],
     )
 }
 
@@ -145,9 +154,11 @@ fn is_refused<R: Threads + Wait + Sync>(
         return Ok(false);
     };
     let ended = called(rt, alloc, [service, method, args], reply, None)?;
-    Ok(ended.status == status_of(line)
-        && ended.output.is_empty()
-        && is_line(&ended.errors, "thriftd: ", line))
+    Ok(
+        ended.status == status_of(line)
+            && ended.output.is_empty()
+            && is_line(&ended.errors, "thriftd: ", line),
+    )
 }
 
 /// Whether the call of each row is.

@@ -1,8 +1,7 @@
 -- What a call means by how it ends.
-use Rattle.std.proofs.Common.{◌≡◌, ◌≢◌, inl, inr, ℕ, List, Option, None, Some, Result, Ok, Err, refl, sym, subst}
+use Rattle.std.proofs.Common.{◌≡◌, inl, inr, ℕ, List, Option, None, Some, Result, Ok, Err, sym, subst}
 use Rattle.outside.specs.Files.{File}
 use Rattle.schema.specs.PlainSchema.{PlainSchema}
-use Rattle.schema.specs.Sound.{IsSound}
 use Rattle.idl_check.specs.declared.refusal.NoSchema.{NoSchema}
 use Rattle.idl_check.specs.declared.refusal.NoSchema.TheVariants as reasons
 use Rattle.idl_check.specs.Telling.{TellsWhy}
@@ -14,16 +13,15 @@ use Rattle.command_line.specs.Calls.{PlainAsking}
 use Rattle.command_line.specs.Words.{PlainCommand, checks, compares, rehearses, records, serves, runs, calls}
 use Rattle.port_asking.specs.declared.fault.AskingFault.{AskingFault}
 use Rattle.port_asking.specs.declared.fault.AskingFault.TheVariants as asking
-use Rattle.port_calls.specs.declared.fault.CallFault.{CallFault}
 use Rattle.port_calls.specs.declared.fault.CallFault.TheVariants as faults
 use Rattle.port_calls.specs.declared.fault.ReplyRefusal.{ReplyRefusal}
 use Rattle.port_calls.specs.declared.fault.ReplyRefusal.TheVariants.{Cut, SizeFault, Unheard}
-use Rattle.port_calls.specs.Called.{CallChange, IsCallUntouched, IsAsked, IsUnanswered, MeansCall, MeansCallFault}
+use Rattle.port_calls.specs.Called.{CallChange, IsCallUntouched, IsAsked, IsUnanswered}
 use Rattle.port_calls.specs.Calls.{PlainPortCall, IsSent}
 use Rattle.thrift_host.specs.declared.status.Status.{Status}
 use Rattle.thrift_host.specs.declared.status.Status.TheVariants as status
-use Rattle.thrift_host.specs.Calls.{MeansPortCall, IsCallBy, call_by, refused_call_text, refused_reply_text}
-use Rattle.thrift_host.specs.CallSteps.{EndsAfterCall, EndsCall}
+use Rattle.thrift_host.specs.Calls.{MeansPortCall, port_call_by, refused_call_text, refused_reply_text}
+use Rattle.thrift_host.specs.CallSteps.{EndsCall}
 use Rattle.thrift_host.specs.Errors.{Errors, IsSaid, IsLineSaid}
 use Rattle.thrift_host.specs.Runs.{HasSchema}
 use Rattle.thrift_host.specs.Steps.{EndsAs, EndsSaying, EndsWithout, EndsWithoutCommand}
@@ -34,7 +32,7 @@ asked_then : (call : PlainPortCall) (c : CallChange) (refusal : ReplyRefusal) �
     → (sent : IsSent call) × (came : Result (Option (List ℕ)) AskingFault) × IsAsked call c sent came
 asked_then call c Cut u = (u.0, Err asking.Cut, u.1)
 asked_then call c (SizeFault size) u = (u.0, Err (asking.SizeFault size), u.1)
-asked_then call c (Unheard fault) u = (u.0, Ok (Some u.1), u.2.0)
+asked_then call c (Unheard fault) u = (u.0, Ok (Some u.1), u.2)
 
 module _ (files : Option (List File)) (a : PlainAsking) (c : CallChange) (e : Errors) where
   ended_as : (meant ended : Status) → EndsAs meant ended e → (IsLineSaid meant e → MeansPortCall files a meant c e) → MeansPortCall files a ended c e
@@ -46,13 +44,13 @@ module _ (files : Option (List File)) (a : PlainAsking) (c : CallChange) (e : Er
   ended_saying meant text ended (inr ends) means no_memory = ended_as status.NoMemory ended ends no_memory
 
   -- by the schema of its IDL
-  pub call_means : (schema : PlainSchema) (ended : Status) → HasSchema files a.idl schema → EndsCall (call_by a schema) ended c e → MeansPortCall files a ended c e
+  pub call_means : (schema : PlainSchema) (ended : Status) → HasSchema files a.idl schema → EndsCall (port_call_by a schema) ended c e → MeansPortCall files a ended c e
   call_means schema ended has (Ok x, m, ends) = ended_as status.Done ended ends (λ said. ((schema, has, m), said))
   call_means schema ended has (Err (faults.Refused refusal), m, ends) =
       ended_saying status.CallRefused (refused_call_text refusal) ended ends (λ said. (refusal, (schema, has, m), said)) (λ said. (inl m.1, said))
   call_means schema ended has (Err (faults.ReplyRefused refusal), m, ends) =
       ended_saying status.ReplyRefused (refused_reply_text refusal) ended ends (λ said. (refusal, (schema, has, m), said))
-      (λ said. (inr (schema, has, (m.1, inr (asked_then (call_by a schema) c refusal m.0))), said))
+      (λ said. (inr (schema, has, (m.1, inr (asked_then (port_call_by a schema) c refusal m.0))), said))
   call_means schema ended has (Err faults.NetFault, m, ends) = ended_as status.NetFault ended ends (λ said. ((schema, has, m), said))
   call_means schema ended has (Err faults.WriteFault, m, ends) = ended_as status.WriteFault ended ends (λ said. ((schema, has, m), said))
   call_means schema ended has (Err faults.NoMemory, m, ends) = ended_as status.NoMemory ended ends (λ said. (inr (schema, has, m), said))
@@ -74,7 +72,7 @@ module _ (files : Option (List File)) (a : PlainAsking) (c : CallChange) (e : Er
 
 -- what is said of a call's parts as they were lent is said of the words
 pub lent_call : (a : PlainAsking) (schema : PlainSchema) (name method args : List ℕ) (P : PlainPortCall → Type 0) → name ≡ a.name → method ≡ a.method → args ≡ a.args
-    → P (record { schema = schema; protocol = a.protocol; name = name; method = method; args = args; multiplexed = a.multiplexed; port = a.port }) → P (call_by a schema)
+    → P (record { schema = schema; protocol = a.protocol; name = name; method = method; args = args; multiplexed = a.multiplexed; port = a.port }) → P (port_call_by a schema)
 lent_call a schema name method args P is_name is_method is_args h =
     subst (λ (n : List ℕ). P (record { schema = schema; protocol = a.protocol; name = n; method = a.method; args = a.args; multiplexed = a.multiplexed; port = a.port })) is_name
     (subst (λ (m : List ℕ). P (record { schema = schema; protocol = a.protocol; name = name; method = m; args = a.args; multiplexed = a.multiplexed; port = a.port })) is_method

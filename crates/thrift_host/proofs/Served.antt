@@ -11,7 +11,7 @@ use Rattle.thrift_host.specs.declared.serving.ServeFault.TheVariants as serve_fa
 use Rattle.thrift_host.specs.Errors.{Errors}
 use Rattle.thrift_host.specs.Runs.{MeansUnarranged, SaysUnarranged}
 use Rattle.thrift_host.specs.Serving.{AskedServing, HostChange, IsPlaceKept, IsUnservedFor, MeansServing}
-use Rattle.thrift_host.specs.Steps.{EndsAs, EndsWithout, EndsUnbound, EndsAfterServing, TellsServing, status_of_port}
+use Rattle.thrift_host.specs.Steps.{EndsWithout, EndsUnbound, EndsAfterServing, TellsServing, status_of_port}
 use Rattle.call_rules.specs.Handling.{ServiceState}
 use Rattle.command_line.specs.Served.{PlainServed}
 use Rattle.command_line.specs.Words.{PlainCommand, serves}

@@ -7,7 +7,7 @@ use Rattle.idl_check.specs.declared.refusal.NoSchema.{NoSchema}
 use Rattle.call_rules.specs.declared.kind.Kind.{Kind}
 use Rattle.call_rules.specs.declared.kind.Kind.TheVariants.{Calculator, Store, Mirror}
 use Rattle.call_rules.specs.Handling.{ServiceState}
-use Rattle.call_model.specs.Offices.{Binding, PlainOffice}
+use Rattle.call_model.specs.Offices.{PlainOffice}
 use Rattle.command_line.specs.Bounds.{KeepsServedBounds}
 use Rattle.command_line.specs.Served.{PlainServed}
 use Rattle.schema.specs.LookUp.{service_named}
@@ -31,8 +31,7 @@ use Rattle.thrift_host.specs.declared.status.Status.TheVariants.{Done, Usage, Id
 use Rattle.thrift_host.specs.declared.arranging.RunFault.{RunFault}
 use Rattle.thrift_host.specs.declared.arranging.RunFault.TheVariants as faults
 use Rattle.thrift_host.specs.Errors.{Errors}
-use Rattle.thrift_host.specs.Checks.{AreUntouched}
-use Rattle.thrift_host.specs.Runs.{AskedRun, IsArranged, arranged_office, MeansUnarranged, SaysUnarranged}
+use Rattle.thrift_host.specs.Runs.{AskedRun, arranged_office, MeansUnarranged, SaysUnarranged}
 use Rattle.thrift_host.specs.Workloads.{calculator_pairs, workload_says, asked_workload, has_calculator, MeansWorkload}
 use Rattle.thrift_host.specs.Steps.{EndsUnanswered, EndsAfterRun, IsArrangedAs, TellsUnarranged, TellsUnworked, TellsWorkload}
 use Rattle.thrift_host.proofs.Ran.{without_schema_means, unbound_means, without_schema_said, unbound_said}

@@ -1,5 +1,5 @@
 -- Steps of a call on the way to what it promises. No clause of `host` cites them.
-use Rattle.std.specs.Prelude.{◌⊎◌, ℕ, Result, Ok, Err}
+use Rattle.std.specs.Prelude.{Result, Ok, Err}
 use Rattle.port_calls.specs.declared.fault.CallFault.{CallFault}
 use Rattle.port_calls.specs.declared.fault.CallFault.TheVariants as faults
 use Rattle.port_calls.specs.Called.{CallChange, MeansCall}

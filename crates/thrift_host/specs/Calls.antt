@@ -1,5 +1,5 @@
 -- What is promised of a call that is made at a port.
-use Rattle.std.specs.Prelude.{◌⊎◌, ⊥, ℕ, List, ◌++◌, Option, Ok, codes}
+use Rattle.std.specs.Prelude.{◌⊎◌, ℕ, List, ◌++◌, Option, Ok, codes}
 use Rattle.outside.specs.Files.{File}
 use Rattle.text_out.specs.Line.{line_of}
 use Rattle.schema.specs.PlainSchema.{PlainSchema}
@@ -19,8 +19,8 @@ use Rattle.thrift_host.specs.Errors.{Errors, IsSaid, IsLineSaid}
 use Rattle.thrift_host.specs.Runs.{HasSchema}
 
 -- the call of these words, by the schema of their IDL
-abbrev pub call_by : PlainAsking → PlainSchema → PlainPortCall
-call_by a schema =
+abbrev pub port_call_by : PlainAsking → PlainSchema → PlainPortCall
+port_call_by a schema =
     record {
       schema = schema;
       protocol = a.protocol;
@@ -33,7 +33,7 @@ call_by a schema =
 
 -- the IDL of the words has a schema, by which this holds of their call
 abbrev pub IsCallBy : Option (List File) → PlainAsking → (PlainPortCall → Type 0) → Type 0
-IsCallBy files a Holds = (schema : PlainSchema) × HasSchema files a.idl schema × Holds (call_by a schema)
+IsCallBy files a Holds = (schema : PlainSchema) × HasSchema files a.idl schema × Holds (port_call_by a schema)
 
 -- the errors' line of a call that isn't made
 abbrev pub refused_call_text : CallRefusal → List ℕ
@@ -46,7 +46,7 @@ refused_reply_text refusal = line_of (codes "thriftd: reply " ++ refused_reply_k
 -- What a status says of a call: Done says that its frame went to the port through one pipe, that the pipe was hung up, and that the line of the one frame that came back, or of a
 -- call without a reply, was added to the output. ReplyRefused says the same of the pipe, and of its kind. The line of each status was added to the errors.
 abbrev pub MeansPortCall : Option (List File) → PlainAsking → Status → CallChange → Errors → Type 0
-MeansPortCall files a Done c e = IsCallBy files a (λ call. MeansCall {A = Unit {0}} call c (Ok tt)) × IsLineSaid Done e
+MeansPortCall files a Done c e = IsCallBy files a (λ call. MeansCall call c {A = Unit {0}} (Ok tt)) × IsLineSaid Done e
 MeansPortCall files a IdlRefused c e = IsRefusedWith files a.idl (λ file at kind. IsCallUntouched c × IsSaid e (idl_refusal_text file at kind))
 MeansPortCall files a FileFault c e = IsUnreadIdl files a.idl × IsCallUntouched c × IsLineSaid FileFault e
 MeansPortCall files a CallRefused c e =

@@ -5,7 +5,7 @@ ghost use Rattle.outside.specs.Cause.{Rose};
 ghost use Rattle.command_line.specs.Answering.{plain_asking};
 ghost use Rattle.schema.specs.SchemaOf.{schema_of};
 ghost use Rattle.schema.specs.Sound.{IsSound};
-ghost use Rattle.thrift_host.specs.Calls.{MeansPortCall, call_by, refused_call_text, refused_reply_text};
+ghost use Rattle.thrift_host.specs.Calls.{MeansPortCall, port_call_by, refused_call_text, refused_reply_text};
 ghost use Rattle.thrift_host.specs.CallSteps.{EndsAfterCall, EndsCall};
 
 use crate::checking::end_without_schema;
@@ -42,13 +42,13 @@ pub(crate) fn call<F: Files, K: Sink, E: Sink, B: Binder>(
     ensures binder_kept { result ≡ Status.Done → B.faults binder.new ≡ B.faults binder.old }
 {
     match program_schema(alloc, files, asked.idl.as_str()) {
-        Ok(schema) => call_by(alloc, output, errors, binder, schema, asked),
+        Ok(schema) => call_with_schema(alloc, output, errors, binder, schema, asked),
         Err(reason) => end_without_schema(alloc, errors, reason),
     }
 }
 
 /// Makes the call of these words by the schema of their IDL.
-fn call_by<K: Sink, E: Sink, B: Binder>(
+fn call_with_schema<K: Sink, E: Sink, B: Binder>(
     alloc: Global,
     output: &mut K,
     errors: &mut E,
@@ -57,7 +57,7 @@ fn call_by<K: Sink, E: Sink, B: Binder>(
     asked: &AskedCall,
 ) -> Status
     requires { IsSound (schema_of schema) }
-    ensures ends { EndsCall (call_by (plain_asking asked.now) (schema_of schema)) result
+    ensures ends { EndsCall (port_call_by (plain_asking asked.now) (schema_of schema)) result
         (record { called_before = B.called binder.old; called = B.called binder.new; taken_before = K.taken output.old; taken = K.taken output.new })
         (record { taken_before = E.taken errors.old; taken = E.taken errors.new; faults_before = E.faults errors.old; faults = E.faults errors.new }) }
     ensures past { B.past binder.new ≡ B.past binder.old }
@@ -69,9 +69,9 @@ fn call_by<K: Sink, E: Sink, B: Binder>(
 {
     let call = PortCall {
         protocol: asked.protocol,
-        name: asked.name.as_bytes(),
-        method: asked.method.as_bytes(),
-        args: asked.args.as_bytes(),
+        name: asked.name.as_str().as_bytes(),
+        method: asked.method.as_str().as_bytes(),
+        args: asked.args.as_str().as_bytes(),
         multiplexed: asked.multiplexed,
         port: asked.port,
     };
@@ -87,10 +87,18 @@ fn end_call<E: Sink>(alloc: Global, errors: &mut E, came_to: Result<(), CallFaul
     match came_to {
         Ok(()) => end(errors, Status::Done),
         Err(CallFault::Refused(refusal)) => {
-            end_saying(errors, Status::CallRefused, refused_call_line(alloc, refusal))
+            end_saying(
+                errors,
+                Status::CallRefused,
+                refused_call_line(alloc, refusal),
+            )
         }
         Err(CallFault::ReplyRefused(refusal)) => {
-            end_saying(errors, Status::ReplyRefused, refused_reply_line(alloc, refusal))
+            end_saying(
+                errors,
+                Status::ReplyRefused,
+                refused_reply_line(alloc, refusal),
+            )
         }
         Err(CallFault::NetFault) => end(errors, Status::NetFault),
         Err(CallFault::WriteFault) => end(errors, Status::WriteFault),

@@ -201,12 +201,9 @@ fn command_of<
                 size,
                 workers,
             },
-        ) => {
-            let asked = Work { seed, size };
-            work_and_say(
-                rt, alloc, files, output, errors, asked, workers, gate, handlers,
-            )
-        }
+        ) => work_and_say(
+            rt, alloc, files, output, errors, seed, size, workers, gate, handlers,
+        ),
         Err(fault) => end_without_command(errors, fault),
     }
 }
@@ -314,6 +311,7 @@ fn serve_and_say<
         (place_change (F.files files.old) (F.files files.new) (F.sink_faults files.old) (F.sink_faults files.new) (B.past binder.old) (B.past binder.new))) result }
     ensures errors { SaysUnarranged (asked_run (plain_served served.now) (F.files files.old) (map H.service handlers.items)) result
         (record { taken_before = E.taken errors.old; taken = E.taken errors.new; faults_before = E.faults errors.old; faults = E.faults errors.new }) }
+    ensures called { B.called binder.new ≡ B.called binder.old }
     ensures file_fault { result ≡ Status.FileFault → Rose (F.faults files.old) (F.faults files.new) }
     ensures read_fault { result ≡ Status.ReadFault → ⊥ }
     ensures write_fault { result ≡ Status.WriteFault → Rose (K.faults output.old) (K.faults output.new) }
@@ -337,15 +335,16 @@ fn work_and_say<F: Files, K: Sink, E: Sink, G: Gate + Sync, H: Handler, R: Threa
     files: &mut F,
     output: &mut K,
     errors: &mut E,
-    asked: Work,
+    seed: u64,
+    size: u32,
     workers: u32,
     gate: &G,
     handlers: Vec<H>,
 ) -> Status
     requires workers { workers ≤ 8 }
-    requires frames { 1 ≤ asked.size }
-    requires most { asked.size ≤ 1000000 }
-    ensures means { (left : Option (List ℕ)) → MeansWorkload (asked_workload workers (F.files files.old) (map H.service handlers.items)) asked.seed asked.size result
+    requires frames { 1 ≤ size }
+    requires most { size ≤ 1000000 }
+    ensures means { (left : Option (List ℕ)) → MeansWorkload (asked_workload workers (F.files files.old) (map H.service handlers.items)) seed size result
         (record { left_before = left; left = left; taken_before = K.taken output.old; taken = K.taken output.new }) }
     ensures errors { SaysUnarranged (asked_workload workers (F.files files.old) (map H.service handlers.items)) result
         (record { taken_before = E.taken errors.old; taken = E.taken errors.new; faults_before = E.faults errors.old; faults = E.faults errors.new }) }
@@ -362,6 +361,7 @@ fn work_and_say<F: Files, K: Sink, E: Sink, G: Gate + Sync, H: Handler, R: Threa
     let Ok(served) = workload_words(alloc, workers) else {
         return end(errors, Status::NoMemory);
     };
+    let asked = Work { seed, size };
     let came_to = work(rt, alloc, files, output, &served, gate, handlers, asked);
     end_run(alloc, errors, &served, came_to)
 }

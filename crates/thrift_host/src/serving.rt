@@ -69,6 +69,7 @@ pub(crate) fn serve_connections<
             past = B.past binder.new;
           };
         }) }
+    ensures called { B.called binder.new ≡ B.called binder.old }
     ensures file_fault { is_file_missed result ≡ true → Rose (F.faults files.old) (F.faults files.new) }
     ensures net_fault { result ≡ Err (faults.Unserved port_faults.NetFault) → Rose (B.faults binder.old) (B.faults binder.new) }
     ensures write_fault { result ≡ Err (faults.Unserved port_faults.WriteFault) → Rose (K.faults output.old) (K.faults output.new) }
@@ -120,6 +121,7 @@ fn run_port<F: Files, K: Sink, B: Binder, G: Gate + Sync, H: Handler, R: Threads
           past = B.past binder.new;
         })
         (record { taken_before = K.taken output.old; taken = K.taken output.new }) result }
+    ensures called { B.called binder.new ≡ B.called binder.old }
     ensures file_fault { result ≡ Err PortFault.FileFault → Rose (F.faults files.old) (F.faults files.new) }
     ensures net_fault { result ≡ Err PortFault.NetFault → Rose (B.faults binder.old) (B.faults binder.new) }
     ensures write_fault { result ≡ Err PortFault.WriteFault → Rose (K.faults output.old) (K.faults output.new) }

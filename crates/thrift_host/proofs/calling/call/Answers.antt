@@ -8,8 +8,8 @@ use Rattle.thrift_host.proofs.calling.call.Goals as goal
 
 pub returns-in-Ok-clause-means : goal.returns-in-Ok-clause-means
 returns-in-Ok-clause-means g c =
-    call_means (g.F.Files.files c.args.files.now) (plain_asking c.args.asked.now) _ _ (schema_of c.in-Ok.schema) c.call_by.result
-    (named_schema _ _ _ _ _ refl c.as_str.ensures c.in-Ok.ensures.schema) c.call_by.ensures.ends
+    call_means (g.F.Files.files c.args.files.now) (plain_asking c.args.asked.now) _ _ (schema_of c.in-Ok.schema) c.call_with_schema.result
+    (named_schema _ _ _ _ _ refl c.as_str.ensures c.in-Ok.ensures.schema) c.call_with_schema.ensures.ends
 
 pub returns-in-Err-clause-means : goal.returns-in-Err-clause-means
 returns-in-Err-clause-means g c =

@@ -1,6 +1,10 @@
-use Rattle.std.proofs.Common.{◌∙◌, None, Some, ap, map, refl}
+use Rattle.std.proofs.Common.{◌∙◌, Option, None, Some, ap, map, refl, subst, sym}
 use Rattle.command_line.specs.Answering.{plain_command}
+use Rattle.command_line.specs.Words.{PlainCommand}
+use Rattle.port_calls.specs.Called.{CallChange}
+use Rattle.thrift_host.specs.Errors.{Errors}
 use Rattle.thrift_host.specs.Serving.{host_change, place_change}
+use Rattle.thrift_host.specs.Top.{MeansCalled}
 use Rattle.thrift_host.proofs.Called.{no_read as call_reads_nothing, no_journal as call_has_no_journal, unread_called}
 use Rattle.thrift_host.proofs.Checked.{never_net, never_journal}
 use Rattle.thrift_host.proofs.Compared.{no_net, no_journal, no_read}
@@ -22,6 +26,27 @@ returns-in-Ok-Serve-clause-means g c =
     (g.F.Files.sink_faults c.serve_and_say.new.files) (g.B.Binder.past c.args.binder.now) (g.B.Binder.past c.serve_and_say.new.binder)))
     refl c.as_str-in-Ok-Serve.ensures (c.serve_and_say.ensures.means (g.S.Source.left c.args.input.now)) _
     (c.in-Ok-Serve.ensures.answers ∙ ap (λ command. Some (plain_command command)) c.in-Ok-Serve.field-0-is)
+
+pub returns-in-Ok-Serve-clause-called : goal.returns-in-Ok-Serve-clause-called
+returns-in-Ok-Serve-clause-called g c =
+    let change : CallChange =
+    (record {
+      called_before = g.B.Binder.called c.args.binder.now;
+      called = g.B.Binder.called c.serve_and_say.new.binder;
+      taken_before = g.K.Sink.taken c.args.output.now;
+      taken = g.K.Sink.taken c.serve_and_say.new.output;
+    })
+    in
+    let errors : Errors =
+    (record {
+      taken_before = g.E.Sink.taken c.args.errors.now;
+      taken = g.E.Sink.taken c.serve_and_say.new.errors;
+      faults_before = g.E.Sink.faults c.args.errors.now;
+      faults = g.E.Sink.faults c.serve_and_say.new.errors;
+    })
+    in
+    subst (λ (meant : Option PlainCommand). MeansCalled meant (g.F.Files.files c.args.files.now) c.serve_and_say.result change errors)
+    (sym (c.in-Ok-Serve.ensures.answers ∙ ap (λ command. Some (plain_command command)) c.in-Ok-Serve.field-0-is)) c.serve_and_say.ensures.called
 
 pub returns-in-Ok-Compat-clause-net_fault : goal.returns-in-Ok-Compat-clause-net_fault
 returns-in-Ok-Compat-clause-net_fault g c = λ is.

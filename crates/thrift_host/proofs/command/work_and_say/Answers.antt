@@ -23,8 +23,8 @@ returns-clause-means g c = λ left.
       faults = g.E.Sink.faults c.end_run.new.errors;
     })
     in
-    subst (λ says. MeansWorkload (r says) c.args.asked.seed c.args.asked.size c.end_run.result s) c.in-Ok.ensures
-    (workload_means (r (plain_served c.in-Ok.served)) c.args.asked.seed c.args.asked.size c.end_run.result s e c.work-came_to.result
+    subst (λ says. MeansWorkload (r says) c.args.seed c.args.size c.end_run.result s) c.in-Ok.ensures
+    (workload_means (r (plain_served c.in-Ok.served)) c.args.seed c.args.size c.end_run.result s e c.work-came_to.result
     (c.work-came_to.ensures.tells left) c.end_run.ensures)
 
 pub returns-clause-errors : goal.returns-clause-errors
@@ -42,7 +42,7 @@ returns-clause-errors g c =
     })
     in
     subst (λ says. SaysUnarranged (r says) c.end_run.result e) c.in-Ok.ensures
-    (workload_said (r (plain_served c.in-Ok.served)) c.args.asked.seed c.args.asked.size c.end_run.result s e c.work-came_to.result
+    (workload_said (r (plain_served c.in-Ok.served)) c.args.seed c.args.size c.end_run.result s e c.work-came_to.result
     (c.work-came_to.ensures.tells None) c.end_run.ensures)
 
 pub returns-clause-no_read_fault : goal.returns-clause-no_read_fault
@@ -61,8 +61,8 @@ returns-clause-no_read_fault g c = λ is.
       faults = g.E.Sink.faults c.end_run.new.errors;
     })
     in
-    subst (λ status. MeansWorkload r c.args.asked.seed c.args.asked.size status s) is
-    (workload_means r c.args.asked.seed c.args.asked.size c.end_run.result s e c.work-came_to.result (c.work-came_to.ensures.tells None) c.end_run.ensures)
+    subst (λ status. MeansWorkload r c.args.seed c.args.size status s) is
+    (workload_means r c.args.seed c.args.size c.end_run.result s e c.work-came_to.result (c.work-came_to.ensures.tells None) c.end_run.ensures)
 
 pub returns-clause-files_kept : goal.returns-clause-files_kept
 returns-clause-files_kept g c is =
