@@ -1,8 +1,8 @@
 #!/usr/bin/env python3
 """Runs what README.md's first screen says to paste, and compares what is printed with what it says is: first_screen.py [THRIFTD]
 
-Taken are the first block that begins with `./thriftd serve` and the four behind it: what the server says, the client in Python, the summary and the journal. They run in a
-folder of their own, with the program's path in place of `./thriftd`. Then each other block that begins so has to listen. It installs nothing, and says so where the
+Taken are the first block that begins with `./thriftd serve` and the five behind it: what the server says, the command that calls it, the client in Python, the summary and the
+journal. They run in a folder of their own, with the program's path in place of `./thriftd`. Then each other block that begins so has to listen. It installs nothing, and says so where the
 client's library isn't there. It ends with status 1 where something else is printed."""
 import os
 import re
@@ -33,13 +33,15 @@ def has_library():
 
 
 def call(text, blocks, program, room):
-    """The server that is called by the client, up to its end."""
-    serving, listening, client, summary, journal = blocks
+    """The server that is called by the command and by the client, up to its end."""
+    serving, listening, command, client, summary, journal = blocks
+    says = re.findall(r"It prints `([^`]*)`", text)
     server = paste(serving, program, room)
     try:
         compare("the server's first line", server.stdout.readline(), listening)
-        printed, _ = paste(client, program, room, stderr=subprocess.STDOUT).communicate(timeout=60)
-        compare("what the client prints", printed, re.search(r"It prints `([^`]*)`", text).group(1) + "\n")
+        for what, block, said in (("the command", command, says[0]), ("the client", client, says[1])):
+            printed, _ = paste(block, program, room, stderr=subprocess.STDOUT).communicate(timeout=60)
+            compare("what %s prints" % what, printed, said + "\n")
         compare("the summary", server.communicate(timeout=60)[0], summary)
         compare("the server's status", server.returncode, 0)
     finally:
@@ -67,8 +69,8 @@ def main():
     with tempfile.TemporaryDirectory() as room:
         os.symlink(os.path.join(TOP, "examples"), os.path.join(room, "examples"))
         if has_library():
-            call(text, blocks[serving[0]:serving[0] + 5], program, room)
-            print("first screen: server, client, summary and journal are as README.md says")
+            call(text, blocks[serving[0]:serving[0] + 6], program, room)
+            print("first screen: server, command, client, summary and journal are as README.md says")
         else:
             print("first screen: the client is left out: python3-thrift or thrift-compiler isn't installed")
         for at in serving[1 if has_library() else 0:]:
