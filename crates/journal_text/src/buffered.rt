@@ -82,6 +82,7 @@ impl<K: Sink> Buffered<K> {
     }
 
     /// Holds as many bytes as there is room for, and makes room before where there is none.
+    #[inline(never)]
     fn hold_some(&mut self, bytes: &[u8]) -> Result<usize, Failed>
         ensures told { MatchResult result
             (λ count. HasWritten (told_more (K.taken self.old.sink) self.old.held.items) (told_more (K.taken self.new.sink) self.new.held.items) bytes.now count)
@@ -105,6 +106,7 @@ impl<K: Sink> Sink for Buffered<K> {
 
     ghost faults = { λ b. K.faults b.sink };
 
+    #[inline(always)]
     fn write(&mut self, bytes: &[u8]) -> Result<usize, Failed> {
         if bytes.len() <= self.held.capacity() - self.held.len() {
             hold(&mut self.held, bytes);

@@ -37,6 +37,7 @@ pub(crate) fn spell_entries<K: Sink>(out: &mut K, entries: &[Entry]) -> Result<(
 }
 
 /// Hands bytes to a sink.
+#[inline(always)]
 fn hand<K: Sink>(out: &mut K, bytes: &[u8]) -> Result<(), Failed>
     ensures { HandsText (K.taken out.old) (K.taken out.new) (K.faults out.old) (K.faults out.new) bytes.now result }
 {

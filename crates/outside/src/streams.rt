@@ -47,6 +47,7 @@ pub trait Sink {
 
 /// Hands bytes to the sink until it took them all.
 #[tactic(auto, using(crate::proofs::Taking::taking))]
+#[inline(always)]
 pub fn write_all<K: Sink>(out: &mut K, bytes: &[u8]) -> Result<(), Failed>
     ensures told { MatchResult result
         (λ _. K.taken out.new ≡ told_more (K.taken out.old) bytes.now)

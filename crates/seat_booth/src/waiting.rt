@@ -70,8 +70,28 @@ fn mark<O: Object>(shared: &Shared<O>, token: &mut SeatToken<O>, at: usize, show
     shared.store::<Keep>(token, at, u64::from(shown));
 }
 
-/// Waits until the ticket has the turn.
+/// Waits until the ticket has the turn, which it mostly has at once.
+#[inline(always)]
 pub(crate) fn wait<O: Object, R: Wait>(
+    rt: &R,
+    shared: &Shared<O>,
+    token: &mut SeatToken<O>,
+    ticket: u64,
+)
+    requires table { (token.old.table_id ≡ shared.now.table_id) × (shared.now.table_id.words ≡ word_count) × (shared.now.table_id.slots ≡ 1) }
+    requires stage { TokenIsAt (Waits ticket) token.old.me }
+    ensures table { token.new.table_id ≡ token.old.table_id }
+    ensures turn { HasTurn O.meaning O.gives O.may ticket token.old.me.0.opening (past_of token.old.me.0) token.new.me }
+{
+    if look(shared, token, ticket) {
+        return;
+    }
+    look_or_sleep(rt, shared, token, ticket);
+}
+
+/// Looks and sleeps in turn until the ticket has the turn.
+#[inline(never)]
+fn look_or_sleep<O: Object, R: Wait>(
     rt: &R,
     shared: &Shared<O>,
     token: &mut SeatToken<O>,

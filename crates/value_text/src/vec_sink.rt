@@ -56,6 +56,7 @@ impl Sink for VecSink {
 
     ghost faults = { λ s. s.wants };
 
+    #[inline(always)]
     fn write(&mut self, bytes: &[u8]) -> Result<usize, Failed> {
         if self.content.extend_from_slice(bytes).is_err() {
             self.wants = self.wants.saturating_add(1);
