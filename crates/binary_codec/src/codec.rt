@@ -30,6 +30,7 @@ impl Codec for Binary {
     // A number (Thrift binary protocol, 'Integer encoding', 'Double encoding'), or a bool, whose byte is 1 or 0 ('Boolean
     // encoding'). Own choice: every byte but 1 is false, and a uuid is sixteen bytes, the highest first.
     #[tactic(auto, unfolding(crate::specs::Reading::binary_scalar))]
+    #[inline(always)]
     fn scalar<'a>(tag: Tag, rest: Input<'a>) -> Result<(Value, Input<'a>), WireFault> {
         match tag {
             Tag::Bool => {
@@ -102,6 +103,7 @@ impl Codec for Binary {
         false
     }
 
+    #[inline(always)]
     fn put_header(_last: i16, header: Header, into: &mut Vec<u8>) -> Result<(), AllocError> {
         match header {
             Header::Stop => put_u8(into, 0),
@@ -113,6 +115,7 @@ impl Codec for Binary {
         }
     }
 
+    #[inline(always)]
     fn put_scalar(value: &Value, into: &mut Vec<u8>) -> Result<(), AllocError> {
         match value {
             Value::Bool(true) => put_u8(into, 1),

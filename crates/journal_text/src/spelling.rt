@@ -12,9 +12,9 @@ ghost use Rattle.journal_text.specs.EntryText.{next_word, front_text, answered_t
 use crate::front::{MOST_FRONT, put_front};
 use call_rules::{Answer, Call, Entry, Key};
 use itoa::Buffer;
-use outside::{Failed, Sink, write_all};
+use outside::{Failed, Sink};
 use thrift_value::Value;
-use value_text::spell_value;
+use value_text::{hand_over, spell_value};
 
 /// Hands the line of an entry to a sink.
 pub(crate) fn spell_entry<K: Sink>(out: &mut K, entry: &Entry) -> Result<(), Failed>
@@ -23,7 +23,7 @@ pub(crate) fn spell_entry<K: Sink>(out: &mut K, entry: &Entry) -> Result<(), Fai
     spell_front(out, &entry.key, &entry.call)?;
     spell_asked(out, &entry.call)?;
     spell_answer(out, &entry.answer)?;
-    hand(out, b"\n")
+    hand_over(out, b"\n")
 }
 
 /// Hands the lines of entries to a sink.
@@ -36,14 +36,6 @@ pub(crate) fn spell_entries<K: Sink>(out: &mut K, entries: &[Entry]) -> Result<(
     Ok(())
 }
 
-/// Hands bytes to a sink.
-#[inline(always)]
-fn hand<K: Sink>(out: &mut K, bytes: &[u8]) -> Result<(), Failed>
-    ensures { HandsText (K.taken out.old) (K.taken out.new) (K.faults out.old) (K.faults out.new) bytes.now result }
-{
-    write_all(out, bytes)
-}
-
 /// Hands the words in front of the method, and the blank behind them.
 fn spell_front<K: Sink>(out: &mut K, key: &Key, call: &Call) -> Result<(), Failed>
     ensures { HandsText (K.taken out.old) (K.taken out.new) (K.faults out.old) (K.faults out.new)
@@ -52,7 +44,7 @@ fn spell_front<K: Sink>(out: &mut K, key: &Key, call: &Call) -> Result<(), Faile
     let mut room = [0; MOST_FRONT];
     let start = put_front(&mut room, key, call);
     let (_, front) = room.split_at(start);
-    hand(out, front)
+    hand_over(out, front)
 }
 
 /// Hands the method and its arguments.
@@ -60,7 +52,7 @@ fn spell_asked<K: Sink>(out: &mut K, call: &Call) -> Result<(), Failed>
     ensures { HandsText (K.taken out.old) (K.taken out.new) (K.faults out.old) (K.faults out.new)
         (call.now.method ++ next_word (tree_text call.now.args)) result }
 {
-    hand(out, call.method.as_slice())?;
+    hand_over(out, call.method.as_slice())?;
     spell_behind(out, b" ", &call.args)
 }
 
@@ -69,7 +61,7 @@ fn spell_behind<K: Sink>(out: &mut K, word: &[u8], value: &Value) -> Result<(), 
     ensures { HandsText (K.taken out.old) (K.taken out.new) (K.faults out.old) (K.faults out.new)
         (word.now ++ tree_text (tree_of value.now)) result }
 {
-    hand(out, word)?;
+    hand_over(out, word)?;
     spell_value(out, value)
 }
 
@@ -80,9 +72,9 @@ fn spell_answer<K: Sink>(out: &mut K, answer: &Answer) -> Result<(), Failed>
 {
     match answer {
         Answer::Success(value) => spell_behind(out, b" ok ", value),
-        Answer::Empty => hand(out, b" empty"),
+        Answer::Empty => hand_over(out, b" empty"),
         Answer::Throws(id, exception) => spell_thrown(out, id, exception),
-        Answer::Broken => hand(out, b" broken"),
+        Answer::Broken => hand_over(out, b" broken"),
     }
 }
 
@@ -91,7 +83,7 @@ fn spell_thrown<K: Sink>(out: &mut K, id: &i16, exception: &Value) -> Result<(),
     ensures { HandsText (K.taken out.old) (K.taken out.new) (K.faults out.old) (K.faults out.new)
         (next_word (codes "throws " ++ (decimal_of id.now ++ next_word (tree_text (tree_of exception.now))))) result }
 {
-    hand(out, b" throws ")?;
+    hand_over(out, b" throws ")?;
     spell_id(out, id)?;
     spell_behind(out, b" ", exception)
 }
@@ -101,5 +93,5 @@ fn spell_id<K: Sink>(out: &mut K, id: &i16) -> Result<(), Failed>
     ensures { HandsText (K.taken out.old) (K.taken out.new) (K.faults out.old) (K.faults out.new) (decimal_of id.now) result }
 {
     let mut buffer = Buffer::new();
-    hand(out, buffer.format(*id).as_bytes())
+    hand_over(out, buffer.format(*id).as_bytes())
 }

@@ -34,6 +34,7 @@ fn put_beside<A: Drop, B: Drop>(
 impl Value {
     /// A copy of the value, in memory of its own.
     #[cycle(copy)]
+    #[inline(always)]
     pub fn try_clone(&self, alloc: Global) -> Result<Value, AllocError>
         ensures { IfOk result (λ copy. tree_of copy ≡ tree_of self.now) }
     {
@@ -57,6 +58,7 @@ impl Value {
 impl Fields {
     /// A copy of the fields, in memory of its own.
     #[cycle(copy)]
+    #[inline(never)]
     pub(crate) fn try_clone(&self, alloc: Global) -> Result<Fields, AllocError>
         ensures { IfOk result (λ copy. fields_tree copy ≡ fields_tree self.now) }
     {
@@ -71,6 +73,7 @@ impl Fields {
 impl Items {
     /// A copy of the items, in memory of its own.
     #[cycle(copy)]
+    #[inline(never)]
     pub(crate) fn try_clone(&self, alloc: Global) -> Result<Items, AllocError>
         ensures { IfOk result (λ copy. items_tree copy ≡ items_tree self.now) }
     {
@@ -85,6 +88,7 @@ impl Items {
 impl Pairs {
     /// A copy of the pairs, in memory of its own.
     #[cycle(copy)]
+    #[inline(never)]
     pub(crate) fn try_clone(&self, alloc: Global) -> Result<Pairs, AllocError>
         ensures { IfOk result (λ copy. pairs_tree copy ≡ pairs_tree self.now) }
     {

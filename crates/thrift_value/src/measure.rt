@@ -10,6 +10,7 @@ impl Value {
     /// How many values there are, itself, keys and all below them included; `u64::MAX` where there
     /// are more.
     #[cycle(count)]
+    #[inline(always)]
     pub fn count(&self) -> u64
         ensures { result ≡ min (count_of (tree_of self.now)) (2 ^ 64 - 1) }
     {
@@ -32,6 +33,7 @@ impl Value {
     /// How many structs and containers stand in one another, 0 where the value is none of them;
     /// `u32::MAX` where there are more.
     #[cycle(depth)]
+    #[inline(always)]
     pub fn depth(&self) -> u32
         ensures { result ≡ min (depth_of (tree_of self.now)) (2 ^ 32 - 1) }
     {
@@ -55,6 +57,7 @@ impl Value {
 impl Fields {
     /// How many values there are in the fields; `u64::MAX` where there are more.
     #[cycle(count)]
+    #[inline(never)]
     pub(crate) fn count(&self) -> u64
         ensures { result ≡ min (fields_count (fields_tree self.now)) (2 ^ 64 - 1) }
     {
@@ -68,6 +71,7 @@ impl Fields {
     /// The depth of the deepest value in the fields, 0 where there is none; `u32::MAX` where it is
     /// more.
     #[cycle(depth)]
+    #[inline(never)]
     pub(crate) fn depth(&self) -> u32
         ensures { result ≡ min (fields_depth (fields_tree self.now)) (2 ^ 32 - 1) }
     {
@@ -82,6 +86,7 @@ impl Fields {
 impl Items {
     /// How many values there are in the items; `u64::MAX` where there are more.
     #[cycle(count)]
+    #[inline(never)]
     pub(crate) fn count(&self) -> u64
         ensures { result ≡ min (items_count (items_tree self.now)) (2 ^ 64 - 1) }
     {
@@ -94,6 +99,7 @@ impl Items {
 
     /// The depth of the deepest item, 0 where there is none; `u32::MAX` where it is more.
     #[cycle(depth)]
+    #[inline(never)]
     pub(crate) fn depth(&self) -> u32
         ensures { result ≡ min (items_depth (items_tree self.now)) (2 ^ 32 - 1) }
     {
@@ -108,6 +114,7 @@ impl Items {
 impl Pairs {
     /// How many values there are in the pairs, keys included; `u64::MAX` where there are more.
     #[cycle(count)]
+    #[inline(never)]
     pub(crate) fn count(&self) -> u64
         ensures { result ≡ min (pairs_count (pairs_tree self.now)) (2 ^ 64 - 1) }
     {
@@ -122,6 +129,7 @@ impl Pairs {
 
     /// The depth of the deepest key or value, 0 where there is none; `u32::MAX` where it is more.
     #[cycle(depth)]
+    #[inline(never)]
     pub(crate) fn depth(&self) -> u32
         ensures { result ≡ min (pairs_depth (pairs_tree self.now)) (2 ^ 32 - 1) }
     {

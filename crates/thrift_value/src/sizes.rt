@@ -14,6 +14,7 @@ impl Value {
     /// Whether no text has more bytes, and no container more elements, than a length or size can
     /// say.
     #[cycle(sizes)]
+    #[inline(always)]
     pub fn has_small_sizes(&self) -> bool
         ensures { IsTrue result ↔ HasSmallSizes (tree_of self.now) }
     {
@@ -52,6 +53,7 @@ impl Value {
 impl Fields {
     /// Whether the value of each field has small sizes.
     #[cycle(sizes)]
+    #[inline(never)]
     pub(crate) fn have_small_sizes(&self) -> bool
         ensures { IsTrue result ↔ HaveFieldsSmallSizes (fields_tree self.now) }
     {
@@ -75,6 +77,7 @@ impl Items {
 
     /// Whether each item has small sizes.
     #[cycle(sizes)]
+    #[inline(never)]
     pub(crate) fn have_small_sizes(&self) -> bool
         ensures { IsTrue result ↔ HaveItemsSmallSizes (items_tree self.now) }
     {
@@ -98,6 +101,7 @@ impl Pairs {
 
     /// Whether each key and each value has small sizes.
     #[cycle(sizes)]
+    #[inline(never)]
     pub(crate) fn have_small_sizes(&self) -> bool
         ensures { IsTrue result ↔ HavePairsSmallSizes (pairs_tree self.now) }
     {

@@ -11,6 +11,7 @@ impl Value {
     /// Whether the value is tidy: ids, keys and the members of sets rise, none stands twice, and
     /// each element has the tag that its container names.
     #[cycle(tidy)]
+    #[inline(always)]
     pub fn is_tidy(&self) -> bool
         ensures { IsTrue result ↔ IsTidy (tree_of self.now) }
     {
@@ -61,6 +62,7 @@ impl Fields {
 
     /// Whether the value of each field is tidy.
     #[cycle(tidy)]
+    #[inline(never)]
     pub(crate) fn are_tidy(&self) -> bool
         ensures { IsTrue result ↔ AreTidyFields (fields_tree self.now) }
     {
@@ -88,6 +90,7 @@ impl Items {
 
     /// Whether each item is tidy and has this tag.
     #[cycle(tidy)]
+    #[inline(never)]
     pub(crate) fn are_tidy(&self, element: Tag) -> bool
         ensures { IsTrue result ↔ AreTidyItems element (items_tree self.now) }
     {
@@ -118,6 +121,7 @@ impl Pairs {
 
     /// Whether each key and each value is tidy and has its tag.
     #[cycle(tidy)]
+    #[inline(never)]
     pub(crate) fn are_tidy(&self, key: Tag, value: Tag) -> bool
         ensures { IsTrue result ↔ AreTidyPairs key value (pairs_tree self.now) }
     {

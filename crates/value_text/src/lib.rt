@@ -48,7 +48,7 @@ pub use fronts::{integer_at, past, positive_at};
 pub use printer::put_value;
 pub use reading::value_at;
 pub use rows::worked_texts;
-pub use spelling::{spell, spell_value};
+pub use spelling::{hand_over, spell, spell_value};
 pub use stop::TextStop;
 pub use vec_sink::VecSink;
 

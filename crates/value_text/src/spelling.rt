@@ -35,7 +35,7 @@ pub fn spell<K: Sink>(value: &Value, out: &mut K) -> Result<(), Failed>
 
 /// Writes bytes until the sink took them all.
 #[inline(always)]
-fn hand_over<K: Sink>(out: &mut K, bytes: &[u8]) -> Result<(), Failed>
+pub fn hand_over<K: Sink>(out: &mut K, bytes: &[u8]) -> Result<(), Failed>
     ensures { HandsText (K.taken out.old) (K.taken out.new) (K.faults out.old) (K.faults out.new) bytes.now result }
 {
     let mut rest = bytes;

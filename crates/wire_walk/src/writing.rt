@@ -17,6 +17,7 @@ use thrift_value::{Tag, Value};
 /// Appends a value, and tells that each number in it fits its type. It recurses once a level. Where memory runs out, a part of it
 /// may have been appended.
 #[cycle(writing)]
+#[inline(always)]
 pub fn put<C: Codec>(value: &Value, into: &mut Vec<u8>) -> Result<(), AllocError>
     requires { HasSmallSizes (tree_of value.now) }
     ensures ok { OnOk result (into.new.items ≡ into.old.items ++ text C.encoder (tree_of value.now)) }
@@ -86,6 +87,7 @@ fn number_fits(value: &Value)
 
 /// Appends the fields of a struct, and its end.
 #[cycle(writing)]
+#[inline(never)]
 fn put_fields<C: Codec>(fields: &[(i16, Value)], into: &mut Vec<u8>) -> Result<(), AllocError>
     requires { HaveFieldsSmallSizes (field_trees (map field_tree fields.now)) }
     ensures ok { OnOk result
@@ -121,6 +123,7 @@ fn header_of<C: Codec>(id: i16, value: &Value) -> Header
 
 /// Appends what stands behind a field's header: its value, unless the header has it.
 #[cycle(writing)]
+#[inline(always)]
 fn put_behind<C: Codec>(header: Header, value: &Value, into: &mut Vec<u8>) -> Result<(), AllocError>
     requires { HasSmallSizes (tree_of value.now) }
     ensures ok { OnOk result
@@ -136,6 +139,7 @@ fn put_behind<C: Codec>(header: Header, value: &Value, into: &mut Vec<u8>) -> Re
 
 /// Appends values, one behind the other.
 #[cycle(writing)]
+#[inline(never)]
 fn put_items<C: Codec>(items: &[Value], into: &mut Vec<u8>) -> Result<(), AllocError>
     requires { HaveItemsSmallSizes (item_trees (map tree_of items.now)) }
     ensures ok { OnOk result
@@ -151,6 +155,7 @@ fn put_items<C: Codec>(items: &[Value], into: &mut Vec<u8>) -> Result<(), AllocE
 
 /// Appends pairs, each a key and its value, one behind the other.
 #[cycle(writing)]
+#[inline(never)]
 fn put_pairs<C: Codec>(pairs: &[(Value, Value)], into: &mut Vec<u8>) -> Result<(), AllocError>
     requires { HavePairsSmallSizes (pair_trees (map pair_tree pairs.now)) }
     ensures ok { OnOk result
