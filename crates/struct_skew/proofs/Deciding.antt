@@ -232,7 +232,7 @@ required_fields fields fs =
     (λ f. where_true (is_required f.need) (f.need ≡ need.Required) (HasFieldTree f.id fields) (has_field_tree f.id fields) (required_need f.need) (has_field f.id fields))
     refl (λ _ _. refl) fs
 
-its_fields : (s : PlainStruct) (fields : FieldTrees) → Decides (has_its_fields s fields) (HasItsFields s fields)
+pub its_fields : (s : PlainStruct) (fields : FieldTrees) → Decides (has_its_fields s fields) (HasItsFields s fields)
 its_fields s fields =
     let union = where_true (is_union s.kind) (s.kind ≡ of_kind.Union) (IsOneField fields) (is_one_field fields) (union_kind s.kind) (one_field fields) in
     let both = Decides-and (has_required_fields s.fields fields) (not (is_union s.kind) || is_one_field fields) (required_fields fields s.fields) union in (

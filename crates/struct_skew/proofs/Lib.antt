@@ -30,3 +30,6 @@ pub mod ReadParts
 pub mod InPlace
 pub mod Apart
 pub mod TakingOut
+pub mod SettledParts
+pub mod SettledSteps
+pub mod SettledWhole

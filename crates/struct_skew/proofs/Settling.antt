@@ -42,7 +42,7 @@ module _ (d : PlainStruct) (fields : FieldTrees) where
       let parts = both (not (is_defaulted_field d.kind f) || has_field_tree f.id fields) (has_fields_where (is_defaulted_field d.kind) fs fields) tested in
       (defaulted f required.0 parts.0, each_defaulted fs required.1 parts.1)
 
-  has_defaults : HasItsFields d fields → has_defaulted_fields d fields ≡ true → HasItsDefaults d fields
+  pub has_defaults : HasItsFields d fields → has_defaulted_fields d fields ≡ true → HasItsDefaults d fields
   has_defaults its tested =
       to_all (λ (f : PlainField). is_some (counted_default d.kind f) ≡ true → HasFieldTree f.id fields) d.fields
       (each_defaulted d.fields (from_all (λ (f : PlainField). f.need ≡ need.Required → HasFieldTree f.id fields) d.fields its.required) tested)

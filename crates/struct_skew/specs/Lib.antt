@@ -17,3 +17,4 @@ pub mod ProjectionLaws
 pub mod Filled
 pub mod FilledTests
 pub mod ReadAs
+pub mod ReadSettled

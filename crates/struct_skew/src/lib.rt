@@ -18,8 +18,10 @@
 //! `Projection.antt`, in this order; [`worked_fields`] and its kin have worked rows. Whether a value may be written under a type is
 //! said by `specs/WrittenTests.antt`, as a test that computes; [`the_tests_decide`] ties it to the schema's definition.
 //!
-//! What [`read_as`] has read is handed on where it means itself, and else settled in its own tree; what stands in memory already is
-//! projected by a copy, and stays.
+//! [`read_as`] first reads by type alone, which goes through only where all is in order: ids, keys and members rise, each field is
+//! declared and of its type, and none is missing that has to be there or has a default. Anything else is read from the start by what
+//! is known of it, and what was read is handed on where it means itself, and else settled in its own tree. What stands in memory
+//! already is projected by a copy, and stays.
 //!
 //! Not here: how bytes stand for values, which a protocol says as a type. A projection recurses once a level of the raw value, and
 //! `fits` once a level of its value. Where the defaults of a projection take more than 320 MB it answers want of memory, since few
@@ -37,8 +39,10 @@ mod order;
 mod plan;
 mod public;
 mod reading;
+mod rest;
 mod rows;
 mod settled;
+mod settled_reading;
 mod slots;
 mod structs;
 mod values;

@@ -20,6 +20,7 @@ use crate::laws::{settled_values_mean_themselves, what_is_known_decides};
 use crate::needs::{NeededFields, needed_fields};
 use crate::public::DEFAULTS_ROOM;
 use crate::settled::is_settled;
+use crate::settled_reading::settled_in;
 use crate::values::bounded_of;
 use known_parts::read_known;
 use limits::MOST_LEVELS;
@@ -100,7 +101,8 @@ fn projected_with(
 
 /// The projection of the struct at a place on the struct at a number, and the place behind that struct, by what the schema's structs
 /// need; or the fault that comes first, one of the bytes before one of the projection. What isn't declared or doesn't fit is passed
-/// over. A struct in which nothing is out of order is handed on as it was read, and any other is settled in its own tree.
+/// over. A struct in which nothing is out of order is read by its type alone; any other is read from the start by what is known of it,
+/// and handed on as it was read, or settled in its own tree.
 pub fn read_as_with<W: Wire>(
     alloc: Global,
     schema: &Schema,
@@ -115,6 +117,9 @@ pub fn read_as_with<W: Wire>(
     requires within { at ≤ length bytes.now }
     ensures { ArgsOrNoMemory (λ r. (tree_of r.0, r.1)) result (read_then_projected W.wire (schema_of schema.now) which bytes.now at) }
 {
+    if let Some(found) = settled_in::<W>(alloc, schema, needed, which, bytes, at) {
+        return Ok(found);
+    }
     what_is_known_decides();
     match read_known::<W>(alloc, schema, which, bytes, at) {
         Ok((known, behind)) => projected_with(alloc, schema, needed, which, known, behind),

@@ -21,7 +21,11 @@ use schema::{Schema, StructDesc, TypeDesc};
 use thrift_value::{Tag, Value};
 
 /// Whether each field is there that may be unsent and has a default then.
-fn has_defaulted_fields(desc: &StructDesc, needs: &StructNeeds, fields: &[(i16, Value)]) -> bool
+pub(crate) fn has_defaulted_fields(
+    desc: &StructDesc,
+    needs: &StructNeeds,
+    fields: &[(i16, Value)],
+) -> bool
     requires { plain_needs needs.now ≡ needs_of (plain_struct desc.now) }
     ensures { result ≡ has_defaulted_fields (plain_struct desc.now) (field_trees (map field_tree fields.now)) }
 {

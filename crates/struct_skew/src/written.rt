@@ -109,7 +109,11 @@ fn is_one_field(fields: &[(i16, Value)]) -> bool
 }
 
 /// Whether each required field is there, and of a union exactly one.
-fn has_its_fields(desc: &StructDesc, required: Option<&[usize]>, fields: &[(i16, Value)]) -> bool
+pub(crate) fn has_its_fields(
+    desc: &StructDesc,
+    required: Option<&[usize]>,
+    fields: &[(i16, Value)],
+) -> bool
     requires { MatchOption required ⊤ (λ places. places.now ≡ (needs_of (plain_struct desc.now)).required) }
     ensures { result ≡ has_its_fields (plain_struct desc.now) (field_trees (map field_tree fields.now)) }
 {

@@ -1,0 +1,7 @@
+use Rattle.thrift_value.specs.TreeOf.{tree_of}
+use Rattle.struct_skew.proofs.SettledWhole.{text_read}
+use Rattle.struct_skew.proofs.settled_reading.settled_text.Goals as goal
+
+pub returns : goal.returns
+returns g c =
+    text_read g.W.WireProtocol.wire c.args.rest c.in_ok-rest.rest c.in_ok-text.rest c.in_ok-text.text.now (tree_of c.in_ok-value.value) c.in_ok-rest.ensures c.in_ok-text.ensures c.in_ok-value.ensures
