@@ -1,7 +1,7 @@
 -- The struct of a result, from a value that is lent.
-use Rattle.std.specs.Prelude.{⊤, Bool, true, false}
+use Rattle.std.specs.Prelude.{⊤}
 use Rattle.thrift_value.specs.Sizes.{HasSmallSizes}
-use Rattle.thrift_value.specs.Tree.{Tree, of_bytes, of_struct, of_map, of_set, of_list, FieldTrees, no_fields, field}
+use Rattle.thrift_value.specs.Tree.{FieldTrees, no_fields, field}
 use Rattle.thrift_value.specs.TreeOf.{tree_of}
 use Rattle.processor.specs.declared.results.ResultField.{ResultField}
 use Rattle.processor.specs.declared.results.ResultField.TheVariants.{Nothing, One}
@@ -15,12 +15,3 @@ lent_fields (One id value) = field id (tree_of value.now) no_fields
 abbrev pub HasSmallField : ResultField → Type 0
 HasSmallField Nothing = ⊤
 HasSmallField (One id value) = HasSmallSizes (tree_of value.now)
-
--- a bool, a number or a uuid
-abbrev pub is_sizeless : Tree → Bool
-is_sizeless (of_bytes _) = false
-is_sizeless (of_struct _) = false
-is_sizeless (of_map _ _ _) = false
-is_sizeless (of_set _ _) = false
-is_sizeless (of_list _ _) = false
-is_sizeless _ = true

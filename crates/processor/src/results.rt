@@ -1,11 +1,9 @@
 //! The struct of a result, from an answer that is lent.
 
-ghost use Rattle.std.specs.Prelude.{◌≡◌, ◌++◌, ◌<◌, ◌^◌, nat_le, map, pos, IfSome, OnOk};
+ghost use Rattle.std.specs.Prelude.{◌≡◌, ◌++◌, ◌<◌, ◌^◌, map, pos, IfSome, OnOk};
 ghost use Rattle.std.specs.Ordering.{int_eq};
 ghost use Rattle.std.specs.Option.{option_map, option_copied};
-ghost use Rattle.struct_skew.specs.TidyTests.{is_tidy};
 ghost use Rattle.struct_skew.specs.Needs.{needs_of};
-ghost use Rattle.thrift_value.specs.Measures.{depth_of};
 ghost use Rattle.thrift_value.specs.Sizes.{HasSmallSizes};
 ghost use Rattle.thrift_value.specs.Tree.{of_struct};
 ghost use Rattle.thrift_value.specs.TreeOf.{tree_of};
@@ -15,17 +13,16 @@ ghost use Rattle.schema.specs.SchemaOf.{schema_of, plain_field, plain_function};
 ghost use Rattle.schema.specs.Sound.{IsSound};
 ghost use Rattle.schema.specs.WrittenAs.{field_with_id};
 ghost use Rattle.wire_model.specs.Encoder.{behind_heading, heading, text};
-ghost use Rattle.call_model.specs.Replies.{alone_under, deepest_result, encoder_of, may_go_back, result_fields, success_fields, throws_fields};
-ghost use Rattle.processor.specs.Results.{HasSmallField, is_sizeless, lent_fields};
+ghost use Rattle.call_model.specs.Replies.{alone_under, encoder_of, may_go_back, result_fields, success_fields, throws_fields};
+ghost use Rattle.processor.specs.Results.{HasSmallField, lent_fields};
 
 use binary_codec::Binary;
 use call_rules::Answer;
 use compact_codec::Compact;
 use envelope::Protocol;
-use known_parts::{are_same_tags, tag_of_kind};
 use schema::{FieldDesc, FnDesc, Schema, TypeDesc};
 use std::alloc::AllocError;
-use struct_skew::{NeededFields, fits_with};
+use struct_skew::{NeededFields, may_go_out};
 use thrift_value::Value;
 use wire_walk::{Codec, Header, put};
 
@@ -54,58 +51,15 @@ pub(crate) fn bytes_in(field: ResultField<'_>) -> usize
     0
 }
 
-/// Whether a value is tidy.
-fn is_tidy(value: &Value) -> bool
-    ensures { result ≡ is_tidy (tree_of value.now) }
-{
-    value.is_tidy()
-}
-
-/// Whether a value has no more levels than a result may have.
-fn is_shallow(value: &Value) -> bool
-    ensures { result ≡ nat_le (depth_of (tree_of value.now)) deepest_result }
-{
-    value.depth() <= DEEPEST_RESULT
-}
-
-/// Whether a value is a bool, a number or a uuid: then it is tidy, has no levels, and is of a type by its tag.
-#[tactic(auto, using(thrift_value::proofs::Trees::tree_equations))]
-fn is_sizeless(value: &Value) -> bool
-    ensures { result ≡ is_sizeless (tree_of value.now) }
-{
-    match value {
-        Value::Bool(_)
-        | Value::I8(_)
-        | Value::I16(_)
-        | Value::I32(_)
-        | Value::I64(_)
-        | Value::Double(_)
-        | Value::Uuid(_) => true,
-        Value::Bytes(_)
-        | Value::Struct(_)
-        | Value::Map(_, _, _)
-        | Value::Set(_, _)
-        | Value::List(_, _) => false,
-    }
-}
-
 /// Whether a value may go back under a type.
+#[inline(always)]
 #[tactic(auto, unfolding(call_model::specs::Replies::may_go_back))]
 fn may_go_back(schema: &Schema, needed: &NeededFields, kind: &TypeDesc, value: &Value) -> bool
     requires sound { IsSound (schema_of schema.now) }
     requires needed { needed.now ≡ map needs_of (schema_of schema.now).structs }
     ensures { result ≡ may_go_back (schema_of schema.now).structs (kind_of kind.now) (tree_of value.now) }
 {
-    if is_sizeless(value) {
-        return are_same_tags(tag_of_kind(kind), value.tag());
-    }
-    if !is_tidy(value) {
-        return false;
-    }
-    if !is_shallow(value) {
-        return false;
-    }
-    fits_with(schema, needed, kind, value)
+    may_go_out(schema, needed, kind, value, DEEPEST_RESULT)
 }
 
 /// A value alone in its struct, where it may go back.

@@ -35,7 +35,7 @@ never : {P : Type 0} → (P → ⊥) → Decides false P
 never refuted = (λ e. absurd (false≢true e), λ p. absurd (refuted p))
 
 -- one id, and one value, before another
-id_before : (i j : ℤ) → Decides (is_lt (int_cmp i j)) (i <ℤ j)
+pub id_before : (i j : ℤ) → Decides (is_lt (int_cmp i j)) (i <ℤ j)
 id_before i j = by_order (int_cmp i j) (int_ranked i j (int_cmp i j) refl)
   where
     by_order : (o : Ordering) → MatchOrdering o (i <ℤ j) (i ≡ j) (j <ℤ i) → Decides (is_lt o) (i <ℤ j)
@@ -86,15 +86,15 @@ below_keys : (key : Tree) (pairs : PairTrees) → Decides (is_below_keys key pai
 below_keys key no_pairs = always tt
 below_keys key (pair next _ more) = Decides-and (is_lt (tree_cmp key next)) (is_below_keys key more) (comes_first (tree_cmp key next)) (below_keys key more)
 
-rising_fields : (fields : FieldTrees) → Decides (are_rising_fields fields) (AreRisingFields fields)
+pub rising_fields : (fields : FieldTrees) → Decides (are_rising_fields fields) (AreRisingFields fields)
 rising_fields no_fields = always tt
 rising_fields (field id _ more) = Decides-and (is_below_ids id more) (are_rising_fields more) (below_ids id more) (rising_fields more)
 
-rising_items : (items : ItemTrees) → Decides (are_rising_items items) (AreRisingItems items)
+pub rising_items : (items : ItemTrees) → Decides (are_rising_items items) (AreRisingItems items)
 rising_items no_items = always tt
 rising_items (item value more) = Decides-and (is_below_items value more) (are_rising_items more) (below_items value more) (rising_items more)
 
-rising_pairs : (pairs : PairTrees) → Decides (are_rising_pairs pairs) (AreRisingPairs pairs)
+pub rising_pairs : (pairs : PairTrees) → Decides (are_rising_pairs pairs) (AreRisingPairs pairs)
 rising_pairs no_pairs = always tt
 rising_pairs (pair key _ more) = Decides-and (is_below_keys key more) (are_rising_pairs more) (below_keys key more) (rising_pairs more)
 

@@ -33,3 +33,5 @@ pub mod TakingOut
 pub mod SettledParts
 pub mod SettledSteps
 pub mod SettledWhole
+pub mod OneTest
+pub mod RisingParts

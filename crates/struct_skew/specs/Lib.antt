@@ -18,3 +18,4 @@ pub mod Filled
 pub mod FilledTests
 pub mod ReadAs
 pub mod ReadSettled
+pub mod OutgoingTests

@@ -9,14 +9,15 @@
 //!     Err(_) => give_up(),
 //! }
 //! let value = project_with(alloc, &schema, &needed, which, &raw)?;                    // of a struct that stands in memory
-//! if value.is_tidy() && fits_with(&schema, &needed, &kind, &value) {   // what a handler answered
+//! if may_go_out(&schema, &needed, &kind, &value, 63) {   // what a handler answered: tidy, of 63 levels at most, and of the type
 //!     write(value);
 //! }
 //! ```
 //!
 //! What a raw field counts for, and what a raw struct means, is said by `specs/Fits.antt`, `Offers.antt`, `Latest.antt` and
 //! `Projection.antt`, in this order; [`worked_fields`] and its kin have worked rows. Whether a value may be written under a type is
-//! said by `specs/WrittenTests.antt`, as a test that computes; [`the_tests_decide`] ties it to the schema's definition.
+//! said by `specs/WrittenTests.antt`, as a test that computes; [`the_tests_decide`] ties it to the schema's definition. [`may_go_out`]
+//! asks that, tidiness and depth in one walk, by the test of `specs/OutgoingTests.antt`.
 //!
 //! [`read_as`] first reads by type alone, which goes through only where all is in order: ids, keys and members rise, each field is
 //! declared and of its type, and none is missing that has to be there or has a default. Anything else is read from the start by what
@@ -24,8 +25,8 @@
 //! already is projected by a copy, and stays.
 //!
 //! Not here: how bytes stand for values, which a protocol says as a type. A projection recurses once a level of the raw value, and
-//! `fits` once a level of its value. Where the defaults of a projection take more than 320 MB it answers want of memory, since few
-//! bytes can ask for many of them.
+//! `fits` and `may_go_out` once a level of their value. Where the defaults of a projection take more than 320 MB it answers want of
+//! memory, since few bytes can ask for many of them.
 #![tactic(auto)]
 
 mod arg_fault;
@@ -36,6 +37,7 @@ mod laws;
 mod meanings;
 mod needs;
 mod order;
+mod outgoing;
 mod plan;
 mod public;
 mod reading;
@@ -56,6 +58,7 @@ pub use laws::{
     what_is_known_decides,
 };
 pub use needs::{NeededFields, needed_fields};
+pub use outgoing::may_go_out;
 pub use public::{fits_kind, project, project_value, project_with};
 pub use reading::{read_as, read_as_with};
 pub use rows::{

@@ -3,6 +3,7 @@ ghost use Rattle.std.specs.Bool.{OnTrue};
 ghost use Rattle.std.specs.Prelude.{◌≡◌, ⊤, map, IsTrue, MatchOption, Some};
 ghost use Rattle.std.specs.List.{slice_get};
 ghost use Rattle.std.specs.Option.{option_copied, option_map};
+ghost use Rattle.std.specs.Ordering.{int_eq};
 ghost use Rattle.thrift_value.specs.TreeOf.{tree_of, field_tree, field_trees, item_trees, pair_tree, pair_trees};
 ghost use Rattle.schema.specs.LookUp.{fields_at};
 ghost use Rattle.schema.specs.PlainKind.{kind_of};
@@ -32,6 +33,7 @@ fn is_found(fields: &[(i16, Value)], id: &i16) -> bool
 }
 
 /// Whether one of a value's fields has this id. It walks over all of them only where halving finds none.
+#[inline(never)]
 fn has_field(fields: &[(i16, Value)], id: &i16) -> bool
     ensures { result ≡ has_field_tree id.now (field_trees (map field_tree fields.now)) }
 {
@@ -44,6 +46,36 @@ fn has_field(fields: &[(i16, Value)], id: &i16) -> bool
         }
     }
     false
+}
+
+/// Whether a field has this id.
+#[inline(always)]
+fn is_id_of(field: &(i16, Value), id: &i16) -> bool
+    ensures { result ≡ int_eq field.now.0 id.now }
+{
+    field.0 == *id
+}
+
+/// Whether the field at a place has this id.
+#[inline(always)]
+fn is_at(fields: &[(i16, Value)], place: usize, id: &i16) -> bool
+    ensures { OnTrue result (IsTrue (has_field_tree id.now (field_trees (map field_tree fields.now)))) }
+{
+    match item(fields, place) {
+        Some(field) => is_id_of(field, id),
+        None => false,
+    }
+}
+
+/// Whether one of a value's fields has this id: mostly it is the one at a place.
+#[inline(always)]
+fn has_field_near(fields: &[(i16, Value)], place: usize, id: &i16) -> bool
+    ensures { result ≡ has_field_tree id.now (field_trees (map field_tree fields.now)) }
+{
+    if is_at(fields, place, id) {
+        return true;
+    }
+    has_field(fields, id)
 }
 
 /// Whether each declared field that has to be there is there.
@@ -65,7 +97,7 @@ fn has_field_at(declared: &[FieldDesc], place: usize, fields: &[(i16, Value)]) -
     ensures { result ≡ has_field_at (map plain_field declared.now) place (field_trees (map field_tree fields.now)) }
 {
     match item(declared, place) {
-        Some(field) => has_field(fields, &field.id),
+        Some(field) => has_field_near(fields, place, &field.id),
         None => false,
     }
 }

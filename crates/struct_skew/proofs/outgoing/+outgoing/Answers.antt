@@ -1,0 +1,15 @@
+use Rattle.std.proofs.Common.{map, sym, ap, ◌∙◌}
+use Rattle.thrift_value.specs.TreeOf.{pair_tree, pair_trees}
+use Rattle.schema.specs.PlainKind.{kind_of}
+use Rattle.schema.specs.SchemaOf.{schema_of}
+use Rattle.struct_skew.specs.OutgoingTests.{does_map_go_out}
+use Rattle.struct_skew.proofs.OneTest.{map_by_pairs}
+use Rattle.struct_skew.proofs.outgoing.+outgoing.Goals as goal
+
+pub goes_out-returns-in-Some-map_of_kind : goal.goes_out-returns-in-Some-map_of_kind
+goes_out-returns-in-Some-map_of_kind t c =
+    let structs = (schema_of c.args.schema.now).structs in
+    let key = kind_of c.in-Some-map_of_kind.key.now in
+    let value = kind_of c.in-Some-map_of_kind.value.now in
+    map_by_pairs structs c.args.levels (kind_of c.args.kind.now) (key, value) c.args.value.now c.in-Map.k c.in-Map.v c.in-Map.pairs c.map_goes_out.result c.in-Map.is (sym c.in-Some-map_of_kind.ensures)
+    (c.map_goes_out.ensures ∙ ap (λ ps. does_map_go_out structs c.args.levels key value c.in-Map.k c.in-Map.v (pair_trees (map pair_tree ps))) c.as_slice-in-Some-map_of_kind.ensures)
