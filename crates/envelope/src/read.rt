@@ -54,6 +54,7 @@ pub(crate) fn kept(alloc: Global, head: &LentHead<'_>) -> Result<Head, HeadFault
 }
 
 /// Does what `read_head` does, but the name stays in the payload; takes no memory, and never answers that there is none.
+#[inline(always)]
 pub fn lend_head(protocol: Protocol, payload: &[u8]) -> Result<LentHead<'_>, HeadFault>
     ensures found { IfOk result (λ head. IsEncodedIn protocol payload.now head) }
     ensures exact { IsHead result (head_at protocol payload.now) }
@@ -63,6 +64,7 @@ pub fn lend_head(protocol: Protocol, payload: &[u8]) -> Result<LentHead<'_>, Hea
 
 /// The head, whose name is lent, or the fault that comes first.
 #[tactic(auto, unfolding(crate::specs::Readout::head_at, crate::specs::Readout::call_type))]
+#[inline(always)]
 fn lent(protocol: Protocol, payload: &[u8]) -> Result<LentHead<'_>, HeadFault>
     ensures { IsHead result (head_at protocol payload.now) }
 {
@@ -91,6 +93,7 @@ pub(crate) struct Front<'a> {
 
 /// A whole head of any type.
 #[tactic(auto, unfolding(crate::specs::Readout::whole_head))]
+#[inline(always)]
 pub(crate) fn whole_head(protocol: Protocol, payload: &[u8]) -> Result<Front<'_>, HeadFault>
     ensures { MeansExactly
         (λ f. (record { name = f.name.now; kind = f.kind; id = f.id }, f.rest.now))
@@ -104,6 +107,7 @@ pub(crate) fn whole_head(protocol: Protocol, payload: &[u8]) -> Result<Front<'_>
 
 /// A strict or an old head.
 #[tactic(auto, unfolding(crate::specs::Readout::whole_head, crate::specs::Readout::either_head))]
+#[inline(always)]
 fn binary_head(payload: &[u8]) -> Result<Front<'_>, HeadFault>
     ensures { MeansExactly
         (λ f. (record { name = f.name.now; kind = f.kind; id = f.id }, f.rest.now))
@@ -120,6 +124,7 @@ fn binary_head(payload: &[u8]) -> Result<Front<'_>, HeadFault>
 
 /// A strict head, of which the first four bytes were read.
 #[tactic(auto, unfolding(crate::specs::Readout::strict_head, crate::specs::Readout::version))]
+#[inline(always)]
 fn strict<'a>(first: &'a [u8], rest: &'a [u8]) -> Result<Front<'a>, HeadFault>
     requires { length first.now ≡ 4 }
     ensures { MeansExactly
@@ -145,6 +150,7 @@ fn strict<'a>(first: &'a [u8], rest: &'a [u8]) -> Result<Front<'a>, HeadFault>
 }
 
 /// The fault of a head with another version.
+#[inline(never)]
 fn version_of(first: &[u8]) -> EnvelopeFault
     requires { length first.now ≡ 4 }
     ensures { result ≡ EnvelopeFault.Version (unsigned_of w32 first.now) }
@@ -154,6 +160,7 @@ fn version_of(first: &[u8]) -> EnvelopeFault
 
 /// An old head, of which the length of the name was read.
 #[tactic(auto, unfolding(crate::specs::Readout::old_head))]
+#[inline(always)]
 fn old(size: i32, rest: &[u8]) -> Result<Front<'_>, HeadFault>
     ensures { MeansExactly
         (λ f. (record { name = f.name.now; kind = f.kind; id = f.id }, f.rest.now))
@@ -172,6 +179,7 @@ fn old(size: i32, rest: &[u8]) -> Result<Front<'_>, HeadFault>
 
 /// The name of this length, and the bytes behind it.
 #[tactic(auto, unfolding(crate::specs::Readout::name_of))]
+#[inline(always)]
 fn next_name(size: i32, bytes: &[u8]) -> Result<(&[u8], &[u8]), HeadFault>
     ensures { MeansExactly (λ r. (r.0.now, r.1.now)) result (name_of size bytes.now) }
 {
@@ -184,6 +192,7 @@ fn next_name(size: i32, bytes: &[u8]) -> Result<(&[u8], &[u8]), HeadFault>
 
 /// A compact head.
 #[tactic(auto, unfolding(crate::specs::Readout::compact_head))]
+#[inline(always)]
 fn compact_head(payload: &[u8]) -> Result<Front<'_>, HeadFault>
     ensures { MeansExactly
         (λ f. (record { name = f.name.now; kind = f.kind; id = f.id }, f.rest.now))
@@ -202,6 +211,7 @@ fn compact_head(payload: &[u8]) -> Result<Front<'_>, HeadFault>
 
 /// A compact head of this type, of which the first two bytes were read.
 #[tactic(auto, unfolding(crate::specs::Readout::compact_rest))]
+#[inline(always)]
 fn compact_rest(kind: u8, rest: &[u8]) -> Result<Front<'_>, HeadFault>
     ensures { MeansExactly
         (λ f. (record { name = f.name.now; kind = f.kind; id = f.id }, f.rest.now))
@@ -220,6 +230,7 @@ fn compact_rest(kind: u8, rest: &[u8]) -> Result<Front<'_>, HeadFault>
 
 /// The name of this length, which has 31 bits, and the bytes behind it.
 #[tactic(auto, unfolding(crate::specs::Readout::sized_name))]
+#[inline(always)]
 fn sized_name(size: u32, bytes: &[u8]) -> Result<(&[u8], &[u8]), HeadFault>
     ensures { MeansExactly (λ r. (r.0.now, r.1.now)) result (sized_name size bytes.now) }
 {

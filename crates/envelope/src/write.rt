@@ -1,7 +1,9 @@
 //! Writing a head.
 
-ghost use Rattle.std.specs.Prelude.{◌≡◌, ◌<◌, ◌^◌, ◌++◌, OnOk, OnErr, length, take, vec_len};
-ghost use Rattle.envelope.specs.Spelling.{compact_id, compact_name, head_text};
+ghost use Rattle.std.specs.Prelude.{◌≡◌, ◌<◌, ◌^◌, ◌++◌, ◌∷◌, OnOk, OnErr, length, take, vec_len};
+ghost use Rattle.std.specs.Int.{w32};
+ghost use Rattle.wire_num.specs.Fixed.{signed_bytes};
+ghost use Rattle.envelope.specs.Spelling.{compact_id, compact_name, head_text, strict_mark, strict_version};
 
 use super::head::{COMPACT_MARK, COMPACT_VERSION, Protocol, STRICT_VERSION};
 use std::alloc::AllocError;
@@ -32,6 +34,15 @@ pub fn write_head(
     done
 }
 
+/// What stands in front of the name in a strict head: the version, a byte that says nothing, the type, and the length of the name.
+#[inline(always)]
+fn strict_front(size: i32, kind: u8) -> [u8; 8]
+    ensures { result ≡ strict_mark ∷ strict_version ∷ 0 ∷ kind ∷ signed_bytes w32 size }
+{
+    let [a, b, c, d] = size.to_be_bytes();
+    [STRICT_VERSION[0], STRICT_VERSION[1], 0, kind, a, b, c, d]
+}
+
 /// Does what `write_head` does in the binary protocol, but leaves a part of the head where memory runs out.
 fn write_strict(name: &[u8], kind: u8, id: i32, into: &mut Vec<u8>) -> Result<(), AllocError>
     requires { length name.now < 2 ^ 31 }
@@ -40,9 +51,7 @@ fn write_strict(name: &[u8], kind: u8, id: i32, into: &mut Vec<u8>) -> Result<()
         ≡ into.old.items ++ head_text Protocol.Binary (record { name = name.now; kind = kind; id = id })) }
     ensures err { OnErr result (take (vec_len into.old) into.new.items ≡ into.old.items) }
 {
-    into.extend_from_slice(&STRICT_VERSION)?;
-    into.extend_from_slice(&[0, kind])?;
-    put_i32(into, name.len() as i32)?;
+    into.extend_from_slice(&strict_front(name.len() as i32, kind))?;
     into.extend_from_slice(name)?;
     put_i32(into, id)
 }

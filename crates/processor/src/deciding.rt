@@ -56,6 +56,7 @@ impl Office {
 
     /// A message whose service isn't bound.
     #[tactic(auto, unfolding(call_model::specs::Decisions::refused))]
+    #[inline(never)]
     fn refuse_service(&self, alloc: Global, head: &LentHead<'_>) -> Result<Decision, AllocError>
         requires name { length head.now.name ≤ longest_payload }
         ensures { IfOk result (λ d. plain_decision d ≡ refused self.now.protocol head.now (is_sent_oneway head.now) (no_service head.now.name)) }
@@ -69,6 +70,7 @@ impl Office {
 
     /// A message whose method its service hasn't.
     #[tactic(auto, unfolding(call_model::specs::Decisions::refused))]
+    #[inline(never)]
     fn refuse_method(
         &self,
         alloc: Global,
@@ -88,6 +90,7 @@ impl Office {
 
     /// A message whose arguments are at fault.
     #[tactic(auto, unfolding(call_model::specs::Decisions::refused))]
+    #[inline(never)]
     fn refuse_arguments(
         &self,
         alloc: Global,

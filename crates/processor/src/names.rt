@@ -33,6 +33,7 @@ fn separator_of(name: &[u8]) -> Option<usize>
 }
 
 /// Cuts a name at its first `:`.
+#[inline(always)]
 pub(crate) fn name_parts(name: &[u8]) -> NameParts<'_>
     ensures service { option_map (λ part. part.now) result.service ≡ service_part name.now }
     ensures method { result.method.now ≡ method_part name.now }
@@ -112,6 +113,7 @@ fn binding_at(bindings: &[(ByteText, u32)], slot: usize) -> Option<&(ByteText, u
 }
 
 /// The service that a name asks for, by its part that names one.
+#[inline(always)]
 pub(crate) fn service_asked(
     default_slot: Option<u32>,
     bindings: &[(ByteText, u32)],

@@ -5,13 +5,13 @@ use crate::frames::{SIZE_BYTES, failure_frame, opened, with_size};
 use crate::functions::function_by_name;
 use crate::names::{BoundService, name_parts, service_asked};
 use crate::office::Office;
-use crate::results::{ResultField, bytes_in, put_result, result_field};
+use crate::results::{ResultField, room_in, put_result, result_field};
 use call_rules::Answer;
 use envelope::{HeadFault, LentHead, lend_head, write_head};
 use schema::FnDesc;
 use std::alloc::{AllocError, Global};
 
-/// Room for the head of a reply beside its name, and for a short result or what stands around bytes.
+/// Room for the head of a reply beside its name, and for a short result or what stands around bytes and elements.
 const REPLY_ROOM: usize = 64;
 
 /// The type of a reply.
@@ -32,6 +32,7 @@ impl Office {
     ghost use Rattle.processor.specs.Seen.{bound_of};
 
     /// The frame that tells that a call has no result.
+    #[inline(never)]
     fn without_result(
         &self,
         alloc: Global,
@@ -47,6 +48,7 @@ impl Office {
     }
 
     /// The frame that tells that a result is too large.
+    #[inline(never)]
     fn above_frame(&self, alloc: Global, head: &LentHead<'_>) -> Result<Vec<u8>, AllocError>
         requires name { length head.now.name ≤ longest_payload }
         ensures { IfOk result (λ framed. framed.items ≡ failure_frame self.now.protocol head.now too_large) }
@@ -92,7 +94,7 @@ impl Office {
         requires sizes { HasSmallField field }
         ensures { IfOk result (λ framed. framed.items ≡ 0 ∷ 0 ∷ 0 ∷ 0 ∷ reply_text self.now.protocol head.now (lent_fields field.entry)) }
     {
-        let room = REPLY_ROOM + method.len() + bytes_in(field);
+        let room = REPLY_ROOM + method.len() + room_in(field);
         let mut framed = opened(alloc, room)?;
         write_head(self.protocol, method, REPLY, head.id(), &mut framed)?;
         put_result(self.protocol, field, &mut framed)?;

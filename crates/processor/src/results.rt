@@ -41,14 +41,30 @@ pub(crate) enum ResultField<'a> {
     One(i16, &'a Value),
 }
 
-/// How many bytes a result has that is a bytes value.
-pub(crate) fn bytes_in(field: ResultField<'_>) -> usize
+/// So many elements of a result get room before they are written.
+const MOST_ELEMENTS: usize = 4096;
+
+/// Room for an element: a number, or a short text or struct.
+const ELEMENT_ROOM: usize = 16;
+
+/// Room for the elements of a list or a set.
+fn room_for(elements: usize) -> usize
     ensures { result < 2 ^ 63 }
 {
-    if let ResultField::One(_, Value::Bytes(bytes)) = field {
-        return bytes.as_slice().len();
+    elements.min(MOST_ELEMENTS) * ELEMENT_ROOM
+}
+
+/// How many bytes a result has about: as many as a bytes value has, and some for each element of a list or a set.
+pub(crate) fn room_in(field: ResultField<'_>) -> usize
+    ensures { result < 2 ^ 63 }
+{
+    match field {
+        ResultField::One(_, Value::Bytes(bytes)) => bytes.as_slice().len(),
+        ResultField::One(_, Value::List(_, items)) => room_for(items.as_slice().len()),
+        ResultField::One(_, Value::Set(_, items)) => room_for(items.as_slice().len()),
+        ResultField::One(_, _) => 0,
+        ResultField::Nothing => 0,
     }
-    0
 }
 
 /// Whether a value may go back under a type.
