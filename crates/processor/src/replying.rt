@@ -5,7 +5,7 @@ use crate::frames::{SIZE_BYTES, failure_frame, opened, with_size};
 use crate::functions::function_by_name;
 use crate::names::{BoundService, name_parts, service_asked};
 use crate::office::Office;
-use crate::results::{ResultField, room_in, put_result, result_field};
+use crate::results::{ResultField, put_result, result_field, room_in};
 use call_rules::Answer;
 use envelope::{HeadFault, LentHead, lend_head, write_head};
 use schema::FnDesc;

@@ -29,6 +29,7 @@
 //! memory, since few bytes can ask for many of them.
 #![tactic(auto)]
 
+mod ahead;
 mod arg_fault;
 mod fault;
 mod in_place;
@@ -41,7 +42,6 @@ mod outgoing;
 mod plan;
 mod public;
 mod reading;
-mod rest;
 mod rows;
 mod settled;
 mod settled_reading;

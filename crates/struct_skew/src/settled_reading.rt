@@ -20,13 +20,15 @@ ghost use Rattle.struct_skew.specs.Orders.{value_cmp, pair_cmp};
 ghost use Rattle.struct_skew.specs.ReadAs.{read_then_projected};
 ghost use Rattle.struct_skew.specs.ReadSettled.{ReadsField, ReadsFields, ReadsItems, ReadsLeaf, ReadsPairs, ReadsSettled};
 
+use crate::ahead::{Ahead, field, items, pairs, scalar, span};
 use crate::needs::{NeededFields, StructNeeds, item};
 use crate::order::is_rising;
-use crate::rest::{Rest, field, items, pairs, scalar, span};
 use crate::settled::has_defaulted_fields;
 use crate::structs::struct_at;
 use crate::written::has_its_fields;
-use known_parts::{are_same_tags, list_of_kind, map_of_kind, set_of_kind, struct_of_kind, tag_of_kind};
+use known_parts::{
+    are_same_tags, list_of_kind, map_of_kind, set_of_kind, struct_of_kind, tag_of_kind,
+};
 use schema::{FieldDesc, Schema, StructDesc, TypeDesc};
 use std::alloc::Global;
 use thrift_value::{ByteText, Fields, Items, Pairs, Tag, Value};
@@ -84,7 +86,7 @@ fn kept_text(alloc: Global, text: &[u8]) -> Option<Value>
 
 /// The text in front.
 #[inline(never)]
-fn settled_text<'a, W: Wire>(alloc: Global, rest: Rest<'a>) -> Option<(Value, Rest<'a>)>
+fn settled_text<'a, W: Wire>(alloc: Global, rest: Ahead<'a>) -> Option<(Value, Ahead<'a>)>
     ensures { IfSome result (λ r. ReadsLeaf W.wire tags.Bytes rest.entry (tree_of r.0) r.1) }
 {
     let rest = rest.count_value()?;
@@ -95,7 +97,7 @@ fn settled_text<'a, W: Wire>(alloc: Global, rest: Rest<'a>) -> Option<(Value, Re
 
 /// The number, bool or uuid in front.
 #[inline(always)]
-fn settled_number<'a, W: Wire>(rest: Rest<'a>, tag: Tag) -> Option<(Value, Rest<'a>)>
+fn settled_number<'a, W: Wire>(rest: Ahead<'a>, tag: Tag) -> Option<(Value, Ahead<'a>)>
     requires { IsScalar tag }
     ensures { IfSome result (λ r. ReadsLeaf W.wire tag rest.entry (tree_of r.0) r.1) }
 {
@@ -108,15 +110,16 @@ fn settled_number<'a, W: Wire>(rest: Rest<'a>, tag: Tag) -> Option<(Value, Rest<
 
 /// The value in front under a type of this tag, with so many levels that may still be opened, where it means itself.
 #[cycle(settling)]
+#[inline(always)]
 fn settled_value<'a, W: Wire>(
     alloc: Global,
-    rest: Rest<'a>,
+    rest: Ahead<'a>,
     levels: u32,
     schema: &Schema,
     needed: &NeededFields,
     kind: &TypeDesc,
     tag: Tag,
-) -> Option<(Value, Rest<'a>)>
+) -> Option<(Value, Ahead<'a>)>
     requires sound { IsSound (schema_of schema.now) }
     requires needed { needed.now ≡ map needs_of (schema_of schema.now).structs }
     requires tag { tag ≡ tag_of_kind (kind_of kind.now) }
@@ -146,14 +149,15 @@ fn settled_value<'a, W: Wire>(
 
 /// The list in front, of elements of a type.
 #[cycle(settling)]
+#[inline(never)]
 fn settled_list<'a, W: Wire>(
     alloc: Global,
-    rest: Rest<'a>,
+    rest: Ahead<'a>,
     levels: u32,
     schema: &Schema,
     needed: &NeededFields,
     element: &TypeDesc,
-) -> Option<(Value, Rest<'a>)>
+) -> Option<(Value, Ahead<'a>)>
     requires sound { IsSound (schema_of schema.now) }
     requires needed { needed.now ≡ map needs_of (schema_of schema.now).structs }
     ensures { IfSome result (λ r. ReadsSettled W.wire levels (schema_of schema.now).structs (kind_list (kind_of element.now)) rest.entry (tree_of r.0) r.1) }
@@ -164,7 +168,9 @@ fn settled_list<'a, W: Wire>(
     if !are_same_tags(tag_of_kind(element), tag) {
         return None;
     }
-    let (found, rest) = settled_items::<W>(alloc, rest, levels, schema, needed, element, tag, count)?;
+    let (found, rest) = settled_items::<W>(
+        alloc, rest, levels, schema, needed, element, tag, count,
+    )?;
     Some((Value::List(tag, found), rest))
 }
 
@@ -187,12 +193,12 @@ fn keys_rise(pairs: &Pairs) -> bool
 #[inline(never)]
 fn settled_set<'a, W: Wire>(
     alloc: Global,
-    rest: Rest<'a>,
+    rest: Ahead<'a>,
     levels: u32,
     schema: &Schema,
     needed: &NeededFields,
     member: &TypeDesc,
-) -> Option<(Value, Rest<'a>)>
+) -> Option<(Value, Ahead<'a>)>
     requires sound { IsSound (schema_of schema.now) }
     requires needed { needed.now ≡ map needs_of (schema_of schema.now).structs }
     ensures { IfSome result (λ r. ReadsSettled W.wire levels (schema_of schema.now).structs (kind_set (kind_of member.now)) rest.entry (tree_of r.0) r.1) }
@@ -203,7 +209,9 @@ fn settled_set<'a, W: Wire>(
     if !are_same_tags(tag_of_kind(member), tag) {
         return None;
     }
-    let (found, rest) = settled_items::<W>(alloc, rest, levels, schema, needed, member, tag, count)?;
+    let (found, rest) = settled_items::<W>(
+        alloc, rest, levels, schema, needed, member, tag, count,
+    )?;
     if !members_rise(&found) {
         return None;
     }
@@ -225,13 +233,13 @@ fn are_tags_of(key: Tag, key_kind: &TypeDesc, value: Tag, value_kind: &TypeDesc)
 #[inline(never)]
 fn settled_map<'a, W: Wire>(
     alloc: Global,
-    rest: Rest<'a>,
+    rest: Ahead<'a>,
     levels: u32,
     schema: &Schema,
     needed: &NeededFields,
     key_kind: &TypeDesc,
     value_kind: &TypeDesc,
-) -> Option<(Value, Rest<'a>)>
+) -> Option<(Value, Ahead<'a>)>
     requires sound { IsSound (schema_of schema.now) }
     requires needed { needed.now ≡ map needs_of (schema_of schema.now).structs }
     ensures { IfSome result (λ r. ReadsSettled W.wire levels (schema_of schema.now).structs (kind_map (kind_of key_kind.now) (kind_of value_kind.now)) rest.entry (tree_of r.0) r.1) }
@@ -255,14 +263,14 @@ fn settled_map<'a, W: Wire>(
 #[cycle(settling)]
 fn settled_items<'a, W: Wire>(
     alloc: Global,
-    rest: Rest<'a>,
+    rest: Ahead<'a>,
     levels: u32,
     schema: &Schema,
     needed: &NeededFields,
     kind: &TypeDesc,
     tag: Tag,
     count: u32,
-) -> Option<(Items, Rest<'a>)>
+) -> Option<(Items, Ahead<'a>)>
     requires sound { IsSound (schema_of schema.now) }
     requires needed { needed.now ≡ map needs_of (schema_of schema.now).structs }
     requires tag { tag ≡ tag_of_kind (kind_of kind.now) }
@@ -283,14 +291,14 @@ fn settled_items<'a, W: Wire>(
 #[cycle(settling)]
 fn settled_pairs<'a, W: Wire>(
     alloc: Global,
-    rest: Rest<'a>,
+    rest: Ahead<'a>,
     levels: u32,
     schema: &Schema,
     needed: &NeededFields,
     key_kind: &TypeDesc,
     value_kind: &TypeDesc,
     count: u32,
-) -> Option<(Pairs, Rest<'a>)>
+) -> Option<(Pairs, Ahead<'a>)>
     requires sound { IsSound (schema_of schema.now) }
     requires needed { needed.now ≡ map needs_of (schema_of schema.now).structs }
     ensures { IfSome result (λ r. ReadsPairs W.wire levels (schema_of schema.now).structs (kind_of key_kind.now) (kind_of value_kind.now) count rest.entry r.0 r.1) }
@@ -315,14 +323,15 @@ fn settled_pairs<'a, W: Wire>(
 
 /// The struct in front, of this number.
 #[cycle(settling)]
+#[inline(never)]
 fn settled_struct<'a, W: Wire>(
     alloc: Global,
-    rest: Rest<'a>,
+    rest: Ahead<'a>,
     levels: u32,
     schema: &Schema,
     needed: &NeededFields,
     which: u32,
-) -> Option<(Value, Rest<'a>)>
+) -> Option<(Value, Ahead<'a>)>
     requires sound { IsSound (schema_of schema.now) }
     requires needed { needed.now ≡ map needs_of (schema_of schema.now).structs }
     ensures { IfSome result (λ r. ReadsSettled W.wire levels (schema_of schema.now).structs (kind_struct which) rest.entry (tree_of r.0) r.1) }
@@ -331,7 +340,12 @@ fn settled_struct<'a, W: Wire>(
     let levels = deeper(levels)?;
     let (desc, needs) = struct_at(schema, needed, which)?;
     let (fields, rest) = settled_fields::<W>(
-        alloc, rest, levels, schema, needed, desc.fields.as_slice(),
+        alloc,
+        rest,
+        levels,
+        schema,
+        needed,
+        desc.fields.as_slice(),
     )?;
     if !has_all(desc, needs, &fields) {
         return None;
@@ -389,16 +403,17 @@ fn declared_near(declared: &[FieldDesc], place: usize, id: i16) -> Option<(&Fiel
 
 /// The value of a field of a type, whose head was read.
 #[cycle(settling)]
+#[inline(always)]
 fn settled_field<'a, W: Wire>(
     alloc: Global,
-    rest: Rest<'a>,
+    rest: Ahead<'a>,
     levels: u32,
     schema: &Schema,
     needed: &NeededFields,
     kind: &TypeDesc,
     tag: Tag,
     flag: Option<bool>,
-) -> Option<(Value, Rest<'a>)>
+) -> Option<(Value, Ahead<'a>)>
     requires sound { IsSound (schema_of schema.now) }
     requires needed { needed.now ≡ map needs_of (schema_of schema.now).structs }
     ensures { IfSome result (λ r. ReadsField W.wire levels (schema_of schema.now).structs (kind_of kind.now) tag flag rest.entry (tree_of r.0) r.1) }
@@ -414,7 +429,7 @@ fn settled_field<'a, W: Wire>(
 
 /// The bool that a field's head has, where the field is one of bools.
 #[tactic(auto, using(thrift_value::proofs::Trees::tree_equations))]
-fn settled_flag<'a>(rest: Rest<'a>, kind: &TypeDesc, flag: bool) -> Option<(Value, Rest<'a>)>
+fn settled_flag<'a>(rest: Ahead<'a>, kind: &TypeDesc, flag: bool) -> Option<(Value, Ahead<'a>)>
     ensures { IfSome result (λ r. (count_value rest.entry ≡ Ok (tt, r.1)) × (tree_of r.0 ≡ of_bool flag) × (tag_of_kind (kind_of kind.now) ≡ tags.Bool)) }
 {
     if !are_same_tags(tag_of_kind(kind), Tag::Bool) {
@@ -426,14 +441,15 @@ fn settled_flag<'a>(rest: Rest<'a>, kind: &TypeDesc, flag: bool) -> Option<(Valu
 
 /// The fields of a struct in front, up to its end.
 #[cycle(settling)]
+#[inline(always)]
 fn settled_fields<'a, W: Wire>(
     alloc: Global,
-    rest: Rest<'a>,
+    rest: Ahead<'a>,
     levels: u32,
     schema: &Schema,
     needed: &NeededFields,
     declared: &[FieldDesc],
-) -> Option<(Fields, Rest<'a>)>
+) -> Option<(Fields, Ahead<'a>)>
     requires sound { IsSound (schema_of schema.now) }
     requires needed { needed.now ≡ map needs_of (schema_of schema.now).structs }
     requires rising { AllPairs (λ (f g : PlainField). f.id <ℤ g.id) (map plain_field declared.now) }
@@ -455,7 +471,14 @@ fn settled_fields<'a, W: Wire>(
                 }
                 let (found, place) = declared_near(declared, next, id)?;
                 let (value, behind) = settled_field::<W>(
-                    alloc, behind, levels, schema, needed, &found.kind, tag, flag,
+                    alloc,
+                    behind,
+                    levels,
+                    schema,
+                    needed,
+                    &found.kind,
+                    tag,
+                    flag,
                 )?;
                 keep(&mut fields, expected, (id, value))?;
                 last = id;
@@ -483,6 +506,13 @@ pub(crate) fn settled_in<W: Wire>(
     ensures { IfSome result (λ r. read_then_projected W.wire (schema_of schema.now) which bytes.now at ≡ Ok (tree_of r.0, r.1)) }
 {
     value_read_is_spelled::<W>();
-    let (value, rest) = settled_struct::<W>(alloc, Rest::new(bytes, at), 64, schema, needed, which)?;
+    let (value, rest) = settled_struct::<W>(
+        alloc,
+        Ahead::new(bytes, at),
+        64,
+        schema,
+        needed,
+        which,
+    )?;
     Some((value, bytes.len() - rest.len()))
 }

@@ -12,14 +12,14 @@ use wire_model::{FieldHead, Wire};
 
 /// The bytes that are still to be read, from a place on, and how many more values may come.
 #[derive(Drop)]
-pub(crate) struct Rest<'a> {
+pub(crate) struct Ahead<'a> {
     bytes: &'a [u8],
     at: usize,
     budget: u32,
-    ghost within: { at ≤ length bytes.now }
+    ghost within: { at ≤ length bytes.now },
 }
 
-impl<'a> Model for Rest<'a> {
+impl<'a> Model for Ahead<'a> {
     ghost use Rattle.wire_model.specs.AtPlace as places;
     ghost use Rattle.wire_model.specs.Decoder as decoder;
 
@@ -28,13 +28,13 @@ impl<'a> Model for Rest<'a> {
     ghost view = { λ r. places.left_at r.bytes.now r.at r.budget };
 }
 
-impl<'a> Rest<'a> {
+impl<'a> Ahead<'a> {
     /// The bytes from a place on, of at most 4,000,000 values.
     pub(crate) fn new(bytes: &'a [u8], at: usize) -> Self
         requires { at ≤ length bytes.now }
         ensures { result ≡ left_at bytes.now at 4000000 }
     {
-        Rest {
+        Ahead {
             bytes,
             at,
             budget: 4_000_000,
@@ -60,13 +60,13 @@ impl<'a> Rest<'a> {
 
     /// What is left when one more value comes, if one may.
     #[inline(always)]
-    pub(crate) fn count_value(self) -> Option<Rest<'a>>
+    pub(crate) fn count_value(self) -> Option<Ahead<'a>>
         ensures { IfSome result (λ r. count_value self.entry ≡ Ok (tt, r)) }
     {
         if self.budget == 0 {
             return None;
         }
-        Some(Rest {
+        Some(Ahead {
             bytes: self.bytes,
             at: self.at,
             budget: self.budget - 1,
@@ -82,13 +82,13 @@ fn fit(bytes: &[u8])
 
 /// The head of a field behind the field `last`.
 #[inline(always)]
-pub(crate) fn field<'a, W: Wire>(rest: Rest<'a>, last: i16) -> Option<(FieldHead, Rest<'a>)>
+pub(crate) fn field<'a, W: Wire>(rest: Ahead<'a>, last: i16) -> Option<(FieldHead, Ahead<'a>)>
     ensures { IfSome result (λ r. W.wire.field last rest.entry ≡ Ok (head_of r.0, r.1)) }
 {
     match W::field(rest.bytes, rest.at, last) {
         Ok((head, place)) => Some((
             head,
-            Rest {
+            Ahead {
                 bytes: rest.bytes,
                 at: place,
                 budget: rest.budget,
@@ -100,14 +100,14 @@ pub(crate) fn field<'a, W: Wire>(rest: Rest<'a>, last: i16) -> Option<(FieldHead
 
 /// A number or a bool.
 #[inline(always)]
-pub(crate) fn scalar<'a, W: Wire>(rest: Rest<'a>, tag: Tag) -> Option<(Value, Rest<'a>)>
+pub(crate) fn scalar<'a, W: Wire>(rest: Ahead<'a>, tag: Tag) -> Option<(Value, Ahead<'a>)>
     requires { IsScalar tag }
     ensures { IfSome result (λ r. W.wire.scalar tag rest.entry ≡ Ok (tree_of r.0, r.1)) }
 {
     match W::scalar(rest.bytes, rest.at, tag) {
         Ok((value, place)) => Some((
             value,
-            Rest {
+            Ahead {
                 bytes: rest.bytes,
                 at: place,
                 budget: rest.budget,
@@ -118,7 +118,7 @@ pub(crate) fn scalar<'a, W: Wire>(rest: Rest<'a>, tag: Tag) -> Option<(Value, Re
 }
 
 /// The bytes of a text.
-pub(crate) fn span<'a, W: Wire>(rest: Rest<'a>) -> Option<(&'a [u8], Rest<'a>)>
+pub(crate) fn span<'a, W: Wire>(rest: Ahead<'a>) -> Option<(&'a [u8], Ahead<'a>)>
     ensures { IfSome result (λ r. W.wire.span rest.entry ≡ Ok (r.0.now, r.1)) }
 {
     match W::span(rest.bytes, rest.at) {
@@ -127,7 +127,7 @@ pub(crate) fn span<'a, W: Wire>(rest: Rest<'a>) -> Option<(&'a [u8], Rest<'a>)>
             let (_, text) = front.split_at(begin);
             Some((
                 text,
-                Rest {
+                Ahead {
                     bytes: rest.bytes,
                     at: place,
                     budget: rest.budget,
@@ -139,14 +139,14 @@ pub(crate) fn span<'a, W: Wire>(rest: Rest<'a>) -> Option<(&'a [u8], Rest<'a>)>
 }
 
 /// The header of a list or set: the tag of its elements, and their number.
-pub(crate) fn items<'a, W: Wire>(rest: Rest<'a>) -> Option<(Tag, u32, Rest<'a>)>
+pub(crate) fn items<'a, W: Wire>(rest: Ahead<'a>) -> Option<(Tag, u32, Ahead<'a>)>
     ensures { IfSome result (λ r. W.wire.items rest.entry ≡ Ok ((r.0, r.1), r.2)) }
 {
     match W::items(rest.bytes, rest.at) {
         Ok((tag, count, place)) => Some((
             tag,
             count,
-            Rest {
+            Ahead {
                 bytes: rest.bytes,
                 at: place,
                 budget: rest.budget,
@@ -157,7 +157,7 @@ pub(crate) fn items<'a, W: Wire>(rest: Rest<'a>) -> Option<(Tag, u32, Rest<'a>)>
 }
 
 /// The header of a map: the tags of its keys and of their values, and the number of its pairs.
-pub(crate) fn pairs<'a, W: Wire>(rest: Rest<'a>) -> Option<(Tag, Tag, u32, Rest<'a>)>
+pub(crate) fn pairs<'a, W: Wire>(rest: Ahead<'a>) -> Option<(Tag, Tag, u32, Ahead<'a>)>
     ensures { IfSome result (λ r. W.wire.pairs rest.entry ≡ Ok ((r.0, r.1, r.2), r.3)) }
 {
     match W::pairs(rest.bytes, rest.at) {
@@ -165,7 +165,7 @@ pub(crate) fn pairs<'a, W: Wire>(rest: Rest<'a>) -> Option<(Tag, Tag, u32, Rest<
             key,
             value,
             count,
-            Rest {
+            Ahead {
                 bytes: rest.bytes,
                 at: place,
                 budget: rest.budget,
