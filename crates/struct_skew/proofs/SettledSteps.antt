@@ -28,11 +28,6 @@ use Rattle.wire_walk.proofs.Lists.{AreItemsRead, items_begin, items_step, items_
 use Rattle.known_parts.specs.Parts.{tag_of_kind, struct_of_kind, map_of_kind, set_of_kind, list_of_kind}
 use Rattle.struct_skew.specs.ReadSettled.{IsSettled, ReadsSettled, ReadsField, ReadsFields, ReadsItems, ReadsPairs, IsFieldSettled, IsPairSettled, AreIdsRising}
 
--- what holds of a call's answer, by what is known of it
-pub some_then : {A : Type 0} (P Q : A → Type 0) (o : Option A) → ((x : A) → P x → Q x) → IfSome o P → IfSome o Q
-some_then P Q None f h = tt
-some_then P Q (Some x) f h = f x h
-
 -- what a test tells that passes
 pub on_true : (b : Bool) (P : Type 0) → (b ≡ true → P) → OnTrue b P
 on_true true P f = f refl
@@ -46,24 +41,6 @@ all_push P (y ∷ ys) x h p = (h.0, all_push P ys x h.1 p)
 all_then : {A : Type 0} (P Q : A → Type 0) → ((x : A) → P x → Q x) → (xs : List A) → AllByRecursion P xs → AllByRecursion Q xs
 all_then P Q f [] h = tt
 all_then P Q f (x ∷ xs) h = (f x h.0, all_then P Q f xs h.1)
-
--- the parts of a type that is known to have them
-pub struct_kind_is : (kind : PlainKind) (which : ℕ) → Some which ≡ struct_of_kind kind → kind_struct which ≡ kind
-struct_kind_is (kind_struct n) which e = let same : which ≡ n = cc in ap kind_struct same
-struct_kind_is _ which e = absurd cc
-
-pub set_kind_is : (kind member : PlainKind) → Some member ≡ set_of_kind kind → kind_set member ≡ kind
-set_kind_is (kind_set k) member e = let same : member ≡ k = cc in ap kind_set same
-set_kind_is _ member e = absurd cc
-
-pub list_kind_is : (kind element : PlainKind) → Some element ≡ list_of_kind kind → kind_list element ≡ kind
-list_kind_is (kind_list k) element e = let same : element ≡ k = cc in ap kind_list same
-list_kind_is _ element e = absurd cc
-
-pub map_kind_is : (kind key value : PlainKind) → Some (key, value) ≡ map_of_kind kind → kind_map key value ≡ kind
-map_kind_is (kind_map k v) key w e =
-    let same : (key, w) ≡ (k, v) = same_Some (key, w) (k, v) e in ap (λ (p : PlainKind × PlainKind). kind_map p.0 p.1) same
-map_kind_is _ key w e = absurd cc
 
 module _ (wire : Wire) (levels : ℕ) (structs : List PlainStruct) where
   -- items so far

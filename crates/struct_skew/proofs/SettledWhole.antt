@@ -59,27 +59,6 @@ module _ (wire : Wire) where
         settled = λ structs kind is. leaf_settled structs kind x (scalar_leaf x (subst IsScalar (sym has) scalar)) (has ∙ is);
       }
 
-  module _ (levels : ℕ) (structs : List PlainStruct) (kind : PlainKind) where
-    pub leaf_read : (tag : Tag) (before after : Unread) (x : Tree) → tag ≡ tag_of_kind kind → ReadsLeaf wire tag before x after → ReadsSettled wire levels structs kind before x after
-    leaf_read tag before after x is leaf = record { read = ap (λ t. value wire levels t before) (sym is) ∙ leaf.read levels; settled = leaf.settled structs kind is }
-
-    -- a field whose header has its value, and one whose value follows
-    pub flag_read : (tag : Tag) (flag : Option Bool) (b : Bool) (before after : Unread) (x : Tree) → flag ≡ Some b → count_value before ≡ Ok (tt, after) → x ≡ of_bool b → tag_of_kind kind ≡ tags.Bool
-        → ReadsField wire levels structs kind tag flag before x after
-    flag_read tag flag b before after x is one tree tagged = record {
-      read = subst (λ o. MatchOption o (value wire levels tag before ≡ Ok (x, after)) (λ c. (count_value before ≡ Ok (tt, after)) × (x ≡ of_bool c))) (sym is) (one, tree);
-      settled = subst (IsSettled structs kind) (sym tree) (leaf_settled structs kind (of_bool b) tt (sym tagged));
-    }
-
-    pub value_read : (tag : Tag) (flag : Option Bool) (before after : Unread) (x : Tree) → flag ≡ None → tag_of_kind kind ≡ tag → ReadsSettled wire levels structs kind before x after
-        → ReadsField wire levels structs kind tag flag before x after
-    value_read tag flag before after x none is h = record {
-      read =
-          subst (λ o. MatchOption o (value wire levels tag before ≡ Ok (x, after)) (λ c. (count_value before ≡ Ok (tt, after)) × (x ≡ of_bool c))) (sym none)
-          (ap (λ t. value wire levels t before) (sym is) ∙ h.read);
-      settled = h.settled;
-    }
-
   -- structs and containers
   module _ (levels n : ℕ) (structs : List PlainStruct) (before counted : Unread) (one : count_value before ≡ Ok (tt, counted)) (deep : levels ≡ suc n) where
     pub struct_read : (which : ℕ) (d : PlainStruct) (fields : Fields) (after : Unread) → slice_get structs which ≡ Some d → ReadsFields wire n structs d.fields counted fields after
