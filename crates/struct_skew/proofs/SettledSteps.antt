@@ -1,11 +1,11 @@
 -- The loops that read what means itself.
 use Rattle.std.proofs.Common.{◌≡◌, ℕ, suc, ℤ, pos, Bool, true, false, List, [], ◌∷◌, ◌++◌, map, length, Option, Some, None, Ok, Equal, get_or, refl, sym, ap, subst, ◌∙◌, arith}
 use Rattle.std.specs.Bool.{OnTrue}
-use Rattle.std.specs.Prelude.{◌<ℤ◌, ⊤, AllPairs, IfSome, MatchOption}
+use Rattle.std.specs.Prelude.{◌<ℤ◌, AllPairs, MatchOption}
 use Rattle.std.specs.List.{AllByRecursion, slice_get}
 use Rattle.std.specs.Cmp.{int_cmp_is}
 use Rattle.std.proofs.lemmas.Int.{ints}
-use Rattle.std.proofs.lemmas.Option.{get_or_from_slice_get, same_Some, slice_get_within}
+use Rattle.std.proofs.lemmas.Option.{get_or_from_slice_get, slice_get_within}
 use Rattle.thrift_value.specs.declared.tag.Tag.{Tag}
 use Rattle.thrift_value.specs.declared.value.Value.{Value}
 use Rattle.thrift_value.specs.declared.value.Fields.{Fields}
@@ -14,7 +14,7 @@ use Rattle.thrift_value.specs.declared.value.Pairs.{Pairs}
 use Rattle.thrift_value.specs.Tree.{of_bool}
 use Rattle.thrift_value.specs.TreeOf.{tree_of, fields_of, items_of, pairs_of}
 use Rattle.schema.specs.declared.types.FieldDesc.{FieldDesc}
-use Rattle.schema.specs.PlainKind.{PlainKind, kind_bool, kind_i8, kind_i16, kind_i32, kind_i64, kind_double, kind_text, kind_binary, kind_uuid, kind_enum, kind_struct, kind_map, kind_set, kind_list}
+use Rattle.schema.specs.PlainKind.{PlainKind}
 use Rattle.schema.specs.PlainSchema.{PlainField, PlainStruct}
 use Rattle.schema.specs.SchemaOf.{plain_field}
 use Rattle.schema.specs.WrittenAs.{field_with_id}
@@ -25,7 +25,7 @@ use Rattle.wire_model.specs.Decoder.{Unread, count_value}
 use Rattle.wire_model.specs.Reading.{value}
 use Rattle.wire_model.specs.Wire.{Wire, stop}
 use Rattle.wire_walk.proofs.Lists.{AreItemsRead, items_begin, items_step, items_end, ArePairsRead, pairs_begin, pairs_step, pairs_end, AreFieldsRead, fields_begin, field_step, flag_step, fields_end}
-use Rattle.known_parts.specs.Parts.{tag_of_kind, struct_of_kind, map_of_kind, set_of_kind, list_of_kind}
+use Rattle.known_parts.specs.Parts.{tag_of_kind}
 use Rattle.struct_skew.specs.ReadSettled.{IsSettled, ReadsSettled, ReadsField, ReadsFields, ReadsItems, ReadsPairs, IsFieldSettled, IsPairSettled, AreIdsRising}
 
 -- what a test tells that passes

@@ -1,17 +1,15 @@
 -- Values that mean themselves are read, by what is read of their parts.
-use Rattle.std.proofs.Common.{◌≡◌, ℕ, suc, ◌-◌, ◌≤◌, Bool, true, List, length, Option, Some, None, Ok, refl, sym, ap, subst, ◌∙◌, arith}
-use Rattle.std.specs.Prelude.{MatchOption}
+use Rattle.std.proofs.Common.{◌≡◌, ℕ, suc, ◌-◌, ◌≤◌, true, List, length, Some, Ok, refl, sym, ap, subst, ◌∙◌, arith}
 use Rattle.std.specs.List.{slice_get}
 use Rattle.thrift_value.specs.declared.tag.Tag.{Tag}
 use Rattle.thrift_value.specs.declared.tag.Tag.TheVariants as tags
 use Rattle.thrift_value.specs.declared.value.Value as value_in
-use Rattle.thrift_value.specs.declared.value.Value.{Value}
 use Rattle.thrift_value.specs.declared.value.Fields.{Fields}
 use Rattle.thrift_value.specs.declared.value.Items.{Items}
 use Rattle.thrift_value.specs.declared.value.Pairs.{Pairs}
 use Rattle.thrift_value.specs.Measures.{count_of, depth_of}
 use Rattle.thrift_value.specs.Tags.{tag_of}
-use Rattle.thrift_value.specs.Tree.{Tree, of_bool, of_bytes}
+use Rattle.thrift_value.specs.Tree.{Tree, of_bytes}
 use Rattle.thrift_value.specs.TreeOf.{tree_of, items_of, pairs_of, fields_of, fields_tree, items_tree, pairs_tree}
 use Rattle.thrift_value.proofs.Trees.{tree_of-Struct, tree_of-Map, tree_of-Set, tree_of-List}
 use Rattle.schema.specs.PlainKind.{PlainKind, kind_struct, kind_map, kind_set, kind_list}
@@ -24,7 +22,7 @@ use Rattle.wire_model.specs.Format.{Format}
 use Rattle.wire_model.specs.Place.{TakenOff}
 use Rattle.wire_model.specs.Reading.{value, item_list, pair_list}
 use Rattle.wire_model.specs.Wire.{Wire, IsScalar}
-use Rattle.wire_model.proofs.Answered.{front, struct_in_front, placed_here}
+use Rattle.wire_model.proofs.Answered.{front, placed_here}
 use Rattle.wire_walk.proofs.Faults.{on_ok}
 use Rattle.wire_walk.proofs.Opened.{bytes_is, struct_is, map_is, set_is, list_is, scalar_is}
 use Rattle.known_parts.specs.Parts.{tag_of_kind}
@@ -34,7 +32,7 @@ use Rattle.struct_skew.specs.Latest.{IsRisingBy}
 use Rattle.struct_skew.specs.Orders.{value_cmp, pair_cmp}
 use Rattle.struct_skew.specs.Projection.{bounded, projection}
 use Rattle.struct_skew.specs.ReadAs.{placed_projection, projected_read, read_then_projected}
-use Rattle.struct_skew.specs.ReadSettled.{IsSettled, ReadsLeaf, ReadsSettled, ReadsField, ReadsFields, ReadsItems, ReadsPairs}
+use Rattle.struct_skew.specs.ReadSettled.{IsSettled, ReadsLeaf, ReadsSettled, ReadsFields, ReadsItems, ReadsPairs}
 use Rattle.struct_skew.specs.Results.{and_if_ok}
 use Rattle.struct_skew.proofs.Filling.{fits_itself, itself, within_bounds}
 use Rattle.struct_skew.proofs.PlainAlike.{fits_alike, means_alike}

@@ -1,8 +1,7 @@
-use Rattle.std.proofs.Common.{◌≡◌, ℤ, suc, ◌+◌, ◌-◌, ◌∙◌, map, Ok, Some, None, sym, ap, subst, arith, rules, FitsSigned, to_z, of_z}
+use Rattle.std.proofs.Common.{◌≡◌, ℤ, suc, ◌+◌, ◌-◌, ◌∙◌, map, Ok, sym, ap, subst, arith, rules, FitsSigned, to_z, of_z}
 use Rattle.std.specs.Prelude.{◌<ℤ◌}
 use Rattle.std.specs.Int.{w16}
 use Rattle.std.proofs.lemmas.Int.{ints, to_z-of_z}
-use Rattle.thrift_value.specs.TreeOf.{tree_of}
 use Rattle.schema.specs.PlainKind.{kind_of}
 use Rattle.schema.specs.SchemaOf.{schema_of, plain_field, plain_struct}
 use Rattle.wire_model.specs.declared.one_pass.FieldHead.TheVariants.{Field}
