@@ -32,12 +32,12 @@ returns-in_err-spell_answer g c =
 
 pub returns : goal.returns
 returns g c =
-    hands_same (g.K.Sink.taken c.args.out.now) (g.K.Sink.taken c.hand.new.out) (g.K.Sink.faults c.args.out.now) (g.K.Sink.faults c.hand.new.out) ((front_text c.entry.inside.call.silent c.entry.inside.key c.entry.inside.call.slot ++ codes " ") ++ ((c.entry.inside.call.method ++ next_word (tree_text c.entry.inside.call.args)) ++ ((next_word (answered_text (plain_answer c.entry.inside.answer))) ++ (codes "\n")))) (call_line c.args.entry.now) c.hand.result
+    hands_same (g.K.Sink.taken c.args.out.now) (g.K.Sink.taken c.hand_over.new.out) (g.K.Sink.faults c.args.out.now) (g.K.Sink.faults c.hand_over.new.out) ((front_text c.entry.inside.call.silent c.entry.inside.key c.entry.inside.call.slot ++ codes " ") ++ ((c.entry.inside.call.method ++ next_word (tree_text c.entry.inside.call.args)) ++ ((next_word (answered_text (plain_answer c.entry.inside.answer))) ++ (codes "\n")))) (call_line c.args.entry.now) c.hand_over.result
     (blank_parts (front_text c.entry.inside.call.silent c.entry.inside.key c.entry.inside.call.slot) (c.entry.inside.call.method ++ next_word (tree_text c.entry.inside.call.args)) (next_word (answered_text (plain_answer c.entry.inside.answer))) (codes "\n") ∙ ap call_line c.entry.view_is)
-    (goes_on (g.K.Sink.taken c.args.out.now) (g.K.Sink.taken c.spell_front.new.out) (g.K.Sink.taken c.hand.new.out) (g.K.Sink.faults c.args.out.now) (g.K.Sink.faults c.spell_front.new.out) (g.K.Sink.faults c.hand.new.out) (front_text c.entry.inside.call.silent c.entry.inside.key c.entry.inside.call.slot ++ codes " ") ((c.entry.inside.call.method ++ next_word (tree_text c.entry.inside.call.args)) ++ ((next_word (answered_text (plain_answer c.entry.inside.answer))) ++ (codes "\n"))) c.hand.result
+    (goes_on (g.K.Sink.taken c.args.out.now) (g.K.Sink.taken c.spell_front.new.out) (g.K.Sink.taken c.hand_over.new.out) (g.K.Sink.faults c.args.out.now) (g.K.Sink.faults c.spell_front.new.out) (g.K.Sink.faults c.hand_over.new.out) (front_text c.entry.inside.call.silent c.entry.inside.key c.entry.inside.call.slot ++ codes " ") ((c.entry.inside.call.method ++ next_word (tree_text c.entry.inside.call.args)) ++ ((next_word (answered_text (plain_answer c.entry.inside.answer))) ++ (codes "\n"))) c.hand_over.result
     (c.in_ok-spell_front.ensures {u = tt})
-    (goes_on (g.K.Sink.taken c.spell_front.new.out) (g.K.Sink.taken c.spell_asked.new.out) (g.K.Sink.taken c.hand.new.out) (g.K.Sink.faults c.spell_front.new.out) (g.K.Sink.faults c.spell_asked.new.out) (g.K.Sink.faults c.hand.new.out) (c.entry.inside.call.method ++ next_word (tree_text c.entry.inside.call.args)) ((next_word (answered_text (plain_answer c.entry.inside.answer))) ++ (codes "\n")) c.hand.result
+    (goes_on (g.K.Sink.taken c.spell_front.new.out) (g.K.Sink.taken c.spell_asked.new.out) (g.K.Sink.taken c.hand_over.new.out) (g.K.Sink.faults c.spell_front.new.out) (g.K.Sink.faults c.spell_asked.new.out) (g.K.Sink.faults c.hand_over.new.out) (c.entry.inside.call.method ++ next_word (tree_text c.entry.inside.call.args)) ((next_word (answered_text (plain_answer c.entry.inside.answer))) ++ (codes "\n")) c.hand_over.result
     (c.in_ok-spell_asked.ensures {u = tt})
-    (goes_on (g.K.Sink.taken c.spell_asked.new.out) (g.K.Sink.taken c.spell_answer.new.out) (g.K.Sink.taken c.hand.new.out) (g.K.Sink.faults c.spell_asked.new.out) (g.K.Sink.faults c.spell_answer.new.out) (g.K.Sink.faults c.hand.new.out) (next_word (answered_text (plain_answer c.entry.inside.answer))) (codes "\n") c.hand.result
+    (goes_on (g.K.Sink.taken c.spell_asked.new.out) (g.K.Sink.taken c.spell_answer.new.out) (g.K.Sink.taken c.hand_over.new.out) (g.K.Sink.faults c.spell_asked.new.out) (g.K.Sink.faults c.spell_answer.new.out) (g.K.Sink.faults c.hand_over.new.out) (next_word (answered_text (plain_answer c.entry.inside.answer))) (codes "\n") c.hand_over.result
     (c.in_ok-spell_answer.ensures {u = tt})
-    (c.hand.ensures))))
+    (c.hand_over.ensures))))
