@@ -108,8 +108,8 @@ impl Codec for Binary {
         match header {
             Header::Stop => put_u8(into, 0),
             Header::Field(id, tag) => {
-                put_u8(into, code_of(tag))?;
-                put_i16(into, id)
+                let [high, low] = id.to_be_bytes();
+                into.extend_from_slice(&[code_of(tag), high, low])
             }
             Header::Flag(_, _) => Ok(()),
         }
@@ -136,13 +136,12 @@ impl Codec for Binary {
     }
 
     fn put_items(tag: Tag, count: usize, into: &mut Vec<u8>) -> Result<(), AllocError> {
-        put_u8(into, code_of(tag))?;
-        put_i32(into, count as i32)
+        let [a, b, c, d] = (count as i32).to_be_bytes();
+        into.extend_from_slice(&[code_of(tag), a, b, c, d])
     }
 
     fn put_pairs(key: Tag, value: Tag, count: usize, into: &mut Vec<u8>) -> Result<(), AllocError> {
-        put_u8(into, code_of(key))?;
-        put_u8(into, code_of(value))?;
-        put_i32(into, count as i32)
+        let [a, b, c, d] = (count as i32).to_be_bytes();
+        into.extend_from_slice(&[code_of(key), code_of(value), a, b, c, d])
     }
 }

@@ -1,3 +1,4 @@
+pub mod OneByte
 pub mod ZigzagNumbers
 pub mod CodeLaws
 pub mod Scalars

@@ -12,14 +12,16 @@ use crate::headers::{
 };
 use crate::numbers::{double_in, i8_in, i16_in, i32_in, i64_in, size_in, u8_in, uuid_in};
 use crate::protocol::Compact;
+use crate::varints::{append_varint32, append_varint64};
 use std::alloc::AllocError;
 use thrift_value::{Tag, Uuid, Value, WireFault};
-use wire_num::{put_be128, put_le64, put_u8, put_varint32, put_varint64, zigzag32, zigzag64};
+use wire_num::{put_be128, put_le64, put_u8, zigzag32, zigzag64};
 use wire_walk::{Codec, Header, Input};
 
 impl Codec for Compact {
     // A header is 0, or a byte of a delta and a code, and maybe an id (Thrift compact protocol, 'Struct').
     #[tactic(auto, unfolding(crate::specs::Reading::compact_field))]
+    #[inline(always)]
     fn field<'a>(last: i16, rest: Input<'a>) -> Result<(Header, Input<'a>), WireFault> {
         let (byte, rest) = u8_in(rest)?;
         if byte == 0 {
@@ -34,6 +36,7 @@ impl Codec for Compact {
     // A number (Thrift compact protocol, 'Integer encoding', 'Double encoding'), or a bool, whose byte is 1 or 2 ('Boolean
     // encoding'). Own choice: every byte but 1 is false, and a uuid is sixteen bytes, the highest first.
     #[tactic(auto, unfolding(crate::specs::Reading::compact_scalar))]
+    #[inline(always)]
     fn scalar<'a>(tag: Tag, rest: Input<'a>) -> Result<(Value, Input<'a>), WireFault> {
         match tag {
             Tag::Bool => {
@@ -99,6 +102,7 @@ impl Codec for Compact {
         true
     }
 
+    #[inline(always)]
     fn put_header(last: i16, header: Header, into: &mut Vec<u8>) -> Result<(), AllocError> {
         match header {
             Header::Stop => put_u8(into, 0),
@@ -107,13 +111,14 @@ impl Codec for Compact {
         }
     }
 
+    #[inline(always)]
     fn put_scalar(value: &Value, into: &mut Vec<u8>) -> Result<(), AllocError> {
         match value {
             Value::Bool(flag) => put_u8(into, code_of_flag(*flag)),
             Value::I8(number) => into.extend_from_slice(&number.to_be_bytes()),
-            Value::I16(number) => put_varint32(into, zigzag32(i32::from(*number))),
-            Value::I32(number) => put_varint32(into, zigzag32(*number)),
-            Value::I64(number) => put_varint64(into, zigzag64(*number)),
+            Value::I16(number) => append_varint32(into, zigzag32(i32::from(*number))),
+            Value::I32(number) => append_varint32(into, zigzag32(*number)),
+            Value::I64(number) => append_varint64(into, zigzag64(*number)),
             Value::Double(bits) => put_le64(into, *bits),
             Value::Uuid(uuid) => put_be128(into, uuid.number()),
             _ => Ok(()),
@@ -121,7 +126,7 @@ impl Codec for Compact {
     }
 
     fn put_span(text: &[u8], into: &mut Vec<u8>) -> Result<(), AllocError> {
-        put_varint32(into, text.len() as u32)?;
+        append_varint32(into, text.len() as u32)?;
         into.extend_from_slice(text)
     }
 
@@ -130,14 +135,14 @@ impl Codec for Compact {
             return put_u8(into, 16 * count as u8 + code_of(tag));
         }
         put_u8(into, 240 + code_of(tag))?;
-        put_varint32(into, count as u32)
+        append_varint32(into, count as u32)
     }
 
     fn put_pairs(key: Tag, value: Tag, count: usize, into: &mut Vec<u8>) -> Result<(), AllocError> {
         if count == 0 {
             return put_u8(into, 0);
         }
-        put_varint32(into, count as u32)?;
+        append_varint32(into, count as u32)?;
         put_u8(into, 16 * code_of(key) + code_of(value))
     }
 }

@@ -10,6 +10,7 @@ use thrift_value::{Tag, WireFault};
 use wire_walk::Input;
 
 /// The code of a bool field with this value.
+#[inline(always)]
 pub(crate) fn code_of_flag(flag: bool) -> u8
     ensures code { result ≡ flag_code flag }
     ensures half { result < 16 }
@@ -18,6 +19,7 @@ pub(crate) fn code_of_flag(flag: bool) -> u8
 }
 
 /// The code that is written for a tag.
+#[inline(always)]
 pub(crate) fn code_of(tag: Tag) -> u8
     ensures code { result ≡ compact_code tag }
     ensures half { result < 16 }
@@ -40,6 +42,7 @@ pub(crate) fn code_of(tag: Tag) -> u8
 
 /// The tag of a code: that of a bool field that is false is a bool's too.
 #[tactic(auto, unfolding(crate::specs::Codes::compact_tag))]
+#[inline(always)]
 fn tag_of_code(code: u8) -> Option<Tag>
     ensures { result ≡ compact_tag code }
 {
@@ -63,6 +66,7 @@ fn tag_of_code(code: u8) -> Option<Tag>
 
 /// The tag of a code, or BadType; nothing is read.
 #[tactic(auto, unfolding(crate::specs::Reading::tag_in_half))]
+#[inline(always)]
 pub(crate) fn tag_coded(code: u8, rest: Input<'_>) -> Result<(Tag, Input<'_>), WireFault>
     ensures { AnswersExactly (λ r. (r.0, r.1)) result (tag_in_half code rest.entry) }
 {

@@ -14,6 +14,7 @@ use wire_num::{put_u8, put_varint32, zigzag32};
 use wire_walk::{Header, Input};
 
 /// The id of a field: so much above that of the field before, or, where this is 0, a number of its own.
+#[inline(always)]
 pub(crate) fn id_by_delta(
     last: i16,
     delta: u8,
@@ -32,6 +33,7 @@ pub(crate) fn id_by_delta(
 }
 
 /// The header of a field with this code: a bool has its value in it.
+#[inline(always)]
 pub(crate) fn header_by(code: u8, tag: Tag, id: i16) -> Header
     ensures { field_header_of result ≡ header_by code tag id }
 {
@@ -42,6 +44,7 @@ pub(crate) fn header_by(code: u8, tag: Tag, id: i16) -> Header
 }
 
 /// Appends a header with this code: with a delta where the id is 1 to 15 above that of the field before.
+#[inline(always)]
 pub(crate) fn put_heading(
     code: u8,
     last: i16,
@@ -61,6 +64,7 @@ pub(crate) fn put_heading(
 }
 
 /// How far an id is above that of the field before, where that is 1 to 15; else 0.
+#[inline(always)]
 fn short_delta(last: i16, id: i16) -> u8
     ensures delta { result ≡ short_delta (id -ℤ last) }
     ensures half { result < 16 }

@@ -8,14 +8,13 @@ ghost use Rattle.wire_model.specs.Pieces.{byte, within_room};
 ghost use Rattle.compact_codec.specs.Numbers.{low_16};
 ghost use Rattle.compact_codec.specs.Reading.{compact_i8, compact_i16, compact_signed, compact_double, compact_uuid, compact_unsigned, compact_size};
 
+use crate::varints::{next_varint32, next_varint64};
 use thrift_value::WireFault;
-use wire_num::{
-    decode_be128, decode_i8, decode_le64, decode_u8, decode_varint32, decode_varint64, unzigzag32,
-    unzigzag64,
-};
+use wire_num::{decode_be128, decode_i8, decode_le64, decode_u8, unzigzag32, unzigzag64};
 use wire_walk::Input;
 
 /// A byte.
+#[inline(always)]
 pub(crate) fn u8_in(input: Input<'_>) -> Result<(u8, Input<'_>), WireFault>
     ensures { AnswersExactly (λ r. (r.0, r.1)) result (byte input.entry) }
 {
@@ -24,6 +23,7 @@ pub(crate) fn u8_in(input: Input<'_>) -> Result<(u8, Input<'_>), WireFault>
 }
 
 /// Reads eight bits.
+#[inline(always)]
 pub(crate) fn i8_in(input: Input<'_>) -> Result<(i8, Input<'_>), WireFault>
     ensures { AnswersExactly (λ r. (r.0, r.1)) result (compact_i8 input.entry) }
 {
@@ -32,14 +32,16 @@ pub(crate) fn i8_in(input: Input<'_>) -> Result<(i8, Input<'_>), WireFault>
 }
 
 /// Reads a number of 32 bits, and keeps the lowest sixteen.
+#[inline(always)]
 pub(crate) fn i16_in(input: Input<'_>) -> Result<(i16, Input<'_>), WireFault>
     ensures { AnswersExactly (λ r. (r.0, r.1)) result (compact_i16 input.entry) }
 {
-    let (number, behind) = decode_varint32(input.bytes())?;
+    let (number, behind) = next_varint32(input.bytes())?;
     Ok((low_16(unzigzag32(number)), input.with_bytes(behind)))
 }
 
 /// The lowest 16 bits of a number.
+#[inline(always)]
 fn low_16(number: i32) -> i16
     ensures { result ≡ low_16 number }
 {
@@ -48,18 +50,20 @@ fn low_16(number: i32) -> i16
 }
 
 /// Reads thirty-two bits.
+#[inline(always)]
 pub(crate) fn i32_in(input: Input<'_>) -> Result<(i32, Input<'_>), WireFault>
     ensures { AnswersExactly (λ r. (r.0, r.1)) result (compact_signed w32 input.entry) }
 {
-    let (number, behind) = decode_varint32(input.bytes())?;
+    let (number, behind) = next_varint32(input.bytes())?;
     Ok((unzigzag32(number), input.with_bytes(behind)))
 }
 
 /// Reads sixty-four bits.
+#[inline(always)]
 pub(crate) fn i64_in(input: Input<'_>) -> Result<(i64, Input<'_>), WireFault>
     ensures { AnswersExactly (λ r. (r.0, r.1)) result (compact_signed w64 input.entry) }
 {
-    let (number, behind) = decode_varint64(input.bytes())?;
+    let (number, behind) = next_varint64(input.bytes())?;
     Ok((unzigzag64(number), input.with_bytes(behind)))
 }
 
@@ -80,15 +84,17 @@ pub(crate) fn uuid_in(input: Input<'_>) -> Result<(u128, Input<'_>), WireFault>
 }
 
 /// Reads thirty-two bits, unsigned.
+#[inline(always)]
 fn u32_in(input: Input<'_>) -> Result<(u32, Input<'_>), WireFault>
     ensures { AnswersExactly (λ r. (r.0, r.1)) result (compact_unsigned input.entry) }
 {
-    let (number, behind) = decode_varint32(input.bytes())?;
+    let (number, behind) = next_varint32(input.bytes())?;
     Ok((number, input.with_bytes(behind)))
 }
 
 /// A length or size: below 2^31, and no more than the bytes that are left behind it.
 #[tactic(auto, unfolding(crate::specs::Reading::compact_size))]
+#[inline(always)]
 pub(crate) fn size_in(input: Input<'_>) -> Result<(usize, Input<'_>), WireFault>
     ensures { AnswersExactly (λ r. (r.0, r.1)) result (compact_size input.entry) }
 {
@@ -100,6 +106,7 @@ pub(crate) fn size_in(input: Input<'_>) -> Result<(usize, Input<'_>), WireFault>
 }
 
 /// A size that is no more than the bytes that are left.
+#[inline(always)]
 pub(crate) fn room_in(size: usize, input: Input<'_>) -> Result<(usize, Input<'_>), WireFault>
     ensures { AnswersExactly (λ r. (r.0, r.1)) result (within_room size input.entry) }
 {

@@ -1,5 +1,5 @@
 -- A field that was found has its id.
-use Rattle.std.proofs.Common.{◌≡◌, ℕ, zero, suc, ◌<◌, ℤ, true, List, [], ◌∷◌, length, map, get_or, Some, Equal, refl, sym, ap, subst, ◌∙◌, arith}
+use Rattle.std.proofs.Common.{◌≡◌, ℕ, zero, suc, ◌<◌, ℤ, true, List, [], ◌∷◌, length, map, Some, Equal, refl, sym, ap, subst, ◌∙◌, arith}
 use Rattle.std.specs.Prelude.{◌<ℤ◌, AllPairs}
 use Rattle.std.specs.List.{HoldsAt, slice_get}
 use Rattle.std.specs.Ordering.{int_cmp, int_eq}

@@ -1,5 +1,5 @@
 -- What goes out, where the parts of the type are known or known to be none; and that one test tells what several tell.
-use Rattle.std.proofs.Common.{◌≡◌, ℕ, ◌+◌, ◌-◌, ◌≤◌, ◌<◌, ◌^◌, max, Bool, true, false, List, [], ◌∷◌, length, map, Option, Some, None, refl, sym, ap, subst, ◌∙◌, arith}
+use Rattle.std.proofs.Common.{◌≡◌, ℕ, ◌+◌, ◌-◌, ◌≤◌, ◌^◌, max, Bool, true, false, List, [], ◌∷◌, length, map, Option, Some, None, refl, sym, ap, subst, ◌∙◌, arith}
 use Rattle.std.specs.Prelude.{⊤, nat_le, nat_lt, ◌&&◌}
 use Rattle.std.specs.Bool.{Decides, one_answer}
 use Rattle.std.specs.List.{slice_get}
@@ -20,7 +20,7 @@ use Rattle.schema.specs.PlainKind.{PlainKind, kind_bool, kind_i8, kind_i16, kind
 use Rattle.schema.specs.PlainSchema.{PlainField, PlainStruct}
 use Rattle.schema.specs.WrittenAs.{field_with_id}
 use Rattle.known_parts.specs.Parts.{tag_of_kind, are_same_tags, struct_of_kind, map_of_kind, set_of_kind, list_of_kind}
-use Rattle.struct_skew.specs.OutgoingTests.{are_named_items, are_named_pairs, are_few_items, are_few_pairs, do_bytes_go_out, goes_out, do_fields_go_out, do_items_go_out, do_pairs_go_out, does_struct_go_out, does_map_go_out, does_set_go_out, does_list_go_out}
+use Rattle.struct_skew.specs.OutgoingTests.{are_named_items, are_named_pairs, are_few_items, do_bytes_go_out, goes_out, do_fields_go_out, do_items_go_out, do_pairs_go_out, does_struct_go_out, does_map_go_out, does_set_go_out, does_list_go_out}
 use Rattle.struct_skew.specs.TidyTests.{are_rising_fields, are_rising_items, are_rising_pairs, is_tidy, are_tidy_fields, are_tidy_items, are_tidy_pairs, has_small_sizes, have_fields_small_sizes, have_items_small_sizes, have_pairs_small_sizes}
 use Rattle.struct_skew.specs.WrittenTests.{some_passes, has_its_fields, is_written_as, are_fields_written_as, are_items_written_as, are_pairs_written_as, may_be_written}
 use Rattle.struct_skew.proofs.Deciding.{same_tag}

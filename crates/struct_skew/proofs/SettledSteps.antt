@@ -122,6 +122,12 @@ module _ (wire : Wire) (levels : ℕ) (structs : List PlainStruct) where
   declared_settled : (o : Option PlainField) (f : PlainField) (x : Value) → o ≡ Some f → IsSettled structs f.kind (tree_of x) → MatchOption o ⊥ (λ (d : PlainField). IsSettled structs d.kind (tree_of x))
   declared_settled o f x is h = subst (λ (p : Option PlainField). MatchOption p ⊥ (λ (d : PlainField). IsSettled structs d.kind (tree_of x))) (sym is) h
 
+  -- each id is below one that is above the last, and below any where there is none
+  all_below : (fields : List (ℤ × Value)) (last id : ℤ) → ((other : ℤ) → last <ℤ other → AllByRecursion (λ (f : ℤ × Value). f.0 <ℤ other) fields)
+      → ((fields ≡ [] → ⊥) → last <ℤ id) → AllByRecursion (λ (f : ℤ × Value). f.0 <ℤ id) fields
+  all_below [] last id below high = tt
+  all_below (f ∷ fs) last id below high = below id (high (λ e. absurd cc))
+
   module _ (declared : List PlainField) where
     pub fields_kept_begin : (fields : List (ℤ × Value)) (most : ℕ) (start : Unread) → fields ≡ [] → most ≡ length start.bytes → FieldsKept declared fields most (pos 0) start start
     fields_kept_begin fields most start none same = record {
@@ -132,16 +138,16 @@ module _ (wire : Wire) (levels : ℕ) (structs : List PlainStruct) where
     }
 
     pub fields_kept_step : (fields new : List (ℤ × Value)) (most left : ℕ) (last id : ℤ) (tag : Tag) (flag : Option Bool) (f : PlainField) (rest behind inside start : Unread) (x : Value) → most ≡ suc left
-        → FieldsKept declared fields most last rest start → wire.field last rest ≡ Ok (head_of (Field id tag flag), behind) → last <ℤ id → field_with_id id declared ≡ Some f
+        → FieldsKept declared fields most last rest start → wire.field last rest ≡ Ok (head_of (Field id tag flag), behind) → ((fields ≡ [] → ⊥) → last <ℤ id) → field_with_id id declared ≡ Some f
         → ReadsField wire levels structs f.kind tag flag behind (tree_of x) inside → new ≡ fields ++ (id, x) ∷ [] → FieldsKept declared new left id inside start
-    fields_kept_step fields new most left last id tag flag f rest behind inside start x more kept head high here found is = record {
+    fields_kept_step fields new most left last id tag flag f rest behind inside start x more kept head high here found is = let under = all_below fields last id kept.below high in record {
       read = field_put fields new most left last id tag flag rest behind inside start x more kept.read head found.read is;
       settled = subst (λ (fs : List (ℤ × Value)). AllByRecursion (IsFieldSettled structs declared) fs) (sym is)
           (all_push (IsFieldSettled structs declared) fields (id, x) kept.settled (declared_settled (field_with_id id declared) f x here found.settled));
-      rising = subst AreIdsRising (sym is) (rising_push fields (id, x) kept.rising (kept.below id high));
+      rising = subst AreIdsRising (sym is) (rising_push fields (id, x) kept.rising under);
       below = λ other low. subst (λ (fs : List (ℤ × Value)). AllByRecursion (λ (g : ℤ × Value). g.0 <ℤ other) fs) (sym is)
           (all_push (λ (g : ℤ × Value). g.0 <ℤ other) fields (id, x)
-          (all_then (λ (g : ℤ × Value). g.0 <ℤ id) (λ (g : ℤ × Value). g.0 <ℤ other) (λ g under. omega (arith, ints, under, low)) fields (kept.below id high)) low);
+          (all_then (λ (g : ℤ × Value). g.0 <ℤ id) (λ (g : ℤ × Value). g.0 <ℤ other) (λ g less. omega (arith, ints, less, low)) fields under) low);
     }
 
     pub fields_kept_end : (fields : List (ℤ × Value)) (made : Fields) (most left : ℕ) (last : ℤ) (rest behind start : Unread) → most ≡ suc left

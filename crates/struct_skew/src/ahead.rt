@@ -58,19 +58,16 @@ impl<'a> Ahead<'a> {
         fit(behind);
     }
 
-    /// What is left when one more value comes, if one may.
+    /// Counts one more value, if one may come.
     #[inline(always)]
-    pub(crate) fn count_value(self) -> Option<Ahead<'a>>
-        ensures { IfSome result (λ r. count_value self.entry ≡ Ok (tt, r)) }
+    pub(crate) fn count_value(&mut self) -> Option<()>
+        ensures { IfSome result (λ _. count_value self.old ≡ Ok (tt, self.new)) }
     {
         if self.budget == 0 {
             return None;
         }
-        Some(Ahead {
-            bytes: self.bytes,
-            at: self.at,
-            budget: self.budget - 1,
-        })
+        self.budget -= 1;
+        Some(())
     }
 }
 
@@ -82,95 +79,73 @@ fn fit(bytes: &[u8])
 
 /// The head of a field behind the field `last`.
 #[inline(always)]
-pub(crate) fn field<'a, W: Wire>(rest: Ahead<'a>, last: i16) -> Option<(FieldHead, Ahead<'a>)>
-    ensures { IfSome result (λ r. W.wire.field last rest.entry ≡ Ok (head_of r.0, r.1)) }
+pub(crate) fn field<'a, W: Wire>(ahead: &mut Ahead<'a>, last: i16) -> Option<FieldHead>
+    ensures { IfSome result (λ head. W.wire.field last ahead.old ≡ Ok (head_of head, ahead.new)) }
 {
-    match W::field(rest.bytes, rest.at, last) {
-        Ok((head, place)) => Some((
-            head,
-            Ahead {
-                bytes: rest.bytes,
-                at: place,
-                budget: rest.budget,
-            },
-        )),
+    match W::field(ahead.bytes, ahead.at, last) {
+        Ok((head, behind)) => {
+            ahead.at = behind;
+            Some(head)
+        }
         Err(_) => None,
     }
 }
 
 /// A number or a bool.
 #[inline(always)]
-pub(crate) fn scalar<'a, W: Wire>(rest: Ahead<'a>, tag: Tag) -> Option<(Value, Ahead<'a>)>
+pub(crate) fn scalar<'a, W: Wire>(ahead: &mut Ahead<'a>, tag: Tag) -> Option<Value>
     requires { IsScalar tag }
-    ensures { IfSome result (λ r. W.wire.scalar tag rest.entry ≡ Ok (tree_of r.0, r.1)) }
+    ensures { IfSome result (λ value. W.wire.scalar tag ahead.old ≡ Ok (tree_of value, ahead.new)) }
 {
-    match W::scalar(rest.bytes, rest.at, tag) {
-        Ok((value, place)) => Some((
-            value,
-            Ahead {
-                bytes: rest.bytes,
-                at: place,
-                budget: rest.budget,
-            },
-        )),
+    match W::scalar(ahead.bytes, ahead.at, tag) {
+        Ok((value, behind)) => {
+            ahead.at = behind;
+            Some(value)
+        }
         Err(_) => None,
     }
 }
 
 /// The bytes of a text.
-pub(crate) fn span<'a, W: Wire>(rest: Ahead<'a>) -> Option<(&'a [u8], Ahead<'a>)>
-    ensures { IfSome result (λ r. W.wire.span rest.entry ≡ Ok (r.0.now, r.1)) }
+#[inline(always)]
+pub(crate) fn span<'a, W: Wire>(ahead: &mut Ahead<'a>) -> Option<&'a [u8]>
+    ensures { IfSome result (λ text. W.wire.span ahead.old ≡ Ok (text.now, ahead.new)) }
 {
-    match W::span(rest.bytes, rest.at) {
-        Ok((begin, place)) => {
-            let (front, _) = rest.bytes.split_at(place);
+    match W::span(ahead.bytes, ahead.at) {
+        Ok((begin, behind)) => {
+            let (front, _) = ahead.bytes.split_at(behind);
             let (_, text) = front.split_at(begin);
-            Some((
-                text,
-                Ahead {
-                    bytes: rest.bytes,
-                    at: place,
-                    budget: rest.budget,
-                },
-            ))
+            ahead.at = behind;
+            Some(text)
         }
         Err(_) => None,
     }
 }
 
 /// The header of a list or set: the tag of its elements, and their number.
-pub(crate) fn items<'a, W: Wire>(rest: Ahead<'a>) -> Option<(Tag, u32, Ahead<'a>)>
-    ensures { IfSome result (λ r. W.wire.items rest.entry ≡ Ok ((r.0, r.1), r.2)) }
+#[inline(always)]
+pub(crate) fn items<'a, W: Wire>(ahead: &mut Ahead<'a>) -> Option<(Tag, u32)>
+    ensures { IfSome result (λ r. W.wire.items ahead.old ≡ Ok ((r.0, r.1), ahead.new)) }
 {
-    match W::items(rest.bytes, rest.at) {
-        Ok((tag, count, place)) => Some((
-            tag,
-            count,
-            Ahead {
-                bytes: rest.bytes,
-                at: place,
-                budget: rest.budget,
-            },
-        )),
+    match W::items(ahead.bytes, ahead.at) {
+        Ok((tag, count, behind)) => {
+            ahead.at = behind;
+            Some((tag, count))
+        }
         Err(_) => None,
     }
 }
 
 /// The header of a map: the tags of its keys and of their values, and the number of its pairs.
-pub(crate) fn pairs<'a, W: Wire>(rest: Ahead<'a>) -> Option<(Tag, Tag, u32, Ahead<'a>)>
-    ensures { IfSome result (λ r. W.wire.pairs rest.entry ≡ Ok ((r.0, r.1, r.2), r.3)) }
+#[inline(always)]
+pub(crate) fn pairs<'a, W: Wire>(ahead: &mut Ahead<'a>) -> Option<(Tag, Tag, u32)>
+    ensures { IfSome result (λ r. W.wire.pairs ahead.old ≡ Ok ((r.0, r.1, r.2), ahead.new)) }
 {
-    match W::pairs(rest.bytes, rest.at) {
-        Ok((key, value, count, place)) => Some((
-            key,
-            value,
-            count,
-            Ahead {
-                bytes: rest.bytes,
-                at: place,
-                budget: rest.budget,
-            },
-        )),
+    match W::pairs(ahead.bytes, ahead.at) {
+        Ok((key, value, count, behind)) => {
+            ahead.at = behind;
+            Some((key, value, count))
+        }
         Err(_) => None,
     }
 }

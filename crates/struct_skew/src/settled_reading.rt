@@ -52,7 +52,28 @@ fn deeper(levels: u32) -> Option<u32>
     Some(levels - 1)
 }
 
-/// Takes room for as many items as are expected, where none is there yet, so that a short list has just the room that it needs.
+/// An empty list with room for as many items as are expected, so that a short list has just the room that it needs.
+#[inline(always)]
+fn room<T: Drop>(alloc: Global, expected: usize) -> Option<Vec<T>>
+    ensures { IfSome result (λ list. list.items ≡ []) }
+{
+    let mut list = Vec::new(alloc);
+    list.reserve_exact(expected).ok()?;
+    Some(list)
+}
+
+/// One more at the end.
+#[inline(always)]
+fn put<T: Drop>(list: &mut Vec<T>, item: T) -> Option<()>
+    ensures { IfSome result (λ _. list.new.items ≡ list.old.items ++ item ∷ []) }
+{
+    match list.push(item) {
+        Ok(()) => Some(()),
+        Err(_) => None,
+    }
+}
+
+/// Takes room for as many items as are expected, where none is there yet.
 #[inline(always)]
 fn make_room<T: Drop>(list: &mut Vec<T>, expected: usize) -> Option<()>
     ensures { list.new.items ≡ list.old.items }
@@ -63,16 +84,13 @@ fn make_room<T: Drop>(list: &mut Vec<T>, expected: usize) -> Option<()>
     Some(())
 }
 
-/// One more at the end of a list of which so many are expected.
+/// One more at the end of a list of which so many are expected, whose room is taken with the first.
 #[inline(always)]
 fn keep<T: Drop>(list: &mut Vec<T>, expected: usize, item: T) -> Option<()>
     ensures { IfSome result (λ _. list.new.items ≡ list.old.items ++ item ∷ []) }
 {
     make_room(list, expected)?;
-    match list.push(item) {
-        Ok(()) => Some(()),
-        Err(_) => None,
-    }
+    put(list, item)
 }
 
 /// A text in memory of its own.
@@ -86,26 +104,26 @@ fn kept_text(alloc: Global, text: &[u8]) -> Option<Value>
 
 /// The text in front.
 #[inline(never)]
-fn settled_text<'a, W: Wire>(alloc: Global, rest: Ahead<'a>) -> Option<(Value, Ahead<'a>)>
-    ensures { IfSome result (λ r. ReadsLeaf W.wire tags.Bytes rest.entry (tree_of r.0) r.1) }
+fn settled_text<'a, W: Wire>(alloc: Global, ahead: &mut Ahead<'a>) -> Option<Value>
+    ensures { IfSome result (λ value. ReadsLeaf W.wire tags.Bytes ahead.old (tree_of value) ahead.new) }
 {
-    let rest = rest.count_value()?;
-    let (text, rest) = span::<W>(rest)?;
+    ahead.count_value()?;
+    let text = span::<W>(ahead)?;
     let value = kept_text(alloc, text)?;
-    Some((value, rest))
+    Some(value)
 }
 
 /// The number, bool or uuid in front.
 #[inline(always)]
-fn settled_number<'a, W: Wire>(rest: Ahead<'a>, tag: Tag) -> Option<(Value, Ahead<'a>)>
+fn settled_number<'a, W: Wire>(ahead: &mut Ahead<'a>, tag: Tag) -> Option<Value>
     requires { IsScalar tag }
-    ensures { IfSome result (λ r. ReadsLeaf W.wire tag rest.entry (tree_of r.0) r.1) }
+    ensures { IfSome result (λ value. ReadsLeaf W.wire tag ahead.old (tree_of value) ahead.new) }
 {
     value_read_is_spelled::<W>();
-    rest.are_bytes();
-    let rest = rest.count_value()?;
-    let (value, rest) = scalar::<W>(rest, tag)?;
-    Some((value, rest))
+    ahead.are_bytes();
+    ahead.count_value()?;
+    let value = scalar::<W>(ahead, tag)?;
+    Some(value)
 }
 
 /// The value in front under a type of this tag, with so many levels that may still be opened, where it means itself.
@@ -113,37 +131,37 @@ fn settled_number<'a, W: Wire>(rest: Ahead<'a>, tag: Tag) -> Option<(Value, Ahea
 #[inline(always)]
 fn settled_value<'a, W: Wire>(
     alloc: Global,
-    rest: Ahead<'a>,
+    ahead: &mut Ahead<'a>,
     levels: u32,
     schema: &Schema,
     needed: &NeededFields,
     kind: &TypeDesc,
     tag: Tag,
-) -> Option<(Value, Ahead<'a>)>
+) -> Option<Value>
     requires sound { IsSound (schema_of schema.now) }
     requires needed { needed.now ≡ map needs_of (schema_of schema.now).structs }
     requires tag { tag ≡ tag_of_kind (kind_of kind.now) }
-    ensures { IfSome result (λ r. ReadsSettled W.wire levels (schema_of schema.now).structs (kind_of kind.now) rest.entry (tree_of r.0) r.1) }
+    ensures { IfSome result (λ value. ReadsSettled W.wire levels (schema_of schema.now).structs (kind_of kind.now) ahead.old (tree_of value) ahead.new) }
 {
     match tag {
-        Tag::Bytes => settled_text::<W>(alloc, rest),
+        Tag::Bytes => settled_text::<W>(alloc, ahead),
         Tag::Struct => {
             let which = struct_of_kind(kind)?;
-            settled_struct::<W>(alloc, rest, levels, schema, needed, which)
+            settled_struct::<W>(alloc, ahead, levels, schema, needed, which)
         }
         Tag::Map => {
             let (key, value) = map_of_kind(kind)?;
-            settled_map::<W>(alloc, rest, levels, schema, needed, key, value)
+            settled_map::<W>(alloc, ahead, levels, schema, needed, key, value)
         }
         Tag::Set => {
             let member = set_of_kind(kind)?;
-            settled_set::<W>(alloc, rest, levels, schema, needed, member)
+            settled_set::<W>(alloc, ahead, levels, schema, needed, member)
         }
         Tag::List => {
             let element = list_of_kind(kind)?;
-            settled_list::<W>(alloc, rest, levels, schema, needed, element)
+            settled_list::<W>(alloc, ahead, levels, schema, needed, element)
         }
-        tag => settled_number::<W>(rest, tag),
+        tag => settled_number::<W>(ahead, tag),
     }
 }
 
@@ -152,26 +170,24 @@ fn settled_value<'a, W: Wire>(
 #[inline(never)]
 fn settled_list<'a, W: Wire>(
     alloc: Global,
-    rest: Ahead<'a>,
+    ahead: &mut Ahead<'a>,
     levels: u32,
     schema: &Schema,
     needed: &NeededFields,
     element: &TypeDesc,
-) -> Option<(Value, Ahead<'a>)>
+) -> Option<Value>
     requires sound { IsSound (schema_of schema.now) }
     requires needed { needed.now ≡ map needs_of (schema_of schema.now).structs }
-    ensures { IfSome result (λ r. ReadsSettled W.wire levels (schema_of schema.now).structs (kind_list (kind_of element.now)) rest.entry (tree_of r.0) r.1) }
+    ensures { IfSome result (λ value. ReadsSettled W.wire levels (schema_of schema.now).structs (kind_list (kind_of element.now)) ahead.old (tree_of value) ahead.new) }
 {
-    let rest = rest.count_value()?;
+    ahead.count_value()?;
     let levels = deeper(levels)?;
-    let (tag, count, rest) = items::<W>(rest)?;
+    let (tag, count) = items::<W>(ahead)?;
     if !are_same_tags(tag_of_kind(element), tag) {
         return None;
     }
-    let (found, rest) = settled_items::<W>(
-        alloc, rest, levels, schema, needed, element, tag, count,
-    )?;
-    Some((Value::List(tag, found), rest))
+    let found = settled_items::<W>(alloc, ahead, levels, schema, needed, element, tag, count)?;
+    Some(Value::List(tag, found))
 }
 
 /// Whether each member comes before the next.
@@ -193,29 +209,27 @@ fn keys_rise(pairs: &Pairs) -> bool
 #[inline(never)]
 fn settled_set<'a, W: Wire>(
     alloc: Global,
-    rest: Ahead<'a>,
+    ahead: &mut Ahead<'a>,
     levels: u32,
     schema: &Schema,
     needed: &NeededFields,
     member: &TypeDesc,
-) -> Option<(Value, Ahead<'a>)>
+) -> Option<Value>
     requires sound { IsSound (schema_of schema.now) }
     requires needed { needed.now ≡ map needs_of (schema_of schema.now).structs }
-    ensures { IfSome result (λ r. ReadsSettled W.wire levels (schema_of schema.now).structs (kind_set (kind_of member.now)) rest.entry (tree_of r.0) r.1) }
+    ensures { IfSome result (λ value. ReadsSettled W.wire levels (schema_of schema.now).structs (kind_set (kind_of member.now)) ahead.old (tree_of value) ahead.new) }
 {
-    let rest = rest.count_value()?;
+    ahead.count_value()?;
     let levels = deeper(levels)?;
-    let (tag, count, rest) = items::<W>(rest)?;
+    let (tag, count) = items::<W>(ahead)?;
     if !are_same_tags(tag_of_kind(member), tag) {
         return None;
     }
-    let (found, rest) = settled_items::<W>(
-        alloc, rest, levels, schema, needed, member, tag, count,
-    )?;
+    let found = settled_items::<W>(alloc, ahead, levels, schema, needed, member, tag, count)?;
     if !members_rise(&found) {
         return None;
     }
-    Some((Value::Set(tag, found), rest))
+    Some(Value::Set(tag, found))
 }
 
 /// Whether two tags are those of two types.
@@ -233,92 +247,84 @@ fn are_tags_of(key: Tag, key_kind: &TypeDesc, value: Tag, value_kind: &TypeDesc)
 #[inline(never)]
 fn settled_map<'a, W: Wire>(
     alloc: Global,
-    rest: Ahead<'a>,
+    ahead: &mut Ahead<'a>,
     levels: u32,
     schema: &Schema,
     needed: &NeededFields,
     key_kind: &TypeDesc,
     value_kind: &TypeDesc,
-) -> Option<(Value, Ahead<'a>)>
+) -> Option<Value>
     requires sound { IsSound (schema_of schema.now) }
     requires needed { needed.now ≡ map needs_of (schema_of schema.now).structs }
-    ensures { IfSome result (λ r. ReadsSettled W.wire levels (schema_of schema.now).structs (kind_map (kind_of key_kind.now) (kind_of value_kind.now)) rest.entry (tree_of r.0) r.1) }
+    ensures { IfSome result (λ value. ReadsSettled W.wire levels (schema_of schema.now).structs (kind_map (kind_of key_kind.now) (kind_of value_kind.now)) ahead.old (tree_of value) ahead.new) }
 {
-    let rest = rest.count_value()?;
+    ahead.count_value()?;
     let levels = deeper(levels)?;
-    let (key, value, count, rest) = pairs::<W>(rest)?;
+    let (key, value, count) = pairs::<W>(ahead)?;
     if !are_tags_of(key, key_kind, value, value_kind) {
         return None;
     }
-    let (found, rest) = settled_pairs::<W>(
-        alloc, rest, levels, schema, needed, key_kind, value_kind, count,
+    let found = settled_pairs::<W>(
+        alloc, ahead, levels, schema, needed, key_kind, value_kind, count,
     )?;
     if !keys_rise(&found) {
         return None;
     }
-    Some((Value::Map(key, value, found), rest))
+    Some(Value::Map(key, value, found))
 }
 
 /// So many values in front, of a type of this tag.
 #[cycle(settling)]
 fn settled_items<'a, W: Wire>(
     alloc: Global,
-    rest: Ahead<'a>,
+    ahead: &mut Ahead<'a>,
     levels: u32,
     schema: &Schema,
     needed: &NeededFields,
     kind: &TypeDesc,
     tag: Tag,
     count: u32,
-) -> Option<(Items, Ahead<'a>)>
+) -> Option<Items>
     requires sound { IsSound (schema_of schema.now) }
     requires needed { needed.now ≡ map needs_of (schema_of schema.now).structs }
     requires tag { tag ≡ tag_of_kind (kind_of kind.now) }
-    ensures { IfSome result (λ r. ReadsItems W.wire levels (schema_of schema.now).structs (kind_of kind.now) count rest.entry r.0 r.1) }
+    ensures { IfSome result (λ r. ReadsItems W.wire levels (schema_of schema.now).structs (kind_of kind.now) count ahead.old r ahead.new) }
 {
-    let mut items = Vec::new(alloc);
-    let expected = (count as usize).min(MOST_EXPECTED);
-    let mut rest = rest;
+    let mut items = room(alloc, (count as usize).min(MOST_EXPECTED))?;
     for step in 0..count {
-        let (value, behind) = settled_value::<W>(alloc, rest, levels, schema, needed, kind, tag)?;
-        keep(&mut items, expected, value)?;
-        rest = behind;
+        let value = settled_value::<W>(alloc, ahead, levels, schema, needed, kind, tag)?;
+        put(&mut items, value)?;
     }
-    Some((Items::new(items), rest))
+    Some(Items::new(items))
 }
 
 /// So many pairs in front, of keys of a type and values of another.
 #[cycle(settling)]
 fn settled_pairs<'a, W: Wire>(
     alloc: Global,
-    rest: Ahead<'a>,
+    ahead: &mut Ahead<'a>,
     levels: u32,
     schema: &Schema,
     needed: &NeededFields,
     key_kind: &TypeDesc,
     value_kind: &TypeDesc,
     count: u32,
-) -> Option<(Pairs, Ahead<'a>)>
+) -> Option<Pairs>
     requires sound { IsSound (schema_of schema.now) }
     requires needed { needed.now ≡ map needs_of (schema_of schema.now).structs }
-    ensures { IfSome result (λ r. ReadsPairs W.wire levels (schema_of schema.now).structs (kind_of key_kind.now) (kind_of value_kind.now) count rest.entry r.0 r.1) }
+    ensures { IfSome result (λ r. ReadsPairs W.wire levels (schema_of schema.now).structs (kind_of key_kind.now) (kind_of value_kind.now) count ahead.old r ahead.new) }
 {
     let key_tag = tag_of_kind(key_kind);
     let value_tag = tag_of_kind(value_kind);
-    let mut pairs = Vec::new(alloc);
-    let expected = (count as usize).min(MOST_EXPECTED);
-    let mut rest = rest;
+    let mut pairs = room(alloc, (count as usize).min(MOST_EXPECTED))?;
     for step in 0..count {
-        let (key, between) = settled_value::<W>(
-            alloc, rest, levels, schema, needed, key_kind, key_tag,
+        let key = settled_value::<W>(alloc, ahead, levels, schema, needed, key_kind, key_tag)?;
+        let value = settled_value::<W>(
+            alloc, ahead, levels, schema, needed, value_kind, value_tag,
         )?;
-        let (value, behind) = settled_value::<W>(
-            alloc, between, levels, schema, needed, value_kind, value_tag,
-        )?;
-        keep(&mut pairs, expected, (key, value))?;
-        rest = behind;
+        put(&mut pairs, (key, value))?;
     }
-    Some((Pairs::new(pairs), rest))
+    Some(Pairs::new(pairs))
 }
 
 /// The struct in front, of this number.
@@ -326,31 +332,24 @@ fn settled_pairs<'a, W: Wire>(
 #[inline(never)]
 fn settled_struct<'a, W: Wire>(
     alloc: Global,
-    rest: Ahead<'a>,
+    ahead: &mut Ahead<'a>,
     levels: u32,
     schema: &Schema,
     needed: &NeededFields,
     which: u32,
-) -> Option<(Value, Ahead<'a>)>
+) -> Option<Value>
     requires sound { IsSound (schema_of schema.now) }
     requires needed { needed.now ≡ map needs_of (schema_of schema.now).structs }
-    ensures { IfSome result (λ r. ReadsSettled W.wire levels (schema_of schema.now).structs (kind_struct which) rest.entry (tree_of r.0) r.1) }
+    ensures { IfSome result (λ value. ReadsSettled W.wire levels (schema_of schema.now).structs (kind_struct which) ahead.old (tree_of value) ahead.new) }
 {
-    let rest = rest.count_value()?;
+    ahead.count_value()?;
     let levels = deeper(levels)?;
     let (desc, needs) = struct_at(schema, needed, which)?;
-    let (fields, rest) = settled_fields::<W>(
-        alloc,
-        rest,
-        levels,
-        schema,
-        needed,
-        desc.fields.as_slice(),
-    )?;
+    let fields = settled_fields::<W>(alloc, ahead, levels, schema, needed, desc.fields.as_slice())?;
     if !has_all(desc, needs, &fields) {
         return None;
     }
-    Some((Value::Struct(fields), rest))
+    Some(Value::Struct(fields))
 }
 
 /// Whether each field is there that has to be there or has a default, and of a union exactly one.
@@ -406,37 +405,48 @@ fn declared_near(declared: &[FieldDesc], place: usize, id: i16) -> Option<(&Fiel
 #[inline(always)]
 fn settled_field<'a, W: Wire>(
     alloc: Global,
-    rest: Ahead<'a>,
+    ahead: &mut Ahead<'a>,
     levels: u32,
     schema: &Schema,
     needed: &NeededFields,
     kind: &TypeDesc,
     tag: Tag,
     flag: Option<bool>,
-) -> Option<(Value, Ahead<'a>)>
+) -> Option<Value>
     requires sound { IsSound (schema_of schema.now) }
     requires needed { needed.now ≡ map needs_of (schema_of schema.now).structs }
-    ensures { IfSome result (λ r. ReadsField W.wire levels (schema_of schema.now).structs (kind_of kind.now) tag flag rest.entry (tree_of r.0) r.1) }
+    ensures { IfSome result (λ value. ReadsField W.wire levels (schema_of schema.now).structs (kind_of kind.now) tag flag ahead.old (tree_of value) ahead.new) }
 {
     if let Some(flag) = flag {
-        return settled_flag(rest, kind, flag);
+        return settled_flag(ahead, kind, flag);
     }
     if !are_same_tags(tag_of_kind(kind), tag) {
         return None;
     }
-    settled_value::<W>(alloc, rest, levels, schema, needed, kind, tag)
+    settled_value::<W>(alloc, ahead, levels, schema, needed, kind, tag)
 }
 
 /// The bool that a field's head has, where the field is one of bools.
 #[tactic(auto, using(thrift_value::proofs::Trees::tree_equations))]
-fn settled_flag<'a>(rest: Ahead<'a>, kind: &TypeDesc, flag: bool) -> Option<(Value, Ahead<'a>)>
-    ensures { IfSome result (λ r. (count_value rest.entry ≡ Ok (tt, r.1)) × (tree_of r.0 ≡ of_bool flag) × (tag_of_kind (kind_of kind.now) ≡ tags.Bool)) }
+fn settled_flag<'a>(ahead: &mut Ahead<'a>, kind: &TypeDesc, flag: bool) -> Option<Value>
+    ensures { IfSome result (λ value. (count_value ahead.old ≡ Ok (tt, ahead.new)) × (tree_of value ≡ of_bool flag) × (tag_of_kind (kind_of kind.now) ≡ tags.Bool)) }
 {
     if !are_same_tags(tag_of_kind(kind), Tag::Bool) {
         return None;
     }
-    let rest = rest.count_value()?;
-    Some((Value::Bool(flag), rest))
+    ahead.count_value()?;
+    Some(Value::Bool(flag))
+}
+
+/// Whether an id is above the last one, or the first, which any may be.
+#[inline(always)]
+fn is_behind(fields: &Vec<(i16, Value)>, last: i16, id: i16) -> bool
+    ensures { OnTrue result ((fields.now.items ≡ [] → ⊥) → last <ℤ id) }
+{
+    if last < id {
+        return true;
+    }
+    fields.is_empty()
 }
 
 /// The fields of a struct in front, up to its end.
@@ -444,35 +454,34 @@ fn settled_flag<'a>(rest: Ahead<'a>, kind: &TypeDesc, flag: bool) -> Option<(Val
 #[inline(always)]
 fn settled_fields<'a, W: Wire>(
     alloc: Global,
-    rest: Ahead<'a>,
+    ahead: &mut Ahead<'a>,
     levels: u32,
     schema: &Schema,
     needed: &NeededFields,
     declared: &[FieldDesc],
-) -> Option<(Fields, Ahead<'a>)>
+) -> Option<Fields>
     requires sound { IsSound (schema_of schema.now) }
     requires needed { needed.now ≡ map needs_of (schema_of schema.now).structs }
     requires rising { AllPairs (λ (f g : PlainField). f.id <ℤ g.id) (map plain_field declared.now) }
-    ensures { IfSome result (λ r. ReadsFields W.wire levels (schema_of schema.now).structs (map plain_field declared.now) rest.entry r.0 r.1) }
+    ensures { IfSome result (λ r. ReadsFields W.wire levels (schema_of schema.now).structs (map plain_field declared.now) ahead.old r ahead.new) }
 {
     let mut fields = Vec::new(alloc);
     let expected = declared.len().min(MOST_EXPECTED_FIELDS);
     let mut last = 0;
     let mut next = 0;
-    let mut rest = rest;
     // Each header takes a byte at least: the count shows that the loop ends.
-    for step in 0..rest.len() {
-        let (head, behind) = field::<W>(rest, last)?;
+    for step in 0..ahead.len() {
+        let head = field::<W>(ahead, last)?;
         match head {
-            FieldHead::Stop => return Some((Fields::new(fields), behind)),
+            FieldHead::Stop => return Some(Fields::new(fields)),
             FieldHead::Field { id, tag, flag } => {
-                if id <= last {
+                if !is_behind(&fields, last, id) {
                     return None;
                 }
                 let (found, place) = declared_near(declared, next, id)?;
-                let (value, behind) = settled_field::<W>(
+                let value = settled_field::<W>(
                     alloc,
-                    behind,
+                    ahead,
                     levels,
                     schema,
                     needed,
@@ -483,7 +492,6 @@ fn settled_fields<'a, W: Wire>(
                 keep(&mut fields, expected, (id, value))?;
                 last = id;
                 next = place.wrapping_add(1);
-                rest = behind;
                 continue;
             }
         }
@@ -506,13 +514,7 @@ pub(crate) fn settled_in<W: Wire>(
     ensures { IfSome result (λ r. read_then_projected W.wire (schema_of schema.now) which bytes.now at ≡ Ok (tree_of r.0, r.1)) }
 {
     value_read_is_spelled::<W>();
-    let (value, rest) = settled_struct::<W>(
-        alloc,
-        Ahead::new(bytes, at),
-        64,
-        schema,
-        needed,
-        which,
-    )?;
-    Some((value, bytes.len() - rest.len()))
+    let mut ahead = Ahead::new(bytes, at);
+    let value = settled_struct::<W>(alloc, &mut ahead, 64, schema, needed, which)?;
+    Some((value, bytes.len() - ahead.len()))
 }

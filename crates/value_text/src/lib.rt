@@ -35,6 +35,7 @@ mod form;
 mod fronts;
 mod heads;
 mod leaves;
+mod numbered;
 mod printer;
 mod reading;
 mod rows;

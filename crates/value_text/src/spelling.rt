@@ -14,8 +14,8 @@ ghost use Rattle.value_text.specs.Handing.{HandsOver, HandsText, BreaksOff};
 ghost use Rattle.value_text.specs.Plain.{is_plain};
 ghost use Rattle.value_text.specs.ValueText.{tag_word, number_and_letter, double_text, uuid_text, tree_text, listed_fields, listed_items, listed_pairs, further_fields, further_items, further_pairs};
 
+use crate::numbered::{MOST_NUMBER, MOST_NUMBERED, put_number, put_numbered};
 use crate::words::word_of;
-use itoa::Buffer;
 use outside::{Failed, Sink};
 use thrift_value::{Tag, Value};
 
@@ -72,15 +72,10 @@ fn digit_of(number: i64) -> Option<u8>
 fn spell_digits<K: Sink>(out: &mut K, number: i64, letter: u8) -> Result<(), Failed>
     ensures { HandsText (K.taken out.old) (K.taken out.new) (K.faults out.old) (K.faults out.new) (number_and_letter number (letter ∷ [])) result }
 {
-    spell_decimal(out, number)?;
-    hand_over(out, &[letter])
-}
-
-fn spell_decimal<K: Sink>(out: &mut K, number: i64) -> Result<(), Failed>
-    ensures { HandsText (K.taken out.old) (K.taken out.new) (K.faults out.old) (K.faults out.new) (decimal_of number) result }
-{
-    let mut buffer = Buffer::new();
-    hand_over(out, buffer.format(number).as_bytes())
+    let mut room = [0; MOST_NUMBER];
+    let start = put_number(&mut room, number, letter);
+    let (_, text) = room.split_at(start);
+    hand_over(out, text)
 }
 
 /// Writes a mark, and the id of a field with the `=` behind it.
@@ -356,8 +351,44 @@ fn spell_field<K: Sink>(out: &mut K, mark: u8, id: &i16, value: &Value) -> Resul
     ensures { HandsText (K.taken out.old) (K.taken out.new) (K.faults out.old) (K.faults out.new)
         ((mark ∷ number_and_letter id.now (codes "=")) ++ tree_text (tree_of value.now)) result }
 {
+    if let Some((number, letter)) = number_of(value) {
+        return spell_numbered(out, mark, *id, number, letter);
+    }
     spell_id(out, mark, id)?;
     spell_value(out, value)
+}
+
+/// The number which a value is, and the letter of its type.
+#[tactic(auto, using(thrift_value::proofs::Trees::tree_equations))]
+#[inline(always)]
+fn number_of(value: &Value) -> Option<(i64, u8)>
+    ensures { IfSome result (λ found. tree_text (tree_of value.now) ≡ number_and_letter found.0 (found.1 ∷ [])) }
+{
+    match value {
+        Value::I8(n) => Some((i64::from(*n), b'b')),
+        Value::I16(n) => Some((i64::from(*n), b's')),
+        Value::I32(n) => Some((i64::from(*n), b'i')),
+        Value::I64(n) => Some((*n, b'l')),
+        _ => None,
+    }
+}
+
+/// Writes a mark, a field's id, and a number with the letter of its type.
+#[inline(always)]
+fn spell_numbered<K: Sink>(
+    out: &mut K,
+    mark: u8,
+    id: i16,
+    number: i64,
+    letter: u8,
+) -> Result<(), Failed>
+    ensures { HandsText (K.taken out.old) (K.taken out.new) (K.faults out.old) (K.faults out.new)
+        ((mark ∷ number_and_letter id (codes "=")) ++ number_and_letter number (letter ∷ [])) result }
+{
+    let mut room = [0; MOST_NUMBERED];
+    let start = put_numbered(&mut room, mark, id, number, letter);
+    let (_, text) = room.split_at(start);
+    hand_over(out, text)
 }
 
 /// Writes elements with commas between them.

@@ -1,4 +1,4 @@
-use Rattle.std.proofs.Common.{◌≡◌, true, Less, map, refl, sym, ap, ◌∙◌, rules, arith}
+use Rattle.std.proofs.Common.{◌≡◌, Less, map, refl, ap, ◌∙◌, rules}
 use Rattle.std.specs.Bool.{one_answer}
 use Rattle.std.specs.Ordering.{is_ge}
 use Rattle.thrift_value.specs.Order.{tree_cmp}

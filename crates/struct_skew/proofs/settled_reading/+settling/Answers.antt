@@ -1,7 +1,6 @@
 use Rattle.std.proofs.Common.{◌≡◌, ℤ, suc, ◌+◌, ◌-◌, ◌∙◌, map, Ok, sym, ap, subst, arith, rules, FitsSigned, to_z, of_z}
-use Rattle.std.specs.Prelude.{◌<ℤ◌}
 use Rattle.std.specs.Int.{w16}
-use Rattle.std.proofs.lemmas.Int.{ints, to_z-of_z}
+use Rattle.std.proofs.lemmas.Int.{to_z-of_z}
 use Rattle.schema.specs.PlainKind.{kind_of}
 use Rattle.schema.specs.SchemaOf.{schema_of, plain_field, plain_struct}
 use Rattle.wire_model.specs.declared.one_pass.FieldHead.TheVariants.{Field}
@@ -16,73 +15,71 @@ use Rattle.struct_skew.proofs.settled_reading.+settling.Goals as goal
 pub settled_fields-returns-in-Stop : goal.settled_fields-returns-in-Stop
 settled_fields-returns-in-Stop g t c =
     fields_kept_end g.W.WireProtocol.wire c.args.levels (schema_of c.args.schema.now).structs (map plain_field c.args.declared.now) c.loop-step.fields.items c.new.result
-    (c.len-step-end.result - c.loop-step.step) (c.len-step-end.result - (c.loop-step.step + 1)) (to_z w16 c.loop-step.last-bits) c.loop-step.rest c.in_ok-head.behind c.args.rest
+    (c.len-step-end.result - c.loop-step.step) (c.len-step-end.result - (c.loop-step.step + 1)) (to_z w16 c.loop-step.last-bits) c.loop-step.ahead c.field.new.ahead c.args.ahead.now
     (let more : c.len-step-end.result - c.loop-step.step ≡ suc (c.len-step-end.result - (c.loop-step.step + 1)) = omega arith in more) c.loop-step.invariant
-    (c.in_ok-head.ensures ∙ ap (λ h. Ok (head_of h, c.in_ok-head.behind)) c.in-Stop.is) c.new.ensures
+    (c.in_ok-head.ensures ∙ ap (λ h. Ok (head_of h, c.field.new.ahead)) c.in-Stop.is) c.new.ensures
 
 pub settled_fields-loop-step-preserved : goal.settled_fields-loop-step-preserved
 settled_fields-loop-step-preserved g t c =
     let fits : FitsSigned w16 c.in-Field.id = search rules in
     let id : ℤ = to_z w16 (of_z w16 c.in-Field.id) in
     let same : c.in-Field.id ≡ id = sym (to_z-of_z w16 c.in-Field.id fits) in
-    let above : to_z w16 c.loop-step.last-bits <ℤ c.in-Field.id = omega (arith, ints, c.if-id-last.false) in
     let declared = map plain_field c.args.declared.now in
     fields_kept_step g.W.WireProtocol.wire c.args.levels (schema_of c.args.schema.now).structs declared c.loop-step.fields.items _
     (c.len-step-end.result - c.loop-step.step) (c.len-step-end.result - (c.loop-step.step + 1)) (to_z w16 c.loop-step.last-bits) id c.in-Field.tag c.in-Field.flag
-    (plain_field c.in_ok-found-in-Field.found.now) c.loop-step.rest c.in_ok-head.behind c.in_ok-value-in-Field.behind c.args.rest c.in_ok-value-in-Field.value
+    (plain_field c.in_ok-found-in-Field.found.now) c.loop-step.ahead c.field.new.ahead _ c.args.ahead.now c.in_ok-value-in-Field.value
     (let more : c.len-step-end.result - c.loop-step.step ≡ suc (c.len-step-end.result - (c.loop-step.step + 1)) = omega arith in more) c.loop-step.invariant
-    (c.in_ok-head.ensures ∙ ap (λ h. Ok (head_of h, c.in_ok-head.behind)) c.in-Field.is ∙ ap (λ z. Ok (head_of (Field z c.in-Field.tag c.in-Field.flag), c.in_ok-head.behind)) same)
-    (subst (λ z. to_z w16 c.loop-step.last-bits <ℤ z) same above)
-    c.in_ok-found-in-Field.ensures c.in_ok-value-in-Field.ensures c.in_ok-keep-in-Field.ensures
+    (c.in_ok-head.ensures ∙ ap (λ h. Ok (head_of h, c.field.new.ahead)) c.in-Field.is ∙ ap (λ z. Ok (head_of (Field z c.in-Field.tag c.in-Field.flag), c.field.new.ahead)) same)
+    c.if-not-is_behind.ensures c.in_ok-found-in-Field.ensures c.in_ok-value-in-Field.ensures c.in_ok-keep-in-Field.ensures
 
 pub settled_items-loop-step-preserved : goal.settled_items-loop-step-preserved
 settled_items-loop-step-preserved g t c =
     items_kept_step g.W.WireProtocol.wire c.args.levels (schema_of c.args.schema.now).structs (kind_of c.args.kind.now) c.loop-step.items.items _ c.in_ok-value.value
-    (c.args.count - c.loop-step.step) (c.args.count - (c.loop-step.step + 1)) c.loop-step.rest c.in_ok-value.behind c.args.count c.args.rest
-    (let more : c.args.count - c.loop-step.step ≡ suc (c.args.count - (c.loop-step.step + 1)) = omega arith in more) c.loop-step.invariant c.in_ok-value.ensures c.in_ok-keep.ensures
+    (c.args.count - c.loop-step.step) (c.args.count - (c.loop-step.step + 1)) c.loop-step.ahead _ c.args.count c.args.ahead.now
+    (let more : c.args.count - c.loop-step.step ≡ suc (c.args.count - (c.loop-step.step + 1)) = omega arith in more) c.loop-step.invariant c.in_ok-value.ensures c.in_ok-put.ensures
 
 pub settled_items-returns : goal.settled_items-returns
 settled_items-returns g t c =
     items_kept_end g.W.WireProtocol.wire c.args.levels (schema_of c.args.schema.now).structs (kind_of c.args.kind.now) c.loop-step.items.items c.new.result
-    (c.args.count - c.loop-step.step) c.loop-step.rest c.args.count c.args.rest (let none : c.args.count - c.loop-step.step ≡ 0 = omega arith in none) c.loop-step.invariant c.new.ensures
+    (c.args.count - c.loop-step.step) c.loop-step.ahead c.args.count c.args.ahead.now (let none : c.args.count - c.loop-step.step ≡ 0 = omega arith in none) c.loop-step.invariant c.new.ensures
 
 pub settled_pairs-loop-step-preserved : goal.settled_pairs-loop-step-preserved
 settled_pairs-loop-step-preserved g t c =
     pairs_kept_step g.W.WireProtocol.wire c.args.levels (schema_of c.args.schema.now).structs (kind_of c.args.key_kind.now) (kind_of c.args.value_kind.now) c.loop-step.pairs.items _
-    c.in_ok-key.key c.in_ok-value.value (c.args.count - c.loop-step.step) (c.args.count - (c.loop-step.step + 1)) c.loop-step.rest c.in_ok-key.between c.in_ok-value.behind c.args.count c.args.rest
-    (let more : c.args.count - c.loop-step.step ≡ suc (c.args.count - (c.loop-step.step + 1)) = omega arith in more) c.loop-step.invariant c.in_ok-key.ensures c.in_ok-value.ensures c.in_ok-keep.ensures
+    c.in_ok-key.key c.in_ok-value.value (c.args.count - c.loop-step.step) (c.args.count - (c.loop-step.step + 1)) c.loop-step.ahead _ _ c.args.count c.args.ahead.now
+    (let more : c.args.count - c.loop-step.step ≡ suc (c.args.count - (c.loop-step.step + 1)) = omega arith in more) c.loop-step.invariant c.in_ok-key.ensures c.in_ok-value.ensures c.in_ok-put.ensures
 
 pub settled_pairs-returns : goal.settled_pairs-returns
 settled_pairs-returns g t c =
     pairs_kept_end g.W.WireProtocol.wire c.args.levels (schema_of c.args.schema.now).structs (kind_of c.args.key_kind.now) (kind_of c.args.value_kind.now) c.loop-step.pairs.items c.new.result
-    (c.args.count - c.loop-step.step) c.loop-step.rest c.args.count c.args.rest (let none : c.args.count - c.loop-step.step ≡ 0 = omega arith in none) c.loop-step.invariant c.new.ensures
+    (c.args.count - c.loop-step.step) c.loop-step.ahead c.args.count c.args.ahead.now (let none : c.args.count - c.loop-step.step ≡ 0 = omega arith in none) c.loop-step.invariant c.new.ensures
 
 pub settled_list-returns : goal.settled_list-returns
 settled_list-returns g t c =
     let kind = kind_of c.args.element.now in
-    list_read g.W.WireProtocol.wire c.args.levels c.in_ok-levels.levels (schema_of c.args.schema.now).structs c.args.rest c.in_ok-rest.rest c.in_ok-rest.ensures c.in_ok-levels.ensures
-    c.in_ok-tag.tag c.in_ok-tag.count c.in_ok-tag.rest c.in_ok-found.rest c.in_ok-found.found kind c.in_ok-tag.ensures
+    list_read g.W.WireProtocol.wire c.args.levels c.in_ok-levels.levels (schema_of c.args.schema.now).structs c.args.ahead.now _ c.in_ok-count_value.ensures c.in_ok-levels.ensures
+    c.in_ok-tag.tag c.in_ok-tag.count _ _ c.in_ok-found.found kind c.in_ok-tag.ensures
     (sym (same_tags (tag_of_kind kind) c.in_ok-tag.tag (c.if-not-are_same_tags.ensures ∙ ap (λ a. are_same_tags a c.in_ok-tag.tag) c.tag_of_kind.ensures))) c.in_ok-found.ensures
 
 pub settled_set-returns : goal.settled_set-returns
 settled_set-returns g t c =
     let kind = kind_of c.args.member.now in
-    set_read g.W.WireProtocol.wire c.args.levels c.in_ok-levels.levels (schema_of c.args.schema.now).structs c.args.rest c.in_ok-rest.rest c.in_ok-rest.ensures c.in_ok-levels.ensures
-    c.in_ok-tag.tag c.in_ok-tag.count c.in_ok-tag.rest c.in_ok-found.rest c.in_ok-found.found kind c.in_ok-tag.ensures
+    set_read g.W.WireProtocol.wire c.args.levels c.in_ok-levels.levels (schema_of c.args.schema.now).structs c.args.ahead.now _ c.in_ok-count_value.ensures c.in_ok-levels.ensures
+    c.in_ok-tag.tag c.in_ok-tag.count _ _ c.in_ok-found.found kind c.in_ok-tag.ensures
     (sym (same_tags (tag_of_kind kind) c.in_ok-tag.tag (c.if-not-are_same_tags.ensures ∙ ap (λ a. are_same_tags a c.in_ok-tag.tag) c.tag_of_kind.ensures))) c.in_ok-found.ensures
     c.if-not-members_rise.ensures
 
 pub settled_map-returns : goal.settled_map-returns
 settled_map-returns g t c =
-    map_read g.W.WireProtocol.wire c.args.levels c.in_ok-levels.levels (schema_of c.args.schema.now).structs c.args.rest c.in_ok-rest.rest c.in_ok-rest.ensures c.in_ok-levels.ensures
-    c.in_ok-key.key c.in_ok-key.value c.in_ok-key.count c.in_ok-key.rest c.in_ok-found.rest c.in_ok-found.found (kind_of c.args.key_kind.now) (kind_of c.args.value_kind.now) c.in_ok-key.ensures
+    map_read g.W.WireProtocol.wire c.args.levels c.in_ok-levels.levels (schema_of c.args.schema.now).structs c.args.ahead.now _ c.in_ok-count_value.ensures c.in_ok-levels.ensures
+    c.in_ok-key.key c.in_ok-key.value c.in_ok-key.count _ _ c.in_ok-found.found (kind_of c.args.key_kind.now) (kind_of c.args.value_kind.now) c.in_ok-key.ensures
     c.if-not-are_tags_of.ensures.0 c.if-not-are_tags_of.ensures.1 c.in_ok-found.ensures c.if-not-keys_rise.ensures
 
 pub settled_struct-returns : goal.settled_struct-returns
 settled_struct-returns g t c =
     let at = c.in_ok-desc.ensures in
     let all = c.if-not-has_all.ensures in
-    struct_read g.W.WireProtocol.wire c.args.levels c.in_ok-levels.levels (schema_of c.args.schema.now).structs c.args.rest c.in_ok-rest.rest c.in_ok-rest.ensures c.in_ok-levels.ensures
-    c.args.which (plain_struct c.in_ok-desc.desc.now) c.in_ok-fields.fields c.in_ok-fields.rest at.here
-    (subst (λ ds. ReadsFields g.W.WireProtocol.wire c.in_ok-levels.levels (schema_of c.args.schema.now).structs (map plain_field ds) c.in_ok-rest.rest c.in_ok-fields.fields c.in_ok-fields.rest) c.as_slice.ensures c.in_ok-fields.ensures)
+    struct_read g.W.WireProtocol.wire c.args.levels c.in_ok-levels.levels (schema_of c.args.schema.now).structs c.args.ahead.now _ c.in_ok-count_value.ensures c.in_ok-levels.ensures
+    c.args.which (plain_struct c.in_ok-desc.desc.now) c.in_ok-fields.fields c.settled_fields.new.ahead at.here
+    (subst (λ ds. ReadsFields g.W.WireProtocol.wire c.in_ok-levels.levels (schema_of c.args.schema.now).structs (map plain_field ds) c.count_value.new.self c.in_ok-fields.fields c.settled_fields.new.ahead) c.as_slice.ensures c.in_ok-fields.ensures)
     all.0 all.1

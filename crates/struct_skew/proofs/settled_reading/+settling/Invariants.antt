@@ -34,12 +34,12 @@ decreases-settled_fields g l = 4 * l.levels + 3
 -- what was read means itself, and stands in front of what is read of the rest
 abbrev pub invariant-settled_items-loop-step : goal.invariant-settled_items-loop-step
 invariant-settled_items-loop-step g l =
-    ItemsKept g.W.WireProtocol.wire l.levels (schema_of l.schema).structs (kind_of l.kind) l.items.items (l.count - l.step) l.rest l.fn.count l.fn.rest
+    ItemsKept g.W.WireProtocol.wire l.levels (schema_of l.schema).structs (kind_of l.kind) l.items.items (l.count - l.step) l.ahead l.fn.count l.fn.ahead
 
 abbrev pub invariant-settled_pairs-loop-step : goal.invariant-settled_pairs-loop-step
 invariant-settled_pairs-loop-step g l =
-    PairsKept g.W.WireProtocol.wire l.levels (schema_of l.schema).structs (kind_of l.key_kind) (kind_of l.value_kind) l.pairs.items (l.count - l.step) l.rest l.fn.count l.fn.rest
+    PairsKept g.W.WireProtocol.wire l.levels (schema_of l.schema).structs (kind_of l.key_kind) (kind_of l.value_kind) l.pairs.items (l.count - l.step) l.ahead l.fn.count l.fn.ahead
 
 abbrev pub invariant-settled_fields-loop-step : goal.invariant-settled_fields-loop-step
 invariant-settled_fields-loop-step g l =
-    FieldsKept g.W.WireProtocol.wire l.levels (schema_of l.schema).structs (map plain_field l.declared) l.fields.items (l.step-end - l.step) l.last l.rest l.fn.rest
+    FieldsKept g.W.WireProtocol.wire l.levels (schema_of l.schema).structs (map plain_field l.declared) l.fields.items (l.step-end - l.step) l.last l.ahead l.fn.ahead

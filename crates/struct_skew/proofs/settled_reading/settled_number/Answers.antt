@@ -4,5 +4,5 @@ use Rattle.struct_skew.proofs.settled_reading.settled_number.Goals as goal
 
 pub returns : goal.returns
 returns g c =
-    number_read g.W.WireProtocol.wire c.args.tag c.args.rest c.in_ok-rest.rest c.in_ok-value.rest (tree_of c.in_ok-value.value) c.requires c.in_ok-rest.ensures c.in_ok-value.ensures
-    (λ e. (c.value_read_is_spelled.ensures 0 c.args.tag c.args.rest c.in_ok-value.rest (tree_of c.in_ok-value.value) c.are_bytes.ensures e).kind)
+    number_read g.W.WireProtocol.wire c.args.tag _ _ _ (tree_of c.in_ok-value.value) c.requires c.in_ok-count_value.ensures c.in_ok-value.ensures
+    (λ e. (c.value_read_is_spelled.ensures 0 c.args.tag _ _ (tree_of c.in_ok-value.value) c.are_bytes.ensures e).kind)

@@ -4,4 +4,4 @@ use Rattle.struct_skew.proofs.settled_reading.settled_text.Goals as goal
 
 pub returns : goal.returns
 returns g c =
-    text_read g.W.WireProtocol.wire c.args.rest c.in_ok-rest.rest c.in_ok-text.rest c.in_ok-text.text.now (tree_of c.in_ok-value.value) c.in_ok-rest.ensures c.in_ok-text.ensures c.in_ok-value.ensures
+    text_read g.W.WireProtocol.wire _ _ _ c.in_ok-text.text.now (tree_of c.in_ok-value.value) c.in_ok-count_value.ensures c.in_ok-text.ensures c.in_ok-value.ensures
