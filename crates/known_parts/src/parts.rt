@@ -19,7 +19,8 @@ use std::alloc::{AllocError, Global};
 use thrift_value::{ByteText, Items, Pairs, Tag, Value, WireFault};
 
 /// One level less, if there is one.
-pub(crate) fn deeper(levels: u32) -> Result<u32, WireFault>
+#[inline(always)]
+pub fn deeper(levels: u32) -> Result<u32, WireFault>
     ensures { MatchResult result (λ n. levels ≡ suc n) (λ fault. (levels ≡ 0) × (fault ≡ WireFault.TooDeep)) }
 {
     if levels == 0 {
@@ -30,20 +31,21 @@ pub(crate) fn deeper(levels: u32) -> Result<u32, WireFault>
 
 /// A text in memory of its own.
 #[tactic(auto, using(thrift_value::proofs::Trees::tree_equations))]
-pub(crate) fn kept_text(alloc: Global, text: &[u8]) -> Result<Value, AllocError>
+pub fn kept_text(alloc: Global, text: &[u8]) -> Result<Value, AllocError>
     ensures { IfOk result (λ value. tree_of value ≡ of_bytes text.now) }
 {
     Ok(Value::Bytes(ByteText::new(text.to_vec(alloc)?)))
 }
 
 /// The most items for which room is taken before they are read.
-const MOST_EXPECTED: usize = 1024;
+pub const MOST_EXPECTED: usize = 1024;
 
 /// The most fields for which room is taken before they are read, of a struct that may be sent with few of many.
-const MOST_EXPECTED_FIELDS: usize = 4;
+pub const MOST_EXPECTED_FIELDS: usize = 4;
 
 /// Takes room for as many items as are expected, where none is there yet, so that a short list has just the room that it needs.
-fn make_room<T: Drop>(list: &mut Vec<T>, expected: usize) -> Result<(), AllocError>
+#[inline(always)]
+pub fn make_room<T: Drop>(list: &mut Vec<T>, expected: usize) -> Result<(), AllocError>
     ensures { list.new.items ≡ list.old.items }
 {
     if list.is_empty() {
@@ -52,13 +54,22 @@ fn make_room<T: Drop>(list: &mut Vec<T>, expected: usize) -> Result<(), AllocErr
     Ok(())
 }
 
-/// One more at the end of a list of which so many are expected.
-pub(crate) fn keep<T: Drop>(list: &mut Vec<T>, expected: u32, item: T) -> Result<(), AllocError>
+/// One more at the end.
+#[inline(always)]
+pub fn put<T: Drop>(list: &mut Vec<T>, item: T) -> Result<(), AllocError>
     ensures { OnOk result (list.new.items ≡ list.old.items ++ item ∷ []) }
 {
-    make_room(list, (expected as usize).min(MOST_EXPECTED))?;
     list.push(item)?;
     Ok(())
+}
+
+/// One more at the end of a list of which so many are expected, whose room is taken with the first.
+#[inline(always)]
+pub fn keep<T: Drop>(list: &mut Vec<T>, expected: usize, item: T) -> Result<(), AllocError>
+    ensures { OnOk result (list.new.items ≡ list.old.items ++ item ∷ []) }
+{
+    make_room(list, expected)?;
+    put(list, item)
 }
 
 /// How many fields are expected of the struct at a number: as many as it declares, and few where these are many.
@@ -80,8 +91,7 @@ pub(crate) fn keep_some(
 {
     match item {
         Some(value) => {
-            make_room(list, expected)?;
-            list.push((*id, value))?;
+            keep(list, expected, (*id, value))?;
             Ok(())
         }
         None => Ok(()),
@@ -177,7 +187,7 @@ pub(crate) fn list_of(element: &TypeDesc, items: Option<Items>) -> Option<Value>
 }
 
 /// The declared field with an id of the struct at a number.
-pub(crate) fn declared_field<'a>(schema: &'a Schema, which: u32, id: &i16) -> Option<&'a FieldDesc>
+pub fn declared_field<'a>(schema: &'a Schema, which: u32, id: &i16) -> Option<&'a FieldDesc>
     requires { IsSound (schema_of schema.now) }
     ensures { option_map plain_field (option_copied result) ≡ field_at (schema_of schema.now) which id.now }
 {

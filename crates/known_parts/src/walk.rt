@@ -18,8 +18,8 @@ ghost use Rattle.known_parts.specs.Parts.{tag_of_kind};
 
 use crate::kinds::{are_same_tags, tag_of_kind};
 use crate::parts::{
-    both, declared_field, deeper, element_kind, expected_fields, keep, keep_some, kept_text,
-    known_flag, list_of, map_kinds, map_of, member_kind, set_of, struct_kind,
+    MOST_EXPECTED, both, declared_field, deeper, element_kind, expected_fields, keep, keep_some,
+    kept_text, known_flag, list_of, map_kinds, map_of, member_kind, set_of, struct_kind,
 };
 use crate::passing::{pass_items, pass_pairs};
 use crate::rest::{Rest, field, items, pairs, scalar, skip, span};
@@ -208,6 +208,7 @@ fn known_items<'a, W: Wire>(
         (read_seen (λ all. known_items (schema_of schema.now) all (kind_of kind.now)) (item_list (value W.wire levels) tag count rest.entry)) }
 {
     let mut items = Vec::new(alloc);
+    let expected = (count as usize).min(MOST_EXPECTED);
     let mut rest = rest;
     for step in 0..count {
         let (part, behind) = known_value::<W>(alloc, rest, levels, schema, kind, tag)?;
@@ -215,7 +216,7 @@ fn known_items<'a, W: Wire>(
             let end = pass_items::<W>(behind, levels, tag, count - step - 1)?;
             return Ok((None, end));
         };
-        keep(&mut items, count, value)?;
+        keep(&mut items, expected, value)?;
         rest = behind;
     }
     Ok((Some(Items::new(items)), rest))
@@ -241,6 +242,7 @@ fn known_pairs<'a, W: Wire>(
         (pair_list (value W.wire levels) key_tag value_tag count rest.entry)) }
 {
     let mut pairs = Vec::new(alloc);
+    let expected = (count as usize).min(MOST_EXPECTED);
     let mut rest = rest;
     for step in 0..count {
         let (key, between) = known_value::<W>(alloc, rest, levels, schema, key_kind, key_tag)?;
@@ -251,7 +253,7 @@ fn known_pairs<'a, W: Wire>(
             let end = pass_pairs::<W>(behind, levels, key_tag, value_tag, count - step - 1)?;
             return Ok((None, end));
         };
-        keep(&mut pairs, count, found)?;
+        keep(&mut pairs, expected, found)?;
         rest = behind;
     }
     Ok((Some(Pairs::new(pairs)), rest))

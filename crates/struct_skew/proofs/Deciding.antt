@@ -28,10 +28,10 @@ use Rattle.struct_skew.specs.TidyTests.{is_below_ids, is_below_items, is_below_k
 use Rattle.struct_skew.specs.WrittenTests.{some_passes, has_field_tree, is_one_field, has_required_fields, has_its_fields, is_written_as, are_fields_written_as, are_items_written_as, are_pairs_written_as, may_be_written}
 
 -- what always holds, and what never does
-always : {P : Type 0} → P → Decides true P
+pub always : {P : Type 0} → P → Decides true P
 always p = (λ _. p, λ _. refl)
 
-never : {P : Type 0} → (P → ⊥) → Decides false P
+pub never : {P : Type 0} → (P → ⊥) → Decides false P
 never refuted = (λ e. absurd (false≢true e), λ p. absurd (refuted p))
 
 -- one id, and one value, before another
@@ -43,7 +43,7 @@ id_before i j = by_order (int_cmp i j) (int_ranked i j (int_cmp i j) refl)
     by_order Equal same = never (λ low. omega (arith, ints, same))
     by_order Greater high = never (λ low. omega (arith, ints))
 
-comes_first : (o : Ordering) → Decides (is_lt o) (o ≡ Less)
+pub comes_first : (o : Ordering) → Decides (is_lt o) (o ≡ Less)
 comes_first Less = always refl
 comes_first Equal = never (λ e. absurd cc)
 comes_first Greater = never (λ e. absurd cc)

@@ -1,35 +1,21 @@
 -- What is found for the fields of a struct.
-use Rattle.std.proofs.Common.{◌≡◌, ℕ, zero, suc, ◌+◌, ◌≤◌, ◌<◌, ℤ, Bool, true, false, true≢false, cond, List, [], ◌∷◌, length, get_or, Option, Some, None, Result, Ok, Err, refl, sym, ap, ◌∙◌, arith}
+use Rattle.std.proofs.Common.{◌≡◌, ℕ, ◌+◌, ℤ, Bool, true, false, true≢false, cond, List, [], ◌∷◌, length, Option, Some, None, Result, Ok, Err, refl, sym, ap, ◌∙◌, arith}
 use Rattle.std.specs.Prelude.{not, ◌&&◌, ◌==◌, is_some}
 use Rattle.std.specs.List.{slice_get}
 use Rattle.std.proofs.lemmas.List.Sums.{sum_by-cons}
-use Rattle.thrift_value.specs.declared.value.Value.{Value}
 use Rattle.thrift_value.specs.Tree.{Tree, of_struct}
-use Rattle.thrift_value.specs.TreeOf.{tree_of, field_trees}
+use Rattle.thrift_value.specs.TreeOf.{field_trees}
 use Rattle.schema.specs.declared.types.FieldsKind.{FieldsKind}
 use Rattle.schema.specs.PlainSchema.{PlainField, PlainStruct}
 use Rattle.struct_skew.specs.declared.fault.SkewFault.{SkewFault}
 use Rattle.struct_skew.specs.declared.fault.SkewFault.TheVariants.{Missing, UnionFields}
 use Rattle.struct_skew.specs.declared.plan.Choice.{Choice}
 use Rattle.struct_skew.specs.Offers.{Offer, last_offer}
-use Rattle.struct_skew.specs.Plan.{offer_at, planned_fields, IsPlanFor}
-use Rattle.struct_skew.specs.Projection.{is_required, is_union, counted_default, meaning_of, field_value, field_values, sent_count, checked_struct, struct_value}
+use Rattle.struct_skew.specs.Plan.{planned_fields, IsPlanFor}
+use Rattle.struct_skew.specs.Projection.{is_required, is_union, counted_default, field_value, field_values, sent_count, checked_struct, struct_value}
 use Rattle.struct_skew.specs.Results.{with_value, and_if_ok, with_field_value}
 use Rattle.struct_skew.specs.Unions.{one_of_union}
-use Rattle.struct_skew.proofs.PlanSteps.{raw_offers, offer_there}
 use Rattle.struct_skew.proofs.PlannedFields.{plan_gives}
-
--- the raw field at a choice's place
-pub chosen_there : (structs : List PlainStruct) (sent : List (ℤ × Value)) (which : ℕ) (kind : FieldsKind) (f : PlainField) (choice : Option ℕ) (i : ℕ) (x : ℤ × Value)
-    → choice ≡ Some i → i < length sent → x ≡ get_or sent i x → with_value Some (meaning_of structs (tree_of x.1) f.kind) ≡ field_value which kind f (offer_at (raw_offers structs sent) choice)
-chosen_there structs sent which kind f choice i x is low here =
-    ap (field_value which kind f) (sym (ap (offer_at (raw_offers structs sent)) is ∙ offer_there structs sent i x low here))
-
--- no raw field is at a place past the last
-pub none_there : (structs : List PlainStruct) (sent : List (ℤ × Value)) (i : ℕ) → length sent ≤ i → slice_get (raw_offers structs sent) i ≡ None
-none_there structs [] i past = refl
-none_there structs (x ∷ xs) zero past = absurd (omega arith)
-none_there structs (x ∷ xs) (suc i) past = none_there structs xs i (omega arith)
 
 -- what a field's value and those behind it are, where all are there
 record Parts (value : Result (Option Tree) SkewFault) (rest : Result (List (ℤ × Tree)) SkewFault) (all : List (ℤ × Tree)) : Type 0 where

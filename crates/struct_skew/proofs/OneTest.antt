@@ -104,6 +104,19 @@ pub map_by_pairs : (structs : List PlainStruct) (n : ℕ) (kind : PlainKind) (p 
 map_by_pairs structs n kind p x k t pairs r is parts here =
     here ∙ sym (ap (goes_out structs n kind) (tree_of-is_Map x k t pairs is) ∙ outgoing_map structs n kind k t (pairs_tree pairs) ∙ ap (map_out_under structs n k t (pairs_tree pairs)) parts)
 
+-- a set goes out where a list of its members does and they rise
+rise_last : (a b r c : Bool) → (a && (b && (r && c))) ≡ ((a && (b && c)) && r)
+rise_last false b r c = refl
+rise_last true false r c = refl
+rise_last true true true true = refl
+rise_last true true true false = refl
+rise_last true true false true = refl
+rise_last true true false false = refl
+
+pub set_by_list : (structs : List PlainStruct) (n : ℕ) (kind : PlainKind) (t : Tag) (items : ItemTrees)
+    → does_set_go_out structs n kind t items ≡ (does_list_go_out structs n kind t items && are_rising_items items)
+set_by_list structs n kind t items = rise_last (nat_lt 0 n) (are_few_items t kind items) (are_rising_items items) (do_items_go_out structs (n - 1) kind items)
+
 -- elements, and pairs, of which there are some
 pub some_named_items : (t : Tag) (kind : PlainKind) (items : List Value) → 1 ≤ length items → are_same_tags (tag_of_kind kind) t ≡ are_named_items t kind (item_trees (map tree_of items))
 some_named_items t kind [] some = absurd (omega arith)

@@ -1,11 +1,11 @@
 -- The loops that read what means itself.
-use Rattle.std.proofs.Common.{◌≡◌, ℕ, suc, ℤ, pos, Bool, true, false, List, [], ◌∷◌, ◌++◌, map, length, Option, Some, None, Ok, Equal, get_or, refl, sym, ap, subst, ◌∙◌, arith}
+use Rattle.std.proofs.Common.{◌≡◌, ℕ, suc, ℤ, pos, Bool, true, false, List, [], ◌∷◌, ◌++◌, length, Option, Some, None, Ok, refl, sym, subst, ◌∙◌, arith}
 use Rattle.std.specs.Bool.{OnTrue}
-use Rattle.std.specs.Prelude.{◌<ℤ◌, AllPairs, MatchOption}
-use Rattle.std.specs.List.{AllByRecursion, slice_get}
-use Rattle.std.specs.Cmp.{int_cmp_is}
+use Rattle.std.specs.Prelude.{◌&&◌, ◌<ℤ◌, MatchOption, MatchResult, IfOk, OnOk, Result, Err}
+use Rattle.std.specs.Result.{result_ok}
+use Rattle.std.specs.List.{AllByRecursion}
+use Rattle.std.proofs.lemmas.Bool.{and_parts}
 use Rattle.std.proofs.lemmas.Int.{ints}
-use Rattle.std.proofs.lemmas.Option.{get_or_from_slice_get, slice_get_within}
 use Rattle.thrift_value.specs.declared.tag.Tag.{Tag}
 use Rattle.thrift_value.specs.declared.value.Value.{Value}
 use Rattle.thrift_value.specs.declared.value.Fields.{Fields}
@@ -13,25 +13,43 @@ use Rattle.thrift_value.specs.declared.value.Items.{Items}
 use Rattle.thrift_value.specs.declared.value.Pairs.{Pairs}
 use Rattle.thrift_value.specs.Tree.{of_bool}
 use Rattle.thrift_value.specs.TreeOf.{tree_of, fields_of, items_of, pairs_of}
-use Rattle.schema.specs.declared.types.FieldDesc.{FieldDesc}
 use Rattle.schema.specs.PlainKind.{PlainKind}
 use Rattle.schema.specs.PlainSchema.{PlainField, PlainStruct}
-use Rattle.schema.specs.SchemaOf.{plain_field}
 use Rattle.schema.specs.WrittenAs.{field_with_id}
-use Rattle.schema.proofs.FindById.{search_found}
 use Rattle.wire_model.specs.declared.one_pass.FieldHead.TheVariants.{Field}
 use Rattle.wire_model.specs.AtPlace.{head_of}
 use Rattle.wire_model.specs.Decoder.{Unread, count_value}
 use Rattle.wire_model.specs.Reading.{value}
 use Rattle.wire_model.specs.Wire.{Wire, stop}
 use Rattle.wire_walk.proofs.Lists.{AreItemsRead, items_begin, items_step, items_end, ArePairsRead, pairs_begin, pairs_step, pairs_end, AreFieldsRead, fields_begin, field_step, flag_step, fields_end}
-use Rattle.known_parts.specs.Parts.{tag_of_kind}
+use Rattle.known_parts.specs.Parts.{are_same_tags, tag_of_kind}
 use Rattle.struct_skew.specs.ReadSettled.{IsSettled, ReadsSettled, ReadsField, ReadsFields, ReadsItems, ReadsPairs, IsFieldSettled, IsPairSettled, AreIdsRising}
+use Rattle.struct_skew.proofs.Deciding.{same_tag}
 
 -- what a test tells that passes
 pub on_true : (b : Bool) (P : Type 0) → (b ≡ true → P) → OnTrue b P
 on_true true P f = f refl
 on_true false P f = tt
+
+-- what a call tells that went through, of which only the value is handed on
+pub told : {A E : Type 0} (P : A → Type 0) (Q : E → Type 0) (r : Result A E) (x : A) → Some x ≡ result_ok r → MatchResult r P Q → P x
+told P Q (Ok y) x is h = let same : y ≡ x = cc in subst P same h
+told P Q (Err e) x is h = absurd cc
+
+pub told_if : {A E : Type 0} (P : A → Type 0) (r : Result A E) (x : A) → Some x ≡ result_ok r → IfOk r P → P x
+told_if P (Ok y) x is h = let same : y ≡ x = cc in subst P same h
+told_if P (Err e) x is h = absurd cc
+
+pub told_on : {A E : Type 0} {P : Type 0} (r : Result A E) (x : A) → Some x ≡ result_ok r → OnOk r P → P
+told_on (Ok y) x is h = h
+told_on (Err e) x is h = absurd cc
+
+-- tags that were found to be those of two types
+pub tags_agree : (k : Tag) (key : PlainKind) (t : Tag) (of : PlainKind) (b : Bool) → b ≡ true → b ≡ (are_same_tags k (tag_of_kind key) && are_same_tags t (tag_of_kind of))
+    → (k ≡ tag_of_kind key) × (t ≡ tag_of_kind of)
+tags_agree k key t of b e is =
+    let both = and_parts (are_same_tags k (tag_of_kind key)) (are_same_tags t (tag_of_kind of)) (sym is ∙ e) in
+    ((same_tag k (tag_of_kind key)).0 both.0, (same_tag t (tag_of_kind of)).0 both.1)
 
 -- one more at the end
 all_push : {A : Type 0} (P : A → Type 0) (xs : List A) (x : A) → AllByRecursion P xs → P x → AllByRecursion P (xs ++ x ∷ [])
@@ -157,11 +175,3 @@ module _ (wire : Wire) (levels : ℕ) (structs : List PlainStruct) where
       settled = subst (λ (fs : List (ℤ × Value)). AllByRecursion (IsFieldSettled structs declared) fs) (sym is) kept.settled;
       rising = subst AreIdsRising (sym is) kept.rising;
     }
-
--- the field at a place, where it has the id that is sought
-pub found_here : (id : ℤ) (fs : List FieldDesc) (place : ℕ) (f : FieldDesc) → AllPairs (λ (f g : PlainField). f.id <ℤ g.id) (map plain_field fs) → Some f ≡ slice_get fs place → f.id ≡ id
-    → field_with_id id (map plain_field fs) ≡ Some (plain_field f)
-found_here id fs place f rising at is =
-    sym (search_found id id (λ i. id) fs place (Some f) rising
-    (λ d. sym (int_cmp_is (get_or fs place d).id id Equal (ap (λ (g : FieldDesc). g.id) (get_or_from_slice_get fs place f d (sym at)) ∙ is)))
-    (slice_get_within fs place f (sym at)) at)

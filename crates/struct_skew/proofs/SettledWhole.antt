@@ -32,7 +32,7 @@ use Rattle.struct_skew.specs.Latest.{IsRisingBy}
 use Rattle.struct_skew.specs.Orders.{value_cmp, pair_cmp}
 use Rattle.struct_skew.specs.Projection.{bounded, projection}
 use Rattle.struct_skew.specs.ReadAs.{placed_projection, projected_read, read_then_projected}
-use Rattle.struct_skew.specs.ReadSettled.{IsSettled, ReadsLeaf, ReadsSettled, ReadsFields, ReadsItems, ReadsPairs}
+use Rattle.struct_skew.specs.ReadSettled.{IsSettled, ReadsElements, ReadsLeaf, ReadsSettled, ReadsFields, ReadsItems, ReadsPairs}
 use Rattle.struct_skew.specs.Results.{and_if_ok}
 use Rattle.struct_skew.proofs.Filling.{fits_itself, itself, within_bounds}
 use Rattle.struct_skew.proofs.PlainAlike.{fits_alike, means_alike}
@@ -72,20 +72,12 @@ module _ (wire : Wire) where
       found : item_list (value wire n) tag count inside ≡ Ok (items_tree items, after)
       found = ap (λ t. item_list (value wire n) t count inside) is ∙ h.read
 
-      pub list_read : ReadsSettled wire levels structs (kind_list kind) before (tree_of (value_in.List tag items)) after
-      list_read = record {
-        read =
-            list_is wire levels n tags.List before counted one refl deep ∙ on_ok (wire.items counted) _ (tag, count) inside head ∙ on_ok _ _ (items_tree items) after found
-            ∙ ap (λ x. Ok (x, after)) (sym (tree_of-List tag items));
-        settled = subst (IsSettled structs (kind_list kind)) (sym (tree_of-List tag items)) (list_settled structs kind tag (items_of items) is h.settled);
-      }
-
-      pub set_read : IsRisingBy value_cmp (items_of items) → ReadsSettled wire levels structs (kind_set kind) before (tree_of (value_in.Set tag items)) after
-      set_read rising = record {
-        read =
-            set_is wire levels n tags.Set before counted one refl deep ∙ on_ok (wire.items counted) _ (tag, count) inside head ∙ on_ok _ _ (items_tree items) after found
-            ∙ ap (λ x. Ok (x, after)) (sym (tree_of-Set tag items));
-        settled = subst (IsSettled structs (kind_set kind)) (sym (tree_of-Set tag items)) (set_settled structs kind tag (items_of items) is h.settled rising);
+      pub elements_read : ReadsElements wire levels structs kind before tag items after
+      elements_read = record {
+        list = list_is wire levels n tags.List before counted one refl deep ∙ on_ok (wire.items counted) _ (tag, count) inside head ∙ on_ok _ _ (items_tree items) after found;
+        set = set_is wire levels n tags.Set before counted one refl deep ∙ on_ok (wire.items counted) _ (tag, count) inside head ∙ on_ok _ _ (items_tree items) after found;
+        tagged = is;
+        settled = h.settled;
       }
 
     pub map_read : (k t : Tag) (count : ℕ) (inside after : Unread) (pairs : Pairs) (key_kind value_kind : PlainKind) → wire.pairs counted ≡ Ok ((k, t, count), inside)
@@ -99,6 +91,20 @@ module _ (wire : Wire) where
           settled =
               subst (IsSettled structs (kind_map key_kind value_kind)) (sym (tree_of-Map k t pairs)) (map_settled structs key_kind value_kind k t (pairs_of pairs) key_is value_is h.settled rising);
         }
+
+  -- a list and a set of elements that were read
+  module _ (levels : ℕ) (structs : List PlainStruct) (kind : PlainKind) (before : Unread) (tag : Tag) (items : Items) (after : Unread) (h : ReadsElements wire levels structs kind before tag items after) where
+    pub list_read : ReadsSettled wire levels structs (kind_list kind) before (tree_of (value_in.List tag items)) after
+    list_read = record {
+      read = h.list ∙ ap (λ x. Ok (x, after)) (sym (tree_of-List tag items));
+      settled = subst (IsSettled structs (kind_list kind)) (sym (tree_of-List tag items)) (list_settled structs kind tag (items_of items) h.tagged h.settled);
+    }
+
+    pub set_read : IsRisingBy value_cmp (items_of items) → ReadsSettled wire levels structs (kind_set kind) before (tree_of (value_in.Set tag items)) after
+    set_read rising = record {
+      read = h.set ∙ ap (λ x. Ok (x, after)) (sym (tree_of-Set tag items));
+      settled = subst (IsSettled structs (kind_set kind)) (sym (tree_of-Set tag items)) (set_settled structs kind tag (items_of items) h.tagged h.settled rising);
+    }
 
 -- a value that means itself is its own projection
 settled_projects : (s : PlainSchema) (which : ℕ) (v : Tree) → IsSound s → IsSettled s.structs (kind_struct which) v → depth_of v ≤ 64 → count_of v ≤ 4000000 → projection s which v ≡ Ok v

@@ -5,7 +5,7 @@ use Rattle.std.specs.Option.{option_map}
 use Rattle.std.proofs.lemmas.List.{drop_more, at_drop_all, map-append}
 use Rattle.struct_skew.specs.declared.fault.SkewFault.{SkewFault}
 use Rattle.struct_skew.specs.declared.fault.SkewFault.TheVariants.{Missing, UnionFields, TooDeep, TooMany, NoMemory}
-use Rattle.struct_skew.specs.Answering.{SkewsOrNoMemory, ProjectsOrNoMemory, Puts, PutsSome}
+use Rattle.struct_skew.specs.Answering.{SkewsOrNoMemory, ProjectsOrNoMemory, PutsSome}
 use Rattle.struct_skew.specs.Results.{with_value, with_first, with_some}
 
 -- the same fault of another result
@@ -35,25 +35,7 @@ behind_first xs y (Ok ys) = ap Ok (sym (append_assoc xs (y ∷ []) ys))
 behind_first xs y (Err e) = refl
 
 module _ {X B : Type 0} (view : X → B) (W : Result (List B) SkewFault) where
-  -- one value more was gathered
-  pub gathered : (value : Result X SkewFault) (out : Result (⊤) SkewFault) (u : ⊤) (old new : List X) (meant : Result B SkewFault) (rest : Result (List B) SkewFault)
-      → out ≡ Ok u → ProjectsOrNoMemory view value meant → Puts value out old new → behind (map view old) (with_first meant rest) ≡ W → behind (map view new) rest ≡ W
-  gathered (Ok x) out u old new meant rest went means put kept =
-      let made : new ≡ old ++ x ∷ [] = subst (λ r. MatchResult r (λ _. new ≡ old ++ x ∷ []) (λ e. e ≡ NoMemory)) went put in
-      ap (λ n. behind n rest) (ap (map view) made ∙ map-append view old (x ∷ [])) ∙ sym (behind_first (map view old) (view x) rest)
-      ∙ ap (λ m. behind (map view old) (with_first m rest)) (sym means) ∙ kept
-  gathered (Err e) out u old new meant rest went means put kept = absurd cc
-
-  -- its fault is that of all
-  pub not_gathered : (value : Result X SkewFault) (out : Result (⊤) SkewFault) (e : SkewFault) (old new : List X) (meant : Result B SkewFault) (rest : Result (List B) SkewFault)
-      → out ≡ Err e → ProjectsOrNoMemory view value meant → Puts value out old new → behind (map view old) (with_first meant rest) ≡ W → SkewsOrNoMemory e W
-  not_gathered (Ok x) out e old new meant rest went means put kept =
-      no_memory_skews e W (subst (λ r. MatchResult r (λ _. new ≡ old ++ x ∷ []) (λ f. f ≡ NoMemory)) went put)
-  not_gathered (Err f) out e old new meant rest went means put kept =
-      let same : f ≡ e = cc in
-      subst (λ g. SkewsOrNoMemory g W) same (skews_on f meant W (λ is. sym kept ∙ ap (λ m. behind (map view old) (with_first m rest)) is) means)
-
-  -- the same of a value that may be none
+  -- one value more was gathered, or none
   pub gathered_some : (value : Result (Option X) SkewFault) (out : Result (⊤) SkewFault) (u : ⊤) (old new : List X) (meant : Result (Option B) SkewFault) (rest : Result (List B) SkewFault)
       → out ≡ Ok u → ProjectsOrNoMemory (option_map view) value meant → PutsSome value out old new → behind (map view old) (with_some meant rest) ≡ W → behind (map view new) rest ≡ W
   gathered_some (Ok (Some x)) out u old new meant rest went means put kept =
@@ -65,6 +47,7 @@ module _ {X B : Type 0} (view : X → B) (W : Result (List B) SkewFault) where
       ap (λ n. behind (map view n) rest) (made ∙ append-nil old) ∙ ap (λ m. behind (map view old) (with_some m rest)) (sym means) ∙ kept
   gathered_some (Err e) out u old new meant rest went means put kept = absurd cc
 
+  -- its fault is that of all
   pub not_gathered_some : (value : Result (Option X) SkewFault) (out : Result (⊤) SkewFault) (e : SkewFault) (old new : List X) (meant : Result (Option B) SkewFault) (rest : Result (List B) SkewFault)
       → out ≡ Err e → ProjectsOrNoMemory (option_map view) value meant → PutsSome value out old new → behind (map view old) (with_some meant rest) ≡ W → SkewsOrNoMemory e W
   not_gathered_some (Ok x) out e old new meant rest went means put kept =
@@ -83,38 +66,8 @@ module _ {X B : Type 0} (view : X → B) (W : Result (List B) SkewFault) where
 pub in_front : {A : Type 0} (xs : List A) (i : ℕ) (x : A) → i < length xs → x ≡ get_or xs i x → drop i xs ≡ x ∷ drop (i + 1) xs
 in_front xs i x low here = drop_more xs i x low ∙ ap (λ y. y ∷ drop (i + 1) xs) (sym here)
 
--- one item further in a loop that gathers what each means
-pub each_gathered : {A X B : Type 0} (view : X → B) (F : List A → Result (List B) SkewFault) (m : A → Result B SkewFault) → ((x : A) (xs : List A) → F (x ∷ xs) ≡ with_first (m x) (F xs))
-    → (xs : List A) (i : ℕ) (x : A) (value : Result X SkewFault) (out : Result ⊤ SkewFault) (u : ⊤) (old new : List X) → i < length xs → x ≡ get_or xs i x → out ≡ Ok u
-    → ProjectsOrNoMemory view value (m x) → Puts value out old new → behind (map view old) (F (drop i xs)) ≡ F xs → behind (map view new) (F (drop (i + 1) xs)) ≡ F xs
-each_gathered view F m step xs i x value out u old new low here went means put kept =
-    gathered view (F xs) value out u old new (m x) (F (drop (i + 1) xs)) went means put
-    (ap (behind (map view old)) (sym (ap F (in_front xs i x low here) ∙ step x (drop (i + 1) xs))) ∙ kept)
-
 -- within a list an item doesn't depend on what stands for none
 pub get_or_same : {A : Type 0} (xs : List A) (i : ℕ) (d e : A) → i < length xs → get_or xs i d ≡ get_or xs i e
 get_or_same [] i d e low = absurd (omega arith)
 get_or_same (x ∷ xs) zero d e low = refl
 get_or_same (x ∷ xs) (suc i) d e low = get_or_same xs i d e (omega arith)
-
-some_item : {A : Type 0} (xs : List A) (i : ℕ) → i < length xs → A
-some_item [] i low = absurd (omega arith)
-some_item (x ∷ xs) i low = x
-
--- the same where a call looks the item up
-pub each_there : {A X B : Type 0} (view : X → B) (F : List A → Result (List B) SkewFault) (m : A → Result B SkewFault) → ((x : A) (xs : List A) → F (x ∷ xs) ≡ with_first (m x) (F xs))
-    → (xs : List A) (i : ℕ) (value : Result X SkewFault) (out : Result ⊤ SkewFault) (u : ⊤) (old new : List X) → i < length xs → out ≡ Ok u
-    → ((d : A) → ProjectsOrNoMemory view value (m (get_or xs i d))) → Puts value out old new → behind (map view old) (F (drop i xs)) ≡ F xs → behind (map view new) (F (drop (i + 1) xs)) ≡ F xs
-each_there view F m step xs i value out u old new low went means put kept =
-    let d = some_item xs i low in
-    each_gathered view F m step xs i (get_or xs i d) value out u old new low (get_or_same xs i d (get_or xs i d) low) went (means d) put kept
-
--- the fault of one item in such a loop is that of all
-pub fault_there : {A X B : Type 0} (view : X → B) (F : List A → Result (List B) SkewFault) (m : A → Result B SkewFault) → ((x : A) (xs : List A) → F (x ∷ xs) ≡ with_first (m x) (F xs))
-    → (xs : List A) (i : ℕ) (value : Result X SkewFault) (out : Result ⊤ SkewFault) (e : SkewFault) (old new : List X) → i < length xs → out ≡ Err e
-    → ((d : A) → ProjectsOrNoMemory view value (m (get_or xs i d))) → Puts value out old new → behind (map view old) (F (drop i xs)) ≡ F xs → SkewsOrNoMemory e (F xs)
-fault_there view F m step xs i value out e old new low went means put kept =
-    let d = some_item xs i low in
-    let x = get_or xs i d in
-    not_gathered view (F xs) value out e old new (m x) (F (drop (i + 1) xs)) went (means d) put
-    (ap (behind (map view old)) (sym (ap F (in_front xs i x low (get_or_same xs i d x low)) ∙ step x (drop (i + 1) xs))) ∙ kept)

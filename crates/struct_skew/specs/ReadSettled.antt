@@ -2,12 +2,13 @@
 use Rattle.std.specs.Prelude.{◌≡◌, ◌<ℤ◌, ⊤, ℕ, ℤ, pos, Bool, length, List, [], ◌∷◌, Option, MatchOption, Ok}
 use Rattle.std.specs.List.{AllByRecursion}
 use Rattle.thrift_value.specs.declared.tag.Tag.{Tag}
+use Rattle.thrift_value.specs.declared.tag.Tag.TheVariants as tags
 use Rattle.thrift_value.specs.declared.value.Value.{Value}
 use Rattle.thrift_value.specs.declared.value.Fields.{Fields}
 use Rattle.thrift_value.specs.declared.value.Items.{Items}
 use Rattle.thrift_value.specs.declared.value.Pairs.{Pairs}
 use Rattle.thrift_value.specs.Tidy.{IsTidy}
-use Rattle.thrift_value.specs.Tree.{Tree, of_bool}
+use Rattle.thrift_value.specs.Tree.{Tree, of_bool, of_set, of_list}
 use Rattle.thrift_value.specs.TreeOf.{tree_of, fields_of, items_of, pairs_of, fields_tree, items_tree, pairs_tree}
 use Rattle.schema.specs.PlainKind.{PlainKind}
 use Rattle.schema.specs.PlainSchema.{PlainField, PlainStruct}
@@ -57,6 +58,13 @@ pub record ReadsFields (wire : Wire) (levels : ℕ) (structs : List PlainStruct)
 -- so many values that mean themselves are read
 pub record ReadsItems (wire : Wire) (levels : ℕ) (structs : List PlainStruct) (kind : PlainKind) (count : ℕ) (before : Unread) (items : Items) (after : Unread) : Type 0 where
   pub read : item_list (value wire levels) (tag_of_kind kind) count before ≡ Ok (items_tree items, after)
+  pub settled : AllByRecursion (λ v. IsSettled structs kind (tree_of v)) (items_of items)
+
+-- a list is read, and a set just so, of elements that mean themselves, with the tag of their type
+pub record ReadsElements (wire : Wire) (levels : ℕ) (structs : List PlainStruct) (kind : PlainKind) (before : Unread) (tag : Tag) (items : Items) (after : Unread) : Type 0 where
+  pub list : value wire levels tags.List before ≡ Ok (of_list tag (items_tree items), after)
+  pub set : value wire levels tags.Set before ≡ Ok (of_set tag (items_tree items), after)
+  pub tagged : tag ≡ tag_of_kind kind
   pub settled : AllByRecursion (λ v. IsSettled structs kind (tree_of v)) (items_of items)
 
 -- a key and its value mean themselves

@@ -6,12 +6,13 @@ ghost use Rattle.struct_skew.specs.Fits.{each_item, each_pair, fits_kind};
 
 use known_parts::{are_same_tags, list_of_kind, map_of_kind, set_of_kind, tag_of_kind};
 use schema::TypeDesc;
-use thrift_value::Value;
+use thrift_value::{Raw, Value};
 
-/// Whether a raw value fits a type. It recurses once a level that both have.
+/// Whether a raw value counts under a type: the tags agree, and each element of a container fits its declared type. It recurses once a
+/// level that both have.
 #[tactic(auto, using(thrift_value::proofs::Trees::tree_equations, crate::proofs::Fitting::fits_map, crate::proofs::Fitting::fits_set, crate::proofs::Fitting::fits_list, crate::proofs::Fitting::fits_by_tag))]
 #[cycle(fitting)]
-pub(crate) fn fits_kind(raw: &Value, kind: &TypeDesc) -> bool
+pub fn fits_kind(raw: &Raw, kind: &TypeDesc) -> bool
     ensures { result ≡ fits_kind (kind_of kind.now) (tree_of raw.now) }
 {
     match raw {

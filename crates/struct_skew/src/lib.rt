@@ -22,7 +22,7 @@
 //! [`read_as`] first reads by type alone, which goes through only where all is in order: ids, keys and members rise, each field is
 //! declared and of its type, and none is missing that has to be there or has a default. Anything else is read from the start by what
 //! is known of it, and what was read is handed on where it means itself, and else settled in its own tree. What stands in memory
-//! already is projected by a copy, and stays.
+//! already stays: a copy of it is settled.
 //!
 //! Not here: how bytes stand for values, which a protocol says as a type. A projection recurses once a level of the raw value, and
 //! `fits` and `may_go_out` once a level of their value. Where the defaults of a projection take more than 320 MB it answers want of
@@ -31,17 +31,18 @@
 
 mod ahead;
 mod arg_fault;
+mod declared;
 mod fault;
 mod in_place;
 mod kinds;
 mod laws;
-mod meanings;
 mod needs;
 mod order;
 mod outgoing;
 mod plan;
 mod public;
 mod reading;
+mod rising;
 mod rows;
 mod settled;
 mod settled_reading;
@@ -52,6 +53,7 @@ mod written;
 
 pub use arg_fault::ArgFault;
 pub use fault::SkewFault;
+pub use kinds::fits_kind;
 pub use laws::{
     a_fault_names_what_is_declared, a_filled_value_is_its_projection, a_found_function_is_sound,
     a_projection_is_of_its_type, settled_values_mean_themselves, the_tests_decide,
@@ -59,7 +61,7 @@ pub use laws::{
 };
 pub use needs::{NeededFields, needed_fields};
 pub use outgoing::may_go_out;
-pub use public::{fits_kind, project, project_value, project_with};
+pub use public::{project, project_value, project_with};
 pub use reading::{read_as, read_as_with};
 pub use rows::{
     a_projection_is_bounded, worked_containers, worked_fields, worked_levels, worked_unions,

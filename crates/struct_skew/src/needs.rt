@@ -1,11 +1,12 @@
 //! The declared fields that need a look even where nothing is sent for them.
-ghost use Rattle.std.specs.Prelude.{◌≡◌, ◌++◌, ◌∷◌, [], map, IfOk, OnOk};
+ghost use Rattle.std.specs.Prelude.{◌≡◌, map, IfOk};
 ghost use Rattle.std.specs.List.{slice_get};
 ghost use Rattle.std.specs.Option.{option_copied, option_map};
 ghost use Rattle.schema.specs.SchemaOf.{schema_of, plain_field, plain_struct};
 ghost use Rattle.struct_skew.specs.Needs.{places_from, is_required_field, is_defaulted_field, needs_of, plain_needs};
 ghost use Rattle.struct_skew.specs.Projection.{is_required, is_union};
 
+use known_parts::put;
 use schema::{FieldDesc, Need, Schema, StructDesc, StructKind};
 use std::alloc::{AllocError, Global};
 use std::marker::Model;
@@ -84,13 +85,6 @@ fn is_defaulted(kind: StructKind, field: &FieldDesc) -> bool
         return false;
     }
     field.default.is_some()
-}
-
-fn put<T: Drop>(into: &mut Vec<T>, item: T) -> Result<(), AllocError>
-    ensures { OnOk result (into.new.items ≡ into.old.items ++ item ∷ []) }
-{
-    into.push(item)?;
-    Ok(())
 }
 
 /// The places of the fields that have to be there.

@@ -1,22 +1,21 @@
 //! Whether a value may go out under a type, which one walk tells.
 ghost use Rattle.std.specs.Prelude.{◌≡◌, ◌&&◌, ◌-◌, ◌<ℤ◌, map, nat_le, nat_lt, AllPairs};
 ghost use Rattle.std.specs.List.{slice_get};
-ghost use Rattle.std.specs.Option.{option_copied, option_map};
-ghost use Rattle.std.specs.Ordering.{int_eq};
 ghost use Rattle.thrift_value.specs.Measures.{depth_of};
 ghost use Rattle.thrift_value.specs.TreeOf.{tree_of, field_tree, field_trees, item_trees, pair_tree, pair_trees};
 ghost use Rattle.schema.specs.PlainKind.{kind_of};
 ghost use Rattle.schema.specs.PlainSchema.{PlainField};
 ghost use Rattle.schema.specs.SchemaOf.{schema_of, plain_field, plain_struct};
 ghost use Rattle.schema.specs.Sound.{IsSound};
-ghost use Rattle.schema.specs.WrittenAs.{field_with_id};
 ghost use Rattle.known_parts.specs.Parts.{are_same_tags, tag_of_kind};
 ghost use Rattle.struct_skew.specs.Needs.{needs_of, plain_needs};
 ghost use Rattle.struct_skew.specs.OutgoingTests.{are_few_items, are_few_pairs, are_named_items, are_named_pairs, do_bytes_go_out, do_fields_go_out, do_items_go_out, do_pairs_go_out, does_list_go_out, does_map_go_out, does_set_go_out, does_struct_go_out, goes_out};
-ghost use Rattle.struct_skew.specs.TidyTests.{are_rising_fields, are_rising_items, are_rising_pairs, is_tidy};
+ghost use Rattle.struct_skew.specs.TidyTests.{is_tidy};
 ghost use Rattle.struct_skew.specs.WrittenTests.{has_its_fields, may_be_written};
 
-use crate::needs::{NeededFields, StructNeeds, item};
+use crate::declared::field_near;
+use crate::needs::{NeededFields, StructNeeds};
+use crate::rising::{ids_rise, items_rise, keys_rise};
 use crate::structs::struct_at;
 use crate::written::has_its_fields;
 use known_parts::{
@@ -27,42 +26,6 @@ use thrift_value::{Tag, Value};
 
 /// The greatest length and the greatest number of elements that have an encoding (Thrift binary protocol, 'List and Set').
 const MAX_SIZE: usize = 0x7fff_ffff;
-
-/// Whether the ids rise.
-fn ids_rise(fields: &[(i16, Value)]) -> bool
-    ensures { result ≡ are_rising_fields (field_trees (map field_tree fields.now)) }
-{
-    for i in 1..fields.len() {
-        if fields[i - 1].0.cmp(&fields[i].0).is_ge() {
-            return false;
-        }
-    }
-    true
-}
-
-/// Whether the members of a set rise.
-fn items_rise(items: &[Value]) -> bool
-    ensures { result ≡ are_rising_items (item_trees (map tree_of items.now)) }
-{
-    for i in 1..items.len() {
-        if items[i - 1].compare(&items[i]).is_ge() {
-            return false;
-        }
-    }
-    true
-}
-
-/// Whether the keys of a map rise.
-fn keys_rise(pairs: &[(Value, Value)]) -> bool
-    ensures { result ≡ are_rising_pairs (pair_trees (map pair_tree pairs.now)) }
-{
-    for i in 1..pairs.len() {
-        if pairs[i - 1].0.compare(&pairs[i].0).is_ge() {
-            return false;
-        }
-    }
-    true
-}
 
 /// Whether a value of a type has this tag.
 #[inline(always)]
@@ -137,44 +100,6 @@ fn is_open(levels: u32) -> bool
     ensures { result ≡ nat_lt 0 levels }
 {
     0 < levels
-}
-
-/// The declared field with an id, by halving; the place behind it is put down.
-#[inline(never)]
-fn searched_field<'a>(declared: &'a [FieldDesc], id: i16, next: &mut usize) -> Option<&'a FieldDesc>
-    requires { AllPairs (λ (f g : PlainField). f.id <ℤ g.id) (map plain_field declared.now) }
-    ensures { option_map plain_field (option_copied result) ≡ field_with_id id (map plain_field declared.now) }
-{
-    match declared.binary_search_by_key(&id, |field| field.id) {
-        Ok(place) => {
-            *next = place.wrapping_add(1);
-            item(declared, place)
-        }
-        Err(_) => None,
-    }
-}
-
-/// Whether a declared field has an id.
-#[inline(always)]
-fn has_id(field: &FieldDesc, id: i16) -> bool
-    ensures { result ≡ int_eq (plain_field field.now).id id }
-{
-    field.id == id
-}
-
-/// The declared field with an id, which mostly stands at the next place.
-#[inline(always)]
-fn next_field<'a>(declared: &'a [FieldDesc], id: i16, next: &mut usize) -> Option<&'a FieldDesc>
-    requires { AllPairs (λ (f g : PlainField). f.id <ℤ g.id) (map plain_field declared.now) }
-    ensures { option_map plain_field (option_copied result) ≡ field_with_id id (map plain_field declared.now) }
-{
-    if let Some(field) = item(declared, *next) {
-        if has_id(field, id) {
-            *next = next.wrapping_add(1);
-            return Some(field);
-        }
-    }
-    searched_field(declared, id, next)
 }
 
 /// Whether the fields of a struct are there that have to be there, by what it needs.
@@ -301,16 +226,10 @@ fn set_goes_out(
     requires needed { needed.now ≡ map needs_of (schema_of schema.now).structs }
     ensures { result ≡ does_set_go_out (schema_of schema.now).structs levels (kind_of kind.now) t (item_trees (map tree_of items.now)) }
 {
-    if !is_open(levels) {
+    if !list_goes_out(items, schema, needed, t, kind, levels) {
         return false;
     }
-    if !are_few_items(t, kind, items) {
-        return false;
-    }
-    if !items_rise(items) {
-        return false;
-    }
-    items_go_out(items, schema, needed, kind, levels.saturating_sub(1))
+    items_rise(items)
 }
 
 /// Whether the elements of a list go out.
@@ -352,9 +271,10 @@ fn fields_go_out(
 {
     let mut next = 0;
     for (id, value) in fields {
-        let Some(field) = next_field(declared, *id, &mut next) else {
+        let Some((field, place)) = field_near(declared, next, *id) else {
             return false;
         };
+        next = place.wrapping_add(1);
         if !goes_out(value, schema, needed, &field.kind, levels) {
             return false;
         }

@@ -7,15 +7,13 @@ ghost use Rattle.schema.specs.SchemaOf.{schema_of};
 ghost use Rattle.schema.specs.Sound.{IsSound, IsPlaceIn};
 ghost use Rattle.struct_skew.specs.Answering.{ProjectsOrNoMemory};
 ghost use Rattle.struct_skew.specs.Needs.{needs_of};
-ghost use Rattle.struct_skew.specs.Projection.{meaning_within_bounds, projection};
-ghost use Rattle.struct_skew.specs.Fits.{fits_kind};
+ghost use Rattle.struct_skew.specs.Projection.{meaning_of, meaning_within_bounds, projection};
 ghost use Rattle.schema.specs.PlainKind.{kind_of};
 
 use crate::fault::SkewFault;
-use crate::kinds;
-use crate::meanings::meaning;
+use crate::in_place::settle_value;
 use crate::needs::{NeededFields, needed_fields};
-use crate::values::bounded_of;
+use crate::values::{bounded_of, copy_of};
 use schema::{Schema, TypeDesc};
 use std::alloc::Global;
 use thrift_value::{Raw, Value};
@@ -24,11 +22,25 @@ use thrift_value::{Raw, Value};
 /// of memory.
 pub(crate) const DEFAULTS_ROOM: u64 = 320_000_000;
 
-/// Whether a raw value counts under a type: the tags agree, and each element of a container fits its declared type.
-pub fn fits_kind(raw: &Raw, kind: &TypeDesc) -> bool
-    ensures { result ≡ fits_kind (kind_of kind.now) (tree_of raw.now) }
+/// What a raw value means under a type: a copy of it is settled. A value of more levels than a number tells is want of memory.
+fn meaning(
+    alloc: Global,
+    schema: &Schema,
+    needed: &NeededFields,
+    kind: &TypeDesc,
+    raw: &Raw,
+) -> Result<Value, SkewFault>
+    requires sound { IsSound (schema_of schema.now) }
+    requires needed { needed.now ≡ map needs_of (schema_of schema.now).structs }
+    ensures { ProjectsOrNoMemory tree_of result (meaning_of (schema_of schema.now).structs (tree_of raw.now) (kind_of kind.now)) }
 {
-    kinds::fits_kind(raw, kind)
+    let levels = raw.depth();
+    if levels == u32::MAX {
+        return Err(SkewFault::NoMemory);
+    }
+    let copy = copy_of(alloc, raw)?;
+    let mut room = DEFAULTS_ROOM;
+    settle_value(copy, levels, alloc, schema, needed, kind, &mut room)
 }
 
 /// What a raw value means under a type, by what the schema's structs need: each struct in it is projected.
@@ -43,8 +55,7 @@ pub fn project_value(
     requires needed { needed.now ≡ map needs_of (schema_of schema.now).structs }
     ensures { ProjectsOrNoMemory tree_of result (meaning_within_bounds (schema_of schema.now) (kind_of kind.now) (tree_of raw.now)) }
 {
-    let mut room = DEFAULTS_ROOM;
-    let found = meaning(raw, alloc, schema, needed, kind, &mut room);
+    let found = meaning(alloc, schema, needed, kind, raw);
     bounded_of(found)
 }
 

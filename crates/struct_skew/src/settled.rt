@@ -13,9 +13,10 @@ ghost use Rattle.struct_skew.specs.TidyTests.{is_tidy};
 
 use crate::needs::{NeededFields, StructNeeds};
 use crate::structs::struct_at;
-use crate::written::{declared_field, has_fields_at, is_written_as};
+use crate::written::{has_fields_at, is_written_as};
 use known_parts::{
-    are_same_tags, list_of_kind, map_of_kind, set_of_kind, struct_of_kind, tag_of_kind,
+    are_same_tags, declared_field, list_of_kind, map_of_kind, set_of_kind, struct_of_kind,
+    tag_of_kind,
 };
 use schema::{Schema, StructDesc, TypeDesc};
 use thrift_value::{Tag, Value};
@@ -33,7 +34,7 @@ pub(crate) fn has_defaulted_fields(
 }
 
 /// Whether two tags are those of two types.
-fn are_tags_of(k: Tag, key: &TypeDesc, v: Tag, value: &TypeDesc) -> bool
+pub(crate) fn are_tags_of(k: Tag, key: &TypeDesc, v: Tag, value: &TypeDesc) -> bool
     ensures { result ≡ (are_same_tags k (tag_of_kind (kind_of key.now)) && are_same_tags v (tag_of_kind (kind_of value.now))) }
 {
     are_same_tags(k, tag_of_kind(key)) && are_same_tags(v, tag_of_kind(value))

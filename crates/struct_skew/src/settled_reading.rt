@@ -1,105 +1,48 @@
 //! Reading by type where all is in order. What is out of order, a fault of the bytes and want of memory are one answer, none, which
 //! says nothing: the caller then reads as if nothing had been tried.
 ghost use Rattle.std.specs.Bool.{OnTrue};
-ghost use Rattle.std.specs.Prelude.{◌≡◌, ◌≤◌, ◌<ℤ◌, ◌++◌, ◌∷◌, [], suc, length, map, AllPairs, IfSome, Ok, Some};
+ghost use Rattle.std.specs.Prelude.{◌≡◌, ◌≤◌, ◌<ℤ◌, [], length, map, AllPairs, IfSome, Ok};
 ghost use Rattle.thrift_value.specs.declared.tag.Tag.TheVariants as tags;
-ghost use Rattle.thrift_value.specs.Tree.{of_bool, of_bytes};
-ghost use Rattle.thrift_value.specs.TreeOf.{tree_of, items_of, pairs_of, fields_tree};
+ghost use Rattle.thrift_value.specs.Tree.{of_bool};
+ghost use Rattle.thrift_value.specs.TreeOf.{tree_of, fields_tree};
 ghost use Rattle.schema.specs.PlainKind.{kind_of, kind_struct, kind_map, kind_set, kind_list};
 ghost use Rattle.schema.specs.PlainSchema.{PlainField};
 ghost use Rattle.schema.specs.SchemaOf.{schema_of, plain_field, plain_struct};
 ghost use Rattle.schema.specs.Sound.{IsSound};
-ghost use Rattle.schema.specs.WrittenAs.{field_with_id, HasItsFields};
+ghost use Rattle.schema.specs.WrittenAs.{HasItsFields};
 ghost use Rattle.wire_model.specs.Decoder.{count_value};
 ghost use Rattle.wire_model.specs.Wire.{IsScalar};
 ghost use Rattle.known_parts.specs.Parts.{tag_of_kind};
 ghost use Rattle.struct_skew.specs.Filled.{HasItsDefaults};
-ghost use Rattle.struct_skew.specs.Latest.{IsRisingBy};
 ghost use Rattle.struct_skew.specs.Needs.{needs_of, plain_needs};
-ghost use Rattle.struct_skew.specs.Orders.{value_cmp, pair_cmp};
 ghost use Rattle.struct_skew.specs.ReadAs.{read_then_projected};
-ghost use Rattle.struct_skew.specs.ReadSettled.{ReadsField, ReadsFields, ReadsItems, ReadsLeaf, ReadsPairs, ReadsSettled};
+ghost use Rattle.struct_skew.specs.ReadSettled.{ReadsElements, ReadsField, ReadsFields, ReadsLeaf, ReadsPairs, ReadsSettled};
 
 use crate::ahead::{Ahead, field, items, pairs, scalar, span};
-use crate::needs::{NeededFields, StructNeeds, item};
+use crate::declared::field_near;
+use crate::needs::{NeededFields, StructNeeds};
 use crate::order::is_rising;
-use crate::settled::has_defaulted_fields;
+use crate::settled::{are_tags_of, has_defaulted_fields};
 use crate::structs::struct_at;
 use crate::written::has_its_fields;
 use known_parts::{
-    are_same_tags, list_of_kind, map_of_kind, set_of_kind, struct_of_kind, tag_of_kind,
+    MOST_EXPECTED, MOST_EXPECTED_FIELDS, are_same_tags, deeper, keep, kept_text, list_of_kind,
+    make_room, map_of_kind, put, set_of_kind, struct_of_kind, tag_of_kind,
 };
 use schema::{FieldDesc, Schema, StructDesc, TypeDesc};
 use std::alloc::Global;
-use thrift_value::{ByteText, Fields, Items, Pairs, Tag, Value};
+use thrift_value::{Fields, Items, Pairs, Tag, Value};
 use wire_model::laws::value_read_is_spelled;
 use wire_model::{FieldHead, Wire};
 
-/// The most items for which room is taken before they are read.
-const MOST_EXPECTED: usize = 1024;
-
-/// The most fields for which room is taken before they are read, of a struct that may be sent with few of many.
-const MOST_EXPECTED_FIELDS: usize = 4;
-
-/// One level less, if there is one.
-#[inline(always)]
-fn deeper(levels: u32) -> Option<u32>
-    ensures { IfSome result (λ n. levels ≡ suc n) }
-{
-    if levels == 0 {
-        return None;
-    }
-    Some(levels - 1)
-}
-
-/// An empty list with room for as many items as are expected, so that a short list has just the room that it needs.
+/// An empty list with room for as many items as are expected.
 #[inline(always)]
 fn room<T: Drop>(alloc: Global, expected: usize) -> Option<Vec<T>>
     ensures { IfSome result (λ list. list.items ≡ []) }
 {
     let mut list = Vec::new(alloc);
-    list.reserve_exact(expected).ok()?;
+    make_room(&mut list, expected).ok()?;
     Some(list)
-}
-
-/// One more at the end.
-#[inline(always)]
-fn put<T: Drop>(list: &mut Vec<T>, item: T) -> Option<()>
-    ensures { IfSome result (λ _. list.new.items ≡ list.old.items ++ item ∷ []) }
-{
-    match list.push(item) {
-        Ok(()) => Some(()),
-        Err(_) => None,
-    }
-}
-
-/// Takes room for as many items as are expected, where none is there yet.
-#[inline(always)]
-fn make_room<T: Drop>(list: &mut Vec<T>, expected: usize) -> Option<()>
-    ensures { list.new.items ≡ list.old.items }
-{
-    if list.is_empty() {
-        return list.reserve_exact(expected).ok();
-    }
-    Some(())
-}
-
-/// One more at the end of a list of which so many are expected, whose room is taken with the first.
-#[inline(always)]
-fn keep<T: Drop>(list: &mut Vec<T>, expected: usize, item: T) -> Option<()>
-    ensures { IfSome result (λ _. list.new.items ≡ list.old.items ++ item ∷ []) }
-{
-    make_room(list, expected)?;
-    put(list, item)
-}
-
-/// A text in memory of its own.
-#[tactic(auto, using(thrift_value::proofs::Trees::tree_equations))]
-fn kept_text(alloc: Global, text: &[u8]) -> Option<Value>
-    ensures { IfSome result (λ value. tree_of value ≡ of_bytes text.now) }
-{
-    let bytes = text.to_vec(alloc).ok()?;
-    Some(Value::Bytes(ByteText::new(bytes)))
 }
 
 /// The text in front.
@@ -109,7 +52,7 @@ fn settled_text<'a, W: Wire>(alloc: Global, ahead: &mut Ahead<'a>) -> Option<Val
 {
     ahead.count_value()?;
     let text = span::<W>(ahead)?;
-    let value = kept_text(alloc, text)?;
+    let value = kept_text(alloc, text).ok()?;
     Some(value)
 }
 
@@ -165,9 +108,38 @@ fn settled_value<'a, W: Wire>(
     }
 }
 
-/// The list in front, of elements of a type.
+/// The tag and the elements of the list or the set in front, of a type.
 #[cycle(settling)]
 #[inline(never)]
+fn settled_elements<'a, W: Wire>(
+    alloc: Global,
+    ahead: &mut Ahead<'a>,
+    levels: u32,
+    schema: &Schema,
+    needed: &NeededFields,
+    kind: &TypeDesc,
+) -> Option<(Tag, Items)>
+    requires sound { IsSound (schema_of schema.now) }
+    requires needed { needed.now ≡ map needs_of (schema_of schema.now).structs }
+    ensures { IfSome result (λ r. ReadsElements W.wire levels (schema_of schema.now).structs (kind_of kind.now) ahead.old r.0 r.1 ahead.new) }
+{
+    ahead.count_value()?;
+    let levels = deeper(levels).ok()?;
+    let (tag, count) = items::<W>(ahead)?;
+    if !are_same_tags(tag_of_kind(kind), tag) {
+        return None;
+    }
+    let mut items = room(alloc, (count as usize).min(MOST_EXPECTED))?;
+    for step in 0..count {
+        let value = settled_value::<W>(alloc, ahead, levels, schema, needed, kind, tag)?;
+        put(&mut items, value).ok()?;
+    }
+    Some((tag, Items::new(items)))
+}
+
+/// The list in front, of elements of a type.
+#[cycle(settling)]
+#[inline(always)]
 fn settled_list<'a, W: Wire>(
     alloc: Global,
     ahead: &mut Ahead<'a>,
@@ -180,33 +152,13 @@ fn settled_list<'a, W: Wire>(
     requires needed { needed.now ≡ map needs_of (schema_of schema.now).structs }
     ensures { IfSome result (λ value. ReadsSettled W.wire levels (schema_of schema.now).structs (kind_list (kind_of element.now)) ahead.old (tree_of value) ahead.new) }
 {
-    ahead.count_value()?;
-    let levels = deeper(levels)?;
-    let (tag, count) = items::<W>(ahead)?;
-    if !are_same_tags(tag_of_kind(element), tag) {
-        return None;
-    }
-    let found = settled_items::<W>(alloc, ahead, levels, schema, needed, element, tag, count)?;
+    let (tag, found) = settled_elements::<W>(alloc, ahead, levels, schema, needed, element)?;
     Some(Value::List(tag, found))
-}
-
-/// Whether each member comes before the next.
-fn members_rise(members: &Items) -> bool
-    ensures { OnTrue result (IsRisingBy value_cmp (items_of members.now)) }
-{
-    is_rising(members.as_slice())
-}
-
-/// Whether each key comes before the next.
-fn keys_rise(pairs: &Pairs) -> bool
-    ensures { OnTrue result (IsRisingBy pair_cmp (pairs_of pairs.now)) }
-{
-    is_rising(pairs.as_slice())
 }
 
 /// The set in front, of members of a type.
 #[cycle(settling)]
-#[inline(never)]
+#[inline(always)]
 fn settled_set<'a, W: Wire>(
     alloc: Global,
     ahead: &mut Ahead<'a>,
@@ -219,27 +171,11 @@ fn settled_set<'a, W: Wire>(
     requires needed { needed.now ≡ map needs_of (schema_of schema.now).structs }
     ensures { IfSome result (λ value. ReadsSettled W.wire levels (schema_of schema.now).structs (kind_set (kind_of member.now)) ahead.old (tree_of value) ahead.new) }
 {
-    ahead.count_value()?;
-    let levels = deeper(levels)?;
-    let (tag, count) = items::<W>(ahead)?;
-    if !are_same_tags(tag_of_kind(member), tag) {
-        return None;
-    }
-    let found = settled_items::<W>(alloc, ahead, levels, schema, needed, member, tag, count)?;
-    if !members_rise(&found) {
+    let (tag, found) = settled_elements::<W>(alloc, ahead, levels, schema, needed, member)?;
+    if !is_rising(found.as_slice()) {
         return None;
     }
     Some(Value::Set(tag, found))
-}
-
-/// Whether two tags are those of two types.
-fn are_tags_of(key: Tag, key_kind: &TypeDesc, value: Tag, value_kind: &TypeDesc) -> bool
-    ensures { OnTrue result ((key ≡ tag_of_kind (kind_of key_kind.now)) × (value ≡ tag_of_kind (kind_of value_kind.now))) }
-{
-    if !are_same_tags(tag_of_kind(key_kind), key) {
-        return false;
-    }
-    are_same_tags(tag_of_kind(value_kind), value)
 }
 
 /// The map in front, of keys of a type and values of another.
@@ -259,7 +195,7 @@ fn settled_map<'a, W: Wire>(
     ensures { IfSome result (λ value. ReadsSettled W.wire levels (schema_of schema.now).structs (kind_map (kind_of key_kind.now) (kind_of value_kind.now)) ahead.old (tree_of value) ahead.new) }
 {
     ahead.count_value()?;
-    let levels = deeper(levels)?;
+    let levels = deeper(levels).ok()?;
     let (key, value, count) = pairs::<W>(ahead)?;
     if !are_tags_of(key, key_kind, value, value_kind) {
         return None;
@@ -267,35 +203,10 @@ fn settled_map<'a, W: Wire>(
     let found = settled_pairs::<W>(
         alloc, ahead, levels, schema, needed, key_kind, value_kind, count,
     )?;
-    if !keys_rise(&found) {
+    if !is_rising(found.as_slice()) {
         return None;
     }
     Some(Value::Map(key, value, found))
-}
-
-/// So many values in front, of a type of this tag.
-#[cycle(settling)]
-fn settled_items<'a, W: Wire>(
-    alloc: Global,
-    ahead: &mut Ahead<'a>,
-    levels: u32,
-    schema: &Schema,
-    needed: &NeededFields,
-    kind: &TypeDesc,
-    tag: Tag,
-    count: u32,
-) -> Option<Items>
-    requires sound { IsSound (schema_of schema.now) }
-    requires needed { needed.now ≡ map needs_of (schema_of schema.now).structs }
-    requires tag { tag ≡ tag_of_kind (kind_of kind.now) }
-    ensures { IfSome result (λ r. ReadsItems W.wire levels (schema_of schema.now).structs (kind_of kind.now) count ahead.old r ahead.new) }
-{
-    let mut items = room(alloc, (count as usize).min(MOST_EXPECTED))?;
-    for step in 0..count {
-        let value = settled_value::<W>(alloc, ahead, levels, schema, needed, kind, tag)?;
-        put(&mut items, value)?;
-    }
-    Some(Items::new(items))
 }
 
 /// So many pairs in front, of keys of a type and values of another.
@@ -322,7 +233,7 @@ fn settled_pairs<'a, W: Wire>(
         let value = settled_value::<W>(
             alloc, ahead, levels, schema, needed, value_kind, value_tag,
         )?;
-        put(&mut pairs, (key, value))?;
+        put(&mut pairs, (key, value)).ok()?;
     }
     Some(Pairs::new(pairs))
 }
@@ -343,7 +254,7 @@ fn settled_struct<'a, W: Wire>(
     ensures { IfSome result (λ value. ReadsSettled W.wire levels (schema_of schema.now).structs (kind_struct which) ahead.old (tree_of value) ahead.new) }
 {
     ahead.count_value()?;
-    let levels = deeper(levels)?;
+    let levels = deeper(levels).ok()?;
     let (desc, needs) = struct_at(schema, needed, which)?;
     let fields = settled_fields::<W>(alloc, ahead, levels, schema, needed, desc.fields.as_slice())?;
     if !has_all(desc, needs, &fields) {
@@ -362,42 +273,6 @@ fn has_all(desc: &StructDesc, needs: &StructNeeds, fields: &Fields) -> bool
         return false;
     }
     has_defaulted_fields(desc, needs, fields.as_slice())
-}
-
-/// The field at a place, if it has this id.
-#[inline(always)]
-fn hinted(declared: &[FieldDesc], place: usize, id: i16) -> Option<&FieldDesc>
-    requires { AllPairs (λ (f g : PlainField). f.id <ℤ g.id) (map plain_field declared.now) }
-    ensures { IfSome result (λ f. field_with_id id (map plain_field declared.now) ≡ Some (plain_field f.now)) }
-{
-    let field = item(declared, place)?;
-    if field.id == id {
-        return Some(field);
-    }
-    None
-}
-
-/// The field with an id, and its place, which is a hint where the next may stand.
-#[inline(never)]
-fn searched(declared: &[FieldDesc], id: i16) -> Option<(&FieldDesc, usize)>
-    requires { AllPairs (λ (f g : PlainField). f.id <ℤ g.id) (map plain_field declared.now) }
-    ensures { IfSome result (λ r. field_with_id id (map plain_field declared.now) ≡ Some (plain_field r.0.now)) }
-{
-    let place = declared.binary_search_by_key(&id, |field| field.id).ok()?;
-    let field = hinted(declared, place, id)?;
-    Some((field, place))
-}
-
-/// The field with an id, and its place, which is first looked for at a place.
-#[inline(always)]
-fn declared_near(declared: &[FieldDesc], place: usize, id: i16) -> Option<(&FieldDesc, usize)>
-    requires { AllPairs (λ (f g : PlainField). f.id <ℤ g.id) (map plain_field declared.now) }
-    ensures { IfSome result (λ r. field_with_id id (map plain_field declared.now) ≡ Some (plain_field r.0.now)) }
-{
-    if let Some(field) = hinted(declared, place, id) {
-        return Some((field, place));
-    }
-    searched(declared, id)
 }
 
 /// The value of a field of a type, whose head was read.
@@ -478,7 +353,7 @@ fn settled_fields<'a, W: Wire>(
                 if !is_behind(&fields, last, id) {
                     return None;
                 }
-                let (found, place) = declared_near(declared, next, id)?;
+                let (found, place) = field_near(declared, next, id)?;
                 let value = settled_field::<W>(
                     alloc,
                     ahead,
@@ -489,7 +364,7 @@ fn settled_fields<'a, W: Wire>(
                     tag,
                     flag,
                 )?;
-                keep(&mut fields, expected, (id, value))?;
+                keep(&mut fields, expected, (id, value)).ok()?;
                 last = id;
                 next = place.wrapping_add(1);
                 continue;

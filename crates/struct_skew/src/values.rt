@@ -1,12 +1,11 @@
 //! Values as parts of a projection: copies, containers, defaults, and the bounds of the whole.
 ghost use Rattle.std.specs.Prelude.{◌≡◌, ℤ, not, ◌&&◌, ◌==◌, map, IfErr, Result, Ok, Some, List, Option as OptionOf};
 ghost use Rattle.std.specs.Option.{option_map};
-ghost use Rattle.thrift_value.specs.Order.{tree_cmp};
 ghost use Rattle.thrift_value.specs.Tree.{Tree, of_struct, no_fields};
 ghost use Rattle.thrift_value.specs.TreeOf.{tree_of, field_tree, pair_tree};
 ghost use Rattle.schema.specs.PlainKind.{kind_of};
 ghost use Rattle.schema.specs.SchemaOf.{plain_field};
-ghost use Rattle.struct_skew.specs.Answering.{ProjectsOrNoMemory, Puts, PutsSome};
+ghost use Rattle.struct_skew.specs.Answering.{ProjectsOrNoMemory, PutsSome};
 ghost use Rattle.struct_skew.specs.Projection.{is_union, unsent_value, map_meaning, set_meaning, list_meaning, bounded};
 ghost use Rattle.struct_skew.specs.Results.{with_value, and_if_ok, both_values, as_field};
 ghost use Rattle.struct_skew.specs.Unions.{one_of_union};
@@ -57,22 +56,6 @@ pub(crate) fn copy_of(alloc: Global, value: &Value) -> Result<Value, SkewFault>
 {
     let copy = value.try_clone(alloc)?;
     Ok(copy)
-}
-
-/// Appends a value, where it was found.
-pub(crate) fn put_found<T: Drop>(
-    into: &mut Vec<T>,
-    found: Result<T, SkewFault>,
-) -> Result<(), SkewFault>
-    ensures { Puts found result into.old.items into.new.items }
-{
-    match found {
-        Ok(value) => {
-            into.push(value)?;
-            Ok(())
-        }
-        Err(fault) => Err(fault),
-    }
 }
 
 /// Appends a value, where there is one.

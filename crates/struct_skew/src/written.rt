@@ -2,7 +2,6 @@
 ghost use Rattle.std.specs.Bool.{OnTrue};
 ghost use Rattle.std.specs.Prelude.{◌≡◌, ⊤, map, IsTrue, MatchOption, Some};
 ghost use Rattle.std.specs.List.{slice_get};
-ghost use Rattle.std.specs.Option.{option_copied, option_map};
 ghost use Rattle.std.specs.Ordering.{int_eq};
 ghost use Rattle.thrift_value.specs.TreeOf.{tree_of, field_tree, field_trees, item_trees, pair_tree, pair_trees};
 ghost use Rattle.schema.specs.LookUp.{fields_at};
@@ -10,14 +9,14 @@ ghost use Rattle.schema.specs.PlainKind.{kind_of};
 ghost use Rattle.schema.specs.PlainSchema.{PlainStruct};
 ghost use Rattle.schema.specs.SchemaOf.{schema_of, plain_field, plain_struct};
 ghost use Rattle.schema.specs.Sound.{IsSound};
-ghost use Rattle.schema.specs.WrittenAs.{field_with_id};
 ghost use Rattle.struct_skew.specs.Needs.{is_required_field, needs_of, places_from};
 ghost use Rattle.struct_skew.specs.TidyTests.{has_small_sizes};
 ghost use Rattle.struct_skew.specs.WrittenTests.{are_fields_written_as, are_items_written_as, are_pairs_written_as, has_field_at, has_field_tree, has_fields_at, has_its_fields, has_required_fields, is_one_field, is_struct_written, is_written_as, may_be_written};
 
 use crate::needs::{NeededFields, is_required, is_union, item};
 use known_parts::{
-    are_same_tags, list_of_kind, map_of_kind, set_of_kind, struct_of_kind, tag_of_kind,
+    are_same_tags, declared_field, list_of_kind, map_of_kind, set_of_kind, struct_of_kind,
+    tag_of_kind,
 };
 use schema::{FieldDesc, Schema, StructDesc, TypeDesc};
 use thrift_value::Value;
@@ -169,14 +168,6 @@ fn required_of<'a>(
 {
     let needs = needed?.row(which)?;
     Some(needs.required.as_slice())
-}
-
-/// The declared field with an id of the struct at a number.
-pub(crate) fn declared_field<'a>(schema: &'a Schema, which: u32, id: &i16) -> Option<&'a FieldDesc>
-    requires { IsSound (schema_of schema.now) }
-    ensures { option_map plain_field (option_copied result) ≡ field_with_id id.now (fields_at (schema_of schema.now) which) }
-{
-    schema.field(which, *id)
 }
 
 /// Whether a value is of a type. It recurses once a level that both have.

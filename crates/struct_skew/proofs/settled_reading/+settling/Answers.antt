@@ -7,9 +7,11 @@ use Rattle.wire_model.specs.declared.one_pass.FieldHead.TheVariants.{Field}
 use Rattle.wire_model.specs.AtPlace.{head_of}
 use Rattle.known_parts.specs.Parts.{tag_of_kind, are_same_tags}
 use Rattle.known_parts.proofs.Knowing.{same_tags}
+use Rattle.struct_skew.specs.Latest.{IsRisingBy}
+use Rattle.struct_skew.specs.Orders.{value_cmp, pair_cmp}
 use Rattle.struct_skew.specs.ReadSettled.{ReadsFields}
-use Rattle.struct_skew.proofs.SettledSteps.{items_kept_step, items_kept_end, pairs_kept_step, pairs_kept_end, fields_kept_step, fields_kept_end}
-use Rattle.struct_skew.proofs.SettledWhole.{struct_read, list_read, set_read, map_read}
+use Rattle.struct_skew.proofs.SettledSteps.{told, told_on, tags_agree, items_kept_step, items_kept_end, pairs_kept_step, pairs_kept_end, fields_kept_step, fields_kept_end}
+use Rattle.struct_skew.proofs.SettledWhole.{struct_read, elements_read, list_read, set_read, map_read}
 use Rattle.struct_skew.proofs.settled_reading.+settling.Goals as goal
 
 pub settled_fields-returns-in-Stop : goal.settled_fields-returns-in-Stop
@@ -30,24 +32,29 @@ settled_fields-loop-step-preserved g t c =
     (plain_field c.in_ok-found-in-Field.found.now) c.loop-step.ahead c.field.new.ahead _ c.args.ahead.now c.in_ok-value-in-Field.value
     (let more : c.len-step-end.result - c.loop-step.step ≡ suc (c.len-step-end.result - (c.loop-step.step + 1)) = omega arith in more) c.loop-step.invariant
     (c.in_ok-head.ensures ∙ ap (λ h. Ok (head_of h, c.field.new.ahead)) c.in-Field.is ∙ ap (λ z. Ok (head_of (Field z c.in-Field.tag c.in-Field.flag), c.field.new.ahead)) same)
-    c.if-not-is_behind.ensures c.in_ok-found-in-Field.ensures c.in_ok-value-in-Field.ensures c.in_ok-keep-in-Field.ensures
+    c.if-not-is_behind.ensures (sym c.in_ok-found-in-Field.ensures) c.in_ok-value-in-Field.ensures (told_on c.keep.result tt c.in_ok-ok-in-Field.ensures.value c.keep.ensures)
 
-pub settled_items-loop-step-preserved : goal.settled_items-loop-step-preserved
-settled_items-loop-step-preserved g t c =
-    items_kept_step g.W.WireProtocol.wire c.args.levels (schema_of c.args.schema.now).structs (kind_of c.args.kind.now) c.loop-step.items.items _ c.in_ok-value.value
-    (c.args.count - c.loop-step.step) (c.args.count - (c.loop-step.step + 1)) c.loop-step.ahead _ c.args.count c.args.ahead.now
-    (let more : c.args.count - c.loop-step.step ≡ suc (c.args.count - (c.loop-step.step + 1)) = omega arith in more) c.loop-step.invariant c.in_ok-value.ensures c.in_ok-put.ensures
+pub settled_elements-loop-step-preserved : goal.settled_elements-loop-step-preserved
+settled_elements-loop-step-preserved g t c =
+    items_kept_step g.W.WireProtocol.wire c.in_ok-levels.levels (schema_of c.args.schema.now).structs (kind_of c.args.kind.now) c.loop-step.items.items _ c.in_ok-value.value
+    (c.in_ok-tag.count - c.loop-step.step) (c.in_ok-tag.count - (c.loop-step.step + 1)) c.loop-step.ahead _ c.in_ok-tag.count _
+    (let more : c.in_ok-tag.count - c.loop-step.step ≡ suc (c.in_ok-tag.count - (c.loop-step.step + 1)) = omega arith in more) c.loop-step.invariant c.in_ok-value.ensures (told_on c.put.result tt c.in_ok-ok.ensures.value c.put.ensures)
 
-pub settled_items-returns : goal.settled_items-returns
-settled_items-returns g t c =
-    items_kept_end g.W.WireProtocol.wire c.args.levels (schema_of c.args.schema.now).structs (kind_of c.args.kind.now) c.loop-step.items.items c.new.result
-    (c.args.count - c.loop-step.step) c.loop-step.ahead c.args.count c.args.ahead.now (let none : c.args.count - c.loop-step.step ≡ 0 = omega arith in none) c.loop-step.invariant c.new.ensures
+pub settled_elements-returns : goal.settled_elements-returns
+settled_elements-returns g t c =
+    let kind = kind_of c.args.kind.now in
+    let tag = c.in_ok-tag.tag in
+    elements_read g.W.WireProtocol.wire c.args.levels c.in_ok-levels.levels (schema_of c.args.schema.now).structs c.args.ahead.now _ c.in_ok-count_value.ensures (told _ _ c.deeper.result c.in_ok-levels.levels c.in_ok-levels.ensures.value c.deeper.ensures)
+    tag c.in_ok-tag.count _ _ c.new.result kind c.in_ok-tag.ensures
+    (sym (same_tags (tag_of_kind kind) tag (c.if-not-are_same_tags.ensures ∙ ap (λ a. are_same_tags a tag) c.tag_of_kind.ensures)))
+    (items_kept_end g.W.WireProtocol.wire c.in_ok-levels.levels (schema_of c.args.schema.now).structs kind c.loop-step.items.items c.new.result
+    (c.in_ok-tag.count - c.loop-step.step) c.loop-step.ahead c.in_ok-tag.count _ (let none : c.in_ok-tag.count - c.loop-step.step ≡ 0 = omega arith in none) c.loop-step.invariant c.new.ensures)
 
 pub settled_pairs-loop-step-preserved : goal.settled_pairs-loop-step-preserved
 settled_pairs-loop-step-preserved g t c =
     pairs_kept_step g.W.WireProtocol.wire c.args.levels (schema_of c.args.schema.now).structs (kind_of c.args.key_kind.now) (kind_of c.args.value_kind.now) c.loop-step.pairs.items _
     c.in_ok-key.key c.in_ok-value.value (c.args.count - c.loop-step.step) (c.args.count - (c.loop-step.step + 1)) c.loop-step.ahead _ _ c.args.count c.args.ahead.now
-    (let more : c.args.count - c.loop-step.step ≡ suc (c.args.count - (c.loop-step.step + 1)) = omega arith in more) c.loop-step.invariant c.in_ok-key.ensures c.in_ok-value.ensures c.in_ok-put.ensures
+    (let more : c.args.count - c.loop-step.step ≡ suc (c.args.count - (c.loop-step.step + 1)) = omega arith in more) c.loop-step.invariant c.in_ok-key.ensures c.in_ok-value.ensures (told_on c.put.result tt c.in_ok-ok.ensures.value c.put.ensures)
 
 pub settled_pairs-returns : goal.settled_pairs-returns
 settled_pairs-returns g t c =
@@ -56,30 +63,25 @@ settled_pairs-returns g t c =
 
 pub settled_list-returns : goal.settled_list-returns
 settled_list-returns g t c =
-    let kind = kind_of c.args.element.now in
-    list_read g.W.WireProtocol.wire c.args.levels c.in_ok-levels.levels (schema_of c.args.schema.now).structs c.args.ahead.now _ c.in_ok-count_value.ensures c.in_ok-levels.ensures
-    c.in_ok-tag.tag c.in_ok-tag.count _ _ c.in_ok-found.found kind c.in_ok-tag.ensures
-    (sym (same_tags (tag_of_kind kind) c.in_ok-tag.tag (c.if-not-are_same_tags.ensures ∙ ap (λ a. are_same_tags a c.in_ok-tag.tag) c.tag_of_kind.ensures))) c.in_ok-found.ensures
+    list_read g.W.WireProtocol.wire c.args.levels (schema_of c.args.schema.now).structs (kind_of c.args.element.now) c.args.ahead.now c.in_ok-tag.tag c.in_ok-tag.found _ c.in_ok-tag.ensures
 
 pub settled_set-returns : goal.settled_set-returns
 settled_set-returns g t c =
-    let kind = kind_of c.args.member.now in
-    set_read g.W.WireProtocol.wire c.args.levels c.in_ok-levels.levels (schema_of c.args.schema.now).structs c.args.ahead.now _ c.in_ok-count_value.ensures c.in_ok-levels.ensures
-    c.in_ok-tag.tag c.in_ok-tag.count _ _ c.in_ok-found.found kind c.in_ok-tag.ensures
-    (sym (same_tags (tag_of_kind kind) c.in_ok-tag.tag (c.if-not-are_same_tags.ensures ∙ ap (λ a. are_same_tags a c.in_ok-tag.tag) c.tag_of_kind.ensures))) c.in_ok-found.ensures
-    c.if-not-members_rise.ensures
+    set_read g.W.WireProtocol.wire c.args.levels (schema_of c.args.schema.now).structs (kind_of c.args.member.now) c.args.ahead.now c.in_ok-tag.tag c.in_ok-tag.found _ c.in_ok-tag.ensures
+    (subst (IsRisingBy value_cmp) c.as_slice.ensures (c.is_rising.ensures.0 c.if-not-is_rising.false))
 
 pub settled_map-returns : goal.settled_map-returns
 settled_map-returns g t c =
-    map_read g.W.WireProtocol.wire c.args.levels c.in_ok-levels.levels (schema_of c.args.schema.now).structs c.args.ahead.now _ c.in_ok-count_value.ensures c.in_ok-levels.ensures
+    let names = tags_agree c.in_ok-key.key (kind_of c.args.key_kind.now) c.in_ok-key.value (kind_of c.args.value_kind.now) c.are_tags_of.result c.if-not-are_tags_of.false c.are_tags_of.ensures in
+    map_read g.W.WireProtocol.wire c.args.levels c.in_ok-levels.levels (schema_of c.args.schema.now).structs c.args.ahead.now _ c.in_ok-count_value.ensures (told _ _ c.deeper.result c.in_ok-levels.levels c.in_ok-levels.ensures.value c.deeper.ensures)
     c.in_ok-key.key c.in_ok-key.value c.in_ok-key.count _ _ c.in_ok-found.found (kind_of c.args.key_kind.now) (kind_of c.args.value_kind.now) c.in_ok-key.ensures
-    c.if-not-are_tags_of.ensures.0 c.if-not-are_tags_of.ensures.1 c.in_ok-found.ensures c.if-not-keys_rise.ensures
+    names.0 names.1 c.in_ok-found.ensures (subst (IsRisingBy pair_cmp) c.as_slice.ensures (c.is_rising.ensures.0 c.if-not-is_rising.false))
 
 pub settled_struct-returns : goal.settled_struct-returns
 settled_struct-returns g t c =
     let at = c.in_ok-desc.ensures in
     let all = c.if-not-has_all.ensures in
-    struct_read g.W.WireProtocol.wire c.args.levels c.in_ok-levels.levels (schema_of c.args.schema.now).structs c.args.ahead.now _ c.in_ok-count_value.ensures c.in_ok-levels.ensures
+    struct_read g.W.WireProtocol.wire c.args.levels c.in_ok-levels.levels (schema_of c.args.schema.now).structs c.args.ahead.now _ c.in_ok-count_value.ensures (told _ _ c.deeper.result c.in_ok-levels.levels c.in_ok-levels.ensures.value c.deeper.ensures)
     c.args.which (plain_struct c.in_ok-desc.desc.now) c.in_ok-fields.fields c.settled_fields.new.ahead at.here
     (subst (λ ds. ReadsFields g.W.WireProtocol.wire c.in_ok-levels.levels (schema_of c.args.schema.now).structs (map plain_field ds) c.count_value.new.self c.in_ok-fields.fields c.settled_fields.new.ahead) c.as_slice.ensures c.in_ok-fields.ensures)
     all.0 all.1
