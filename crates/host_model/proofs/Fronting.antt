@@ -47,5 +47,3 @@ passed_on {X} p xs i x out next w l is t e =
 
 pub kept_all : {X : Type 0} (p : X → Bool) (xs : List X) (out : List X) → Kept p xs (length xs) out → out ≡ filter p xs
 kept_all p xs out w = sym (append-nil out) ∙ ap (λ t. out ++ filter p t) (sym (drop-length xs)) ∙ w.so_far
-
-pub ruleset fronting = (flat_on, flat_all, kept_on, passed_on, kept_all)

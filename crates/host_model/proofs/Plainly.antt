@@ -138,5 +138,3 @@ module _ {C A X : Type 0} (d : DeskRules C A) (payloads : List X) (bytes : X →
 
   pub sent_all : (es : List (JournalEntry C A)) (out : List ℕ) → Sending es (length payloads) out → out ≡ sent d es 0 (map bytes payloads)
   sent_all es out w = sym (append-nil out) ∙ ap (λ ps. out ++ sent d es (length payloads) (map bytes ps)) (sym (drop-length payloads)) ∙ w.so_far
-
-pub ruleset plainly = (own_on, own_past, own_all, seek_on, sought, not_sought, leave_on, left_all, go_on, gone, not_gone, call_on, called_all, send_on, sent_all)

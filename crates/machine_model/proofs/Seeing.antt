@@ -5,7 +5,7 @@ use Rattle.std.proofs.lemmas.List.{length-map, length-set, map-set, get_or-set_s
 use Rattle.host_model.specs.declared.cause.EndCause.{EndCause}
 use Rattle.machine_model.specs.declared.plain.conns.PlainConn.{PlainConn}
 use Rattle.machine_model.specs.Loop.{LoopConn, new_conn, count_if_open, open_among, with_conn, changed}
-use Rattle.machine_model.specs.Plain.{Moved, has_none_yet, moved_plain, answers, lacks_for_answer, Told, effect_plain, apply_result_plain, told_plain, run_plain}
+use Rattle.machine_model.specs.Plain.{Moved, has_none_yet, moved_plain, answers, lacks_for_answer, Told, effect_plain, take_plain, outcome_plain, put_plain, apply_result_plain, told_plain, run_plain}
 use Rattle.host_model.specs.Journal.{ServiceRules}
 use Rattle.host_model.specs.DeskRules.{DeskRules}
 use Rattle.std.proofs.lemmas.Option.{none-some, same_Some}
@@ -16,8 +16,8 @@ use Rattle.host_model.specs.declared.key.Key.{Key}
 use Rattle.host_model.proofs.Fronting.{next_of}
 use Rattle.machine_model.specs.declared.plain.workers.PlainWorkerState.{PlainWorkerState}
 use Rattle.machine_model.specs.declared.plain.workers.PlainWorkerState.TheVariants.{Idle}
-use Rattle.machine_model.specs.HallState.{is_same, without}
-use Rattle.machine_model.specs.Worker.{idle, has_answer, has_none}
+use Rattle.machine_model.specs.HallState.{Job, is_same, without}
+use Rattle.machine_model.specs.Worker.{WorkerState, idle, holds, has_answer, has_none, settled_by, settled_with, settlement, key_held}
 use Rattle.machine_model.specs.Machine.{Cell, with_worker}
 use Rattle.machine_model.specs.Seen.{conn_of, conns_of, loop_of, worker_of, workers_of}
 use Rattle.machine_model.proofs.Lists.{put_same, put_other}
@@ -229,6 +229,39 @@ module _ {A : Type 0} where
           (put_same (workers_of now) (length now) idle ∙ sym (seen_past worker_of idle now (length now) (omega arith)))
       go i (inr n) = (λ k. seen_more worker_of idle now Idle k i) ∙ put_other (workers_of now) (length now) idle i n
 
+module _ {C A M : Type 0} where
+  -- a worker that holds a job takes none
+  pub busy_takes_none : (cell : Cell C A M) (w : ℕ) (worker : WorkerState A) (jobs : List Job) (key : Key) → key_held worker ≡ Some key → None ≡ take_plain cell w worker jobs
+  busy_takes_none cell w idle jobs key e = absurd (none-some key e)
+  busy_takes_none cell w (holds k p) jobs key e = refl
+  busy_takes_none cell w (has_answer k p a) jobs key e = refl
+  busy_takes_none cell w (has_none k p) jobs key e = refl
+
+-- one that holds none is idle
+pub free_is_idle : {A : Type 0} (worker : WorkerState A) → key_held worker ≡ None → worker ≡ idle
+free_is_idle idle e = refl
+free_is_idle (holds k p) e = absurd (none-some k (sym e))
+free_is_idle (has_answer k p a) e = absurd (none-some k (sym e))
+free_is_idle (has_none k p) e = absurd (none-some k (sym e))
+
+pub ruleset takings = (busy_takes_none, free_is_idle)
+
+module _ {C A M : Type 0} (d : DeskRules C A) where
+  -- a worker that holds a job puts what it comes to
+  pub put_by_key : (cell : Cell C A M) (w : ℕ) (worker : WorkerState A) (key : Key) → Some key ≡ key_held worker
+      → outcome_plain cell w key (settlement d worker) ≡ put_plain d cell w worker
+  put_by_key cell w idle key e = absurd (none-some key (sym e))
+  put_by_key cell w (holds k p) key e = ap (λ x. outcome_plain cell w x (settled_by (d.decide p))) (same_Some key k e)
+  put_by_key cell w (has_answer k p a) key e = ap (λ x. outcome_plain cell w x (settled_with d p a (d.decide p))) (same_Some key k e)
+  put_by_key cell w (has_none k p) key e = refl
+
+  -- one that holds none puts nothing
+  pub put_by_none : (cell : Cell C A M) (w : ℕ) (worker : WorkerState A) → None ≡ key_held worker → None ≡ put_plain d cell w worker
+  put_by_none cell w idle e = refl
+  put_by_none cell w (holds k p) e = absurd (none-some k e)
+  put_by_none cell w (has_answer k p a) e = absurd (none-some k e)
+  put_by_none cell w (has_none k p) e = refl
+
 -- a memory at its slot
 pub memory_seen : {X Y : Type 0} (f : X → Y) (xs : List X) (i : ℕ) (x : X) → i < length xs → x ≡ get_or xs i x → Some (f x) ≡ option_map f (slice_get xs i)
 memory_seen f [] i x l is = absurd (let g : ⊥ = omega arith in g)
@@ -310,4 +343,6 @@ no_payload f (y ∷ xs) (suc i) l = no_payload f xs i (omega arith)
 
 pub ruleset payloads = (payload_seen, no_payload)
 
-pub ruleset seeing = (conns_set, conns_more, conn_seen, put_again, counts_open, counts_ended, open_is, first_and_rest, takes_key_out, keeps_other_key, keeps_later_key, left_all, workers_set, worker_seen, no_worker, more_room)
+pub ruleset counting = (counts_open, counts_ended)
+
+pub ruleset leaving = (takes_key_out, keeps_other_key, keeps_later_key, left_all)

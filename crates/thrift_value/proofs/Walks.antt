@@ -107,6 +107,24 @@ alike C G step xs ys i x y o whole low below here there is same kept =
     let equal : C x y ≡ Equal = sym is ∙ undecided o same in
     sym (all ∙ ap (λ z. ordering_then z rest) equal) ∙ kept
 
+-- an ordering that isn't equality decides
+first_decides : (o other : Ordering) → true ≡ is_ne o → ordering_then o other ≡ o
+first_decides Less other e = refl
+first_decides Equal other e = absurd (true≢false e)
+first_decides Greater other e = refl
+
+-- G orders lists item by item, and two items decide
+pub decided : {A : Type 0} (C : A → A → Ordering) (G : List A → List A → Ordering)
+    → ((x y : A) (xs ys : List A) → G (x ∷ xs) (y ∷ ys) ≡ ordering_then (C x y) (G xs ys))
+    → (xs ys : List A) (i : ℕ) (x y : A) (o whole : Ordering) → i < length xs → i < length ys → x ≡ get_or xs i x → y ≡ get_or ys i y
+    → o ≡ C x y → true ≡ is_ne o → G (drop i xs) (drop i ys) ≡ whole → o ≡ whole
+decided C G step xs ys i x y o whole low below here there is apart kept =
+    let front : drop i xs ≡ x ∷ drop (i + 1) xs = drop_more xs i x low ∙ ap (λ z. z ∷ drop (i + 1) xs) (sym here) in
+    let other : drop i ys ≡ y ∷ drop (i + 1) ys = drop_more ys i y below ∙ ap (λ z. z ∷ drop (i + 1) ys) (sym there) in
+    let rest = G (drop (i + 1) xs) (drop (i + 1) ys) in
+    let all : G (drop i xs) (drop i ys) ≡ ordering_then (C x y) rest = ap₂ G front other ∙ step x y (drop (i + 1) xs) (drop (i + 1) ys) in
+    sym (all ∙ ap (λ z. ordering_then z rest) (sym is) ∙ first_decides o rest apart) ∙ kept
+
 -- one more copy, or what it is part of, behind those of the front
 pub copied : {A E Y B T : Type 0} (view : A → B) (tree : Y → T) (part : Y → A) (v : Y) (xs : List A) (i : ℕ) (x : A) (old new : List A) (made : Result Y E)
     → i < length xs → x ≡ get_or xs i x → ((y : Y) → tree y ≡ tree v → view (part y) ≡ view x)

@@ -1,5 +1,5 @@
 -- How what a sink takes of a text in one call goes on in the next.
-use Rattle.std.proofs.Common.{◌≡◌, ℕ, ℤ, codes, ◌+◌, ◌<◌, ◌≤◌, List, [], ◌∷◌, ◌++◌, length, drop, get_or, map, Option, Some, None, Result, Ok, Err, refl, sym, ap, ◌∙◌, subst, append_assoc, add-one, drop-cons}
+use Rattle.std.proofs.Common.{◌≡◌, ℕ, ℤ, codes, ◌+◌, ◌<◌, ◌≤◌, List, [], ◌∷◌, ◌++◌, length, drop, get_or, map, Option, Some, None, Result, Ok, Err, refl, sym, ap, ◌∙◌, subst, append_assoc, add-one, arith, drop-cons}
 use Rattle.std.specs.List.{flat_map}
 use Rattle.std.specs.Prelude.{MatchResult}
 use Rattle.std.specs.Result.{IsErr}
@@ -200,3 +200,22 @@ pairs_begin pairs first more is =
     ap (λ ps. listed_pairs (pair_trees (map pair_tree ps))) is
     ∙ ap (λ t. key ++ (codes "=" ++ (value ++ t))) (sym (pairs_are_flat more))
     ∙ sym (append_assoc key (codes "=" ++ value) (flat_map next_pair more))
+
+-- nothing is there to be taken
+pub nothing_handed : (x : Option (List ℕ)) (f : ℕ) (text : List ℕ) → text ≡ [] → HandsOver x x f f text []
+nothing_handed x f text none =
+    let kept = none_taken x [] in
+    subst (λ t. HandsOver x x f f t []) (sym none) (record { front = kept.front; taken = kept.taken; whole = kept.whole; kept = refl })
+
+-- the text of none
+pub no_fields_told : (fields : List (ℤ × Value)) → length fields ≡ 0 → codes "{" ≡ opened_fields fields
+no_fields_told [] none = refl
+no_fields_told (f ∷ fields) none = absurd (omega (arith, none))
+
+pub no_items_told : (items : List Value) → length items ≡ 0 → listed_items (item_trees (map tree_of items)) ≡ []
+no_items_told [] none = refl
+no_items_told (x ∷ items) none = absurd (omega (arith, none))
+
+pub no_pairs_told : (pairs : List (Value × Value)) → length pairs ≡ 0 → listed_pairs (pair_trees (map pair_tree pairs)) ≡ []
+no_pairs_told [] none = refl
+no_pairs_told (p ∷ pairs) none = absurd (omega (arith, none))

@@ -207,44 +207,18 @@ fn hex_byte_at(text: &[u8]) -> Result<(u8, &[u8]), TextStop>
     Ok((high * 16 + low, rest))
 }
 
-/// Eight bytes of two hexadecimal digits each.
-#[tactic(auto, unfolding(crate::specs::Fronts::hex_at))]
-pub(crate) fn eight_at(text: &[u8]) -> Result<([u8; 8], &[u8]), TextStop>
-    ensures { Gives (λ r. (r.0, r.1.now)) result (hex_at 8 text.now) }
+/// So many bytes of two hexadecimal digits each.
+pub(crate) fn hex_at<const N: usize>(text: &[u8]) -> Result<([u8; N], &[u8]), TextStop>
+    ensures { Gives (λ r. (r.0, r.1.now)) result (hex_at N text.now) }
 {
-    let (a, rest) = hex_byte_at(text)?;
-    let (b, rest) = hex_byte_at(rest)?;
-    let (c, rest) = hex_byte_at(rest)?;
-    let (d, rest) = hex_byte_at(rest)?;
-    let (e, rest) = hex_byte_at(rest)?;
-    let (f, rest) = hex_byte_at(rest)?;
-    let (g, rest) = hex_byte_at(rest)?;
-    let (h, rest) = hex_byte_at(rest)?;
-    Ok(([a, b, c, d, e, f, g, h], rest))
-}
-
-/// Sixteen bytes of two hexadecimal digits each.
-#[tactic(auto, unfolding(crate::specs::Fronts::hex_at))]
-pub(crate) fn sixteen_at(text: &[u8]) -> Result<([u8; 16], &[u8]), TextStop>
-    ensures { Gives (λ r. (r.0, r.1.now)) result (hex_at 16 text.now) }
-{
-    let (a, rest) = hex_byte_at(text)?;
-    let (b, rest) = hex_byte_at(rest)?;
-    let (c, rest) = hex_byte_at(rest)?;
-    let (d, rest) = hex_byte_at(rest)?;
-    let (e, rest) = hex_byte_at(rest)?;
-    let (f, rest) = hex_byte_at(rest)?;
-    let (g, rest) = hex_byte_at(rest)?;
-    let (h, rest) = hex_byte_at(rest)?;
-    let (i, rest) = hex_byte_at(rest)?;
-    let (j, rest) = hex_byte_at(rest)?;
-    let (k, rest) = hex_byte_at(rest)?;
-    let (l, rest) = hex_byte_at(rest)?;
-    let (m, rest) = hex_byte_at(rest)?;
-    let (n, rest) = hex_byte_at(rest)?;
-    let (o, rest) = hex_byte_at(rest)?;
-    let (p, rest) = hex_byte_at(rest)?;
-    Ok(([a, b, c, d, e, f, g, h, i, j, k, l, m, n, o, p], rest))
+    let mut bytes = [0; N];
+    let mut rest = text;
+    for i in 0..N {
+        let (byte, behind) = hex_byte_at(rest)?;
+        bytes[i] = byte;
+        rest = behind;
+    }
+    Ok((bytes, rest))
 }
 
 /// Whether a byte stands as it is between quotation marks.

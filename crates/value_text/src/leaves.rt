@@ -6,7 +6,7 @@ ghost use Rattle.value_text.specs.Answering.{Gives};
 ghost use Rattle.value_text.specs.Reading.{bool_at, bytes_at, double_at, leaf_at, lettered, most_rounds, number_text_at, typed_as, typed_at, uuid_at};
 
 use crate::form::{Leaf, greatest, is_wanted};
-use crate::fronts::{eight_at, integer_at, past, quoted_at, sixteen_at};
+use crate::fronts::{hex_at, integer_at, past, quoted_at};
 use crate::stop::TextStop;
 use std::alloc::Global;
 use thrift_value::{ByteText, Tag, Uuid, Value};
@@ -119,7 +119,7 @@ fn double_at(text: &[u8]) -> Result<(Value, &[u8]), TextStop>
     ensures { Gives (λ r. (tree_of r.0, r.1.now)) result (double_at text.now) }
 {
     let digits = past(b"d", text)?;
-    let (bytes, rest) = eight_at(digits)?;
+    let (bytes, rest) = hex_at::<8>(digits)?;
     Ok((Value::Double(u64::from_be_bytes(bytes)), rest))
 }
 
@@ -129,7 +129,7 @@ fn uuid_at(text: &[u8]) -> Result<(Value, &[u8]), TextStop>
     ensures { Gives (λ r. (tree_of r.0, r.1.now)) result (uuid_at text.now) }
 {
     let digits = past(b"u", text)?;
-    let (bytes, rest) = sixteen_at(digits)?;
+    let (bytes, rest) = hex_at::<16>(digits)?;
     let number = u128::from_be_bytes(bytes);
     Ok((Value::Uuid(Uuid::new(number)), rest))
 }

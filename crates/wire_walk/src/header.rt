@@ -3,7 +3,7 @@
 use thrift_value::Tag;
 
 /// What stands before a field of a struct (Thrift binary and compact protocol, 'Struct').
-#[derive(Clone, Copy, Debug, PartialEq, Eq)]
+#[derive(Clone, Copy)]
 pub enum Header {
     /// The end of the struct.
     Stop,

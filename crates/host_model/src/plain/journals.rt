@@ -17,7 +17,7 @@ pub struct PlainEntry<C, A> {
 }
 
 /// The entries of the connection of this number.
-#[tactic(auto, using(crate::proofs::Plainly::plainly))]
+#[tactic(auto, using(crate::proofs::Plainly::own_on, crate::proofs::Plainly::own_past, crate::proofs::Plainly::own_all))]
 pub fn entries_of<C: Copy, A: Copy>(
     alloc: Global,
     c: u32,
@@ -58,7 +58,7 @@ pub trait PlainServices {
 }
 
 /// Brings the memories, one a slot, from those before a journal to those after it.
-#[tactic(auto, using(crate::proofs::Plainly::plainly))]
+#[tactic(auto, using(crate::proofs::Plainly::leave_on, crate::proofs::Plainly::left_all))]
 pub fn after<S: PlainServices>(
     services: &S,
     memories: &mut [S::Memory],
@@ -85,7 +85,7 @@ pub fn is_legal<S: PlainServices>(
 }
 
 /// Whether a journal is a legal history from these memories, which it uses up.
-#[tactic(auto, using(crate::proofs::Plainly::plainly))]
+#[tactic(auto, using(crate::proofs::Plainly::go_on, crate::proofs::Plainly::gone, crate::proofs::Plainly::not_gone))]
 fn goes_on<S: PlainServices>(
     services: &S,
     memories: &mut [S::Memory],

@@ -44,7 +44,7 @@ fn same_bytes(alloc: Global, bytes: &Bytes) -> Result<Bytes, AllocError>
 }
 
 /// The marks of the connection of this number.
-#[tactic(auto, using(crate::proofs::Fronting::fronting))]
+#[tactic(auto, using(crate::proofs::Fronting::kept_all))]
 pub fn marks_of(alloc: Global, c: u32, tape: &[Mark]) -> Result<Vec<Mark>, AllocError>
     ensures { IfOk result (λ own. own.items ≡ marks_of c tape.now) }
 {
@@ -58,7 +58,7 @@ pub fn marks_of(alloc: Global, c: u32, tape: &[Mark]) -> Result<Vec<Mark>, Alloc
 }
 
 /// All bytes that marks say were read.
-#[tactic(auto, using(crate::proofs::Fronting::fronting))]
+#[tactic(auto, using(crate::proofs::Fronting::flat_on, crate::proofs::Fronting::flat_all))]
 pub fn input(alloc: Global, marks: &[Mark]) -> Result<Vec<u8>, AllocError>
     ensures { IfOk result (λ bytes. bytes.items ≡ input marks.now) }
 {
@@ -72,7 +72,7 @@ pub fn input(alloc: Global, marks: &[Mark]) -> Result<Vec<u8>, AllocError>
 }
 
 /// All bytes that marks say were written.
-#[tactic(auto, using(crate::proofs::Fronting::fronting))]
+#[tactic(auto, using(crate::proofs::Fronting::flat_on, crate::proofs::Fronting::flat_all))]
 pub fn output(alloc: Global, marks: &[Mark]) -> Result<Vec<u8>, AllocError>
     ensures { IfOk result (λ bytes. bytes.items ≡ output marks.now) }
 {

@@ -8,7 +8,7 @@ ghost use Rattle.machine_model.specs.Seen.{hall_of, cell_of, apply_result_of};
 use super::cells::{PlainApplyResult, PlainCell, with_worker_of};
 use super::halls::PlainHall;
 use super::rounds::one_more;
-use super::workers::{PlainWorkerState, state_at};
+use super::workers::{PlainWorkerState, worker_at};
 use host_model::Key;
 use host_model::plain::{Decided, PlainDesk, PlainEntry, PlainServices};
 use std::alloc::{AllocError, Global};
@@ -25,12 +25,17 @@ pub fn applies<D: PlainDesk, S: PlainServices<Call = D::Call, Answer = D::Answer
     ensures { IfOk result (λ next. option_map cell_of next
         ≡ apply_plain (D.desk desk.now) (S.rules services.now) (cell_of cell) w (apply_result_of apply_result) ((cell_of cell).workers w)) }
 {
-    let PlainWorkerState::Holds(key, payload) = state_at(alloc, cell.workers.as_slice(), w)? else {
+    let Some(worker) = worker_at(cell.workers.as_slice(), w) else {
         return Ok(None);
     };
+    let PlainWorkerState::Holds(key, payload) = worker else {
+        return Ok(None);
+    };
+    let key = *key;
     let Decided::Called(call) = desk.decide(alloc, payload.as_slice())? else {
         return Ok(None);
     };
+    let payload = Vec::from_slice(alloc, payload.as_slice())?;
     if cell.hall.broken {
         return broken(cell, w, key, payload, apply_result);
     }
@@ -50,7 +55,7 @@ fn broken<C: Copy, A: Copy, M: Copy>(
     let PlainApplyResult::Answers = apply_result else {
         return Ok(None);
     };
-    Ok(Some(with_worker_of(cell, w, PlainWorkerState::HasNone(key, payload))?))
+    with_worker_of(cell, w, PlainWorkerState::HasNone(key, payload))
 }
 
 /// A service's answer to a call at these memories, where the service is there.
@@ -81,79 +86,33 @@ fn moves_on<S: PlainServices>(services: &S, memories: &mut [S::Memory], call: S:
     }
 }
 
-/// The hall once a call has taken effect with this answer.
-fn entered<S: PlainServices>(
+/// A call takes effect in the hall with this answer.
+fn takes_effect<S: PlainServices>(
     services: &S,
-    hall: PlainHall<S::Call, S::Answer, S::Memory>,
+    hall: &mut PlainHall<S::Call, S::Answer, S::Memory>,
     key: Key,
     call: S::Call,
     answer: S::Answer,
-) -> Result<PlainHall<S::Call, S::Answer, S::Memory>, AllocError>
-    ensures { IfOk result (λ next. hall_of next ≡ effect_plain (S.rules services.now) (hall_of hall) key call answer) }
+) -> Result<(), AllocError>
+    ensures { IfOk result (λ done. hall_of hall.new ≡ effect_plain (S.rules services.now) (hall_of hall.old) key call answer) }
 {
-    let mut hall = hall;
     moves_on(services, hall.memories.as_mut_slice(), call);
     hall.journal.push(PlainEntry { key, call, answer })?;
-    Ok(hall)
+    Ok(())
 }
 
-/// The hall once a call was answered and the journal has failed after it.
-fn failed<S: PlainServices>(
+/// A call was answered, and the journal has failed after it.
+fn fails<S: PlainServices>(
     services: &S,
-    hall: PlainHall<S::Call, S::Answer, S::Memory>,
+    hall: &mut PlainHall<S::Call, S::Answer, S::Memory>,
     call: S::Call,
-) -> Result<PlainHall<S::Call, S::Answer, S::Memory>, AllocError>
-    ensures { IfOk result (λ next. hall_of next ≡ fault_plain (S.rules services.now) (hall_of hall) call) }
+) -> Result<(), AllocError>
+    ensures { IfOk result (λ done. hall_of hall.new ≡ fault_plain (S.rules services.now) (hall_of hall.old) call) }
 {
-    let mut hall = hall;
     hall.faults = one_more(hall.faults)?;
     hall.broken = true;
     moves_on(services, hall.memories.as_mut_slice(), call);
-    Ok(hall)
-}
-
-/// The machine once a call has taken effect with this answer.
-fn cell_entered<S: PlainServices>(
-    services: &S,
-    cell: PlainCell<S::Call, S::Answer, S::Memory>,
-    key: Key,
-    call: S::Call,
-    answer: S::Answer,
-) -> Result<PlainCell<S::Call, S::Answer, S::Memory>, AllocError>
-    ensures { IfOk result (λ next. cell_of next ≡ record (cell_of cell) { hall = effect_plain (S.rules services.now) (cell_of cell).hall key call answer }) }
-{
-    let PlainCell {
-        loop_part,
-        hall,
-        workers,
-    } = cell;
-    let hall = entered(services, hall, key, call, answer)?;
-    Ok(PlainCell {
-        loop_part,
-        hall,
-        workers,
-    })
-}
-
-/// The machine once a call was answered and the journal has failed after it.
-fn cell_failed<S: PlainServices>(
-    services: &S,
-    cell: PlainCell<S::Call, S::Answer, S::Memory>,
-    call: S::Call,
-) -> Result<PlainCell<S::Call, S::Answer, S::Memory>, AllocError>
-    ensures { IfOk result (λ next. cell_of next ≡ record (cell_of cell) { hall = fault_plain (S.rules services.now) (cell_of cell).hall call }) }
-{
-    let PlainCell {
-        loop_part,
-        hall,
-        workers,
-    } = cell;
-    let hall = failed(services, hall, call)?;
-    Ok(PlainCell {
-        loop_part,
-        hall,
-        workers,
-    })
+    Ok(())
 }
 
 /// A call goes so.
@@ -170,29 +129,29 @@ fn called<S: PlainServices>(
     ensures { IfOk result (λ next. option_map cell_of next ≡ apply_result_plain (S.rules services.now) (cell_of cell) w key payload.items call (apply_result_of apply_result)
         (slice_get (cell_of cell).hall.memories ((S.rules services.now).slot call))) }
 {
+    let mut cell = cell;
     let answer = answer_of(services, cell.hall.memories.as_slice(), call);
     match apply_result {
         PlainApplyResult::LacksForCall => {
-            Ok(Some(with_worker_of(cell, w, PlainWorkerState::HasNone(key, payload))?))
+            with_worker_of(cell, w, PlainWorkerState::HasNone(key, payload))
         }
         PlainApplyResult::FailsJournal => {
-            let cell = cell_failed(services, cell, call)?;
-            Ok(Some(with_worker_of(cell, w, PlainWorkerState::HasNone(key, payload))?))
+            fails(services, &mut cell.hall, call)?;
+            with_worker_of(cell, w, PlainWorkerState::HasNone(key, payload))
         }
         PlainApplyResult::Answers => {
             let Some(answer) = answer else {
                 return Ok(None);
             };
-            let cell = cell_entered(services, cell, key, call, answer)?;
-            let worker = PlainWorkerState::HasAnswer(key, payload, answer);
-            Ok(Some(with_worker_of(cell, w, worker)?))
+            takes_effect(services, &mut cell.hall, key, call, answer)?;
+            with_worker_of(cell, w, PlainWorkerState::HasAnswer(key, payload, answer))
         }
         PlainApplyResult::LacksForAnswer => {
             let Some(answer) = answer else {
                 return Ok(None);
             };
-            let cell = cell_entered(services, cell, key, call, answer)?;
-            Ok(Some(with_worker_of(cell, w, PlainWorkerState::HasNone(key, payload))?))
+            takes_effect(services, &mut cell.hall, key, call, answer)?;
+            with_worker_of(cell, w, PlainWorkerState::HasNone(key, payload))
         }
     }
 }

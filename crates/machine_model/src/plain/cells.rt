@@ -1,12 +1,12 @@
 //! The machine: the loop's part, the hall and the workers, and its events.
 
-ghost use Rattle.std.specs.Prelude.{◌≡◌, IfOk};
+ghost use Rattle.std.specs.Prelude.{◌≡◌, Some, IfOk, option_map};
 ghost use Rattle.machine_model.specs.Machine.{with_worker};
 ghost use Rattle.machine_model.specs.Seen.{worker_of, cell_of};
 
 use super::conn_events::{PlainConnEvent, PlainLoop};
 use super::halls::PlainHall;
-use super::workers::{PlainWorkerState, with_worker};
+use super::workers::{PlainWorkerState, set_worker};
 use std::alloc::AllocError;
 
 /// How an Apply goes.
@@ -51,23 +51,15 @@ pub struct PlainCell<C, A, M> {
     pub workers: Vec<PlainWorkerState<A>>,
 }
 
-/// The machine with this worker in place of worker w's.
+/// What is left of the machine once this worker is in place of worker w's.
 pub fn with_worker_of<C: Copy, A: Copy, M: Copy>(
     cell: PlainCell<C, A, M>,
     w: u32,
     worker: PlainWorkerState<A>,
-) -> Result<PlainCell<C, A, M>, AllocError>
-    ensures { IfOk result (λ next. cell_of next ≡ record (cell_of cell) { workers = with_worker (cell_of cell).workers w (worker_of worker) }) }
+) -> Result<Option<PlainCell<C, A, M>>, AllocError>
+    ensures { IfOk result (λ next. option_map cell_of next ≡ Some (record (cell_of cell) { workers = with_worker (cell_of cell).workers w (worker_of worker) })) }
 {
-    let PlainCell {
-        loop_part,
-        hall,
-        workers,
-    } = cell;
-    let workers = with_worker(workers, w, worker)?;
-    Ok(PlainCell {
-        loop_part,
-        hall,
-        workers,
-    })
+    let mut cell = cell;
+    set_worker(&mut cell.workers, w, worker)?;
+    Ok(Some(cell))
 }

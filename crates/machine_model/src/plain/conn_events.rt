@@ -1,7 +1,7 @@
 //! The loop's part: the tape and the connections, and what happens on a connection.
 
 ghost use Rattle.std.specs.Prelude.{◌≡◌, ◌<◌, List, length, IfOk, IsTrue, option_map};
-ghost use Rattle.machine_model.specs.Loop.{LoopConn, opens, fails_read, fails_write, gives_up, open_among, changed};
+ghost use Rattle.machine_model.specs.Loop.{LoopConn, opens, reads, ends, fails_read, writes, fails_write, gives_up, open_among, changed};
 ghost use Rattle.outside.specs.declared.marks.Mark.{Mark};
 ghost use Rattle.machine_model.specs.Plain.{Moved, has_none_yet, is_open, moved_plain, conn_event_plain};
 ghost use Rattle.machine_model.specs.Seen.{conn_of, conns_of, moved_of, loop_of, conn_event_of};
@@ -51,37 +51,44 @@ pub fn conn_event(
     match conn_event {
         PlainConnEvent::Opens => opens(alloc, loop_part),
         PlainConnEvent::Reads(c, bytes) => {
-            if !is_open(&loop_part, *c) {
-                return Ok(None);
-            }
-            let mut loop_part = loop_part;
-            let conn = take_conn(alloc, &mut loop_part, *c);
-            moved(
-                loop_part,
-                *c,
-                reads(alloc, max, *c, bytes.as_slice(), conn)?,
-            )
+            reads_bytes(alloc, max, loop_part, *c, bytes.as_slice())
         }
-        PlainConnEvent::Ends(c) => {
-            if !is_open(&loop_part, *c) {
-                return Ok(None);
-            }
-            let mut loop_part = loop_part;
-            let conn = take_conn(alloc, &mut loop_part, *c);
-            moved(loop_part, *c, ends(alloc, *c, conn)?)
-        }
+        PlainConnEvent::Ends(c) => meets_end(alloc, loop_part, *c),
         PlainConnEvent::FailsRead(c) => fails_to_read(alloc, loop_part, *c),
-        PlainConnEvent::Writes(c, count) => {
-            if !is_open(&loop_part, *c) {
-                return Ok(None);
-            }
-            let mut loop_part = loop_part;
-            let conn = take_conn(alloc, &mut loop_part, *c);
-            moved(loop_part, *c, writes(alloc, *c, *count, conn)?)
-        }
+        PlainConnEvent::Writes(c, count) => writes_bytes(alloc, loop_part, *c, *count),
         PlainConnEvent::FailsWrite(c) => fails_to_write(alloc, loop_part, *c),
         PlainConnEvent::GivesUp(c, cause) => is_given_up(alloc, loop_part, *c, *cause),
     }
+}
+
+/// Connection c reads bytes.
+fn reads_bytes(
+    alloc: Global,
+    max: u32,
+    loop_part: PlainLoop,
+    c: u32,
+    bytes: &[u8],
+) -> Result<Option<PlainLoop>, AllocError>
+    ensures { IfOk result (λ next. option_map loop_of next ≡ conn_event_plain max (loop_of loop_part) (reads c bytes.now)) }
+{
+    if !is_open(&loop_part, c) {
+        return Ok(None);
+    }
+    let mut loop_part = loop_part;
+    let conn = take_conn(alloc, &mut loop_part, c);
+    moved(loop_part, c, reads(alloc, max, c, bytes, conn)?)
+}
+
+/// The input of connection c ends.
+fn meets_end(alloc: Global, loop_part: PlainLoop, c: u32) -> Result<Option<PlainLoop>, AllocError>
+    ensures { IfOk result (λ next. option_map loop_of next ≡ conn_event_plain 0 (loop_of loop_part) (ends c)) }
+{
+    if !is_open(&loop_part, c) {
+        return Ok(None);
+    }
+    let mut loop_part = loop_part;
+    let conn = take_conn(alloc, &mut loop_part, c);
+    moved(loop_part, c, ends(alloc, c, conn)?)
 }
 
 /// A read of connection c fails.
@@ -98,6 +105,23 @@ fn fails_to_read(
     let mut loop_part = loop_part;
     let conn = take_conn(alloc, &mut loop_part, c);
     moved(loop_part, c, fails_read(alloc, c, conn)?)
+}
+
+/// So many bytes of connection c's reply are written.
+fn writes_bytes(
+    alloc: Global,
+    loop_part: PlainLoop,
+    c: u32,
+    count: usize,
+) -> Result<Option<PlainLoop>, AllocError>
+    ensures { IfOk result (λ next. option_map loop_of next ≡ conn_event_plain 0 (loop_of loop_part) (writes c count)) }
+{
+    if !is_open(&loop_part, c) {
+        return Ok(None);
+    }
+    let mut loop_part = loop_part;
+    let conn = take_conn(alloc, &mut loop_part, c);
+    moved(loop_part, c, writes(alloc, c, count, conn)?)
 }
 
 /// A write on connection c fails.
@@ -141,7 +165,7 @@ fn has_none_yet(cause: Option<EndCause>) -> bool
 }
 
 /// How many connections are open.
-#[tactic(auto, using(crate::proofs::Seeing::seeing))]
+#[tactic(auto, using(crate::proofs::Seeing::counting))]
 fn open_among(conns: &[PlainConn]) -> usize
     ensures { result ≡ open_among (conns_of conns.now) (length conns.now) }
 {
@@ -155,7 +179,7 @@ fn open_among(conns: &[PlainConn]) -> usize
 }
 
 /// One more connection is opened.
-#[tactic(auto, using(crate::proofs::Seeing::seeing))]
+#[tactic(auto, using(crate::proofs::Seeing::conns_more))]
 fn opens(alloc: Global, loop_part: PlainLoop) -> Result<Option<PlainLoop>, AllocError>
     ensures { IfOk result (λ next. option_map loop_of next ≡ conn_event_plain 0 (loop_of loop_part) opens) }
 {
@@ -175,7 +199,7 @@ fn opens(alloc: Global, loop_part: PlainLoop) -> Result<Option<PlainLoop>, Alloc
 }
 
 /// Whether there is such a connection, and it is open.
-#[tactic(auto, using(crate::proofs::Seeing::seeing))]
+#[tactic(auto, using(crate::proofs::Seeing::open_is))]
 fn is_open(loop_part: &PlainLoop, c: u32) -> bool
     ensures is { result ≡ is_open (loop_of loop_part.now) c }
     ensures there { IsTrue result → c < length loop_part.now.conns.items }
@@ -188,7 +212,6 @@ fn is_open(loop_part: &PlainLoop, c: u32) -> bool
 }
 
 /// Takes connection c out; what it is then is to be put in its place.
-#[tactic(auto, using(crate::proofs::Seeing::seeing))]
 pub fn take_conn(alloc: Global, loop_part: &mut PlainLoop, c: u32) -> PlainConn
     requires { c < length loop_part.old.conns.items }
     ensures conn { conn_of result ≡ (loop_of loop_part.old).conns c }
@@ -199,19 +222,15 @@ pub fn take_conn(alloc: Global, loop_part: &mut PlainLoop, c: u32) -> PlainConn
     mem::replace(&mut loop_part.conns[c as usize], PlainConn::new(alloc))
 }
 
-/// The loop once connection c is this one, with the marks of that.
-pub fn changed(loop_part: PlainLoop, c: u32, moved: PlainMoved) -> Result<PlainLoop, AllocError>
-    requires { c < length loop_part.conns.items }
-    ensures { IfOk result (λ next. loop_of next ≡ changed (loop_of loop_part) c (conn_of moved.conn) moved.marks.items) }
+/// Puts connection c back as this one, with the marks of what it did.
+pub fn put_conn(loop_part: &mut PlainLoop, c: u32, moved: PlainMoved) -> Result<(), AllocError>
+    requires { c < length loop_part.old.conns.items }
+    ensures { IfOk result (λ done. loop_of loop_part.new ≡ changed (loop_of loop_part.old) c (conn_of moved.conn) moved.marks.items) }
 {
     let PlainMoved { conn, mut marks } = moved;
-    let PlainLoop {
-        mut tape,
-        mut conns,
-    } = loop_part;
-    tape.append(&mut marks)?;
-    conns[c as usize] = conn;
-    Ok(PlainLoop { tape, conns })
+    loop_part.tape.append(&mut marks)?;
+    loop_part.conns[c as usize] = conn;
+    Ok(())
 }
 
 /// The loop once connection c is what it is after what it did, where it could.
@@ -226,5 +245,7 @@ fn moved(
     let Some(moved) = moved else {
         return Ok(None);
     };
-    Ok(Some(changed(loop_part, c, moved)?))
+    let mut loop_part = loop_part;
+    put_conn(&mut loop_part, c, moved)?;
+    Ok(Some(loop_part))
 }

@@ -1,10 +1,10 @@
 //! A connection, and what happens on it.
 
-ghost use Rattle.std.specs.Prelude.{◌≡◌, ◌++◌, ◌∷◌, [], IfOk, option_map};
+ghost use Rattle.std.specs.Prelude.{◌≡◌, ◌++◌, ◌∷◌, [], Some, IfOk, option_map};
 ghost use Rattle.outside.specs.declared.marks.Mark.TheVariants.{Closed};
 ghost use Rattle.host_model.specs.World.{end_behind};
-ghost use Rattle.machine_model.specs.Loop.{new_conn, with_cause};
-ghost use Rattle.machine_model.specs.Plain.{owes_nothing, stays_in_size, is_given_up, reads_plain, ends_plain, fails_read_plain, writes_plain, fails_write_plain, gives_up_plain, progress_plain};
+ghost use Rattle.machine_model.specs.Loop.{new_conn, read_more, marks_read, with_cause};
+ghost use Rattle.machine_model.specs.Plain.{owes_nothing, stays_in_size, is_given_up, reads_plain, ends_plain, fails_read_plain, writes_plain, fails_write_plain, gives_up_plain, progress_by, progress_plain};
 ghost use Rattle.machine_model.specs.Seen.{conn_of, moved_of, seen_progress};
 
 use super::progress::{PlainProgress, progress_by};
@@ -69,6 +69,15 @@ fn stays_in_size(held: &[u8], bytes: &[u8]) -> bool
     true
 }
 
+/// The marks of a connection that is closed.
+pub fn closing(alloc: Global, c: u32) -> Result<Vec<Mark>, AllocError>
+    ensures { IfOk result (λ marks. marks.items ≡ Closed c ∷ []) }
+{
+    let mut marks = Vec::new(alloc);
+    marks.push(Mark::Closed(c))?;
+    Ok(marks)
+}
+
 /// It has ended by this cause, and these marks say so.
 fn ended(
     alloc: Global,
@@ -108,12 +117,24 @@ pub fn reads(
     if !stays_in_size(conn.held.as_slice(), bytes) {
         return Ok(None);
     }
-    let mut held = Vec::from_slice(alloc, conn.held.as_slice())?;
-    held.extend_from_slice(bytes)?;
-    match progress_by(alloc, max, held.as_slice())? {
+    match progress_with(alloc, max, conn.held.as_slice(), bytes)? {
         None => Ok(None),
-        Some(progress) => Ok(Some(read_more(alloc, c, conn, bytes, progress)?)),
+        Some(progress) => read_more(alloc, c, conn, bytes, progress),
     }
+}
+
+/// What bytes make behind those held, where they make anything.
+fn progress_with(
+    alloc: Global,
+    max: u32,
+    held: &[u8],
+    bytes: &[u8],
+) -> Result<Option<PlainProgress>, AllocError>
+    ensures { IfOk result (λ progress. option_map seen_progress progress ≡ progress_by max (held.now ++ bytes.now)) }
+{
+    let mut together = Vec::from_slice(alloc, held)?;
+    together.extend_from_slice(bytes)?;
+    progress_by(alloc, max, together.as_slice())
 }
 
 /// It has read bytes that make this.
@@ -123,25 +144,54 @@ fn read_more(
     conn: PlainConn,
     bytes: &[u8],
     progress: PlainProgress,
-) -> Result<PlainMoved, AllocError>
-    ensures { IfOk result (λ moved. Some (moved_of moved) ≡ progress_plain c (conn_of conn) bytes.now (Some (seen_progress progress))) }
+) -> Result<Option<PlainMoved>, AllocError>
+    ensures { IfOk result (λ moved. option_map moved_of moved ≡ progress_plain c (conn_of conn) bytes.now (Some (seen_progress progress))) }
 {
+    let marks = marks_read(alloc, c, bytes, &progress)?;
     let mut conn = conn;
+    holds_more(alloc, &mut conn, bytes, progress)?;
+    Ok(Some(PlainMoved { conn, marks }))
+}
+
+/// The marks of bytes read that make this.
+fn marks_read(
+    alloc: Global,
+    c: u32,
+    bytes: &[u8],
+    progress: &PlainProgress,
+) -> Result<Vec<Mark>, AllocError>
+    ensures { IfOk result (λ marks. marks.items ≡ marks_read c bytes.now (seen_progress progress.now)) }
+{
+    let read = Mark::Read(c, Bytes::new(Vec::from_slice(alloc, bytes)?));
     let mut marks = Vec::new(alloc);
-    marks.push(Mark::Read(c, Bytes::new(Vec::from_slice(alloc, bytes)?)))?;
+    marks.push(read)?;
+    if let PlainProgress::BadSize(_) = progress {
+        marks.push(Mark::Closed(c))?;
+    }
+    Ok(marks)
+}
+
+/// A connection has read bytes that make this.
+fn holds_more(
+    alloc: Global,
+    conn: &mut PlainConn,
+    bytes: &[u8],
+    progress: PlainProgress,
+) -> Result<(), AllocError>
+    ensures { IfOk result (λ done. conn_of conn.new ≡ read_more (conn_of conn.old) bytes.now (seen_progress progress)) }
+{
     match progress {
-        PlainProgress::Part => conn.held.extend_from_slice(bytes)?,
+        PlainProgress::Part => conn.held.extend_from_slice(bytes),
         PlainProgress::BadSize(size) => {
-            conn.held.extend_from_slice(bytes)?;
             conn.cause = Some(EndCause::SizeFault(size));
-            marks.push(Mark::Closed(c))?;
+            conn.held.extend_from_slice(bytes)
         }
         PlainProgress::Whole(payload) => {
-            conn.payloads.push(payload)?;
             conn.held = Vec::new(alloc);
+            conn.payloads.push(payload)?;
+            Ok(())
         }
     }
-    Ok(PlainMoved { conn, marks })
 }
 
 /// The cause of an input that ends after these bytes.
@@ -231,8 +281,7 @@ pub fn gives_up(
     if !is_given_up(cause) {
         return Ok(None);
     }
-    let mut marks = Vec::new(alloc);
-    marks.push(Mark::Closed(c))?;
+    let marks = closing(alloc, c)?;
     let conn = PlainConn {
         cause: Some(cause),
         ..conn

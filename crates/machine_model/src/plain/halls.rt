@@ -42,7 +42,7 @@ pub struct PlainHall<C, A, M> {
 }
 
 /// Takes the first item out, where there is one.
-#[tactic(auto, using(crate::proofs::Seeing::seeing))]
+#[tactic(auto, using(crate::proofs::Seeing::first_and_rest))]
 pub fn take_first<T>(items: &mut Vec<T>) -> Option<T>
     ensures none { MatchOption result (items.old.items ≡ []) (λ first. items.old.items ≡ first ∷ items.new.items) }
     ensures same { IfNone result (items.new ≡ items.old) }
@@ -61,7 +61,7 @@ fn is_same(one: Key, other: Key) -> bool
 }
 
 /// The keys without the first that is this one.
-#[tactic(auto, using(crate::proofs::Seeing::seeing))]
+#[tactic(auto, using(crate::proofs::Seeing::leaving))]
 pub fn without(alloc: Global, key: Key, keys: &[Key]) -> Result<Vec<Key>, AllocError>
     ensures { IfOk result (λ left. left.items ≡ without key keys.now) }
 {

@@ -1,36 +1,38 @@
 //! A worker's jobs: taken, and put with their outcomes.
 
-ghost use Rattle.std.specs.Prelude.{◌≡◌, IfOk, option_map};
+ghost use Rattle.std.specs.Prelude.{◌≡◌, ◌++◌, ◌∷◌, [], IfOk, option_map};
 ghost use Rattle.host_model.specs.Plain.{decision_seen};
-ghost use Rattle.machine_model.specs.Worker.{settled_by, settled_with, key_held};
+ghost use Rattle.machine_model.specs.HallState.{without};
+ghost use Rattle.machine_model.specs.HallRule.{outcome_of};
+ghost use Rattle.machine_model.specs.Worker.{settled_by, settled_with, settlement, key_held};
 ghost use Rattle.machine_model.specs.Plain.{take_plain, outcome_plain, put_plain, lack_plain};
-ghost use Rattle.machine_model.specs.Seen.{cell_of, worker_of};
+ghost use Rattle.machine_model.specs.Seen.{hall_of, cell_of, workers_of};
 
 use super::cells::{PlainCell, with_worker_of};
-use super::halls::{PlainJobOutcome, take_first, without};
-use super::workers::{PlainWorkerState, state_at};
+use super::halls::{PlainHall, PlainJobOutcome, take_first, without};
+use super::workers::{PlainWorkerState, worker_at};
 use host_model::Key;
 use host_model::plain::{Decided, PlainDesk};
 use outside::{Bytes, Settled};
 use std::alloc::{AllocError, Global};
 
 /// A job is taken, where there is one.
+#[tactic(auto, using(crate::proofs::Seeing::takings))]
 pub fn takes<C: Copy, A: Copy, M: Copy>(
-    alloc: Global,
     cell: PlainCell<C, A, M>,
     w: u32,
 ) -> Result<Option<PlainCell<C, A, M>>, AllocError>
     ensures { IfOk result (λ next. option_map cell_of next ≡ take_plain (cell_of cell) w ((cell_of cell).workers w) (cell_of cell).hall.jobs) }
 {
-    let mut cell = cell;
-    let PlainWorkerState::Idle = state_at(alloc, cell.workers.as_slice(), w)? else {
+    if key_held(cell.workers.as_slice(), w).is_some() {
         return Ok(None);
-    };
+    }
+    let mut cell = cell;
     match take_first(&mut cell.hall.jobs) {
-        None => Ok(Some(with_worker_of(cell, w, PlainWorkerState::Idle)?)),
+        None => with_worker_of(cell, w, PlainWorkerState::Idle),
         Some(job) => {
             cell.hall.taken.push(job.key)?;
-            Ok(Some(with_worker_of(cell, w, PlainWorkerState::Holds(job.key, job.payload))?))
+            with_worker_of(cell, w, PlainWorkerState::Holds(job.key, job.payload))
         }
     }
 }
@@ -65,6 +67,21 @@ fn settled_with<D: PlainDesk>(
     Ok(Some(Settled::Reply(Bytes::new(desk.reply(alloc, payload, answer)?))))
 }
 
+/// An outcome is put in the hall.
+fn put_in<C: Copy, A: Copy, M: Copy>(
+    alloc: Global,
+    hall: &mut PlainHall<C, A, M>,
+    key: Key,
+    settled: Settled,
+) -> Result<(), AllocError>
+    ensures { IfOk result (λ done. hall_of hall.new
+        ≡ record (hall_of hall.old) { taken = without key (hall_of hall.old).taken; outcomes = (hall_of hall.old).outcomes ++ outcome_of key settled ∷ [] }) }
+{
+    hall.taken = without(alloc, key, hall.taken.as_slice())?;
+    hall.outcomes.push(PlainJobOutcome { key, settled })?;
+    Ok(())
+}
+
 /// An outcome is put, where the job is settled.
 fn puts_outcome<C: Copy, A: Copy, M: Copy>(
     alloc: Global,
@@ -79,13 +96,48 @@ fn puts_outcome<C: Copy, A: Copy, M: Copy>(
         return Ok(None);
     };
     let mut cell = cell;
-    let taken = without(alloc, key, cell.hall.taken.as_slice())?;
-    cell.hall.taken = taken;
-    cell.hall.outcomes.push(PlainJobOutcome { key, settled })?;
-    Ok(Some(with_worker_of(cell, w, PlainWorkerState::Idle)?))
+    put_in(alloc, &mut cell.hall, key, settled)?;
+    with_worker_of(cell, w, PlainWorkerState::Idle)
+}
+
+/// The key of the job that this worker holds.
+fn key_held<A: Copy>(workers: &[PlainWorkerState<A>], w: u32) -> Option<Key>
+    ensures { result ≡ key_held (workers_of workers.now w) }
+{
+    match worker_at(workers, w)? {
+        PlainWorkerState::Idle => None,
+        PlainWorkerState::Holds(key, _) => Some(*key),
+        PlainWorkerState::HasAnswer(key, _, _) => Some(*key),
+        PlainWorkerState::HasNone(key, _) => Some(*key),
+    }
+}
+
+/// What the job that this worker holds comes to, as far as it is settled.
+fn settlement<D: PlainDesk>(
+    alloc: Global,
+    desk: &D,
+    workers: &[PlainWorkerState<D::Answer>],
+    w: u32,
+) -> Result<Option<Settled>, AllocError>
+    ensures { IfOk result (λ settled. settled ≡ settlement (D.desk desk.now) (workers_of workers.now w)) }
+{
+    let Some(worker) = worker_at(workers, w) else {
+        return Ok(None);
+    };
+    match worker {
+        PlainWorkerState::Idle => Ok(None),
+        PlainWorkerState::Holds(_, payload) => {
+            Ok(settled_by(desk.decide(alloc, payload.as_slice())?))
+        }
+        PlainWorkerState::HasAnswer(_, payload, answer) => {
+            settled_with(alloc, desk, payload.as_slice(), *answer)
+        }
+        PlainWorkerState::HasNone(_, _) => Ok(None),
+    }
 }
 
 /// A worker puts its job's outcome, where it is settled.
+#[tactic(auto, using(crate::proofs::Seeing::put_by_key, crate::proofs::Seeing::put_by_none))]
 pub fn puts<D: PlainDesk, M: Copy>(
     alloc: Global,
     desk: &D,
@@ -94,30 +146,11 @@ pub fn puts<D: PlainDesk, M: Copy>(
 ) -> Result<Option<PlainCell<D::Call, D::Answer, M>>, AllocError>
     ensures { IfOk result (λ next. option_map cell_of next ≡ put_plain (D.desk desk.now) (cell_of cell) w ((cell_of cell).workers w)) }
 {
-    match state_at(alloc, cell.workers.as_slice(), w)? {
-        PlainWorkerState::Idle => Ok(None),
-        PlainWorkerState::Holds(key, payload) => {
-            let settled = settled_by(desk.decide(alloc, payload.as_slice())?);
-            puts_outcome(alloc, cell, w, key, settled)
-        }
-        PlainWorkerState::HasAnswer(key, payload, answer) => {
-            let settled = settled_with(alloc, desk, payload.as_slice(), answer)?;
-            puts_outcome(alloc, cell, w, key, settled)
-        }
-        PlainWorkerState::HasNone(_, _) => Ok(None),
-    }
-}
-
-/// The key of the job that a worker holds.
-fn key_held<A: Copy>(worker: PlainWorkerState<A>) -> Option<Key>
-    ensures { result ≡ key_held (worker_of worker) }
-{
-    match worker {
-        PlainWorkerState::Idle => None,
-        PlainWorkerState::Holds(key, _) => Some(key),
-        PlainWorkerState::HasAnswer(key, _, _) => Some(key),
-        PlainWorkerState::HasNone(key, _) => Some(key),
-    }
+    let Some(key) = key_held(cell.workers.as_slice(), w) else {
+        return Ok(None);
+    };
+    let settled = settlement(alloc, desk, cell.workers.as_slice(), w)?;
+    puts_outcome(alloc, cell, w, key, settled)
 }
 
 /// A worker puts want of memory.
@@ -128,7 +161,7 @@ pub fn puts_none<C: Copy, A: Copy, M: Copy>(
 ) -> Result<Option<PlainCell<C, A, M>>, AllocError>
     ensures { IfOk result (λ next. option_map cell_of next ≡ lack_plain (cell_of cell) w (key_held ((cell_of cell).workers w))) }
 {
-    match key_held(state_at(alloc, cell.workers.as_slice(), w)?) {
+    match key_held(cell.workers.as_slice(), w) {
         None => Ok(None),
         Some(key) => puts_outcome(alloc, cell, w, key, Some(Settled::NoMemory)),
     }

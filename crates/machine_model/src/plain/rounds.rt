@@ -3,11 +3,11 @@
 ghost use Rattle.std.specs.Prelude.{◌≡◌, ◌<◌, [], Some, suc, false, length, nat_lt, IfOk, option_map, slice_get};
 ghost use Rattle.machine_model.specs.Loop.{changed, submitted_more, conn_settled, conn_marks_settled};
 ghost use Rattle.machine_model.specs.Plain.{when, submit_plain, collect_plain};
-ghost use Rattle.machine_model.specs.Seen.{conn_of, moved_of, loop_of, cell_of};
+ghost use Rattle.machine_model.specs.Seen.{conn_of, loop_of, cell_of};
 
 use super::cells::PlainCell;
-use super::conn_events::{PlainLoop, changed, take_conn};
-use super::conns::{PlainConn, PlainMoved};
+use super::conn_events::{PlainLoop, put_conn, take_conn};
+use super::conns::{PlainConn, PlainMoved, closing};
 use super::halls::{PlainJob, take_first};
 use host_model::{EndCause, Key};
 use outside::{Mark, Settled};
@@ -41,49 +41,35 @@ pub fn one_more(number: u64) -> Result<u64, AllocError>
     number.checked_add(1).ok_or(AllocError)
 }
 
-/// The loop once one more payload of connection c is submitted, and the number of that payload.
-fn with_submitted(
-    alloc: Global,
-    loop_part: PlainLoop,
-    c: u32,
-) -> Result<(PlainLoop, u64), AllocError>
-    requires { c < length loop_part.conns.items }
-    ensures next { IfOk result (λ r. loop_of r.0 ≡ changed (loop_of loop_part) c (submitted_more ((loop_of loop_part).conns c)) []) }
-    ensures number { IfOk result (λ r. r.1 ≡ ((loop_of loop_part).conns c).submitted) }
+/// One more payload of connection c is submitted; returns its number.
+fn submit_next(alloc: Global, loop_part: &mut PlainLoop, c: u32) -> Result<u64, AllocError>
+    requires { c < length loop_part.old.conns.items }
+    ensures next { IfOk result (λ i. loop_of loop_part.new ≡ changed (loop_of loop_part.old) c (submitted_more ((loop_of loop_part.old).conns c)) []) }
+    ensures number { IfOk result (λ i. i ≡ ((loop_of loop_part.old).conns c).submitted) }
 {
-    let mut loop_part = loop_part;
-    let conn = take_conn(alloc, &mut loop_part, c);
+    let conn = take_conn(alloc, loop_part, c);
     let i = conn.submitted;
     let submitted = one_more(i)?;
     let conn = PlainConn { submitted, ..conn };
     let marks = Vec::new(alloc);
-    let next = changed(loop_part, c, PlainMoved { conn, marks })?;
-    Ok((next, i))
+    put_conn(loop_part, c, PlainMoved { conn, marks })?;
+    Ok(i)
 }
 
 /// A payload is submitted to a hall that isn't closed.
-fn submits_payload<C: Copy, A: Copy, M: Copy>(
+fn submit_payload<C: Copy, A: Copy, M: Copy>(
     alloc: Global,
-    cell: PlainCell<C, A, M>,
+    cell: &mut PlainCell<C, A, M>,
     c: u32,
     payload: Vec<u8>,
-) -> Result<PlainCell<C, A, M>, AllocError>
-    requires { c < length cell.loop_part.conns.items }
-    ensures { IfOk result (λ next. Some (cell_of next) ≡ submit_plain (cell_of cell) c false (Some payload.items)) }
+) -> Result<(), AllocError>
+    requires { c < length cell.old.loop_part.conns.items }
+    ensures { IfOk result (λ done. Some (cell_of cell.new) ≡ submit_plain (cell_of cell.old) c false (Some payload.items)) }
 {
-    let PlainCell {
-        loop_part,
-        mut hall,
-        workers,
-    } = cell;
-    let (loop_part, i) = with_submitted(alloc, loop_part, c)?;
+    let i = submit_next(alloc, &mut cell.loop_part, c)?;
     let key = Key { c, i };
-    hall.jobs.push(PlainJob { key, payload })?;
-    Ok(PlainCell {
-        loop_part,
-        hall,
-        workers,
-    })
+    cell.hall.jobs.push(PlainJob { key, payload })?;
+    Ok(())
 }
 
 /// A payload is submitted, where there is one.
@@ -104,68 +90,57 @@ pub fn submits<C: Copy, A: Copy, M: Copy>(
     if cell.hall.closed {
         return Ok(Some(cell));
     }
-    Ok(Some(submits_payload(alloc, cell, c, payload)?))
+    let mut cell = cell;
+    submit_payload(alloc, &mut cell, c, payload)?;
+    Ok(Some(cell))
 }
 
-/// A connection once one more of its payloads is collected, and the marks of that.
-fn conn_settled(
+/// One more of a connection's payloads is collected, as settled so; returns the marks of that.
+fn settle_conn(
     alloc: Global,
     c: u32,
-    conn: PlainConn,
+    conn: &mut PlainConn,
     settled: Settled,
-) -> Result<PlainMoved, AllocError>
-    ensures { IfOk result (λ moved. moved_of moved ≡ (conn_settled (conn_of conn).cause settled (conn_of conn), conn_marks_settled (conn_of conn).cause c settled)) }
+) -> Result<Vec<Mark>, AllocError>
+    ensures conn { IfOk result (λ marks. conn_of conn.new ≡ conn_settled (conn_of conn.old).cause settled (conn_of conn.old)) }
+    ensures marks { IfOk result (λ marks. marks.items ≡ conn_marks_settled (conn_of conn.old).cause c settled) }
 {
-    let collected = one_more(conn.collected)?;
-    let conn = PlainConn { collected, ..conn };
-    let mut marks = Vec::new(alloc);
+    conn.collected = one_more(conn.collected)?;
     if conn.cause.is_some() {
-        return Ok(PlainMoved { conn, marks });
+        return Ok(Vec::new(alloc));
     }
     match settled {
         Settled::Reply(reply) => {
-            let left = reply.into_vec();
-            Ok(PlainMoved {
-                conn: PlainConn { left, ..conn },
-                marks,
-            })
+            conn.left = reply.into_vec();
+            Ok(Vec::new(alloc))
         }
-        Settled::Nothing => Ok(PlainMoved { conn, marks }),
+        Settled::Nothing => Ok(Vec::new(alloc)),
         Settled::Close(fault) => {
-            marks.push(Mark::Closed(c))?;
-            let cause = Some(EndCause::Envelope(fault));
-            Ok(PlainMoved {
-                conn: PlainConn { cause, ..conn },
-                marks,
-            })
+            conn.cause = Some(EndCause::Envelope(fault));
+            closing(alloc, c)
         }
         Settled::NoMemory => {
-            marks.push(Mark::Closed(c))?;
-            let cause = Some(EndCause::NoMemory);
-            Ok(PlainMoved {
-                conn: PlainConn { cause, ..conn },
-                marks,
-            })
+            conn.cause = Some(EndCause::NoMemory);
+            closing(alloc, c)
         }
     }
 }
 
-/// The loop once an outcome of connection c is collected.
-fn with_settled(
+/// An outcome of connection c is collected.
+fn settle(
     alloc: Global,
-    loop_part: PlainLoop,
+    loop_part: &mut PlainLoop,
     c: u32,
     settled: Settled,
-) -> Result<PlainLoop, AllocError>
-    requires { c < length loop_part.conns.items }
-    ensures { IfOk result (λ next. loop_of next ≡ changed (loop_of loop_part) c (conn_settled ((loop_of loop_part).conns c).cause settled ((loop_of loop_part).conns c))
-        (conn_marks_settled ((loop_of loop_part).conns c).cause c settled)) }
+) -> Result<(), AllocError>
+    requires { c < length loop_part.old.conns.items }
+    ensures { IfOk result (λ done. loop_of loop_part.new ≡ changed (loop_of loop_part.old) c (conn_settled ((loop_of loop_part.old).conns c).cause settled ((loop_of loop_part.old).conns c))
+        (conn_marks_settled ((loop_of loop_part.old).conns c).cause c settled)) }
 {
-    let mut loop_part = loop_part;
-    let conn = take_conn(alloc, &mut loop_part, c);
-    let moved = conn_settled(alloc, c, conn, settled)?;
-    let next = changed(loop_part, c, moved)?;
-    Ok(next)
+    let mut conn = take_conn(alloc, loop_part, c);
+    let marks = settle_conn(alloc, c, &mut conn, settled)?;
+    put_conn(loop_part, c, PlainMoved { conn, marks })?;
+    Ok(())
 }
 
 /// An outcome is collected, where there is one.
@@ -183,15 +158,6 @@ pub fn collects<C: Copy, A: Copy, M: Copy>(
     if cell.loop_part.conns.len() <= c as usize {
         return Ok(None);
     }
-    let PlainCell {
-        loop_part,
-        hall,
-        workers,
-    } = cell;
-    let loop_part = with_settled(alloc, loop_part, c, outcome.settled)?;
-    Ok(Some(PlainCell {
-        loop_part,
-        hall,
-        workers,
-    }))
+    settle(alloc, &mut cell.loop_part, c, outcome.settled)?;
+    Ok(Some(cell))
 }

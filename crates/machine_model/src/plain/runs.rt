@@ -77,7 +77,7 @@ pub fn step<D: PlainDesk, S: PlainServices<Call = D::Call, Answer = D::Answer>>(
     match event {
         PlainEvent::Happens(event) => happens(alloc, max, cell, event),
         PlainEvent::Submits(c) => submits(alloc, cell, *c),
-        PlainEvent::Takes(w) => takes(alloc, cell, *w),
+        PlainEvent::Takes(w) => takes(cell, *w),
         PlainEvent::Applies(w, apply_result) => applies(
             alloc,
             desk,

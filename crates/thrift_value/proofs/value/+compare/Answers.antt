@@ -1,8 +1,9 @@
 use Rattle.std.specs.Ordering.{ordering_then, int_cmp}
-use Rattle.std.proofs.Common.{◌≡◌, length, map, refl, arith, rules, sym, ap₂, ◌∙◌}
+use Rattle.std.proofs.Common.{◌≡◌, length, map, refl, arith, rules, sym, ap, ap₂, ◌∙◌}
 use Rattle.thrift_value.specs.Order.{tree_cmp, fields_cmp, items_cmp, pairs_cmp}
 use Rattle.thrift_value.specs.TreeOf.{tree_of, field_tree, pair_tree, field_trees, item_trees, pair_trees, fields_of, items_of, pairs_of}
-use Rattle.thrift_value.proofs.Walks.{levelled, alike, then_grouped}
+use Rattle.thrift_value.proofs.Trees.{tree_of-Bool, tree_of-I8, tree_of-I16, tree_of-I32, tree_of-I64, tree_of-Double, tree_of-is_Struct, tree_of-is_Map, tree_of-is_Set, tree_of-is_List}
+use Rattle.thrift_value.proofs.Walks.{levelled, alike, decided, then_grouped}
 use Rattle.thrift_value.proofs.value.+compare.Goals as goal
 
 pub Fields::compare-returns : goal.Fields::compare-returns
@@ -52,3 +53,59 @@ Pairs::compare-loop-i-preserved t c =
     alike (λ p q. ordering_then (tree_cmp (tree_of p.0) (tree_of q.0)) (tree_cmp (tree_of p.1) (tree_of q.1))) (λ xs ys. pairs_cmp (pair_trees (map pair_tree xs)) (pair_trees (map pair_tree ys)))
     (λ p q _ _. then_grouped (tree_cmp (tree_of p.0) (tree_of q.0)) _ _) (pairs_of c.args.self.now) (pairs_of c.args.other.now) c.loop-i.i c.index.result.now c.index-in-loop-i.result.now c.then-order.result _
     (omega arith) (omega arith) c.index.ensures c.index-in-loop-i.ensures (c.then-order.ensures ∙ ap₂ ordering_then c.compare.ensures c.compare-in-loop-i.ensures) c.if-is_ne.ensures c.loop-i.invariant
+
+pub Fields::compare-returns-then-is_ne : goal.Fields::compare-returns-then-is_ne
+Fields::compare-returns-then-is_ne t c =
+    let mine : length (fields_of c.args.self.now) ≡ c.len-fields.result = search rules in
+    let others : length (fields_of c.args.other.now) ≡ c.len-others.result = search rules in
+    decided (λ f g. ordering_then (int_cmp f.0 g.0) (tree_cmp (tree_of f.1) (tree_of g.1))) (λ xs ys. fields_cmp (field_trees (map field_tree xs)) (field_trees (map field_tree ys)))
+    (λ f g _ _. then_grouped (int_cmp f.0 g.0) _ _) (fields_of c.args.self.now) (fields_of c.args.other.now) c.loop-i.i c.index.result.now c.index-in-loop-i.result.now c.then-order.result _
+    (omega arith) (omega arith) c.index.ensures c.index-in-loop-i.ensures (c.then-order.ensures ∙ ap₂ ordering_then c.cmp.ensures c.compare.ensures) c.if-is_ne.ensures c.loop-i.invariant
+
+pub Items::compare-returns-then-is_ne : goal.Items::compare-returns-then-is_ne
+Items::compare-returns-then-is_ne t c =
+    let mine : length (items_of c.args.self.now) ≡ c.len-items.result = search rules in
+    let others : length (items_of c.args.other.now) ≡ c.len-others.result = search rules in
+    decided (λ x y. tree_cmp (tree_of x) (tree_of y)) (λ xs ys. items_cmp (item_trees (map tree_of xs)) (item_trees (map tree_of ys)))
+    (λ _ _ _ _. refl) (items_of c.args.self.now) (items_of c.args.other.now) c.loop-i.i c.index.result.now c.index-in-loop-i.result.now c.compare-order.result _
+    (omega arith) (omega arith) c.index.ensures c.index-in-loop-i.ensures c.compare-order.ensures c.if-is_ne.ensures c.loop-i.invariant
+
+pub Pairs::compare-returns-then-is_ne : goal.Pairs::compare-returns-then-is_ne
+Pairs::compare-returns-then-is_ne t c =
+    let mine : length (pairs_of c.args.self.now) ≡ c.len-pairs.result = search rules in
+    let others : length (pairs_of c.args.other.now) ≡ c.len-others.result = search rules in
+    decided (λ p q. ordering_then (tree_cmp (tree_of p.0) (tree_of q.0)) (tree_cmp (tree_of p.1) (tree_of q.1))) (λ xs ys. pairs_cmp (pair_trees (map pair_tree xs)) (pair_trees (map pair_tree ys)))
+    (λ p q _ _. then_grouped (tree_cmp (tree_of p.0) (tree_of q.0)) _ _) (pairs_of c.args.self.now) (pairs_of c.args.other.now) c.loop-i.i c.index.result.now c.index-in-loop-i.result.now c.then-order.result _
+    (omega arith) (omega arith) c.index.ensures c.index-in-loop-i.ensures (c.then-order.ensures ∙ ap₂ ordering_then c.compare.ensures c.compare-in-loop-i.ensures) c.if-is_ne.ensures c.loop-i.invariant
+
+-- two values of one kind
+
+pub Value::compare-returns-in-Bool-Bool : goal.Value::compare-returns-in-Bool-Bool
+Value::compare-returns-in-Bool-Bool t c = c.cmp.ensures ∙ sym (ap₂ tree_cmp (ap tree_of c.in-Bool-Bool.is-0 ∙ tree_of-Bool c.in-Bool-Bool.a) (ap tree_of c.in-Bool-Bool.is-1 ∙ tree_of-Bool c.in-Bool-Bool.b))
+
+pub Value::compare-returns-in-I8-I8 : goal.Value::compare-returns-in-I8-I8
+Value::compare-returns-in-I8-I8 t c = c.cmp-in-I8-I8.ensures ∙ sym (ap₂ tree_cmp (ap tree_of c.in-I8-I8.is-0 ∙ tree_of-I8 c.in-I8-I8.a) (ap tree_of c.in-I8-I8.is-1 ∙ tree_of-I8 c.in-I8-I8.b))
+
+pub Value::compare-returns-in-I16-I16 : goal.Value::compare-returns-in-I16-I16
+Value::compare-returns-in-I16-I16 t c = c.cmp-in-I16-I16.ensures ∙ sym (ap₂ tree_cmp (ap tree_of c.in-I16-I16.is-0 ∙ tree_of-I16 c.in-I16-I16.a) (ap tree_of c.in-I16-I16.is-1 ∙ tree_of-I16 c.in-I16-I16.b))
+
+pub Value::compare-returns-in-I32-I32 : goal.Value::compare-returns-in-I32-I32
+Value::compare-returns-in-I32-I32 t c = c.cmp-in-I32-I32.ensures ∙ sym (ap₂ tree_cmp (ap tree_of c.in-I32-I32.is-0 ∙ tree_of-I32 c.in-I32-I32.a) (ap tree_of c.in-I32-I32.is-1 ∙ tree_of-I32 c.in-I32-I32.b))
+
+pub Value::compare-returns-in-I64-I64 : goal.Value::compare-returns-in-I64-I64
+Value::compare-returns-in-I64-I64 t c = c.cmp-in-I64-I64.ensures ∙ sym (ap₂ tree_cmp (ap tree_of c.in-I64-I64.is-0 ∙ tree_of-I64 c.in-I64-I64.a) (ap tree_of c.in-I64-I64.is-1 ∙ tree_of-I64 c.in-I64-I64.b))
+
+pub Value::compare-returns-in-Double-Double : goal.Value::compare-returns-in-Double-Double
+Value::compare-returns-in-Double-Double t c = c.cmp-in-Double-Double.ensures ∙ sym (ap₂ tree_cmp (ap tree_of c.in-Double-Double.is-0 ∙ tree_of-Double c.in-Double-Double.a) (ap tree_of c.in-Double-Double.is-1 ∙ tree_of-Double c.in-Double-Double.b))
+
+pub Value::compare-returns-in-Struct-Struct : goal.Value::compare-returns-in-Struct-Struct
+Value::compare-returns-in-Struct-Struct t c = c.compare.ensures ∙ sym (ap₂ tree_cmp (tree_of-is_Struct _ c.in-Struct-Struct.a c.in-Struct-Struct.is-0) (tree_of-is_Struct _ c.in-Struct-Struct.b c.in-Struct-Struct.is-1))
+
+pub Value::compare-returns-in-Map-Map : goal.Value::compare-returns-in-Map-Map
+Value::compare-returns-in-Map-Map t c = c.compare-in-Map-Map.ensures ∙ sym (ap₂ tree_cmp (tree_of-is_Map _ c.in-Map-Map.field-0-0 c.in-Map-Map.field-1-0 c.in-Map-Map.a c.in-Map-Map.is-0) (tree_of-is_Map _ c.in-Map-Map.field-0-1 c.in-Map-Map.field-1-1 c.in-Map-Map.b c.in-Map-Map.is-1))
+
+pub Value::compare-returns-in-Set-Set : goal.Value::compare-returns-in-Set-Set
+Value::compare-returns-in-Set-Set t c = c.compare-in-Set-Set.ensures ∙ sym (ap₂ tree_cmp (tree_of-is_Set _ c.in-Set-Set.field-0-0 c.in-Set-Set.a c.in-Set-Set.is-0) (tree_of-is_Set _ c.in-Set-Set.field-0-1 c.in-Set-Set.b c.in-Set-Set.is-1))
+
+pub Value::compare-returns-in-List-List : goal.Value::compare-returns-in-List-List
+Value::compare-returns-in-List-List t c = c.compare-in-List-List.ensures ∙ sym (ap₂ tree_cmp (tree_of-is_List _ c.in-List-List.field-0-0 c.in-List-List.a c.in-List-List.is-0) (tree_of-is_List _ c.in-List-List.field-0-1 c.in-List-List.b c.in-List-List.is-1))

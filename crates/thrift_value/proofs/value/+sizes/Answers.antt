@@ -9,7 +9,7 @@ use Rattle.std.proofs.Common.{true}
 use Rattle.thrift_value.proofs.Leaves.{IsOfLeaves, of_number}
 use Rattle.std.proofs.Common.{map, refl}
 use Rattle.thrift_value.specs.Sizes.{HasSmallSizes, HaveFieldsSmallSizes, HaveItemsSmallSizes}
-use Rattle.thrift_value.specs.TreeOf.{tree_of, field_tree, field_trees, item_trees, fields_tree, items_tree}
+use Rattle.thrift_value.specs.TreeOf.{tree_of, field_tree, pair_tree, field_trees, item_trees, pair_trees, fields_tree, items_tree, pairs_tree}
 use Rattle.thrift_value.specs.declared.value.Value.{Value}
 use Rattle.std.proofs.Common.{ℤ}
 use Rattle.thrift_value.proofs.Walks.{IsOfEach, passed, stopped, all_passed}
@@ -20,6 +20,9 @@ small_fields = record { none = tt; more = λ _ _ q rest. (q, rest); head = λ _ 
 
 small_items : IsOfEach (λ x. HasSmallSizes (tree_of x)) (λ xs. HaveItemsSmallSizes (item_trees (map tree_of xs)))
 small_items = record { none = tt; more = λ _ _ q rest. (q, rest); head = λ _ _ all. all.0; tail = λ _ _ all. all.1 }
+
+small_pairs : IsOfEach (λ (p : Value × Value). HasSmallSizes (tree_of p.0) × HasSmallSizes (tree_of p.1)) (λ ps. HavePairsSmallSizes (pair_trees (map pair_tree ps)))
+small_pairs = record { none = tt; more = λ _ _ q rest. (q.0, q.1, rest); head = λ _ _ all. (all.0, all.1); tail = λ _ _ all. all.2 }
 
 pub Fields::have_small_sizes-loop-value-preserved : goal.Fields::have_small_sizes-loop-value-preserved
 Fields::have_small_sizes-loop-value-preserved t c =
@@ -44,6 +47,22 @@ Fields::have_small_sizes-returns-then-not-has_small_sizes t c =
 pub Items::have_small_sizes-returns-then-not-has_small_sizes : goal.Items::have_small_sizes-returns-then-not-has_small_sizes
 Items::have_small_sizes-returns-then-not-has_small_sizes t c =
     stopped small_items (HaveItemsSmallSizes (items_tree c.args.self.now)) c.deref-value-items.result.now c.loop-value.value-index c.value-item.result c.loop-value-test.true c.value-item.is c.if-not-has_small_sizes.ensures.1 c.loop-value.invariant
+
+pub Pairs::have_small_sizes-loop-key-preserved : goal.Pairs::have_small_sizes-loop-key-preserved
+Pairs::have_small_sizes-loop-key-preserved t c =
+    passed small_pairs (HavePairsSmallSizes (pairs_tree c.args.self.now)) c.deref-key-items.result.now c.loop-key.key-index c.loop-key-item.result c.loop-key-test.true c.loop-key-item.is (c.if-not-has_small_sizes.ensures.0 refl, c.if-not-has_small_sizes-2.ensures.0 refl) c.loop-key.invariant
+
+pub Pairs::have_small_sizes-returns : goal.Pairs::have_small_sizes-returns
+Pairs::have_small_sizes-returns t c =
+    all_passed small_pairs (HavePairsSmallSizes (pairs_tree c.args.self.now)) c.deref-key-items.result.now c.loop-key.key-index c.loop-key-test.false c.loop-key.invariant
+
+pub Pairs::have_small_sizes-returns-then-not-has_small_sizes : goal.Pairs::have_small_sizes-returns-then-not-has_small_sizes
+Pairs::have_small_sizes-returns-then-not-has_small_sizes t c =
+    stopped small_pairs (HavePairsSmallSizes (pairs_tree c.args.self.now)) c.deref-key-items.result.now c.loop-key.key-index c.loop-key-item.result c.loop-key-test.true c.loop-key-item.is (λ q. c.if-not-has_small_sizes.ensures.1 q.0) c.loop-key.invariant
+
+pub Pairs::have_small_sizes-returns-then-not-has_small_sizes-2 : goal.Pairs::have_small_sizes-returns-then-not-has_small_sizes-2
+Pairs::have_small_sizes-returns-then-not-has_small_sizes-2 t c =
+    stopped small_pairs (HavePairsSmallSizes (pairs_tree c.args.self.now)) c.deref-key-items.result.now c.loop-key.key-index c.loop-key-item.result c.loop-key-test.true c.loop-key-item.is (λ q. c.if-not-has_small_sizes-2.ensures.1 q.1) c.loop-key.invariant
 
 small_leaves : IsOfLeaves (λ x. IsTrue true ↔ HasSmallSizes x)
 small_leaves = record {

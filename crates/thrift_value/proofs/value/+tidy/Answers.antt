@@ -1,13 +1,13 @@
 use Rattle.std.specs.Prelude.{◌↔◌, IsTrue}
 use Rattle.std.proofs.Common.{true}
 use Rattle.thrift_value.proofs.Leaves.{IsOfLeaves, of_leaf}
-use Rattle.std.proofs.Common.{◌≡◌, ℤ, map, refl, rules}
+use Rattle.std.proofs.Common.{◌≡◌, ℤ, map, refl, sym, subst, rules}
 use Rattle.thrift_value.specs.declared.tag.Tag.{Tag}
 use Rattle.thrift_value.specs.declared.value.Value.{Value}
 use Rattle.thrift_value.specs.Tags.{tag_of}
 use Rattle.thrift_value.specs.Tidy.{IsTidy, AreTidyFields, AreTidyItems, AreTidyPairs}
 use Rattle.thrift_value.specs.TreeOf.{tree_of, field_tree, pair_tree, field_trees, item_trees, pair_trees, fields_tree, items_tree, pairs_tree}
-use Rattle.thrift_value.proofs.Trees.{tree_of-is_Struct, tree_of-is_Map, tree_of-is_Set}
+use Rattle.thrift_value.proofs.Trees.{tree_of-is_Struct, tree_of-is_Map, tree_of-is_Set, tree_of-is_List}
 use Rattle.thrift_value.proofs.TidyLaws.{tidy_struct, tidy_map, tidy_set, first_failed, second_decides}
 use Rattle.thrift_value.proofs.Walks.{IsOfEach, passed, stopped, all_passed}
 use Rattle.thrift_value.proofs.value.+tidy.Goals as goal
@@ -143,3 +143,27 @@ Value::is_tidy-returns-in-Bool-7 t c = of_leaf (λ x. IsTrue true ↔ IsTidy x) 
 
 pub Value::is_tidy-returns-in-Bool-8 : goal.Value::is_tidy-returns-in-Bool-8
 Value::is_tidy-returns-in-Bool-8 t c = of_leaf (λ x. IsTrue true ↔ IsTidy x) tidy_leaves c.args.self.now (λ _. (λ _. record { tagged = tt; in_order = tt }, λ _. refl)) c.in-Bool.is
+
+pub Value::is_tidy-returns-in-List : goal.Value::is_tidy-returns-in-List
+Value::is_tidy-returns-in-List t c =
+    let is = tree_of-is_List _ c.in-List.element c.in-List.items c.in-List.is in (
+      λ yes. let h = c.are_tidy-in-List.ensures.0 yes in subst IsTidy (sym is) (record { tagged = h.0; in_order = h.1 }),
+      λ tidy. let at = subst IsTidy is tidy in c.are_tidy-in-List.ensures.1 (at.tagged, at.in_order),
+    )
+
+pub Items::are_tidy-returns-then-ne : goal.Items::are_tidy-returns-then-ne
+Items::are_tidy-returns-then-ne t c =
+    stopped (tidy_items c.args.element) (AreTidyItems c.args.element (items_tree c.args.self.now)) c.deref-value-items.result.now c.loop-value.value-index c.value-item.result c.loop-value-test.true c.value-item.is
+    (λ q. let tag : tag_of (tree_of c.value-item.result) ≡ c.args.element = q.0 in search rules) c.loop-value.invariant
+
+pub Pairs::are_tidy-returns-then-ne : goal.Pairs::are_tidy-returns-then-ne
+Pairs::are_tidy-returns-then-ne t c =
+    let p = c.loop-k-item.result in
+    stopped (tidy_pairs c.args.key c.args.value) (AreTidyPairs c.args.key c.args.value (pairs_tree c.args.self.now)) c.deref-k-items.result.now c.loop-k.k-index p c.loop-k-test.true c.loop-k-item.is
+    (λ q. let tag : tag_of (tree_of p.0) ≡ c.args.key = q.0 in search rules) c.loop-k.invariant
+
+pub Pairs::are_tidy-returns-then-ne-2 : goal.Pairs::are_tidy-returns-then-ne-2
+Pairs::are_tidy-returns-then-ne-2 t c =
+    let p = c.loop-k-item.result in
+    stopped (tidy_pairs c.args.key c.args.value) (AreTidyPairs c.args.key c.args.value (pairs_tree c.args.self.now)) c.deref-k-items.result.now c.loop-k.k-index p c.loop-k-test.true c.loop-k-item.is
+    (λ q. let tag : tag_of (tree_of p.1) ≡ c.args.value = q.1 in search rules) c.loop-k.invariant

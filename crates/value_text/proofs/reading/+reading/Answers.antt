@@ -1,8 +1,14 @@
-use Rattle.std.proofs.Common.{◌≡◌, ◌-◌, ◌+◌, suc, ap, sym, subst, arith}
+use Rattle.std.proofs.Common.{◌≡◌, ◌-◌, ◌+◌, ◌∙◌, ℕ, List, codes, map, Result, Ok, true, false, suc, ap, sym, subst, arith}
 use Rattle.std.proofs.lemmas.Result.{err_from_is_err_and}
-use Rattle.thrift_value.specs.TreeOf.{tree_of, field_tree, pair_tree}
-use Rattle.value_text.specs.Answering.{Gives}
-use Rattle.value_text.specs.Reading.{deeper_at, field_text_at, item_at, most_rounds, pair_text_at, value_text_at}
+use Rattle.thrift_value.specs.Tree.{Tree, of_struct, of_map, of_set, of_list}
+use Rattle.thrift_value.specs.TreeOf.{tree_of, field_tree, pair_tree, field_trees, item_trees, pair_trees}
+use Rattle.thrift_value.proofs.Trees.{tree_of-Struct, tree_of-Map, tree_of-Set, tree_of-List}
+use Rattle.value_text.specs.declared.stop.TextStop.{TextStop}
+use Rattle.value_text.specs.declared.stop.TextStop.TheVariants as stop
+use Rattle.value_text.specs.Answering.{Gives, LeavesAs}
+use Rattle.value_text.specs.Fronts.{◌>>=◌, behind_word}
+use Rattle.value_text.specs.Rows.{list_at}
+use Rattle.value_text.specs.Reading.{deeper_at, field_text_at, head_text_at, item_at, list_value_at, map_at, map_head_at, most_rounds, pair_text_at, set_at, struct_text_at, value_text_at}
 use Rattle.value_text.proofs.RowSteps.{row_stop, row_put, last_row_put}
 use Rattle.value_text.proofs.reading.+reading.Goals as goal
 
@@ -66,3 +72,98 @@ pub pair_rows-loop-step-preserved : goal.pair_rows-loop-step-preserved
 pair_rows-loop-step-preserved t c =
     row_put (pair_text_at c.args.levels c.args.key c.args.tag (value_text_at most_rounds c.args.levels)) 125 most_rounds c.args.text.now pair_tree (most_rounds - c.loop-step.step) (most_rounds - (c.loop-step.step + 1)) c.as_slice.result.now c.loop-step.made.items c.keep.new.list.items c.loop-step.rest.now c.in_ok-entry.entry c.in_ok-entry.more c.in_ok-entry.behind.now c.as_slice.ensures.value
     (let more : most_rounds - c.loop-step.step ≡ suc (most_rounds - (c.loop-step.step + 1)) = omega arith in more) c.loop-step.invariant c.in_ok-entry.ensures c.if-not-more.false c.in_ok-keep.ensures
+
+-- what holds others
+
+abbrev answer : List ℕ → Tree → Result (Tree × List ℕ) ℕ
+answer rest x = Ok (x, rest)
+
+-- a reading that stops stops what follows
+stops : {A B : Type 0} (why : TextStop) (r : Result A ℕ) (f : A → Result B ℕ) → LeavesAs why r → LeavesAs why (r >>= f)
+stops stop.NoMemory r f h = tt
+stops (stop.Left left) r f h = ap (λ z. z >>= f) h
+
+-- a reading that goes on stops where what follows does
+stops_later : {A B : Type 0} (why : TextStop) (r : Result A ℕ) (f : A → Result B ℕ) (x : A) → r ≡ Ok x → LeavesAs why (f x) → LeavesAs why (r >>= f)
+stops_later stop.NoMemory r f x is h = tt
+stops_later (stop.Left left) r f x is h = ap (λ z. z >>= f) is ∙ h
+
+pub struct_at-returns-in_err-inside : goal.struct_at-returns-in_err-inside
+unfolding struct_text_at
+struct_at-returns-in_err-inside t c =
+    let p = err_from_is_err_and c.from_residual.result c.from_residual.ensures.1 in
+    rw (p.1, p.2) (stops c.in_err-inside.field-0.0 (behind_word (codes "{") c.args.text.now) _ c.in_err-inside.ensures)
+
+pub struct_at-returns-in_err-fields : goal.struct_at-returns-in_err-fields
+unfolding struct_text_at
+struct_at-returns-in_err-fields t c =
+    let p = err_from_is_err_and c.from_residual-in_err-fields.result c.from_residual-in_err-fields.ensures.1 in
+    rw (p.1, p.2)
+    (stops_later c.in_err-fields.field-0.0 (behind_word (codes "{") c.args.text.now) _ c.in_ok-inside.inside.now c.in_ok-inside.ensures (stops c.in_err-fields.field-0.0 (list_at (field_text_at (value_text_at most_rounds c.args.levels)) 125 most_rounds c.in_ok-inside.inside.now) _ c.in_err-fields.ensures))
+
+pub struct_at-returns : goal.struct_at-returns
+unfolding struct_text_at
+struct_at-returns t c =
+    ap (λ r. r >>= λ h. list_at (field_text_at (value_text_at most_rounds c.args.levels)) 125 most_rounds h >>= λ x. Ok (of_struct (field_trees x.0), x.1)) c.in_ok-inside.ensures
+    ∙ ap (λ r. r >>= λ x. Ok (of_struct (field_trees x.0), x.1)) c.in_ok-fields.ensures
+    ∙ ap (answer c.in_ok-fields.rest.now) (ap (λ xs. of_struct (field_trees (map field_tree xs))) (sym c.new.ensures) ∙ sym (tree_of-Struct c.new.result))
+
+pub map_at-returns-in_err-key : goal.map_at-returns-in_err-key
+unfolding map_at
+map_at-returns-in_err-key t c =
+    let p = err_from_is_err_and c.from_residual.result c.from_residual.ensures.1 in
+    rw (p.1, p.2) (stops c.in_err-key.field-0.0 (map_head_at c.args.text.now) _ c.in_err-key.ensures)
+
+pub map_at-returns-in_err-pairs : goal.map_at-returns-in_err-pairs
+unfolding map_at
+map_at-returns-in_err-pairs t c =
+    let p = err_from_is_err_and c.from_residual-in_err-pairs.result c.from_residual-in_err-pairs.ensures.1 in
+    rw (p.1, p.2)
+    (stops_later c.in_err-pairs.field-0.0 (map_head_at c.args.text.now) _ (c.in_ok-key.key, c.in_ok-key.tag, c.in_ok-key.inside.now) c.in_ok-key.ensures (stops c.in_err-pairs.field-0.0 (list_at (pair_text_at c.args.levels c.in_ok-key.key c.in_ok-key.tag (value_text_at most_rounds c.args.levels)) 125 most_rounds c.in_ok-key.inside.now) _ c.in_err-pairs.ensures))
+
+pub map_at-returns : goal.map_at-returns
+unfolding map_at
+map_at-returns t c =
+    ap (λ r. r >>= λ h. list_at (pair_text_at c.args.levels h.0 h.1 (value_text_at most_rounds c.args.levels)) 125 most_rounds h.2 >>= λ x. Ok (of_map h.0 h.1 (pair_trees x.0), x.1)) c.in_ok-key.ensures
+    ∙ ap (λ r. r >>= λ x. Ok (of_map c.in_ok-key.key c.in_ok-key.tag (pair_trees x.0), x.1)) c.in_ok-pairs.ensures
+    ∙ ap (answer c.in_ok-pairs.rest.now) (ap (λ xs. of_map c.in_ok-key.key c.in_ok-key.tag (pair_trees (map pair_tree xs))) (sym c.new.ensures) ∙ sym (tree_of-Map c.in_ok-key.key c.in_ok-key.tag c.new.result))
+
+pub set_at-returns-in_err-tag : goal.set_at-returns-in_err-tag
+unfolding set_at
+set_at-returns-in_err-tag t c =
+    let p = err_from_is_err_and c.from_residual.result c.from_residual.ensures.1 in
+    rw (p.1, p.2) (stops c.in_err-tag.field-0.0 (head_text_at (codes "set<") c.args.text.now) _ c.in_err-tag.ensures)
+
+pub set_at-returns-in_err-items : goal.set_at-returns-in_err-items
+unfolding set_at
+set_at-returns-in_err-items t c =
+    let p = err_from_is_err_and c.from_residual-in_err-items.result c.from_residual-in_err-items.ensures.1 in
+    rw (p.1, p.2)
+    (stops_later c.in_err-items.field-0.0 (head_text_at (codes "set<") c.args.text.now) _ (c.in_ok-tag.tag, c.in_ok-tag.inside.now) c.in_ok-tag.ensures (stops c.in_err-items.field-0.0 (list_at (item_at true c.in_ok-tag.tag (value_text_at most_rounds c.args.levels)) 93 most_rounds c.in_ok-tag.inside.now) _ c.in_err-items.ensures))
+
+pub set_at-returns : goal.set_at-returns
+unfolding set_at
+set_at-returns t c =
+    ap (λ r. r >>= λ h. list_at (item_at true h.0 (value_text_at most_rounds c.args.levels)) 93 most_rounds h.1 >>= λ x. Ok (of_set h.0 (item_trees x.0), x.1)) c.in_ok-tag.ensures
+    ∙ ap (λ r. r >>= λ x. Ok (of_set c.in_ok-tag.tag (item_trees x.0), x.1)) c.in_ok-items.ensures
+    ∙ ap (answer c.in_ok-items.rest.now) (ap (λ xs. of_set c.in_ok-tag.tag (item_trees (map tree_of xs))) (sym c.new.ensures) ∙ sym (tree_of-Set c.in_ok-tag.tag c.new.result))
+
+pub list_value_at-returns-in_err-tag : goal.list_value_at-returns-in_err-tag
+unfolding list_value_at
+list_value_at-returns-in_err-tag t c =
+    let p = err_from_is_err_and c.from_residual.result c.from_residual.ensures.1 in
+    rw (p.1, p.2) (stops c.in_err-tag.field-0.0 (head_text_at (codes "list<") c.args.text.now) _ c.in_err-tag.ensures)
+
+pub list_value_at-returns-in_err-items : goal.list_value_at-returns-in_err-items
+unfolding list_value_at
+list_value_at-returns-in_err-items t c =
+    let p = err_from_is_err_and c.from_residual-in_err-items.result c.from_residual-in_err-items.ensures.1 in
+    rw (p.1, p.2)
+    (stops_later c.in_err-items.field-0.0 (head_text_at (codes "list<") c.args.text.now) _ (c.in_ok-tag.tag, c.in_ok-tag.inside.now) c.in_ok-tag.ensures (stops c.in_err-items.field-0.0 (list_at (item_at false c.in_ok-tag.tag (value_text_at most_rounds c.args.levels)) 93 most_rounds c.in_ok-tag.inside.now) _ c.in_err-items.ensures))
+
+pub list_value_at-returns : goal.list_value_at-returns
+unfolding list_value_at
+list_value_at-returns t c =
+    ap (λ r. r >>= λ h. list_at (item_at false h.0 (value_text_at most_rounds c.args.levels)) 93 most_rounds h.1 >>= λ x. Ok (of_list h.0 (item_trees x.0), x.1)) c.in_ok-tag.ensures
+    ∙ ap (λ r. r >>= λ x. Ok (of_list c.in_ok-tag.tag (item_trees x.0), x.1)) c.in_ok-items.ensures
+    ∙ ap (answer c.in_ok-items.rest.now) (ap (λ xs. of_list c.in_ok-tag.tag (item_trees (map tree_of xs))) (sym c.new.ensures) ∙ sym (tree_of-List c.in_ok-tag.tag c.new.result))

@@ -1,10 +1,12 @@
-use Rattle.std.proofs.Common.{to_z, of_z, FitsSigned, ◌∷◌, ◌++◌, ◌∙◌, codes, map, sym, arith, rules}
+use Rattle.std.proofs.Common.{to_z, of_z, FitsSigned, ◌∷◌, ◌++◌, ◌∙◌, [], codes, map, ap, sym, subst, arith, rules}
+use Rattle.std.proofs.lemmas.List.{at_drop_all}
 use Rattle.std.specs.Int.{w8, w16, w32, w64}
 use Rattle.std.proofs.lemmas.Int.{to_z-of_z}
 use Rattle.std.specs.List.{flat_map}
 use Rattle.thrift_value.specs.TreeOf.{tree_of, pair_tree, item_trees, pair_trees}
+use Rattle.value_text.specs.Handing.{HandsOver}
 use Rattle.value_text.specs.ValueText.{tag_word, number_and_letter, tree_text, listed_items, listed_pairs}
-use Rattle.value_text.proofs.Handed.{goes_on, hands_more, breaks, breaks_last, both_handed, hands_same, next_handed, next_fails, first_handed, next_field, next_item, next_pair, opened_fields, first_field, fields_begin, items_begin, pairs_begin}
+use Rattle.value_text.proofs.Handed.{goes_on, hands_more, breaks, breaks_last, both_handed, hands_same, next_handed, next_fails, first_handed, next_field, next_item, next_pair, opened_fields, first_field, fields_begin, items_begin, pairs_begin, nothing_handed, no_fields_told, no_items_told, no_pairs_told}
 use Rattle.value_text.proofs.ValueTexts.{bool_text, i8_text, i16_text, i32_text, i64_text, bits_text, wide_text, bytes_text, struct_text, map_text, set_text, list_text, map_opened, list_opened}
 use Rattle.value_text.proofs.spelling.+value_speller.Goals as goal
 
@@ -232,3 +234,46 @@ spell_value-returns-in-List g t c =
     hands_same (g.K.Sink.taken c.args.out.now) (g.K.Sink.taken c.spell_collection-in-List.new.out) (g.K.Sink.faults c.args.out.now) (g.K.Sink.faults c.spell_collection-in-List.new.out) _ (tree_text (tree_of c.args.value.now)) c.spell_collection-in-List.result
     (list_opened (codes "list<") (tag_word c.in-List.element) (listed_items (item_trees (map tree_of c.as_slice-in-List.result.now)) ++ codes "]")
     ∙ list_text c.args.value.now c.in-List.element c.in-List.items c.as_slice-in-List.result.now c.in-List.is c.as_slice-in-List.ensures) c.spell_collection-in-List.ensures
+
+-- to the end
+
+pub spell_fields-returns : goal.spell_fields-returns
+spell_fields-returns g t c =
+    subst (λ s. HandsOver (g.K.Sink.taken c.args.out.now) (g.K.Sink.taken c.loop-id.out) (g.K.Sink.faults c.args.out.now) (g.K.Sink.faults c.loop-id.out) (opened_fields c.args.fields.now) s)
+    (at_drop_all (flat_map next_field) c.in-Some.more.now c.loop-id.id-index (omega arith)) c.loop-id.invariant
+
+pub spell_items-returns : goal.spell_items-returns
+spell_items-returns g t c =
+    subst (λ s. HandsOver (g.K.Sink.taken c.args.out.now) (g.K.Sink.taken c.loop-item.out) (g.K.Sink.faults c.args.out.now) (g.K.Sink.faults c.loop-item.out) (listed_items (item_trees (map tree_of c.args.items.now))) s)
+    (at_drop_all (flat_map next_item) c.in-Some.more.now c.loop-item.item-index (omega arith)) c.loop-item.invariant
+
+pub spell_pairs-returns : goal.spell_pairs-returns
+spell_pairs-returns g t c =
+    subst (λ s. HandsOver (g.K.Sink.taken c.args.out.now) (g.K.Sink.taken c.loop-key.out) (g.K.Sink.faults c.args.out.now) (g.K.Sink.faults c.loop-key.out) (listed_pairs (pair_trees (map pair_tree c.args.pairs.now))) s)
+    (at_drop_all (flat_map next_pair) c.in-Some.more.now c.loop-key.key-index (omega arith)) c.loop-key.invariant
+
+-- of none
+
+pub spell_fields-returns-in_default : goal.spell_fields-returns-in_default
+spell_fields-returns-in_default g t c =
+    hands_same (g.K.Sink.taken c.args.out.now) (g.K.Sink.taken c.hand_over.new.out) (g.K.Sink.faults c.args.out.now) (g.K.Sink.faults c.hand_over.new.out) (codes "{") (opened_fields c.args.fields.now) c.hand_over.result
+    (no_fields_told c.args.fields.now ((c.in_default.ensures {u = tt}).cases)) c.hand_over.ensures
+
+pub spell_items-returns-in_default : goal.spell_items-returns-in_default
+spell_items-returns-in_default g t c =
+    nothing_handed (g.K.Sink.taken c.args.out.now) (g.K.Sink.faults c.args.out.now) (listed_items (item_trees (map tree_of c.args.items.now))) (no_items_told c.args.items.now ((c.in_default.ensures {u = tt}).cases))
+
+pub spell_pairs-returns-in_default : goal.spell_pairs-returns-in_default
+spell_pairs-returns-in_default g t c =
+    nothing_handed (g.K.Sink.taken c.args.out.now) (g.K.Sink.faults c.args.out.now) (listed_pairs (pair_trees (map pair_tree c.args.pairs.now))) (no_pairs_told c.args.pairs.now ((c.in_default.ensures {u = tt}).cases))
+
+-- a field that is a number
+
+pub spell_field-returns-in-Some : goal.spell_field-returns-in-Some
+spell_field-returns-in-Some g t c =
+    let fits : FitsSigned w16 c.args.id.now = search rules in
+    let wide : FitsSigned w64 c.in-Some.number = search rules in
+    hands_same (g.K.Sink.taken c.args.out.now) (g.K.Sink.taken c.spell_numbered.new.out) (g.K.Sink.faults c.args.out.now) (g.K.Sink.faults c.spell_numbered.new.out) _
+    ((c.args.mark ∷ number_and_letter c.args.id.now (codes "=")) ++ tree_text (tree_of c.args.value.now)) c.spell_numbered.result
+    (λ k. (c.args.mark ∷ number_and_letter (to_z-of_z w16 c.args.id.now fits k) (codes "=")) ++ (ap (λ n. number_and_letter n (c.in-Some.letter ∷ [])) (to_z-of_z w64 c.in-Some.number wide) ∙ sym (c.in-Some.ensures {u = tt})) k)
+    c.spell_numbered.ensures

@@ -5,7 +5,7 @@ use Rattle.std.proofs.lemmas.Result.{err_from_is_err_and}
 use Rattle.thrift_value.specs.TreeOf.{tree_of}
 use Rattle.wire_model.specs.Encoder.{heading}
 use Rattle.wire_walk.specs.Steps.{field_header_of}
-use Rattle.wire_walk.proofs.Written.{AreFieldsWritten, grows_on, grows_more, after_header, on_ok_by, on_err_by, items_written_begin, item_ready, item_written, items_written, items_in_range, pairs_written_begin, pair_ready, fields_written_begin, field_ready, field_written, own_in_range, struct_parts, map_parts, set_parts, list_parts}
+use Rattle.wire_walk.proofs.Written.{AreFieldsWritten, grows_none, grows_on, grows_more, after_header, on_ok_by, on_err_by, items_written_begin, item_ready, item_written, items_written, items_in_range, pairs_written_begin, pair_ready, pair_written, pairs_written, pairs_in_range, fields_written_begin, field_ready, field_written, fields_written, fields_in_range, own_in_range, struct_parts, map_parts, set_parts, list_parts}
 use Rattle.wire_walk.proofs.writing.+writing.Goals as goal
 
 -- a value by its kind
@@ -167,3 +167,62 @@ put-returns-in_ok-put_pairs-in-Map-clause-in_range g t c =
     on_ok_by _ _ c.put_pairs-in-Map.result
     (λ r. (map_parts g.C.WireProtocol.encoder c.args.value.now c.in-Map.key c.in-Map.value c.in-Map.pairs c.as_slice-in-Map-2.result.now c.in-Map.is c.as_slice-in-Map-2.ensures c.requires).ranged r)
     c.put_pairs-in-Map.ensures.in_range
+
+pub put-returns-in_ok-put_items-in-Set-clause-in_range : goal.put-returns-in_ok-put_items-in-Set-clause-in_range
+put-returns-in_ok-put_items-in-Set-clause-in_range g t c =
+    on_ok_by _ _ c.put_items-in-Set.result
+    (λ r. (set_parts g.C.WireProtocol.encoder c.args.value.now c.in-Set.element c.in-Set.items c.as_slice-in-Set-2.result.now c.in-Set.is c.as_slice-in-Set-2.ensures c.requires).ranged r)
+    c.put_items-in-Set.ensures.in_range
+
+pub put-returns-in_ok-put_items-in-List-clause-in_range : goal.put-returns-in_ok-put_items-in-List-clause-in_range
+put-returns-in_ok-put_items-in-List-clause-in_range g t c =
+    on_ok_by _ _ c.put_items-in-List-2.result
+    (λ r. (list_parts g.C.WireProtocol.encoder c.args.value.now c.in-List.element c.in-List.items c.as_slice-in-List-2.result.now c.in-List.is c.as_slice-in-List-2.ensures c.requires).ranged r)
+    c.put_items-in-List-2.ensures.in_range
+
+pub put_pairs-returns-clause-in_range : goal.put_pairs-returns-clause-in_range
+put_pairs-returns-clause-in_range g t c =
+    pairs_in_range g.C.WireProtocol.encoder c.args.pairs.now c.loop-key.key-index _ _ c.loop-key-test.false c.loop-key.invariant
+
+pub put_fields-returns-clause-in_range : goal.put_fields-returns-clause-in_range
+put_fields-returns-clause-in_range g t c =
+    on_ok_by _ _ c.put_header-2.result
+    (λ _. fields_in_range g.C.WireProtocol.encoder (to_z w16 c.loop-id.last-bits) c.args.fields.now c.loop-id.id-index _ _ c.loop-id-test.false c.loop-id.invariant)
+    c.put_header-2.ensures.ok
+
+-- pairs and fields, to their ends
+
+pub put_pairs-loop-key-preserved : goal.put_pairs-loop-key-preserved
+put_pairs-loop-key-preserved g t c =
+    pair_written g.C.WireProtocol.encoder c.args.pairs.now c.loop-key.key-index c.loop-key-item.result _ _ _ _ c.loop-key-test.true c.loop-key-item.is c.loop-key.invariant
+    c.in_ok-put.ensures.ok c.in_ok-put-2.ensures.ok c.in_ok-put.ensures.in_range c.in_ok-put-2.ensures.in_range
+
+pub put_pairs-returns-clause-ok : goal.put_pairs-returns-clause-ok
+put_pairs-returns-clause-ok g t c =
+    pairs_written g.C.WireProtocol.encoder c.args.pairs.now c.loop-key.key-index _ _ c.loop-key-test.false c.loop-key.invariant
+
+pub put_fields-returns-clause-ok : goal.put_fields-returns-clause-ok
+put_fields-returns-clause-ok g t c =
+    on_ok_by _ _ c.put_header-2.result
+    (λ e. fields_written g.C.WireProtocol.encoder (to_z w16 c.loop-id.last-bits) c.args.fields.now c.loop-id.id-index _ _ _ c.loop-id-test.false c.loop-id.invariant e)
+    c.put_header-2.ensures.ok
+
+-- where memory runs out behind a header
+
+pub put-returns-in_ok-put_pairs-in-Map-clause-err : goal.put-returns-in_ok-put_pairs-in-Map-clause-err
+put-returns-in_ok-put_pairs-in-Map-clause-err g t c =
+    on_err_by _ _ c.put_pairs-in-Map.result
+    (λ h. grows_on _ _ _ (grows_more _ _ _ _ (grows_none c.args.into.now.items) c.in_ok-put_pairs-in-Map.ensures.ok) h)
+    c.put_pairs-in-Map.ensures.err
+
+pub put-returns-in_ok-put_items-in-Set-clause-err : goal.put-returns-in_ok-put_items-in-Set-clause-err
+put-returns-in_ok-put_items-in-Set-clause-err g t c =
+    on_err_by _ _ c.put_items-in-Set.result
+    (λ h. grows_on _ _ _ (grows_more _ _ _ _ (grows_none c.args.into.now.items) c.in_ok-put_items-in-Set.ensures.ok) h)
+    c.put_items-in-Set.ensures.err
+
+pub put-returns-in_ok-put_items-in-List-clause-err : goal.put-returns-in_ok-put_items-in-List-clause-err
+put-returns-in_ok-put_items-in-List-clause-err g t c =
+    on_err_by _ _ c.put_items-in-List-2.result
+    (λ h. grows_on _ _ _ (grows_more _ _ _ _ (grows_none c.args.into.now.items) c.in_ok-put_items-in-List.ensures.ok) h)
+    c.put_items-in-List-2.ensures.err

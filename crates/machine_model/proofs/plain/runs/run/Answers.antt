@@ -1,10 +1,27 @@
-use Rattle.std.proofs.Common.{ap, sym, ◌∙◌}
+use Rattle.std.proofs.Common.{◌≡◌, length, ap, sym, ◌∙◌, subst, arith}
 use Rattle.std.specs.Option.{option_map}
 use Rattle.machine_model.specs.Seen.{cell_of, told_of}
-use Rattle.machine_model.proofs.Seeing.{goes_on}
+use Rattle.machine_model.proofs.Seeing.{Going, goes_on, stops, all_gone}
 use Rattle.machine_model.proofs.plain.runs.run.Goals as goal
 
 pub loop-event-preserved : goal.loop-event-preserved
 loop-event-preserved g c =
     goes_on _ _ told_of (cell_of c.args.cell) (cell_of c.loop-event.now) (cell_of c.in-Some.next) c.args.events.now c.loop-event.event-index c.event-item.result
     c.loop-event.invariant c.loop-event-test.true c.event-item.is (ap (option_map cell_of) (sym c.in-Some.is) ∙ c.in_ok-step.ensures)
+
+pub returns-in-None : goal.returns-in-None
+returns-in-None g c =
+    record {
+      plainly = stops _ _ told_of (cell_of c.args.cell) (cell_of c.loop-event.now) c.args.events.now c.loop-event.event-index c.event-item.result
+          c.loop-event.invariant c.loop-event-test.true c.event-item.is (ap (option_map cell_of) (sym c.in-None.is) ∙ c.in_ok-step.ensures);
+      runs = tt;
+    }
+
+pub returns : goal.returns
+returns g c =
+    let all : c.loop-event.event-index ≡ length c.args.events.now = omega arith in
+    let d = g.D.PlainDesk.desk c.args.desk.now in
+    let r = g.S.PlainServices.rules c.args.services.now in
+    let plainly = all_gone d r told_of (cell_of c.args.cell) (cell_of c.loop-event.now) c.args.events.now
+    (subst (λ i. Going d r told_of (cell_of c.args.cell) c.args.events.now i (cell_of c.loop-event.now)) all c.loop-event.invariant) in
+    record { plainly = plainly; runs = c.plain_machine_runs.ensures d r (cell_of c.args.cell) (cell_of c.loop-event.now) _ (omega (arith, c.requires.same_max)) (sym plainly) }

@@ -1,6 +1,6 @@
 use Rattle.std.proofs.Common.{◌-◌, ◌+◌, length}
 use Rattle.machine_model.proofs.Seeing.{Room}
-use Rattle.machine_model.proofs.plain.workers.with_room.Given as goal
+use Rattle.machine_model.proofs.plain.workers.make_room.Given as goal
 
 abbrev pub invariant-room : goal.invariant-room
 invariant-room g l = Room l.fn.workers.items l.workers.items

@@ -1,0 +1,15 @@
+use Rattle.std.proofs.Common.{ap, ◌∙◌, arith}
+use Rattle.host_model.proofs.Plainly.{own_on, own_past}
+use Rattle.host_model.proofs.plain.journals.entries_of.Goals as goal
+use Rattle.host_model.proofs.plain.journals.entries_of.Goals.{then-entry-c+in_ok-push, else-entry-c}
+
+pub loop-entry-preserved : goal.loop-entry-preserved
+loop-entry-preserved g c =
+    elim c.if-entry-c.branch [
+      | then-entry-c+in_ok-push w ↦
+          own_on c.args.c c.args.journal.now c.loop-entry.entry-index c.entry-item.result c.loop-entry.own.items c.if-entry-c.own.items
+          c.loop-entry.invariant (omega arith) c.entry-item.is w.if-entry-c.true (ap (λ own. own.items) w.own-is ∙ (w.in_ok-push.ensures {u = tt}).items)
+      | else-entry-c w ↦
+          own_past c.args.c c.args.journal.now c.loop-entry.entry-index c.entry-item.result c.loop-entry.own.items c.if-entry-c.own.items
+          c.loop-entry.invariant (omega arith) c.entry-item.is w.if-entry-c.false (ap (λ own. own.items) w.own-is)
+    ]

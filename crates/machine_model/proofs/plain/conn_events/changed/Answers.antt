@@ -1,6 +1,0 @@
-use Rattle.machine_model.proofs.Seeing.{loop_set}
-use Rattle.machine_model.proofs.plain.conn_events.changed.Goals as goal
-
-pub returns : goal.returns
-returns c =
-    loop_set c.args.loop_part c.args.c c.args.moved.conn c.args.moved.marks.items c.append.new.self.items c.requires (c.in_ok-append.ensures {u = tt}).items
