@@ -11,7 +11,7 @@ import concurrent.futures
 import contextlib
 import itertools
 import os
-import re
+import runpy
 import subprocess
 import sys
 import tempfile
@@ -137,16 +137,14 @@ ALL_OF_IT = 4_294_967_295
 
 
 def worked_scripts():
-    """The examples of the calculator, and the rows of the test of recorded runs, without lines of a schedule."""
+    """The examples of the calculator, and the rows of recorded runs, without lines of a schedule."""
     for name in sorted(os.listdir(os.path.join(TOP, "examples"))):
         base, kind = os.path.splitext(os.path.join(TOP, "examples", name))
         if kind == ".script" and not os.path.exists(base + ".words"):
             with open(base + kind, "rb") as text:
                 yield text.read(), ()
-    with open(os.path.join(TOP, "crates/host_tests/src/records.rt"), encoding="utf-8") as source:
-        rows = re.findall(r'= *\s*b"(open(?:[^"\\]|\\.|\\\n)*)";', source.read())
-    for row in rows:
-        text = re.sub(r"\\\n\s*", "", row).replace("\\n", "\n").encode()
+    rows_of = runpy.run_path(os.path.join(TOP, ".ci/rows"))["rows_of"]
+    for text in (row.input for row in rows_of(os.path.join(TOP, "rows/record.rows")) if row.status == 0):
         yield text, ()
         yield text, LEAST
 

@@ -3,7 +3,7 @@
 
 It knows the binary protocol and the tutorial's calculator, and runs a script as `thriftd rehearse @tutorial binary WORKERS
 Calculator=calculator` does. `rehearsal_model.py WORKERS [MAX_FRAME [READ_BUDGET]] < SCRIPT` prints the report, or the errors' line of a text that is
-none. The tables of crates/host_tests are compared with it, and bench/trials/rehearsal_mixes.py runs it beside the program.
+none. It comes to what the rows of rehearsals in rows/ say, and bench/trials/rehearsal_mixes.py runs it beside the program.
 """
 import sys
 

@@ -1,14 +1,11 @@
-//! Tests of calls: what an office (`processor`) decides and replies, what handlers (`calculator`, `house_handlers`) answer, a recorded connection that both serve
-//! (`recorded_runs`), and runs of two (`cell_core`) beside the plain machine (`machine_model`); texts of values (`value_text`), entries' lines, and journals
-//! (`journal_text`).
+//! Tests of calls where something fails, and of what the program doesn't show: a recorded connection (`recorded_runs`), and runs of two (`cell_core`) beside the plain
+//! machine (`machine_model`); texts of values (`value_text`), entries' lines, and journals (`journal_text`). What is decided and answered the program itself shows in rows/.
 #![tactic(auto)]
 
 #[cfg(test)]
 mod entries;
 #[cfg(test)]
 mod faulty_journals;
-#[cfg(test)]
-mod handlers;
 #[cfg(test)]
 mod journals;
 #[cfg(test)]

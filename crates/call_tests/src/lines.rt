@@ -92,8 +92,8 @@ fn row(alloc: Global, number: usize) -> Result<Entry, AllocError> {
     }
 }
 
-/// Whether an entry has this line.
-pub(crate) fn is_line_of(alloc: Global, entry: &Entry, line: &[u8]) -> bool {
+// Whether an entry has this line.
+fn is_line_of(alloc: Global, entry: &Entry, line: &[u8]) -> bool {
     let mut text = Vec::new(alloc);
     put_entry(&mut text, entry).is_ok() && text.as_slice() == line
 }

@@ -75,16 +75,12 @@ impl PlainServices for Forgetful {
 fn event_of(alloc: Global, letter: u8, number: u32) -> Result<PlainEvent, AllocError> {
     let event = match letter {
         b'o' => PlainEvent::Happens(PlainConnEvent::Opens),
-        // A size, a payload, a payload without its last byte, and that byte.
+        // A size and a payload are read.
         b'r' => return reads(alloc, number, b"\x00\x00\x00\x06"),
         b'R' => return reads(alloc, number, b"\x82\x21\x01\x01f\x00"),
-        b'q' => return reads(alloc, number, b"\x82\x21\x01\x01f"),
-        b'l' => return reads(alloc, number, b"\x00"),
         b'e' => PlainEvent::Happens(PlainConnEvent::Ends(number)),
-        // A reply, and its first byte.
+        // A whole reply is written.
         b'W' => PlainEvent::Happens(PlainConnEvent::Writes(number, 10)),
-        b'w' => PlainEvent::Happens(PlainConnEvent::Writes(number, 1)),
-        b'g' => PlainEvent::Happens(PlainConnEvent::FailsWrite(number)),
         b'S' => PlainEvent::Happens(PlainConnEvent::GivesUp(number, EndCause::Stopped)),
         b's' => PlainEvent::Submits(number),
         b't' => PlainEvent::Takes(number),

@@ -1,6 +1,6 @@
 //! Value texts that are read, and the places at which others are refused.
 
-ghost use Rattle.std.specs.Prelude.{◌≤◌, length};
+ghost use Rattle.std.specs.Prelude.{◌≤◌};
 ghost use Rattle.thrift_value.specs.Measures.{depth_of};
 ghost use Rattle.thrift_value.specs.Tidy.{IsTidy};
 ghost use Rattle.thrift_value.specs.TreeOf.{tree_of};
@@ -8,7 +8,8 @@ ghost use Rattle.thrift_value.specs.TreeOf.{tree_of};
 use std::alloc::{AllocError, Global};
 use std::test::Fail;
 use thrift_value::Value;
-use value_text::{TextFault, VecSink, print, read, read_front, spell};
+use value_text::TextFault::{self, At};
+use value_text::{VecSink, print, read, read_front, spell};
 
 // A text of each kind of value.
 const TEXT: &[u8] = b"{1=map<bytes,i32>{\"a\"=1i},2=set<i16>[1s,2s]}";
@@ -55,58 +56,23 @@ const REFUSED: [(&[u8], usize); 20] = [
     (b"map<i8,i8>{1b,", 13),
 ];
 
-// Whether a value is printed as this text.
-fn is_printed(alloc: Global, value: &Value, text: &[u8]) -> Result<bool, AllocError>
+// Whether a value is printed and spelled as this text.
+fn is_told(alloc: Global, value: &Value, text: &[u8]) -> bool
     requires tidy { IsTidy (tree_of value.now) }
     requires levels { depth_of (tree_of value.now) ≤ 64 }
 {
-    let printed = print(alloc, value)?;
-    Ok(printed.as_slice() == text)
-}
-
-// Whether a value is spelled as this text.
-fn is_spelled(alloc: Global, value: &Value, text: &[u8]) -> bool
-    requires tidy { IsTidy (tree_of value.now) }
-    requires levels { depth_of (tree_of value.now) ≤ 64 }
-{
+    let Ok(printed) = print(alloc, value) else {
+        return false;
+    };
     let mut out = VecSink::take_from(&mut Vec::new(alloc));
-    spell(value, &mut out).is_ok() && out.content.as_slice() == text
+    printed.as_slice() == text && spell(value, &mut out).is_ok() && out.content.as_slice() == text
 }
 
-// Whether the value that is read from a text is printed and spelled as it.
+// Whether the value that is read from a text is told as it again.
 fn read_again(alloc: Global, text: &[u8]) -> Result<bool, TextFault> {
     match read(alloc, text) {
-        Ok(value) => Ok(
-            matches!(is_printed(alloc, &value, text), Ok(true)) && is_spelled(alloc, &value, text),
-        ),
+        Ok(value) => Ok(is_told(alloc, &value, text)),
         Err(fault) => Err(fault),
-    }
-}
-
-// Whether a text is read, and printed and spelled to itself.
-fn is_read(alloc: Global, text: &[u8]) -> bool {
-    matches!(read_again(alloc, text), Ok(true))
-}
-
-// Whether a text is refused at a place.
-fn is_refused(alloc: Global, text: &[u8], place: usize) -> bool {
-    match read_again(alloc, text) {
-        Err(TextFault::At(found)) => found == place,
-        _ => false,
-    }
-}
-
-#[test]
-fn texts_are_read(rt: HostRuntime) {
-    for text in &READ {
-        assert!(rt; is_read(rt.alloc(), text));
-    }
-}
-
-#[test]
-fn texts_are_refused(rt: HostRuntime) {
-    for (text, place) in &REFUSED {
-        assert!(rt; is_refused(rt.alloc(), text, *place));
     }
 }
 
@@ -123,42 +89,32 @@ fn nested(alloc: Global, levels: u32) -> Result<Vec<u8>, AllocError> {
     Ok(text)
 }
 
-fn is_deepest_read(alloc: Global) -> Result<bool, AllocError> {
-    let text = nested(alloc, 64)?;
-    Ok(is_read(alloc, text.as_slice()))
-}
-
-fn is_deeper_refused(alloc: Global) -> Result<bool, AllocError> {
-    let text = nested(alloc, 65)?;
-    Ok(is_refused(alloc, text.as_slice(), 64 * 11))
-}
-
-#[test]
-fn levels_end(rt: HostRuntime) -> Result<(), Fail> {
-    assert!(rt; is_deepest_read(rt.alloc())?);
-    assert!(rt; is_deeper_refused(rt.alloc())?);
-    Ok(())
+// Whether as many levels are read as there may be, and one more isn't.
+fn are_levels_bounded(alloc: Global) -> Result<bool, AllocError> {
+    let most = nested(alloc, 64)?;
+    let more = nested(alloc, 65)?;
+    let refused = Err(At(64 * 11));
+    Ok(
+        read_again(alloc, most.as_slice()) == Ok(true)
+            && read_again(alloc, more.as_slice()) == refused,
+    )
 }
 
 #[test]
-fn parts_are_refused_at_their_end(rt: HostRuntime) {
+fn texts_are_read_or_refused(rt: HostRuntime) -> Result<(), Fail> {
+    for text in &READ {
+        assert!(rt; read_again(rt.alloc(), text) == Ok(true));
+    }
+    for (text, place) in &REFUSED {
+        assert!(rt; read_again(rt.alloc(), text) == Err(At(*place)));
+    }
+    // A text that only stops too early is refused at its end.
     for size in 0..TEXT.len() {
         let (part, _) = TEXT.split_at(size);
-        assert!(rt; is_refused(rt.alloc(), part, size));
+        assert!(rt; read_again(rt.alloc(), part) == Err(At(size)));
     }
-}
-
-// Whether a value is read at one place up to another.
-fn is_front(alloc: Global, text: &[u8], at: usize, behind: usize) -> bool
-    requires { at ≤ length text.now }
-{
-    match read_front(alloc, text, at) {
-        Ok((_, found)) => found == behind,
-        Err(_) => false,
-    }
-}
-
-#[test]
-fn a_front_is_read(rt: HostRuntime) {
-    assert!(rt; is_front(rt.alloc(), b"ok 5i", 3, 5));
+    assert!(rt; are_levels_bounded(rt.alloc())?);
+    let front = read_front(rt.alloc(), b"ok 5i", 3);
+    assert!(rt; matches!(front, Ok((_, 5))));
+    Ok(())
 }

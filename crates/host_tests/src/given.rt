@@ -14,14 +14,24 @@ use thrift_host::{Status, host};
 /// The name of a journal's file.
 pub(crate) const JOURNAL: &str = "calls.txt";
 
-/// The words of a rehearsal.
-pub(crate) const REHEARSE: [&str; 5] = [
-    "rehearse",
+/// The words of a port that two workers serve.
+pub(crate) const SERVE: [&str; 11] = [
+    "serve",
     "@tutorial",
     "binary",
-    "0",
+    "2",
     "Calculator=calculator",
+    "--listen",
+    "9090",
+    "--accept",
+    "10",
+    "--journal",
+    JOURNAL,
 ];
+
+/// `ping` twice on one connection.
+pub(crate) const TWO_PINGS: &[u8] =
+    b"open\ndata 0 00000011800100010000000470696e670000000000\ndata 0 00000011800100010000000470696e670000000000\nend 0\n";
 
 /// What a command came to.
 #[derive(Drop)]
@@ -39,22 +49,6 @@ impl Ended {
         self.status == status
             && self.output.as_slice() == output
             && self.errors.as_slice() == errors
-    }
-
-    /// Whether it ended with this status and this line of errors, and wrote nothing else.
-    pub(crate) fn is_refused(&self, status: Status, line: &[u8]) -> bool {
-        self.is_so(status, b"", line)
-    }
-
-    /// Whether it was done, wrote this and said nothing.
-    pub(crate) fn is_done(&self, output: &[u8]) -> bool {
-        self.is_so(Status::Done, output, b"")
-    }
-
-    /// Whether it ended with a write fault after so many bytes of this text.
-    pub(crate) fn is_broken_behind(&self, text: &[u8], count: usize) -> bool {
-        let front = text.split_at(count.min(text.len())).0;
-        self.is_so(Status::WriteFault, front, b"thriftd: write fault\n")
     }
 
     /// Whether it was done, and what it wrote ends so.
@@ -99,8 +93,8 @@ pub(crate) struct Given<'a> {
     pub(crate) port: &'a [u8],
     /// What a port answers that is dialled.
     pub(crate) reply: &'a [u8],
-    /// How many bytes a read of the input gives, and how many a write of the output takes.
-    pub(crate) pieces: (usize, usize),
+    /// How many bytes a read of the input gives, and a write of the output takes.
+    pub(crate) piece: usize,
     /// Which call fails, by its number among those of its kind, from 0.
     pub(crate) failing: Option<(Called, u64)>,
 }
@@ -113,7 +107,7 @@ impl<'a> Given<'a> {
             input: b"",
             port: b"",
             reply: b"",
-            pieces: (usize::MAX, usize::MAX),
+            piece: usize::MAX,
             failing: None,
         }
     }
@@ -172,12 +166,12 @@ impl<'a> Given<'a> {
 
     fn input_of(self, alloc: Global) -> Result<MemSource, AllocError> {
         let fails = self.fails_of(alloc, Called::Input)?;
-        Ok(MemSource::in_pieces(self.input.to_vec(alloc)?, fails, self.pieces.0.max(1)))
+        Ok(MemSource::in_pieces(self.input.to_vec(alloc)?, fails, self.piece.max(1)))
     }
 
     fn output_of(self, alloc: Global) -> Result<MemSink, AllocError> {
         let fails = self.fails_of(alloc, Called::Output)?;
-        Ok(MemSink::in_pieces(alloc, fails, self.pieces.1.max(1)))
+        Ok(MemSink::in_pieces(alloc, fails, self.piece.max(1)))
     }
 
     fn errors_of(self, alloc: Global) -> Result<MemSink, AllocError> {
@@ -322,30 +316,4 @@ fn held_files(alloc: Global, held: &[Held]) -> Result<Vec<(String, Vec<u8>)>, Al
         files.push(held_file(alloc, name, text)?)?;
     }
     Ok(files)
-}
-
-/// Runs the command on a script, over streams that never fail.
-pub(crate) fn run_script<R: Threads + Wait + Sync>(
-    rt: &R,
-    alloc: Global,
-    script: &[u8],
-) -> Result<Ended, AllocError> {
-    let given = Given {
-        input: script,
-        ..Given::empty()
-    };
-    given.run(rt, alloc, &REHEARSE)
-}
-
-/// Checks `a.thrift`, which holds this text.
-pub(crate) fn check_text<R: Threads + Wait + Sync>(
-    rt: &R,
-    alloc: Global,
-    text: &[u8],
-) -> Result<Ended, AllocError> {
-    let given = Given {
-        files: &[("a.thrift", text)],
-        ..Given::empty()
-    };
-    given.run(rt, alloc, &["check", "a.thrift"])
 }

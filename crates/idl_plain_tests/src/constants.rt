@@ -29,17 +29,17 @@ const NUMBERED: &[Held] = &[(
      typedef E T const E A = E.A const E E = E.A",
 )];
 
-/// An included file whose base name is that of an enum, and one with an enum of the same name.
+/// An included file whose base name is that of an enum.
 const BETWEEN: &[Held] = &[
     (
         "a.thrift",
-        "include 'E.thrift' include 'b.thrift' enum E { X = 4 } const i8 X = 1 const i8 B = 2",
+        "include 'E.thrift' enum E { X = 4 } const i8 X = 1",
     ),
     ("E.thrift", "const i8 X = 3 const i8 Y = 4 enum E { Z = 6 }"),
-    ("b.thrift", "enum E { X = 8 W } const i8 B = 5"),
 ];
 
-const ROWS: [Row; 29] = [
+/// More rows of programs with nothing twice stand in rows/idl_constants.rows.
+const ROWS: [Row; 23] = [
     (ORDERED, 0, "A", Some(ConstName::Value(6))),
     (ORDERED, 0, "B", Some(ConstName::Value(7))),
     (ORDERED, 0, "T", None),
@@ -62,15 +62,9 @@ const ROWS: [Row; 29] = [
     (NUMBERED, 0, "E", Some(ConstName::Value(1))),
     // The value of an enum comes before a constant of an included file.
     (BETWEEN, 0, "E.X", Some(ConstName::Number(0, 4))),
-    (BETWEEN, 0, "E.Y", Some(ConstName::Value(3))),
+    (BETWEEN, 0, "E.Y", Some(ConstName::Value(2))),
     (BETWEEN, 0, "E.E.Z", Some(ConstName::Number(1, 6))),
-    (BETWEEN, 0, "b.E.X", Some(ConstName::Number(2, 8))),
-    (BETWEEN, 0, "b.E.W", Some(ConstName::Number(2, 9))),
-    (BETWEEN, 0, "b.B", Some(ConstName::Value(4))),
-    (BETWEEN, 0, "B", Some(ConstName::Value(1))),
-    (BETWEEN, 1, "X", Some(ConstName::Value(2))),
     (BETWEEN, 1, "E.X", None),
-    (BETWEEN, 2, "E.X", Some(ConstName::Number(2, 8))),
 ];
 
 fn by_tables(

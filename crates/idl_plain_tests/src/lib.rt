@@ -1,5 +1,5 @@
-//! Tables of small programs for `check_plain` and `const_plain`, the plain programs of the checker's definitions, and for the real bodies beside them: both give the
-//! same answer, and the one that the row says. Rows are worked out by hand.
+//! Small tables for `check_plain` and `const_plain`, the plain programs of the checker's definitions, and for the real bodies beside them: both give the same answer,
+//! and the one that the row says. Rows are worked out by hand; those that the program shows too stand in rows/, and more of them.
 #![tactic(auto)]
 
 #[cfg(test)]
@@ -11,8 +11,6 @@ mod constants;
 #[cfg(test)]
 mod kinds;
 #[cfg(test)]
-mod levels;
-#[cfg(test)]
 mod loaded;
 #[cfg(test)]
 mod names;
@@ -20,7 +18,5 @@ mod names;
 mod numbers;
 #[cfg(test)]
 mod schemas;
-#[cfg(test)]
-mod worth_rows;
 #[cfg(test)]
 mod worths;

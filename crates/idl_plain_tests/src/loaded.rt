@@ -10,40 +10,25 @@ use std::alloc::{AllocError, Global};
 /// A file's name and its text.
 pub(crate) type Held = (&'static str, &'static str);
 
-/// Files that are being made.
-type Making = Vec<(String, Vec<u8>)>;
-
-fn add_file(alloc: Global, files: &mut Making, name: &str, text: &str) -> Result<(), AllocError> {
-    files.push((
-        String::from_str(alloc, name)?,
-        text.as_bytes().to_vec(alloc)?,
-    ))?;
-    Ok(())
+/// These files in memory.
+fn in_memory(alloc: Global, held: &[(&str, &str)]) -> Result<MemFiles, AllocError> {
+    let mut files = Vec::new(alloc);
+    for (name, text) in held {
+        files.push((
+            String::from_str(alloc, name)?,
+            text.as_bytes().to_vec(alloc)?,
+        ))?;
+    }
+    Ok(MemFiles::new(files, Vec::new(alloc)))
 }
 
 /// The program of these files, of which `a.thrift` is the main one.
-pub(crate) fn loaded(alloc: Global, held: &[Held]) -> Result<Result<Sources, LoadFault>, AllocError>
-    ensures { IfOk result (λ made. IfOk made (λ sources. AreFiles (sources_in sources))) }
-{
-    let mut files = Vec::new(alloc);
-    for (name, text) in held {
-        add_file(alloc, &mut files, name, text)?;
-    }
-    let mut files = MemFiles::new(files, Vec::new(alloc));
-    Ok(load(alloc, &mut files, "a.thrift"))
-}
-
-/// The program of a main file with this text, and of a file that it may include.
-pub(crate) fn loaded_beside(
+pub(crate) fn loaded(
     alloc: Global,
-    text: &str,
-    other: (&str, &str),
+    held: &[(&str, &str)],
 ) -> Result<Result<Sources, LoadFault>, AllocError>
     ensures { IfOk result (λ made. IfOk made (λ sources. AreFiles (sources_in sources))) }
 {
-    let mut files = Vec::new(alloc);
-    add_file(alloc, &mut files, "a.thrift", text)?;
-    add_file(alloc, &mut files, other.0, other.1)?;
-    let mut files = MemFiles::new(files, Vec::new(alloc));
+    let mut files = in_memory(alloc, held)?;
     Ok(load(alloc, &mut files, "a.thrift"))
 }

@@ -1,23 +1,18 @@
-//! What constants are worth, as they stand and by a name that stands for them.
+//! What constants are worth against their types.
 
 ghost use Rattle.idl_include.specs.SourcesOf.{AreFiles, sources_in};
 
-use crate::answers::{fault_text, plain_text, real_text};
-use crate::loaded::{Held, loaded_beside};
+use crate::answers::{plain_text, real_text};
+use crate::loaded::{Held, loaded};
 use crate::schemas::schema_without;
-use crate::worth_rows::{CONTAINERS, DOUBLES, ENUMS, NAMES, NUMBERS, STRUCTS, UUIDS};
 use check_plain::{Based, kind_of_type};
 use const_plain::Environment;
 use idl_include::Sources;
 use idl_names::laws::files_of_a_program_have_their_own_bases;
 use idl_parser::{Const, ConstTree, Definition};
-use idl_token::Place;
 use schema::TypeDesc;
 use std::alloc::{AllocError, Global};
 use std::test::Fail;
-
-/// A type, a value, and what it is worth: the value's text, or the fault at the mark `^`, which is no part of the value.
-pub(crate) type Row = (&'static str, &'static str, &'static str);
 
 /// What types and names of the rows stand for.
 const FRONT: &str = "include 'b.thrift' enum E { X Y = 7 } enum F { X = 300 W } \
@@ -34,6 +29,58 @@ const OTHER: Held = (
     "b.thrift",
     "const i8 K = 9 const i16 L = K enum E { Z = 4 } struct S { 1: i8 a = K }",
 );
+
+/// A type, a value, and what it is worth: the value's text, or the fault. More rows stand in rows/idl_values.rows, with the place of each fault.
+const ROWS: [(&str, &str, &str); 29] = [
+    ("bool", "true", "true"),
+    ("bool", "-1", "OutOfRange"),
+    ("i8", "-129", "OutOfRange"),
+    ("i64", "9223372036854775807", "9223372036854775807l"),
+    ("double", "12.5E+1", "d405f400000000000"),
+    (
+        "double",
+        "9007199254740993.000000000000000000000000",
+        "DoubleConstant",
+    ),
+    (
+        "uuid",
+        "\"00112233-4455-6677-8899-AABBCCDDEEFF\"",
+        "u00112233445566778899aabbccddeeff",
+    ),
+    ("uuid", "'0011223g-4455-6677-8899-aabbccddeeff'", "BadUuid"),
+    ("E", "E.Y", "7i"),
+    ("E", "b.E.Z", "WrongKind"),
+    ("string", "'a\\nb'", "\"a\\x0ab\""),
+    ("list<i8>", "[T, E.Y, b.K]", "list<i8>[4b,7b,9b]"),
+    ("set<E>", "[E.Y, 7, 0]", "set<i32>[0i,7i]"),
+    ("map<i8,string>", "{1: 5, 128: 'a'}", "WrongKind"),
+    (
+        "map<i8,string>",
+        "{E.Y: 'a', 7: 'b', b.K: 'c'}",
+        "map<i8,bytes>{7b=\"b\",9b=\"c\"}",
+    ),
+    ("S", "{'c': 'x', 'a': 1, 'b': 2}", "{1=1b,2=2s,3=\"x\"}"),
+    ("S", "{'b': 1}", "MissingField"),
+    ("S", "{'d': 1}", "UnknownField"),
+    ("U", "{'a': 1, 'b': 'z'}", "WrongKind"),
+    ("D", "{}", "{1={1=3b,2=5s},2={2=\"z\"}}"),
+    // A default at fault counts where it is taken.
+    ("B", "{'a': 1}", "{1=1b}"),
+    ("list<B>", "[{'a': 1}, {}]", "OutOfRange"),
+    // Names in a default are those of its field's file.
+    ("list<b.S>", "[{}, {'a': T}]", "list<struct>[{1=9b},{1=4b}]"),
+    (
+        "list<S>",
+        "[SA, SA]",
+        "list<struct>[{1=1b,2=5s},{1=1b,2=5s}]",
+    ),
+    ("i8", "b.T", "UnknownName"),
+    // What needs itself, also against another type.
+    ("i32", "M", "WrongKind"),
+    ("list<i32>", "M", "ConstCycle"),
+    ("C", "{'c': {}}", "ConstCycle"),
+    ("map<i8,i8>", "{T: P, A: 1}", "ConstCycle"),
+];
 
 /// The last definition of the main file, which is a constant.
 fn last_constant(sources: &Sources) -> Option<&Const> {
@@ -89,7 +136,7 @@ fn kind_of_constant(
     kind_of_type(Based::new(alloc, sources.files()), 9, 0, &constant.kind)
 }
 
-/// Whether both answer this for the last constant against its type.
+/// Whether both answer the same for the last constant against its type, and it ends so.
 fn are_both(alloc: Global, sources: &Sources, wanted: &[u8]) -> Result<bool, AllocError>
     requires { AreFiles (sources_in sources.now) }
 {
@@ -101,124 +148,38 @@ fn are_both(alloc: Global, sources: &Sources, wanted: &[u8]) -> Result<bool, All
     };
     let plain = plain_answer(alloc, sources, &kind, &last.value)?;
     let real = real_answer(alloc, sources, &kind, &last.value)?;
-    Ok(plain.as_slice() == wanted && real.as_slice() == wanted)
+    Ok(plain.as_slice() == real.as_slice() && real.as_slice().ends_with(wanted))
 }
 
-/// Whether both answer this for the last constant of a text.
-pub(crate) fn is_worth(alloc: Global, text: &str, wanted: &[u8]) -> Result<bool, AllocError> {
-    match loaded_beside(alloc, text, OTHER)? {
-        Ok(sources) => are_both(alloc, &sources, wanted),
+/// Whether both answer so for the last constant of a text.
+fn is_worth(alloc: Global, text: &str, wanted: &str) -> Result<bool, AllocError> {
+    match loaded(alloc, &[("a.thrift", text), OTHER])? {
+        Ok(sources) => are_both(alloc, &sources, wanted.as_bytes()),
         Err(_) => Ok(false),
     }
 }
 
-/// What is wanted of a row, by how far in the text its fault is; what it says itself where it has none.
-fn wanted_of(alloc: Global, behind: Option<usize>, answer: &str) -> Result<Vec<u8>, AllocError> {
-    let Some(behind) = behind else {
-        return answer.as_bytes().to_vec(alloc);
-    };
-    let Ok(column) = u32::try_from(behind) else {
-        return Err(AllocError);
-    };
-    let at = Place {
-        line: 1,
-        column: column.saturating_add(1),
-    };
-    fault_text(alloc, 0, at, answer)
-}
-
-/// Whether both answer what a row says, where its value stands in the constant.
-fn is_worth_there(
-    alloc: Global,
-    kind: &str,
-    front: &str,
-    back: &str,
-    inside: Option<usize>,
-    answer: &str,
-) -> Result<bool, AllocError> {
-    let before = format!(in alloc; "{FRONT} const {kind} A = ")?;
-    let behind = inside.map(|inside| before.len().saturating_add(inside));
-    let wanted = wanted_of(alloc, behind, answer)?;
-    let text = format!(in alloc; "{before}{front}{back}")?;
-    is_worth(alloc, text.as_str(), wanted.as_slice())
-}
-
-/// Whether both answer so where a name stands for the value, at which the fault is then.
-fn is_worth_by_name(
-    alloc: Global,
-    kind: &str,
-    front: &str,
-    back: &str,
-    inside: Option<usize>,
-    answer: &str,
-) -> Result<bool, AllocError> {
-    let before = format!(in alloc; "{FRONT} const {kind} N = {front}{back} const {kind} A = ")?;
-    let behind = inside.map(|_| before.len());
-    let wanted = wanted_of(alloc, behind, answer)?;
-    let text = format!(in alloc; "{before}N")?;
-    is_worth(alloc, text.as_str(), wanted.as_slice())
-}
-
-fn is_as_said(alloc: Global, row: &Row) -> Result<bool, AllocError> {
-    let (kind, value, answer) = row;
-    let (front, back, inside) = match value.split_once('^') {
-        Some((front, back)) => (front, back, Some(front.len())),
-        None => (*value, "", None),
-    };
-    Ok(
-        is_worth_there(alloc, kind, front, back, inside, answer)?
-            && is_worth_by_name(alloc, kind, front, back, inside, answer)?,
-    )
-}
-
-/// The first row of a table that isn't as said.
-fn first_wrong(alloc: Global, rows: &[Row]) -> Result<Option<Row>, AllocError> {
-    for row in rows {
-        if !is_as_said(alloc, row)? {
-            return Ok(Some(*row));
-        }
+/// Constants of structs in one another, the last of so many levels, by names that add no level where they are read.
+fn chain(alloc: Global, levels: u32) -> Result<String, AllocError> {
+    let mut text = String::from_str(alloc, "struct L { 1: optional L l } const L A1 = {}")?;
+    for before in 1..levels {
+        let level = before.saturating_add(1);
+        let next = format!(in alloc; " const L A{level} = {{'l': A{before}}}")?;
+        text.push_str(next.as_str())?;
     }
-    Ok(None)
+    Ok(text)
 }
 
 #[test]
-fn numbers_are_worth_the_same(rt: HostRuntime) -> Result<(), Fail> {
-    assert_eq!(rt; first_wrong(rt.alloc(), &NUMBERS)?, None);
-    Ok(())
-}
-
-#[test]
-fn doubles_are_worth_the_same(rt: HostRuntime) -> Result<(), Fail> {
-    assert_eq!(rt; first_wrong(rt.alloc(), &DOUBLES)?, None);
-    Ok(())
-}
-
-#[test]
-fn uuids_are_worth_the_same(rt: HostRuntime) -> Result<(), Fail> {
-    assert_eq!(rt; first_wrong(rt.alloc(), &UUIDS)?, None);
-    Ok(())
-}
-
-#[test]
-fn enums_and_texts_are_worth_the_same(rt: HostRuntime) -> Result<(), Fail> {
-    assert_eq!(rt; first_wrong(rt.alloc(), &ENUMS)?, None);
-    Ok(())
-}
-
-#[test]
-fn containers_are_worth_the_same(rt: HostRuntime) -> Result<(), Fail> {
-    assert_eq!(rt; first_wrong(rt.alloc(), &CONTAINERS)?, None);
-    Ok(())
-}
-
-#[test]
-fn structs_are_worth_the_same(rt: HostRuntime) -> Result<(), Fail> {
-    assert_eq!(rt; first_wrong(rt.alloc(), &STRUCTS)?, None);
-    Ok(())
-}
-
-#[test]
-fn names_are_worth_the_same(rt: HostRuntime) -> Result<(), Fail> {
-    assert_eq!(rt; first_wrong(rt.alloc(), &NAMES)?, None);
+fn constants_are_worth_the_same(rt: HostRuntime) -> Result<(), Fail> {
+    for (kind, value, wanted) in &ROWS {
+        let text = format!(in rt.alloc(); "{FRONT} const {kind} A = {value}")?;
+        assert!(rt; is_worth(rt.alloc(), text.as_str(), wanted)?, "{text}");
+    }
+    // A constant has 64 levels at most; rows/idl_most.py has the worth of one.
+    let text = chain(rt.alloc(), 64)?;
+    assert!(rt; is_worth(rt.alloc(), text.as_str(), "}}")?);
+    let text = chain(rt.alloc(), 65)?;
+    assert!(rt; is_worth(rt.alloc(), text.as_str(), "TooLarge")?);
     Ok(())
 }

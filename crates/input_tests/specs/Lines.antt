@@ -1,10 +1,8 @@
 -- Lines of words, with one blank between two words.
-use Rattle.std.specs.Prelude.{ℕ, zero, suc, ◌==◌, ◌++◌, not, Bool, List, [], ◌∷◌, None, Some, is_some, if◌then◌else◌}
-use Rattle.std.specs.List.{list_all}
+use Rattle.std.specs.Prelude.{ℕ, zero, suc, ◌==◌, ◌++◌, List, [], ◌∷◌, None, Some, if◌then◌else◌}
 use Rattle.envelope.specs.declared.head.Protocol.{Protocol}
 use Rattle.service_binding.specs.Pairs.{NamedKind}
 use Rattle.command_line.specs.Served.{PlainServed}
-use Rattle.command_line.specs.Words.{words_of}
 
 -- the words of a line, behind the bytes of the first one that were read
 abbrev pub split_behind : List ℕ → List ℕ → List (List ℕ)
@@ -14,10 +12,6 @@ split_behind word (b ∷ line) = if b == 32 then word ∷ split_behind [] line e
 -- the words of a line
 abbrev pub split : List ℕ → List (List ℕ)
 split line = split_behind [] line
-
--- none of the lines is a command
-abbrev pub are_refused : List (List ℕ) → Bool
-are_refused lines = list_all (λ (line : List ℕ). not (is_some (words_of (split line)))) lines
 
 -- what is served, part by part
 abbrev pub served : (idl : List ℕ) → Protocol → (workers : ℕ) → List NamedKind → (max_frame : ℕ) → (read_budget : ℕ) → PlainServed

@@ -117,16 +117,3 @@ pub(crate) fn is_read_otherwise(
         row.0.len(),
     )
 }
-
-/// Whether this fault is found.
-pub(crate) fn is_refused(
-    protocol: Protocol,
-    alloc: Global,
-    bytes: &[u8],
-    fault: WireFault,
-) -> bool {
-    match read_struct(protocol, alloc, bytes) {
-        Ok(_) => false,
-        Err(found) => found == fault,
-    }
-}

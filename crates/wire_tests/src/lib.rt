@@ -1,5 +1,6 @@
 //! Tests of `wire_num`, `thrift_value`, `envelope`, `wire_walk`, `struct_skew` and the two codecs, `binary_codec` and `compact_codec`: numbers, values, structs and
-//! heads, with tables of what Apache Thrift's own library writes; projections, what is read in one pass, and what may be written.
+//! heads, with tables of what Apache Thrift's own library writes; projections, and what may be written. Which bytes are refused, and what is made of arguments, the program
+//! itself shows in rows/.
 #![tactic(auto)]
 
 #[cfg(test)]
@@ -7,11 +8,7 @@ mod apache;
 #[cfg(test)]
 mod compact_head_vectors;
 #[cfg(test)]
-mod compact_heads;
-#[cfg(test)]
 mod compact_struct_vectors;
-#[cfg(test)]
-mod compact_structs;
 #[cfg(test)]
 mod exception_vectors;
 #[cfg(test)]
@@ -23,13 +20,9 @@ mod heads;
 #[cfg(test)]
 mod numbers;
 #[cfg(test)]
-mod one_pass;
-#[cfg(test)]
 mod places;
 #[cfg(test)]
 mod projections;
-#[cfg(test)]
-mod sent;
 #[cfg(test)]
 mod struct_vectors;
 #[cfg(test)]

@@ -1,13 +1,9 @@
-//! Uuids in structs of both protocols, read and written. Apache's library for Python has none, so these rows are made by hand: the
+//! Uuids in structs of both protocols. Apache's library for Python has none, so these rows are made by hand: the
 //! sixteen bytes stand with the highest first, behind the type code 16 or 13.
 
-use crate::apache::{hold, is_refused};
 use crate::struct_vectors::Row;
-use envelope::Protocol;
-use std::test::Fail;
-use thrift_value::WireFault::Short;
 
-const BINARY: [Row; 5] = [
+pub(crate) const BINARY: [Row; 5] = [
     (
         b"\x10\x00\x01\x00\x11\x22\x33\x44\x55\x66\x77\x88\x99\xaa\xbb\xcc\xdd\xee\xff\x00",
         2,
@@ -40,7 +36,7 @@ const BINARY: [Row; 5] = [
     ),
 ];
 
-const COMPACT: [Row; 5] = [
+pub(crate) const COMPACT: [Row; 5] = [
     (
         b"\x1d\x00\x11\x22\x33\x44\x55\x66\x77\x88\x99\xaa\xbb\xcc\xdd\xee\xff\x00",
         2,
@@ -72,37 +68,3 @@ const COMPACT: [Row; 5] = [
         b"{4=list<uuid>[u01000000000000000000000000000000]}",
     ),
 ];
-
-#[test]
-fn uuids_are_read_and_written_again(rt: HostRuntime) -> Result<(), Fail> {
-    assert!(rt; hold(Protocol::Binary, rt.alloc(), &BINARY)?);
-    assert!(rt; hold(Protocol::Compact, rt.alloc(), &COMPACT)?);
-    Ok(())
-}
-
-// A byte less than a uuid has, and a second one that is cut off.
-const CUT_OFF: [(Protocol, &[u8]); 4] = [
-    (
-        Protocol::Binary,
-        b"\x10\x00\x01\x00\x11\x22\x33\x44\x55\x66\x77\x88\x99\xaa\xbb\xcc\xdd\xee",
-    ),
-    (
-        Protocol::Binary,
-        b"\x0f\x00\x04\x10\x00\x00\x00\x02\x00\x11\x22\x33\x44\x55\x66\x77\x88\x99\xaa\xbb\xcc\xdd\xee\xff\x00",
-    ),
-    (
-        Protocol::Compact,
-        b"\x1d\x00\x11\x22\x33\x44\x55\x66\x77\x88\x99\xaa\xbb\xcc\xdd\xee",
-    ),
-    (
-        Protocol::Compact,
-        b"\x49\x2d\x00\x11\x22\x33\x44\x55\x66\x77\x88\x99\xaa\xbb\xcc\xdd\xee\xff\x00",
-    ),
-];
-
-#[test]
-fn uuids_are_cut_off(rt: HostRuntime) {
-    for (protocol, bytes) in &CUT_OFF {
-        assert!(rt; is_refused(*protocol, rt.alloc(), bytes, Short));
-    }
-}
