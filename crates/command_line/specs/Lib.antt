@@ -11,3 +11,4 @@ pub mod Bounds
 pub mod Answering
 pub mod Clapped
 pub mod Flagless
+pub mod Lines

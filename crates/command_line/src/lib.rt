@@ -18,6 +18,7 @@
 
 mod calling;
 mod command;
+pub mod examples;
 mod flags;
 mod limit_options;
 mod numbers;

@@ -1,18 +1,10 @@
-//! Tests of `outside`, `text_out`, `graph_cycles`, `host_model`, `machine_model` and `conn_state`: streams and files in memory, texts, cycles of graphs, worked worlds
-//! and cells of the definitions, and a connection's whole path.
+//! Tests of the ground: the search for cycles in graphs (`graph_cycles`) beside a plain one, the plain programs of a host's definitions (`host_model`) on small
+//! examples, and the system's streams and files (`outside`), of which no contract tells what they give and take.
 #![tactic(auto)]
 
 #[cfg(test)]
-mod cells;
-#[cfg(test)]
-mod connections;
-#[cfg(test)]
 mod cycles;
 #[cfg(test)]
-mod made_files;
-#[cfg(test)]
-mod streams;
-#[cfg(test)]
-mod texts;
+mod system;
 #[cfg(test)]
 mod worlds;

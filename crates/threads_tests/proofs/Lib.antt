@@ -1,2 +1,1 @@
-pub mod Submitting
 pub mod Untelling

@@ -1,4 +1,2 @@
-pub mod PingDesk
-pub mod Submitted
 pub mod ByteDesk
 pub mod Untold

@@ -5,7 +5,7 @@ use crate::running::serve_links;
 use conn_table::Outcome;
 use house_handlers::Mirror;
 use net_links::NetBinder;
-use outside::{Binder, EmptyGate};
+use outside::Binder;
 use port_asking::{AskingFault, ask_port};
 use std::alloc::Global;
 use std::net::{Ipv4Addr, Net, OpenListener, SocketAddr, TcpListener};
@@ -28,7 +28,6 @@ fn a_port_is_asked(rt: HostRuntime) -> Result<(), Fail> {
     let served = serve_links(
         &rt,
         rt.alloc(),
-        &EmptyGate,
         &mut links,
         vec![in rt.alloc(); Mirror::new()]?,
         KeyJournal::new(rt.alloc(), 1_000),

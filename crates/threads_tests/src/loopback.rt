@@ -6,7 +6,7 @@ use conn_table::Outcome;
 use host_model::EndCause;
 use house_handlers::Mirror;
 use net_links::NetBinder;
-use outside::{Binder, EmptyGate};
+use outside::Binder;
 use std::io::{Read, Write};
 use std::net::{Ipv4Addr, Net, Shutdown, SocketAddr, TcpStream};
 use std::test::Fail;
@@ -39,7 +39,6 @@ fn clients_are_served(rt: HostRuntime) -> Result<(), Fail> {
         let served = serve_links(
             &rt,
             rt.alloc(),
-            &EmptyGate,
             &mut links,
             vec![in rt.alloc(); Mirror::new()]?,
             KeyJournal::new(rt.alloc(), 1_000),

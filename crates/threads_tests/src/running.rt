@@ -1,4 +1,4 @@
-//! One script, served over links of it and rehearsed.
+//! A script, served over links of it.
 
 ghost use Rattle.std.specs.Prelude.{◌≡◌, ◌≤◌, IfSome, false, length};
 ghost use Rattle.outside.specs.Opening.{AreFreshLinks};
@@ -8,20 +8,15 @@ ghost use Rattle.threads_tests.specs.Untold.{untold};
 use crate::breaking::BreakingLinks;
 use crate::byte_desk::{ByteDesk, LIMITS};
 use crate::journal::KeyJournal;
-use crate::meeting::Meeting;
-use cell_core::{Rehearsed, rehearse};
 use host_loop::{Served, serve};
 use house_handlers::Mirror;
-use outside::{Cursor, Gate, Links, MarkAt};
+use outside::{EmptyGate, Links};
 use script_links::ScriptLinks;
 use script_text::laws::scripts_are_sound;
 use script_text::{Script, read_script};
 use std::alloc::Global;
 use std::sync::Wait;
 use std::thread::Threads;
-
-/// No run has as many marks.
-const MOST_MARKS: u32 = 10_000;
 
 /// No run has as many appends, or asks its links as often.
 pub(crate) const NEVER: usize = 1_000_000;
@@ -36,14 +31,14 @@ pub(crate) struct Run {
 }
 
 /// One mirror.
-pub(crate) fn one_mirror(alloc: Global) -> Option<Vec<Mirror>>
+fn one_mirror(alloc: Global) -> Option<Vec<Mirror>>
     ensures { IfSome result (λ handlers. length handlers.items ≡ 1) }
 {
     vec![in alloc; Mirror::new()].ok()
 }
 
 /// The script that a text is.
-pub(crate) fn script_of(alloc: Global, text: &[u8]) -> Option<Script>
+fn script_of(alloc: Global, text: &[u8]) -> Option<Script>
     ensures { IfSome result (λ script. MovesItsWorkers 0 script) }
 {
     scripts_are_sound();
@@ -54,10 +49,9 @@ pub(crate) fn script_of(alloc: Global, text: &[u8]) -> Option<Script>
 }
 
 /// Calls `serve` with the desk and the limits of all runs. What its contract says isn't handed on: the tests look at what was done.
-pub(crate) fn serve_links<L: Links, G: Gate + Sync, R: Threads + Wait + Sync>(
+pub(crate) fn serve_links<L: Links, R: Threads + Wait + Sync>(
     rt: &R,
     alloc: Global,
-    gate: &G,
     links: &mut L,
     handlers: Vec<Mirror>,
     journal: KeyJournal,
@@ -76,7 +70,7 @@ pub(crate) fn serve_links<L: Links, G: Gate + Sync, R: Threads + Wait + Sync>(
         handlers,
         journal,
         workers,
-        gate,
+        &EmptyGate,
         LIMITS,
     )
 }
@@ -85,7 +79,6 @@ pub(crate) fn serve_links<L: Links, G: Gate + Sync, R: Threads + Wait + Sync>(
 fn run_over<R: Threads + Wait + Sync>(
     rt: &R,
     alloc: Global,
-    gate: &Meeting,
     links: BreakingLinks,
     handlers: Vec<Mirror>,
     workers: u32,
@@ -97,7 +90,7 @@ fn run_over<R: Threads + Wait + Sync>(
 {
     let mut links = links;
     let journal = KeyJournal::new(alloc, append);
-    let served = serve_links(rt, alloc, gate, &mut links, handlers, journal, workers);
+    let served = serve_links(rt, alloc, &mut links, handlers, journal, workers);
     Run {
         is_broken: links.faults > 0,
         links: links.links,
@@ -116,75 +109,8 @@ pub(crate) fn served<R: Threads + Wait + Sync>(
 ) -> Option<Run>
     requires { workers ≤ 8 }
 {
-    served_behind(rt, alloc, &Meeting::of(0), text, workers, append, ask)
-}
-
-/// Does the same behind a gate.
-pub(crate) fn served_behind<R: Threads + Wait + Sync>(
-    rt: &R,
-    alloc: Global,
-    gate: &Meeting,
-    text: &[u8],
-    workers: u32,
-    append: usize,
-    ask: usize,
-) -> Option<Run>
-    requires { workers ≤ 8 }
-{
     let handlers = one_mirror(alloc)?;
     let links = ScriptLinks::new(alloc, script_of(alloc, text)?).ok()?;
     let links = BreakingLinks::new(links, ask);
-    Some(run_over(rt, alloc, gate, links, handlers, workers, append))
-}
-
-/// Rehearses a script without workers, where the journal fails at this append.
-pub(crate) fn rehearsed(
-    alloc: Global,
-    text: &[u8],
-    fails_at: usize,
-) -> Option<Rehearsed<Mirror, KeyJournal>> {
-    let handlers = one_mirror(alloc)?;
-    let script = script_of(alloc, text)?;
-    let journal = KeyJournal::new(alloc, fails_at);
-    Some(rehearse(alloc, &script, &ByteDesk {}, handlers, journal, 0, LIMITS))
-}
-
-/// What a mark is: its kind, its connection, and the bytes that it has.
-fn parts<'a>(mark: MarkAt<'a>) -> (u8, u32, &'a [u8]) {
-    match mark {
-        MarkAt::Opened(c) => (b'o', c, b"".as_slice()),
-        MarkAt::Read(c, bytes) => (b'r', c, bytes),
-        MarkAt::Ended(c) => (b'e', c, b"".as_slice()),
-        MarkAt::Wrote(c, bytes) => (b'w', c, bytes),
-        MarkAt::ReadFailed(c) => (b'f', c, b"".as_slice()),
-        MarkAt::WriteFailed(c) => (b'g', c, b"".as_slice()),
-        MarkAt::Closed(c) => (b'c', c, b"".as_slice()),
-    }
-}
-
-/// The next mark of a connection.
-fn next_of<'a>(marks: &mut Cursor<'a>, c: u32) -> Option<(u8, u32, &'a [u8])> {
-    for _ in 0..MOST_MARKS {
-        let mark = parts(marks.next()?);
-        if mark.1 == c {
-            return Some(mark);
-        }
-    }
-    None
-}
-
-/// Whether a connection has the same marks on both tapes.
-pub(crate) fn has_same_marks<'a>(mut marks: Cursor<'a>, mut others: Cursor<'a>, c: u32) -> bool {
-    for _ in 0..MOST_MARKS {
-        match (next_of(&mut marks, c), next_of(&mut others, c)) {
-            (None, None) => return true,
-            (Some(mark), Some(other)) => {
-                if mark != other {
-                    return false;
-                }
-            }
-            _ => return false,
-        }
-    }
-    false
+    Some(run_over(rt, alloc, links, handlers, workers, append))
 }

@@ -7,10 +7,10 @@ use thrift_value::{Raw, WireFault};
 use value_text::put_value;
 
 /// What reading the struct in front answers.
-pub(crate) type Read = Result<(Raw, usize), WireFault>;
+type Read = Result<(Raw, usize), WireFault>;
 
 /// Reads the struct in front.
-pub(crate) fn read_struct(protocol: Protocol, alloc: Global, bytes: &[u8]) -> Read {
+fn read_struct(protocol: Protocol, alloc: Global, bytes: &[u8]) -> Read {
     match protocol {
         Protocol::Binary => binary_codec::read_struct(alloc, bytes, 0),
         Protocol::Compact => compact_codec::read_struct(alloc, bytes, 0),
@@ -40,7 +40,7 @@ fn again_in_compact(alloc: Global, bytes: &[u8]) -> Result<Option<Vec<u8>>, Wire
 }
 
 /// Whether the struct that these bytes are is written as the same bytes.
-pub(crate) fn is_written_again(protocol: Protocol, alloc: Global, bytes: &[u8]) -> bool {
+fn is_written_again(protocol: Protocol, alloc: Global, bytes: &[u8]) -> bool {
     let written = match protocol {
         Protocol::Binary => again_in_binary(alloc, bytes),
         Protocol::Compact => again_in_compact(alloc, bytes),

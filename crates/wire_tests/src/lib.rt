@@ -1,6 +1,5 @@
-//! Tests of `wire_num`, `thrift_value`, `envelope`, `wire_walk`, `struct_skew` and the two codecs, `binary_codec` and `compact_codec`: numbers, values, structs and
-//! heads, with tables of what Apache Thrift's own library writes; projections, and what may be written. Which bytes are refused, and what is made of arguments, the program
-//! itself shows in rows/.
+//! Tests of `envelope` and the two codecs, `binary_codec` and `compact_codec`, beside what Apache Thrift's own library writes: structs, heads and exceptions; and the largest value. Which bytes are
+//! refused, and what is made of arguments, the program itself shows in rows/.
 #![tactic(auto)]
 
 #[cfg(test)]
@@ -17,12 +16,6 @@ mod exceptions;
 mod head_vectors;
 #[cfg(test)]
 mod heads;
-#[cfg(test)]
-mod numbers;
-#[cfg(test)]
-mod places;
-#[cfg(test)]
-mod projections;
 #[cfg(test)]
 mod struct_vectors;
 #[cfg(test)]

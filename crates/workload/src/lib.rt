@@ -24,8 +24,6 @@ pub mod run_laws;
 mod streams;
 mod summary;
 mod testing;
-#[cfg(test)]
-mod tests;
 mod traffic;
 
 pub use making::generate;

@@ -4,7 +4,7 @@ ghost use Rattle.std.specs.Prelude.{◌≡◌, [], ◌∷◌, codes, Some, true,
 ghost use Rattle.call_rules.specs.declared.kind.Kind.TheVariants as kinds;
 ghost use Rattle.envelope.specs.declared.head.Protocol.TheVariants as protocols;
 ghost use Rattle.command_line.specs.Words.{rehearses, records, serves, runs, calls, words_of};
-ghost use Rattle.input_tests.specs.Lines.{by_default, many, served, split};
+ghost use Rattle.command_line.specs.Lines.{by_default, many, served, split};
 
 /// Words are these commands.
 pub fn commands()

@@ -3,6 +3,10 @@
 use script_text::{print_script, read_script};
 use std::alloc::{AllocError, Global};
 use std::test::Fail;
+use workload::generate;
+
+/// The print of a workload of two frames from seed 1.
+const TWO_FRAMES: &[u8] = b"open\nopen\ndata 0 0000001e80010001000000036164640000000008000100006c5708000200006fac00\ndata 1 00000036800100010000000963616c63756c61746500000001080001000000010c000208000100008268080002000086b3080003000000020000\nend 0\nend 1\n";
 
 /// Scripts for 2 workers, with their prints.
 const PRINTS: [(&[u8], &[u8]); 6] = [
@@ -40,5 +44,13 @@ fn scripts_are_printed(rt: HostRuntime) -> Result<(), Fail> {
         let again = prints(rt.alloc(), print, print)?;
         assert!(rt; again, "{print:?}");
     }
+    Ok(())
+}
+
+#[test]
+fn a_workload_is_printed(rt: HostRuntime) -> Result<(), Fail> {
+    let script = generate(rt.alloc(), 1, 2)?;
+    let printed = print_script(rt.alloc(), &script)?;
+    assert!(rt; printed.as_slice() == TWO_FRAMES);
     Ok(())
 }

@@ -1,5 +1,0 @@
-use Rattle.seat_booth.specs.Seats.{IsSeatOf}
-use Rattle.threads_tests.proofs.loops.work_all.Given as goal
-
-abbrev pub invariant-loop : goal.invariant-loop
-invariant-loop g l = IsSeatOf l.booth l.worker
