@@ -8,8 +8,6 @@ mod both_lexers;
 #[cfg(test)]
 mod both_parsers;
 #[cfg(test)]
-mod documents;
-#[cfg(test)]
 mod loading;
 #[cfg(test)]
 mod printed;
