@@ -16,13 +16,19 @@ fn is_written(protocol: Protocol, alloc: Global, row: &Row) -> Result<bool, Allo
     Ok(into.get(1..) == Some(*bytes))
 }
 
+// Whether all of them are.
+fn are_written(protocol: Protocol, alloc: Global, rows: &[Row]) -> Result<bool, AllocError> {
+    for row in rows {
+        if !is_written(protocol, alloc, row)? {
+            return Ok(false);
+        }
+    }
+    Ok(true)
+}
+
 #[test]
 fn exceptions_of_apache(rt: HostRuntime) -> Result<(), Fail> {
-    for row in &BINARY {
-        assert!(rt; is_written(Protocol::Binary, rt.alloc(), row)?);
-    }
-    for row in &COMPACT {
-        assert!(rt; is_written(Protocol::Compact, rt.alloc(), row)?);
-    }
+    assert!(rt; are_written(Protocol::Binary, rt.alloc(), &BINARY)?);
+    assert!(rt; are_written(Protocol::Compact, rt.alloc(), &COMPACT)?);
     Ok(())
 }

@@ -107,17 +107,37 @@ fn holds(protocol: Protocol, alloc: Global, row: &Row) -> Result<bool, AllocErro
     is_written(protocol, alloc, row)
 }
 
+/// Whether all messages of Apache's hold.
+fn all_hold(protocol: Protocol, alloc: Global, rows: &[Row]) -> Result<bool, AllocError> {
+    for row in rows {
+        if !holds(protocol, alloc, row)? {
+            return Ok(false);
+        }
+    }
+    Ok(true)
+}
+
+/// Whether the heads of all rows are read.
+fn are_heads(alloc: Global, rows: &[Row]) -> bool {
+    for row in rows {
+        if !is_head(Protocol::Binary, alloc, row) {
+            return false;
+        }
+    }
+    true
+}
+
 #[test]
 fn heads_are_read_and_written(rt: HostRuntime) -> Result<(), Fail> {
-    for row in &HEADS {
-        assert!(rt; is_head(Protocol::Binary, rt.alloc(), row));
-    }
-    for row in &head_vectors::MESSAGES {
-        assert!(rt; holds(Protocol::Binary, rt.alloc(), row)?);
-    }
-    for row in &compact_head_vectors::MESSAGES {
-        assert!(rt; holds(Protocol::Compact, rt.alloc(), row)?);
-    }
+    assert!(rt; are_heads(rt.alloc(), &HEADS));
+    assert!(rt; all_hold(Protocol::Binary, rt.alloc(), &head_vectors::MESSAGES)?);
+    assert!(rt;
+        all_hold(
+            Protocol::Compact,
+            rt.alloc(),
+            &compact_head_vectors::MESSAGES
+        )?
+    );
     // No frame has a payload of no bytes.
     assert!(rt; is_refused(Protocol::Binary, rt.alloc(), b"", Short));
     assert!(rt; is_refused(Protocol::Compact, rt.alloc(), b"", Short));
