@@ -9,25 +9,28 @@ use std::sync::atomic::{AtomicU64, Ordering};
 use std::test::Fail;
 use std::thread::{Threads, yield_now};
 
-/// Counts the jobs that came to it, and those that met another one there. A job waits until two have come, for 1,000,000 tries at most.
+/// Counts the jobs that came to it, and those that met the others there. A job waits until so many have come, for 1,000,000 tries at most.
 #[derive(Drop)]
 struct Meeting {
+    wanted: u64,
     came: AtomicU64,
     met: AtomicU64,
 }
 
 impl Meeting {
-    /// No job has come.
-    fn new() -> Self {
+    /// No job has come; so many are to meet.
+    fn of(wanted: u64) -> Self {
         Meeting {
+            wanted,
             came: AtomicU64::new(0),
             met: AtomicU64::new(0),
         }
     }
 
-    /// Whether two jobs came, and each met the other.
+    /// Whether as many jobs came as were to meet, and each met the others.
     fn has_met(&self) -> bool {
-        self.came.load(Ordering::SeqCst) == 2 && self.met.load(Ordering::SeqCst) == 2
+        self.came.load(Ordering::SeqCst) == self.wanted
+            && self.met.load(Ordering::SeqCst) == self.wanted
     }
 }
 
@@ -35,7 +38,7 @@ impl Gate for Meeting {
     fn pass<R: Wait>(&self, _rt: &R, _c: u32, _i: u64) {
         self.came.fetch_add(1, Ordering::SeqCst);
         for _ in 0..1_000_000u32 {
-            if self.came.load(Ordering::SeqCst) >= 2 {
+            if self.came.load(Ordering::SeqCst) >= self.wanted {
                 self.met.fetch_add(1, Ordering::SeqCst);
                 break;
             }
@@ -54,46 +57,68 @@ const RECORD: [&str; 5] = [
     "Calculator=calculator",
 ];
 
+const RECORD_BY_EIGHT: [&str; 5] = [
+    "record",
+    "@tutorial",
+    "binary",
+    "8",
+    "Calculator=calculator",
+];
+
 /// `ping` on each of two connections.
 const PINGS: &[u8] =
     b"open\nopen\ndata 0 00000011800100010000000470696e670000000000\ndata 1 00000011800100010000000470696e670000000000\nend 0\nend 1\n";
 
-/// Words, and how the report of these calls ends, or the summary, where they come as a script or to a port.
-const RUNS: [(&[&str], &[u8]); 2] = [
+/// `ping` on each of eight connections.
+const EIGHT_PINGS: &[u8] = b"open\nopen\nopen\nopen\nopen\nopen\nopen\nopen\n\
+data 0 00000011800100010000000470696e670000000000\ndata 1 00000011800100010000000470696e670000000000\n\
+data 2 00000011800100010000000470696e670000000000\ndata 3 00000011800100010000000470696e670000000000\n\
+data 4 00000011800100010000000470696e670000000000\ndata 5 00000011800100010000000470696e670000000000\n\
+data 6 00000011800100010000000470696e670000000000\ndata 7 00000011800100010000000470696e670000000000\n\
+end 0\nend 1\nend 2\nend 3\nend 4\nend 5\nend 6\nend 7\n";
+
+/// Words, calls that come as a script or to a port, how many they are, and how the report or the summary ends.
+type Run = (&'static [&'static str], &'static [u8], u64, &'static [u8]);
+
+/// As many calls come as there are workers.
+const RUNS: [Run; 3] = [
     (
         &RECORD,
+        PINGS,
+        2,
         b"conn 0 End 00000011800100020000000470696e670000000000\nconn 1 End 00000011800100020000000470696e670000000000\ncalls 2\n",
     ),
-    (&SERVE, b"\nconn 0 End\nconn 1 End\ncalls 2\n"),
+    (&SERVE, PINGS, 2, b"\nconn 0 End\nconn 1 End\ncalls 2\n"),
+    (
+        &RECORD_BY_EIGHT,
+        EIGHT_PINGS,
+        8,
+        b"\nconn 7 End 00000011800100020000000470696e670000000000\ncalls 8\n",
+    ),
 ];
 
-/// Whether the two calls meet at a gate, and are answered.
-fn meet<R: Threads + Wait + Sync>(
-    rt: &R,
-    alloc: Global,
-    words: &[&str],
-    end: &[u8],
-) -> Result<bool, AllocError> {
-    let gate = Meeting::new();
+/// Whether all calls of a run meet at a gate, and are answered.
+fn meet<R: Threads + Wait + Sync>(rt: &R, alloc: Global, run: &Run) -> Result<bool, AllocError> {
+    let gate = Meeting::of(run.2);
     let given = Given {
-        input: PINGS,
-        port: PINGS,
+        input: run.1,
+        port: run.1,
         ..Given::empty()
     };
-    let ended = given.run_behind(rt, alloc, words, &gate)?;
-    Ok(gate.has_met() && ended.is_done_with(end))
+    let ended = given.run_behind(rt, alloc, run.0, &gate)?;
+    Ok(gate.has_met() && ended.is_done_with(run.3))
 }
 
 /// Sees that they do in each run.
 fn each_meet<R: Abort + Threads + Wait + Sync>(rt: &R, alloc: Global) -> Result<(), Fail> {
-    for (words, end) in &RUNS {
-        assert!(rt; meet(rt, alloc, words, end)?, "{words:?}");
+    for run in &RUNS {
+        assert!(rt; meet(rt, alloc, run)?, "{:?}", run.0);
     }
     Ok(())
 }
 
 #[test]
-fn two_calls_are_under_way_at_once(rt: HostRuntime) -> Result<(), Fail> {
+fn as_many_calls_are_under_way_at_once_as_there_are_workers(rt: HostRuntime) -> Result<(), Fail> {
     each_meet(&rt, rt.alloc())
 }
 
