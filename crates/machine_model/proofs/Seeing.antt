@@ -5,7 +5,7 @@ use Rattle.std.proofs.lemmas.List.{length-map, length-set, map-set, get_or-set_s
 use Rattle.host_model.specs.declared.cause.EndCause.{EndCause}
 use Rattle.machine_model.specs.declared.plain.conns.PlainConn.{PlainConn}
 use Rattle.machine_model.specs.Loop.{LoopConn, new_conn, count_if_open, open_among, with_conn, changed}
-use Rattle.machine_model.specs.Plain.{Moved, has_none_yet, moved_plain, answers, lacks_for_answer, Told, effect_plain, take_plain, outcome_plain, put_plain, apply_result_plain, told_plain, run_plain}
+use Rattle.machine_model.specs.Plain.{when, Moved, has_none_yet, moved_plain, answers, lacks_for_answer, Told, effect_plain, take_plain, outcome_plain, put_plain, apply_result_plain, told_plain, run_plain}
 use Rattle.host_model.specs.Journal.{ServiceRules}
 use Rattle.host_model.specs.DeskRules.{DeskRules}
 use Rattle.std.proofs.lemmas.Option.{none-some, same_Some}
@@ -302,6 +302,13 @@ module _ {C A M : Type 0} (r : ServiceRules C A M) where
   apply_result_unanswered_too old w key payload call (Some m) e = absurd (none-some (r.rule call m).0 e)
 
 pub ruleset apply_results = (apply_result_answers, apply_result_lacks, apply_result_unanswered, apply_result_unanswered_too)
+
+-- a step that can be, and one that can't
+pub it_can : {X : Type 0} (can : Bool) (x meant : Option X) → when can x ≡ meant → can ≡ true → x ≡ meant
+it_can can x meant e is = ap (λ b. when b x) (sym is) ∙ e
+
+pub it_cannot : {X : Type 0} (can : Bool) (x meant : Option X) → when can x ≡ meant → can ≡ false → None ≡ meant
+it_cannot can x meant e is = ap (λ b. when b x) (sym is) ∙ e
 
 -- the events that are left, from here, lead to where all lead from the start
 pub record Going {C A M E : Type 0} (d : DeskRules C A) (r : ServiceRules C A M) (told_by : E → Told) (first : Cell C A M) (events : List E) (i : ℕ) (now : Cell C A M) : Type 0 where

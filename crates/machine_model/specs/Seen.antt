@@ -1,10 +1,8 @@
 -- What the plain program holds, as the definitions see it.
 use Rattle.std.specs.Prelude.{ℕ, List, map, length, slice_index_or}
-use Rattle.outside.specs.declared.marks.Mark.{Mark}
 use Rattle.machine_model.specs.declared.plain.progress.PlainProgress.{PlainProgress}
 use Rattle.machine_model.specs.declared.plain.progress.PlainProgress.TheVariants.{Part, BadSize, Whole}
 use Rattle.machine_model.specs.declared.plain.conns.PlainConn.{PlainConn}
-use Rattle.machine_model.specs.declared.plain.conns.PlainMoved.{PlainMoved}
 use Rattle.machine_model.specs.declared.plain.conn_events.PlainLoop.{PlainLoop}
 use Rattle.machine_model.specs.declared.plain.conn_events.PlainConnEvent.{PlainConnEvent}
 use Rattle.machine_model.specs.declared.plain.conn_events.PlainConnEvent.TheVariants.{Opens, Reads, Ends, FailsRead, Writes, FailsWrite, GivesUp}
@@ -43,10 +41,6 @@ conn_of p =
       left = p.left.items;
       cause = p.cause;
     }
-
--- a connection after what it did
-abbrev pub moved_of : PlainMoved → LoopConn × List Mark
-moved_of m = (conn_of m.conn, m.marks.items)
 
 -- the connections, each at its number
 abbrev pub conns_of : List PlainConn → ℕ → LoopConn

@@ -1,8 +1,8 @@
 //! A worker's Apply: its job's call takes effect, or goes otherwise.
 
-ghost use Rattle.std.specs.Prelude.{◌≡◌, IfOk, option_map, slice_get};
+ghost use Rattle.std.specs.Prelude.{◌≡◌, Some, IfOk, option_map, slice_get};
 ghost use Rattle.host_model.specs.Journal.{after_call};
-ghost use Rattle.machine_model.specs.Plain.{effect_plain, fault_plain, apply_result_plain, broken_plain, apply_plain};
+ghost use Rattle.machine_model.specs.Plain.{when, effect_plain, fault_plain, apply_result_plain, broken_plain, apply_plain};
 ghost use Rattle.machine_model.specs.Seen.{hall_of, cell_of, apply_result_of};
 
 use super::cells::{PlainApplyResult, PlainCell, with_worker_of};
@@ -13,27 +13,27 @@ use host_model::Key;
 use host_model::plain::{Decided, PlainDesk, PlainEntry, PlainServices};
 use std::alloc::{AllocError, Global};
 
-/// A worker applies its job's call, where it has one; it goes so.
+/// A worker applies its job's call, where it has one; it goes so. Tells whether it can.
 pub fn applies<D: PlainDesk, S: PlainServices<Call = D::Call, Answer = D::Answer>>(
     alloc: Global,
     desk: &D,
     services: &S,
-    cell: PlainCell<D::Call, D::Answer, S::Memory>,
+    cell: &mut PlainCell<D::Call, D::Answer, S::Memory>,
     w: u32,
     apply_result: PlainApplyResult,
-) -> Result<Option<PlainCell<D::Call, D::Answer, S::Memory>>, AllocError>
-    ensures { IfOk result (λ next. option_map cell_of next
-        ≡ apply_plain (D.desk desk.now) (S.rules services.now) (cell_of cell) w (apply_result_of apply_result) ((cell_of cell).workers w)) }
+) -> Result<bool, AllocError>
+    ensures { IfOk result (λ can. when can (Some (cell_of cell.new))
+        ≡ apply_plain (D.desk desk.now) (S.rules services.now) (cell_of cell.old) w (apply_result_of apply_result) ((cell_of cell.old).workers w)) }
 {
     let Some(worker) = worker_at(cell.workers.as_slice(), w) else {
-        return Ok(None);
+        return Ok(false);
     };
     let PlainWorkerState::Holds(key, payload) = worker else {
-        return Ok(None);
+        return Ok(false);
     };
     let key = *key;
     let Decided::Called(call) = desk.decide(alloc, payload.as_slice())? else {
-        return Ok(None);
+        return Ok(false);
     };
     let payload = Vec::from_slice(alloc, payload.as_slice())?;
     if cell.hall.broken {
@@ -44,16 +44,16 @@ pub fn applies<D: PlainDesk, S: PlainServices<Call = D::Call, Answer = D::Answer
 
 /// Once the journal has failed, an Apply says so.
 fn broken<C: Copy, A: Copy, M: Copy>(
-    cell: PlainCell<C, A, M>,
+    cell: &mut PlainCell<C, A, M>,
     w: u32,
     key: Key,
     payload: Vec<u8>,
     apply_result: PlainApplyResult,
-) -> Result<Option<PlainCell<C, A, M>>, AllocError>
-    ensures { IfOk result (λ next. option_map cell_of next ≡ broken_plain (cell_of cell) w key payload.items (apply_result_of apply_result)) }
+) -> Result<bool, AllocError>
+    ensures { IfOk result (λ can. when can (Some (cell_of cell.new)) ≡ broken_plain (cell_of cell.old) w key payload.items (apply_result_of apply_result)) }
 {
     let PlainApplyResult::Answers = apply_result else {
-        return Ok(None);
+        return Ok(false);
     };
     with_worker_of(cell, w, PlainWorkerState::HasNone(key, payload))
 }
@@ -119,17 +119,16 @@ fn fails<S: PlainServices>(
 #[tactic(auto, using(crate::proofs::Seeing::apply_results))]
 fn called<S: PlainServices>(
     services: &S,
-    cell: PlainCell<S::Call, S::Answer, S::Memory>,
+    cell: &mut PlainCell<S::Call, S::Answer, S::Memory>,
     w: u32,
     key: Key,
     payload: Vec<u8>,
     call: S::Call,
     apply_result: PlainApplyResult,
-) -> Result<Option<PlainCell<S::Call, S::Answer, S::Memory>>, AllocError>
-    ensures { IfOk result (λ next. option_map cell_of next ≡ apply_result_plain (S.rules services.now) (cell_of cell) w key payload.items call (apply_result_of apply_result)
-        (slice_get (cell_of cell).hall.memories ((S.rules services.now).slot call))) }
+) -> Result<bool, AllocError>
+    ensures { IfOk result (λ can. when can (Some (cell_of cell.new)) ≡ apply_result_plain (S.rules services.now) (cell_of cell.old) w key payload.items call (apply_result_of apply_result)
+        (slice_get (cell_of cell.old).hall.memories ((S.rules services.now).slot call))) }
 {
-    let mut cell = cell;
     let answer = answer_of(services, cell.hall.memories.as_slice(), call);
     match apply_result {
         PlainApplyResult::LacksForCall => {
@@ -141,14 +140,14 @@ fn called<S: PlainServices>(
         }
         PlainApplyResult::Answers => {
             let Some(answer) = answer else {
-                return Ok(None);
+                return Ok(false);
             };
             takes_effect(services, &mut cell.hall, key, call, answer)?;
             with_worker_of(cell, w, PlainWorkerState::HasAnswer(key, payload, answer))
         }
         PlainApplyResult::LacksForAnswer => {
             let Some(answer) = answer else {
-                return Ok(None);
+                return Ok(false);
             };
             takes_effect(services, &mut cell.hall, key, call, answer)?;
             with_worker_of(cell, w, PlainWorkerState::HasNone(key, payload))

@@ -1,7 +1,8 @@
 //! The machine: the loop's part, the hall and the workers, and its events.
 
-ghost use Rattle.std.specs.Prelude.{◌≡◌, Some, IfOk, option_map};
+ghost use Rattle.std.specs.Prelude.{◌≡◌, Some, IfOk};
 ghost use Rattle.machine_model.specs.Machine.{with_worker};
+ghost use Rattle.machine_model.specs.Plain.{when};
 ghost use Rattle.machine_model.specs.Seen.{worker_of, cell_of};
 
 use super::conn_events::{PlainConnEvent, PlainLoop};
@@ -51,15 +52,14 @@ pub struct PlainCell<C, A, M> {
     pub workers: Vec<PlainWorkerState<A>>,
 }
 
-/// What is left of the machine once this worker is in place of worker w's.
+/// Puts this worker in place of worker w's, which can always be.
 pub fn with_worker_of<C: Copy, A: Copy, M: Copy>(
-    cell: PlainCell<C, A, M>,
+    cell: &mut PlainCell<C, A, M>,
     w: u32,
     worker: PlainWorkerState<A>,
-) -> Result<Option<PlainCell<C, A, M>>, AllocError>
-    ensures { IfOk result (λ next. option_map cell_of next ≡ Some (record (cell_of cell) { workers = with_worker (cell_of cell).workers w (worker_of worker) })) }
+) -> Result<bool, AllocError>
+    ensures { IfOk result (λ can. when can (Some (cell_of cell.new)) ≡ Some (record (cell_of cell.old) { workers = with_worker (cell_of cell.old).workers w (worker_of worker) })) }
 {
-    let mut cell = cell;
     set_worker(&mut cell.workers, w, worker)?;
-    Ok(Some(cell))
+    Ok(true)
 }

@@ -1,12 +1,12 @@
 //! The loop's part: the tape and the connections, and what happens on a connection.
 
-ghost use Rattle.std.specs.Prelude.{◌≡◌, ◌<◌, List, length, IfOk, IsTrue, option_map};
+ghost use Rattle.std.specs.Prelude.{◌≡◌, ◌<◌, Some, List, length, IfOk, IsTrue, option_map};
 ghost use Rattle.machine_model.specs.Loop.{LoopConn, opens, reads, ends, fails_read, writes, fails_write, gives_up, open_among, changed};
 ghost use Rattle.outside.specs.declared.marks.Mark.{Mark};
-ghost use Rattle.machine_model.specs.Plain.{Moved, has_none_yet, is_open, moved_plain, conn_event_plain};
-ghost use Rattle.machine_model.specs.Seen.{conn_of, conns_of, moved_of, loop_of, conn_event_of};
+ghost use Rattle.machine_model.specs.Plain.{when, Moved, has_none_yet, is_open, moved_plain, conn_event_plain};
+ghost use Rattle.machine_model.specs.Seen.{conn_of, conns_of, loop_of, conn_event_of};
 
-use super::conns::{PlainConn, PlainMoved, ends, fails_read, fails_write, gives_up, reads, writes};
+use super::conns::{PlainConn, ends, fails_read, fails_write, gives_up, reads, writes};
 use host_model::EndCause;
 use limits::MOST_CONNECTIONS;
 use outside::{Bytes, Mark};
@@ -39,14 +39,14 @@ pub struct PlainLoop {
     pub conns: Vec<PlainConn>,
 }
 
-/// The loop after what happens on a connection, where it can.
+/// Brings the loop behind what happens on a connection, where it can. Tells whether it can.
 pub fn conn_event(
     alloc: Global,
     max: u32,
-    loop_part: PlainLoop,
+    loop_part: &mut PlainLoop,
     conn_event: &PlainConnEvent,
-) -> Result<Option<PlainLoop>, AllocError>
-    ensures { IfOk result (λ next. option_map loop_of next ≡ conn_event_plain max (loop_of loop_part) (conn_event_of conn_event.now)) }
+) -> Result<bool, AllocError>
+    ensures { IfOk result (λ can. when can (Some (loop_of loop_part.new)) ≡ conn_event_plain max (loop_of loop_part.old) (conn_event_of conn_event.now)) }
 {
     match conn_event {
         PlainConnEvent::Opens => opens(alloc, loop_part),
@@ -65,96 +65,88 @@ pub fn conn_event(
 fn reads_bytes(
     alloc: Global,
     max: u32,
-    loop_part: PlainLoop,
+    loop_part: &mut PlainLoop,
     c: u32,
     bytes: &[u8],
-) -> Result<Option<PlainLoop>, AllocError>
-    ensures { IfOk result (λ next. option_map loop_of next ≡ conn_event_plain max (loop_of loop_part) (reads c bytes.now)) }
+) -> Result<bool, AllocError>
+    ensures { IfOk result (λ can. when can (Some (loop_of loop_part.new)) ≡ conn_event_plain max (loop_of loop_part.old) (reads c bytes.now)) }
 {
-    if !is_open(&loop_part, c) {
-        return Ok(None);
+    if !is_open(loop_part, c) {
+        return Ok(false);
     }
-    let mut loop_part = loop_part;
-    let conn = take_conn(alloc, &mut loop_part, c);
-    moved(loop_part, c, reads(alloc, max, c, bytes, conn)?)
+    let mut conn = take_conn(alloc, loop_part, c);
+    let marks = reads(alloc, max, c, bytes, &mut conn)?;
+    moved(loop_part, c, conn, marks)
 }
 
 /// The input of connection c ends.
-fn meets_end(alloc: Global, loop_part: PlainLoop, c: u32) -> Result<Option<PlainLoop>, AllocError>
-    ensures { IfOk result (λ next. option_map loop_of next ≡ conn_event_plain 0 (loop_of loop_part) (ends c)) }
+fn meets_end(alloc: Global, loop_part: &mut PlainLoop, c: u32) -> Result<bool, AllocError>
+    ensures { IfOk result (λ can. when can (Some (loop_of loop_part.new)) ≡ conn_event_plain 0 (loop_of loop_part.old) (ends c)) }
 {
-    if !is_open(&loop_part, c) {
-        return Ok(None);
+    if !is_open(loop_part, c) {
+        return Ok(false);
     }
-    let mut loop_part = loop_part;
-    let conn = take_conn(alloc, &mut loop_part, c);
-    moved(loop_part, c, ends(alloc, c, conn)?)
+    let mut conn = take_conn(alloc, loop_part, c);
+    let marks = ends(alloc, c, &mut conn)?;
+    moved(loop_part, c, conn, marks)
 }
 
 /// A read of connection c fails.
-fn fails_to_read(
-    alloc: Global,
-    loop_part: PlainLoop,
-    c: u32,
-) -> Result<Option<PlainLoop>, AllocError>
-    ensures { IfOk result (λ next. option_map loop_of next ≡ conn_event_plain 0 (loop_of loop_part) (fails_read c)) }
+fn fails_to_read(alloc: Global, loop_part: &mut PlainLoop, c: u32) -> Result<bool, AllocError>
+    ensures { IfOk result (λ can. when can (Some (loop_of loop_part.new)) ≡ conn_event_plain 0 (loop_of loop_part.old) (fails_read c)) }
 {
-    if !is_open(&loop_part, c) {
-        return Ok(None);
+    if !is_open(loop_part, c) {
+        return Ok(false);
     }
-    let mut loop_part = loop_part;
-    let conn = take_conn(alloc, &mut loop_part, c);
-    moved(loop_part, c, fails_read(alloc, c, conn)?)
+    let mut conn = take_conn(alloc, loop_part, c);
+    let marks = fails_read(alloc, c, &mut conn)?;
+    moved(loop_part, c, conn, marks)
 }
 
 /// So many bytes of connection c's reply are written.
 fn writes_bytes(
     alloc: Global,
-    loop_part: PlainLoop,
+    loop_part: &mut PlainLoop,
     c: u32,
     count: usize,
-) -> Result<Option<PlainLoop>, AllocError>
-    ensures { IfOk result (λ next. option_map loop_of next ≡ conn_event_plain 0 (loop_of loop_part) (writes c count)) }
+) -> Result<bool, AllocError>
+    ensures { IfOk result (λ can. when can (Some (loop_of loop_part.new)) ≡ conn_event_plain 0 (loop_of loop_part.old) (writes c count)) }
 {
-    if !is_open(&loop_part, c) {
-        return Ok(None);
+    if !is_open(loop_part, c) {
+        return Ok(false);
     }
-    let mut loop_part = loop_part;
-    let conn = take_conn(alloc, &mut loop_part, c);
-    moved(loop_part, c, writes(alloc, c, count, conn)?)
+    let mut conn = take_conn(alloc, loop_part, c);
+    let marks = writes(alloc, c, count, &mut conn)?;
+    moved(loop_part, c, conn, marks)
 }
 
 /// A write on connection c fails.
-fn fails_to_write(
-    alloc: Global,
-    loop_part: PlainLoop,
-    c: u32,
-) -> Result<Option<PlainLoop>, AllocError>
-    ensures { IfOk result (λ next. option_map loop_of next ≡ conn_event_plain 0 (loop_of loop_part) (fails_write c)) }
+fn fails_to_write(alloc: Global, loop_part: &mut PlainLoop, c: u32) -> Result<bool, AllocError>
+    ensures { IfOk result (λ can. when can (Some (loop_of loop_part.new)) ≡ conn_event_plain 0 (loop_of loop_part.old) (fails_write c)) }
 {
-    if !is_open(&loop_part, c) {
-        return Ok(None);
+    if !is_open(loop_part, c) {
+        return Ok(false);
     }
-    let mut loop_part = loop_part;
-    let conn = take_conn(alloc, &mut loop_part, c);
-    moved(loop_part, c, fails_write(alloc, c, conn)?)
+    let mut conn = take_conn(alloc, loop_part, c);
+    let marks = fails_write(alloc, c, &mut conn)?;
+    moved(loop_part, c, conn, marks)
 }
 
 /// Connection c is given up.
 fn is_given_up(
     alloc: Global,
-    loop_part: PlainLoop,
+    loop_part: &mut PlainLoop,
     c: u32,
     cause: EndCause,
-) -> Result<Option<PlainLoop>, AllocError>
-    ensures { IfOk result (λ next. option_map loop_of next ≡ conn_event_plain 0 (loop_of loop_part) (gives_up c cause)) }
+) -> Result<bool, AllocError>
+    ensures { IfOk result (λ can. when can (Some (loop_of loop_part.new)) ≡ conn_event_plain 0 (loop_of loop_part.old) (gives_up c cause)) }
 {
-    if !is_open(&loop_part, c) {
-        return Ok(None);
+    if !is_open(loop_part, c) {
+        return Ok(false);
     }
-    let mut loop_part = loop_part;
-    let conn = take_conn(alloc, &mut loop_part, c);
-    moved(loop_part, c, gives_up(alloc, c, cause, conn)?)
+    let mut conn = take_conn(alloc, loop_part, c);
+    let marks = gives_up(alloc, c, cause, &mut conn)?;
+    moved(loop_part, c, conn, marks)
 }
 
 /// Whether a connection of this cause hasn't ended.
@@ -178,24 +170,20 @@ fn open_among(conns: &[PlainConn]) -> usize
     count
 }
 
-/// One more connection is opened.
+/// One more connection is opened, where there is room.
 #[tactic(auto, using(crate::proofs::Seeing::conns_more))]
-fn opens(alloc: Global, loop_part: PlainLoop) -> Result<Option<PlainLoop>, AllocError>
-    ensures { IfOk result (λ next. option_map loop_of next ≡ conn_event_plain 0 (loop_of loop_part) opens) }
+fn opens(alloc: Global, loop_part: &mut PlainLoop) -> Result<bool, AllocError>
+    ensures { IfOk result (λ can. when can (Some (loop_of loop_part.new)) ≡ conn_event_plain 0 (loop_of loop_part.old) opens) }
 {
     if MOST_CONNECTIONS <= open_among(loop_part.conns.as_slice()) {
-        return Ok(None);
+        return Ok(false);
     }
     let Ok(c) = u32::try_from(loop_part.conns.len()) else {
         return Err(AllocError);
     };
-    let PlainLoop {
-        mut tape,
-        mut conns,
-    } = loop_part;
-    tape.push(Mark::Opened(c))?;
-    conns.push(PlainConn::new(alloc))?;
-    Ok(Some(PlainLoop { tape, conns }))
+    loop_part.tape.push(Mark::Opened(c))?;
+    loop_part.conns.push(PlainConn::new(alloc))?;
+    Ok(true)
 }
 
 /// Whether there is such a connection, and it is open.
@@ -212,7 +200,7 @@ fn is_open(loop_part: &PlainLoop, c: u32) -> bool
 }
 
 /// Takes connection c out; what it is then is to be put in its place.
-pub fn take_conn(alloc: Global, loop_part: &mut PlainLoop, c: u32) -> PlainConn
+fn take_conn(alloc: Global, loop_part: &mut PlainLoop, c: u32) -> PlainConn
     requires { c < length loop_part.old.conns.items }
     ensures conn { conn_of result ≡ (loop_of loop_part.old).conns c }
     ensures changed { (now : LoopConn) (marks : List Mark) → changed (loop_of loop_part.new) c now marks ≡ changed (loop_of loop_part.old) c now marks }
@@ -223,29 +211,34 @@ pub fn take_conn(alloc: Global, loop_part: &mut PlainLoop, c: u32) -> PlainConn
 }
 
 /// Puts connection c back as this one, with the marks of what it did.
-pub fn put_conn(loop_part: &mut PlainLoop, c: u32, moved: PlainMoved) -> Result<(), AllocError>
+fn put_conn(
+    loop_part: &mut PlainLoop,
+    c: u32,
+    conn: PlainConn,
+    marks: Vec<Mark>,
+) -> Result<(), AllocError>
     requires { c < length loop_part.old.conns.items }
-    ensures { IfOk result (λ done. loop_of loop_part.new ≡ changed (loop_of loop_part.old) c (conn_of moved.conn) moved.marks.items) }
+    ensures { IfOk result (λ done. loop_of loop_part.new ≡ changed (loop_of loop_part.old) c (conn_of conn) marks.items) }
 {
-    let PlainMoved { conn, mut marks } = moved;
-    loop_part.tape.append(&mut marks)?;
+    let mut marks = marks;
     loop_part.conns[c as usize] = conn;
+    loop_part.tape.append(&mut marks)?;
     Ok(())
 }
 
-/// The loop once connection c is what it is after what it did, where it could.
+/// Puts connection c back as this one, where it could do what it did, with the marks of that. Tells whether it could.
 fn moved(
-    loop_part: PlainLoop,
+    loop_part: &mut PlainLoop,
     c: u32,
-    moved: Option<PlainMoved>,
-) -> Result<Option<PlainLoop>, AllocError>
-    requires { c < length loop_part.conns.items }
-    ensures { IfOk result (λ next. option_map loop_of next ≡ moved_plain (loop_of loop_part) c (option_map moved_of moved)) }
+    conn: PlainConn,
+    marks: Option<Vec<Mark>>,
+) -> Result<bool, AllocError>
+    requires { c < length loop_part.old.conns.items }
+    ensures { IfOk result (λ can. when can (Some (loop_of loop_part.new)) ≡ moved_plain (loop_of loop_part.old) c (option_map (λ m. (conn_of conn, m.items)) marks)) }
 {
-    let Some(moved) = moved else {
-        return Ok(None);
+    let Some(marks) = marks else {
+        return Ok(false);
     };
-    let mut loop_part = loop_part;
-    put_conn(&mut loop_part, c, moved)?;
-    Ok(Some(loop_part))
+    put_conn(loop_part, c, conn, marks)?;
+    Ok(true)
 }

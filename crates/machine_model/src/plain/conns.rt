@@ -1,11 +1,11 @@
 //! A connection, and what happens on it.
 
-ghost use Rattle.std.specs.Prelude.{◌≡◌, ◌++◌, ◌∷◌, [], Some, IfOk, option_map};
-ghost use Rattle.outside.specs.declared.marks.Mark.TheVariants.{Closed};
+ghost use Rattle.std.specs.Prelude.{◌≡◌, ◌&&◌, not, ◌++◌, ◌∷◌, [], Some, IfOk, option_map};
+ghost use Rattle.outside.specs.declared.marks.Mark.TheVariants.{Wrote, Closed};
 ghost use Rattle.host_model.specs.World.{end_behind};
-ghost use Rattle.machine_model.specs.Loop.{new_conn, read_more, marks_read, with_cause};
-ghost use Rattle.machine_model.specs.Plain.{owes_nothing, stays_in_size, is_given_up, reads_plain, ends_plain, fails_read_plain, writes_plain, fails_write_plain, gives_up_plain, progress_by, progress_plain};
-ghost use Rattle.machine_model.specs.Seen.{conn_of, moved_of, seen_progress};
+ghost use Rattle.machine_model.specs.Loop.{new_conn, read_more, marks_read};
+ghost use Rattle.machine_model.specs.Plain.{is_empty, owes_nothing, stays_in_size, is_given_up, ended_plain, reads_plain, ends_plain, fails_read_plain, writes_plain, fails_write_plain, gives_up_plain, progress_by, progress_plain};
+ghost use Rattle.machine_model.specs.Seen.{conn_of, seen_progress};
 
 use super::progress::{PlainProgress, progress_by};
 use host_model::EndCause;
@@ -27,13 +27,6 @@ pub struct PlainConn {
     pub left: Vec<u8>,
     /// Why it has ended, where it has.
     pub cause: Option<EndCause>,
-}
-
-/// A connection after what it did, and the marks of that.
-#[derive(Drop)]
-pub struct PlainMoved {
-    pub conn: PlainConn,
-    pub marks: Vec<Mark>,
 }
 
 impl PlainConn {
@@ -69,52 +62,56 @@ fn stays_in_size(held: &[u8], bytes: &[u8]) -> bool
     true
 }
 
+/// One mark alone.
+fn alone(alloc: Global, mark: Mark) -> Result<Vec<Mark>, AllocError>
+    ensures { IfOk result (λ marks. marks.items ≡ mark ∷ []) }
+{
+    let mut marks = Vec::new(alloc);
+    marks.push(mark)?;
+    Ok(marks)
+}
+
 /// The marks of a connection that is closed.
 pub fn closing(alloc: Global, c: u32) -> Result<Vec<Mark>, AllocError>
     ensures { IfOk result (λ marks. marks.items ≡ Closed c ∷ []) }
 {
-    let mut marks = Vec::new(alloc);
-    marks.push(Mark::Closed(c))?;
-    Ok(marks)
+    alone(alloc, Mark::Closed(c))
 }
 
-/// It has ended by this cause, and these marks say so.
+/// It has ended by this cause; returns the marks that say so.
 fn ended(
     alloc: Global,
     c: u32,
-    conn: PlainConn,
+    conn: &mut PlainConn,
     mark: Mark,
     cause: EndCause,
-) -> Result<PlainMoved, AllocError>
-    ensures { IfOk result (λ moved. moved_of moved ≡ (with_cause (conn_of conn) cause, mark ∷ Closed c ∷ [])) }
+) -> Result<Option<Vec<Mark>>, AllocError>
+    ensures { IfOk result (λ marks. option_map (λ m. (conn_of conn.new, m.items)) marks ≡ ended_plain c (conn_of conn.old) mark cause) }
 {
-    let mut marks = Vec::new(alloc);
-    marks.push(mark)?;
+    conn.cause = Some(cause);
+    let mut marks = alone(alloc, mark)?;
     marks.push(Mark::Closed(c))?;
-    let conn = PlainConn {
-        cause: Some(cause),
-        ..conn
-    };
-    Ok(PlainMoved { conn, marks })
+    Ok(Some(marks))
 }
 
-/// It reads bytes.
+/// Whether it may read bytes.
+fn may_read(conn: &PlainConn, bytes: &[u8]) -> bool
+    ensures { result ≡ (owes_nothing (conn_of conn.now) && (not (is_empty bytes.now) && stays_in_size (conn_of conn.now).held bytes.now)) }
+{
+    owes_nothing(conn) && !bytes.is_empty() && stays_in_size(conn.held.as_slice(), bytes)
+}
+
+/// It reads bytes, where it may; returns the marks of that.
 pub fn reads(
     alloc: Global,
     max: u32,
     c: u32,
     bytes: &[u8],
-    conn: PlainConn,
-) -> Result<Option<PlainMoved>, AllocError>
-    ensures { IfOk result (λ moved. option_map moved_of moved ≡ reads_plain max c bytes.now (conn_of conn)) }
+    conn: &mut PlainConn,
+) -> Result<Option<Vec<Mark>>, AllocError>
+    ensures { IfOk result (λ marks. option_map (λ m. (conn_of conn.new, m.items)) marks ≡ reads_plain max c bytes.now (conn_of conn.old)) }
 {
-    if !owes_nothing(&conn) {
-        return Ok(None);
-    }
-    if bytes.is_empty() {
-        return Ok(None);
-    }
-    if !stays_in_size(conn.held.as_slice(), bytes) {
+    if !may_read(conn, bytes) {
         return Ok(None);
     }
     match progress_with(alloc, max, conn.held.as_slice(), bytes)? {
@@ -137,20 +134,19 @@ fn progress_with(
     progress_by(alloc, max, together.as_slice())
 }
 
-/// It has read bytes that make this.
+/// It has read bytes that make this; returns the marks of that.
 fn read_more(
     alloc: Global,
     c: u32,
-    conn: PlainConn,
+    conn: &mut PlainConn,
     bytes: &[u8],
     progress: PlainProgress,
-) -> Result<Option<PlainMoved>, AllocError>
-    ensures { IfOk result (λ moved. option_map moved_of moved ≡ progress_plain c (conn_of conn) bytes.now (Some (seen_progress progress))) }
+) -> Result<Option<Vec<Mark>>, AllocError>
+    ensures { IfOk result (λ marks. option_map (λ m. (conn_of conn.new, m.items)) marks ≡ progress_plain c (conn_of conn.old) bytes.now (Some (seen_progress progress))) }
 {
     let marks = marks_read(alloc, c, bytes, &progress)?;
-    let mut conn = conn;
-    holds_more(alloc, &mut conn, bytes, progress)?;
-    Ok(Some(PlainMoved { conn, marks }))
+    holds_more(alloc, conn, bytes, progress)?;
+    Ok(Some(marks))
 }
 
 /// The marks of bytes read that make this.
@@ -163,8 +159,7 @@ fn marks_read(
     ensures { IfOk result (λ marks. marks.items ≡ marks_read c bytes.now (seen_progress progress.now)) }
 {
     let read = Mark::Read(c, Bytes::new(Vec::from_slice(alloc, bytes)?));
-    let mut marks = Vec::new(alloc);
-    marks.push(read)?;
+    let mut marks = alone(alloc, read)?;
     if let PlainProgress::BadSize(_) = progress {
         marks.push(Mark::Closed(c))?;
     }
@@ -205,61 +200,71 @@ fn end_behind(held: &[u8]) -> EndCause
     }
 }
 
-/// Its input ends.
-pub fn ends(alloc: Global, c: u32, conn: PlainConn) -> Result<Option<PlainMoved>, AllocError>
-    ensures { IfOk result (λ moved. option_map moved_of moved ≡ ends_plain c (conn_of conn)) }
+/// Its input ends, where it may; returns the marks of that.
+pub fn ends(alloc: Global, c: u32, conn: &mut PlainConn) -> Result<Option<Vec<Mark>>, AllocError>
+    ensures { IfOk result (λ marks. option_map (λ m. (conn_of conn.new, m.items)) marks ≡ ends_plain c (conn_of conn.old)) }
 {
-    if !owes_nothing(&conn) {
+    if !owes_nothing(conn) {
         return Ok(None);
     }
     let cause = end_behind(conn.held.as_slice());
-    Ok(Some(ended(alloc, c, conn, Mark::Ended(c), cause)?))
+    ended(alloc, c, conn, Mark::Ended(c), cause)
 }
 
-/// A read fails.
-pub fn fails_read(alloc: Global, c: u32, conn: PlainConn) -> Result<Option<PlainMoved>, AllocError>
-    ensures { IfOk result (λ moved. option_map moved_of moved ≡ fails_read_plain c (conn_of conn)) }
+/// A read fails, where it may; returns the marks of that.
+pub fn fails_read(
+    alloc: Global,
+    c: u32,
+    conn: &mut PlainConn,
+) -> Result<Option<Vec<Mark>>, AllocError>
+    ensures { IfOk result (λ marks. option_map (λ m. (conn_of conn.new, m.items)) marks ≡ fails_read_plain c (conn_of conn.old)) }
 {
-    if !owes_nothing(&conn) {
+    if !owes_nothing(conn) {
         return Ok(None);
     }
-    Ok(Some(ended(alloc, c, conn, Mark::ReadFailed(c), EndCause::ReadFault)?))
+    ended(alloc, c, conn, Mark::ReadFailed(c), EndCause::ReadFault)
 }
 
-/// So many bytes of its reply are written.
+/// The mark of bytes that were written.
+fn marks_written(alloc: Global, c: u32, bytes: &[u8]) -> Result<Vec<Mark>, AllocError>
+    ensures { IfOk result (λ marks. marks.items ≡ Wrote c bytes.now ∷ []) }
+{
+    alone(
+        alloc,
+        Mark::Wrote(c, Bytes::new(Vec::from_slice(alloc, bytes)?)),
+    )
+}
+
+/// So many bytes of its reply are written, where they are left; returns the marks of that.
 pub fn writes(
     alloc: Global,
     c: u32,
     count: usize,
-    conn: PlainConn,
-) -> Result<Option<PlainMoved>, AllocError>
-    ensures { IfOk result (λ moved. option_map moved_of moved ≡ writes_plain c count (conn_of conn)) }
+    conn: &mut PlainConn,
+) -> Result<Option<Vec<Mark>>, AllocError>
+    ensures { IfOk result (λ marks. option_map (λ m. (conn_of conn.new, m.items)) marks ≡ writes_plain c count (conn_of conn.old)) }
 {
-    if count == 0 {
-        return Ok(None);
-    }
-    if conn.left.len() < count {
+    if count == 0 || conn.left.len() < count {
         return Ok(None);
     }
     let (written, left) = conn.left.as_slice().split_at(count);
-    let mark = Mark::Wrote(c, Bytes::new(Vec::from_slice(alloc, written)?));
-    let left = Vec::from_slice(alloc, left)?;
-    let mut marks = Vec::new(alloc);
-    marks.push(mark)?;
-    Ok(Some(PlainMoved {
-        conn: PlainConn { left, ..conn },
-        marks,
-    }))
+    let marks = marks_written(alloc, c, written)?;
+    conn.left = Vec::from_slice(alloc, left)?;
+    Ok(Some(marks))
 }
 
-/// A write fails.
-pub fn fails_write(alloc: Global, c: u32, conn: PlainConn) -> Result<Option<PlainMoved>, AllocError>
-    ensures { IfOk result (λ moved. option_map moved_of moved ≡ fails_write_plain c (conn_of conn)) }
+/// A write fails, where a reply is left; returns the marks of that.
+pub fn fails_write(
+    alloc: Global,
+    c: u32,
+    conn: &mut PlainConn,
+) -> Result<Option<Vec<Mark>>, AllocError>
+    ensures { IfOk result (λ marks. option_map (λ m. (conn_of conn.new, m.items)) marks ≡ fails_write_plain c (conn_of conn.old)) }
 {
     if conn.left.is_empty() {
         return Ok(None);
     }
-    Ok(Some(ended(alloc, c, conn, Mark::WriteFailed(c), EndCause::WriteFault)?))
+    ended(alloc, c, conn, Mark::WriteFailed(c), EndCause::WriteFault)
 }
 
 /// Whether a connection is given up from outside by this cause.
@@ -269,22 +274,18 @@ fn is_given_up(cause: EndCause) -> bool
     matches!(cause, EndCause::NoMemory | EndCause::Stopped)
 }
 
-/// It is given up.
+/// It is given up, where the cause is one from outside; returns the marks of that.
 pub fn gives_up(
     alloc: Global,
     c: u32,
     cause: EndCause,
-    conn: PlainConn,
-) -> Result<Option<PlainMoved>, AllocError>
-    ensures { IfOk result (λ moved. option_map moved_of moved ≡ gives_up_plain c cause (conn_of conn)) }
+    conn: &mut PlainConn,
+) -> Result<Option<Vec<Mark>>, AllocError>
+    ensures { IfOk result (λ marks. option_map (λ m. (conn_of conn.new, m.items)) marks ≡ gives_up_plain c cause (conn_of conn.old)) }
 {
     if !is_given_up(cause) {
         return Ok(None);
     }
-    let marks = closing(alloc, c)?;
-    let conn = PlainConn {
-        cause: Some(cause),
-        ..conn
-    };
-    Ok(Some(PlainMoved { conn, marks }))
+    conn.cause = Some(cause);
+    Ok(Some(closing(alloc, c)?))
 }

@@ -1,11 +1,11 @@
 //! A worker's jobs: taken, and put with their outcomes.
 
-ghost use Rattle.std.specs.Prelude.{◌≡◌, ◌++◌, ◌∷◌, [], IfOk, option_map};
+ghost use Rattle.std.specs.Prelude.{◌≡◌, ◌++◌, ◌∷◌, [], Some, IfOk};
 ghost use Rattle.host_model.specs.Plain.{decision_seen};
 ghost use Rattle.machine_model.specs.HallState.{without};
 ghost use Rattle.machine_model.specs.HallRule.{outcome_of};
 ghost use Rattle.machine_model.specs.Worker.{settled_by, settled_with, settlement, key_held};
-ghost use Rattle.machine_model.specs.Plain.{take_plain, outcome_plain, put_plain, lack_plain};
+ghost use Rattle.machine_model.specs.Plain.{when, take_plain, outcome_plain, put_plain, lack_plain};
 ghost use Rattle.machine_model.specs.Seen.{hall_of, cell_of, workers_of};
 
 use super::cells::{PlainCell, with_worker_of};
@@ -16,18 +16,17 @@ use host_model::plain::{Decided, PlainDesk};
 use outside::{Bytes, Settled};
 use std::alloc::{AllocError, Global};
 
-/// A job is taken, where there is one.
+/// A job is taken, where there is one. Tells whether the worker can take any.
 #[tactic(auto, using(crate::proofs::Seeing::takings))]
 pub fn takes<C: Copy, A: Copy, M: Copy>(
-    cell: PlainCell<C, A, M>,
+    cell: &mut PlainCell<C, A, M>,
     w: u32,
-) -> Result<Option<PlainCell<C, A, M>>, AllocError>
-    ensures { IfOk result (λ next. option_map cell_of next ≡ take_plain (cell_of cell) w ((cell_of cell).workers w) (cell_of cell).hall.jobs) }
+) -> Result<bool, AllocError>
+    ensures { IfOk result (λ can. when can (Some (cell_of cell.new)) ≡ take_plain (cell_of cell.old) w ((cell_of cell.old).workers w) (cell_of cell.old).hall.jobs) }
 {
     if key_held(cell.workers.as_slice(), w).is_some() {
-        return Ok(None);
+        return Ok(false);
     }
-    let mut cell = cell;
     match take_first(&mut cell.hall.jobs) {
         None => with_worker_of(cell, w, PlainWorkerState::Idle),
         Some(job) => {
@@ -85,17 +84,16 @@ fn put_in<C: Copy, A: Copy, M: Copy>(
 /// An outcome is put, where the job is settled.
 fn puts_outcome<C: Copy, A: Copy, M: Copy>(
     alloc: Global,
-    cell: PlainCell<C, A, M>,
+    cell: &mut PlainCell<C, A, M>,
     w: u32,
     key: Key,
     settled: Option<Settled>,
-) -> Result<Option<PlainCell<C, A, M>>, AllocError>
-    ensures { IfOk result (λ next. option_map cell_of next ≡ outcome_plain (cell_of cell) w key settled) }
+) -> Result<bool, AllocError>
+    ensures { IfOk result (λ can. when can (Some (cell_of cell.new)) ≡ outcome_plain (cell_of cell.old) w key settled) }
 {
     let Some(settled) = settled else {
-        return Ok(None);
+        return Ok(false);
     };
-    let mut cell = cell;
     put_in(alloc, &mut cell.hall, key, settled)?;
     with_worker_of(cell, w, PlainWorkerState::Idle)
 }
@@ -136,33 +134,33 @@ fn settlement<D: PlainDesk>(
     }
 }
 
-/// A worker puts its job's outcome, where it is settled.
+/// A worker puts its job's outcome, where it is settled. Tells whether it is.
 #[tactic(auto, using(crate::proofs::Seeing::put_by_key, crate::proofs::Seeing::put_by_none))]
 pub fn puts<D: PlainDesk, M: Copy>(
     alloc: Global,
     desk: &D,
-    cell: PlainCell<D::Call, D::Answer, M>,
+    cell: &mut PlainCell<D::Call, D::Answer, M>,
     w: u32,
-) -> Result<Option<PlainCell<D::Call, D::Answer, M>>, AllocError>
-    ensures { IfOk result (λ next. option_map cell_of next ≡ put_plain (D.desk desk.now) (cell_of cell) w ((cell_of cell).workers w)) }
+) -> Result<bool, AllocError>
+    ensures { IfOk result (λ can. when can (Some (cell_of cell.new)) ≡ put_plain (D.desk desk.now) (cell_of cell.old) w ((cell_of cell.old).workers w)) }
 {
     let Some(key) = key_held(cell.workers.as_slice(), w) else {
-        return Ok(None);
+        return Ok(false);
     };
     let settled = settlement(alloc, desk, cell.workers.as_slice(), w)?;
     puts_outcome(alloc, cell, w, key, settled)
 }
 
-/// A worker puts want of memory.
+/// A worker puts want of memory. Tells whether it holds a job.
 pub fn puts_none<C: Copy, A: Copy, M: Copy>(
     alloc: Global,
-    cell: PlainCell<C, A, M>,
+    cell: &mut PlainCell<C, A, M>,
     w: u32,
-) -> Result<Option<PlainCell<C, A, M>>, AllocError>
-    ensures { IfOk result (λ next. option_map cell_of next ≡ lack_plain (cell_of cell) w (key_held ((cell_of cell).workers w))) }
+) -> Result<bool, AllocError>
+    ensures { IfOk result (λ can. when can (Some (cell_of cell.new)) ≡ lack_plain (cell_of cell.old) w (key_held ((cell_of cell.old).workers w))) }
 {
     match key_held(cell.workers.as_slice(), w) {
-        None => Ok(None),
+        None => Ok(false),
         Some(key) => puts_outcome(alloc, cell, w, key, Some(Settled::NoMemory)),
     }
 }

@@ -6,8 +6,8 @@ ghost use Rattle.machine_model.specs.Plain.{when, submit_plain, collect_plain};
 ghost use Rattle.machine_model.specs.Seen.{conn_of, loop_of, cell_of};
 
 use super::cells::PlainCell;
-use super::conn_events::{PlainLoop, put_conn, take_conn};
-use super::conns::{PlainConn, PlainMoved, closing};
+use super::conn_events::PlainLoop;
+use super::conns::{PlainConn, closing};
 use super::halls::{PlainJob, take_first};
 use host_model::{EndCause, Key};
 use outside::{Mark, Settled};
@@ -42,57 +42,51 @@ pub fn one_more(number: u64) -> Result<u64, AllocError>
 }
 
 /// One more payload of connection c is submitted; returns its number.
-fn submit_next(alloc: Global, loop_part: &mut PlainLoop, c: u32) -> Result<u64, AllocError>
+fn submit_next(loop_part: &mut PlainLoop, c: u32) -> Result<u64, AllocError>
     requires { c < length loop_part.old.conns.items }
     ensures next { IfOk result (λ i. loop_of loop_part.new ≡ changed (loop_of loop_part.old) c (submitted_more ((loop_of loop_part.old).conns c)) []) }
     ensures number { IfOk result (λ i. i ≡ ((loop_of loop_part.old).conns c).submitted) }
 {
-    let conn = take_conn(alloc, loop_part, c);
+    let conn = &mut loop_part.conns[c as usize];
     let i = conn.submitted;
-    let submitted = one_more(i)?;
-    let conn = PlainConn { submitted, ..conn };
-    let marks = Vec::new(alloc);
-    put_conn(loop_part, c, PlainMoved { conn, marks })?;
+    conn.submitted = one_more(i)?;
     Ok(i)
 }
 
-/// A payload is submitted to a hall that isn't closed.
+/// A payload is submitted to a hall that isn't closed, which can always be.
 fn submit_payload<C: Copy, A: Copy, M: Copy>(
-    alloc: Global,
     cell: &mut PlainCell<C, A, M>,
     c: u32,
     payload: Vec<u8>,
-) -> Result<(), AllocError>
+) -> Result<bool, AllocError>
     requires { c < length cell.old.loop_part.conns.items }
-    ensures { IfOk result (λ done. Some (cell_of cell.new) ≡ submit_plain (cell_of cell.old) c false (Some payload.items)) }
+    ensures { IfOk result (λ can. when can (Some (cell_of cell.new)) ≡ submit_plain (cell_of cell.old) c false (Some payload.items)) }
 {
-    let i = submit_next(alloc, &mut cell.loop_part, c)?;
+    let i = submit_next(&mut cell.loop_part, c)?;
     let key = Key { c, i };
     cell.hall.jobs.push(PlainJob { key, payload })?;
-    Ok(())
+    Ok(true)
 }
 
-/// A payload is submitted, where there is one.
+/// A payload is submitted, where there is one. Tells whether there is.
 pub fn submits<C: Copy, A: Copy, M: Copy>(
     alloc: Global,
-    cell: PlainCell<C, A, M>,
+    cell: &mut PlainCell<C, A, M>,
     c: u32,
-) -> Result<Option<PlainCell<C, A, M>>, AllocError>
-    ensures { IfOk result (λ next. option_map cell_of next ≡ when (nat_lt c (cell_of cell).loop.count)
-        (submit_plain (cell_of cell) c (cell_of cell).hall.closed (slice_get ((cell_of cell).loop.conns c).payloads ((cell_of cell).loop.conns c).submitted))) }
+) -> Result<bool, AllocError>
+    ensures { IfOk result (λ can. when can (Some (cell_of cell.new)) ≡ when (nat_lt c (cell_of cell.old).loop.count)
+        (submit_plain (cell_of cell.old) c (cell_of cell.old).hall.closed (slice_get ((cell_of cell.old).loop.conns c).payloads ((cell_of cell.old).loop.conns c).submitted))) }
 {
     if cell.loop_part.conns.len() <= c as usize {
-        return Ok(None);
+        return Ok(false);
     }
     let Some(payload) = payload_of(alloc, &cell.loop_part, c)? else {
-        return Ok(None);
+        return Ok(false);
     };
     if cell.hall.closed {
-        return Ok(Some(cell));
+        return Ok(true);
     }
-    let mut cell = cell;
-    submit_payload(alloc, &mut cell, c, payload)?;
-    Ok(Some(cell))
+    submit_payload(cell, c, payload)
 }
 
 /// One more of a connection's payloads is collected, as settled so; returns the marks of that.
@@ -137,27 +131,25 @@ fn settle(
     ensures { IfOk result (λ done. loop_of loop_part.new ≡ changed (loop_of loop_part.old) c (conn_settled ((loop_of loop_part.old).conns c).cause settled ((loop_of loop_part.old).conns c))
         (conn_marks_settled ((loop_of loop_part.old).conns c).cause c settled)) }
 {
-    let mut conn = take_conn(alloc, loop_part, c);
-    let marks = settle_conn(alloc, c, &mut conn, settled)?;
-    put_conn(loop_part, c, PlainMoved { conn, marks })?;
+    let mut marks = settle_conn(alloc, c, &mut loop_part.conns[c as usize], settled)?;
+    loop_part.tape.append(&mut marks)?;
     Ok(())
 }
 
-/// An outcome is collected, where there is one.
+/// An outcome is collected, where there is one. Tells whether its connection, if there is one, is there.
 pub fn collects<C: Copy, A: Copy, M: Copy>(
     alloc: Global,
-    cell: PlainCell<C, A, M>,
-) -> Result<Option<PlainCell<C, A, M>>, AllocError>
-    ensures { IfOk result (λ next. option_map cell_of next ≡ collect_plain (cell_of cell) (cell_of cell).hall.outcomes) }
+    cell: &mut PlainCell<C, A, M>,
+) -> Result<bool, AllocError>
+    ensures { IfOk result (λ can. when can (Some (cell_of cell.new)) ≡ collect_plain (cell_of cell.old) (cell_of cell.old).hall.outcomes) }
 {
-    let mut cell = cell;
     let Some(outcome) = take_first(&mut cell.hall.outcomes) else {
-        return Ok(Some(cell));
+        return Ok(true);
     };
     let c = outcome.key.c;
     if cell.loop_part.conns.len() <= c as usize {
-        return Ok(None);
+        return Ok(false);
     }
     settle(alloc, &mut cell.loop_part, c, outcome.settled)?;
-    Ok(Some(cell))
+    Ok(true)
 }

@@ -1,8 +1,8 @@
 //! Runs of the machine.
 
-ghost use Rattle.std.specs.Prelude.{◌≡◌, ◌<◌, ◌^◌, Some, map, IfOk, IfSome, option_map};
+ghost use Rattle.std.specs.Prelude.{◌≡◌, ◌<◌, ◌^◌, true, Some, map, IfOk, IfSome, option_map};
 ghost use Rattle.machine_model.specs.Machine.{IsFirst, EventsLead};
-ghost use Rattle.machine_model.specs.Plain.{event_told, told_plain, run_plain, with_loop, conn_event_plain};
+ghost use Rattle.machine_model.specs.Plain.{when, event_told, told_plain, run_plain, with_loop, conn_event_plain};
 ghost use Rattle.machine_model.specs.Seen.{cell_of, conn_event_of, told_of};
 
 use super::calls::applies;
@@ -38,28 +38,50 @@ pub fn start<C: Copy, A: Copy, M: Copy>(alloc: Global, memories: Vec<M>) -> Plai
     }
 }
 
-/// Something happens on a connection, where it can.
+/// Something happens on a connection, where it can. Tells whether it can.
 fn happens<C: Copy, A: Copy, M: Copy>(
     alloc: Global,
     max: u32,
-    cell: PlainCell<C, A, M>,
+    cell: &mut PlainCell<C, A, M>,
     event: &PlainConnEvent,
-) -> Result<Option<PlainCell<C, A, M>>, AllocError>
-    ensures { IfOk result (λ next. option_map cell_of next ≡ with_loop (cell_of cell) (conn_event_plain max (cell_of cell).loop (conn_event_of event.now))) }
+) -> Result<bool, AllocError>
+    ensures { IfOk result (λ can. when can (Some (cell_of cell.new)) ≡ with_loop (cell_of cell.old) (conn_event_plain max (cell_of cell.old).loop (conn_event_of event.now))) }
 {
-    let PlainCell {
-        loop_part,
-        hall,
-        workers,
-    } = cell;
-    let Some(loop_part) = conn_event(alloc, max, loop_part, event)? else {
-        return Ok(None);
-    };
-    Ok(Some(PlainCell {
-        loop_part,
-        hall,
-        workers,
-    }))
+    conn_event(alloc, max, &mut cell.loop_part, event)
+}
+
+/// The hall is closed, which can always be.
+fn closes<C: Copy, A: Copy, M: Copy>(cell: &mut PlainCell<C, A, M>) -> Result<bool, AllocError>
+    ensures { IfOk result (λ can. when can (Some (cell_of cell.new)) ≡ Some (record (cell_of cell.old) { hall = record (cell_of cell.old).hall { closed = true } })) }
+{
+    cell.hall.closed = true;
+    Ok(true)
+}
+
+/// Brings the machine behind an event, where it can be; payloads of this desk have at most `max` bytes. Tells whether it can.
+fn goes<D: PlainDesk, S: PlainServices<Call = D::Call, Answer = D::Answer>>(
+    alloc: Global,
+    max: u32,
+    desk: &D,
+    services: &S,
+    cell: &mut PlainCell<D::Call, D::Answer, S::Memory>,
+    event: &PlainEvent,
+) -> Result<bool, AllocError>
+    requires { max ≡ (D.desk desk.now).max }
+    ensures { IfOk result (λ can. when can (Some (cell_of cell.new)) ≡ told_plain (D.desk desk.now) (S.rules services.now) (cell_of cell.old) (told_of event.now)) }
+{
+    match event {
+        PlainEvent::Happens(event) => happens(alloc, max, cell, event),
+        PlainEvent::Submits(c) => submits(alloc, cell, *c),
+        PlainEvent::Takes(w) => takes(cell, *w),
+        PlainEvent::Applies(w, apply_result) => {
+            applies(alloc, desk, services, cell, *w, *apply_result)
+        }
+        PlainEvent::Puts(w) => puts(alloc, desk, cell, *w),
+        PlainEvent::PutsNone(w) => puts_none(alloc, cell, *w),
+        PlainEvent::Collects => collects(alloc, cell),
+        PlainEvent::Closes => closes(cell),
+    }
 }
 
 /// The machine after an event, where it can be; payloads of this desk have at most `max` bytes.
@@ -74,31 +96,14 @@ pub fn step<D: PlainDesk, S: PlainServices<Call = D::Call, Answer = D::Answer>>(
     requires { max ≡ (D.desk desk.now).max }
     ensures { IfOk result (λ next. option_map cell_of next ≡ told_plain (D.desk desk.now) (S.rules services.now) (cell_of cell) (told_of event.now)) }
 {
-    match event {
-        PlainEvent::Happens(event) => happens(alloc, max, cell, event),
-        PlainEvent::Submits(c) => submits(alloc, cell, *c),
-        PlainEvent::Takes(w) => takes(cell, *w),
-        PlainEvent::Applies(w, apply_result) => applies(
-            alloc,
-            desk,
-            services,
-            cell,
-            *w,
-            *apply_result,
-        ),
-        PlainEvent::Puts(w) => puts(alloc, desk, cell, *w),
-        PlainEvent::PutsNone(w) => puts_none(alloc, cell, *w),
-        PlainEvent::Collects => collects(alloc, cell),
-        PlainEvent::Closes => {
-            let mut cell = cell;
-            cell.hall.closed = true;
-            Ok(Some(cell))
-        }
+    let mut cell = cell;
+    if goes(alloc, max, desk, services, &mut cell, event)? {
+        return Ok(Some(cell));
     }
+    Ok(None)
 }
 
 /// The machine after all of these events, where each can be: a run of it.
-#[tactic(auto, using(crate::proofs::Seeing::running))]
 pub fn run<D: PlainDesk, S: PlainServices<Call = D::Call, Answer = D::Answer>>(
     alloc: Global,
     max: u32,
@@ -117,9 +122,8 @@ pub fn run<D: PlainDesk, S: PlainServices<Call = D::Call, Answer = D::Answer>>(
     plain_machine_runs::<D::Call, D::Answer, S::Memory>();
     let mut now = cell;
     for event in events {
-        match step(alloc, max, desk, services, now, event)? {
-            None => return Ok(None),
-            Some(next) => now = next,
+        if !goes(alloc, max, desk, services, &mut now, event)? {
+            return Ok(None);
         }
     }
     Ok(Some(now))

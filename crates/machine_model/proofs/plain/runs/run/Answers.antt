@@ -1,19 +1,18 @@
-use Rattle.std.proofs.Common.{◌≡◌, length, ap, sym, ◌∙◌, subst, arith}
-use Rattle.std.specs.Option.{option_map}
+use Rattle.std.proofs.Common.{◌≡◌, length, sym, subst, arith}
 use Rattle.machine_model.specs.Seen.{cell_of, told_of}
-use Rattle.machine_model.proofs.Seeing.{Going, goes_on, stops, all_gone}
+use Rattle.machine_model.proofs.Seeing.{it_can, it_cannot, Going, goes_on, stops, all_gone}
 use Rattle.machine_model.proofs.plain.runs.run.Goals as goal
 
 pub loop-event-preserved : goal.loop-event-preserved
 loop-event-preserved g c =
-    goes_on _ _ told_of (cell_of c.args.cell) (cell_of c.loop-event.now) (cell_of c.in-Some.next) c.args.events.now c.loop-event.event-index c.event-item.result
-    c.loop-event.invariant c.loop-event-test.true c.event-item.is (ap (option_map cell_of) (sym c.in-Some.is) ∙ c.in_ok-step.ensures)
+    goes_on _ _ told_of (cell_of c.args.cell) (cell_of c.loop-event.now) (cell_of c.goes.new.cell) c.args.events.now c.loop-event.event-index c.event-item.result
+    c.loop-event.invariant c.loop-event-test.true c.event-item.is (it_can _ _ _ (c.in_ok-goes.ensures {u = tt}) c.if-not-branch.false)
 
-pub returns-in-None : goal.returns-in-None
-returns-in-None g c =
+pub returns-then-not-branch : goal.returns-then-not-branch
+returns-then-not-branch g c =
     record {
       plainly = stops _ _ told_of (cell_of c.args.cell) (cell_of c.loop-event.now) c.args.events.now c.loop-event.event-index c.event-item.result
-          c.loop-event.invariant c.loop-event-test.true c.event-item.is (ap (option_map cell_of) (sym c.in-None.is) ∙ c.in_ok-step.ensures);
+          c.loop-event.invariant c.loop-event-test.true c.event-item.is (it_cannot _ _ _ (c.in_ok-goes.ensures {u = tt}) c.if-not-branch.true);
       runs = tt;
     }
 
