@@ -1,17 +1,18 @@
 -- How the plain program's values are seen, after a change.
-use Rattle.std.proofs.Common.{◌≡◌, ℕ, zero, suc, ◌+◌, ◌<◌, ◌≤◌, ◌⊎◌, Bool, true, false, ◌&&◌, ◌==◌, nat_lt, if◌then◌else◌, Option, None, Some, List, [], ◌∷◌, ◌++◌, map, length, drop, slice_get, option_map, append_assoc, append-nil, get_or, slice_set, refl, sym, ap, ◌∙◌, subst, inl, inr, arith, length-append}
-use Rattle.std.proofs.lemmas.Bool.{cases_eq, cases_lt, lt-ltb, true≢false, false≢true}
-use Rattle.std.proofs.lemmas.List.{length-map, length-set, map-set, get_or-set_same, get_or-set_other}
+use Rattle.std.proofs.Common.{◌≡◌, ℕ, zero, suc, ◌+◌, ◌<◌, ◌≤◌, ◌⊎◌, Bool, true, false, ◌&&◌, ◌==◌, nat_lt, if◌then◌else◌, Option, None, Some, List, [], ◌∷◌, ◌++◌, map, length, take, drop, slice_get, option_map, append_assoc, append-nil, get_or, slice_set, refl, sym, ap, ◌∙◌, subst, inl, inr, arith, length-append}
+use Rattle.std.specs.List.{remove}
+use Rattle.std.proofs.lemmas.Bool.{cases_eq, cases_lt, eq-eqb, lt-ltb, true≢false, false≢true}
+use Rattle.std.proofs.lemmas.List.{take_more, length-map, length-set, map-set, get_or-set_same, get_or-set_other}
 use Rattle.host_model.specs.declared.cause.EndCause.{EndCause}
 use Rattle.machine_model.specs.declared.plain.conns.PlainConn.{PlainConn}
 use Rattle.machine_model.specs.Loop.{LoopConn, new_conn, count_if_open, open_among, with_conn, changed}
-use Rattle.machine_model.specs.Plain.{when, Moved, has_none_yet, moved_plain, answers, lacks_for_answer, Told, effect_plain, take_plain, outcome_plain, put_plain, apply_result_plain, told_plain, run_plain}
+use Rattle.machine_model.specs.Plain.{when, are_same, Moved, has_none_yet, moved_plain, answers, lacks_for_answer, Told, effect_plain, take_plain, outcome_plain, put_plain, apply_result_plain, told_plain, run_plain}
 use Rattle.host_model.specs.Journal.{ServiceRules}
 use Rattle.host_model.specs.DeskRules.{DeskRules}
 use Rattle.std.proofs.lemmas.Option.{none-some, same_Some}
 use Rattle.machine_model.specs.declared.plain.conn_events.PlainLoop.{PlainLoop}
 use Rattle.outside.specs.declared.marks.Mark.{Mark}
-use Rattle.std.proofs.Math.Seq.{drop-length}
+use Rattle.std.proofs.Math.Seq.{drop-length, take-length}
 use Rattle.host_model.specs.declared.key.Key.{Key}
 use Rattle.host_model.proofs.Fronting.{next_of}
 use Rattle.machine_model.specs.declared.plain.workers.PlainWorkerState.{PlainWorkerState}
@@ -164,46 +165,35 @@ pub first_and_rest : {X : Type 0} (xs : List X) (x : X) → 0 < length xs → x 
 first_and_rest [] x l is = absurd (let g : ⊥ = omega arith in g)
 first_and_rest (y ∷ xs) x l is = ap (λ z. z ∷ xs) (sym is)
 
--- the keys that are left so far, and what is left of the rest
-abbrev left_of : Key → Bool → List Key → List Key
-left_of key is_out keys = if is_out then keys else without key keys
+-- the keys in front of a place stay, and behind them stands what is left of the rest
+pub record Leaving (key : Key) (keys now : List Key) (i : ℕ) : Type 0 where
+  pub unchanged : now ≡ keys
+  pub so_far : take i keys ++ without key (drop i keys) ≡ without key keys
 
-pub record Leaving (key : Key) (keys : List Key) (i : ℕ) (left : List Key) (is_out : Bool) : Type 0 where
-  pub so_far : left ++ left_of key is_out (drop i keys) ≡ without key keys
-
-pub takes_key_out : (key : Key) (keys : List Key) (i : ℕ) (k : Key) (left : List Key) → Leaving key keys i left false → i < length keys → k ≡ get_or keys i k → is_same k key ≡ true
-    → Leaving key keys (i + 1) left true
-takes_key_out key keys i k left w l is same =
-    record {
-      so_far = ap (λ b. left ++ (if b then drop (i + 1) keys else k ∷ without key (drop (i + 1) keys))) (sym same)
-          ∙ ap (λ ks. left ++ without key ks) (sym (next_of keys i k l is)) ∙ w.so_far;
-    }
-
-pub keeps_other_key : (key : Key) (keys : List Key) (i : ℕ) (k : Key) (left next : List Key) → Leaving key keys i left false → i < length keys → k ≡ get_or keys i k → is_same k key ≡ false
-    → next ≡ left ++ k ∷ [] → Leaving key keys (i + 1) next false
-keeps_other_key key keys i k left next w l is other e =
+pub keeps_key : (key : Key) (keys now : List Key) (i : ℕ) (k : Key) → Leaving key keys now i → i < length keys → k ≡ get_or now i k → false ≡ is_same k key
+    → Leaving key keys now (i + 1)
+keeps_key key keys now i k w l is other =
     let rest : List Key = without key (drop (i + 1) keys) in
+    let there : k ≡ get_or keys i k = is ∙ ap (λ ks. get_or ks i k) w.unchanged in
     record {
-      so_far = ap (λ t. t ++ rest) e ∙ append_assoc left (k ∷ []) rest
-          ∙ ap (λ b. left ++ (if b then drop (i + 1) keys else k ∷ rest)) (sym other)
-          ∙ ap (λ ks. left ++ without key ks) (sym (next_of keys i k l is)) ∙ w.so_far;
+      unchanged = w.unchanged;
+      so_far = ap (λ t. t ++ rest) (take_more keys i k l ∙ ap (λ x. take i keys ++ x ∷ []) (sym there)) ∙ append_assoc (take i keys) (k ∷ []) rest
+          ∙ ap (λ b. take i keys ++ (if b then drop (i + 1) keys else k ∷ rest)) other
+          ∙ ap (λ ks. take i keys ++ without key ks) (sym (next_of keys i k l there)) ∙ w.so_far;
     }
 
-pub keeps_later_key : (key : Key) (keys : List Key) (i : ℕ) (k : Key) (left next : List Key) → Leaving key keys i left true → i < length keys → k ≡ get_or keys i k
-    → next ≡ left ++ k ∷ [] → Leaving key keys (i + 1) next true
-keeps_later_key key keys i k left next w l is e =
-    record {
-      so_far = ap (λ t. t ++ drop (i + 1) keys) e ∙ append_assoc left (k ∷ []) (drop (i + 1) keys)
-          ∙ ap (λ ks. left ++ ks) (sym (next_of keys i k l is)) ∙ w.so_far;
-    }
+pub takes_key : (key : Key) (keys now next : List Key) (i : ℕ) (k : Key) → Leaving key keys now i → i < length keys → k ≡ get_or now i k → true ≡ is_same k key
+    → next ≡ remove now i → next ≡ without key keys
+takes_key key keys now next i k w l is same e =
+    let one : suc i ≡ i + 1 = omega arith in
+    let there : k ≡ get_or keys i k = is ∙ ap (λ ks. get_or ks i k) w.unchanged in
+    e ∙ ap (λ ks. remove ks i) w.unchanged ∙ ap (λ n. take i keys ++ drop n keys) one
+    ∙ ap (λ b. take i keys ++ (if b then drop (i + 1) keys else k ∷ without key (drop (i + 1) keys))) same
+    ∙ ap (λ ks. take i keys ++ without key ks) (sym (next_of keys i k l there)) ∙ w.so_far
 
-all_left : (key : Key) (is_out : Bool) → left_of key is_out [] ≡ []
-all_left key true = refl
-all_left key false = refl
-
-pub left_all : (key : Key) (keys left : List Key) (is_out : Bool) → Leaving key keys (length keys) left is_out → left ≡ without key keys
-left_all key keys left is_out w =
-    sym (append-nil left) ∙ ap (λ t. left ++ t) (sym (all_left key is_out)) ∙ ap (λ ks. left ++ left_of key is_out ks) (sym (drop-length keys)) ∙ w.so_far
+pub keeps_all : (key : Key) (keys now : List Key) → Leaving key keys now (length keys) → now ≡ without key keys
+keeps_all key keys now w =
+    w.unchanged ∙ sym (append-nil keys) ∙ ap (λ ks. ks ++ []) (sym (take-length keys)) ∙ ap (λ ks. take (length keys) keys ++ without key ks) (sym (drop-length keys)) ∙ w.so_far
 
 module _ {A : Type 0} where
   -- hands, once one is changed, and once there is room for one more
@@ -303,6 +293,17 @@ module _ {C A M : Type 0} (r : ServiceRules C A M) where
 
 pub ruleset apply_results = (apply_result_answers, apply_result_lacks, apply_result_unanswered, apply_result_unanswered_too)
 
+-- bytes are the same where those in front of the same bytes are
+same_all : (xs : List ℕ) → are_same xs xs ≡ true
+same_all [] = refl
+same_all (x ∷ xs) = ap (λ b. b && are_same xs xs) (eq-eqb x x refl) ∙ same_all xs
+
+pub same_fronts : (xs ys zs : List ℕ) → length xs ≡ length ys → are_same xs ys ≡ are_same (xs ++ zs) (ys ++ zs)
+same_fronts [] [] zs e = sym (same_all zs)
+same_fronts [] (y ∷ ys) zs e = absurd (let g : ⊥ = omega arith in g)
+same_fronts (x ∷ xs) [] zs e = absurd (let g : ⊥ = omega arith in g)
+same_fronts (x ∷ xs) (y ∷ ys) zs e = ap (λ b. (x == y) && b) (same_fronts xs ys zs (omega arith))
+
 -- a step that can be, and one that can't
 pub it_can : {X : Type 0} (can : Bool) (x meant : Option X) → when can x ≡ meant → can ≡ true → x ≡ meant
 it_can can x meant e is = ap (λ b. when b x) (sym is) ∙ e
@@ -351,5 +352,3 @@ no_payload f (y ∷ xs) (suc i) l = no_payload f xs i (omega arith)
 pub ruleset payloads = (payload_seen, no_payload)
 
 pub ruleset counting = (counts_open, counts_ended)
-
-pub ruleset leaving = (takes_key_out, keeps_other_key, keeps_later_key, left_all)

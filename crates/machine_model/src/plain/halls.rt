@@ -1,12 +1,11 @@
 //! The hall: jobs, outcomes, services' memories and the journal.
 
-ghost use Rattle.std.specs.Prelude.{◌≡◌, ◌∷◌, [], IfNone, IfOk, MatchOption};
+ghost use Rattle.std.specs.Prelude.{◌≡◌, ◌∷◌, [], IfNone, MatchOption};
 ghost use Rattle.machine_model.specs.HallState.{is_same, without};
 
 use host_model::Key;
 use host_model::plain::PlainEntry;
 use outside::Settled;
-use std::alloc::{AllocError, Global};
 
 /// A payload that waits for a worker.
 #[derive(Drop)]
@@ -60,19 +59,14 @@ fn is_same(one: Key, other: Key) -> bool
     one.c == other.c && one.i == other.i
 }
 
-/// The keys without the first that is this one.
-#[tactic(auto, using(crate::proofs::Seeing::leaving))]
-pub fn without(alloc: Global, key: Key, keys: &[Key]) -> Result<Vec<Key>, AllocError>
-    ensures { IfOk result (λ left. left.items ≡ without key keys.now) }
+/// Takes the first key that is this one out, where there is one.
+pub fn take_out(key: Key, keys: &mut Vec<Key>)
+    ensures { keys.new.items ≡ without key keys.old.items }
 {
-    let mut left = Vec::new(alloc);
-    let mut is_out = false;
-    for other in keys {
-        if !is_out && is_same(*other, key) {
-            is_out = true;
-        } else {
-            left.push(*other)?;
+    for place in 0..keys.len() {
+        if is_same(keys[place], key) {
+            keys.remove(place);
+            return;
         }
     }
-    Ok(left)
 }

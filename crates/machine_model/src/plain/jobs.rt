@@ -9,7 +9,7 @@ ghost use Rattle.machine_model.specs.Plain.{when, take_plain, outcome_plain, put
 ghost use Rattle.machine_model.specs.Seen.{hall_of, cell_of, workers_of};
 
 use super::cells::{PlainCell, with_worker_of};
-use super::halls::{PlainHall, PlainJobOutcome, take_first, without};
+use super::halls::{PlainHall, PlainJobOutcome, take_first, take_out};
 use super::workers::{PlainWorkerState, worker_at};
 use host_model::Key;
 use host_model::plain::{Decided, PlainDesk};
@@ -68,7 +68,6 @@ fn settled_with<D: PlainDesk>(
 
 /// An outcome is put in the hall.
 fn put_in<C: Copy, A: Copy, M: Copy>(
-    alloc: Global,
     hall: &mut PlainHall<C, A, M>,
     key: Key,
     settled: Settled,
@@ -76,14 +75,13 @@ fn put_in<C: Copy, A: Copy, M: Copy>(
     ensures { IfOk result (λ done. hall_of hall.new
         ≡ record (hall_of hall.old) { taken = without key (hall_of hall.old).taken; outcomes = (hall_of hall.old).outcomes ++ outcome_of key settled ∷ [] }) }
 {
-    hall.taken = without(alloc, key, hall.taken.as_slice())?;
+    take_out(key, &mut hall.taken);
     hall.outcomes.push(PlainJobOutcome { key, settled })?;
     Ok(())
 }
 
 /// An outcome is put, where the job is settled.
 fn puts_outcome<C: Copy, A: Copy, M: Copy>(
-    alloc: Global,
     cell: &mut PlainCell<C, A, M>,
     w: u32,
     key: Key,
@@ -94,7 +92,7 @@ fn puts_outcome<C: Copy, A: Copy, M: Copy>(
     let Some(settled) = settled else {
         return Ok(false);
     };
-    put_in(alloc, &mut cell.hall, key, settled)?;
+    put_in(&mut cell.hall, key, settled)?;
     with_worker_of(cell, w, PlainWorkerState::Idle)
 }
 
@@ -148,12 +146,11 @@ pub fn puts<D: PlainDesk, M: Copy>(
         return Ok(false);
     };
     let settled = settlement(alloc, desk, cell.workers.as_slice(), w)?;
-    puts_outcome(alloc, cell, w, key, settled)
+    puts_outcome(cell, w, key, settled)
 }
 
 /// A worker puts want of memory. Tells whether it holds a job.
 pub fn puts_none<C: Copy, A: Copy, M: Copy>(
-    alloc: Global,
     cell: &mut PlainCell<C, A, M>,
     w: u32,
 ) -> Result<bool, AllocError>
@@ -161,6 +158,6 @@ pub fn puts_none<C: Copy, A: Copy, M: Copy>(
 {
     match key_held(cell.workers.as_slice(), w) {
         None => Ok(false),
-        Some(key) => puts_outcome(alloc, cell, w, key, Some(Settled::NoMemory)),
+        Some(key) => puts_outcome(cell, w, key, Some(Settled::NoMemory)),
     }
 }

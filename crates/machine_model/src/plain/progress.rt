@@ -1,6 +1,6 @@
 //! What bytes make of a frame.
 
-ghost use Rattle.std.specs.Prelude.{◌≡◌, ◌≤◌, ◌++◌, length, take, IfOk, option_map};
+ghost use Rattle.std.specs.Prelude.{◌≡◌, ◌≤◌, ◌++◌, length, take, drop, IfOk, option_map};
 ghost use Rattle.std.specs.Int.{w32, to_be_bytes, from_be_bytes};
 ghost use Rattle.machine_model.specs.Plain.{are_same, is_size, is_whole, is_bad_size, progress_behind, progress_by};
 ghost use Rattle.machine_model.specs.Seen.{seen_progress};
@@ -52,10 +52,10 @@ fn progress_behind(
     ensures { IfOk result (λ progress. option_map seen_progress progress ≡ progress_behind max size bytes.now) }
 {
     let (_, payload) = bytes.split_at(4);
-    if is_size(alloc, max, size, bytes)? && payload.len() < size as usize {
+    if is_size(max, size, bytes) && payload.len() < size as usize {
         return Ok(Some(PlainProgress::Part));
     }
-    if is_whole(alloc, max, bytes)? {
+    if is_whole(max, bytes) {
         return Ok(Some(PlainProgress::Whole(Vec::from_slice(alloc, payload)?)));
     }
     if is_bad_size(max, size, bytes) {
@@ -71,38 +71,30 @@ fn are_same(one: &[u8], other: &[u8]) -> bool
     one == other
 }
 
-/// A size, and a payload behind it.
-fn spelled(alloc: Global, size: u32, payload: &[u8]) -> Result<Vec<u8>, AllocError>
-    ensures { IfOk result (λ bytes. bytes.items ≡ to_be_bytes w32 size ++ payload.now) }
+/// Whether the first four bytes spell this size.
+#[tactic(auto, using(crate::proofs::Seeing::same_fronts))]
+fn begins_with(size: u32, bytes: &[u8]) -> bool
+    requires { 4 ≤ length bytes.now }
+    ensures { result ≡ are_same bytes.now (to_be_bytes w32 size ++ drop 4 bytes.now) }
 {
-    let mut bytes = Vec::from_slice(alloc, &size.to_be_bytes())?;
-    bytes.extend_from_slice(payload)?;
-    Ok(bytes)
+    are_same(bytes.split_at(4).0, &size.to_be_bytes())
 }
 
 /// Whether bytes begin with this size, which a frame has.
-fn is_size(alloc: Global, max: u32, size: u32, bytes: &[u8]) -> Result<bool, AllocError>
+fn is_size(max: u32, size: u32, bytes: &[u8]) -> bool
     requires { 4 ≤ length bytes.now }
-    ensures { IfOk result (λ is. is ≡ is_size max size bytes.now) }
+    ensures { result ≡ is_size max size bytes.now }
 {
-    if size < 1 || max < size {
-        return Ok(false);
-    }
-    let spelled = spelled(alloc, size, bytes.split_at(4).1)?;
-    Ok(are_same(bytes, spelled.as_slice()))
+    1 <= size && size <= max && begins_with(size, bytes)
 }
 
 /// Whether bytes are a whole frame.
-fn is_whole(alloc: Global, max: u32, bytes: &[u8]) -> Result<bool, AllocError>
+fn is_whole(max: u32, bytes: &[u8]) -> bool
     requires { 4 ≤ length bytes.now }
-    ensures { IfOk result (λ whole. whole ≡ is_whole max bytes.now) }
+    ensures { result ≡ is_whole max bytes.now }
 {
-    let (_, payload) = bytes.split_at(4);
-    if payload.is_empty() || (max as usize) < payload.len() {
-        return Ok(false);
-    }
-    let spelled = spelled(alloc, payload.len() as u32, payload)?;
-    Ok(are_same(bytes, spelled.as_slice()))
+    let size = bytes.len() - 4;
+    1 <= size && size <= max as usize && begins_with(size as u32, bytes)
 }
 
 /// Whether bytes are just this size, which no frame has.

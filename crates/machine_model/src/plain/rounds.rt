@@ -120,20 +120,23 @@ fn settle_conn(
     }
 }
 
-/// An outcome of connection c is collected.
+/// An outcome of connection c is collected, where that is there. Tells whether it is.
 fn settle(
     alloc: Global,
     loop_part: &mut PlainLoop,
     c: u32,
     settled: Settled,
-) -> Result<(), AllocError>
-    requires { c < length loop_part.old.conns.items }
-    ensures { IfOk result (λ done. loop_of loop_part.new ≡ changed (loop_of loop_part.old) c (conn_settled ((loop_of loop_part.old).conns c).cause settled ((loop_of loop_part.old).conns c))
-        (conn_marks_settled ((loop_of loop_part.old).conns c).cause c settled)) }
+) -> Result<bool, AllocError>
+    ensures { IfOk result (λ can. when can (Some (loop_of loop_part.new)) ≡ when (nat_lt c (loop_of loop_part.old).count)
+        (Some (changed (loop_of loop_part.old) c (conn_settled ((loop_of loop_part.old).conns c).cause settled ((loop_of loop_part.old).conns c))
+        (conn_marks_settled ((loop_of loop_part.old).conns c).cause c settled)))) }
 {
+    if loop_part.conns.len() <= c as usize {
+        return Ok(false);
+    }
     let mut marks = settle_conn(alloc, c, &mut loop_part.conns[c as usize], settled)?;
     loop_part.tape.append(&mut marks)?;
-    Ok(())
+    Ok(true)
 }
 
 /// An outcome is collected, where there is one. Tells whether its connection, if there is one, is there.
@@ -146,10 +149,5 @@ pub fn collects<C: Copy, A: Copy, M: Copy>(
     let Some(outcome) = take_first(&mut cell.hall.outcomes) else {
         return Ok(true);
     };
-    let c = outcome.key.c;
-    if cell.loop_part.conns.len() <= c as usize {
-        return Ok(false);
-    }
-    settle(alloc, &mut cell.loop_part, c, outcome.settled)?;
-    Ok(true)
+    settle(alloc, &mut cell.loop_part, outcome.key.c, outcome.settled)
 }

@@ -78,7 +78,7 @@ fn goes<D: PlainDesk, S: PlainServices<Call = D::Call, Answer = D::Answer>>(
             applies(alloc, desk, services, cell, *w, *apply_result)
         }
         PlainEvent::Puts(w) => puts(alloc, desk, cell, *w),
-        PlainEvent::PutsNone(w) => puts_none(alloc, cell, *w),
+        PlainEvent::PutsNone(w) => puts_none(cell, *w),
         PlainEvent::Collects => collects(alloc, cell),
         PlainEvent::Closes => closes(cell),
     }
