@@ -5,8 +5,8 @@ use Rattle.std.proofs.lemmas.Bool.{cases_eq, cases_lt, eq-eqb, lt-ltb, true≢fa
 use Rattle.std.proofs.lemmas.List.{take_more, length-map, length-set, map-set, get_or-set_same, get_or-set_other}
 use Rattle.host_model.specs.declared.cause.EndCause.{EndCause}
 use Rattle.machine_model.specs.declared.plain.conns.PlainConn.{PlainConn}
-use Rattle.machine_model.specs.Loop.{LoopConn, new_conn, count_if_open, open_among, with_conn, changed}
-use Rattle.machine_model.specs.Plain.{when, are_same, Moved, has_none_yet, moved_plain, answers, lacks_for_answer, Told, effect_plain, take_plain, outcome_plain, put_plain, apply_result_plain, told_plain, run_plain}
+use Rattle.machine_model.specs.Loop.{LoopConn, new_conn, Loop, count_if_open, open_among, with_conn, changed, ConnEvent, opens, reads, ends, fails_read, writes, fails_write, gives_up}
+use Rattle.machine_model.specs.Plain.{when, are_same, Moved, has_none_yet, is_open, reads_plain, ends_plain, fails_read_plain, writes_plain, fails_write_plain, gives_up_plain, conn_at, conn_moves, moved_plain, conn_event_plain, answers, lacks_for_answer, Told, effect_plain, take_plain, outcome_plain, put_plain, apply_result_plain, told_plain, run_plain}
 use Rattle.host_model.specs.Journal.{ServiceRules}
 use Rattle.host_model.specs.DeskRules.{DeskRules}
 use Rattle.std.proofs.lemmas.Option.{none-some, same_Some}
@@ -87,16 +87,6 @@ conns_set xs c x l = seen_set conn_of new_conn xs c x l
 pub conns_more : (xs : List PlainConn) (x : PlainConn) → conns_of (xs ++ x ∷ []) ≡ with_conn (conns_of xs) (length xs) (conn_of x)
 conns_more xs x = seen_more conn_of new_conn xs x
 
--- a connection that is put twice is put the second time
-pub put_again : (conns : ℕ → LoopConn) (c : ℕ) (one other : LoopConn) → with_conn (with_conn conns c one) c other ≡ with_conn conns c other
-put_again conns c one other = λ k i. go i (cases_eq i c) k
-  where
-    go : (i : ℕ) → (i ≡ c) ⊎ (i ≡ c → ⊥) → with_conn (with_conn conns c one) c other i ≡ with_conn conns c other i
-    go i (inl e) =
-        subst (λ y. with_conn (with_conn conns c one) c other y ≡ with_conn conns c other y) (sym e)
-        (put_same (with_conn conns c one) c other ∙ sym (put_same conns c other))
-    go i (inr n) = put_other (with_conn conns c one) c other i n ∙ put_other conns c one i n ∙ sym (put_other conns c other i n)
-
 -- a connection at its number
 pub conn_seen : (xs : List PlainConn) (i : ℕ) (d : PlainConn) → i < length xs → conns_of xs i ≡ conn_of (get_or xs i d)
 conn_seen xs i d l = seen_at conn_of new_conn xs i d l
@@ -140,25 +130,52 @@ pub open_is : (xs : List PlainConn) (i : ℕ) (x : PlainConn) → i < length xs 
 open_is xs i x l is =
     ap (λ (y : LoopConn). has_none_yet y.cause) (ap conn_of is ∙ sym (conn_seen xs i x l)) ∙ ap (λ b. b && has_none_yet (conns_of xs i).cause) (sym (lt-ltb i (length xs) l))
 
--- the loop once one connection is changed, and once it is taken out
+-- the loop once one connection is changed
 pub loop_set : (old : PlainLoop) (c : ℕ) (x : PlainConn) (marks tape : List Mark) → c < length old.conns.items → tape ≡ old.tape.items ++ marks
     → record { tape = tape; count = length (slice_set old.conns.items c x); conns = conns_of (slice_set old.conns.items c x) } ≡ changed (loop_of old) c (conn_of x) marks
 loop_set old c x marks tape l e =
     (λ i. record { tape = e i; count = length-set old.conns.items c x i; conns = conns_set old.conns.items c x l i })
 
-pub changed_out : (old : PlainLoop) (c : ℕ) (x : PlainConn) (now : LoopConn) (marks : List Mark) → c < length old.conns.items
-    → changed (record { tape = old.tape.items; count = length (slice_set old.conns.items c x); conns = conns_of (slice_set old.conns.items c x) }) c now marks ≡ changed (loop_of old) c now marks
-changed_out old c x now marks l =
-    (λ i. record {
-      tape = old.tape.items ++ marks;
-      count = length-set old.conns.items c x i;
-      conns = (ap (λ cs. with_conn cs c now) (conns_set old.conns.items c x l) ∙ put_again (conns_of old.conns.items) c (conn_of x) now) i;
-    })
+-- an event that opens, and one on a connection that is there
+pub no_conn : (max : ℕ) (loop : Loop) (event : ConnEvent) → None ≡ conn_at event → conn_event_plain 0 loop opens ≡ conn_event_plain max loop event
+no_conn max loop opens e = refl
+no_conn max loop (reads c bytes) e = absurd (none-some c e)
+no_conn max loop (ends c) e = absurd (none-some c e)
+no_conn max loop (fails_read c) e = absurd (none-some c e)
+no_conn max loop (writes c count) e = absurd (none-some c e)
+no_conn max loop (fails_write c) e = absurd (none-some c e)
+no_conn max loop (gives_up c cause) e = absurd (none-some c e)
 
-pub taken_out : (old : PlainLoop) (c : ℕ) (x : PlainConn) (m : Moved) → c < length old.conns.items
-    → moved_plain (record { tape = old.tape.items; count = length (slice_set old.conns.items c x); conns = conns_of (slice_set old.conns.items c x) }) c m ≡ moved_plain (loop_of old) c m
-taken_out old c x None l = refl
-taken_out old c x (Some m) l = ap Some (changed_out old c x m.0 m.1 l)
+on_conn_there : (loop : Loop) (c k : ℕ) (f : LoopConn → Moved) → Some c ≡ Some k
+    → when (is_open loop k) (moved_plain loop k (f (loop.conns k))) ≡ when (is_open loop c) (moved_plain loop c (f (loop.conns c)))
+on_conn_there loop c k f e = ap (λ x. when (is_open loop x) (moved_plain loop x (f (loop.conns x)))) (sym (same_Some c k e))
+
+pub on_conn_at : (max : ℕ) (loop : Loop) (event : ConnEvent) (c : ℕ) → Some c ≡ conn_at event
+    → conn_event_plain max loop event ≡ when (is_open loop c) (moved_plain loop c (conn_moves max event (loop.conns c)))
+on_conn_at max loop opens c e = absurd (none-some c (sym e))
+on_conn_at max loop (reads k bytes) c e = on_conn_there loop c k (reads_plain max k bytes) e
+on_conn_at max loop (ends k) c e = on_conn_there loop c k (ends_plain k) e
+on_conn_at max loop (fails_read k) c e = on_conn_there loop c k (fails_read_plain k) e
+on_conn_at max loop (writes k count) c e = on_conn_there loop c k (writes_plain k count) e
+on_conn_at max loop (fails_write k) c e = on_conn_there loop c k (fails_write_plain k) e
+on_conn_at max loop (gives_up k cause) c e = on_conn_there loop c k (gives_up_plain k cause) e
+
+-- a connection that is open has moved, or it can't
+pub moved_there : (max : ℕ) (loop next : Loop) (event : ConnEvent) (c : ℕ) (conn now : LoopConn) (marks : List Mark) → Some c ≡ conn_at event → true ≡ is_open loop c
+    → conn ≡ loop.conns c → Some (now, marks) ≡ conn_moves max event conn → next ≡ changed loop c now marks → Some next ≡ conn_event_plain max loop event
+moved_there max loop next event c conn now marks at open_ is moves e =
+    ap Some e ∙ ap (moved_plain loop c) (moves ∙ ap (conn_moves max event) is)
+    ∙ ap (λ b. when b (moved_plain loop c (conn_moves max event (loop.conns c)))) open_ ∙ sym (on_conn_at max loop event c at)
+
+pub moved_nowhere : (max : ℕ) (loop : Loop) (event : ConnEvent) (c : ℕ) (conn : LoopConn) → Some c ≡ conn_at event → true ≡ is_open loop c
+    → conn ≡ loop.conns c → None ≡ conn_moves max event conn → None ≡ conn_event_plain max loop event
+moved_nowhere max loop event c conn at open_ is moves =
+    ap (moved_plain loop c) (moves ∙ ap (conn_moves max event) is)
+    ∙ ap (λ b. when b (moved_plain loop c (conn_moves max event (loop.conns c)))) open_ ∙ sym (on_conn_at max loop event c at)
+
+pub is_not_open : (max : ℕ) (loop : Loop) (event : ConnEvent) (c : ℕ) → Some c ≡ conn_at event → false ≡ is_open loop c → None ≡ conn_event_plain max loop event
+is_not_open max loop event c at closed =
+    ap (λ b. when b (moved_plain loop c (conn_moves max event (loop.conns c)))) closed ∙ sym (on_conn_at max loop event c at)
 
 -- the first element, and those behind it
 pub first_and_rest : {X : Type 0} (xs : List X) (x : X) → 0 < length xs → x ≡ get_or xs 0 x → xs ≡ x ∷ drop 1 xs

@@ -1,9 +1,8 @@
 //! The loop's part: the tape and the connections, and what happens on a connection.
 
-ghost use Rattle.std.specs.Prelude.{◌≡◌, ◌<◌, Some, List, length, IfOk, IsTrue, option_map};
-ghost use Rattle.machine_model.specs.Loop.{LoopConn, opens, reads, ends, fails_read, writes, fails_write, gives_up, open_among, changed};
-ghost use Rattle.outside.specs.declared.marks.Mark.{Mark};
-ghost use Rattle.machine_model.specs.Plain.{when, Moved, has_none_yet, is_open, moved_plain, conn_event_plain};
+ghost use Rattle.std.specs.Prelude.{◌≡◌, ◌<◌, Some, length, IfOk, IsTrue, option_map};
+ghost use Rattle.machine_model.specs.Loop.{opens, open_among};
+ghost use Rattle.machine_model.specs.Plain.{when, has_none_yet, is_open, conn_at, conn_moves, conn_event_plain};
 ghost use Rattle.machine_model.specs.Seen.{conn_of, conns_of, loop_of, conn_event_of};
 
 use super::conns::{PlainConn, ends, fails_read, fails_write, gives_up, reads, writes};
@@ -11,7 +10,6 @@ use host_model::EndCause;
 use limits::MOST_CONNECTIONS;
 use outside::{Bytes, Mark};
 use std::alloc::{AllocError, Global};
-use std::mem;
 
 /// What happens on a connection alone; connections have numbers, from 0.
 #[derive(Drop)]
@@ -39,6 +37,41 @@ pub struct PlainLoop {
     pub conns: Vec<PlainConn>,
 }
 
+/// The connection that this happens on, where it is there before.
+fn conn_at(conn_event: &PlainConnEvent) -> Option<u32>
+    ensures { result ≡ conn_at (conn_event_of conn_event.now) }
+{
+    match conn_event {
+        PlainConnEvent::Opens => None,
+        PlainConnEvent::Reads(c, _) => Some(*c),
+        PlainConnEvent::Ends(c) => Some(*c),
+        PlainConnEvent::FailsRead(c) => Some(*c),
+        PlainConnEvent::Writes(c, _) => Some(*c),
+        PlainConnEvent::FailsWrite(c) => Some(*c),
+        PlainConnEvent::GivesUp(c, _) => Some(*c),
+    }
+}
+
+/// Brings a connection behind what happens on it, where it can; returns the marks of that.
+fn moves(
+    alloc: Global,
+    max: u32,
+    conn: &mut PlainConn,
+    conn_event: &PlainConnEvent,
+) -> Result<Option<Vec<Mark>>, AllocError>
+    ensures { IfOk result (λ marks. option_map (λ m. (conn_of conn.new, m.items)) marks ≡ conn_moves max (conn_event_of conn_event.now) (conn_of conn.old)) }
+{
+    match conn_event {
+        PlainConnEvent::Opens => Ok(None),
+        PlainConnEvent::Reads(c, bytes) => reads(alloc, max, *c, bytes.as_slice(), conn),
+        PlainConnEvent::Ends(c) => ends(alloc, *c, conn),
+        PlainConnEvent::FailsRead(c) => fails_read(alloc, *c, conn),
+        PlainConnEvent::Writes(c, count) => writes(alloc, *c, *count, conn),
+        PlainConnEvent::FailsWrite(c) => fails_write(alloc, *c, conn),
+        PlainConnEvent::GivesUp(c, cause) => gives_up(alloc, *c, *cause, conn),
+    }
+}
+
 /// Brings the loop behind what happens on a connection, where it can. Tells whether it can.
 pub fn conn_event(
     alloc: Global,
@@ -48,105 +81,18 @@ pub fn conn_event(
 ) -> Result<bool, AllocError>
     ensures { IfOk result (λ can. when can (Some (loop_of loop_part.new)) ≡ conn_event_plain max (loop_of loop_part.old) (conn_event_of conn_event.now)) }
 {
-    match conn_event {
-        PlainConnEvent::Opens => opens(alloc, loop_part),
-        PlainConnEvent::Reads(c, bytes) => {
-            reads_bytes(alloc, max, loop_part, *c, bytes.as_slice())
-        }
-        PlainConnEvent::Ends(c) => meets_end(alloc, loop_part, *c),
-        PlainConnEvent::FailsRead(c) => fails_to_read(alloc, loop_part, *c),
-        PlainConnEvent::Writes(c, count) => writes_bytes(alloc, loop_part, *c, *count),
-        PlainConnEvent::FailsWrite(c) => fails_to_write(alloc, loop_part, *c),
-        PlainConnEvent::GivesUp(c, cause) => is_given_up(alloc, loop_part, *c, *cause),
-    }
-}
-
-/// Connection c reads bytes.
-fn reads_bytes(
-    alloc: Global,
-    max: u32,
-    loop_part: &mut PlainLoop,
-    c: u32,
-    bytes: &[u8],
-) -> Result<bool, AllocError>
-    ensures { IfOk result (λ can. when can (Some (loop_of loop_part.new)) ≡ conn_event_plain max (loop_of loop_part.old) (reads c bytes.now)) }
-{
+    let Some(c) = conn_at(conn_event) else {
+        return opens(alloc, loop_part);
+    };
     if !is_open(loop_part, c) {
         return Ok(false);
     }
-    let mut conn = take_conn(alloc, loop_part, c);
-    let marks = reads(alloc, max, c, bytes, &mut conn)?;
-    moved(loop_part, c, conn, marks)
-}
-
-/// The input of connection c ends.
-fn meets_end(alloc: Global, loop_part: &mut PlainLoop, c: u32) -> Result<bool, AllocError>
-    ensures { IfOk result (λ can. when can (Some (loop_of loop_part.new)) ≡ conn_event_plain 0 (loop_of loop_part.old) (ends c)) }
-{
-    if !is_open(loop_part, c) {
+    let conn = &mut loop_part.conns[c as usize];
+    let Some(mut marks) = moves(alloc, max, conn, conn_event)? else {
         return Ok(false);
-    }
-    let mut conn = take_conn(alloc, loop_part, c);
-    let marks = ends(alloc, c, &mut conn)?;
-    moved(loop_part, c, conn, marks)
-}
-
-/// A read of connection c fails.
-fn fails_to_read(alloc: Global, loop_part: &mut PlainLoop, c: u32) -> Result<bool, AllocError>
-    ensures { IfOk result (λ can. when can (Some (loop_of loop_part.new)) ≡ conn_event_plain 0 (loop_of loop_part.old) (fails_read c)) }
-{
-    if !is_open(loop_part, c) {
-        return Ok(false);
-    }
-    let mut conn = take_conn(alloc, loop_part, c);
-    let marks = fails_read(alloc, c, &mut conn)?;
-    moved(loop_part, c, conn, marks)
-}
-
-/// So many bytes of connection c's reply are written.
-fn writes_bytes(
-    alloc: Global,
-    loop_part: &mut PlainLoop,
-    c: u32,
-    count: usize,
-) -> Result<bool, AllocError>
-    ensures { IfOk result (λ can. when can (Some (loop_of loop_part.new)) ≡ conn_event_plain 0 (loop_of loop_part.old) (writes c count)) }
-{
-    if !is_open(loop_part, c) {
-        return Ok(false);
-    }
-    let mut conn = take_conn(alloc, loop_part, c);
-    let marks = writes(alloc, c, count, &mut conn)?;
-    moved(loop_part, c, conn, marks)
-}
-
-/// A write on connection c fails.
-fn fails_to_write(alloc: Global, loop_part: &mut PlainLoop, c: u32) -> Result<bool, AllocError>
-    ensures { IfOk result (λ can. when can (Some (loop_of loop_part.new)) ≡ conn_event_plain 0 (loop_of loop_part.old) (fails_write c)) }
-{
-    if !is_open(loop_part, c) {
-        return Ok(false);
-    }
-    let mut conn = take_conn(alloc, loop_part, c);
-    let marks = fails_write(alloc, c, &mut conn)?;
-    moved(loop_part, c, conn, marks)
-}
-
-/// Connection c is given up.
-fn is_given_up(
-    alloc: Global,
-    loop_part: &mut PlainLoop,
-    c: u32,
-    cause: EndCause,
-) -> Result<bool, AllocError>
-    ensures { IfOk result (λ can. when can (Some (loop_of loop_part.new)) ≡ conn_event_plain 0 (loop_of loop_part.old) (gives_up c cause)) }
-{
-    if !is_open(loop_part, c) {
-        return Ok(false);
-    }
-    let mut conn = take_conn(alloc, loop_part, c);
-    let marks = gives_up(alloc, c, cause, &mut conn)?;
-    moved(loop_part, c, conn, marks)
+    };
+    loop_part.tape.append(&mut marks)?;
+    Ok(true)
 }
 
 /// Whether a connection of this cause hasn't ended.
@@ -197,48 +143,4 @@ fn is_open(loop_part: &PlainLoop, c: u32) -> bool
         return false;
     }
     has_none_yet(loop_part.conns[c].cause)
-}
-
-/// Takes connection c out; what it is then is to be put in its place.
-fn take_conn(alloc: Global, loop_part: &mut PlainLoop, c: u32) -> PlainConn
-    requires { c < length loop_part.old.conns.items }
-    ensures conn { conn_of result ≡ (loop_of loop_part.old).conns c }
-    ensures changed { (now : LoopConn) (marks : List Mark) → changed (loop_of loop_part.new) c now marks ≡ changed (loop_of loop_part.old) c now marks }
-    ensures moved { (m : Moved) → moved_plain (loop_of loop_part.new) c m ≡ moved_plain (loop_of loop_part.old) c m }
-    ensures there { c < length loop_part.new.conns.items }
-{
-    mem::replace(&mut loop_part.conns[c as usize], PlainConn::new(alloc))
-}
-
-/// Puts connection c back as this one, with the marks of what it did.
-fn put_conn(
-    loop_part: &mut PlainLoop,
-    c: u32,
-    conn: PlainConn,
-    marks: Vec<Mark>,
-) -> Result<(), AllocError>
-    requires { c < length loop_part.old.conns.items }
-    ensures { IfOk result (λ done. loop_of loop_part.new ≡ changed (loop_of loop_part.old) c (conn_of conn) marks.items) }
-{
-    let mut marks = marks;
-    loop_part.conns[c as usize] = conn;
-    loop_part.tape.append(&mut marks)?;
-    Ok(())
-}
-
-/// Puts connection c back as this one, where it could do what it did, with the marks of that. Tells whether it could.
-fn moved(
-    loop_part: &mut PlainLoop,
-    c: u32,
-    conn: PlainConn,
-    marks: Option<Vec<Mark>>,
-) -> Result<bool, AllocError>
-    requires { c < length loop_part.old.conns.items }
-    ensures { IfOk result (λ can. when can (Some (loop_of loop_part.new)) ≡ moved_plain (loop_of loop_part.old) c (option_map (λ m. (conn_of conn, m.items)) marks)) }
-{
-    let Some(marks) = marks else {
-        return Ok(false);
-    };
-    put_conn(loop_part, c, conn, marks)?;
-    Ok(true)
 }

@@ -1,0 +1,13 @@
+use Rattle.std.proofs.Common.{◌≡◌, refl, ap, sym, ◌∙◌}
+use Rattle.machine_model.specs.Seen.{conn_of, conns_of, loop_of, conn_event_of}
+use Rattle.machine_model.proofs.Seeing.{conn_seen, loop_set, moved_there}
+use Rattle.machine_model.proofs.plain.conn_events.conn_event.Goals as goal
+
+pub returns : goal.returns
+returns c =
+    let old = c.args.loop_part.now in
+    let there = c.if-not-is_open.ensures.there refl in
+    let is : conn_of c.index_mut-conn.result.now ≡ conns_of old.conns.items c.in-Some.c = ap conn_of c.index_mut-conn.ensures.value ∙ sym (conn_seen old.conns.items c.in-Some.c _ there) in
+    let moves = rw c.in-Some-2.is at (c.in_ok-marks.ensures {u = tt}) in
+    moved_there c.args.max (loop_of old) _ (conn_event_of c.args.conn_event.now) c.in-Some.c _ (conn_of c.moves.new.conn) c.in-Some-2.marks.items c.in-Some.ensures c.if-not-is_open.ensures.is is moves
+    (loop_set old c.in-Some.c c.moves.new.conn c.in-Some-2.marks.items c.append.new.self.items there (c.in_ok-append.ensures {u = tt}).items)
