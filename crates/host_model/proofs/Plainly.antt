@@ -1,6 +1,7 @@
 -- Calls, replies, memories and legal histories, computed from the front.
-use Rattle.std.proofs.Common.{◌≡◌, ℕ, suc, ◌+◌, ◌<◌, if◌then◌else◌, cond, None, Some, List, [], ◌∷◌, ◌++◌, length, drop, get_or, map, sym, ap, ◌∙◌, subst, arith, append_assoc, append-nil, eq-eqb, ne_eqb}
+use Rattle.std.proofs.Common.{◌≡◌, ℕ, zero, suc, ◌+◌, ◌<◌, ◌≤◌, Bool, false, IsTrue, if◌then◌else◌, cond, Option, None, Some, MatchOption, List, [], ◌∷◌, ◌++◌, length, drop, get_or, slice_get, slice_set, map, refl, sym, ap, ◌∙◌, subst, arith, append_assoc, append-nil, eq-eqb, ne_eqb}
 use Rattle.std.proofs.Math.Seq.{drop-length}
+use Rattle.std.proofs.lemmas.Bool.{false≢true}
 use Rattle.std.proofs.lemmas.List.{map-append}
 use Rattle.host_model.specs.declared.plain.journals.PlainEntry.{PlainEntry}
 use Rattle.host_model.specs.Journal.{JournalEntry, ServiceRules, entries_of, after, after_call, IsAnswered, Legal}
@@ -58,6 +59,47 @@ pub own_all : {C A : Type 0} (c : ℕ) (entries : List (PlainEntry C A)) (own : 
     → journal_seen own ≡ entries_of c (journal_seen entries)
 own_all c entries own w =
     sym (append-nil (journal_seen own)) ∙ ap (λ es. journal_seen own ++ entries_of c (journal_seen es)) (sym (drop-length entries)) ∙ w.so_far
+
+-- what stands at a place, and that nothing stands behind the end
+at_place : {X : Type 0} (xs : List X) (i : ℕ) (x : X) → i < length xs → x ≡ get_or xs i x → slice_get xs i ≡ Some x
+at_place [] i x l is = absurd (let g : ⊥ = omega arith in g)
+at_place (y ∷ xs) zero x l is = ap Some (sym is)
+at_place (y ∷ xs) (suc i) x l is = at_place xs i x (omega arith) is
+
+at_no_place : {X : Type 0} (xs : List X) (i : ℕ) → length xs ≤ i → slice_get xs i ≡ None
+at_no_place [] i l = refl
+at_no_place (y ∷ xs) zero l = absurd (let g : ⊥ = omega arith in g)
+at_no_place (y ∷ xs) (suc i) l = at_no_place xs i (omega arith)
+
+module _ {C A M : Type 0} (r : ServiceRules C A M) (memories : List M) (slot : ℕ) where
+  abbrev after_at : C → Option M → List M
+  after_at call m = elim m [ None ↦ memories | Some x ↦ slice_set memories (r.slot call) (r.rule call x).1 ]
+
+  -- the memories after a call whose service is there, and after one whose service is not
+  pub after_served : (call : C) (m : M) (out : A × M) → slot ≡ r.slot call → slot < length memories → m ≡ get_or memories slot m → out ≡ r.rule call m
+      → slice_set memories slot out.1 ≡ after_call r memories call
+  after_served call m out is l at o =
+      (λ i. slice_set memories (is i) (o i).1) ∙ ap (after_at call) (sym (at_place memories slot m l at)) ∙ ap (λ s. after_at call (slice_get memories s)) is
+
+  pub after_unserved : (call : C) → slot ≡ r.slot call → length memories ≤ slot → memories ≡ after_call r memories call
+  after_unserved call is l = ap (after_at call) (sym (at_no_place memories slot l)) ∙ ap (λ s. after_at call (slice_get memories s)) is
+
+  abbrev AnsweredAt : JournalEntry C A → Option M → Type 0
+  AnsweredAt e m = MatchOption m ⊥ (λ x. e.answer ≡ (r.rule e.call x).0)
+
+  -- an answer of a service that is there, and of one that is not
+  pub answered_there : (e : JournalEntry C A) (m : M) (out : A × M) (same : Bool) → slot ≡ r.slot e.call → slot < length memories → m ≡ get_or memories slot m
+      → out ≡ r.rule e.call m → (IsTrue same → e.answer ≡ out.0) × (e.answer ≡ out.0 → IsTrue same)
+      → (IsTrue same → IsAnswered r memories e) × (IsAnswered r memories e → IsTrue same)
+  answered_there e m out same is l at o h =
+      let k : slice_get memories (r.slot e.call) ≡ Some m = ap (slice_get memories) (sym is) ∙ at_place memories slot m l at in
+      (λ t. subst (AnsweredAt e) (sym k) (h.0 t ∙ ap (λ p. p.0) o), λ a. h.1 (subst (AnsweredAt e) k a ∙ sym (ap (λ p. p.0) o)))
+
+  pub answered_nowhere : (e : JournalEntry C A) → slot ≡ r.slot e.call → length memories ≤ slot
+      → (IsTrue false → IsAnswered r memories e) × (IsAnswered r memories e → IsTrue false)
+  answered_nowhere e is l =
+      let k : slice_get memories (r.slot e.call) ≡ None = ap (slice_get memories) (sym is) ∙ at_no_place memories slot l in
+      (λ t. absurd (false≢true t), λ a. absurd (subst (AnsweredAt e) k a))
 
 -- the rest of a journal leaves, after these memories, what the whole leaves after the first ones
 pub record Leaving {C A M : Type 0} (r : ServiceRules C A M) (first : List M) (entries : List (PlainEntry C A)) (i : ℕ) (memories : List M) : Type 0 where

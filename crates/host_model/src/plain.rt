@@ -14,5 +14,5 @@ mod tape;
 
 pub use desks::{Decided, PlainDesk, called, sent};
 pub use frames::split;
-pub use journals::{PlainEntry, PlainServices, after, entries_of, is_legal};
+pub use journals::{PlainEntry, PlainServices, after, after_call, entries_of, is_legal};
 pub use tape::{input, marks_of, output};

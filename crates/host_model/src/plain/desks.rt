@@ -49,7 +49,6 @@ pub trait PlainDesk {
 }
 
 /// The calls that payloads ask for, each with the number of its frame.
-#[tactic(auto, using(crate::proofs::Plainly::call_on, crate::proofs::Plainly::called_all))]
 pub fn called<D: PlainDesk>(
     alloc: Global,
     desk: &D,
@@ -67,7 +66,6 @@ pub fn called<D: PlainDesk>(
 }
 
 /// All that is sent to payloads, where calls were answered as these entries say.
-#[tactic(auto, using(crate::proofs::Plainly::send_on, crate::proofs::Plainly::sent_all))]
 pub fn sent<D: PlainDesk>(
     alloc: Global,
     desk: &D,
@@ -90,7 +88,6 @@ pub fn sent<D: PlainDesk>(
 }
 
 /// The answer to the call of the frame of this number, where an entry has it.
-#[tactic(auto, using(crate::proofs::Plainly::seek_on, crate::proofs::Plainly::sought, crate::proofs::Plainly::not_sought))]
 fn answer_at<C: Copy, A: Copy>(entries: &[PlainEntry<C, A>], number: u64) -> Option<A>
     ensures { result ≡ answer_at (journal_seen entries.now) number }
 {

@@ -17,7 +17,6 @@ pub struct PlainEntry<C, A> {
 }
 
 /// The entries of the connection of this number.
-#[tactic(auto, using(crate::proofs::Plainly::own_on, crate::proofs::Plainly::own_past, crate::proofs::Plainly::own_all))]
 pub fn entries_of<C: Copy, A: Copy>(
     alloc: Global,
     c: u32,
@@ -58,7 +57,6 @@ pub trait PlainServices {
 }
 
 /// Brings the memories, one a slot, from those before a journal to those after it.
-#[tactic(auto, using(crate::proofs::Plainly::leave_on, crate::proofs::Plainly::left_all))]
 pub fn after<S: PlainServices>(
     services: &S,
     memories: &mut [S::Memory],
@@ -85,7 +83,6 @@ pub fn is_legal<S: PlainServices>(
 }
 
 /// Whether a journal is a legal history from these memories, which it uses up.
-#[tactic(auto, using(crate::proofs::Plainly::go_on, crate::proofs::Plainly::gone, crate::proofs::Plainly::not_gone))]
 fn goes_on<S: PlainServices>(
     services: &S,
     memories: &mut [S::Memory],
@@ -103,7 +100,7 @@ fn goes_on<S: PlainServices>(
 }
 
 /// Brings the memories from those before a call to those after it.
-fn after_call<S: PlainServices>(services: &S, memories: &mut [S::Memory], call: S::Call)
+pub fn after_call<S: PlainServices>(services: &S, memories: &mut [S::Memory], call: S::Call)
     ensures { memories.new ≡ after_call (S.rules services.now) memories.old call }
 {
     let slot = services.slot(call);

@@ -1,7 +1,7 @@
 //! The marks of one connection, and the bytes that they say were read and written.
 
 ghost use Rattle.std.specs.Prelude.{◌≡◌, IfOk};
-ghost use Rattle.host_model.specs.Marks.{connection_of, marks_of, input, output};
+ghost use Rattle.host_model.specs.Marks.{connection_of, marks_of, read_by, written_by, input, output};
 
 use outside::{Bytes, Mark};
 use std::alloc::{AllocError, Global};
@@ -57,30 +57,54 @@ pub fn marks_of(alloc: Global, c: u32, tape: &[Mark]) -> Result<Vec<Mark>, Alloc
     Ok(own)
 }
 
+/// The bytes that a mark says were read.
+fn read_by(mark: &Mark) -> &[u8]
+    ensures { result.now ≡ read_by mark.now }
+{
+    match mark {
+        Mark::Read(_, bytes) => bytes.as_slice(),
+        Mark::Opened(_) => &[],
+        Mark::Ended(_) => &[],
+        Mark::Wrote(_, _) => &[],
+        Mark::ReadFailed(_) => &[],
+        Mark::WriteFailed(_) => &[],
+        Mark::Closed(_) => &[],
+    }
+}
+
+/// The bytes that a mark says were written.
+fn written_by(mark: &Mark) -> &[u8]
+    ensures { result.now ≡ written_by mark.now }
+{
+    match mark {
+        Mark::Wrote(_, bytes) => bytes.as_slice(),
+        Mark::Opened(_) => &[],
+        Mark::Read(_, _) => &[],
+        Mark::Ended(_) => &[],
+        Mark::ReadFailed(_) => &[],
+        Mark::WriteFailed(_) => &[],
+        Mark::Closed(_) => &[],
+    }
+}
+
 /// All bytes that marks say were read.
-#[tactic(auto, using(crate::proofs::Fronting::flat_on, crate::proofs::Fronting::flat_all))]
 pub fn input(alloc: Global, marks: &[Mark]) -> Result<Vec<u8>, AllocError>
     ensures { IfOk result (λ bytes. bytes.items ≡ input marks.now) }
 {
     let mut bytes = Vec::new(alloc);
     for mark in marks {
-        if let Mark::Read(_, piece) = mark {
-            bytes.extend_from_slice(piece.as_slice())?;
-        }
+        bytes.extend_from_slice(read_by(mark))?;
     }
     Ok(bytes)
 }
 
 /// All bytes that marks say were written.
-#[tactic(auto, using(crate::proofs::Fronting::flat_on, crate::proofs::Fronting::flat_all))]
 pub fn output(alloc: Global, marks: &[Mark]) -> Result<Vec<u8>, AllocError>
     ensures { IfOk result (λ bytes. bytes.items ≡ output marks.now) }
 {
     let mut bytes = Vec::new(alloc);
     for mark in marks {
-        if let Mark::Wrote(_, piece) = mark {
-            bytes.extend_from_slice(piece.as_slice())?;
-        }
+        bytes.extend_from_slice(written_by(mark))?;
     }
     Ok(bytes)
 }

@@ -1,10 +1,10 @@
-use Rattle.std.proofs.Common.{◌≡◌, ℕ, ◌+◌, ◌<◌, List, [], ◌∷◌, ◌++◌, length, get_or, refl, sym, ap, ◌∙◌, append-nil, arith}
+use Rattle.std.proofs.Common.{◌≡◌, ℕ, ◌+◌, ◌<◌, List, [], ◌∷◌, ◌++◌, length, get_or, refl, sym, ap, ◌∙◌, append-nil, subst, arith}
 use Rattle.host_model.specs.declared.plain.desks.Decided.{Decided}
 use Rattle.host_model.specs.declared.plain.desks.Decided.TheVariants.{Refused, Passed, Replied, Called}
 use Rattle.host_model.specs.Conversation.{called_by}
 use Rattle.host_model.specs.DeskRules.{DeskRules}
 use Rattle.host_model.specs.Plain.{decision_seen}
-use Rattle.host_model.proofs.Plainly.{Calling, call_on}
+use Rattle.host_model.proofs.Plainly.{Calling, call_on, called_all}
 use Rattle.host_model.proofs.plain.desks.called.Goals as goal
 use Rattle.host_model.proofs.plain.desks.called.Goals.{in-Called+in_ok-push, in_default+in-Replied-1, in_default+in-Refused-1}
 
@@ -44,3 +44,14 @@ loop-number-preserved g c =
           calls_nothing d c.args.payloads.now (λ p. p.items) c.loop-number.number c.index-payloads-number.result c.in_ok-call.field-0 c.loop-number.calls.items c.match-branch-2.calls.items
           c.loop-number.invariant (omega arith) c.index-payloads-number.is seen w.in_default.not-Called (ap (λ calls. calls.items) w.calls-is)
     ]
+
+pub loop-number-init : goal.loop-number-init
+loop-number-init g c =
+    subst (Calling (g.D.PlainDesk.desk c.args.desk.now) c.args.payloads.now (λ p. p.items) 0) (sym c.new-calls.ensures.items) (record { so_far = refl })
+
+pub returns : goal.returns
+returns g c =
+    let d = g.D.PlainDesk.desk c.args.desk.now in
+    let all : c.loop-number.number ≡ length c.args.payloads.now = omega arith in
+    called_all d c.args.payloads.now (λ p. p.items) c.loop-number.calls.items
+    (subst (λ i. Calling d c.args.payloads.now (λ p. p.items) i c.loop-number.calls.items) all c.loop-number.invariant)

@@ -1,5 +1,5 @@
-use Rattle.std.proofs.Common.{ap, ◌∙◌, arith}
-use Rattle.host_model.proofs.Plainly.{own_on, own_past}
+use Rattle.std.proofs.Common.{◌≡◌, length, refl, sym, ap, ◌∙◌, subst, arith}
+use Rattle.host_model.proofs.Plainly.{Owning, own_on, own_past, own_all}
 use Rattle.host_model.proofs.plain.journals.entries_of.Goals as goal
 use Rattle.host_model.proofs.plain.journals.entries_of.Goals.{then-entry-c+in_ok-push, else-entry-c}
 
@@ -13,3 +13,11 @@ loop-entry-preserved g c =
           own_past c.args.c c.args.journal.now c.loop-entry.entry-index c.entry-item.result c.loop-entry.own.items c.if-entry-c.own.items
           c.loop-entry.invariant (omega arith) c.entry-item.is w.if-entry-c.false (ap (λ own. own.items) w.own-is)
     ]
+
+pub loop-entry-init : goal.loop-entry-init
+loop-entry-init g c = subst (Owning c.args.c c.args.journal.now 0) (sym c.new-own.ensures.items) (record { so_far = refl })
+
+pub returns : goal.returns
+returns g c =
+    let all : c.loop-entry.entry-index ≡ length c.args.journal.now = omega arith in
+    own_all c.args.c c.args.journal.now c.loop-entry.own.items (subst (λ i. Owning c.args.c c.args.journal.now i c.loop-entry.own.items) all c.loop-entry.invariant)
