@@ -12,13 +12,17 @@ loop-entry-preserved g c =
     c.loop-entry.invariant c.loop-entry-test.true c.entry-item.is ((c.if-not-is_answered.ensures {u = tt}).0 refl) c.after_call.ensures
 
 pub returns-then-not-is_answered : goal.returns-then-not-is_answered
-returns-then-not-is_answered g c =
-    (λ e. absurd (false≢true e), λ legal. absurd (not_gone (g.S.PlainServices.rules c.args.services.now) c.args.memories.now c.args.journal.now c.loop-entry.entry-index c.entry-item.result
-    c.loop-entry.memories c.loop-entry.invariant c.loop-entry-test.true c.entry-item.is (λ a. false≢true ((c.if-not-is_answered.ensures {u = tt}).1 a)) legal))
+returns-then-not-is_answered g c = (
+  λ e. absurd (false≢true e),
+  λ legal. absurd (not_gone (g.S.PlainServices.rules c.args.services.now) c.args.memories.now c.args.journal.now c.loop-entry.entry-index c.entry-item.result
+      c.loop-entry.memories c.loop-entry.invariant c.loop-entry-test.true c.entry-item.is (λ a. false≢true ((c.if-not-is_answered.ensures {u = tt}).1 a)) legal),
+)
 
 pub returns : goal.returns
 returns g c =
     let r = g.S.PlainServices.rules c.args.services.now in
-    let all : c.loop-entry.entry-index ≡ length c.args.journal.now = omega arith in
-    (λ e. gone r c.args.memories.now c.args.journal.now c.loop-entry.memories
-    (subst (λ i. Going r c.args.memories.now c.args.journal.now i c.loop-entry.memories) all c.loop-entry.invariant), λ legal. refl)
+    let all : c.loop-entry.entry-index ≡ length c.args.journal.now = omega arith in (
+      λ e. gone r c.args.memories.now c.args.journal.now c.loop-entry.memories
+          (subst (λ i. Going r c.args.memories.now c.args.journal.now i c.loop-entry.memories) all c.loop-entry.invariant),
+      λ legal. refl,
+    )
