@@ -1,25 +1,24 @@
 -- At each front of the tape the sizes under way are within the budget.
-use Rattle.std.proofs.Common.{◌≡◌, ℕ, ℤ, zero, suc, ◌+◌, ◌<◌, ◌≤◌, ◌^◌, ◌⊎◌, nat_lt, if◌then◌else◌, Option, None, Some, List, [], ◌∷◌, ◌++◌, length, refl, sym, ap, ◌∙◌, subst, inl, inr, ⊎_elim, arith, append_assoc, append-nil}
+use Rattle.std.proofs.Common.{◌≡◌, ℕ, ℤ, zero, suc, ◌+◌, ◌<◌, ◌≤◌, ◌^◌, ◌⊎◌, Option, None, Some, List, [], ◌∷◌, ◌++◌, refl, sym, ap, ◌∙◌, subst, inl, inr, arith, append_assoc, append-nil}
 use Rattle.std.proofs.lemmas.Bool.{cases_eq}
 use Rattle.outside.specs.declared.outcomes.Settled.{Settled}
 use Rattle.outside.specs.declared.outcomes.Settled.TheVariants.{Reply, Nothing, Close as Refused, NoMemory}
 use Rattle.outside.specs.declared.marks.Mark.{Mark}
 use Rattle.outside.specs.declared.marks.Mark.TheVariants.{Opened, Read, Ended, ReadFailed, WriteFailed, Closed}
 use Rattle.host_model.specs.declared.cause.EndCause.{EndCause}
-use Rattle.host_model.specs.Frames.{Frames, size_bytes}
+use Rattle.host_model.specs.Frames.{Frames}
 use Rattle.host_model.specs.Marks.{connection_of, marks_of, input}
 use Rattle.host_model.specs.Journal.{ServiceRules}
 use Rattle.host_model.specs.DeskRules.{DeskRules}
-use Rattle.host_model.proofs.Lists.{Always, always-push, always-append, always_nil}
-use Rattle.host_model.proofs.Framing.{only_split, frames_read, rest_size}
+use Rattle.host_model.proofs.Lists.{Always, always-push, always_nil}
+use Rattle.host_model.proofs.Framing.{only_split}
 use Rattle.machine_model.specs.HallRule.{HallOperation, submit, take_job, apply, put, collect, close, HallAnswer, done, job, empty, is_closed, applied, no_memory, journal_fault, is_broken, outcome}
-use Rattle.machine_model.specs.Loop.{LoopConn, new_conn, Loop, IsOpen, FrameProgress, part, bad_size, whole, IsProgress, read_more, marks_read, with_conn, changed, ConnEvent, opens, reads, ends, fails_read, writes, fails_write, gives_up, Happens, conn_settled, conn_marks_settled, LoopAsks}
+use Rattle.machine_model.specs.Loop.{LoopConn, Loop, IsOpen, FrameProgress, part, bad_size, whole, IsProgress, marks_read, with_conn, changed, ConnEvent, opens, reads, ends, fails_read, writes, fails_write, gives_up, Happens, conn_marks_settled, LoopAsks}
 use Rattle.machine_model.specs.Machine.{Cell, MachineEvent, on_conn, submits, takes, applies, puts, collects, closes, EventsLead, Steps, IsFirst}
 use Rattle.machine_model.specs.Merge.{LoopItem, handles, calls, no_loop, Weaves}
 use Rattle.machine_model.specs.Bounds.{sum_among}
 use Rattle.machine_model.specs.OpenAtFronts.{opening_of, closing_of, marks_counted}
-use Rattle.machine_model.specs.AtFronts.{IsOpenBehind, size_begun, IsSizeBehind, AreSizesBehind, summed, IsWithinBudget, begun_if_open, all_begun, KeepsWithin}
-use Rattle.machine_model.proofs.Lists.{put_same}
+use Rattle.machine_model.specs.AtFronts.{size_begun, IsSizeBehind, AreSizesBehind, summed, IsWithinBudget, begun_if_open, all_begun, KeepsWithin}
 use Rattle.machine_model.proofs.Summing.{sum_changed}
 use Rattle.machine_model.proofs.Fronts.{counted-append}
 use Rattle.machine_model.proofs.Taping.{size_told, marks_here, marks_elsewhere, input-append, TapeTells, event_told, ask_told, nothing_told, open_on_tape}

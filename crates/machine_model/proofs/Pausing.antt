@@ -7,27 +7,26 @@ use Rattle.std.proofs.lemmas.Option.{none-some, same_Some}
 use Rattle.std.proofs.lemmas.Grind.{flat_map-append}
 use Rattle.outside.specs.declared.marks.Mark.{Mark}
 use Rattle.host_model.specs.declared.key.Key.{Key}
-use Rattle.host_model.specs.Frames.{Frames, frame, ArePayloads}
+use Rattle.host_model.specs.Frames.{Frames, frame}
 use Rattle.host_model.specs.Marks.{marks_of, input, output}
 use Rattle.host_model.specs.Journal.{JournalEntry, ServiceRules, entries_of}
 use Rattle.host_model.specs.DeskRules.{DeskRules}
-use Rattle.host_model.specs.Conversation.{sent, Done}
+use Rattle.host_model.specs.Conversation.{sent}
 use Rattle.host_model.specs.OrderBetween.{IsWhole}
 use Rattle.host_model.specs.World.{World, Act, ReachedBy, Moment}
-use Rattle.host_model.proofs.Lists.{all_push, all-append, nil-cons}
+use Rattle.host_model.proofs.Lists.{all_push, all-append}
 use Rattle.host_model.proofs.Framing.{only_split, a_split}
 use Rattle.host_model.proofs.Replies.{sent_kept}
 use Rattle.host_model.proofs.Filters.{entries_same, entries_other, of_entry}
 use Rattle.outside.specs.declared.outcomes.Settled.{Settled}
 use Rattle.outside.specs.declared.outcomes.Settled.TheVariants.{Reply, Nothing, Close as Refused, NoMemory}
-use Rattle.machine_model.specs.HallState.{key_of, HallState, without}
-use Rattle.machine_model.specs.HallRule.{HallOperation, submit, take_job, apply, put, collect, close, HallAnswer, done, job, empty, is_closed, applied, no_memory, journal_fault, is_broken, outcome, job_of, outcome_of, entry_under, TakesEffect, ApplyGives, HallGives}
+use Rattle.machine_model.specs.HallState.{key_of, HallState}
+use Rattle.machine_model.specs.HallRule.{HallOperation, submit, take_job, apply, put, collect, close, HallAnswer, done, job, empty, is_closed, applied, no_memory, journal_fault, is_broken, outcome, entry_under, TakesEffect, ApplyGives, HallGives}
 use Rattle.machine_model.specs.Determined.{IsApply}
 use Rattle.machine_model.specs.Loop.{LoopConn, new_conn, Loop, IsOpen, FrameProgress, part, bad_size, whole, read_more, with_conn, changed, ConnEvent, opens, reads, ends, fails_read, writes, fails_write, gives_up, Happens, conn_settled, LoopAsks}
 use Rattle.machine_model.specs.Worker.{WorkerState, holds, key_held}
 use Rattle.machine_model.specs.Machine.{Cell, with_worker, MachineEvent, on_conn, submits, takes, applies, puts, collects, closes, ByWorker, Steps, EventsLead, IsFirst}
 use Rattle.machine_model.specs.Places.{PayloadPlace, collected_all, held_by, jobs_of, outcomes_of, Carries, PayloadIsAt, WhatIsWritten, CellKeeps}
-use Rattle.machine_model.specs.AtFronts.{IsOpenBehind}
 use Rattle.machine_model.specs.Resting.{IsAtRest, IsPlaceOfRest}
 use Rattle.machine_model.proofs.Lists.{put_same, put_other}
 use Rattle.machine_model.proofs.Standing.{Sim, clear_by_count}

@@ -5,7 +5,7 @@ use Rattle.outside.specs.declared.marks.Mark.{Mark}
 use Rattle.host_model.specs.declared.cause.EndCause.{EndCause}
 use Rattle.host_model.specs.Frames.{Frames}
 use Rattle.host_model.specs.Marks.{marks_of, input}
-use Rattle.machine_model.specs.Loop.{LoopConn, Loop}
+use Rattle.machine_model.specs.Loop.{Loop}
 use Rattle.machine_model.specs.Bounds.{sum_among}
 use Rattle.machine_model.specs.OpenAtFronts.{opening_of, closing_of, marks_counted, IsWithinMost}
 

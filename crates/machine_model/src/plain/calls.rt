@@ -1,7 +1,6 @@
 //! A worker's Apply: its job's call takes effect, or goes otherwise.
 
 ghost use Rattle.std.specs.Prelude.{◌≡◌, Some, IfOk, option_map, slice_get};
-ghost use Rattle.host_model.specs.Journal.{after_call};
 ghost use Rattle.machine_model.specs.Plain.{when, effect_plain, fault_plain, apply_result_plain, broken_plain, apply_plain};
 ghost use Rattle.machine_model.specs.Seen.{hall_of, cell_of, apply_result_of};
 
@@ -10,7 +9,7 @@ use super::halls::PlainHall;
 use super::rounds::one_more;
 use super::workers::{PlainWorkerState, worker_at};
 use host_model::Key;
-use host_model::plain::{Decided, PlainDesk, PlainEntry, PlainServices};
+use host_model::plain::{Decided, PlainDesk, PlainEntry, PlainServices, after_call};
 use std::alloc::{AllocError, Global};
 
 /// A worker applies its job's call, where it has one; it goes so. Tells whether it can.
@@ -75,17 +74,6 @@ fn answer_of<S: PlainServices>(
     Some(answer)
 }
 
-/// A call's service, where it is there, goes on to the memory that it has after the call.
-fn moves_on<S: PlainServices>(services: &S, memories: &mut [S::Memory], call: S::Call)
-    ensures { memories.new ≡ after_call (S.rules services.now) memories.old call }
-{
-    let slot = services.slot(call);
-    if slot < memories.len() {
-        let (_, memory) = services.rule(call, memories[slot]);
-        memories[slot] = memory;
-    }
-}
-
 /// A call takes effect in the hall with this answer.
 fn takes_effect<S: PlainServices>(
     services: &S,
@@ -96,7 +84,7 @@ fn takes_effect<S: PlainServices>(
 ) -> Result<(), AllocError>
     ensures { IfOk result (λ done. hall_of hall.new ≡ effect_plain (S.rules services.now) (hall_of hall.old) key call answer) }
 {
-    moves_on(services, hall.memories.as_mut_slice(), call);
+    after_call(services, hall.memories.as_mut_slice(), call);
     hall.journal.push(PlainEntry { key, call, answer })?;
     Ok(())
 }
@@ -111,7 +99,7 @@ fn fails<S: PlainServices>(
 {
     hall.faults = one_more(hall.faults)?;
     hall.broken = true;
-    moves_on(services, hall.memories.as_mut_slice(), call);
+    after_call(services, hall.memories.as_mut_slice(), call);
     Ok(())
 }
 
