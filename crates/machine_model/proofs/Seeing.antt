@@ -353,8 +353,6 @@ module _ {C A M E : Type 0} (d : DeskRules C A) (r : ServiceRules C A M) (told_b
   pub all_gone : (first now : Cell C A M) (events : List E) → Going d r told_by first events (length events) now → Some now ≡ run_plain d r (map told_by events) (Some first)
   all_gone first now events g = ap (λ es. run_plain d r (map told_by es) (Some now)) (sym (drop-length events)) ∙ g.so_far
 
-pub ruleset running = (goes_on, stops, all_gone)
-
 -- the payload that is to be submitted next
 pub payload_seen : {X : Type 0} (f : X → List ℕ) (xs : List X) (i : ℕ) (x : X) → i < length xs → x ≡ get_or xs i x → slice_get (map f xs) i ≡ Some (f x)
 payload_seen f [] i x l is = absurd (let g : ⊥ = omega arith in g)

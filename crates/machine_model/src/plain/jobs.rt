@@ -133,7 +133,6 @@ fn settlement<D: PlainDesk>(
 }
 
 /// A worker puts its job's outcome, where it is settled. Tells whether it is.
-#[tactic(auto, using(crate::proofs::Seeing::put_by_key, crate::proofs::Seeing::put_by_none))]
 pub fn puts<D: PlainDesk, M: Copy>(
     alloc: Global,
     desk: &D,

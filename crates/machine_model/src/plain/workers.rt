@@ -22,7 +22,6 @@ pub enum PlainWorkerState<A> {
 }
 
 /// What this worker holds, where it has done anything.
-#[tactic(auto, using(crate::proofs::Seeing::worker_seen, crate::proofs::Seeing::no_worker))]
 pub fn worker_at<A: Copy>(workers: &[PlainWorkerState<A>], w: u32) -> Option<&PlainWorkerState<A>>
     ensures { MatchOption result (workers_of workers.now w ≡ idle) (λ worker. worker_of worker.now ≡ workers_of workers.now w) }
 {
