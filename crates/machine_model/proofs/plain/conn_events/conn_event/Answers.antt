@@ -27,6 +27,6 @@ pub returns-in_default-2 : goal.returns-in_default-2
 returns-in_default-2 c =
     let old = c.args.loop_part.now in
     let is : conn_of c.index_mut-conn.result.now ≡ conns_of old.conns.items c.in-Some.c =
-        ap conn_of c.index_mut-conn.ensures.value ∙ sym (conn_seen old.conns.items c.in-Some.c _ (c.if-not-is_open.ensures.there refl)) in
+    ap conn_of c.index_mut-conn.ensures.value ∙ sym (conn_seen old.conns.items c.in-Some.c _ (c.if-not-is_open.ensures.there refl)) in
     let moves = rw c.in_default-2.is at (c.in_ok-marks.ensures {u = tt}) in
     moved_nowhere c.args.max (loop_of old) (conn_event_of c.args.conn_event.now) c.in-Some.c _ c.in-Some.ensures c.if-not-is_open.ensures.is is moves
