@@ -37,7 +37,7 @@ pub struct PlainLoop {
     pub conns: Vec<PlainConn>,
 }
 
-/// The connection that this happens on, where it is there before.
+/// The connection that this happens on, where that is there before.
 fn conn_at(conn_event: &PlainConnEvent) -> Option<u32>
     ensures { result ≡ conn_at (conn_event_of conn_event.now) }
 {
@@ -52,7 +52,7 @@ fn conn_at(conn_event: &PlainConnEvent) -> Option<u32>
     }
 }
 
-/// Brings a connection behind what happens on it, where it can; returns the marks of that.
+/// Brings a connection to what it is after this happens on it, where it can; returns the marks of that.
 fn moves(
     alloc: Global,
     max: u32,
@@ -72,7 +72,7 @@ fn moves(
     }
 }
 
-/// Brings the loop behind what happens on a connection, where it can. Tells whether it can.
+/// Brings the loop to what it is after this happens on a connection, where it can. Tells whether it can.
 pub fn conn_event(
     alloc: Global,
     max: u32,

@@ -58,7 +58,8 @@ fn closes<C: Copy, A: Copy, M: Copy>(cell: &mut PlainCell<C, A, M>) -> Result<bo
     Ok(true)
 }
 
-/// Brings the machine behind an event, where it can be; payloads of this desk have at most `max` bytes. Tells whether it can.
+/// Brings the machine to what it is after an event, where that can be; payloads of this desk have at most `max` bytes. Tells
+/// whether it can.
 fn goes<D: PlainDesk, S: PlainServices<Call = D::Call, Answer = D::Answer>>(
     alloc: Global,
     max: u32,
