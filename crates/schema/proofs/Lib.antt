@@ -1,7 +1,9 @@
 pub mod ExampleIsSound
 pub mod FindById
+pub mod Levels
 pub mod Lines
 pub mod Names
 pub mod OneShapes
+pub mod Pieces
 pub mod ShapeLines
 pub mod WholeLines

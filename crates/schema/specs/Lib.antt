@@ -8,3 +8,4 @@ pub mod Sound
 pub mod Shapes
 pub mod SchemaText
 pub mod Example
+pub mod Inner

@@ -12,7 +12,7 @@ ghost use Rattle.schema.specs.Sound.{IsSound};
 use crate::look_up::{fields_at, own_part};
 use crate::services_text::put_oneway;
 use crate::types::{FieldDesc, FnDesc, Schema, TypeDesc};
-use crate::types_text::MAX_LEVELS;
+use crate::types_text::{MAX_LEVELS, inner, tag_word};
 use std::alloc::{AllocError, Global};
 use text_out::decimal;
 use thrift_value::{ByteText, FnShapes};
@@ -25,34 +25,16 @@ fn put_tags(into: &mut Vec<u8>, kind: &TypeDesc, levels: u32) -> Result<(), Allo
     if levels == 0 {
         return Err(AllocError);
     }
-    match kind {
-        TypeDesc::Bool => into.extend_from_slice(b"bool"),
-        TypeDesc::I8 => into.extend_from_slice(b"i8"),
-        TypeDesc::I16 => into.extend_from_slice(b"i16"),
-        TypeDesc::I32 | TypeDesc::Enum(_) => into.extend_from_slice(b"i32"),
-        TypeDesc::I64 => into.extend_from_slice(b"i64"),
-        TypeDesc::Double => into.extend_from_slice(b"double"),
-        TypeDesc::Text | TypeDesc::Binary => into.extend_from_slice(b"bytes"),
-        TypeDesc::Uuid => into.extend_from_slice(b"uuid"),
-        TypeDesc::Struct(_) => into.extend_from_slice(b"struct"),
-        TypeDesc::Map(key, value) => {
-            into.extend_from_slice(b"map<")?;
-            put_tags(into, key, levels - 1)?;
-            into.extend_from_slice(b",")?;
-            put_tags(into, value, levels - 1)?;
-            into.extend_from_slice(b">")
-        }
-        TypeDesc::Set(member) => {
-            into.extend_from_slice(b"set<")?;
-            put_tags(into, member, levels - 1)?;
-            into.extend_from_slice(b">")
-        }
-        TypeDesc::List(element) => {
-            into.extend_from_slice(b"list<")?;
-            put_tags(into, element, levels - 1)?;
-            into.extend_from_slice(b">")
-        }
+    into.extend_from_slice(tag_word(kind).as_bytes())?;
+    let Some((first, value)) = inner(kind) else {
+        return Ok(());
+    };
+    put_tags(into, first, levels - 1)?;
+    if let Some(value) = value {
+        into.extend_from_slice(b",")?;
+        put_tags(into, value, levels - 1)?;
     }
+    into.extend_from_slice(b">")
 }
 
 /// Appends a field's id and its tags.

@@ -1,14 +1,15 @@
 //! The text of a schema.
-ghost use Rattle.std.specs.Prelude.{◌≡◌, ◌++◌, ℤ, List, ℕ, map, OnOk, IfOk};
+ghost use Rattle.std.specs.Prelude.{◌≡◌, ◌++◌, ℤ, List, ℕ, codes, map, OnOk, IfOk};
 ghost use Rattle.std.specs.List.{flat_map};
+ghost use Rattle.schema.specs.PlainKind.{kind_of};
 ghost use Rattle.schema.specs.SchemaOf.{schema_of, plain_alias, plain_constant, plain_enum, plain_file, plain_struct};
-ghost use Rattle.schema.specs.SchemaText.{alias_in_text, constant_in_text, def_in_text, enum_in_text, enum_value_part, file_in_text, schema_text, struct_in_text, struct_word_part, text_at};
+ghost use Rattle.schema.specs.SchemaText.{alias_in_text, constant_in_text, def_in_text, enum_in_text, enum_value_part, file_in_text, kind_name, schema_text, struct_in_text, struct_word_part, text_at};
 ghost use Rattle.schema.specs.Sound.{IsSound};
 
 use crate::fields_text::put_field_lines;
 use crate::services_text::put_service;
 use crate::types::{
-    AliasDesc, ConstDesc, DefRef, EnumDesc, FieldsKind, FileDesc, Schema, StructDesc,
+    AliasDesc, ConstDesc, DefRef, EnumDesc, FieldsKind, FileDesc, Schema, StructDesc, TypeDesc,
 };
 use crate::types_text::{MAX_LEVELS, at, put_kind};
 use std::alloc::{AllocError, Global};
@@ -16,14 +17,34 @@ use text_out::{decimal, line};
 use thrift_value::ByteText;
 use value_text::put_value;
 
+/// Appends a word, a name, a blank and a type.
+fn put_typed(
+    into: &mut Vec<u8>,
+    schema: &Schema,
+    word: &[u8],
+    name: &[u8],
+    kind: &TypeDesc,
+) -> Result<(), AllocError>
+    ensures { OnOk result (into.new.items ≡ into.old.items
+        ++ (word.now ++ (name.now ++ (codes " " ++ kind_name (schema_of schema.now) (kind_of kind.now))))) }
+{
+    into.extend_from_slice(word)?;
+    into.extend_from_slice(name)?;
+    into.extend_from_slice(b" ")?;
+    put_kind(into, schema, kind, MAX_LEVELS)
+}
+
 #[tactic(auto, unfolding(crate::specs::SchemaText::alias_in_text))]
 fn put_alias(into: &mut Vec<u8>, schema: &Schema, alias: &AliasDesc) -> Result<(), AllocError>
     ensures { OnOk result (into.new.items ≡ into.old.items ++ alias_in_text (schema_of schema.now) (plain_alias alias.now)) }
 {
-    into.extend_from_slice(b"typedef ")?;
-    into.extend_from_slice(alias.name.as_slice())?;
-    into.extend_from_slice(b" ")?;
-    put_kind(into, schema, &alias.kind, MAX_LEVELS)?;
+    put_typed(
+        into,
+        schema,
+        b"typedef ",
+        alias.name.as_slice(),
+        &alias.kind,
+    )?;
     into.extend_from_slice(b"\n")
 }
 
@@ -31,29 +52,32 @@ fn put_alias(into: &mut Vec<u8>, schema: &Schema, alias: &AliasDesc) -> Result<(
 fn put_constant(into: &mut Vec<u8>, schema: &Schema, constant: &ConstDesc) -> Result<(), AllocError>
     ensures { OnOk result (into.new.items ≡ into.old.items ++ constant_in_text (schema_of schema.now) (plain_constant constant.now)) }
 {
-    into.extend_from_slice(b"const ")?;
-    into.extend_from_slice(constant.name.as_slice())?;
-    into.extend_from_slice(b" ")?;
-    put_kind(into, schema, &constant.kind, MAX_LEVELS)?;
+    put_typed(
+        into,
+        schema,
+        b"const ",
+        constant.name.as_slice(),
+        &constant.kind,
+    )?;
     into.extend_from_slice(b" ")?;
     put_value(into, &constant.value)?;
     into.extend_from_slice(b"\n")
 }
 
-fn put_enum_value(into: &mut Vec<u8>, name: &ByteText, number: i32) -> Result<(), AllocError>
-    ensures { OnOk result (into.new.items ≡ into.old.items ++ enum_value_part (name.now, number)) }
+fn put_enum_value(into: &mut Vec<u8>, value: &(ByteText, i32)) -> Result<(), AllocError>
+    ensures { OnOk result (into.new.items ≡ into.old.items ++ enum_value_part value.now) }
 {
     into.extend_from_slice(b" ")?;
-    into.extend_from_slice(name.as_slice())?;
+    into.extend_from_slice(value.0.as_slice())?;
     into.extend_from_slice(b"=")?;
-    decimal(into, i128::from(number))
+    decimal(into, i128::from(value.1))
 }
 
 fn put_enum_values(into: &mut Vec<u8>, values: &[(ByteText, i32)]) -> Result<(), AllocError>
     ensures { OnOk result (into.new.items ≡ into.old.items ++ flat_map enum_value_part values.now) }
 {
-    for (name, number) in values {
-        put_enum_value(into, name, *number)?;
+    for value in values {
+        put_enum_value(into, value)?;
     }
     Ok(())
 }
@@ -90,10 +114,10 @@ fn put_struct(into: &mut Vec<u8>, schema: &Schema, found: &StructDesc) -> Result
 }
 
 /// Appends a definition.
-fn put_def(into: &mut Vec<u8>, schema: &Schema, def: DefRef) -> Result<(), AllocError>
-    ensures { OnOk result (into.new.items ≡ into.old.items ++ def_in_text (schema_of schema.now) def) }
+fn put_def(into: &mut Vec<u8>, schema: &Schema, def: &DefRef) -> Result<(), AllocError>
+    ensures { OnOk result (into.new.items ≡ into.old.items ++ def_in_text (schema_of schema.now) def.now) }
 {
-    match def {
+    match *def {
         DefRef::Alias(n) => match at(schema.aliases.as_slice(), n) {
             Some(found) => put_alias(into, schema, found),
             None => Ok(()),
@@ -121,7 +145,7 @@ fn put_defs(into: &mut Vec<u8>, schema: &Schema, defs: &[DefRef]) -> Result<(), 
     ensures { OnOk result (into.new.items ≡ into.old.items ++ flat_map (def_in_text (schema_of schema.now)) defs.now) }
 {
     for def in defs {
-        put_def(into, schema, *def)?;
+        put_def(into, schema, def)?;
     }
     Ok(())
 }

@@ -2,6 +2,7 @@
 ghost use Rattle.std.specs.Prelude.{◌≡◌, ◌++◌, ◌<◌, codes, length, OnOk};
 ghost use Rattle.std.specs.List.{slice_get};
 ghost use Rattle.std.specs.Option.{option_copied};
+ghost use Rattle.schema.specs.Inner.{inner_of, name_front, shown_inner, tags_front};
 ghost use Rattle.schema.specs.LookUp.{base_at, dotted};
 ghost use Rattle.schema.specs.PlainKind.{kind_of};
 ghost use Rattle.schema.specs.SchemaOf.{schema_of, plain_enum, plain_struct, plain_service};
@@ -83,6 +84,53 @@ pub(crate) fn put_service_name(
     }
 }
 
+/// The types inside a container: its members' or elements' alone, or its keys' and its values'.
+pub(crate) fn inner(kind: &TypeDesc) -> Option<(&TypeDesc, Option<&TypeDesc>)>
+    ensures { shown_inner result ≡ inner_of (kind_of kind.now) }
+{
+    match kind {
+        TypeDesc::Map(key, value) => Some((&**key, Some(&**value))),
+        TypeDesc::Set(member) => Some((&**member, None)),
+        TypeDesc::List(element) => Some((&**element, None)),
+        _ => None,
+    }
+}
+
+/// The word in front in a type's tags: all of them where the type is no container.
+pub(crate) fn tag_word(kind: &TypeDesc) -> &'static str
+    ensures { result.now ≡ tags_front (kind_of kind.now) }
+{
+    match kind {
+        TypeDesc::Bool => "bool",
+        TypeDesc::I8 => "i8",
+        TypeDesc::I16 => "i16",
+        TypeDesc::I32 => "i32",
+        TypeDesc::I64 => "i64",
+        TypeDesc::Double => "double",
+        TypeDesc::Text => "bytes",
+        TypeDesc::Binary => "bytes",
+        TypeDesc::Uuid => "uuid",
+        TypeDesc::Enum(_) => "i32",
+        TypeDesc::Struct(_) => "struct",
+        TypeDesc::Map(_, _) => "map<",
+        TypeDesc::Set(_) => "set<",
+        TypeDesc::List(_) => "list<",
+    }
+}
+
+/// Appends what stands in front in a type's name: all of it where the type is no container.
+fn put_front(into: &mut Vec<u8>, schema: &Schema, kind: &TypeDesc) -> Result<(), AllocError>
+    ensures { OnOk result (into.new.items ≡ into.old.items ++ name_front (schema_of schema.now) (kind_of kind.now)) }
+{
+    match kind {
+        TypeDesc::Text => into.extend_from_slice(b"string"),
+        TypeDesc::Binary => into.extend_from_slice(b"binary"),
+        TypeDesc::Enum(which) => put_enum_name(into, schema, *which),
+        TypeDesc::Struct(which) => put_struct_name(into, schema, *which),
+        _ => into.extend_from_slice(tag_word(kind).as_bytes()),
+    }
+}
+
 /// Appends a type of at most so many levels, of which what stands in the innermost container is one. It recurses once a level.
 #[cycle(types_text)]
 pub(crate) fn put_kind(
@@ -96,34 +144,14 @@ pub(crate) fn put_kind(
     if levels == 0 {
         return Err(AllocError);
     }
-    match kind {
-        TypeDesc::Bool => into.extend_from_slice(b"bool"),
-        TypeDesc::I8 => into.extend_from_slice(b"i8"),
-        TypeDesc::I16 => into.extend_from_slice(b"i16"),
-        TypeDesc::I32 => into.extend_from_slice(b"i32"),
-        TypeDesc::I64 => into.extend_from_slice(b"i64"),
-        TypeDesc::Double => into.extend_from_slice(b"double"),
-        TypeDesc::Text => into.extend_from_slice(b"string"),
-        TypeDesc::Binary => into.extend_from_slice(b"binary"),
-        TypeDesc::Uuid => into.extend_from_slice(b"uuid"),
-        TypeDesc::Enum(which) => put_enum_name(into, schema, *which),
-        TypeDesc::Struct(which) => put_struct_name(into, schema, *which),
-        TypeDesc::Map(key, value) => {
-            into.extend_from_slice(b"map<")?;
-            put_kind(into, schema, key, levels - 1)?;
-            into.extend_from_slice(b",")?;
-            put_kind(into, schema, value, levels - 1)?;
-            into.extend_from_slice(b">")
-        }
-        TypeDesc::Set(member) => {
-            into.extend_from_slice(b"set<")?;
-            put_kind(into, schema, member, levels - 1)?;
-            into.extend_from_slice(b">")
-        }
-        TypeDesc::List(element) => {
-            into.extend_from_slice(b"list<")?;
-            put_kind(into, schema, element, levels - 1)?;
-            into.extend_from_slice(b">")
-        }
+    put_front(into, schema, kind)?;
+    let Some((first, value)) = inner(kind) else {
+        return Ok(());
+    };
+    put_kind(into, schema, first, levels - 1)?;
+    if let Some(value) = value {
+        into.extend_from_slice(b",")?;
+        put_kind(into, schema, value, levels - 1)?;
     }
+    into.extend_from_slice(b">")
 }
