@@ -1,5 +1,8 @@
 -- Steps of readers: one after another, and choices by a test.
-use Rattle.std.proofs.Common.{◌≡◌, ◌⊎◌, ℕ, Bool, true, false, cond, Option, Some, None, Result, Ok, Err, refl, inl, inr}
+use Rattle.std.proofs.Common.{◌≡◌, ◌⊎◌, ℕ, Bool, true, false, cond, Option, Some, None, Result, Ok, Err, refl, ap, ◌∙◌, inl, inr}
+use Rattle.value_text.specs.declared.stop.TextStop.{TextStop}
+use Rattle.value_text.specs.declared.stop.TextStop.TheVariants as stop
+use Rattle.value_text.specs.Answering.{LeavesAs}
 use Rattle.value_text.specs.Fronts.{◌>>=◌}
 use Rattle.value_text.specs.Rows.{found_or}
 
@@ -45,3 +48,13 @@ was_found None f other y e = inr (refl, e)
 pub had_to : {A B : Type 0} (o : Option A) (f : A → Result B ℕ) (left : ℕ) (y : B) → found_or o f (Err left) ≡ Ok y → (x : A) × (o ≡ Some x) × (f x ≡ Ok y)
 had_to (Some x) f left y e = (x, refl, e)
 had_to None f left y e = absurd cc
+
+-- two readings behind a first one are one behind both
+pub joined : {A B C : Type 0} (r : Result A ℕ) (f : A → Result B ℕ) (k : B → Result C ℕ) → (r >>= λ x. f x >>= k) ≡ ((r >>= f) >>= k)
+joined (Ok x) f k = refl
+joined (Err left) f k = refl
+
+-- a reading that stops stops what follows
+pub stops_all : {A B : Type 0} (why : TextStop) (r : Result A ℕ) (f : A → Result B ℕ) (total : Result B ℕ) → total ≡ (r >>= f) → LeavesAs why r → LeavesAs why total
+stops_all stop.NoMemory r f total is h = tt
+stops_all (stop.Left left) r f total is h = is ∙ ap (λ z. z >>= f) h

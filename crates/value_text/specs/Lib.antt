@@ -6,3 +6,4 @@ pub mod Reading
 pub mod Rows
 pub mod Texts
 pub mod ValueText
+pub mod Heads
