@@ -4,6 +4,7 @@ pub mod ContainersFound
 pub mod Digits
 pub mod GoodTrees
 pub mod Handed
+pub mod JoinedRows
 pub mod LeafLaws
 pub mod Numbers
 pub mod PlainRuns

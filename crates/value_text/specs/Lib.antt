@@ -7,3 +7,4 @@ pub mod Rows
 pub mod Texts
 pub mod ValueText
 pub mod Heads
+pub mod InOrder

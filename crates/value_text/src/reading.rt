@@ -1,7 +1,10 @@
 //! Reads values, level by level.
-ghost use Rattle.std.specs.Prelude.{◌≡◌, ◌++◌, ◌∷◌, [], map, MatchResult, OnOk, None, Some, Ok, Err, true, int_lt};
+ghost use Rattle.std.specs.Prelude.{◌≡◌, ◌++◌, ◌∷◌, [], ℕ, List, Result, map, MatchResult, OnOk, None, Some, Ok, Err, int_lt};
+ghost use Rattle.std.specs.Option.{option_map, option_copied};
+ghost use Rattle.thrift_value.specs.Tree.{Tree};
 ghost use Rattle.thrift_value.specs.TreeOf.{tree_of, field_tree, pair_tree};
 ghost use Rattle.value_text.specs.Answering.{Gives};
+ghost use Rattle.value_text.specs.InOrder.{in_order};
 ghost use Rattle.value_text.specs.Reading.{assigned_at, comes_behind, container_at, deeper_at, field_text_at, id_at, id_comes_behind, item_at, last_key, list_value_at, map_at, most_rounds, pair_text_at, set_at, struct_text_at, value_text_at};
 ghost use Rattle.value_text.specs.Rows.{last_of, list_at, row_at, rows_at};
 
@@ -214,41 +217,56 @@ fn struct_at(alloc: Global, levels: u32, text: &[u8]) -> Result<(Value, &[u8]), 
     Ok((Value::Struct(Fields::new(fields)), rest))
 }
 
-/// Whether a value comes behind the last one.
-fn comes_behind(before: &[Value], value: &Value) -> bool
-    ensures { result ≡ comes_behind (last_of (map tree_of before.now)) (tree_of value.now) }
+/// The last of some values.
+fn last_item(before: &[Value]) -> Option<&Value>
+    ensures { option_map tree_of (option_copied result) ≡ last_of (map tree_of before.now) }
 {
     match before.split_last() {
-        None => true,
-        Some((last, _)) => last.compare(value).is_lt(),
+        None => None,
+        Some((last, _)) => Some(last),
     }
 }
 
-/// An element behind others; the members of a set rise.
-#[cycle(reading)]
-#[tactic(auto, unfolding(crate::specs::Reading::item_at))]
-fn item_at<'a>(
-    alloc: Global,
-    levels: u32,
-    rising: bool,
-    tag: Tag,
-    before: &[Value],
-    text: &'a [u8],
-) -> Result<(Value, &'a [u8]), TextStop>
-    ensures { Gives (λ r. (tree_of r.0, r.1.now)) result
-        (item_at rising tag (value_text_at most_rounds levels) (last_of (map tree_of before.now)) text.now) }
+/// The key of the last pair.
+fn last_key(before: &[(Value, Value)]) -> Option<&Value>
+    ensures { option_map tree_of (option_copied result) ≡ last_key (last_of (map pair_tree before.now)) }
 {
-    let (value, rest) = value_at(alloc, levels, Some(tag), text)?;
+    match before.split_last() {
+        None => None,
+        Some((last, _)) => Some(&last.0),
+    }
+}
+
+/// Whether a value comes behind a last one.
+fn comes_behind(last: Option<&Value>, value: &Value) -> bool
+    ensures { result ≡ comes_behind (option_map tree_of (option_copied last.entry)) (tree_of value.now) }
+{
+    match last {
+        None => true,
+        Some(last) => last.compare(value).is_lt(),
+    }
+}
+
+/// A value that was read, where it comes behind a last one or needn't.
+fn in_order<'a>(
+    rising: bool,
+    last: Option<&Value>,
+    read: Result<(Value, &'a [u8]), TextStop>,
+) -> Result<(Value, &'a [u8]), TextStop>
+    ensures { (meant : Result (Tree × List ℕ) ℕ) → Gives (λ r. (tree_of r.0, r.1.now)) read.entry meant
+        → Gives (λ r. (tree_of r.0, r.1.now)) result (in_order rising (option_map tree_of (option_copied last.entry)) meant) }
+{
+    let (value, rest) = read?;
     if !rising {
         return Ok((value, rest));
     }
-    if comes_behind(before, &value) {
+    if comes_behind(last, &value) {
         return Ok((value, rest));
     }
     Err(TextStop::Left(rest.len()))
 }
 
-/// An element and what stands behind it.
+/// An element behind others, and what stands behind it; the members of a set rise.
 #[cycle(reading)]
 fn item_row<'a>(
     alloc: Global,
@@ -261,7 +279,8 @@ fn item_row<'a>(
     ensures { Gives (λ r. (tree_of r.0, r.1, r.2.now)) result
         (row_at (item_at rising tag (value_text_at most_rounds levels)) 93 (last_of (map tree_of before.now)) text.now) }
 {
-    let (entry, rest) = item_at(alloc, levels, rising, tag, before, text)?;
+    let read = value_at(alloc, levels, Some(tag), text);
+    let (entry, rest) = in_order(rising, last_item(before), read)?;
     joined(entry, next_at(b']', rest))
 }
 
@@ -330,36 +349,6 @@ fn list_value_at(alloc: Global, levels: u32, text: &[u8]) -> Result<(Value, &[u8
     Ok((Value::List(tag, Items::new(items)), rest))
 }
 
-/// Whether a key comes behind that of the last pair.
-fn key_comes_behind(before: &[(Value, Value)], key: &Value) -> bool
-    ensures { result ≡ comes_behind (last_key (last_of (map pair_tree before.now))) (tree_of key.now) }
-{
-    match before.split_last() {
-        None => true,
-        Some((last, _)) => last.0.compare(key).is_lt(),
-    }
-}
-
-/// A key behind others.
-#[cycle(reading)]
-#[tactic(auto, unfolding(crate::specs::Reading::item_at))]
-fn key_at<'a>(
-    alloc: Global,
-    levels: u32,
-    tag: Tag,
-    before: &[(Value, Value)],
-    text: &'a [u8],
-) -> Result<(Value, &'a [u8]), TextStop>
-    ensures { Gives (λ r. (tree_of r.0, r.1.now)) result
-        (item_at true tag (value_text_at most_rounds levels) (last_key (last_of (map pair_tree before.now))) text.now) }
-{
-    let (value, rest) = value_at(alloc, levels, Some(tag), text)?;
-    if key_comes_behind(before, &value) {
-        return Ok((value, rest));
-    }
-    Err(TextStop::Left(rest.len()))
-}
-
 /// A pair behind others: its key and its value.
 #[cycle(reading)]
 #[tactic(auto, unfolding(crate::specs::Reading::pair_text_at))]
@@ -377,7 +366,8 @@ fn pair_at<'a>(
     if !has_level(levels, tag) {
         return Err(TextStop::Left(text.len()));
     }
-    let (one, rest) = key_at(alloc, levels, key, before, text)?;
+    let read = value_at(alloc, levels, Some(key), text);
+    let (one, rest) = in_order(true, last_key(before), read)?;
     let value = assigned_at(alloc, levels, Some(tag), rest);
     paired(one, value)
 }

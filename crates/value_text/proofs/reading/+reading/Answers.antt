@@ -1,4 +1,4 @@
-use Rattle.std.proofs.Common.{◌≡◌, ◌-◌, ◌+◌, ◌∙◌, ℕ, List, codes, map, Result, Ok, true, false, suc, ap, sym, subst, arith}
+use Rattle.std.proofs.Common.{◌≡◌, ◌-◌, ◌+◌, ◌∙◌, ℕ, List, codes, map, Result, Ok, Some, true, false, suc, ap, sym, subst, rules, arith}
 use Rattle.std.proofs.lemmas.Result.{err_from_is_err_and}
 use Rattle.thrift_value.specs.Tree.{Tree, of_struct, of_map, of_set, of_list}
 use Rattle.thrift_value.specs.TreeOf.{tree_of, field_tree, pair_tree, field_trees, item_trees, pair_trees}
@@ -7,8 +7,10 @@ use Rattle.value_text.specs.declared.stop.TextStop.{TextStop}
 use Rattle.value_text.specs.declared.stop.TextStop.TheVariants as stop
 use Rattle.value_text.specs.Answering.{Gives, LeavesAs}
 use Rattle.value_text.specs.Fronts.{◌>>=◌, behind_word}
-use Rattle.value_text.specs.Rows.{list_at}
-use Rattle.value_text.specs.Reading.{deeper_at, field_text_at, head_text_at, item_at, list_value_at, map_at, map_head_at, most_rounds, pair_text_at, set_at, struct_text_at, value_text_at}
+use Rattle.value_text.specs.InOrder.{in_order}
+use Rattle.value_text.specs.Rows.{last_of, list_at}
+use Rattle.value_text.specs.Reading.{assigned_at, deeper_at, field_text_at, has_level, head_text_at, item_at, last_key, list_value_at, map_at, map_head_at, most_rounds, pair_text_at, set_at, struct_text_at, value_text_at}
+use Rattle.value_text.proofs.JoinedRows.{row_joined, pair_stops, pair_joined}
 use Rattle.value_text.proofs.RowSteps.{row_stop, row_put, last_row_put}
 use Rattle.value_text.proofs.reading.+reading.Goals as goal
 
@@ -167,3 +169,44 @@ list_value_at-returns t c =
     ap (λ r. r >>= λ h. list_at (item_at false h.0 (value_text_at most_rounds c.args.levels)) 93 most_rounds h.1 >>= λ x. Ok (of_list h.0 (item_trees x.0), x.1)) c.in_ok-tag.ensures
     ∙ ap (λ r. r >>= λ x. Ok (of_list c.in_ok-tag.tag (item_trees x.0), x.1)) c.in_ok-items.ensures
     ∙ ap (answer c.in_ok-items.rest.now) (ap (λ xs. of_list c.in_ok-tag.tag (item_trees (map tree_of xs))) (sym c.new.ensures) ∙ sym (tree_of-List c.in_ok-tag.tag c.new.result))
+
+-- an element or a key that was read
+
+pub item_row-returns-in_err-entry : goal.item_row-returns-in_err-entry
+unfolding item_at
+item_row-returns-in_err-entry t c =
+    let p = err_from_is_err_and c.from_residual.result c.from_residual.ensures.1 in
+    rw (p.1, p.2)
+    (stops c.in_err-entry.field-0.0 (item_at c.args.rising c.args.tag (value_text_at most_rounds c.args.levels) (last_of (map tree_of c.args.before.now)) c.args.text.now) _
+    (subst (λ l. LeavesAs c.in_err-entry.field-0.0 (in_order c.args.rising l (value_text_at most_rounds c.args.levels (Some c.args.tag) c.args.text.now))) c.last_item.ensures
+    (c.in_err-entry.ensures {u = tt} (value_text_at most_rounds c.args.levels (Some c.args.tag) c.args.text.now) c.value_at-read.ensures)))
+
+pub item_row-returns : goal.item_row-returns
+unfolding item_at
+item_row-returns t c =
+    row_joined tree_of c.in_ok-entry.entry c.in_ok-entry.rest.now (item_at c.args.rising c.args.tag (value_text_at most_rounds c.args.levels) (last_of (map tree_of c.args.before.now)) c.args.text.now) 93
+    c.next_at.result c.joined.result
+    (subst (λ l. in_order c.args.rising l (value_text_at most_rounds c.args.levels (Some c.args.tag) c.args.text.now) ≡ Ok (tree_of c.in_ok-entry.entry, c.in_ok-entry.rest.now)) c.last_item.ensures
+    (c.in_ok-entry.ensures {u = tt} (value_text_at most_rounds c.args.levels (Some c.args.tag) c.args.text.now) c.value_at-read.ensures))
+    c.next_at.ensures c.joined.ensures
+
+pub pair_at-returns-in_err-one : goal.pair_at-returns-in_err-one
+unfolding pair_text_at item_at
+pair_at-returns-in_err-one t c =
+    let p = err_from_is_err_and c.from_residual.result c.from_residual.ensures.1 in
+    let has : has_level c.args.levels c.args.tag ≡ true = search rules in
+    rw (p.1, p.2)
+    (pair_stops (has_level c.args.levels c.args.tag) (item_at true c.args.key (value_text_at most_rounds c.args.levels) (last_key (last_of (map pair_tree c.args.before.now))) c.args.text.now) c.args.text.now
+    (assigned_at (value_text_at most_rounds c.args.levels) (Some c.args.tag)) c.in_err-one.field-0.0 has
+    (subst (λ l. LeavesAs c.in_err-one.field-0.0 (in_order true l (value_text_at most_rounds c.args.levels (Some c.args.key) c.args.text.now))) c.last_key.ensures
+    (c.in_err-one.ensures {u = tt} (value_text_at most_rounds c.args.levels (Some c.args.key) c.args.text.now) c.value_at-read.ensures)))
+
+pub pair_at-returns : goal.pair_at-returns
+unfolding pair_text_at item_at
+pair_at-returns t c =
+    let has : has_level c.args.levels c.args.tag ≡ true = search rules in
+    pair_joined (has_level c.args.levels c.args.tag) (item_at true c.args.key (value_text_at most_rounds c.args.levels) (last_key (last_of (map pair_tree c.args.before.now))) c.args.text.now) c.args.text.now
+    (assigned_at (value_text_at most_rounds c.args.levels) (Some c.args.tag)) c.in_ok-one.one c.in_ok-one.rest.now c.assigned_at-value.result c.paired.result has
+    (subst (λ l. in_order true l (value_text_at most_rounds c.args.levels (Some c.args.key) c.args.text.now) ≡ Ok (tree_of c.in_ok-one.one, c.in_ok-one.rest.now)) c.last_key.ensures
+    (c.in_ok-one.ensures {u = tt} (value_text_at most_rounds c.args.levels (Some c.args.key) c.args.text.now) c.value_at-read.ensures))
+    c.assigned_at-value.ensures c.paired.ensures

@@ -55,14 +55,8 @@ decreases-pair_row l = 20 * l.levels + 8
 abbrev pub decreases-field_at : goal.decreases-field_at
 decreases-field_at l = 20 * l.levels + 7
 
-abbrev pub decreases-item_at : goal.decreases-item_at
-decreases-item_at l = 20 * l.levels + 7
-
 abbrev pub decreases-pair_at : goal.decreases-pair_at
 decreases-pair_at l = 20 * l.levels + 7
-
-abbrev pub decreases-key_at : goal.decreases-key_at
-decreases-key_at l = 20 * l.levels + 6
 
 abbrev pub decreases-assigned_at : goal.decreases-assigned_at
 decreases-assigned_at l = 20 * l.levels + 5
