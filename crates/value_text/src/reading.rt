@@ -136,23 +136,7 @@ fn assigned_at(
     value_at(alloc, levels, wanted, rest)
 }
 
-/// A field behind others: its id and its value.
-#[cycle(reading)]
-#[tactic(auto, unfolding(crate::specs::Reading::field_text_at))]
-fn field_at<'a>(
-    alloc: Global,
-    levels: u32,
-    before: &[(i16, Value)],
-    text: &'a [u8],
-) -> Result<((i16, Value), &'a [u8]), TextStop>
-    ensures { Gives (λ r. (field_tree r.0, r.1.now)) result (field_text_at (value_text_at most_rounds levels) (last_of (map field_tree before.now)) text.now) }
-{
-    let (id, rest) = id_at(before, text)?;
-    let (value, rest) = assigned_at(alloc, levels, None, rest)?;
-    Ok(((id, value), rest))
-}
-
-/// A field and what stands behind it.
+/// A field behind others, its id and its value, and what stands behind it.
 #[cycle(reading)]
 fn field_row<'a>(
     alloc: Global,
@@ -163,8 +147,9 @@ fn field_row<'a>(
     ensures { Gives (λ r. (field_tree r.0, r.1, r.2.now)) result
         (row_at (field_text_at (value_text_at most_rounds levels)) 125 (last_of (map field_tree before.now)) text.now) }
 {
-    let (entry, rest) = field_at(alloc, levels, before, text)?;
-    joined(entry, next_at(b'}', rest))
+    let (id, rest) = id_at(before, text)?;
+    let (value, rest) = assigned_at(alloc, levels, None, rest)?;
+    joined((id, value), next_at(b'}', rest))
 }
 
 /// Fields with commas between them, one at least, up to the brace that closes them.

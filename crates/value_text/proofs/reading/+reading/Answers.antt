@@ -1,5 +1,7 @@
-use Rattle.std.proofs.Common.{◌≡◌, ◌-◌, ◌+◌, ◌∙◌, ℕ, List, codes, map, Result, Ok, Some, true, false, suc, ap, sym, subst, rules, arith}
+use Rattle.std.proofs.Common.{◌≡◌, ◌-◌, ◌+◌, ◌∙◌, ℕ, List, codes, map, Result, Ok, Some, None, FitsSigned, to_z, of_z, true, false, suc, ap, sym, subst, rules, arith}
+use Rattle.std.proofs.lemmas.Int.{to_z-of_z}
 use Rattle.std.proofs.lemmas.Result.{err_from_is_err_and}
+use Rattle.std.specs.Int.{w16}
 use Rattle.thrift_value.specs.Tree.{Tree, of_struct, of_map, of_set, of_list}
 use Rattle.thrift_value.specs.TreeOf.{tree_of, field_tree, pair_tree, field_trees, item_trees, pair_trees}
 use Rattle.thrift_value.proofs.Trees.{tree_of-Struct, tree_of-Map, tree_of-Set, tree_of-List}
@@ -9,7 +11,7 @@ use Rattle.value_text.specs.Answering.{Gives, LeavesAs}
 use Rattle.value_text.specs.Fronts.{◌>>=◌, behind_word}
 use Rattle.value_text.specs.InOrder.{in_order}
 use Rattle.value_text.specs.Rows.{last_of, list_at}
-use Rattle.value_text.specs.Reading.{assigned_at, deeper_at, field_text_at, has_level, head_text_at, item_at, last_key, list_value_at, map_at, map_head_at, most_rounds, pair_text_at, set_at, struct_text_at, value_text_at}
+use Rattle.value_text.specs.Reading.{assigned_at, deeper_at, field_text_at, has_level, head_text_at, id_at, item_at, last_key, list_value_at, map_at, map_head_at, most_rounds, pair_text_at, set_at, struct_text_at, value_text_at}
 use Rattle.value_text.proofs.JoinedRows.{row_joined, pair_stops, pair_joined}
 use Rattle.value_text.proofs.RowSteps.{row_stop, row_put, last_row_put}
 use Rattle.value_text.proofs.reading.+reading.Goals as goal
@@ -210,3 +212,30 @@ pair_at-returns t c =
     (subst (λ l. in_order true l (value_text_at most_rounds c.args.levels (Some c.args.key) c.args.text.now) ≡ Ok (tree_of c.in_ok-one.one, c.in_ok-one.rest.now)) c.last_key.ensures
     (c.in_ok-one.ensures {u = tt} (value_text_at most_rounds c.args.levels (Some c.args.key) c.args.text.now) c.value_at-read.ensures))
     c.assigned_at-value.ensures c.paired.ensures
+
+-- a field that was read
+
+pub field_row-returns-in_err-id : goal.field_row-returns-in_err-id
+unfolding field_text_at
+field_row-returns-in_err-id t c =
+    let p = err_from_is_err_and c.from_residual.result c.from_residual.ensures.1 in
+    rw (p.1, p.2) (stops c.in_err-id.field-0.0 (field_text_at (value_text_at most_rounds c.args.levels) (last_of (map field_tree c.args.before.now)) c.args.text.now) _ (stops c.in_err-id.field-0.0 (id_at (last_of (map field_tree c.args.before.now)) c.args.text.now) _ c.in_err-id.ensures))
+
+pub field_row-returns-in_err-value : goal.field_row-returns-in_err-value
+unfolding field_text_at
+field_row-returns-in_err-value t c =
+    let p = err_from_is_err_and c.from_residual-in_err-value.result c.from_residual-in_err-value.ensures.1 in
+    rw (p.1, p.2)
+    (stops c.in_err-value.field-0.0 (field_text_at (value_text_at most_rounds c.args.levels) (last_of (map field_tree c.args.before.now)) c.args.text.now) _
+    (stops_later c.in_err-value.field-0.0 (id_at (last_of (map field_tree c.args.before.now)) c.args.text.now) _ (c.in_ok-id.id, c.in_ok-id.rest.now) c.in_ok-id.ensures
+    (stops c.in_err-value.field-0.0 (assigned_at (value_text_at most_rounds c.args.levels) None c.in_ok-id.rest.now) _ c.in_err-value.ensures)))
+
+pub field_row-returns : goal.field_row-returns
+unfolding field_text_at
+field_row-returns t c =
+    let fits : FitsSigned w16 c.in_ok-id.id = search rules in
+    row_joined field_tree (to_z w16 (of_z w16 c.in_ok-id.id), c.in_ok-value.value) c.in_ok-value.rest.now (field_text_at (value_text_at most_rounds c.args.levels) (last_of (map field_tree c.args.before.now)) c.args.text.now) 125 c.next_at.result c.joined.result
+    (ap (λ r. r >>= λ id. assigned_at (value_text_at most_rounds c.args.levels) None id.1 >>= λ x. Ok ((id.0, x.0), x.1)) c.in_ok-id.ensures
+    ∙ ap (λ r. r >>= λ x. Ok ((c.in_ok-id.id, x.0), x.1)) c.in_ok-value.ensures
+    ∙ (λ i. Ok ((sym (to_z-of_z w16 c.in_ok-id.id fits) i, tree_of c.in_ok-value.value), c.in_ok-value.rest.now)))
+    c.next_at.ensures c.joined.ensures
