@@ -334,29 +334,6 @@ fn list_value_at(alloc: Global, levels: u32, text: &[u8]) -> Result<(Value, &[u8
     Ok((Value::List(tag, Items::new(items)), rest))
 }
 
-/// A pair behind others: its key and its value.
-#[cycle(reading)]
-#[tactic(auto, unfolding(crate::specs::Reading::pair_text_at))]
-fn pair_at<'a>(
-    alloc: Global,
-    levels: u32,
-    key: Tag,
-    tag: Tag,
-    before: &[(Value, Value)],
-    text: &'a [u8],
-) -> Result<((Value, Value), &'a [u8]), TextStop>
-    ensures { Gives (λ r. (pair_tree r.0, r.1.now)) result
-        (pair_text_at levels key tag (value_text_at most_rounds levels) (last_of (map pair_tree before.now)) text.now) }
-{
-    if !has_level(levels, tag) {
-        return Err(TextStop::Left(text.len()));
-    }
-    let read = value_at(alloc, levels, Some(key), text);
-    let (one, rest) = in_order(true, last_key(before), read)?;
-    let value = assigned_at(alloc, levels, Some(tag), rest);
-    paired(one, value)
-}
-
 /// A key with its value.
 fn paired<'a>(
     key: Value,
@@ -370,8 +347,9 @@ fn paired<'a>(
     }
 }
 
-/// A pair and what stands behind it.
+/// A pair behind others, its key and its value, and what stands behind it.
 #[cycle(reading)]
+#[tactic(auto, unfolding(crate::specs::Reading::pair_text_at))]
 fn pair_row<'a>(
     alloc: Global,
     levels: u32,
@@ -383,7 +361,13 @@ fn pair_row<'a>(
     ensures { Gives (λ r. (pair_tree r.0, r.1, r.2.now)) result
         (row_at (pair_text_at levels key tag (value_text_at most_rounds levels)) 125 (last_of (map pair_tree before.now)) text.now) }
 {
-    let (entry, rest) = pair_at(alloc, levels, key, tag, before, text)?;
+    if !has_level(levels, tag) {
+        return Err(TextStop::Left(text.len()));
+    }
+    let read = value_at(alloc, levels, Some(key), text);
+    let (one, rest) = in_order(true, last_key(before), read)?;
+    let value = assigned_at(alloc, levels, Some(tag), rest);
+    let (entry, rest) = paired(one, value)?;
     joined(entry, next_at(b'}', rest))
 }
 

@@ -1,4 +1,4 @@
-use Rattle.std.proofs.Common.{◌≡◌, ◌-◌, ◌+◌, ◌∙◌, ℕ, List, codes, map, Result, Ok, Some, None, FitsSigned, to_z, of_z, true, false, suc, ap, sym, subst, rules, arith}
+use Rattle.std.proofs.Common.{◌≡◌, ◌-◌, ◌+◌, ◌∙◌, ℕ, List, codes, map, Result, Ok, Err, Some, None, FitsSigned, to_z, of_z, true, false, suc, ap, sym, subst, rules, arith}
 use Rattle.std.proofs.lemmas.Int.{to_z-of_z}
 use Rattle.std.proofs.lemmas.Result.{err_from_is_err_and}
 use Rattle.std.specs.Int.{w16}
@@ -192,26 +192,42 @@ item_row-returns t c =
     (c.in_ok-entry.ensures {u = tt} (value_text_at most_rounds c.args.levels (Some c.args.tag) c.args.text.now) c.value_at-read.ensures))
     c.next_at.ensures c.joined.ensures
 
-pub pair_at-returns-in_err-one : goal.pair_at-returns-in_err-one
+pub pair_row-returns-in_err-one : goal.pair_row-returns-in_err-one
 unfolding pair_text_at item_at
-pair_at-returns-in_err-one t c =
+pair_row-returns-in_err-one t c =
     let p = err_from_is_err_and c.from_residual.result c.from_residual.ensures.1 in
     let has : has_level c.args.levels c.args.tag ≡ true = search rules in
     rw (p.1, p.2)
+    (stops c.in_err-one.field-0.0 (pair_text_at c.args.levels c.args.key c.args.tag (value_text_at most_rounds c.args.levels) (last_of (map pair_tree c.args.before.now)) c.args.text.now) _
     (pair_stops (has_level c.args.levels c.args.tag) (item_at true c.args.key (value_text_at most_rounds c.args.levels) (last_key (last_of (map pair_tree c.args.before.now))) c.args.text.now) c.args.text.now
     (assigned_at (value_text_at most_rounds c.args.levels) (Some c.args.tag)) c.in_err-one.field-0.0 has
     (subst (λ l. LeavesAs c.in_err-one.field-0.0 (in_order true l (value_text_at most_rounds c.args.levels (Some c.args.key) c.args.text.now))) c.last_key.ensures
-    (c.in_err-one.ensures {u = tt} (value_text_at most_rounds c.args.levels (Some c.args.key) c.args.text.now) c.value_at-read.ensures)))
+    (c.in_err-one.ensures {u = tt} (value_text_at most_rounds c.args.levels (Some c.args.key) c.args.text.now) c.value_at-read.ensures))))
 
-pub pair_at-returns : goal.pair_at-returns
+pub pair_row-returns-in_err-entry : goal.pair_row-returns-in_err-entry
 unfolding pair_text_at item_at
-pair_at-returns t c =
+pair_row-returns-in_err-entry t c =
+    let p = err_from_is_err_and c.from_residual-in_err-entry.result c.from_residual-in_err-entry.ensures.1 in
     let has : has_level c.args.levels c.args.tag ≡ true = search rules in
-    pair_joined (has_level c.args.levels c.args.tag) (item_at true c.args.key (value_text_at most_rounds c.args.levels) (last_key (last_of (map pair_tree c.args.before.now))) c.args.text.now) c.args.text.now
-    (assigned_at (value_text_at most_rounds c.args.levels) (Some c.args.tag)) c.in_ok-one.one c.in_ok-one.rest.now c.assigned_at-value.result c.paired.result has
+    rw (p.1, p.2)
+    (stops c.in_err-entry.field-0.0 (pair_text_at c.args.levels c.args.key c.args.tag (value_text_at most_rounds c.args.levels) (last_of (map pair_tree c.args.before.now)) c.args.text.now) _
+    (pair_joined (has_level c.args.levels c.args.tag) (item_at true c.args.key (value_text_at most_rounds c.args.levels) (last_key (last_of (map pair_tree c.args.before.now))) c.args.text.now) c.args.text.now
+    (assigned_at (value_text_at most_rounds c.args.levels) (Some c.args.tag)) c.in_ok-one.one c.in_ok-one.rest.now c.assigned_at-value.result (Err c.in_err-entry.field-0.0) has
     (subst (λ l. in_order true l (value_text_at most_rounds c.args.levels (Some c.args.key) c.args.text.now) ≡ Ok (tree_of c.in_ok-one.one, c.in_ok-one.rest.now)) c.last_key.ensures
     (c.in_ok-one.ensures {u = tt} (value_text_at most_rounds c.args.levels (Some c.args.key) c.args.text.now) c.value_at-read.ensures))
-    c.assigned_at-value.ensures c.paired.ensures
+    c.assigned_at-value.ensures (c.in_err-entry.ensures {u = tt})))
+
+pub pair_row-returns : goal.pair_row-returns
+unfolding pair_text_at item_at
+pair_row-returns t c =
+    let has : has_level c.args.levels c.args.tag ≡ true = search rules in
+    row_joined pair_tree c.in_ok-entry.entry c.in_ok-entry.rest.now (pair_text_at c.args.levels c.args.key c.args.tag (value_text_at most_rounds c.args.levels) (last_of (map pair_tree c.args.before.now)) c.args.text.now) 125 c.next_at.result c.joined.result
+    (pair_joined (has_level c.args.levels c.args.tag) (item_at true c.args.key (value_text_at most_rounds c.args.levels) (last_key (last_of (map pair_tree c.args.before.now))) c.args.text.now) c.args.text.now
+    (assigned_at (value_text_at most_rounds c.args.levels) (Some c.args.tag)) c.in_ok-one.one c.in_ok-one.rest.now c.assigned_at-value.result (Ok (c.in_ok-entry.entry, c.in_ok-entry.rest)) has
+    (subst (λ l. in_order true l (value_text_at most_rounds c.args.levels (Some c.args.key) c.args.text.now) ≡ Ok (tree_of c.in_ok-one.one, c.in_ok-one.rest.now)) c.last_key.ensures
+    (c.in_ok-one.ensures {u = tt} (value_text_at most_rounds c.args.levels (Some c.args.key) c.args.text.now) c.value_at-read.ensures))
+    c.assigned_at-value.ensures (c.in_ok-entry.ensures {u = tt}))
+    c.next_at.ensures c.joined.ensures
 
 -- a field that was read
 

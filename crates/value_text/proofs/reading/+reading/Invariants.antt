@@ -52,9 +52,6 @@ decreases-item_row l = 20 * l.levels + 8
 abbrev pub decreases-pair_row : goal.decreases-pair_row
 decreases-pair_row l = 20 * l.levels + 8
 
-abbrev pub decreases-pair_at : goal.decreases-pair_at
-decreases-pair_at l = 20 * l.levels + 7
-
 abbrev pub decreases-assigned_at : goal.decreases-assigned_at
 decreases-assigned_at l = 20 * l.levels + 5
 
