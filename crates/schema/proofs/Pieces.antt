@@ -1,15 +1,30 @@
 -- Texts that are written piece by piece, in a loop over what they are made of.
-use Rattle.std.proofs.Common.{◌≡◌, ℕ, ◌+◌, ◌<◌, ◌≤◌, List, [], ◌∷◌, ◌++◌, length, get_or, drop, Result, Ok, Err, OnOk, sym, ap, ◌∙◌, append_assoc}
+use Rattle.std.proofs.Common.{◌≡◌, ℕ, ◌+◌, ◌<◌, ◌≤◌, List, [], ◌∷◌, ◌++◌, length, get_or, drop, map, Some, None, Result, Ok, Err, OnOk, sym, ap, ◌∙◌, append_assoc}
 use Rattle.std.specs.Bool.{if◌then◌else◌}
-use Rattle.std.specs.List.{flat_map}
+use Rattle.std.specs.List.{flat_map, slice_get}
+use Rattle.std.specs.Option.{option_map}
+use Rattle.std.specs.Prelude.{unwrap_or}
 use Rattle.std.specs.Result.{is_ok}
 use Rattle.std.proofs.lemmas.List.{append-nil, at_drop_more, at_drop_all}
+use Rattle.std.proofs.lemmas.Option.{slice_get-map}
+use Rattle.schema.specs.SchemaText.{text_at}
 use Rattle.schema.specs.Shapes.{joined}
 
 -- what is so where a piece found room, told as what holds then
 pub put_on_ok : {A E B : Type 0} (r : Result A E) (longer all before : List B) → longer ≡ (if is_ok r then all else before) → OnOk r (longer ≡ all)
 put_on_ok (Ok x) longer all before is = is
 put_on_ok (Err e) longer all before is = tt
+
+-- the text of what stands at a number, or of nothing
+pub text_found : {A P : Type 0} (text : P → List ℕ) (plain : A → P) (items shown : List A) (n : ℕ) (x : A) → shown ≡ items → Some x ≡ slice_get shown n
+    → text (plain x) ≡ text_at text (map plain items) n
+text_found text plain items shown n x is found =
+    sym (ap (λ o. unwrap_or (option_map text o) []) (slice_get-map plain items n ∙ ap (option_map plain) (ap (λ xs. slice_get xs n) (sym is) ∙ sym found)))
+
+pub text_missed : {A P : Type 0} (text : P → List ℕ) (plain : A → P) (items shown : List A) (n : ℕ) (before : List ℕ) → shown ≡ items → None ≡ slice_get shown n
+    → before ≡ before ++ text_at text (map plain items) n
+text_missed text plain items shown n before is missed =
+    sym (ap (λ o. before ++ unwrap_or (option_map text o) []) (slice_get-map plain items n ∙ ap (option_map plain) (ap (λ xs. slice_get xs n) (sym is) ∙ sym missed)) ∙ append-nil before)
 
 module _ {A B : Type 0} (piece : A → List B) (text : List A → List B) (each : (x : A) (xs : List A) → text (x ∷ xs) ≡ piece x ++ text xs)
     (xs : List A) (i : ℕ) (all : List B) where
