@@ -1,16 +1,17 @@
 -- Marks of the items of a list, one more at a time.
-use Rattle.std.proofs.Common.{◌≡◌, ◌<◌, ℕ, ℤ, zero, suc, ◌+◌, Bool, true, false, List, [], ◌∷◌, ◌++◌, map, length, get_or, take, drop, Bor, refl, ap, sym, ◌∙◌, arith, append_assoc, add-one}
+use Rattle.std.proofs.Common.{◌≡◌, ◌<◌, ◌≤◌, ℕ, ℤ, zero, suc, ◌+◌, Bool, true, false, List, [], ◌∷◌, ◌++◌, map, length, get_or, take, drop, Bor, refl, ap, sym, ◌∙◌, arith, append_assoc, add-one}
 use Rattle.std.specs.Prelude.{◌||◌, if◌then◌else◌}
 use Rattle.std.specs.Ordering.{int_eq}
 use Rattle.std.specs.List.{list_any}
 use Rattle.std.specs.Str.{bytes_eq}
 use Rattle.std.proofs.Math.Seq.{take-suc}
-use Rattle.std.proofs.lemmas.List.{map-append}
+use Rattle.std.proofs.lemmas.List.{append-nil, map-append}
 use Rattle.std.proofs.lemmas.Slice.Eq.{bytes_eq-Decides}
 use Rattle.std.proofs.lemmas.Bool.Decides.{Decides-int_eq}
 use Rattle.indexmap.specs.IndexSet.{insert_key}
 use Rattle.idl_names.specs.Before.{id_marks}
-use Rattle.idl_names.specs.NameSets.{NameSet, HasNameToo, IdSet, has_id, HasIdToo}
+use Rattle.idl_include.specs.Loading.{is_among}
+use Rattle.idl_names.specs.NameSets.{NameSet, has_name, HasNameToo, IdSet, has_id, HasIdToo}
 use Rattle.idl_names.proofs.Numbered.{same_either_way}
 
 -- ---- sets
@@ -71,6 +72,18 @@ left_more (y ∷ xs) (suc i) x l here =
     let e : suc (i + 1) ≡ suc i + 1 = omega arith in
     left_more xs i x (omega arith) here ∙ ap (λ k. x ∷ drop k (y ∷ xs)) e
 
+pub past_end : {A : Type 0} (xs : List A) (n : ℕ) → length xs ≤ n → drop n xs ≡ []
+past_end [] zero l = refl
+past_end [] (suc n) l = refl
+past_end (x ∷ xs) zero l = absurd (omega arith)
+past_end (x ∷ xs) (suc n) l = past_end xs n (omega arith)
+
+-- what stands in its place where nothing does doesn't count
+pub there_either_way : {A : Type 0} (xs : List A) (i : ℕ) (x y : A) → i < length xs → get_or xs i x ≡ get_or xs i y
+there_either_way [] i x y l = absurd (omega arith)
+there_either_way (z ∷ xs) zero x y l = refl
+there_either_way (z ∷ xs) (suc i) x y l = there_either_way xs i x y (omega arith)
+
 -- marks so far, and those of the rest
 pub marked_next : {A B : Type 0} (marks : List B → List B → List Bool) (mark : List B → B → Bool)
     → ((before : List B) (y : B) (more : List B) → marks before (y ∷ more) ≡ mark before y ∷ marks (before ++ y ∷ []) more)
@@ -106,3 +119,18 @@ has_next xs i x old new l here too so_far other =
     ∙ ap (λ b. b || int_eq other x) (so_far other)
     ∙ sym (any_push (int_eq other) (take i xs) x)
     ∙ ap (list_any (int_eq other)) (sym (taken_more xs i x l here))
+
+-- the same of names
+pub name_seen_next : {A : Type 0} (g : A → List ℕ) (xs : List A) (i : ℕ) (x : A) (k : List ℕ) (old new : NameSet) → i < length xs → x ≡ get_or xs i x → k ≡ g x
+    → HasNameToo k old new → ((other : List ℕ) → has_name old other ≡ is_among other (map g (take i xs)))
+    → (other : List ℕ) → has_name new other ≡ is_among other (map g (take (i + 1) xs))
+name_seen_next g xs i x k old new l here e too so_far other =
+    too other
+    ∙ (λ j. so_far other j || bytes_eq (e j) other)
+    ∙ sym (any_push (λ n. bytes_eq n other) (map g (take i xs)) (g x))
+    ∙ ap (is_among other) (sym (ap (map g) (taken_more xs i x l here) ∙ map-append g (take i xs) (x ∷ [])))
+
+-- nothing is left behind the last
+pub all_marked : {B : Type 0} (marks : List B → List B → List Bool) (before left : List B) (old all : List Bool)
+    → marks before [] ≡ [] → left ≡ [] → old ++ marks before left ≡ all → old ≡ all
+all_marked marks before left old all last end so_far = sym (append-nil old) ∙ ap (λ m. old ++ m) (sym (ap (marks before) end ∙ last)) ∙ so_far

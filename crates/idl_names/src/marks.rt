@@ -1,6 +1,6 @@
 //! Marks of the items of a list: whether one before has the same name or id.
 
-ghost use Rattle.std.specs.Prelude.{◌≡◌, ◌||◌, [], ℕ, List, map, IfOk, OnOk};
+ghost use Rattle.std.specs.Prelude.{◌≡◌, ◌||◌, ◌++◌, ◌∷◌, [], ℕ, List, map, IfOk, OnOk};
 ghost use Rattle.std.specs.Str.{bytes_eq};
 ghost use Rattle.idl_names.specs.Before.{name_marks, id_marks};
 ghost use Rattle.idl_names.specs.NameSets.{has_name, HasNameToo, has_id, HasIdToo};
@@ -24,13 +24,28 @@ pub fn was_seen<'a>(seen: &mut NameSet<'a>, name: &'a [u8]) -> Result<bool, Allo
     Ok(!new)
 }
 
-/// Adds an id, and tells whether it was there before.
-fn id_was_seen(seen: &mut IdSet, id: i64) -> Result<bool, AllocError>
-    ensures before { IfOk result (λ was. was ≡ has_id seen.old id) }
-    ensures after { OnOk result (HasIdToo id seen.old seen.new) }
+/// Marks whether a name was there before, and adds it.
+fn put_name_mark<'a>(
+    marks: &mut Vec<bool>,
+    seen: &mut NameSet<'a>,
+    name: &'a [u8],
+) -> Result<(), AllocError>
+    ensures marked { OnOk result (marks.new.items ≡ marks.old.items ++ has_name seen.old name.now ∷ []) }
+    ensures after { OnOk result (HasNameToo name.now seen.old seen.new) }
 {
-    let new = seen.insert(id)?;
-    Ok(!new)
+    let was = was_seen(seen, name)?;
+    marks.push(was)?;
+    Ok(())
+}
+
+/// Marks whether an id was there before, and adds it.
+fn put_id_mark(marks: &mut Vec<bool>, seen: &mut IdSet, id: &i64) -> Result<(), AllocError>
+    ensures marked { OnOk result (marks.new.items ≡ marks.old.items ++ has_id seen.old id.now ∷ []) }
+    ensures after { OnOk result (HasIdToo id.now seen.old seen.new) }
+{
+    let new = seen.insert(*id)?;
+    marks.push(!new)?;
+    Ok(())
 }
 
 /// Whether each name is one of those before it.
@@ -40,8 +55,7 @@ pub(crate) fn repeated_names<D: Named>(alloc: Global, items: &[D]) -> Result<Vec
     let mut marks = Vec::new(alloc);
     let mut seen = IndexSet::new(alloc);
     for item in items {
-        let was = was_seen(&mut seen, item.name_bytes())?;
-        marks.push(was)?;
+        put_name_mark(&mut marks, &mut seen, item.name_bytes())?;
     }
     Ok(marks)
 }
@@ -53,8 +67,7 @@ pub(crate) fn repeated_ids(alloc: Global, ids: &[i64]) -> Result<Vec<bool>, Allo
     let mut marks = Vec::new(alloc);
     let mut seen = IndexSet::new(alloc);
     for id in ids {
-        let was = id_was_seen(&mut seen, *id)?;
-        marks.push(was)?;
+        put_id_mark(&mut marks, &mut seen, id)?;
     }
     Ok(marks)
 }
