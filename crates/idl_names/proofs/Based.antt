@@ -1,16 +1,36 @@
 -- Included files by base name, one more at a time.
-use Rattle.std.proofs.Common.{◌≡◌, ◌≤◌, ◌<◌, ◌+◌, ◌++◌, ℕ, zero, suc, List, [], ◌∷◌, length, get_or, take, slice_get, Option, refl, ap, sym, subst, ◌∙◌, arith, add-one}
-use Rattle.std.specs.Option.{option_or, option_map_or}
+use Rattle.std.proofs.Common.{◌≡◌, ◌≤◌, ◌<◌, ◌+◌, ◌++◌, ℕ, zero, suc, false, List, [], ◌∷◌, length, get_or, take, slice_get, Option, Result, Ok, Err, refl, ap, sym, subst, ◌∙◌, arith, add-one}
+use Rattle.std.specs.Option.{option_or, option_map, option_map_or}
+use Rattle.std.specs.Prelude.{OnOk}
+use Rattle.std.specs.Str.{bytes_eq}
 use Rattle.std.specs.List.{find, AllZip}
 use Rattle.std.proofs.Math.Seq.{take-suc}
+use Rattle.std.proofs.lemmas.Option.{slice_get-map, slice_get_read}
 use Rattle.std.proofs.lemmas.List.Folds.{find-append}
-use Rattle.idl_include.specs.Program.{Program, SourceFile}
+use Rattle.idl_include.specs.FileNames.{base_name}
+use Rattle.idl_include.specs.Program.{Program, SourceFile, base_of_file}
 use Rattle.idl_include.specs.Names.{has_base, included_with}
 use Rattle.idl_include.specs.declared.sources.IdlFile.{IdlFile}
-use Rattle.idl_include.specs.SourcesOf.{program_in}
-use Rattle.idl_names.specs.NameMaps.{NameMap, number_of_name, number_in_file, number_if}
-use Rattle.idl_names.specs.Bases.{NotesInclude, HasIncludes}
+use Rattle.idl_include.specs.SourcesOf.{file_in, program_in}
+use Rattle.idl_names.specs.NameMaps.{NameMap, number_of_name, number_in_file, number_if, HasOneMore}
+use Rattle.idl_names.specs.Bases.{HasOwnBase, NotesInclude, HasIncludes}
 use Rattle.idl_names.proofs.Marked.{taken_more}
+
+-- what an included file adds, by its base name in memory
+noted : (files : List IdlFile) (number : ℕ) (file : IdlFile) → number < length files → file ≡ get_or files number file → HasOwnBase (get_or files number file)
+    → (base : List ℕ) → has_base (program_in files) base number ≡ bytes_eq file.base base
+noted files number file l here own base =
+    ap (λ (o : Option SourceFile). option_map_or (λ (f : SourceFile). bytes_eq (base_of_file f) base) o false)
+    (slice_get-map file_in files number ∙ ap (option_map file_in) (slice_get_read files (length files) number file refl l here))
+    ∙ ap (λ (name : List ℕ). bytes_eq name base) (sym (subst HasOwnBase (sym here) own))
+
+pub notes_include : {E : Type 0} (files : List IdlFile) (number : ℕ) (file : IdlFile) (name : List ℕ) (old new : NameMap) (noting : Result (Unit {0}) E)
+    → number < length files → file ≡ get_or files number file → HasOwnBase (get_or files number file) → name ≡ file.base
+    → OnOk noting (HasOneMore name number old new) → OnOk noting (NotesInclude (program_in files) number old new)
+notes_include files number file name old new (Err e) l here own named more = tt
+notes_include files number file name old new (Ok _) l here own named more = λ base.
+    more base
+    ∙ ap (λ b. option_or (number_of_name old base) (number_if b number)) (ap (λ n. bytes_eq n base) named ∙ sym (noted files number file l here own base))
 
 pub included_next : (program : Program) (includes : List ℕ) (i : ℕ) (old new : NameMap) → i < length includes
     → NotesInclude program (get_or includes i 0) old new → ((base : List ℕ) → number_of_name old base ≡ find (has_base program base) (take i includes))

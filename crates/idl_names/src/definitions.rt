@@ -1,6 +1,6 @@
 //! The definitions of a program by number: a list for each kind, by file, and in a file in order.
 
-ghost use Rattle.std.specs.Prelude.{◌≡◌, ℕ, List, map, OnOk, IfOk};
+ghost use Rattle.std.specs.Prelude.{◌≡◌, ◌++◌, ◌∷◌, [], ℕ, List, map, OnOk, IfOk};
 ghost use Rattle.idl_include.specs.DeclaredIn.{definition_in};
 ghost use Rattle.idl_include.specs.SourcesOf.{program_in};
 ghost use Rattle.idl_names.specs.Listing.{listing_in, listing_of, with_definitions};
@@ -47,13 +47,12 @@ impl<'a> Definitions<'a> {
         ensures { OnOk result (listing_in self.new ≡ with_definition file (definition_in definition.now) (listing_in self.old)) }
     {
         match definition {
-            Definition::Const(item) => self.constants.push(InFile { file, item })?,
-            Definition::Typedef(item) => self.typedefs.push(InFile { file, item })?,
-            Definition::Enum(item) => self.enums.push(InFile { file, item })?,
-            Definition::Struct(item) => self.structs.push(InFile { file, item })?,
-            Definition::Service(item) => self.services.push(InFile { file, item })?,
+            Definition::Const(item) => put(&mut self.constants, InFile { file, item }),
+            Definition::Typedef(item) => put(&mut self.typedefs, InFile { file, item }),
+            Definition::Enum(item) => put(&mut self.enums, InFile { file, item }),
+            Definition::Struct(item) => put(&mut self.structs, InFile { file, item }),
+            Definition::Service(item) => put(&mut self.services, InFile { file, item }),
         }
-        Ok(())
     }
 
     /// The definitions of a file more.
@@ -65,6 +64,14 @@ impl<'a> Definitions<'a> {
         }
         Ok(())
     }
+}
+
+/// Adds an item to a list.
+fn put<T: Drop>(all: &mut Vec<T>, item: T) -> Result<(), AllocError>
+    ensures { OnOk result (all.new.items ≡ all.old.items ++ item ∷ []) }
+{
+    all.push(item)?;
+    Ok(())
 }
 
 /// The definitions of files.
