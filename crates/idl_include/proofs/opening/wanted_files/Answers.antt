@@ -1,4 +1,4 @@
-use Rattle.std.proofs.Common.{◌≡◌, ◌++◌, ◌∷◌, ◌+◌, ◌∙◌, List, [], map, drop, ap, sym, append_assoc}
+use Rattle.std.proofs.Common.{◌++◌, ◌∷◌, ◌+◌, ◌∙◌, List, [], map, drop, ap, sym, append_assoc}
 use Rattle.std.proofs.lemmas.List.{at_drop_more}
 use Rattle.idl_parser.specs.declared.tree.Include.{Include}
 use Rattle.idl_include.specs.Written.{Written}
