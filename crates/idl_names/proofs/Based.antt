@@ -7,7 +7,6 @@ use Rattle.std.specs.List.{find, AllZip}
 use Rattle.std.proofs.Math.Seq.{take-suc}
 use Rattle.std.proofs.lemmas.Option.{slice_get-map, slice_get_read}
 use Rattle.std.proofs.lemmas.List.Folds.{find-append}
-use Rattle.idl_include.specs.FileNames.{base_name}
 use Rattle.idl_include.specs.Program.{Program, SourceFile, base_of_file}
 use Rattle.idl_include.specs.Names.{has_base, included_with}
 use Rattle.idl_include.specs.declared.sources.IdlFile.{IdlFile}

@@ -1,5 +1,5 @@
 -- The definitions of a program, listed one more at a time, are those of each kind.
-use Rattle.std.proofs.Common.{◌≡◌, ◌≤◌, ◌<◌, ◌+◌, ℕ, suc, List, [], ◌∷◌, ◌++◌, map, length, get_or, drop, Option, None, Some, refl, ap, sym, ◌∙◌, arith, append_assoc, add-one}
+use Rattle.std.proofs.Common.{◌≡◌, ◌≤◌, ◌<◌, ◌+◌, ℕ, zero, suc, List, [], ◌∷◌, ◌++◌, map, length, get_or, drop, Option, None, Some, refl, ap, sym, ◌∙◌, arith, append_assoc, add-one}
 use Rattle.std.specs.List.{filter_map, cons_option}
 use Rattle.std.proofs.lemmas.List.{append-nil}
 use Rattle.idl_include.specs.Declarations.{Declaration}
@@ -9,7 +9,7 @@ use Rattle.idl_include.specs.Numbering.{Filed, filed, picked_from, const_in, typ
 use Rattle.idl_include.specs.declared.sources.IdlFile.{IdlFile}
 use Rattle.idl_include.specs.SourcesOf.{program_in}
 use Rattle.idl_names.specs.Listing.{Listing, nothing_listed, listed_more, with_definition, with_definitions, with_files, listing_of}
-use Rattle.idl_names.proofs.Marked.{left_more, past_end}
+use Rattle.idl_names.proofs.Marked.{left_more}
 
 more_behind : {A : Type 0} (file : ℕ) (o : Option A) (xs : List (Filed A)) (more : List A) → listed_more file o xs ++ filed file more ≡ xs ++ filed file (cons_option o more)
 more_behind file None xs more = refl
@@ -44,6 +44,12 @@ listing_whole program = λ i. record {
 }
 
 -- ---- files, one after another
+
+pub past_end : {A : Type 0} (xs : List A) (n : ℕ) → length xs ≤ n → drop n xs ≡ []
+past_end [] zero l = refl
+past_end [] (suc n) l = refl
+past_end (x ∷ xs) zero l = absurd (omega arith)
+past_end (x ∷ xs) (suc n) l = past_end xs n (omega arith)
 
 pub file_listed : (files : List IdlFile) (i number : ℕ) (x : IdlFile) (old new all : Listing) → i < length files → x ≡ get_or files i x → number ≡ i
     → new ≡ with_definitions number (map definition_in x.document.definitions.items) old

@@ -1,11 +1,11 @@
 -- Marks of the items of a list, one more at a time.
-use Rattle.std.proofs.Common.{◌≡◌, ◌<◌, ◌≤◌, ℕ, ℤ, zero, suc, ◌+◌, Bool, true, false, List, [], ◌∷◌, ◌++◌, map, length, get_or, take, drop, Bor, refl, ap, sym, ◌∙◌, arith, append_assoc, add-one}
+use Rattle.std.proofs.Common.{◌≡◌, ◌<◌, ℕ, ℤ, zero, suc, ◌+◌, Bool, true, false, List, [], ◌∷◌, ◌++◌, map, length, get_or, take, drop, Bor, refl, ap, sym, ◌∙◌, arith, append_assoc, add-one}
 use Rattle.std.specs.Prelude.{◌||◌, if◌then◌else◌}
 use Rattle.std.specs.Ordering.{int_eq}
 use Rattle.std.specs.List.{list_any}
 use Rattle.std.specs.Str.{bytes_eq}
 use Rattle.std.proofs.Math.Seq.{take-suc}
-use Rattle.std.proofs.lemmas.List.{append-nil, map-append}
+use Rattle.std.proofs.lemmas.List.{map-append}
 use Rattle.std.proofs.lemmas.Slice.Eq.{bytes_eq-Decides}
 use Rattle.std.proofs.lemmas.Bool.Decides.{Decides-int_eq}
 use Rattle.indexmap.specs.IndexSet.{insert_key}
@@ -72,12 +72,6 @@ left_more (y ∷ xs) (suc i) x l here =
     let e : suc (i + 1) ≡ suc i + 1 = omega arith in
     left_more xs i x (omega arith) here ∙ ap (λ k. x ∷ drop k (y ∷ xs)) e
 
-pub past_end : {A : Type 0} (xs : List A) (n : ℕ) → length xs ≤ n → drop n xs ≡ []
-past_end [] zero l = refl
-past_end [] (suc n) l = refl
-past_end (x ∷ xs) zero l = absurd (omega arith)
-past_end (x ∷ xs) (suc n) l = past_end xs n (omega arith)
-
 -- what stands in its place where nothing does doesn't count
 pub there_either_way : {A : Type 0} (xs : List A) (i : ℕ) (x y : A) → i < length xs → get_or xs i x ≡ get_or xs i y
 there_either_way [] i x y l = absurd (omega arith)
@@ -129,8 +123,3 @@ name_seen_next g xs i x k old new l here e too so_far other =
     ∙ (λ j. so_far other j || bytes_eq (e j) other)
     ∙ sym (any_push (λ n. bytes_eq n other) (map g (take i xs)) (g x))
     ∙ ap (is_among other) (sym (ap (map g) (taken_more xs i x l here) ∙ map-append g (take i xs) (x ∷ [])))
-
--- nothing is left behind the last
-pub all_marked : {B : Type 0} (marks : List B → List B → List Bool) (before left : List B) (old all : List Bool)
-    → marks before [] ≡ [] → left ≡ [] → old ++ marks before left ≡ all → old ≡ all
-all_marked marks before left old all last end so_far = sym (append-nil old) ∙ ap (λ m. old ++ m) (sym (ap (marks before) end ∙ last)) ∙ so_far

@@ -12,7 +12,8 @@ use Rattle.idl_include.specs.Spots.{Spotted, Spot, in_file, enum_value_spot, giv
 use Rattle.idl_include.specs.declared.sources.IdlFile.{IdlFile}
 use Rattle.idl_include.specs.SourcesOf.{program_in}
 use Rattle.idl_names.specs.Functions.{inside_function}
-use Rattle.idl_names.proofs.Marked.{left_more, past_end, taken_more}
+use Rattle.idl_names.proofs.Listed.{past_end}
+use Rattle.idl_names.proofs.Marked.{left_more, taken_more}
 use Rattle.idl_names.proofs.Walked.{walk_next, prefix_next, in_file_append}
 
 -- what stands at a place

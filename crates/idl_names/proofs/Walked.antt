@@ -1,7 +1,7 @@
 -- Lists that are made of the items of another, one after another.
-use Rattle.std.proofs.Common.{◌≡◌, ◌<◌, ◌+◌, ◌<ℤ◌, inl, inr, ℕ, ℤ, Bool, false, Option, None, Some, arith, List, [], ◌∷◌, ◌++◌, map, length, get_or, take, drop, refl, ap, sym, ◌∙◌, append_assoc}
+use Rattle.std.proofs.Common.{◌≡◌, ◌<◌, ◌≤◌, ◌+◌, ◌<ℤ◌, inl, inr, ℕ, ℤ, Bool, false, Option, None, Some, arith, List, [], ◌∷◌, ◌++◌, map, length, get_or, take, drop, refl, ap, sym, ◌∙◌, append_assoc}
 use Rattle.std.specs.Prelude.{◌+ℤ◌, pos}
-use Rattle.std.proofs.lemmas.List.{map-append}
+use Rattle.std.proofs.lemmas.List.{append-nil, map-append, at_drop_all}
 use Rattle.idl_parser.specs.declared.tree.Field.{Field}
 use Rattle.idl_parser.specs.declared.tree.EnumValue.{EnumValue}
 use Rattle.idl_include.specs.Declarations.{FieldDecl, EnumValueDecl}
@@ -24,6 +24,10 @@ walk_next walk own next step g xs i x s s' old new all l here state made so_far 
     ∙ ap (λ m. old ++ m) (sym (step s (g x) more))
     ∙ ap (λ r. old ++ walk s (map g r)) (sym (left_more xs i x l here))
     ∙ so_far
+
+-- nothing is left behind the last
+pub walk_end : {A B : Type 0} (walk : List A → List B) (xs : List A) (i : ℕ) (old all : List B) → length xs ≤ i → walk [] ≡ [] → old ++ walk (drop i xs) ≡ all → old ≡ all
+walk_end walk xs i old all past none so_far = sym (append-nil old) ∙ ap (λ more. old ++ more) (sym (at_drop_all walk xs i past ∙ none)) ∙ so_far
 
 pub ids_next : (xs : List Field) (i : ℕ) (x : Field) (unnumbered : ℕ) (id : ℤ) (old new all : List ℤ) → i < length xs → x ≡ get_or xs i x
     → id ≡ id_behind unnumbered (field_in x).id → new ≡ old ++ id ∷ [] → old ++ ids_behind unnumbered (map field_in (drop i xs)) ≡ all

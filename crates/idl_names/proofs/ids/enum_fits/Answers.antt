@@ -3,7 +3,7 @@ use Rattle.std.specs.Prelude.{◌+ℤ◌}
 use Rattle.idl_include.specs.DeclaredIn.{enum_value_in}
 use Rattle.idl_include.specs.EnumNumbers.{number_or}
 use Rattle.idl_names.specs.EnumRange.{fit_marks, IsNextAs}
-use Rattle.idl_names.proofs.Walked.{fits_next, same_number}
+use Rattle.idl_names.proofs.Walked.{fits_next, same_number, walk_end}
 use Rattle.idl_names.proofs.ids.enum_fits.Goals as goal
 
 pub loop-value-init : goal.loop-value-init
@@ -21,3 +21,8 @@ loop-value-preserved c =
       fits_next c.args.values.now c.loop-value.value-index c.value-item.result i.0 (to_z w64 c.loop-value.next-bits) c.number_or-number.result c.loop-value.marks.items c.push.new.self.items
           (fit_marks (pos 0) (map enum_value_in c.args.values.now)) c.loop-value-test.true c.value-item.is i.1 c.number_or-number.ensures (search (rules, c.in_ok-push.ensures.items, c.has_32_bits.ensures)) i.2,
     )
+
+pub returns : goal.returns
+returns c =
+    walk_end (λ left. fit_marks c.loop-value.invariant.0 (map enum_value_in left)) c.args.values.now c.loop-value.value-index c.loop-value.marks.items _ c.loop-value-test.false refl
+    c.loop-value.invariant.2

@@ -1,7 +1,7 @@
 use Rattle.std.proofs.Common.{rules, map, ◌++◌, refl, ap}
 use Rattle.idl_include.specs.DeclaredIn.{field_in}
 use Rattle.idl_include.specs.FieldIds.{field_ids, ids_behind, one_more_unnumbered}
-use Rattle.idl_names.proofs.Walked.{ids_next}
+use Rattle.idl_names.proofs.Walked.{ids_next, walk_end}
 use Rattle.idl_names.proofs.ids.field_ids.Goals as goal
 
 pub loop-field-init : goal.loop-field-init
@@ -17,3 +17,8 @@ loop-field-preserved c =
       ids_next c.args.fields.now c.loop-field.field-index c.field-item.result u c.id_or-id.result c.loop-field.ids.items c.push.new.self.items
           (field_ids (map field_in c.args.fields.now)) c.loop-field-test.true c.field-item.is (c.id_or-id.ensures u e) (search (rules, c.in_ok-push.ensures.items)) c.loop-field.invariant.2,
     )
+
+pub returns : goal.returns
+returns c =
+    walk_end (λ left. ids_behind c.loop-field.invariant.0 (map field_in left)) c.args.fields.now c.loop-field.field-index c.loop-field.ids.items _ c.loop-field-test.false refl
+    c.loop-field.invariant.2

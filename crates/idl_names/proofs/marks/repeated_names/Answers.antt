@@ -1,10 +1,11 @@
-use Rattle.std.proofs.Common.{List, ℕ, ◌++◌, ◌∷◌, [], map, take, drop, ap, refl, ◌∙◌}
+use Rattle.std.proofs.Common.{◌++◌, ◌∷◌, [], map, take, ap, refl, ◌∙◌}
 use Rattle.std.specs.Str.{bytes_eq}
 use Rattle.std.specs.List.{list_any}
 use Rattle.idl_include.specs.Loading.{is_among}
 use Rattle.idl_names.specs.Before.{name_marks}
 use Rattle.idl_names.specs.NameSets.{has_name}
-use Rattle.idl_names.proofs.Marked.{marked_next, name_seen_next, past_end, all_marked}
+use Rattle.idl_names.proofs.Marked.{marked_next, name_seen_next}
+use Rattle.idl_names.proofs.Walked.{walk_end}
 use Rattle.idl_names.proofs.marks.repeated_names.Goals as goal
 
 pub loop-item-init : goal.loop-item-init
@@ -21,16 +22,15 @@ loop-item-preserved g c =
     let own = c.name_bytes.ensures in
     record {
       marked = marked_next name_marks (λ before name. is_among name before) (λ _ _ _. refl) text c.args.items.now c.loop-item.item-index c.item-item.result
-      c.loop-item.marks.items c.put_name_mark.new.marks.items c.loop-item-test.true c.item-item.is
-      (c.in_ok-put_name_mark.ensures.marked ∙ ap (λ was. c.loop-item.marks.items ++ was ∷ []) (ap (has_name c.loop-item.seen) own ∙ invariant.seen (text c.item-item.result))) invariant.marked;
+          c.loop-item.marks.items c.put_name_mark.new.marks.items c.loop-item-test.true c.item-item.is
+          (c.in_ok-put_name_mark.ensures.marked ∙ ap (λ was. c.loop-item.marks.items ++ was ∷ []) (ap (has_name c.loop-item.seen) own ∙ invariant.seen (text c.item-item.result))) invariant.marked;
       seen = name_seen_next text c.args.items.now c.loop-item.item-index c.item-item.result c.name_bytes.result.now c.loop-item.seen c.put_name_mark.new.seen
-      c.loop-item-test.true c.item-item.is own c.in_ok-put_name_mark.ensures.after invariant.seen;
+          c.loop-item-test.true c.item-item.is own c.in_ok-put_name_mark.ensures.after invariant.seen;
     }
 
 pub returns : goal.returns
 returns g c =
     let text = g.D.Named.text in
-    let at = c.loop-item.item-index in
     let items = c.args.items.now in
-    all_marked name_marks (map text (take at items)) (map text (drop at items)) c.loop-item.marks.items (name_marks [] (map text items)) refl
-    (ap (map text) (past_end items at c.loop-item-test.false)) c.loop-item.invariant.marked
+    let at = c.loop-item.item-index in
+    walk_end (λ left. name_marks (map text (take at items)) (map text left)) items at c.loop-item.marks.items _ c.loop-item-test.false refl c.loop-item.invariant.marked
