@@ -2,7 +2,7 @@
 ghost use Rattle.std.specs.Prelude.{◌≡◌};
 ghost use Rattle.idl_parser.specs.Phrases.{none, pair, chain, many, word};
 ghost use Rattle.idl_parser.specs.Leaves.{sign, left_tree, right_tree};
-ghost use Rattle.idl_parser.specs.Parts.{identifier};
+ghost use Rattle.idl_parser.specs.Parts.{identifier, annotation};
 ghost use Rattle.idl_parser.specs.Fields.{fields, field_ending};
 ghost use Rattle.idl_parser.specs.Constants.{value_of};
 ghost use Rattle.idl_parser.specs.Shapes.{starts_in, first};
@@ -51,16 +51,25 @@ impl<'a> SymbolReader<'a> {
     {
         let at = self.word(Terminal::Typedef)?;
         let kind = self.type_tree(deepest())?;
+        let behind = self.annotated_name();
+        let (kind, name) = joined(kind, behind)?;
+        Ok(Typedef { at, kind, name })
+    }
+
+    /// A name, and an annotation or none.
+    fn annotated_name(&mut self) -> Result<Name, Stop>
+        ensures { Parses (chain left_tree identifier annotation) name_node self.old self.new result }
+    {
         let name = self.name()?;
         let behind = self.annotation();
-        kept(Typedef { at, kind, name }, behind)
+        kept(name, behind)
     }
 
     #[tactic(auto, unfolding(crate::specs::Definitions::enum_number))]
     fn enum_number(&mut self) -> Result<Option<Int>, Stop>
         ensures { Parses enum_number (maybe_node int_node) self.old self.new result }
     {
-        if self.starts(&[Terminal::Equals]) {
+        if self.is_next(Terminal::Equals) {
             self.sign(Terminal::Equals)?;
             let number = self.int()?;
             return Ok(Some(number));
@@ -81,7 +90,7 @@ impl<'a> SymbolReader<'a> {
     fn begins_name(&self) -> bool
         ensures { result ≡ starts_in entry_starts self.now }
     {
-        self.starts(&[Terminal::Identifier])
+        self.is_next(Terminal::Identifier)
     }
 
     fn enum_values(&mut self) -> Result<Vec<EnumValue>, Stop>
@@ -132,10 +141,10 @@ impl<'a> SymbolReader<'a> {
     fn struct_word(&mut self) -> Result<(Place, StructKind), Stop>
         ensures { Parses struct_word (λ w. word (struct_word_of w.1) w.0) self.old self.new result }
     {
-        if self.starts(&[Terminal::Struct]) {
+        if self.is_next(Terminal::Struct) {
             return Ok((self.word(Terminal::Struct)?, StructKind::Struct));
         }
-        if self.starts(&[Terminal::Union]) {
+        if self.is_next(Terminal::Union) {
             return Ok((self.word(Terminal::Union)?, StructKind::Union));
         }
         Ok((self.word(Terminal::Exception)?, StructKind::Exception))
@@ -181,9 +190,8 @@ impl<'a> SymbolReader<'a> {
     fn oneway(&mut self) -> Result<bool, Stop>
         ensures { Parses oneway oneway_node self.old self.new result }
     {
-        if self.starts(&[Terminal::Oneway]) {
-            self.flag(Terminal::Oneway)?;
-            return Ok(true);
+        if self.is_next(Terminal::Oneway) {
+            return kept(true, self.flag(Terminal::Oneway));
         }
         Ok(false)
     }
@@ -192,9 +200,8 @@ impl<'a> SymbolReader<'a> {
     fn result_type(&mut self) -> Result<Option<TypeTree>, Stop>
         ensures { Parses (result_type deepest) result_node self.old self.new result }
     {
-        if self.starts(&[Terminal::Void]) {
-            self.flag(Terminal::Void)?;
-            return Ok(None);
+        if self.is_next(Terminal::Void) {
+            return kept(None, self.flag(Terminal::Void));
         }
         let kind = self.type_tree(deepest())?;
         Ok(Some(kind))
@@ -204,7 +211,7 @@ impl<'a> SymbolReader<'a> {
     fn throws(&mut self) -> Result<Option<Vec<Field>>, Stop>
         ensures { Parses (throws deepest) (maybe_node (λ v. fields_node v.items)) self.old self.new result }
     {
-        if self.starts(&[Terminal::Throws]) {
+        if self.is_next(Terminal::Throws) {
             self.sign(Terminal::Throws)?;
             let fields = self.fields_in_parentheses()?;
             return Ok(Some(fields));
@@ -299,7 +306,7 @@ impl<'a> SymbolReader<'a> {
     fn parent(&mut self) -> Result<Option<Name>, Stop>
         ensures { Parses parent (maybe_node name_node) self.old self.new result }
     {
-        if self.starts(&[Terminal::Extends]) {
+        if self.is_next(Terminal::Extends) {
             self.sign(Terminal::Extends)?;
             let name = self.name()?;
             return Ok(Some(name));
@@ -353,13 +360,13 @@ impl<'a> SymbolReader<'a> {
     fn bare_definition(&mut self) -> Result<Definition, Stop>
         ensures { Parses (bare_definition deepest) definition_node self.old self.new result }
     {
-        if self.starts(&[Terminal::Const]) {
+        if self.is_next(Terminal::Const) {
             return Ok(Definition::Const(self.constant()?));
         }
-        if self.starts(&[Terminal::Typedef]) {
+        if self.is_next(Terminal::Typedef) {
             return Ok(Definition::Typedef(self.typedef()?));
         }
-        if self.starts(&[Terminal::Enum]) {
+        if self.is_next(Terminal::Enum) {
             return Ok(Definition::Enum(self.enumeration()?));
         }
         if self.begins_struct() {

@@ -10,7 +10,7 @@ ghost use Rattle.idl_parser.specs.Reading.{read, whole, done};
 ghost use Rattle.idl_parser.specs.ReaderCalls.{Parses, StopsAt, most};
 ghost use Rattle.idl_parser.specs.Trees.{some_of};
 
-use crate::reader::{MAX_SYMBOLS, Stop, SymbolReader, put};
+use crate::reader::{MAX_SYMBOLS, Stop, SymbolReader, kept, put};
 use crate::tree::{Definition, Document, Include};
 use idl_token::Terminal;
 
@@ -36,7 +36,7 @@ impl<'a> SymbolReader<'a> {
         ensures { Parses namespace (λ _. none) self.old self.new result }
     {
         self.sign(Terminal::Namespace)?;
-        if self.starts(&[Terminal::Identifier]) {
+        if self.is_next(Terminal::Identifier) {
             self.sign(Terminal::Identifier)?;
             self.sign(Terminal::Identifier)?;
             return self.annotation();
@@ -51,15 +51,13 @@ impl<'a> SymbolReader<'a> {
     fn header(&mut self) -> Result<Option<Include>, Stop>
         ensures { Parses header header_node self.old self.new result }
     {
-        if self.starts(&[Terminal::Include]) {
+        if self.is_next(Terminal::Include) {
             return Ok(Some(self.include()?));
         }
-        if self.starts(&[Terminal::CppInclude]) {
-            self.cpp_include()?;
-            return Ok(None);
+        if self.is_next(Terminal::CppInclude) {
+            return kept(None, self.cpp_include());
         }
-        self.namespace()?;
-        Ok(None)
+        kept(None, self.namespace())
     }
 
     fn begins_header(&self) -> bool

@@ -44,7 +44,7 @@ impl<'a> SymbolReader<'a> {
     fn field_id(&mut self) -> Result<Option<Int>, Stop>
         ensures { Parses field_id (maybe_node int_node) self.old self.new result }
     {
-        if !self.starts(&[Terminal::Int]) {
+        if !self.is_next(Terminal::Int) {
             return Ok(None);
         }
         let id = self.int()?;
@@ -56,13 +56,11 @@ impl<'a> SymbolReader<'a> {
     fn field_need(&mut self) -> Result<Need, Stop>
         ensures { Parses field_need need_node self.old self.new result }
     {
-        if self.starts(&[Terminal::Required]) {
-            self.flag(Terminal::Required)?;
-            return Ok(Need::Required);
+        if self.is_next(Terminal::Required) {
+            return kept(Need::Required, self.flag(Terminal::Required));
         }
-        if self.starts(&[Terminal::Optional]) {
-            self.flag(Terminal::Optional)?;
-            return Ok(Need::Optional);
+        if self.is_next(Terminal::Optional) {
+            return kept(Need::Optional, self.flag(Terminal::Optional));
         }
         Ok(Need::Default)
     }
@@ -71,7 +69,7 @@ impl<'a> SymbolReader<'a> {
     fn field_default(&mut self) -> Result<Option<ConstTree>, Stop>
         ensures { Parses (field_default deepest) (maybe_node value_node) self.old self.new result }
     {
-        if self.starts(&[Terminal::Equals]) {
+        if self.is_next(Terminal::Equals) {
             return Ok(Some(self.assigned()?));
         }
         Ok(None)

@@ -93,6 +93,16 @@ impl<'a> SymbolReader<'a> {
         }
     }
 
+    /// Whether the next symbol is this one.
+    pub(crate) fn is_next(&self, what: Terminal) -> bool
+        ensures { result ≡ starts_in (what ∷ []) self.now }
+    {
+        match self.left.first() {
+            Some(symbol) => same(symbol.what, what),
+            None => false,
+        }
+    }
+
     /// Passes one symbol, of which nothing is kept.
     pub(crate) fn sign(&mut self, wanted: Terminal) -> Result<(), Stop>
         ensures { Parses (sign wanted) (λ _. none) self.old self.new result }

@@ -16,10 +16,10 @@ impl<'a> SymbolReader<'a> {
     pub(crate) fn separator(&mut self) -> Result<(), Stop>
         ensures { Parses separator (λ _. none) self.old self.new result }
     {
-        if self.starts(&[Terminal::Comma]) {
+        if self.is_next(Terminal::Comma) {
             return self.sign(Terminal::Comma);
         }
-        if self.starts(&[Terminal::Semicolon]) {
+        if self.is_next(Terminal::Semicolon) {
             return self.sign(Terminal::Semicolon);
         }
         Ok(())
@@ -29,9 +29,9 @@ impl<'a> SymbolReader<'a> {
     fn annotation_value(&mut self) -> Result<(), Stop>
         ensures { Parses annotation_value (λ _. none) self.old self.new result }
     {
-        if self.starts(&[Terminal::Equals]) {
+        if self.is_next(Terminal::Equals) {
             self.sign(Terminal::Equals)?;
-            self.sign(Terminal::Literal)?;
+            return self.sign(Terminal::Literal);
         }
         Ok(())
     }
@@ -49,7 +49,7 @@ impl<'a> SymbolReader<'a> {
         ensures { Parses (many neither annotation_entry) (λ _. none) self.old self.new result }
     {
         'entries: for _round in 0..MAX_SYMBOLS {
-            if !self.starts(&[Terminal::Identifier]) {
+            if !self.is_next(Terminal::Identifier) {
                 return Ok(());
             }
             self.annotation_entry()?;
@@ -62,10 +62,10 @@ impl<'a> SymbolReader<'a> {
     pub(crate) fn annotation(&mut self) -> Result<(), Stop>
         ensures { Parses annotation (λ _. none) self.old self.new result }
     {
-        if self.starts(&[Terminal::OpenParen]) {
+        if self.is_next(Terminal::OpenParen) {
             self.sign(Terminal::OpenParen)?;
             self.annotation_entries()?;
-            self.sign(Terminal::CloseParen)?;
+            return self.sign(Terminal::CloseParen);
         }
         Ok(())
     }
@@ -75,9 +75,9 @@ impl<'a> SymbolReader<'a> {
     pub(crate) fn cpp_type(&mut self) -> Result<(), Stop>
         ensures { Parses cpp_type (λ _. none) self.old self.new result }
     {
-        if self.starts(&[Terminal::CppType]) {
+        if self.is_next(Terminal::CppType) {
             self.sign(Terminal::CppType)?;
-            self.sign(Terminal::Literal)?;
+            return self.sign(Terminal::Literal);
         }
         Ok(())
     }

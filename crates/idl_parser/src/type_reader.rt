@@ -66,10 +66,10 @@ impl<'a> SymbolReader<'a> {
     fn next_base(&self) -> Base
         ensures { read most base self.now ≡ read most (kept_word (base_word result)) self.now }
     {
-        if self.starts(&[Terminal::Bool]) {
+        if self.is_next(Terminal::Bool) {
             return Base::Bool;
         }
-        if self.starts(&[Terminal::Byte]) {
+        if self.is_next(Terminal::Byte) {
             return Base::Byte;
         }
         if self.starts(&[Terminal::I8]) {
@@ -84,13 +84,13 @@ impl<'a> SymbolReader<'a> {
         if self.starts(&[Terminal::I64]) {
             return Base::I64;
         }
-        if self.starts(&[Terminal::DoubleWord]) {
+        if self.is_next(Terminal::DoubleWord) {
             return Base::Double;
         }
-        if self.starts(&[Terminal::StringWord]) {
+        if self.is_next(Terminal::StringWord) {
             return Base::String;
         }
-        if self.starts(&[Terminal::Binary]) {
+        if self.is_next(Terminal::Binary) {
             return Base::Binary;
         }
         Base::Uuid
@@ -129,13 +129,13 @@ impl<'a> SymbolReader<'a> {
     fn no_level(&self) -> Stop
         ensures { StopsAt result (read most no_container self.now) self.now }
     {
-        if self.starts(&[Terminal::Map]) {
+        if self.is_next(Terminal::Map) {
             return Stop::Deep;
         }
-        if self.starts(&[Terminal::Set]) {
+        if self.is_next(Terminal::Set) {
             return Stop::Deep;
         }
-        if self.starts(&[Terminal::List]) {
+        if self.is_next(Terminal::List) {
             return Stop::Deep;
         }
         Stop::Stuck
@@ -170,7 +170,7 @@ impl<'a> SymbolReader<'a> {
             let (at, base) = self.base()?;
             return Ok(TypeTree::Base(at, base));
         }
-        if self.starts(&[Terminal::Identifier]) {
+        if self.is_next(Terminal::Identifier) {
             return Ok(TypeTree::Named(self.name()?));
         }
         self.inner_type(levels)
@@ -193,10 +193,10 @@ impl<'a> SymbolReader<'a> {
     fn container(&mut self, levels: usize) -> Result<TypeTree, Stop>
         ensures { Parses (container (type_of levels)) type_node self.old self.new result }
     {
-        if self.starts(&[Terminal::Map]) {
+        if self.is_next(Terminal::Map) {
             return self.map_type(levels);
         }
-        if self.starts(&[Terminal::Set]) {
+        if self.is_next(Terminal::Set) {
             return self.set_type(levels);
         }
         self.list_type(levels)

@@ -35,10 +35,10 @@ impl<'a> SymbolReader<'a> {
     fn no_value_level(&self) -> Stop
         ensures { StopsAt result (read most no_collection self.now) self.now }
     {
-        if self.starts(&[Terminal::OpenBracket]) {
+        if self.is_next(Terminal::OpenBracket) {
             return Stop::Deep;
         }
-        if self.starts(&[Terminal::OpenBrace]) {
+        if self.is_next(Terminal::OpenBrace) {
             return Stop::Deep;
         }
         Stop::Stuck
@@ -50,16 +50,16 @@ impl<'a> SymbolReader<'a> {
     pub(crate) fn value(&mut self, levels: usize) -> Result<ConstTree, Stop>
         ensures { Parses (value_of levels) value_node self.old self.new result }
     {
-        if self.starts(&[Terminal::Int]) {
+        if self.is_next(Terminal::Int) {
             return Ok(ConstTree::Int(self.int()?));
         }
-        if self.starts(&[Terminal::Double]) {
+        if self.is_next(Terminal::Double) {
             return Ok(ConstTree::Double(self.double()?));
         }
-        if self.starts(&[Terminal::Literal]) {
+        if self.is_next(Terminal::Literal) {
             return Ok(ConstTree::Literal(self.literal()?));
         }
-        if self.starts(&[Terminal::Identifier]) {
+        if self.is_next(Terminal::Identifier) {
             return Ok(ConstTree::Name(self.name()?));
         }
         self.inner_value(levels)
@@ -82,7 +82,7 @@ impl<'a> SymbolReader<'a> {
     fn collection(&mut self, levels: usize) -> Result<ConstTree, Stop>
         ensures { Parses (collection (value_of levels)) value_node self.old self.new result }
     {
-        if self.starts(&[Terminal::OpenBracket]) {
+        if self.is_next(Terminal::OpenBracket) {
             return self.list_value(levels);
         }
         self.map_value(levels)
