@@ -29,31 +29,31 @@ impl<'a> SymbolReader<'a> {
         joined(name, value)
     }
 
-    #[tactic(auto, unfolding(crate::specs::Definitions::constant_rest, crate::specs::Trees::const_node))]
-    fn constant(&mut self) -> Result<Const, Stop>
-        ensures { Parses (constant deepest) const_node self.old self.new result }
+    #[tactic(auto, unfolding(crate::specs::Definitions::constant_rest, crate::specs::Trees::const_node, crate::specs::Trees::definition_node))]
+    fn constant(&mut self) -> Result<Definition, Stop>
+        ensures { Parses (constant deepest) definition_node self.old self.new result }
     {
         let at = self.word(Terminal::Const)?;
         let kind = self.type_tree(deepest())?;
         let behind = self.named_value();
         let (kind, (name, value)) = joined(kind, behind)?;
-        Ok(Const {
+        Ok(Definition::Const(Const {
             at,
             kind,
             name,
             value,
-        })
+        }))
     }
 
-    #[tactic(auto, unfolding(crate::specs::Definitions::typedef_rest, crate::specs::Trees::typedef_node))]
-    fn typedef(&mut self) -> Result<Typedef, Stop>
-        ensures { Parses (typedef deepest) typedef_node self.old self.new result }
+    #[tactic(auto, unfolding(crate::specs::Definitions::typedef_rest, crate::specs::Trees::typedef_node, crate::specs::Trees::definition_node))]
+    fn typedef(&mut self) -> Result<Definition, Stop>
+        ensures { Parses (typedef deepest) definition_node self.old self.new result }
     {
         let at = self.word(Terminal::Typedef)?;
         let kind = self.type_tree(deepest())?;
         let behind = self.annotated_name();
         let (kind, name) = joined(kind, behind)?;
-        Ok(Typedef { at, kind, name })
+        Ok(Definition::Typedef(Typedef { at, kind, name }))
     }
 
     /// A name, and an annotation or none.
@@ -126,15 +126,15 @@ impl<'a> SymbolReader<'a> {
         kept(values, behind)
     }
 
-    #[tactic(auto, unfolding(crate::specs::Definitions::enum_rest, crate::specs::Trees::enum_node))]
-    fn enumeration(&mut self) -> Result<Enum, Stop>
-        ensures { Parses enumeration enum_node self.old self.new result }
+    #[tactic(auto, unfolding(crate::specs::Definitions::enum_rest, crate::specs::Trees::enum_node, crate::specs::Trees::definition_node))]
+    fn enumeration(&mut self) -> Result<Definition, Stop>
+        ensures { Parses enumeration definition_node self.old self.new result }
     {
         let at = self.word(Terminal::Enum)?;
         let name = self.name()?;
         let behind = self.enum_body();
         let (name, values) = joined(name, behind)?;
-        Ok(Enum { at, name, values })
+        Ok(Definition::Enum(Enum { at, name, values }))
     }
 
     #[tactic(auto, unfolding(crate::specs::Definitions::struct_word))]
@@ -160,20 +160,20 @@ impl<'a> SymbolReader<'a> {
         kept(fields, behind)
     }
 
-    #[tactic(auto, unfolding(crate::specs::Definitions::struct_rest, crate::specs::Trees::struct_node))]
-    fn structure(&mut self) -> Result<Struct, Stop>
-        ensures { Parses (structure deepest) struct_node self.old self.new result }
+    #[tactic(auto, unfolding(crate::specs::Definitions::struct_rest, crate::specs::Trees::struct_node, crate::specs::Trees::definition_node))]
+    fn structure(&mut self) -> Result<Definition, Stop>
+        ensures { Parses (structure deepest) definition_node self.old self.new result }
     {
         let (at, kind) = self.struct_word()?;
         let name = self.name()?;
         let behind = self.struct_body();
         let (name, fields) = joined(name, behind)?;
-        Ok(Struct {
+        Ok(Definition::Struct(Struct {
             at,
             kind,
             name,
             fields,
-        })
+        }))
     }
 
     #[tactic(auto, unfolding(crate::specs::Definitions::fields_in_parentheses))]
@@ -333,20 +333,20 @@ impl<'a> SymbolReader<'a> {
         joined(parent, behind)
     }
 
-    #[tactic(auto, unfolding(crate::specs::Definitions::service_rest, crate::specs::Trees::service_node))]
-    fn service(&mut self) -> Result<Service, Stop>
-        ensures { Parses (service deepest) service_node self.old self.new result }
+    #[tactic(auto, unfolding(crate::specs::Definitions::service_rest, crate::specs::Trees::service_node, crate::specs::Trees::definition_node))]
+    fn service(&mut self) -> Result<Definition, Stop>
+        ensures { Parses (service deepest) definition_node self.old self.new result }
     {
         let at = self.word(Terminal::Service)?;
         let name = self.name()?;
         let behind = self.inherited();
         let (name, (parent, functions)) = joined(name, behind)?;
-        Ok(Service {
+        Ok(Definition::Service(Service {
             at,
             name,
             parent,
             functions,
-        })
+        }))
     }
 
     #[tactic(auto, unfolding(crate::specs::Definitions::struct_word))]
@@ -356,23 +356,23 @@ impl<'a> SymbolReader<'a> {
         self.starts(&[Terminal::Struct, Terminal::Union, Terminal::Exception])
     }
 
-    #[tactic(auto, unfolding(crate::specs::Definitions::bare_definition, crate::specs::Trees::definition_node))]
+    #[tactic(auto, unfolding(crate::specs::Definitions::bare_definition))]
     fn bare_definition(&mut self) -> Result<Definition, Stop>
         ensures { Parses (bare_definition deepest) definition_node self.old self.new result }
     {
         if self.is_next(Terminal::Const) {
-            return Ok(Definition::Const(self.constant()?));
+            return self.constant();
         }
         if self.is_next(Terminal::Typedef) {
-            return Ok(Definition::Typedef(self.typedef()?));
+            return self.typedef();
         }
         if self.is_next(Terminal::Enum) {
-            return Ok(Definition::Enum(self.enumeration()?));
+            return self.enumeration();
         }
         if self.begins_struct() {
-            return Ok(Definition::Struct(self.structure()?));
+            return self.structure();
         }
-        Ok(Definition::Service(self.service()?))
+        self.service()
     }
 
     /// A definition, and a separator or none.

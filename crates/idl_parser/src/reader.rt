@@ -5,7 +5,7 @@ ghost use Rattle.idl_parser.specs.Phrases.{none, place_at, word, flag, text, one
 ghost use Rattle.idl_parser.specs.Leaves.{sign, kept_word, flagged, text_leaf, literal_leaf, literal_bytes};
 ghost use Rattle.idl_parser.specs.Parts.{identifier, decimal, literal, integer};
 ghost use Rattle.idl_parser.specs.Faults.{next_place, fault_kind, kind_at};
-ghost use Rattle.idl_parser.specs.Trees.{name_node, double_node, literal_node, int_node};
+ghost use Rattle.idl_parser.specs.Trees.{name_node, literal_node, int_node, value_node};
 ghost use Rattle.idl_token.specs.Terminals.{same};
 ghost use Rattle.idl_parser.specs.Shapes.{starts_in, contains_terminal};
 ghost use Rattle.idl_parser.specs.Documents.{deepest};
@@ -14,7 +14,7 @@ ghost use Rattle.idl_parser.specs.ReaderCalls.{Parses, IntsFit, lexeme_of, is_no
 use crate::ParseKind;
 use crate::leaves::{int_number, literal_bytes};
 use crate::symbol::Symbol;
-use crate::tree::{Double, Int, Literal, Name};
+use crate::tree::{ConstTree, Double, Int, Literal, Name};
 use idl_token::{LONGEST_IDL_TEXT, Place, Terminal, same};
 use lists::ByteText;
 use std::alloc::{AllocError, AllocFailed, Global};
@@ -217,16 +217,16 @@ impl<'a> SymbolReader<'a> {
         })
     }
 
-    /// A number with a fraction or an exponent.
-    pub(crate) fn double(&mut self) -> Result<Double, Stop>
-        ensures { Parses decimal double_node self.old self.new result }
+    /// A value that is a number with a fraction or an exponent.
+    pub(crate) fn double(&mut self) -> Result<ConstTree, Stop>
+        ensures { Parses decimal value_node self.old self.new result }
     {
         let taken = self.take(Terminal::Double)?;
         let text = copied(self.alloc, taken.bytes)?;
-        Ok(Double {
+        Ok(ConstTree::Double(Double {
             at: taken.place,
             text,
-        })
+        }))
     }
 
     /// A literal.

@@ -96,13 +96,13 @@ impl<'a> SymbolReader<'a> {
         Base::Uuid
     }
 
-    /// The word of a base type, and its place.
-    fn base(&mut self) -> Result<(Place, Base), Stop>
-        ensures { Parses base (λ b. word (base_word b.1) b.0) self.old self.new result }
+    /// A base type.
+    fn base(&mut self) -> Result<TypeTree, Stop>
+        ensures { Parses base type_node self.old self.new result }
     {
         let base = self.next_base();
         let at = self.word(base_terminal(base))?;
-        Ok((at, base))
+        Ok(TypeTree::Base(at, base))
     }
 
     /// Whether a base type's word is next.
@@ -167,8 +167,7 @@ impl<'a> SymbolReader<'a> {
         ensures { Parses (bare_type levels) type_node self.old self.new result }
     {
         if self.begins_base() {
-            let (at, base) = self.base()?;
-            return Ok(TypeTree::Base(at, base));
+            return self.base();
         }
         if self.is_next(Terminal::Identifier) {
             return Ok(TypeTree::Named(self.name()?));

@@ -54,7 +54,7 @@ impl<'a> SymbolReader<'a> {
             return Ok(ConstTree::Int(self.int()?));
         }
         if self.is_next(Terminal::Double) {
-            return Ok(ConstTree::Double(self.double()?));
+            return self.double();
         }
         if self.is_next(Terminal::Literal) {
             return Ok(ConstTree::Literal(self.literal()?));
