@@ -1,11 +1,12 @@
 -- Includes are followed, one after another.
-use Rattle.std.proofs.Common.{◌≡◌, ◌≤◌, ◌<◌, ◌+◌, ℕ, suc, List, ◌∷◌, length, drop, get_or, Result, Ok, Err, refl, ap, sym, subst, ◌∙◌, arith}
-use Rattle.std.specs.Prelude.{IsErrAnd, OnOk}
+use Rattle.std.proofs.Common.{◌≡◌, ◌≤◌, ◌<◌, ◌+◌, ℕ, suc, true, false, List, ◌∷◌, length, drop, get_or, Result, Ok, Err, refl, ap, sym, subst, ◌∙◌, arith}
+use Rattle.std.specs.Prelude.{IsOk, IsErrAnd, OnOk, MatchResult}
 use Rattle.std.specs.Str.{is_utf8}
 use Rattle.std.proofs.lemmas.List.{drop_more, at_drop_all}
 use Rattle.idl_include.specs.Program.{Program}
 use Rattle.idl_include.specs.Loading.{Loaded, and_then, load_includes, load_file}
 use Rattle.idl_include.specs.declared.faults.LoadStop.{LoadStop}
+use Rattle.idl_include.specs.declared.faults.LoadStop.TheVariants as stops
 use Rattle.idl_include.specs.declared.opening.WantedFile.{WantedFile}
 use Rattle.idl_include.specs.declared.sources.IdlFile.{IdlFile}
 use Rattle.idl_include.specs.SourcesOf.{AreBegun}
@@ -93,6 +94,14 @@ pub steps_err : {A : Type 0} (answer : Result A LoadStop) (stop : LoadStop) (a b
     → LoadEnds a b was stop → LoadSteps answer a b was is
 steps_err (Ok x) stop a b was is given h = absurd given
 steps_err (Err e) stop a b was is given h = subst (λ (s : LoadStop). LoadEnds a b was s) (sym given) h
+
+-- a step behind which loading goes on, or for which there was no room
+pub steps_stopped : {E : Type 0} (step : Result (Unit {0}) E) (answer : Result (Unit {0}) LoadStop) (a b : LoadStage) (was is : FileReader → Loaded) (P : Type 0)
+    → MatchResult step (λ _. IsOk answer) (λ _. answer ≡ Err stops.NoMemory) → OnOk step P → LoadEnds a b was stops.NoMemory → (P → LoadProceeds a b was is)
+    → LoadSteps answer a b was (λ _. is)
+steps_stopped (Ok _) (Ok _) a b was is P s p ends goes = goes p
+steps_stopped (Ok _) (Err e) a b was is P s p ends goes = let wrong : false ≡ true = s in absurd (cc wrong)
+steps_stopped (Err _) answer a b was is P s p ends goes = subst (λ (r : Result (Unit {0}) LoadStop). LoadSteps r a b was (λ _. is)) (sym s) ends
 
 pub steps_longer : {A : Type 0} (result : Result A LoadStop) (n : ℕ) (b c : LoadStage) (was : FileReader → Loaded) (is : A → FileReader → Loaded) → LoadSteps result b c was is → n < length b.begun
     → OnOk result (n < length c.begun)

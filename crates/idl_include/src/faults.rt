@@ -1,6 +1,6 @@
 //! What a program can be refused for.
 
-ghost use Rattle.std.specs.Prelude.{◌≡◌};
+ghost use Rattle.std.specs.Prelude.{◌≡◌, Result, IsOk, MatchResult};
 ghost use Rattle.idl_include.specs.Loads.{StopsWith};
 
 use idl_parser::ParseKind;
@@ -85,6 +85,14 @@ impl<T: Drop> From<AllocFailed<T>> for LoadStop {
     fn from(_failed: AllocFailed<T>) -> Self {
         LoadStop::NoMemory
     }
+}
+
+/// How loading goes on behind a step that fails only for want of memory.
+pub(crate) fn stopped(step: Result<(), AllocError>) -> Result<(), LoadStop>
+    ensures { MatchResult step (λ _. IsOk result) (λ _. result ≡ Result.Err LoadStop.NoMemory) }
+{
+    step?;
+    Ok(())
 }
 
 /// The place of a file as a whole.

@@ -9,7 +9,7 @@ ghost use Rattle.idl_include.specs.Loads.{Tells, IsLoaded, IsReadFault, is_file,
 ghost use Rattle.idl_include.specs.Begun.{written_in, wanted_in, IsNewName};
 ghost use Rattle.idl_include.specs.Steps.{load_stage, file_left, includes_left, include_left, all_loaded, LoadSteps};
 
-use crate::faults::{LoadFault, LoadKind, LoadStop, NOWHERE, no_memory, stop_at};
+use crate::faults::{LoadFault, LoadKind, LoadStop, NOWHERE, no_memory, stop_at, stopped};
 use crate::laws::each_file_is_read_as_one_thing;
 use crate::links::link;
 use crate::meanings::{IncludeMeaning, include_meaning};
@@ -165,15 +165,11 @@ fn follow<F: Files>(
 {
     let meaning = include_meaning(alloc, begun.as_slice(), above, file, wanted)?;
     match meaning {
-        IncludeMeaning::Before(number) => {
-            link(begun, of, number)?;
-            Ok(())
-        }
+        IncludeMeaning::Before(number) => stopped(link(begun, of, number)),
         IncludeMeaning::New(name) => {
             let number = begun.len();
             load_file(alloc, files, begun, above, name.as_str(), levels)?;
-            link(begun, of, number)?;
-            Ok(())
+            stopped(link(begun, of, number))
         }
     }
 }

@@ -5,10 +5,11 @@ use Rattle.idl_include.specs.SourcesOf.{program_in, AreBegun}
 use Rattle.idl_include.specs.declared.sources.IdlFile.{IdlFile}
 use Rattle.idl_include.specs.Begun.{written_in, include_meant, IsRefusedAt}
 use Rattle.idl_include.specs.Steps.{load_stage}
+use Rattle.outside.proofs.Causes.{on_ok}
 use Rattle.idl_include.proofs.Stages.{ends_for_want}
 use Rattle.idl_include.proofs.Begins.{no_level_ends}
 use Rattle.idl_include.proofs.Included.{refused_ends, moves_keeping, before_goes, new_goes, new_ends, want_behind, new_name}
-use Rattle.idl_include.proofs.Followed.{goes_none, followed_goes, followed_ends, all_followed, file_steps, ends_at_level, steps_err, steps_longer, popped}
+use Rattle.idl_include.proofs.Followed.{goes_none, followed_goes, followed_ends, all_followed, file_steps, ends_at_level, steps_err, steps_stopped, steps_longer, popped}
 use Rattle.idl_include.proofs.walk.+walk.Goals as goal
 
 -- a file
@@ -78,18 +79,17 @@ follow-returns-in_err-meaning-clause-steps g t c =
 
 -- of a file that was begun before
 
-pub follow-returns-in_err-link-in-Before-clause-steps : goal.follow-returns-in_err-link-in-Before-clause-steps
-follow-returns-in_err-link-in-Before-clause-steps g t c =
-    steps_err c.from_residual-in_err-link-in-Before.result stops.NoMemory _ _ _ _ c.from_residual-in_err-link-in-Before.ensures.1
-    (ends_for_want _ _ _ stops.NoMemory refl (moves_keeping _ _ _ _ c.link.ensures.keeps))
-
-pub follow-returns-in_ok-link-in-Before-clause-steps : goal.follow-returns-in_ok-link-in-Before-clause-steps
-follow-returns-in_ok-link-in-Before-clause-steps g t c =
+pub follow-returns-in-Before-clause-steps : goal.follow-returns-in-Before-clause-steps
+follow-returns-in-Before-clause-steps g t c =
     let w = written_in c.args.wanted.now in
     let P : List IdlFile → Type 0 = λ xs. include_meant c.args.above.now.items c.args.file.now w xs ≡ loaded_before c.in-Before.number in
     let m : P c.as_slice.result.now = (rw c.in-Before.is at c.in_ok-meaning.ensures).0 in
-    before_goes c.args.levels c.args.above.now.items c.args.file.now c.args.of c.in-Before.number w (g.F.Files.files c.args.files.now) (g.F.Files.faults c.args.files.now)
-    c.args.begun.now.items c.link.new.begun.items (subst P c.as_slice.ensures.value m) c.link.ensures.keeps c.in_ok-link-in-Before.ensures.linked
+    steps_stopped c.link.result c.stopped.result _ _ _ _ _ c.stopped.ensures c.link.ensures.linked (ends_for_want _ _ _ stops.NoMemory refl (moves_keeping _ _ _ _ c.link.ensures.keeps))
+    (λ linked. before_goes c.args.levels c.args.above.now.items c.args.file.now c.args.of c.in-Before.number w (g.F.Files.files c.args.files.now) (g.F.Files.faults c.args.files.now)
+    c.args.begun.now.items c.link.new.begun.items (subst P c.as_slice.ensures.value m) c.link.ensures.keeps linked)
+
+pub follow-returns-in-Before-clause-above : goal.follow-returns-in-Before-clause-above
+follow-returns-in-Before-clause-above g t c = on_ok c.stopped.result refl
 
 -- of a new one
 
@@ -129,19 +129,19 @@ follow-returns-in_err-load_file-in-New-clause-steps g t c =
     (new_ends c.args.levels c.args.above.now.items c.args.file.now c.args.of w a _ c.as_str.result.now stop
     (subst P c.as_slice.ensures.value m.0) (c.as_str.ensures.value ∙ m.1) c.in_err-load_file-in-New.ensures.steps)
 
-pub follow-returns-in_err-link-in-New-clause-steps : goal.follow-returns-in_err-link-in-New-clause-steps
-follow-returns-in_err-link-in-New-clause-steps g t c =
-    let h = c.in_ok-load_file-in-New.ensures.steps in
-    steps_err c.from_residual-in_err-link-in-New.result stops.NoMemory _ _ _ _ c.from_residual-in_err-link-in-New.ensures.1
-    (want_behind _ _ _ _ stops.NoMemory refl h.moves (moves_keeping _ _ _ _ c.link-in-New.ensures.keeps))
-
-pub follow-returns-in_ok-link-in-New-clause-steps : goal.follow-returns-in_ok-link-in-New-clause-steps
-follow-returns-in_ok-link-in-New-clause-steps g t c =
+pub follow-returns-in_ok-load_file-in-New-clause-steps : goal.follow-returns-in_ok-load_file-in-New-clause-steps
+follow-returns-in_ok-load_file-in-New-clause-steps g t c =
     let w = written_in c.args.wanted.now in
     let a = load_stage (g.F.Files.files c.args.files.now) (g.F.Files.faults c.args.files.now) c.args.begun.now.items in
+    let h = c.in_ok-load_file-in-New.ensures.steps in
     let P : List IdlFile → Type 0 = λ xs. include_meant c.args.above.now.items c.args.file.now w xs ≡ new_file in
     let m = rw c.in-New.is at c.in_ok-meaning.ensures in
     let same : c.len-number.result ≡ length c.args.begun.now.items = omega (arith, c.args.begun.now.ok.0, c.len-number.ensures) in
-    new_goes c.args.levels c.args.above.now.items c.args.file.now c.args.of w a _ _ c.load_file.new.begun.items c.link-in-New.new.begun.items c.as_str.result.now
-    (subst P c.as_slice.ensures.value m.0) (c.as_str.ensures.value ∙ m.1) c.in_ok-load_file-in-New.ensures.steps c.link-in-New.ensures.keeps
-    (c.in_ok-link-in-New.ensures.linked ∙ ap (λ (n : ℕ). linked c.args.of n (program_in c.load_file.new.begun.items)) same)
+    steps_stopped c.link-in-New.result c.stopped-in-New.result _ _ _ _ _ c.stopped-in-New.ensures c.link-in-New.ensures.linked
+    (want_behind _ _ _ _ stops.NoMemory refl h.moves (moves_keeping _ _ _ _ c.link-in-New.ensures.keeps))
+    (λ l. new_goes c.args.levels c.args.above.now.items c.args.file.now c.args.of w a _ _ c.load_file.new.begun.items c.link-in-New.new.begun.items c.as_str.result.now
+    (subst P c.as_slice.ensures.value m.0) (c.as_str.ensures.value ∙ m.1) h c.link-in-New.ensures.keeps
+    (l ∙ ap (λ (n : ℕ). linked c.args.of n (program_in c.load_file.new.begun.items)) same))
+
+pub follow-returns-in_ok-load_file-in-New-clause-above : goal.follow-returns-in_ok-load_file-in-New-clause-above
+follow-returns-in_ok-load_file-in-New-clause-above g t c = on_ok c.stopped-in-New.result c.in_ok-load_file-in-New.ensures.above
