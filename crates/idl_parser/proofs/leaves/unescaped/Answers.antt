@@ -1,7 +1,7 @@
 use Rattle.std.proofs.Common.{◌≡◌, ◌≢◌, ◌<◌, ◌+◌, ◌∙◌, ◌++◌, ◌∷◌, ℕ, Bool, true, false, List, [], length, get_or, drop, ap, sym, append_assoc, arith}
 use Rattle.std.proofs.lemmas.List.{at_drop_more}
 use Rattle.std.proofs.lemmas.Grind.{common_steps}
-use Rattle.idl_parser.specs.Leaves.{escaped, unescaped}
+use Rattle.idl_parser.specs.Leaves.{unescaped}
 use Rattle.idl_parser.proofs.leaves.unescaped.Goals as goal
 use Rattle.idl_parser.proofs.leaves.unescaped.Goals.{then-not-taken+then-byte-eq92, else-not-taken+in_ok-push, else-not-taken-via-then-not-taken+else-byte-eq92, else-not-taken-via-else-not-taken, then-taken, else-taken}
 
@@ -42,22 +42,22 @@ loop-byte-preserved c =
     let within = c.loop-byte-test.true in
     let so_far = c.loop-byte.invariant in
     elim c.if-not-taken.branch [
-      then-not-taken+then-byte-eq92 w ↦
-        passed bytes at old new all was now within w.if-not-taken.true w.if-byte-eq92.true (ap (λ v. v.items) w.all-is) w.taken-is so_far
-    | else-not-taken+in_ok-push w ↦
-        let pushed = ap (λ v. v.items) w.all-is ∙ w.in_ok-push.ensures.items in
-        elim w.if-taken.branch [
-          then-taken u ↦
-            put bytes at w.if-taken.next old new all was now within
-            (λ more. ap (λ v. unescaped v (byte ∷ more)) u.if-taken.true ∙ ap (λ b. b ∷ unescaped false more) (sym (u.next-is ∙ u.escaped-next.ensures)))
-            pushed w.taken-is so_far
-        | else-taken u ↦
-            elim w.else-not-taken.branch [
-              else-not-taken-via-then-not-taken+else-byte-eq92 v ↦
+      | then-not-taken+then-byte-eq92 w ↦
+          passed bytes at old new all was now within w.if-not-taken.true w.if-byte-eq92.true (ap (λ v. v.items) w.all-is) w.taken-is so_far
+      | else-not-taken+in_ok-push w ↦
+          let pushed = ap (λ v. v.items) w.all-is ∙ w.in_ok-push.ensures.items in
+          elim w.if-taken.branch [
+            | then-taken u ↦
                 put bytes at w.if-taken.next old new all was now within
-                (λ more. ap (λ b. unescaped b (byte ∷ more)) u.if-taken.false ∙ plain byte more v.if-byte-eq92.false ∙ ap (λ b. b ∷ unescaped false more) (sym u.next-is))
+                (λ more. ap (λ v. unescaped v (byte ∷ more)) u.if-taken.true ∙ ap (λ b. b ∷ unescaped false more) (sym (u.next-is ∙ u.escaped-next.ensures)))
                 pushed w.taken-is so_far
-            | else-not-taken-via-else-not-taken v ↦ absurd (cc (v.if-not-taken.false, u.if-taken.false))
-            ]
-        ]
+            | else-taken u ↦
+                elim w.else-not-taken.branch [
+                  | else-not-taken-via-then-not-taken+else-byte-eq92 v ↦
+                      put bytes at w.if-taken.next old new all was now within
+                      (λ more. ap (λ b. unescaped b (byte ∷ more)) u.if-taken.false ∙ plain byte more v.if-byte-eq92.false ∙ ap (λ b. b ∷ unescaped false more) (sym u.next-is))
+                      pushed w.taken-is so_far
+                  | else-not-taken-via-else-not-taken v ↦ absurd (cc (v.if-not-taken.false, u.if-taken.false))
+                ]
+          ]
     ]
