@@ -72,16 +72,16 @@ impl<'a> SymbolReader<'a> {
         if self.is_next(Terminal::Byte) {
             return Base::Byte;
         }
-        if self.starts(&[Terminal::I8]) {
+        if self.is_next(Terminal::I8) {
             return Base::I8;
         }
-        if self.starts(&[Terminal::I16]) {
+        if self.is_next(Terminal::I16) {
             return Base::I16;
         }
-        if self.starts(&[Terminal::I32]) {
+        if self.is_next(Terminal::I32) {
             return Base::I32;
         }
-        if self.starts(&[Terminal::I64]) {
+        if self.is_next(Terminal::I64) {
             return Base::I64;
         }
         if self.is_next(Terminal::DoubleWord) {
