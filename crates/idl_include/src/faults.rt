@@ -87,8 +87,8 @@ impl<T: Drop> From<AllocFailed<T>> for LoadStop {
     }
 }
 
-/// How loading goes on behind a step that fails only for want of memory.
-pub(crate) fn stopped(step: Result<(), AllocError>) -> Result<(), LoadStop>
+/// A step of loading that fails only for want of memory.
+pub(crate) fn or_stop(step: Result<(), AllocError>) -> Result<(), LoadStop>
     ensures { MatchResult step (λ _. IsOk result) (λ _. result ≡ Result.Err LoadStop.NoMemory) }
 {
     step?;

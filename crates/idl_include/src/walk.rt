@@ -9,7 +9,7 @@ ghost use Rattle.idl_include.specs.Loads.{Tells, IsLoaded, IsReadFault, is_file,
 ghost use Rattle.idl_include.specs.Begun.{written_in, wanted_in, IsNewName};
 ghost use Rattle.idl_include.specs.Steps.{load_stage, file_left, includes_left, include_left, all_loaded, LoadSteps};
 
-use crate::faults::{LoadFault, LoadKind, LoadStop, NOWHERE, no_memory, stop_at, stopped};
+use crate::faults::{LoadFault, LoadKind, LoadStop, NOWHERE, no_memory, or_stop, stop_at};
 use crate::laws::each_file_is_read_as_one_thing;
 use crate::links::link;
 use crate::meanings::{IncludeMeaning, include_meaning};
@@ -165,11 +165,11 @@ fn follow<F: Files>(
 {
     let meaning = include_meaning(alloc, begun.as_slice(), above, file, wanted)?;
     match meaning {
-        IncludeMeaning::Before(number) => stopped(link(begun, of, number)),
+        IncludeMeaning::Before(number) => or_stop(link(begun, of, number)),
         IncludeMeaning::New(name) => {
             let number = begun.len();
             load_file(alloc, files, begun, above, name.as_str(), levels)?;
-            stopped(link(begun, of, number))
+            or_stop(link(begun, of, number))
         }
     }
 }
