@@ -1,7 +1,30 @@
--- A walk that has come so far: what was read, in front of what reading gives from there.
-use Rattle.std.specs.Prelude.{List, [], ◌∷◌, Result, Ok, Err}
+-- A walk: what is read at each level, and a walk that has come so far, with what was read in front of what reading gives from
+-- there.
+use Rattle.std.specs.Prelude.{ℕ, zero, suc, List, [], ◌∷◌, Result, Ok, Err}
+use Rattle.thrift_value.specs.declared.tag.Tag.{Tag}
 use Rattle.thrift_value.specs.declared.wire_fault.WireFault.{WireFault}
-use Rattle.wire_model.specs.Decoder.{Unread}
+use Rattle.thrift_value.specs.declared.wire_fault.WireFault.TheVariants.{TooDeep}
+use Rattle.thrift_value.specs.Tree.{Tree, ItemTrees}
+use Rattle.wire_model.specs.Decoder.{Unread, Decoder, ◌>>=◌, give, fail}
+use Rattle.wire_model.specs.Reading.{deeper, item_list, parts, value}
+use Rattle.wire_model.specs.Wire.{Wire}
+
+-- how the values below a level are read, if one more may be opened
+unfoldable pub below : Wire → ℕ → Tag → Decoder Tree
+below wire zero tag = fail TooDeep
+below wire (suc levels) tag = value wire levels tag
+
+-- what a value of a tag holds, once it is counted
+abbrev pub held : Wire → ℕ → Tag → Decoder Tree
+held wire levels tag = parts wire levels (below wire levels) tag
+
+-- what a set and a list hold alike: the tag of the elements, and the elements
+unfoldable pub elements : Wire → ℕ → Decoder (Tag × ItemTrees)
+elements wire levels = do
+  level ← deeper levels
+  found ← wire.items
+  items ← item_list (below wire levels) found.0 found.1
+  give (found.0, items)
 
 -- elements in front of more of them
 abbrev pub prepended : {E T : Type 0} → (E → T → T) → List E → T → T

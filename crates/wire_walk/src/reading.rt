@@ -1,10 +1,13 @@
 //! Reading a value: level by level, from left to right.
 
 ghost use Rattle.std.specs.Prelude.{◌≡◌, length, pos, suc, ◌+◌, ◌<◌, ◌++◌, ◌∷◌, [], MatchResult, IfOk, OnOk};
+ghost use Rattle.thrift_value.specs.declared.tag.Tag.TheVariants as tags;
 ghost use Rattle.thrift_value.specs.Tree.{of_bytes};
 ghost use Rattle.thrift_value.specs.TreeOf.{tree_of, fields_tree, items_tree, pairs_tree};
 ghost use Rattle.wire_model.specs.Answering.{AnswersOrNoMemory};
+ghost use Rattle.wire_model.specs.Decoder.{go_on, give};
 ghost use Rattle.wire_model.specs.Reading.{value, field_list, item_list, pair_list};
+ghost use Rattle.wire_walk.specs.Walked.{held, elements};
 
 use crate::codec::Codec;
 use crate::header::Header;
@@ -23,37 +26,113 @@ pub fn read<'a, C: Codec>(
     ensures { AnswersOrNoMemory (λ r. (tree_of r.0, r.1)) result (value C.wire levels tag rest.entry) }
 {
     let rest = rest.count_value()?;
+    read_held::<C>(alloc, rest, levels, tag)
+}
+
+/// What a value holds that was counted.
+#[cycle(reading)]
+#[inline(always)]
+fn read_held<'a, C: Codec>(
+    alloc: Global,
+    rest: Input<'a>,
+    levels: u32,
+    tag: Tag,
+) -> Result<(Value, Input<'a>), WireFault>
+    ensures { AnswersOrNoMemory (λ r. (tree_of r.0, r.1)) result (held C.wire levels tag rest.entry) }
+{
     match tag {
-        Tag::Bytes => {
-            let (text, rest) = C::span(rest)?;
-            let value = kept_text(alloc, text)?;
-            Ok((value, rest))
-        }
-        Tag::Struct => {
-            let levels = deeper(levels)?;
-            let (fields, rest) = read_fields::<C>(alloc, rest, levels)?;
-            Ok((Value::Struct(fields), rest))
-        }
-        Tag::Map => {
-            let levels = deeper(levels)?;
-            let (key, value, count, rest) = C::pairs(rest)?;
-            let (pairs, rest) = read_pairs::<C>(alloc, rest, levels, key, value, count)?;
-            Ok((Value::Map(key, value, pairs), rest))
-        }
-        Tag::Set => {
-            let levels = deeper(levels)?;
-            let (element, count, rest) = C::items(rest)?;
-            let (items, rest) = read_items::<C>(alloc, rest, levels, element, count)?;
-            Ok((Value::Set(element, items), rest))
-        }
-        Tag::List => {
-            let levels = deeper(levels)?;
-            let (element, count, rest) = C::items(rest)?;
-            let (items, rest) = read_items::<C>(alloc, rest, levels, element, count)?;
-            Ok((Value::List(element, items), rest))
-        }
+        Tag::Bytes => read_text::<C>(alloc, rest),
+        Tag::Struct => open_struct::<C>(alloc, rest, levels),
+        Tag::Map => open_map::<C>(alloc, rest, levels),
+        Tag::Set => open_set::<C>(alloc, rest, levels),
+        Tag::List => open_list::<C>(alloc, rest, levels),
         tag => C::scalar(tag, rest),
     }
+}
+
+/// A text in front, in memory of its own.
+#[inline(always)]
+fn read_text<'a, C: Codec>(alloc: Global, rest: Input<'a>) -> Result<(Value, Input<'a>), WireFault>
+    ensures { AnswersOrNoMemory (λ r. (tree_of r.0, r.1)) result (go_on (C.wire.span rest.entry) (λ text. give (of_bytes text))) }
+{
+    let (text, rest) = C::span(rest)?;
+    let value = kept_text(alloc, text)?;
+    Ok((value, rest))
+}
+
+/// A struct, with its level opened.
+#[cycle(reading)]
+#[inline(always)]
+fn open_struct<'a, C: Codec>(
+    alloc: Global,
+    rest: Input<'a>,
+    levels: u32,
+) -> Result<(Value, Input<'a>), WireFault>
+    ensures { AnswersOrNoMemory (λ r. (tree_of r.0, r.1)) result (held C.wire levels tags.Struct rest.entry) }
+{
+    let levels = deeper(levels)?;
+    let (fields, rest) = read_fields::<C>(alloc, rest, levels)?;
+    Ok((Value::Struct(fields), rest))
+}
+
+/// A map, with its level opened.
+#[cycle(reading)]
+#[inline(always)]
+fn open_map<'a, C: Codec>(
+    alloc: Global,
+    rest: Input<'a>,
+    levels: u32,
+) -> Result<(Value, Input<'a>), WireFault>
+    ensures { AnswersOrNoMemory (λ r. (tree_of r.0, r.1)) result (held C.wire levels tags.Map rest.entry) }
+{
+    let levels = deeper(levels)?;
+    let (key, value, count, rest) = C::pairs(rest)?;
+    let (pairs, rest) = read_pairs::<C>(alloc, rest, levels, key, value, count)?;
+    Ok((Value::Map(key, value, pairs), rest))
+}
+
+/// A set, with its level opened.
+#[cycle(reading)]
+#[inline(always)]
+fn open_set<'a, C: Codec>(
+    alloc: Global,
+    rest: Input<'a>,
+    levels: u32,
+) -> Result<(Value, Input<'a>), WireFault>
+    ensures { AnswersOrNoMemory (λ r. (tree_of r.0, r.1)) result (held C.wire levels tags.Set rest.entry) }
+{
+    let (element, items, rest) = open_elements::<C>(alloc, rest, levels)?;
+    Ok((Value::Set(element, items), rest))
+}
+
+/// A list, with its level opened.
+#[cycle(reading)]
+#[inline(always)]
+fn open_list<'a, C: Codec>(
+    alloc: Global,
+    rest: Input<'a>,
+    levels: u32,
+) -> Result<(Value, Input<'a>), WireFault>
+    ensures { AnswersOrNoMemory (λ r. (tree_of r.0, r.1)) result (held C.wire levels tags.List rest.entry) }
+{
+    let (element, items, rest) = open_elements::<C>(alloc, rest, levels)?;
+    Ok((Value::List(element, items), rest))
+}
+
+/// What a set and a list hold alike: the tag of the elements, and the elements.
+#[cycle(reading)]
+#[inline(always)]
+fn open_elements<'a, C: Codec>(
+    alloc: Global,
+    rest: Input<'a>,
+    levels: u32,
+) -> Result<(Tag, Items, Input<'a>), WireFault>
+    ensures { AnswersOrNoMemory (λ r. ((r.0, items_tree r.1), r.2)) result (elements C.wire levels rest.entry) }
+{
+    let levels = deeper(levels)?;
+    let (element, count, rest) = C::items(rest)?;
+    let (items, rest) = read_items::<C>(alloc, rest, levels, element, count)?;
+    Ok((element, items, rest))
 }
 
 /// One level less, if there is one.

@@ -2,15 +2,17 @@ use Rattle.std.proofs.Common.{◌≡◌, ℤ, pos, suc, ◌+◌, ◌-◌, ◌∙
 use Rattle.std.specs.Int.{w16}
 use Rattle.std.proofs.lemmas.Int.{to_z-of_z}
 use Rattle.std.proofs.lemmas.Result.{err_from_is_err_and}
+use Rattle.thrift_value.specs.declared.tag.Tag.TheVariants as tags
 use Rattle.thrift_value.specs.Tree.{of_bytes, of_struct, of_map, of_set, of_list}
 use Rattle.wire_model.specs.AtPlace.{passed_over}
 use Rattle.wire_model.specs.Decoder.{count_value}
 use Rattle.wire_model.specs.Reading.{value, item_list, pair_list}
 use Rattle.wire_model.specs.Wire.{typed, flagged}
 use Rattle.wire_walk.specs.Steps.{field_header_of}
+use Rattle.wire_walk.specs.Walked.{held, elements}
 use Rattle.wire_walk.proofs.Faults.{on_ok}
-use Rattle.wire_walk.proofs.Opened.{counted_first, bytes_is, struct_too_deep, map_too_deep, set_too_deep, list_too_deep, struct_is, map_is, set_is, list_is, scalar_is}
-use Rattle.wire_walk.proofs.PassedOver.{stops_at, scalar_stops, exactly_too_deep, ends_at, answers_same, passed_given, fields_left, header_fails_exactly, field_fails_exactly, flag_fails_exactly, field_passes, flag_passes, fields_passed, headers_run_out, items_fail_exactly, items_pass, items_passed, pairs_fail_exactly, pairs_fail_exactly_later, pairs_pass, pairs_passed}
+use Rattle.wire_walk.proofs.Opened.{counted_first, counted, held_is, bytes_is, struct_too_deep, map_too_deep, elements_too_deep, struct_is, map_is, elements_are, set_is, list_is, scalar_is}
+use Rattle.wire_walk.proofs.PassedOver.{stops_at, exactly_too_deep, answers_same, passed_given, fields_left, header_fails_exactly, field_fails_exactly, flag_fails_exactly, field_passes, flag_passes, fields_passed, headers_run_out, items_fail_exactly, items_pass, items_passed, pairs_fail_exactly, pairs_fail_exactly_later, pairs_pass, pairs_passed}
 use Rattle.wire_walk.proofs.passing.+passing.Goals as goal
 
 pub skip-returns-in_err-rest : goal.skip-returns-in_err-rest
@@ -19,93 +21,87 @@ skip-returns-in_err-rest g t c =
     rw (p.1, p.2)
     (stops_at c.in_err-rest.field-0.0 (value g.C.WireProtocol.wire c.args.levels c.args.tag c.args.rest) (count_value c.args.rest) _ (counted_first g.C.WireProtocol.wire c.args.levels c.args.tag c.args.rest) c.in_err-rest.ensures)
 
-pub skip-returns-in_err-rest-in-Bytes : goal.skip-returns-in_err-rest-in-Bytes
-skip-returns-in_err-rest-in-Bytes g t c =
-    let p = err_from_is_err_and c.from_residual-in_err-rest-in-Bytes.result c.from_residual-in_err-rest-in-Bytes.ensures.1 in
+pub skip-returns : goal.skip-returns
+skip-returns g t c =
+    answers_same c.skip_held.result _ _ (ap passed_over (sym (counted g.C.WireProtocol.wire c.args.levels c.args.tag c.args.rest c.in_ok-rest.rest c.in_ok-rest.ensures))) c.skip_held.ensures
+
+-- what each kind of value holds
+
+pub skip_held-returns-in-Bytes : goal.skip_held-returns-in-Bytes
+skip_held-returns-in-Bytes g t c =
+    answers_same c.skip_text.result _ _
+    (sym (passed_given (g.C.WireProtocol.wire.span c.args.rest) of_bytes) ∙ ap passed_over (bytes_is g.C.WireProtocol.wire c.args.levels c.args.tag c.args.rest c.in-Bytes.is)) c.skip_text.ensures
+
+pub skip_held-returns-in-Struct : goal.skip_held-returns-in-Struct
+skip_held-returns-in-Struct g t c =
+    answers_same c.skip_struct.result _ _ (ap passed_over (held_is g.C.WireProtocol.wire c.args.levels c.args.tag _ c.args.rest c.in-Struct.is)) c.skip_struct.ensures
+
+pub skip_held-returns-in-Map : goal.skip_held-returns-in-Map
+skip_held-returns-in-Map g t c =
+    answers_same c.skip_map.result _ _ (ap passed_over (held_is g.C.WireProtocol.wire c.args.levels c.args.tag _ c.args.rest c.in-Map.is)) c.skip_map.ensures
+
+pub skip_held-returns-in-Set : goal.skip_held-returns-in-Set
+skip_held-returns-in-Set g t c =
+    answers_same c.skip_elements.result _ _
+    (sym (passed_given (elements g.C.WireProtocol.wire c.args.levels c.args.rest) (λ x. of_set x.0 x.1)) ∙ ap passed_over (set_is g.C.WireProtocol.wire c.args.levels c.args.tag c.args.rest c.in-Set.is)) c.skip_elements.ensures
+
+pub skip_held-returns-in-List : goal.skip_held-returns-in-List
+skip_held-returns-in-List g t c =
+    answers_same c.skip_elements-in-List.result _ _
+    (sym (passed_given (elements g.C.WireProtocol.wire c.args.levels c.args.rest) (λ x. of_list x.0 x.1)) ∙ ap passed_over (list_is g.C.WireProtocol.wire c.args.levels c.args.tag c.args.rest c.in-List.is)) c.skip_elements-in-List.ensures
+
+pub skip_held-returns-in_default : goal.skip_held-returns-in_default
+skip_held-returns-in_default g t c =
+    answers_same c.skip_scalar.result _ _
+    (ap passed_over (scalar_is g.C.WireProtocol.wire c.args.levels c.args.tag c.args.rest c.in_default.not-Bytes c.in_default.not-Struct c.in_default.not-Map c.in_default.not-Set c.in_default.not-List)) c.skip_scalar.ensures
+
+pub skip_struct-returns-in_err-levels : goal.skip_struct-returns-in_err-levels
+skip_struct-returns-in_err-levels g t c =
+    let p = err_from_is_err_and c.from_residual.result c.from_residual.ensures.1 in
     rw (p.1, p.2)
-    (stops_at c.in_err-rest-in-Bytes.field-0.0 (value g.C.WireProtocol.wire c.args.levels c.args.tag c.args.rest) (g.C.WireProtocol.wire.span c.in_ok-rest.rest) _ (bytes_is g.C.WireProtocol.wire c.args.levels c.args.tag c.args.rest c.in_ok-rest.rest c.in_ok-rest.ensures c.in-Bytes.is) c.in_err-rest-in-Bytes.ensures)
+    (exactly_too_deep c.in_err-levels.field-0.0 (held g.C.WireProtocol.wire c.args.levels tags.Struct c.args.rest) c.in_err-levels.ensures.1 (struct_too_deep g.C.WireProtocol.wire c.args.levels c.args.rest c.in_err-levels.ensures.0))
 
-pub skip-returns-in_ok-rest-in-Bytes : goal.skip-returns-in_ok-rest-in-Bytes
-skip-returns-in_ok-rest-in-Bytes g t c =
-    ends_at (value g.C.WireProtocol.wire c.args.levels c.args.tag c.args.rest) (g.C.WireProtocol.wire.span c.in_ok-rest.rest) of_bytes c.in_ok-rest-in-Bytes.field-0-0.now c.in_ok-rest-in-Bytes.rest (bytes_is g.C.WireProtocol.wire c.args.levels c.args.tag c.args.rest c.in_ok-rest.rest c.in_ok-rest.ensures c.in-Bytes.is) c.in_ok-rest-in-Bytes.ensures
-
-pub skip-returns-in_err-levels-in-Struct : goal.skip-returns-in_err-levels-in-Struct
-skip-returns-in_err-levels-in-Struct g t c =
-    let p = err_from_is_err_and c.from_residual-in_err-levels-in-Struct.result c.from_residual-in_err-levels-in-Struct.ensures.1 in
+pub skip_map-returns-in_err-levels : goal.skip_map-returns-in_err-levels
+skip_map-returns-in_err-levels g t c =
+    let p = err_from_is_err_and c.from_residual.result c.from_residual.ensures.1 in
     rw (p.1, p.2)
-    (exactly_too_deep c.in_err-levels-in-Struct.field-0.0 (value g.C.WireProtocol.wire c.args.levels c.args.tag c.args.rest) c.in_err-levels-in-Struct.ensures.1
-    (struct_too_deep g.C.WireProtocol.wire c.args.levels c.args.tag c.args.rest c.in_ok-rest.rest c.in_ok-rest.ensures c.in-Struct.is c.in_err-levels-in-Struct.ensures.0))
+    (exactly_too_deep c.in_err-levels.field-0.0 (held g.C.WireProtocol.wire c.args.levels tags.Map c.args.rest) c.in_err-levels.ensures.1 (map_too_deep g.C.WireProtocol.wire c.args.levels c.args.rest c.in_err-levels.ensures.0))
 
-pub skip-returns-in_err-levels-in-Map : goal.skip-returns-in_err-levels-in-Map
-skip-returns-in_err-levels-in-Map g t c =
-    let p = err_from_is_err_and c.from_residual-in_err-levels-in-Map.result c.from_residual-in_err-levels-in-Map.ensures.1 in
+pub skip_elements-returns-in_err-levels : goal.skip_elements-returns-in_err-levels
+skip_elements-returns-in_err-levels g t c =
+    let p = err_from_is_err_and c.from_residual.result c.from_residual.ensures.1 in
     rw (p.1, p.2)
-    (exactly_too_deep c.in_err-levels-in-Map.field-0.0 (value g.C.WireProtocol.wire c.args.levels c.args.tag c.args.rest) c.in_err-levels-in-Map.ensures.1
-    (map_too_deep g.C.WireProtocol.wire c.args.levels c.args.tag c.args.rest c.in_ok-rest.rest c.in_ok-rest.ensures c.in-Map.is c.in_err-levels-in-Map.ensures.0))
+    (exactly_too_deep c.in_err-levels.field-0.0 (elements g.C.WireProtocol.wire c.args.levels c.args.rest) c.in_err-levels.ensures.1 (elements_too_deep g.C.WireProtocol.wire c.args.levels c.args.rest c.in_err-levels.ensures.0))
 
-pub skip-returns-in_err-levels-in-Set : goal.skip-returns-in_err-levels-in-Set
-skip-returns-in_err-levels-in-Set g t c =
-    let p = err_from_is_err_and c.from_residual-in_err-levels-in-Set.result c.from_residual-in_err-levels-in-Set.ensures.1 in
+pub skip_struct-returns : goal.skip_struct-returns
+skip_struct-returns g t c =
+    answers_same c.skip_fields.result _ _
+    (sym (passed_given (fields_left g.C.WireProtocol.wire c.in_ok-levels.levels (length c.args.rest.bytes) (pos 0) c.args.rest) of_struct)
+    ∙ ap passed_over (struct_is g.C.WireProtocol.wire c.args.levels c.in_ok-levels.levels c.args.rest c.in_ok-levels.ensures)) c.skip_fields.ensures
+
+pub skip_map-returns-in_err-key : goal.skip_map-returns-in_err-key
+skip_map-returns-in_err-key g t c =
+    let p = err_from_is_err_and c.from_residual-in_err-key.result c.from_residual-in_err-key.ensures.1 in
     rw (p.1, p.2)
-    (exactly_too_deep c.in_err-levels-in-Set.field-0.0 (value g.C.WireProtocol.wire c.args.levels c.args.tag c.args.rest) c.in_err-levels-in-Set.ensures.1
-    (set_too_deep g.C.WireProtocol.wire c.args.levels c.args.tag c.args.rest c.in_ok-rest.rest c.in_ok-rest.ensures c.in-Set.is c.in_err-levels-in-Set.ensures.0))
+    (stops_at c.in_err-key.field-0.0 (held g.C.WireProtocol.wire c.args.levels tags.Map c.args.rest) (g.C.WireProtocol.wire.pairs c.args.rest) _ (sym (map_is g.C.WireProtocol.wire c.args.levels c.in_ok-levels.levels c.args.rest c.in_ok-levels.ensures)) c.in_err-key.ensures)
 
-pub skip-returns-in_err-levels-in-List : goal.skip-returns-in_err-levels-in-List
-skip-returns-in_err-levels-in-List g t c =
-    let p = err_from_is_err_and c.from_residual-in_err-levels-in-List.result c.from_residual-in_err-levels-in-List.ensures.1 in
-    rw (p.1, p.2)
-    (exactly_too_deep c.in_err-levels-in-List.field-0.0 (value g.C.WireProtocol.wire c.args.levels c.args.tag c.args.rest) c.in_err-levels-in-List.ensures.1
-    (list_too_deep g.C.WireProtocol.wire c.args.levels c.args.tag c.args.rest c.in_ok-rest.rest c.in_ok-rest.ensures c.in-List.is c.in_err-levels-in-List.ensures.0))
-
-pub skip-returns-in_ok-levels-in-Struct : goal.skip-returns-in_ok-levels-in-Struct
-skip-returns-in_ok-levels-in-Struct g t c =
-    answers_same c.skip_fields.result _ _ (sym (ap passed_over (struct_is g.C.WireProtocol.wire c.args.levels c.in_ok-levels-in-Struct.levels c.args.tag c.args.rest c.in_ok-rest.rest c.in_ok-rest.ensures c.in-Struct.is c.in_ok-levels-in-Struct.ensures) ∙ passed_given (fields_left g.C.WireProtocol.wire c.in_ok-levels-in-Struct.levels (length c.in_ok-rest.rest.bytes) (pos 0) c.in_ok-rest.rest) of_struct)) c.skip_fields.ensures
-
-pub skip-returns-in_err-key-in-Map : goal.skip-returns-in_err-key-in-Map
-skip-returns-in_err-key-in-Map g t c =
-    let p = err_from_is_err_and c.from_residual-in_err-key-in-Map.result c.from_residual-in_err-key-in-Map.ensures.1 in
-    rw (p.1, p.2)
-    (stops_at c.in_err-key-in-Map.field-0.0 (value g.C.WireProtocol.wire c.args.levels c.args.tag c.args.rest) (g.C.WireProtocol.wire.pairs c.in_ok-rest.rest) _ (map_is g.C.WireProtocol.wire c.args.levels c.in_ok-levels-in-Map.levels c.args.tag c.args.rest c.in_ok-rest.rest c.in_ok-rest.ensures c.in-Map.is c.in_ok-levels-in-Map.ensures) c.in_err-key-in-Map.ensures)
-
-pub skip-returns-in_ok-key-in-Map : goal.skip-returns-in_ok-key-in-Map
-skip-returns-in_ok-key-in-Map g t c =
+pub skip_map-returns : goal.skip_map-returns
+skip_map-returns g t c =
     answers_same c.skip_pairs.result _ _
-    (sym (ap passed_over (map_is g.C.WireProtocol.wire c.args.levels c.in_ok-levels-in-Map.levels c.args.tag c.args.rest c.in_ok-rest.rest c.in_ok-rest.ensures c.in-Map.is c.in_ok-levels-in-Map.ensures ∙ on_ok (g.C.WireProtocol.wire.pairs c.in_ok-rest.rest) _ (c.in_ok-key-in-Map.key, c.in_ok-key-in-Map.value, c.in_ok-key-in-Map.count) c.in_ok-key-in-Map.rest c.in_ok-key-in-Map.ensures)
-    ∙ passed_given (pair_list (value g.C.WireProtocol.wire c.in_ok-levels-in-Map.levels) c.in_ok-key-in-Map.key c.in_ok-key-in-Map.value c.in_ok-key-in-Map.count c.in_ok-key-in-Map.rest) (of_map c.in_ok-key-in-Map.key c.in_ok-key-in-Map.value))) c.skip_pairs.ensures
+    (sym (passed_given (pair_list (value g.C.WireProtocol.wire c.in_ok-levels.levels) c.in_ok-key.key c.in_ok-key.value c.in_ok-key.count c.in_ok-key.rest) (of_map c.in_ok-key.key c.in_ok-key.value))
+    ∙ ap passed_over (sym (on_ok (g.C.WireProtocol.wire.pairs c.args.rest) _ (c.in_ok-key.key, c.in_ok-key.value, c.in_ok-key.count) c.in_ok-key.rest c.in_ok-key.ensures) ∙ map_is g.C.WireProtocol.wire c.args.levels c.in_ok-levels.levels c.args.rest c.in_ok-levels.ensures)) c.skip_pairs.ensures
 
-pub skip-returns-in_err-element-in-Set : goal.skip-returns-in_err-element-in-Set
-skip-returns-in_err-element-in-Set g t c =
-    let p = err_from_is_err_and c.from_residual-in_err-element-in-Set.result c.from_residual-in_err-element-in-Set.ensures.1 in
+pub skip_elements-returns-in_err-element : goal.skip_elements-returns-in_err-element
+skip_elements-returns-in_err-element g t c =
+    let p = err_from_is_err_and c.from_residual-in_err-element.result c.from_residual-in_err-element.ensures.1 in
     rw (p.1, p.2)
-    (stops_at c.in_err-element-in-Set.field-0.0 (value g.C.WireProtocol.wire c.args.levels c.args.tag c.args.rest) (g.C.WireProtocol.wire.items c.in_ok-rest.rest) _ (set_is g.C.WireProtocol.wire c.args.levels c.in_ok-levels-in-Set.levels c.args.tag c.args.rest c.in_ok-rest.rest c.in_ok-rest.ensures c.in-Set.is c.in_ok-levels-in-Set.ensures) c.in_err-element-in-Set.ensures)
+    (stops_at c.in_err-element.field-0.0 (elements g.C.WireProtocol.wire c.args.levels c.args.rest) (g.C.WireProtocol.wire.items c.args.rest) _ (sym (elements_are g.C.WireProtocol.wire c.args.levels c.in_ok-levels.levels c.args.rest c.in_ok-levels.ensures)) c.in_err-element.ensures)
 
-pub skip-returns-in_ok-element-in-Set : goal.skip-returns-in_ok-element-in-Set
-skip-returns-in_ok-element-in-Set g t c =
+pub skip_elements-returns : goal.skip_elements-returns
+skip_elements-returns g t c =
     answers_same c.skip_items.result _ _
-    (sym (ap passed_over (set_is g.C.WireProtocol.wire c.args.levels c.in_ok-levels-in-Set.levels c.args.tag c.args.rest c.in_ok-rest.rest c.in_ok-rest.ensures c.in-Set.is c.in_ok-levels-in-Set.ensures ∙ on_ok (g.C.WireProtocol.wire.items c.in_ok-rest.rest) _ (c.in_ok-element-in-Set.element, c.in_ok-element-in-Set.count) c.in_ok-element-in-Set.rest c.in_ok-element-in-Set.ensures)
-    ∙ passed_given (item_list (value g.C.WireProtocol.wire c.in_ok-levels-in-Set.levels) c.in_ok-element-in-Set.element c.in_ok-element-in-Set.count c.in_ok-element-in-Set.rest) (of_set c.in_ok-element-in-Set.element))) c.skip_items.ensures
-
-pub skip-returns-in_err-element-in-List : goal.skip-returns-in_err-element-in-List
-skip-returns-in_err-element-in-List g t c =
-    let p = err_from_is_err_and c.from_residual-in_err-element-in-List.result c.from_residual-in_err-element-in-List.ensures.1 in
-    rw (p.1, p.2)
-    (stops_at c.in_err-element-in-List.field-0.0 (value g.C.WireProtocol.wire c.args.levels c.args.tag c.args.rest) (g.C.WireProtocol.wire.items c.in_ok-rest.rest) _ (list_is g.C.WireProtocol.wire c.args.levels c.in_ok-levels-in-List.levels c.args.tag c.args.rest c.in_ok-rest.rest c.in_ok-rest.ensures c.in-List.is c.in_ok-levels-in-List.ensures) c.in_err-element-in-List.ensures)
-
-pub skip-returns-in_ok-element-in-List : goal.skip-returns-in_ok-element-in-List
-skip-returns-in_ok-element-in-List g t c =
-    answers_same c.skip_items-in-List.result _ _
-    (sym (ap passed_over (list_is g.C.WireProtocol.wire c.args.levels c.in_ok-levels-in-List.levels c.args.tag c.args.rest c.in_ok-rest.rest c.in_ok-rest.ensures c.in-List.is c.in_ok-levels-in-List.ensures ∙ on_ok (g.C.WireProtocol.wire.items c.in_ok-rest.rest) _ (c.in_ok-element-in-List.element, c.in_ok-element-in-List.count) c.in_ok-element-in-List.rest c.in_ok-element-in-List.ensures)
-    ∙ passed_given (item_list (value g.C.WireProtocol.wire c.in_ok-levels-in-List.levels) c.in_ok-element-in-List.element c.in_ok-element-in-List.count c.in_ok-element-in-List.rest) (of_list c.in_ok-element-in-List.element))) c.skip_items-in-List.ensures
-
-pub skip-returns-in_err-rest-in_default : goal.skip-returns-in_err-rest-in_default
-skip-returns-in_err-rest-in_default g t c =
-    let p = err_from_is_err_and c.from_residual-in_err-rest-in_default.result c.from_residual-in_err-rest-in_default.ensures.1 in
-    rw (p.1, p.2)
-    (scalar_stops c.in_err-rest-in_default.field-0.0 (g.C.WireProtocol.wire.scalar c.args.tag c.in_ok-rest.rest) _ (scalar_is g.C.WireProtocol.wire c.args.levels c.args.tag c.args.rest c.in_ok-rest.rest c.in_ok-rest.ensures c.in_default.not-Bytes c.in_default.not-Struct c.in_default.not-Map c.in_default.not-Set c.in_default.not-List) c.in_err-rest-in_default.ensures)
-
-pub skip-returns-in_ok-rest-in_default : goal.skip-returns-in_ok-rest-in_default
-skip-returns-in_ok-rest-in_default g t c =
-    ap passed_over (sym (scalar_is g.C.WireProtocol.wire c.args.levels c.args.tag c.args.rest c.in_ok-rest.rest c.in_ok-rest.ensures c.in_default.not-Bytes c.in_default.not-Struct c.in_default.not-Map c.in_default.not-Set c.in_default.not-List) ∙ c.in_ok-rest-in_default.ensures)
+    (sym (passed_given (item_list (value g.C.WireProtocol.wire c.in_ok-levels.levels) c.in_ok-element.element c.in_ok-element.count c.in_ok-element.rest) (λ items. (c.in_ok-element.element, items)))
+    ∙ ap passed_over (sym (on_ok (g.C.WireProtocol.wire.items c.args.rest) _ (c.in_ok-element.element, c.in_ok-element.count) c.in_ok-element.rest c.in_ok-element.ensures) ∙ elements_are g.C.WireProtocol.wire c.args.levels c.in_ok-levels.levels c.args.rest c.in_ok-levels.ensures)) c.skip_items.ensures
 
 pub skip_fields-returns-in_err-header : goal.skip_fields-returns-in_err-header
 skip_fields-returns-in_err-header g t c =

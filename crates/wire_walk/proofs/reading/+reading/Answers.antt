@@ -1,4 +1,4 @@
-use Rattle.std.proofs.Common.{◌≡◌, ℤ, suc, ◌+◌, ◌-◌, ◌∙◌, length, Ok, sym, ap, arith, rules, FitsSigned, to_z, of_z}
+use Rattle.std.proofs.Common.{◌≡◌, ℤ, suc, ◌+◌, ◌-◌, ◌∙◌, length, Ok, refl, sym, ap, arith, rules, FitsSigned, to_z, of_z}
 use Rattle.std.specs.Int.{w16}
 use Rattle.std.proofs.lemmas.Int.{to_z-of_z}
 use Rattle.std.proofs.lemmas.Result.{err_from_is_err_and}
@@ -8,7 +8,7 @@ use Rattle.thrift_value.specs.declared.value.Value.TheVariants.{Bool}
 use Rattle.wire_model.specs.Wire.{typed, flagged}
 use Rattle.wire_walk.specs.Steps.{field_header_of}
 use Rattle.wire_walk.proofs.Faults.{fails_on, fails_same, fails_told, gives_same, gives_told, too_deep, on_ok}
-use Rattle.wire_walk.proofs.Opened.{not_counted, bytes_is, struct_too_deep, map_too_deep, set_too_deep, list_too_deep, struct_is, map_is, set_is, list_is, scalar_is}
+use Rattle.wire_walk.proofs.Opened.{not_counted, counted, held_is, bytes_is, struct_too_deep, map_too_deep, elements_too_deep, struct_is, map_is, elements_are, set_is, list_is, scalar_is}
 use Rattle.wire_walk.proofs.Lists.{items_begin, items_fail, items_step, items_end, pairs_begin, pairs_fail, pairs_fail_later, pairs_step, pairs_end, fields_begin, fields_fail, field_value_fails, flag_fails, field_step, flag_step, fields_end, fields_run_out}
 use Rattle.wire_walk.proofs.reading.+reading.Goals as goal
 
@@ -18,127 +18,134 @@ read-returns-in_err-rest g t c =
     rw (p.1, p.2)
     (not_counted g.C.WireProtocol.wire c.args.levels c.args.tag c.args.rest c.in_err-rest.field-0.0 (fails_told _ _ c.in_err-rest.ensures))
 
-pub read-returns-in_err-text-in-Bytes : goal.read-returns-in_err-text-in-Bytes
-read-returns-in_err-text-in-Bytes g t c =
-    let p = err_from_is_err_and c.from_residual-in_err-text-in-Bytes.result c.from_residual-in_err-text-in-Bytes.ensures.1 in
-    rw (p.1, p.2)
-    (fails_same c.in_err-text-in-Bytes.field-0.0 _ _ (sym (bytes_is g.C.WireProtocol.wire c.args.levels c.args.tag c.args.rest c.in_ok-rest.rest c.in_ok-rest.ensures c.in-Bytes.is))
-    (fails_on c.in_err-text-in-Bytes.field-0.0 (g.C.WireProtocol.wire.span c.in_ok-rest.rest) _ (fails_told _ _ c.in_err-text-in-Bytes.ensures)))
+pub read-returns : goal.read-returns
+read-returns g t c =
+    gives_same _ c.read_held.result _ _ (sym (counted g.C.WireProtocol.wire c.args.levels c.args.tag c.args.rest c.in_ok-rest.rest c.in_ok-rest.ensures)) c.read_held.ensures
 
-pub read-returns-in_ok-value-in-Bytes : goal.read-returns-in_ok-value-in-Bytes
-read-returns-in_ok-value-in-Bytes g t c =
-    bytes_is g.C.WireProtocol.wire c.args.levels c.args.tag c.args.rest c.in_ok-rest.rest c.in_ok-rest.ensures c.in-Bytes.is
-    ∙ on_ok (g.C.WireProtocol.wire.span c.in_ok-rest.rest) _ c.in_ok-text-in-Bytes.text.now c.in_ok-text-in-Bytes.rest c.in_ok-text-in-Bytes.ensures
-    ∙ ap (λ x. Ok (x, c.in_ok-text-in-Bytes.rest)) (sym c.in_ok-value-in-Bytes.ensures)
+-- what each kind of value holds
 
-pub read-returns-in_err-levels-in-Struct : goal.read-returns-in_err-levels-in-Struct
-read-returns-in_err-levels-in-Struct g t c =
-    let p = err_from_is_err_and c.from_residual-in_err-levels-in-Struct.result c.from_residual-in_err-levels-in-Struct.ensures.1 in
-    rw (p.1, p.2)
-    (too_deep c.in_err-levels-in-Struct.field-0.0 _ c.in_err-levels-in-Struct.ensures.1
-    (struct_too_deep g.C.WireProtocol.wire c.args.levels c.args.tag c.args.rest c.in_ok-rest.rest c.in_ok-rest.ensures c.in-Struct.is c.in_err-levels-in-Struct.ensures.0))
+pub read_held-returns-in-Bytes : goal.read_held-returns-in-Bytes
+read_held-returns-in-Bytes g t c =
+    gives_same _ c.read_text.result _ _ (bytes_is g.C.WireProtocol.wire c.args.levels c.args.tag c.args.rest c.in-Bytes.is) c.read_text.ensures
 
-pub read-returns-in_err-levels-in-Map : goal.read-returns-in_err-levels-in-Map
-read-returns-in_err-levels-in-Map g t c =
-    let p = err_from_is_err_and c.from_residual-in_err-levels-in-Map.result c.from_residual-in_err-levels-in-Map.ensures.1 in
-    rw (p.1, p.2)
-    (too_deep c.in_err-levels-in-Map.field-0.0 _ c.in_err-levels-in-Map.ensures.1
-    (map_too_deep g.C.WireProtocol.wire c.args.levels c.args.tag c.args.rest c.in_ok-rest.rest c.in_ok-rest.ensures c.in-Map.is c.in_err-levels-in-Map.ensures.0))
+pub read_held-returns-in-Struct : goal.read_held-returns-in-Struct
+read_held-returns-in-Struct g t c =
+    gives_same _ c.open_struct.result _ _ (held_is g.C.WireProtocol.wire c.args.levels c.args.tag _ c.args.rest c.in-Struct.is) c.open_struct.ensures
 
-pub read-returns-in_err-levels-in-Set : goal.read-returns-in_err-levels-in-Set
-read-returns-in_err-levels-in-Set g t c =
-    let p = err_from_is_err_and c.from_residual-in_err-levels-in-Set.result c.from_residual-in_err-levels-in-Set.ensures.1 in
-    rw (p.1, p.2)
-    (too_deep c.in_err-levels-in-Set.field-0.0 _ c.in_err-levels-in-Set.ensures.1
-    (set_too_deep g.C.WireProtocol.wire c.args.levels c.args.tag c.args.rest c.in_ok-rest.rest c.in_ok-rest.ensures c.in-Set.is c.in_err-levels-in-Set.ensures.0))
+pub read_held-returns-in-Map : goal.read_held-returns-in-Map
+read_held-returns-in-Map g t c =
+    gives_same _ c.open_map.result _ _ (held_is g.C.WireProtocol.wire c.args.levels c.args.tag _ c.args.rest c.in-Map.is) c.open_map.ensures
 
-pub read-returns-in_err-levels-in-List : goal.read-returns-in_err-levels-in-List
-read-returns-in_err-levels-in-List g t c =
-    let p = err_from_is_err_and c.from_residual-in_err-levels-in-List.result c.from_residual-in_err-levels-in-List.ensures.1 in
-    rw (p.1, p.2)
-    (too_deep c.in_err-levels-in-List.field-0.0 _ c.in_err-levels-in-List.ensures.1
-    (list_too_deep g.C.WireProtocol.wire c.args.levels c.args.tag c.args.rest c.in_ok-rest.rest c.in_ok-rest.ensures c.in-List.is c.in_err-levels-in-List.ensures.0))
+pub read_held-returns-in-Set : goal.read_held-returns-in-Set
+read_held-returns-in-Set g t c =
+    gives_same _ c.open_set.result _ _ (held_is g.C.WireProtocol.wire c.args.levels c.args.tag _ c.args.rest c.in-Set.is) c.open_set.ensures
 
-pub read-returns-in_err-fields-in-Struct : goal.read-returns-in_err-fields-in-Struct
-read-returns-in_err-fields-in-Struct g t c =
-    let p = err_from_is_err_and c.from_residual-in_err-fields-in-Struct.result c.from_residual-in_err-fields-in-Struct.ensures.1 in
-    rw (p.1, p.2)
-    (fails_same c.in_err-fields-in-Struct.field-0.0 _ _ (sym (struct_is g.C.WireProtocol.wire c.args.levels c.in_ok-levels-in-Struct.levels c.args.tag c.args.rest c.in_ok-rest.rest c.in_ok-rest.ensures c.in-Struct.is c.in_ok-levels-in-Struct.ensures))
-    (fails_on c.in_err-fields-in-Struct.field-0.0 _ _ c.in_err-fields-in-Struct.ensures))
+pub read_held-returns-in-List : goal.read_held-returns-in-List
+read_held-returns-in-List g t c =
+    gives_same _ c.open_list.result _ _ (held_is g.C.WireProtocol.wire c.args.levels c.args.tag _ c.args.rest c.in-List.is) c.open_list.ensures
 
-pub read-returns-in_ok-fields-in-Struct : goal.read-returns-in_ok-fields-in-Struct
-read-returns-in_ok-fields-in-Struct g t c =
-    (struct_is g.C.WireProtocol.wire c.args.levels c.in_ok-levels-in-Struct.levels c.args.tag c.args.rest c.in_ok-rest.rest c.in_ok-rest.ensures c.in-Struct.is c.in_ok-levels-in-Struct.ensures)
-    ∙ on_ok _ _ (fields_tree c.in_ok-fields-in-Struct.fields) c.in_ok-fields-in-Struct.rest c.in_ok-fields-in-Struct.ensures
-    ∙ ap (λ x. Ok (x, c.in_ok-fields-in-Struct.rest)) (sym (tree_of-Struct c.in_ok-fields-in-Struct.fields))
-
-pub read-returns-in_err-key-in-Map : goal.read-returns-in_err-key-in-Map
-read-returns-in_err-key-in-Map g t c =
-    let p = err_from_is_err_and c.from_residual-in_err-key-in-Map.result c.from_residual-in_err-key-in-Map.ensures.1 in
-    rw (p.1, p.2)
-    (fails_same c.in_err-key-in-Map.field-0.0 _ _ (sym (map_is g.C.WireProtocol.wire c.args.levels c.in_ok-levels-in-Map.levels c.args.tag c.args.rest c.in_ok-rest.rest c.in_ok-rest.ensures c.in-Map.is c.in_ok-levels-in-Map.ensures))
-    (fails_on c.in_err-key-in-Map.field-0.0 (g.C.WireProtocol.wire.pairs c.in_ok-rest.rest) _ (fails_told _ _ c.in_err-key-in-Map.ensures)))
-
-pub read-returns-in_err-pairs-in-Map : goal.read-returns-in_err-pairs-in-Map
-read-returns-in_err-pairs-in-Map g t c =
-    let p = err_from_is_err_and c.from_residual-in_err-pairs-in-Map.result c.from_residual-in_err-pairs-in-Map.ensures.1 in
-    rw (p.1, p.2)
-    (fails_same c.in_err-pairs-in-Map.field-0.0 _ _ (sym ((map_is g.C.WireProtocol.wire c.args.levels c.in_ok-levels-in-Map.levels c.args.tag c.args.rest c.in_ok-rest.rest c.in_ok-rest.ensures c.in-Map.is c.in_ok-levels-in-Map.ensures) ∙ on_ok (g.C.WireProtocol.wire.pairs c.in_ok-rest.rest) _ (c.in_ok-key-in-Map.key, c.in_ok-key-in-Map.value, c.in_ok-key-in-Map.count) c.in_ok-key-in-Map.rest c.in_ok-key-in-Map.ensures))
-    (fails_on c.in_err-pairs-in-Map.field-0.0 _ _ c.in_err-pairs-in-Map.ensures))
-
-pub read-returns-in_ok-pairs-in-Map : goal.read-returns-in_ok-pairs-in-Map
-read-returns-in_ok-pairs-in-Map g t c =
-    (map_is g.C.WireProtocol.wire c.args.levels c.in_ok-levels-in-Map.levels c.args.tag c.args.rest c.in_ok-rest.rest c.in_ok-rest.ensures c.in-Map.is c.in_ok-levels-in-Map.ensures)
-    ∙ on_ok (g.C.WireProtocol.wire.pairs c.in_ok-rest.rest) _ (c.in_ok-key-in-Map.key, c.in_ok-key-in-Map.value, c.in_ok-key-in-Map.count) c.in_ok-key-in-Map.rest c.in_ok-key-in-Map.ensures
-    ∙ on_ok _ _ (pairs_tree c.in_ok-pairs-in-Map.pairs) c.in_ok-pairs-in-Map.rest c.in_ok-pairs-in-Map.ensures
-    ∙ ap (λ x. Ok (x, c.in_ok-pairs-in-Map.rest)) (sym (tree_of-Map c.in_ok-key-in-Map.key c.in_ok-key-in-Map.value c.in_ok-pairs-in-Map.pairs))
-
-pub read-returns-in_err-element-in-Set : goal.read-returns-in_err-element-in-Set
-read-returns-in_err-element-in-Set g t c =
-    let p = err_from_is_err_and c.from_residual-in_err-element-in-Set.result c.from_residual-in_err-element-in-Set.ensures.1 in
-    rw (p.1, p.2)
-    (fails_same c.in_err-element-in-Set.field-0.0 _ _ (sym (set_is g.C.WireProtocol.wire c.args.levels c.in_ok-levels-in-Set.levels c.args.tag c.args.rest c.in_ok-rest.rest c.in_ok-rest.ensures c.in-Set.is c.in_ok-levels-in-Set.ensures))
-    (fails_on c.in_err-element-in-Set.field-0.0 (g.C.WireProtocol.wire.items c.in_ok-rest.rest) _ (fails_told _ _ c.in_err-element-in-Set.ensures)))
-
-pub read-returns-in_err-items-in-Set : goal.read-returns-in_err-items-in-Set
-read-returns-in_err-items-in-Set g t c =
-    let p = err_from_is_err_and c.from_residual-in_err-items-in-Set.result c.from_residual-in_err-items-in-Set.ensures.1 in
-    rw (p.1, p.2)
-    (fails_same c.in_err-items-in-Set.field-0.0 _ _ (sym ((set_is g.C.WireProtocol.wire c.args.levels c.in_ok-levels-in-Set.levels c.args.tag c.args.rest c.in_ok-rest.rest c.in_ok-rest.ensures c.in-Set.is c.in_ok-levels-in-Set.ensures) ∙ on_ok (g.C.WireProtocol.wire.items c.in_ok-rest.rest) _ (c.in_ok-element-in-Set.element, c.in_ok-element-in-Set.count) c.in_ok-element-in-Set.rest c.in_ok-element-in-Set.ensures))
-    (fails_on c.in_err-items-in-Set.field-0.0 _ _ c.in_err-items-in-Set.ensures))
-
-pub read-returns-in_ok-items-in-Set : goal.read-returns-in_ok-items-in-Set
-read-returns-in_ok-items-in-Set g t c =
-    (set_is g.C.WireProtocol.wire c.args.levels c.in_ok-levels-in-Set.levels c.args.tag c.args.rest c.in_ok-rest.rest c.in_ok-rest.ensures c.in-Set.is c.in_ok-levels-in-Set.ensures)
-    ∙ on_ok (g.C.WireProtocol.wire.items c.in_ok-rest.rest) _ (c.in_ok-element-in-Set.element, c.in_ok-element-in-Set.count) c.in_ok-element-in-Set.rest c.in_ok-element-in-Set.ensures
-    ∙ on_ok _ _ (items_tree c.in_ok-items-in-Set.items) c.in_ok-items-in-Set.rest c.in_ok-items-in-Set.ensures
-    ∙ ap (λ x. Ok (x, c.in_ok-items-in-Set.rest)) (sym (tree_of-Set c.in_ok-element-in-Set.element c.in_ok-items-in-Set.items))
-
-pub read-returns-in_err-element-in-List : goal.read-returns-in_err-element-in-List
-read-returns-in_err-element-in-List g t c =
-    let p = err_from_is_err_and c.from_residual-in_err-element-in-List.result c.from_residual-in_err-element-in-List.ensures.1 in
-    rw (p.1, p.2)
-    (fails_same c.in_err-element-in-List.field-0.0 _ _ (sym (list_is g.C.WireProtocol.wire c.args.levels c.in_ok-levels-in-List.levels c.args.tag c.args.rest c.in_ok-rest.rest c.in_ok-rest.ensures c.in-List.is c.in_ok-levels-in-List.ensures))
-    (fails_on c.in_err-element-in-List.field-0.0 (g.C.WireProtocol.wire.items c.in_ok-rest.rest) _ (fails_told _ _ c.in_err-element-in-List.ensures)))
-
-pub read-returns-in_err-items-in-List : goal.read-returns-in_err-items-in-List
-read-returns-in_err-items-in-List g t c =
-    let p = err_from_is_err_and c.from_residual-in_err-items-in-List.result c.from_residual-in_err-items-in-List.ensures.1 in
-    rw (p.1, p.2)
-    (fails_same c.in_err-items-in-List.field-0.0 _ _ (sym ((list_is g.C.WireProtocol.wire c.args.levels c.in_ok-levels-in-List.levels c.args.tag c.args.rest c.in_ok-rest.rest c.in_ok-rest.ensures c.in-List.is c.in_ok-levels-in-List.ensures) ∙ on_ok (g.C.WireProtocol.wire.items c.in_ok-rest.rest) _ (c.in_ok-element-in-List.element, c.in_ok-element-in-List.count) c.in_ok-element-in-List.rest c.in_ok-element-in-List.ensures))
-    (fails_on c.in_err-items-in-List.field-0.0 _ _ c.in_err-items-in-List.ensures))
-
-pub read-returns-in_ok-items-in-List : goal.read-returns-in_ok-items-in-List
-read-returns-in_ok-items-in-List g t c =
-    (list_is g.C.WireProtocol.wire c.args.levels c.in_ok-levels-in-List.levels c.args.tag c.args.rest c.in_ok-rest.rest c.in_ok-rest.ensures c.in-List.is c.in_ok-levels-in-List.ensures)
-    ∙ on_ok (g.C.WireProtocol.wire.items c.in_ok-rest.rest) _ (c.in_ok-element-in-List.element, c.in_ok-element-in-List.count) c.in_ok-element-in-List.rest c.in_ok-element-in-List.ensures
-    ∙ on_ok _ _ (items_tree c.in_ok-items-in-List.items) c.in_ok-items-in-List.rest c.in_ok-items-in-List.ensures
-    ∙ ap (λ x. Ok (x, c.in_ok-items-in-List.rest)) (sym (tree_of-List c.in_ok-element-in-List.element c.in_ok-items-in-List.items))
-
-pub read-returns-in_default : goal.read-returns-in_default
-read-returns-in_default g t c =
-    gives_same _ c.scalar.result _ _ (scalar_is g.C.WireProtocol.wire c.args.levels c.args.tag c.args.rest c.in_ok-rest.rest c.in_ok-rest.ensures c.in_default.not-Bytes c.in_default.not-Struct c.in_default.not-Map c.in_default.not-Set c.in_default.not-List)
+pub read_held-returns-in_default : goal.read_held-returns-in_default
+read_held-returns-in_default g t c =
+    gives_same _ c.scalar.result _ _ (scalar_is g.C.WireProtocol.wire c.args.levels c.args.tag c.args.rest c.in_default.not-Bytes c.in_default.not-Struct c.in_default.not-Map c.in_default.not-Set c.in_default.not-List)
     (gives_told _ _ _ c.scalar.ensures)
+
+pub open_struct-returns-in_err-levels : goal.open_struct-returns-in_err-levels
+open_struct-returns-in_err-levels g t c =
+    let p = err_from_is_err_and c.from_residual.result c.from_residual.ensures.1 in
+    rw (p.1, p.2)
+    (too_deep c.in_err-levels.field-0.0 _ c.in_err-levels.ensures.1 (struct_too_deep g.C.WireProtocol.wire c.args.levels c.args.rest c.in_err-levels.ensures.0))
+
+pub open_map-returns-in_err-levels : goal.open_map-returns-in_err-levels
+open_map-returns-in_err-levels g t c =
+    let p = err_from_is_err_and c.from_residual.result c.from_residual.ensures.1 in
+    rw (p.1, p.2)
+    (too_deep c.in_err-levels.field-0.0 _ c.in_err-levels.ensures.1 (map_too_deep g.C.WireProtocol.wire c.args.levels c.args.rest c.in_err-levels.ensures.0))
+
+pub open_elements-returns-in_err-levels : goal.open_elements-returns-in_err-levels
+open_elements-returns-in_err-levels g t c =
+    let p = err_from_is_err_and c.from_residual.result c.from_residual.ensures.1 in
+    rw (p.1, p.2)
+    (too_deep c.in_err-levels.field-0.0 _ c.in_err-levels.ensures.1 (elements_too_deep g.C.WireProtocol.wire c.args.levels c.args.rest c.in_err-levels.ensures.0))
+
+pub open_struct-returns-in_err-fields : goal.open_struct-returns-in_err-fields
+open_struct-returns-in_err-fields g t c =
+    let p = err_from_is_err_and c.from_residual-in_err-fields.result c.from_residual-in_err-fields.ensures.1 in
+    rw (p.1, p.2)
+    (fails_same c.in_err-fields.field-0.0 _ _ (struct_is g.C.WireProtocol.wire c.args.levels c.in_ok-levels.levels c.args.rest c.in_ok-levels.ensures)
+    (fails_on c.in_err-fields.field-0.0 _ _ c.in_err-fields.ensures))
+
+pub open_struct-returns : goal.open_struct-returns
+open_struct-returns g t c =
+    sym (struct_is g.C.WireProtocol.wire c.args.levels c.in_ok-levels.levels c.args.rest c.in_ok-levels.ensures)
+    ∙ on_ok _ _ (fields_tree c.in_ok-fields.fields) c.in_ok-fields.rest c.in_ok-fields.ensures
+    ∙ ap (λ x. Ok (x, c.in_ok-fields.rest)) (sym (tree_of-Struct c.in_ok-fields.fields))
+
+pub open_map-returns-in_err-key : goal.open_map-returns-in_err-key
+open_map-returns-in_err-key g t c =
+    let p = err_from_is_err_and c.from_residual-in_err-key.result c.from_residual-in_err-key.ensures.1 in
+    rw (p.1, p.2)
+    (fails_same c.in_err-key.field-0.0 _ _ (map_is g.C.WireProtocol.wire c.args.levels c.in_ok-levels.levels c.args.rest c.in_ok-levels.ensures)
+    (fails_on c.in_err-key.field-0.0 (g.C.WireProtocol.wire.pairs c.args.rest) _ (fails_told _ _ c.in_err-key.ensures)))
+
+pub open_map-returns-in_err-pairs : goal.open_map-returns-in_err-pairs
+open_map-returns-in_err-pairs g t c =
+    let p = err_from_is_err_and c.from_residual-in_err-pairs.result c.from_residual-in_err-pairs.ensures.1 in
+    rw (p.1, p.2)
+    (fails_same c.in_err-pairs.field-0.0 _ _ (sym (on_ok (g.C.WireProtocol.wire.pairs c.args.rest) _ (c.in_ok-key.key, c.in_ok-key.value, c.in_ok-key.count) c.in_ok-key.rest c.in_ok-key.ensures) ∙ map_is g.C.WireProtocol.wire c.args.levels c.in_ok-levels.levels c.args.rest c.in_ok-levels.ensures)
+    (fails_on c.in_err-pairs.field-0.0 _ _ c.in_err-pairs.ensures))
+
+pub open_map-returns : goal.open_map-returns
+open_map-returns g t c =
+    sym (map_is g.C.WireProtocol.wire c.args.levels c.in_ok-levels.levels c.args.rest c.in_ok-levels.ensures)
+    ∙ on_ok (g.C.WireProtocol.wire.pairs c.args.rest) _ (c.in_ok-key.key, c.in_ok-key.value, c.in_ok-key.count) c.in_ok-key.rest c.in_ok-key.ensures
+    ∙ on_ok _ _ (pairs_tree c.in_ok-pairs.pairs) c.in_ok-pairs.rest c.in_ok-pairs.ensures
+    ∙ ap (λ x. Ok (x, c.in_ok-pairs.rest)) (sym (tree_of-Map c.in_ok-key.key c.in_ok-key.value c.in_ok-pairs.pairs))
+
+pub open_elements-returns-in_err-element : goal.open_elements-returns-in_err-element
+open_elements-returns-in_err-element g t c =
+    let p = err_from_is_err_and c.from_residual-in_err-element.result c.from_residual-in_err-element.ensures.1 in
+    rw (p.1, p.2)
+    (fails_same c.in_err-element.field-0.0 _ _ (elements_are g.C.WireProtocol.wire c.args.levels c.in_ok-levels.levels c.args.rest c.in_ok-levels.ensures)
+    (fails_on c.in_err-element.field-0.0 (g.C.WireProtocol.wire.items c.args.rest) _ (fails_told _ _ c.in_err-element.ensures)))
+
+pub open_elements-returns-in_err-items : goal.open_elements-returns-in_err-items
+open_elements-returns-in_err-items g t c =
+    let p = err_from_is_err_and c.from_residual-in_err-items.result c.from_residual-in_err-items.ensures.1 in
+    rw (p.1, p.2)
+    (fails_same c.in_err-items.field-0.0 _ _ (sym (on_ok (g.C.WireProtocol.wire.items c.args.rest) _ (c.in_ok-element.element, c.in_ok-element.count) c.in_ok-element.rest c.in_ok-element.ensures) ∙ elements_are g.C.WireProtocol.wire c.args.levels c.in_ok-levels.levels c.args.rest c.in_ok-levels.ensures)
+    (fails_on c.in_err-items.field-0.0 _ _ c.in_err-items.ensures))
+
+pub open_elements-returns : goal.open_elements-returns
+open_elements-returns g t c =
+    sym (elements_are g.C.WireProtocol.wire c.args.levels c.in_ok-levels.levels c.args.rest c.in_ok-levels.ensures)
+    ∙ on_ok (g.C.WireProtocol.wire.items c.args.rest) _ (c.in_ok-element.element, c.in_ok-element.count) c.in_ok-element.rest c.in_ok-element.ensures
+    ∙ on_ok _ _ (items_tree c.in_ok-items.items) c.in_ok-items.rest c.in_ok-items.ensures
+
+pub open_set-returns-in_err-element : goal.open_set-returns-in_err-element
+open_set-returns-in_err-element g t c =
+    let p = err_from_is_err_and c.from_residual.result c.from_residual.ensures.1 in
+    rw (p.1, p.2)
+    (fails_same c.in_err-element.field-0.0 _ _ (set_is g.C.WireProtocol.wire c.args.levels _ c.args.rest refl)
+    (fails_on c.in_err-element.field-0.0 _ _ c.in_err-element.ensures))
+
+pub open_set-returns : goal.open_set-returns
+open_set-returns g t c =
+    sym (set_is g.C.WireProtocol.wire c.args.levels _ c.args.rest refl)
+    ∙ on_ok _ _ (c.in_ok-element.element, items_tree c.in_ok-element.items) c.in_ok-element.rest c.in_ok-element.ensures
+    ∙ ap (λ x. Ok (x, c.in_ok-element.rest)) (sym (tree_of-Set c.in_ok-element.element c.in_ok-element.items))
+
+pub open_list-returns-in_err-element : goal.open_list-returns-in_err-element
+open_list-returns-in_err-element g t c =
+    let p = err_from_is_err_and c.from_residual.result c.from_residual.ensures.1 in
+    rw (p.1, p.2)
+    (fails_same c.in_err-element.field-0.0 _ _ (list_is g.C.WireProtocol.wire c.args.levels _ c.args.rest refl)
+    (fails_on c.in_err-element.field-0.0 _ _ c.in_err-element.ensures))
+
+pub open_list-returns : goal.open_list-returns
+open_list-returns g t c =
+    sym (list_is g.C.WireProtocol.wire c.args.levels _ c.args.rest refl)
+    ∙ on_ok _ _ (c.in_ok-element.element, items_tree c.in_ok-element.items) c.in_ok-element.rest c.in_ok-element.ensures
+    ∙ ap (λ x. Ok (x, c.in_ok-element.rest)) (sym (tree_of-List c.in_ok-element.element c.in_ok-element.items))
 
 pub read_items-loop-step-init : goal.read_items-loop-step-init
 read_items-loop-step-init g t c =
