@@ -1,3 +1,4 @@
+pub mod Apart
 pub mod Leaves
 pub mod Lengths
 pub mod PlainKeeps

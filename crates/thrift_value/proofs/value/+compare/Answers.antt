@@ -1,9 +1,12 @@
-use Rattle.std.specs.Ordering.{ordering_then, int_cmp}
+use Rattle.std.specs.Ordering.{ordering_then, int_cmp, nat_cmp}
 use Rattle.std.proofs.Common.{◌≡◌, length, map, refl, arith, rules, sym, ap, ap₂, ◌∙◌}
+use Rattle.thrift_value.specs.Tags.{tag_of, rank}
 use Rattle.thrift_value.specs.Order.{tree_cmp, fields_cmp, items_cmp, pairs_cmp}
 use Rattle.thrift_value.specs.TreeOf.{tree_of, field_tree, pair_tree, field_trees, item_trees, pair_trees, fields_of, items_of, pairs_of}
-use Rattle.thrift_value.proofs.Trees.{tree_of-Bool, tree_of-I8, tree_of-I16, tree_of-I32, tree_of-I64, tree_of-Double, tree_of-is_Struct, tree_of-is_Map, tree_of-is_Set, tree_of-is_List}
+use Rattle.thrift_value.proofs.Apart.{apart, ranked}
+use Rattle.thrift_value.proofs.Trees.{tree_of-Bool, tree_of-I8, tree_of-I16, tree_of-I32, tree_of-I64, tree_of-Double, tree_of-Uuid, tree_of-Bytes, tree_of-Struct, tree_of-Map, tree_of-Set, tree_of-List, tree_of-is_Struct, tree_of-is_Map, tree_of-is_Set, tree_of-is_List}
 use Rattle.thrift_value.proofs.Walks.{levelled, alike, decided, then_grouped}
+use Rattle.thrift_value.proofs.value.+compare.Goals.{Value::compare-in_default-via-in-Bool+in_default, Value::compare-in_default-via-in-I8+in_default, Value::compare-in_default-via-in-I16+in_default, Value::compare-in_default-via-in-I32+in_default, Value::compare-in_default-via-in-I64+in_default, Value::compare-in_default-via-in-Double+in_default, Value::compare-in_default-via-in-Bytes+in_default, Value::compare-in_default-via-in-Struct+in_default, Value::compare-in_default-via-in-Map+in_default, Value::compare-in_default-via-in-Set+in_default, Value::compare-in_default-via-in-List+in_default, Value::compare-in_default-via-in-Uuid+in_default}
 use Rattle.thrift_value.proofs.value.+compare.Goals as goal
 
 pub Fields::compare-returns : goal.Fields::compare-returns
@@ -109,3 +112,23 @@ Value::compare-returns-in-Set-Set t c = c.compare-in-Set-Set.ensures ∙ sym (ap
 
 pub Value::compare-returns-in-List-List : goal.Value::compare-returns-in-List-List
 Value::compare-returns-in-List-List t c = c.compare-in-List-List.ensures ∙ sym (ap₂ tree_cmp (tree_of-is_List _ c.in-List-List.field-0-0 c.in-List-List.a c.in-List-List.is-0) (tree_of-is_List _ c.in-List-List.field-0-1 c.in-List-List.b c.in-List-List.is-1))
+
+-- two values of different kinds
+
+pub Value::compare-returns-in_default : goal.Value::compare-returns-in_default
+Value::compare-returns-in_default t c =
+    c.cmp-in_default.ensures ∙ ranked c.tag.result c.tag-in_default.result ∙ ap₂ (λ s o. nat_cmp (rank s) (rank o)) c.tag.ensures c.tag-in_default.ensures
+    ∙ sym (elim c.in_default.branch [
+      | Value::compare-in_default-via-in-Bool+in_default w ↦ apart _ _ _ (ap tree_of w.in_default.is-0 ∙ tree_of-Bool _) (λ k. w.in_default.not-Bool-1 k.0 k.1)
+      | Value::compare-in_default-via-in-I8+in_default w ↦ apart _ _ _ (ap tree_of w.in_default.is-0 ∙ tree_of-I8 _) (λ k. w.in_default.not-I8-1 k.0 k.1)
+      | Value::compare-in_default-via-in-I16+in_default w ↦ apart _ _ _ (ap tree_of w.in_default.is-0 ∙ tree_of-I16 _) (λ k. w.in_default.not-I16-1 k.0 k.1)
+      | Value::compare-in_default-via-in-I32+in_default w ↦ apart _ _ _ (ap tree_of w.in_default.is-0 ∙ tree_of-I32 _) (λ k. w.in_default.not-I32-1 k.0 k.1)
+      | Value::compare-in_default-via-in-I64+in_default w ↦ apart _ _ _ (ap tree_of w.in_default.is-0 ∙ tree_of-I64 _) (λ k. w.in_default.not-I64-1 k.0 k.1)
+      | Value::compare-in_default-via-in-Double+in_default w ↦ apart _ _ _ (ap tree_of w.in_default.is-0 ∙ tree_of-Double _) (λ k. w.in_default.not-Double-1 k.0 k.1)
+      | Value::compare-in_default-via-in-Bytes+in_default w ↦ apart _ _ _ (ap tree_of w.in_default.is-0 ∙ tree_of-Bytes _) (λ k. w.in_default.not-Bytes-1 k.0 k.1)
+      | Value::compare-in_default-via-in-Struct+in_default w ↦ apart _ _ _ (ap tree_of w.in_default.is-0 ∙ tree_of-Struct _) (λ k. w.in_default.not-Struct-1 k.0 k.1)
+      | Value::compare-in_default-via-in-Map+in_default w ↦ apart _ _ _ (ap tree_of w.in_default.is-0 ∙ tree_of-Map _ _ _) (λ k. w.in_default.not-Map-1 k.0 k.1.0 k.1.1.0 k.1.1.1)
+      | Value::compare-in_default-via-in-Set+in_default w ↦ apart _ _ _ (ap tree_of w.in_default.is-0 ∙ tree_of-Set _ _) (λ k. w.in_default.not-Set-1 k.0 k.1.0 k.1.1)
+      | Value::compare-in_default-via-in-List+in_default w ↦ apart _ _ _ (ap tree_of w.in_default.is-0 ∙ tree_of-List _ _) (λ k. w.in_default.not-List-1 k.0 k.1.0 k.1.1)
+      | Value::compare-in_default-via-in-Uuid+in_default w ↦ apart _ _ _ (ap tree_of w.in_default.is-0 ∙ tree_of-Uuid _) (λ k. w.in_default.not-Uuid-1 k.0 k.1)
+    ])
