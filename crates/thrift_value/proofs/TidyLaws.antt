@@ -1,14 +1,24 @@
 -- Steps of the loops that test whether a value is tidy.
 use Rattle.std.specs.Prelude.{◌↔◌, IsTrue}
-use Rattle.std.proofs.Common.{◌≡◌, ℕ, ℤ, Bool, true, false, true≢false, ◌+◌, ◌-◌, ◌≤◌, ◌<◌, ◌<ℤ◌, List, [], ◌∷◌, length, drop, get_or, map, Less, sym, ap, ◌∙◌, subst, arith, length-drop}
+use Rattle.std.proofs.Common.{◌≡◌, ℕ, ℤ, Bool, true, false, true≢false, ◌+◌, ◌-◌, ◌≤◌, ◌<◌, ◌<ℤ◌, List, [], ◌∷◌, length, drop, get_or, map, Less, sym, ap, ◌∙◌, subst, arith, rules, length-drop}
 use Rattle.std.proofs.lemmas.Int.{ints}
 use Rattle.std.proofs.lemmas.List.{drop_more}
+use denote.Enum.Bare.{sameb, differs_true, differs_false}
+use mathlib.Core.Bool.{not}
+use Rattle.thrift_value.specs.contracts.tag.Tag.{the_type}
 use Rattle.thrift_value.specs.declared.tag.Tag.{Tag}
 use Rattle.thrift_value.specs.Tree.{Tree, of_struct, of_map, of_set, FieldTrees, no_fields, field, ItemTrees, no_items, item, PairTrees, no_pairs, pair}
 use Rattle.thrift_value.specs.Order.{tree_cmp}
 use Rattle.thrift_value.specs.Tidy.{IsTidy, AreTidyFields, AreTidyItems, AreTidyPairs, IsBelowIds, IsBelowItems, IsBelowKeys, AreRisingFields, AreRisingItems, AreRisingPairs}
 use Rattle.thrift_value.specs.TreeOf.{tree_of, field_tree, pair_tree, field_trees, item_trees, pair_trees}
 use Rattle.thrift_value.proofs.TotalOrder.{tree_cmp_total}
+
+-- whether a tag differs from the wanted one
+pub tag_is : (found tag wanted : Tag) (differs : Bool) → found ≡ tag → differs ≡ not (sameb the_type found wanted) → differs ≡ false → tag ≡ wanted
+tag_is found tag wanted differs is flag off = sym is ∙ differs_false the_type (search rules) found wanted (sym flag ∙ off)
+
+pub tag_is_not : (found tag wanted : Tag) (differs : Bool) → found ≡ tag → differs ≡ not (sameb the_type found wanted) → differs ≡ true → tag ≡ wanted → ⊥
+tag_is_not found tag wanted differs is flag on same = differs_true the_type found wanted (sym flag ∙ on) (is ∙ same)
 
 -- what is below an id, a value or a key is below all that it is below
 IsBelowIds-lower : (i j : ℤ) (more : FieldTrees) → i <ℤ j → IsBelowIds j more → IsBelowIds i more

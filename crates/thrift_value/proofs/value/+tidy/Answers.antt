@@ -8,7 +8,7 @@ use Rattle.thrift_value.specs.Tags.{tag_of}
 use Rattle.thrift_value.specs.Tidy.{IsTidy, AreTidyFields, AreTidyItems, AreTidyPairs}
 use Rattle.thrift_value.specs.TreeOf.{tree_of, field_tree, pair_tree, field_trees, item_trees, pair_trees, fields_tree, items_tree, pairs_tree}
 use Rattle.thrift_value.proofs.Trees.{tree_of-is_Struct, tree_of-is_Map, tree_of-is_Set, tree_of-is_List}
-use Rattle.thrift_value.proofs.TidyLaws.{tidy_struct, tidy_map, tidy_set, first_failed, second_decides}
+use Rattle.thrift_value.proofs.TidyLaws.{tag_is, tag_is_not, tidy_struct, tidy_map, tidy_set, first_failed, second_decides}
 use Rattle.thrift_value.proofs.Walks.{IsOfEach, passed, stopped, all_passed}
 use Rattle.thrift_value.proofs.value.+tidy.Goals as goal
 
@@ -52,7 +52,7 @@ Fields::are_tidy-returns-then-not-is_tidy t c =
 
 pub Items::are_tidy-loop-value-preserved : goal.Items::are_tidy-loop-value-preserved
 Items::are_tidy-loop-value-preserved t c =
-    let tag : tag_of (tree_of c.value-item.result) ≡ c.args.element = search rules in
+    let tag = tag_is c.tag.result _ c.args.element c.ne.result c.tag.ensures c.ne.ensures c.if-ne.false in
     passed (tidy_items c.args.element) (AreTidyItems c.args.element (items_tree c.args.self.now)) c.deref-value-items.result.now c.loop-value.value-index c.value-item.result c.loop-value-test.true c.value-item.is (tag, c.if-not-is_tidy.ensures.0 refl) c.loop-value.invariant
 
 pub Items::are_tidy-returns : goal.Items::are_tidy-returns
@@ -66,8 +66,8 @@ Items::are_tidy-returns-then-not-is_tidy t c =
 pub Pairs::are_tidy-loop-k-preserved : goal.Pairs::are_tidy-loop-k-preserved
 Pairs::are_tidy-loop-k-preserved t c =
     let p = c.loop-k-item.result in
-    let tk : tag_of (tree_of p.0) ≡ c.args.key = search rules in
-    let tv : tag_of (tree_of p.1) ≡ c.args.value = search rules in
+    let tk = tag_is c.tag.result _ c.args.key c.ne.result c.tag.ensures c.ne.ensures c.if-ne.false in
+    let tv = tag_is c.tag-in-loop-k.result _ c.args.value c.ne-in-loop-k.result c.tag-in-loop-k.ensures c.ne-in-loop-k.ensures c.if-ne-2.false in
     passed (tidy_pairs c.args.key c.args.value) (AreTidyPairs c.args.key c.args.value (pairs_tree c.args.self.now)) c.deref-k-items.result.now c.loop-k.k-index p c.loop-k-test.true c.loop-k-item.is
     (tk, tv, c.if-not-is_tidy.ensures.0 refl, c.if-not-is_tidy-2.ensures.0 refl) c.loop-k.invariant
 
@@ -154,16 +154,16 @@ Value::is_tidy-returns-in-List t c =
 pub Items::are_tidy-returns-then-ne : goal.Items::are_tidy-returns-then-ne
 Items::are_tidy-returns-then-ne t c =
     stopped (tidy_items c.args.element) (AreTidyItems c.args.element (items_tree c.args.self.now)) c.deref-value-items.result.now c.loop-value.value-index c.value-item.result c.loop-value-test.true c.value-item.is
-    (λ q. let tag : tag_of (tree_of c.value-item.result) ≡ c.args.element = q.0 in search rules) c.loop-value.invariant
+    (λ q. absurd (tag_is_not c.tag.result _ c.args.element c.ne.result c.tag.ensures c.ne.ensures c.if-ne.true q.0)) c.loop-value.invariant
 
 pub Pairs::are_tidy-returns-then-ne : goal.Pairs::are_tidy-returns-then-ne
 Pairs::are_tidy-returns-then-ne t c =
     let p = c.loop-k-item.result in
     stopped (tidy_pairs c.args.key c.args.value) (AreTidyPairs c.args.key c.args.value (pairs_tree c.args.self.now)) c.deref-k-items.result.now c.loop-k.k-index p c.loop-k-test.true c.loop-k-item.is
-    (λ q. let tag : tag_of (tree_of p.0) ≡ c.args.key = q.0 in search rules) c.loop-k.invariant
+    (λ q. absurd (tag_is_not c.tag.result _ c.args.key c.ne.result c.tag.ensures c.ne.ensures c.if-ne.true q.0)) c.loop-k.invariant
 
 pub Pairs::are_tidy-returns-then-ne-2 : goal.Pairs::are_tidy-returns-then-ne-2
 Pairs::are_tidy-returns-then-ne-2 t c =
     let p = c.loop-k-item.result in
     stopped (tidy_pairs c.args.key c.args.value) (AreTidyPairs c.args.key c.args.value (pairs_tree c.args.self.now)) c.deref-k-items.result.now c.loop-k.k-index p c.loop-k-test.true c.loop-k-item.is
-    (λ q. let tag : tag_of (tree_of p.1) ≡ c.args.value = q.1 in search rules) c.loop-k.invariant
+    (λ q. absurd (tag_is_not c.tag-in-loop-k.result _ c.args.value c.ne-in-loop-k.result c.tag-in-loop-k.ensures c.ne-in-loop-k.ensures c.if-ne-2.true q.1)) c.loop-k.invariant
