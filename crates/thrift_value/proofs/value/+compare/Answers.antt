@@ -1,6 +1,6 @@
 use Rattle.std.specs.Ordering.{ordering_then, int_cmp, nat_cmp}
 use Rattle.std.proofs.Common.{◌≡◌, length, map, refl, arith, rules, sym, ap, ap₂, ◌∙◌}
-use Rattle.thrift_value.specs.Tags.{tag_of, rank}
+use Rattle.thrift_value.specs.Tags.{rank}
 use Rattle.thrift_value.specs.Order.{tree_cmp, fields_cmp, items_cmp, pairs_cmp}
 use Rattle.thrift_value.specs.TreeOf.{tree_of, field_tree, pair_tree, field_trees, item_trees, pair_trees, fields_of, items_of, pairs_of}
 use Rattle.thrift_value.proofs.Apart.{apart, ranked}

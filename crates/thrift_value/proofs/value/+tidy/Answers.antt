@@ -1,7 +1,7 @@
 use Rattle.std.specs.Prelude.{◌↔◌, IsTrue}
 use Rattle.std.proofs.Common.{true}
 use Rattle.thrift_value.proofs.Leaves.{IsOfLeaves, of_leaf}
-use Rattle.std.proofs.Common.{◌≡◌, ℤ, map, refl, sym, subst, rules}
+use Rattle.std.proofs.Common.{◌≡◌, ℤ, map, refl, sym, subst}
 use Rattle.thrift_value.specs.declared.tag.Tag.{Tag}
 use Rattle.thrift_value.specs.declared.value.Value.{Value}
 use Rattle.thrift_value.specs.Tags.{tag_of}
