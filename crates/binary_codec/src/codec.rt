@@ -7,10 +7,13 @@ ghost use Rattle.binary_codec.specs.Reading.{binary_field, binary_scalar, binary
 ghost use Rattle.binary_codec.specs.Written.{header_text, scalar_text, span_text, items_header, pairs_header};
 
 use crate::codes::{code_of, tag_coded};
-use crate::numbers::{i8_in, i16_in, i32_in, i64_in, size_in, u8_in, u64_in, u128_in};
+use crate::numbers::{i16_in, size_in, u8_in};
 use crate::protocol::Binary;
+use crate::values::{
+    bool_value, double_value, i8_value, i16_value, i32_value, i64_value, uuid_value,
+};
 use std::alloc::AllocError;
-use thrift_value::{Tag, Uuid, Value, WireFault};
+use thrift_value::{Tag, Value, WireFault};
 use wire_num::{put_be64, put_be128, put_i16, put_i32, put_i64, put_u8};
 use wire_walk::{Codec, Header, Input};
 
@@ -33,34 +36,13 @@ impl Codec for Binary {
     #[inline(always)]
     fn scalar<'a>(tag: Tag, rest: Input<'a>) -> Result<(Value, Input<'a>), WireFault> {
         match tag {
-            Tag::Bool => {
-                let (byte, rest) = u8_in(rest)?;
-                Ok((Value::Bool(byte == 1), rest))
-            }
-            Tag::I8 => {
-                let (number, rest) = i8_in(rest)?;
-                Ok((Value::I8(number), rest))
-            }
-            Tag::I16 => {
-                let (number, rest) = i16_in(rest)?;
-                Ok((Value::I16(number), rest))
-            }
-            Tag::I32 => {
-                let (number, rest) = i32_in(rest)?;
-                Ok((Value::I32(number), rest))
-            }
-            Tag::I64 => {
-                let (number, rest) = i64_in(rest)?;
-                Ok((Value::I64(number), rest))
-            }
-            Tag::Double => {
-                let (bits, rest) = u64_in(rest)?;
-                Ok((Value::Double(bits), rest))
-            }
-            Tag::Uuid => {
-                let (number, rest) = u128_in(rest)?;
-                Ok((Value::Uuid(Uuid::new(number)), rest))
-            }
+            Tag::Bool => bool_value(rest),
+            Tag::I8 => i8_value(rest),
+            Tag::I16 => i16_value(rest),
+            Tag::I32 => i32_value(rest),
+            Tag::I64 => i64_value(rest),
+            Tag::Double => double_value(rest),
+            Tag::Uuid => uuid_value(rest),
             _ => Err(WireFault::Short),
         }
     }

@@ -22,6 +22,7 @@ mod numbers;
 mod places;
 mod protocol;
 mod structs;
+mod values;
 
 pub use places::BinaryWire;
 pub use protocol::Binary;

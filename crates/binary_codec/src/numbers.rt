@@ -6,9 +6,7 @@ ghost use Rattle.wire_model.specs.Pieces.{byte};
 ghost use Rattle.binary_codec.specs.Reading.{unsigned, signed, binary_size};
 
 use thrift_value::WireFault;
-use wire_num::{
-    decode_be64, decode_be128, decode_i8, decode_i16, decode_i32, decode_i64, decode_u8,
-};
+use wire_num::{decode_i16, decode_i32, decode_u8};
 use wire_walk::Input;
 
 /// A byte.
@@ -16,14 +14,6 @@ pub(crate) fn u8_in(input: Input<'_>) -> Result<(u8, Input<'_>), WireFault>
     ensures { AnswersExactly (λ r. (r.0, r.1)) result (byte input.entry) }
 {
     let (number, behind) = decode_u8(input.bytes())?;
-    Ok((number, input.with_bytes(behind)))
-}
-
-/// Reads eight bits.
-pub(crate) fn i8_in(input: Input<'_>) -> Result<(i8, Input<'_>), WireFault>
-    ensures { AnswersExactly (λ r. (r.0, r.1)) result (signed w8 input.entry) }
-{
-    let (number, behind) = decode_i8(input.bytes())?;
     Ok((number, input.with_bytes(behind)))
 }
 
@@ -40,30 +30,6 @@ pub(crate) fn i32_in(input: Input<'_>) -> Result<(i32, Input<'_>), WireFault>
     ensures { AnswersExactly (λ r. (r.0, r.1)) result (signed w32 input.entry) }
 {
     let (number, behind) = decode_i32(input.bytes())?;
-    Ok((number, input.with_bytes(behind)))
-}
-
-/// Reads sixty-four bits.
-pub(crate) fn i64_in(input: Input<'_>) -> Result<(i64, Input<'_>), WireFault>
-    ensures { AnswersExactly (λ r. (r.0, r.1)) result (signed w64 input.entry) }
-{
-    let (number, behind) = decode_i64(input.bytes())?;
-    Ok((number, input.with_bytes(behind)))
-}
-
-/// Reads sixty-four bits, unsigned.
-pub(crate) fn u64_in(input: Input<'_>) -> Result<(u64, Input<'_>), WireFault>
-    ensures { AnswersExactly (λ r. (r.0, r.1)) result (unsigned w64 input.entry) }
-{
-    let (number, behind) = decode_be64(input.bytes())?;
-    Ok((number, input.with_bytes(behind)))
-}
-
-/// Reads a hundred and twenty-eight bits, unsigned.
-pub(crate) fn u128_in(input: Input<'_>) -> Result<(u128, Input<'_>), WireFault>
-    ensures { AnswersExactly (λ r. (r.0, r.1)) result (unsigned w128 input.entry) }
-{
-    let (number, behind) = decode_be128(input.bytes())?;
     Ok((number, input.with_bytes(behind)))
 }
 

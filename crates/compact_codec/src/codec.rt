@@ -10,11 +10,14 @@ use crate::codes::{code_of, code_of_flag, tag_coded};
 use crate::headers::{
     header_by, id_by_delta, items_in_half, items_size, pairs_in_byte, put_heading,
 };
-use crate::numbers::{double_in, i8_in, i16_in, i32_in, i64_in, size_in, u8_in, uuid_in};
+use crate::numbers::{size_in, u8_in};
 use crate::protocol::Compact;
 use crate::varints::{append_varint32, append_varint64};
+use crate::values::{
+    bool_value, double_value, i8_value, i16_value, i32_value, i64_value, uuid_value,
+};
 use std::alloc::AllocError;
-use thrift_value::{Tag, Uuid, Value, WireFault};
+use thrift_value::{Tag, Value, WireFault};
 use wire_num::{put_be128, put_le64, put_u8, zigzag32, zigzag64};
 use wire_walk::{Codec, Header, Input};
 
@@ -39,34 +42,13 @@ impl Codec for Compact {
     #[inline(always)]
     fn scalar<'a>(tag: Tag, rest: Input<'a>) -> Result<(Value, Input<'a>), WireFault> {
         match tag {
-            Tag::Bool => {
-                let (byte, rest) = u8_in(rest)?;
-                Ok((Value::Bool(byte == 1), rest))
-            }
-            Tag::I8 => {
-                let (number, rest) = i8_in(rest)?;
-                Ok((Value::I8(number), rest))
-            }
-            Tag::I16 => {
-                let (number, rest) = i16_in(rest)?;
-                Ok((Value::I16(number), rest))
-            }
-            Tag::I32 => {
-                let (number, rest) = i32_in(rest)?;
-                Ok((Value::I32(number), rest))
-            }
-            Tag::I64 => {
-                let (number, rest) = i64_in(rest)?;
-                Ok((Value::I64(number), rest))
-            }
-            Tag::Double => {
-                let (bits, rest) = double_in(rest)?;
-                Ok((Value::Double(bits), rest))
-            }
-            Tag::Uuid => {
-                let (number, rest) = uuid_in(rest)?;
-                Ok((Value::Uuid(Uuid::new(number)), rest))
-            }
+            Tag::Bool => bool_value(rest),
+            Tag::I8 => i8_value(rest),
+            Tag::I16 => i16_value(rest),
+            Tag::I32 => i32_value(rest),
+            Tag::I64 => i64_value(rest),
+            Tag::Double => double_value(rest),
+            Tag::Uuid => uuid_value(rest),
             _ => Err(WireFault::Short),
         }
     }

@@ -23,6 +23,7 @@ mod numbers;
 mod places;
 mod protocol;
 mod structs;
+mod values;
 mod varints;
 
 pub use places::CompactWire;

@@ -8,9 +8,9 @@ ghost use Rattle.wire_model.specs.Pieces.{byte, within_room};
 ghost use Rattle.compact_codec.specs.Numbers.{low_16};
 ghost use Rattle.compact_codec.specs.Reading.{compact_i8, compact_i16, compact_signed, compact_double, compact_uuid, compact_unsigned, compact_size};
 
-use crate::varints::{next_varint32, next_varint64};
+use crate::varints::next_varint32;
 use thrift_value::WireFault;
-use wire_num::{decode_be128, decode_i8, decode_le64, decode_u8, unzigzag32, unzigzag64};
+use wire_num::{decode_u8, unzigzag32};
 use wire_walk::Input;
 
 /// A byte.
@@ -19,15 +19,6 @@ pub(crate) fn u8_in(input: Input<'_>) -> Result<(u8, Input<'_>), WireFault>
     ensures { AnswersExactly (λ r. (r.0, r.1)) result (byte input.entry) }
 {
     let (number, behind) = decode_u8(input.bytes())?;
-    Ok((number, input.with_bytes(behind)))
-}
-
-/// Reads eight bits.
-#[inline(always)]
-pub(crate) fn i8_in(input: Input<'_>) -> Result<(i8, Input<'_>), WireFault>
-    ensures { AnswersExactly (λ r. (r.0, r.1)) result (compact_i8 input.entry) }
-{
-    let (number, behind) = decode_i8(input.bytes())?;
     Ok((number, input.with_bytes(behind)))
 }
 
@@ -47,40 +38,6 @@ fn low_16(number: i32) -> i16
 {
     let [_, _, high, low] = number.to_be_bytes();
     i16::from_be_bytes([high, low])
-}
-
-/// Reads thirty-two bits.
-#[inline(always)]
-pub(crate) fn i32_in(input: Input<'_>) -> Result<(i32, Input<'_>), WireFault>
-    ensures { AnswersExactly (λ r. (r.0, r.1)) result (compact_signed w32 input.entry) }
-{
-    let (number, behind) = next_varint32(input.bytes())?;
-    Ok((unzigzag32(number), input.with_bytes(behind)))
-}
-
-/// Reads sixty-four bits.
-#[inline(always)]
-pub(crate) fn i64_in(input: Input<'_>) -> Result<(i64, Input<'_>), WireFault>
-    ensures { AnswersExactly (λ r. (r.0, r.1)) result (compact_signed w64 input.entry) }
-{
-    let (number, behind) = next_varint64(input.bytes())?;
-    Ok((unzigzag64(number), input.with_bytes(behind)))
-}
-
-/// The sixty-four bits of a double.
-pub(crate) fn double_in(input: Input<'_>) -> Result<(u64, Input<'_>), WireFault>
-    ensures { AnswersExactly (λ r. (r.0, r.1)) result (compact_double input.entry) }
-{
-    let (number, behind) = decode_le64(input.bytes())?;
-    Ok((number, input.with_bytes(behind)))
-}
-
-/// The sixteen bytes of a uuid, the highest first.
-pub(crate) fn uuid_in(input: Input<'_>) -> Result<(u128, Input<'_>), WireFault>
-    ensures { AnswersExactly (λ r. (r.0, r.1)) result (compact_uuid input.entry) }
-{
-    let (number, behind) = decode_be128(input.bytes())?;
-    Ok((number, input.with_bytes(behind)))
 }
 
 /// Reads thirty-two bits, unsigned.
