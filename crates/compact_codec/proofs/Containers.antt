@@ -369,3 +369,10 @@ pub pairs_stay : StaysAs compact_pairs compact_pairs
 unfolding compact_pairs
 pairs_stay =
     then_stays compact_size compact_size (λ size. pairs_of_size size) (λ size. pairs_of_size size) size_stays (λ size. pairs_stay_if (eqb size 0) size)
+
+-- the header of a map that isn't empty, by the codes of its tags
+pub pairs_header : (key value : Tag) (count k v : ℕ) → (count ≡ 0 → ⊥) → k ≡ compact_code key → v ≡ compact_code value
+    → varint_bytes w32 count ++ (16 * k + v) ∷ [] ≡ compact_pairs_header key value count
+pairs_header key value count k v some first second =
+    (λ i. varint_bytes w32 count ++ (16 * (first i) + second i) ∷ [])
+    ∙ sym (ap (λ (b : Bool). cond b (0 ∷ []) (varint_bytes w32 count ++ (16 * compact_code key + compact_code value) ∷ [])) (ne_eqb count 0 some))

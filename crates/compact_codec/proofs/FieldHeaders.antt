@@ -277,6 +277,13 @@ pub no_delta : (last id : ℤ) (code n z : ℕ) → n ≡ short_delta (id -ℤ l
 no_delta last id code n z is none same =
     ap (λ (k : ℕ). code ∷ varint_bytes w32 k) same ∙ ap (heading_with code id) (let e : 0 ≡ short_delta (id -ℤ last) = sym none ∙ is in e)
 
+-- the byte of a header with a delta
+with_delta : (code n : ℕ) (id : ℤ) → (n ≡ 0 → ⊥) → (16 * n + code) ∷ [] ≡ heading_with code id n
+with_delta code n id some = sym (ap (λ (b : Bool). cond b (code ∷ varint_bytes w32 (zigzag id)) ((16 * n + code) ∷ [])) (ne_eqb n 0 some))
+
+pub some_delta : (last id : ℤ) (code n : ℕ) → n ≡ short_delta (id -ℤ last) → (n ≡ 0 → ⊥) → (16 * n + code) ∷ [] ≡ heading_bytes code last id
+some_delta last id code n is some = with_delta code n id some ∙ ap (heading_with code id) is
+
 -- ---- the first fault
 
 range_fault_if : (b : Bool) (n : ℕ) (unread : Unread) (fault : WireFault) → ltb n (2 ^ 15) ≡ b → cond b (give (pos n)) (fail FieldRange) unread ≡ Err fault → (fault ≡ FieldRange) × (2 ^ 15 ≤ n)
