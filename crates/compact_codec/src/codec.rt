@@ -12,10 +12,10 @@ use crate::headers::{
 };
 use crate::numbers::{size_in, u8_in};
 use crate::protocol::Compact;
-use crate::varints::{append_varint32, append_varint64};
 use crate::values::{
     bool_value, double_value, i8_value, i16_value, i32_value, i64_value, uuid_value,
 };
+use crate::varints::{append_varint32, append_varint64};
 use std::alloc::AllocError;
 use thrift_value::{Tag, Value, WireFault};
 use wire_num::{put_be128, put_le64, put_u8, zigzag32, zigzag64};
