@@ -5,10 +5,10 @@ use Rattle.thrift_value.specs.declared.tag.Tag.{Tag}
 use Rattle.thrift_value.specs.declared.tag.Tag.TheVariants as tags
 use Rattle.thrift_value.specs.declared.wire_fault.WireFault.{WireFault}
 use Rattle.thrift_value.specs.declared.wire_fault.WireFault.TheVariants.{TooDeep}
-use Rattle.thrift_value.specs.Tree.{Tree, ItemTrees, of_bytes, of_struct, of_map, of_set, of_list}
+use Rattle.thrift_value.specs.Tree.{ItemTrees, of_bytes, of_struct, of_map, of_set, of_list}
 use Rattle.wire_model.specs.Answering.{FaultsOrNoMemory}
 use Rattle.wire_model.specs.Decoder.{Unread, Decoder, go_on, give, count_value}
-use Rattle.wire_model.specs.Reading.{deeper, layer, parts, value, field_list, item_list, pair_list}
+use Rattle.wire_model.specs.Reading.{layer, parts, value, field_list, item_list, pair_list}
 use Rattle.wire_model.specs.Wire.{Wire}
 use Rattle.wire_walk.specs.Walked.{below, held, elements}
 use Rattle.wire_walk.proofs.Faults.{fails_on, fails_same, on_ok}
