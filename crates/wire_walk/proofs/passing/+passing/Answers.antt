@@ -11,7 +11,7 @@ use Rattle.wire_model.specs.Wire.{typed, flagged}
 use Rattle.wire_walk.specs.Steps.{field_header_of}
 use Rattle.wire_walk.specs.Walked.{held, elements}
 use Rattle.wire_walk.proofs.Faults.{on_ok}
-use Rattle.wire_walk.proofs.Opened.{counted_first, counted, held_is, bytes_is, struct_too_deep, map_too_deep, elements_too_deep, struct_is, map_is, elements_are, set_is, list_is, scalar_is}
+use Rattle.wire_walk.proofs.Opened.{counted_first, counted, held_is, text_held, no_struct, no_map, no_elements, struct_held, map_held, elements_held, set_held, list_held, scalar_held}
 use Rattle.wire_walk.proofs.PassedOver.{stops_at, exactly_too_deep, answers_same, passed_given, fields_left, header_fails_exactly, field_fails_exactly, flag_fails_exactly, field_passes, flag_passes, fields_passed, headers_run_out, items_fail_exactly, items_pass, items_passed, pairs_fail_exactly, pairs_fail_exactly_later, pairs_pass, pairs_passed}
 use Rattle.wire_walk.proofs.passing.+passing.Goals as goal
 
@@ -30,7 +30,7 @@ skip-returns g t c =
 pub skip_held-returns-in-Bytes : goal.skip_held-returns-in-Bytes
 skip_held-returns-in-Bytes g t c =
     answers_same c.skip_text.result _ _
-    (sym (passed_given (g.C.WireProtocol.wire.span c.args.rest) of_bytes) ∙ ap passed_over (bytes_is g.C.WireProtocol.wire c.args.levels c.args.tag c.args.rest c.in-Bytes.is)) c.skip_text.ensures
+    (sym (passed_given (g.C.WireProtocol.wire.span c.args.rest) of_bytes) ∙ ap passed_over (text_held g.C.WireProtocol.wire c.args.levels c.args.tag c.args.rest c.in-Bytes.is)) c.skip_text.ensures
 
 pub skip_held-returns-in-Struct : goal.skip_held-returns-in-Struct
 skip_held-returns-in-Struct g t c =
@@ -43,65 +43,65 @@ skip_held-returns-in-Map g t c =
 pub skip_held-returns-in-Set : goal.skip_held-returns-in-Set
 skip_held-returns-in-Set g t c =
     answers_same c.skip_elements.result _ _
-    (sym (passed_given (elements g.C.WireProtocol.wire c.args.levels c.args.rest) (λ x. of_set x.0 x.1)) ∙ ap passed_over (set_is g.C.WireProtocol.wire c.args.levels c.args.tag c.args.rest c.in-Set.is)) c.skip_elements.ensures
+    (sym (passed_given (elements g.C.WireProtocol.wire c.args.levels c.args.rest) (λ x. of_set x.0 x.1)) ∙ ap passed_over (set_held g.C.WireProtocol.wire c.args.levels c.args.tag c.args.rest c.in-Set.is)) c.skip_elements.ensures
 
 pub skip_held-returns-in-List : goal.skip_held-returns-in-List
 skip_held-returns-in-List g t c =
     answers_same c.skip_elements-in-List.result _ _
-    (sym (passed_given (elements g.C.WireProtocol.wire c.args.levels c.args.rest) (λ x. of_list x.0 x.1)) ∙ ap passed_over (list_is g.C.WireProtocol.wire c.args.levels c.args.tag c.args.rest c.in-List.is)) c.skip_elements-in-List.ensures
+    (sym (passed_given (elements g.C.WireProtocol.wire c.args.levels c.args.rest) (λ x. of_list x.0 x.1)) ∙ ap passed_over (list_held g.C.WireProtocol.wire c.args.levels c.args.tag c.args.rest c.in-List.is)) c.skip_elements-in-List.ensures
 
 pub skip_held-returns-in_default : goal.skip_held-returns-in_default
 skip_held-returns-in_default g t c =
     answers_same c.skip_scalar.result _ _
-    (ap passed_over (scalar_is g.C.WireProtocol.wire c.args.levels c.args.tag c.args.rest c.in_default.not-Bytes c.in_default.not-Struct c.in_default.not-Map c.in_default.not-Set c.in_default.not-List)) c.skip_scalar.ensures
+    (ap passed_over (scalar_held g.C.WireProtocol.wire c.args.levels c.args.tag c.args.rest c.in_default.not-Bytes c.in_default.not-Struct c.in_default.not-Map c.in_default.not-Set c.in_default.not-List)) c.skip_scalar.ensures
 
 pub skip_struct-returns-in_err-levels : goal.skip_struct-returns-in_err-levels
 skip_struct-returns-in_err-levels g t c =
     let p = err_from_is_err_and c.from_residual.result c.from_residual.ensures.1 in
     rw (p.1, p.2)
-    (exactly_too_deep c.in_err-levels.field-0.0 (held g.C.WireProtocol.wire c.args.levels tags.Struct c.args.rest) c.in_err-levels.ensures.1 (struct_too_deep g.C.WireProtocol.wire c.args.levels c.args.rest c.in_err-levels.ensures.0))
+    (exactly_too_deep c.in_err-levels.field-0.0 (held g.C.WireProtocol.wire c.args.levels tags.Struct c.args.rest) c.in_err-levels.ensures.1 (no_struct g.C.WireProtocol.wire c.args.levels c.args.rest c.in_err-levels.ensures.0))
 
 pub skip_map-returns-in_err-levels : goal.skip_map-returns-in_err-levels
 skip_map-returns-in_err-levels g t c =
     let p = err_from_is_err_and c.from_residual.result c.from_residual.ensures.1 in
     rw (p.1, p.2)
-    (exactly_too_deep c.in_err-levels.field-0.0 (held g.C.WireProtocol.wire c.args.levels tags.Map c.args.rest) c.in_err-levels.ensures.1 (map_too_deep g.C.WireProtocol.wire c.args.levels c.args.rest c.in_err-levels.ensures.0))
+    (exactly_too_deep c.in_err-levels.field-0.0 (held g.C.WireProtocol.wire c.args.levels tags.Map c.args.rest) c.in_err-levels.ensures.1 (no_map g.C.WireProtocol.wire c.args.levels c.args.rest c.in_err-levels.ensures.0))
 
 pub skip_elements-returns-in_err-levels : goal.skip_elements-returns-in_err-levels
 skip_elements-returns-in_err-levels g t c =
     let p = err_from_is_err_and c.from_residual.result c.from_residual.ensures.1 in
     rw (p.1, p.2)
-    (exactly_too_deep c.in_err-levels.field-0.0 (elements g.C.WireProtocol.wire c.args.levels c.args.rest) c.in_err-levels.ensures.1 (elements_too_deep g.C.WireProtocol.wire c.args.levels c.args.rest c.in_err-levels.ensures.0))
+    (exactly_too_deep c.in_err-levels.field-0.0 (elements g.C.WireProtocol.wire c.args.levels c.args.rest) c.in_err-levels.ensures.1 (no_elements g.C.WireProtocol.wire c.args.levels c.args.rest c.in_err-levels.ensures.0))
 
 pub skip_struct-returns : goal.skip_struct-returns
 skip_struct-returns g t c =
     answers_same c.skip_fields.result _ _
     (sym (passed_given (fields_left g.C.WireProtocol.wire c.in_ok-levels.levels (length c.args.rest.bytes) (pos 0) c.args.rest) of_struct)
-    ∙ ap passed_over (struct_is g.C.WireProtocol.wire c.args.levels c.in_ok-levels.levels c.args.rest c.in_ok-levels.ensures)) c.skip_fields.ensures
+    ∙ ap passed_over (struct_held g.C.WireProtocol.wire c.args.levels c.in_ok-levels.levels c.args.rest c.in_ok-levels.ensures)) c.skip_fields.ensures
 
 pub skip_map-returns-in_err-key : goal.skip_map-returns-in_err-key
 skip_map-returns-in_err-key g t c =
     let p = err_from_is_err_and c.from_residual-in_err-key.result c.from_residual-in_err-key.ensures.1 in
     rw (p.1, p.2)
-    (stops_at c.in_err-key.field-0.0 (held g.C.WireProtocol.wire c.args.levels tags.Map c.args.rest) (g.C.WireProtocol.wire.pairs c.args.rest) _ (sym (map_is g.C.WireProtocol.wire c.args.levels c.in_ok-levels.levels c.args.rest c.in_ok-levels.ensures)) c.in_err-key.ensures)
+    (stops_at c.in_err-key.field-0.0 (held g.C.WireProtocol.wire c.args.levels tags.Map c.args.rest) (g.C.WireProtocol.wire.pairs c.args.rest) _ (sym (map_held g.C.WireProtocol.wire c.args.levels c.in_ok-levels.levels c.args.rest c.in_ok-levels.ensures)) c.in_err-key.ensures)
 
 pub skip_map-returns : goal.skip_map-returns
 skip_map-returns g t c =
     answers_same c.skip_pairs.result _ _
     (sym (passed_given (pair_list (value g.C.WireProtocol.wire c.in_ok-levels.levels) c.in_ok-key.key c.in_ok-key.value c.in_ok-key.count c.in_ok-key.rest) (of_map c.in_ok-key.key c.in_ok-key.value))
-    ∙ ap passed_over (sym (on_ok (g.C.WireProtocol.wire.pairs c.args.rest) _ (c.in_ok-key.key, c.in_ok-key.value, c.in_ok-key.count) c.in_ok-key.rest c.in_ok-key.ensures) ∙ map_is g.C.WireProtocol.wire c.args.levels c.in_ok-levels.levels c.args.rest c.in_ok-levels.ensures)) c.skip_pairs.ensures
+    ∙ ap passed_over (sym (on_ok (g.C.WireProtocol.wire.pairs c.args.rest) _ (c.in_ok-key.key, c.in_ok-key.value, c.in_ok-key.count) c.in_ok-key.rest c.in_ok-key.ensures) ∙ map_held g.C.WireProtocol.wire c.args.levels c.in_ok-levels.levels c.args.rest c.in_ok-levels.ensures)) c.skip_pairs.ensures
 
 pub skip_elements-returns-in_err-element : goal.skip_elements-returns-in_err-element
 skip_elements-returns-in_err-element g t c =
     let p = err_from_is_err_and c.from_residual-in_err-element.result c.from_residual-in_err-element.ensures.1 in
     rw (p.1, p.2)
-    (stops_at c.in_err-element.field-0.0 (elements g.C.WireProtocol.wire c.args.levels c.args.rest) (g.C.WireProtocol.wire.items c.args.rest) _ (sym (elements_are g.C.WireProtocol.wire c.args.levels c.in_ok-levels.levels c.args.rest c.in_ok-levels.ensures)) c.in_err-element.ensures)
+    (stops_at c.in_err-element.field-0.0 (elements g.C.WireProtocol.wire c.args.levels c.args.rest) (g.C.WireProtocol.wire.items c.args.rest) _ (sym (elements_held g.C.WireProtocol.wire c.args.levels c.in_ok-levels.levels c.args.rest c.in_ok-levels.ensures)) c.in_err-element.ensures)
 
 pub skip_elements-returns : goal.skip_elements-returns
 skip_elements-returns g t c =
     answers_same c.skip_items.result _ _
     (sym (passed_given (item_list (value g.C.WireProtocol.wire c.in_ok-levels.levels) c.in_ok-element.element c.in_ok-element.count c.in_ok-element.rest) (λ items. (c.in_ok-element.element, items)))
-    ∙ ap passed_over (sym (on_ok (g.C.WireProtocol.wire.items c.args.rest) _ (c.in_ok-element.element, c.in_ok-element.count) c.in_ok-element.rest c.in_ok-element.ensures) ∙ elements_are g.C.WireProtocol.wire c.args.levels c.in_ok-levels.levels c.args.rest c.in_ok-levels.ensures)) c.skip_items.ensures
+    ∙ ap passed_over (sym (on_ok (g.C.WireProtocol.wire.items c.args.rest) _ (c.in_ok-element.element, c.in_ok-element.count) c.in_ok-element.rest c.in_ok-element.ensures) ∙ elements_held g.C.WireProtocol.wire c.args.levels c.in_ok-levels.levels c.args.rest c.in_ok-levels.ensures)) c.skip_items.ensures
 
 pub skip_fields-returns-in_err-header : goal.skip_fields-returns-in_err-header
 skip_fields-returns-in_err-header g t c =

@@ -8,7 +8,7 @@ use Rattle.thrift_value.specs.declared.value.Value.TheVariants.{Bool}
 use Rattle.wire_model.specs.Wire.{typed, flagged}
 use Rattle.wire_walk.specs.Steps.{field_header_of}
 use Rattle.wire_walk.proofs.Faults.{fails_on, fails_same, fails_told, gives_same, gives_told, too_deep, on_ok}
-use Rattle.wire_walk.proofs.Opened.{not_counted, counted, held_is, bytes_is, struct_too_deep, map_too_deep, elements_too_deep, struct_is, map_is, elements_are, set_is, list_is, scalar_is}
+use Rattle.wire_walk.proofs.Opened.{not_counted, counted, held_is, text_held, no_struct, no_map, no_elements, struct_held, map_held, elements_held, set_held, list_held, scalar_held}
 use Rattle.wire_walk.proofs.Lists.{items_begin, items_fail, items_step, items_end, pairs_begin, pairs_fail, pairs_fail_later, pairs_step, pairs_end, fields_begin, fields_fail, field_value_fails, flag_fails, field_step, flag_step, fields_end, fields_run_out}
 use Rattle.wire_walk.proofs.reading.+reading.Goals as goal
 
@@ -26,7 +26,7 @@ read-returns g t c =
 
 pub read_held-returns-in-Bytes : goal.read_held-returns-in-Bytes
 read_held-returns-in-Bytes g t c =
-    gives_same _ c.read_text.result _ _ (bytes_is g.C.WireProtocol.wire c.args.levels c.args.tag c.args.rest c.in-Bytes.is) c.read_text.ensures
+    gives_same _ c.read_text.result _ _ (text_held g.C.WireProtocol.wire c.args.levels c.args.tag c.args.rest c.in-Bytes.is) c.read_text.ensures
 
 pub read_held-returns-in-Struct : goal.read_held-returns-in-Struct
 read_held-returns-in-Struct g t c =
@@ -46,37 +46,37 @@ read_held-returns-in-List g t c =
 
 pub read_held-returns-in_default : goal.read_held-returns-in_default
 read_held-returns-in_default g t c =
-    gives_same _ c.scalar.result _ _ (scalar_is g.C.WireProtocol.wire c.args.levels c.args.tag c.args.rest c.in_default.not-Bytes c.in_default.not-Struct c.in_default.not-Map c.in_default.not-Set c.in_default.not-List)
+    gives_same _ c.scalar.result _ _ (scalar_held g.C.WireProtocol.wire c.args.levels c.args.tag c.args.rest c.in_default.not-Bytes c.in_default.not-Struct c.in_default.not-Map c.in_default.not-Set c.in_default.not-List)
     (gives_told _ _ _ c.scalar.ensures)
 
 pub open_struct-returns-in_err-levels : goal.open_struct-returns-in_err-levels
 open_struct-returns-in_err-levels g t c =
     let p = err_from_is_err_and c.from_residual.result c.from_residual.ensures.1 in
     rw (p.1, p.2)
-    (too_deep c.in_err-levels.field-0.0 _ c.in_err-levels.ensures.1 (struct_too_deep g.C.WireProtocol.wire c.args.levels c.args.rest c.in_err-levels.ensures.0))
+    (too_deep c.in_err-levels.field-0.0 _ c.in_err-levels.ensures.1 (no_struct g.C.WireProtocol.wire c.args.levels c.args.rest c.in_err-levels.ensures.0))
 
 pub open_map-returns-in_err-levels : goal.open_map-returns-in_err-levels
 open_map-returns-in_err-levels g t c =
     let p = err_from_is_err_and c.from_residual.result c.from_residual.ensures.1 in
     rw (p.1, p.2)
-    (too_deep c.in_err-levels.field-0.0 _ c.in_err-levels.ensures.1 (map_too_deep g.C.WireProtocol.wire c.args.levels c.args.rest c.in_err-levels.ensures.0))
+    (too_deep c.in_err-levels.field-0.0 _ c.in_err-levels.ensures.1 (no_map g.C.WireProtocol.wire c.args.levels c.args.rest c.in_err-levels.ensures.0))
 
 pub open_elements-returns-in_err-levels : goal.open_elements-returns-in_err-levels
 open_elements-returns-in_err-levels g t c =
     let p = err_from_is_err_and c.from_residual.result c.from_residual.ensures.1 in
     rw (p.1, p.2)
-    (too_deep c.in_err-levels.field-0.0 _ c.in_err-levels.ensures.1 (elements_too_deep g.C.WireProtocol.wire c.args.levels c.args.rest c.in_err-levels.ensures.0))
+    (too_deep c.in_err-levels.field-0.0 _ c.in_err-levels.ensures.1 (no_elements g.C.WireProtocol.wire c.args.levels c.args.rest c.in_err-levels.ensures.0))
 
 pub open_struct-returns-in_err-fields : goal.open_struct-returns-in_err-fields
 open_struct-returns-in_err-fields g t c =
     let p = err_from_is_err_and c.from_residual-in_err-fields.result c.from_residual-in_err-fields.ensures.1 in
     rw (p.1, p.2)
-    (fails_same c.in_err-fields.field-0.0 _ _ (struct_is g.C.WireProtocol.wire c.args.levels c.in_ok-levels.levels c.args.rest c.in_ok-levels.ensures)
+    (fails_same c.in_err-fields.field-0.0 _ _ (struct_held g.C.WireProtocol.wire c.args.levels c.in_ok-levels.levels c.args.rest c.in_ok-levels.ensures)
     (fails_on c.in_err-fields.field-0.0 _ _ c.in_err-fields.ensures))
 
 pub open_struct-returns : goal.open_struct-returns
 open_struct-returns g t c =
-    sym (struct_is g.C.WireProtocol.wire c.args.levels c.in_ok-levels.levels c.args.rest c.in_ok-levels.ensures)
+    sym (struct_held g.C.WireProtocol.wire c.args.levels c.in_ok-levels.levels c.args.rest c.in_ok-levels.ensures)
     ∙ on_ok _ _ (fields_tree c.in_ok-fields.fields) c.in_ok-fields.rest c.in_ok-fields.ensures
     ∙ ap (λ x. Ok (x, c.in_ok-fields.rest)) (sym (tree_of-Struct c.in_ok-fields.fields))
 
@@ -84,19 +84,19 @@ pub open_map-returns-in_err-key : goal.open_map-returns-in_err-key
 open_map-returns-in_err-key g t c =
     let p = err_from_is_err_and c.from_residual-in_err-key.result c.from_residual-in_err-key.ensures.1 in
     rw (p.1, p.2)
-    (fails_same c.in_err-key.field-0.0 _ _ (map_is g.C.WireProtocol.wire c.args.levels c.in_ok-levels.levels c.args.rest c.in_ok-levels.ensures)
+    (fails_same c.in_err-key.field-0.0 _ _ (map_held g.C.WireProtocol.wire c.args.levels c.in_ok-levels.levels c.args.rest c.in_ok-levels.ensures)
     (fails_on c.in_err-key.field-0.0 (g.C.WireProtocol.wire.pairs c.args.rest) _ (fails_told _ _ c.in_err-key.ensures)))
 
 pub open_map-returns-in_err-pairs : goal.open_map-returns-in_err-pairs
 open_map-returns-in_err-pairs g t c =
     let p = err_from_is_err_and c.from_residual-in_err-pairs.result c.from_residual-in_err-pairs.ensures.1 in
     rw (p.1, p.2)
-    (fails_same c.in_err-pairs.field-0.0 _ _ (sym (on_ok (g.C.WireProtocol.wire.pairs c.args.rest) _ (c.in_ok-key.key, c.in_ok-key.value, c.in_ok-key.count) c.in_ok-key.rest c.in_ok-key.ensures) ∙ map_is g.C.WireProtocol.wire c.args.levels c.in_ok-levels.levels c.args.rest c.in_ok-levels.ensures)
+    (fails_same c.in_err-pairs.field-0.0 _ _ (sym (on_ok (g.C.WireProtocol.wire.pairs c.args.rest) _ (c.in_ok-key.key, c.in_ok-key.value, c.in_ok-key.count) c.in_ok-key.rest c.in_ok-key.ensures) ∙ map_held g.C.WireProtocol.wire c.args.levels c.in_ok-levels.levels c.args.rest c.in_ok-levels.ensures)
     (fails_on c.in_err-pairs.field-0.0 _ _ c.in_err-pairs.ensures))
 
 pub open_map-returns : goal.open_map-returns
 open_map-returns g t c =
-    sym (map_is g.C.WireProtocol.wire c.args.levels c.in_ok-levels.levels c.args.rest c.in_ok-levels.ensures)
+    sym (map_held g.C.WireProtocol.wire c.args.levels c.in_ok-levels.levels c.args.rest c.in_ok-levels.ensures)
     ∙ on_ok (g.C.WireProtocol.wire.pairs c.args.rest) _ (c.in_ok-key.key, c.in_ok-key.value, c.in_ok-key.count) c.in_ok-key.rest c.in_ok-key.ensures
     ∙ on_ok _ _ (pairs_tree c.in_ok-pairs.pairs) c.in_ok-pairs.rest c.in_ok-pairs.ensures
     ∙ ap (λ x. Ok (x, c.in_ok-pairs.rest)) (sym (tree_of-Map c.in_ok-key.key c.in_ok-key.value c.in_ok-pairs.pairs))
@@ -105,19 +105,19 @@ pub open_elements-returns-in_err-element : goal.open_elements-returns-in_err-ele
 open_elements-returns-in_err-element g t c =
     let p = err_from_is_err_and c.from_residual-in_err-element.result c.from_residual-in_err-element.ensures.1 in
     rw (p.1, p.2)
-    (fails_same c.in_err-element.field-0.0 _ _ (elements_are g.C.WireProtocol.wire c.args.levels c.in_ok-levels.levels c.args.rest c.in_ok-levels.ensures)
+    (fails_same c.in_err-element.field-0.0 _ _ (elements_held g.C.WireProtocol.wire c.args.levels c.in_ok-levels.levels c.args.rest c.in_ok-levels.ensures)
     (fails_on c.in_err-element.field-0.0 (g.C.WireProtocol.wire.items c.args.rest) _ (fails_told _ _ c.in_err-element.ensures)))
 
 pub open_elements-returns-in_err-items : goal.open_elements-returns-in_err-items
 open_elements-returns-in_err-items g t c =
     let p = err_from_is_err_and c.from_residual-in_err-items.result c.from_residual-in_err-items.ensures.1 in
     rw (p.1, p.2)
-    (fails_same c.in_err-items.field-0.0 _ _ (sym (on_ok (g.C.WireProtocol.wire.items c.args.rest) _ (c.in_ok-element.element, c.in_ok-element.count) c.in_ok-element.rest c.in_ok-element.ensures) ∙ elements_are g.C.WireProtocol.wire c.args.levels c.in_ok-levels.levels c.args.rest c.in_ok-levels.ensures)
+    (fails_same c.in_err-items.field-0.0 _ _ (sym (on_ok (g.C.WireProtocol.wire.items c.args.rest) _ (c.in_ok-element.element, c.in_ok-element.count) c.in_ok-element.rest c.in_ok-element.ensures) ∙ elements_held g.C.WireProtocol.wire c.args.levels c.in_ok-levels.levels c.args.rest c.in_ok-levels.ensures)
     (fails_on c.in_err-items.field-0.0 _ _ c.in_err-items.ensures))
 
 pub open_elements-returns : goal.open_elements-returns
 open_elements-returns g t c =
-    sym (elements_are g.C.WireProtocol.wire c.args.levels c.in_ok-levels.levels c.args.rest c.in_ok-levels.ensures)
+    sym (elements_held g.C.WireProtocol.wire c.args.levels c.in_ok-levels.levels c.args.rest c.in_ok-levels.ensures)
     ∙ on_ok (g.C.WireProtocol.wire.items c.args.rest) _ (c.in_ok-element.element, c.in_ok-element.count) c.in_ok-element.rest c.in_ok-element.ensures
     ∙ on_ok _ _ (items_tree c.in_ok-items.items) c.in_ok-items.rest c.in_ok-items.ensures
 
@@ -125,12 +125,12 @@ pub open_set-returns-in_err-element : goal.open_set-returns-in_err-element
 open_set-returns-in_err-element g t c =
     let p = err_from_is_err_and c.from_residual.result c.from_residual.ensures.1 in
     rw (p.1, p.2)
-    (fails_same c.in_err-element.field-0.0 _ _ (set_is g.C.WireProtocol.wire c.args.levels _ c.args.rest refl)
+    (fails_same c.in_err-element.field-0.0 _ _ (set_held g.C.WireProtocol.wire c.args.levels _ c.args.rest refl)
     (fails_on c.in_err-element.field-0.0 _ _ c.in_err-element.ensures))
 
 pub open_set-returns : goal.open_set-returns
 open_set-returns g t c =
-    sym (set_is g.C.WireProtocol.wire c.args.levels _ c.args.rest refl)
+    sym (set_held g.C.WireProtocol.wire c.args.levels _ c.args.rest refl)
     ∙ on_ok _ _ (c.in_ok-element.element, items_tree c.in_ok-element.items) c.in_ok-element.rest c.in_ok-element.ensures
     ∙ ap (λ x. Ok (x, c.in_ok-element.rest)) (sym (tree_of-Set c.in_ok-element.element c.in_ok-element.items))
 
@@ -138,12 +138,12 @@ pub open_list-returns-in_err-element : goal.open_list-returns-in_err-element
 open_list-returns-in_err-element g t c =
     let p = err_from_is_err_and c.from_residual.result c.from_residual.ensures.1 in
     rw (p.1, p.2)
-    (fails_same c.in_err-element.field-0.0 _ _ (list_is g.C.WireProtocol.wire c.args.levels _ c.args.rest refl)
+    (fails_same c.in_err-element.field-0.0 _ _ (list_held g.C.WireProtocol.wire c.args.levels _ c.args.rest refl)
     (fails_on c.in_err-element.field-0.0 _ _ c.in_err-element.ensures))
 
 pub open_list-returns : goal.open_list-returns
 open_list-returns g t c =
-    sym (list_is g.C.WireProtocol.wire c.args.levels _ c.args.rest refl)
+    sym (list_held g.C.WireProtocol.wire c.args.levels _ c.args.rest refl)
     ∙ on_ok _ _ (c.in_ok-element.element, items_tree c.in_ok-element.items) c.in_ok-element.rest c.in_ok-element.ensures
     ∙ ap (λ x. Ok (x, c.in_ok-element.rest)) (sym (tree_of-List c.in_ok-element.element c.in_ok-element.items))
 
