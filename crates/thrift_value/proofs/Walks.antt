@@ -2,7 +2,7 @@
 use Rattle.std.proofs.Common.{◌≡◌, ℕ, ◌+◌, ◌-◌, ◌≤◌, ◌<◌, true, false, true≢false, List, [], ◌∷◌, ◌++◌, length, map, take, drop, get_or, Result, Ok, Err, min, max, Ordering, Less, Equal, Greater, nat_cmp, arith, refl, sym, ap, ap₂, subst, ◌∙◌, length-drop}
 use Rattle.std.proofs.lemmas.Bool.Decides.{nat_tests}
 use Rattle.std.proofs.lemmas.List.{at_drop_all, drop_more, take_more, map-append}
-use Rattle.std.specs.Prelude.{◌↔◌, IsTrue, IfOk, MatchResult}
+use Rattle.std.specs.Prelude.{◌↔◌, IsTrue, IfOk, IsErr, MatchResult}
 use Rattle.std.specs.Ordering.{is_ne, ordering_then}
 
 -- a sum that is kept below a limit, when nothing is left
@@ -134,3 +134,8 @@ copied view tree part v xs i x old new (Ok y) low here alike same put kept =
     ap (map view) put ∙ map-append view old (part y ∷ []) ∙ (λ k. kept k ++ alike y same k ∷ []) ∙ sym (map-append view (take i xs) (x ∷ []))
     ∙ ap (map view) (sym (take_more xs i x low ∙ ap (λ z. take i xs ++ z ∷ []) (sym here)))
 copied view tree part v xs i x old new (Err e) low here alike same put kept = absurd (true≢false (sym put))
+
+-- nothing was made, so nothing has to hold of it
+pub none_made : {Y E : Type 0} (P : Y → Type 0) (made : Result Y E) → IsErr made → IfOk made P
+none_made P (Ok y) failed = absurd (true≢false (sym failed))
+none_made P (Err e) failed = tt

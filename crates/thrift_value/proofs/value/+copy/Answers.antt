@@ -6,7 +6,7 @@ use Rattle.thrift_value.specs.declared.value.Value.{Value}
 use Rattle.thrift_value.specs.Tree.{of_bytes, of_struct, of_map, of_set, of_list}
 use Rattle.thrift_value.specs.TreeOf.{tree_of, field_tree, pair_tree, field_trees, item_trees, pair_trees}
 use Rattle.thrift_value.proofs.Trees.{tree_of-Bytes, tree_of-Struct, tree_of-Map, tree_of-Set, tree_of-List, tree_of-is_Struct, tree_of-is_Map, tree_of-is_Set, tree_of-is_List}
-use Rattle.thrift_value.proofs.Walks.{copied}
+use Rattle.thrift_value.proofs.Walks.{copied, none_made}
 use Rattle.thrift_value.proofs.value.+copy.Goals as goal
 
 pub Fields::try_clone-loop-id-preserved : goal.Fields::try_clone-loop-id-preserved
@@ -90,3 +90,41 @@ Value::try_clone-returns-in_ok-try_clone-in-Set t c = tree_of-Set _ _ ∙ ap (of
 
 pub Value::try_clone-returns-in_ok-try_clone-in-List : goal.Value::try_clone-returns-in_ok-try_clone-in-List
 Value::try_clone-returns-in_ok-try_clone-in-List t c = tree_of-List _ _ ∙ ap (of_list c.in-List.element) c.in_ok-try_clone-in-List.ensures ∙ sym (tree_of-is_List _ c.in-List.element c.in-List.items c.in-List.is)
+
+-- where there is no memory
+
+pub Fields::try_clone-returns-in_err-copies : goal.Fields::try_clone-returns-in_err-copies
+Fields::try_clone-returns-in_err-copies t c = none_made _ _ c.from_residual.ensures.0
+
+pub Fields::try_clone-returns-in_err-put_beside : goal.Fields::try_clone-returns-in_err-put_beside
+Fields::try_clone-returns-in_err-put_beside t c = none_made _ _ c.from_residual-in_err-put_beside.ensures.0
+
+pub Items::try_clone-returns-in_err-copies : goal.Items::try_clone-returns-in_err-copies
+Items::try_clone-returns-in_err-copies t c = none_made _ _ c.from_residual.ensures.0
+
+pub Items::try_clone-returns-in_err-put : goal.Items::try_clone-returns-in_err-put
+Items::try_clone-returns-in_err-put t c = none_made _ _ c.from_residual-in_err-put.ensures.0
+
+pub Pairs::try_clone-returns-in_err-copies : goal.Pairs::try_clone-returns-in_err-copies
+Pairs::try_clone-returns-in_err-copies t c = none_made _ _ c.from_residual.ensures.0
+
+pub Pairs::try_clone-returns-in_err-key : goal.Pairs::try_clone-returns-in_err-key
+Pairs::try_clone-returns-in_err-key t c = none_made _ _ c.from_residual-in_err-key.ensures.0
+
+pub Pairs::try_clone-returns-in_err-put_beside : goal.Pairs::try_clone-returns-in_err-put_beside
+Pairs::try_clone-returns-in_err-put_beside t c = none_made _ _ c.from_residual-in_err-put_beside.ensures.0
+
+pub Value::try_clone-returns-in_err-try_clone-in-Bytes : goal.Value::try_clone-returns-in_err-try_clone-in-Bytes
+Value::try_clone-returns-in_err-try_clone-in-Bytes t c = none_made _ _ c.from_residual.ensures.0
+
+pub Value::try_clone-returns-in_err-try_clone-in-Struct : goal.Value::try_clone-returns-in_err-try_clone-in-Struct
+Value::try_clone-returns-in_err-try_clone-in-Struct t c = none_made _ _ c.from_residual-in_err-try_clone-in-Struct.ensures.0
+
+pub Value::try_clone-returns-in_err-try_clone-in-Map : goal.Value::try_clone-returns-in_err-try_clone-in-Map
+Value::try_clone-returns-in_err-try_clone-in-Map t c = none_made _ _ c.from_residual-in_err-try_clone-in-Map.ensures.0
+
+pub Value::try_clone-returns-in_err-try_clone-in-Set : goal.Value::try_clone-returns-in_err-try_clone-in-Set
+Value::try_clone-returns-in_err-try_clone-in-Set t c = none_made _ _ c.from_residual-in_err-try_clone-in-Set.ensures.0
+
+pub Value::try_clone-returns-in_err-try_clone-in-List : goal.Value::try_clone-returns-in_err-try_clone-in-List
+Value::try_clone-returns-in_err-try_clone-in-List t c = none_made _ _ c.from_residual-in_err-try_clone-in-List.ensures.0
