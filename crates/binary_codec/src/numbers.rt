@@ -1,9 +1,9 @@
 //! Numbers in front of what is left, none of them a value of its own (Thrift binary protocol, 'Integer encoding').
 
-ghost use Rattle.std.specs.Int.{w8, w16, w32, w64, w128};
+ghost use Rattle.std.specs.Int.{w16, w32};
 ghost use Rattle.wire_model.specs.Answering.{AnswersExactly};
 ghost use Rattle.wire_model.specs.Pieces.{byte};
-ghost use Rattle.binary_codec.specs.Reading.{unsigned, signed, binary_size};
+ghost use Rattle.binary_codec.specs.Reading.{signed, binary_size};
 
 use thrift_value::WireFault;
 use wire_num::{decode_i16, decode_i32, decode_u8};

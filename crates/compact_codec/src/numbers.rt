@@ -2,11 +2,10 @@
 //! encoding').
 
 ghost use Rattle.std.specs.Prelude.{◌≡◌};
-ghost use Rattle.std.specs.Int.{w32, w64};
 ghost use Rattle.wire_model.specs.Answering.{AnswersExactly};
 ghost use Rattle.wire_model.specs.Pieces.{byte, within_room};
 ghost use Rattle.compact_codec.specs.Numbers.{low_16};
-ghost use Rattle.compact_codec.specs.Reading.{compact_i8, compact_i16, compact_signed, compact_double, compact_uuid, compact_unsigned, compact_size};
+ghost use Rattle.compact_codec.specs.Reading.{compact_i16, compact_unsigned, compact_size};
 
 use crate::varints::next_varint32;
 use thrift_value::WireFault;
