@@ -1,3 +1,4 @@
+pub mod Appending
 pub mod Pieces
 pub mod CompactHeads
 pub mod Heads

@@ -1,12 +1,14 @@
 //! Writing an exception.
 
-ghost use Rattle.std.specs.Prelude.{◌≡◌, ◌<◌, ◌^◌, ◌++◌, OnOk, OnErr, length, take, vec_len};
+ghost use Rattle.std.specs.Prelude.{◌≡◌, ◌<◌, ◌^◌, ◌++◌, ◌∷◌, OnOk, OnErr, length, take, vec_len};
+ghost use Rattle.std.specs.Int.{w32};
+ghost use Rattle.wire_num.specs.Fixed.{signed_bytes};
 ghost use Rattle.envelope.specs.Exception.{exception_text, exception_head, failure_struct, compact_text_field, compact_code_field};
 
 use super::head::Protocol;
 use super::write::{put_name, write_head};
 use std::alloc::AllocError;
-use wire_num::{put_i32, put_varint32, zigzag32};
+use wire_num::{put_varint32, zigzag32};
 
 /// The type of an exception (Thrift RPC specification, 'Message').
 const EXCEPTION: u8 = 3;
@@ -88,19 +90,25 @@ fn put_failure(
     }
 }
 
+/// The header of a field of the binary protocol, of this type and id, and a number behind it.
+#[inline(always)]
+fn numbered_field(kind: u8, id: u8, number: i32) -> [u8; 7]
+    ensures { result ≡ kind ∷ 0 ∷ id ∷ signed_bytes w32 number }
+{
+    let [a, b, c, d] = number.to_be_bytes();
+    [kind, 0, id, a, b, c, d]
+}
+
 /// Appends the struct of a failure in the binary protocol: a string of id 1, an i32 of id 2, and the end.
-#[tactic(auto, unfolding(crate::specs::Exception::failure_struct))]
 fn put_binary_failure(text: &[u8], code: i32, into: &mut Vec<u8>) -> Result<(), AllocError>
     requires { length text.now < 2 ^ 31 }
     ensures ok { OnOk result
         (into.new.items ≡ into.old.items ++ failure_struct Protocol.Binary (record { text = text.now; code = code })) }
     ensures err { OnErr result (take (vec_len into.old) into.new.items ≡ into.old.items) }
 {
-    into.extend_from_slice(&[11, 0, 1])?;
-    put_i32(into, text.len() as i32)?;
+    into.extend_from_slice(&numbered_field(11, 1, text.len() as i32))?;
     into.extend_from_slice(text)?;
-    into.extend_from_slice(&[8, 0, 2])?;
-    put_i32(into, code)?;
+    into.extend_from_slice(&numbered_field(8, 2, code))?;
     into.extend_from_slice(&[0])
 }
 
