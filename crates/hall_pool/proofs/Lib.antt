@@ -5,3 +5,4 @@ pub mod Applying
 pub mod Adding
 pub mod Ending
 pub mod Opening
+pub mod Crews

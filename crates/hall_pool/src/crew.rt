@@ -72,6 +72,61 @@ fn call_and_ring<R: Wait, T, F: FnOnce(u32) -> T>(
     led
 }
 
+/// Starts a worker on a thread of its own, and does the rest beside it, which is told how many were started by then. Once the rest is
+/// done it joins the worker, or runs it here where no thread could be made.
+fn beside<
+    D: Desk + Sync,
+    G: Gate + Sync,
+    B: Bell,
+    H: Handler,
+    J: Journal + Send,
+    R: Threads + Wait + Sync,
+    T,
+    M: FnOnce(u32) -> T,
+>(
+    rt: &R,
+    place: &Workplace<Hall<H, J>, D, G, B>,
+    worker: Worker<Hall<H, J>>,
+    started: u32,
+    rest: M,
+) -> (T, Worker<Hall<H, J>>)
+    requires threads { IsSync R.row }
+    requires seat { MayServe (D.meaning place.now.desk.now) place.now.booth.now worker }
+    requires rest { M.IsAlwaysCallable rest }
+    ensures rest { (n : ℕ) × (n ≤ started + 1) × M.post rest n result.0 }
+    ensures served { HasServedAs (D.meaning place.now.desk.now) place.now.booth.now worker result.1 }
+{
+    thread::scope(
+        thread::scope_env(),
+        rt,
+        move |scope| -> (T, Worker<Hall<H, J>>)
+            requires threads { IsSync R.row }
+            requires seat { MayServe (D.meaning place.now.desk.now) place.now.booth.now worker }
+            requires rest { M.IsAlwaysCallable rest }
+            ensures rest { (n : ℕ) × (n ≤ started + 1) × M.post rest n result.0 }
+            ensures served { HasServedAs (D.meaning place.entry.now.desk.now) place.entry.now.booth.now worker result.1 }
+        {
+            match scope.spawn_with(
+                Service::of(place, &worker),
+                move || -> Worker<Hall<H, J>>
+                    requires { MayServe (D.meaning place.now.desk.now) place.now.booth.now worker }
+                    ensures { HasServedAs (D.meaning place.entry.now.desk.now) place.entry.now.booth.now worker result }
+                { run_out(rt, place, worker) },
+            ) {
+                Ok(child) => {
+                    let more = started.saturating_add(1);
+                    let done = rest(more);
+                    (done, child.join(rt))
+                }
+                Err(refused) => {
+                    let done = rest(started);
+                    (done, (refused.value)())
+                }
+            }
+        },
+    )
+}
+
 /// Starts a worker for each of these seats, the last one first, and leads; so many were started already.
 fn with_rest<
     D: Desk + Sync,
@@ -102,38 +157,20 @@ fn with_rest<
         return (call_and_ring(rt, place.door, workers, started, lead), seats);
     };
     let worker = Worker::new(seat);
-    let (led, mut seats, worker) = thread::scope(
-        thread::scope_env(),
+    let ((led, mut seats), worker) = beside(
         rt,
-        move |scope| -> (T, Vec<Seat<Hall<H, J>>>, Worker<Hall<H, J>>)
+        place,
+        worker,
+        started,
+        move |more| -> (T, Vec<Seat<Hall<H, J>>>)
             requires threads { IsSync R.row }
             requires seats { All (MayServe (D.meaning place.now.desk.now) place.now.booth.now) seats.items }
-            requires seat { MayServe (D.meaning place.now.desk.now) place.now.booth.now worker }
             requires lead { MatchOption lead.now ⊥ (λ l. F.IsAlwaysCallable l) }
-            ensures led { MatchOption lead.entry.now ⊥ (λ l. (n : ℕ) × (n ≤ started + vec_len seats + 1) × F.post l n result.0) }
+            ensures led { MatchOption lead.entry.now ⊥ (λ l. (n : ℕ) × (n ≤ more + vec_len seats) × F.post l n result.0) }
             ensures seats { All (HasServed (D.meaning place.entry.now.desk.now) place.entry.now.booth.now) result.1.items }
             ensures numbers { numbers_of result.1.items ≡ numbers_of seats.items }
             ensures room { (vec_len result.1 ≡ vec_len seats) × (vec_capacity result.1 ≡ vec_capacity seats) }
-            ensures served { HasServedAs (D.meaning place.entry.now.desk.now) place.entry.now.booth.now worker result.2 }
-        {
-            match scope.spawn_with(
-                Service::of(place, &worker),
-                move || -> Worker<Hall<H, J>>
-                    requires { MayServe (D.meaning place.now.desk.now) place.now.booth.now worker }
-                    ensures { HasServedAs (D.meaning place.entry.now.desk.now) place.entry.now.booth.now worker result }
-                { run_out(rt, place, worker) },
-            ) {
-                Ok(child) => {
-                    let more = started.saturating_add(1);
-                    let (led, seats) = with_rest(rt, place, seats, workers, more, lead);
-                    (led, seats, child.join(rt))
-                }
-                Err(refused) => {
-                    let (led, seats) = with_rest(rt, place, seats, workers, started, lead);
-                    (led, seats, (refused.value)())
-                }
-            }
-        },
+        { with_rest(rt, place, seats, workers, more, lead) },
     );
     seats.push_reserved(worker.into_seat());
     (led, seats)
