@@ -9,7 +9,7 @@ use Rattle.envelope.specs.declared.head.Head.{Head}
 use Rattle.envelope.specs.declared.head.HeadFault.{HeadFault}
 use Rattle.envelope.specs.Said.{Said, FitsHead, IsReply}
 use Rattle.envelope.specs.Spelling.{head_text}
-use Rattle.envelope.specs.Readout.{◌>>=◌, whole_head, reply_kind, reply_head_at, IsHead, IsReplyIn}
+use Rattle.envelope.specs.Readout.{whole_head, reply_kind, reply_head_at, IsHead, IsReplyIn}
 use Rattle.envelope.proofs.Pieces.{AreBytes, ok, fail, bind_found, bind_only, same_ok}
 use Rattle.envelope.proofs.Heads.{whole_found, whole_only, written_is_spelled}
 

@@ -13,9 +13,9 @@ unfolding compact_code_field
 returns-clause-ok c =
     let code : c.zigzag32.result ≡ zigzag c.args.code = c.zigzag32.ensures ∙ ap zigzag (to_z-of_z w32 c.args.code c.ranges.code) in
     on_ok_weaker c.put_varint32.result
-        (λ e. appended _ (21 ∷ []) c.extend_from_slice.new.self.items (varint_bytes w32 (zigzag c.args.code)) _ c.in_ok-extend_from_slice.ensures.items
-            (e ∙ ap (λ n. c.extend_from_slice.new.self.items ++ varint_bytes w32 n) code))
-        c.put_varint32.ensures.ok
+    (λ e. appended _ (21 ∷ []) c.extend_from_slice.new.self.items (varint_bytes w32 (zigzag c.args.code)) _ c.in_ok-extend_from_slice.ensures.items
+    (e ∙ ap (λ n. c.extend_from_slice.new.self.items ++ varint_bytes w32 n) code))
+    c.put_varint32.ensures.ok
 
 pub returns-clause-err : goal.returns-clause-err
 returns-clause-err c =

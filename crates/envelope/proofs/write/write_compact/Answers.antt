@@ -12,15 +12,15 @@ returns-clause-ok c =
     let id = c.in_ok-put_id.ensures.ok ∙ ap (λ z. c.extend_from_slice.new.self.items ++ compact_id z) (to_z-of_z w32 c.args.id c.ranges.id) in
     let typed : c.args.kind % 8 * 32 + 1 ≡ 32 * (c.args.kind % 8) + 1 = omega arith in
     on_ok_weaker c.put_name.result
-        (λ e. appended c.args.into.now.items front c.extend_from_slice.new.self.items (compact_id c.args.id ++ compact_name c.args.name.now) c.put_name.new.into.items
-            (c.in_ok-extend_from_slice.ensures.items ∙ ap (λ (b : ℕ). c.args.into.now.items ++ (compact_mark ∷ b ∷ [])) typed)
-            (appended c.extend_from_slice.new.self.items (compact_id c.args.id) c.put_id.new.into.items (compact_name c.args.name.now) c.put_name.new.into.items id e))
-        c.put_name.ensures.ok
+    (λ e. appended c.args.into.now.items front c.extend_from_slice.new.self.items (compact_id c.args.id ++ compact_name c.args.name.now) c.put_name.new.into.items
+    (c.in_ok-extend_from_slice.ensures.items ∙ ap (λ (b : ℕ). c.args.into.now.items ++ (compact_mark ∷ b ∷ [])) typed)
+    (appended c.extend_from_slice.new.self.items (compact_id c.args.id) c.put_id.new.into.items (compact_name c.args.name.now) c.put_name.new.into.items id e))
+    c.put_name.ensures.ok
 
 pub returns-clause-err : goal.returns-clause-err
 returns-clause-err c =
     on_err_weaker c.put_name.result
-        (λ e. still_first _ _ c.args.into.now.items _ c.put_id.new.into.items c.put_name.new.into.items (omega arith) (omega arith)
-            (appended c.args.into.now.items _ c.extend_from_slice.new.self.items (compact_id _) c.put_id.new.into.items
-                c.in_ok-extend_from_slice.ensures.items c.in_ok-put_id.ensures.ok) e)
-        c.put_name.ensures.err
+    (λ e. still_first _ _ c.args.into.now.items _ c.put_id.new.into.items c.put_name.new.into.items (omega arith) (omega arith)
+    (appended c.args.into.now.items _ c.extend_from_slice.new.self.items (compact_id _) c.put_id.new.into.items
+    c.in_ok-extend_from_slice.ensures.items c.in_ok-put_id.ensures.ok) e)
+    c.put_name.ensures.err

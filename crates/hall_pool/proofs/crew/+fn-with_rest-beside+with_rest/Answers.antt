@@ -1,7 +1,7 @@
-use Rattle.std.proofs.Common.{◌≡◌, All, sym, subst, ap, ◌∙◌, arith}
+use Rattle.std.proofs.Common.{All, sym, subst, ap, ◌∙◌, arith}
 use Rattle.std.proofs.lemmas.List.Elements.{All-push}
 use Rattle.hall_pool.specs.Jobs.{HallSeat}
-use Rattle.hall_pool.specs.Crew.{MayServe, HasServed, HasServedAs}
+use Rattle.hall_pool.specs.Crew.{MayServe, HasServed}
 use Rattle.hall_pool.proofs.Crews.{of_last, same_numbers}
 use Rattle.hall_pool.proofs.crew.+fn-with_rest-beside+with_rest.Goals as goal
 
@@ -32,10 +32,10 @@ pub returns-clause-seats : goal.returns-clause-seats
 returns-clause-seats g t c =
     let P : HallSeat → Type 0 = HasServed (g.D.Desk.meaning c.args.place.now.desk.now) c.args.place.now.booth.now in
     subst (All P) (sym c.push_reserved.ensures.items)
-        (All-push P c.beside-led.result.0.1.items c.into_seat.result c.beside-led.ensures.rest.2.1.0 (subst P (sym c.into_seat.ensures) c.beside-led.ensures.served.served))
+    (All-push P c.beside-led.result.0.1.items c.into_seat.result c.beside-led.ensures.rest.2.1.0 (subst P (sym c.into_seat.ensures) c.beside-led.ensures.served.served))
 
 pub returns-clause-numbers : goal.returns-clause-numbers
 returns-clause-numbers g t c =
     same_numbers c.pop.new.self.items c.beside-led.result.0.1.items c.args.seats.items c.push_reserved.new.self.items c.in-Some.seat c.into_seat.result
-        c.in-Some.ensures.items c.beside-led.ensures.rest.2.1.1.0
-        (ap (λ (seat : HallSeat). seat.number) c.into_seat.ensures ∙ c.beside-led.ensures.served.number ∙ ap (λ (seat : HallSeat). seat.number) c.new-worker.ensures) c.push_reserved.ensures.items
+    c.in-Some.ensures.items c.beside-led.ensures.rest.2.1.1.0
+    (ap (λ (seat : HallSeat). seat.number) c.into_seat.ensures ∙ c.beside-led.ensures.served.number ∙ ap (λ (seat : HallSeat). seat.number) c.new-worker.ensures) c.push_reserved.ensures.items
