@@ -12,6 +12,7 @@ pub mod MeaningsOfKinds
 pub mod FieldValues
 pub mod Bounds
 pub mod Deciding
+pub mod Tried
 pub mod Writing
 pub mod Each
 pub mod Rightness

@@ -1,8 +1,15 @@
 -- Which values are of a type, where the parts of the type are known or known to be none.
-use Rattle.std.proofs.Common.{◌≡◌, ℕ, Bool, false, List, Option, Some, None, refl}
+use Rattle.std.proofs.Common.{◌≡◌, ℕ, Bool, false, List, Option, Some, None, refl, sym, ap, ◌∙◌}
 use Rattle.std.specs.List.{slice_get}
 use Rattle.thrift_value.specs.declared.tag.Tag.{Tag}
 use Rattle.thrift_value.specs.Tags.{tag_of}
+use Rattle.thrift_value.specs.declared.value.Value as value
+use Rattle.thrift_value.specs.declared.value.Value.{Value}
+use Rattle.thrift_value.specs.declared.value.Fields.{Fields}
+use Rattle.thrift_value.specs.declared.value.Items.{Items}
+use Rattle.thrift_value.specs.declared.value.Pairs.{Pairs}
+use Rattle.thrift_value.specs.TreeOf.{tree_of, fields_tree, items_tree, pairs_tree}
+use Rattle.thrift_value.proofs.Trees.{tree_of-is_Struct, tree_of-is_Map, tree_of-is_Set, tree_of-is_List}
 use Rattle.thrift_value.specs.Tree.{Tree, of_struct, of_map, of_set, of_list, FieldTrees, ItemTrees, PairTrees}
 use Rattle.schema.specs.PlainKind.{PlainKind, kind_bool, kind_i8, kind_i16, kind_i32, kind_i64, kind_double, kind_text, kind_binary, kind_uuid, kind_enum, kind_struct, kind_map, kind_set, kind_list}
 use Rattle.schema.specs.PlainSchema.{PlainStruct}
@@ -60,3 +67,25 @@ written_scalar structs (kind_set _) _ h = refl
 written_scalar structs (kind_list _) _ h = refl
 
 pub ruleset written_equations = (written_struct, written_map, written_set, written_list, written_scalar)
+
+-- values in memory, by the parts of their types
+module _ (structs : List PlainStruct) (kind : PlainKind) (v : Value) (r : Bool) where
+  pub struct_by_part : (fields : Fields) (part : Option ℕ) → v ≡ value.Struct fields → part ≡ struct_of_kind kind → r ≡ struct_written structs (fields_tree fields) part
+      → r ≡ is_written_as structs kind (tree_of v)
+  struct_by_part fields part is known here =
+      here ∙ sym (ap (is_written_as structs kind) (tree_of-is_Struct v fields is) ∙ written_struct structs kind (fields_tree fields) ∙ ap (struct_written structs (fields_tree fields)) (sym known))
+
+  pub map_by_parts : (k t : Tag) (pairs : Pairs) (parts : Option (PlainKind × PlainKind)) → v ≡ value.Map k t pairs → parts ≡ map_of_kind kind → r ≡ map_written structs (pairs_tree pairs) parts
+      → r ≡ is_written_as structs kind (tree_of v)
+  map_by_parts k t pairs parts is known here =
+      here ∙ sym (ap (is_written_as structs kind) (tree_of-is_Map v k t pairs is) ∙ written_map structs kind k t (pairs_tree pairs) ∙ ap (map_written structs (pairs_tree pairs)) (sym known))
+
+  pub set_by_part : (t : Tag) (items : Items) (part : Option PlainKind) → v ≡ value.Set t items → part ≡ set_of_kind kind → r ≡ items_written structs (items_tree items) part
+      → r ≡ is_written_as structs kind (tree_of v)
+  set_by_part t items part is known here =
+      here ∙ sym (ap (is_written_as structs kind) (tree_of-is_Set v t items is) ∙ written_set structs kind t (items_tree items) ∙ ap (items_written structs (items_tree items)) (sym known))
+
+  pub list_by_part : (t : Tag) (items : Items) (part : Option PlainKind) → v ≡ value.List t items → part ≡ list_of_kind kind → r ≡ items_written structs (items_tree items) part
+      → r ≡ is_written_as structs kind (tree_of v)
+  list_by_part t items part is known here =
+      here ∙ sym (ap (is_written_as structs kind) (tree_of-is_List v t items is) ∙ written_list structs kind t (items_tree items) ∙ ap (items_written structs (items_tree items)) (sym known))
