@@ -5,11 +5,12 @@ use Rattle.std.specs.List.{slice_get}
 use Rattle.thrift_value.specs.declared.tag.Tag.{Tag}
 use Rattle.thrift_value.specs.declared.value.Value as value
 use Rattle.thrift_value.specs.declared.value.Value.{Value}
+use Rattle.thrift_value.specs.declared.value.Fields.{Fields}
 use Rattle.thrift_value.specs.declared.value.Items.{Items}
 use Rattle.thrift_value.specs.declared.value.Pairs.{Pairs}
 use Rattle.thrift_value.specs.Tree.{Tree, of_struct, of_map, of_set, of_list, FieldTrees, ItemTrees, PairTrees}
-use Rattle.thrift_value.specs.TreeOf.{tree_of, items_tree, pairs_tree}
-use Rattle.thrift_value.proofs.Trees.{tree_of-is_Map, tree_of-is_Set, tree_of-is_List}
+use Rattle.thrift_value.specs.TreeOf.{tree_of, fields_tree, items_tree, pairs_tree}
+use Rattle.thrift_value.proofs.Trees.{tree_of-is_Struct, tree_of-is_Map, tree_of-is_Set, tree_of-is_List}
 use Rattle.schema.specs.PlainKind.{PlainKind, kind_bool, kind_i8, kind_i16, kind_i32, kind_i64, kind_double, kind_text, kind_binary, kind_uuid, kind_enum, kind_struct, kind_map, kind_set, kind_list}
 use Rattle.schema.specs.PlainSchema.{PlainStruct}
 use Rattle.known_parts.specs.Parts.{tag_of_kind, are_same_tags, struct_of_kind, map_of_kind, set_of_kind, list_of_kind}
@@ -67,22 +68,24 @@ filled_scalar structs (kind_list _) _ h = refl
 
 pub ruleset filled_equations = (filled_struct, filled_map, filled_set, filled_list, filled_scalar)
 
--- containers in memory that name the tags of their declared types, by their elements
-pub map_by_pairs : (structs : List PlainStruct) (kind : PlainKind) (p : PlainKind × PlainKind) (v : Value) (k t : Tag) (pairs : Pairs) (r : Bool) → v ≡ value.Map k t pairs
-    → map_of_kind kind ≡ Some p → true ≡ (are_same_tags k (tag_of_kind p.0) && are_same_tags t (tag_of_kind p.1)) → r ≡ are_pairs_filled structs p.0 p.1 (pairs_tree pairs)
-    → r ≡ is_filled structs kind (tree_of v)
-map_by_pairs structs kind p v k t pairs r is parts tagged here =
-    here ∙ sym (ap (is_filled structs kind) (tree_of-is_Map v k t pairs is) ∙ filled_map structs kind k t (pairs_tree pairs) ∙ ap (map_filled structs k t (pairs_tree pairs)) parts
-    ∙ ap (λ b. b && are_pairs_filled structs p.0 p.1 (pairs_tree pairs)) (sym tagged))
+-- values in memory, by the parts of their types
+module _ (structs : List PlainStruct) (kind : PlainKind) (v : Value) (r : Bool) where
+  pub struct_by_part : (fields : Fields) (part : Option ℕ) → v ≡ value.Struct fields → part ≡ struct_of_kind kind → r ≡ struct_filled structs (fields_tree fields) part
+      → r ≡ is_filled structs kind (tree_of v)
+  struct_by_part fields part is known here =
+      here ∙ sym (ap (is_filled structs kind) (tree_of-is_Struct v fields is) ∙ filled_struct structs kind (fields_tree fields) ∙ ap (struct_filled structs (fields_tree fields)) (sym known))
 
-pub set_by_items : (structs : List PlainStruct) (kind member : PlainKind) (v : Value) (t : Tag) (items : Items) (r : Bool) → v ≡ value.Set t items
-    → set_of_kind kind ≡ Some member → true ≡ are_same_tags t (tag_of_kind member) → r ≡ are_items_filled structs member (items_tree items) → r ≡ is_filled structs kind (tree_of v)
-set_by_items structs kind member v t items r is part tagged here =
-    here ∙ sym (ap (is_filled structs kind) (tree_of-is_Set v t items is) ∙ filled_set structs kind t (items_tree items) ∙ ap (items_filled structs t (items_tree items)) part
-    ∙ ap (λ b. b && are_items_filled structs member (items_tree items)) (sym tagged))
+  pub map_by_parts : (k t : Tag) (pairs : Pairs) (parts : Option (PlainKind × PlainKind)) → v ≡ value.Map k t pairs → parts ≡ map_of_kind kind → r ≡ map_filled structs k t (pairs_tree pairs) parts
+      → r ≡ is_filled structs kind (tree_of v)
+  map_by_parts k t pairs parts is known here =
+      here ∙ sym (ap (is_filled structs kind) (tree_of-is_Map v k t pairs is) ∙ filled_map structs kind k t (pairs_tree pairs) ∙ ap (map_filled structs k t (pairs_tree pairs)) (sym known))
 
-pub list_by_items : (structs : List PlainStruct) (kind element : PlainKind) (v : Value) (t : Tag) (items : Items) (r : Bool) → v ≡ value.List t items
-    → list_of_kind kind ≡ Some element → true ≡ are_same_tags t (tag_of_kind element) → r ≡ are_items_filled structs element (items_tree items) → r ≡ is_filled structs kind (tree_of v)
-list_by_items structs kind element v t items r is part tagged here =
-    here ∙ sym (ap (is_filled structs kind) (tree_of-is_List v t items is) ∙ filled_list structs kind t (items_tree items) ∙ ap (items_filled structs t (items_tree items)) part
-    ∙ ap (λ b. b && are_items_filled structs element (items_tree items)) (sym tagged))
+  pub set_by_part : (t : Tag) (items : Items) (part : Option PlainKind) → v ≡ value.Set t items → part ≡ set_of_kind kind → r ≡ items_filled structs t (items_tree items) part
+      → r ≡ is_filled structs kind (tree_of v)
+  set_by_part t items part is known here =
+      here ∙ sym (ap (is_filled structs kind) (tree_of-is_Set v t items is) ∙ filled_set structs kind t (items_tree items) ∙ ap (items_filled structs t (items_tree items)) (sym known))
+
+  pub list_by_part : (t : Tag) (items : Items) (part : Option PlainKind) → v ≡ value.List t items → part ≡ list_of_kind kind → r ≡ items_filled structs t (items_tree items) part
+      → r ≡ is_filled structs kind (tree_of v)
+  list_by_part t items part is known here =
+      here ∙ sym (ap (is_filled structs kind) (tree_of-is_List v t items is) ∙ filled_list structs kind t (items_tree items) ∙ ap (items_filled structs t (items_tree items)) (sym known))
