@@ -1,8 +1,9 @@
 -- Declared fields by their places, as those that have to be there.
-use Rattle.std.proofs.Common.{◌≡◌, ℕ, zero, suc, ◌+◌, Bool, true, false, cond, List, [], ◌∷◌, Option, Some, None, refl, sym, ap, ap₂, ◌∙◌, arith}
+use Rattle.std.proofs.Common.{◌≡◌, ℕ, zero, suc, ◌+◌, ◌<◌, ◌≤◌, Bool, true, false, cond, List, [], ◌∷◌, ◌++◌, length, drop, get_or, Option, Some, None, refl, sym, ap, ap₂, ◌∙◌, append_assoc, append-nil, arith}
 use Rattle.std.specs.Prelude.{⊤, map, not, ◌&&◌, ◌||◌, MatchOption, unwrap_or}
 use Rattle.std.specs.List.{slice_get}
 use Rattle.std.specs.Option.{option_map}
+use Rattle.std.proofs.lemmas.List.{at_drop_all}
 use Rattle.thrift_value.specs.Tree.{FieldTrees}
 use Rattle.schema.specs.declared.types.FieldDesc.{FieldDesc}
 use Rattle.schema.specs.declared.types.StructDesc.{StructDesc}
@@ -11,6 +12,7 @@ use Rattle.schema.specs.PlainSchema.{PlainField, PlainStruct, PlainSchema}
 use Rattle.schema.specs.SchemaOf.{plain_field, plain_struct}
 use Rattle.struct_skew.specs.Needs.{places_from, is_required_field}
 use Rattle.struct_skew.specs.WrittenTests.{some_passes, has_field_tree, has_field_at, has_fields_at, has_fields_where, has_required_fields, has_its_fields, is_struct_written, are_fields_written_as}
+use Rattle.struct_skew.proofs.Steps.{in_front}
 use Rattle.struct_skew.proofs.StructsAt.{slice_get-map}
 
 -- of a list's end, which begins at a place of the whole
@@ -62,3 +64,24 @@ pub struct_by_fields : (s : PlainSchema) (which : ℕ) (d : PlainStruct) (fields
 struct_by_fields s which d fields r here has is =
     is ∙ ap (λ o. are_fields_written_as s.structs (unwrap_or (option_map (λ (x : PlainStruct). x.fields) o) []) fields) here
     ∙ sym (ap (λ x. is_struct_written s.structs x fields) here ∙ ap (λ b. b && are_fields_written_as s.structs d.fields fields) (sym has))
+
+-- a walk that keeps the places of the items that pass a test
+module _ {A B : Type 0} (seen : A → B) (test : B → Bool) (xs : List A) (old : List ℕ) (i : ℕ) where
+  module _ (x : A) (low : i < length xs) (here : x ≡ get_or xs i x) (kept : old ++ places_from test i (map seen (drop i xs)) ≡ places_from test 0 (map seen xs)) where
+    abbrev later : List ℕ
+    later = places_from test (i + 1) (map seen (drop (i + 1) xs))
+
+    tried : (old ++ cond (test (seen x)) (i ∷ later) later) ≡ places_from test 0 (map seen xs)
+    tried = ap (λ ys. old ++ places_from test i (map seen ys)) (sym (in_front xs i x low here)) ∙ kept
+
+    -- the item passes, and its place is kept
+    pub place_kept : (new : List ℕ) → true ≡ test (seen x) → new ≡ old ++ i ∷ [] → new ++ later ≡ places_from test 0 (map seen xs)
+    place_kept new passes put = ap (λ ps. ps ++ later) put ∙ append_assoc old (i ∷ []) later ∙ ap (λ b. old ++ cond b (i ∷ later) later) passes ∙ tried
+
+    -- the item fails
+    pub place_passed_over : (new : List ℕ) → false ≡ test (seen x) → new ≡ old → new ++ later ≡ places_from test 0 (map seen xs)
+    place_passed_over new fails same = ap (λ ps. ps ++ later) same ∙ ap (λ b. old ++ cond b (i ∷ later) later) fails ∙ tried
+
+  -- at the end all are kept
+  pub places_kept : length xs ≤ i → old ++ places_from test i (map seen (drop i xs)) ≡ places_from test 0 (map seen xs) → old ≡ places_from test 0 (map seen xs)
+  places_kept end kept = sym (append-nil old) ∙ ap (λ ps. old ++ ps) (sym (at_drop_all (λ ys. places_from test i (map seen ys)) xs i end)) ∙ kept
