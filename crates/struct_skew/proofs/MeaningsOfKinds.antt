@@ -1,9 +1,16 @@
 -- What raw values mean, by the parts of a type.
-use Rattle.std.proofs.Common.{◌≡◌, ℕ, List, Option, Some, None, Result, Ok, refl}
+use Rattle.std.proofs.Common.{◌≡◌, ℕ, List, Option, Some, None, Result, Ok, refl, sym, ap, subst, ◌∙◌}
 use Rattle.std.specs.Prelude.{⊤}
 use Rattle.std.specs.List.{slice_get}
 use Rattle.thrift_value.specs.declared.tag.Tag.{Tag}
+use Rattle.thrift_value.specs.declared.value.Value as value
+use Rattle.thrift_value.specs.declared.value.Value.{Value}
+use Rattle.thrift_value.specs.declared.value.Fields.{Fields}
+use Rattle.thrift_value.specs.declared.value.Items.{Items}
+use Rattle.thrift_value.specs.declared.value.Pairs.{Pairs}
+use Rattle.thrift_value.specs.TreeOf.{tree_of, fields_tree, items_tree, pairs_tree}
 use Rattle.thrift_value.specs.Tree.{Tree, of_struct, of_map, of_set, of_list, FieldTrees, ItemTrees, PairTrees}
+use Rattle.thrift_value.proofs.Trees.{tree_of-Struct, tree_of-Map, tree_of-Set, tree_of-List}
 use Rattle.schema.specs.PlainKind.{PlainKind, kind_struct, kind_map, kind_set, kind_list}
 use Rattle.schema.specs.PlainSchema.{PlainStruct}
 use Rattle.struct_skew.specs.declared.fault.SkewFault.{SkewFault}
@@ -60,3 +67,21 @@ meaning_of_scalar structs (of_list _ _) kind h = absurd h
 meaning_of_scalar structs _ kind h = refl
 
 pub ruleset meaning_equations = (meaning_of_struct, meaning_of_map, meaning_of_set, meaning_of_list, meaning_of_scalar)
+
+-- values in memory that are handed on
+module _ (structs : List PlainStruct) (kind : PlainKind) where
+  pub struct_kept : (fields : Fields) → None ≡ struct_of_kind kind → meaning_of structs (of_struct (fields_tree fields)) kind ≡ Ok (tree_of (value.Struct fields))
+  struct_kept fields none = meaning_of_struct structs kind (fields_tree fields) ∙ ap (struct_meant structs (fields_tree fields)) (sym none) ∙ ap Ok (sym (tree_of-Struct fields))
+
+  pub map_kept : (k v : Tag) (pairs : Pairs) → None ≡ map_of_kind kind → meaning_of structs (of_map k v (pairs_tree pairs)) kind ≡ Ok (tree_of (value.Map k v pairs))
+  map_kept k v pairs none = meaning_of_map structs kind k v (pairs_tree pairs) ∙ ap (map_meant_by structs k v (pairs_tree pairs)) (sym none) ∙ ap Ok (sym (tree_of-Map k v pairs))
+
+  pub set_kept : (t : Tag) (items : Items) → None ≡ set_of_kind kind → meaning_of structs (of_set t (items_tree items)) kind ≡ Ok (tree_of (value.Set t items))
+  set_kept t items none = meaning_of_set structs kind t (items_tree items) ∙ ap (set_meant_by structs t (items_tree items)) (sym none) ∙ ap Ok (sym (tree_of-Set t items))
+
+  pub list_kept : (t : Tag) (items : Items) → None ≡ list_of_kind kind → meaning_of structs (of_list t (items_tree items)) kind ≡ Ok (tree_of (value.List t items))
+  list_kept t items none = meaning_of_list structs kind t (items_tree items) ∙ ap (list_meant_by structs t (items_tree items)) (sym none) ∙ ap Ok (sym (tree_of-List t items))
+
+  pub scalar_kept : (raw out : Value) (x : Tree) → raw ≡ out → tree_of out ≡ x → IsScalar x → meaning_of structs (tree_of raw) kind ≡ Ok (tree_of out)
+  scalar_kept raw out x same is scalar =
+      ap (λ v. meaning_of structs (tree_of v) kind) same ∙ subst (λ y. meaning_of structs y kind ≡ Ok y) (sym is) (meaning_of_scalar structs x kind scalar)

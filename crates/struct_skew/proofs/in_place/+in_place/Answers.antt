@@ -1,11 +1,16 @@
-use Rattle.std.proofs.Common.{◌≡◌, ◌≤◌, Some, None, ◌+◌, get_or, refl, sym, ap, subst, ◌∙◌, map, drop, arith}
+use Rattle.std.proofs.Common.{◌≡◌, ◌≤◌, Some, None, ◌+◌, get_or, refl, sym, ap, subst, ◌∙◌, map, drop, arith, rules}
+use Rattle.std.specs.Int.{w8, w16, w32, w64}
+use Rattle.std.proofs.lemmas.Int.{to_z-of_z}
 use Rattle.std.proofs.lemmas.Result.{err_from_is_err_and}
 use Rattle.std.proofs.Math.Nat.{le_trans, le-max_left, le-max_right}
 use Rattle.std.specs.Prelude.{max}
 use Rattle.std.specs.List.{slice_get}
 use Rattle.std.specs.Option.{option_map}
+use Rattle.thrift_value.specs.declared.value.Value as value
+use Rattle.thrift_value.specs.Tree.{of_bool, of_i8, of_i16, of_i32, of_i64, of_double, of_uuid, of_bytes}
 use Rattle.thrift_value.specs.Measures.{depth_of, items_depth, pairs_depth}
-use Rattle.thrift_value.specs.TreeOf.{tree_of, field_tree, item_trees, pair_tree, pair_trees}
+use Rattle.thrift_value.specs.TreeOf.{tree_of, field_tree, field_trees, fields_tree, item_trees, items_tree, pair_tree, pair_trees, pairs_tree}
+use Rattle.thrift_value.proofs.Trees.{tree_of-Bool, tree_of-I8, tree_of-I16, tree_of-I32, tree_of-I64, tree_of-Double, tree_of-Uuid, tree_of-Bytes, tree_of-is_Struct, tree_of-is_Map, tree_of-is_Set, tree_of-is_List}
 use Rattle.schema.specs.PlainKind.{kind_of}
 use Rattle.schema.specs.SchemaOf.{schema_of, plain_field, plain_struct}
 use Rattle.struct_skew.specs.Answering.{ProjectsOrNoMemory, SkewsOrNoMemory}
@@ -14,11 +19,12 @@ use Rattle.struct_skew.specs.Needs.{PlainNeeds}
 use Rattle.struct_skew.specs.Orders.{pair_meaning}
 use Rattle.struct_skew.specs.Plan.{IsPlanFor, planned_fields}
 use Rattle.struct_skew.specs.Projection.{meaning_of, item_meanings, pair_meanings}
-use Rattle.struct_skew.specs.TakenOut.{field_if_sent}
+use Rattle.struct_skew.specs.TakenOut.{field_if_sent, value_if_sent}
 use Rattle.struct_skew.proofs.FieldValues.{struct_by_plan}
-use Rattle.struct_skew.proofs.InPlace.{front_of, one_within, settled_more, settled_fault}
+use Rattle.struct_skew.proofs.InPlace.{front_of, one_within, settled_none, settled_all, settled_more, settled_fault}
+use Rattle.struct_skew.proofs.MeaningsOfKinds.{struct_meant, map_meant_by, set_meant_by, list_meant_by, meaning_of_struct, meaning_of_map, meaning_of_set, meaning_of_list, struct_kept, map_kept, set_kept, list_kept, scalar_kept}
 use Rattle.struct_skew.proofs.PlanSteps.{raw_offers}
-use Rattle.struct_skew.proofs.Steps.{get_or_same}
+use Rattle.struct_skew.proofs.Steps.{all_gathered, get_or_same}
 use Rattle.struct_skew.proofs.StructsAt.{slice_get-map}
 use Rattle.struct_skew.proofs.TakingOut.{left_deep, named_deep, planned_fault, planned_more, rest_apart}
 use Rattle.struct_skew.proofs.in_place.+in_place.Goals as goal
@@ -178,3 +184,136 @@ settle_struct-returns t c =
     subst (ProjectsOrNoMemory tree_of c.checked_struct.result)
     (sym (struct_by_plan structs c.args.which s offers c.as_slice-5.result.now c.in-Some.ensures.here here))
     (c.checked_struct.ensures _ c.settle_planned-found.ensures)
+
+pub settle_value-returns-in-Struct : goal.settle_value-returns-in-Struct
+settle_value-returns-in-Struct t c =
+    let structs = (schema_of c.args.schema.now).structs in
+    let kind = kind_of c.args.kind.now in
+    subst (λ x. ProjectsOrNoMemory tree_of c.settle_fields.result (meaning_of structs x kind)) (sym (tree_of-is_Struct c.args.raw c.in-Struct.fields c.in-Struct.is)) c.settle_fields.ensures
+
+pub settle_value-returns-in-Map : goal.settle_value-returns-in-Map
+settle_value-returns-in-Map t c =
+    let structs = (schema_of c.args.schema.now).structs in
+    let kind = kind_of c.args.kind.now in
+    subst (λ x. ProjectsOrNoMemory tree_of c.settle_map.result (meaning_of structs x kind)) (sym (tree_of-is_Map c.args.raw c.in-Map.k c.in-Map.v c.in-Map.pairs c.in-Map.is)) c.settle_map.ensures
+
+pub settle_value-returns-in-Set : goal.settle_value-returns-in-Set
+settle_value-returns-in-Set t c =
+    let structs = (schema_of c.args.schema.now).structs in
+    let kind = kind_of c.args.kind.now in
+    subst (λ x. ProjectsOrNoMemory tree_of c.settle_set.result (meaning_of structs x kind)) (sym (tree_of-is_Set c.args.raw c.in-Set.tag c.in-Set.items c.in-Set.is)) c.settle_set.ensures
+
+pub settle_value-returns-in-List : goal.settle_value-returns-in-List
+settle_value-returns-in-List t c =
+    let structs = (schema_of c.args.schema.now).structs in
+    let kind = kind_of c.args.kind.now in
+    subst (λ x. ProjectsOrNoMemory tree_of c.settle_list.result (meaning_of structs x kind)) (sym (tree_of-is_List c.args.raw c.in-List.tag c.in-List.items c.in-List.is)) c.settle_list.ensures
+
+pub settle_value-returns-in-Bool : goal.settle_value-returns-in-Bool
+settle_value-returns-in-Bool t c = scalar_kept (schema_of c.args.schema.now).structs (kind_of c.args.kind.now) c.args.raw _ (of_bool _) c.in-Bool.is (tree_of-Bool _) tt
+
+pub settle_value-returns-in-I8 : goal.settle_value-returns-in-I8
+settle_value-returns-in-I8 t c = scalar_kept (schema_of c.args.schema.now).structs (kind_of c.args.kind.now) c.args.raw _ (of_i8 _) (c.in-I8.is ∙ ap (λ n. value.I8 n) (sym (to_z-of_z w8 c.in-I8.number (search rules)))) (tree_of-I8 _) tt
+
+pub settle_value-returns-in-I16 : goal.settle_value-returns-in-I16
+settle_value-returns-in-I16 t c = scalar_kept (schema_of c.args.schema.now).structs (kind_of c.args.kind.now) c.args.raw _ (of_i16 _) (c.in-I16.is ∙ ap (λ n. value.I16 n) (sym (to_z-of_z w16 c.in-I16.number (search rules)))) (tree_of-I16 _) tt
+
+pub settle_value-returns-in-I32 : goal.settle_value-returns-in-I32
+settle_value-returns-in-I32 t c = scalar_kept (schema_of c.args.schema.now).structs (kind_of c.args.kind.now) c.args.raw _ (of_i32 _) (c.in-I32.is ∙ ap (λ n. value.I32 n) (sym (to_z-of_z w32 c.in-I32.number (search rules)))) (tree_of-I32 _) tt
+
+pub settle_value-returns-in-I64 : goal.settle_value-returns-in-I64
+settle_value-returns-in-I64 t c = scalar_kept (schema_of c.args.schema.now).structs (kind_of c.args.kind.now) c.args.raw _ (of_i64 _) (c.in-I64.is ∙ ap (λ n. value.I64 n) (sym (to_z-of_z w64 c.in-I64.number (search rules)))) (tree_of-I64 _) tt
+
+pub settle_value-returns-in-Double : goal.settle_value-returns-in-Double
+settle_value-returns-in-Double t c = scalar_kept (schema_of c.args.schema.now).structs (kind_of c.args.kind.now) c.args.raw _ (of_double _) c.in-Double.is (tree_of-Double _) tt
+
+pub settle_value-returns-in-Uuid : goal.settle_value-returns-in-Uuid
+settle_value-returns-in-Uuid t c = scalar_kept (schema_of c.args.schema.now).structs (kind_of c.args.kind.now) c.args.raw _ (of_uuid _) c.in-Uuid.is (tree_of-Uuid _) tt
+
+pub settle_value-returns-in-Bytes : goal.settle_value-returns-in-Bytes
+settle_value-returns-in-Bytes t c = scalar_kept (schema_of c.args.schema.now).structs (kind_of c.args.kind.now) c.args.raw _ (of_bytes _) c.in-Bytes.is (tree_of-Bytes _) tt
+
+pub settle_list-returns-in-Some : goal.settle_list-returns-in-Some
+settle_list-returns-in-Some t c =
+    let structs = (schema_of c.args.schema.now).structs in
+    let kind = kind_of c.args.kind.now in
+    subst (ProjectsOrNoMemory tree_of c.list_of.result)
+    (ap (λ xs. list_meant_by structs c.args.tag (item_trees (map tree_of xs)) (Some (kind_of c.in-Some.element.now))) c.into_vec.ensures
+    ∙ ap (list_meant_by structs c.args.tag (items_tree c.args.items)) c.in-Some.ensures ∙ sym (meaning_of_list structs kind c.args.tag (items_tree c.args.items)))
+    (c.list_of.ensures _ c.settle_items-found.ensures)
+
+pub settle_list-returns-in-None : goal.settle_list-returns-in-None
+settle_list-returns-in-None t c = list_kept (schema_of c.args.schema.now).structs (kind_of c.args.kind.now) c.args.tag c.args.items c.in-None.ensures
+
+pub settle_set-returns-in-Some : goal.settle_set-returns-in-Some
+settle_set-returns-in-Some t c =
+    let structs = (schema_of c.args.schema.now).structs in
+    let kind = kind_of c.args.kind.now in
+    subst (ProjectsOrNoMemory tree_of c.set_of.result)
+    (ap (λ xs. set_meant_by structs c.args.tag (item_trees (map tree_of xs)) (Some (kind_of c.in-Some.member.now))) c.into_vec.ensures
+    ∙ ap (set_meant_by structs c.args.tag (items_tree c.args.items)) c.in-Some.ensures ∙ sym (meaning_of_set structs kind c.args.tag (items_tree c.args.items)))
+    (c.set_of.ensures _ c.settle_items-found.ensures)
+
+pub settle_set-returns-in-None : goal.settle_set-returns-in-None
+settle_set-returns-in-None t c = set_kept (schema_of c.args.schema.now).structs (kind_of c.args.kind.now) c.args.tag c.args.items c.in-None.ensures
+
+pub settle_map-returns-in-Some : goal.settle_map-returns-in-Some
+settle_map-returns-in-Some t c =
+    let structs = (schema_of c.args.schema.now).structs in
+    let kind = kind_of c.args.kind.now in
+    subst (ProjectsOrNoMemory tree_of c.map_of.result)
+    (ap (λ xs. map_meant_by structs c.args.key_tag c.args.value_tag (pair_trees (map pair_tree xs)) (Some (kind_of c.in-Some.key.now, kind_of c.in-Some.value.now))) c.into_vec.ensures
+    ∙ ap (map_meant_by structs c.args.key_tag c.args.value_tag (pairs_tree c.args.pairs)) c.in-Some.ensures ∙ sym (meaning_of_map structs kind c.args.key_tag c.args.value_tag (pairs_tree c.args.pairs)))
+    (c.map_of.ensures _ c.settle_pairs-found.ensures)
+
+pub settle_map-returns-in-None : goal.settle_map-returns-in-None
+settle_map-returns-in-None t c = map_kept (schema_of c.args.schema.now).structs (kind_of c.args.kind.now) c.args.key_tag c.args.value_tag c.args.pairs c.in-None.ensures
+
+pub settle_fields-returns-in-Some : goal.settle_fields-returns-in-Some
+settle_fields-returns-in-Some t c =
+    let structs = (schema_of c.args.schema.now).structs in
+    let kind = kind_of c.args.kind.now in
+    subst (ProjectsOrNoMemory tree_of c.settle_struct.result)
+    (ap (λ xs. struct_meant structs (field_trees (map field_tree xs)) (Some c.in-Some.which)) c.into_vec.ensures
+    ∙ ap (struct_meant structs (fields_tree c.args.fields)) c.in-Some.ensures ∙ sym (meaning_of_struct structs kind (fields_tree c.args.fields)))
+    c.settle_struct.ensures
+
+pub settle_fields-returns-in-None : goal.settle_fields-returns-in-None
+settle_fields-returns-in-None t c = struct_kept (schema_of c.args.schema.now).structs (kind_of c.args.kind.now) c.args.fields c.in-None.ensures
+
+pub settle_sent-returns-in-Some : goal.settle_sent-returns-in-Some
+settle_sent-returns-in-Some t c =
+    let structs = (schema_of c.args.schema.now).structs in
+    subst (λ s. ProjectsOrNoMemory (option_map tree_of) c.some_of.result (value_if_sent structs c.args.which c.args.kind (plain_field c.args.field.now) (option_map tree_of s)))
+    (sym c.in-Some.is) (c.some_of.ensures _ c.settle_value.ensures)
+
+pub settle_sent-returns-in-None : goal.settle_sent-returns-in-None
+settle_sent-returns-in-None t c =
+    let structs = (schema_of c.args.schema.now).structs in
+    subst (λ s. ProjectsOrNoMemory (option_map tree_of) c.unsent_value.result (value_if_sent structs c.args.which c.args.kind (plain_field c.args.field.now) (option_map tree_of s)))
+    (sym c.in-None.is) c.unsent_value.ensures
+
+pub settle_items-loop-place-init : goal.settle_items-loop-place-init
+settle_items-loop-place-init t c = settled_none _ _ _
+
+pub settle_items-returns : goal.settle_items-returns
+settle_items-returns t c =
+    let structs = (schema_of c.args.schema.now).structs in
+    settled_all tree_of (λ xs. item_meanings structs (item_trees (map tree_of xs)) (kind_of c.args.kind.now)) c.args.items.items c.loop-place.items.items c.loop-place.place
+    refl (omega (arith, c.loop-place.invariant.size)) c.loop-place.invariant
+
+pub settle_pairs-loop-place-init : goal.settle_pairs-loop-place-init
+settle_pairs-loop-place-init t c = settled_none _ _ _
+
+pub settle_pairs-returns : goal.settle_pairs-returns
+settle_pairs-returns t c =
+    let structs = (schema_of c.args.schema.now).structs in
+    settled_all pair_tree (λ ps. pair_meanings structs (pair_trees (map pair_tree ps)) (kind_of c.args.key_kind.now) (kind_of c.args.value_kind.now)) c.args.pairs.items c.loop-place.pairs.items c.loop-place.place
+    refl (omega (arith, c.loop-place.invariant.size)) c.loop-place.invariant
+
+pub settle_planned-returns : goal.settle_planned-returns
+settle_planned-returns t c =
+    let structs = (schema_of c.args.schema.now).structs in
+    let found = planned_fields c.args.which c.args.desc.now.kind (plain_struct c.args.desc.now).fields in
+    all_gathered field_tree (found (raw_offers structs c.args.sent.items) c.args.plan.now) (found (raw_offers structs c.loop-choice.sent.items)) c.args.plan.now c.loop-choice.choice-index
+    c.loop-choice.found.items refl c.loop-choice-test.false c.loop-choice.invariant.kept
