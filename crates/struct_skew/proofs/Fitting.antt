@@ -1,8 +1,14 @@
 -- What types ask of raw values, where the parts of a type are known or known to be none.
-use Rattle.std.proofs.Common.{◌≡◌, Bool, false, Option, Some, None, refl}
+use Rattle.std.proofs.Common.{◌≡◌, Bool, false, Option, Some, None, refl, sym, ap, ◌∙◌}
 use Rattle.std.specs.Prelude.{⊤}
 use Rattle.thrift_value.specs.declared.tag.Tag.{Tag}
+use Rattle.thrift_value.specs.declared.value.Value as value
+use Rattle.thrift_value.specs.declared.value.Value.{Value}
+use Rattle.thrift_value.specs.declared.value.Items.{Items}
+use Rattle.thrift_value.specs.declared.value.Pairs.{Pairs}
 use Rattle.thrift_value.specs.Tags.{tag_of}
+use Rattle.thrift_value.specs.TreeOf.{tree_of, items_tree, pairs_tree}
+use Rattle.thrift_value.proofs.Trees.{tree_of-is_Map, tree_of-is_Set, tree_of-is_List}
 use Rattle.thrift_value.specs.Tree.{Tree, of_map, of_set, of_list, ItemTrees, PairTrees}
 use Rattle.schema.specs.PlainKind.{PlainKind, kind_map, kind_set, kind_list}
 use Rattle.struct_skew.specs.Fits.{each_item, each_pair, fits_kind}
@@ -41,3 +47,20 @@ fits_by_tag (kind_map _ _) (of_map _ _ _) h = absurd h
 fits_by_tag (kind_set _) (of_set _ _) h = absurd h
 fits_by_tag (kind_list _) (of_list _ _) h = absurd h
 fits_by_tag _ _ h = refl
+
+-- values in memory, by the parts of their types
+module _ (kind : PlainKind) (v : Value) (r : Bool) where
+  pub map_by_parts : (k t : Tag) (pairs : Pairs) (parts : Option (PlainKind × PlainKind)) → v ≡ value.Map k t pairs → parts ≡ map_of_kind kind → r ≡ map_test (pairs_tree pairs) parts
+      → r ≡ fits_kind kind (tree_of v)
+  map_by_parts k t pairs parts is known here =
+      here ∙ sym (ap (fits_kind kind) (tree_of-is_Map v k t pairs is) ∙ fits_map kind k t (pairs_tree pairs) ∙ ap (map_test (pairs_tree pairs)) (sym known))
+
+  pub set_by_part : (t : Tag) (items : Items) (part : Option PlainKind) → v ≡ value.Set t items → part ≡ set_of_kind kind → r ≡ items_test (items_tree items) part
+      → r ≡ fits_kind kind (tree_of v)
+  set_by_part t items part is known here =
+      here ∙ sym (ap (fits_kind kind) (tree_of-is_Set v t items is) ∙ fits_set kind t (items_tree items) ∙ ap (items_test (items_tree items)) (sym known))
+
+  pub list_by_part : (t : Tag) (items : Items) (part : Option PlainKind) → v ≡ value.List t items → part ≡ list_of_kind kind → r ≡ items_test (items_tree items) part
+      → r ≡ fits_kind kind (tree_of v)
+  list_by_part t items part is known here =
+      here ∙ sym (ap (fits_kind kind) (tree_of-is_List v t items is) ∙ fits_list kind t (items_tree items) ∙ ap (items_test (items_tree items)) (sym known))

@@ -1,5 +1,6 @@
 -- Values that mean themselves are read, by what is read of their parts.
-use Rattle.std.proofs.Common.{◌≡◌, ℕ, suc, ◌-◌, ◌≤◌, true, List, length, Some, Ok, refl, sym, ap, subst, ◌∙◌, arith}
+use Rattle.std.proofs.Common.{◌≡◌, ℕ, suc, ◌-◌, ◌≤◌, Bool, true, List, length, Option, Some, None, Ok, refl, sym, ap, subst, ◌∙◌, arith}
+use Rattle.std.specs.Prelude.{MatchOption}
 use Rattle.std.specs.List.{slice_get}
 use Rattle.thrift_value.specs.declared.tag.Tag.{Tag}
 use Rattle.thrift_value.specs.declared.tag.Tag.TheVariants as tags
@@ -9,7 +10,7 @@ use Rattle.thrift_value.specs.declared.value.Items.{Items}
 use Rattle.thrift_value.specs.declared.value.Pairs.{Pairs}
 use Rattle.thrift_value.specs.Measures.{count_of, depth_of}
 use Rattle.thrift_value.specs.Tags.{tag_of}
-use Rattle.thrift_value.specs.Tree.{Tree, of_bytes}
+use Rattle.thrift_value.specs.Tree.{Tree, of_bool, of_bytes}
 use Rattle.thrift_value.specs.TreeOf.{tree_of, items_of, pairs_of, fields_of, fields_tree, items_tree, pairs_tree}
 use Rattle.thrift_value.proofs.Trees.{tree_of-Struct, tree_of-Map, tree_of-Set, tree_of-List}
 use Rattle.schema.specs.PlainKind.{PlainKind, kind_struct, kind_map, kind_set, kind_list}
@@ -25,14 +26,14 @@ use Rattle.wire_model.specs.Wire.{Wire, IsScalar}
 use Rattle.wire_model.proofs.Answered.{front, placed_here}
 use Rattle.wire_walk.proofs.Faults.{on_ok}
 use Rattle.wire_walk.proofs.Opened.{bytes_is, struct_is, map_is, set_is, list_is, scalar_is}
-use Rattle.known_parts.specs.Parts.{tag_of_kind}
+use Rattle.known_parts.specs.Parts.{tag_of_kind, struct_of_kind, map_of_kind, set_of_kind, list_of_kind}
 use Rattle.struct_skew.specs.Filled.{HasItsDefaults}
 use Rattle.struct_skew.specs.Fits.{fits_kind}
 use Rattle.struct_skew.specs.Latest.{IsRisingBy}
 use Rattle.struct_skew.specs.Orders.{value_cmp, pair_cmp}
 use Rattle.struct_skew.specs.Projection.{bounded, projection}
 use Rattle.struct_skew.specs.ReadAs.{placed_projection, projected_read, read_then_projected}
-use Rattle.struct_skew.specs.ReadSettled.{IsSettled, ReadsElements, ReadsLeaf, ReadsSettled, ReadsFields, ReadsItems, ReadsPairs}
+use Rattle.struct_skew.specs.ReadSettled.{IsSettled, ReadsElements, ReadsField, ReadsLeaf, ReadsSettled, ReadsFields, ReadsItems, ReadsPairs}
 use Rattle.struct_skew.specs.Results.{and_if_ok}
 use Rattle.struct_skew.proofs.Filling.{fits_itself, itself, within_bounds}
 use Rattle.struct_skew.proofs.PlainAlike.{fits_alike, means_alike}
@@ -105,6 +106,42 @@ module _ (wire : Wire) where
       read = h.set ∙ ap (λ x. Ok (x, after)) (sym (tree_of-Set tag items));
       settled = subst (IsSettled structs (kind_set kind)) (sym (tree_of-Set tag items)) (set_settled structs kind tag (items_of items) h.tagged h.settled rising);
     }
+
+-- a type by the parts that it was found to have
+pub kind_of_struct : (kind : PlainKind) (which : ℕ) → Some which ≡ struct_of_kind kind → kind_struct which ≡ kind
+kind_of_struct (kind_struct n) which is = let same : which ≡ n = cc in ap (λ k. kind_struct k) same
+kind_of_struct _ which is = absurd cc
+
+pub kind_of_map : (kind : PlainKind) (p : PlainKind × PlainKind) → Some p ≡ map_of_kind kind → kind_map p.0 p.1 ≡ kind
+kind_of_map (kind_map key value) p is = let same : p ≡ (key, value) = cc in ap (λ (q : PlainKind × PlainKind). kind_map q.0 q.1) same
+kind_of_map _ p is = absurd cc
+
+pub kind_of_set : (kind member : PlainKind) → Some member ≡ set_of_kind kind → kind_set member ≡ kind
+kind_of_set (kind_set m) member is = let same : member ≡ m = cc in ap (λ k. kind_set k) same
+kind_of_set _ member is = absurd cc
+
+pub kind_of_list : (kind element : PlainKind) → Some element ≡ list_of_kind kind → kind_list element ≡ kind
+kind_of_list (kind_list e) element is = let same : element ≡ e = cc in ap (λ k. kind_list k) same
+kind_of_list _ element is = absurd cc
+
+-- a number, a bool or a text under a type of its tag, and the value of a field
+module _ (wire : Wire) (levels : ℕ) (structs : List PlainStruct) (kind : PlainKind) (tag : Tag) (before : Unread) (x : Tree) (after : Unread) where
+  pub leaf_read : tag ≡ tag_of_kind kind → ReadsLeaf wire tag before x after → ReadsSettled wire levels structs kind before x after
+  leaf_read is h = record { read = ap (λ t. value wire levels t before) (sym is) ∙ h.read levels; settled = h.settled structs kind is }
+
+  pub field_by_tag : (flag : Option Bool) → flag ≡ None → tag ≡ tag_of_kind kind → ReadsSettled wire levels structs kind before x after → ReadsField wire levels structs kind tag flag before x after
+  field_by_tag flag none is h = record {
+    read = subst (λ (f : Option Bool). MatchOption f (value wire levels tag before ≡ Ok (x, after)) (λ b. (count_value before ≡ Ok (tt, after)) × (x ≡ of_bool b))) (sym none)
+        (ap (λ t. value wire levels t before) is ∙ h.read);
+    settled = h.settled;
+  }
+
+  pub field_by_flag : (flag : Option Bool) (b : Bool) → flag ≡ Some b → count_value before ≡ Ok (tt, after) → x ≡ of_bool b → tag_of_kind kind ≡ tags.Bool
+      → ReadsField wire levels structs kind tag flag before x after
+  field_by_flag flag b is one same tagged = record {
+    read = subst (λ (f : Option Bool). MatchOption f (value wire levels tag before ≡ Ok (x, after)) (λ b. (count_value before ≡ Ok (tt, after)) × (x ≡ of_bool b))) (sym is) (one, same);
+    settled = subst (IsSettled structs kind) (sym same) (leaf_settled structs kind (of_bool b) tt (sym tagged));
+  }
 
 -- a value that means itself is its own projection
 settled_projects : (s : PlainSchema) (which : ℕ) (v : Tree) → IsSound s → IsSettled s.structs (kind_struct which) v → depth_of v ≤ 64 → count_of v ≤ 4000000 → projection s which v ≡ Ok v

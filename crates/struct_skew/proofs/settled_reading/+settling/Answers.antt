@@ -1,6 +1,10 @@
 use Rattle.std.proofs.Common.{◌≡◌, ℤ, suc, ◌+◌, ◌-◌, ◌∙◌, map, Ok, sym, ap, subst, arith, rules, FitsSigned, to_z, of_z}
 use Rattle.std.specs.Int.{w16}
+use Rattle.std.specs.Prelude.{IfSome}
 use Rattle.std.proofs.lemmas.Int.{to_z-of_z}
+use Rattle.std.proofs.lemmas.Option.{IfSome_then}
+use Rattle.thrift_value.specs.declared.tag.Tag.TheVariants.{Bytes}
+use Rattle.thrift_value.specs.TreeOf.{tree_of}
 use Rattle.schema.specs.PlainKind.{kind_of}
 use Rattle.schema.specs.SchemaOf.{schema_of, plain_field, plain_struct}
 use Rattle.wire_model.specs.declared.one_pass.FieldHead.TheVariants.{Field}
@@ -9,9 +13,9 @@ use Rattle.known_parts.specs.Parts.{tag_of_kind, are_same_tags}
 use Rattle.known_parts.proofs.Knowing.{same_tags}
 use Rattle.struct_skew.specs.Latest.{IsRisingBy}
 use Rattle.struct_skew.specs.Orders.{value_cmp, pair_cmp}
-use Rattle.struct_skew.specs.ReadSettled.{ReadsFields}
-use Rattle.struct_skew.proofs.SettledSteps.{told, told_on, tags_agree, items_kept_step, items_kept_end, pairs_kept_step, pairs_kept_end, fields_kept_step, fields_kept_end}
-use Rattle.struct_skew.proofs.SettledWhole.{struct_read, elements_read, list_read, set_read, map_read}
+use Rattle.struct_skew.specs.ReadSettled.{ReadsFields, ReadsSettled}
+use Rattle.struct_skew.proofs.SettledSteps.{told, told_on, tags_agree, items_kept_begin, items_kept_step, items_kept_end, pairs_kept_begin, pairs_kept_step, pairs_kept_end, fields_kept_begin, fields_kept_step, fields_kept_end}
+use Rattle.struct_skew.proofs.SettledWhole.{struct_read, elements_read, list_read, set_read, map_read, kind_of_struct, kind_of_map, kind_of_set, kind_of_list, leaf_read, field_by_tag, field_by_flag}
 use Rattle.struct_skew.proofs.settled_reading.+settling.Goals as goal
 
 pub settled_fields-returns-in-Stop : goal.settled_fields-returns-in-Stop
@@ -85,3 +89,71 @@ settled_struct-returns g t c =
     c.args.which (plain_struct c.in_ok-desc.desc.now) c.in_ok-fields.fields c.settled_fields.new.ahead at.here
     (subst (λ ds. ReadsFields g.W.WireProtocol.wire c.in_ok-levels.levels (schema_of c.args.schema.now).structs (map plain_field ds) c.count_value.new.self c.in_ok-fields.fields c.settled_fields.new.ahead) c.as_slice.ensures c.in_ok-fields.ensures)
     all.0 all.1
+
+pub settled_value-returns-in-Bytes : goal.settled_value-returns-in-Bytes
+settled_value-returns-in-Bytes g t c =
+    let structs = (schema_of c.args.schema.now).structs in
+    let kind = kind_of c.args.kind.now in
+    IfSome_then c.settled_text.result c.settled_text.ensures
+    (λ v h. leaf_read g.W.WireProtocol.wire c.args.levels structs kind Bytes c.args.ahead.now (tree_of v) c.settled_text.new.ahead (sym c.in-Bytes.is ∙ c.requires.tag) h)
+
+pub settled_value-returns-in_ok-which-in-Struct : goal.settled_value-returns-in_ok-which-in-Struct
+settled_value-returns-in_ok-which-in-Struct g t c =
+    let structs = (schema_of c.args.schema.now).structs in
+    subst (λ k. IfSome c.settled_struct.result (λ v. ReadsSettled g.W.WireProtocol.wire c.args.levels structs k c.args.ahead.now (tree_of v) c.settled_struct.new.ahead))
+    (kind_of_struct (kind_of c.args.kind.now) c.in_ok-which-in-Struct.which c.in_ok-which-in-Struct.ensures) c.settled_struct.ensures
+
+pub settled_value-returns-in_ok-key-in-Map : goal.settled_value-returns-in_ok-key-in-Map
+settled_value-returns-in_ok-key-in-Map g t c =
+    let structs = (schema_of c.args.schema.now).structs in
+    subst (λ k. IfSome c.settled_map.result (λ v. ReadsSettled g.W.WireProtocol.wire c.args.levels structs k c.args.ahead.now (tree_of v) c.settled_map.new.ahead))
+    (kind_of_map (kind_of c.args.kind.now) (kind_of c.in_ok-key-in-Map.key.now, kind_of c.in_ok-key-in-Map.value.now) c.in_ok-key-in-Map.ensures) c.settled_map.ensures
+
+pub settled_value-returns-in_ok-member-in-Set : goal.settled_value-returns-in_ok-member-in-Set
+settled_value-returns-in_ok-member-in-Set g t c =
+    let structs = (schema_of c.args.schema.now).structs in
+    subst (λ k. IfSome c.settled_set.result (λ v. ReadsSettled g.W.WireProtocol.wire c.args.levels structs k c.args.ahead.now (tree_of v) c.settled_set.new.ahead))
+    (kind_of_set (kind_of c.args.kind.now) (kind_of c.in_ok-member-in-Set.member.now) c.in_ok-member-in-Set.ensures) c.settled_set.ensures
+
+pub settled_value-returns-in_ok-element-in-List : goal.settled_value-returns-in_ok-element-in-List
+settled_value-returns-in_ok-element-in-List g t c =
+    let structs = (schema_of c.args.schema.now).structs in
+    subst (λ k. IfSome c.settled_list.result (λ v. ReadsSettled g.W.WireProtocol.wire c.args.levels structs k c.args.ahead.now (tree_of v) c.settled_list.new.ahead))
+    (kind_of_list (kind_of c.args.kind.now) (kind_of c.in_ok-element-in-List.element.now) c.in_ok-element-in-List.ensures) c.settled_list.ensures
+
+pub settled_value-returns-in_default : goal.settled_value-returns-in_default
+settled_value-returns-in_default g t c =
+    let structs = (schema_of c.args.schema.now).structs in
+    let kind = kind_of c.args.kind.now in
+    IfSome_then c.settled_number.result c.settled_number.ensures
+    (λ v h. leaf_read g.W.WireProtocol.wire c.args.levels structs kind c.args.tag c.args.ahead.now (tree_of v) c.settled_number.new.ahead c.requires.tag h)
+
+pub settled_field-returns : goal.settled_field-returns
+settled_field-returns g t c =
+    let structs = (schema_of c.args.schema.now).structs in
+    let kind = kind_of c.args.kind.now in
+    let same = sym (same_tags (tag_of_kind kind) c.args.tag (c.if-not-are_same_tags.ensures ∙ ap (λ a. are_same_tags a c.args.tag) c.tag_of_kind.ensures)) in
+    IfSome_then c.settled_value.result c.settled_value.ensures
+    (λ v h. field_by_tag g.W.WireProtocol.wire c.args.levels structs kind c.args.tag c.args.ahead.now (tree_of v) c.settled_value.new.ahead c.args.flag c.in_default.is same h)
+
+pub settled_field-returns-in-Some : goal.settled_field-returns-in-Some
+settled_field-returns-in-Some g t c =
+    let structs = (schema_of c.args.schema.now).structs in
+    let kind = kind_of c.args.kind.now in
+    IfSome_then c.settled_flag.result c.settled_flag.ensures
+    (λ v h. field_by_flag g.W.WireProtocol.wire c.args.levels structs kind c.args.tag c.args.ahead.now (tree_of v) c.settled_flag.new.ahead c.args.flag c.in-Some.flag c.in-Some.is h.0 h.1 h.2)
+
+pub settled_fields-loop-step-init : goal.settled_fields-loop-step-init
+settled_fields-loop-step-init g t c =
+    fields_kept_begin g.W.WireProtocol.wire c.args.levels (schema_of c.args.schema.now).structs (map plain_field c.args.declared.now) c.new-fields.result.items _ c.args.ahead.now
+    c.new-fields.ensures.items (omega (arith, c.len-step-end.ensures))
+
+pub settled_elements-loop-step-init : goal.settled_elements-loop-step-init
+settled_elements-loop-step-init g t c =
+    items_kept_begin g.W.WireProtocol.wire c.in_ok-levels.levels (schema_of c.args.schema.now).structs (kind_of c.args.kind.now) c.in_ok-items.items.items _ c.in_ok-tag.count c.items.new.ahead
+    c.in_ok-items.ensures (omega arith)
+
+pub settled_pairs-loop-step-init : goal.settled_pairs-loop-step-init
+settled_pairs-loop-step-init g t c =
+    pairs_kept_begin g.W.WireProtocol.wire c.args.levels (schema_of c.args.schema.now).structs (kind_of c.args.key_kind.now) (kind_of c.args.value_kind.now) c.in_ok-pairs.pairs.items _ c.args.count c.args.ahead.now
+    c.in_ok-pairs.ensures (omega arith)
