@@ -1,5 +1,5 @@
--- Loops that try each item of a list, until one fails.
-use Rattle.std.proofs.Common.{◌≡◌, ℕ, ◌+◌, ◌<◌, ◌≤◌, Bool, true, false, List, [], ◌∷◌, length, drop, get_or, sym, ap, ◌∙◌}
+-- Loops that try each item of a list, until one fails, or append what comes of each.
+use Rattle.std.proofs.Common.{◌≡◌, ℕ, ◌+◌, ◌<◌, ◌≤◌, Bool, true, false, List, [], ◌∷◌, ◌++◌, length, map, drop, get_or, sym, ap, ◌∙◌, append_assoc, append-nil}
 use Rattle.std.specs.Prelude.{◌&&◌}
 use Rattle.std.proofs.lemmas.List.{at_drop_all}
 use Rattle.struct_skew.proofs.Steps.{in_front}
@@ -21,3 +21,12 @@ module _ {A : Type 0} (all : List A → Bool) (test : A → Bool) (step : (x : A
 -- at the end each has passed
 pub all_pass : {A : Type 0} (all : List A → Bool) (xs : List A) (i : ℕ) → all [] ≡ true → length xs ≤ i → all (drop i xs) ≡ all xs → true ≡ all xs
 all_pass all xs i none end kept = sym (sym kept ∙ at_drop_all all xs i end ∙ none)
+
+-- what was appended, and what comes of those that are left, is the whole
+module _ {A B : Type 0} (made : A → B) (xs : List A) (old whole : List B) (i : ℕ) (kept : old ++ map made (drop i xs) ≡ whole) where
+  pub one_appended : (x : A) (new : List B) → i < length xs → x ≡ get_or xs i x → new ≡ old ++ made x ∷ [] → new ++ map made (drop (i + 1) xs) ≡ whole
+  one_appended x new low here put =
+      ap (λ ys. ys ++ map made (drop (i + 1) xs)) put ∙ append_assoc old (made x ∷ []) (map made (drop (i + 1) xs)) ∙ ap (λ ys. old ++ map made ys) (sym (in_front xs i x low here)) ∙ kept
+
+  pub all_appended : length xs ≤ i → old ≡ whole
+  all_appended end = sym (append-nil old) ∙ ap (λ ys. old ++ ys) (sym (at_drop_all (map made) xs i end)) ∙ kept

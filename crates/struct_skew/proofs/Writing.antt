@@ -1,5 +1,6 @@
 -- Which values are of a type, where the parts of the type are known or known to be none.
-use Rattle.std.proofs.Common.{◌≡◌, ℕ, Bool, false, List, Option, Some, None, refl, sym, ap, ◌∙◌}
+use Rattle.std.proofs.Common.{◌≡◌, ℕ, Bool, true, false, List, Option, Some, None, refl, sym, ap, ◌∙◌}
+use Rattle.std.specs.Prelude.{◌&&◌}
 use Rattle.std.specs.List.{slice_get}
 use Rattle.thrift_value.specs.declared.tag.Tag.{Tag}
 use Rattle.thrift_value.specs.Tags.{tag_of}
@@ -89,3 +90,12 @@ module _ (structs : List PlainStruct) (kind : PlainKind) (v : Value) (r : Bool) 
       → r ≡ is_written_as structs kind (tree_of v)
   list_by_part t items part is known here =
       here ∙ sym (ap (is_written_as structs kind) (tree_of-is_List v t items is) ∙ written_list structs kind t (items_tree items) ∙ ap (items_written structs (items_tree items)) (sym known))
+
+-- two tests, the last of which was tried first
+pub first_decides : (first last answer : Bool) → answer ≡ first → true ≡ last → answer ≡ (first && last)
+first_decides true last answer is passes = is ∙ passes
+first_decides false last answer is passes = is
+
+pub last_fails : (first last : Bool) → false ≡ last → false ≡ (first && last)
+last_fails true last fails = fails
+last_fails false last fails = refl
