@@ -1,5 +1,5 @@
 //! The declared fields that need a look even where nothing is sent for them.
-ghost use Rattle.std.specs.Prelude.{◌≡◌, map, IfOk};
+ghost use Rattle.std.specs.Prelude.{◌≡◌, [], ◌∷◌, ◌++◌, map, IfOk, OnOk};
 ghost use Rattle.std.specs.List.{slice_get};
 ghost use Rattle.std.specs.Option.{option_copied, option_map};
 ghost use Rattle.schema.specs.SchemaOf.{schema_of, plain_field, plain_struct};
@@ -129,13 +129,25 @@ fn needs_of(alloc: Global, desc: &StructDesc) -> Result<StructNeeds, AllocError>
     })
 }
 
+/// Appends what a struct needs.
+fn put_needs(
+    alloc: Global,
+    rows: &mut Vec<StructNeeds>,
+    desc: &StructDesc,
+) -> Result<(), AllocError>
+    ensures { OnOk result (map plain_needs rows.new.items ≡ map plain_needs rows.old.items ++ needs_of (plain_struct desc.now) ∷ []) }
+{
+    let needs = needs_of(alloc, desc)?;
+    put(rows, needs)
+}
+
 /// What each struct of a schema needs. It walks over all declared fields once.
 pub fn needed_fields(alloc: Global, schema: &Schema) -> Result<NeededFields, AllocError>
     ensures { IfOk result (λ needed. needed ≡ map needs_of (schema_of schema.now).structs) }
 {
     let mut rows = Vec::with_capacity(alloc, schema.structs.as_slice().len())?;
     for desc in schema.structs.as_slice() {
-        put(&mut rows, needs_of(alloc, desc)?)?;
+        put_needs(alloc, &mut rows, desc)?;
     }
     Ok(NeededFields { rows })
 }
