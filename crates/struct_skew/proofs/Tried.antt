@@ -23,10 +23,12 @@ pub all_pass : {A : Type 0} (all : List A → Bool) (xs : List A) (i : ℕ) → 
 all_pass all xs i none end kept = sym (sym kept ∙ at_drop_all all xs i end ∙ none)
 
 -- what was appended, and what comes of those that are left, is the whole
-module _ {A B : Type 0} (made : A → B) (xs : List A) (old whole : List B) (i : ℕ) (kept : old ++ map made (drop i xs) ≡ whole) where
-  pub one_appended : (x : A) (new : List B) → i < length xs → x ≡ get_or xs i x → new ≡ old ++ made x ∷ [] → new ++ map made (drop (i + 1) xs) ≡ whole
+module _ {A B : Type 0} (all : List A → List B) (made : A → B) (step : (x : A) (xs : List A) → all (x ∷ xs) ≡ made x ∷ all xs)
+    (xs : List A) (old whole : List B) (i : ℕ) (kept : old ++ all (drop i xs) ≡ whole) where
+  pub one_appended : (x : A) (new : List B) → i < length xs → x ≡ get_or xs i x → new ≡ old ++ made x ∷ [] → new ++ all (drop (i + 1) xs) ≡ whole
   one_appended x new low here put =
-      ap (λ ys. ys ++ map made (drop (i + 1) xs)) put ∙ append_assoc old (made x ∷ []) (map made (drop (i + 1) xs)) ∙ ap (λ ys. old ++ map made ys) (sym (in_front xs i x low here)) ∙ kept
+      ap (λ ys. ys ++ all (drop (i + 1) xs)) put ∙ append_assoc old (made x ∷ []) (all (drop (i + 1) xs))
+      ∙ ap (λ ys. old ++ ys) (sym (ap all (in_front xs i x low here) ∙ step x (drop (i + 1) xs))) ∙ kept
 
-  pub all_appended : length xs ≤ i → old ≡ whole
-  all_appended end = sym (append-nil old) ∙ ap (λ ys. old ++ ys) (sym (at_drop_all (map made) xs i end)) ∙ kept
+  pub all_appended : all [] ≡ [] → length xs ≤ i → old ≡ whole
+  all_appended none end = sym (append-nil old) ∙ ap (λ ys. old ++ ys) (sym (at_drop_all all xs i end ∙ none)) ∙ kept
