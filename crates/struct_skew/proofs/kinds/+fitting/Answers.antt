@@ -1,4 +1,4 @@
-use Rattle.std.proofs.Common.{◌≡◌, Bool, Some, None, List, map, refl, ap, ◌∙◌}
+use Rattle.std.proofs.Common.{Bool, Some, None, List, map, refl, ap, ◌∙◌}
 use Rattle.std.specs.Prelude.{◌&&◌}
 use Rattle.thrift_value.specs.declared.value.Value.{Value}
 use Rattle.thrift_value.specs.TreeOf.{tree_of, item_trees, pair_tree, pair_trees}

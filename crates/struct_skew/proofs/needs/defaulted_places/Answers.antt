@@ -1,4 +1,4 @@
-use Rattle.std.proofs.Common.{map, ap, ◌∙◌}
+use Rattle.std.proofs.Common.{ap, ◌∙◌}
 use Rattle.schema.specs.SchemaOf.{plain_field}
 use Rattle.struct_skew.specs.Needs.{is_defaulted_field}
 use Rattle.struct_skew.proofs.RequiredPlaces.{place_kept, place_passed_over, places_kept}
@@ -7,7 +7,7 @@ use Rattle.struct_skew.proofs.needs.defaulted_places.Goals.{then-is_defaulted+in
 
 pub loop-place-preserved : goal.loop-place-preserved
 loop-place-preserved c = elim c.if-is_defaulted.branch [
-  then-is_defaulted+in_ok-put w ↦
+  | then-is_defaulted+in_ok-put w ↦
       place_kept plain_field (is_defaulted_field c.args.kind) c.args.fields.now c.loop-place.places.items c.loop-place.place c.index-fields-place.result c.loop-place-test.true c.index-fields-place.is c.loop-place.invariant
       c.if-is_defaulted.places.items w.if-is_defaulted.ensures (ap (λ v. v.items) w.places-is ∙ w.in_ok-put.ensures)
   | else-is_defaulted w ↦

@@ -1,4 +1,4 @@
-use Rattle.std.proofs.Common.{map, ap, ◌∙◌}
+use Rattle.std.proofs.Common.{ap, ◌∙◌}
 use Rattle.schema.specs.SchemaOf.{plain_field}
 use Rattle.struct_skew.specs.Needs.{is_required_field}
 use Rattle.struct_skew.proofs.RequiredPlaces.{place_kept, place_passed_over, places_kept}
@@ -7,7 +7,7 @@ use Rattle.struct_skew.proofs.needs.required_places.Goals.{then-is_required+in_o
 
 pub loop-place-preserved : goal.loop-place-preserved
 loop-place-preserved c = elim c.if-is_required.branch [
-  then-is_required+in_ok-put w ↦
+  | then-is_required+in_ok-put w ↦
       place_kept plain_field is_required_field c.args.fields.now c.loop-place.places.items c.loop-place.place c.index-fields-place.result c.loop-place-test.true c.index-fields-place.is c.loop-place.invariant
       c.if-is_required.places.items w.if-is_required.ensures (ap (λ v. v.items) w.places-is ∙ w.in_ok-put.ensures)
   | else-is_required w ↦

@@ -1,14 +1,14 @@
-use Rattle.std.proofs.Common.{◌≡◌, Bool, ℤ, Some, None, List, map, refl, sym, ap, ◌∙◌}
+use Rattle.std.proofs.Common.{◌≡◌, Bool, ℤ, Some, None, List, map, refl, ap, ◌∙◌}
 use Rattle.std.specs.Prelude.{◌&&◌}
 use Rattle.std.specs.List.{slice_get}
 use Rattle.thrift_value.specs.declared.value.Value.{Value}
 use Rattle.thrift_value.specs.TreeOf.{tree_of, field_tree, field_trees, item_trees, pair_tree, pair_trees}
 use Rattle.schema.specs.LookUp.{fields_at}
 use Rattle.schema.specs.PlainKind.{PlainKind, kind_of}
-use Rattle.schema.specs.PlainSchema.{PlainField, PlainSchema, PlainStruct}
-use Rattle.schema.specs.SchemaOf.{schema_of, plain_struct}
+use Rattle.schema.specs.PlainSchema.{PlainField, PlainSchema}
+use Rattle.schema.specs.SchemaOf.{schema_of}
 use Rattle.schema.specs.WrittenAs.{field_with_id}
-use Rattle.known_parts.specs.Parts.{are_same_tags, tag_of_kind}
+use Rattle.known_parts.specs.Parts.{are_same_tags}
 use Rattle.struct_skew.specs.FilledTests.{are_fields_filled, are_items_filled, are_pairs_filled, is_filled, is_struct_filled}
 use Rattle.struct_skew.specs.WrittenTests.{some_passes}
 use Rattle.struct_skew.proofs.FilledParts.{struct_by_part, map_by_parts, set_by_part, list_by_part}

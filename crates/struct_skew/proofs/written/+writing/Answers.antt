@@ -5,7 +5,7 @@ use Rattle.thrift_value.specs.declared.value.Value.{Value}
 use Rattle.thrift_value.specs.TreeOf.{tree_of, field_tree, field_trees, item_trees, pair_tree, pair_trees}
 use Rattle.schema.specs.LookUp.{fields_at}
 use Rattle.schema.specs.PlainKind.{PlainKind, kind_of}
-use Rattle.schema.specs.PlainSchema.{PlainField, PlainSchema, PlainStruct}
+use Rattle.schema.specs.PlainSchema.{PlainField, PlainSchema}
 use Rattle.schema.specs.SchemaOf.{schema_of, plain_struct}
 use Rattle.schema.specs.WrittenAs.{field_with_id}
 use Rattle.struct_skew.specs.Needs.{needs_of}

@@ -1,4 +1,4 @@
-use Rattle.std.proofs.Common.{◌≡◌, Bool, List, map, refl, ap, ◌∙◌}
+use Rattle.std.proofs.Common.{Bool, List, map, refl, ap, ◌∙◌}
 use Rattle.std.specs.Prelude.{not, ◌||◌}
 use Rattle.thrift_value.specs.Tree.{FieldTrees}
 use Rattle.thrift_value.specs.TreeOf.{field_tree, field_trees}
@@ -29,7 +29,7 @@ loop-field-preserved c =
     let needed : Bool → Bool = λ b. not b || has_field_tree c.field-item.result.id fields in
     one_passes (all_there fields) (one_there fields) (λ d ds. refl) c.args.declared.now c.loop-field.field-index c.field-item.result c.loop-field-test.true c.field-item.is c.loop-field.invariant
     (elim c.if-is_required.branch [
-      then-is_required+else-not-has_field w ↦ w.if-not-has_field.ensures ∙ ap needed w.if-is_required.ensures
+      | then-is_required+else-not-has_field w ↦ w.if-not-has_field.ensures ∙ ap needed w.if-is_required.ensures
       | else-is_required w ↦ ap needed w.if-is_required.ensures
     ])
 
