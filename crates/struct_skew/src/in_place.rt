@@ -31,7 +31,6 @@ use thrift_value::{Fields, Items, Pairs, Tag, Value};
 
 /// What a raw value means under a type that it fits. A number, a bool and a text are handed on as they are, and the elements of a
 /// container stay in its own memory. It takes a level of recursion for each level of the value.
-#[tactic(auto, using(thrift_value::proofs::Trees::tree_equations, crate::proofs::MeaningsOfKinds::meaning_equations))]
 #[cycle(in_place)]
 pub(crate) fn settle_value(
     raw: Value,
@@ -69,7 +68,6 @@ pub(crate) fn settle_value(
 }
 
 /// What a list means.
-#[tactic(auto, using(thrift_value::proofs::Trees::tree_equations, crate::proofs::MeaningsOfKinds::meaning_equations))]
 #[cycle(in_place)]
 fn settle_list(
     tag: Tag,
@@ -104,7 +102,6 @@ fn settle_list(
 }
 
 /// What a set means.
-#[tactic(auto, using(thrift_value::proofs::Trees::tree_equations, crate::proofs::MeaningsOfKinds::meaning_equations))]
 #[cycle(in_place)]
 fn settle_set(
     tag: Tag,
@@ -139,7 +136,6 @@ fn settle_set(
 }
 
 /// What a map means.
-#[tactic(auto, using(thrift_value::proofs::Trees::tree_equations, crate::proofs::MeaningsOfKinds::meaning_equations))]
 #[cycle(in_place)]
 fn settle_map(
     key_tag: Tag,
@@ -176,7 +172,6 @@ fn settle_map(
 }
 
 /// What the fields of a struct mean.
-#[tactic(auto, using(thrift_value::proofs::Trees::tree_equations, crate::proofs::MeaningsOfKinds::meaning_equations))]
 #[cycle(in_place)]
 fn settle_fields(
     fields: Fields,
