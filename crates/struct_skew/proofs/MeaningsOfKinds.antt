@@ -66,8 +66,6 @@ meaning_of_scalar structs (of_set _ _) kind h = absurd h
 meaning_of_scalar structs (of_list _ _) kind h = absurd h
 meaning_of_scalar structs _ kind h = refl
 
-pub ruleset meaning_equations = (meaning_of_struct, meaning_of_map, meaning_of_set, meaning_of_list, meaning_of_scalar)
-
 -- values in memory that are handed on
 module _ (structs : List PlainStruct) (kind : PlainKind) where
   pub struct_kept : (fields : Fields) → None ≡ struct_of_kind kind → meaning_of structs (of_struct (fields_tree fields)) kind ≡ Ok (tree_of (value.Struct fields))

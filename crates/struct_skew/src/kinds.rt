@@ -10,7 +10,7 @@ use thrift_value::{Raw, Value};
 
 /// Whether a raw value counts under a type: the tags agree, and each element of a container fits its declared type. It recurses once a
 /// level that both have.
-#[tactic(auto, using(thrift_value::proofs::Trees::tree_equations, crate::proofs::Fitting::fits_map, crate::proofs::Fitting::fits_set, crate::proofs::Fitting::fits_list, crate::proofs::Fitting::fits_by_tag))]
+#[tactic(auto, using(thrift_value::proofs::Trees::tree_equations, crate::proofs::Fitting::fits_by_tag))]
 #[cycle(fitting)]
 pub fn fits_kind(raw: &Raw, kind: &TypeDesc) -> bool
     ensures { result ≡ fits_kind (kind_of kind.now) (tree_of raw.now) }
