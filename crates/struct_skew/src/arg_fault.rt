@@ -3,16 +3,20 @@ ghost use Rattle.std.specs.Prelude.{◌≡◌};
 ghost use Rattle.struct_skew.specs.ReadAs.{arg_of_skew, arg_of_wire};
 
 use crate::fault::SkewFault;
+use thiserror::Error;
 use thrift_value::WireFault;
 
 /// Why the bytes at a place are no struct as a schema declares it.
-#[derive(Clone, Copy)]
+#[derive(Clone, Copy, Debug, Error)]
 pub enum ArgFault {
     /// The bytes are at fault.
+    #[error("{0}")]
     Wire(WireFault),
     /// The struct that was sent has no projection.
+    #[error("{0}")]
     Skew(SkewFault),
     /// Memory ran out.
+    #[error("out of memory")]
     NoMemory,
 }
 

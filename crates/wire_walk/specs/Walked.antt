@@ -10,20 +10,20 @@ use Rattle.wire_model.specs.Reading.{deeper, item_list, parts, value}
 use Rattle.wire_model.specs.Wire.{Wire}
 
 -- how the values below a level are read, if one more may be opened
-unfoldable pub below : Wire → ℕ → Tag → Decoder Tree
-below wire zero tag = fail TooDeep
-below wire (suc levels) tag = value wire levels tag
+unfoldable pub read_below : Wire → ℕ → Tag → Decoder Tree
+read_below wire zero tag = fail TooDeep
+read_below wire (suc levels) tag = value wire levels tag
 
 -- what a value of a tag holds, once it is counted
 abbrev pub held : Wire → ℕ → Tag → Decoder Tree
-held wire levels tag = parts wire levels (below wire levels) tag
+held wire levels tag = parts wire levels (read_below wire levels) tag
 
 -- what a set and a list hold alike: the tag of the elements, and the elements
 unfoldable pub elements : Wire → ℕ → Decoder (Tag × ItemTrees)
 elements wire levels = do
   level ← deeper levels
   found ← wire.items
-  items ← item_list (below wire levels) found.0 found.1
+  items ← item_list (read_below wire levels) found.0 found.1
   give (found.0, items)
 
 -- elements in front of more of them
