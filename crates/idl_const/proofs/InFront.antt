@@ -57,7 +57,7 @@ front_push cons xs x (valued more n) = ap (λ made. valued made n) (joined_push 
 front_push cons xs x (flawed at flaw) = refl
 
 -- what is left of a list from an item on
-rest_is : {A : Type 0} (xs : List A) (i : ℕ) (x : A) → i < length xs → x ≡ get_or xs i x → drop i xs ≡ x ∷ drop (i + 1) xs
+pub rest_is : {A : Type 0} (xs : List A) (i : ℕ) (x : A) → i < length xs → x ≡ get_or xs i x → drop i xs ≡ x ∷ drop (i + 1) xs
 rest_is xs i x inside is = drop-cons xs i x inside ∙ (λ j. sym is j ∷ drop (sym (add-one i) j) xs)
 
 none_left : {A : Type 0} (i : ℕ) (xs : List A) → length xs ≤ i → drop i xs ≡ []

@@ -9,19 +9,20 @@ use Rattle.thrift_value.specs.declared.value.Value as value
 use Rattle.schema.specs.PlainKind.{kind_of}
 use Rattle.schema.specs.SchemaOf.{plain_field}
 use Rattle.idl_include.specs.ConstExpr.{map_const}
-use Rattle.idl_include.specs.DeclaredIn.{value_in, entries_in}
+use Rattle.idl_include.specs.DeclaredIn.{value_in, items_in, entries_in}
 use Rattle.check_model.specs.Worths.{seen_at}
 use Rattle.check_model.specs.Scalars.{enum_worth}
 use Rattle.check_model.specs.Evaluation.{worth_by, struct_numbered}
 use Rattle.idl_const.specs.declared.chains.ChainEnd.TheVariants as ends
 use Rattle.idl_const.specs.FieldEntries.{entry_in}
-use Rattle.idl_const.specs.Flaws.{IsOneWorth, AnswersWorth}
+use Rattle.idl_const.specs.Flaws.{IsOneWorth, StopsAs, AnswersWorth}
 use Rattle.idl_const.specs.Given.{FiledTree, both_in}
 use Rattle.idl_const.specs.Marks.{no_place, entered_where, worth_where}
 use Rattle.idl_const.proofs.Braces.{map_is, unfit_worth, struct_where}
 use Rattle.idl_const.proofs.ChainLinks.{seen_own}
 use Rattle.idl_const.proofs.Entering.{ended_at, worth_absent, worth_entered, refused, left_again}
 use Rattle.idl_const.proofs.InFront.{items_step, items_end, pairs_step, pairs_end, given_step, known_step, fields_end, free_step, none_mapped}
+use Rattle.idl_const.proofs.Stopping.{not_kept, item_stops, first_stops, second_stops, key_stops, field_stops, list_refused, map_refused, struct_refused, list_stops, list_made, map_stops, map_made, struct_stops}
 use Rattle.idl_const.proofs.walk.+walk.Goals as goal
 
 pub items-returns-clause-worth : goal.items-returns-clause-worth
@@ -159,3 +160,96 @@ pub entered-returns-clause-free : goal.entered-returns-clause-free
 entered-returns-clause-free g t c =
     left_again c.unnamed.result c.put_at-made.result c.args.work.now.free.items c.enter.new.work.free.items c.unnamed.new.work.free.items c.mark.new.free.items c.args.which
     c.put_at-made.ensures.ok c.in_ok-enter.ensures.entered.0 c.in_ok-enter.ensures.entered.1 c.unnamed.ensures.free c.mark.ensures
+
+-- where a part stops, or isn't kept
+
+pub items-returns-in_err-keep-clause-worth : goal.items-returns-in_err-keep-clause-worth
+items-returns-in_err-keep-clause-worth g t c =
+    let s = g.G.Ground.setting c.args.ground.now in
+    let p = err_from_is_err_and c.from_residual.result c.from_residual.ensures.1 in
+    rw (p.1, p.2)
+    (not_kept c.value-one.result c.in_err-keep.field-0.0 c.value-one.new.work.values _ _
+    (subst (λ f. AnswersWorth tree_of c.value-one.result c.value-one.new.work.values (worth_by s (worth_where s f) c.args.file (kind_of c.args.kind.now) c.args.levels c.loop-tree.work.values (value_in c.tree-item.result))) c.loop-tree.invariant.free c.value-one.ensures.worth)
+    c.in_err-keep.ensures
+    (item_stops s (worth_where s c.args.work.now.free.items) c.args.file c.args.levels c.loop-tree.tree-index c.loop-tree.work.values c.in_err-keep.field-0.0 (kind_of c.args.kind.now) c.args.trees.now c.tree-item.result c.loop-tree.made.items _ c.loop-tree-test.true c.tree-item.is c.loop-tree.invariant.made))
+
+pub pairs-returns-in_err-first-clause-worth : goal.pairs-returns-in_err-first-clause-worth
+pairs-returns-in_err-first-clause-worth g t c =
+    let s = g.G.Ground.setting c.args.ground.now in
+    let p = err_from_is_err_and c.from_residual.result c.from_residual.ensures.1 in
+    rw (p.1, p.2)
+    (first_stops s (worth_where s c.args.work.now.free.items) c.args.file c.args.levels c.loop-first.first-index c.loop-first.work.values c.in_err-first.field-0.0 (kind_of c.args.key.now) (kind_of c.args.held.now) c.args.entries.now c.loop-first-item.result c.loop-first.made.items _ c.loop-first-test.true c.loop-first-item.is c.loop-first.invariant.made
+    (subst (λ f. StopsAs c.in_err-first.field-0.0 (worth_by s (worth_where s f) c.args.file (kind_of c.args.key.now) c.args.levels c.loop-first.work.values (value_in c.loop-first-item.result.0))) c.loop-first.invariant.free c.in_err-first.ensures.worth))
+
+pub pairs-returns-in_err-keep_beside-clause-worth : goal.pairs-returns-in_err-keep_beside-clause-worth
+pairs-returns-in_err-keep_beside-clause-worth g t c =
+    let s = g.G.Ground.setting c.args.ground.now in
+    let p = err_from_is_err_and c.from_residual-in_err-keep_beside.result c.from_residual-in_err-keep_beside.ensures.1 in
+    rw (p.1, p.2)
+    (not_kept c.value-second.result c.in_err-keep_beside.field-0.0 c.value-second.new.work.values _ _
+    (subst (λ f. AnswersWorth tree_of c.value-second.result c.value-second.new.work.values (worth_by s (worth_where s f) c.args.file (kind_of c.args.held.now) c.args.levels c.value.new.work.values (value_in c.loop-first-item.result.1))) (c.in_ok-first.ensures.free ∙ c.loop-first.invariant.free) c.value-second.ensures.worth)
+    c.in_err-keep_beside.ensures
+    (second_stops s (worth_where s c.args.work.now.free.items) c.args.file c.args.levels c.loop-first.first-index c.loop-first.work.values c.in_err-keep_beside.field-0.0 (kind_of c.args.key.now) (kind_of c.args.held.now) c.args.entries.now c.loop-first-item.result c.loop-first.made.items _ c.loop-first-test.true c.loop-first-item.is c.loop-first.invariant.made (tree_of c.in_ok-first.first) c.value.new.work.values
+    (ap (λ f. worth_by s (worth_where s f) c.args.file (kind_of c.args.key.now) c.args.levels c.loop-first.work.values (value_in c.loop-first-item.result.0)) (sym c.loop-first.invariant.free) ∙ c.in_ok-first.ensures.worth)))
+
+pub given_fields-returns-in_err-field-clause-worth : goal.given_fields-returns-in_err-field-clause-worth
+given_fields-returns-in_err-field-clause-worth g t c =
+    let s = g.G.Ground.setting c.args.ground.now in
+    let p = err_from_is_err_and c.from_residual.result c.from_residual.ensures.1 in
+    rw (p.1, p.2) (key_stops s (worth_where s c.args.work.now.free.items) c.args.file c.args.levels c.loop-key.key-index c.loop-key.work.values c.in_err-field.field-0.0 (struct_numbered s.schema c.args.which).fields c.args.entries.now c.loop-key-item.result _ _ c.loop-key-test.true c.loop-key-item.is c.loop-key.invariant.made (c.in_err-field.ensures.worth c.loop-key.work.values))
+
+pub given_fields-returns-in_err-keep_beside-clause-worth : goal.given_fields-returns-in_err-keep_beside-clause-worth
+given_fields-returns-in_err-keep_beside-clause-worth g t c =
+    let s = g.G.Ground.setting c.args.ground.now in
+    let p = err_from_is_err_and c.from_residual-in_err-keep_beside.result c.from_residual-in_err-keep_beside.ensures.1 in
+    rw (p.1, p.2)
+    (not_kept c.value-one.result c.in_err-keep_beside.field-0.0 c.value-one.new.work.values _ _
+    (subst (λ f. AnswersWorth tree_of c.value-one.result c.value-one.new.work.values (worth_by s (worth_where s f) c.args.file (kind_of c.in_ok-field.field.now.kind) c.args.levels c.loop-key.work.values (value_in c.loop-key-item.result.1))) c.loop-key.invariant.free c.value-one.ensures.worth)
+    c.in_err-keep_beside.ensures
+    (field_stops s (worth_where s c.args.work.now.free.items) c.args.file c.args.levels c.loop-key.key-index c.loop-key.work.values c.in_err-keep_beside.field-0.0 (struct_numbered s.schema c.args.which).fields c.args.entries.now c.loop-key-item.result _ _ c.loop-key-test.true c.loop-key-item.is c.loop-key.invariant.made (plain_field c.in_ok-field.field.now) (c.in_ok-field.ensures.worth c.loop-key.work.values)))
+
+pub bracketed-returns-in_err-made-clause-worth : goal.bracketed-returns-in_err-made-clause-worth
+bracketed-returns-in_err-made-clause-worth g t c =
+    let s = g.G.Ground.setting c.args.ground.now in
+    let p = err_from_is_err_and c.from_residual-in_err-made.result c.from_residual-in_err-made.ensures.1 in
+    rw (p.1, p.2) (list_stops s c.args.work.now.free.items c.opened.new.work.free.items c.args.file c.args.levels c.args.work.now.values c.in_ok-left.left c.opened.new.work.values c.args.at (search rules) (items_in (map value_in c.args.trees.now)) (kind_of c.args.kind.now) (kind_of c.element_kind.result.now) c.takes_brackets.result c.takes_brackets.ensures c.element_kind.ensures c.in_ok-left.ensures.worth c.in_err-made.field-0.0 c.in_err-made.ensures.worth)
+
+pub bracketed-returns-clause-worth : goal.bracketed-returns-clause-worth
+bracketed-returns-clause-worth g t c =
+    let s = g.G.Ground.setting c.args.ground.now in
+    list_made s c.args.work.now.free.items c.opened.new.work.free.items c.args.file c.args.levels c.args.work.now.values c.in_ok-left.left c.opened.new.work.values c.args.at (search rules) (items_in (map value_in c.args.trees.now)) (kind_of c.args.kind.now) (kind_of c.element_kind.result.now) c.takes_brackets.result c.takes_brackets.ensures c.element_kind.ensures c.in_ok-left.ensures.worth c.items.new.work.values _ _ c.in_ok-made.ensures.worth c.in_ok-row_value.ensures
+
+pub mapped-returns-in_err-made-clause-worth : goal.mapped-returns-in_err-made-clause-worth
+mapped-returns-in_err-made-clause-worth g t c =
+    let s = g.G.Ground.setting c.args.ground.now in
+    let p = err_from_is_err_and c.from_residual-in_err-made.result c.from_residual-in_err-made.ensures.1 in
+    rw (p.1, p.2) (map_stops s c.args.work.now.free.items c.opened.new.work.free.items c.args.file c.args.levels c.args.work.now.values c.in_ok-left.left c.opened.new.work.values c.args.at (search rules) (entries_in (map both_in c.args.entries.now)) c.in_ok-left.ensures.worth (kind_of c.args.key.now) (kind_of c.args.value.now) c.in_err-made.field-0.0 c.in_err-made.ensures.worth)
+
+pub mapped-returns-clause-worth : goal.mapped-returns-clause-worth
+mapped-returns-clause-worth g t c =
+    let s = g.G.Ground.setting c.args.ground.now in
+    map_made s c.args.work.now.free.items c.opened.new.work.free.items c.args.file c.args.levels c.args.work.now.values c.in_ok-left.left c.opened.new.work.values c.args.at (search rules) (entries_in (map both_in c.args.entries.now)) c.in_ok-left.ensures.worth (kind_of c.args.key.now) (kind_of c.args.value.now) c.pairs.new.work.values _ _ c.in_ok-made.ensures.worth c.in_ok-map_value.ensures
+
+pub structured-returns-in_err-made-clause-worth : goal.structured-returns-in_err-made-clause-worth
+structured-returns-in_err-made-clause-worth g t c =
+    let s = g.G.Ground.setting c.args.ground.now in
+    let p = err_from_is_err_and c.from_residual-in_err-made.result c.from_residual-in_err-made.ensures.1 in
+    rw (p.1, p.2) (struct_stops s c.args.work.now.free.items c.opened.new.work.free.items c.args.file c.args.levels c.args.work.now.values c.in_ok-left.left c.opened.new.work.values c.args.at (search rules) (entries_in (map both_in c.args.entries.now)) c.in_ok-left.ensures.worth c.args.which c.in_err-made.field-0.0 c.in_err-made.ensures.worth)
+
+pub bracketed-returns-in_err-left-clause-worth : goal.bracketed-returns-in_err-left-clause-worth
+bracketed-returns-in_err-left-clause-worth g t c =
+    let s = g.G.Ground.setting c.args.ground.now in
+    let p = err_from_is_err_and c.from_residual.result c.from_residual.ensures.1 in
+    rw (p.1, p.2) (list_refused s (worth_where s c.args.work.now.free.items) c.args.file c.args.levels c.args.work.now.values c.args.at c.in_err-left.field-0.0 (items_in (map value_in c.args.trees.now)) (kind_of c.args.kind.now) c.takes_brackets.result c.takes_brackets.ensures c.in_err-left.ensures.worth)
+
+pub mapped-returns-in_err-left-clause-worth : goal.mapped-returns-in_err-left-clause-worth
+mapped-returns-in_err-left-clause-worth g t c =
+    let s = g.G.Ground.setting c.args.ground.now in
+    let p = err_from_is_err_and c.from_residual.result c.from_residual.ensures.1 in
+    rw (p.1, p.2) (map_refused s (worth_where s c.args.work.now.free.items) c.args.file c.args.levels c.args.work.now.values c.args.at c.in_err-left.field-0.0 (entries_in (map both_in c.args.entries.now)) c.in_err-left.ensures.worth (kind_of c.args.key.now) (kind_of c.args.value.now))
+
+pub structured-returns-in_err-left-clause-worth : goal.structured-returns-in_err-left-clause-worth
+structured-returns-in_err-left-clause-worth g t c =
+    let s = g.G.Ground.setting c.args.ground.now in
+    let p = err_from_is_err_and c.from_residual.result c.from_residual.ensures.1 in
+    rw (p.1, p.2) (struct_refused s (worth_where s c.args.work.now.free.items) c.args.file c.args.levels c.args.work.now.values c.args.at c.in_err-left.field-0.0 (entries_in (map both_in c.args.entries.now)) c.in_err-left.ensures.worth c.args.which)
