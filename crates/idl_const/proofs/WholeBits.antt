@@ -1,5 +1,5 @@
 -- The bits of whole numbers.
-use Rattle.std.proofs.Common.{◌≡◌, ℕ, zero, suc, ℤ, pos, negsuc, ◌+◌, ◌-◌, ◌*◌, ◌^◌, ◌<◌, ◌≤◌, true, false, sym, ap, ◌∙◌, arith}
+use Rattle.std.proofs.Common.{◌≡◌, ℕ, zero, suc, ℤ, pos, negsuc, ◌+◌, ◌-◌, ◌*◌, ◌^◌, ◌<◌, ◌≤◌, true, false, sym, ap, ◌∙◌, subst, arith}
 use Rattle.std.proofs.Math.Nat.{mul-le-mul_left}
 use Rattle.std.proofs.lemmas.Bool.{false≢true}
 use Rattle.std.proofs.lemmas.Nat.{pow-add, pow_pos}
@@ -35,3 +35,9 @@ pub bits_from_zero : (z : ℤ) (size : ℕ) → size ≡ magnitude_bits (unsigne
 unfolding double_bits
 bits_from_zero (pos n) size s above = s
 bits_from_zero (negsuc n) size s above = absurd (false≢true (sym above))
+
+-- the bits of an exponent and of a fraction together
+pub bits_below : (exponent one part : ℕ) → exponent ≤ 53 → one ≡ 2 ^ 52 → part < 2 ^ 52 → (1023 + exponent) * one + part < 2 ^ 63
+bits_below exponent one part most is below =
+    let scaled : (1023 + exponent) * 2 ^ 52 + part < 2 ^ 63 = omega arith in
+    subst (λ k. (1023 + exponent) * k + part < 2 ^ 63) (sym is) scaled
