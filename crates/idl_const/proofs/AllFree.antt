@@ -1,11 +1,6 @@
 -- Where no given value is under evaluation.
-use Rattle.std.proofs.Common.{◌≡◌, ℕ, suc, Bool, true, List, [], ◌∷◌, map, length, replicate, refl, ap, ◌∙◌}
-use Rattle.schema.specs.PlainKind.{PlainKind}
-use Rattle.idl_include.specs.ConstExpr.{ConstExpr}
-use Rattle.idl_include.specs.Spots.{values_of}
-use Rattle.check_model.specs.Worths.{most_const_levels}
-use Rattle.check_model.specs.Evaluation.{Setting, worth_by, named_worth, all_free, evaluated}
-use Rattle.idl_const.specs.Marks.{free_count, worth_where}
+use Rattle.std.proofs.Common.{◌≡◌, ℕ, suc, true, List, [], ◌∷◌, map, length, replicate, refl, ap, ◌∙◌}
+use Rattle.idl_const.specs.Marks.{free_count}
 
 pub marks_are : {A : Type 0} (xs : List A) (n : ℕ) → n ≡ length xs → replicate n true ≡ map (λ (x : A). true) xs
 marks_are [] n e = ap (λ m. replicate m true) e

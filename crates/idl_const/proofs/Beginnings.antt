@@ -1,5 +1,5 @@
 -- What evaluating comes to from its beginning, where of each chain the end alone is entered.
-use Rattle.std.proofs.Common.{◌≡◌, ℕ, zero, suc, ◌≤◌, Bool, true, false, List, length, slice_get, Option, Some, None, refl, sym, ap, ◌∙◌, subst, arith}
+use Rattle.std.proofs.Common.{◌≡◌, ℕ, zero, suc, ◌≤◌, Bool, true, false, List, length, slice_get, Option, Some, None, refl, sym, ap, ◌∙◌, arith}
 use Rattle.std.specs.Option.{option_map}
 use Rattle.std.specs.Prelude.{slice_set}
 use Rattle.std.proofs.Math.ListN.{length-set}
@@ -21,7 +21,7 @@ use Rattle.idl_const.proofs.Entering.{count_entered}
 use Rattle.idl_const.proofs.Fuel.{enough, count_le, marks_length, given_free}
 use Rattle.idl_const.proofs.SeenAlike.{worth_alike}
 use Rattle.idl_const.proofs.ChainLinks.{own_place, entered_by, ends_here, absent_within, EndsAs}
-use Rattle.idl_const.proofs.ByEnds.{IsFreeFor, IsOpen, AreClear, Agrees, by_ends, still_clear, shut_itself}
+use Rattle.idl_const.proofs.ByEnds.{IsFreeFor, Agrees, by_ends, still_clear, shut_itself}
 
 -- where all are free
 free_by : (s : Setting) (k which : ℕ) (e : ChainEnd) (o : Option FiledTree) → tree_numbered s.program which ≡ o → end_within s.program k which ≡ Some e → is_free (all_free s.program) which ≡ true

@@ -13,11 +13,11 @@ use Rattle.check_model.specs.Evaluation.{Setting, NamedWorth, on_entering, named
 use Rattle.idl_const.specs.declared.chains.ChainEnd.{ChainEnd}
 use Rattle.idl_const.specs.declared.chains.ChainEnd.TheVariants as ends
 use Rattle.idl_const.specs.ChainEnds.{end_within, chain_end_of}
-use Rattle.idl_const.specs.Marks.{no_place, free_count, end_worth, worth_by_end, entered_worth}
+use Rattle.idl_const.specs.Marks.{free_count, end_worth, worth_by_end, entered_worth}
 use Rattle.idl_const.proofs.Entering.{count_entered, cycle_by, none_by, entered_shut}
 use Rattle.idl_const.proofs.Fuel.{none_free}
 use Rattle.idl_const.proofs.SeenAlike.{AreSeenAlike, worth_alike}
-use Rattle.idl_const.proofs.ChainLinks.{grows, one_end, nearest, LeadsTo, EndsAs, Linked, absent, leads, stops, linked, absent_within}
+use Rattle.idl_const.proofs.ChainLinks.{grows, one_end, nearest, LeadsTo, EndsAs, absent, leads, stops, linked, absent_within}
 
 -- ---- marks
 

@@ -2,14 +2,12 @@
 use Rattle.std.proofs.Common.{◌≡◌, ℕ, zero, suc, ◌≤◌, Bool, true, false, List, [], ◌∷◌, map, length, slice_get, Some, refl, sym, ap, ◌∙◌, arith}
 use Rattle.std.specs.Option.{option_map}
 use Rattle.std.specs.Prelude.{slice_set}
-use Rattle.std.proofs.Math.ListN.{length-set}
 use Rattle.schema.specs.PlainKind.{PlainKind}
 use Rattle.idl_include.specs.Numbering.{Filed}
 use Rattle.idl_include.specs.Spots.{GivenValue, values_of}
-use Rattle.check_model.specs.Worths.{most_const_levels}
-use Rattle.check_model.specs.Evaluation.{Setting, worth_by, on_entering, named_worth, is_free, all_free, given_worth}
-use Rattle.idl_const.specs.Given.{FiledTree, tree_given, tree_numbered}
-use Rattle.idl_const.specs.Marks.{free_count, worth_where}
+use Rattle.check_model.specs.Evaluation.{Setting, on_entering, named_worth, is_free}
+use Rattle.idl_const.specs.Given.{FiledTree, tree_given}
+use Rattle.idl_const.specs.Marks.{free_count}
 use Rattle.idl_const.proofs.Entering.{count_entered, cycle_by}
 
 pub none_free : (free : List Bool) (which : ℕ) → free_count free ≡ 0 → is_free free which ≡ false

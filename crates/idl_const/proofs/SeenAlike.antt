@@ -1,5 +1,5 @@
 -- What a value is worth is the same by two rules for given values that look the same from every place.
-use Rattle.std.proofs.Common.{◌≡◌, ℕ, ℤ, List, [], ◌∷◌, Option, Some, None, refl, ap}
+use Rattle.std.proofs.Common.{◌≡◌, ℕ, ℤ, List, [], ◌∷◌, Option, Some, None, refl}
 use Rattle.idl_token.specs.declared.Place.{Place}
 use Rattle.thrift_value.specs.Tree.{Tree, item, pair}
 use Rattle.idl_include.specs.ConstExpr.{ConstExpr, int_const, double_const, literal_const, name_const, list_const, map_const, ConstItems, no_consts, const_item, ConstEntries, no_entries, const_entry}
@@ -8,7 +8,7 @@ use Rattle.schema.specs.declared.types.FieldsKind.{FieldsKind}
 use Rattle.schema.specs.declared.types.FieldsKind.TheVariants as fields
 use Rattle.schema.specs.PlainKind.{PlainKind}
 use Rattle.schema.specs.PlainSchema.{PlainField}
-use Rattle.check_model.specs.Worths.{Worth, valued, and_next, seen_at}
+use Rattle.check_model.specs.Worths.{valued, and_next, seen_at}
 use Rattle.check_model.specs.Evaluation.{Setting, NamedWorth, FieldValue, name_worth, default_worth, field_worth, fields_worth, made_fields, last_given, with_field, opened, takes_brackets, takes_braces, element_kind, row_tree, braced, struct_numbered, default_of, field_of_key, worth_by, items_by, pairs_by, given_by}
 
 -- they look the same from every place
