@@ -121,6 +121,15 @@ impl Ranking {
         Ok(())
     }
 
+    /// Makes room for so many structs.
+    fn make_room(&mut self, count: usize) -> Result<(), AllocError> {
+        self.users.reserve_exact(count)?;
+        self.missing.reserve_exact(count)?;
+        self.ranks.reserve_exact(count)?;
+        self.order.reserve_exact(count)?;
+        Ok(())
+    }
+
     /// Follows each struct that has a rank, in order.
     fn finish(&mut self) -> Result<(), AllocError> {
         for at in 0..self.ranks.len() {
@@ -130,6 +139,22 @@ impl Ranking {
             }
         }
         Ok(())
+    }
+
+    /// Ranks these structs, where none has a rank.
+    fn search(&mut self, alloc: Global, structs: &[StructDesc]) -> Result<(), AllocError> {
+        self.make_room(structs.len())?;
+        for one in structs {
+            self.add(alloc, one)?;
+        }
+        for (number, one) in structs.iter().enumerate() {
+            let Ok(number) = u32::try_from(number) else {
+                return Err(AllocError);
+            };
+            self.note_uses(number, one)?;
+        }
+        self.begin()?;
+        self.finish()
     }
 }
 
@@ -158,21 +183,11 @@ fn number_at(numbers: &[u32], place: u32) -> u32 {
 /// The ranks of structs: places in an order in which each stands behind those that it needs, or [`UNRANKED`].
 pub(crate) fn struct_ranks(alloc: Global, structs: &[StructDesc]) -> Result<Vec<u32>, AllocError> {
     let mut ranking = Ranking {
-        users: Vec::with_capacity(alloc, structs.len())?,
-        missing: Vec::with_capacity(alloc, structs.len())?,
-        ranks: Vec::with_capacity(alloc, structs.len())?,
-        order: Vec::with_capacity(alloc, structs.len())?,
+        users: Vec::new(alloc),
+        missing: Vec::new(alloc),
+        ranks: Vec::new(alloc),
+        order: Vec::new(alloc),
     };
-    for one in structs {
-        ranking.add(alloc, one)?;
-    }
-    for (number, one) in structs.iter().enumerate() {
-        let Ok(number) = u32::try_from(number) else {
-            return Err(AllocError);
-        };
-        ranking.note_uses(number, one)?;
-    }
-    ranking.begin()?;
-    ranking.finish()?;
+    ranking.search(alloc, structs)?;
     Ok(ranking.ranks)
 }
