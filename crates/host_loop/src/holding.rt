@@ -45,6 +45,13 @@ fn waits(conns: &LoopConnections, c: u32) -> bool
     conns.table.conn(c).asks().is_some()
 }
 
+/// Takes out the connection at this place of those that are held.
+fn let_out(held: &mut Vec<u32>, at: usize) {
+    if at < held.len() {
+        held.remove(at);
+    }
+}
+
 impl<H: Handler, J: Journal> Serving<Hall<H, J>> {
     /// Tries to admit the frame of a connection, if it is open, and its frame waits.
     fn try_one<L: Links, D: Desk, G>(
@@ -71,17 +78,6 @@ impl<H: Handler, J: Journal> Serving<Hall<H, J>> {
         }
     }
 
-    /// Takes out the connection at this place of those that are held.
-    fn let_out(&mut self, at: usize)
-        ensures conns { self.new.conns ≡ self.old.conns }
-        ensures seat { self.new.seat ≡ self.old.seat }
-        ensures own { self.new.own ≡ self.old.own }
-    {
-        if at < self.held.len() {
-            self.held.remove(at);
-        }
-    }
-
     /// Admits the first of the frames that are held for which there is room.
     fn look<L: Links, D: Desk, G>(
         &mut self,
@@ -100,12 +96,12 @@ impl<H: Handler, J: Journal> Serving<Hall<H, J>> {
             };
             match self.try_one(run, links, c) {
                 Found::Admitted => {
-                    self.let_out(at);
+                    let_out(&mut self.held, at);
                     return HeldLook::Admitted(c);
                 }
                 Found::NoRoom => one = true,
                 Found::Gone => {
-                    self.let_out(at);
+                    let_out(&mut self.held, at);
                     return HeldLook::Changed;
                 }
             }
