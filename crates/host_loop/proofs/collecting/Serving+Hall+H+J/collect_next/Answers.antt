@@ -1,4 +1,3 @@
-use Rattle.std.proofs.Common.{◌∙◌}
 use Rattle.host_loop.proofs.collecting.Serving+Hall+H+J.collect_next.Goals as goal
 
 pub make_turn-requires-clause-serving : goal.make_turn-requires-clause-serving
@@ -6,30 +5,3 @@ make_turn-requires-clause-serving g c κs within = (c.args.links.now, c.requires
 
 pub collect-requires-clause-serving : goal.collect-requires-clause-serving
 collect-requires-clause-serving g c κs within = c.in_ok-make_turn.ensures.kept c.args.links.now c.requires.serving
-
-pub visit-requires-clause-serving : goal.visit-requires-clause-serving
-visit-requires-clause-serving g c κs within = c.in_ok-c.ensures.serving
-
-pub retry_all_held-requires-clause-serving : goal.retry_all_held-requires-clause-serving
-retry_all_held-requires-clause-serving g c κs within = c.in_ok-visit.ensures.serving
-
-pub returns-in_err-c-clause-plan : goal.returns-in_err-c-clause-plan
-returns-in_err-c-clause-plan g c = c.collect.ensures.plan
-
-pub returns-in_err-visit-clause-plan : goal.returns-in_err-visit-clause-plan
-returns-in_err-visit-clause-plan g c = c.visit.ensures.plan ∙ c.collect.ensures.plan
-
-pub returns-in_err-retry_all_held-clause-plan : goal.returns-in_err-retry_all_held-clause-plan
-returns-in_err-retry_all_held-clause-plan g c = c.retry_all_held.ensures.plan ∙ c.visit.ensures.plan ∙ c.collect.ensures.plan
-
-pub returns-clause-serving : goal.returns-clause-serving
-returns-clause-serving g c = c.in_ok-retry_all_held.ensures.serving
-
-pub returns-clause-plan : goal.returns-clause-plan
-returns-clause-plan g c = c.retry_all_held.ensures.plan ∙ c.visit.ensures.plan ∙ c.collect.ensures.plan
-
-pub returns-in_default-clause-serving : goal.returns-in_default-clause-serving
-returns-in_default-clause-serving g c = c.in_ok-c.ensures.serving
-
-pub returns-in_default-clause-plan : goal.returns-in_default-clause-plan
-returns-in_default-clause-plan g c = c.collect.ensures.plan
