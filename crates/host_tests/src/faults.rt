@@ -306,24 +306,38 @@ fn breaks_in_turn<R: Threads + Wait + Sync>(
     Ok(true)
 }
 
-/// Whether that holds of each device of a command.
-fn breaks_by_each<R: Threads + Wait + Sync>(
+/// Whether that holds of each device of a command that ended so, and it ended as it is to.
+fn breaks_as_told<R: Threads + Wait + Sync>(
     rt: &R,
     alloc: Global,
     command: &Command,
+    whole: &Ended,
 ) -> Result<bool, AllocError> {
-    let whole = command.given().run(rt, alloc, command.words)?;
     for (device, calls) in command.devices {
-        if !breaks_in_turn(rt, alloc, command, &whole, *device, *calls)? {
+        if !breaks_in_turn(rt, alloc, command, whole, *device, *calls)? {
             return Ok(false);
         }
     }
     Ok(whole.status == command.status)
 }
 
-/// Sees that of each command.
-fn each_breaks<R: Abort + Threads + Wait + Sync>(rt: &R, alloc: Global) -> Result<(), Fail> {
-    for command in &COMMANDS {
+/// Whether a command ends as it is to, and breaks so on each of its devices.
+fn breaks_by_each<R: Threads + Wait + Sync>(
+    rt: &R,
+    alloc: Global,
+    command: &Command,
+) -> Result<bool, AllocError> {
+    let whole = command.given().run(rt, alloc, command.words)?;
+    breaks_as_told(rt, alloc, command, &whole)
+}
+
+/// Sees that of each of these commands.
+fn each_breaks<R: Abort + Threads + Wait + Sync>(
+    rt: &R,
+    alloc: Global,
+    commands: &[Command],
+) -> Result<(), Fail> {
+    for command in commands {
         assert!(rt; breaks_by_each(rt, alloc, command)?, "{:?}", command.words);
     }
     Ok(())
@@ -331,5 +345,5 @@ fn each_breaks<R: Abort + Threads + Wait + Sync>(rt: &R, alloc: Global) -> Resul
 
 #[test]
 fn each_call_on_a_device_may_fail(rt: HostRuntime) -> Result<(), Fail> {
-    each_breaks(&rt, rt.alloc())
+    each_breaks(&rt, rt.alloc(), &COMMANDS)
 }

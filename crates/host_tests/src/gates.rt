@@ -109,9 +109,13 @@ fn meet<R: Threads + Wait + Sync>(rt: &R, alloc: Global, run: &Run) -> Result<bo
     Ok(gate.has_met() && ended.is_done_with(run.3))
 }
 
-/// Sees that they do in each run.
-fn each_meet<R: Abort + Threads + Wait + Sync>(rt: &R, alloc: Global) -> Result<(), Fail> {
-    for run in &RUNS {
+/// Sees that they do in each of these runs.
+fn each_meet<R: Abort + Threads + Wait + Sync>(
+    rt: &R,
+    alloc: Global,
+    runs: &[Run],
+) -> Result<(), Fail> {
+    for run in runs {
         assert!(rt; meet(rt, alloc, run)?, "{:?}", run.0);
     }
     Ok(())
@@ -119,7 +123,7 @@ fn each_meet<R: Abort + Threads + Wait + Sync>(rt: &R, alloc: Global) -> Result<
 
 #[test]
 fn as_many_calls_are_under_way_at_once_as_there_are_workers(rt: HostRuntime) -> Result<(), Fail> {
-    each_meet(&rt, rt.alloc())
+    each_meet(&rt, rt.alloc(), &RUNS)
 }
 
 /// Counts the outcomes of each frame of the first eight connections, and those of others.

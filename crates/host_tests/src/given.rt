@@ -130,92 +130,83 @@ impl<'a> Given<'a> {
         words: &[&str],
         gate: &G,
     ) -> Result<Ended, AllocError> {
-        let calculator: Box<dyn Handler> = Box::new(alloc, Calculator::new(alloc))?;
-        let store: Box<dyn Handler> = Box::new(alloc, Store::new(alloc))?;
-        let mirror: Box<dyn Handler> = Box::new(alloc, Mirror::new())?;
-        let handlers = vec![in alloc; calculator, store, mirror]?;
-        self.run_with(rt, alloc, words, gate, handlers)
+        let words = owned(alloc, words)?;
+        let handlers = house_handlers_of(alloc)?;
+        self.run_with(rt, alloc, words.as_slice(), gate, handlers)
     }
 
     fn run_with<G: Gate + Sync, H: Handler, R: Threads + Wait + Sync>(
         self,
         rt: &R,
         alloc: Global,
-        words: &[&str],
+        words: &[String],
         gate: &G,
         handlers: Vec<H>,
     ) -> Result<Ended, AllocError> {
-        let words = owned(alloc, words)?;
         let streams = self.streams_of(alloc)?;
-        Ok(streams.ended_by(rt, alloc, words.as_slice(), gate, handlers))
+        Ok(streams.ended_by(rt, alloc, words, gate, handlers))
     }
 
-    /// The calls of this kind that fail.
-    fn fails_of(self, alloc: Global, kind: Called) -> Result<Vec<u64>, AllocError> {
-        match self.failing {
-            Some((failing, call)) if failing == kind => Ok(vec![in alloc; call]?),
-            _ => Ok(Vec::new(alloc)),
+    /// The calls of this kind that fail. Without memory none does, and a test that one fails doesn't pass.
+    fn fails_of(self, alloc: Global, kind: Called) -> Vec<u64> {
+        let mut fails = Vec::new(alloc);
+        if let Some((failing, call)) = self.failing {
+            if failing == kind {
+                let _ = fails.push(call);
+            }
         }
+        fails
     }
 
     fn files_of(self, alloc: Global) -> Result<MemFiles, AllocError> {
-        let fails = self.fails_of(alloc, Called::File)?;
-        let files = MemFiles::new(held_files(alloc, self.files)?, fails);
-        Ok(files.with_sink_fails(self.fails_of(alloc, Called::Journal)?))
+        let files = held_files(alloc, self.files)?;
+        let files = MemFiles::new(files, self.fails_of(alloc, Called::File));
+        Ok(files.with_sink_fails(self.fails_of(alloc, Called::Journal)))
     }
 
     fn input_of(self, alloc: Global) -> Result<MemSource, AllocError> {
-        let fails = self.fails_of(alloc, Called::Input)?;
-        Ok(MemSource::in_pieces(self.input.to_vec(alloc)?, fails, self.piece.max(1)))
+        let input = self.input.to_vec(alloc)?;
+        let fails = self.fails_of(alloc, Called::Input);
+        Ok(MemSource::in_pieces(input, fails, self.piece.max(1)))
     }
 
-    fn output_of(self, alloc: Global) -> Result<MemSink, AllocError> {
-        let fails = self.fails_of(alloc, Called::Output)?;
-        Ok(MemSink::in_pieces(alloc, fails, self.piece.max(1)))
+    fn output_of(self, alloc: Global) -> MemSink {
+        let fails = self.fails_of(alloc, Called::Output);
+        MemSink::in_pieces(alloc, fails, self.piece.max(1))
     }
 
-    fn errors_of(self, alloc: Global) -> Result<MemSink, AllocError> {
-        Ok(MemSink::new(alloc, self.fails_of(alloc, Called::Errors)?))
+    fn errors_of(self, alloc: Global) -> MemSink {
+        MemSink::new(alloc, self.fails_of(alloc, Called::Errors))
     }
 
     /// Links over a script, in place of a port.
-    fn binder_of(self, alloc: Global) -> Result<MemBinder, AllocError> {
-        let fails = self.fails_of(alloc, Called::Listen)?;
-        let reply = self.reply.to_vec(alloc)?;
-        let pipe = self.fails_of(alloc, Called::Pipe)?;
+    fn links_of(self, alloc: Global) -> Result<MemBinder, AllocError> {
         match read_script(alloc, self.port, 0, false) {
-            Ok(script) => {
-                self.with_failing(alloc, MemBinder::new(script, fails).with_pipe(reply, pipe))
-            }
+            Ok(script) => Ok(MemBinder::new(script, self.fails_of(alloc, Called::Listen))),
             Err(_) => Err(AllocError),
         }
     }
 
-    /// A binder on whose links the call fails that is to.
-    fn with_failing(self, alloc: Global, binder: MemBinder) -> Result<MemBinder, AllocError> {
-        match self.failing {
-            Some((Called::Next, call)) => Ok(binder.with_net_fails(vec![in alloc; call]?)),
-            Some((Called::Read, call)) => {
-                Ok(binder.with_link_fails(0, vec![in alloc; call]?, Vec::new(alloc)))
-            }
-            Some((Called::Write, call)) => {
-                Ok(binder.with_link_fails(0, Vec::new(alloc), vec![in alloc; call]?))
-            }
-            _ => Ok(binder),
-        }
+    /// The same, on which the calls fail that are to, and what a port answers.
+    fn binder_of(self, alloc: Global) -> Result<MemBinder, AllocError> {
+        let reply = self.reply.to_vec(alloc)?;
+        let links = self.links_of(alloc)?;
+        let binder = links.with_pipe(reply, self.fails_of(alloc, Called::Pipe));
+        let binder = binder.with_net_fails(self.fails_of(alloc, Called::Next));
+        let reads = self.fails_of(alloc, Called::Read);
+        let writes = self.fails_of(alloc, Called::Write);
+        Ok(binder.with_link_fails(0, reads, writes))
     }
 
     fn streams_of(self, alloc: Global) -> Result<Streams, AllocError> {
         let files = self.files_of(alloc)?;
         let input = self.input_of(alloc)?;
-        let output = self.output_of(alloc)?;
-        let errors = self.errors_of(alloc)?;
         let binder = self.binder_of(alloc)?;
         Ok(Streams {
             files,
             input,
-            output,
-            errors,
+            output: self.output_of(alloc),
+            errors: self.errors_of(alloc),
             binder,
         })
     }
@@ -241,32 +232,55 @@ impl Streams {
         gate: &G,
         handlers: Vec<H>,
     ) -> Ended {
-        let Streams {
-            mut files,
-            mut input,
-            mut output,
-            mut errors,
-            mut binder,
-        } = self;
-        let status = status_of(
+        let mut streams = self;
+        let status = streams.status_of(rt, alloc, words, gate, handlers);
+        streams.ended(alloc, status)
+    }
+
+    fn status_of<G: Gate + Sync, H: Handler, R: Threads + Wait + Sync>(
+        &mut self,
+        rt: &R,
+        alloc: Global,
+        words: &[String],
+        gate: &G,
+        handlers: Vec<H>,
+    ) -> Status {
+        status_of(
             rt,
             alloc,
             words,
-            &mut files,
-            &mut input,
-            &mut output,
-            &mut errors,
-            &mut binder,
+            &mut self.files,
+            &mut self.input,
+            &mut self.output,
+            &mut self.errors,
+            &mut self.binder,
             gate,
             handlers,
-        );
-        let journal = files.read_whole(alloc, JOURNAL, 1_000_000);
+        )
+    }
+
+    /// What was written, with the status that the command came to.
+    fn ended(self, alloc: Global, status: Status) -> Ended {
+        let Streams {
+            mut files,
+            output,
+            errors,
+            ..
+        } = self;
         Ended {
             status,
             output: output.into_bytes(),
             errors: errors.into_bytes(),
-            journal: journal.unwrap_or_else(|_| Vec::new(alloc)),
+            journal: journal_in(alloc, &mut files),
         }
+    }
+}
+
+/// What the journal's file holds, which is nothing where there is none.
+fn journal_in(alloc: Global, files: &mut MemFiles) -> Vec<u8> {
+    match files.read_whole(alloc, JOURNAL, 1_000_000) {
+        Ok(journal) => journal,
+        Err(_) => Vec::new(alloc),
     }
 }
 
@@ -297,23 +311,59 @@ fn status_of<
     )
 }
 
+/// A calculator, a store and a mirror.
+fn house_handlers_of(alloc: Global) -> Result<Vec<Box<dyn Handler>>, AllocError> {
+    let mut handlers = Vec::new(alloc);
+    let calculator: Box<dyn Handler> = Box::new(alloc, Calculator::new(alloc))?;
+    handlers.push(calculator)?;
+    add_store(alloc, &mut handlers)?;
+    add_mirror(alloc, &mut handlers)?;
+    Ok(handlers)
+}
+
+fn add_store(alloc: Global, handlers: &mut Vec<Box<dyn Handler>>) -> Result<(), AllocError> {
+    let store: Box<dyn Handler> = Box::new(alloc, Store::new(alloc))?;
+    handlers.push(store)?;
+    Ok(())
+}
+
+fn add_mirror(alloc: Global, handlers: &mut Vec<Box<dyn Handler>>) -> Result<(), AllocError> {
+    let mirror: Box<dyn Handler> = Box::new(alloc, Mirror::new())?;
+    handlers.push(mirror)?;
+    Ok(())
+}
+
+fn push_word(alloc: Global, words: &mut Vec<String>, word: &str) -> Result<(), AllocError> {
+    let word = String::from_str(alloc, word)?;
+    words.push(word)?;
+    Ok(())
+}
+
 fn owned(alloc: Global, words: &[&str]) -> Result<Vec<String>, AllocError> {
     let mut all = Vec::new(alloc);
     for word in words {
-        all.push(String::from_str(alloc, word)?)?;
+        push_word(alloc, &mut all, word)?;
     }
     Ok(all)
 }
 
-fn held_file(alloc: Global, name: &str, text: &[u8]) -> Result<(String, Vec<u8>), AllocError> {
+/// Adds a file.
+fn hold(
+    alloc: Global,
+    files: &mut Vec<(String, Vec<u8>)>,
+    name: &str,
+    text: &[u8],
+) -> Result<(), AllocError> {
     let name = String::from_str(alloc, name)?;
-    Ok((name, text.to_vec(alloc)?))
+    let text = text.to_vec(alloc)?;
+    files.push((name, text))?;
+    Ok(())
 }
 
 fn held_files(alloc: Global, held: &[Held]) -> Result<Vec<(String, Vec<u8>)>, AllocError> {
     let mut files = Vec::new(alloc);
     for (name, text) in held {
-        files.push(held_file(alloc, name, text)?)?;
+        hold(alloc, &mut files, name, text)?;
     }
     Ok(files)
 }

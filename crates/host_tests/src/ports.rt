@@ -155,9 +155,13 @@ fn ends_in_turn<R: Threads + Wait + Sync>(
     Ok(at.saturating_add(1) == ends.len())
 }
 
-/// Sees that of each kind.
-fn each_ends_in_turn<R: Abort + Threads + Wait + Sync>(rt: &R, alloc: Global) -> Result<(), Fail> {
-    for (kind, ends) in &ENDS {
+/// Sees that of each of these kinds.
+fn each_ends_in_turn<R: Abort + Threads + Wait + Sync>(
+    rt: &R,
+    alloc: Global,
+    kinds: &[(Called, Ends)],
+) -> Result<(), Fail> {
+    for (kind, ends) in kinds {
         assert!(rt; ends_in_turn(rt, alloc, *kind, ends)?, "{ends:?}");
     }
     Ok(())
@@ -165,7 +169,7 @@ fn each_ends_in_turn<R: Abort + Threads + Wait + Sync>(rt: &R, alloc: Global) ->
 
 #[test]
 fn each_call_on_links_may_fail(rt: HostRuntime) -> Result<(), Fail> {
-    each_ends_in_turn(&rt, rt.alloc())
+    each_ends_in_turn(&rt, rt.alloc(), &ENDS)
 }
 
 /// The same for one connection.
@@ -208,7 +212,9 @@ fn many_lines(alloc: Global) -> Result<Vec<u8>, AllocError> {
 }
 
 /// Where a write of the journal with this number fails: the status, how the summary begins, and how many bytes of the lines stand in the file.
-const JOURNALS: [(u64, Status, &[u8], usize); 3] = [
+type Lost = (u64, Status, &'static [u8], usize);
+
+const JOURNALS: [Lost; 3] = [
     (
         0,
         Status::JournalFault,
@@ -233,7 +239,7 @@ const JOURNALS: [(u64, Status, &[u8], usize); 3] = [
 fn is_lost_so<R: Threads + Wait + Sync>(
     rt: &R,
     alloc: Global,
-    row: &(u64, Status, &[u8], usize),
+    row: &Lost,
 ) -> Result<bool, AllocError> {
     let (script, lines) = (many_pings(alloc)?, many_lines(alloc)?);
     let failing = Some((Called::Journal, row.0));
@@ -246,9 +252,13 @@ fn is_lost_so<R: Threads + Wait + Sync>(
     )
 }
 
-/// Sees that of each write, and of one that isn't made.
-fn each_is_lost_so<R: Abort + Threads + Wait + Sync>(rt: &R, alloc: Global) -> Result<(), Fail> {
-    for row in &JOURNALS {
+/// Sees that of each of these writes.
+fn each_is_lost_so<R: Abort + Threads + Wait + Sync>(
+    rt: &R,
+    alloc: Global,
+    rows: &[Lost],
+) -> Result<(), Fail> {
+    for row in rows {
         assert!(rt; is_lost_so(rt, alloc, row)?, "{}", row.0);
     }
     Ok(())
@@ -256,5 +266,5 @@ fn each_is_lost_so<R: Abort + Threads + Wait + Sync>(rt: &R, alloc: Global) -> R
 
 #[test]
 fn each_write_of_a_journal_may_fail(rt: HostRuntime) -> Result<(), Fail> {
-    each_is_lost_so(&rt, rt.alloc())
+    each_is_lost_so(&rt, rt.alloc(), &JOURNALS)
 }
