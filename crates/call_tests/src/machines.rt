@@ -1,7 +1,8 @@
 //! Scripts of two connections that the machine without threads runs until the journal fails, beside the plain machine with their events by hand: the same tape,
 //! the same calls in the same order, the same bytes sent, and the same ends.
 
-ghost use Rattle.std.specs.Prelude.{◌≤◌, IfSome};
+ghost use Rattle.std.specs.Prelude.{◌≡◌, ◌≤◌, length, IfSome};
+ghost use Rattle.processor.specs.Offices.{plain_office};
 ghost use Rattle.script_text.specs.Sound.{MovesItsWorkers};
 
 use crate::faulty_journals::FaultyJournal;
@@ -17,6 +18,7 @@ use host_model::plain::{PlainEntry, marks_of, output};
 use house_handlers::Mirror;
 use machine_model::plain::{PlainCell, PlainConn};
 use outside::{Bytes, Mark, MarkAt, Tape};
+use processor::Office;
 use run_report::ReportedJournal;
 use script_text::laws::scripts_are_sound;
 use script_text::{Script, read_script};
@@ -77,14 +79,30 @@ fn run_script(
     requires few { workers ≤ 8 }
     requires moves { MovesItsWorkers workers script.now }
 {
-    let handlers = one_mirror(alloc)?;
     let desk = office(alloc, Protocol::Compact)?;
+    run_at(alloc, script, &desk, workers, fails_at)
+}
+
+// Runs it at this office.
+fn run_at(
+    alloc: Global,
+    script: &Script,
+    desk: &Office,
+    workers: u32,
+    fails_at: usize,
+) -> Result<Rehearsed<Mirror, FaultyJournal>, AllocError>
+    requires few { workers ≤ 8 }
+    requires moves { MovesItsWorkers workers script.now }
+    requires one { length (plain_office desk.now).bindings ≡ 1 }
+    requires longest { (plain_office desk.now).max_frame ≡ 268435456 }
+{
+    let handlers = one_mirror(alloc)?;
     let limits = Limits {
         max_frame: 268_435_456,
         read_budget: 268_435_456,
     };
     let journal = FaultyJournal::new(alloc, fails_at);
-    Ok(rehearse(alloc, script, &desk, handlers, journal, workers, limits))
+    Ok(rehearse(alloc, script, desk, handlers, journal, workers, limits))
 }
 
 // What a mark is: a letter, its connection, and the bytes that it has.

@@ -1,6 +1,6 @@
 //! Scripts, printed.
 
-use script_text::{print_script, read_script};
+use script_text::{Script, print_script, read_script};
 use std::alloc::{AllocError, Global};
 use std::test::Fail;
 use workload::generate;
@@ -28,30 +28,40 @@ const PRINTS: [(&[u8], &[u8]); 6] = [
     ),
 ];
 
+/// Whether a script has this print.
+fn has_print(alloc: Global, script: &Script, print: &[u8]) -> Result<bool, AllocError> {
+    let printed = print_script(alloc, script)?;
+    Ok(printed.as_slice() == print)
+}
+
 /// Whether a text is a script with this print.
 fn prints(alloc: Global, text: &[u8], print: &[u8]) -> Result<bool, AllocError> {
-    let Ok(script) = read_script(alloc, text, 2, true) else {
-        return Ok(false);
-    };
-    let printed = print_script(alloc, &script)?;
-    Ok(printed.as_slice() == print)
+    match read_script(alloc, text, 2, true) {
+        Ok(script) => has_print(alloc, &script, print),
+        Err(_) => Ok(false),
+    }
+}
+
+/// Whether a text is one, and its print is printed to itself.
+fn prints_again(alloc: Global, text: &[u8], print: &[u8]) -> Result<bool, AllocError> {
+    Ok(prints(alloc, text, print)? && prints(alloc, print, print)?)
 }
 
 #[test]
 fn scripts_are_printed(rt: HostRuntime) -> Result<(), Fail> {
-    for (text, print) in PRINTS {
-        let same = prints(rt.alloc(), text, print)?;
-        assert!(rt; same, "{text:?}");
-        let again = prints(rt.alloc(), print, print)?;
-        assert!(rt; again, "{print:?}");
+    for (text, print) in &PRINTS {
+        assert!(rt; prints_again(rt.alloc(), text, print)?, "{text:?}");
     }
     Ok(())
 }
 
+fn is_a_workload_printed(alloc: Global) -> Result<bool, AllocError> {
+    let script = generate(alloc, 1, 2)?;
+    has_print(alloc, &script, TWO_FRAMES)
+}
+
 #[test]
 fn a_workload_is_printed(rt: HostRuntime) -> Result<(), Fail> {
-    let script = generate(rt.alloc(), 1, 2)?;
-    let printed = print_script(rt.alloc(), &script)?;
-    assert!(rt; printed.as_slice() == TWO_FRAMES);
+    assert!(rt; is_a_workload_printed(rt.alloc())?);
     Ok(())
 }

@@ -1,6 +1,7 @@
 //! A recorded connection that an office of the example answers with a mirror, where the journal or the output fails.
 
 ghost use Rattle.std.specs.Prelude.{◌≡◌, length, IfOk};
+ghost use Rattle.processor.specs.Offices.{plain_office};
 
 use crate::faulty_journals::FaultyJournal;
 use crate::offices::office;
@@ -10,6 +11,7 @@ use envelope::Protocol;
 use house_handlers::Mirror;
 use journal_text::put_entry;
 use outside::{MemSink, MemSource};
+use processor::Office;
 use recorded_runs::ServingFault::{self, JournalFault, WriteFault};
 use recorded_runs::answer_recorded;
 use run_report::EntryLine;
@@ -52,29 +54,58 @@ pub(crate) fn one_mirror(alloc: Global) -> Result<Vec<Mirror>, AllocError>
     Ok(handlers)
 }
 
-// Whether recorded calls come to what a row says.
-fn is_cut(alloc: Global, row: &Row) -> Result<bool, AllocError> {
-    let mut input = MemSource::new(CALLS.to_vec(alloc)?, Vec::new(alloc));
-    let mut output = MemSink::in_pieces(alloc, vec![in alloc; row.1]?, 1);
+// Whether the recorded calls, answered at this office, end as a row says.
+fn ends_so(
+    alloc: Global,
+    input: &mut MemSource,
+    output: &mut MemSink,
+    desk: &Office,
+    row: &Row,
+) -> Result<bool, AllocError>
+    requires one { length (plain_office desk.now).bindings ≡ 1 }
+    requires longest { (plain_office desk.now).max_frame ≡ 268435456 }
+{
     let handlers = one_mirror(alloc)?;
-    let desk = office(alloc, Protocol::Compact)?;
     let journal = FaultyJournal::new(alloc, row.0);
     let limits = Limits {
         max_frame: 268_435_456,
         read_budget: 268_435_456,
     };
     let answered = answer_recorded::<Lines, _, _, _, _, _>(
-        alloc,
-        &mut input,
-        &mut output,
-        &desk,
-        handlers,
-        journal,
-        0,
-        limits,
+        alloc, input, output, desk, handlers, journal, 0, limits,
     );
+    Ok(answered.result == Err(row.2))
+}
+
+// Whether they do at the office of the example.
+fn ends_so_there(
+    alloc: Global,
+    input: &mut MemSource,
+    output: &mut MemSink,
+    row: &Row,
+) -> Result<bool, AllocError> {
+    let desk = office(alloc, Protocol::Compact)?;
+    ends_so(alloc, input, output, &desk, row)
+}
+
+// Whether they come to what a row says, and this is written until then.
+fn is_written_so(
+    alloc: Global,
+    input: &mut MemSource,
+    fails: Vec<u64>,
+    row: &Row,
+) -> Result<bool, AllocError> {
+    let mut output = MemSink::in_pieces(alloc, fails, 1);
+    let is_told = ends_so_there(alloc, input, &mut output, row)?;
     let output = output.into_bytes();
-    Ok(answered.result == Err(row.2) && output.as_slice() == row.3)
+    Ok(is_told && output.as_slice() == row.3)
+}
+
+// Whether recorded calls come to what a row says.
+fn is_cut(alloc: Global, row: &Row) -> Result<bool, AllocError> {
+    let mut input = MemSource::new(CALLS.to_vec(alloc)?, Vec::new(alloc));
+    let fails = vec![in alloc; row.1]?;
+    is_written_so(alloc, &mut input, fails, row)
 }
 
 #[test]
