@@ -1,16 +1,18 @@
 //! A port of the loopback address is asked over a socket, and one where nobody listens.
 
-use crate::journal::KeyJournal;
-use crate::running::serve_links;
+ghost use Rattle.outside.specs.Opening.{AreFreshLinks};
+
+use crate::running::{NEVER, serve_links};
 use conn_table::Outcome;
-use house_handlers::Mirror;
 use net_links::NetBinder;
-use outside::Binder;
+use outside::{Binder, Links};
 use port_asking::{AskingFault, ask_port};
 use std::alloc::Global;
 use std::net::{Ipv4Addr, Net, OpenListener, SocketAddr, TcpListener};
+use std::sync::Wait;
 use std::test::Fail;
 use std::thread;
+use std::thread::Threads;
 
 /// Asks a port, and says what comes of it, and how many faults were counted.
 fn ask<N: Net>(net: &N, alloc: Global, port: u16) -> (Result<Option<Vec<u8>>, AskingFault>, u64) {
@@ -19,27 +21,35 @@ fn ask<N: Net>(net: &N, alloc: Global, port: u16) -> (Result<Option<Vec<u8>>, As
     (result, binder.faults())
 }
 
+/// Whether the payload comes back from a port, without a fault.
+fn is_answered<N: Net>(net: &N, alloc: Global, port: u16) -> bool {
+    let (result, faults) = ask(net, alloc, port);
+    match result {
+        Ok(Some(payload)) => payload.as_slice() == [5].as_slice() && faults == 0,
+        _ => false,
+    }
+}
+
+/// Whether all that comes over links is served by one worker.
+fn serves_all<L: Links, R: Threads + Wait + Sync>(rt: &R, alloc: Global, links: &mut L) -> bool
+    requires { AreFreshLinks (L.state links.old) }
+{
+    match serve_links(rt, alloc, links, NEVER, 1) {
+        Some(served) => served.outcome == Outcome::All,
+        None => false,
+    }
+}
+
 #[test]
 fn a_port_is_asked(rt: HostRuntime) -> Result<(), Fail> {
     let mut binder = NetBinder::new(&rt);
     let mut links = binder.listen(rt.alloc(), 0, 1)?;
     let port = links.port()?;
-    let asking = thread::spawn(&rt, move || ask(&rt, rt.alloc(), port))?;
-    let served = serve_links(
-        &rt,
-        rt.alloc(),
-        &mut links,
-        vec![in rt.alloc(); Mirror::new()]?,
-        KeyJournal::new(rt.alloc(), 1_000),
-        1,
-    );
-    let (result, faults) = asking.join(&rt);
+    let asking = thread::spawn(&rt, move || is_answered(&rt, rt.alloc(), port))?;
+    let served = serves_all(&rt, rt.alloc(), &mut links);
+    let answered = asking.join(&rt);
     binder.take_back(links);
-    assert!(rt; served.outcome == Outcome::All && !binder.tells());
-    let Ok(Some(payload)) = result else {
-        panic!(rt; "a frame comes back")
-    };
-    assert!(rt; payload.as_slice() == [5].as_slice() && faults == 0);
+    assert!(rt; served && answered && !binder.tells());
     Ok(())
 }
 

@@ -45,12 +45,14 @@ impl Journal for KeyJournal {
     }
 
     fn append(&mut self, entry: Entry) -> Result<(), Failed> {
+        let key = entry.key;
+        drop(entry);
         if self.fails_at <= self.keys.len() {
             self.torn = true;
             self.faults = self.faults.saturating_add(1);
             return Err(Failed);
         }
-        let _ = self.keys.push(entry.key);
+        let _ = self.keys.push(key);
         Ok(())
     }
 }

@@ -1,9 +1,8 @@
 //! A script, served over links of it.
 
-ghost use Rattle.std.specs.Prelude.{◌≡◌, ◌≤◌, IfSome, false, length};
+ghost use Rattle.std.specs.Prelude.{◌≤◌, IfSome};
 ghost use Rattle.outside.specs.Opening.{AreFreshLinks};
 ghost use Rattle.script_text.specs.Sound.{MovesItsWorkers};
-ghost use Rattle.threads_tests.specs.Untold.{untold};
 
 use crate::breaking::BreakingLinks;
 use crate::byte_desk::{ByteDesk, LIMITS};
@@ -30,13 +29,6 @@ pub(crate) struct Run {
     pub served: Served<Mirror, KeyJournal>,
 }
 
-/// One mirror.
-fn one_mirror(alloc: Global) -> Option<Vec<Mirror>>
-    ensures { IfSome result (λ handlers. length handlers.items ≡ 1) }
-{
-    vec![in alloc; Mirror::new()].ok()
-}
-
 /// The script that a text is.
 fn script_of(alloc: Global, text: &[u8]) -> Option<Script>
     ensures { IfSome result (λ script. MovesItsWorkers 0 script) }
@@ -48,54 +40,29 @@ fn script_of(alloc: Global, text: &[u8]) -> Option<Script>
     }
 }
 
-/// Calls `serve` with the desk and the limits of all runs. What its contract says isn't handed on: the tests look at what was done.
+/// Calls `serve` with the desk and the limits of all runs, and one mirror. What its contract says isn't handed on: the tests look at what was done.
 pub(crate) fn serve_links<L: Links, R: Threads + Wait + Sync>(
     rt: &R,
     alloc: Global,
     links: &mut L,
-    handlers: Vec<Mirror>,
-    journal: KeyJournal,
+    append: usize,
     workers: u32,
-) -> Served<Mirror, KeyJournal>
+) -> Option<Served<Mirror, KeyJournal>>
     requires fresh { AreFreshLinks (L.state links.old) }
     requires few { workers ≤ 8 }
-    requires one { length handlers.items ≡ 1 }
-    requires whole { journal.torn ≡ false }
 {
-    serve(
+    let handlers = vec![in alloc; Mirror::new()].ok()?;
+    Some(serve(
         rt,
         alloc,
         links,
         &ByteDesk {},
         handlers,
-        journal,
+        KeyJournal::new(alloc, append),
         workers,
         &EmptyGate,
         LIMITS,
-    )
-}
-
-/// Serves over links, where the journal fails at this append.
-fn run_over<R: Threads + Wait + Sync>(
-    rt: &R,
-    alloc: Global,
-    links: BreakingLinks,
-    handlers: Vec<Mirror>,
-    workers: u32,
-    append: usize,
-) -> Run
-    requires fresh { AreFreshLinks (untold links.links links.faults) }
-    requires few { workers ≤ 8 }
-    requires one { length handlers.items ≡ 1 }
-{
-    let mut links = links;
-    let journal = KeyJournal::new(alloc, append);
-    let served = serve_links(rt, alloc, &mut links, handlers, journal, workers);
-    Run {
-        is_broken: links.faults > 0,
-        links: links.links,
-        served,
-    }
+    ))
 }
 
 /// Serves a script with so many workers, where the journal fails at this append, and the links at this ask.
@@ -109,8 +76,12 @@ pub(crate) fn served<R: Threads + Wait + Sync>(
 ) -> Option<Run>
     requires { workers ≤ 8 }
 {
-    let handlers = one_mirror(alloc)?;
     let links = ScriptLinks::new(alloc, script_of(alloc, text)?).ok()?;
-    let links = BreakingLinks::new(links, ask);
-    Some(run_over(rt, alloc, links, handlers, workers, append))
+    let mut links = BreakingLinks::new(links, ask);
+    let served = serve_links(rt, alloc, &mut links, append, workers)?;
+    Some(Run {
+        is_broken: links.faults > 0,
+        links: links.links,
+        served,
+    })
 }

@@ -1,10 +1,11 @@
 //! More is written than the sockets take, by a loop whose client has sent its end and reads late.
 
-use crate::echo::ASK;
+use crate::echo::{ASK, connected};
 use net_links::{NetBinder, NetLinks};
 use outside::{Binder, Failed, Hint, Links, Taken};
+use std::alloc::{AllocError, Global};
 use std::io::Read;
-use std::net::{Ipv4Addr, Net, Shutdown, SocketAddr, TcpStream};
+use std::net::{Net, Shutdown, TcpStream};
 use std::sync::Wait;
 use std::test::Fail;
 use std::time::{Clock, Duration};
@@ -13,11 +14,10 @@ use std::{io, thread};
 /// So many bytes are written in all, far more than a socket takes.
 const ALL: u64 = 40_000_000;
 
-/// Reads all late, and answers how many bytes came, each of which is one more than the one before it.
-fn read_late<N: Net<Stream = TcpStream> + Clock>(net: &N, port: u16) -> io::Result<u64> {
-    let mut stream = TcpStream::connect(net, SocketAddr::from((Ipv4Addr::LOCALHOST, port)))?;
+/// Sends its end, reads all late, and answers how many bytes came, each of which is one more than the one before it.
+fn read_late<C: Clock>(clock: &C, stream: &mut TcpStream) -> io::Result<u64> {
     stream.shutdown(Shutdown::Write)?;
-    thread::sleep(net, Duration::from_millis(100));
+    thread::sleep(clock, Duration::from_millis(100));
     let mut into = [0u8; 3_001];
     let mut came = 0u64;
     for _ in 0..ALL {
@@ -33,6 +33,17 @@ fn read_late<N: Net<Stream = TcpStream> + Clock>(net: &N, port: u16) -> io::Resu
         }
     }
     Ok(came)
+}
+
+/// Whether all bytes come to a client that reads late.
+fn comes_whole<N: Net<Stream = TcpStream> + Clock>(net: &N, port: u16) -> bool {
+    let Ok(mut stream) = connected(net, port) else {
+        return false;
+    };
+    match read_late(net, &mut stream) {
+        Ok(came) => came == ALL,
+        Err(_) => false,
+    }
 }
 
 /// What has become of a connection on which all is to be written.
@@ -94,21 +105,35 @@ fn serve<R: Wait>(rt: &R, links: &mut NetLinks, bytes: &[u8]) -> Result<Sending,
     Ok(sending)
 }
 
-#[test]
-fn nothing_that_was_taken_is_lost(rt: HostRuntime) -> Result<(), Fail> {
-    let mut bytes = Vec::new(rt.alloc());
+/// Bytes each of which is one more than the one before it, enough for a write from any remainder.
+fn rising(alloc: Global) -> Result<Vec<u8>, AllocError> {
+    let mut bytes = Vec::new(alloc);
     for place in 0..20_251u32 {
         bytes.push((place % 251) as u8)?;
     }
+    Ok(bytes)
+}
+
+/// Whether all is taken of the one connection, and not at once.
+fn sends_all<R: Wait>(rt: &R, alloc: Global, links: &mut NetLinks) -> bool {
+    let Ok(bytes) = rising(alloc) else {
+        return false;
+    };
+    match serve(rt, links, bytes.as_slice()) {
+        Ok(sending) => sending.taken == ALL && sending.put_off > 0,
+        Err(_) => false,
+    }
+}
+
+#[test]
+fn nothing_that_was_taken_is_lost(rt: HostRuntime) -> Result<(), Fail> {
     let mut binder = NetBinder::new(&rt);
     let mut links = binder.listen(rt.alloc(), 0, 1)?;
     let port = links.port()?;
-    let client = thread::spawn(&rt, move || read_late(&rt, port))?;
-    let sending = serve(&rt, &mut links, bytes.as_slice());
+    let client = thread::spawn(&rt, move || comes_whole(&rt, port))?;
+    let sent = sends_all(&rt, rt.alloc(), &mut links);
     let came = client.join(&rt);
     binder.take_back(links);
-    assert!(rt; matches!(came, Ok(ALL)));
-    assert!(rt; matches!(sending, Ok(s) if s.taken == ALL && s.put_off > 0));
-    assert!(rt; binder.faults() == 0);
+    assert!(rt; sent && came && binder.faults() == 0);
     Ok(())
 }
