@@ -66,7 +66,24 @@ pub(crate) fn plain_text(
 ) -> Result<Vec<u8>, AllocError> {
     match answer {
         Ok(value) => value_text(alloc, &value),
-        Err(stop) => fault_text(alloc, file, stop.at, plain_word(stop.fault)),
+        Err(stop) => plain_fault_text(alloc, file, stop),
+    }
+}
+
+/// The text of a fault of the plain program in a file.
+pub(crate) fn plain_fault_text(
+    alloc: Global,
+    file: u32,
+    stop: PlainStop,
+) -> Result<Vec<u8>, AllocError> {
+    fault_text(alloc, file, stop.at, plain_word(stop.fault))
+}
+
+/// Whether the plain program and the real body answer the same, which ends so.
+pub(crate) fn are_same(plain: &[u8], real: Result<Vec<u8>, AllocError>, wanted: &[u8]) -> bool {
+    match real {
+        Ok(real) => plain == real.as_slice() && plain.ends_with(wanted),
+        Err(_) => false,
     }
 }
 

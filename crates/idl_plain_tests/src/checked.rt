@@ -2,7 +2,7 @@
 
 ghost use Rattle.idl_include.specs.SourcesOf.{AreFiles, sources_in};
 
-use crate::answers::{fault_text, plain_text, real_word};
+use crate::answers::{are_same, fault_text, plain_fault_text, real_word};
 use crate::loaded::loaded;
 use crate::schemas::schema_without;
 use check_passes::CheckKind;
@@ -12,7 +12,6 @@ use idl_check::check;
 use idl_include::Sources;
 use idl_names::GivenTree;
 use idl_names::laws::files_of_a_program_have_their_own_bases;
-use schema::Schema;
 use std::alloc::{AllocError, Global};
 use std::test::Fail;
 
@@ -59,22 +58,32 @@ const ROWS: [(&str, &str, &str); 9] = [
     ),
 ];
 
-/// The first fault of these values for the plain program, the first of which has this number; nothing where there is none.
+/// The fault of the value of this number for the plain program; nothing where there is none.
+fn fault_of(
+    alloc: Global,
+    environment: Environment<'_>,
+    which: u32,
+    value: &GivenTree<'_>,
+) -> Result<Vec<u8>, AllocError> {
+    let Some(kind) = kind_of_type(environment.files, 9, value.file, value.kind)? else {
+        return b"no type".to_vec(alloc);
+    };
+    match evaluate_given(environment, which, &kind) {
+        Ok(_) => Ok(Vec::new(alloc)),
+        Err(stop) => plain_fault_text(alloc, value.file, stop),
+    }
+}
+
+/// The first fault of these values for the plain program; nothing where there is none.
 fn plain_fault(
     alloc: Global,
     environment: Environment<'_>,
     values: &[GivenTree<'_>],
 ) -> Result<Vec<u8>, AllocError> {
-    for (which, value) in values.iter().enumerate() {
-        let Some(kind) = kind_of_type(environment.files, 9, value.file, value.kind)? else {
-            return b"no type".to_vec(alloc);
-        };
-        let Ok(which) = u32::try_from(which) else {
-            return Err(AllocError);
-        };
-        let answer = evaluate_given(environment, which, &kind);
-        if answer.is_err() {
-            return plain_text(alloc, value.file, answer);
+    for (value, which) in values.iter().zip(0u32..) {
+        let fault = fault_of(alloc, environment, which, value)?;
+        if !fault.is_empty() {
+            return Ok(fault);
         }
     }
     Ok(Vec::new(alloc))
@@ -94,13 +103,14 @@ fn real_fault(alloc: Global, sources: &Sources) -> Result<Vec<u8>, AllocError>
 }
 
 /// The first fault for the plain program.
-fn plain_first(alloc: Global, sources: &Sources, schema: &Schema) -> Result<Vec<u8>, AllocError>
+fn plain_first(alloc: Global, sources: &Sources) -> Result<Vec<u8>, AllocError>
     requires { AreFiles (sources_in sources.now) }
 {
+    let schema = schema_without(alloc, sources)?;
     files_of_a_program_have_their_own_bases();
     let environment = Environment {
         files: Based::new(alloc, sources.files()),
-        schema,
+        schema: &schema,
     };
     let values = all_given(environment.files)?;
     plain_fault(alloc, environment, values.as_slice())
@@ -110,13 +120,10 @@ fn plain_first(alloc: Global, sources: &Sources, schema: &Schema) -> Result<Vec<
 fn are_both(alloc: Global, sources: &Sources, wanted: &[u8]) -> Result<bool, AllocError>
     requires { AreFiles (sources_in sources.now) }
 {
-    let schema = schema_without(alloc, sources)?;
-    let plain = plain_first(alloc, sources, &schema)?;
-    let real = real_fault(alloc, sources)?;
+    let plain = plain_first(alloc, sources)?;
     Ok(
-        plain.as_slice() == real.as_slice()
-            && real.as_slice().ends_with(wanted)
-            && real.is_empty() == wanted.is_empty(),
+        plain.is_empty() == wanted.is_empty()
+            && are_same(plain.as_slice(), real_fault(alloc, sources), wanted),
     )
 }
 

@@ -1,11 +1,13 @@
 //! What names in constant values stand for.
 
-ghost use Rattle.idl_include.specs.SourcesOf.{AreFiles, sources_in};
+ghost use Rattle.std.specs.Prelude.{IfOk};
+ghost use Rattle.idl_include.specs.SourcesOf.{AreFiles, program_in, sources_in};
+ghost use Rattle.const_evaluator.specs.Places.{ArePlaces};
 
 use crate::loaded::{Held, loaded};
 use check_plain::{Based, const_named};
-use const_evaluator::{const_names, value_places};
-use idl_include::Sources;
+use const_evaluator::{ValuePlaces, const_names, value_places};
+use idl_include::{IdlFile, Sources};
 use idl_names::laws::files_of_a_program_have_their_own_bases;
 use idl_names::{ConstName, all_definitions, name_tables, program_spots, values_at};
 use std::alloc::{AllocError, Global};
@@ -67,6 +69,16 @@ const ROWS: [Row; 23] = [
     (BETWEEN, 1, "E.X", None),
 ];
 
+/// Where the values are given for what stands in these files.
+fn places_in(alloc: Global, files: &[IdlFile]) -> Result<ValuePlaces, AllocError>
+    ensures { IfOk result (λ places. ArePlaces (program_in files.now) places) }
+{
+    let spots = program_spots(alloc, files)?;
+    let values = values_at(alloc, spots.as_slice())?;
+    let places = value_places(alloc, values.as_slice())?;
+    Ok(places)
+}
+
 fn by_tables(
     alloc: Global,
     sources: &Sources,
@@ -77,11 +89,9 @@ fn by_tables(
 {
     files_of_a_program_have_their_own_bases();
     let files = sources.files();
+    let places = places_in(alloc, files)?;
     let definitions = all_definitions(alloc, files)?;
     let names = name_tables(alloc, files, &definitions)?;
-    let spots = program_spots(alloc, files)?;
-    let values = values_at(alloc, spots.as_slice())?;
-    let places = value_places(alloc, values.as_slice())?;
     let constants = const_names(alloc, &names, &definitions, &places)?;
     Ok(constants.const_named(file, name.as_bytes()))
 }

@@ -1,12 +1,14 @@
 //! What types mean, through typedefs.
 
-ghost use Rattle.idl_include.specs.SourcesOf.{AreFiles, sources_in};
+ghost use Rattle.std.specs.Prelude.{◌≡◌};
+ghost use Rattle.idl_include.specs.SourcesOf.{AreFiles, program_in, sources_in};
+ghost use Rattle.idl_names.specs.Listing.{listing_in, listing_of};
 
 use crate::loaded::{Held, loaded};
 use check_plain::{Based, kind_of_type};
 use idl_include::Sources;
 use idl_names::laws::files_of_a_program_have_their_own_bases;
-use idl_names::{all_definitions, name_tables};
+use idl_names::{Definitions, NameTables, all_definitions, name_tables};
 use idl_parser::{Definition, TypeTree};
 use idl_types::{MOST_TYPES, TypeTables, alias_types, type_meant};
 use schema::TypeDesc;
@@ -83,16 +85,34 @@ fn put_number(into: &mut String, word: &str, number: u32) -> Result<(), AllocErr
     into.push_str(str::from_utf8(&digits).unwrap_or(""))
 }
 
-/// The word of a type, or nothing.
-fn word_of(alloc: Global, kind: Option<&TypeDesc>) -> Result<String, AllocError> {
-    let mut word = String::new(alloc);
+/// Whether a type has this word, or there is none and the word is empty.
+fn is_worded(alloc: Global, kind: Option<&TypeDesc>, word: &str) -> Result<bool, AllocError> {
+    let mut put = String::new(alloc);
     if let Some(kind) = kind {
-        put_kind(&mut word, kind)?;
+        put_kind(&mut put, kind)?;
     }
-    Ok(word)
+    Ok(put.as_str() == word)
 }
 
 /// What a type means in the main file, by the types of all typedefs.
+fn by_names<'a>(
+    alloc: Global,
+    definitions: &Definitions<'a>,
+    names: &NameTables<'a>,
+    tree: &TypeTree,
+) -> Result<TypeDesc, AllocError>
+    requires { listing_in definitions.now ≡ listing_of (program_in names.now) }
+{
+    let aliases = alias_types(alloc, names, definitions.typedefs.as_slice())?;
+    let tables = TypeTables {
+        names: &*names,
+        aliases: aliases.as_slice(),
+    };
+    let mut room = MOST_TYPES;
+    type_meant(alloc, &tables, 0, tree, &mut room)
+}
+
+/// What a type means in the main file, by tables of all names.
 fn by_tables(alloc: Global, sources: &Sources, tree: &TypeTree) -> Result<TypeDesc, AllocError>
     requires { AreFiles (sources_in sources.now) }
 {
@@ -100,13 +120,7 @@ fn by_tables(alloc: Global, sources: &Sources, tree: &TypeTree) -> Result<TypeDe
     let files = sources.files();
     let definitions = all_definitions(alloc, files)?;
     let names = name_tables(alloc, files, &definitions)?;
-    let aliases = alias_types(alloc, &names, definitions.typedefs.as_slice())?;
-    let tables = TypeTables {
-        names: &names,
-        aliases: aliases.as_slice(),
-    };
-    let mut room = MOST_TYPES;
-    type_meant(alloc, &tables, 0, tree, &mut room)
+    by_names(alloc, &definitions, &names, tree)
 }
 
 /// The type of the last definition of the main file, which is a constant.
@@ -128,10 +142,8 @@ fn is_as_said(alloc: Global, front: &str, kind: &str, meant: &str) -> Result<boo
     };
     files_of_a_program_have_their_own_bases();
     let plain = kind_of_type(Based::new(alloc, sources.files()), 9, 0, tree)?;
-    let plain = word_of(alloc, plain.as_ref())?;
     let real = by_tables(alloc, &sources, tree).ok();
-    let real = word_of(alloc, real.as_ref())?;
-    Ok(plain.as_str() == meant && real.as_str() == meant)
+    Ok(is_worded(alloc, plain.as_ref(), meant)? && is_worded(alloc, real.as_ref(), meant)?)
 }
 
 #[test]

@@ -10,14 +10,17 @@ use std::alloc::{AllocError, Global};
 /// A file's name and its text.
 pub(crate) type Held = (&'static str, &'static str);
 
+/// A file in memory.
+fn held_file(alloc: Global, name: &str, text: &str) -> Result<(String, Vec<u8>), AllocError> {
+    let text = text.as_bytes().to_vec(alloc)?;
+    Ok((String::from_str(alloc, name)?, text))
+}
+
 /// These files in memory.
 fn in_memory(alloc: Global, held: &[(&str, &str)]) -> Result<MemFiles, AllocError> {
     let mut files = Vec::new(alloc);
     for (name, text) in held {
-        files.push((
-            String::from_str(alloc, name)?,
-            text.as_bytes().to_vec(alloc)?,
-        ))?;
+        files.push(held_file(alloc, name, text)?)?;
     }
     Ok(MemFiles::new(files, Vec::new(alloc)))
 }

@@ -1,7 +1,10 @@
 //! What names of types and services stand for.
 
+ghost use Rattle.idl_include.specs.SourcesOf.{AreFiles, sources_in};
+
 use crate::loaded::{Held, loaded};
 use check_plain::{Based, service_named, type_named};
+use idl_include::Sources;
 use idl_names::laws::files_of_a_program_have_their_own_bases;
 use idl_names::{TypeName, all_definitions, name_tables};
 use std::alloc::{AllocError, Global};
@@ -68,6 +71,25 @@ const ROWS: [Row; 21] = [
     (CHAINED, 1, "b.P", None, None),
 ];
 
+/// What a name stands for by tables, as a type's and as a service's.
+fn by_tables(
+    alloc: Global,
+    sources: &Sources,
+    file: u32,
+    name: &[u8],
+) -> Result<(Option<TypeName>, Option<u32>), AllocError>
+    requires { AreFiles (sources_in sources.now) }
+{
+    files_of_a_program_have_their_own_bases();
+    let files = sources.files();
+    let definitions = all_definitions(alloc, files)?;
+    let names = name_tables(alloc, files, &definitions)?;
+    Ok((
+        names.type_named(file, name),
+        names.service_named(file, name),
+    ))
+}
+
 fn is_as_said(alloc: Global, row: &Row) -> Result<bool, AllocError> {
     let (held, file, name, kind, service) = row;
     let name = name.as_bytes();
@@ -75,16 +97,10 @@ fn is_as_said(alloc: Global, row: &Row) -> Result<bool, AllocError> {
         return Ok(false);
     };
     files_of_a_program_have_their_own_bases();
-    let files = sources.files();
-    let plain = type_named(Based::new(alloc, files), *file, name)? == *kind
-        && service_named(Based::new(alloc, files), *file, name)? == *service;
-    let definitions = all_definitions(alloc, files)?;
-    let names = name_tables(alloc, files, &definitions)?;
-    Ok(
-        plain
-            && names.type_named(*file, name) == *kind
-            && names.service_named(*file, name) == *service,
-    )
+    let files = Based::new(alloc, sources.files());
+    let plain = type_named(files, *file, name)? == *kind
+        && service_named(files, *file, name)? == *service;
+    Ok(plain && by_tables(alloc, &sources, *file, name)? == (*kind, *service))
 }
 
 #[test]

@@ -2,7 +2,7 @@
 
 ghost use Rattle.idl_include.specs.SourcesOf.{AreFiles, sources_in};
 
-use crate::answers::{plain_text, real_text};
+use crate::answers::{are_same, plain_text, real_text};
 use crate::loaded::{Held, loaded};
 use crate::schemas::schema_without;
 use check_plain::{Based, kind_of_type};
@@ -147,8 +147,8 @@ fn are_both(alloc: Global, sources: &Sources, wanted: &[u8]) -> Result<bool, All
         return Ok(false);
     };
     let plain = plain_answer(alloc, sources, &kind, &last.value)?;
-    let real = real_answer(alloc, sources, &kind, &last.value)?;
-    Ok(plain.as_slice() == real.as_slice() && real.as_slice().ends_with(wanted))
+    let real = real_answer(alloc, sources, &kind, &last.value);
+    Ok(are_same(plain.as_slice(), real, wanted))
 }
 
 /// Whether both answer so for the last constant of a text.
