@@ -1,7 +1,7 @@
 -- What is bound may be served.
-use Rattle.std.proofs.Common.{◌≡◌, ℕ, ◌≤◌, ◌<◌, List, Option, Some, map, length, subst, sym, ap, arith}
+use Rattle.std.proofs.Common.{◌≡◌, ℕ, ◌≤◌, ◌<◌, List, Option, Some, map, length, subst, arith}
 use Rattle.std.specs.Prelude.{All, IfSome}
-use Rattle.call_model.specs.Offices.{Binding, IsSoundOffice, bound_name}
+use Rattle.call_model.specs.Offices.{Binding, bound_name}
 use Rattle.schema.specs.PlainSchema.{PlainSchema}
 use Rattle.schema.specs.Sound.{IsSound, IsPlaceIn, AreDifferent}
 use Rattle.thrift_host.specs.MayBeServed.{MayBeServed}

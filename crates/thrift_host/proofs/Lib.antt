@@ -8,6 +8,7 @@ pub mod Checked
 pub mod Compared
 pub mod Called
 pub mod Unread
+pub mod Asked
 mod BoundServices
 mod EntryLines
 mod Ended

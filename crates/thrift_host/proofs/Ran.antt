@@ -145,3 +145,11 @@ untouched_fault way r (faults.Unanswered fault) s why untouched = absurd why
 pub not_unanswered : {A : Type 0} (r : AskedRun) (result : Result A RunFault) (other : ServingFault)
     → MatchResult result (λ _. ⊤) (λ fault. TellsUnarranged r fault) → result ≡ Err (faults.Unanswered other) → ⊥
 not_unanswered r result other why is = subst (λ x. MatchResult x (λ _. ⊤) (λ fault. TellsUnarranged r fault)) is why
+
+-- it ends with no fault of the net or of a journal
+module _ (way : ScriptRunning) (r : AskedRun) (s : Streams) (ended : Status) (means : MeansRun way r ended s) where
+  pub run_no_net : ended ≡ NetFault → ⊥
+  run_no_net is = subst (λ st. MeansRun way r st s) is means
+
+  pub run_no_journal : ended ≡ JournalFault → ⊥
+  run_no_journal is = subst (λ st. MeansRun way r st s) is means

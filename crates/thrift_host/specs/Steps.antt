@@ -101,6 +101,11 @@ TellsFault way r fault s = TellsUnarranged r fault × AreUntouched s
 abbrev pub TellsRun : {A : Type 0} → ScriptRunning → AskedRun → Result A RunFault → Streams → Type 0
 TellsRun way r result s = MatchResult result (λ _. IsRunReported way r s) (λ fault. TellsFault way r fault s)
 
+-- what a run comes to, by what its recording came to
+abbrev pub of_recording : {A : Type 0} → Result A ServingFault → Result A RunFault
+of_recording (Ok x) = Ok x
+of_recording (Err fault) = Err (faults.Unanswered fault)
+
 -- a file of the IDL's couldn't be read
 abbrev pub is_unread_fault : RunFault → Bool
 is_unread_fault (faults.NoSchema reason) = is_file_fault reason
@@ -123,6 +128,11 @@ abbrev pub EndsAfterServing : {A : Type 0} → PlainServed → Result A ServeFau
 EndsAfterServing says (Ok _) ended e = EndsAs status.Done ended e
 EndsAfterServing says (Err (serve_faults.Unarranged fault)) ended e = EndsAfterRun {A = Unit {0}} says (Err fault) ended e
 EndsAfterServing says (Err (serve_faults.Unserved fault)) ended e = EndsAs (status_of_port fault) ended e
+
+-- what serving at a port comes to, by what the port came to
+abbrev pub of_port : {A : Type 0} → Result A PortFault → Result A ServeFault
+of_port (Ok x) = Ok x
+of_port (Err fault) = Err (serve_faults.Unserved fault)
 
 -- what serving at a port says of what it was given
 abbrev pub TellsServing : {A : Type 0} → AskedServing → Result A ServeFault → HostChange → Type 0

@@ -10,7 +10,7 @@ ghost use Rattle.processor.specs.Offices.{plain_office};
 ghost use Rattle.schema.specs.SchemaOf.{schema_of};
 ghost use Rattle.schema.specs.Sound.{IsSound};
 ghost use Rattle.thrift_host.specs.Runs.{HasSchema};
-ghost use Rattle.thrift_host.specs.Steps.{IsArrangedAs, TellsUnarranged, is_unread_file};
+ghost use Rattle.thrift_host.specs.Steps.{IsArrangedAs, TellsUnarranged, is_unread_file, of_recording};
 
 use crate::{BindFault, bind};
 use call_rules::Handler;
@@ -85,3 +85,16 @@ pub(crate) fn bind_pairs<H: Handler>(
         Err(fault) => Err(RunFault::Unbound(fault)),
     }
 }
+
+/// What a run comes to, by what its recording came to.
+pub(crate) fn run_of(answered: Result<(), ServingFault>) -> Result<(), RunFault>
+    ensures { result ≡ of_recording answered }
+{
+    match answered {
+        Ok(()) => Ok(()),
+        Err(fault) => Err(RunFault::Unanswered(fault)),
+    }
+}
+
+/// Lets an office go that serves no more.
+pub(crate) fn let_go(_office: Office) {}

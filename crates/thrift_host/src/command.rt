@@ -173,10 +173,10 @@ fn command_of<
         Ok(Command::Compat(idls)) => compare(alloc, files, output, errors, &idls),
         Ok(Command::Call(asked)) => call(alloc, files, output, errors, binder, &asked),
         Ok(Command::Rehearse(served)) => rehearse_and_say(
-            alloc, files, input, output, errors, &served, handlers,
+            alloc, files, input, output, errors, served, handlers,
         ),
         Ok(Command::Record(served)) => record_and_say(
-            rt, alloc, files, input, output, errors, &served, gate, handlers,
+            rt, alloc, files, input, output, errors, served, gate, handlers,
         ),
         Ok(
             Command::Serve {
@@ -192,7 +192,7 @@ fn command_of<
                 journal: journal.as_str(),
             };
             serve_and_say(
-                rt, alloc, files, output, errors, binder, &served, &place, gate, handlers,
+                rt, alloc, files, output, errors, binder, served, &place, gate, handlers,
             )
         }
         Ok(
@@ -215,15 +215,15 @@ fn rehearse_and_say<F: Files, S: Source, K: Sink, E: Sink, H: Handler>(
     input: &mut S,
     output: &mut K,
     errors: &mut E,
-    served: &ServedIdl,
+    served: ServedIdl,
     handlers: Vec<H>,
 ) -> Status
-    requires { KeepsServedBounds (plain_served served.now) }
+    requires { KeepsServedBounds (plain_served served) }
     ensures means { MeansRun rehearsing
-        (record { says = plain_served served.now; files = F.files files.old; handlers = map H.service handlers.items }) result
+        (record { says = plain_served served; files = F.files files.old; handlers = map H.service handlers.items }) result
         (record { left_before = S.left input.old; left = S.left input.new; taken_before = K.taken output.old; taken = K.taken output.new }) }
     ensures errors { SaysRun rehearsing
-        (record { says = plain_served served.now; files = F.files files.old; handlers = map H.service handlers.items }) result
+        (record { says = plain_served served; files = F.files files.old; handlers = map H.service handlers.items }) result
         (record { left_before = S.left input.old; left = S.left input.new; taken_before = K.taken output.old; taken = K.taken output.new })
         (record { taken_before = E.taken errors.old; taken = E.taken errors.new; faults_before = E.faults errors.old; faults = E.faults errors.new }) }
     ensures files { F.files files.new ≡ F.files files.old }
@@ -235,8 +235,10 @@ fn rehearse_and_say<F: Files, S: Source, K: Sink, E: Sink, H: Handler>(
     ensures input_kept { result ≡ Status.Done → S.faults input.new ≡ S.faults input.old }
     ensures output_kept { result ≡ Status.Done → K.faults output.new ≡ K.faults output.old }
 {
-    let came_to = rehearse(alloc, files, input, output, served, handlers);
-    end_run(alloc, errors, served, came_to)
+    let came_to = rehearse(alloc, files, input, output, &served, handlers);
+    let status = end_run(alloc, errors, &served, came_to);
+    let_go(served);
+    status
 }
 
 /// Serves recorded connections by a loop with workers, as the words say, and ends the command with what became of it. It may wait.
@@ -255,16 +257,16 @@ fn record_and_say<
     input: &mut S,
     output: &mut K,
     errors: &mut E,
-    served: &ServedIdl,
+    served: ServedIdl,
     gate: &G,
     handlers: Vec<H>,
 ) -> Status
-    requires { KeepsServedBounds (plain_served served.now) }
+    requires { KeepsServedBounds (plain_served served) }
     ensures means { MeansRun recording
-        (record { says = plain_served served.now; files = F.files files.old; handlers = map H.service handlers.items }) result
+        (record { says = plain_served served; files = F.files files.old; handlers = map H.service handlers.items }) result
         (record { left_before = S.left input.old; left = S.left input.new; taken_before = K.taken output.old; taken = K.taken output.new }) }
     ensures errors { SaysRun recording
-        (record { says = plain_served served.now; files = F.files files.old; handlers = map H.service handlers.items }) result
+        (record { says = plain_served served; files = F.files files.old; handlers = map H.service handlers.items }) result
         (record { left_before = S.left input.old; left = S.left input.new; taken_before = K.taken output.old; taken = K.taken output.new })
         (record { taken_before = E.taken errors.old; taken = E.taken errors.new; faults_before = E.faults errors.old; faults = E.faults errors.new }) }
     ensures files { F.files files.new ≡ F.files files.old }
@@ -276,8 +278,10 @@ fn record_and_say<
     ensures input_kept { result ≡ Status.Done → S.faults input.new ≡ S.faults input.old }
     ensures output_kept { result ≡ Status.Done → K.faults output.new ≡ K.faults output.old }
 {
-    let came_to = serve_script(rt, alloc, files, input, output, served, gate, handlers);
-    end_run(alloc, errors, served, came_to)
+    let came_to = serve_script(rt, alloc, files, input, output, &served, gate, handlers);
+    let status = end_run(alloc, errors, &served, came_to);
+    let_go(served);
+    status
 }
 
 /// Serves connections at a place as the words say, by a loop with workers, and ends the command with what became of it. It may wait.
@@ -296,20 +300,20 @@ fn serve_and_say<
     output: &mut K,
     errors: &mut E,
     binder: &mut B,
-    served: &ServedIdl,
+    served: ServedIdl,
     place: &ServedPort<'_>,
     gate: &G,
     handlers: Vec<H>,
 ) -> Status
-    requires { KeepsServedBounds (plain_served served.now) }
+    requires { KeepsServedBounds (plain_served served) }
     ensures means { (left : Option (List ℕ)) → MeansServing
         (record {
-          run = asked_run (plain_served served.now) (F.files files.old) (map H.service handlers.items);
+          run = asked_run (plain_served served) (F.files files.old) (map H.service handlers.items);
           place = asked_place place.now.port place.now.accept place.now.journal.now;
         })
         (host_change left left (K.taken output.old) (K.taken output.new)
         (place_change (F.files files.old) (F.files files.new) (F.sink_faults files.old) (F.sink_faults files.new) (B.past binder.old) (B.past binder.new))) result }
-    ensures errors { SaysUnarranged (asked_run (plain_served served.now) (F.files files.old) (map H.service handlers.items)) result
+    ensures errors { SaysUnarranged (asked_run (plain_served served) (F.files files.old) (map H.service handlers.items)) result
         (record { taken_before = E.taken errors.old; taken = E.taken errors.new; faults_before = E.faults errors.old; faults = E.faults errors.new }) }
     ensures called { B.called binder.new ≡ B.called binder.old }
     ensures file_fault { result ≡ Status.FileFault → Rose (F.faults files.old) (F.faults files.new) }
@@ -323,9 +327,11 @@ fn serve_and_say<
     ensures sinks_kept { result ≡ Status.Done → F.sink_faults files.new ≡ F.sink_faults files.old }
 {
     let came_to = serve_connections(
-        rt, alloc, files, output, binder, served, place, gate, handlers,
+        rt, alloc, files, output, binder, &served, place, gate, handlers,
     );
-    end_serving(alloc, errors, served, came_to)
+    let status = end_serving(alloc, errors, &served, came_to);
+    let_go(served);
+    status
 }
 
 /// Runs a workload on the tutorial's calculator, by a loop with workers, and ends the command with what became of it. It may wait.
@@ -365,3 +371,6 @@ fn work_and_say<F: Files, K: Sink, E: Sink, G: Gate + Sync, H: Handler, R: Threa
     let came_to = work(rt, alloc, files, output, &served, gate, handlers, asked);
     end_run(alloc, errors, &served, came_to)
 }
+
+/// Lets go what the words said is served.
+fn let_go(_served: ServedIdl) {}

@@ -15,7 +15,7 @@ ghost use Rattle.thrift_host.specs.Runs.{recording};
 ghost use Rattle.thrift_host.specs.Steps.{TellsRun, is_unread_file};
 ghost use Rattle.thrift_host.specs.declared.arranging.RunFault.TheVariants as faults;
 
-use crate::arranging::{RunFault, arrange};
+use crate::arranging::{RunFault, arrange, let_go, run_of};
 use crate::journal::{JournalLines, ReportedList};
 use call_rules::Handler;
 use command_line::ServedIdl;
@@ -62,12 +62,9 @@ pub(crate) fn serve_script<
         Ok((office, handlers)) => {
             let limits = served.limits;
             let workers = served.workers;
-            match run_recording(
-                rt, alloc, input, output, &office, gate, handlers, workers, limits,
-            ) {
-                Ok(()) => Ok(()),
-                Err(fault) => Err(RunFault::Unanswered(fault)),
-            }
+            run_of(run_recording(
+                rt, alloc, input, output, office, gate, handlers, workers, limits,
+            ))
         }
         Err(fault) => Err(fault),
     }
@@ -79,16 +76,16 @@ fn run_recording<S: Source, K: Sink, G: Gate + Sync, H: Handler, R: Threads + Wa
     alloc: Global,
     input: &mut S,
     output: &mut K,
-    office: &Office,
+    office: Office,
     gate: &G,
     handlers: Vec<H>,
     workers: u32,
     limits: Limits,
 ) -> Result<(), ServingFault>
-    requires can { CanServe limits workers (plain_office office.now).max_frame (length (plain_office office.now).bindings) (length handlers.items) }
+    requires can { CanServe limits workers (plain_office office).max_frame (length (plain_office office).bindings) (length handlers.items) }
     ensures means { MeansRecorded
-        (script_to_serve (record { desk = desk_of (plain_office office.now); services = map H.service handlers.items; workers = workers; budget = limits.read_budget; line = entry_text }))
-        (IsServedScript (record { desk = desk_of (plain_office office.now); services = map H.service handlers.items; workers = workers; budget = limits.read_budget; line = entry_text }))
+        (script_to_serve (record { desk = desk_of (plain_office office); services = map H.service handlers.items; workers = workers; budget = limits.read_budget; line = entry_text }))
+        (IsServedScript (record { desk = desk_of (plain_office office); services = map H.service handlers.items; workers = workers; budget = limits.read_budget; line = entry_text }))
         entry_text result
         (record { left_before = S.left input.old; left = S.left input.new; taken_before = K.taken output.old; taken = K.taken output.new }) }
     ensures read_fault { result ≡ Err ServingFault.ReadFault → Rose (S.faults input.old) (S.faults input.new) }
@@ -98,7 +95,8 @@ fn run_recording<S: Source, K: Sink, G: Gate + Sync, H: Handler, R: Threads + Wa
 {
     let journal = ReportedList::new(alloc);
     let answered = serve_recorded::<JournalLines, Office, H, ReportedList, S, K, G, R>(
-        rt, alloc, input, output, office, handlers, journal, workers, gate, limits,
+        rt, alloc, input, output, &office, handlers, journal, workers, gate, limits,
     );
+    let_go(office);
     answered.result
 }

@@ -14,7 +14,7 @@ ghost use Rattle.thrift_host.specs.Runs.{rehearsing};
 ghost use Rattle.thrift_host.specs.Steps.{TellsRun, is_unread_file};
 ghost use Rattle.thrift_host.specs.declared.arranging.RunFault.TheVariants as faults;
 
-use crate::arranging::{RunFault, arrange};
+use crate::arranging::{RunFault, arrange, let_go, run_of};
 use crate::journal::{JournalLines, ReportedList};
 use call_rules::Handler;
 use command_line::ServedIdl;
@@ -50,10 +50,7 @@ pub(crate) fn rehearse<F: Files, S: Source, K: Sink, H: Handler>(
         Ok((office, handlers)) => {
             let limits = served.limits;
             let workers = served.workers;
-            match run_rehearsal(alloc, input, output, &office, handlers, workers, limits) {
-                Ok(()) => Ok(()),
-                Err(fault) => Err(RunFault::Unanswered(fault)),
-            }
+            run_of(run_rehearsal(alloc, input, output, office, handlers, workers, limits))
         }
         Err(fault) => Err(fault),
     }
@@ -64,14 +61,14 @@ fn run_rehearsal<S: Source, K: Sink, H: Handler>(
     alloc: Global,
     input: &mut S,
     output: &mut K,
-    office: &Office,
+    office: Office,
     handlers: Vec<H>,
     workers: u32,
     limits: Limits,
 ) -> Result<(), ServingFault>
-    requires can { CanServe limits workers (plain_office office.now).max_frame (length (plain_office office.now).bindings) (length handlers.items) }
+    requires can { CanServe limits workers (plain_office office).max_frame (length (plain_office office).bindings) (length handlers.items) }
     ensures means { MeansAnswered
-        (record { desk = desk_of (plain_office office.now); services = map H.service handlers.items; workers = workers; budget = limits.read_budget; line = entry_text }) result
+        (record { desk = desk_of (plain_office office); services = map H.service handlers.items; workers = workers; budget = limits.read_budget; line = entry_text }) result
         (record { left_before = S.left input.old; left = S.left input.new; taken_before = K.taken output.old; taken = K.taken output.new }) }
     ensures read_fault { result ≡ Err ServingFault.ReadFault → Rose (S.faults input.old) (S.faults input.new) }
     ensures write_fault { result ≡ Err ServingFault.WriteFault → Rose (K.faults output.old) (K.faults output.new) }
@@ -80,7 +77,8 @@ fn run_rehearsal<S: Source, K: Sink, H: Handler>(
 {
     let journal = ReportedList::new(alloc);
     let answered = answer_recorded::<JournalLines, Office, H, ReportedList, S, K>(
-        alloc, input, output, office, handlers, journal, workers, limits,
+        alloc, input, output, &office, handlers, journal, workers, limits,
     );
+    let_go(office);
     answered.result
 }

@@ -9,10 +9,10 @@ ghost use Rattle.command_line.specs.Bounds.{KeepsServedBounds};
 ghost use Rattle.port_serving.specs.Answered.{MeansServedPort};
 ghost use Rattle.port_serving.specs.declared.fault.PortFault.TheVariants as port_faults;
 ghost use Rattle.processor.specs.Offices.{plain_office};
-ghost use Rattle.thrift_host.specs.Steps.{TellsServing, is_file_missed};
+ghost use Rattle.thrift_host.specs.Steps.{TellsServing, is_file_missed, of_port};
 ghost use Rattle.thrift_host.specs.declared.serving.ServeFault.TheVariants as faults;
 
-use crate::arranging::{RunFault, arrange};
+use crate::arranging::{RunFault, arrange, let_go};
 use call_rules::Handler;
 use command_line::ServedIdl;
 use conn_table::Limits;
@@ -83,12 +83,9 @@ pub(crate) fn serve_connections<
         Ok((office, handlers)) => {
             let limits = served.limits;
             let workers = served.workers;
-            match run_port(
-                rt, alloc, files, output, binder, &office, place, gate, handlers, workers, limits,
-            ) {
-                Ok(()) => Ok(()),
-                Err(fault) => Err(ServeFault::Unserved(fault)),
-            }
+            serving_of(run_port(
+                rt, alloc, files, output, binder, office, place, gate, handlers, workers, limits,
+            ))
         }
         Err(fault) => Err(ServeFault::Unarranged(fault)),
     }
@@ -101,16 +98,16 @@ fn run_port<F: Files, K: Sink, B: Binder, G: Gate + Sync, H: Handler, R: Threads
     files: &mut F,
     output: &mut K,
     binder: &mut B,
-    office: &Office,
+    office: Office,
     place: &ServedPort<'_>,
     gate: &G,
     handlers: Vec<H>,
     workers: u32,
     limits: Limits,
 ) -> Result<(), PortFault>
-    requires can { CanServe limits workers (plain_office office.now).max_frame (length (plain_office office.now).bindings) (length handlers.items) }
+    requires can { CanServe limits workers (plain_office office).max_frame (length (plain_office office).bindings) (length handlers.items) }
     ensures means { MeansServedPort
-        (record { desk = desk_of (plain_office office.now); services = map H.service handlers.items; budget = limits.read_budget })
+        (record { desk = desk_of (plain_office office); services = map H.service handlers.items; budget = limits.read_budget })
         (record { listening = record { port = place.now.port; accept = place.now.accept }; journal = place.now.journal.now })
         (record {
           files_before = F.files files.old;
@@ -131,7 +128,19 @@ fn run_port<F: Files, K: Sink, B: Binder, G: Gate + Sync, H: Handler, R: Threads
     ensures binder_kept { OnOk result (B.faults binder.new ≡ B.faults binder.old) }
     ensures sinks_kept { OnOk result (F.sink_faults files.new ≡ F.sink_faults files.old) }
 {
-    serve_port(
-        rt, alloc, files, output, binder, office, handlers, gate, workers, limits, place,
-    )
+    let came_to = serve_port(
+        rt, alloc, files, output, binder, &office, handlers, gate, workers, limits, place,
+    );
+    let_go(office);
+    came_to
+}
+
+/// What serving at a port comes to, by what the port came to.
+fn serving_of(came_to: Result<(), PortFault>) -> Result<(), ServeFault>
+    ensures { result ≡ of_port came_to }
+{
+    match came_to {
+        Ok(()) => Ok(()),
+        Err(fault) => Err(ServeFault::Unserved(fault)),
+    }
 }

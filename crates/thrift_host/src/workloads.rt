@@ -18,7 +18,7 @@ ghost use Rattle.thrift_host.specs.Steps.{TellsUnworked, TellsWorkload, is_unrea
 ghost use Rattle.thrift_host.specs.Workloads.{has_calculator, workload_says};
 ghost use Rattle.thrift_host.specs.declared.arranging.RunFault.TheVariants as faults;
 
-use crate::arranging::{RunFault, bind_pairs};
+use crate::arranging::{RunFault, bind_pairs, let_go, run_of};
 use crate::journal::ReportedList;
 use call_rules::{Handler, Kind};
 use command_line::ServedIdl;
@@ -84,12 +84,9 @@ pub(crate) fn work<F: Files, K: Sink, G: Gate + Sync, H: Handler, R: Threads + W
         Ok((office, handlers)) => {
             let limits = served.limits;
             let workers = served.workers;
-            match run_workload(
-                rt, alloc, output, &office, gate, handlers, workers, limits, work,
-            ) {
-                Ok(()) => Ok(()),
-                Err(fault) => Err(RunFault::Unanswered(fault)),
-            }
+            run_of(run_workload(
+                rt, alloc, output, office, gate, handlers, workers, limits, work,
+            ))
         }
         Err(fault) => Err(fault),
     }
@@ -157,17 +154,17 @@ fn run_workload<K: Sink, G: Gate + Sync, H: Handler, R: Threads + Wait + Sync>(
     rt: &R,
     alloc: Global,
     output: &mut K,
-    office: &Office,
+    office: Office,
     gate: &G,
     handlers: Vec<H>,
     workers: u32,
     limits: Limits,
     work: Work,
 ) -> Result<(), ServingFault>
-    requires can { CanServe limits workers (plain_office office.now).max_frame (length (plain_office office.now).bindings) (length handlers.items) }
+    requires can { CanServe limits workers (plain_office office).max_frame (length (plain_office office).bindings) (length handlers.items) }
     requires frames { 1 ≤ work.size }
     requires most { work.size ≤ 1000000 }
-    requires calculators { IsCalculatorsOffice (plain_office office.now) }
+    requires calculators { IsCalculatorsOffice (plain_office office) }
     requires service { HasCalculator (map H.service handlers.items) }
     ensures summed { WritesSummary (work_text work.seed work.size) (K.taken output.old) (K.taken output.new) result }
     ensures write_fault { result ≡ Err ServingFault.WriteFault → Rose (K.faults output.old) (K.faults output.new) }
@@ -175,7 +172,8 @@ fn run_workload<K: Sink, G: Gate + Sync, H: Handler, R: Threads + Wait + Sync>(
 {
     let journal = ReportedList::new(alloc);
     let answered = serve_workload::<Office, H, ReportedList, K, G, R>(
-        rt, alloc, output, office, handlers, journal, workers, gate, limits, work,
+        rt, alloc, output, &office, handlers, journal, workers, gate, limits, work,
     );
+    let_go(office);
     answered.result
 }

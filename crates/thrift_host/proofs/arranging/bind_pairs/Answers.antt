@@ -1,9 +1,9 @@
-use Rattle.std.proofs.Common.{length, map, refl, sym, ap, ◌∙◌, arith}
+use Rattle.std.proofs.Common.{length, map, refl, sym, ap, ◌∙◌, subst, arith}
 use Rattle.call_model.specs.Offices.{PlainOffice}
 use Rattle.processor.specs.Bound.{bound_names, default_bound}
 use Rattle.schema.specs.SchemaOf.{schema_of}
 use Rattle.service_binding.specs.Defaults.{slot_for_default}
-use Rattle.command_line.specs.Answering.{plain_served}
+use Rattle.service_binding.specs.FirstRefusal.{IsRefusedFirst, OnRefusal}
 use Rattle.thrift_host.proofs.arranging.bind_pairs.Goals as goal
 
 pub new-office-requires-clause-sound : goal.new-office-requires-clause-sound
@@ -38,3 +38,12 @@ returns-in-Ok-clause-can g c =
       longest = ap (λ (o : PlainOffice). o.max_frame) c.new-office.ensures;
       slots = c.in-Ok.ensures.slots ∙ sym (ap (λ (o : PlainOffice). length o.bindings) c.new-office.ensures);
     }
+
+pub returns-in-Err-clause-tells : goal.returns-in-Err-clause-tells
+returns-in-Err-clause-tells g c = λ files has. (
+  schema_of c.args.schema,
+  has,
+  subst
+      (λ name. OnRefusal c.in-Err.fault (IsRefusedFirst (schema_of c.args.schema) (map g.H.Handler.service c.args.handlers.items) c.args.served.now.pairs name))
+      c.default_name-default_service.ensures c.in-Err.ensures.refused,
+)

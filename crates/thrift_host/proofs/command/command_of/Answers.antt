@@ -1,13 +1,12 @@
-use Rattle.std.proofs.Common.{◌∙◌, Option, None, Some, ap, map, refl, subst, sym}
+use Rattle.std.proofs.Common.{◌∙◌, None, Some, ap, map, refl}
 use Rattle.command_line.specs.Answering.{plain_command}
-use Rattle.command_line.specs.Words.{PlainCommand}
-use Rattle.port_calls.specs.Called.{CallChange}
-use Rattle.thrift_host.specs.Errors.{Errors}
+use Rattle.thrift_host.specs.Runs.{rehearsing, recording}
 use Rattle.thrift_host.specs.Serving.{host_change, place_change}
-use Rattle.thrift_host.specs.Top.{MeansCalled}
+use Rattle.thrift_host.proofs.Asked.{means_asked, says_asked, place_asked, called_asked, check_means, check_says}
 use Rattle.thrift_host.proofs.Called.{no_read as call_reads_nothing, no_journal as call_has_no_journal, unread_called}
 use Rattle.thrift_host.proofs.Checked.{never_net, never_journal}
 use Rattle.thrift_host.proofs.Compared.{no_net, no_journal, no_read}
+use Rattle.thrift_host.proofs.Ran.{run_no_net, run_no_journal}
 use Rattle.thrift_host.proofs.Served.{serving_asked}
 use Rattle.thrift_host.proofs.Unread.{unread_means, unread_says, unread_place, of_words, not_of_words}
 use Rattle.thrift_host.proofs.command.command_of.Goals as goal
@@ -29,24 +28,8 @@ returns-in-Ok-Serve-clause-means g c =
 
 pub returns-in-Ok-Serve-clause-called : goal.returns-in-Ok-Serve-clause-called
 returns-in-Ok-Serve-clause-called g c =
-    let change : CallChange =
-    (record {
-      called_before = g.B.Binder.called c.args.binder.now;
-      called = g.B.Binder.called c.serve_and_say.new.binder;
-      taken_before = g.K.Sink.taken c.args.output.now;
-      taken = g.K.Sink.taken c.serve_and_say.new.output;
-    })
-    in
-    let errors : Errors =
-    (record {
-      taken_before = g.E.Sink.taken c.args.errors.now;
-      taken = g.E.Sink.taken c.serve_and_say.new.errors;
-      faults_before = g.E.Sink.faults c.args.errors.now;
-      faults = g.E.Sink.faults c.serve_and_say.new.errors;
-    })
-    in
-    subst (λ (meant : Option PlainCommand). MeansCalled meant (g.F.Files.files c.args.files.now) c.serve_and_say.result change errors)
-    (sym (c.in-Ok-Serve.ensures.answers ∙ ap (λ command. Some (plain_command command)) c.in-Ok-Serve.field-0-is)) c.serve_and_say.ensures.called
+    called_asked _ _ _ c.serve_and_say.result _ _ (c.in-Ok-Serve.ensures.answers ∙ ap (λ command. Some (plain_command command)) c.in-Ok-Serve.field-0-is)
+    c.serve_and_say.ensures.called
 
 pub returns-in-Ok-Compat-clause-net_fault : goal.returns-in-Ok-Compat-clause-net_fault
 returns-in-Ok-Compat-clause-net_fault g c = λ is.
@@ -71,6 +54,139 @@ returns-in-Ok-Call-clause-read_fault g c = λ is. absurd (call_reads_nothing _ _
 
 pub returns-in-Ok-Call-clause-journal_fault : goal.returns-in-Ok-Call-clause-journal_fault
 returns-in-Ok-Call-clause-journal_fault g c = λ is. absurd (call_has_no_journal _ _ _ _ c.call.result c.call.ensures.means is)
+
+pub returns-in-Ok-Check-clause-means : goal.returns-in-Ok-Check-clause-means
+returns-in-Ok-Check-clause-means g c =
+    check_means _ c.in-Ok-Check.idl _ _ c.check.result _ c.as_str.ensures (c.check.ensures.means (g.S.Source.left c.args.input.now))
+    (c.in-Ok-Check.ensures.answers ∙ ap (λ command. Some (plain_command command)) c.in-Ok-Check.field-0-is)
+
+pub returns-in-Ok-Check-clause-errors : goal.returns-in-Ok-Check-clause-errors
+returns-in-Ok-Check-clause-errors g c =
+    check_says _ c.in-Ok-Check.idl _ _ c.check.result _ _ c.as_str.ensures c.check.ensures.said
+    (c.in-Ok-Check.ensures.answers ∙ ap (λ command. Some (plain_command command)) c.in-Ok-Check.field-0-is)
+
+pub returns-in-Ok-Compat-clause-means : goal.returns-in-Ok-Compat-clause-means
+returns-in-Ok-Compat-clause-means g c =
+    means_asked _ _ _ c.compare.result _ (c.in-Ok-Compat.ensures.answers ∙ ap (λ command. Some (plain_command command)) c.in-Ok-Compat.field-0-is)
+    (c.compare.ensures.means (g.S.Source.left c.args.input.now))
+
+pub returns-in-Ok-Compat-clause-errors : goal.returns-in-Ok-Compat-clause-errors
+returns-in-Ok-Compat-clause-errors g c =
+    says_asked _ _ _ c.compare.result _ _ (c.in-Ok-Compat.ensures.answers ∙ ap (λ command. Some (plain_command command)) c.in-Ok-Compat.field-0-is)
+    c.compare.ensures.said
+
+pub returns-in-Ok-Compat-clause-place : goal.returns-in-Ok-Compat-clause-place
+returns-in-Ok-Compat-clause-place g c =
+    place_asked _ _ _ (c.in-Ok-Compat.ensures.answers ∙ ap (λ command. Some (plain_command command)) c.in-Ok-Compat.field-0-is) (c.compare.ensures.files, refl)
+
+pub returns-in-Ok-Compat-clause-called : goal.returns-in-Ok-Compat-clause-called
+returns-in-Ok-Compat-clause-called g c =
+    called_asked _ _ _ c.compare.result _ _ (c.in-Ok-Compat.ensures.answers ∙ ap (λ command. Some (plain_command command)) c.in-Ok-Compat.field-0-is) refl
+
+pub returns-in-Ok-Rehearse-clause-means : goal.returns-in-Ok-Rehearse-clause-means
+returns-in-Ok-Rehearse-clause-means g c =
+    means_asked _ _ _ c.rehearse_and_say.result _ (c.in-Ok-Rehearse.ensures.answers ∙ ap (λ command. Some (plain_command command)) c.in-Ok-Rehearse.field-0-is)
+    c.rehearse_and_say.ensures.means
+
+pub returns-in-Ok-Rehearse-clause-errors : goal.returns-in-Ok-Rehearse-clause-errors
+returns-in-Ok-Rehearse-clause-errors g c =
+    says_asked _ _ _ c.rehearse_and_say.result _ _ (c.in-Ok-Rehearse.ensures.answers ∙ ap (λ command. Some (plain_command command)) c.in-Ok-Rehearse.field-0-is)
+    c.rehearse_and_say.ensures.errors
+
+pub returns-in-Ok-Rehearse-clause-place : goal.returns-in-Ok-Rehearse-clause-place
+returns-in-Ok-Rehearse-clause-place g c =
+    place_asked _ _ _ (c.in-Ok-Rehearse.ensures.answers ∙ ap (λ command. Some (plain_command command)) c.in-Ok-Rehearse.field-0-is) (c.rehearse_and_say.ensures.files, refl)
+
+pub returns-in-Ok-Rehearse-clause-called : goal.returns-in-Ok-Rehearse-clause-called
+returns-in-Ok-Rehearse-clause-called g c =
+    called_asked _ _ _ c.rehearse_and_say.result _ _ (c.in-Ok-Rehearse.ensures.answers ∙ ap (λ command. Some (plain_command command)) c.in-Ok-Rehearse.field-0-is) refl
+
+pub returns-in-Ok-Record-clause-means : goal.returns-in-Ok-Record-clause-means
+returns-in-Ok-Record-clause-means g c =
+    means_asked _ _ _ c.record_and_say.result _ (c.in-Ok-Record.ensures.answers ∙ ap (λ command. Some (plain_command command)) c.in-Ok-Record.field-0-is)
+    c.record_and_say.ensures.means
+
+pub returns-in-Ok-Record-clause-errors : goal.returns-in-Ok-Record-clause-errors
+returns-in-Ok-Record-clause-errors g c =
+    says_asked _ _ _ c.record_and_say.result _ _ (c.in-Ok-Record.ensures.answers ∙ ap (λ command. Some (plain_command command)) c.in-Ok-Record.field-0-is)
+    c.record_and_say.ensures.errors
+
+pub returns-in-Ok-Record-clause-place : goal.returns-in-Ok-Record-clause-place
+returns-in-Ok-Record-clause-place g c =
+    place_asked _ _ _ (c.in-Ok-Record.ensures.answers ∙ ap (λ command. Some (plain_command command)) c.in-Ok-Record.field-0-is) (c.record_and_say.ensures.files, refl)
+
+pub returns-in-Ok-Record-clause-called : goal.returns-in-Ok-Record-clause-called
+returns-in-Ok-Record-clause-called g c =
+    called_asked _ _ _ c.record_and_say.result _ _ (c.in-Ok-Record.ensures.answers ∙ ap (λ command. Some (plain_command command)) c.in-Ok-Record.field-0-is) refl
+
+pub returns-in-Ok-Workload-clause-means : goal.returns-in-Ok-Workload-clause-means
+returns-in-Ok-Workload-clause-means g c =
+    means_asked _ _ _ c.work_and_say.result _ (c.in-Ok-Workload.ensures.answers ∙ ap (λ command. Some (plain_command command)) c.in-Ok-Workload.field-0-is)
+    (c.work_and_say.ensures.means (g.S.Source.left c.args.input.now))
+
+pub returns-in-Ok-Workload-clause-errors : goal.returns-in-Ok-Workload-clause-errors
+returns-in-Ok-Workload-clause-errors g c =
+    says_asked _ _ _ c.work_and_say.result _ _ (c.in-Ok-Workload.ensures.answers ∙ ap (λ command. Some (plain_command command)) c.in-Ok-Workload.field-0-is)
+    c.work_and_say.ensures.errors
+
+pub returns-in-Ok-Workload-clause-place : goal.returns-in-Ok-Workload-clause-place
+returns-in-Ok-Workload-clause-place g c =
+    place_asked _ _ _ (c.in-Ok-Workload.ensures.answers ∙ ap (λ command. Some (plain_command command)) c.in-Ok-Workload.field-0-is) (c.work_and_say.ensures.files, refl)
+
+pub returns-in-Ok-Workload-clause-called : goal.returns-in-Ok-Workload-clause-called
+returns-in-Ok-Workload-clause-called g c =
+    called_asked _ _ _ c.work_and_say.result _ _ (c.in-Ok-Workload.ensures.answers ∙ ap (λ command. Some (plain_command command)) c.in-Ok-Workload.field-0-is) refl
+
+pub returns-in-Ok-Call-clause-means : goal.returns-in-Ok-Call-clause-means
+returns-in-Ok-Call-clause-means g c =
+    means_asked _ _ _ c.call.result _ (c.in-Ok-Call.ensures.answers ∙ ap (λ command. Some (plain_command command)) c.in-Ok-Call.field-0-is)
+    refl
+
+pub returns-in-Ok-Call-clause-errors : goal.returns-in-Ok-Call-clause-errors
+returns-in-Ok-Call-clause-errors g c =
+    says_asked _ _ _ c.call.result _ _ (c.in-Ok-Call.ensures.answers ∙ ap (λ command. Some (plain_command command)) c.in-Ok-Call.field-0-is)
+    tt
+
+pub returns-in-Ok-Call-clause-place : goal.returns-in-Ok-Call-clause-place
+returns-in-Ok-Call-clause-place g c =
+    place_asked _ _ _ (c.in-Ok-Call.ensures.answers ∙ ap (λ command. Some (plain_command command)) c.in-Ok-Call.field-0-is) (c.call.ensures.files, c.call.ensures.past)
+
+pub returns-in-Ok-Call-clause-called : goal.returns-in-Ok-Call-clause-called
+returns-in-Ok-Call-clause-called g c =
+    called_asked _ _ _ c.call.result _ _ (c.in-Ok-Call.ensures.answers ∙ ap (λ command. Some (plain_command command)) c.in-Ok-Call.field-0-is) c.call.ensures.means
+
+pub returns-in-Ok-Check-clause-place : goal.returns-in-Ok-Check-clause-place
+returns-in-Ok-Check-clause-place g c =
+    place_asked _ _ _ (c.in-Ok-Check.ensures.answers ∙ ap (λ command. Some (plain_command command)) c.in-Ok-Check.field-0-is) (c.check.ensures.files, refl)
+
+pub returns-in-Ok-Check-clause-called : goal.returns-in-Ok-Check-clause-called
+returns-in-Ok-Check-clause-called g c =
+    called_asked _ _ _ c.check.result _ _ (c.in-Ok-Check.ensures.answers ∙ ap (λ command. Some (plain_command command)) c.in-Ok-Check.field-0-is) refl
+
+pub returns-in-Ok-Serve-clause-errors : goal.returns-in-Ok-Serve-clause-errors
+returns-in-Ok-Serve-clause-errors g c =
+    says_asked _ _ _ c.serve_and_say.result _ _ (c.in-Ok-Serve.ensures.answers ∙ ap (λ command. Some (plain_command command)) c.in-Ok-Serve.field-0-is)
+    c.serve_and_say.ensures.errors
+
+pub returns-in-Ok-Serve-clause-place : goal.returns-in-Ok-Serve-clause-place
+returns-in-Ok-Serve-clause-place g c =
+    place_asked _ _ _ (c.in-Ok-Serve.ensures.answers ∙ ap (λ command. Some (plain_command command)) c.in-Ok-Serve.field-0-is) tt
+
+pub returns-in-Ok-Rehearse-clause-net_fault : goal.returns-in-Ok-Rehearse-clause-net_fault
+returns-in-Ok-Rehearse-clause-net_fault g c = λ is.
+    absurd (run_no_net rehearsing _ _ c.rehearse_and_say.result c.rehearse_and_say.ensures.means is)
+
+pub returns-in-Ok-Rehearse-clause-journal_fault : goal.returns-in-Ok-Rehearse-clause-journal_fault
+returns-in-Ok-Rehearse-clause-journal_fault g c = λ is.
+    absurd (run_no_journal rehearsing _ _ c.rehearse_and_say.result c.rehearse_and_say.ensures.means is)
+
+pub returns-in-Ok-Record-clause-net_fault : goal.returns-in-Ok-Record-clause-net_fault
+returns-in-Ok-Record-clause-net_fault g c = λ is.
+    absurd (run_no_net recording _ _ c.record_and_say.result c.record_and_say.ensures.means is)
+
+pub returns-in-Ok-Record-clause-journal_fault : goal.returns-in-Ok-Record-clause-journal_fault
+returns-in-Ok-Record-clause-journal_fault g c = λ is.
+    absurd (run_no_journal recording _ _ c.record_and_say.result c.record_and_say.ensures.means is)
 
 pub returns-in-Err-clause-called : goal.returns-in-Err-clause-called
 returns-in-Err-clause-called g c = unread_called c.in-Err.fault c.end_without_command.result _ _ _ c.end_without_command.ensures (refl, refl) _ c.in-Err.ensures.answers

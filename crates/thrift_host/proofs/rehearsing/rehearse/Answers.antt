@@ -1,28 +1,13 @@
 use Rattle.std.proofs.Common.{Err, map, refl}
+use Rattle.outside.proofs.Causes.{on_ok}
 use Rattle.processor.specs.Offices.{plain_office}
 use Rattle.command_line.specs.Answering.{plain_served}
-use Rattle.recorded_runs.specs.Recorded.{Streams, IsReportWritten, MeansRecordedFault}
+use Rattle.recorded_runs.specs.Recorded.{Streams}
 use Rattle.recorded_runs.specs.declared.fault.ServingFault.TheVariants.{ReadFault, WriteFault}
 use Rattle.thrift_host.specs.Runs.{AskedRun, rehearsing}
 use Rattle.thrift_host.proofs.Ran.{untouched_fault, not_unanswered}
-use Rattle.thrift_host.proofs.Told.{at_arranged}
+use Rattle.thrift_host.proofs.Told.{run_tells, run_reads, run_fault, run_kept}
 use Rattle.thrift_host.proofs.rehearsing.rehearse.Goals as goal
-
-pub returns-in-Ok-run_rehearsal-clause-tells : goal.returns-in-Ok-run_rehearsal-clause-tells
-returns-in-Ok-run_rehearsal-clause-tells g c =
-    let r : AskedRun =
-    (record { says = plain_served c.args.served.now; files = g.F.Files.files c.args.files.now; handlers = map g.H.Handler.service c.args.handlers.items })
-    in
-    let s : Streams =
-    (record {
-      left_before = g.S.Source.left c.args.input.now;
-      left = g.S.Source.left c.run_rehearsal.new.input;
-      taken_before = g.K.Sink.taken c.args.output.now;
-      taken = g.K.Sink.taken c.run_rehearsal.new.output;
-    })
-    in
-    at_arranged r (plain_office c.in-Ok.office) (map g.H.Handler.service c.in-Ok.handlers.items) c.in-Ok.ensures.tells
-    (λ a. IsReportWritten (rehearsing.script_in a) (rehearsing.IsRunOf a) a.line s) c.in-Ok-run_rehearsal.ensures.means
 
 pub returns-in-Ok-clause-tells : goal.returns-in-Ok-clause-tells
 returns-in-Ok-clause-tells g c =
@@ -37,11 +22,29 @@ returns-in-Ok-clause-tells g c =
       taken = g.K.Sink.taken c.run_rehearsal.new.output;
     })
     in
-    at_arranged r (plain_office c.in-Ok.office) (map g.H.Handler.service c.in-Ok.handlers.items) c.in-Ok.ensures.tells
-    (λ a. MeansRecordedFault (rehearsing.script_in a) (rehearsing.IsRunOf a) a.line c.in-Err-run_rehearsal.fault s) c.in-Err-run_rehearsal.ensures.means
+    run_tells c.run_rehearsal.result c.run_of.result c.run_of.ensures rehearsing r (plain_office c.in-Ok.office) (map g.H.Handler.service c.in-Ok.handlers.items) c.in-Ok.ensures.tells s
+    c.run_rehearsal.ensures.means
 
-pub returns-clause-tells : goal.returns-clause-tells
-returns-clause-tells g c =
+pub returns-in-Ok-clause-file_fault : goal.returns-in-Ok-clause-file_fault
+returns-in-Ok-clause-file_fault g c = λ unread. absurd (run_reads c.run_rehearsal.result c.run_of.result c.run_of.ensures unread)
+
+pub returns-in-Ok-clause-read_fault : goal.returns-in-Ok-clause-read_fault
+returns-in-Ok-clause-read_fault g c = λ is. c.run_rehearsal.ensures.read_fault (run_fault c.run_rehearsal.result c.run_of.result c.run_of.ensures ReadFault is)
+
+pub returns-in-Ok-clause-write_fault : goal.returns-in-Ok-clause-write_fault
+returns-in-Ok-clause-write_fault g c = λ is. c.run_rehearsal.ensures.write_fault (run_fault c.run_rehearsal.result c.run_of.result c.run_of.ensures WriteFault is)
+
+pub returns-in-Ok-clause-files_kept : goal.returns-in-Ok-clause-files_kept
+returns-in-Ok-clause-files_kept g c = on_ok c.run_of.result c.in-Ok.ensures.files_kept
+
+pub returns-in-Ok-clause-input_kept : goal.returns-in-Ok-clause-input_kept
+returns-in-Ok-clause-input_kept g c = run_kept c.run_rehearsal.result c.run_of.result c.run_of.ensures _ c.run_rehearsal.ensures.input_kept
+
+pub returns-in-Ok-clause-output_kept : goal.returns-in-Ok-clause-output_kept
+returns-in-Ok-clause-output_kept g c = run_kept c.run_rehearsal.result c.run_of.result c.run_of.ensures _ c.run_rehearsal.ensures.output_kept
+
+pub returns-in-Err-clause-tells : goal.returns-in-Err-clause-tells
+returns-in-Err-clause-tells g c =
     untouched_fault rehearsing
     (record { says = plain_served c.args.served.now; files = g.F.Files.files c.args.files.now; handlers = map g.H.Handler.service c.args.handlers.items })
     c.in-Err.fault
@@ -52,14 +55,14 @@ returns-clause-tells g c =
       taken = g.K.Sink.taken c.args.output.now;
     }) c.in-Err.ensures.tells (refl, refl)
 
-pub returns-clause-read_fault : goal.returns-clause-read_fault
-returns-clause-read_fault g c = λ is.
+pub returns-in-Err-clause-read_fault : goal.returns-in-Err-clause-read_fault
+returns-in-Err-clause-read_fault g c = λ is.
     absurd (not_unanswered
     (record { says = plain_served c.args.served.now; files = g.F.Files.files c.args.files.now; handlers = map g.H.Handler.service c.args.handlers.items })
     (Err c.in-Err.fault) ReadFault c.in-Err.ensures.tells is)
 
-pub returns-clause-write_fault : goal.returns-clause-write_fault
-returns-clause-write_fault g c = λ is.
+pub returns-in-Err-clause-write_fault : goal.returns-in-Err-clause-write_fault
+returns-in-Err-clause-write_fault g c = λ is.
     absurd (not_unanswered
     (record { says = plain_served c.args.served.now; files = g.F.Files.files c.args.files.now; handlers = map g.H.Handler.service c.args.handlers.items })
     (Err c.in-Err.fault) WriteFault c.in-Err.ensures.tells is)

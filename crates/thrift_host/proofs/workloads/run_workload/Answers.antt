@@ -8,7 +8,7 @@ pub serve_workload-answered-requires-sync-D : goal.serve_workload-answered-requi
 serve_workload-answered-requires-sync-D g c κs within = search (sendable, office_sync)
 
 pub serve_workload-answered-requires-clause-calculators : goal.serve_workload-answered-requires-clause-calculators
-serve_workload-answered-requires-clause-calculators g c κs within = (plain_office c.args.office.now, refl, c.requires.calculators)
+serve_workload-answered-requires-clause-calculators g c κs within = (plain_office c.args.office, refl, c.requires.calculators)
 
 pub serve_workload-answered-requires-send-J : goal.serve_workload-answered-requires-send-J
 serve_workload-answered-requires-send-J g c κs within = search (sendable, reported_send)
