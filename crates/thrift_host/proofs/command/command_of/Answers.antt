@@ -214,3 +214,195 @@ returns-in-Err-clause-net_fault g c = λ is. absurd (not_of_words _ _ (of_words 
 
 pub returns-in-Err-clause-journal_fault : goal.returns-in-Err-clause-journal_fault
 returns-in-Err-clause-journal_fault g c = λ is. absurd (not_of_words _ _ (of_words c.in-Err.fault c.end_without_command.result _ c.end_without_command.ensures) (λ h. h) is)
+
+pub returns-in-Ok-Check-clause-file_fault : goal.returns-in-Ok-Check-clause-file_fault
+returns-in-Ok-Check-clause-file_fault g c = c.check.ensures.file_fault
+
+pub returns-in-Ok-Check-clause-read_fault : goal.returns-in-Ok-Check-clause-read_fault
+returns-in-Ok-Check-clause-read_fault g c = λ is. absurd (c.check.ensures.read_fault is)
+
+pub returns-in-Ok-Check-clause-write_fault : goal.returns-in-Ok-Check-clause-write_fault
+returns-in-Ok-Check-clause-write_fault g c = c.check.ensures.write_fault
+
+pub returns-in-Ok-Check-clause-files_kept : goal.returns-in-Ok-Check-clause-files_kept
+returns-in-Ok-Check-clause-files_kept g c = c.check.ensures.files_kept
+
+pub returns-in-Ok-Check-clause-output_kept : goal.returns-in-Ok-Check-clause-output_kept
+returns-in-Ok-Check-clause-output_kept g c = c.check.ensures.output_kept
+
+pub returns-in-Ok-Check-clause-input_kept : goal.returns-in-Ok-Check-clause-input_kept
+returns-in-Ok-Check-clause-input_kept g c = λ _. refl
+
+pub returns-in-Ok-Check-clause-binder_kept : goal.returns-in-Ok-Check-clause-binder_kept
+returns-in-Ok-Check-clause-binder_kept g c = λ _. refl
+
+pub returns-in-Ok-Check-clause-sinks_kept : goal.returns-in-Ok-Check-clause-sinks_kept
+returns-in-Ok-Check-clause-sinks_kept g c = λ _. c.check.ensures.sinks
+
+pub returns-in-Ok-Compat-clause-file_fault : goal.returns-in-Ok-Compat-clause-file_fault
+returns-in-Ok-Compat-clause-file_fault g c = c.compare.ensures.file_fault
+
+pub returns-in-Ok-Compat-clause-write_fault : goal.returns-in-Ok-Compat-clause-write_fault
+returns-in-Ok-Compat-clause-write_fault g c = c.compare.ensures.write_fault
+
+pub returns-in-Ok-Compat-clause-files_kept : goal.returns-in-Ok-Compat-clause-files_kept
+returns-in-Ok-Compat-clause-files_kept g c = c.compare.ensures.files_kept
+
+pub returns-in-Ok-Compat-clause-output_kept : goal.returns-in-Ok-Compat-clause-output_kept
+returns-in-Ok-Compat-clause-output_kept g c = c.compare.ensures.output_kept
+
+pub returns-in-Ok-Compat-clause-input_kept : goal.returns-in-Ok-Compat-clause-input_kept
+returns-in-Ok-Compat-clause-input_kept g c = λ _. refl
+
+pub returns-in-Ok-Compat-clause-binder_kept : goal.returns-in-Ok-Compat-clause-binder_kept
+returns-in-Ok-Compat-clause-binder_kept g c = λ _. refl
+
+pub returns-in-Ok-Compat-clause-sinks_kept : goal.returns-in-Ok-Compat-clause-sinks_kept
+returns-in-Ok-Compat-clause-sinks_kept g c = λ _. c.compare.ensures.sinks
+
+pub returns-in-Ok-Call-clause-file_fault : goal.returns-in-Ok-Call-clause-file_fault
+returns-in-Ok-Call-clause-file_fault g c = c.call.ensures.file_fault
+
+pub returns-in-Ok-Call-clause-write_fault : goal.returns-in-Ok-Call-clause-write_fault
+returns-in-Ok-Call-clause-write_fault g c = c.call.ensures.write_fault
+
+pub returns-in-Ok-Call-clause-net_fault : goal.returns-in-Ok-Call-clause-net_fault
+returns-in-Ok-Call-clause-net_fault g c = c.call.ensures.net_fault
+
+pub returns-in-Ok-Call-clause-files_kept : goal.returns-in-Ok-Call-clause-files_kept
+returns-in-Ok-Call-clause-files_kept g c = c.call.ensures.files_kept
+
+pub returns-in-Ok-Call-clause-output_kept : goal.returns-in-Ok-Call-clause-output_kept
+returns-in-Ok-Call-clause-output_kept g c = c.call.ensures.output_kept
+
+pub returns-in-Ok-Call-clause-binder_kept : goal.returns-in-Ok-Call-clause-binder_kept
+returns-in-Ok-Call-clause-binder_kept g c = c.call.ensures.binder_kept
+
+pub returns-in-Ok-Call-clause-input_kept : goal.returns-in-Ok-Call-clause-input_kept
+returns-in-Ok-Call-clause-input_kept g c = λ _. refl
+
+pub returns-in-Ok-Call-clause-sinks_kept : goal.returns-in-Ok-Call-clause-sinks_kept
+returns-in-Ok-Call-clause-sinks_kept g c = λ _. c.call.ensures.sinks
+
+pub returns-in-Ok-Rehearse-clause-file_fault : goal.returns-in-Ok-Rehearse-clause-file_fault
+returns-in-Ok-Rehearse-clause-file_fault g c = c.rehearse_and_say.ensures.file_fault
+
+pub returns-in-Ok-Rehearse-clause-read_fault : goal.returns-in-Ok-Rehearse-clause-read_fault
+returns-in-Ok-Rehearse-clause-read_fault g c = c.rehearse_and_say.ensures.read_fault
+
+pub returns-in-Ok-Rehearse-clause-write_fault : goal.returns-in-Ok-Rehearse-clause-write_fault
+returns-in-Ok-Rehearse-clause-write_fault g c = c.rehearse_and_say.ensures.write_fault
+
+pub returns-in-Ok-Rehearse-clause-files_kept : goal.returns-in-Ok-Rehearse-clause-files_kept
+returns-in-Ok-Rehearse-clause-files_kept g c = c.rehearse_and_say.ensures.files_kept
+
+pub returns-in-Ok-Rehearse-clause-input_kept : goal.returns-in-Ok-Rehearse-clause-input_kept
+returns-in-Ok-Rehearse-clause-input_kept g c = c.rehearse_and_say.ensures.input_kept
+
+pub returns-in-Ok-Rehearse-clause-output_kept : goal.returns-in-Ok-Rehearse-clause-output_kept
+returns-in-Ok-Rehearse-clause-output_kept g c = c.rehearse_and_say.ensures.output_kept
+
+pub returns-in-Ok-Rehearse-clause-binder_kept : goal.returns-in-Ok-Rehearse-clause-binder_kept
+returns-in-Ok-Rehearse-clause-binder_kept g c = λ _. refl
+
+pub returns-in-Ok-Rehearse-clause-sinks_kept : goal.returns-in-Ok-Rehearse-clause-sinks_kept
+returns-in-Ok-Rehearse-clause-sinks_kept g c = λ _. c.rehearse_and_say.ensures.sinks
+
+pub returns-in-Ok-Record-clause-file_fault : goal.returns-in-Ok-Record-clause-file_fault
+returns-in-Ok-Record-clause-file_fault g c = c.record_and_say.ensures.file_fault
+
+pub returns-in-Ok-Record-clause-read_fault : goal.returns-in-Ok-Record-clause-read_fault
+returns-in-Ok-Record-clause-read_fault g c = c.record_and_say.ensures.read_fault
+
+pub returns-in-Ok-Record-clause-write_fault : goal.returns-in-Ok-Record-clause-write_fault
+returns-in-Ok-Record-clause-write_fault g c = c.record_and_say.ensures.write_fault
+
+pub returns-in-Ok-Record-clause-files_kept : goal.returns-in-Ok-Record-clause-files_kept
+returns-in-Ok-Record-clause-files_kept g c = c.record_and_say.ensures.files_kept
+
+pub returns-in-Ok-Record-clause-input_kept : goal.returns-in-Ok-Record-clause-input_kept
+returns-in-Ok-Record-clause-input_kept g c = c.record_and_say.ensures.input_kept
+
+pub returns-in-Ok-Record-clause-output_kept : goal.returns-in-Ok-Record-clause-output_kept
+returns-in-Ok-Record-clause-output_kept g c = c.record_and_say.ensures.output_kept
+
+pub returns-in-Ok-Record-clause-binder_kept : goal.returns-in-Ok-Record-clause-binder_kept
+returns-in-Ok-Record-clause-binder_kept g c = λ _. refl
+
+pub returns-in-Ok-Record-clause-sinks_kept : goal.returns-in-Ok-Record-clause-sinks_kept
+returns-in-Ok-Record-clause-sinks_kept g c = λ _. c.record_and_say.ensures.sinks
+
+pub returns-in-Ok-Serve-clause-file_fault : goal.returns-in-Ok-Serve-clause-file_fault
+returns-in-Ok-Serve-clause-file_fault g c = c.serve_and_say.ensures.file_fault
+
+pub returns-in-Ok-Serve-clause-read_fault : goal.returns-in-Ok-Serve-clause-read_fault
+returns-in-Ok-Serve-clause-read_fault g c = λ is. absurd (c.serve_and_say.ensures.read_fault is)
+
+pub returns-in-Ok-Serve-clause-write_fault : goal.returns-in-Ok-Serve-clause-write_fault
+returns-in-Ok-Serve-clause-write_fault g c = c.serve_and_say.ensures.write_fault
+
+pub returns-in-Ok-Serve-clause-net_fault : goal.returns-in-Ok-Serve-clause-net_fault
+returns-in-Ok-Serve-clause-net_fault g c = c.serve_and_say.ensures.net_fault
+
+pub returns-in-Ok-Serve-clause-journal_fault : goal.returns-in-Ok-Serve-clause-journal_fault
+returns-in-Ok-Serve-clause-journal_fault g c = c.serve_and_say.ensures.journal_fault
+
+pub returns-in-Ok-Serve-clause-files_kept : goal.returns-in-Ok-Serve-clause-files_kept
+returns-in-Ok-Serve-clause-files_kept g c = c.serve_and_say.ensures.files_kept
+
+pub returns-in-Ok-Serve-clause-output_kept : goal.returns-in-Ok-Serve-clause-output_kept
+returns-in-Ok-Serve-clause-output_kept g c = c.serve_and_say.ensures.output_kept
+
+pub returns-in-Ok-Serve-clause-binder_kept : goal.returns-in-Ok-Serve-clause-binder_kept
+returns-in-Ok-Serve-clause-binder_kept g c = c.serve_and_say.ensures.binder_kept
+
+pub returns-in-Ok-Serve-clause-sinks_kept : goal.returns-in-Ok-Serve-clause-sinks_kept
+returns-in-Ok-Serve-clause-sinks_kept g c = c.serve_and_say.ensures.sinks_kept
+
+pub returns-in-Ok-Serve-clause-input_kept : goal.returns-in-Ok-Serve-clause-input_kept
+returns-in-Ok-Serve-clause-input_kept g c = λ _. refl
+
+pub returns-in-Ok-Workload-clause-file_fault : goal.returns-in-Ok-Workload-clause-file_fault
+returns-in-Ok-Workload-clause-file_fault g c = c.work_and_say.ensures.file_fault
+
+pub returns-in-Ok-Workload-clause-write_fault : goal.returns-in-Ok-Workload-clause-write_fault
+returns-in-Ok-Workload-clause-write_fault g c = c.work_and_say.ensures.write_fault
+
+pub returns-in-Ok-Workload-clause-read_fault : goal.returns-in-Ok-Workload-clause-read_fault
+returns-in-Ok-Workload-clause-read_fault g c = λ is. absurd (c.work_and_say.ensures.no_read_fault is)
+
+pub returns-in-Ok-Workload-clause-net_fault : goal.returns-in-Ok-Workload-clause-net_fault
+returns-in-Ok-Workload-clause-net_fault g c = λ is. absurd (c.work_and_say.ensures.no_net_fault is)
+
+pub returns-in-Ok-Workload-clause-journal_fault : goal.returns-in-Ok-Workload-clause-journal_fault
+returns-in-Ok-Workload-clause-journal_fault g c = λ is. absurd (c.work_and_say.ensures.no_journal_fault is)
+
+pub returns-in-Ok-Workload-clause-files_kept : goal.returns-in-Ok-Workload-clause-files_kept
+returns-in-Ok-Workload-clause-files_kept g c = c.work_and_say.ensures.files_kept
+
+pub returns-in-Ok-Workload-clause-output_kept : goal.returns-in-Ok-Workload-clause-output_kept
+returns-in-Ok-Workload-clause-output_kept g c = c.work_and_say.ensures.output_kept
+
+pub returns-in-Ok-Workload-clause-input_kept : goal.returns-in-Ok-Workload-clause-input_kept
+returns-in-Ok-Workload-clause-input_kept g c = λ _. refl
+
+pub returns-in-Ok-Workload-clause-binder_kept : goal.returns-in-Ok-Workload-clause-binder_kept
+returns-in-Ok-Workload-clause-binder_kept g c = λ _. refl
+
+pub returns-in-Ok-Workload-clause-sinks_kept : goal.returns-in-Ok-Workload-clause-sinks_kept
+returns-in-Ok-Workload-clause-sinks_kept g c = λ _. c.work_and_say.ensures.sinks
+
+pub returns-in-Err-clause-files_kept : goal.returns-in-Err-clause-files_kept
+returns-in-Err-clause-files_kept g c = λ _. refl
+
+pub returns-in-Err-clause-output_kept : goal.returns-in-Err-clause-output_kept
+returns-in-Err-clause-output_kept g c = λ _. refl
+
+pub returns-in-Err-clause-input_kept : goal.returns-in-Err-clause-input_kept
+returns-in-Err-clause-input_kept g c = λ _. refl
+
+pub returns-in-Err-clause-binder_kept : goal.returns-in-Err-clause-binder_kept
+returns-in-Err-clause-binder_kept g c = λ _. refl
+
+pub returns-in-Err-clause-sinks_kept : goal.returns-in-Err-clause-sinks_kept
+returns-in-Err-clause-sinks_kept g c = λ _. refl
