@@ -1,6 +1,9 @@
 -- Sets of names, one name more at a time.
-use Rattle.std.proofs.Common.{◌≡◌, ◌≤◌, ◌<◌, ◌+◌, ◌++◌, ℕ, zero, suc, Bool, List, [], ◌∷◌, length, get_or, take, Option, None, Bor, refl, ap, sym, subst, ◌∙◌}
+use Rattle.std.proofs.Common.{◌≡◌, ◌≤◌, ◌<◌, ◌+◌, ◌++◌, ℕ, zero, suc, Bool, true, false, List, [], ◌∷◌, length, get_or, slice_get, take, Option, None, Some, Result, Ok, Err, MatchResult, IfOk, OnOk, Bor, refl, ap, sym, subst, ◌∙◌}
 use Rattle.std.specs.Prelude.{◌||◌}
+use Rattle.std.specs.Option.{option_copied, option_map_or}
+use Rattle.std.specs.Slice.{IsItemAt}
+use Rattle.std.proofs.lemmas.Option.{slice_get_past, slice_get_read}
 use Rattle.std.specs.List.{list_any, AllZip}
 use Rattle.std.specs.Str.{bytes_eq}
 use Rattle.std.proofs.lemmas.List.{get_or_default}
@@ -8,7 +11,7 @@ use Rattle.idl_parser.specs.declared.tree.Function.{Function}
 use Rattle.idl_names.specs.NameSets.{NameSet, has_name, HasNameToo}
 use Rattle.idl_names.proofs.Based.{zip_push, take_past}
 use Rattle.idl_names.proofs.Marked.{any_push, or_right, taken_more}
-use Rattle.idl_types.specs.Inherited.{is_function, IsBase, AreInherited}
+use Rattle.idl_types.specs.Inherited.{is_function, is_in_base, HasBoth, IsBase, AreInherited}
 
 -- the names of functions more
 pub functions_next : (functions : List Function) (i : ℕ) (f : Function) (text : List ℕ) (first old new : NameSet) → i < length functions → f ≡ get_or functions i f
@@ -25,15 +28,78 @@ functions_next functions i f text first old new l here named too so_far name =
 abbrev pub is_key : List (Bor (List ℕ)) → List ℕ → Bool
 is_key keys name = list_any (λ (key : Bor (List ℕ)). bytes_eq key.now name) keys
 
-pub keys_next : (keys : List (Bor (List ℕ))) (i : ℕ) (key : Bor (List ℕ)) (old new : NameSet) → i < length keys → key ≡ get_or keys i key → HasNameToo key.now old new
-    → ((name : List ℕ) → has_name old name ≡ is_key (take i keys) name) → (name : List ℕ) → has_name new name ≡ is_key (take (i + 1) keys) name
-keys_next keys i key old new l here too so_far name =
+pub keys_next : (keys : List (Bor (List ℕ))) (i : ℕ) (key : Bor (List ℕ)) (first old new : NameSet) → i < length keys → key ≡ get_or keys i key → HasNameToo key.now old new
+    → ((name : List ℕ) → has_name old name ≡ (has_name first name || is_key (take i keys) name))
+    → (name : List ℕ) → has_name new name ≡ (has_name first name || is_key (take (i + 1) keys) name)
+keys_next keys i key first old new l here too so_far name =
     let test : Bor (List ℕ) → Bool = λ k. bytes_eq k.now name in
-    too name ∙ ap (λ b. b || test key) (so_far name) ∙ sym (any_push test (take i keys) key) ∙ ap (list_any test) (sym (taken_more keys i key l here))
+    too name
+    ∙ ap (λ b. b || test key) (so_far name)
+    ∙ or_right (has_name first name) (is_key (take i keys) name) (test key)
+    ∙ ap (λ b. has_name first name || b) (sym (any_push test (take i keys) key) ∙ ap (list_any test) (sym (taken_more keys i key l here)))
 
-pub keys_end : (names set : NameSet) (keys : List (Bor (List ℕ))) (i : ℕ) → length keys ≤ i → keys ≡ names.keys
-    → ((name : List ℕ) → has_name set name ≡ is_key (take i keys) name) → (name : List ℕ) → has_name set name ≡ has_name names name
-keys_end names set keys i past same so_far name = so_far name ∙ ap (λ (ks : List (Bor (List ℕ))). is_key ks name) (take_past keys i past ∙ same)
+pub keys_end : (first names set : NameSet) (keys : List (Bor (List ℕ))) (i : ℕ) → length keys ≤ i → keys ≡ names.keys
+    → ((name : List ℕ) → has_name set name ≡ (has_name first name || is_key (take i keys) name))
+    → (name : List ℕ) → has_name set name ≡ (has_name first name || has_name names name)
+keys_end first names set keys i past same so_far name =
+    so_far name ∙ ap (λ (ks : List (Bor (List ℕ))). has_name first name || is_key ks name) (take_past keys i past ∙ same)
+
+-- ---- the names of a parent's set more, and those of functions
+
+or_false : (b : Bool) → b ≡ (b || false)
+or_false true = refl
+or_false false = refl
+
+pub no_base_put : (sets : List NameSet) (base : Option ℕ) (set : NameSet) → base ≡ None → (name : List ℕ) → has_name set name ≡ (has_name set name || is_in_base sets base name)
+no_base_put sets base set none name = or_false (has_name set name) ∙ ap (λ (o : Option ℕ). has_name set name || is_in_base sets o name) (sym none)
+
+-- what a look-up answers
+got : (sets : List NameSet) (which : ℕ) (r : Option (Bor NameSet)) → IsItemAt sets which r → option_copied r ≡ slice_get sets which
+got sets which None h = sym (slice_get_past sets which h.3)
+got sets which (Some x) h = sym (slice_get_read sets (length sets) which x.now refl h.3.0 h.1)
+
+pub no_set_put : (sets : List NameSet) (base : Option ℕ) (which : ℕ) (r : Option (Bor NameSet)) (set : NameSet) → base ≡ Some which → IsItemAt sets which r → r ≡ None
+    → (name : List ℕ) → has_name set name ≡ (has_name set name || is_in_base sets base name)
+no_set_put sets base which r set is at none name =
+    or_false (has_name set name)
+    ∙ ap (λ (o : Option NameSet). has_name set name || option_map_or (λ (s : NameSet). has_name s name) o false) (sym (ap option_copied none) ∙ got sets which r at)
+    ∙ ap (λ (o : Option ℕ). has_name set name || is_in_base sets o name) (sym is)
+
+pub set_put : {A E : Type 0} (r : Result A E) (sets : List NameSet) (base : Option ℕ) (which : ℕ) (item : Option (Bor NameSet)) (other : Bor NameSet) (old new : NameSet)
+    → base ≡ Some which → IsItemAt sets which item → item ≡ Some other
+    → OnOk r ((name : List ℕ) → has_name new name ≡ (has_name old name || has_name other.now name))
+    → OnOk r ((name : List ℕ) → has_name new name ≡ (has_name old name || is_in_base sets base name))
+set_put (Err e) sets base which item other old new is at some put = tt
+set_put (Ok x) sets base which item other old new is at some put = λ name.
+    put name
+    ∙ ap (λ (o : Option NameSet). has_name old name || option_map_or (λ (s : NameSet). has_name s name) o false) (sym (ap option_copied some) ∙ got sets which item at)
+    ∙ ap (λ (o : Option ℕ). has_name old name || is_in_base sets o name) (sym is)
+
+pub both_put : {A E : Type 0} (r : Result A E) (sets : List NameSet) (base : Option ℕ) (functions : List Function) (first mid new : NameSet)
+    → ((name : List ℕ) → has_name mid name ≡ (has_name first name || is_in_base sets base name))
+    → OnOk r ((name : List ℕ) → has_name new name ≡ (has_name mid name || is_function functions name))
+    → OnOk r ((name : List ℕ) → has_name new name ≡ ((has_name first name || is_in_base sets base name) || is_function functions name))
+both_put (Err e) sets base functions first mid new base_put put = tt
+both_put (Ok x) sets base functions first mid new base_put put = λ name. put name ∙ ap (λ b. b || is_function functions name) (base_put name)
+
+pub from_nothing : {A E : Type 0} (r : Result A E) (sets : List NameSet) (base : Option ℕ) (functions : List Function) (first new : NameSet) → first.keys ≡ []
+    → OnOk r ((name : List ℕ) → has_name new name ≡ ((has_name first name || is_in_base sets base name) || is_function functions name))
+    → OnOk r (HasBoth sets base functions new)
+from_nothing (Err e) sets base functions first new empty put = tt
+from_nothing (Ok x) sets base functions first new empty put = λ name.
+    put name
+    ∙ ap (λ (ks : List (Bor (List ℕ))). (list_any (λ (k : Bor (List ℕ)). bytes_eq k.now name) ks || is_in_base sets base name) || is_function functions name) empty
+
+-- ---- what was filled
+
+pub kept_right : {T U E : Type 0} (P : T → Type 0) (item : T) (done : Result U E) (r : Result T E) → MatchResult done (λ _. r ≡ Ok item) (λ e. r ≡ Err e)
+    → OnOk done (P item) → IfOk r P
+kept_right P item (Ok u) r is right = subst (λ s. IfOk s P) (sym is) right
+kept_right P item (Err e) r is right = subst (λ s. IfOk s P) (sym is) tt
+
+pub on_ok_of : {U E A : Type 0} (B : Type 0) (r : Result U E) → OnOk r (A → B) → A → OnOk r B
+on_ok_of B (Ok u) f a = f a
+on_ok_of B (Err e) f a = tt
 
 -- ---- nothing made
 

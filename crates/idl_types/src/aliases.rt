@@ -10,6 +10,7 @@ ghost use Rattle.idl_types.specs.Known.{known_kind, AreAliasTypes};
 
 use crate::copies::MOST_TYPES;
 use crate::meaning::{TypeTables, type_meant};
+use crate::offers::kept;
 use crate::order::building_order;
 use idl_names::{InFile, NameTables};
 use idl_parser::Typedef;
@@ -80,11 +81,40 @@ fn made_in_order(
     ensures { IfOk result (λ made. AreAliasTypes (program_in names.now) made.items) }
 {
     let mut made = none_made(alloc, typedefs.len())?;
+    let done = make_each(alloc, names, typedefs, &mut made, order);
+    kept(made, done)
+}
+
+/// Makes the types of typedefs in this order.
+fn make_each(
+    alloc: Global,
+    names: &NameTables<'_>,
+    typedefs: &[InFile<'_, Typedef>],
+    made: &mut Vec<Option<TypeDesc>>,
+    order: &[u32],
+) -> Result<(), AllocError>
+    requires typedefs { filed_typedefs typedefs.now ≡ typedefs_of (program_in names.now) }
+    requires made { AreAliasTypes (program_in names.now) made.old.items }
+    ensures { OnOk result (AreAliasTypes (program_in names.now) made.new.items) }
+{
     let mut room = MOST_TYPES;
     for number in order {
-        make_alias(alloc, names, typedefs, &mut made, *number, &mut room)?;
+        make_alias(alloc, names, typedefs, made, *number, &mut room)?;
     }
-    Ok(made)
+    Ok(())
+}
+
+/// The types of typedefs, made in an order that is looked for.
+fn made_types(
+    alloc: Global,
+    names: &NameTables<'_>,
+    typedefs: &[InFile<'_, Typedef>],
+) -> Result<Vec<Option<TypeDesc>>, AllocError>
+    requires { filed_typedefs typedefs.now ≡ typedefs_of (program_in names.now) }
+    ensures { IfOk result (λ made. AreAliasTypes (program_in names.now) made.items) }
+{
+    let order = building_order(alloc, names, typedefs)?;
+    made_in_order(alloc, names, typedefs, order.as_slice())
 }
 
 /// Whether all types are made.
@@ -105,8 +135,7 @@ pub fn alias_types<'a>(
     ensures right { IfOk result (λ made. AreAliasTypes (program_in names.now) made.items) }
     ensures all { IfOk result (λ made. (number : ℕ) → number < length (typedefs_of (program_in names.now)) → IsSome (known_kind made.items number)) }
 {
-    let order = building_order(alloc, names, typedefs)?;
-    let made = made_in_order(alloc, names, typedefs, order.as_slice())?;
+    let made = made_types(alloc, names, typedefs)?;
     if made.len() < typedefs.len() {
         return Err(AllocError);
     }

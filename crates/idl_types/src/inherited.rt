@@ -1,14 +1,14 @@
 //! The names of functions that services inherit.
 
-ghost use Rattle.std.specs.Prelude.{◌≡◌, IfOk};
+ghost use Rattle.std.specs.Prelude.{◌≡◌, IfOk, OnOk};
 ghost use Rattle.idl_include.specs.Program.{Program};
 ghost use Rattle.idl_include.specs.Numbering.{services_of};
 ghost use Rattle.idl_names.specs.FiledIn.{filed_services};
 ghost use Rattle.idl_types.specs.Rows.{parents_of};
-ghost use Rattle.idl_types.specs.Inherited.{is_told, AreOffered, AreInherited, TellsInherited};
+ghost use Rattle.idl_types.specs.Inherited.{is_told, AreOffered, AreInherited, KeepsOffered, TellsInherited};
 
 use crate::offer_order::parents_first;
-use crate::offers::{Offered, base_of, entry_at, is_in_set, nothing_offered, offer};
+use crate::offers::{Offered, base_of, entry_at, is_in_set, kept, nothing_offered, offer};
 use idl_names::{InFile, NameSet};
 use idl_parser::Service;
 use std::alloc::{AllocError, Global};
@@ -59,11 +59,37 @@ fn all_offered<'a>(
     ensures { IfOk result (λ offered. AreOffered parents.now services.now offered.sets.items offered.made.items) }
 {
     let order = parents_first(alloc, parents)?;
+    offered_in_order(alloc, parents, services, order.as_slice())
+}
+
+/// What services offer, made in this order.
+fn offered_in_order<'a>(
+    alloc: Global,
+    parents: &[Option<u32>],
+    services: &[InFile<'a, Service>],
+    order: &[u32],
+) -> Result<Offered<'a>, AllocError>
+    ensures { IfOk result (λ offered. AreOffered parents.now services.now offered.sets.items offered.made.items) }
+{
     let mut offered = nothing_offered(alloc, services.len())?;
-    for service in order.as_slice() {
-        offer(alloc, &mut offered, parents, services, *service)?;
+    let done = offer_each(alloc, &mut offered, parents, services, order);
+    kept(offered, done)
+}
+
+/// Offers the functions of services in this order.
+fn offer_each<'a>(
+    alloc: Global,
+    offered: &mut Offered<'a>,
+    parents: &[Option<u32>],
+    services: &[InFile<'a, Service>],
+    order: &[u32],
+) -> Result<(), AllocError>
+    ensures { OnOk result (KeepsOffered parents.now services.now offered.old offered.new) }
+{
+    for service in order {
+        offer(alloc, offered, parents, services, *service)?;
     }
-    Ok(offered)
+    Ok(())
 }
 
 /// The set of each service's parent, which has to be made.

@@ -1,6 +1,6 @@
 //! Sets of names: of a service's functions, and of those that it inherits, one service after another.
 
-ghost use Rattle.std.specs.Prelude.{◌≡◌, ◌||◌, ℕ, List, slice_index_or, None, length, IfOk, OnOk};
+ghost use Rattle.std.specs.Prelude.{◌≡◌, ◌||◌, ◌++◌, ◌∷◌, [], ℕ, List, slice_index_or, None, length, IfOk, OnOk, MatchResult, Result};
 ghost use Rattle.std.specs.List.{list_any};
 ghost use Rattle.std.specs.Str.{bytes_eq};
 ghost use denote.Ref.{Bor};
@@ -140,8 +140,16 @@ fn offer_new<'a>(
     let more = names_in(offered.sets.as_slice(), base);
     offered.copied = within_most(offered.copied, more)?;
     let set = with_functions(alloc, offered.sets.as_slice(), base, functions)?;
-    offered.sets.push(set)?;
+    put_set(&mut offered.sets, set)?;
     put_made(&mut offered.made, service, which)
+}
+
+/// One set more.
+fn put_set<'a>(sets: &mut Vec<NameSet<'a>>, set: NameSet<'a>) -> Result<(), AllocError>
+    ensures { OnOk result (sets.new.items ≡ sets.old.items ++ set.entry ∷ []) }
+{
+    sets.push(set)?;
+    Ok(())
 }
 
 /// How many names a set has, if there is one.
@@ -172,37 +180,59 @@ fn with_functions<'a>(
 ) -> Result<NameSet<'a>, AllocError>
     ensures { IfOk result (HasBoth sets.now base functions.now) }
 {
-    let mut set = copy_of(alloc, sets, base)?;
-    put_functions(&mut set, functions)?;
-    Ok(set)
+    let mut set = IndexSet::new(alloc);
+    let done = put_both(&mut set, sets, base, functions);
+    kept(set, done)
 }
 
-/// The names of a set, if there is one.
-fn copy_of<'a>(
-    alloc: Global,
+/// What was filled, where that came to its end.
+pub(crate) fn kept<T: Drop>(item: T, done: Result<(), AllocError>) -> Result<T, AllocError>
+    ensures { MatchResult done (λ _. result ≡ Result.Ok item) (λ error. result ≡ Result.Err error) }
+{
+    match done {
+        Ok(()) => Ok(item),
+        Err(error) => Err(error),
+    }
+}
+
+/// The names of a set more, if there is one, and of functions.
+fn put_both<'a>(
+    set: &mut NameSet<'a>,
     sets: &[NameSet<'a>],
     base: Option<u32>,
-) -> Result<NameSet<'a>, AllocError>
-    ensures { IfOk result (λ set. (name : List ℕ) → has_name set name ≡ is_in_base sets.now base name) }
+    functions: &'a [Function],
+) -> Result<(), AllocError>
+    ensures { OnOk result ((name : List ℕ) → has_name set.new name ≡ ((has_name set.old name || is_in_base sets.now base name) || is_function functions.now name)) }
+{
+    put_base(set, sets, base)?;
+    put_functions(set, functions)
+}
+
+/// The names of a set more, if there is one.
+fn put_base<'a>(
+    set: &mut NameSet<'a>,
+    sets: &[NameSet<'a>],
+    base: Option<u32>,
+) -> Result<(), AllocError>
+    ensures { OnOk result ((name : List ℕ) → has_name set.new name ≡ (has_name set.old name || is_in_base sets.now base name)) }
 {
     let Some(which) = base else {
-        return Ok(IndexSet::new(alloc));
+        return Ok(());
     };
     match sets.get(which as usize) {
-        Some(set) => same_names(alloc, set),
-        None => Ok(IndexSet::new(alloc)),
+        Some(other) => put_names(set, other),
+        None => Ok(()),
     }
 }
 
-/// A set of the same names.
-fn same_names<'a>(alloc: Global, names: &NameSet<'a>) -> Result<NameSet<'a>, AllocError>
-    ensures { IfOk result (λ set. (name : List ℕ) → has_name set name ≡ has_name names.now name) }
+/// The names of another set more.
+fn put_names<'a>(set: &mut NameSet<'a>, names: &NameSet<'a>) -> Result<(), AllocError>
+    ensures { OnOk result ((name : List ℕ) → has_name set.new name ≡ (has_name set.old name || has_name names.now name)) }
 {
-    let mut set = IndexSet::new(alloc);
     for name in names.as_slice() {
-        was_seen(&mut set, *name)?;
+        was_seen(set, *name)?;
     }
-    Ok(set)
+    Ok(())
 }
 
 /// The names of functions more.

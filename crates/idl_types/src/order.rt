@@ -1,8 +1,14 @@
 //! An order of typedefs in which each stands behind those that its type names. Nothing is promised of it: who makes types by it sees
 //! whether those that a type names are made.
 
-use idl_names::{InFile, NameTables, TypeName};
-use idl_parser::{TypeTree, Typedef};
+ghost use Rattle.std.specs.Prelude.{◌≡◌};
+ghost use Rattle.idl_include.specs.Numbering.{typedefs_of};
+ghost use Rattle.idl_include.specs.SourcesOf.{program_in};
+ghost use Rattle.idl_names.specs.FiledIn.{filed_typedefs};
+
+use crate::rows::typedef_rows;
+use idl_names::{InFile, NameTables};
+use idl_parser::Typedef;
 use std::alloc::{AllocError, Global};
 
 /// The search for an order, without recursion.
@@ -14,45 +20,6 @@ struct Search {
     open: Vec<(u32, usize)>,
     // Those that were looked at, in order.
     order: Vec<u32>,
-}
-
-/// Appends the typedefs that a type names.
-fn put_named(
-    row: &mut Vec<u32>,
-    names: &NameTables<'_>,
-    file: u32,
-    tree: &TypeTree,
-) -> Result<(), AllocError> {
-    match tree {
-        TypeTree::Base(_, _) => Ok(()),
-        TypeTree::Named(name) => {
-            if let Some(TypeName::Alias(number)) = names.type_named(file, name.text.as_slice()) {
-                row.push(number)?;
-            }
-            Ok(())
-        }
-        TypeTree::Map(_, key, value) => {
-            put_named(row, names, file, key)?;
-            put_named(row, names, file, value)
-        }
-        TypeTree::Set(_, member) => put_named(row, names, file, member),
-        TypeTree::List(_, element) => put_named(row, names, file, element),
-    }
-}
-
-/// The typedefs that each one names.
-fn named_rows(
-    alloc: Global,
-    names: &NameTables<'_>,
-    typedefs: &[InFile<'_, Typedef>],
-) -> Result<Vec<Vec<u32>>, AllocError> {
-    let mut rows = Vec::with_capacity(alloc, typedefs.len())?;
-    for typedef in typedefs {
-        let mut row = Vec::new(alloc);
-        put_named(&mut row, names, typedef.file, &typedef.item.kind)?;
-        rows.push(row)?;
-    }
-    Ok(rows)
 }
 
 /// The number at a place in the row of a typedef.
@@ -99,6 +66,43 @@ impl Search {
         }
         Ok(())
     }
+
+    /// Looks at each typedef in turn, and first at those that its type names.
+    fn meet_all(&mut self, rows: &[Vec<u32>]) -> Result<(), AllocError> {
+        for typedef in 0..rows.len() {
+            let Ok(typedef) = u32::try_from(typedef) else {
+                return Err(AllocError);
+            };
+            self.meet(typedef)?;
+            self.finish(rows)?;
+        }
+        Ok(())
+    }
+}
+
+/// A search that has met none of so many typedefs.
+fn nothing_met(alloc: Global, count: usize) -> Result<Search, AllocError> {
+    let met = vec![in alloc; false; count]?;
+    Ok(Search {
+        met,
+        open: Vec::new(alloc),
+        order: Vec::new(alloc),
+    })
+}
+
+/// The order of a search, where it came to its end.
+fn order_of(search: Search, done: Result<(), AllocError>) -> Result<Vec<u32>, AllocError> {
+    match done {
+        Ok(()) => Ok(search.order),
+        Err(error) => Err(error),
+    }
+}
+
+/// An order by the typedefs that each one names.
+fn order_by(alloc: Global, rows: &[Vec<u32>]) -> Result<Vec<u32>, AllocError> {
+    let mut search = nothing_met(alloc, rows.len())?;
+    let done = search.meet_all(rows);
+    order_of(search, done)
 }
 
 /// The typedefs in an order in which each stands behind those that its type names, where no typedef leads to itself.
@@ -106,19 +110,9 @@ pub(crate) fn building_order(
     alloc: Global,
     names: &NameTables<'_>,
     typedefs: &[InFile<'_, Typedef>],
-) -> Result<Vec<u32>, AllocError> {
-    let rows = named_rows(alloc, names, typedefs)?;
-    let mut search = Search {
-        met: vec![in alloc; false; typedefs.len()]?,
-        open: Vec::new(alloc),
-        order: Vec::with_capacity(alloc, typedefs.len())?,
-    };
-    for typedef in 0..typedefs.len() {
-        let Ok(typedef) = u32::try_from(typedef) else {
-            return Err(AllocError);
-        };
-        search.meet(typedef)?;
-        search.finish(rows.as_slice())?;
-    }
-    Ok(search.order)
+) -> Result<Vec<u32>, AllocError>
+    requires { filed_typedefs typedefs.now ≡ typedefs_of (program_in names.now) }
+{
+    let rows = typedef_rows(alloc, names, typedefs)?;
+    order_by(alloc, rows.as_slice())
 }
