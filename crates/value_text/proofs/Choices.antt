@@ -1,5 +1,6 @@
 -- Steps of readers: one after another, and choices by a test.
-use Rattle.std.proofs.Common.{◌≡◌, ◌⊎◌, ℕ, Bool, true, false, cond, Option, Some, None, Result, Ok, Err, refl, ap, ◌∙◌, inl, inr}
+use Rattle.std.proofs.Common.{◌≡◌, ◌⊎◌, ℕ, Bool, true, false, cond, not, Option, Some, None, Result, Ok, Err, refl, ap, sym, ◌∙◌, inl, inr, true≢false}
+use Rattle.std.specs.Prelude.{◌||◌}
 use Rattle.value_text.specs.declared.stop.TextStop.{TextStop}
 use Rattle.value_text.specs.declared.stop.TextStop.TheVariants as stop
 use Rattle.value_text.specs.Answering.{LeavesAs}
@@ -25,6 +26,18 @@ held false r left y e = absurd cc
 pub held_not : {A : Type 0} (b : Bool) (r : Result A ℕ) (left : ℕ) (y : A) → cond b (Err left) r ≡ Ok y → (b ≡ false) × (r ≡ Ok y)
 held_not true r left y e = absurd cc
 held_not false r left y e = (refl, e)
+
+-- what may stand there, since it needn't rise or comes behind
+pub follows : {X : Type 0} (rising c b : Bool) (x y : X) → b ≡ (not rising || c) → b ≡ true → cond (not rising) x (cond c x y) ≡ x
+follows true true b x y is e = refl
+follows true false b x y is e = absurd (true≢false (sym e ∙ is))
+follows false c b x y is e = refl
+
+-- what may not
+pub follows_not : {X : Type 0} (rising c b : Bool) (x y : X) → b ≡ (not rising || c) → b ≡ false → cond (not rising) x (cond c x y) ≡ y
+follows_not true true b x y is e = absurd (true≢false (sym is ∙ e))
+follows_not true false b x y is e = refl
+follows_not false c b x y is e = absurd (true≢false (sym is ∙ e))
 
 abbrev read : {A : Type 0} → A → Result A ℕ
 read x = Ok x

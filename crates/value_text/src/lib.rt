@@ -23,7 +23,7 @@ ghost use Rattle.thrift_value.specs.Tidy.{IsTidy};
 ghost use Rattle.thrift_value.specs.Tree.{Tree};
 ghost use Rattle.thrift_value.specs.TreeOf.{tree_of};
 ghost use Rattle.value_text.specs.Answering.{Answers};
-ghost use Rattle.value_text.specs.Reading.{front_at, read_as, reading_of};
+ghost use Rattle.value_text.specs.Reading.{ended, front_at, read_as, reading_of};
 ghost use Rattle.value_text.specs.Texts.{HasText, IsTextAt, IsTextOf};
 ghost use Rattle.value_text.specs.ValueText.{tree_text};
 
@@ -110,9 +110,18 @@ pub fn read(alloc: Global, text: &[u8]) -> Result<Value, TextFault>
 fn whole_in(alloc: Global, text: &[u8]) -> Result<Value, TextFault>
     ensures { Answers tree_of result (reading_of text.now) }
 {
-    let (value, behind) = front_in(alloc, text, 0)?;
-    if behind != text.len() {
-        return Err(TextFault::At(behind));
+    match front_in(alloc, text, 0) {
+        Ok((value, behind)) => alone(value, behind, text.len()),
+        Err(fault) => Err(fault),
     }
-    Ok(value)
+}
+
+/// A value, where the text ends at the place behind it.
+fn alone(value: Value, behind: usize, end: usize) -> Result<Value, TextFault>
+    ensures { Answers tree_of result (ended end (Ok (tree_of value, behind))) }
+{
+    if behind == end {
+        return Ok(value);
+    }
+    Err(TextFault::At(behind))
 }

@@ -1,5 +1,5 @@
 //! Reads values, level by level.
-ghost use Rattle.std.specs.Prelude.{◌≡◌, ◌++◌, ◌∷◌, [], ℕ, List, Result, map, MatchResult, OnOk, None, Some, Ok, Err, int_lt};
+ghost use Rattle.std.specs.Prelude.{◌≡◌, ◌++◌, ◌∷◌, ◌||◌, [], ℕ, List, Result, map, MatchResult, OnOk, None, Some, Ok, Err, int_lt, not};
 ghost use Rattle.std.specs.Option.{option_map, option_copied};
 ghost use Rattle.thrift_value.specs.Tree.{Tree};
 ghost use Rattle.thrift_value.specs.TreeOf.{tree_of, field_tree, pair_tree};
@@ -232,6 +232,29 @@ fn comes_behind(last: Option<&Value>, value: &Value) -> bool
     }
 }
 
+/// Whether a value may stand behind a last one: values that rise come behind it.
+fn may_follow(rising: bool, last: Option<&Value>, value: &Value) -> bool
+    ensures { result ≡ (not rising || comes_behind (option_map tree_of (option_copied last.entry)) (tree_of value.now)) }
+{
+    !rising || comes_behind(last, value)
+}
+
+/// A value with what is left behind it, where it may stand behind a last one.
+fn following<'a>(
+    rising: bool,
+    last: Option<&Value>,
+    value: Value,
+    rest: &'a [u8],
+) -> Result<(Value, &'a [u8]), TextStop>
+    ensures { Gives (λ r. (tree_of r.0, r.1.now)) result
+        (in_order rising (option_map tree_of (option_copied last.entry)) (Ok (tree_of value, rest.now))) }
+{
+    if may_follow(rising, last, &value) {
+        return Ok((value, rest));
+    }
+    Err(TextStop::Left(rest.len()))
+}
+
 /// A value that was read, where it comes behind a last one or needn't.
 fn in_order<'a>(
     rising: bool,
@@ -241,14 +264,10 @@ fn in_order<'a>(
     ensures { (meant : Result (Tree × List ℕ) ℕ) → Gives (λ r. (tree_of r.0, r.1.now)) read.entry meant
         → Gives (λ r. (tree_of r.0, r.1.now)) result (in_order rising (option_map tree_of (option_copied last.entry)) meant) }
 {
-    let (value, rest) = read?;
-    if !rising {
-        return Ok((value, rest));
+    match read {
+        Ok((value, rest)) => following(rising, last, value, rest),
+        Err(stop) => Err(stop),
     }
-    if comes_behind(last, &value) {
-        return Ok((value, rest));
-    }
-    Err(TextStop::Left(rest.len()))
 }
 
 /// An element behind others, and what stands behind it; the members of a set rise.

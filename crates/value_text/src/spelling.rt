@@ -233,12 +233,16 @@ fn spell_byte<K: Sink>(out: &mut K, byte: u8) -> Result<(), Failed>
         b'"' => hand_over(out, b"\\\""),
         b'\\' => hand_over(out, b"\\\\"),
         0x20..=0x7e => hand_over(out, &[byte]),
-        _ => {
-            let high = HEX_DIGITS[byte as usize / 16];
-            let low = HEX_DIGITS[byte as usize % 16];
-            hand_over(out, &[b'\\', b'x', high, low])
-        }
+        _ => spell_escaped(out, byte),
     }
+}
+
+/// Writes a byte as an escape of two hexadecimal digits.
+fn spell_escaped<K: Sink>(out: &mut K, byte: u8) -> Result<(), Failed>
+    ensures { HandsText (K.taken out.old) (K.taken out.new) (K.faults out.old) (K.faults out.new) (92 ∷ 120 ∷ hex_of (byte ∷ [])) result }
+{
+    let [high, low] = digits_of(byte);
+    hand_over(out, &[b'\\', b'x', high, low])
 }
 
 /// Writes the text of any value, as a part of a longer text that a sink takes; takes no memory. It recurses once a level.
