@@ -1,6 +1,6 @@
 -- Passes, one after another.
-use Rattle.std.proofs.Common.{◌≡◌, inl, inr, List, [], ◌∷◌, ◌++◌, Option, None, Some, refl}
-use Rattle.std.specs.Prelude.{MatchOption, Result, Ok, Err, IfErr}
+use Rattle.std.proofs.Common.{◌≡◌, inl, inr, List, [], ◌∷◌, ◌++◌, Option, None, Some, refl, sym, subst}
+use Rattle.std.specs.Prelude.{MatchOption, MatchResult, Result, Ok, Err, IfErr, IfOk}
 use Rattle.std.specs.List.{AllByRecursion}
 use Rattle.idl_include.specs.Program.{Program}
 use Rattle.check_model.specs.Passes.{Pass, bad_constant, passes}
@@ -44,6 +44,21 @@ pub goes_on : {A : Type 0} (program : Program) (ps qs : List Pass) (result : Res
 goes_on program ps qs (Ok made) none h = nothing_past program ps qs none h
 goes_on program ps qs (Err fault) none h =
     tells_more (IsFirstAmong program qs) (IsFirstAmong program (ps ++ qs)) (λ flaw k. first_past program ps qs flaw none k) fault h
+
+-- what is kept where nothing was found
+pub kept_passed : {A U : Type 0} (program : Program) (ps : List Pass) (item : A) (found : Result U CheckFault) (result : Result A CheckFault)
+    → MatchResult found (λ _. result ≡ Ok item) (λ fault. result ≡ Err fault) → ArePassed program ps found → ArePassed program ps result
+kept_passed program ps item (Ok u) result is passed = subst (λ r. ArePassed program ps r) (sym is) passed
+kept_passed program ps item (Err fault) result is passed = subst (λ r. ArePassed program ps r) (sym is) passed
+
+pub kept_typed : {A U E : Type 0} (P : A → Type 0) (item : A) (found : Result U E) (result : Result A E)
+    → MatchResult found (λ _. result ≡ Ok item) (λ fault. result ≡ Err fault) → P item → IfOk result P
+kept_typed P item (Ok u) result is right = subst (λ r. IfOk r P) (sym is) right
+kept_typed P item (Err fault) result is right = subst (λ r. IfOk r P) (sym is) tt
+
+-- what is known of an answer that is there
+pub held_ok : {T E : Type 0} (P : T → Type 0) (r : Result T E) (x : T) → r ≡ Ok x → IfOk r P → P x
+held_ok P r x is h = subst (λ s. IfOk s P) is h
 
 -- ---- the first of all
 

@@ -1,6 +1,6 @@
 //! All passes over the spots of a program in their order. What a pass looks at is made where those before found nothing.
 
-ghost use Rattle.std.specs.Prelude.{◌≡◌, All, IfOk};
+ghost use Rattle.std.specs.Prelude.{◌≡◌, All, IfOk, MatchResult, Result};
 ghost use Rattle.graph_cycles.specs.Walks.{OnCycle, IsLowest};
 ghost use Rattle.idl_include.specs.Cycles.{alias_graph, parent_graph};
 ghost use Rattle.idl_include.specs.Program.{Program};
@@ -146,12 +146,48 @@ fn first_of_types(
     ensures passed { ArePassed (program_in names.now) struct_passes result }
     ensures typed { IfOk result (IsTyped (program_in names.now)) }
 {
-    let aliases = alias_types(alloc, names, definitions.typedefs.as_slice())?;
-    let partial = untold_schema(alloc, files, definitions, names, aliases.as_slice())?;
-    let typed = TypedProgram { aliases, partial };
-    match types_fault(alloc, definitions, names, &typed, spots) {
+    let typed = parts_of(alloc, files, definitions, names)?;
+    let found = types_fault(alloc, definitions, names, &typed, spots);
+    passed(typed, found)
+}
+
+/// The types of a program, where no fault was found in them.
+fn passed(typed: TypedProgram, found: Result<(), CheckFault>) -> Result<TypedProgram, CheckFault>
+    ensures { MatchResult found (λ _. result ≡ Result.Ok typed) (λ fault. result ≡ Result.Err fault) }
+{
+    match found {
         Ok(()) => Ok(typed),
         Err(fault) => Err(fault),
+    }
+}
+
+/// The types of a program, with its schema.
+fn parts_of(
+    alloc: Global,
+    files: &[IdlFile],
+    definitions: &Definitions<'_>,
+    names: &NameTables<'_>,
+) -> Result<TypedProgram, AllocError>
+    requires bases { All HasOwnBase files.now }
+    requires names { files.now ≡ names.now }
+    requires definitions { listing_in definitions.now ≡ listing_of (program_in names.now) }
+    ensures { IfOk result (IsTyped (program_in names.now)) }
+{
+    let aliases = alias_types(alloc, names, definitions.typedefs.as_slice())?;
+    let partial = untold_schema(alloc, files, definitions, names, aliases.as_slice());
+    joined(aliases, partial)
+}
+
+/// The types of typedefs, and the schema where there is one.
+fn joined(
+    aliases: Vec<Option<TypeDesc>>,
+    partial: Result<Schema, AllocError>,
+) -> Result<TypedProgram, AllocError>
+    ensures { (program : Program) → AreAliasTypes program aliases.items → IfOk partial (λ schema. IsPartialSchema program (schema_of schema)) → IfOk result (IsTyped program) }
+{
+    match partial {
+        Ok(partial) => Ok(TypedProgram { aliases, partial }),
+        Err(error) => Err(error),
     }
 }
 
