@@ -6,8 +6,8 @@ use Rattle.std.proofs.lemmas.Map.Views.{any-filter_same}
 use Rattle.outside.specs.Memory.{is_listed}
 use Rattle.outside.specs.declared.answers.Ask.{Ask}
 use Rattle.outside.specs.declared.answers.Hint.{Hint}
-use Rattle.outside.specs.declared.answers.Hint.TheVariants.{Opened}
-use Rattle.outside.specs.Asking.{AnswersAsk, says_over}
+use Rattle.outside.specs.declared.answers.Hint.TheVariants.{Opened, Readable, Writable, Woken}
+use Rattle.outside.specs.Asking.{OpensNone, AnswerOpens, AnswersAsk, says_over}
 use Rattle.outside.specs.Closing.{Closes}
 use Rattle.net_links.specs.Account.{LinksAccount, state_of, may_open, most_connections, NumbersNext, after_opening, after_closing, after_net_fault}
 use Rattle.net_links.specs.Watching.{TellsWithin, AcceptsOne}
@@ -62,6 +62,10 @@ pub numbers_next : {F : Type 0} (room : Bool) (old : LinksAccount) (number : Opt
 numbers_next room old number told c may within told-is =
     let number-is : number ≡ Some c = subst (TellsWithin number) told-is within in
     subst (NumbersNext room old) number-is may
+
+-- nothing is opened where nothing has changed
+same : (a : LinksAccount) → OpensNone (state_of a) (state_of a)
+same a = record { opened = refl; is_open = λ x. refl; tape = refl }
 
 module _ {E : Type 0} where
   -- nothing could be told
@@ -119,3 +123,31 @@ module _ {E : Type 0} where
   takes_in ask old new c (Ok hint) number may t =
       subst (λ h. AnswersAsk {E = E} ask (state_of old) (state_of new) (Ok h)) (ap Opened (sym number) ∙ sym t.0) (opens ask old new may t.1 t.2)
   takes_in ask old new c (Err e) number may t = fails ask old new e t.0 t.1
+
+  -- nothing has changed that those who use the links see, and nothing is opened
+  stays : (ask : Ask) (a : LinksAccount) (hint : Hint) → AnswerOpens {E = E} ask (state_of a) (state_of a) (Ok hint) → says_over {E = E} (Ok hint) ≡ false
+      → AnswersAsk {E = E} ask (state_of a) (state_of a) (Ok hint)
+  stays ask a hint opens goes_on = record {
+    listens = refl;
+    opens = opens;
+    over = or_false a.over ∙ ap (λ b. a.over || b) (sym goes_on);
+    none_open = λ is. absurd (false≢true (sym goes_on ∙ ap says_over is));
+    rests = (0, refl, λ busy. refl);
+    lengths = refl;
+    left = λ x. refl;
+    arrived = λ x. tt;
+    faults = λ x. refl;
+    later = omega arith;
+    failed = λ err. absurd (false≢true err);
+    kept = refl;
+  }
+
+  -- something is told of a link, or a bell has rung
+  pub tells_readable : (ask : Ask) (old new : LinksAccount) (c : ℕ) → new ≡ old → AnswersAsk {E = E} ask (state_of old) (state_of new) (Ok (Readable c))
+  tells_readable ask old new c is = subst (λ a. AnswersAsk {E = E} ask (state_of old) (state_of a) (Ok (Readable c))) (sym is) (stays ask old (Readable c) (same old) refl)
+
+  pub tells_writable : (ask : Ask) (old new : LinksAccount) (c : ℕ) → new ≡ old → AnswersAsk {E = E} ask (state_of old) (state_of new) (Ok (Writable c))
+  tells_writable ask old new c is = subst (λ a. AnswersAsk {E = E} ask (state_of old) (state_of a) (Ok (Writable c))) (sym is) (stays ask old (Writable c) (same old) refl)
+
+  pub tells_ring : (ask : Ask) (old new : LinksAccount) → new ≡ old → AnswersAsk {E = E} ask (state_of old) (state_of new) (Ok Woken)
+  tells_ring ask old new is = subst (λ a. AnswersAsk {E = E} ask (state_of old) (state_of a) (Ok Woken)) (sym is) (stays ask old Woken (same old) refl)

@@ -43,6 +43,9 @@ impl<'a, N: Net> NetBinder<'a, N> {
     }
 }
 
+/// Lets go of what came back.
+fn let_go<T: Drop>(_back: T) {}
+
 impl<'a, N: Net> Binder for NetBinder<'a, N> {
     ghost use Rattle.std.specs.Prelude.{None};
 
@@ -72,7 +75,9 @@ impl<'a, N: Net> Binder for NetBinder<'a, N> {
     }
 
     fn take_back(&mut self, links: NetLinks) {
-        if links.net_faults() > 0 {
+        let faults = links.net_faults();
+        let_go(links);
+        if faults > 0 {
             self.faults = self.faults.saturating_add(1);
         }
     }

@@ -205,27 +205,30 @@ impl Sockets {
             if !self.acceptable {
                 return Ok(false);
             }
-            match self.listener.accept() {
-                Ok((stream, _)) => {
-                    if self.admit(c, stream)? {
-                        return Ok(true);
-                    }
-                }
-                Err(error) => self.pass_over(error)?,
+            if self.accept_next(c)? {
+                return Ok(true);
             }
         }
         Ok(false)
     }
 
+    /// Accepts the connection that waits first under this number, and says whether it could be taken in.
+    fn accept_next(&mut self, c: u32) -> io::Result<bool> {
+        match self.listener.accept() {
+            Ok((stream, _)) => self.admit(c, stream),
+            Err(error) => self.pass_over(error),
+        }
+    }
+
     /// No connection was accepted. That of one connection is passed over.
-    fn pass_over(&mut self, error: io::Error) -> io::Result<()> {
+    fn pass_over(&mut self, error: io::Error) -> io::Result<bool> {
         match error.kind() {
             ErrorKind::ConnectionAborted
             | ErrorKind::ConnectionReset
             | ErrorKind::Interrupted
             | ErrorKind::HostUnreachable
             | ErrorKind::NetworkUnreachable
-            | ErrorKind::NetworkDown => return Ok(()),
+            | ErrorKind::NetworkDown => return Ok(false),
             ErrorKind::WouldBlock => self.acceptable = false,
             ErrorKind::OutOfMemory => return Err(error),
             _ => {
@@ -236,7 +239,7 @@ impl Sockets {
                 self.starved = true;
             }
         }
-        Ok(())
+        Ok(false)
     }
 
     /// Takes a connection in, and says whether it could be.

@@ -1,7 +1,7 @@
 use Rattle.std.proofs.Common.{Ok, ap, ◌∙◌, subst}
 use Rattle.net_links.specs.Account.{NumbersNext, after_net_fault}
 use Rattle.net_links.specs.Watching.{AcceptsOne}
-use Rattle.net_links.proofs.Telling.{numbers_next, takes_in, fails}
+use Rattle.net_links.proofs.Telling.{numbers_next, takes_in, fails, tells_readable, tells_writable, tells_ring}
 use Rattle.net_links.proofs.net_links.NetLinksLinks.next.Goals as goal
 
 pub returns-in-Ok-Opened-clause-answers : goal.returns-in-Ok-Opened-clause-answers
@@ -14,3 +14,12 @@ returns-in-Ok-Opened-clause-answers g c =
 
 pub returns-in-Err-clause-answers : goal.returns-in-Err-clause-answers
 returns-in-Err-clause-answers g c = fails c.args.ask _ _ _ (c.net_fault.ensures.account ∙ ap after_net_fault c.self.view_is) (rw (← c.self.view_is) c.net_fault.ensures.later)
+
+pub returns-in-Ok-Readable-clause-answers : goal.returns-in-Ok-Readable-clause-answers
+returns-in-Ok-Readable-clause-answers g c = tells_readable c.args.ask _ _ _ c.self.view_is
+
+pub returns-in-Ok-Writable-clause-answers : goal.returns-in-Ok-Writable-clause-answers
+returns-in-Ok-Writable-clause-answers g c = tells_writable c.args.ask _ _ _ c.self.view_is
+
+pub returns-in-Ok-Woken-clause-answers : goal.returns-in-Ok-Woken-clause-answers
+returns-in-Ok-Woken-clause-answers g c = tells_ring c.args.ask _ _ c.self.view_is
