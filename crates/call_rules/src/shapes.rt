@@ -10,16 +10,13 @@ use thrift_value::{ByteText, FnShapes};
 fn are_lines(found: &[ByteText], lines: &[&[u8]]) -> bool
     ensures { result ≡ pointwise bytes_eq found.now (map (λ line. line.now) lines.now) }
 {
-    match (found.split_first(), lines.split_first()) {
-        (None, None) => true,
-        (Some((text, texts)), Some((line, more))) => {
-            if text.as_slice() != *line {
-                return false;
-            }
-            are_lines(texts, more)
-        }
-        _ => false,
-    }
+    let [text, texts @ ..] = found else {
+        return lines.is_empty();
+    };
+    let [line, more @ ..] = lines else {
+        return false;
+    };
+    text.as_slice() == *line && are_lines(texts, more)
 }
 
 /// Whether the shapes are these lines.
