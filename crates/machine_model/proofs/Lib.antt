@@ -26,4 +26,5 @@ pub mod Computing
 pub mod Showing
 pub mod Weaving
 pub mod Seeing
+pub mod Picking
 pub mod WrongSteps

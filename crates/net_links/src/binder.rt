@@ -43,9 +43,6 @@ impl<'a, N: Net> NetBinder<'a, N> {
     }
 }
 
-/// Lets go of what came back.
-fn let_go<T: Drop>(_back: T) {}
-
 impl<'a, N: Net> Binder for NetBinder<'a, N> {
     ghost use Rattle.std.specs.Prelude.{None};
 
@@ -102,3 +99,6 @@ impl<'a, N: Net> Binder for NetBinder<'a, N> {
         }
     }
 }
+
+/// Lets go of what came back.
+fn let_go<T: Drop>(_back: T) {}

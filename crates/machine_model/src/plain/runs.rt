@@ -3,6 +3,7 @@
 ghost use Rattle.std.specs.Prelude.{◌≡◌, ◌<◌, ◌^◌, true, Some, map, IfOk, IfSome, option_map};
 ghost use Rattle.machine_model.specs.Machine.{IsFirst, EventsLead};
 ghost use Rattle.machine_model.specs.Plain.{when, event_told, told_plain, run_plain, with_loop, conn_event_plain};
+ghost use Rattle.machine_model.specs.Changed.{where_it_can};
 ghost use Rattle.machine_model.specs.Seen.{cell_of, conn_event_of, told_of};
 
 use super::calls::applies;
@@ -98,10 +99,39 @@ pub fn step<D: PlainDesk, S: PlainServices<Call = D::Call, Answer = D::Answer>>(
     ensures { IfOk result (λ next. option_map cell_of next ≡ told_plain (D.desk desk.now) (S.rules services.now) (cell_of cell) (told_of event.now)) }
 {
     let mut cell = cell;
-    if goes(alloc, max, desk, services, &mut cell, event)? {
-        return Ok(Some(cell));
+    let can = goes(alloc, max, desk, services, &mut cell, event);
+    where_it_can(cell, can)
+}
+
+/// A value that was changed, where that could be.
+fn where_it_can<T: Drop>(item: T, can: Result<bool, AllocError>) -> Result<Option<T>, AllocError>
+    ensures { result ≡ where_it_can item can }
+{
+    if can? {
+        return Ok(Some(item));
     }
     Ok(None)
+}
+
+/// Brings the machine to what it is after all of these events, where each can be. Tells whether each can.
+fn all_go<D: PlainDesk, S: PlainServices<Call = D::Call, Answer = D::Answer>>(
+    alloc: Global,
+    max: u32,
+    desk: &D,
+    services: &S,
+    cell: &mut PlainCell<D::Call, D::Answer, S::Memory>,
+    events: &[PlainEvent],
+) -> Result<bool, AllocError>
+    requires { max ≡ (D.desk desk.now).max }
+    ensures { IfOk result (λ can. when can (Some (cell_of cell.new))
+        ≡ run_plain (D.desk desk.now) (S.rules services.now) (map told_of events.now) (Some (cell_of cell.old))) }
+{
+    for event in events {
+        if !goes(alloc, max, desk, services, cell, event)? {
+            return Ok(false);
+        }
+    }
+    Ok(true)
 }
 
 /// The machine after all of these events, where each can be: a run of it.
@@ -121,11 +151,7 @@ pub fn run<D: PlainDesk, S: PlainServices<Call = D::Call, Answer = D::Answer>>(
         EventsLead (D.desk desk.now) (S.rules services.now) (cell_of cell) (map event_told (map told_of events.now)) (cell_of last))) }
 {
     plain_machine_runs::<D::Call, D::Answer, S::Memory>();
-    let mut now = cell;
-    for event in events {
-        if !goes(alloc, max, desk, services, &mut now, event)? {
-            return Ok(None);
-        }
-    }
-    Ok(Some(now))
+    let mut cell = cell;
+    let can = all_go(alloc, max, desk, services, &mut cell, events);
+    where_it_can(cell, can)
 }

@@ -1,26 +1,19 @@
-use Rattle.std.proofs.Common.{◌≡◌, length, sym, subst, arith}
+use Rattle.std.proofs.Common.{Some, map, arith}
+use Rattle.machine_model.specs.Machine.{EventsLead}
+use Rattle.machine_model.specs.Plain.{event_told, run_plain}
 use Rattle.machine_model.specs.Seen.{cell_of, told_of}
-use Rattle.machine_model.proofs.Seeing.{it_can, it_cannot, Going, goes_on, stops, all_gone}
+use Rattle.machine_model.proofs.Picking.{picked, picked_has}
 use Rattle.machine_model.proofs.plain.runs.run.Goals as goal
-
-pub loop-event-preserved : goal.loop-event-preserved
-loop-event-preserved g c =
-    goes_on _ _ told_of (cell_of c.args.cell) (cell_of c.loop-event.now) (cell_of c.goes.new.cell) c.args.events.now c.loop-event.event-index c.event-item.result
-    c.loop-event.invariant c.loop-event-test.true c.event-item.is (it_can _ _ _ (c.in_ok-goes.ensures {u = tt}) c.if-not-branch.false)
-
-pub returns-then-not-branch : goal.returns-then-not-branch
-returns-then-not-branch g c =
-    record {
-      plainly = stops _ _ told_of (cell_of c.args.cell) (cell_of c.loop-event.now) c.args.events.now c.loop-event.event-index c.event-item.result
-          c.loop-event.invariant c.loop-event-test.true c.event-item.is (it_cannot _ _ _ (c.in_ok-goes.ensures {u = tt}) c.if-not-branch.true);
-      runs = tt;
-    }
 
 pub returns : goal.returns
 returns g c =
-    let all : c.loop-event.event-index ≡ length c.args.events.now = omega arith in
     let d = g.D.PlainDesk.desk c.args.desk.now in
     let r = g.S.PlainServices.rules c.args.services.now in
-    let plainly = all_gone d r told_of (cell_of c.args.cell) (cell_of c.loop-event.now) c.args.events.now
-    (subst (λ i. Going d r told_of (cell_of c.args.cell) c.args.events.now i (cell_of c.loop-event.now)) all c.loop-event.invariant) in
-    record { plainly = plainly; runs = c.plain_machine_runs.ensures d r (cell_of c.args.cell) (cell_of c.loop-event.now) _ (omega (arith, c.requires.same_max)) (sym plainly) }
+    let first = cell_of c.args.cell in
+    let told = map told_of c.args.events.now in
+    let plainly = picked cell_of c.all_go-can.new.cell c.all_go-can.result c.where_it_can.result (run_plain d r told (Some first)) c.all_go-can.ensures c.where_it_can.ensures in
+    record {
+      plainly = plainly;
+      runs = picked_has cell_of c.where_it_can.result (run_plain d r told (Some first)) (λ last. EventsLead d r first (map event_told told) last)
+          (λ last is. c.plain_machine_runs.ensures d r first last told (omega (arith, c.requires.same_max)) is) plainly;
+    }
