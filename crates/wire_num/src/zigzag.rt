@@ -19,7 +19,7 @@ pub fn unzigzag32(number: u32) -> i32
     ensures { result ≡ unzigzag number }
 {
     let half = (number / 2) as i32;
-    if number % 2 == 0 { half } else { -half - 1 }
+    if number % 2 == 0 { half } else { -1 - half }
 }
 
 /// The number as an unsigned one: 0, -1, 1, -2 as 0, 1, 2, 3.
@@ -38,5 +38,5 @@ pub fn unzigzag64(number: u64) -> i64
     ensures { result ≡ unzigzag number }
 {
     let half = (number / 2) as i64;
-    if number % 2 == 0 { half } else { -half - 1 }
+    if number % 2 == 0 { half } else { -1 - half }
 }
