@@ -42,6 +42,11 @@ pub on_ok_by : {T E : Type 0} (P Q : Type 0) (r : Result T E) → (P → Q) → 
 on_ok_by P Q (Ok x) f h = f h
 on_ok_by P Q (Err e) f h = tt
 
+-- what is so in any case
+pub on_ok_all : {T E : Type 0} (P : Type 0) (r : Result T E) → P → OnOk r P
+on_ok_all P (Ok x) h = h
+on_ok_all P (Err e) h = tt
+
 pub on_err_by : {T E : Type 0} (P Q : Type 0) (r : Result T E) → (P → Q) → OnErr r P → OnErr r Q
 on_err_by P Q (Ok x) f h = tt
 on_err_by P Q (Err e) f h = f h
@@ -49,11 +54,6 @@ on_err_by P Q (Err e) f h = f h
 -- two texts, one behind the other
 pub both_written : (old now new s t : List ℕ) → now ≡ old ++ s → new ≡ now ++ t → new ≡ old ++ (s ++ t)
 both_written old now new s t a b = b ∙ ap (λ z. z ++ t) a ∙ append_assoc old s t
-
--- a header, told in two ways, and what stands behind it
-pub after_header : (old mid new h g rest whole : List ℕ) → h ≡ g → mid ≡ old ++ h → new ≡ mid ++ rest → g ++ rest ≡ whole → new ≡ old ++ whole
-after_header old mid new h g rest whole same first second is =
-    both_written old mid new h rest first second ∙ ap (λ z. old ++ z) (ap (λ z. z ++ rest) same ∙ is)
 
 -- the first of what is left
 module _ {A : Type 0} where

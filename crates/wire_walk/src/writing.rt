@@ -1,6 +1,6 @@
 //! Writing a value: level by level, from left to right.
 
-ghost use Rattle.std.specs.Prelude.{◌≡◌, ◌++◌, map, pos, OnOk, OnErr};
+ghost use Rattle.std.specs.Prelude.{◌≡◌, ◌<◌, ◌^◌, ◌++◌, All, length, map, pos, OnOk, OnErr};
 ghost use Rattle.thrift_value.specs.Ranges.{IsInRange, AreFieldsInRange, AreItemsInRange, ArePairsInRange};
 ghost use Rattle.thrift_value.specs.Tags.{tag_of};
 ghost use Rattle.thrift_value.specs.TreeOf.{tree_of, field_tree, pair_tree, field_trees, item_trees, pair_trees};
@@ -12,7 +12,7 @@ ghost use Rattle.wire_walk.specs.Steps.{field_header_of, Grows, OnBehind};
 use crate::codec::Codec;
 use crate::header::Header;
 use std::alloc::AllocError;
-use thrift_value::{Tag, Value};
+use thrift_value::{ByteText, Tag, Value};
 
 /// Appends a value, and tells that each number in it fits its type. It recurses once a level. Where memory runs out, a part of it
 /// may have been appended.
@@ -25,34 +25,41 @@ pub fn put<C: Codec>(value: &Value, into: &mut Vec<u8>) -> Result<(), AllocError
     ensures err { OnErr result (Grows into.old.items into.new.items) }
 {
     match value {
-        Value::Bytes(text) => {
-            text.numbers_fit();
-            C::put_span(text.as_slice(), into)
-        }
+        Value::Bytes(text) => put_text::<C>(text, into),
         Value::Struct(fields) => put_fields::<C>(fields.as_slice(), into),
-        Value::Map(key, value, pairs) => {
-            C::put_pairs(*key, *value, pairs.as_slice().len(), into)?;
-            put_pairs::<C>(pairs.as_slice(), into)
-        }
-        Value::Set(element, items) => {
-            C::put_items(*element, items.as_slice().len(), into)?;
-            put_items::<C>(items.as_slice(), into)
-        }
-        Value::List(element, items) => {
-            C::put_items(*element, items.as_slice().len(), into)?;
-            put_items::<C>(items.as_slice(), into)
-        }
+        Value::Map(key, value, pairs) => put_pairs::<C>(*key, *value, pairs.as_slice(), into),
+        Value::Set(element, items) => put_items::<C>(*element, items.as_slice(), into),
+        Value::List(element, items) => put_items::<C>(*element, items.as_slice(), into),
         Value::Bool(_)
         | Value::I8(_)
         | Value::I16(_)
         | Value::I32(_)
         | Value::I64(_)
         | Value::Double(_)
-        | Value::Uuid(_) => {
-            number_fits(value);
-            C::put_scalar(value, into)
-        }
+        | Value::Uuid(_) => put_number::<C>(value, into),
     }
+}
+
+/// Appends a text.
+fn put_text<C: Codec>(text: &ByteText, into: &mut Vec<u8>) -> Result<(), AllocError>
+    requires { length text.now < 2 ^ 31 }
+    ensures ok { OnOk result (into.new.items ≡ into.old.items ++ C.encoder.span text.now) }
+    ensures in_range { All (λ b. b < 256) text.now }
+    ensures err { OnErr result (Grows into.old.items into.new.items) }
+{
+    text.numbers_fit();
+    C::put_span(text.as_slice(), into)
+}
+
+/// Appends a number or a bool.
+fn put_number<C: Codec>(value: &Value, into: &mut Vec<u8>) -> Result<(), AllocError>
+    requires { IsScalar (tag_of (tree_of value.now)) }
+    ensures ok { OnOk result (into.new.items ≡ into.old.items ++ C.encoder.scalar (tree_of value.now)) }
+    ensures in_range { IsInRange (tree_of value.now) }
+    ensures err { OnErr result (Grows into.old.items into.new.items) }
+{
+    number_fits(value);
+    C::put_scalar(value, into)
 }
 
 /// Makes it known to a proof that the number which this value is fits its type: each is read once, which tells its range.
@@ -137,32 +144,41 @@ fn put_behind<C: Codec>(header: Header, value: &Value, into: &mut Vec<u8>) -> Re
     }
 }
 
-/// Appends values, one behind the other.
+/// Appends the header of a list or set, and its values, one behind the other.
 #[cycle(writing)]
 #[inline(never)]
-fn put_items<C: Codec>(items: &[Value], into: &mut Vec<u8>) -> Result<(), AllocError>
-    requires { HaveItemsSmallSizes (item_trees (map tree_of items.now)) }
-    ensures ok { OnOk result
-        (into.new.items ≡ into.old.items ++ items_text C.encoder (item_trees (map tree_of items.now))) }
+fn put_items<C: Codec>(element: Tag, items: &[Value], into: &mut Vec<u8>) -> Result<(), AllocError>
+    requires few { length items.now < 2 ^ 31 }
+    requires small { HaveItemsSmallSizes (item_trees (map tree_of items.now)) }
+    ensures ok { OnOk result (into.new.items ≡ into.old.items
+        ++ (C.encoder.items element (length items.now) ++ items_text C.encoder (item_trees (map tree_of items.now)))) }
     ensures in_range { OnOk result (AreItemsInRange (item_trees (map tree_of items.now))) }
     ensures err { OnErr result (Grows into.old.items into.new.items) }
 {
+    C::put_items(element, items.len(), into)?;
     for value in items {
         put::<C>(value, into)?;
     }
     Ok(())
 }
 
-/// Appends pairs, each a key and its value, one behind the other.
+/// Appends the header of a map, and its pairs, each a key and its value, one behind the other.
 #[cycle(writing)]
 #[inline(never)]
-fn put_pairs<C: Codec>(pairs: &[(Value, Value)], into: &mut Vec<u8>) -> Result<(), AllocError>
-    requires { HavePairsSmallSizes (pair_trees (map pair_tree pairs.now)) }
-    ensures ok { OnOk result
-        (into.new.items ≡ into.old.items ++ pairs_text C.encoder (pair_trees (map pair_tree pairs.now))) }
+fn put_pairs<C: Codec>(
+    key: Tag,
+    value: Tag,
+    pairs: &[(Value, Value)],
+    into: &mut Vec<u8>,
+) -> Result<(), AllocError>
+    requires few { length pairs.now < 2 ^ 31 }
+    requires small { HavePairsSmallSizes (pair_trees (map pair_tree pairs.now)) }
+    ensures ok { OnOk result (into.new.items ≡ into.old.items
+        ++ (C.encoder.pairs key value (length pairs.now) ++ pairs_text C.encoder (pair_trees (map pair_tree pairs.now)))) }
     ensures in_range { OnOk result (ArePairsInRange (pair_trees (map pair_tree pairs.now))) }
     ensures err { OnErr result (Grows into.old.items into.new.items) }
 {
+    C::put_pairs(key, value, pairs.len(), into)?;
     for (key, value) in pairs {
         put::<C>(key, into)?;
         put::<C>(value, into)?;

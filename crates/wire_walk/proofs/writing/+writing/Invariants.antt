@@ -25,7 +25,7 @@ abbrev pub invariant-put_fields-loop-id : goal.invariant-put_fields-loop-id
 invariant-put_fields-loop-id g l = AreFieldsWritten g.C.WireProtocol.encoder l.last (drop l.id-index l.fields) l.fields l.fn.into.items l.into.items
 
 abbrev pub invariant-put_items-loop-value : goal.invariant-put_items-loop-value
-invariant-put_items-loop-value g l = AreItemsWritten g.C.WireProtocol.encoder (drop l.value-index l.items) l.items l.fn.into.items l.into.items
+invariant-put_items-loop-value g l = AreItemsWritten g.C.WireProtocol.encoder (drop l.value-index l.items) l.items l.initial.into.items l.into.items
 
 abbrev pub invariant-put_pairs-loop-key : goal.invariant-put_pairs-loop-key
-invariant-put_pairs-loop-key g l = ArePairsWritten g.C.WireProtocol.encoder (drop l.key-index l.pairs) l.pairs l.fn.into.items l.into.items
+invariant-put_pairs-loop-key g l = ArePairsWritten g.C.WireProtocol.encoder (drop l.key-index l.pairs) l.pairs l.initial.into.items l.into.items
