@@ -67,41 +67,56 @@ answers_alike view result r s e h = subst (λ x. AnswersOrNoMemory view result x
 
 -- what is known of what a struct and a container hold
 module _ (s : PlainSchema) where
-  pub struct_seen : (kind : PlainKind) (which : ℕ) (whole : Reading Tree) (r : Reading FieldTrees) → kind ≡ kind_struct which → whole ≡ go_on r (λ fields. give (of_struct fields))
-      → read_seen (λ x. known s x kind) whole ≡ read_seen (λ fields. Some (of_struct fields)) (read_seen (known_fields s which) r)
-  struct_seen kind which whole r is opened = (λ i. read_seen (λ x. known s x (is i)) (opened i)) ∙ parts r
+  pub struct_seen : (which : ℕ) (whole : Reading Tree) (r : Reading FieldTrees) → go_on r (λ fields. give (of_struct fields)) ≡ whole
+      → read_seen (λ fields. Some (of_struct fields)) (read_seen (known_fields s which) r) ≡ read_seen (λ x. known s x (kind_struct which)) whole
+  struct_seen which whole r opened = parts r ∙ ap (read_seen (λ x. known s x (kind_struct which))) opened
     where
-      parts : (m : Reading FieldTrees) → read_seen (λ x. known s x (kind_struct which)) (go_on m (λ fields. give (of_struct fields)))
-          ≡ read_seen (λ fields. Some (of_struct fields)) (read_seen (known_fields s which) m)
+      parts : (m : Reading FieldTrees) → read_seen (λ fields. Some (of_struct fields)) (read_seen (known_fields s which) m)
+          ≡ read_seen (λ x. known s x (kind_struct which)) (go_on m (λ fields. give (of_struct fields)))
       parts (Ok x) = refl
       parts (Err fault) = refl
 
-  pub map_seen : (kind key value : PlainKind) (k v : Tag) (whole : Reading Tree) (r : Reading PairTrees) → kind ≡ kind_map key value → whole ≡ go_on r (λ pairs. give (of_map k v pairs))
-      → read_seen (λ x. known s x kind) whole ≡ read_seen (option_map (of_map (tag_of_kind key) (tag_of_kind value))) (read_seen (λ all. known_pairs s all key value) r)
-  map_seen kind key value k v whole r is opened = (λ i. read_seen (λ x. known s x (is i)) (opened i)) ∙ parts r
+  pub map_seen : (key value : PlainKind) (k v : Tag) (whole : Reading Tree) (r : Reading PairTrees) → go_on r (λ pairs. give (of_map k v pairs)) ≡ whole
+      → read_seen (option_map (of_map (tag_of_kind key) (tag_of_kind value))) (read_seen (λ all. known_pairs s all key value) r) ≡ read_seen (λ x. known s x (kind_map key value)) whole
+  map_seen key value k v whole r opened = parts r ∙ ap (read_seen (λ x. known s x (kind_map key value))) opened
     where
-      parts : (m : Reading PairTrees) → read_seen (λ x. known s x (kind_map key value)) (go_on m (λ pairs. give (of_map k v pairs)))
-          ≡ read_seen (option_map (of_map (tag_of_kind key) (tag_of_kind value))) (read_seen (λ all. known_pairs s all key value) m)
+      parts : (m : Reading PairTrees) → read_seen (option_map (of_map (tag_of_kind key) (tag_of_kind value))) (read_seen (λ all. known_pairs s all key value) m)
+          ≡ read_seen (λ x. known s x (kind_map key value)) (go_on m (λ pairs. give (of_map k v pairs)))
       parts (Ok x) = refl
       parts (Err fault) = refl
 
-  pub set_seen : (kind member : PlainKind) (t : Tag) (whole : Reading Tree) (r : Reading ItemTrees) → kind ≡ kind_set member → whole ≡ go_on r (λ items. give (of_set t items))
-      → read_seen (λ x. known s x kind) whole ≡ read_seen (option_map (of_set (tag_of_kind member))) (read_seen (λ all. known_items s all member) r)
-  set_seen kind member t whole r is opened = (λ i. read_seen (λ x. known s x (is i)) (opened i)) ∙ parts r
+  pub elements_seen : (kind : PlainKind) (t : Tag) (whole : Reading (Tag × ItemTrees)) (r : Reading ItemTrees) → go_on r (λ items. give (t, items)) ≡ whole
+      → read_seen (λ all. known_items s all kind) r ≡ read_seen (λ (e : Tag × ItemTrees). known_items s e.1 kind) whole
+  elements_seen kind t whole r opened = parts r ∙ ap (read_seen (λ (e : Tag × ItemTrees). known_items s e.1 kind)) opened
     where
-      parts : (m : Reading ItemTrees) → read_seen (λ x. known s x (kind_set member)) (go_on m (λ items. give (of_set t items)))
-          ≡ read_seen (option_map (of_set (tag_of_kind member))) (read_seen (λ all. known_items s all member) m)
+      parts : (m : Reading ItemTrees) → read_seen (λ all. known_items s all kind) m ≡ read_seen (λ (e : Tag × ItemTrees). known_items s e.1 kind) (go_on m (λ items. give (t, items)))
       parts (Ok x) = refl
       parts (Err fault) = refl
 
-  pub list_seen : (kind element : PlainKind) (t : Tag) (whole : Reading Tree) (r : Reading ItemTrees) → kind ≡ kind_list element → whole ≡ go_on r (λ items. give (of_list t items))
-      → read_seen (λ x. known s x kind) whole ≡ read_seen (option_map (of_list (tag_of_kind element))) (read_seen (λ all. known_items s all element) r)
-  list_seen kind element t whole r is opened = (λ i. read_seen (λ x. known s x (is i)) (opened i)) ∙ parts r
+  pub set_seen : (kind member : PlainKind) (whole : Reading Tree) (r : Reading (Tag × ItemTrees)) → kind ≡ kind_set member
+      → go_on r (λ (e : Tag × ItemTrees). give (of_set e.0 e.1)) ≡ whole
+      → read_seen (option_map (of_set (tag_of_kind member))) (read_seen (λ (e : Tag × ItemTrees). known_items s e.1 member) r) ≡ read_seen (λ x. known s x kind) whole
+  set_seen kind member whole r is opened = parts r ∙ (λ i. read_seen (λ x. known s x (sym is i)) (opened i))
     where
-      parts : (m : Reading ItemTrees) → read_seen (λ x. known s x (kind_list element)) (go_on m (λ items. give (of_list t items)))
-          ≡ read_seen (option_map (of_list (tag_of_kind element))) (read_seen (λ all. known_items s all element) m)
+      parts : (m : Reading (Tag × ItemTrees)) → read_seen (option_map (of_set (tag_of_kind member))) (read_seen (λ (e : Tag × ItemTrees). known_items s e.1 member) m)
+          ≡ read_seen (λ x. known s x (kind_set member)) (go_on m (λ (e : Tag × ItemTrees). give (of_set e.0 e.1)))
       parts (Ok x) = refl
       parts (Err fault) = refl
+
+  pub list_seen : (kind element : PlainKind) (whole : Reading Tree) (r : Reading (Tag × ItemTrees)) → kind ≡ kind_list element
+      → go_on r (λ (e : Tag × ItemTrees). give (of_list e.0 e.1)) ≡ whole
+      → read_seen (option_map (of_list (tag_of_kind element))) (read_seen (λ (e : Tag × ItemTrees). known_items s e.1 element) r) ≡ read_seen (λ x. known s x kind) whole
+  list_seen kind element whole r is opened = parts r ∙ (λ i. read_seen (λ x. known s x (sym is i)) (opened i))
+    where
+      parts : (m : Reading (Tag × ItemTrees)) → read_seen (option_map (of_list (tag_of_kind element))) (read_seen (λ (e : Tag × ItemTrees). known_items s e.1 element) m)
+          ≡ read_seen (λ x. known s x (kind_list element)) (go_on m (λ (e : Tag × ItemTrees). give (of_list e.0 e.1)))
+      parts (Ok x) = refl
+      parts (Err fault) = refl
+
+  -- what is known of a value, by its type and what was read of it
+  pub kind_seen : (kind known_kind : PlainKind) (r whole : Reading Tree) → kind ≡ known_kind → r ≡ whole
+      → read_seen (λ x. known s x known_kind) r ≡ read_seen (λ x. known s x kind) whole
+  kind_seen kind known_kind r whole is e = λ i. read_seen (λ x. known s x (sym is i)) (e i)
 
   -- nothing is known of a value of another tag
   other_tag : (x : Tree) (kind : PlainKind) → are_same_tags (tag_of_kind kind) (tag_of x) ≡ false → known s x kind ≡ None

@@ -1,17 +1,21 @@
 //! Reading by type: what is declared and fits is kept, and all else is passed over.
-ghost use Rattle.std.specs.Prelude.{◌≡◌, ◌≤◌, length, pos, Some, None};
+ghost use Rattle.std.specs.Prelude.{◌≡◌, ◌≤◌, length, pos, Option, Some, None, Result};
 ghost use Rattle.wire_num.specs.Encoded.{AreByteSized};
 ghost use Rattle.std.specs.Option.{option_map};
-ghost use Rattle.thrift_value.specs.Tree.{of_bytes};
+ghost use Rattle.thrift_value.specs.declared.tag.Tag.TheVariants as tags;
+ghost use Rattle.thrift_value.specs.declared.wire_fault.WireFault.{WireFault};
+ghost use Rattle.thrift_value.specs.Tree.{FieldTrees, ItemTrees, PairTrees, of_bytes, of_struct, of_map, of_set, of_list};
 ghost use Rattle.thrift_value.specs.TreeOf.{tree_of, fields_tree, items_tree, pairs_tree};
-ghost use Rattle.schema.specs.PlainKind.{kind_of};
+ghost use Rattle.schema.specs.PlainKind.{kind_of, kind_struct, kind_map};
 ghost use Rattle.schema.specs.SchemaOf.{schema_of};
 ghost use Rattle.schema.specs.Sound.{IsSound};
 ghost use Rattle.wire_model.specs.Answering.{AnswersOrNoMemory};
 ghost use Rattle.wire_model.specs.AtPlace.{head_of};
+ghost use Rattle.wire_model.specs.Decoder.{Unread};
 ghost use Rattle.wire_model.specs.Wire.{IsScalar};
 ghost use Rattle.wire_model.specs.declared.one_pass.FieldHead.TheVariants.{Field};
 ghost use Rattle.wire_model.specs.Reading.{value, field_list, item_list, pair_list};
+ghost use Rattle.wire_walk.specs.Walked.{held, elements};
 ghost use Rattle.known_parts.specs.Known.{known, known_fields, known_items, known_pairs};
 ghost use Rattle.known_parts.specs.KnownAt.{head_value, known_value_at, read_seen};
 ghost use Rattle.known_parts.specs.Parts.{tag_of_kind};
@@ -66,6 +70,55 @@ fn known_number<'a, W: Wire>(
     Ok((Some(value), rest))
 }
 
+/// A struct of the fields that are known.
+fn struct_in<'a>(
+    found: Result<(Fields, Rest<'a>), WireFault>,
+) -> Result<(Option<Value>, Rest<'a>), WireFault>
+    ensures { (meant : Result (FieldTrees × Unread) WireFault) → AnswersOrNoMemory (λ r. (fields_tree r.0, r.1)) found.entry meant
+        → AnswersOrNoMemory (λ r. (option_map tree_of r.0, r.1)) result (read_seen (λ f. Some (of_struct f)) meant) }
+{
+    let (fields, rest) = found?;
+    Ok((Some(Value::Struct(fields)), rest))
+}
+
+/// A map of the pairs that are known, if all of them are.
+fn map_in<'a>(
+    key: &TypeDesc,
+    value: &TypeDesc,
+    found: Result<(Option<Pairs>, Rest<'a>), WireFault>,
+) -> Result<(Option<Value>, Rest<'a>), WireFault>
+    ensures { (meant : Result (Option PairTrees × Unread) WireFault) → AnswersOrNoMemory (λ r. (option_map pairs_tree r.0, r.1)) found.entry meant
+        → AnswersOrNoMemory (λ r. (option_map tree_of r.0, r.1)) result
+        (read_seen (option_map (of_map (tag_of_kind (kind_of key.now)) (tag_of_kind (kind_of value.now)))) meant) }
+{
+    let (pairs, rest) = found?;
+    Ok((map_of(key, value, pairs), rest))
+}
+
+/// A set of the members that are known, if all of them are.
+fn set_in<'a>(
+    member: &TypeDesc,
+    found: Result<(Option<Items>, Rest<'a>), WireFault>,
+) -> Result<(Option<Value>, Rest<'a>), WireFault>
+    ensures { (meant : Result (Option ItemTrees × Unread) WireFault) → AnswersOrNoMemory (λ r. (option_map items_tree r.0, r.1)) found.entry meant
+        → AnswersOrNoMemory (λ r. (option_map tree_of r.0, r.1)) result (read_seen (option_map (of_set (tag_of_kind (kind_of member.now)))) meant) }
+{
+    let (items, rest) = found?;
+    Ok((set_of(member, items), rest))
+}
+
+/// A list of the elements that are known, if all of them are.
+fn list_in<'a>(
+    element: &TypeDesc,
+    found: Result<(Option<Items>, Rest<'a>), WireFault>,
+) -> Result<(Option<Value>, Rest<'a>), WireFault>
+    ensures { (meant : Result (Option ItemTrees × Unread) WireFault) → AnswersOrNoMemory (λ r. (option_map items_tree r.0, r.1)) found.entry meant
+        → AnswersOrNoMemory (λ r. (option_map tree_of r.0, r.1)) result (read_seen (option_map (of_list (tag_of_kind (kind_of element.now)))) meant) }
+{
+    let (items, rest) = found?;
+    Ok((list_of(element, items), rest))
+}
+
 /// What a type knows of the value of a tag in front, with so many levels that may still be opened.
 #[cycle(knowing)]
 pub(crate) fn known_value<'a, W: Wire>(
@@ -90,36 +143,90 @@ pub(crate) fn known_value<'a, W: Wire>(
     let rest = rest.count_value()?;
     match tag {
         Tag::Bytes => known_text::<W>(alloc, rest),
-        Tag::Struct => {
-            let levels = deeper(levels)?;
-            let (fields, rest) = known_fields::<W>(alloc, rest, levels, schema, struct_kind(kind))?;
-            Ok((Some(Value::Struct(fields)), rest))
-        }
+        Tag::Struct => known_struct::<W>(alloc, rest, levels, schema, struct_kind(kind)),
         Tag::Map => {
-            let levels = deeper(levels)?;
-            let (key_tag, value_tag, count, rest) = pairs::<W>(rest)?;
             let (key, value) = map_kinds(kind);
-            let (found, rest) = known_pairs::<W>(
-                alloc, rest, levels, schema, key, value, key_tag, value_tag, count,
-            )?;
-            Ok((map_of(key, value, found), rest))
+            known_map::<W>(alloc, rest, levels, schema, key, value)
         }
         Tag::Set => {
-            let levels = deeper(levels)?;
-            let (tag, count, rest) = items::<W>(rest)?;
             let member = member_kind(kind);
-            let (found, rest) = known_items::<W>(alloc, rest, levels, schema, member, tag, count)?;
-            Ok((set_of(member, found), rest))
+            set_in(
+                member,
+                known_elements::<W>(alloc, rest, levels, schema, member),
+            )
         }
         Tag::List => {
-            let levels = deeper(levels)?;
-            let (tag, count, rest) = items::<W>(rest)?;
             let element = element_kind(kind);
-            let (found, rest) = known_items::<W>(alloc, rest, levels, schema, element, tag, count)?;
-            Ok((list_of(element, found), rest))
+            list_in(
+                element,
+                known_elements::<W>(alloc, rest, levels, schema, element),
+            )
         }
         tag => known_number::<W>(rest, tag),
     }
+}
+
+/// What is known of a struct that was counted.
+#[cycle(knowing)]
+fn known_struct<'a, W: Wire>(
+    alloc: Global,
+    rest: Rest<'a>,
+    levels: u32,
+    schema: &Schema,
+    which: u32,
+) -> Result<(Option<Value>, Rest<'a>), WireFault>
+    requires sound { IsSound (schema_of schema.now) }
+    requires levels { levels ≤ 64 }
+    ensures { AnswersOrNoMemory (λ r. (option_map tree_of r.0, r.1)) result
+        (read_seen (λ x. known (schema_of schema.now) x (kind_struct which)) (held W.wire levels tags.Struct rest.entry)) }
+{
+    let levels = deeper(levels)?;
+    struct_in(known_fields::<W>(alloc, rest, levels, schema, which))
+}
+
+/// What is known of a map that was counted, of keys and values of these types.
+#[cycle(knowing)]
+fn known_map<'a, W: Wire>(
+    alloc: Global,
+    rest: Rest<'a>,
+    levels: u32,
+    schema: &Schema,
+    key: &TypeDesc,
+    value: &TypeDesc,
+) -> Result<(Option<Value>, Rest<'a>), WireFault>
+    requires sound { IsSound (schema_of schema.now) }
+    requires levels { levels ≤ 64 }
+    ensures { AnswersOrNoMemory (λ r. (option_map tree_of r.0, r.1)) result
+        (read_seen (λ x. known (schema_of schema.now) x (kind_map (kind_of key.now) (kind_of value.now))) (held W.wire levels tags.Map rest.entry)) }
+{
+    let levels = deeper(levels)?;
+    let (key_tag, value_tag, count, rest) = pairs::<W>(rest)?;
+    map_in(
+        key,
+        value,
+        known_pairs::<W>(
+            alloc, rest, levels, schema, key, value, key_tag, value_tag, count,
+        ),
+    )
+}
+
+/// What is known of the elements of a set or list that was counted.
+#[cycle(knowing)]
+fn known_elements<'a, W: Wire>(
+    alloc: Global,
+    rest: Rest<'a>,
+    levels: u32,
+    schema: &Schema,
+    kind: &TypeDesc,
+) -> Result<(Option<Items>, Rest<'a>), WireFault>
+    requires sound { IsSound (schema_of schema.now) }
+    requires levels { levels ≤ 64 }
+    ensures { AnswersOrNoMemory (λ r. (option_map items_tree r.0, r.1)) result
+        (read_seen (λ e. known_items (schema_of schema.now) e.1 (kind_of kind.now)) (elements W.wire levels rest.entry)) }
+{
+    let levels = deeper(levels)?;
+    let (tag, count, rest) = items::<W>(rest)?;
+    known_items::<W>(alloc, rest, levels, schema, kind, tag, count)
 }
 
 /// Bytes are below 256.

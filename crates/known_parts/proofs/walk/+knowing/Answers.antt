@@ -3,21 +3,23 @@ use Rattle.std.specs.Int.{w16}
 use Rattle.std.specs.Option.{option_map}
 use Rattle.std.proofs.lemmas.Int.{to_z-of_z}
 use Rattle.std.proofs.lemmas.Result.{err_from_is_err_and}
-use Rattle.thrift_value.specs.Tree.{of_struct, of_map, of_set, of_list}
+use Rattle.thrift_value.specs.declared.tag.Tag.{Tag}
+use Rattle.thrift_value.specs.Tree.{ItemTrees}
 use Rattle.thrift_value.specs.TreeOf.{tree_of}
 use Rattle.thrift_value.proofs.Trees.{tree_of-Struct}
-use Rattle.schema.specs.PlainKind.{kind_of}
+use Rattle.schema.specs.PlainKind.{kind_of, kind_struct, kind_map}
 use Rattle.schema.specs.SchemaOf.{schema_of, plain_field}
 use Rattle.wire_num.specs.Encoded.{AreByteSized}
 use Rattle.wire_model.specs.declared.one_pass.FieldHead.TheVariants.{Field}
 use Rattle.wire_model.specs.AtPlace.{head_of}
 use Rattle.wire_model.specs.Reading.{value, field_list, item_list, pair_list}
 use Rattle.wire_walk.proofs.Faults.{fails_same, fails_told, on_ok}
-use Rattle.wire_walk.proofs.Opened.{not_counted, bytes_is, struct_too_deep, map_too_deep, set_too_deep, list_too_deep, struct_is, map_is, set_is, list_is, scalar_is}
-use Rattle.known_parts.specs.Known.{known}
+use Rattle.wire_walk.proofs.Opened.{not_counted, counted, bytes_is, held_is, no_struct, no_map, no_elements, struct_held, map_held, elements_held, set_held, list_held, scalar_is}
+use Rattle.wire_walk.specs.Walked.{elements}
+use Rattle.known_parts.specs.Known.{known, known_items}
 use Rattle.known_parts.specs.KnownAt.{read_seen}
 use Rattle.known_parts.specs.Parts.{tag_of_kind, are_same_tags}
-use Rattle.known_parts.proofs.Knowing.{seen_fails, step_fails, is_too_deep, seen_alike, answers_alike, struct_seen, map_seen, set_seen, list_seen, tag_unknown, leaf_known, text_seen, same_tags}
+use Rattle.known_parts.proofs.Knowing.{seen_fails, step_fails, is_too_deep, seen_alike, answers_alike, struct_seen, map_seen, elements_seen, set_seen, list_seen, kind_seen, tag_unknown, leaf_known, text_seen, same_tags}
 use Rattle.known_parts.proofs.KnownElements.{known_items_begin, known_items_fail, known_items_step, known_items_misfit, known_items_misfit_fail, known_items_end}
 use Rattle.known_parts.proofs.KnownPairs.{known_pairs_begin, known_key_fails, known_value_fails, known_pairs_step, known_pairs_misfit, known_pairs_misfit_fail, known_pairs_end}
 use Rattle.known_parts.proofs.KnownFields.{known_fields_begin, known_head_fails, known_part_fails, known_field_step, known_fields_end, known_fields_run_out, flag_fails_known, flag_known, value_known, value_undeclared}
@@ -163,30 +165,6 @@ known_value-returns-in-Bytes g t c =
     (bytes_is g.W.WireProtocol.wire c.args.levels c.args.tag c.args.rest c.in_ok-rest.rest c.in_ok-rest.ensures c.in-Bytes.is))
     c.known_text.ensures
 
-pub known_value-returns-in_err-levels-in-Struct : goal.known_value-returns-in_err-levels-in-Struct
-known_value-returns-in_err-levels-in-Struct g t c =
-    let p = err_from_is_err_and c.from_residual-in_err-levels-in-Struct.result c.from_residual-in_err-levels-in-Struct.ensures.1 in
-    rw (p.1, p.2)
-    (is_too_deep (λ x. known (schema_of c.args.schema.now) x (kind_of c.args.kind.now)) c.in_err-levels-in-Struct.field-0.0 (value g.W.WireProtocol.wire c.args.levels c.args.tag c.args.rest) c.in_err-levels-in-Struct.ensures.1 (struct_too_deep g.W.WireProtocol.wire c.args.levels c.args.tag c.args.rest c.in_ok-rest.rest c.in_ok-rest.ensures c.in-Struct.is c.in_err-levels-in-Struct.ensures.0))
-
-pub known_value-returns-in_err-levels-in-Map : goal.known_value-returns-in_err-levels-in-Map
-known_value-returns-in_err-levels-in-Map g t c =
-    let p = err_from_is_err_and c.from_residual-in_err-levels-in-Map.result c.from_residual-in_err-levels-in-Map.ensures.1 in
-    rw (p.1, p.2)
-    (is_too_deep (λ x. known (schema_of c.args.schema.now) x (kind_of c.args.kind.now)) c.in_err-levels-in-Map.field-0.0 (value g.W.WireProtocol.wire c.args.levels c.args.tag c.args.rest) c.in_err-levels-in-Map.ensures.1 (map_too_deep g.W.WireProtocol.wire c.args.levels c.args.tag c.args.rest c.in_ok-rest.rest c.in_ok-rest.ensures c.in-Map.is c.in_err-levels-in-Map.ensures.0))
-
-pub known_value-returns-in_err-levels-in-Set : goal.known_value-returns-in_err-levels-in-Set
-known_value-returns-in_err-levels-in-Set g t c =
-    let p = err_from_is_err_and c.from_residual-in_err-levels-in-Set.result c.from_residual-in_err-levels-in-Set.ensures.1 in
-    rw (p.1, p.2)
-    (is_too_deep (λ x. known (schema_of c.args.schema.now) x (kind_of c.args.kind.now)) c.in_err-levels-in-Set.field-0.0 (value g.W.WireProtocol.wire c.args.levels c.args.tag c.args.rest) c.in_err-levels-in-Set.ensures.1 (set_too_deep g.W.WireProtocol.wire c.args.levels c.args.tag c.args.rest c.in_ok-rest.rest c.in_ok-rest.ensures c.in-Set.is c.in_err-levels-in-Set.ensures.0))
-
-pub known_value-returns-in_err-levels-in-List : goal.known_value-returns-in_err-levels-in-List
-known_value-returns-in_err-levels-in-List g t c =
-    let p = err_from_is_err_and c.from_residual-in_err-levels-in-List.result c.from_residual-in_err-levels-in-List.ensures.1 in
-    rw (p.1, p.2)
-    (is_too_deep (λ x. known (schema_of c.args.schema.now) x (kind_of c.args.kind.now)) c.in_err-levels-in-List.field-0.0 (value g.W.WireProtocol.wire c.args.levels c.args.tag c.args.rest) c.in_err-levels-in-List.ensures.1 (list_too_deep g.W.WireProtocol.wire c.args.levels c.args.tag c.args.rest c.in_ok-rest.rest c.in_ok-rest.ensures c.in-List.is c.in_err-levels-in-List.ensures.0))
-
 pub known_value-struct_kind-requires : goal.known_value-struct_kind-requires
 known_value-struct_kind-requires g t c =
     same_tags (tag_of_kind (kind_of c.args.kind.now)) c.args.tag (c.if-not-are_same_tags.ensures ∙ ap (λ a. are_same_tags a c.args.tag) c.tag_of_kind.ensures) ∙ c.in-Struct.is
@@ -203,72 +181,6 @@ pub known_value-element_kind-element-requires : goal.known_value-element_kind-el
 known_value-element_kind-element-requires g t c =
     same_tags (tag_of_kind (kind_of c.args.kind.now)) c.args.tag (c.if-not-are_same_tags.ensures ∙ ap (λ a. are_same_tags a c.args.tag) c.tag_of_kind.ensures) ∙ c.in-List.is
 
-pub known_value-returns-in_err-fields-in-Struct : goal.known_value-returns-in_err-fields-in-Struct
-known_value-returns-in_err-fields-in-Struct g t c =
-    let p = err_from_is_err_and c.from_residual-in_err-fields-in-Struct.result c.from_residual-in_err-fields-in-Struct.ensures.1 in
-    rw (p.1, p.2)
-    (fails_same c.in_err-fields-in-Struct.field-0.0 _ _ (sym (struct_seen (schema_of c.args.schema.now) (kind_of c.args.kind.now) c.struct_kind.result (value g.W.WireProtocol.wire c.args.levels c.args.tag c.args.rest) (field_list g.W.WireProtocol.wire (value g.W.WireProtocol.wire c.in_ok-levels-in-Struct.levels) (length c.in_ok-rest.rest.bytes) (pos 0) c.in_ok-rest.rest) c.struct_kind.ensures (struct_is g.W.WireProtocol.wire c.args.levels c.in_ok-levels-in-Struct.levels c.args.tag c.args.rest c.in_ok-rest.rest c.in_ok-rest.ensures c.in-Struct.is c.in_ok-levels-in-Struct.ensures))) (seen_fails (λ f. Some (of_struct f)) c.in_err-fields-in-Struct.field-0.0 _ c.in_err-fields-in-Struct.ensures))
-
-pub known_value-returns-in_ok-fields-in-Struct : goal.known_value-returns-in_ok-fields-in-Struct
-known_value-returns-in_ok-fields-in-Struct g t c =
-    (struct_seen (schema_of c.args.schema.now) (kind_of c.args.kind.now) c.struct_kind.result (value g.W.WireProtocol.wire c.args.levels c.args.tag c.args.rest) (field_list g.W.WireProtocol.wire (value g.W.WireProtocol.wire c.in_ok-levels-in-Struct.levels) (length c.in_ok-rest.rest.bytes) (pos 0) c.in_ok-rest.rest) c.struct_kind.ensures (struct_is g.W.WireProtocol.wire c.args.levels c.in_ok-levels-in-Struct.levels c.args.tag c.args.rest c.in_ok-rest.rest c.in_ok-rest.ensures c.in-Struct.is c.in_ok-levels-in-Struct.ensures))
-    ∙ ap (read_seen (λ f. Some (of_struct f))) c.in_ok-fields-in-Struct.ensures
-    ∙ ap (λ x. Ok (Some x, c.in_ok-fields-in-Struct.rest)) (sym (tree_of-Struct c.in_ok-fields-in-Struct.fields))
-
-pub known_value-returns-in_err-key_tag-in-Map : goal.known_value-returns-in_err-key_tag-in-Map
-known_value-returns-in_err-key_tag-in-Map g t c =
-    let p = err_from_is_err_and c.from_residual-in_err-key_tag-in-Map.result c.from_residual-in_err-key_tag-in-Map.ensures.1 in
-    rw (p.1, p.2)
-    (step_fails (λ x. known (schema_of c.args.schema.now) x (kind_of c.args.kind.now)) c.in_err-key_tag-in-Map.field-0.0 (value g.W.WireProtocol.wire c.args.levels c.args.tag c.args.rest) (g.W.WireProtocol.wire.pairs c.in_ok-rest.rest) _ (map_is g.W.WireProtocol.wire c.args.levels c.in_ok-levels-in-Map.levels c.args.tag c.args.rest c.in_ok-rest.rest c.in_ok-rest.ensures c.in-Map.is c.in_ok-levels-in-Map.ensures) (fails_told _ _ c.in_err-key_tag-in-Map.ensures))
-
-pub known_value-returns-in_err-found-in-Map : goal.known_value-returns-in_err-found-in-Map
-known_value-returns-in_err-found-in-Map g t c =
-    let p = err_from_is_err_and c.from_residual-in_err-found-in-Map.result c.from_residual-in_err-found-in-Map.ensures.1 in
-    rw (p.1, p.2)
-    (fails_same c.in_err-found-in-Map.field-0.0 _ _ (sym (map_seen (schema_of c.args.schema.now) (kind_of c.args.kind.now) (kind_of c.map_kinds.result.0.now) (kind_of c.map_kinds.result.1.now) c.in_ok-key_tag-in-Map.key_tag c.in_ok-key_tag-in-Map.value_tag (value g.W.WireProtocol.wire c.args.levels c.args.tag c.args.rest) (pair_list (value g.W.WireProtocol.wire c.in_ok-levels-in-Map.levels) c.in_ok-key_tag-in-Map.key_tag c.in_ok-key_tag-in-Map.value_tag c.in_ok-key_tag-in-Map.count c.in_ok-key_tag-in-Map.rest) c.map_kinds.ensures ((map_is g.W.WireProtocol.wire c.args.levels c.in_ok-levels-in-Map.levels c.args.tag c.args.rest c.in_ok-rest.rest c.in_ok-rest.ensures c.in-Map.is c.in_ok-levels-in-Map.ensures) ∙ on_ok (g.W.WireProtocol.wire.pairs c.in_ok-rest.rest) _ (c.in_ok-key_tag-in-Map.key_tag, c.in_ok-key_tag-in-Map.value_tag, c.in_ok-key_tag-in-Map.count) c.in_ok-key_tag-in-Map.rest c.in_ok-key_tag-in-Map.ensures))) (seen_fails (option_map (of_map (tag_of_kind (kind_of c.map_kinds.result.0.now)) (tag_of_kind (kind_of c.map_kinds.result.1.now)))) c.in_err-found-in-Map.field-0.0 _ c.in_err-found-in-Map.ensures))
-
-pub known_value-returns-in_ok-found-in-Map : goal.known_value-returns-in_ok-found-in-Map
-known_value-returns-in_ok-found-in-Map g t c =
-    (map_seen (schema_of c.args.schema.now) (kind_of c.args.kind.now) (kind_of c.map_kinds.result.0.now) (kind_of c.map_kinds.result.1.now) c.in_ok-key_tag-in-Map.key_tag c.in_ok-key_tag-in-Map.value_tag (value g.W.WireProtocol.wire c.args.levels c.args.tag c.args.rest) (pair_list (value g.W.WireProtocol.wire c.in_ok-levels-in-Map.levels) c.in_ok-key_tag-in-Map.key_tag c.in_ok-key_tag-in-Map.value_tag c.in_ok-key_tag-in-Map.count c.in_ok-key_tag-in-Map.rest) c.map_kinds.ensures ((map_is g.W.WireProtocol.wire c.args.levels c.in_ok-levels-in-Map.levels c.args.tag c.args.rest c.in_ok-rest.rest c.in_ok-rest.ensures c.in-Map.is c.in_ok-levels-in-Map.ensures) ∙ on_ok (g.W.WireProtocol.wire.pairs c.in_ok-rest.rest) _ (c.in_ok-key_tag-in-Map.key_tag, c.in_ok-key_tag-in-Map.value_tag, c.in_ok-key_tag-in-Map.count) c.in_ok-key_tag-in-Map.rest c.in_ok-key_tag-in-Map.ensures))
-    ∙ ap (read_seen (option_map (of_map (tag_of_kind (kind_of c.map_kinds.result.0.now)) (tag_of_kind (kind_of c.map_kinds.result.1.now))))) c.in_ok-found-in-Map.ensures
-    ∙ ap (λ o. Ok (o, c.in_ok-found-in-Map.rest)) (sym c.map_of.ensures)
-
-pub known_value-returns-in_err-tag-in-Set : goal.known_value-returns-in_err-tag-in-Set
-known_value-returns-in_err-tag-in-Set g t c =
-    let p = err_from_is_err_and c.from_residual-in_err-tag-in-Set.result c.from_residual-in_err-tag-in-Set.ensures.1 in
-    rw (p.1, p.2)
-    (step_fails (λ x. known (schema_of c.args.schema.now) x (kind_of c.args.kind.now)) c.in_err-tag-in-Set.field-0.0 (value g.W.WireProtocol.wire c.args.levels c.args.tag c.args.rest) (g.W.WireProtocol.wire.items c.in_ok-rest.rest) _ (set_is g.W.WireProtocol.wire c.args.levels c.in_ok-levels-in-Set.levels c.args.tag c.args.rest c.in_ok-rest.rest c.in_ok-rest.ensures c.in-Set.is c.in_ok-levels-in-Set.ensures) (fails_told _ _ c.in_err-tag-in-Set.ensures))
-
-pub known_value-returns-in_err-found-in-Set : goal.known_value-returns-in_err-found-in-Set
-known_value-returns-in_err-found-in-Set g t c =
-    let p = err_from_is_err_and c.from_residual-in_err-found-in-Set.result c.from_residual-in_err-found-in-Set.ensures.1 in
-    rw (p.1, p.2)
-    (fails_same c.in_err-found-in-Set.field-0.0 _ _ (sym (set_seen (schema_of c.args.schema.now) (kind_of c.args.kind.now) (kind_of c.member_kind-member.result.now) c.in_ok-tag-in-Set.tag (value g.W.WireProtocol.wire c.args.levels c.args.tag c.args.rest) (item_list (value g.W.WireProtocol.wire c.in_ok-levels-in-Set.levels) c.in_ok-tag-in-Set.tag c.in_ok-tag-in-Set.count c.in_ok-tag-in-Set.rest) c.member_kind-member.ensures ((set_is g.W.WireProtocol.wire c.args.levels c.in_ok-levels-in-Set.levels c.args.tag c.args.rest c.in_ok-rest.rest c.in_ok-rest.ensures c.in-Set.is c.in_ok-levels-in-Set.ensures) ∙ on_ok (g.W.WireProtocol.wire.items c.in_ok-rest.rest) _ (c.in_ok-tag-in-Set.tag, c.in_ok-tag-in-Set.count) c.in_ok-tag-in-Set.rest c.in_ok-tag-in-Set.ensures))) (seen_fails (option_map (of_set (tag_of_kind (kind_of c.member_kind-member.result.now)))) c.in_err-found-in-Set.field-0.0 _ c.in_err-found-in-Set.ensures))
-
-pub known_value-returns-in_ok-found-in-Set : goal.known_value-returns-in_ok-found-in-Set
-known_value-returns-in_ok-found-in-Set g t c =
-    (set_seen (schema_of c.args.schema.now) (kind_of c.args.kind.now) (kind_of c.member_kind-member.result.now) c.in_ok-tag-in-Set.tag (value g.W.WireProtocol.wire c.args.levels c.args.tag c.args.rest) (item_list (value g.W.WireProtocol.wire c.in_ok-levels-in-Set.levels) c.in_ok-tag-in-Set.tag c.in_ok-tag-in-Set.count c.in_ok-tag-in-Set.rest) c.member_kind-member.ensures ((set_is g.W.WireProtocol.wire c.args.levels c.in_ok-levels-in-Set.levels c.args.tag c.args.rest c.in_ok-rest.rest c.in_ok-rest.ensures c.in-Set.is c.in_ok-levels-in-Set.ensures) ∙ on_ok (g.W.WireProtocol.wire.items c.in_ok-rest.rest) _ (c.in_ok-tag-in-Set.tag, c.in_ok-tag-in-Set.count) c.in_ok-tag-in-Set.rest c.in_ok-tag-in-Set.ensures))
-    ∙ ap (read_seen (option_map (of_set (tag_of_kind (kind_of c.member_kind-member.result.now))))) c.in_ok-found-in-Set.ensures
-    ∙ ap (λ o. Ok (o, c.in_ok-found-in-Set.rest)) (sym c.set_of.ensures)
-
-pub known_value-returns-in_err-tag-in-List : goal.known_value-returns-in_err-tag-in-List
-known_value-returns-in_err-tag-in-List g t c =
-    let p = err_from_is_err_and c.from_residual-in_err-tag-in-List.result c.from_residual-in_err-tag-in-List.ensures.1 in
-    rw (p.1, p.2)
-    (step_fails (λ x. known (schema_of c.args.schema.now) x (kind_of c.args.kind.now)) c.in_err-tag-in-List.field-0.0 (value g.W.WireProtocol.wire c.args.levels c.args.tag c.args.rest) (g.W.WireProtocol.wire.items c.in_ok-rest.rest) _ (list_is g.W.WireProtocol.wire c.args.levels c.in_ok-levels-in-List.levels c.args.tag c.args.rest c.in_ok-rest.rest c.in_ok-rest.ensures c.in-List.is c.in_ok-levels-in-List.ensures) (fails_told _ _ c.in_err-tag-in-List.ensures))
-
-pub known_value-returns-in_err-found-in-List : goal.known_value-returns-in_err-found-in-List
-known_value-returns-in_err-found-in-List g t c =
-    let p = err_from_is_err_and c.from_residual-in_err-found-in-List.result c.from_residual-in_err-found-in-List.ensures.1 in
-    rw (p.1, p.2)
-    (fails_same c.in_err-found-in-List.field-0.0 _ _ (sym (list_seen (schema_of c.args.schema.now) (kind_of c.args.kind.now) (kind_of c.element_kind-element.result.now) c.in_ok-tag-in-List.tag (value g.W.WireProtocol.wire c.args.levels c.args.tag c.args.rest) (item_list (value g.W.WireProtocol.wire c.in_ok-levels-in-List.levels) c.in_ok-tag-in-List.tag c.in_ok-tag-in-List.count c.in_ok-tag-in-List.rest) c.element_kind-element.ensures ((list_is g.W.WireProtocol.wire c.args.levels c.in_ok-levels-in-List.levels c.args.tag c.args.rest c.in_ok-rest.rest c.in_ok-rest.ensures c.in-List.is c.in_ok-levels-in-List.ensures) ∙ on_ok (g.W.WireProtocol.wire.items c.in_ok-rest.rest) _ (c.in_ok-tag-in-List.tag, c.in_ok-tag-in-List.count) c.in_ok-tag-in-List.rest c.in_ok-tag-in-List.ensures))) (seen_fails (option_map (of_list (tag_of_kind (kind_of c.element_kind-element.result.now)))) c.in_err-found-in-List.field-0.0 _ c.in_err-found-in-List.ensures))
-
-pub known_value-returns-in_ok-found-in-List : goal.known_value-returns-in_ok-found-in-List
-known_value-returns-in_ok-found-in-List g t c =
-    (list_seen (schema_of c.args.schema.now) (kind_of c.args.kind.now) (kind_of c.element_kind-element.result.now) c.in_ok-tag-in-List.tag (value g.W.WireProtocol.wire c.args.levels c.args.tag c.args.rest) (item_list (value g.W.WireProtocol.wire c.in_ok-levels-in-List.levels) c.in_ok-tag-in-List.tag c.in_ok-tag-in-List.count c.in_ok-tag-in-List.rest) c.element_kind-element.ensures ((list_is g.W.WireProtocol.wire c.args.levels c.in_ok-levels-in-List.levels c.args.tag c.args.rest c.in_ok-rest.rest c.in_ok-rest.ensures c.in-List.is c.in_ok-levels-in-List.ensures) ∙ on_ok (g.W.WireProtocol.wire.items c.in_ok-rest.rest) _ (c.in_ok-tag-in-List.tag, c.in_ok-tag-in-List.count) c.in_ok-tag-in-List.rest c.in_ok-tag-in-List.ensures))
-    ∙ ap (read_seen (option_map (of_list (tag_of_kind (kind_of c.element_kind-element.result.now))))) c.in_ok-found-in-List.ensures
-    ∙ ap (λ o. Ok (o, c.in_ok-found-in-List.rest)) (sym c.list_of.ensures)
-
 pub known_value-returns-in_default : goal.known_value-returns-in_default
 known_value-returns-in_default g t c =
     let read = scalar_is g.W.WireProtocol.wire c.args.levels c.args.tag c.args.rest c.in_ok-rest.rest c.in_ok-rest.ensures c.in_default.not-Bytes c.in_default.not-Struct c.in_default.not-Map c.in_default.not-Set c.in_default.not-List in
@@ -278,3 +190,79 @@ known_value-returns-in_default g t c =
     (λ x after e. sym (leaf_known (schema_of c.args.schema.now) x (kind_of c.args.kind.now) c.args.tag (c.value_read_is_spelled.ensures c.args.levels c.args.tag c.args.rest after x (subst AreByteSized c.bytes.ensures c.are_bytes.ensures) e).kind (c.if-not-are_same_tags.ensures ∙ ap (λ a. are_same_tags a c.args.tag) c.tag_of_kind.ensures)
     c.in_default.not-Struct c.in_default.not-Map c.in_default.not-Set c.in_default.not-List)))
     c.known_number.ensures
+
+pub known_value-returns-in-Struct : goal.known_value-returns-in-Struct
+known_value-returns-in-Struct g t c =
+    answers_alike _ c.known_struct.result _ _
+    (kind_seen (schema_of c.args.schema.now) (kind_of c.args.kind.now) _ _ _ c.struct_kind.ensures (held_is g.W.WireProtocol.wire c.args.levels c.args.tag _ c.in_ok-rest.rest c.in-Struct.is ∙ sym (counted g.W.WireProtocol.wire c.args.levels c.args.tag c.args.rest c.in_ok-rest.rest c.in_ok-rest.ensures)))
+    c.known_struct.ensures
+
+pub known_value-returns-in-Map : goal.known_value-returns-in-Map
+known_value-returns-in-Map g t c =
+    answers_alike _ c.known_map.result _ _
+    (kind_seen (schema_of c.args.schema.now) (kind_of c.args.kind.now) _ _ _ c.map_kinds.ensures (held_is g.W.WireProtocol.wire c.args.levels c.args.tag _ c.in_ok-rest.rest c.in-Map.is ∙ sym (counted g.W.WireProtocol.wire c.args.levels c.args.tag c.args.rest c.in_ok-rest.rest c.in_ok-rest.ensures)))
+    c.known_map.ensures
+
+pub known_value-returns-in-Set : goal.known_value-returns-in-Set
+known_value-returns-in-Set g t c =
+    answers_alike _ c.set_in.result _ _
+    (set_seen (schema_of c.args.schema.now) (kind_of c.args.kind.now) (kind_of c.member_kind-member.result.now) _ (elements g.W.WireProtocol.wire c.args.levels c.in_ok-rest.rest) c.member_kind-member.ensures
+    (set_held g.W.WireProtocol.wire c.args.levels c.args.tag c.in_ok-rest.rest c.in-Set.is ∙ sym (counted g.W.WireProtocol.wire c.args.levels c.args.tag c.args.rest c.in_ok-rest.rest c.in_ok-rest.ensures)))
+    (c.set_in.ensures _ c.known_elements.ensures)
+
+pub known_value-returns-in-List : goal.known_value-returns-in-List
+known_value-returns-in-List g t c =
+    answers_alike _ c.list_in.result _ _
+    (list_seen (schema_of c.args.schema.now) (kind_of c.args.kind.now) (kind_of c.element_kind-element.result.now) _ (elements g.W.WireProtocol.wire c.args.levels c.in_ok-rest.rest) c.element_kind-element.ensures
+    (list_held g.W.WireProtocol.wire c.args.levels c.args.tag c.in_ok-rest.rest c.in-List.is ∙ sym (counted g.W.WireProtocol.wire c.args.levels c.args.tag c.args.rest c.in_ok-rest.rest c.in_ok-rest.ensures)))
+    (c.list_in.ensures _ c.known_elements-in-List.ensures)
+
+pub known_struct-returns-in_err-levels : goal.known_struct-returns-in_err-levels
+known_struct-returns-in_err-levels g t c =
+    let p = err_from_is_err_and c.from_residual.result c.from_residual.ensures.1 in
+    rw (p.1, p.2)
+    (is_too_deep (λ x. known (schema_of c.args.schema.now) x (kind_struct c.args.which)) c.in_err-levels.field-0.0 _ c.in_err-levels.ensures.1 (no_struct g.W.WireProtocol.wire c.args.levels c.args.rest c.in_err-levels.ensures.0))
+
+pub known_map-returns-in_err-levels : goal.known_map-returns-in_err-levels
+known_map-returns-in_err-levels g t c =
+    let p = err_from_is_err_and c.from_residual.result c.from_residual.ensures.1 in
+    rw (p.1, p.2)
+    (is_too_deep (λ x. known (schema_of c.args.schema.now) x (kind_map (kind_of c.args.key.now) (kind_of c.args.value.now))) c.in_err-levels.field-0.0 _ c.in_err-levels.ensures.1 (no_map g.W.WireProtocol.wire c.args.levels c.args.rest c.in_err-levels.ensures.0))
+
+pub known_elements-returns-in_err-levels : goal.known_elements-returns-in_err-levels
+known_elements-returns-in_err-levels g t c =
+    let p = err_from_is_err_and c.from_residual.result c.from_residual.ensures.1 in
+    rw (p.1, p.2)
+    (is_too_deep (λ (e : Tag × ItemTrees). known_items (schema_of c.args.schema.now) e.1 (kind_of c.args.kind.now)) c.in_err-levels.field-0.0 _ c.in_err-levels.ensures.1 (no_elements g.W.WireProtocol.wire c.args.levels c.args.rest c.in_err-levels.ensures.0))
+
+pub known_struct-returns : goal.known_struct-returns
+known_struct-returns g t c =
+    answers_alike _ c.struct_in.result _ _
+    (struct_seen (schema_of c.args.schema.now) c.args.which _ _ (struct_held g.W.WireProtocol.wire c.args.levels c.in_ok-levels.levels c.args.rest c.in_ok-levels.ensures))
+    (c.struct_in.ensures _ c.known_fields.ensures)
+
+pub known_map-returns-in_err-key_tag : goal.known_map-returns-in_err-key_tag
+known_map-returns-in_err-key_tag g t c =
+    let p = err_from_is_err_and c.from_residual-in_err-key_tag.result c.from_residual-in_err-key_tag.ensures.1 in
+    rw (p.1, p.2)
+    (step_fails _ c.in_err-key_tag.field-0.0 _ (g.W.WireProtocol.wire.pairs c.args.rest) _ (sym (map_held g.W.WireProtocol.wire c.args.levels c.in_ok-levels.levels c.args.rest c.in_ok-levels.ensures)) (fails_told _ _ c.in_err-key_tag.ensures))
+
+pub known_map-returns : goal.known_map-returns
+known_map-returns g t c =
+    answers_alike _ c.map_in.result _ _
+    (map_seen (schema_of c.args.schema.now) (kind_of c.args.key.now) (kind_of c.args.value.now) c.in_ok-key_tag.key_tag c.in_ok-key_tag.value_tag _ _
+    (sym (on_ok (g.W.WireProtocol.wire.pairs c.args.rest) _ (c.in_ok-key_tag.key_tag, c.in_ok-key_tag.value_tag, c.in_ok-key_tag.count) c.in_ok-key_tag.rest c.in_ok-key_tag.ensures) ∙ map_held g.W.WireProtocol.wire c.args.levels c.in_ok-levels.levels c.args.rest c.in_ok-levels.ensures))
+    (c.map_in.ensures _ c.known_pairs.ensures)
+
+pub known_elements-returns-in_err-tag : goal.known_elements-returns-in_err-tag
+known_elements-returns-in_err-tag g t c =
+    let p = err_from_is_err_and c.from_residual-in_err-tag.result c.from_residual-in_err-tag.ensures.1 in
+    rw (p.1, p.2)
+    (step_fails _ c.in_err-tag.field-0.0 _ (g.W.WireProtocol.wire.items c.args.rest) _ (sym (elements_held g.W.WireProtocol.wire c.args.levels c.in_ok-levels.levels c.args.rest c.in_ok-levels.ensures)) (fails_told _ _ c.in_err-tag.ensures))
+
+pub known_elements-returns : goal.known_elements-returns
+known_elements-returns g t c =
+    answers_alike _ c.known_items.result _ _
+    (elements_seen (schema_of c.args.schema.now) (kind_of c.args.kind.now) c.in_ok-tag.tag _ _
+    (sym (on_ok (g.W.WireProtocol.wire.items c.args.rest) _ (c.in_ok-tag.tag, c.in_ok-tag.count) c.in_ok-tag.rest c.in_ok-tag.ensures) ∙ elements_held g.W.WireProtocol.wire c.args.levels c.in_ok-levels.levels c.args.rest c.in_ok-levels.ensures))
+    c.known_items.ensures
