@@ -1,11 +1,12 @@
 -- What makes a table of places, and what tables tell.
 use Rattle.std.proofs.Common.{◌≡◌, ℕ, zero, suc, ◌+◌, ◌<◌, ◌≤◌, Bool, true, false, not, ◌&&◌, List, [], ◌∷◌, ◌++◌, length, map, take, take_all, get_or, refl, sym, ap, ◌∙◌, subst, ⊎_elim, arith}
-use Rattle.std.specs.Prelude.{All, nat_lt, ◌==◌, IsPermutation}
+use Rattle.std.specs.Prelude.{All, nat_lt, ◌==◌, ◌||◌, IsPermutation}
 use Rattle.std.specs.List.{list_all, list_any, AllZip}
 use Rattle.std.specs.List.Sorted.{IsSortedBy}
 use Rattle.std.proofs.lemmas.Grind.{common_steps}
 use Rattle.std.proofs.lemmas.List.{map-append}
-use Rattle.std.proofs.lemmas.Bool.{and_parts, and_from, not-true, not_from_false, cases_order, lt-ltb, ltb-true}
+use Rattle.std.proofs.lemmas.List.Folds.{list_any-append}
+use Rattle.std.proofs.lemmas.Bool.{eq-eqb, or_left, or_right, and_parts, and_from, not-true, not_from_false, cases_order, lt-ltb, ltb-true}
 use Rattle.std.proofs.lemmas.List.Elements.{All-weaker}
 use Rattle.std.proofs.lemmas.List.Sorted.{All-permutation, list_any-IsPermutation}
 use Rattle.std.proofs.lemmas.List.Sums.{AllPass-from_list_all, list_all-from_AllPass}
@@ -20,6 +21,17 @@ pub all_below : (n : ℕ) (numbers : List ℕ) → ((k : ℕ) → k < n → list
 all_below zero numbers each = refl
 all_below (suc n) numbers each =
     and_from (list_any (λ number. number == n) numbers) (has_all_below n numbers) (each n (omega arith)) (all_below n numbers (λ k low. each k (omega arith)))
+
+-- one place more
+pub place_more : (n number : ℕ) (places new : List ℕ) → ((k : ℕ) → k < n → list_any (λ place. place == k) places ≡ true) → number ≡ n → new ≡ places ++ number ∷ []
+    → (k : ℕ) → k < n + 1 → list_any (λ place. place == k) new ≡ true
+place_more n number places new each same is k low =
+    let before : Bool = list_any (λ place. place == k) places in
+    let more : list_any (λ place. place == k) new ≡ (before || (number == k || false)) = ap (list_any (λ place. place == k)) is ∙ list_any-append (λ place. place == k) places (number ∷ []) in
+    more ∙ ⊎_elim
+    (λ e. or_right before (number == k || false) (or_left (number == k) false (eq-eqb number k (same ∙ sym e))))
+    (λ side. ⊎_elim (λ less. or_left before (number == k || false) (each k less)) (λ above. absurd (omega (arith, low, above))) side)
+    (cases_order k n)
 
 pub one_below : (n : ℕ) (numbers : List ℕ) → has_all_below n numbers ≡ true → (k : ℕ) → k < n → list_any (λ number. number == k) numbers ≡ true
 one_below zero numbers all k low = absurd (omega (arith, low))

@@ -15,6 +15,7 @@ ghost use Rattle.schema.specs.WrittenAs.{field_with_id};
 ghost use Rattle.wire_model.specs.Encoder.{behind_heading, heading, text};
 ghost use Rattle.call_model.specs.Replies.{alone_under, encoder_of, may_go_back, result_fields, success_fields, throws_fields};
 ghost use Rattle.processor.specs.Results.{HasSmallField, lent_fields};
+ghost use Rattle.wire_walk.specs.Steps.{field_header_of};
 
 use binary_codec::Binary;
 use call_rules::Answer;
@@ -23,7 +24,7 @@ use envelope::Protocol;
 use schema::{FieldDesc, FnDesc, Schema, TypeDesc};
 use std::alloc::AllocError;
 use struct_skew::{NeededFields, may_go_out};
-use thrift_value::Value;
+use thrift_value::{Tag, Value};
 use wire_walk::{Codec, Header, put};
 
 /// The most levels of a value that goes back: the struct around it has one more.
@@ -175,19 +176,42 @@ pub(crate) fn result_field<'a>(
     }
 }
 
-/// Appends a field's header and its value. A bool may have its value in the header.
+/// The header of a field: a bool may have its value in it.
+fn header_of<C: Codec>(id: i16, value: &Value) -> Header
+    ensures { field_header_of result ≡ heading C.encoder.flags id (tree_of value.now) }
+{
+    match value {
+        Value::Bool(flag) => {
+            if C::flags() {
+                Header::Flag(id, *flag)
+            } else {
+                Header::Field(id, Tag::Bool)
+            }
+        }
+        _ => Header::Field(id, value.tag()),
+    }
+}
+
+/// Appends what stands behind a field's header: its value, unless the header has it.
+fn put_behind<C: Codec>(header: Header, value: &Value, into: &mut Vec<u8>) -> Result<(), AllocError>
+    requires { HasSmallSizes (tree_of value.now) }
+    ensures { OnOk result (into.new.items ≡ into.old.items ++ behind_heading (field_header_of header) (text C.encoder (tree_of value.now))) }
+{
+    match header {
+        Header::Field(_, _) => put::<C>(value, into),
+        Header::Flag(_, _) | Header::Stop => Ok(()),
+    }
+}
+
+/// Appends a field's header and its value.
 fn put_field<C: Codec>(id: i16, value: &Value, into: &mut Vec<u8>) -> Result<(), AllocError>
     requires { HasSmallSizes (tree_of value.now) }
     ensures { OnOk result (into.new.items ≡ into.old.items ++ (C.encoder.header (pos 0) (heading C.encoder.flags id (tree_of value.now))
         ++ behind_heading (heading C.encoder.flags id (tree_of value.now)) (text C.encoder (tree_of value.now)))) }
 {
-    if let Value::Bool(flag) = value {
-        if C::flags() {
-            return C::put_header(0, Header::Flag(id, *flag), into);
-        }
-    }
-    C::put_header(0, Header::Field(id, value.tag()), into)?;
-    put::<C>(value, into)
+    let header = header_of::<C>(id, value);
+    C::put_header(0, header, into)?;
+    put_behind::<C>(header, value, into)
 }
 
 /// Appends the struct of a result.
