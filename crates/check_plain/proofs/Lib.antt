@@ -1,2 +1,3 @@
 pub mod GivenShown
 pub mod Placed
+pub mod Typed

@@ -1,11 +1,11 @@
 //! What types mean that are written in a file.
 
-ghost use Rattle.std.specs.Prelude.{◌≡◌, IfOk};
+ghost use Rattle.std.specs.Prelude.{◌≡◌, IfOk, Option, Some};
 ghost use Rattle.std.specs.Option.{option_map, option_and_then};
 ghost use Rattle.idl_include.specs.DeclaredIn.{type_in};
 ghost use Rattle.idl_include.specs.Names.{type_named};
 ghost use Rattle.idl_include.specs.SourcesOf.{program_in};
-ghost use Rattle.schema.specs.PlainKind.{kind_of, kind_set, kind_list};
+ghost use Rattle.schema.specs.PlainKind.{PlainKind, kind_of, kind_map, kind_set, kind_list};
 ghost use Rattle.check_model.specs.Resolved.{base_kind, named_kind, map_kind, kind_by, alias_kind};
 
 use crate::based::{Based, Made};
@@ -37,36 +37,45 @@ fn base_kind(base: Base) -> TypeDesc
     }
 }
 
-/// A map of two types, where both mean something.
-fn map_kind(alloc: Global, key: Option<TypeDesc>, value: Option<TypeDesc>) -> Made<Option<TypeDesc>>
-    ensures { IfOk result (λ kind. option_map kind_of kind ≡ map_kind (option_map kind_of key) (option_map kind_of value)) }
+/// A map of two types.
+fn map_of(alloc: Global, key: TypeDesc, value: TypeDesc) -> Made<Option<TypeDesc>>
+    ensures { IfOk result (λ kind. option_map kind_of kind ≡ Some (kind_map (kind_of key) (kind_of value))) }
 {
-    let Some(key) = key else {
-        return Ok(None);
-    };
-    let Some(value) = value else {
-        return Ok(None);
-    };
     let key = Box::new(alloc, key)?;
     let value = Box::new(alloc, value)?;
     Ok(Some(TypeDesc::Map(key, value)))
 }
 
-/// A set of a type that means something.
-fn set_kind(alloc: Global, member: Option<TypeDesc>) -> Made<Option<TypeDesc>>
-    ensures { IfOk result (λ kind. option_map kind_of kind ≡ option_map kind_set (option_map kind_of member)) }
+/// A map of two types, where both mean something.
+fn map_kind(
+    alloc: Global,
+    key: Made<Option<TypeDesc>>,
+    value: Made<Option<TypeDesc>>,
+) -> Made<Option<TypeDesc>>
+    ensures { (k v : Option PlainKind) → IfOk key (λ kind. option_map kind_of kind ≡ k) → IfOk value (λ kind. option_map kind_of kind ≡ v)
+        → IfOk result (λ kind. option_map kind_of kind ≡ map_kind k v) }
 {
-    match member {
+    match (key?, value?) {
+        (Some(key), Some(value)) => map_of(alloc, key, value),
+        _ => Ok(None),
+    }
+}
+
+/// A set of a type that means something.
+fn set_kind(alloc: Global, member: Made<Option<TypeDesc>>) -> Made<Option<TypeDesc>>
+    ensures { (k : Option PlainKind) → IfOk member (λ kind. option_map kind_of kind ≡ k) → IfOk result (λ kind. option_map kind_of kind ≡ option_map kind_set k) }
+{
+    match member? {
         Some(member) => Ok(Some(TypeDesc::Set(Box::new(alloc, member)?))),
         None => Ok(None),
     }
 }
 
 /// A list of a type that means something.
-fn list_kind(alloc: Global, element: Option<TypeDesc>) -> Made<Option<TypeDesc>>
-    ensures { IfOk result (λ kind. option_map kind_of kind ≡ option_map kind_list (option_map kind_of element)) }
+fn list_kind(alloc: Global, element: Made<Option<TypeDesc>>) -> Made<Option<TypeDesc>>
+    ensures { (k : Option PlainKind) → IfOk element (λ kind. option_map kind_of kind ≡ k) → IfOk result (λ kind. option_map kind_of kind ≡ option_map kind_list k) }
 {
-    match element {
+    match element? {
         Some(element) => Ok(Some(TypeDesc::List(Box::new(alloc, element)?))),
         None => Ok(None),
     }
@@ -89,16 +98,16 @@ fn kind_within(
         TypeTree::Base(_, base) => Ok(Some(base_kind(*base))),
         TypeTree::Named(name) => named_within(files, deep, calls, file, name.text.as_slice()),
         TypeTree::Map(_, key, value) => {
-            let key = kind_within(files, deep, calls, file, key)?;
-            let value = kind_within(files, deep, calls, file, value)?;
+            let key = kind_within(files, deep, calls, file, key);
+            let value = kind_within(files, deep, calls, file, value);
             map_kind(files.alloc, key, value)
         }
         TypeTree::Set(_, member) => {
-            let member = kind_within(files, deep, calls, file, member)?;
+            let member = kind_within(files, deep, calls, file, member);
             set_kind(files.alloc, member)
         }
         TypeTree::List(_, element) => {
-            let element = kind_within(files, deep, calls, file, element)?;
+            let element = kind_within(files, deep, calls, file, element);
             list_kind(files.alloc, element)
         }
     }
