@@ -1,5 +1,5 @@
 -- A schema that got its defaults and constants is that of its program.
-use Rattle.std.proofs.Common.{◌≡◌, ◌+◌, ℕ, suc, List, [], ◌∷◌, map, length, Option, Some, None, refl, ap, sym, subst, ◌∙◌}
+use Rattle.std.proofs.Common.{◌≡◌, ◌+◌, ℕ, suc, List, [], ◌∷◌, map, length, Option, Some, None, sym, subst, ◌∙◌}
 use Rattle.std.specs.Option.{MatchOption}
 use Rattle.std.specs.List.{AllByRecursion, AllZip}
 use Rattle.thrift_value.specs.Tree.{Tree}
@@ -17,14 +17,14 @@ use Rattle.schema.specs.PlainSchema.{PlainField, PlainStruct, PlainFunction, Pla
 use Rattle.check_model.specs.Resolved.{TypeMeans}
 use Rattle.check_model.specs.FieldLists.{NumberedField, FieldsDecl, fields_by_id, field_lists}
 use Rattle.check_model.specs.Evaluation.{Setting}
-use Rattle.check_model.specs.SchemaParts.{NoDefault, IsFieldOf, AreFieldsOf, IsStructFrom, ResultMeans, IsFunctionOf, AreFunctionsOf, IsServiceOf, AreServicesOf, IsAliasOf, IsSchemaWith, IsPartialSchema}
+use Rattle.check_model.specs.SchemaParts.{NoDefault, IsFieldOf, AreFieldsOf, IsStructFrom, ResultMeans, IsFunctionOf, AreFunctionsOf, IsServiceOf, AreServicesOf, IsAliasOf, IsPartialSchema}
 use Rattle.check_model.specs.ProgramSchema.{HasWorth, IsDefault, DefaultIn, IsConstantOf}
 use Rattle.check_model.proofs.Meanings.{one_meaning}
 use Rattle.check_model.proofs.OneSchema.{one_partial}
 use Rattle.idl_check.proofs.RisingFields.{by_id_holds}
 use Rattle.idl_check.specs.Taking.{IsWorthAt, value_given}
-use Rattle.idl_check.specs.Sites.{SitedFields, AllZipped, sited}
-use Rattle.idl_check.specs.Filling.{IsDefaultFilled, IsFieldFilled, AreDefaultsFilled, IsStructFilled, IsFunctionFilled, IsServiceFilled, IsConstantTaken, IsWholeSchema}
+use Rattle.idl_check.specs.Sites.{AllZipped, sited}
+use Rattle.idl_check.specs.Filling.{IsFieldFilled, AreDefaultsFilled, IsStructFilled, IsFunctionFilled, IsServiceFilled, IsConstantTaken, IsWholeSchema}
 use Rattle.idl_check.proofs.Given.{IsIn, IsDefaultGiven, IsFieldGiven, IsConstantGiven, IsListGiven, AreThrownGiven, IsServiceGiven, constants_given, lists_are_given, services_given}
 
 -- of what something was and what it became follows what it is

@@ -1,12 +1,12 @@
 -- What a program gives values for, is given one of its values.
-use Rattle.std.proofs.Common.{◌≡◌, ◌++◌, ℕ, suc, List, [], ◌∷◌, map, length, Option, Some, None, slice_get, refl, ap, sym, subst, ◌∙◌, append_assoc}
+use Rattle.std.proofs.Common.{◌≡◌, ◌++◌, ℕ, List, [], ◌∷◌, map, length, Option, Some, None, slice_get, refl, sym, subst, ◌∙◌, append_assoc}
 use Rattle.std.specs.Option.{MatchOption}
 use Rattle.std.specs.List.{AllByRecursion, filter_map, flat_map, cons_option}
 use Rattle.idl_include.specs.ConstExpr.{ConstExpr}
 use Rattle.idl_include.specs.Declarations.{FieldDecl, FunctionDecl, ServiceDecl, StructDecl, ConstDecl}
 use Rattle.idl_include.specs.Program.{Program}
 use Rattle.idl_include.specs.Numbering.{Filed, filed, functions_in, all_functions, constants_of, structs_of, services_of}
-use Rattle.idl_include.specs.Spots.{GivenValue, Spotted, Spot, default_spots, value_at, spots_of, values_of}
+use Rattle.idl_include.specs.Spots.{Spotted, Spot, default_spots, value_at, spots_of, values_of}
 use Rattle.check_model.specs.FieldLists.{FieldsDecl, fields_of_struct, args_of_function, field_lists}
 use Rattle.check_model.proofs.Shown.{both_all, mapped, weaker, FieldShown, FunctionShown, ConstShown, StructShown, ServiceShown, consts_shown, structs_shown, services_shown}
 use Rattle.idl_check.specs.Taking.{value_given}

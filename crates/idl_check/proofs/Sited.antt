@@ -10,7 +10,7 @@ use Rattle.idl_names.specs.declared.filed.InFile.{InFile}
 use Rattle.idl_names.specs.FiledIn.{filed_structs, filed_services}
 use Rattle.idl_names.proofs.Marked.{taken_more}
 use Rattle.check_model.specs.FieldLists.{FieldsDecl, field_lists}
-use Rattle.schema_bare.specs.GivenLists.{struct_given, service_args, all_given}
+use Rattle.schema_bare.specs.GivenLists.{struct_given, service_args}
 use Rattle.schema_bare.proofs.Adding.{lists_given}
 use Rattle.schema_bare.proofs.Zipped.{mapped_push}
 use Rattle.idl_check.specs.declared.sites.FieldSite.{FieldSite}

@@ -1,5 +1,5 @@
 -- Values of a program, until they are taken.
-use Rattle.std.proofs.Common.{◌≡◌, ℕ, zero, suc, List, [], ◌∷◌, map, Option, Some, None, slice_get, get_or, Result, Ok, Err, IfOk, refl, ap, sym, subst, ◌∙◌}
+use Rattle.std.proofs.Common.{◌≡◌, ℕ, zero, suc, List, [], ◌∷◌, map, Option, Some, None, slice_get, get_or, Result, Ok, Err, IfOk, sym, subst, ◌∙◌}
 use Rattle.std.specs.List.{AllZip}
 use Rattle.thrift_value.specs.declared.value.Value.{Value}
 use Rattle.thrift_value.specs.TreeOf.{tree_of}
@@ -7,7 +7,6 @@ use Rattle.idl_token.specs.declared.Place.{Place}
 use Rattle.idl_include.specs.Program.{Program}
 use Rattle.idl_include.specs.Spots.{values_of}
 use Rattle.check_model.proofs.FirstOnes.{somes, none_some}
-use Rattle.const_evaluator.specs.declared.places.ValuePlaces.{ValuePlaces}
 use Rattle.const_evaluator.specs.Places.{number_at_place, ArePlaces}
 use Rattle.check_passes.specs.Given.{HasOwnWorth, AreWorth}
 use Rattle.idl_check.specs.declared.worths.Worths.{Worths}

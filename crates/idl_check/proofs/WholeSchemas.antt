@@ -1,5 +1,5 @@
 -- A schema that no pass refuses is that of its program, and a fault after the other passes is its first.
-use Rattle.std.proofs.Common.{◌≡◌, List, [], ◌∷◌, Result, Ok, Err, inl}
+use Rattle.std.proofs.Common.{List, [], ◌∷◌, Result, Ok, Err, inl}
 use Rattle.std.specs.List.{AllByRecursion}
 use Rattle.idl_include.specs.declared.sources.IdlFile.{IdlFile}
 use Rattle.idl_include.specs.SourcesOf.{program_in}

@@ -1,7 +1,9 @@
 -- Three lists that are told place by place, one more at a time.
-use Rattle.std.proofs.Common.{◌≡◌, ◌≤◌, ◌<◌, ◌+◌, ◌++◌, ℕ, List, [], ◌∷◌, map, length, get_or, take, refl, ap, sym, subst, ◌∙◌, length-append}
+use Rattle.std.proofs.Common.{◌≡◌, ◌≤◌, ◌<◌, ◌+◌, ◌++◌, ℕ, zero, suc, List, [], ◌∷◌, map, length, get_or, take, drop, ap, sym, subst, ◌∙◌, arith}
+use Rattle.std.specs.Prelude.{slice_set}
 use Rattle.std.specs.List.{AllZip}
-use Rattle.std.proofs.lemmas.List.{map-append, take_all}
+use Rattle.std.proofs.lemmas.List.{take_all, take_more_set, drop-set-lt}
+use Rattle.idl_names.proofs.Marked.{left_more}
 use Rattle.schema_bare.proofs.Zipped.{mapped_push, taken_push}
 use Rattle.idl_check.specs.Sites.{AllZipped}
 
@@ -14,39 +16,38 @@ zipped_push F (x ∷ ws) [] cs a b c h f = absurd h
 zipped_push F (x ∷ ws) (y ∷ bs) [] a b c h f = absurd h
 zipped_push F (x ∷ ws) (y ∷ bs) (z ∷ cs) a b c h f = (h.0, zipped_push F ws bs cs a b c h.1 f)
 
-pub zipped_next : {A B D T : Type 0} (F : A → B → B → Type 0) (declared : D → A) (plain : T → B) (items : List D) (i : ℕ) (x : D) (y z : T) (yielded old new : List T)
-    → i < length items → x ≡ get_or items i x → new ≡ old ++ z ∷ [] → F (declared x) (plain y) (plain z)
-    → AllZipped F (map declared (take i items)) (map plain yielded) (map plain old)
-    → AllZipped F (map declared (take (i + 1) items)) (map plain (yielded ++ y ∷ [])) (map plain new)
-zipped_next {A} {B} F declared plain items i x y z yielded old new l here pushed own so_far =
-    let P : List A → Type 0 = λ xs. AllZipped F xs (map plain (yielded ++ y ∷ [])) (map plain new) in
-    let Q : List B → Type 0 = λ ps. AllZipped F (map declared (take i items) ++ declared x ∷ []) (map plain (yielded ++ y ∷ [])) ps in
-    let R : List B → Type 0 = λ ps. AllZipped F (map declared (take i items) ++ declared x ∷ []) ps (map plain old ++ plain z ∷ []) in
-    subst P (sym (taken_push declared items i x l here))
-    (subst Q (sym (mapped_push plain old new z pushed))
-    (subst R (sym (map-append plain yielded (y ∷ [])))
-    (zipped_push F (map declared (take i items)) (map plain yielded) (map plain old) (declared x) (plain y) (plain z) so_far own)))
+-- what stands in front and behind, by what is left from a place on
+front_more : {A : Type 0} (xs ys : List A) (i : ℕ) (y : A) → drop i xs ≡ y ∷ ys → (take (i + 1) xs ≡ take i xs ++ y ∷ []) × (drop (i + 1) xs ≡ ys)
+front_more [] ys zero y e = absurd (cc)
+front_more [] ys (suc i) y e = absurd (cc)
+front_more (x ∷ xs) ys zero y e = (cc, cc)
+front_more (x ∷ xs) ys (suc i) y e =
+    let h = front_more xs ys i y e in
+    let k : suc i + 1 ≡ suc (i + 1) = omega arith in
+    (ap (λ j. take j (x ∷ xs)) k ∙ ap (λ zs. x ∷ zs) h.0, ap (λ j. drop j (x ∷ xs)) k ∙ h.1)
 
-pub zipped_end : {A B D T : Type 0} (F : A → B → B → Type 0) (declared : D → A) (plain : T → B) (items : List D) (n : ℕ) (yielded all old : List T) → length items ≤ n
-    → yielded ≡ all → AllZipped F (map declared (take n items)) (map plain yielded) (map plain old) → AllZipped F (map declared items) (map plain all) (map plain old)
-zipped_end {A} {B} {D} {T} F declared plain items n yielded all old past whole so_far =
-    let P : List A → Type 0 = λ xs. AllZipped F xs (map plain all) (map plain old) in
-    let Q : List T → Type 0 = λ ys. AllZipped F (map declared (take n items)) (map plain ys) (map plain old) in
-    subst P (ap (map declared) (take_all n items past)) (subst Q whole so_far)
+-- the first items of a list became what they are to be, in their places, and the others are what they were
+pub record AreFilledBelow {A B D T : Type 0} (F : A → B → B → Type 0) (declared : D → A) (plain : T → B) (given : List D) (i : ℕ) (was has : List T) : Type 0 where
+  pub rest : drop i has ≡ drop i was
+  pub filled : AllZipped F (map declared (take i given)) (map plain (take i was)) (map plain (take i has))
 
-pub same_items : {A : Type 0} (xs : List A) → map (λ (y : A). y) xs ≡ xs
-same_items [] = refl
-same_items (x ∷ xs) = ap (λ ys. x ∷ ys) (same_items xs)
-
-pub zipped_on : {A B D T : Type 0} (F : A → B → B → Type 0) (declared : D → A) (plain : T → B) (items : List D) (i : ℕ) (x : D) (y z : T) (yielded old new : List T)
-    → i ≡ length old → i < length items → x ≡ get_or items i x → new ≡ old ++ z ∷ [] → F (declared x) (plain y) (plain z)
-    → AllZipped F (map declared (take (length old) items)) (map plain yielded) (map plain old)
-    → AllZipped F (map declared (take (length new) items)) (map plain (yielded ++ y ∷ [])) (map plain new)
-zipped_on F declared plain items i x y z yielded old new place l here pushed own so_far =
-    let P : ℕ → Type 0 = λ j. AllZipped F (map declared (take j items)) (map plain (yielded ++ y ∷ [])) (map plain new) in
-    let Q : ℕ → Type 0 = λ j. AllZipped F (map declared (take j items)) (map plain yielded) (map plain old) in
-    subst P (ap (λ j. j + 1) place ∙ sym (ap length pushed ∙ length-append old (z ∷ [])))
-    (zipped_next F declared plain items i x y z yielded old new l here pushed own (subst Q (sym place) so_far))
+pub filled_next : {A B D T : Type 0} (F : A → B → B → Type 0) (declared : D → A) (plain : T → B) (given : List D) (i : ℕ) (x : D) (y z : T) (was has : List T)
+    → i < length given → i < length has → x ≡ get_or given i x → y ≡ get_or has i y → F (declared x) (plain y) (plain z)
+    → AreFilledBelow F declared plain given i was has → AreFilledBelow F declared plain given (i + 1) was (slice_set has i z)
+filled_next {A} {B} F declared plain given i x y z was has l m here there own so_far =
+    let new = slice_set has i z in
+    let old = front_more was (drop (i + 1) has) i y (sym so_far.rest ∙ left_more has i y m there) in
+    let P : List A → Type 0 = λ xs. AllZipped F xs (map plain (take (i + 1) was)) (map plain (take (i + 1) new)) in
+    let Q : List B → Type 0 = λ ps. AllZipped F (map declared (take i given) ++ declared x ∷ []) ps (map plain (take (i + 1) new)) in
+    let R : List B → Type 0 = λ ps. AllZipped F (map declared (take i given) ++ declared x ∷ []) (map plain (take i was) ++ plain y ∷ []) ps in
+    record {
+      rest = drop-set-lt (i + 1) has i z (omega arith) ∙ sym old.1;
+      filled =
+          subst P (sym (taken_push declared given i x l here))
+          (subst Q (sym (mapped_push plain (take i was) (take (i + 1) was) y old.0))
+          (subst R (sym (mapped_push plain (take i has) (take (i + 1) new) z (take_more_set has i z m)))
+          (zipped_push F (map declared (take i given)) (map plain (take i was)) (map plain (take i has)) (declared x) (plain y) (plain z) so_far.filled own)));
+    }
 
 pub zipped_as : {A B C : Type 0} {a d : List A} {b e : List B} {c f : List C} (F : A → B → C → Type 0) → a ≡ d → b ≡ e → c ≡ f → AllZipped F a b c → AllZipped F d e f
 zipped_as {A} {B} {C} {a} {d} {b} {e} {c} {f} F p q r h =
@@ -54,6 +55,11 @@ zipped_as {A} {B} {C} {a} {d} {b} {e} {c} {f} F p q r h =
     let Q : List B → Type 0 = λ ys. AllZipped F a ys f in
     let R : List C → Type 0 = λ zs. AllZipped F a b zs in
     subst P p (subst Q q (subst R r h))
+
+pub all_filled : {A B D T : Type 0} (F : A → B → B → Type 0) (declared : D → A) (plain : T → B) (given : List D) (i : ℕ) (was has : List T)
+    → length given ≤ i → length was ≤ i → length has ≤ i → AreFilledBelow F declared plain given i was has → AllZipped F (map declared given) (map plain was) (map plain has)
+all_filled F declared plain given i was has l m n so_far =
+    zipped_as F (ap (map declared) (take_all i given l)) (ap (map plain) (take_all i was m)) (ap (map plain) (take_all i has n)) so_far.filled
 
 pub zip_as : {A B : Type 0} {a d : List A} {b e : List B} (R : A → B → Type 0) → a ≡ d → b ≡ e → AllZip R a b → AllZip R d e
 zip_as {A} {B} {a} {d} {b} {e} R p q h =

@@ -1,6 +1,6 @@
-//! The fields of a list with their defaults.
+//! The fields of a list get their defaults.
 
-ghost use Rattle.std.specs.Prelude.{map, IfOk};
+ghost use Rattle.std.specs.Prelude.{map, OnOk};
 ghost use Rattle.idl_include.specs.DeclaredIn.{field_in};
 ghost use Rattle.idl_include.specs.Program.{Program};
 ghost use Rattle.schema.specs.SchemaOf.{plain_field};
@@ -14,69 +14,60 @@ use idl_parser::Field;
 use schema::{FieldDesc, FieldList, Listed};
 use schema_bare::{FieldById, fields_sorted};
 use std::alloc::{AllocError, Global};
+use std::mem;
 
-/// A field with its default.
+/// A field gets its default, if it has one.
 #[tactic(auto, unfolding(idl_include::specs::DeclaredIn::field_in))]
-fn filled_field(
+fn fill_field(
     worths: &mut Worths<'_>,
     file: u32,
     by_id: &FieldById<'_>,
-    field: FieldDesc,
-) -> Result<FieldDesc, AllocError>
+    field: &mut FieldDesc,
+) -> Result<(), AllocError>
     ensures { (program : Program) → AreWorths program worths.old
-        → IfOk result (λ made. IsFieldFilled program file (numbered_in by_id.now) (plain_field field) (plain_field made) × AreWorths program worths.new) }
+        → OnOk result (IsFieldFilled program file (numbered_in by_id.now) (plain_field field.old) (plain_field field.new) × AreWorths program worths.new) }
 {
     if by_id.field.default.is_none() {
-        return Ok(field);
+        return Ok(());
     }
     let value = worths.take(file, by_id.field.at)?;
-    Ok(FieldDesc {
-        id: field.id,
-        need: field.need,
-        kind: field.kind,
-        name: field.name,
-        default: Some(value),
-    })
+    field.default = Some(value);
+    Ok(())
 }
 
-/// Fields in this order, with their defaults.
-fn each_field(
-    alloc: Global,
+/// Fields in this order get their defaults.
+fn fill_each(
     worths: &mut Worths<'_>,
     file: u32,
     sorted: &[FieldById<'_>],
-    fields: Vec<FieldDesc>,
-) -> Result<Vec<FieldDesc>, AllocError>
+    fields: &mut Vec<FieldDesc>,
+) -> Result<(), AllocError>
     ensures { (program : Program) → AreWorths program worths.old
-        → IfOk result (λ made. AllZipped (IsFieldFilled program file) (map numbered_in sorted.now) (map plain_field fields.items) (map plain_field made.items) × AreWorths program worths.new) }
+        → OnOk result (AllZipped (IsFieldFilled program file) (map numbered_in sorted.now) (map plain_field fields.old.items) (map plain_field fields.new.items) × AreWorths program worths.new) }
 {
-    let mut made = Vec::with_capacity(alloc, fields.len())?;
-    for field in fields {
-        let place = made.len();
-        if place >= sorted.len() {
-            return Err(AllocError);
-        }
-        let filled = filled_field(worths, file, &sorted[place], field)?;
-        made.push(filled)?;
-    }
-    if made.len() < sorted.len() {
+    if sorted.len() != fields.len() {
         return Err(AllocError);
     }
-    Ok(made)
+    for place in 0..sorted.len() {
+        fill_field(worths, file, &sorted[place], &mut fields[place])?;
+    }
+    Ok(())
 }
 
-/// The fields of a list, with their defaults.
-pub(crate) fn filled_fields(
+/// The fields of a list get their defaults.
+pub(crate) fn fill_fields(
     alloc: Global,
     worths: &mut Worths<'_>,
     file: u32,
     given: &[Field],
-    fields: FieldList,
-) -> Result<FieldList, AllocError>
+    fields: &mut FieldList,
+) -> Result<(), AllocError>
     ensures { (program : Program) → AreWorths program worths.old
-        → IfOk result (λ made. AreDefaultsFilled program file (map field_in given.now) (map plain_field fields) (map plain_field made) × AreWorths program worths.new) }
+        → OnOk result (AreDefaultsFilled program file (map field_in given.now) (map plain_field fields.old) (map plain_field fields.new) × AreWorths program worths.new) }
 {
     let sorted = fields_sorted(alloc, given)?;
-    let made = each_field(alloc, worths, file, sorted.as_slice(), fields.into_vec())?;
-    Ok(Listed::new(made))
+    let mut all = mem::replace(fields, Listed::new(Vec::new(alloc))).into_vec();
+    let done = fill_each(worths, file, sorted.as_slice(), &mut all);
+    *fields = Listed::new(all);
+    done
 }

@@ -11,9 +11,9 @@ ghost use Rattle.idl_types.specs.Known.{AreAliasTypes};
 ghost use Rattle.idl_check.specs.Filling.{IsWholeSchema};
 
 use crate::constants::all_constants;
-use crate::services::filled_services;
+use crate::services::fill_services;
 use crate::sites::field_sites;
-use crate::structs::filled_structs;
+use crate::structs::fill_structs;
 use crate::worths::Worths;
 use const_evaluator::ValuePlaces;
 use idl_names::Definitions;
@@ -29,7 +29,7 @@ pub fn whole_schema(
     definitions: &Definitions<'_>,
     tables: &TypeTables<'_, '_>,
     places: &ValuePlaces,
-    partial: Schema,
+    mut partial: Schema,
     values: Vec<Value>,
 ) -> Result<Schema, AllocError>
     requires definitions { listing_in definitions.now ≡ listing_of (program_in tables.now.names.now) }
@@ -42,20 +42,9 @@ pub fn whole_schema(
     let mut worths = Worths::new(alloc, places, values)?;
     let services = definitions.services.as_slice();
     let sites = field_sites(alloc, definitions.structs.as_slice(), services)?;
-    let structs = filled_structs(
-        alloc,
-        &mut worths,
-        sites.as_slice(),
-        partial.structs.into_vec(),
-    )?;
-    let services = filled_services(alloc, &mut worths, services, partial.services.into_vec())?;
+    fill_structs(alloc, &mut worths, sites.as_slice(), &mut partial.structs)?;
+    fill_services(alloc, &mut worths, services, &mut partial.services)?;
     let constants = all_constants(alloc, tables, &mut worths, definitions.constants.as_slice())?;
-    Ok(Schema {
-        files: partial.files,
-        structs: Listed::new(structs),
-        enums: partial.enums,
-        services: Listed::new(services),
-        aliases: partial.aliases,
-        constants: Listed::new(constants),
-    })
+    partial.constants = Listed::new(constants);
+    Ok(partial)
 }
