@@ -18,7 +18,9 @@ ghost use Rattle.idl_check.specs.Behind.{IsValued};
 
 use crate::whole_schema;
 use check_passes::{CheckFault, TypedProgram, evaluate_all};
-use const_evaluator::{ValuePlaces, const_names, program_evaluator, program_ground, value_places};
+use const_evaluator::{
+    ConstNames, ValuePlaces, const_names, program_evaluator, program_ground, value_places,
+};
 use idl_names::{Definitions, GivenTree, NameTables, SpotIn, values_at};
 use idl_types::TypeTables;
 use schema::Schema;
@@ -76,7 +78,37 @@ fn worths_over<'n, 'a>(
         (TellsFlaw (IsFirstOf (program_in tables.now.names.now) bad_constant)) }
 {
     let constants = const_names(alloc, tables.names, definitions, places)?;
-    let ground = program_ground(alloc, &constants, definitions, places, values, partial)?;
+    worths_by(
+        alloc,
+        &constants,
+        definitions,
+        tables,
+        places,
+        partial,
+        values,
+    )
+}
+
+/// The same by what names in values stand for.
+fn worths_by<'n, 'a>(
+    alloc: Global,
+    constants: &ConstNames<'n, 'a>,
+    definitions: &Definitions<'a>,
+    tables: &TypeTables<'n, 'a>,
+    places: &ValuePlaces,
+    partial: &Schema,
+    values: &[GivenTree<'a>],
+) -> Result<Vec<Value>, CheckFault>
+    requires constants { constants.now ≡ tables.now.names.now }
+    requires definitions { listing_in definitions.now ≡ listing_of (program_in tables.now.names.now) }
+    requires aliases { AreAliasTypes (program_in tables.now.names.now) tables.now.aliases.now }
+    requires places { ArePlaces (program_in tables.now.names.now) places.now }
+    requires partial { IsPartialSchema (program_in tables.now.names.now) (schema_of partial.now) }
+    requires values { AreGivenValues (program_in tables.now.names.now) values.now }
+    ensures { MatchResult result (λ made. AreWorth (program_in tables.now.names.now) made.items)
+        (TellsFlaw (IsFirstOf (program_in tables.now.names.now) bad_constant)) }
+{
+    let ground = program_ground(alloc, constants, definitions, places, values, partial)?;
     let mut evaluator = program_evaluator(alloc, &ground, tables)?;
     evaluate_all(alloc, &mut evaluator, values)
 }
