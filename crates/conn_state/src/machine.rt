@@ -1,9 +1,9 @@
 //! The machine of one connection.
 
-ghost use Rattle.std.specs.Prelude.{◌≡◌, ◌≢◌, ◌+◌, ◌<◌, ◌≤◌, ◌^◌, ◌↔◌, length, drop, IsSome, IsNone, OnOk, OnErr};
+ghost use Rattle.std.specs.Prelude.{◌≡◌, ◌≢◌, ◌+◌, ◌<◌, ◌≤◌, ◌^◌, ◌↔◌, ◌++◌, length, drop, IsSome, IsNone, OnOk, OnErr, vec_capacity};
 ghost use Rattle.conn_state.specs.Phase.{fresh_conn, wanted, size_asked, left_to_write, cause_of, IsHeld, IsReading, IsReady, IsWaiting, HasNotEnded, IsWriting, ready, waiting, ended};
 ghost use Rattle.conn_state.specs.Run.{EachIsByte};
-ghost use Rattle.conn_state.specs.Step.{after_took, after_size, after_admission, after_answer, after_wrote, after_end_of_input, IsFromOutside};
+ghost use Rattle.conn_state.specs.Step.{after_took, after_size, after_size_bytes, after_payload_bytes, after_admission, after_answer, after_wrote, after_end_of_input, IsFromOutside};
 ghost use Rattle.conn_state.specs.Inside.{phase_of, IsSoundState};
 
 use super::size_bytes::SizeBytes;
@@ -95,27 +95,28 @@ impl Conn {
         ensures bytes { EachIsByte bytes.now }
         ensures whole { self.old.frames < self.new.frames ↔ IsReady self.new.phase }
     {
-        let number = self.frames;
         match mem::replace(&mut self.state, State::Waiting(0)) {
-            State::ReadingSize(mut held) => {
-                held.extend(bytes);
-                self.state = if held.len() < 4 {
-                    State::ReadingSize(held)
-                } else {
-                    with_size(held.size(), max_frame)
-                };
-            }
-            State::ReadingFrame(size, mut payload) => {
-                payload.extend_from_slice(bytes).unwrap();
-                if payload.len() < size as usize {
-                    self.state = State::ReadingFrame(size, payload);
-                } else {
-                    self.frames = number + 1;
-                    self.state = State::Ready(number, payload);
-                }
-            }
+            State::ReadingSize(held) => self.state = with_size_bytes(held, bytes, max_frame),
+            State::ReadingFrame(size, payload) => self.took_payload(size, payload, bytes),
             other => self.state = other,
         }
+    }
+
+    /// Takes bytes of a payload of this size, of which these are held.
+    fn took_payload(&mut self, size: u32, mut payload: Vec<u8>, bytes: &[u8])
+        requires room { (length payload.items < size) × (size ≤ vec_capacity payload) }
+        requires asked { length payload.items + length bytes.now ≤ size }
+        requires counted { self.old.frames < 2 ^ 62 }
+        ensures { self.new ≡ after_payload_bytes self.old.frames size (payload.items ++ bytes.now) }
+    {
+        payload.extend_from_slice(bytes).unwrap();
+        if payload.len() < size as usize {
+            self.state = State::ReadingFrame(size, payload);
+            return;
+        }
+        let number = self.frames;
+        self.frames = number + 1;
+        self.state = State::Ready(number, payload);
     }
 
     /// The size of the frame that waits for its admission, exactly where one does.
@@ -135,11 +136,11 @@ impl Conn {
         ensures ok { OnOk result (self.new ≡ record self.old { phase = after_admission self.old.phase }) }
         ensures err { OnErr result (self.new ≡ self.old) }
     {
-        if let State::Held(size) = &self.state {
-            let size = *size;
-            let payload = Vec::with_capacity(alloc, size as usize)?;
-            self.state = State::ReadingFrame(size, payload);
-        }
+        let Some(size) = self.asks() else {
+            return Ok(());
+        };
+        let payload = Vec::with_capacity(alloc, size as usize)?;
+        self.state = State::ReadingFrame(size, payload);
         Ok(())
     }
 
@@ -201,12 +202,7 @@ impl Conn {
         requires { IsReading self.old.phase }
         ensures { self.new ≡ record self.old { phase = after_end_of_input self.old.phase } }
     {
-        let is_whole = matches!(&self.state, State::ReadingSize(held) if held.len() == 0);
-        self.state = State::Ended(if is_whole {
-            EndCause::End
-        } else {
-            EndCause::Cut
-        });
+        self.state = State::Ended(cause_at_end(&self.state));
     }
 
     /// Ends the connection for a cause that its bytes don't show. A payload that is whole and not handed out is lost.
@@ -227,6 +223,30 @@ impl Conn {
             State::Ended(cause) => Some(*cause),
             _ => None,
         }
+    }
+}
+
+/// What a connection does once these bytes of a size are there.
+fn with_size_bytes(mut held: SizeBytes, bytes: &[u8], max_frame: u32) -> State
+    requires { length held + length bytes.now ≤ 4 }
+    ensures phase { phase_of result ≡ after_size_bytes max_frame (held ++ bytes.now) }
+    ensures sound { IsSoundState result }
+{
+    held.extend(bytes);
+    if held.len() < 4 {
+        return State::ReadingSize(held);
+    }
+    with_size(held.size(), max_frame)
+}
+
+/// Why a connection ends whose input ended in this state.
+fn cause_at_end(state: &State) -> EndCause
+    requires { IsReading (phase_of state.now) }
+    ensures { ended result ≡ after_end_of_input (phase_of state.now) }
+{
+    match state {
+        State::ReadingSize(held) if held.len() == 0 => EndCause::End,
+        _ => EndCause::Cut,
     }
 }
 
