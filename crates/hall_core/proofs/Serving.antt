@@ -38,3 +38,7 @@ module _ {X : Type 0} (service : X → ServiceState) (xs : List X) (call : Plain
 
   pub kept_from : (new : X) → service new ≡ service (get_or xs call.slot x) → map service (slice_set xs call.slot new) ≡ map service xs
   kept_from new e = service_kept new (e ∙ ap service (sym is))
+
+  pub answered_from : (method : List ℕ) → method ≡ call.method → (answer : PlainAnswer) → answer ≡ (handled (service (get_or xs call.slot x)) method call.args).answer → IsAnswerOf (map service xs) call answer
+  answered_from method same answer e =
+      answer_of_service answer (e ∙ ap (λ (y : X). (handled (service y) method call.args).answer) (sym is) ∙ ap (λ (t : List ℕ). (handled (service x) t call.args).answer) same)

@@ -11,7 +11,9 @@ use Rattle.call_rules.specs.Entries.{CallEntry}
 use Rattle.call_rules.specs.Handling.{ServiceState, handler_rules}
 use Rattle.machine_model.specs.HallRule.{entry_under, TakesEffect, HallOperation, apply, HallAnswer, no_memory}
 use Rattle.machine_model.specs.SeenHall.{MayHave, filled, SeenGives}
+use Rattle.hall_core.specs.declared.operation.HallOp.{HallOp}
 use Rattle.hall_core.specs.Meant.{ServedHall}
+use Rattle.hall_core.specs.Asked.{operation_of}
 use Rattle.hall_core.specs.Answered.{IsAnswerOf, answered_so}
 
 -- a step of a hall with this view
@@ -21,6 +23,12 @@ Gives old op answer new = SeenGives handler_rules old op answer new
 -- a hall is seen by its value
 pub from_view : (view old : ServedHall) → view ≡ old → (op : HallOperation PlainCall) (answer : HallAnswer PlainAnswer) (new : ServedHall) → Gives view op answer new → Gives old op answer new
 from_view view old same op answer new g = subst (λ (h : ServedHall). Gives h op answer new) same g
+
+-- What is asked is seen as it was taken apart, by what holds of each hall
+pub asked_so : (view old : ServedHall) → view ≡ old → (op was : HallOp) → op ≡ was → (answer : HallAnswer PlainAnswer) (new : ServedHall)
+    → (P : ServedHall → Type 0) → ((hall : ServedHall) → P hall) → (P view → Gives view (operation_of was) answer new) → Gives old (operation_of op) answer new
+asked_so view old same op was is answer new P each g =
+    subst (λ (o : HallOp). Gives old (operation_of o) answer new) (sym is) (from_view view old same (operation_of was) answer new (g (each view)))
 
 module _ (view : ServedHall) where
   -- a call for which there was no memory before it was answered

@@ -1,6 +1,6 @@
 //! The step of a hall in which a service answers a call.
 
-ghost use Rattle.std.specs.Prelude.{◌≡◌, ◌<◌, false, length, map, IfOk, OnOk, OnErr};
+ghost use Rattle.std.specs.Prelude.{◌≡◌, ◌<◌, ◌≤◌, List, false, length, map, IfOk, OnOk, OnErr, IfSome, OnSome, IfNone};
 ghost use Rattle.thrift_value.specs.TreeOf.{tree_of};
 ghost use Rattle.host_model.specs.Journal.{after_call};
 ghost use Rattle.call_rules.specs.Answers.{plain_answer};
@@ -82,16 +82,68 @@ fn copied(alloc: Global, answer: &Answer) -> Result<Answer, AllocError>
 fn replied(entered: Result<(), Failed>, copy: Result<Answer, AllocError>) -> HallReply
     ensures { answer_of result ≡ answered_so entered copy }
 {
-    match (entered, copy) {
-        (Ok(()), Ok(answer)) => HallReply::Applied(answer),
-        (Ok(()), Err(_)) => HallReply::NoMemory,
-        (Err(_), _) => HallReply::JournalFault,
+    match entered {
+        Err(_) => HallReply::JournalFault,
+        Ok(()) => match copy {
+            Ok(answer) => HallReply::Applied(answer),
+            Err(_) => HallReply::NoMemory,
+        },
     }
 }
 
-/// Lets the call be answered, and enters it in the journal. The answer is copied before, since the entry takes it.
-#[inline(never)]
-pub(crate) fn apply<A: AnswersCalls, J: Journal>(
+/// The answer to a call, where the journal has room to enter it and there is memory for it.
+fn answered_with_room<A: AnswersCalls, J: Journal>(
+    alloc: Global,
+    handlers: &mut [A],
+    journal: &mut J,
+    call: &Call,
+) -> Option<Answer>
+    requires slot { call.now.slot < length handlers.old }
+    requires plain { IsPlainCall call.now }
+    ensures told { J.told journal.new ≡ J.told journal.old }
+    ensures faults { J.faults journal.new ≡ J.faults journal.old }
+    ensures torn { J.torn journal.new ≡ J.torn journal.old }
+    ensures none { IfNone result (map A.state handlers.new ≡ map A.state handlers.old) }
+    ensures room { OnSome result (1 ≤ J.room journal.new) }
+    ensures answer { IfSome result (λ answer. IsAnswerOf (map A.state handlers.old) call.now (plain_answer answer)) }
+    ensures moved { OnSome result (map A.state handlers.new ≡ after_call handler_rules (map A.state handlers.old) call.now) }
+    ensures plain { IfSome result (λ answer. IsPlainAnswer (plain_answer answer)) }
+{
+    let Ok(()) = journal.reserve() else {
+        return None;
+    };
+    match answered(alloc, handlers, call) {
+        Ok(answer) => Some(answer),
+        Err(_) => None,
+    }
+}
+
+/// Enters a call with its answer in the journal. The answer is copied before, since the entry takes it.
+fn enter<J: Journal>(
+    alloc: Global,
+    journal: &mut J,
+    broken: &mut bool,
+    key: Key,
+    call: Call,
+    answer: Answer,
+) -> HallReply
+    requires whole { J.torn journal.old ≡ false }
+    requires room { 1 ≤ J.room journal.old }
+    requires call { IsPlainCall call }
+    requires answer { IsPlainAnswer (plain_answer answer) }
+    ensures torn { broken.new ≡ J.torn journal.new }
+    ensures gives { (hall : ServedHall) (old new : List ServiceState) → IsAnswerOf old call (plain_answer answer) → new ≡ after_call handler_rules old call → SeenGives handler_rules
+        (with_services hall old (J.told journal.old) (J.faults journal.old) false) (rule.apply key call) (answer_of result)
+        (with_services hall new (J.told journal.new) (J.faults journal.new) broken.new) }
+{
+    let copy = copied(alloc, &answer);
+    let entered = journal.append(Entry { key, call, answer });
+    *broken = entered.is_err();
+    replied(entered, copy)
+}
+
+/// Lets the call be answered, and enters it in the journal.
+fn apply<A: AnswersCalls, J: Journal>(
     alloc: Global,
     handlers: &mut [A],
     journal: &mut J,
@@ -110,14 +162,29 @@ pub(crate) fn apply<A: AnswersCalls, J: Journal>(
     if *broken {
         return HallReply::Broken;
     }
-    let Ok(()) = journal.reserve() else {
-        return HallReply::NoMemory;
-    };
-    let Ok(answer) = answered(alloc, handlers, &call) else {
-        return HallReply::NoMemory;
-    };
-    let copy = copied(alloc, &answer);
-    let entered = journal.append(Entry { key, call, answer });
-    *broken = entered.is_err();
-    replied(entered, copy)
+    match answered_with_room(alloc, handlers, journal, &call) {
+        Some(answer) => enter(alloc, journal, broken, key, call, answer),
+        None => HallReply::NoMemory,
+    }
+}
+
+/// The same among handlers that stand in a list.
+#[inline(never)]
+pub(crate) fn apply_with<A: AnswersCalls, J: Journal>(
+    alloc: Global,
+    handlers: &mut Vec<A>,
+    journal: &mut J,
+    broken: &mut bool,
+    key: Key,
+    call: Call,
+) -> HallReply
+    requires torn { broken.old ≡ J.torn journal.old }
+    requires slot { call.slot < length handlers.old.items }
+    requires plain { IsPlainCall call }
+    ensures torn { broken.new ≡ J.torn journal.new }
+    ensures gives { (hall : ServedHall) → SeenGives handler_rules
+        (with_services hall (map A.state handlers.old.items) (J.told journal.old) (J.faults journal.old) broken.old) (rule.apply key call) (answer_of result)
+        (with_services hall (map A.state handlers.new.items) (J.told journal.new) (J.faults journal.new) broken.new) }
+{
+    apply(alloc, handlers.as_mut_slice(), journal, broken, key, call)
 }

@@ -4,7 +4,7 @@ ghost use Rattle.std.specs.Prelude.{◌≡◌, ◌<◌, ◌^◌, [], length, map
 ghost use Rattle.machine_model.specs.SeenHall.{MayHave};
 ghost use Rattle.hall_core.specs.Meant.{opened_hall};
 
-use crate::answering::apply;
+use crate::answering::apply_with;
 use crate::operation::{HallOp, HallReply};
 use crate::queue::Queue;
 use crate::queueing::{collect, put, submit, take};
@@ -169,17 +169,14 @@ impl<H: Handler, J: Journal> Object for Hall<H, J> {
         match op {
             HallOp::Submit(key, payload) => submit(&mut self.queue, self.closed, key, payload),
             HallOp::Take => take(&mut self.queue, self.closed),
-            HallOp::Apply(key, call) => {
-                let handlers = self.handlers.as_mut_slice();
-                apply(
-                    self.alloc,
-                    handlers,
-                    &mut self.journal,
-                    &mut self.broken,
-                    key,
-                    call,
-                )
-            }
+            HallOp::Apply(key, call) => apply_with(
+                self.alloc,
+                &mut self.handlers,
+                &mut self.journal,
+                &mut self.broken,
+                key,
+                call,
+            ),
             HallOp::Put(key, settled) => put(&mut self.queue, key, settled),
             HallOp::Collect => collect(&mut self.queue, self.closed),
             HallOp::Close => {
