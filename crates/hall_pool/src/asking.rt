@@ -29,6 +29,9 @@ pub(crate) enum Tried {
     Failed,
 }
 
+/// Lets a reply go, of whichever kind it is.
+fn let_go(_reply: HallReply) {}
+
 /// What a reply to Take means.
 fn taken(reply: HallReply) -> Result<Job, Turn>
     ensures { result ≡ job_replied reply }
@@ -36,7 +39,10 @@ fn taken(reply: HallReply) -> Result<Job, Turn>
     match reply {
         HallReply::Job(key, payload) => Ok(Job { key, payload }),
         HallReply::Closed => Err(Turn::Closed),
-        _ => Err(Turn::Empty),
+        other => {
+            let_go(other);
+            Err(Turn::Empty)
+        }
     }
 }
 
@@ -47,7 +53,10 @@ fn applied(reply: HallReply) -> Tried
     match reply {
         HallReply::Applied(answer) => Tried::Answered(answer),
         HallReply::NoMemory => Tried::Unanswered,
-        _ => Tried::Failed,
+        other => {
+            let_go(other);
+            Tried::Failed
+        }
     }
 }
 
@@ -104,7 +113,8 @@ pub(crate) fn put<H: Handler, J: Journal, R: Wait>(
     ensures number { seat.new.number ≡ seat.old.number }
     ensures put { AddsAsk seat.old seat.new (rule.put key settled) rule.done }
 {
-    booth.call(rt, seat, HallOp::Put(key, settled));
+    let reply = booth.call(rt, seat, HallOp::Put(key, settled));
+    let_go(reply);
 }
 
 /// Closes the hall.
@@ -119,5 +129,6 @@ pub(crate) fn close<H: Handler, J: Journal, R: Wait>(
     ensures number { seat.new.number ≡ seat.old.number }
     ensures closed { AddsAsk seat.old seat.new rule.close rule.done }
 {
-    booth.call(rt, seat, HallOp::Close);
+    let reply = booth.call(rt, seat, HallOp::Close);
+    let_go(reply);
 }
