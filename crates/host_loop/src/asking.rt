@@ -28,14 +28,16 @@ pub(crate) enum Collected {
     Closed,
 }
 
+/// Lets a reply go, of whichever kind it is.
+fn let_go(_reply: HallReply) {}
+
 /// What a reply to Submit means.
 fn took(reply: HallReply) -> bool
     ensures { result ≡ took_so reply }
 {
-    match reply {
-        HallReply::Done => true,
-        _ => false,
-    }
+    let is_done = matches!(&reply, HallReply::Done);
+    let_go(reply);
+    is_done
 }
 
 /// What a reply to Collect means.
@@ -45,7 +47,10 @@ fn meant(reply: HallReply) -> Collected
     match reply {
         HallReply::Settled(key, settled) => Collected::Outcome(key, settled),
         HallReply::Closed => Collected::Closed,
-        _ => Collected::Empty,
+        other => {
+            let_go(other);
+            Collected::Empty
+        }
     }
 }
 
@@ -101,5 +106,5 @@ pub(crate) fn close<H: Handler, J: Journal, R: Wait>(
     ensures zeroth { seat.new.number ≡ 0 }
     ensures closed { AddsAsk seat.old seat.new rule.close rule.done }
 {
-    booth.call(rt, seat, HallOp::Close);
+    let_go(booth.call(rt, seat, HallOp::Close));
 }
