@@ -1,5 +1,6 @@
 -- The seats of a crew, of which the last one is taken, and put back behind the others.
-use Rattle.std.proofs.Common.{◌≡◌, ℕ, ◌∷◌, [], ◌++◌, List, length, refl, sym, ap, subst, ◌∙◌, All, arith}
+use Rattle.std.proofs.Common.{◌≡◌, ◌≤◌, ℕ, Option, None, Some, ◌∷◌, [], ◌++◌, List, length, refl, sym, ap, subst, ◌∙◌, All, arith}
+use Rattle.std.specs.Prelude.{MatchOption}
 use Rattle.std.proofs.lemmas.List.{drop_at, map-append}
 use Rattle.std.proofs.lemmas.List.Elements.{All-drop}
 use Rattle.hall_pool.specs.Jobs.{HallSeat}
@@ -17,3 +18,15 @@ pub same_numbers : (others back_others seats back : List HallSeat) (last again :
 same_numbers others back_others seats back last again are stay same put =
     ap numbers_of put ∙ map-append (λ (seat : HallSeat). seat.number) back_others (again ∷ []) ∙ ap (λ (ns : List ℕ). ns ++ again.number ∷ []) stay
     ∙ ap (λ (n : ℕ). numbers_of others ++ n ∷ []) same ∙ sym (map-append (λ (seat : HallSeat). seat.number) others (last ∷ [])) ∙ sym (ap numbers_of are)
+
+-- what has led, beside some number of workers, did so beside no more than a greater bound
+pub led_on : {L : Type 0} (lead : Option L) (P : L → ℕ → Type 0) (low high : ℕ) → low ≤ high
+    → MatchOption lead ⊥ (λ l. (n : ℕ) × (n ≤ low) × P l n) → MatchOption lead ⊥ (λ l. (n : ℕ) × (n ≤ high) × P l n)
+led_on None P low high more led = led
+led_on (Some l) P low high more led = (led.0, omega (arith, led.1), led.2)
+
+-- and beside those that were started
+pub led_first : {L : Type 0} (lead : Option L) (P : L → ℕ → Type 0) (started high : ℕ) → started ≤ high
+    → MatchOption lead ⊥ (λ l. P l started) → MatchOption lead ⊥ (λ l. (n : ℕ) × (n ≤ high) × P l n)
+led_first None P started high more led = led
+led_first (Some l) P started high more led = (started, more, led)

@@ -65,7 +65,10 @@ pub fn close_all<O: Object>(
     requires room { vec_len crew + 2 ≤ vec_capacity crew }
     ensures { EndsBooth O.gives O.may booth (first ∷ own ∷ crew.items) (O.meaning result) }
 {
-    let (Ok(()), Ok(())) = (crew.insert(0, own), crew.insert(0, first)) else {
+    let Ok(()) = crew.insert(0, own) else {
+        unreachable!()
+    };
+    let Ok(()) = crew.insert(0, first) else {
         unreachable!()
     };
     booth.close(crew)

@@ -1,8 +1,8 @@
-use Rattle.std.proofs.Common.{All, sym, subst, ap, ◌∙◌, arith}
+use Rattle.std.proofs.Common.{All, ◌+◌, vec_len, sym, subst, ap, ◌∙◌, arith}
 use Rattle.std.proofs.lemmas.List.Elements.{All-push}
 use Rattle.hall_pool.specs.Jobs.{HallSeat}
 use Rattle.hall_pool.specs.Crew.{MayServe, HasServed}
-use Rattle.hall_pool.proofs.Crews.{of_last, same_numbers}
+use Rattle.hall_pool.proofs.Crews.{of_last, same_numbers, led_on, led_first}
 use Rattle.hall_pool.proofs.crew.+fn-with_rest-beside+with_rest.Goals as goal
 
 pub beside-with_rest-requires-clause-seats : goal.beside-with_rest-requires-clause-seats
@@ -39,3 +39,12 @@ returns-clause-numbers g t c =
     same_numbers c.pop.new.self.items c.beside-led.result.0.1.items c.args.seats.items c.push_reserved.new.self.items c.in-Some.seat c.into_seat.result
     c.in-Some.ensures.items c.beside-led.ensures.rest.2.1.1.0
     (ap (λ (seat : HallSeat). seat.number) c.into_seat.ensures ∙ c.beside-led.ensures.served.number ∙ ap (λ (seat : HallSeat). seat.number) c.new-worker.ensures) c.push_reserved.ensures.items
+
+pub returns-clause-led : goal.returns-clause-led
+returns-clause-led g t c =
+    let rest = c.beside-led.ensures.rest in
+    let taken = c.in-Some.ensures in
+    led_on c.args.lead.now _ (rest.0 + vec_len c.pop.new.self) (c.args.started + vec_len c.args.seats) (omega (arith, rest.1)) rest.2.0
+
+pub returns-in_default-clause-led : goal.returns-in_default-clause-led
+returns-in_default-clause-led g t c = led_first c.args.lead.now _ c.args.started _ (omega arith) c.call_and_ring.ensures
