@@ -1,3 +1,4 @@
+mod HandedOn
 mod Moments
 mod Troubles
 mod Unbroken

@@ -1,5 +1,6 @@
-use Rattle.std.proofs.Common.{subst}
+use Rattle.std.proofs.Common.{◌∙◌, subst}
 use Rattle.loop_conns.specs.Going.{ReadTells}
+use Rattle.host_loop.proofs.HandedOn.{same_fault}
 use Rattle.host_loop.proofs.Keeping.{goes_on, serves_on}
 use Rattle.host_loop.proofs.visits.Serving+Hall+H+J.read.Goals as goal
 
@@ -37,3 +38,18 @@ pub returns-in_ok-submit_and_ring-in-Whole-clause-serving : goal.returns-in_ok-s
 returns-in_ok-submit_and_ring-in-Whole-clause-serving g c =
     c.in_ok-submit_and_ring-in-Whole.ensures.kept c.read.new.links
     (serves_on _ _ _ _ _ _ _ _ c.requires.serving (g.L.Links.state c.read.new.links) c.read.new.conns c.read.ensures.going c.read.ensures.budget)
+
+pub returns-in-Sized-clause-serving : goal.returns-in-Sized-clause-serving
+returns-in-Sized-clause-serving g c = c.admit.ensures.serving
+
+pub returns-in-Sized-clause-halted : goal.returns-in-Sized-clause-halted
+returns-in-Sized-clause-halted g c = c.admit.ensures.halted
+
+pub returns-in-Sized-clause-plan : goal.returns-in-Sized-clause-plan
+returns-in-Sized-clause-plan g c = c.admit.ensures.plan ∙ c.read.ensures.plan
+
+pub returns-in_err-submit_and_ring-in-Whole-clause-halted : goal.returns-in_err-submit_and_ring-in-Whole-clause-halted
+returns-in_err-submit_and_ring-in-Whole-clause-halted g c =
+    same_fault c.from_residual.result _ c.in_err-submit_and_ring-in-Whole.field-0.0 c.from_residual.ensures.1
+    (c.in_err-submit_and_ring-in-Whole.ensures.kept c.read.new.links
+    (serves_on _ _ _ _ _ _ _ _ c.requires.serving (g.L.Links.state c.read.new.links) c.read.new.conns c.read.ensures.going c.read.ensures.budget))
