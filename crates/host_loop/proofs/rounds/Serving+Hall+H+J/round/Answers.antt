@@ -1,5 +1,6 @@
 use Rattle.std.proofs.Common.{◌∙◌, IsErr, refl, sym, subst}
 use Rattle.conn_table.specs.declared.run_limits.Outcome.TheVariants.{NoMemory}
+use Rattle.host_loop.proofs.HandedOn.{same_fault}
 use Rattle.host_loop.proofs.Keeping.{some_goes_on, serves_on_all, serves_alike, fails_on, halts}
 use Rattle.host_loop.proofs.rounds.Serving+Hall+H+J.round.Goals as goal
 
@@ -51,3 +52,14 @@ returns-in_default-clause-serving g c = c.in_ok-held.ensures.serving
 
 pub returns-in_default-clause-plan : goal.returns-in_default-clause-plan
 returns-in_default-clause-plan g c = c.retry_held.ensures.plan ∙ c.collect_alone.ensures.plan
+
+pub returns-in_err-collect_alone-clause-halted : goal.returns-in_err-collect_alone-clause-halted
+returns-in_err-collect_alone-clause-halted g c =
+    same_fault c.from_residual.result _ c.in_err-collect_alone.field-0.0 c.from_residual.ensures.1 c.in_err-collect_alone.ensures.halted
+
+pub returns-in_err-held-clause-halted : goal.returns-in_err-held-clause-halted
+returns-in_err-held-clause-halted g c =
+    same_fault c.from_residual-in_err-held.result _ c.in_err-held.field-0.0 c.from_residual-in_err-held.ensures.1 c.in_err-held.ensures.halted
+
+pub returns-in_err-held-clause-plan : goal.returns-in_err-held-clause-plan
+returns-in_err-held-clause-plan g c = c.retry_held.ensures.plan ∙ c.collect_alone.ensures.plan
