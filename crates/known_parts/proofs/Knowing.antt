@@ -1,5 +1,5 @@
 -- What is known of what was read, and which faults stay.
-use Rattle.std.proofs.Common.{◌≡◌, ℕ, Bool, true, false, true≢false, cond, List, [], ◌∷◌, ◌++◌, map, Option, Some, None, Result, Ok, Err, refl, sym, ap, subst, ◌∙◌}
+use Rattle.std.proofs.Common.{◌≡◌, ℕ, Bool, true, false, true≢false, cond, List, Some, None, Result, Ok, Err, refl, sym, ap, subst, ◌∙◌}
 use Rattle.std.specs.Option.{option_map}
 use Rattle.std.specs.Prelude.{◌==◌}
 use Rattle.std.proofs.lemmas.Bool.{eqb-true}
@@ -15,7 +15,7 @@ use Rattle.wire_model.specs.Answering.{FaultsOrNoMemory, FaultsExactly, AnswersO
 use Rattle.wire_model.specs.AtPlace.{passed_over}
 use Rattle.wire_model.specs.Decoder.{Unread, go_on, give}
 use Rattle.wire_model.specs.Place.{placed}
-use Rattle.wire_walk.proofs.Faults.{fails_same, fails_told, fails_on, on_ok}
+use Rattle.wire_walk.proofs.Faults.{fails_same, fails_told, fails_on}
 use Rattle.wire_walk.proofs.PassedOver.{Reading, faults_by}
 use Rattle.known_parts.specs.Known.{known, known_fields, known_items, known_pairs}
 use Rattle.known_parts.specs.KnownAt.{read_seen}

@@ -1,19 +1,16 @@
-use Rattle.std.proofs.Common.{◌≡◌, ℕ, ℤ, pos, suc, ◌+◌, ◌-◌, ◌∙◌, length, Some, None, Ok, sym, ap, subst, arith, rules, FitsSigned, to_z, of_z}
+use Rattle.std.proofs.Common.{◌≡◌, ℤ, suc, ◌+◌, ◌-◌, ◌∙◌, length, Some, None, Ok, sym, ap, subst, arith, rules, FitsSigned, to_z, of_z}
 use Rattle.std.specs.Int.{w16}
-use Rattle.std.specs.Option.{option_map}
 use Rattle.std.proofs.lemmas.Int.{to_z-of_z}
 use Rattle.std.proofs.lemmas.Result.{err_from_is_err_and}
 use Rattle.thrift_value.specs.declared.tag.Tag.{Tag}
 use Rattle.thrift_value.specs.Tree.{ItemTrees}
-use Rattle.thrift_value.specs.TreeOf.{tree_of}
-use Rattle.thrift_value.proofs.Trees.{tree_of-Struct}
 use Rattle.schema.specs.PlainKind.{kind_of, kind_struct, kind_map}
 use Rattle.schema.specs.SchemaOf.{schema_of, plain_field}
 use Rattle.wire_num.specs.Encoded.{AreByteSized}
 use Rattle.wire_model.specs.declared.one_pass.FieldHead.TheVariants.{Field}
 use Rattle.wire_model.specs.AtPlace.{head_of}
-use Rattle.wire_model.specs.Reading.{value, field_list, item_list, pair_list}
-use Rattle.wire_walk.proofs.Faults.{fails_same, fails_told, on_ok}
+use Rattle.wire_model.specs.Reading.{value}
+use Rattle.wire_walk.proofs.Faults.{fails_told, on_ok}
 use Rattle.wire_walk.proofs.Opened.{not_counted, counted, bytes_is, held_is, no_struct, no_map, no_elements, struct_held, map_held, elements_held, set_held, list_held, scalar_is}
 use Rattle.wire_walk.specs.Walked.{elements}
 use Rattle.known_parts.specs.Known.{known, known_items}
