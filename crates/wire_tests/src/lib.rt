@@ -1,5 +1,7 @@
-//! Tests of `envelope` and the two codecs, `binary_codec` and `compact_codec`, beside what Apache Thrift's own library writes: structs, heads and exceptions; and the largest value. Which bytes are
-//! refused, and what is made of arguments, the program itself shows in rows/.
+//! Tests of the ground and the wire: the search for cycles in graphs (`graph_cycles`) beside a plain one, the plain programs of a host's definitions (`host_model`) on
+//! small examples, and the system's streams and files (`outside`), of which no contract tells what they give and take; `envelope` and the two codecs, `binary_codec`
+//! and `compact_codec`, beside what Apache Thrift's own library writes: structs, heads and exceptions; and the largest value. Which bytes are refused, and what is
+//! made of arguments, the program itself shows in rows/.
 #![tactic(auto)]
 
 #[cfg(test)]
@@ -8,6 +10,8 @@ mod apache;
 mod compact_head_vectors;
 #[cfg(test)]
 mod compact_struct_vectors;
+#[cfg(test)]
+mod cycles;
 #[cfg(test)]
 mod exception_vectors;
 #[cfg(test)]
@@ -21,6 +25,10 @@ mod struct_vectors;
 #[cfg(test)]
 mod structs;
 #[cfg(test)]
+mod system;
+#[cfg(test)]
 mod uuids;
 #[cfg(test)]
 mod values;
+#[cfg(test)]
+mod worlds;

@@ -14,7 +14,7 @@ use Rattle.outside.specs.Writing.{WritesToConnection}
 use Rattle.outside.specs.Closing.{Closes}
 use Rattle.script_links.specs.ServedScript.{ServedScript}
 use Rattle.script_links.specs.Shown.{links_told}
-use Rattle.threads_tests.specs.Untold.{untold}
+use Rattle.serving_tests.specs.Untold.{untold}
 
 none_rises : Rose 0 0 → ⊥
 none_rises rose = omega arith

@@ -1,7 +1,7 @@
 use Rattle.std.proofs.Common.{◌∙◌}
 use Rattle.schema.specs.SchemaOf.{schema_of}
-use Rattle.call_tests.proofs.Served.{served_soundly}
-use Rattle.call_tests.proofs.offices.office.Goals as goal
+use Rattle.serving_tests.proofs.Served.{served_soundly}
+use Rattle.serving_tests.proofs.offices.office.Goals as goal
 
 pub new-requires-2-clause-sound : goal.new-requires-2-clause-sound
 new-requires-2-clause-sound c =

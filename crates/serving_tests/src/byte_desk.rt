@@ -16,7 +16,7 @@ pub(crate) const LIMITS: Limits = Limits {
 pub(crate) struct ByteDesk {}
 
 impl Desk for ByteDesk {
-    ghost use Rattle.threads_tests.specs.ByteDesk.{byte_desk, byte_desk_holds};
+    ghost use Rattle.serving_tests.specs.ByteDesk.{byte_desk, byte_desk_holds};
 
     ghost meaning = { λ _. byte_desk };
 

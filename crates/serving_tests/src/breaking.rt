@@ -3,7 +3,7 @@
 ghost use Rattle.std.specs.Prelude.{◌≡◌};
 ghost use Rattle.outside.specs.Opening.{AreFreshLinks};
 ghost use Rattle.script_links.specs.Shown.{links_told};
-ghost use Rattle.threads_tests.specs.Untold.{untold};
+ghost use Rattle.serving_tests.specs.Untold.{untold};
 
 use outside::{Ask, Failed, Hint, Links, Taken};
 use script_links::{ScriptBell, ScriptLinks};
@@ -35,7 +35,7 @@ impl BreakingLinks {
 }
 
 impl Links for BreakingLinks {
-    ghost use Rattle.threads_tests.specs.Untold.{untold};
+    ghost use Rattle.serving_tests.specs.Untold.{untold};
 
     type Bell = ScriptBell;
 

@@ -3,7 +3,7 @@ use Rattle.std.specs.Option.{option_copied}
 use Rattle.journal_text.proofs.Segmented.{got}
 use Rattle.run_report.specs.Entries.{IsPlainEntry}
 use Rattle.run_report.proofs.Listed.{holds_there}
-use Rattle.call_tests.proofs.faulty_journals.FaultyJournalReportedJournal.entry.Goals as goal
+use Rattle.serving_tests.proofs.faulty_journals.FaultyJournalReportedJournal.entry.Goals as goal
 
 pub returns-clause-entry : goal.returns-clause-entry
 returns-clause-entry c =
