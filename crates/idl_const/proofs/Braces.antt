@@ -7,8 +7,8 @@ use Rattle.thrift_value.specs.TreeOf.{tree_of}
 use Rattle.idl_parser.specs.declared.tree.ConstTree.{ConstTree}
 use Rattle.idl_parser.specs.declared.tree.ConstTree as of
 use Rattle.idl_parser.specs.declared.tree.ConstTree.TheFolds.{the_lemmas}
-use Rattle.idl_include.specs.ConstExpr.{ConstEntries, map_const}
-use Rattle.idl_include.specs.DeclaredIn.{value_in, entries_in}
+use Rattle.idl_include.specs.ConstExpr.{ConstEntries, list_const, map_const}
+use Rattle.idl_include.specs.DeclaredIn.{value_in, items_in, entries_in}
 use Rattle.schema.specs.PlainKind.{PlainKind, kind_struct}
 use Rattle.check_model.specs.Worths.{Worth, valued, and_next}
 use Rattle.check_model.specs.Evaluation.{Setting, NamedWorth, worth_by, pairs_by, given_by, opened, takes_braces, braced, struct_numbered, made_fields, default_of}
@@ -19,6 +19,9 @@ use Rattle.idl_const.specs.Marks.{worth_where}
 
 pub map_is : (tree : ConstTree) (at : Place) (entries : Vec (ConstTree × ConstTree) Global) → tree ≡ of.Map at entries → value_in tree ≡ map_const at (entries_in (map both_in entries.items))
 map_is tree at entries is = ap value_in is ∙ search (rules, the_lemmas)
+
+pub list_is : (tree : ConstTree) (at : Place) (items : Vec ConstTree Global) → tree ≡ of.List at items → value_in tree ≡ list_const at (items_in (map value_in items.items))
+list_is tree at items is = ap value_in is ∙ search (rules, the_lemmas)
 
 module _ (s : Setting) (named : NamedWorth) (file levels count : ℕ) (at : Place) (entries : ConstEntries) where
   -- what is made of what stands in braces, by the type

@@ -70,7 +70,7 @@ none_left (suc i) (x ∷ xs) h = none_left i xs (omega arith)
 abbrev pub KeptResult : Result ⊤ ConstStop
 KeptResult = Ok tt
 
-ok_is_no_err : (stop : ConstStop) → KeptResult ≡ Err stop → ⊥
+pub ok_is_no_err : (stop : ConstStop) → KeptResult ≡ Err stop → ⊥
 ok_is_no_err stop e = cc
 
 module _ (s : Setting) (named : NamedWorth) (file : ℕ) where

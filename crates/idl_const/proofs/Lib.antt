@@ -7,6 +7,7 @@ pub mod Counting
 pub mod Entering
 pub mod Kept
 pub mod InFront
+pub mod OwedSteps
 pub mod Stopping
 pub mod Braces
 pub mod Written

@@ -33,10 +33,10 @@ stops_next stop w next h = flawed_next (flaw_of stop.fault) stop.at w next h
 pub says_nothing : {A : Type 0} (stop : ConstStop) (w : Worth A) → stop.fault ≡ fault.NoMemory → StopsAs stop w
 says_nothing stop w is = subst (λ f. MatchOption (flaw_of f) ⊤ (λ flaw. w ≡ flawed stop.at flaw)) (sym is) tt
 
-abbrev KeptOrNot : ConstStop → Result ⊤ ConstStop
+abbrev pub KeptOrNot : ConstStop → Result ⊤ ConstStop
 KeptOrNot stop = Err stop
 
-same_stop : (stop other : ConstStop) → KeptOrNot stop ≡ Err other → other ≡ stop
+pub same_stop : (stop other : ConstStop) → KeptOrNot stop ≡ Err other → other ≡ stop
 same_stop stop other e = cc
 
 -- the last part wasn't made or kept

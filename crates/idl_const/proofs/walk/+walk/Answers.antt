@@ -1,4 +1,5 @@
 use Rattle.std.proofs.Common.{◌≡◌, Some, None, map, FitsSigned, sym, ap, ◌∙◌, subst, arith, rules}
+use Rattle.std.specs.Option.{option_map}
 use Rattle.std.specs.Int.{w16, w64}
 use Rattle.std.proofs.lemmas.Int.{to_z-of_z}
 use Rattle.std.proofs.lemmas.Result.{err_from_is_err_and}
@@ -8,20 +9,21 @@ use Rattle.thrift_value.proofs.Trees.{tree_of-Struct}
 use Rattle.thrift_value.specs.declared.value.Value as value
 use Rattle.schema.specs.PlainKind.{kind_of}
 use Rattle.schema.specs.SchemaOf.{plain_field}
-use Rattle.idl_include.specs.ConstExpr.{map_const}
+use Rattle.idl_include.specs.ConstExpr.{list_const, map_const}
 use Rattle.idl_include.specs.DeclaredIn.{value_in, items_in, entries_in}
 use Rattle.check_model.specs.Worths.{seen_at}
 use Rattle.check_model.specs.Scalars.{enum_worth}
 use Rattle.check_model.specs.Evaluation.{worth_by, struct_numbered}
 use Rattle.idl_const.specs.declared.chains.ChainEnd.TheVariants as ends
-use Rattle.idl_const.specs.FieldEntries.{entry_in}
+use Rattle.idl_const.specs.FieldEntries.{entry_in, entry_worth}
 use Rattle.idl_const.specs.Flaws.{IsOneWorth, StopsAs, AnswersWorth}
 use Rattle.idl_const.specs.Given.{FiledTree, both_in}
 use Rattle.idl_const.specs.Marks.{no_place, entered_where, worth_where}
-use Rattle.idl_const.proofs.Braces.{map_is, unfit_worth, struct_where}
+use Rattle.idl_const.proofs.Braces.{list_is, map_is, unfit_worth, struct_where}
 use Rattle.idl_const.proofs.ChainLinks.{seen_own}
 use Rattle.idl_const.proofs.Entering.{ended_at, worth_absent, worth_entered, refused, left_again}
 use Rattle.idl_const.proofs.InFront.{items_step, items_end, pairs_step, pairs_end, given_step, known_step, fields_end, free_step, none_mapped}
+use Rattle.idl_const.proofs.OwedSteps.{fields_step, fields_stop}
 use Rattle.idl_const.proofs.Stopping.{not_kept, item_stops, first_stops, second_stops, key_stops, field_stops, list_refused, map_refused, struct_refused, list_stops, list_made, map_stops, map_made, struct_stops}
 use Rattle.idl_const.proofs.walk.+walk.Goals as goal
 
@@ -253,3 +255,32 @@ structured-returns-in_err-left-clause-worth g t c =
     let s = g.G.Ground.setting c.args.ground.now in
     let p = err_from_is_err_and c.from_residual.result c.from_residual.ensures.1 in
     rw (p.1, p.2) (struct_refused s (worth_where s c.args.work.now.free.items) c.args.file c.args.levels c.args.work.now.values c.args.at c.in_err-left.field-0.0 (entries_in (map both_in c.args.entries.now)) c.in_err-left.ensures.worth c.args.which)
+
+pub unnamed-returns-in-List-clause-worth : goal.unnamed-returns-in-List-clause-worth
+unnamed-returns-in-List-clause-worth g t c =
+    let s = g.G.Ground.setting c.args.ground.now in
+    subst (λ e. AnswersWorth tree_of c.bracketed.result c.bracketed.new.work.values (worth_by s (worth_where s c.args.work.now.free.items) c.args.file (kind_of c.args.kind.now) c.args.levels c.args.work.now.values e))
+    (ap (λ es. list_const c.in-List.at (items_in (map value_in es))) c.as_slice.ensures.value ∙ sym (list_is c.args.tree.now c.in-List.at c.in-List.items c.in-List.is))
+    c.bracketed.ensures.worth
+
+pub owed_fields-loop-entry-preserved : goal.owed_fields-loop-entry-preserved
+owed_fields-loop-entry-preserved g t c =
+    let s = g.G.Ground.setting c.args.ground.now in
+    let fits : FitsSigned w16 c.entry_id-id.result = search rules in
+    let both =
+    fields_step (worth_where s c.args.work.now.free.items) c.args.at c.args.levels c.loop-entry.work.values (entry_in c.in-Some.entry) (map entry_in c.loop-entry.row.items) (map entry_in c.pop_front.new.self.items)
+    c.loop-entry.made.items _ (ap (map entry_in) c.in-Some.ensures.items) c.loop-entry.invariant.made
+    c.keep_field.new.list.items c.entry_value-one.result _ c.entry_value-one.new.work.values c.entry_value-one.new.work.free.items c.loop-entry.work.free.items c.args.work.now.free.items
+    (subst (λ f. AnswersWorth (option_map tree_of) c.entry_value-one.result c.entry_value-one.new.work.values (entry_worth (worth_where s f) c.args.at c.args.levels c.loop-entry.work.values (entry_in c.in-Some.entry))) c.loop-entry.invariant.free c.entry_value-one.ensures.worth)
+    c.in_ok-keep_field.ensures (to_z-of_z w16 c.entry_id-id.result fits ∙ c.entry_id-id.ensures) c.entry_value-one.ensures.free c.loop-entry.invariant.free in
+    record { made = both.0; free = both.1 }
+
+pub owed_fields-returns-in_err-keep_field-clause-worth : goal.owed_fields-returns-in_err-keep_field-clause-worth
+owed_fields-returns-in_err-keep_field-clause-worth g t c =
+    let s = g.G.Ground.setting c.args.ground.now in
+    let p = err_from_is_err_and c.from_residual.result c.from_residual.ensures.1 in
+    rw (p.1, p.2)
+    (fields_stop (worth_where s c.args.work.now.free.items) c.args.at c.args.levels c.loop-entry.work.values (entry_in c.in-Some.entry) (map entry_in c.loop-entry.row.items) (map entry_in c.pop_front.new.self.items)
+    c.loop-entry.made.items _ (ap (map entry_in) c.in-Some.ensures.items) c.loop-entry.invariant.made c.entry_value-one.result c.in_err-keep_field.field-0.0 c.entry_value-one.new.work.values
+    (subst (λ f. AnswersWorth (option_map tree_of) c.entry_value-one.result c.entry_value-one.new.work.values (entry_worth (worth_where s f) c.args.at c.args.levels c.loop-entry.work.values (entry_in c.in-Some.entry))) c.loop-entry.invariant.free c.entry_value-one.ensures.worth)
+    c.in_err-keep_field.ensures)
