@@ -1,6 +1,7 @@
 -- One field more of those that a literal of a struct is made of.
-use Rattle.std.proofs.Common.{◌≡◌, ℕ, ℤ, Bool, List, ◌∷◌, Result, Ok, Err, Option, MatchResult, OnOk, refl, sym, ap, ◌∙◌, subst}
+use Rattle.std.proofs.Common.{◌≡◌, ℕ, ℤ, Bool, List, [], ◌∷◌, ◌++◌, map, append_assoc, Result, Ok, Err, Option, MatchResult, OnOk, refl, sym, ap, ◌∙◌, subst}
 use Rattle.std.specs.Option.{option_map}
+use Rattle.std.proofs.lemmas.List.{map-append}
 use Rattle.std.specs.Prelude.{⊤}
 use Rattle.idl_token.specs.declared.Place.{Place}
 use Rattle.thrift_value.specs.declared.value.Value.{Value}
@@ -10,8 +11,9 @@ use Rattle.check_model.specs.Worths.{Worth, valued, flawed, and_next}
 use Rattle.check_model.specs.Evaluation.{NamedWorth, with_field}
 use Rattle.idl_const.specs.declared.faults.ConstFault.TheVariants as fault
 use Rattle.idl_const.specs.declared.faults.ConstStop.{ConstStop}
+use Rattle.idl_const.specs.declared.ground.FieldEntry.{FieldEntry}
 use Rattle.idl_const.specs.Flaws.{StopsAs, AnswersWorth}
-use Rattle.idl_const.specs.FieldEntries.{PlainFieldEntry, entry_id, entry_worth, entries_worth, fields_in_front}
+use Rattle.idl_const.specs.FieldEntries.{PlainFieldEntry, given_entry, given_in_memory, entry_in, entry_id, entry_worth, entries_worth, fields_in_front}
 use Rattle.idl_const.proofs.InFront.{KeptResult, ok_is_no_err, fields_front}
 use Rattle.idl_const.proofs.Stopping.{KeptOrNot, same_stop, says_nothing, stops_next}
 
@@ -47,3 +49,16 @@ module _ (named : NamedWorth) (at : Place) (levels n : ℕ) (e : PlainFieldEntry
       → MatchResult r (λ one. ⊤ × (stop.fault ≡ fault.NoMemory)) (λ other. KeptOrNot stop ≡ Err other) → StopsAs stop all
   fields_stop (Ok one) stop m worth kept = says_nothing stop all kept.1
   fields_stop (Err other) stop m worth kept = entry_stops stop (subst (λ x. StopsAs x (entry_worth named at levels n e)) (same_stop stop other kept) worth)
+
+-- a given value more was put at the end of a row
+pub given_next : (row longer : List FieldEntry) (given left : List (ℤ × Value)) (p : ℤ × Value) (x : FieldEntry) (all : List PlainFieldEntry) → longer ≡ row ++ x ∷ [] → given ≡ p ∷ left
+    → entry_in x ≡ given_entry (given_in_memory p) → map entry_in row ++ map given_entry (map given_in_memory given) ≡ all
+    → map entry_in longer ++ map given_entry (map given_in_memory left) ≡ all
+given_next row longer given left p x all put taken same kept =
+    let rest = map given_entry (map given_in_memory left) in
+    ap (λ r. map entry_in r ++ rest) put
+    ∙ ap (λ l. l ++ rest) (map-append entry_in row (x ∷ []))
+    ∙ append_assoc (map entry_in row) (entry_in x ∷ []) rest
+    ∙ ap (λ e. map entry_in row ++ e ∷ rest) same
+    ∙ ap (λ g. map entry_in row ++ map given_entry (map given_in_memory g)) (sym taken)
+    ∙ kept

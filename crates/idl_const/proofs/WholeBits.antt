@@ -1,12 +1,14 @@
 -- The bits of whole numbers.
-use Rattle.std.proofs.Common.{◌≡◌, ℕ, zero, suc, ℤ, pos, negsuc, ◌+◌, ◌-◌, ◌*◌, ◌^◌, ◌<◌, ◌≤◌, true, false, sym, ap, ◌∙◌, subst, arith}
+use Rattle.std.proofs.Common.{◌≡◌, ℕ, zero, suc, ℤ, pos, negsuc, ◌+◌, ◌-◌, ◌*◌, ◌^◌, ◌<◌, ◌≤◌, true, false, sym, ap, ◌∙◌, subst, arith, eqb, inl, inr, ◌⊎◌, ◌≢◌}
 use Rattle.std.proofs.Math.Nat.{mul-le-mul_left}
 use Rattle.std.proofs.lemmas.Bool.{false≢true}
 use Rattle.std.proofs.lemmas.Nat.{pow-add, pow_pos}
+use Rattle.std.specs.Bool.{if◌then◌else◌}
+use Rattle.std.proofs.lemmas.Bool.Decides.{eqb_tells}
 use Rattle.std.specs.Int.RustNames.{unsigned_abs}
 use borrow.Author.Tests.{ltb-true}
 use lib.Signed.{lt_z}
-use Rattle.check_model.specs.WholeDoubles.{magnitude_bits, double_bits}
+use Rattle.check_model.specs.WholeDoubles.{magnitude_bits, double_bits, highest_bit, bits_at}
 
 -- a part of a power with the other part
 narrowed : (place rest : ℕ) → place ≤ 52 → rest < 2 ^ place → rest * 2 ^ (52 - place) < 2 ^ 52
@@ -41,3 +43,17 @@ pub bits_below : (exponent one part : ℕ) → exponent ≤ 53 → one ≡ 2 ^ 5
 bits_below exponent one part most is below =
     let scaled : (1023 + exponent) * 2 ^ 52 + part < 2 ^ 63 = omega arith in
     subst (λ k. (1023 + exponent) * k + part < 2 ^ 63) (sym is) scaled
+
+-- a number that isn't 0
+no_zero : (n : ℕ) → (n ≡ 0 → ⊥) → ((eqb n 0 ≡ true) × (n ≡ 0)) ⊎ ((eqb n 0 ≡ false) × (n ≢ 0)) → eqb n 0 ≡ false
+no_zero n some (inl (t, e)) = absurd (some e)
+no_zero n some (inr (f, e)) = f
+
+-- the bits of a number whose highest bit is there
+pub bits_are : (n place exponent one part lower : ℕ) → (n ≡ 0 → ⊥) → place ≡ highest_bit 53 n → exponent ≡ place → one ≡ 2 ^ 52 → lower ≡ 2 ^ place
+    → part ≡ (n - lower) * 2 ^ (52 - place) → (1023 + exponent) * one + part ≡ magnitude_bits n
+bits_are n place exponent one part lower some highest e o l p =
+    (λ j. (1023 + e j) * o j + p j)
+    ∙ ap (λ k. (1023 + place) * 2 ^ 52 + (n - k) * 2 ^ (52 - place)) l
+    ∙ ap (λ k. bits_at k n) highest
+    ∙ sym (ap (λ b. if b then 0 else bits_at (highest_bit 53 n) n) (no_zero n some (eqb_tells n 0)))
