@@ -10,4 +10,7 @@ mod OptionsNext
 mod Beside
 mod FlagWords
 mod FlaglessWords
+mod Ends
+mod Naming
+mod Asking
 pub mod WordBounds
