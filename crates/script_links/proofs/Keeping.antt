@@ -12,9 +12,9 @@ use Rattle.script_model.specs.ScriptLines.{PlanRule}
 use Rattle.script_links.specs.declared.step.Step.{Step}
 use Rattle.script_links.specs.ServedScript.{PlainLink, ServedScript, no_link, link_at, with_link, is_coming, is_open_stage, is_open_at, is_fit_for_end, marks_owed_at, marks_owed, lets_some, has_bytes, is_sound_link}
 use Rattle.script_links.specs.declared.step.Step.TheVariants.{Rests}
-use Rattle.script_links.proofs.Connected.{drop_on}
+use Rattle.script_links.proofs.Connected.{drop_on, coming_is_there}
 use Rattle.script_links.proofs.Going.{first_is}
-use Rattle.script_links.specs.Plain.{first_of, with_arrival, with_rule_used, with_fault, with_read, with_bytes_read, with_end, oldest_of, shown_finish, taken_of_piece, taken_by_read, IsFrontOfPiece, IsCopyOfFront}
+use Rattle.script_links.specs.Plain.{first_of, with_arrival, with_opening, with_rule_used, with_fault, with_read, with_bytes_read, with_end, oldest_of, shown_finish, taken_of_piece, taken_by_read, IsFrontOfPiece, IsCopyOfFront}
 use Rattle.outside.specs.declared.answers.Taken.{Taken}
 use Rattle.outside.specs.declared.answers.Taken.TheVariants.{Bytes}
 use Rattle.script_model.specs.Playing.{most_read}
@@ -222,6 +222,15 @@ module _ (marks places : ℕ) (s t : ServedScript) (room : HasRoomFor marks plac
 -- the connection at its place is sound
 pub sound_at : (marks places : ℕ) (s : ServedScript) (c : ℕ) → HasRoomFor marks places s → c < length s.links → is_sound_link (link_at s.links c) ≡ true
 sound_at marks places s c room below = all_at is_sound_link s.links c no_link room.sound below
+
+-- and there is room for the mark of the next opening
+pub room_to_open : (marks places : ℕ) (s : ServedScript) → HasRoomFor marks places s → is_coming (link_at s.links s.opened).stage ≡ true → length s.tape < marks
+room_to_open marks places s room coming =
+    let three : marks_owed_at (link_at s.links s.opened).stage ≡ 3 = owed_coming (link_at s.links s.opened).stage coming in
+    let sum : marks_owed (with_link s.opened with_opening s.links) + marks_owed_at (link_at s.links s.opened).stage ≡ marks_owed s.links + 2 =
+    owed_changed s.opened with_opening s.links (coming_is_there s.links s.opened coming) in
+    let fits : length s.tape + marks_owed s.links ≤ marks = room.for_marks in
+    omega arith
 
 -- how long a tape is after one mark more
 pub one_longer : {X : Type 0} (xs ys : List X) (x : X) → ys ≡ xs ++ x ∷ [] → length ys ≡ length xs + 1

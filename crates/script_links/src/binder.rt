@@ -9,6 +9,9 @@ ghost use Rattle.script_links.specs.Failing.{uncalled, none_fails, fails_next};
 ghost use Rattle.script_links.specs.Followed.{AreFirstLinksOf};
 ghost use Rattle.script_links.specs.Answering.{fresh_mem_pipe, no_pipe_reply, mem_pipe_told};
 ghost use Rattle.script_links.specs.Listens.{listening_told};
+ghost use Rattle.script_links.specs.Kept.{served_of, IsKeptServing};
+ghost use Rattle.script_links.specs.Shown.{links_told};
+ghost use Rattle.outside.specs.Opening.{AreFreshLinks};
 ghost use Rattle.script_links.specs.Binding.{after_binder_call, after_return, after_dial, after_hanging_up};
 
 use crate::bound::BoundLinks;
@@ -19,7 +22,7 @@ use crate::mem_pipe::{MemPipe, PipeReply, hung_up};
 use crate::past::{PastChain, PastRow};
 use crate::serving::ScriptServing;
 use lists::Listed;
-use outside::{BindFail, Binder};
+use outside::{BindFail, Binder, Tape};
 use script_text::Script;
 use std::alloc::{AllocError, Global};
 use std::marker::Model;
@@ -170,17 +173,26 @@ impl MemBinder {
         })
     }
 
+    /// Makes what serves the first connections of a copy of the script, so many at most.
+    fn serve_first(&self, alloc: Global, accept: u32) -> Result<ScriptServing, AllocError>
+        ensures own { IfOk result (λ s. AreFirstLinksOf accept self.now.script (served_of s)) }
+        ensures fresh { IfOk result (λ s. AreFreshLinks (links_told (served_of s))) }
+        ensures kept { IfOk result IsKeptServing }
+    {
+        let script = copy_of(alloc, &self.script)?;
+        ScriptServing::of_first(alloc, script, accept as usize)
+    }
+
     /// Makes links over a copy of the script.
     fn make(&self, alloc: Global, port: u16, accept: u32) -> Result<BoundLinks, AllocError>
         ensures made { IfOk result (λ links. StartListening (Some []) (record { port = port; accept = accept }) (listening_told links)) }
         ensures own { IfOk result (λ links. AreFirstLinksOf accept self.now.script links.served) }
         ensures plan { IfOk result (λ links. links.plan ≡ self.now.plan) }
     {
-        let script = copy_of(alloc, &self.script)?;
-        let serving = ScriptServing::of_first(alloc, script, accept as usize)?;
+        let room = Box::new(alloc, PastChain::Nothing)?;
         let rung = Arc::new(alloc, AtomicU64::new(0))?;
         let failing = self.failing_calls(alloc)?;
-        let room = Box::new(alloc, PastChain::Nothing)?;
+        let serving = self.serve_first(alloc, accept)?;
         Ok(BoundLinks {
             serving,
             rung,
@@ -262,7 +274,7 @@ impl Binder for MemBinder {
             ..
         } = links;
         let over = serving.over;
-        let tape = serving.tape.finish();
+        let tape = tape_of(serving);
         *room = mem::replace(&mut self.past, PastChain::Nothing);
         self.past = PastChain::Behind(
             room,
@@ -306,4 +318,11 @@ impl Binder for MemBinder {
         self.called = hung_up(pipe, before);
         self.count_pipe(read_faults, write_faults);
     }
+}
+
+/// Gives the tape of what served a script; takes no memory.
+fn tape_of(serving: ScriptServing) -> Tape
+    ensures { result ≡ serving.tape.items }
+{
+    serving.tape.finish()
 }

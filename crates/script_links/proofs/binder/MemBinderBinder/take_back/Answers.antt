@@ -11,13 +11,13 @@ use Rattle.script_links.proofs.binder.MemBinderBinder.take_back.Goals as goal
 pub returns-clause-after : goal.returns-clause-after
 returns-clause-after c =
     let before : past_in_chain c.replace.result ≡ c.args.self.now.past = ap past_in_chain c.replace.ensures.value ∙ ap (λ (b : BinderState). b.past) c.self.view_is in
-    let tape : c.finish-tape.result ≡ c.args.links.served.tape = c.finish-tape.ensures ∙ ap (λ (l : ListeningScript). l.served.tape) c.links.view_is in
+    let tape : c.tape_of-tape.result ≡ c.args.links.served.tape = c.tape_of-tape.ensures ∙ ap (λ (l : ListeningScript). l.served.tape) c.links.view_is in
     let over : c.links.inside.serving.over ≡ c.args.links.served.over = ap (λ (l : ListeningScript). l.served.over) c.links.view_is in
     let listening : record { port = c.links.inside.port; accept = c.links.inside.accept } ≡ c.args.links.listening = ap (λ (l : ListeningScript). l.listening) c.links.view_is in
     let net : c.links.inside.net_faults ≡ c.args.links.net_faults = ap (λ (l : ListeningScript). l.net_faults) c.links.view_is in
-    let whole : past_in_chain (Behind (with_value c.links.inside.room c.replace.result) (record { tape = c.finish-tape.result; over = c.links.inside.serving.over; port = c.links.inside.port; accept = c.links.inside.accept }))
+    let whole : past_in_chain (Behind (with_value c.links.inside.room c.replace.result) (record { tape = c.tape_of-tape.result; over = c.links.inside.serving.over; port = c.links.inside.port; accept = c.links.inside.accept }))
     ≡ c.args.self.now.past ++ record { tape = c.args.links.served.tape; over = c.args.links.served.over; listening = c.args.links.listening } ∷ [] =
-    past_behind (with_value c.links.inside.room c.replace.result) (record { tape = c.finish-tape.result; over = c.links.inside.serving.over; port = c.links.inside.port; accept = c.links.inside.accept })
+    past_behind (with_value c.links.inside.room c.replace.result) (record { tape = c.tape_of-tape.result; over = c.links.inside.serving.over; port = c.links.inside.port; accept = c.links.inside.accept })
     ∙ (λ i. before i ++ record { tape = tape i; over = over i; listening = listening i } ∷ []) in
     c.count_links.ensures ∙ (λ i. record {
       script = (c.self.view_is i).script;

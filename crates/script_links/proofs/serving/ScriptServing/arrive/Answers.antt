@@ -6,7 +6,7 @@ use Rattle.script_links.specs.declared.step.Came.TheVariants.{Gives, GoesOn}
 use Rattle.script_links.specs.ServedScript.{ServedScript, is_open_at}
 use Rattle.script_links.specs.Plain.{with_arrival}
 use Rattle.script_links.specs.ServedScript.{link_at}
-use Rattle.script_links.proofs.Connected.{drop_on, open_is_there}
+use Rattle.script_links.proofs.Connected.{drop_on, open_is_there, there_in_memory}
 use Rattle.script_links.proofs.Stepping.{arrive_gives, arrive_passes}
 use Rattle.script_links.proofs.Keeping.{same_room, eased_room, sound_at, passed_rests, arrival_sound, arrival_stands}
 use Rattle.script_links.proofs.serving.ScriptServing.arrive.Goals as goal
@@ -20,6 +20,9 @@ pub returns-then-not-is_open-clause-kept : goal.returns-then-not-is_open-clause-
 returns-then-not-is_open-clause-kept c =
     same_room _ _ (served_of c.args.self.now) _ c.requires.kept c.args.self.now.tape.capacity (omega arith) refl refl refl
     (passed_rests c.args.self.now.done c.args.self.now.steps.items)
+
+pub arrive-requires : goal.arrive-requires
+arrive-requires c = there_in_memory _ _ (open_is_there (served_of c.args.self.now).links c.args.c (sym c.is_open.ensures ∙ c.if-not-is_open.false))
 
 pub returns-clause-next : goal.returns-clause-next
 returns-clause-next c =

@@ -1,5 +1,5 @@
 use Rattle.std.proofs.Common.{◌≡◌, ℕ, suc, ◌+◌, ◌*◌, ◌<◌, ◌≤◌, true, false, List, [], ◌∷◌, length, drop, refl, sym, ap, ◌∙◌, subst, arith, add-one}
-use Rattle.std.proofs.lemmas.Bool.{not-false}
+use Rattle.std.proofs.lemmas.Bool.{not-false, not-true}
 use Rattle.std.specs.Vec.{vec_capacity}
 use Rattle.script_links.specs.Kept.{served_of, plain_links}
 use Rattle.outside.specs.declared.marks.Mark.TheVariants.{Opened as OpenedMark}
@@ -7,9 +7,9 @@ use Rattle.outside.specs.declared.answers.Hint.TheVariants.{Opened}
 use Rattle.script_links.specs.declared.step.Came.TheVariants.{Gives, GoesOn}
 use Rattle.script_links.specs.ServedScript.{ServedScript, link_at, is_coming, marks_owed_at}
 use Rattle.script_links.specs.Plain.{with_opening}
-use Rattle.script_links.proofs.Connected.{drop_on, coming_is_there}
-use Rattle.script_links.proofs.Stepping.{open_gives, open_passes}
-use Rattle.script_links.proofs.Keeping.{same_room, marked_room, sound_at, passed_rests, owed_coming, one_longer}
+use Rattle.script_links.proofs.Connected.{drop_on, coming_is_there, there_in_memory}
+use Rattle.script_links.proofs.Stepping.{open_gives, open_passes, open_waits}
+use Rattle.script_links.proofs.Keeping.{same_room, marked_room, sound_at, passed_rests, owed_coming, one_longer, room_to_open}
 use Rattle.script_links.proofs.serving.ScriptServing.open.Goals as goal
 
 pub returns-then-not-is_coming-clause-next : goal.returns-then-not-is_coming-clause-next
@@ -21,6 +21,20 @@ pub returns-then-not-is_coming-clause-kept : goal.returns-then-not-is_coming-cla
 returns-then-not-is_coming-clause-kept c =
     same_room _ _ (served_of c.args.self.now) _ c.requires.kept c.args.self.now.tape.capacity (omega arith) refl refl refl
     (passed_rests c.args.self.now.done c.args.self.now.steps.items)
+
+pub returns-then-not-ask-clause-next : goal.returns-then-not-ask-clause-next
+returns-then-not-ask-clause-next c =
+    open_waits c.args.ask (served_of c.args.self.now) (sym c.is_coming.ensures ∙ c.if-not-is_coming.false) (not-true c.args.ask.room c.if-not-ask.true)
+
+pub returns-then-not-ask-clause-kept : goal.returns-then-not-ask-clause-kept
+returns-then-not-ask-clause-kept c = c.requires.kept
+
+pub open-requires : goal.open-requires
+open-requires c =
+    there_in_memory _ _ (coming_is_there (served_of c.args.self.now).links c.args.self.now.opened (sym c.is_coming.ensures ∙ c.if-not-is_coming.false))
+
+pub push-requires-clause-room : goal.push-requires-clause-room
+push-requires-clause-room c = room_to_open _ _ (served_of c.args.self.now) c.requires.kept (sym c.is_coming.ensures ∙ c.if-not-is_coming.false)
 
 pub returns-clause-next : goal.returns-clause-next
 returns-clause-next c =
