@@ -6,9 +6,8 @@ use Rattle.std.proofs.lemmas.Bool.{cases_lt}
 use Rattle.std.proofs.lemmas.List.{append-nil}
 use Rattle.std.proofs.lemmas.Option.{none-some}
 use Rattle.idl_include.specs.DeclaredIn.{value_in}
-use Rattle.idl_include.specs.Numbering.{Filed}
 use Rattle.idl_include.specs.Program.{Program}
-use Rattle.idl_include.specs.Spots.{GivenValue, values_of}
+use Rattle.idl_include.specs.Spots.{values_of}
 use Rattle.idl_names.specs.declared.spot.GivenTree.{GivenTree}
 use Rattle.idl_names.specs.SpotsIn.{filed_value}
 use Rattle.idl_names.proofs.Marked.{left_more}

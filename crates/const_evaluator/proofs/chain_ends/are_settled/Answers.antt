@@ -1,5 +1,4 @@
-use Rattle.std.proofs.Common.{rules}
-use Rattle.const_evaluator.proofs.ChainTabled.{settled_more, settled_end}
+use Rattle.const_evaluator.proofs.ChainTabled.{settled_end}
 use Rattle.const_evaluator.proofs.chain_ends.are_settled.Goals as goal
 
 pub returns : goal.returns

@@ -1,4 +1,4 @@
-use Rattle.std.proofs.Common.{length, arith, rules}
+use Rattle.std.proofs.Common.{length, rules}
 use Rattle.const_evaluator.proofs.ChainTabled.{all_ends}
 use Rattle.const_evaluator.proofs.chain_ends.linked_ends.Goals as goal
 

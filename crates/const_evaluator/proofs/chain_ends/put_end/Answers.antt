@@ -1,4 +1,4 @@
-use Rattle.std.proofs.Common.{◌≡◌, rules, ap, ◌∙◌, sym}
+use Rattle.std.proofs.Common.{ap, ◌∙◌, sym}
 use Rattle.const_evaluator.specs.ChainTables.{end_in, end_at_link}
 use Rattle.const_evaluator.proofs.ChainTabled.{put_told}
 use Rattle.const_evaluator.proofs.chain_ends.put_end.Goals as goal
