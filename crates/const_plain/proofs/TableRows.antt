@@ -136,3 +136,26 @@ no_integer (kind_struct _) which n none sized = refl
 no_integer (kind_map _ _) which n none sized = refl
 no_integer (kind_set _) which n none sized = refl
 no_integer (kind_list _) which n none sized = refl
+
+not_some : (n : ℕ) → Some n ≡ None → ⊥
+not_some n e = cc
+
+same_enum : (wanted other which : ℕ) (n : ℤ) → Some wanted ≡ Some other → enum_worth (kind_enum wanted) which n ≡ enum_worth (kind_enum other) which n
+same_enum wanted other which n e = let same : wanted ≡ other = cc in ap (λ k. enum_worth (kind_enum k) which n) same
+
+-- the number of an enum's value, under an enum
+pub as_enum : (kind : PlainKind) (wanted which : ℕ) (n : ℤ) → Some wanted ≡ enum_of_kind kind → enum_worth (kind_enum wanted) which n ≡ enum_worth kind which n
+as_enum kind_bool wanted which n e = absurd (not_some wanted e)
+as_enum kind_i8 wanted which n e = absurd (not_some wanted e)
+as_enum kind_i16 wanted which n e = absurd (not_some wanted e)
+as_enum kind_i32 wanted which n e = absurd (not_some wanted e)
+as_enum kind_i64 wanted which n e = absurd (not_some wanted e)
+as_enum kind_double wanted which n e = absurd (not_some wanted e)
+as_enum kind_text wanted which n e = absurd (not_some wanted e)
+as_enum kind_binary wanted which n e = absurd (not_some wanted e)
+as_enum kind_uuid wanted which n e = absurd (not_some wanted e)
+as_enum (kind_enum other) wanted which n e = same_enum wanted other which n e
+as_enum (kind_struct _) wanted which n e = absurd (not_some wanted e)
+as_enum (kind_map _ _) wanted which n e = absurd (not_some wanted e)
+as_enum (kind_set _) wanted which n e = absurd (not_some wanted e)
+as_enum (kind_list _) wanted which n e = absurd (not_some wanted e)

@@ -1,5 +1,5 @@
 -- Whole numbers among those that digits and places write, one place after another.
-use Rattle.std.proofs.Common.{◌≡◌, ℕ, zero, suc, pos, ◌+◌, ◌-◌, ◌*◌, ◌/◌, ◌%◌, ◌^◌, ◌<◌, ◌≤◌, ◌==◌, nat_le, Bool, true, false, cond, List, [], ◌∷◌, ◌++◌, Option, Some, None, refl, sym, ap, ◌∙◌, arith}
+use Rattle.std.proofs.Common.{◌≡◌, ℕ, zero, suc, pos, ◌+◌, ◌-◌, ◌*◌, ◌/◌, ◌%◌, ◌^◌, ◌<◌, ◌≤◌, ◌==◌, nat_le, Bool, true, false, cond, List, [], ◌∷◌, ◌++◌, length, Option, Some, None, refl, sym, ap, ◌∙◌, arith}
 use Rattle.std.specs.Option.{option_map}
 use Rattle.std.specs.List.{IsLastAndRest}
 use Rattle.std.proofs.Math.Nat.{mul-le-mul_left, pow-suc}
@@ -105,8 +105,9 @@ pub no_places : (digits : List ℕ) (number up down : ℕ) → down ≡ 0 → nu
     → Some number ≡ option_map saturated (placed (value_behind 10 0 digits) up down)
 no_places digits number up down none is = ap Some is ∙ ap (option_map saturated) (sym (none_right (value_behind 10 0 digits) up down none))
 
-pub used_up : (digits : List ℕ) (up down : ℕ) → digits ≡ [] → Some 0 ≡ option_map saturated (placed (value_behind 10 0 digits) up down)
-used_up digits up down none = sym (ap (λ xs. option_map saturated (placed (value_behind 10 0 xs) up down)) none ∙ ap (option_map saturated) (no_digits up down))
+pub used_up : (digits : List ℕ) (up down : ℕ) → length digits ≡ 0 → Some 0 ≡ option_map saturated (placed (value_behind 10 0 digits) up down)
+used_up [] up down none = sym (ap (option_map saturated) (no_digits up down))
+used_up (d ∷ digits) up down none = absurd (let no : ⊥ = cc in no)
 
 pub zero_last : (digits front : List ℕ) (last digit up down : ℕ) → IsLastAndRest digits last front → digit ≡ digit_value last → digit ≡ 0 → up ≡ 0 → (down ≡ 0 → ⊥)
     → placed (value_behind 10 0 front) 0 (down - 1) ≡ placed (value_behind 10 0 digits) up down

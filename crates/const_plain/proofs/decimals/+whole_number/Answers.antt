@@ -1,10 +1,18 @@
-use Rattle.std.proofs.Common.{◌≡◌, ℕ, Option, subst, arith}
+use Rattle.std.proofs.Common.{◌≡◌, ℕ, Option, subst, refl, arith}
 use Rattle.std.specs.Prelude.{IfOk}
 use Rattle.std.specs.Option.{option_map}
 use Rattle.const_plain.specs.Saturated.{saturated}
-use Rattle.const_plain.proofs.WholeParts.{one_less, zero_last, some_last}
+use Rattle.const_plain.proofs.WholeParts.{no_places, used_up, one_less, zero_last, some_last}
 use Rattle.idl_token.specs.Numbers.{value_behind}
 use Rattle.const_plain.proofs.decimals.+whole_number.Goals as goal
+
+pub returns-then-down-eq0 : goal.returns-then-down-eq0
+returns-then-down-eq0 t c =
+    no_places c.args.digits.now c.with_zeros.result c.args.up c.args.down c.if-down-eq0.true
+    (c.with_zeros.ensures (value_behind 10 0 c.args.digits.now) (c.value_behind.ensures 0 refl))
+
+pub returns-in_default : goal.returns-in_default
+returns-in_default t c = used_up c.args.digits.now c.args.up c.args.down c.in_default.ensures.cases
 
 pub returns-then-up-gt0 : goal.returns-then-up-gt0
 returns-then-up-gt0 t c =
