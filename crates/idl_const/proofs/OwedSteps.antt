@@ -32,10 +32,12 @@ module _ (named : NamedWorth) (at : Place) (levels n : ℕ) (e : PlainFieldEntry
       → MatchResult r (λ one. ((more : FieldTrees) → fields_in_front new more ≡ fields_in_front fs (with_field id (option_map tree_of one) more)) × ⊤) (λ stop. KeptResult ≡ Err stop)
       → id ≡ entry_id e → OnOk r (after ≡ free) → free ≡ first → (fields_front new (entries_worth named at levels m rest) ≡ all) × (after ≡ first)
   fields_step new (Ok one) id m after free first worth kept same stays is_first = (
-      kept_in_front fs new id (entry_id e) (option_map tree_of one) (entries_worth named at levels m rest) kept.0 same
-      ∙ (λ j. fields_front fs (and_next (sym worth j) (λ value n. and_next (entries_worth named at levels n rest) (λ more k. valued (with_field (entry_id e) value more) k))))
-      ∙ (λ j. fields_front fs (entries_worth named at levels n (sym is j)))
-      ∙ made, stays ∙ is_first)
+    kept_in_front fs new id (entry_id e) (option_map tree_of one) (entries_worth named at levels m rest) kept.0 same
+        ∙ (λ j. fields_front fs (and_next (sym worth j) (λ value n. and_next (entries_worth named at levels n rest) (λ more k. valued (with_field (entry_id e) value more) k))))
+        ∙ (λ j. fields_front fs (entries_worth named at levels n (sym is j)))
+        ∙ made,
+    stays ∙ is_first,
+  )
   fields_step new (Err stop) id m after free first worth kept same stays is_first = absurd (ok_is_no_err stop kept)
 
   entry_stops : (stop : ConstStop) → StopsAs stop (entry_worth named at levels n e) → StopsAs stop all

@@ -15,7 +15,7 @@ pub returns-in_err-word : goal.returns-in_err-word
 returns-in_err-word c = none_made _ _ c.from_residual-in_err-word.ensures.0
 
 pub returns-in_default : goal.returns-in_default
-returns-in_default c = 
+returns-in_default c =
     words_stop (lent_words c.args.flags.now) c.loop-word.made.items c.args.words.now c.loop-word.word-index _ c.as_str.result.now _ c.loop-word-test.true (c.as_str.ensures.value ∙ ap string_bytes c.word-item.is)
     (ap (option_map string_bytes) (sym c.in_default.is) ∙ c.in_ok-word.ensures) c.loop-word.invariant
 
@@ -23,7 +23,7 @@ pub returns-in_err-push : goal.returns-in_err-push
 returns-in_err-push c = none_made _ _ c.from_residual-in_err-push.ensures.0
 
 pub loop-word-preserved : goal.loop-word-preserved
-loop-word-preserved c = 
+loop-word-preserved c =
     words_next (lent_words c.args.flags.now) c.loop-word.made.items _ c.in-Some.word c.args.words.now c.loop-word.word-index _ c.as_str.result.now _ c.loop-word-test.true
     (c.as_str.ensures.value ∙ ap string_bytes c.word-item.is) (ap (option_map string_bytes) (sym c.in-Some.is) ∙ c.in_ok-word.ensures) c.in_ok-push.ensures.items c.loop-word.invariant
 

@@ -16,7 +16,7 @@ pub returns-in_err-push : goal.returns-in_err-push
 returns-in_err-push c = none_made _ _ c.from_residual-in_err-push.ensures.0
 
 pub loop-word-preserved : goal.loop-word-preserved
-loop-word-preserved c = 
+loop-word-preserved c =
     pairs_next c.loop-word.pairs.items _ c.in-Some.pair c.args.words.now c.loop-word.word-index _ _ c.loop-word-test.true (sym c.in-Some.is ∙ c.in_ok-pair.ensures)
     c.in_ok-push.ensures.items c.loop-word.invariant
 
