@@ -1,10 +1,10 @@
 #!/usr/bin/env python3
-"""Prints crates/wire_tests/src/struct_vectors.rt (structs), or crates/wire_tests/src/head_vectors.rt (heads).
+"""Prints crates/format_tests/src/struct_vectors.rt (structs), or crates/format_tests/src/head_vectors.rt (heads).
 
 Each row is made by Apache Thrift's own Python library (Debian package python3-thrift, 0.17.0): a value or a head is
 written by its TBinaryProtocol, and the bytes are printed as a Rust byte string. Beside the bytes of a struct stands its
 tree as text, made from the value that was written; the script ends with a failure where Apache's own reading of the
-bytes gives another text. Run: bench/vectors/binary_vectors.py structs > crates/wire_tests/src/struct_vectors.rt, or with heads into
+bytes gives another text. Run: bench/vectors/binary_vectors.py structs > crates/format_tests/src/struct_vectors.rt, or with heads into
 the other file, and then rt fmt in the crate.
 
 The text of a tree is that of `value_text`: a number with the letter of its kind behind it, a double as the letter d and the hexadecimal

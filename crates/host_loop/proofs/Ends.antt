@@ -43,8 +43,8 @@ use Rattle.hall_pool.specs.Turns.{asks_made}
 use Rattle.hall_pool.specs.Crew.{HasServed}
 use Rattle.hall_pool.specs.Ends.{TellsOneHistory}
 use Rattle.hall_pool.proofs.Ending.{one_history}
-use Rattle.ending_model.specs.DecidedEnds.{EndsOn, IsOfBytes, MayBeUnread}
-use Rattle.ending_model.proofs.Decided.{talk_decides}
+use Rattle.script_model.specs.DecidedEnds.{EndsOn, IsOfBytes, MayBeUnread}
+use Rattle.script_model.proofs.Decided.{talk_decides}
 use Rattle.loop_conns.specs.declared.connections.LoopConnections.{LoopConnections}
 use Rattle.loop_conns.specs.Tied.{CauseShows, IsOverOnLinks, StageTells, AreTied}
 use Rattle.loop_conns.specs.Woven.{ServedItem, WeavesLent, all_held, IsPassedAtRest, IsWovenTo}

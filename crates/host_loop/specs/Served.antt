@@ -17,7 +17,7 @@ use Rattle.call_rules.specs.Desks.{DeskMeaning, desk_rules}
 use Rattle.call_rules.specs.Handling.{ServiceState, handler_rules}
 use Rattle.machine_model.specs.SeenHall.{MayHave}
 use Rattle.machine_model.specs.AtFronts.{IsBounded}
-use Rattle.ending_model.specs.DecidedEnds.{EndsOn}
+use Rattle.script_model.specs.DecidedEnds.{EndsOn}
 use Rattle.loop_conns.specs.Tied.{CauseShows}
 use Rattle.host_loop.specs.Lengths.{AreLengths}
 use Rattle.host_loop.specs.Rests.{AreNotedRests}

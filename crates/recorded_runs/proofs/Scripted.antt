@@ -15,7 +15,7 @@ use Rattle.script_model.specs.ScriptLines.{ScriptPlan}
 use Rattle.script_model.specs.Playing.{always_ample}
 use Rattle.script_model.specs.Fed.{IsFedBy}
 use Rattle.script_model.specs.Showing.{IsRehearsedTo}
-use Rattle.ending_model.proofs.FedEnds.{each_ends}
+use Rattle.script_model.proofs.FedEnds.{each_ends}
 use Rattle.cell_loop.specs.Settings.{CellSetting}
 use Rattle.cell_loop.specs.Stops.{stops_of}
 use Rattle.cell_core.specs.Rehearsed.{SeenRun, IsSeenRun, IsSeenRehearsal}

@@ -16,7 +16,7 @@ use Rattle.machine_model.specs.SeenHall.{MayHave}
 use Rattle.script_model.specs.ScriptLines.{ScriptPlan}
 use Rattle.script_model.specs.Fed.{IsFedBy}
 use Rattle.script_model.proofs.Holding.{AreBytes}
-use Rattle.ending_model.proofs.FedEnds.{each_ends}
+use Rattle.script_model.proofs.FedEnds.{each_ends}
 use Rattle.script_links.specs.ServedScript.{ServedScript}
 use Rattle.script_links.specs.Shown.{links_told}
 use Rattle.script_links.specs.Shows.{lent_behind}

@@ -12,7 +12,7 @@ use Rattle.script_model.specs.ScriptLines.{ScriptPlan, openings}
 use Rattle.script_model.specs.Playing.{always_ample}
 use Rattle.script_model.specs.Fed.{IsFedBy}
 use Rattle.script_model.specs.Showing.{IsRehearsedTo}
-use Rattle.ending_model.specs.Failing.{EndsByItsPieces}
+use Rattle.script_model.specs.Failing.{EndsByItsPieces}
 use Rattle.script_text.specs.declared.fault.ScriptFault.{ScriptFault}
 use Rattle.script_text.specs.Reading.{script_of_text}
 use Rattle.recorded_runs.specs.declared.fault.ServingFault.{ServingFault}

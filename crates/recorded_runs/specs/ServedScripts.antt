@@ -10,7 +10,7 @@ use Rattle.call_rules.specs.Handling.{handler_rules}
 use Rattle.machine_model.specs.AtFronts.{IsBounded}
 use Rattle.script_model.specs.ScriptLines.{ScriptPlan, openings}
 use Rattle.script_model.specs.Fed.{IsFedBy}
-use Rattle.ending_model.specs.Failing.{EndsByItsPieces}
+use Rattle.script_model.specs.Failing.{EndsByItsPieces}
 use Rattle.script_text.specs.Reading.{script_of_text}
 use Rattle.recorded_runs.specs.Recorded.{ScriptReading}
 use Rattle.recorded_runs.specs.Answered.{Answering, HasNone}

@@ -46,3 +46,6 @@ pub mod MarkLines
 pub mod ManyRuns
 pub mod EndLines
 pub mod ManyTold
+pub mod Decided
+pub mod OneEnd
+pub mod FedEnds

@@ -13,3 +13,5 @@ pub mod Showing
 pub mod Rows
 pub mod Ending
 pub mod Telling
+pub mod DecidedEnds
+pub mod Failing

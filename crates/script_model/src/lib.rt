@@ -6,7 +6,8 @@
 //! and what they say of each connection; what lets inputs end
 //! after all pieces; how much each write takes under its rule; what a line of rest asks of a run; the run that a script feeds;
 //! the moves of a machine in rehearsal; the whole rehearsal; what a script gives for its connections to move and to end; a
-//! rehearsal told by what shows of it; and which runs a report tells. Every script has a rehearsal (`steps`), which the script feeds (`feeding`), and what shows
+//! rehearsal told by what shows of it; which runs a report tells; what ends a connection on its bytes alone; and by what the connections of a script end, where
+//! nothing lets them fail. Every script has a rehearsal (`steps`), which the script feeds (`feeding`), and what shows
 //! of it is one (`showing`). A crate that runs scripts says that its run is fed, and is the rehearsal where memory is ample:
 //!
 //! ```rust
@@ -15,6 +16,7 @@
 #![tactic(auto)]
 
 pub mod ending;
+pub mod ending_laws;
 pub mod examples;
 pub mod feeding;
 pub mod laws;

@@ -16,6 +16,8 @@ mod echo;
 #[cfg(test)]
 mod entries;
 #[cfg(test)]
+mod example;
+#[cfg(test)]
 mod faulty_journals;
 #[cfg(test)]
 mod journal;

@@ -3,9 +3,9 @@
 ghost use Rattle.std.specs.Prelude.{◌≡◌, ◌∷◌, [], codes, length, IfOk};
 ghost use Rattle.processor.specs.Offices.{plain_office};
 
+use crate::example::example;
 use envelope::Protocol;
 use processor::{Bindings, BoundNames, Office};
-use schema_example::example;
 use std::alloc::{AllocError, Global};
 use thrift_value::ByteText;
 

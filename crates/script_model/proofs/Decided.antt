@@ -11,7 +11,7 @@ use Rattle.host_model.specs.Frames.{Frames, frame, size_bytes, IsPayload, ArePay
 use Rattle.host_model.specs.Journal.{JournalEntry}
 use Rattle.host_model.specs.Marks.{input}
 use Rattle.host_model.proofs.Lists.{all_but_last, but_last-push}
-use Rattle.ending_model.specs.DecidedEnds.{EndsOn, IsOfBytes, MayBeUnread}
+use Rattle.script_model.specs.DecidedEnds.{EndsOn, IsOfBytes, MayBeUnread}
 
 last_of : {X : Type 0} (P : X → Type 0) (xs : List X) (x : X) → AllByRecursion P (xs ++ x ∷ []) → P x
 last_of P [] x all = all.0

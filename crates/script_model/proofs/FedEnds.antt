@@ -17,10 +17,10 @@ use Rattle.script_model.specs.Fed.{IsFedBy}
 use Rattle.script_model.specs.ScriptLines.{ScriptPlan, fails_input, some_line, openings}
 use Rattle.script_model.specs.Writing.{writes_in}
 use Rattle.script_model.proofs.Openings.{kept_at, as_many_causes}
-use Rattle.ending_model.specs.DecidedEnds.{EndsOn}
-use Rattle.ending_model.specs.Failing.{FailsNowhere, EndsByItsPieces, IsAnsweredWhole, arriving_on}
-use Rattle.ending_model.proofs.Decided.{talk_decides}
-use Rattle.ending_model.proofs.OneEnd.{LessThanAFrame, one_end}
+use Rattle.script_model.specs.DecidedEnds.{EndsOn}
+use Rattle.script_model.specs.Failing.{FailsNowhere, EndsByItsPieces, IsAnsweredWhole, arriving_on}
+use Rattle.script_model.proofs.Decided.{talk_decides}
+use Rattle.script_model.proofs.OneEnd.{LessThanAFrame, one_end}
 
 module _ {C A M : Type 0} (d : DeskRules C A) (r : ServiceRules C A M) (memories : List M) (budget : ℕ) (script : ScriptPlan) (tape : List Mark)
     (journal : List (JournalEntry C A)) (causes : List EndCause) (headline : Headline d r memories tape journal causes) (fed : IsFedBy d budget script tape journal)

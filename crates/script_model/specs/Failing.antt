@@ -10,7 +10,7 @@ use Rattle.host_model.specs.Journal.{JournalEntry}
 use Rattle.host_model.specs.Marks.{input, output}
 use Rattle.script_model.specs.Arrival.{bytes_of_pieces}
 use Rattle.script_model.specs.ScriptLines.{ScriptPlan, fails, fails_input, some_line, pieces_on, rule_of}
-use Rattle.ending_model.specs.DecidedEnds.{EndsOn}
+use Rattle.script_model.specs.DecidedEnds.{EndsOn}
 
 -- no line lets a read of connection c fail, and no rule a write
 pub record FailsNowhere (script : ScriptPlan) (c : ℕ) : Type 0 where

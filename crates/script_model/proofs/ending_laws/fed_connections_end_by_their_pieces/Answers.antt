@@ -1,6 +1,6 @@
-use Rattle.ending_model.proofs.OneEnd.{LessThanAFrame}
-use Rattle.ending_model.proofs.FedEnds.{each_ends, ended_at, answered}
-use Rattle.ending_model.proofs.laws.fed_connections_end_by_their_pieces.Goals as goal
+use Rattle.script_model.proofs.OneEnd.{LessThanAFrame}
+use Rattle.script_model.proofs.FedEnds.{each_ends, ended_at, answered}
+use Rattle.script_model.proofs.ending_laws.fed_connections_end_by_their_pieces.Goals as goal
 
 pub returns-clause-each : goal.returns-clause-each
 returns-clause-each g c d r memories budget script tape journal causes x headline fed goes = each_ends d r memories budget script tape journal causes headline fed goes x

@@ -11,7 +11,7 @@ use Rattle.host_model.specs.Frames.{frame, size_bytes, IsPayload, ArePayloads, I
 use Rattle.host_model.proofs.Framing.{frame_parts}
 use Rattle.host_model.proofs.Lists.{append_parts}
 use Rattle.script_model.proofs.Causes.{one_size}
-use Rattle.ending_model.specs.DecidedEnds.{EndsOn, IsEndedBy}
+use Rattle.script_model.specs.DecidedEnds.{EndsOn, IsEndedBy}
 
 -- what is less than a frame
 abbrev pub LessThanAFrame : ℕ → Type 0

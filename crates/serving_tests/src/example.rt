@@ -111,7 +111,7 @@ fn file(alloc: Global) -> Result<FileDesc, AllocError>
 }
 
 /// The schema of the example.
-pub fn example(alloc: Global) -> Result<Schema, AllocError>
+pub(crate) fn example(alloc: Global) -> Result<Schema, AllocError>
     ensures { IfOk result (λ made. schema_of made ≡ example_schema) }
 {
     let files = one(alloc, file(alloc)?)?;

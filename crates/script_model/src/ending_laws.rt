@@ -1,4 +1,5 @@
-//! Laws of the definitions, each the contract of a function that does nothing. A size is a signed number of four bytes, hence the bound on the longest payload.
+//! By what connections end: where nothing lets one fail, and memory suffices, its bytes alone decide. Each law is the contract of a function that does nothing. A size is
+//! a signed number of four bytes, hence the bound on the longest payload.
 
 ghost use Rattle.std.specs.Prelude.{◌≡◌, ◌≢◌, ℕ, ◌<◌, ◌^◌, Some, List, ◌++◌, slice_get};
 ghost use Rattle.outside.specs.declared.marks.Mark.{Mark};
@@ -11,8 +12,8 @@ ghost use Rattle.host_model.specs.Journal.{JournalEntry, ServiceRules, entries_o
 ghost use Rattle.host_model.specs.Marks.{marks_of, input};
 ghost use Rattle.script_model.specs.Fed.{IsFedBy};
 ghost use Rattle.script_model.specs.ScriptLines.{ScriptPlan, openings};
-ghost use Rattle.ending_model.specs.DecidedEnds.{EndsOn, IsOfBytes, MayBeUnread};
-ghost use Rattle.ending_model.specs.Failing.{EndsByItsPieces, FailsNowhere, IsAnsweredWhole, arriving_on};
+ghost use Rattle.script_model.specs.DecidedEnds.{EndsOn, IsOfBytes, MayBeUnread};
+ghost use Rattle.script_model.specs.Failing.{EndsByItsPieces, FailsNowhere, IsAnsweredWhole, arriving_on};
 
 use host_model::laws::less_than_a_frame;
 

@@ -3,7 +3,7 @@ use Rattle.std.specs.List.{filter_map}
 use Rattle.idl_include.specs.Spots.{Spot, value_at, values_of}
 use Rattle.idl_include.specs.SourcesOf.{program_in}
 use Rattle.idl_names.specs.SpotsIn.{filed_value, spots_in}
-use Rattle.idl_tests.proofs.constants.places_in.Goals as goal
+use Rattle.format_tests.proofs.constants.places_in.Goals as goal
 
 pub returns : goal.returns
 unfolding values_of

@@ -1,2 +1,0 @@
-pub mod DecidedEnds
-pub mod Failing
