@@ -10,9 +10,9 @@ use Rattle.schema.specs.PlainSchema.{PlainSchema}
 use Rattle.schema.specs.Sound.{IsPlaceIn}
 use Rattle.thrift_value.specs.Tree.{Tree}
 use Rattle.value_text.specs.Reading.{reading_of}
-use Rattle.port_asking.specs.Asked.{AskedSo, MayCome, MeansAsked}
-use Rattle.port_asking.specs.declared.fault.AskingFault.{AskingFault}
-use Rattle.port_asking.specs.declared.fault.AskingFault.TheVariants as asking
+use Rattle.port_calls.specs.Asked.{AskedSo, MayCome, MeansAsked}
+use Rattle.port_calls.specs.declared.asking_fault.AskingFault.{AskingFault}
+use Rattle.port_calls.specs.declared.asking_fault.AskingFault.TheVariants as asking
 use Rattle.port_calls.specs.declared.fault.CallFault.{CallFault}
 use Rattle.port_calls.specs.declared.fault.CallFault.TheVariants as faults
 use Rattle.port_calls.specs.declared.fault.CallRefusal.TheVariants as refusals

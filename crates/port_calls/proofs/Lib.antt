@@ -1,1 +1,6 @@
+pub mod SentBytes
+pub mod HeardBytes
+pub mod Framing
+pub mod Talking
+pub mod Hanging
 mod Exchanged

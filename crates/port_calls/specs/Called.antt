@@ -5,9 +5,9 @@ use Rattle.outside.specs.Content.{told_more}
 use Rattle.outside.specs.Taken.{IsTakenInPart}
 use Rattle.client_desk.specs.declared.heard_fault.HeardFault.{HeardFault}
 use Rattle.client_desk.specs.Hearing.{PlainHeard, heard}
-use Rattle.port_asking.specs.Asked.{MeansAsked}
-use Rattle.port_asking.specs.declared.fault.AskingFault.{AskingFault}
-use Rattle.port_asking.specs.declared.fault.AskingFault.TheVariants as asking
+use Rattle.port_calls.specs.Asked.{MeansAsked}
+use Rattle.port_calls.specs.declared.asking_fault.AskingFault.{AskingFault}
+use Rattle.port_calls.specs.declared.asking_fault.AskingFault.TheVariants as asking
 use Rattle.port_calls.specs.declared.fault.CallFault.{CallFault}
 use Rattle.port_calls.specs.declared.fault.CallFault.TheVariants.{Refused, NetFault, ReplyRefused, WriteFault, NoMemory}
 use Rattle.port_calls.specs.declared.fault.ReplyRefusal.{ReplyRefusal}

@@ -1,3 +1,5 @@
+pub mod Exchanging
+pub mod Asked
 pub mod Kinds
 pub mod HeardText
 pub mod Calls

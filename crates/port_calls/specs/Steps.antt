@@ -3,15 +3,13 @@ use Rattle.std.specs.Prelude.{◌≡◌, ⊤, ℕ, Bool, List, Option, None, Som
 use Rattle.outside.specs.Content.{told_more}
 use Rattle.outside.specs.Taken.{IsTakenInPart}
 use Rattle.client_desk.specs.declared.ask_fault.AskFault.{AskFault}
-use Rattle.client_desk.specs.declared.ask_fault.AskFault.TheVariants as ask
 use Rattle.client_desk.specs.declared.heard_fault.HeardFault.{HeardFault}
-use Rattle.client_desk.specs.declared.heard_fault.HeardFault.TheVariants as hear
 use Rattle.client_desk.specs.Asking.{asked_frame}
 use Rattle.client_desk.specs.Clients.{PlainClient}
 use Rattle.client_desk.specs.Hearing.{PlainHeard, heard}
-use Rattle.port_asking.specs.Asked.{MeansAsked}
-use Rattle.port_asking.specs.declared.fault.AskingFault.{AskingFault}
-use Rattle.port_asking.specs.declared.fault.AskingFault.TheVariants as asking
+use Rattle.port_calls.specs.Asked.{MeansAsked}
+use Rattle.port_calls.specs.declared.asking_fault.AskingFault.{AskingFault}
+use Rattle.port_calls.specs.declared.asking_fault.AskingFault.TheVariants as asking
 use Rattle.thrift_value.specs.declared.value.Value.{Value}
 use Rattle.thrift_value.specs.Tree.{Tree}
 use Rattle.thrift_value.specs.TreeOf.{tree_of}

@@ -16,12 +16,13 @@ ghost use Rattle.schema.specs.Sound.{IsSound, IsPlaceIn};
 ghost use Rattle.thrift_value.specs.TreeOf.{tree_of};
 ghost use Rattle.value_text.specs.Reading.{reading_of};
 
+use crate::asking::ask_port;
+use crate::asking_fault::AskingFault;
 use crate::call::PortCall;
 use crate::fault::{CallFault, CallRefusal, ReplyRefusal};
 use crate::lines::{SENT, heard_line};
 use client_desk::{AskFault, Client, HeardFault};
 use outside::{Binder, Sink, write_all};
-use port_asking::{AskingFault, ask_port};
 use schema::Schema;
 use std::alloc::{AllocError, Global};
 use thrift_value::{ByteText, Value};

@@ -6,7 +6,7 @@ use crate::running::{NEVER, serve_links};
 use conn_table::Outcome;
 use net_links::NetBinder;
 use outside::{Binder, Links};
-use port_asking::{AskingFault, ask_port};
+use port_calls::{AskingFault, ask_port};
 use std::alloc::Global;
 use std::net::{Ipv4Addr, Net, OpenListener, SocketAddr, TcpListener};
 use std::sync::Wait;

@@ -11,8 +11,8 @@ use Rattle.command_line.specs.declared.command.WordsFault.TheVariants as words_f
 use Rattle.command_line.specs.Answering.{AnswersWords}
 use Rattle.command_line.specs.Calls.{PlainAsking}
 use Rattle.command_line.specs.Words.{PlainCommand, checks, compares, rehearses, records, serves, runs, calls}
-use Rattle.port_asking.specs.declared.fault.AskingFault.{AskingFault}
-use Rattle.port_asking.specs.declared.fault.AskingFault.TheVariants as asking
+use Rattle.port_calls.specs.declared.asking_fault.AskingFault.{AskingFault}
+use Rattle.port_calls.specs.declared.asking_fault.AskingFault.TheVariants as asking
 use Rattle.port_calls.specs.declared.fault.CallFault.TheVariants as faults
 use Rattle.port_calls.specs.declared.fault.ReplyRefusal.{ReplyRefusal}
 use Rattle.port_calls.specs.declared.fault.ReplyRefusal.TheVariants.{Cut, SizeFault, Unheard}

@@ -1,7 +1,7 @@
 //! Why an exchange came to nothing.
 
 ghost use Rattle.std.specs.Prelude.{◌≡◌};
-ghost use Rattle.port_asking.specs.declared.fault.AskingFault.TheVariants.{NetFault, NoMemory};
+ghost use Rattle.port_calls.specs.declared.asking_fault.AskingFault.TheVariants.{NetFault, NoMemory};
 
 use outside::Failed;
 use std::alloc::AllocError;

@@ -4,7 +4,7 @@ use Rattle.outside.specs.Cause.{Rose}
 use Rattle.outside.specs.Taken.{IsTakenBut}
 use Rattle.outside.proofs.Taking.{none_taken, taken_on, all_told}
 use Rattle.outside.specs.Pipes.{PipeState, Sends}
-use Rattle.port_asking.specs.Steps.{HasSent}
+use Rattle.port_calls.specs.Exchanging.{HasSent}
 
 -- of these bytes all but what is left was sent, and nothing was read
 pub record HasSentBut (bytes left : List ℕ) (old new : PipeState) : Type 0 where

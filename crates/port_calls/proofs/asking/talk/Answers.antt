@@ -1,9 +1,9 @@
 use Rattle.std.proofs.Common.{rules, ◌≡◌, Vec, Global, ℕ, Option, Result, Err, sym, subst}
-use Rattle.port_asking.specs.Steps.{HasTalked}
-use Rattle.port_asking.specs.declared.fault.AskingFault.{AskingFault}
-use Rattle.port_asking.specs.declared.fault.AskingFault.TheVariants as faults
-use Rattle.port_asking.proofs.Talking.{unsent}
-use Rattle.port_asking.proofs.asking.talk.Goals as goal
+use Rattle.port_calls.specs.Exchanging.{HasTalked}
+use Rattle.port_calls.specs.declared.asking_fault.AskingFault.{AskingFault}
+use Rattle.port_calls.specs.declared.asking_fault.AskingFault.TheVariants as faults
+use Rattle.port_calls.proofs.Talking.{unsent}
+use Rattle.port_calls.proofs.asking.talk.Goals as goal
 
 pub returns-in_err-send_all : goal.returns-in_err-send_all
 returns-in_err-send_all g c =

@@ -4,8 +4,8 @@ use Rattle.outside.specs.Cause.{Rose}
 use Rattle.outside.specs.Calling.{PastPipe}
 use Rattle.host_model.specs.Conversation.{IsPrefix}
 use Rattle.host_model.specs.Frames.{frame, size_bytes, IsPayload, IsOutside, IsPartial}
-use Rattle.port_asking.specs.declared.fault.AskingFault.{AskingFault}
-use Rattle.port_asking.specs.declared.fault.AskingFault.TheVariants as faults
+use Rattle.port_calls.specs.declared.asking_fault.AskingFault.{AskingFault}
+use Rattle.port_calls.specs.declared.asking_fault.AskingFault.TheVariants as faults
 
 -- what is kept of a pipe to this port on which all of these bytes were written, and those were read
 abbrev pub exchanged : ℕ → List ℕ → List ℕ → Bool → PastPipe

@@ -6,10 +6,10 @@ use Rattle.outside.specs.Taken.{IsTakenInPart}
 use Rattle.outside.specs.Pipes.{PipeState, told_end}
 use Rattle.host_model.specs.Conversation.{IsPrefix}
 use Rattle.host_model.specs.Frames.{frame, size_bytes, IsPayload, IsOutside, IsPartial}
-use Rattle.port_asking.specs.declared.fault.AskingFault.{AskingFault}
-use Rattle.port_asking.specs.declared.fault.AskingFault.TheVariants as faults
-use Rattle.port_asking.specs.declared.hearing.Unheard.{Unheard}
-use Rattle.port_asking.specs.declared.hearing.Unheard.TheVariants as unheard
+use Rattle.port_calls.specs.declared.asking_fault.AskingFault.{AskingFault}
+use Rattle.port_calls.specs.declared.asking_fault.AskingFault.TheVariants as faults
+use Rattle.port_calls.specs.declared.hearing.Unheard.{Unheard}
+use Rattle.port_calls.specs.declared.hearing.Unheard.TheVariants as unheard
 
 -- All of these bytes were written, or a write failed, and a beginning of them was; nothing was read.
 pub record HasSent {A E : Type 0} (bytes : List ℕ) (old new : PipeState) (result : Result A E) : Type 0 where

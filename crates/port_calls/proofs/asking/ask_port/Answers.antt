@@ -1,6 +1,6 @@
 use Rattle.std.proofs.Common.{Vec, Global, ℕ}
-use Rattle.port_asking.proofs.Hanging.{hung_up, asking_cause}
-use Rattle.port_asking.proofs.asking.ask_port.Goals as goal
+use Rattle.port_calls.proofs.Hanging.{hung_up, asking_cause}
+use Rattle.port_calls.proofs.asking.ask_port.Goals as goal
 
 pub returns-in-Ok-clause-called : goal.returns-in-Ok-clause-called
 returns-in-Ok-clause-called g c =

@@ -5,8 +5,8 @@ use Rattle.std.proofs.lemmas.Bool.{and_right}
 use Rattle.outside.specs.Cause.{Rose}
 use Rattle.outside.specs.Content.{told_more}
 use Rattle.outside.specs.Pipes.{PipeState, Receives, told_end, is_end}
-use Rattle.port_asking.specs.Steps.{HasGot, HasHeard}
-use Rattle.port_asking.specs.declared.hearing.Unheard.TheVariants as unheard
+use Rattle.port_calls.specs.Exchanging.{HasGot, HasHeard}
+use Rattle.port_calls.specs.declared.hearing.Unheard.TheVariants as unheard
 
 -- these bytes were read and no end, nothing was sent, and no read failed
 pub record HasHeardSoFar (bytes : List ℕ) (old new : PipeState) : Type 0 where

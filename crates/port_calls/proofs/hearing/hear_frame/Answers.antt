@@ -1,10 +1,9 @@
 use Rattle.std.proofs.Common.{rules, ◌≡◌, ◌<◌, ◌≤◌, ◌∙◌, Vec, Global, ℕ, length, pos, Result, Err, refl, sym, subst}
 use Rattle.host_model.specs.Frames.{size_bytes}
-use Rattle.port_asking.specs.Steps.{HasHeardFrame, fault_of}
-use Rattle.port_asking.specs.declared.fault.AskingFault.{AskingFault}
-use Rattle.port_asking.specs.declared.fault.AskingFault.TheVariants as faults
-use Rattle.port_asking.proofs.Framing.{short_payload, unheard_payload}
-use Rattle.port_asking.proofs.hearing.hear_frame.Goals as goal
+use Rattle.port_calls.specs.Exchanging.{HasHeardFrame, fault_of}
+use Rattle.port_calls.specs.declared.asking_fault.AskingFault.{AskingFault}
+use Rattle.port_calls.proofs.Framing.{short_payload, unheard_payload}
+use Rattle.port_calls.proofs.hearing.hear_frame.Goals as goal
 
 pub returns-in_err-payload : goal.returns-in_err-payload
 returns-in_err-payload g c =

@@ -6,10 +6,10 @@ use Rattle.outside.specs.Taken.{IsTakenBut}
 use Rattle.outside.specs.Pipes.{PipeState, told_end}
 use Rattle.host_model.specs.Frames.{IsPartial}
 use Rattle.host_model.proofs.Framing.{rest_nil, size_nil}
-use Rattle.port_asking.specs.Steps.{HasSent, HasGot, HasPart, HasHeardFrame, HasMoved, HasNoFault, HasMovedInPart, HasTalked}
-use Rattle.port_asking.specs.declared.fault.AskingFault.{AskingFault}
-use Rattle.port_asking.specs.declared.fault.AskingFault.TheVariants as faults
-use Rattle.port_asking.proofs.HeardBytes.{told_none, no_end}
+use Rattle.port_calls.specs.Exchanging.{HasSent, HasGot, HasPart, HasHeardFrame, HasMoved, HasNoFault, HasMovedInPart, HasTalked}
+use Rattle.port_calls.specs.declared.asking_fault.AskingFault.{AskingFault}
+use Rattle.port_calls.specs.declared.asking_fault.AskingFault.TheVariants as faults
+use Rattle.port_calls.proofs.HeardBytes.{told_none, no_end}
 
 none_partial : (most : ℕ) → IsPartial most []
 none_partial most = record { rest = rest_nil most; size = size_nil most }

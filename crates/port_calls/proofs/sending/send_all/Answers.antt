@@ -1,6 +1,6 @@
 use Rattle.std.proofs.Common.{List, ℕ, sym, subst}
-use Rattle.port_asking.proofs.SentBytes.{HasSentBut, sent_on}
-use Rattle.port_asking.proofs.sending.send_all.Goals as goal
+use Rattle.port_calls.proofs.SentBytes.{HasSentBut, sent_on}
+use Rattle.port_calls.proofs.sending.send_all.Goals as goal
 
 pub pieces-preserved : goal.pieces-preserved
 pieces-preserved g c =

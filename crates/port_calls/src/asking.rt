@@ -1,10 +1,10 @@
 //! One exchange with a port.
 
 ghost use Rattle.std.specs.Prelude.{◌≡◌, ◌<◌, ◌^◌, length, IfOk};
-ghost use Rattle.port_asking.specs.Steps.{HasTalked};
-ghost use Rattle.port_asking.specs.Asked.{MeansAsked, HasAskingCause};
+ghost use Rattle.port_calls.specs.Exchanging.{HasTalked};
+ghost use Rattle.port_calls.specs.Asked.{MeansAsked, HasAskingCause};
 
-use crate::fault::AskingFault;
+use crate::asking_fault::AskingFault;
 use crate::hearing::hear_frame;
 use crate::sending::send_all;
 use limits::MOST_READ;

@@ -7,10 +7,10 @@ use Rattle.outside.specs.Binding.{HasBindCause}
 use Rattle.outside.specs.Pipes.{PipeState, told_end}
 use Rattle.outside.specs.Calling.{PastPipe, StartsCalling, called_with, told_called, next_if_either}
 use Rattle.outside.specs.declared.binder.BindFail.TheVariants as fails
-use Rattle.port_asking.specs.Steps.{HasMoved, HasNoFault, HasMovedInPart, HasTalked}
-use Rattle.port_asking.specs.Asked.{exchanged, IsBrokenExchange, MayCome, PipeTells, MayBeUndialled, HungUpOne, AskedSo, MeansAsked, HasAskingCause}
-use Rattle.port_asking.specs.declared.fault.AskingFault.{AskingFault}
-use Rattle.port_asking.specs.declared.fault.AskingFault.TheVariants as faults
+use Rattle.port_calls.specs.Exchanging.{HasMoved, HasNoFault, HasMovedInPart, HasTalked}
+use Rattle.port_calls.specs.Asked.{exchanged, IsBrokenExchange, MayCome, PipeTells, MayBeUndialled, HungUpOne, AskedSo, MeansAsked, HasAskingCause}
+use Rattle.port_calls.specs.declared.asking_fault.AskingFault.{AskingFault}
+use Rattle.port_calls.specs.declared.asking_fault.AskingFault.TheVariants as faults
 
 -- the row of a pipe on which this was written and that was read
 told_row : (rows : List PastPipe) (port : ℕ) (fresh last : PipeState) (sent read : List ℕ) (end : Bool) → StartsCalling (Some rows) port fresh

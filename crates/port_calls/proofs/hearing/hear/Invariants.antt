@@ -1,6 +1,6 @@
 use Rattle.std.proofs.Common.{◌≡◌, ◌≤◌, ◌-◌, ◌<◌, length, vec_len}
-use Rattle.port_asking.proofs.HeardBytes.{HasHeardSoFar}
-use Rattle.port_asking.proofs.hearing.hear.Given as goal
+use Rattle.port_calls.proofs.HeardBytes.{HasHeardSoFar}
+use Rattle.port_calls.proofs.hearing.hear.Given as goal
 
 -- what was read so far, and no end
 abbrev pub invariant-reads : goal.invariant-reads

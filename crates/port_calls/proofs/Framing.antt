@@ -3,13 +3,13 @@ use Rattle.std.proofs.Common.{◌≡◌, ℕ, ℤ, pos, ◌<◌, ◌≤◌, ◌^
 use Rattle.std.specs.Int.{w32, to_be_bytes}
 use Rattle.outside.specs.Cause.{Rose}
 use Rattle.outside.specs.Pipes.{PipeState}
-use Rattle.host_model.specs.Frames.{frame, size_bytes, IsOutside, IsPartial}
-use Rattle.port_asking.specs.Steps.{HasGot, HasHeard, HasHeardFrame, fault_of}
-use Rattle.port_asking.specs.declared.fault.AskingFault.{AskingFault}
-use Rattle.port_asking.specs.declared.fault.AskingFault.TheVariants as faults
-use Rattle.port_asking.specs.declared.hearing.Unheard.{Unheard}
-use Rattle.port_asking.specs.declared.hearing.Unheard.TheVariants as unheard
-use Rattle.port_asking.proofs.HeardBytes.{got_on}
+use Rattle.host_model.specs.Frames.{size_bytes, IsOutside, IsPartial}
+use Rattle.port_calls.specs.Exchanging.{HasGot, HasHeard, HasHeardFrame, fault_of}
+use Rattle.port_calls.specs.declared.asking_fault.AskingFault.{AskingFault}
+use Rattle.port_calls.specs.declared.asking_fault.AskingFault.TheVariants as faults
+use Rattle.port_calls.specs.declared.hearing.Unheard.{Unheard}
+use Rattle.port_calls.specs.declared.hearing.Unheard.TheVariants as unheard
+use Rattle.port_calls.proofs.HeardBytes.{got_on}
 
 -- fewer bytes than a size has are less than a frame
 abbrev pub SizeLaw : ℕ → Type 0

@@ -2,10 +2,10 @@
 
 ghost use Rattle.std.specs.Prelude.{◌≡◌, ◌<◌, ◌≤◌, ◌^◌, pos, length, MatchOption};
 ghost use Rattle.host_model.specs.Frames.{size_bytes, IsOutside};
-ghost use Rattle.port_asking.specs.Steps.{HasHeard, HasHeardFrame, fault_of};
-ghost use Rattle.port_asking.specs.declared.hearing.Unheard.TheVariants.{NetFault, NoMemory};
+ghost use Rattle.port_calls.specs.Exchanging.{HasHeard, HasHeardFrame, fault_of};
+ghost use Rattle.port_calls.specs.declared.hearing.Unheard.TheVariants.{NetFault, NoMemory};
 
-use crate::fault::AskingFault;
+use crate::asking_fault::AskingFault;
 use host_model::laws::less_than_a_frame;
 use outside::{Failed, Pipe};
 use std::alloc::{AllocError, Global};

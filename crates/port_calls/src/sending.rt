@@ -1,6 +1,6 @@
 //! Bytes that go out on a pipe.
 
-ghost use Rattle.port_asking.specs.Steps.{HasSent};
+ghost use Rattle.port_calls.specs.Exchanging.{HasSent};
 
 use outside::{Failed, Pipe};
 

@@ -1,5 +1,0 @@
-pub mod SentBytes
-pub mod HeardBytes
-pub mod Framing
-pub mod Talking
-pub mod Hanging
