@@ -16,13 +16,17 @@ fn held_file(alloc: Global, name: &str, text: &str) -> Result<(String, Vec<u8>),
     Ok((String::from_str(alloc, name)?, text))
 }
 
-/// These files in memory.
-fn in_memory(alloc: Global, held: &[(&str, &str)]) -> Result<MemFiles, AllocError> {
+/// These files in memory, of which the reads of these numbers fail.
+pub(crate) fn in_memory(
+    alloc: Global,
+    held: &[(&str, &str)],
+    fails: &[u64],
+) -> Result<MemFiles, AllocError> {
     let mut files = Vec::new(alloc);
     for (name, text) in held {
         files.push(held_file(alloc, name, text)?)?;
     }
-    Ok(MemFiles::new(files, Vec::new(alloc)))
+    Ok(MemFiles::new(files, fails.to_vec(alloc)?))
 }
 
 /// The program of these files, of which `a.thrift` is the main one.
@@ -32,6 +36,6 @@ pub(crate) fn loaded(
 ) -> Result<Result<Sources, LoadFault>, AllocError>
     ensures { IfOk result (λ made. IfOk made (λ sources. AreFiles (sources_in sources))) }
 {
-    let mut files = in_memory(alloc, held)?;
+    let mut files = in_memory(alloc, held, &[])?;
     Ok(load(alloc, &mut files, "a.thrift"))
 }

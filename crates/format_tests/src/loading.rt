@@ -1,12 +1,9 @@
 //! What only files in memory show of loading: reads that fail by their numbers, and files at the root. The rest stands in rows/idl_loading.rows.
 
-use idl_include::load;
-use outside::MemFiles;
+use crate::loaded::{Held, in_memory};
+use idl_include::{LoadFault, Sources, load};
 use std::alloc::{AllocError, Global};
 use std::test::Fail;
-
-/// A file's name and its text.
-type Held = (&'static str, &'static str);
 
 /// Files, the numbers of the reads that fail, and what loading comes to: the base names of the files in order, or the fault behind the name of its file.
 const ROWS: [(&[Held], &[u64], &str); 8] = [
@@ -83,43 +80,43 @@ const ROWS: [(&[Held], &[u64], &str); 8] = [
     ),
 ];
 
-/// These files in memory.
-fn in_memory(alloc: Global, held: &[Held], fails: &[u64]) -> Result<MemFiles, AllocError> {
-    let mut files = Vec::new(alloc);
-    for (name, text) in held {
-        files.push((
-            String::from_str(alloc, name)?,
-            text.as_bytes().to_vec(alloc)?,
-        ))?;
-    }
-    Ok(MemFiles::new(files, fails.to_vec(alloc)?))
-}
-
-/// What loading comes to.
-fn outcome(alloc: Global, held: &[Held], fails: &[u64]) -> Result<Vec<u8>, AllocError> {
-    let mut files = in_memory(alloc, held, fails)?;
+/// The base names of the files in order.
+fn bases(alloc: Global, sources: &Sources) -> Result<Vec<u8>, AllocError> {
     let mut told = Vec::new(alloc);
-    match load(alloc, &mut files, "a.thrift") {
-        Ok(sources) => {
-            for file in sources.files() {
-                told.extend_from_slice(file.base.as_slice())?;
-                told.push(b' ')?;
-            }
-        }
-        Err(fault) => {
-            let text = format!(in alloc; ", {fault}")?;
-            told.extend_from_slice(fault.file.as_slice())?;
-            told.extend_from_slice(text.as_bytes())?;
-        }
+    for file in sources.files() {
+        told.extend_from_slice(file.base.as_slice())?;
+        told.push(b' ')?;
     }
     Ok(told)
+}
+
+/// The fault behind the name of its file.
+fn fault_text(alloc: Global, fault: &LoadFault) -> Result<Vec<u8>, AllocError> {
+    let text = format!(in alloc; ", {fault}")?;
+    let mut told = fault.file.as_slice().to_vec(alloc)?;
+    told.extend_from_slice(text.as_bytes())?;
+    Ok(told)
+}
+
+/// What loading came to.
+fn outcome(alloc: Global, loaded: &Result<Sources, LoadFault>) -> Result<Vec<u8>, AllocError> {
+    match loaded {
+        Ok(sources) => bases(alloc, sources),
+        Err(fault) => fault_text(alloc, fault),
+    }
+}
+
+/// Whether loading these files comes to this.
+fn comes_to(alloc: Global, held: &[Held], fails: &[u64], wanted: &str) -> Result<bool, AllocError> {
+    let mut files = in_memory(alloc, held, fails)?;
+    let found = outcome(alloc, &load(alloc, &mut files, "a.thrift"))?;
+    Ok(found.as_slice() == wanted.as_bytes())
 }
 
 #[test]
 fn files_are_loaded_in_order(rt: HostRuntime) -> Result<(), Fail> {
     for (held, fails, wanted) in &ROWS {
-        let found = outcome(rt.alloc(), held, fails)?;
-        assert!(rt; found.as_slice() == wanted.as_bytes(), "{held:?}");
+        assert!(rt; comes_to(rt.alloc(), held, fails, wanted)?, "{wanted}");
     }
     Ok(())
 }
