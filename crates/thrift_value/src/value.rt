@@ -42,7 +42,6 @@ pub type Raw = Value;
 
 /// The fields of a struct, each with its id.
 #[cycle(value)]
-#[derive(Drop)]
 pub struct Fields {
     // In wire order as they came, or by rising id.
     pub(crate) list: Vec<(i16, Value)>,
@@ -50,7 +49,6 @@ pub struct Fields {
 
 /// The pairs of a map, each a key and its value.
 #[cycle(value)]
-#[derive(Drop)]
 pub struct Pairs {
     // In wire order as they came, or by rising key.
     pub(crate) list: Vec<(Value, Value)>,
@@ -58,10 +56,35 @@ pub struct Pairs {
 
 /// The elements of a list, or the members of a set.
 #[cycle(value)]
-#[derive(Drop)]
 pub struct Items {
     // In wire order as they came; the members of a tidy set rise.
     pub(crate) list: Vec<Value>,
+}
+
+// The drops of what holds further values are written out, so that a crate that lets a value go needn't prove again how these go.
+
+impl Drop for Fields {
+    #[cycle(value_drop)]
+    fn drop(self) {
+        let Fields { list } = self;
+        drop(list);
+    }
+}
+
+impl Drop for Pairs {
+    #[cycle(value_drop)]
+    fn drop(self) {
+        let Pairs { list } = self;
+        drop(list);
+    }
+}
+
+impl Drop for Items {
+    #[cycle(value_drop)]
+    fn drop(self) {
+        let Items { list } = self;
+        drop(list);
+    }
 }
 
 impl Value {
@@ -105,7 +128,8 @@ impl Fields {
     pub fn into_vec(self) -> Vec<(i16, Value)>
         ensures { result.items ≡ fields_of self }
     {
-        self.list
+        let Self { list } = self;
+        list
     }
 }
 
@@ -128,7 +152,8 @@ impl Pairs {
     pub fn into_vec(self) -> Vec<(Value, Value)>
         ensures { result.items ≡ pairs_of self }
     {
-        self.list
+        let Self { list } = self;
+        list
     }
 }
 
@@ -151,6 +176,7 @@ impl Items {
     pub fn into_vec(self) -> Vec<Value>
         ensures { result.items ≡ items_of self }
     {
-        self.list
+        let Self { list } = self;
+        list
     }
 }
