@@ -1,7 +1,6 @@
 -- A command that is well asked, and on whose way nothing fails, is done, or memory runs out.
 use Rattle.std.proofs.Common.{◌≡◌, ℕ, Bool, true, false, List, [], Option, None, Some, Result, Ok, Err, ◌⊎◌, inl, inr, refl, sym, ap, subst, ◌∙◌, true≢false}
 use Rattle.std.proofs.lemmas.Bool.{false≢true}
-use Rattle.outside.specs.Cause.{Rose}
 use Rattle.outside.specs.Files.{File}
 use Rattle.call_rules.specs.Handling.{ServiceState}
 use Rattle.schema.specs.PlainSchema.{PlainSchema}
@@ -23,6 +22,7 @@ use Rattle.thrift_host.specs.declared.status.Status.{Status}
 use Rattle.thrift_host.specs.declared.status.Status.TheVariants.{Done, Usage, IdlRefused, ScriptRefused, BindRefused, FileFault, ReadFault, WriteFault, NetFault, JournalFault, NoMemory, CallRefused, ReplyRefused, Incompatible}
 use Rattle.thrift_host.specs.Checks.{AreUntouched, IsRefusedWith, MeansCheck}
 use Rattle.thrift_host.specs.Compats.{MeansCompat}
+use Rattle.thrift_host.specs.CommandSteps.{CountsTell}
 use Rattle.thrift_host.specs.Complete.{HostCounts, NoneRose, IsIdlTold, IsGoodIdl, IsGoodChange, IsRunReady, IsGoodInput, IsWellAsked}
 use Rattle.thrift_host.specs.Runs.{AskedRun, IsArranged, ScriptRunning, rehearsing, recording, answering_of, IsUnboundWith, MeansUnarranged, MeansRun}
 use Rattle.thrift_host.specs.Serving.{AskedServing, HostChange, MeansServing}
@@ -62,14 +62,6 @@ IsNoRefusal CallRefused = ⊥
 IsNoRefusal ReplyRefused = ⊥
 IsNoRefusal Incompatible = ⊥
 IsNoRefusal _ = Unit {0}
-
--- a status that comes of a fault comes where its count rose
-pub record FaultsShow (n : HostCounts) (status : Status) : Type 0 where
-  pub files : status ≡ FileFault → Rose n.files_before n.files
-  pub input : status ≡ ReadFault → Rose n.input_before n.input
-  pub output : status ≡ WriteFault → Rose n.output_before n.output
-  pub binder : status ≡ NetFault → Rose n.binder_before n.binder
-  pub sinks : status ≡ JournalFault → Rose n.sinks_before n.sinks
 
 -- of the IDL that the program holds files say nothing
 among : (idl : List ℕ) (v : IdlVerdict) → is_the_tutorial idl ≡ true → IsIdlVerdict None idl v → IsIdlVerdict (Some []) idl v
@@ -179,10 +171,10 @@ module _ (one : OneVerdict) (good : BoundIsGood) (never : BreakIsNone) where
   goes None handlers status c h asked = absurd asked
 
   pub only_done : (words : Option PlainCommand) (handlers : List ServiceState) (status : Status) (c : HostChange) (n : HostCounts) → Means words handlers status c
-      → FaultsShow n status → IsWellAsked words handlers c → NoneRose n → (status ≡ Done) ⊎ (status ≡ NoMemory)
+      → CountsTell n status → IsWellAsked words handlers c → NoneRose n → (status ≡ Done) ⊎ (status ≡ NoMemory)
   only_done words handlers status c n h shows asked none = by status shows (goes words handlers status c h asked)
     where
-      by : (ended : Status) → FaultsShow n ended → IsNoRefusal ended → (ended ≡ Done) ⊎ (ended ≡ NoMemory)
+      by : (ended : Status) → CountsTell n ended → IsNoRefusal ended → (ended ≡ Done) ⊎ (ended ≡ NoMemory)
       by Done f r = inl refl
       by NoMemory f r = inr refl
       by FileFault f r = absurd (none.files (f.files refl))

@@ -14,7 +14,7 @@ use Rattle.thrift_host.specs.Serving.{AskedServing, HostChange, IsPlaceKept, IsU
 use Rattle.thrift_host.specs.Steps.{EndsWithout, EndsUnbound, EndsAfterServing, TellsServing, status_of_port}
 use Rattle.call_rules.specs.Handling.{ServiceState}
 use Rattle.command_line.specs.Served.{PlainServed}
-use Rattle.command_line.specs.Words.{PlainCommand, serves}
+use Rattle.command_line.specs.Words.{serves}
 use Rattle.idl_check.specs.declared.refusal.NoSchema.{NoSchema}
 use Rattle.idl_check.specs.declared.refusal.NoSchema.TheVariants as reasons
 use Rattle.service_binding.specs.declared.fault.BindFault.{BindFault}
@@ -113,11 +113,10 @@ pub written_by : (a : AskedServing) (c : HostChange) (ended : Status) (e : Error
     → EndsAfterServing a.run.says result ended e → ended ≡ WriteFault → result ≡ Err (serve_faults.Unserved port_faults.WriteFault)
 written_by a c ended e result tells h is = not_written ended e (subst IsWriteFault (sym is) tt) a c result tells h
 
--- what a status says of serving it says of the words
-pub serving_asked : (says : PlainServed) (port accept : ℕ) (journal lent : List ℕ) (handlers : List ServiceState) (status : Status) (c : HostChange)
+-- serving, whose journal's name was lent
+pub serves_asked : (says : PlainServed) (port accept : ℕ) (journal lent : List ℕ) (handlers : List ServiceState) (status : Status) (c : HostChange)
     → c.streams.left ≡ c.streams.left_before → lent ≡ journal
     → MeansServing (record { run = asked_run says c.place.files_before handlers; place = asked_place port accept lent }) c status
-    → (words : Option PlainCommand) → words ≡ Some (serves says port accept journal) → Means words handlers status c
-serving_asked says port accept journal lent handlers status c left lent_is h words is =
-    subst (λ w. Means w handlers status c) (sym is)
+    → Means (Some (serves says port accept journal)) handlers status c
+serves_asked says port accept journal lent handlers status c left lent_is h =
     (left, subst (λ j. MeansServing (record { run = asked_run says c.place.files_before handlers; place = asked_place port accept j }) c status) lent_is h)

@@ -10,4 +10,5 @@ pub mod Complete
 pub mod Steps
 pub mod CompatSteps
 pub mod CallSteps
+pub mod CommandSteps
 pub mod MayBeServed

@@ -5,6 +5,7 @@ ghost use Rattle.outside.specs.Cause.{Rose};
 ghost use Rattle.command_line.specs.Answering.{plain_served};
 ghost use Rattle.command_line.specs.Bounds.{KeepsServedBounds};
 ghost use Rattle.command_line.specs.Words.{words_of};
+ghost use Rattle.thrift_host.specs.CommandSteps.{EndsCommand};
 ghost use Rattle.thrift_host.specs.Complete.{IsWellAsked, NoneRose};
 ghost use Rattle.thrift_host.specs.Top.{Means, MeansCalled, Says, KeepsPlace, asked_run, asked_place};
 ghost use Rattle.thrift_host.specs.Runs.{MeansRun, SaysRun, SaysUnarranged, rehearsing, recording};
@@ -145,28 +146,23 @@ fn command_of<
     gate: &G,
     handlers: Vec<H>,
 ) -> Status
-    ensures means { Means (words_of (map string_bytes words.now)) (map H.service handlers.items) result
-        (host_change (S.left input.old) (S.left input.new) (K.taken output.old) (K.taken output.new)
-        (place_change (F.files files.old) (F.files files.new) (F.sink_faults files.old) (F.sink_faults files.new) (B.past binder.old) (B.past binder.new))) }
-    ensures errors { Says (words_of (map string_bytes words.now)) (map H.service handlers.items) result
+    ensures { EndsCommand (words_of (map string_bytes words.now)) (map H.service handlers.items) result
         (host_change (S.left input.old) (S.left input.new) (K.taken output.old) (K.taken output.new)
         (place_change (F.files files.old) (F.files files.new) (F.sink_faults files.old) (F.sink_faults files.new) (B.past binder.old) (B.past binder.new)))
-        (record { taken_before = E.taken errors.old; taken = E.taken errors.new; faults_before = E.faults errors.old; faults = E.faults errors.new }) }
-    ensures place { KeepsPlace (words_of (map string_bytes words.now))
-        (place_change (F.files files.old) (F.files files.new) (F.sink_faults files.old) (F.sink_faults files.new) (B.past binder.old) (B.past binder.new)) }
-    ensures called { MeansCalled (words_of (map string_bytes words.now)) (F.files files.old) result
         (record { called_before = B.called binder.old; called = B.called binder.new; taken_before = K.taken output.old; taken = K.taken output.new })
-        (record { taken_before = E.taken errors.old; taken = E.taken errors.new; faults_before = E.faults errors.old; faults = E.faults errors.new }) }
-    ensures file_fault { result ≡ Status.FileFault → Rose (F.faults files.old) (F.faults files.new) }
-    ensures read_fault { result ≡ Status.ReadFault → Rose (S.faults input.old) (S.faults input.new) }
-    ensures write_fault { result ≡ Status.WriteFault → Rose (K.faults output.old) (K.faults output.new) }
-    ensures net_fault { result ≡ Status.NetFault → Rose (B.faults binder.old) (B.faults binder.new) }
-    ensures journal_fault { result ≡ Status.JournalFault → Rose (F.sink_faults files.old) (F.sink_faults files.new) }
-    ensures files_kept { result ≡ Status.Done → F.faults files.new ≡ F.faults files.old }
-    ensures input_kept { result ≡ Status.Done → S.faults input.new ≡ S.faults input.old }
-    ensures output_kept { result ≡ Status.Done → K.faults output.new ≡ K.faults output.old }
-    ensures binder_kept { result ≡ Status.Done → B.faults binder.new ≡ B.faults binder.old }
-    ensures sinks_kept { result ≡ Status.Done → F.sink_faults files.new ≡ F.sink_faults files.old }
+        (record { taken_before = E.taken errors.old; taken = E.taken errors.new; faults_before = E.faults errors.old; faults = E.faults errors.new })
+        (record {
+          files_before = F.faults files.old;
+          files = F.faults files.new;
+          input_before = S.faults input.old;
+          input = S.faults input.new;
+          output_before = K.faults output.old;
+          output = K.faults output.new;
+          binder_before = B.faults binder.old;
+          binder = B.faults binder.new;
+          sinks_before = F.sink_faults files.old;
+          sinks = F.sink_faults files.new;
+        }) }
 {
     match read_words(alloc, words) {
         Ok(Command::Check(idl)) => check(alloc, files, output, errors, idl.as_str()),
@@ -372,5 +368,5 @@ fn work_and_say<F: Files, K: Sink, E: Sink, G: Gate + Sync, H: Handler, R: Threa
     end_run(alloc, errors, &served, came_to)
 }
 
-/// Lets go what the words said is served.
+/// Lets go of what the words say is served.
 fn let_go(_served: ServedIdl) {}
