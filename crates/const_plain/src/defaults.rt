@@ -12,6 +12,7 @@ ghost use Rattle.check_model.specs.FieldLists.{NumberedField, kind_said, fields_
 ghost use Rattle.check_model.specs.Evaluation.{default_in, default_of};
 ghost use Rattle.const_plain.specs.InMemory.{offered_fields, numbered_field};
 
+use crate::tidy::in_front;
 use check_plain::{
     Based, Made, all_services, all_structs, id_behind, one_more_unnumbered, value_number,
 };
@@ -125,9 +126,8 @@ fn copied<'a>(alloc: Global, fields: &[FieldWithId<'a>]) -> Made<VecDeque<FieldW
     let [first, rest @ ..] = fields else {
         return Ok(VecDeque::new(alloc));
     };
-    let mut made = copied(alloc, rest)?;
-    made.push_front(*first)?;
-    Ok(made)
+    let behind = copied(alloc, rest)?;
+    in_front(*first, behind)
 }
 
 /// A field among others by rising id, behind those with its id or a lower one.
@@ -141,13 +141,11 @@ fn put_by_id<'a>(
     if let [other, more @ ..] = sorted
         && other.id <= field.id
     {
-        let mut made = put_by_id(alloc, field, more)?;
-        made.push_front(*other)?;
-        return Ok(made);
+        let behind = put_by_id(alloc, field, more)?;
+        return in_front(*other, behind);
     }
-    let mut made = copied(alloc, sorted)?;
-    made.push_front(field)?;
-    Ok(made)
+    let behind = copied(alloc, sorted)?;
+    in_front(field, behind)
 }
 
 /// Fields with their ids, behind so many without a written number.
@@ -162,12 +160,9 @@ fn numbered<'a>(
         return Ok(VecDeque::new(alloc));
     };
     let next = one_more_unnumbered(unnumbered, field)?;
-    let mut made = numbered(alloc, next, rest)?;
-    made.push_front(FieldWithId {
-        id: id_behind(unnumbered, field),
-        field,
-    })?;
-    Ok(made)
+    let behind = numbered(alloc, next, rest)?;
+    let id = id_behind(unnumbered, field);
+    in_front(FieldWithId { id, field }, behind)
 }
 
 /// Fields put one after another among others by rising id.

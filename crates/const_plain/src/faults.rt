@@ -4,7 +4,7 @@ use idl_token::Place;
 use std::alloc::{AllocError, AllocFailed};
 
 /// Why a constant value can't be evaluated.
-#[derive(Clone, Copy, Debug, PartialEq, Eq)]
+#[derive(Clone, Copy)]
 pub enum PlainFault {
     /// The form doesn't fit the type, or a union is given another number of entries than one.
     WrongKind,
@@ -40,7 +40,7 @@ impl From<AllocError> for PlainFault {
 }
 
 /// The place of the first fault, and what is wrong there; where memory ran out, anywhere.
-#[derive(Clone, Copy, Debug, PartialEq, Eq)]
+#[derive(Clone, Copy)]
 pub struct PlainStop {
     /// The place of the value at fault.
     pub at: Place,
