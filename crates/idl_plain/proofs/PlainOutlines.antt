@@ -1,5 +1,5 @@
 -- The outline of each kind of phrase in memory.
-use Rattle.std.proofs.Common.{◌≡◌, rules}
+use Rattle.std.proofs.Common.{◌≡◌, ◌∙◌, ap, sym, rules}
 use Rattle.std.specs.Global.{Box}
 use Rattle.idl_token.specs.declared.terminal.Terminal.{Terminal}
 use Rattle.idl_plain.specs.declared.phrase.PlainPhrase as plain
@@ -25,3 +25,15 @@ pub outline_of-Many : (p : Box plain.PlainPhrase) → outline_of (plain.Many p) 
 outline_of-Many p = search (rules, the_lemmas)
 
 pub ruleset outlines = (outline_of-One, outline_of-Deep, outline_of-Chain, outline_of-Either, outline_of-Maybe, outline_of-Many)
+
+-- the outline of a phrase whose kind was found, by those of its parts
+pub chained : (x : plain.PlainPhrase) (p q : Box plain.PlainPhrase) (a b : plain.PlainPhrase) → x ≡ plain.Chain p q → a ≡ p.value → b ≡ q.value
+    → both (outline_of a) (outline_of b) ≡ outline_of x
+chained x p q a b is first second = (λ i. both (outline_of (first i)) (outline_of (second i))) ∙ sym (ap outline_of is ∙ outline_of-Chain p q)
+
+pub chosen : (x : plain.PlainPhrase) (p q : Box plain.PlainPhrase) (a b : plain.PlainPhrase) → x ≡ plain.Either p q → a ≡ p.value → b ≡ q.value
+    → choice (outline_of a) (outline_of b) ≡ outline_of x
+chosen x p q a b is first second = (λ i. choice (outline_of (first i)) (outline_of (second i))) ∙ sym (ap outline_of is ∙ outline_of-Either p q)
+
+pub perhaps_one : (x : plain.PlainPhrase) (p : Box plain.PlainPhrase) (a : plain.PlainPhrase) → x ≡ plain.Maybe p → a ≡ p.value → perhaps (outline_of a) ≡ outline_of x
+perhaps_one x p a is inner = (λ i. perhaps (outline_of (inner i))) ∙ sym (ap outline_of is ∙ outline_of-Maybe p)

@@ -1,9 +1,9 @@
 //! Where a phrase may end.
-ghost use Rattle.std.specs.Prelude.{◌≡◌, ◌↔◌, ◌≤◌, ◌<◌, ℕ, List, [], ◌∷◌, length, IfOk, IsTrue};
+ghost use Rattle.std.specs.Prelude.{◌≡◌, ◌↔◌, ◌≤◌, ◌<◌, ℕ, List, [], ◌∷◌, ◌++◌, length, IfOk, IsTrue};
 ghost use Rattle.std.specs.List.{Contains, flat_map};
 ghost use Rattle.idl_parser.specs.Phrases as grammar;
 ghost use Rattle.idl_parser.specs.Phrases.{Lexeme};
-ghost use Rattle.idl_plain.specs.PlainPhrases.{outline, outline_of, terminals, DerivesBetween};
+ghost use Rattle.idl_plain.specs.PlainPhrases.{outline, outline_of, symbol, terminals, DerivesBetween};
 ghost use Rattle.idl_plain.specs.PlainEnds as by_cases;
 ghost use Rattle.idl_plain.specs.PlainEnds.{is_at, times};
 
@@ -24,8 +24,44 @@ pub fn ends(
     ends_from(alloc, phrase, symbols, from)
 }
 
+/// One place.
+fn one_place(alloc: Global, at: usize) -> Result<Vec<usize>, AllocError>
+    ensures { IfOk result (λ found. found.items ≡ at ∷ []) }
+{
+    let mut all = Vec::new(alloc);
+    all.push(at)?;
+    Ok(all)
+}
+
+/// The place behind a symbol, where it stands at a place.
+fn ends_of_one(
+    alloc: Global,
+    wanted: Terminal,
+    symbols: &[Terminal],
+    from: usize,
+) -> Result<Vec<usize>, AllocError>
+    ensures { IfOk result (λ found. found.items ≡ by_cases.ends (symbol wanted) symbols.now from) }
+{
+    if is_at(symbols, from, wanted) {
+        return one_place(alloc, from + 1);
+    }
+    Ok(Vec::new(alloc))
+}
+
+/// Some places, and others behind them.
+fn joined(
+    first: Result<Vec<usize>, AllocError>,
+    second: Result<Vec<usize>, AllocError>,
+) -> Result<Vec<usize>, AllocError>
+    ensures { (a b : List ℕ) → IfOk first (λ v. v.items ≡ a) → IfOk second (λ v. v.items ≡ b) → IfOk result (λ v. v.items ≡ a ++ b) }
+{
+    let second = second?;
+    let mut all = first?;
+    all.extend_from_slice(second.as_slice())?;
+    Ok(all)
+}
+
 #[cycle(ends)]
-#[tactic(auto, using(crate::proofs::PlainOutlines::outlines))]
 pub(crate) fn ends_from(
     alloc: Global,
     phrase: &PlainPhrase,
@@ -34,29 +70,37 @@ pub(crate) fn ends_from(
 ) -> Result<Vec<usize>, AllocError>
     ensures { IfOk result (λ found. found.items ≡ by_cases.ends (outline_of phrase.now) symbols.now from) }
 {
-    let mut all = Vec::new(alloc);
     match phrase {
-        PlainPhrase::One(wanted) => {
-            if is_at(symbols, from, *wanted) {
-                all.push(from + 1)?;
-            }
-        }
-        PlainPhrase::Deep(_) => {}
+        PlainPhrase::One(wanted) => ends_of_one(alloc, *wanted, symbols, from),
+        PlainPhrase::Deep(_) => Ok(Vec::new(alloc)),
         PlainPhrase::Chain(first, second) => {
-            let middles = ends_from(alloc, first, symbols, from)?;
-            return ends_from_each(alloc, second, symbols, middles.as_slice());
+            let middles = ends_from(alloc, first, symbols, from);
+            ends_behind(alloc, second, symbols, middles)
         }
-        PlainPhrase::Either(first, second) => {
-            all.append(&mut ends_from(alloc, first, symbols, from)?)?;
-            all.append(&mut ends_from(alloc, second, symbols, from)?)?;
-        }
-        PlainPhrase::Maybe(inner) => {
-            all.push(from)?;
-            all.append(&mut ends_from(alloc, inner, symbols, from)?)?;
-        }
-        PlainPhrase::Many(inner) => return ends_of_row(alloc, inner, symbols, from),
+        PlainPhrase::Either(first, second) => joined(
+            ends_from(alloc, first, symbols, from),
+            ends_from(alloc, second, symbols, from),
+        ),
+        PlainPhrase::Maybe(inner) => joined(
+            one_place(alloc, from),
+            ends_from(alloc, inner, symbols, from),
+        ),
+        PlainPhrase::Many(inner) => ends_of_row(alloc, inner, symbols, from),
     }
-    Ok(all)
+}
+
+/// The places at which a phrase may end that begins at one of the places which were found.
+#[cycle(ends)]
+fn ends_behind(
+    alloc: Global,
+    phrase: &PlainPhrase,
+    symbols: &[Terminal],
+    starts: Result<Vec<usize>, AllocError>,
+) -> Result<Vec<usize>, AllocError>
+    ensures { (s : List ℕ) → IfOk starts (λ v. v.items ≡ s) → IfOk result (λ found. found.items ≡ flat_map (by_cases.ends (outline_of phrase.now) symbols.now) s) }
+{
+    let starts = starts?;
+    ends_from_each(alloc, phrase, symbols, starts.as_slice())
 }
 
 /// The places at which a phrase may end that begins at one of some places.
