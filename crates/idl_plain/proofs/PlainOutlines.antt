@@ -37,3 +37,6 @@ chosen x p q a b is first second = (λ i. choice (outline_of (first i)) (outline
 
 pub perhaps_one : (x : plain.PlainPhrase) (p : Box plain.PlainPhrase) (a : plain.PlainPhrase) → x ≡ plain.Maybe p → a ≡ p.value → perhaps (outline_of a) ≡ outline_of x
 perhaps_one x p a is inner = (λ i. perhaps (outline_of (inner i))) ∙ sym (ap outline_of is ∙ outline_of-Maybe p)
+
+pub in_a_row : (x : plain.PlainPhrase) (p : Box plain.PlainPhrase) (a : plain.PlainPhrase) → x ≡ plain.Many p → a ≡ p.value → row (outline_of a) ≡ outline_of x
+in_a_row x p a is inner = (λ i. row (outline_of (inner i))) ∙ sym (ap outline_of is ∙ outline_of-Many p)

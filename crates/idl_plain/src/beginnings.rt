@@ -1,5 +1,5 @@
 //! Whether some phrase begins with some symbols.
-ghost use Rattle.std.specs.Prelude.{◌≡◌, ◌↔◌, ◌<◌, ◌+◌, ◌&&◌, ◌||◌, false, length, List, IfOk, IsTrue};
+ghost use Rattle.std.specs.Prelude.{◌≡◌, ◌↔◌, ◌<◌, ◌+◌, ◌&&◌, ◌||◌, ℕ, false, length, List, IfOk, IsTrue};
 ghost use Rattle.std.specs.List.{list_any};
 ghost use Rattle.idl_parser.specs.Phrases as grammar;
 ghost use Rattle.idl_parser.specs.Phrases.{Lexeme};
@@ -20,7 +20,6 @@ pub fn goes_on(alloc: Global, phrase: &PlainPhrase, front: &[Terminal]) -> Resul
 }
 
 #[cycle(goes_on)]
-#[tactic(auto, using(crate::proofs::PlainOutlines::outlines))]
 fn goes_on_from(
     alloc: Global,
     phrase: &PlainPhrase,
@@ -33,11 +32,11 @@ fn goes_on_from(
         PlainPhrase::One(wanted) => Ok(is_all(symbols, from, *wanted)),
         PlainPhrase::Deep(_) => Ok(false),
         PlainPhrase::Chain(first, second) => {
-            if goes_on_from(alloc, first, symbols, from)? && is_possible(second) {
+            if ends_possibly(goes_on_from(alloc, first, symbols, from)?, second) {
                 return Ok(true);
             }
-            let middles = ends_from(alloc, first, symbols, from)?;
-            goes_on_from_one(alloc, second, symbols, middles.as_slice())
+            let middles = ends_from(alloc, first, symbols, from);
+            goes_on_behind(alloc, second, symbols, middles)
         }
         PlainPhrase::Either(first, second) => {
             if goes_on_from(alloc, first, symbols, from)? {
@@ -52,13 +51,41 @@ fn goes_on_from(
             goes_on_from(alloc, inner, symbols, from)
         }
         PlainPhrase::Many(inner) => {
-            let starts = ends_from(alloc, phrase, symbols, from)?;
-            if one_is_end(symbols, starts.as_slice()) {
-                return Ok(true);
-            }
-            goes_on_from_one(alloc, inner, symbols, starts.as_slice())
+            let starts = ends_from(alloc, phrase, symbols, from);
+            row_goes_on(alloc, inner, symbols, starts)
         }
     }
+}
+
+/// Whether some phrase begins with all symbols from one of the places on that were found.
+#[cycle(goes_on)]
+fn goes_on_behind(
+    alloc: Global,
+    phrase: &PlainPhrase,
+    symbols: &[Terminal],
+    starts: Result<Vec<usize>, AllocError>,
+) -> Result<bool, AllocError>
+    ensures { (s : List ℕ) → IfOk starts (λ v. v.items ≡ s) → IfOk result (λ yes. yes ≡ list_any (by_cases.goes_on (outline_of phrase.now) symbols.now) s) }
+{
+    let starts = starts?;
+    goes_on_from_one(alloc, phrase, symbols, starts.as_slice())
+}
+
+/// Whether nothing is left at one of the ends of a row that were found, or some further phrase of it begins there.
+#[cycle(goes_on)]
+fn row_goes_on(
+    alloc: Global,
+    phrase: &PlainPhrase,
+    symbols: &[Terminal],
+    starts: Result<Vec<usize>, AllocError>,
+) -> Result<bool, AllocError>
+    ensures { (s : List ℕ) → IfOk starts (λ v. v.items ≡ s) → IfOk result (λ yes. yes ≡ (list_any (is_at_end symbols.now) s || list_any (by_cases.goes_on (outline_of phrase.now) symbols.now) s)) }
+{
+    let starts = starts?;
+    if one_is_end(symbols, starts.as_slice()) {
+        return Ok(true);
+    }
+    goes_on_from_one(alloc, phrase, symbols, starts.as_slice())
 }
 
 /// Whether some phrase begins with all symbols from one of some places on.
@@ -78,6 +105,13 @@ fn goes_on_from_one(
         }
     }
     Ok(false)
+}
+
+/// Whether a first phrase goes on, and some symbols are the second.
+fn ends_possibly(first_goes_on: bool, second: &PlainPhrase) -> bool
+    ensures { result ≡ (first_goes_on && is_possible (outline_of second.now)) }
+{
+    first_goes_on && is_possible(second)
 }
 
 /// Whether some symbols are such a phrase.
