@@ -1,6 +1,6 @@
 //! The decision on a payload.
 
-ghost use Rattle.std.specs.Prelude.{◌≡◌, IfOk};
+ghost use Rattle.std.specs.Prelude.{◌≡◌};
 ghost use Rattle.host_model.specs.DeskRules.{Invoke};
 ghost use Rattle.thrift_value.specs.TreeOf.{tree_of};
 ghost use Rattle.call_rules.specs.Answers.{plain_decision};
@@ -111,7 +111,6 @@ impl Office {
     }
 
     /// The call of a function, by its arguments.
-    #[tactic(auto, unfolding(call_model::specs::Decisions::refused))]
     fn call(
         &self,
         alloc: Global,
@@ -129,6 +128,29 @@ impl Office {
         ensures { IfOk result (λ d. plain_decision d ≡ call_made (plain_office self.now) head.now (bound_of bound) (plain_function function.now)
             (arguments_at (schema_of self.now.schema) self.now.protocol function.now.args payload.now head.now.behind)) }
     {
+        let method = method.to_vec(alloc)?;
+        self.call_with(alloc, payload, head, ByteText::new(method), bound, function)
+    }
+
+    /// The same with the method's name, which is copied first, so that no arguments are let go for want of memory.
+    #[tactic(auto, unfolding(call_model::specs::Decisions::refused))]
+    fn call_with(
+        &self,
+        alloc: Global,
+        payload: &[u8],
+        head: &LentHead<'_>,
+        method: ByteText,
+        bound: BoundService,
+        function: &FnDesc,
+    ) -> Result<Decision, AllocError>
+        requires sound { IsSound (schema_of self.now.schema) }
+        requires place { IsPlaceIn (schema_of self.now.schema).structs function.now.args }
+        requires name { length head.now.name ≤ longest_payload }
+        requires method { method ≡ method_part head.now.name }
+        requires within { head.now.behind ≤ length payload.now }
+        ensures { IfOk result (λ d. plain_decision d ≡ call_made (plain_office self.now) head.now (bound_of bound) (plain_function function.now)
+            (arguments_at (schema_of self.now.schema) self.now.protocol function.now.args payload.now head.now.behind)) }
+    {
         let silent = is_silent(head, function);
         match arguments_at(
             alloc,
@@ -139,7 +161,7 @@ impl Office {
             payload,
             head.behind(),
         )? {
-            Ok(args) => invoked(alloc, bound.slot, method, args, silent),
+            Ok(args) => Ok(invoked(bound.slot, method, args, silent)),
             Err(fault) => self.refuse_arguments(alloc, head, silent, fault),
         }
     }
@@ -211,22 +233,15 @@ impl Office {
 }
 
 /// The call of a method at a slot.
-fn invoked(
-    alloc: Global,
-    slot: u32,
-    method: &[u8],
-    args: Value,
-    silent: bool,
-) -> Result<Decision, AllocError>
-    ensures { IfOk result (λ d. plain_decision d ≡ Invoke (record { slot = slot; method = method.now; args = tree_of args; silent = silent })) }
+fn invoked(slot: u32, method: ByteText, args: Value, silent: bool) -> Decision
+    ensures { plain_decision result ≡ Invoke (record { slot = slot; method = method; args = tree_of args; silent = silent }) }
 {
-    let method = method.to_vec(alloc)?;
-    Ok(Decision::Invoke(Call {
+    Decision::Invoke(Call {
         slot,
-        method: ByteText::new(method),
+        method,
         args,
         silent,
-    }))
+    })
 }
 
 /// Whether the sender of a message waits for no reply.
