@@ -9,9 +9,11 @@ use Rattle.thrift_value.specs.declared.tag.Tag.{Tag}
 use Rattle.thrift_value.specs.declared.tag.Tag.TheVariants as tag
 use Rattle.thrift_value.specs.declared.value.Value as value
 use Rattle.thrift_value.specs.declared.value.Value.{Value}
+use Rattle.thrift_value.specs.declared.value.Fields.{Fields}
+use Rattle.thrift_value.specs.declared.value.Items.{Items}
 use Rattle.thrift_value.specs.declared.value.Pairs.{Pairs}
-use Rattle.thrift_value.specs.TreeOf.{tree_of, pair_tree, item_trees, pair_trees, pairs_tree}
-use Rattle.thrift_value.proofs.Trees.{tree_of-is_Map}
+use Rattle.thrift_value.specs.TreeOf.{tree_of, pair_tree, item_trees, pair_trees, fields_tree, items_tree, pairs_tree}
+use Rattle.thrift_value.proofs.Trees.{tree_of-is_Struct, tree_of-is_Map, tree_of-is_Set, tree_of-is_List}
 use Rattle.thrift_value.specs.Measures.{depth_of, fields_depth, items_depth, pairs_depth}
 use Rattle.thrift_value.specs.Sizes.{items_len, pairs_len}
 use Rattle.thrift_value.specs.Tags.{tag_of}
@@ -98,11 +100,27 @@ outgoing_number structs n (kind_list _) _ h = refl
 
 pub ruleset outgoing_equations = (outgoing_struct, outgoing_map, outgoing_set, outgoing_list, outgoing_bytes, outgoing_number)
 
--- a map in memory, by its pairs
-pub map_by_pairs : (structs : List PlainStruct) (n : ℕ) (kind : PlainKind) (p : PlainKind × PlainKind) (x : Value) (k t : Tag) (pairs : Pairs) (r : Bool) → x ≡ value.Map k t pairs
-    → map_of_kind kind ≡ Some p → r ≡ does_map_go_out structs n p.0 p.1 k t (pairs_tree pairs) → r ≡ goes_out structs n kind (tree_of x)
-map_by_pairs structs n kind p x k t pairs r is parts here =
-    here ∙ sym (ap (goes_out structs n kind) (tree_of-is_Map x k t pairs is) ∙ outgoing_map structs n kind k t (pairs_tree pairs) ∙ ap (map_out_under structs n k t (pairs_tree pairs)) parts)
+-- values in memory, by the parts of their types
+module _ (structs : List PlainStruct) (n : ℕ) (kind : PlainKind) (v : Value) (r : Bool) where
+  pub struct_by_part : (fields : Fields) (part : Option ℕ) → v ≡ value.Struct fields → part ≡ struct_of_kind kind → r ≡ struct_out_under structs n (fields_tree fields) part
+      → r ≡ goes_out structs n kind (tree_of v)
+  struct_by_part fields part is known here =
+      here ∙ sym (ap (goes_out structs n kind) (tree_of-is_Struct v fields is) ∙ outgoing_struct structs n kind (fields_tree fields) ∙ ap (struct_out_under structs n (fields_tree fields)) (sym known))
+
+  pub map_by_parts : (k t : Tag) (pairs : Pairs) (parts : Option (PlainKind × PlainKind)) → v ≡ value.Map k t pairs → parts ≡ map_of_kind kind → r ≡ map_out_under structs n k t (pairs_tree pairs) parts
+      → r ≡ goes_out structs n kind (tree_of v)
+  map_by_parts k t pairs parts is known here =
+      here ∙ sym (ap (goes_out structs n kind) (tree_of-is_Map v k t pairs is) ∙ outgoing_map structs n kind k t (pairs_tree pairs) ∙ ap (map_out_under structs n k t (pairs_tree pairs)) (sym known))
+
+  pub set_by_part : (t : Tag) (items : Items) (part : Option PlainKind) → v ≡ value.Set t items → part ≡ set_of_kind kind → r ≡ set_out_under structs n t (items_tree items) part
+      → r ≡ goes_out structs n kind (tree_of v)
+  set_by_part t items part is known here =
+      here ∙ sym (ap (goes_out structs n kind) (tree_of-is_Set v t items is) ∙ outgoing_set structs n kind t (items_tree items) ∙ ap (set_out_under structs n t (items_tree items)) (sym known))
+
+  pub list_by_part : (t : Tag) (items : Items) (part : Option PlainKind) → v ≡ value.List t items → part ≡ list_of_kind kind → r ≡ list_out_under structs n t (items_tree items) part
+      → r ≡ goes_out structs n kind (tree_of v)
+  list_by_part t items part is known here =
+      here ∙ sym (ap (goes_out structs n kind) (tree_of-is_List v t items is) ∙ outgoing_list structs n kind t (items_tree items) ∙ ap (list_out_under structs n t (items_tree items)) (sym known))
 
 -- a set goes out where a list of its members does and they rise
 rise_last : (a b r c : Bool) → (a && (b && (r && c))) ≡ ((a && (b && c)) && r)
