@@ -1,5 +1,5 @@
 -- A loop over a row: what was read so far, and what is left of it.
-use Rattle.std.proofs.Common.{◌≡◌, Bool, true, false, ℕ, zero, suc, ◌+◌, ◌-◌, ◌≤◌, ◌<◌, List, [], ◌∷◌, ◌++◌, map, Option, Some, None, Result, Ok, Err, refl, sym, ap, ◌∙◌, subst, arith}
+use Rattle.std.proofs.Common.{◌≡◌, Bool, true, false, ℕ, zero, suc, ◌+◌, ◌-◌, ◌≤◌, ◌<◌, List, [], ◌∷◌, ◌++◌, map, Option, Some, None, Result, Ok, Err, refl, sym, ap, ◌∙◌, subst, inl, inr, arith}
 use Rattle.idl_token.specs.Limits.{longest_idl_text}
 use Rattle.idl_token.specs.declared.terminal.Terminal.{Terminal}
 use Rattle.idl_parser.specs.declared.reader.Stop.{Stop}
@@ -9,8 +9,8 @@ use Rattle.idl_parser.specs.Shapes.{starts_in, first}
 use Rattle.idl_parser.specs.Leaves.{neither}
 use Rattle.idl_parser.specs.Reading.{ParseResult, done, failed, map_tree, parse_then, repeat, read}
 use Rattle.idl_parser.specs.ReaderCalls.{StopsAt, most}
-use Rattle.std.specs.Prelude.{MatchResult}
-use Rattle.std.specs.Result.{IsErrAnd}
+use Rattle.std.specs.Prelude.{MatchResult, ◌⊎◌}
+use Rattle.std.specs.Result.{IsErrAnd, IsOkAnd}
 use Rattle.std.proofs.lemmas.List.{map-append}
 use Rattle.idl_parser.specs.declared.tree.ConstTree.{ConstTree}
 use Rattle.idl_parser.specs.declared.tree.Include.{Include}
@@ -120,12 +120,28 @@ unfolding most
 all_read i h = h
 
 -- one item more
-pub put_on : {A : Type 0} (tree : A → Node) {limit i : ℕ} {join : Node → Node → Node} {p : Phrase} {set : List Terminal} {start left : List Lexeme} (all more : List A) (x : A) (mid : List Lexeme)
+put_on : {A : Type 0} (tree : A → Node) {limit i : ℕ} {join : Node → Node → Node} {p : Phrase} {set : List Terminal} {start left : List Lexeme} (all more : List A) (x : A) (mid : List Lexeme)
     → SoFar limit i join p set start left (map tree all) → i < limit → starts_in set left ≡ true → read limit p left ≡ done (tree x) mid → more ≡ all ++ x ∷ []
     → SoFar limit (i + 1) join p set start mid (map tree more)
 put_on tree {limit} {i} {join} {p} {set} {start} {left} all more x mid s less here e is =
     subst (λ xs. SoFar limit (i + 1) join p set start mid xs) (sym (ap (map tree) is ∙ map-append tree all (x ∷ [])))
     (onward s less here (tree x) mid e)
+
+-- one item more, where it was read
+pub put_on_read : {A : Type 0} (tree : A → Node) {limit i : ℕ} {join : Node → Node → Node} {p : Phrase} {set : List Terminal} {start left : List Lexeme} (all more : List A) (item : Result A Stop) (mid : List Lexeme)
+    → SoFar limit i join p set start left (map tree all) → i < limit → starts_in set left ≡ true
+    → MatchResult item (λ x. read limit p left ≡ done (tree x) mid) (λ e. StopsAt e (read limit p left) mid) → IsOkAnd item (λ x. more ≡ all ++ x ∷ [])
+    → SoFar limit (i + 1) join p set start mid (map tree more)
+put_on_read tree all more (Ok x) mid s less here e is = put_on tree all more x mid s less here e is
+put_on_read tree all more (Err e) mid s less here stops is = absurd is
+
+-- an item that wasn't read, or found no room
+pub not_put : {A : Type 0} (tree : A → Node) (limit : ℕ) (p : Phrase) (left : List Lexeme) (stop : Stop) (item : Result A Stop) (mid : List Lexeme)
+    → MatchResult item (λ x. read limit p left ≡ done (tree x) mid) (λ e. StopsAt e (read limit p left) mid) → (stop ≡ NoMemory) ⊎ (item ≡ Err stop)
+    → StopsAt stop (read limit p left) mid
+not_put tree limit p left stop item mid outcome (inl e) = subst (λ s. StopsAt s (read limit p left) mid) (sym e) tt
+not_put tree limit p left stop item mid outcome (inr e) =
+    subst (λ r. MatchResult r (λ x. read limit p left ≡ done (tree x) mid) (λ e. StopsAt e (read limit p left) mid)) e outcome
 
 -- a row of pairs
 pub row_of_entries : (ps : List (ConstTree × ConstTree)) → ahead pair (map entry_node ps) none ≡ pair_row (map both_nodes ps)

@@ -12,7 +12,7 @@ ghost use Rattle.idl_parser.specs.Trees.{maybe_node, int_node, name_node, value_
 ghost use Rattle.idl_parser.specs.ReaderCalls.{Parses};
 ghost use Rattle.idl_parser.specs.Documents.{deepest};
 
-use crate::reader::{MAX_SYMBOLS, Stop, SymbolReader, deepest, joined, kept, put};
+use crate::reader::{MAX_SYMBOLS, Stop, SymbolReader, deepest, joined, kept, put_read};
 use crate::tree::{
     Const, ConstTree, Definition, Enum, EnumValue, Field, Function, Int, Name, Service, Struct,
     StructKind, TypeTree, Typedef,
@@ -101,8 +101,8 @@ impl<'a> SymbolReader<'a> {
             if !self.begins_name() {
                 return Ok(all);
             }
-            let item = self.enum_value()?;
-            put(&mut all, item)?;
+            let item = self.enum_value();
+            put_read(&mut all, item)?;
         }
         Ok(all)
     }
@@ -296,8 +296,8 @@ impl<'a> SymbolReader<'a> {
             if !self.begins_function() {
                 return Ok(all);
             }
-            let item = self.function()?;
-            put(&mut all, item)?;
+            let item = self.function();
+            put_read(&mut all, item)?;
         }
         Ok(all)
     }

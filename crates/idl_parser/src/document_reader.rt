@@ -10,7 +10,7 @@ ghost use Rattle.idl_parser.specs.Reading.{read, whole, done};
 ghost use Rattle.idl_parser.specs.ReaderCalls.{Parses, StopsAt, most};
 ghost use Rattle.idl_parser.specs.Trees.{some_of};
 
-use crate::reader::{MAX_SYMBOLS, Stop, SymbolReader, kept, put};
+use crate::reader::{MAX_SYMBOLS, Stop, SymbolReader, kept, put, put_read};
 use crate::tree::{Definition, Document, Include};
 use idl_token::Terminal;
 
@@ -102,8 +102,8 @@ impl<'a> SymbolReader<'a> {
             if !self.begins_definition() {
                 return Ok(all);
             }
-            let item = self.definition()?;
-            put(&mut all, item)?;
+            let item = self.definition();
+            put_read(&mut all, item)?;
         }
         Ok(all)
     }

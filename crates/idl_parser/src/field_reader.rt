@@ -10,7 +10,7 @@ ghost use Rattle.idl_parser.specs.Trees.{maybe_node, int_node, name_node, need_n
 ghost use Rattle.idl_parser.specs.ReaderCalls.{Parses};
 ghost use Rattle.idl_parser.specs.Documents.{deepest};
 
-use crate::reader::{MAX_SYMBOLS, Stop, SymbolReader, deepest, joined, kept, put};
+use crate::reader::{MAX_SYMBOLS, Stop, SymbolReader, deepest, joined, kept, put_read};
 use crate::tree::{ConstTree, Field, Int, Name, Need};
 use idl_token::Terminal;
 
@@ -123,8 +123,8 @@ impl<'a> SymbolReader<'a> {
             if !self.begins_field() {
                 return Ok(all);
             }
-            let item = self.field()?;
-            put(&mut all, item)?;
+            let item = self.field();
+            put_read(&mut all, item)?;
         }
         Ok(all)
     }

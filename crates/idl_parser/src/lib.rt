@@ -74,7 +74,7 @@ pub enum ParseKind {
 }
 
 /// The first fault of a text.
-#[derive(Clone, Copy, Debug, PartialEq, Eq, Error)]
+#[derive(Clone, Copy, Debug, Error)]
 #[error("{at}: {kind}")]
 pub struct ParseFault {
     /// The place of the token at fault, or that behind the last byte.

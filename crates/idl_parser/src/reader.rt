@@ -1,5 +1,6 @@
 //! A reader of symbols, with one symbol of look-ahead.
-ghost use Rattle.std.specs.Prelude.{◌≡◌, ◌≢◌, ◌-◌, map, ◌++◌, ◌∷◌, [], take, drop, IfErr, Result, MatchResult};
+ghost use Rattle.std.specs.Prelude.{◌≡◌, ◌≢◌, ◌-◌, map, ◌++◌, ◌∷◌, [], take, drop, ◌⊎◌, OnOk, IfErr, Result, MatchResult};
+ghost use Rattle.std.specs.Result.{IsOkAnd};
 ghost use Rattle.std.specs.List.{list_any};
 ghost use Rattle.idl_parser.specs.Phrases.{none, place_at, word, flag, text, one};
 ghost use Rattle.idl_parser.specs.Leaves.{sign, kept_word, flagged, text_leaf, literal_leaf, literal_bytes};
@@ -273,6 +274,16 @@ pub(crate) fn put<T: Drop>(all: &mut Vec<T>, item: T) -> Result<(), Stop>
     ensures { MatchResult result (λ _. all.new.items ≡ all.old.items ++ item ∷ []) (λ e. e ≡ Stop.NoMemory) }
 {
     all.push(item)?;
+    Ok(())
+}
+
+/// Adds an item to a list, where it was read.
+pub(crate) fn put_read<T: Drop>(all: &mut Vec<T>, item: Result<T, Stop>) -> Result<(), Stop>
+    ensures put { OnOk result (IsOkAnd item (λ x. all.new.items ≡ all.old.items ++ x ∷ [])) }
+    ensures stopped { IfErr result (λ stop. (stop ≡ Stop.NoMemory) ⊎ (item ≡ Result.Err stop)) }
+{
+    let read = item?;
+    all.push(read)?;
     Ok(())
 }
 

@@ -40,7 +40,7 @@ pub struct Double {
 }
 
 /// A base type.
-#[derive(Clone, Copy, Debug, PartialEq, Eq)]
+#[derive(Clone, Copy)]
 pub enum Base {
     /// `bool`
     Bool,
@@ -97,7 +97,7 @@ pub enum ConstTree {
 }
 
 /// What is said of a field's presence.
-#[derive(Clone, Copy, Debug, PartialEq, Eq)]
+#[derive(Clone, Copy)]
 pub enum Need {
     /// Neither word.
     Default,
@@ -186,7 +186,7 @@ pub struct Enum {
 }
 
 /// What a list of fields makes.
-#[derive(Clone, Copy, Debug, PartialEq, Eq)]
+#[derive(Clone, Copy)]
 pub enum StructKind {
     /// `struct`
     Struct,

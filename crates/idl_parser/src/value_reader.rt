@@ -11,7 +11,7 @@ ghost use Rattle.idl_parser.specs.Constants.{list_item, list_value, map_entry, m
 ghost use Rattle.idl_parser.specs.Trees.{value_node, values_node, entry_node, pairs_node};
 ghost use Rattle.idl_parser.specs.ReaderCalls.{Parses, StopsAt, most};
 
-use crate::reader::{MAX_SYMBOLS, Stop, SymbolReader, deepest, joined, kept, put};
+use crate::reader::{MAX_SYMBOLS, Stop, SymbolReader, deepest, joined, kept, put_read};
 use crate::tree::ConstTree;
 use idl_token::Terminal;
 
@@ -120,8 +120,8 @@ impl<'a> SymbolReader<'a> {
             if !self.begins_value() {
                 return Ok(all);
             }
-            let item = self.list_item(levels)?;
-            put(&mut all, item)?;
+            let item = self.list_item(levels);
+            put_read(&mut all, item)?;
         }
         Ok(all)
     }
@@ -167,8 +167,8 @@ impl<'a> SymbolReader<'a> {
             if !self.begins_value() {
                 return Ok(all);
             }
-            let item = self.map_entry(levels)?;
-            put(&mut all, item)?;
+            let item = self.map_entry(levels);
+            put_read(&mut all, item)?;
         }
         Ok(all)
     }

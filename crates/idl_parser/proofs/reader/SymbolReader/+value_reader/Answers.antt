@@ -1,7 +1,7 @@
 use Rattle.std.proofs.Common.{◌≡◌, ◌∙◌, ap, sym, subst, ◌-◌, suc, arith}
-use Rattle.idl_parser.proofs.Rows.{finished, ended, handed_on, below, all_read, put_on, row_of_entries}
+use Rattle.idl_parser.proofs.Rows.{finished, ended, handed_on, below, all_read, put_on_read, not_put, row_of_entries}
 use Rattle.idl_parser.specs.Reading.{read, done}
-use Rattle.idl_parser.specs.Constants.{inner_value, value_of}
+use Rattle.idl_parser.specs.Constants.{list_item, map_entry, inner_value, value_of}
 use Rattle.idl_parser.specs.ReaderCalls.{Parses, StopsAt, most}
 use Rattle.idl_parser.specs.Trees.{value_node, entry_node, values_node, pairs_node}
 use Rattle.idl_parser.proofs.Firsts.{first_of_item, first_of_pair}
@@ -22,15 +22,15 @@ pub list_items-returns-then-not-begins_value : goal.list_items-returns-then-not-
 list_items-returns-then-not-begins_value t c =
     finished (first_of_item c.args.levels) c.row.invariant (sym c.begins_value.ensures ∙ c.if-not-begins_value.true)
 
-pub list_items-returns-in_err-item : goal.list_items-returns-in_err-item
-list_items-returns-in_err-item t c =
-    handed_on (λ values. values_node values.items) c.in_err-item.field-0.0 c.list_item.new.self c.from_residual.result c.from_residual.ensures.1 (first_of_item c.args.levels) c.row.invariant (below c.row._round c.row-test.true)
-    (sym c.begins_value.ensures ∙ c.if-not-begins_value.false) c.in_err-item.ensures
+pub list_items-returns-in_err-put_read : goal.list_items-returns-in_err-put_read
+list_items-returns-in_err-put_read t c =
+    handed_on (λ values. values_node values.items) c.in_err-put_read.field-0.0 c.list_item-item.new.self c.from_residual.result c.from_residual.ensures.1 (first_of_item c.args.levels) c.row.invariant (below c.row._round c.row-test.true)
+    (sym c.begins_value.ensures ∙ c.if-not-begins_value.false) (not_put value_node most (list_item (value_of c.args.levels)) c.row.self c.in_err-put_read.field-0.0 c.list_item-item.result c.list_item-item.new.self c.list_item-item.ensures c.in_err-put_read.ensures.stopped)
 
 pub list_items-row-preserved : goal.list_items-row-preserved
 list_items-row-preserved t c =
-    put_on value_node c.row.all.items c.put.new.all.items c.in_ok-item.item c.list_item.new.self c.row.invariant (below c.row._round c.row-test.true)
-    (sym c.begins_value.ensures ∙ c.if-not-begins_value.false) c.in_ok-item.ensures c.in_ok-put.ensures
+    put_on_read value_node c.row.all.items c.put_read.new.all.items c.list_item-item.result c.list_item-item.new.self c.row.invariant (below c.row._round c.row-test.true)
+    (sym c.begins_value.ensures ∙ c.if-not-begins_value.false) c.list_item-item.ensures c.in_ok-put_read.ensures.put
 
 pub list_items-returns : goal.list_items-returns
 list_items-returns t c = ended (first_of_item c.args.levels) c.row.invariant (all_read c.row._round c.row-test.false)
@@ -40,15 +40,15 @@ map_entries-returns-then-not-begins_value t c =
     finished (first_of_pair c.args.levels) c.row.invariant (sym c.begins_value.ensures ∙ c.if-not-begins_value.true)
     ∙ ap (λ x. done x c.row.self) (row_of_entries c.row.all.items)
 
-pub map_entries-returns-in_err-item : goal.map_entries-returns-in_err-item
-map_entries-returns-in_err-item t c =
-    handed_on (λ pairs. pairs_node pairs.items) c.in_err-item.field-0.0 c.map_entry.new.self c.from_residual.result c.from_residual.ensures.1 (first_of_pair c.args.levels) c.row.invariant (below c.row._round c.row-test.true)
-    (sym c.begins_value.ensures ∙ c.if-not-begins_value.false) c.in_err-item.ensures
+pub map_entries-returns-in_err-put_read : goal.map_entries-returns-in_err-put_read
+map_entries-returns-in_err-put_read t c =
+    handed_on (λ pairs. pairs_node pairs.items) c.in_err-put_read.field-0.0 c.map_entry-item.new.self c.from_residual.result c.from_residual.ensures.1 (first_of_pair c.args.levels) c.row.invariant (below c.row._round c.row-test.true)
+    (sym c.begins_value.ensures ∙ c.if-not-begins_value.false) (not_put entry_node most (map_entry (value_of c.args.levels)) c.row.self c.in_err-put_read.field-0.0 c.map_entry-item.result c.map_entry-item.new.self c.map_entry-item.ensures c.in_err-put_read.ensures.stopped)
 
 pub map_entries-row-preserved : goal.map_entries-row-preserved
 map_entries-row-preserved t c =
-    put_on entry_node c.row.all.items c.put.new.all.items c.in_ok-item.item c.map_entry.new.self c.row.invariant (below c.row._round c.row-test.true)
-    (sym c.begins_value.ensures ∙ c.if-not-begins_value.false) c.in_ok-item.ensures c.in_ok-put.ensures
+    put_on_read entry_node c.row.all.items c.put_read.new.all.items c.map_entry-item.result c.map_entry-item.new.self c.row.invariant (below c.row._round c.row-test.true)
+    (sym c.begins_value.ensures ∙ c.if-not-begins_value.false) c.map_entry-item.ensures c.in_ok-put_read.ensures.put
 
 pub map_entries-returns : goal.map_entries-returns
 map_entries-returns t c = ended (first_of_pair c.args.levels) c.row.invariant (all_read c.row._round c.row-test.false)
