@@ -4,7 +4,6 @@ use lists::Listed;
 use thrift_value::{ByteText, Value};
 
 /// A type, with typedefs resolved (Thrift IDL, 'Types').
-#[derive(Drop)]
 pub enum TypeDesc {
     /// `bool`
     Bool,
@@ -194,7 +193,6 @@ pub struct FileDesc {
 
 /// What a program of IDL files defines. The main file is number 0; other numbers follow the order in which files begin to be
 /// loaded, and in a file the order of definition. Behind the structs, unions and exceptions stand the arguments of the functions.
-#[derive(Drop)]
 pub struct Schema {
     /// The files.
     pub files: Listed<FileDesc>,
@@ -208,4 +206,49 @@ pub struct Schema {
     pub aliases: Listed<AliasDesc>,
     /// The constants.
     pub constants: Listed<ConstDesc>,
+}
+
+// The drops of a type and of a schema are written out, so that a crate that lets them go needn't prove again how their parts go.
+
+impl Drop for TypeDesc {
+    fn drop(self) {
+        match self {
+            TypeDesc::Map(key, value) => {
+                drop(key);
+                drop(value);
+            }
+            TypeDesc::Set(member) => drop(member),
+            TypeDesc::List(element) => drop(element),
+            TypeDesc::Bool => {}
+            TypeDesc::I8 => {}
+            TypeDesc::I16 => {}
+            TypeDesc::I32 => {}
+            TypeDesc::I64 => {}
+            TypeDesc::Double => {}
+            TypeDesc::Text => {}
+            TypeDesc::Binary => {}
+            TypeDesc::Uuid => {}
+            TypeDesc::Enum(_) => {}
+            TypeDesc::Struct(_) => {}
+        }
+    }
+}
+
+impl Drop for Schema {
+    fn drop(self) {
+        let Schema {
+            files,
+            structs,
+            enums,
+            services,
+            aliases,
+            constants,
+        } = self;
+        drop(files);
+        drop(structs);
+        drop(enums);
+        drop(services);
+        drop(aliases);
+        drop(constants);
+    }
 }
