@@ -125,8 +125,7 @@ fn first_named_break<'a>(
     if let Some(found) = first_break_of_structs(change, change.old.structs.as_slice())? {
         return Ok(Some(found));
     }
-    let found = first_break_of_services(alloc, left, change, change.old.services.as_slice())?;
-    Ok(found)
+    first_break_of_services(alloc, left, change, change.old.services.as_slice())
 }
 
 /// Appends the pair of a struct of the old main file.
@@ -246,8 +245,7 @@ fn first_break<'a>(alloc: Global, change: &Change<'a>) -> Result<Option<FoundBre
         return Ok(Some(found));
     }
     let named = named_pairs(alloc, &mut left, change)?;
-    let found = first_in_rounds(alloc, &mut left, change, named.as_slice())?;
-    Ok(found)
+    first_in_rounds(alloc, &mut left, change, named.as_slice())
 }
 
 /// The first break from a schema to the one that comes after it.
@@ -261,8 +259,7 @@ fn break_between<'a>(
     ensures { IfOk result (λ found. IsFirstOrNone (record { old = schema_of old.now; new = schema_of new.now }) (option_map plain_found_break found)) }
 {
     let change = change_between(alloc, old, new)?;
-    let found = first_break(alloc, &change)?;
-    Ok(found)
+    first_break(alloc, &change)
 }
 
 /// A break of its own, from one that borrows its name.

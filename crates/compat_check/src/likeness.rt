@@ -8,7 +8,9 @@ ghost use Rattle.compat_model.specs.StructPairs.{pairs_at};
 ghost use Rattle.compat_check.specs.Plain.{plain_pair};
 
 use crate::pair::Pair;
-use known_parts::{list_of_kind, map_of_kind, set_of_kind, struct_of_kind, tag_of_kind};
+use known_parts::{
+    are_same_tags, list_of_kind, map_of_kind, set_of_kind, struct_of_kind, tag_of_kind,
+};
 use schema::TypeDesc;
 use std::alloc::AllocError;
 
@@ -38,7 +40,7 @@ fn has_no_struct(kind: &TypeDesc) -> bool
 fn have_same_tags(kind: &TypeDesc, other: &TypeDesc) -> bool
     ensures { result ≡ are_same_tags (tag_of_kind (kind_of kind.now)) (tag_of_kind (kind_of other.now)) }
 {
-    tag_of_kind(kind).cmp(&tag_of_kind(other)).is_eq()
+    are_same_tags(tag_of_kind(kind), tag_of_kind(other))
 }
 
 /// Whether values of one type may be read as another. It recurses once a level.
