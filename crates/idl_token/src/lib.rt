@@ -63,7 +63,7 @@ pub use uuids::uuid_value;
 pub use words::{keyword_of, keyword_text, kind_of_word};
 
 /// What a token is.
-#[derive(Clone, Copy, Debug, PartialEq, Eq)]
+#[derive(Clone, Copy, PartialEq, Eq)]
 pub enum TokenKind {
     /// A word with a meaning of its own.
     Keyword,
@@ -131,7 +131,7 @@ pub enum LexKind {
 }
 
 /// The first fault of a text.
-#[derive(Clone, Copy, Debug, PartialEq, Eq, Error)]
+#[derive(Clone, Copy, Debug, Error)]
 #[error("{at}: {kind}")]
 pub struct LexFault {
     /// Where it stands: a literal, a comment or a number by its first byte.
