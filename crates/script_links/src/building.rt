@@ -1,7 +1,8 @@
 //! A script taken apart, for links to serve: its lines as steps, and for each connection its pieces and rules.
 
-ghost use Rattle.std.specs.Prelude.{◌≡◌, [], ◌∷◌, ◌++◌, length, map, replicate, IfOk, OnOk};
+ghost use Rattle.std.specs.Prelude.{◌≡◌, ◌≤◌, ◌*◌, [], ◌∷◌, ◌++◌, length, map, replicate, IfOk, OnOk};
 ghost use Rattle.std.specs.List.{count_by};
+ghost use Rattle.std.specs.Vec.{vec_capacity};
 ghost use Rattle.script_text.specs.Plans.{plain_line, plain_rules};
 ghost use Rattle.script_links.specs.Steps.{step_of, is_rest};
 ghost use Rattle.script_links.specs.Fresh.{IsFresh, first_connections, with_line, with_piece, dealt, fresh_link, fresh_links};
@@ -15,7 +16,7 @@ use crate::link::{LinkStage, ScriptConn};
 use crate::mark_log::MarkLog;
 use crate::serving::ScriptServing;
 use crate::step::Step;
-use outside::Bytes;
+use outside::{Bytes, RestPlace};
 use script_text::laws::scripts_are_sound;
 use script_text::{RuleList, Script, ScriptLine};
 use std::alloc::{AllocError, Global};
@@ -58,14 +59,8 @@ impl ScriptServing {
         // The script tells that it is sound.
         let _ = script.lines();
         scripts_are_sound();
-        let (lines, rules) = script.into_parts();
-        let rules = rules.into_vec();
-        let mut rows = empty_rows(alloc, rules.as_slice().len())?;
-        let steps = deal(alloc, lines.into_vec(), &mut rows)?;
-        let links = coming(alloc, rows, rules)?;
-        let mut tape = MarkLog::new(alloc);
-        tape.reserve(3 * links.items.as_slice().len())?;
-        let rests = Vec::with_capacity(alloc, rests_among(steps.as_slice()))?;
+        let (steps, links) = taken_apart(alloc, script)?;
+        let (tape, rests) = rooms(alloc, steps.as_slice(), &links)?;
         Ok(ScriptServing {
             alloc,
             steps,
@@ -102,6 +97,37 @@ impl ScriptServing {
     {
         self.links.items.truncate(most);
     }
+}
+
+/// The steps of a script, and its connections, which are to come.
+fn taken_apart(alloc: Global, script: Script) -> Result<(Vec<Step>, Connections), AllocError>
+    ensures steps { IfOk result (λ r. r.0.items ≡ map step_of script.lines) }
+    ensures links { IfOk result (λ r. plain_links r.1.items.items ≡ fresh_links (dealt script.lines (replicate (length script.rules) [])) script.rules) }
+    ensures count { IfOk result (λ r. length r.1.items.items ≡ length script.rules) }
+{
+    let (lines, rules) = script.into_parts();
+    let rules = rules.into_vec();
+    let mut rows = empty_rows(alloc, rules.as_slice().len())?;
+    let steps = deal(alloc, lines.into_vec(), &mut rows)?;
+    let links = coming(alloc, rows, rules)?;
+    Ok((steps, links))
+}
+
+/// Room for the marks that connections are owed, and for the places of rest among these steps.
+fn rooms(
+    alloc: Global,
+    steps: &[Step],
+    links: &Connections,
+) -> Result<(MarkLog, Vec<RestPlace>), AllocError>
+    ensures no_marks { IfOk result (λ r. r.0.items ≡ []) }
+    ensures marks { IfOk result (λ r. 3 * length links.now.items.items ≤ r.0.capacity) }
+    ensures no_rests { IfOk result (λ r. r.1.items ≡ []) }
+    ensures rests { IfOk result (λ r. count_by is_rest steps.now ≤ vec_capacity r.1) }
+{
+    let mut tape = MarkLog::new(alloc);
+    tape.reserve(3 * links.items.as_slice().len())?;
+    let rests = Vec::with_capacity(alloc, rests_among(steps))?;
+    Ok((tape, rests))
 }
 
 /// Makes so many rows without a piece.
