@@ -6,7 +6,7 @@ use std::alloc::{AllocError, Global};
 use std::marker::Model;
 
 /// A text as its bytes, in any encoding or none.
-#[derive(Debug, Drop)]
+#[derive(Debug)]
 pub struct ByteText {
     // Any bytes, in order.
     bytes: Vec<u8>,
@@ -18,6 +18,14 @@ impl Model for ByteText {
     ghost Value = { List ℕ };
 
     ghost view = { λ text. text.bytes.items };
+}
+
+// Written out, so that crates above needn't prove it again.
+impl Drop for ByteText {
+    fn drop(self) {
+        let ByteText { bytes } = self;
+        drop(bytes);
+    }
 }
 
 impl ByteText {
@@ -39,7 +47,8 @@ impl ByteText {
     pub fn into_vec(self) -> Vec<u8>
         ensures { result.items ≡ self }
     {
-        self.bytes
+        let ByteText { bytes } = self;
+        bytes
     }
 
     /// A copy of the text, in memory of its own.

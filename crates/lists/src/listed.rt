@@ -6,7 +6,6 @@ use std::alloc::AllocError;
 use std::marker::Model;
 
 /// A list: small, over a vector, and in a contract the list of its items.
-#[derive(Drop)]
 pub struct Listed<T> {
     // In order.
     items: Vec<T>,
@@ -18,6 +17,14 @@ impl<T> Model for Listed<T> {
     ghost Value = { List T };
 
     ghost view = { λ list. list.items.items };
+}
+
+// Written out, so that crates above needn't prove it again.
+impl<T: Drop> Drop for Listed<T> {
+    fn drop(self) {
+        let Listed { items } = self;
+        drop(items);
+    }
 }
 
 impl<T> Listed<T> {
@@ -39,7 +46,8 @@ impl<T> Listed<T> {
     pub fn into_vec(self) -> Vec<T>
         ensures { result.items ≡ self }
     {
-        self.items
+        let Listed { items } = self;
+        items
     }
 }
 
