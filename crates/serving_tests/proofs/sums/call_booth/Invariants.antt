@@ -1,5 +1,5 @@
 use Rattle.seat_booth.specs.Seats.{IsSeatOf}
-use Rattle.measures.proofs.booth.call_booth.Given as goal
+use Rattle.serving_tests.proofs.sums.call_booth.Given as goal
 
 abbrev pub invariant-loop : goal.invariant-loop
 invariant-loop g l = IsSeatOf l.booth l.seat
