@@ -15,7 +15,6 @@ use std::alloc::{AllocError, Global};
 use std::marker::Model;
 
 /// The open connections, at most 1,024, and the sizes of their frames that are admitted, within one budget.
-#[derive(Drop)]
 pub struct Table {
     /// The connections.
     places: Places,
@@ -33,6 +32,18 @@ impl Model for Table {
     ghost view = { λ t. record { budget = t.read_budget; slots = t.places } };
 
     ghost invariant = { λ t. IsSoundTable t.places t.read_budget t.admitted };
+}
+
+// Written out, so that crates above needn't prove it again.
+impl Drop for Table {
+    fn drop(self) {
+        let Table {
+            places,
+            read_budget: _,
+            admitted: _,
+        } = self;
+        drop(places);
+    }
 }
 
 impl Table {

@@ -22,7 +22,6 @@ use std::sync::Wait;
 /// its bytes were taken. Where sending fails, the next read or write of that connection says so. Reading and writing take no memory:
 /// room for a fault of each connection is taken when it is opened. The end of an input is told
 /// once all that was gathered is sent, and `close` sends what the socket takes at once.
-#[derive(Drop)]
 pub struct NetLinks {
     account: Account,
     sockets: Sockets,
@@ -34,6 +33,15 @@ impl Model for NetLinks {
     ghost Value = { LinksAccount };
 
     ghost view = { λ l. l.account };
+}
+
+// Written out, so that crates above needn't prove it again.
+impl Drop for NetLinks {
+    fn drop(self) {
+        let NetLinks { account, sockets } = self;
+        drop(account);
+        drop(sockets);
+    }
 }
 
 impl NetLinks {

@@ -32,7 +32,6 @@ use std::sync::atomic::AtomicU64;
 
 /// Makes links over a script, and pipes over bytes. The calls to listen and to dial whose numbers were given, counted together from 0, fail and count a fault each; and
 /// so do calls on the links and on the pipes.
-#[derive(Drop)]
 pub struct MemBinder {
     /// The script.
     script: Script,
@@ -74,6 +73,32 @@ impl Model for MemBinder {
       past = past_in_chain b.past;
       called = called_in_chain b.called;
     } };
+}
+
+// Written out, so that crates above needn't prove it again.
+impl Drop for MemBinder {
+    fn drop(self) {
+        let MemBinder {
+            script,
+            calls,
+            nexts,
+            conn: _,
+            reads,
+            writes,
+            answer,
+            faults: _,
+            past,
+            called,
+        } = self;
+        drop(script);
+        drop(calls);
+        drop(nexts);
+        drop(reads);
+        drop(writes);
+        drop(answer);
+        drop(past);
+        drop(called);
+    }
 }
 
 impl MemBinder {

@@ -44,7 +44,6 @@ impl Bell for ScriptBell {
 }
 
 /// Links over a script: its lines are done in order, as they are asked what is next.
-#[derive(Drop)]
 pub struct ScriptLinks {
     /// What is kept of the script, and what has happened.
     serving: ScriptServing,
@@ -62,6 +61,15 @@ impl Model for ScriptLinks {
     ghost view = { λ s. served_of s.serving };
 
     ghost invariant = { λ s. IsKeptServing s.serving × IsOverAtEnd (served_of s.serving) × FollowsItsScript (served_of s.serving) };
+}
+
+// Written out, so that crates above needn't prove it again.
+impl Drop for ScriptLinks {
+    fn drop(self) {
+        let ScriptLinks { serving, rung } = self;
+        drop(serving);
+        drop(rung);
+    }
 }
 
 impl ScriptLinks {
@@ -100,7 +108,9 @@ impl ScriptLinks {
     pub fn into_tape(self) -> Tape
         ensures { result ≡ self.tape }
     {
-        self.serving.tape.finish()
+        let ScriptLinks { serving, rung } = self;
+        drop(rung);
+        serving.tape.finish()
     }
 
     /// What was written to connection `c`.

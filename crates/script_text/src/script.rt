@@ -8,7 +8,6 @@ use crate::lines::{RuleLists, ScriptLines};
 use std::marker::Model;
 
 /// A script: its lines in order, and each connection's rules. It is sound: its print has no fault but its length.
-#[derive(Drop)]
 pub struct Script {
     /// The lines that aren't rules.
     lines: ScriptLines,
@@ -26,6 +25,15 @@ impl Model for Script {
     ghost view = { λ s. plan_of s.lines s.rules };
 
     ghost invariant = { λ s. IsKeptScript (plan_of s.lines s.rules) };
+}
+
+// Written out, so that crates above needn't prove it again.
+impl Drop for Script {
+    fn drop(self) {
+        let Script { lines, rules } = self;
+        drop(lines);
+        drop(rules);
+    }
 }
 
 impl Script {
@@ -56,6 +64,7 @@ impl Script {
     pub fn into_parts(self) -> (ScriptLines, RuleLists)
         ensures { plan_of result.0 result.1 ≡ self }
     {
-        (self.lines, self.rules)
+        let Script { lines, rules } = self;
+        (lines, rules)
     }
 }
