@@ -1,5 +1,5 @@
 /// A kind of handler.
-#[derive(Clone, Copy, Debug, PartialEq, Eq)]
+#[derive(Clone, Copy, PartialEq, Eq)]
 pub enum Kind {
     /// The calculator of the Thrift tutorial.
     Calculator,

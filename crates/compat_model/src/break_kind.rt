@@ -1,7 +1,7 @@
 //! Why a new schema doesn't read what an old one wrote.
 
 /// Why a new schema doesn't read what an old one wrote, or calls of the old one fail in the new one.
-#[derive(Clone, Copy, Debug, PartialEq, Eq)]
+#[derive(Clone, Copy, PartialEq, Eq)]
 pub enum BreakKind {
     /// A struct, a service or a function is no longer there.
     Gone,

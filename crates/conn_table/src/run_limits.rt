@@ -4,7 +4,7 @@ use conn_state::EndCause;
 use lists::Listed;
 
 /// The most bytes of a payload, and of all payloads that are admitted together.
-#[derive(Clone, Copy, Debug, Drop, PartialEq, Eq)]
+#[derive(Clone, Copy, Drop, PartialEq, Eq)]
 pub struct Limits {
     /// The most bytes of a payload.
     pub max_frame: u32,
@@ -13,7 +13,7 @@ pub struct Limits {
 }
 
 /// How a run came out.
-#[derive(Clone, Copy, Debug, Drop, PartialEq, Eq)]
+#[derive(Clone, Copy, Drop, PartialEq, Eq)]
 pub enum Outcome {
     /// It ran to its end.
     All,

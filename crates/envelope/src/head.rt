@@ -19,7 +19,7 @@ pub(crate) const COMPACT_VERSION: u8 = 1;
 pub(crate) const STRICT_VERSION: [u8; 2] = [0x80, 0x01];
 
 /// How messages are spelled.
-#[derive(Clone, Copy, Debug, PartialEq, Eq)]
+#[derive(Clone, Copy, PartialEq, Eq)]
 pub enum Protocol {
     /// The Thrift binary protocol.
     Binary,

@@ -1,7 +1,7 @@
 use outside::EnvelopeFault;
 
 /// Why a connection ended.
-#[derive(Clone, Copy, Debug, PartialEq, Eq)]
+#[derive(Clone, Copy, PartialEq, Eq)]
 pub enum EndCause {
     /// Its input ended after a whole frame, or before any byte.
     End,

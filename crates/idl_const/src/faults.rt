@@ -51,7 +51,7 @@ impl From<AllocError> for ConstFault {
 }
 
 /// Where evaluating ends before its end, and why; where memory ran out, anywhere.
-#[derive(Clone, Copy, Debug, PartialEq, Eq)]
+#[derive(Clone, Copy, PartialEq, Eq)]
 pub(crate) struct ConstStop {
     /// The place of the value at fault.
     pub(crate) at: Place,

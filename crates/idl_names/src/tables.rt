@@ -52,7 +52,7 @@ impl<'a> Model for NameTables<'a> {
 }
 
 /// What a type's name stands for, by number.
-#[derive(Clone, Copy, Debug, PartialEq, Eq)]
+#[derive(Clone, Copy, PartialEq, Eq)]
 pub enum TypeName {
     /// A typedef.
     Alias(u32),
@@ -63,7 +63,7 @@ pub enum TypeName {
 }
 
 /// What a name in a constant value stands for, by number.
-#[derive(Clone, Copy, Debug, PartialEq, Eq)]
+#[derive(Clone, Copy, PartialEq, Eq)]
 pub enum ConstName {
     /// The number of a value of the enum of some number.
     Number(u32, i64),

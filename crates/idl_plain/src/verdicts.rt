@@ -15,7 +15,7 @@ use idl_token::Terminal;
 use std::alloc::{AllocError, Global};
 
 /// What some symbols are.
-#[derive(Clone, Copy, Debug, PartialEq, Eq)]
+#[derive(Clone, Copy, PartialEq, Eq)]
 pub enum Recognition {
     /// A document.
     Document,

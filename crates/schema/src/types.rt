@@ -36,7 +36,7 @@ pub enum TypeDesc {
 }
 
 /// What is said of a field's presence.
-#[derive(Clone, Copy, Debug, PartialEq, Eq)]
+#[derive(Clone, Copy, PartialEq, Eq)]
 pub enum FieldNeed {
     /// Nothing: it may be missing, and is written where it is there.
     Default,
@@ -47,7 +47,7 @@ pub enum FieldNeed {
 }
 
 /// What has fields.
-#[derive(Clone, Copy, Debug, PartialEq, Eq)]
+#[derive(Clone, Copy, PartialEq, Eq)]
 pub enum FieldsKind {
     /// A struct.
     Struct,
@@ -160,7 +160,7 @@ pub struct ConstDesc {
 }
 
 /// A definition, by its number in the schema's list of its kind.
-#[derive(Clone, Copy, Debug, PartialEq, Eq)]
+#[derive(Clone, Copy, PartialEq, Eq)]
 pub enum DefRef {
     /// A typedef.
     Alias(u32),

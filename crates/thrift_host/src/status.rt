@@ -1,7 +1,7 @@
 //! How the program ends.
 
 /// How a command ended; `as u8` is the program's exit status.
-#[derive(Clone, Copy, Debug, PartialEq, Eq)]
+#[derive(Clone, Copy, PartialEq, Eq)]
 pub enum Status {
     /// The command's defined end.
     Done = 0,

@@ -1,6 +1,6 @@
 /// The kind of a value. The derived order is the order of the variants here, in which values of
 /// different kinds stand.
-#[derive(Clone, Copy, Debug, PartialEq, Eq, PartialOrd, Ord)]
+#[derive(Clone, Copy, PartialEq, Eq, PartialOrd, Ord)]
 pub enum Tag {
     /// True or false.
     Bool,
