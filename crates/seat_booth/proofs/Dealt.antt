@@ -8,7 +8,8 @@ use Rattle.seat_booth.specs.declared.view.CallStage.TheVariants.{Idle}
 use Rattle.seat_booth.specs.declared.view.TokenView.{TokenView}
 use mathlib.Core.List.{append_assoc}
 use Rattle.seat_booth.specs.Seats.{BoothView, SeatView, IsSeatOf, newcomer, newcomers}
-use Rattle.seat_booth.specs.Past.{view, seated, new_pasts, seat_view, past_of_seat, only_first, without_first}
+use Rattle.seat_booth.specs.Past.{view, seated, new_pasts, seat_view, past_of, past_of_seat, only_first, without_first}
+use Rattle.seat_booth.specs.Steps.{TokenIsAt}
 
 module _ (Q A M : Type 0) where
   newcomers-push : (s : BoothView M) (k n : ℕ) → newcomers {Q = Q} {A = A} s k (suc n) ≡ newcomers s k n ++ newcomer s (k + n) ∷ []
@@ -72,6 +73,15 @@ module _ {O Q A M : Type 0} where
 
   pub some_to_deal : (s : BoothView M) (seats dealt : ℕ) (m : Me O (TokenView Q A M)) (items : List (SeatView Q A M)) → IsDealt s seats dealt m items → (m.0.stage ≡ Idle) × (0 < length m.0.pasts)
   some_to_deal s seats dealt m items d = subst (λ (x : Me O (TokenView Q A M)). (x.0.stage ≡ Idle) × (0 < length x.0.pasts)) (sym d.token) (refl, omega arith)
+
+  -- the token of the seat that is dealt, and of the last one
+  pub dealt_is_seat : (s : BoothView M) (seats dealt : ℕ) (m t : Me O (TokenView Q A M)) (items : List (SeatView Q A M)) → IsDealt s seats dealt m items → t ≡ (only_first m.0, []) → TokenIsAt Idle t × (dealt ≡ (past_of t.0).number)
+  dealt_is_seat s seats dealt m t items d given =
+      subst (λ (x : Me O (TokenView Q A M)). TokenIsAt Idle x × (dealt ≡ (past_of x.0).number)) (sym (given ∙ ap (λ (x : Me O (TokenView Q A M)). (only_first x.0, [])) d.token)) (refl, refl)
+
+  pub last_is_seat : (s : BoothView M) (seats dealt : ℕ) (m : Me O (TokenView Q A M)) (items : List (SeatView Q A M)) → IsDealt s seats dealt m items → dealt + 1 ≡ seats → TokenIsAt Idle m × (seats - 1 ≡ (past_of m.0).number)
+  last_is_seat s seats dealt m items d last = let count : dealt + suc d.left ≡ seats = d.count in let none_left : d.left ≡ 0 = omega arith in let number : seats - 1 ≡ dealt = omega arith in
+      subst (λ (x : Me O (TokenView Q A M)). TokenIsAt Idle x × (seats - 1 ≡ (past_of x.0).number)) (sym (d.token ∙ ap (λ (n : ℕ). (view (Some s.opening) Idle (new_pasts dealt (suc n)), [])) none_left)) (refl, number)
 
   -- the last seats came back to the token, and the list has the others
   pub record IsGathered (s : BoothView M) (all : List (SeatView Q A M)) (there : List (SeatView Q A M)) (m : Me O (TokenView Q A M)) : Type 0 where
