@@ -1,6 +1,7 @@
 //! White space and comments.
-ghost use Rattle.std.specs.Prelude.{◌≡◌, ◌≤◌, ◌<◌, length, IfSome};
+ghost use Rattle.std.specs.Prelude.{◌≡◌, ◌≤◌, ◌<◌, ◌+◌, length, drop, IfSome};
 ghost use Rattle.std.specs.List.{prefix_len};
+ghost use Rattle.std.specs.Option.{option_map};
 ghost use Rattle.idl_token.specs.Blanks.{blank_in, comment_end, begins_line_comment, begins_comment};
 ghost use Rattle.idl_token.specs.Lengths.{comment_from};
 ghost use Rattle.idl_token.specs.Runs.{takes};
@@ -40,8 +41,23 @@ fn line_in(text: &[u8]) -> usize
     run_len(ByteRun::Line, text)
 }
 
+/// The bytes of the comment up to `*/` that begins in front, if it has an end.
+#[tactic(auto, using(crate::proofs::Scans::comment_from_front))]
+fn comment_in(text: &[u8]) -> Option<usize>
+    requires { 2 ≤ length text.now }
+    ensures value { result ≡ option_map (λ n. 2 + n) (comment_end (drop 2 text.now)) }
+    ensures above { IfSome result (λ n. 0 < n) }
+    ensures within { IfSome result (λ n. n ≤ length text.now) }
+{
+    let (_, inside) = text.split_at(2);
+    match comment_end(inside) {
+        Some(end) => Some(2 + end),
+        None => None,
+    }
+}
+
 /// The bytes of white space or comment in front, if there are any.
-#[tactic(auto, using(crate::proofs::Scans::comment_from_front), unfolding(crate::specs::Blanks::blank_in))]
+#[tactic(auto, unfolding(crate::specs::Blanks::blank_in))]
 pub fn blank_in(text: &[u8]) -> Option<usize>
     ensures value { result ≡ blank_in text.now }
     ensures above { IfSome result (λ n. 0 < n) }
@@ -57,9 +73,5 @@ pub fn blank_in(text: &[u8]) -> Option<usize>
     if !begins_comment(text) {
         return None;
     }
-    let (_, inside) = text.split_at(2);
-    match comment_end(inside) {
-        Some(end) => Some(2 + end),
-        None => None,
-    }
+    comment_in(text)
 }

@@ -1,8 +1,8 @@
 //! Literals.
-ghost use Rattle.std.specs.Prelude.{◌≡◌, ◌≤◌, ◌==◌, ◌&&◌, not, false, length, IfSome};
+ghost use Rattle.std.specs.Prelude.{◌≡◌, ◌≤◌, ◌+◌, ◌==◌, ◌&&◌, not, false, length, IfSome};
 ghost use Rattle.idl_token.specs.Bytes as code;
 ghost use Rattle.idl_token.specs.Classes.{is_escape};
-ghost use Rattle.idl_token.specs.Lengths.{literal_len, bad_escape_from};
+ghost use Rattle.idl_token.specs.Lengths.{literal_len, closed_from, bad_escape_from};
 
 use crate::classes::{byte_at, is_escape, is_quote};
 
@@ -17,6 +17,14 @@ pub(crate) fn literal_len(text: &[u8]) -> usize
         return 0;
     }
     let (_, inside) = text.split_at(1);
+    closed_len(inside, quote)
+}
+
+/// The bytes of a literal whose mark stands in front of these, or 0 where none of these closes it.
+fn closed_len(inside: &[u8], quote: u8) -> usize
+    ensures value { result ≡ closed_from 1 quote false inside.now }
+    ensures within { result ≤ 1 + length inside.now }
+{
     let mut taken = false;
     for (i, byte) in inside.iter().enumerate() {
         if closes(taken, *byte, quote) {

@@ -1,5 +1,5 @@
 //! Numbers: integers and doubles.
-ghost use Rattle.std.specs.Prelude.{◌≡◌, ◌^◌, ◌<◌, ◌≤◌, nat_lt, not, pos, neg_ℤ, count_by, length, FitsSigned, IsTrue, if◌then◌else◌};
+ghost use Rattle.std.specs.Prelude.{◌≡◌, ◌^◌, ◌<◌, ◌≤◌, nat_lt, not, max, pos, neg_ℤ, count_by, length, FitsSigned, IsTrue, if◌then◌else◌};
 ghost use Rattle.std.specs.Int.{w64};
 ghost use Rattle.std.specs.Char.{is_ascii_digit, is_ascii_hexdigit};
 ghost use Rattle.std.specs.List.{prefix_len};
@@ -89,6 +89,15 @@ fn fraction_len(text: &[u8]) -> usize
     1 + digits + exponent_len(behind)
 }
 
+/// The bytes of the longest fraction, or exponent where digits stand before it.
+fn longest_end(behind: &[u8], digits: bool) -> usize
+    ensures value { result ≡ max (if digits then exponent_len behind.now else 0) (fraction_len behind.now) }
+    ensures within { result ≤ length behind.now }
+{
+    let exponent = if digits { exponent_len(behind) } else { 0 };
+    exponent.max(fraction_len(behind))
+}
+
 #[tactic(auto, unfolding(crate::specs::Lengths::unsigned_double_len))]
 fn unsigned_double_len(text: &[u8]) -> usize
     ensures value { result ≡ unsigned_double_len text.now }
@@ -96,8 +105,7 @@ fn unsigned_double_len(text: &[u8]) -> usize
 {
     let digits = digits_in(text);
     let (_, behind) = text.split_at(digits);
-    let exponent = if digits > 0 { exponent_len(behind) } else { 0 };
-    let end = exponent.max(fraction_len(behind));
+    let end = longest_end(behind, digits > 0);
     if end > 0 { digits + end } else { 0 }
 }
 

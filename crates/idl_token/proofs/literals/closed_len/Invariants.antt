@@ -1,6 +1,6 @@
 use Rattle.std.proofs.Common.{◌≡◌, ◌+◌, drop, false}
 use Rattle.idl_token.specs.Lengths.{closed_from}
-use Rattle.idl_token.proofs.literals.literal_len.Given as goal
+use Rattle.idl_token.proofs.literals.closed_len.Given as goal
 
 -- what is found from here is what is found from the front
 abbrev pub invariant-loop-i : goal.invariant-loop-i
