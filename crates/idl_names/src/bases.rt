@@ -9,6 +9,7 @@ ghost use Rattle.idl_include.specs.SourcesOf.{program_in};
 ghost use Rattle.idl_names.specs.NameMaps.{number_of_name, number_in_file};
 ghost use Rattle.idl_names.specs.Bases.{HasOwnBase, NotesInclude};
 
+use crate::adding::put;
 use crate::name_maps::{NameMap, note};
 use idl_include::IdlFile;
 use indexmap::IndexMap;
@@ -52,7 +53,7 @@ pub(crate) fn base_maps<'a>(
     let mut maps = Vec::new(alloc);
     for file in files {
         let map = base_map(alloc, files, file.includes.as_slice())?;
-        maps.push(map)?;
+        put(&mut maps, map)?;
     }
     Ok(maps)
 }

@@ -1,17 +1,17 @@
 //! The definitions of a program by number: a list for each kind, by file, and in a file in order.
 
-ghost use Rattle.std.specs.Prelude.{◌≡◌, ◌++◌, ◌∷◌, [], ℕ, List, map, OnOk, IfOk};
+ghost use Rattle.std.specs.Prelude.{◌≡◌, map, OnOk, IfOk};
 ghost use Rattle.idl_include.specs.DeclaredIn.{definition_in};
 ghost use Rattle.idl_include.specs.SourcesOf.{program_in};
 ghost use Rattle.idl_names.specs.Listing.{listing_in, listing_of, with_definitions};
 
+use crate::adding::put;
 use crate::filed::InFile;
 use idl_include::IdlFile;
 use idl_parser::{Const, Definition, Enum, Service, Struct, Typedef};
 use std::alloc::{AllocError, Global};
 
 /// Definitions, in a list for each kind.
-#[derive(Drop)]
 pub struct Definitions<'a> {
     /// The constants.
     pub constants: Vec<InFile<'a, Const>>,
@@ -23,6 +23,24 @@ pub struct Definitions<'a> {
     pub structs: Vec<InFile<'a, Struct>>,
     /// The services.
     pub services: Vec<InFile<'a, Service>>,
+}
+
+// Written out, so that crates above needn't prove it again.
+impl<'a> Drop for Definitions<'a> {
+    fn drop(self) {
+        let Definitions {
+            constants,
+            typedefs,
+            enums,
+            structs,
+            services,
+        } = self;
+        drop(constants);
+        drop(typedefs);
+        drop(enums);
+        drop(structs);
+        drop(services);
+    }
 }
 
 impl<'a> Definitions<'a> {
@@ -64,14 +82,6 @@ impl<'a> Definitions<'a> {
         }
         Ok(())
     }
-}
-
-/// Adds an item to a list.
-fn put<T: Drop>(all: &mut Vec<T>, item: T) -> Result<(), AllocError>
-    ensures { OnOk result (all.new.items ≡ all.old.items ++ item ∷ []) }
-{
-    all.push(item)?;
-    Ok(())
 }
 
 /// The definitions of files.

@@ -6,6 +6,7 @@ ghost use Rattle.idl_include.specs.EnumNumbers.{enum_numbers, number_or};
 ghost use Rattle.idl_names.specs.EnumRange.{has_32_bits, fit_marks, IsNextAs};
 ghost use Rattle.idl_include.specs.FieldIds.{field_ids, id_behind, one_more_unnumbered};
 
+use crate::adding::put;
 use idl_parser::{EnumValue, Field};
 use std::alloc::{AllocError, Global};
 
@@ -18,7 +19,7 @@ pub fn field_ids(alloc: Global, fields: &[Field]) -> Result<Vec<i64>, AllocError
     for field in fields {
         let id = id_or(next, field);
         let behind = next_behind(next, field)?;
-        ids.push(id)?;
+        put(&mut ids, id)?;
         next = behind;
     }
     Ok(ids)
@@ -70,7 +71,7 @@ pub fn enum_numbers(alloc: Global, values: &[EnumValue]) -> Result<Vec<i64>, All
     let mut next = 0i64;
     for value in values {
         let number = number_or(next, value);
-        numbers.push(number)?;
+        put(&mut numbers, number)?;
         next = one_more(number)?;
     }
     Ok(numbers)
@@ -94,7 +95,7 @@ pub(crate) fn enum_fits(alloc: Global, values: &[EnumValue]) -> Result<Vec<bool>
     let mut next = 0i64;
     for value in values {
         let number = number_or(next, value);
-        marks.push(has_32_bits(number))?;
+        put(&mut marks, has_32_bits(number))?;
         next = above(number);
     }
     Ok(marks)

@@ -19,6 +19,7 @@
 //! typedefs resolved.
 #![tactic(auto)]
 
+mod adding;
 mod bases;
 mod before;
 mod counts;

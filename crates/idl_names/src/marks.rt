@@ -5,6 +5,7 @@ ghost use Rattle.std.specs.Str.{bytes_eq};
 ghost use Rattle.idl_names.specs.Before.{name_marks, id_marks};
 ghost use Rattle.idl_names.specs.NameSets.{has_name, HasNameToo, has_id, HasIdToo};
 
+use crate::adding::put;
 use crate::filed::Named;
 use indexmap::IndexSet;
 use std::alloc::{AllocError, Global};
@@ -34,7 +35,7 @@ fn put_name_mark<'a>(
     ensures after { OnOk result (HasNameToo name.now seen.old seen.new) }
 {
     let was = was_seen(seen, name)?;
-    marks.push(was)?;
+    put(marks, was)?;
     Ok(())
 }
 
@@ -44,7 +45,7 @@ fn put_id_mark(marks: &mut Vec<bool>, seen: &mut IdSet, id: &i64) -> Result<(), 
     ensures after { OnOk result (HasIdToo id.now seen.old seen.new) }
 {
     let new = seen.insert(*id)?;
-    marks.push(!new)?;
+    put(marks, !new)?;
     Ok(())
 }
 

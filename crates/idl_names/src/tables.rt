@@ -19,7 +19,6 @@ use std::alloc::{AllocError, Global};
 use std::marker::Model;
 
 /// What names stand for in a program, by tables that are made once.
-#[derive(Drop)]
 pub struct NameTables<'a> {
     // The files.
     files: &'a [IdlFile],
@@ -49,6 +48,27 @@ impl<'a> Model for NameTables<'a> {
     ghost view = { λ n. n.files.now };
 
     ghost invariant = { λ n. AreTables (program_in n.files.now) n.bases.items n.constants.items n.typedefs.items n.enums.items n.structs.items n.services.items };
+}
+
+// Written out, so that crates above needn't prove it again.
+impl<'a> Drop for NameTables<'a> {
+    fn drop(self) {
+        let NameTables {
+            files: _,
+            bases,
+            constants,
+            typedefs,
+            enums,
+            structs,
+            services,
+        } = self;
+        drop(bases);
+        drop(constants);
+        drop(typedefs);
+        drop(enums);
+        drop(structs);
+        drop(services);
+    }
 }
 
 /// What a type's name stands for, by number.

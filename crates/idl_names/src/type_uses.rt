@@ -5,6 +5,7 @@ ghost use Rattle.idl_include.specs.DeclaredIn.{type_in};
 ghost use Rattle.idl_include.specs.Spots.{type_spots, in_file};
 ghost use Rattle.idl_names.specs.SpotsIn.{spots_in, shown_in};
 
+use crate::adding::put;
 use crate::spot::{ShownIn, SpotIn};
 use idl_parser::TypeTree;
 use std::alloc::AllocError;
@@ -17,8 +18,7 @@ pub(crate) fn put_spot<'a>(
 ) -> Result<(), AllocError>
     ensures { OnOk result (spots_in spots.new.items ≡ spots_in spots.old.items ++ in_file file (shown_in shown.entry ∷ [])) }
 {
-    spots.push(SpotIn { file, shown })?;
-    Ok(())
+    put(spots, SpotIn { file, shown })
 }
 
 /// The names in a type.

@@ -6,6 +6,7 @@ ghost use Rattle.idl_include.specs.Numbering.{Filed};
 ghost use Rattle.idl_include.specs.Spots.{GivenValue, Spot, value_at};
 ghost use Rattle.idl_names.specs.SpotsIn.{filed_value, shown_in, spots_in};
 
+use crate::adding::put;
 use crate::spot::{GivenTree, ShownIn, SpotIn};
 use std::alloc::{AllocError, Global};
 
@@ -27,12 +28,13 @@ fn put_value<'a>(values: &mut Vec<GivenTree<'a>>, spot: &SpotIn<'a>) -> Result<(
 {
     match spot.shown {
         ShownIn::Value(given) => {
-            values.push(GivenTree {
+            let value = GivenTree {
                 file: spot.file,
                 owner: given.owner,
                 kind: given.kind,
                 tree: given.tree,
-            })?;
+            };
+            put(values, value)?;
             Ok(())
         }
         _ => Ok(()),

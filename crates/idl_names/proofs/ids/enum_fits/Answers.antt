@@ -18,8 +18,8 @@ loop-value-preserved c =
     subst (λ (m : ℤ). IsNextAs m n) (sym c.number_or-number.ensures) (same_number (to_z w64 c.loop-value.next-bits) i.0 o i.1) in (
       n +ℤ pos 1,
       search (rules, c.above-next.ensures n (search (rules, now))),
-      fits_next c.args.values.now c.loop-value.value-index c.value-item.result i.0 (to_z w64 c.loop-value.next-bits) c.number_or-number.result c.loop-value.marks.items c.push.new.self.items
-          (fit_marks (pos 0) (map enum_value_in c.args.values.now)) c.loop-value-test.true c.value-item.is i.1 c.number_or-number.ensures (search (rules, c.in_ok-push.ensures.items, c.has_32_bits.ensures)) i.2,
+      fits_next c.args.values.now c.loop-value.value-index c.value-item.result i.0 (to_z w64 c.loop-value.next-bits) c.number_or-number.result c.loop-value.marks.items c.put.new.all.items
+          (fit_marks (pos 0) (map enum_value_in c.args.values.now)) c.loop-value-test.true c.value-item.is i.1 c.number_or-number.ensures (search (rules, c.in_ok-put.ensures, c.has_32_bits.ensures)) i.2,
     )
 
 pub returns : goal.returns

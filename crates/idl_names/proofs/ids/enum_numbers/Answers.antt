@@ -6,9 +6,9 @@ use Rattle.idl_names.proofs.ids.enum_numbers.Goals as goal
 
 pub loop-value-preserved : goal.loop-value-preserved
 loop-value-preserved c =
-    numbers_next c.args.values.now c.loop-value.value-index c.value-item.result (to_z w64 c.loop-value.next-bits) c.number_or-number.result _ c.loop-value.numbers.items c.push.new.self.items
+    numbers_next c.args.values.now c.loop-value.value-index c.value-item.result (to_z w64 c.loop-value.next-bits) c.number_or-number.result _ c.loop-value.numbers.items c.put.new.all.items
     (enum_numbers (map enum_value_in c.args.values.now)) c.loop-value-test.true c.value-item.is c.number_or-number.ensures (search (rules, c.in_ok-next.ensures))
-    (search (rules, c.in_ok-push.ensures.items)) c.loop-value.invariant
+    (search (rules, c.in_ok-put.ensures)) c.loop-value.invariant
 
 pub loop-value-init : goal.loop-value-init
 unfolding enum_numbers

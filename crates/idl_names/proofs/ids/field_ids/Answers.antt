@@ -14,8 +14,8 @@ loop-field-preserved c =
     let e = c.loop-field.invariant.1 in (
       one_more_unnumbered u (field_in c.field-item.result).id,
       search (rules, c.in_ok-behind.ensures u e),
-      ids_next c.args.fields.now c.loop-field.field-index c.field-item.result u c.id_or-id.result c.loop-field.ids.items c.push.new.self.items
-          (field_ids (map field_in c.args.fields.now)) c.loop-field-test.true c.field-item.is (c.id_or-id.ensures u e) (search (rules, c.in_ok-push.ensures.items)) c.loop-field.invariant.2,
+      ids_next c.args.fields.now c.loop-field.field-index c.field-item.result u c.id_or-id.result c.loop-field.ids.items c.put.new.all.items
+          (field_ids (map field_in c.args.fields.now)) c.loop-field-test.true c.field-item.is (c.id_or-id.ensures u e) (search (rules, c.in_ok-put.ensures)) c.loop-field.invariant.2,
     )
 
 pub returns : goal.returns
