@@ -248,12 +248,23 @@ pub struct Include {
 
 /// A document (Thrift IDL, 'Document'): its includes and its definitions. Namespaces, annotations,
 /// `cpp_include` and `cpp_type` are left out.
-#[derive(Drop)]
 pub struct Document {
     /// Its includes in order.
     pub includes: Vec<Include>,
     /// Its definitions in order.
     pub definitions: Vec<Definition>,
+}
+
+// Written out, so that a crate that lets a document go needn't prove again how each of its parts goes.
+impl Drop for Document {
+    fn drop(self) {
+        let Document {
+            includes,
+            definitions,
+        } = self;
+        drop(includes);
+        drop(definitions);
+    }
 }
 
 impl Document {
