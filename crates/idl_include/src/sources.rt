@@ -7,7 +7,6 @@ use idl_parser::Document;
 use lists::ByteText;
 
 /// A file of a program.
-#[derive(Drop)]
 pub struct IdlFile {
     /// Its name.
     pub name: ByteText,
@@ -19,11 +18,33 @@ pub struct IdlFile {
     pub includes: Vec<u32>,
 }
 
+// Written out, as that of the sources is, so that crates above needn't prove it again.
+impl Drop for IdlFile {
+    fn drop(self) {
+        let IdlFile {
+            name,
+            base,
+            document,
+            includes,
+        } = self;
+        drop(name);
+        drop(base);
+        drop(document);
+        drop(includes);
+    }
+}
+
 /// The files of a program: the main file is number 0, and each has the number at which its loading began.
-#[derive(Drop)]
 pub struct Sources {
     // The files by number.
     files: Vec<IdlFile>,
+}
+
+impl Drop for Sources {
+    fn drop(self) {
+        let Sources { files } = self;
+        drop(files);
+    }
 }
 
 impl Sources {
