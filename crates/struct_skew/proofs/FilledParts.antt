@@ -66,8 +66,6 @@ filled_scalar structs (kind_map _ _) _ h = refl
 filled_scalar structs (kind_set _) _ h = refl
 filled_scalar structs (kind_list _) _ h = refl
 
-pub ruleset filled_equations = (filled_struct, filled_map, filled_set, filled_list, filled_scalar)
-
 -- values in memory, by the parts of their types
 module _ (structs : List PlainStruct) (kind : PlainKind) (v : Value) (r : Bool) where
   pub struct_by_part : (fields : Fields) (part : Option ℕ) → v ≡ value.Struct fields → part ≡ struct_of_kind kind → r ≡ struct_filled structs (fields_tree fields) part

@@ -36,3 +36,4 @@ pub mod SettledSteps
 pub mod SettledWhole
 pub mod OneTest
 pub mod RisingParts
+pub mod Scalars

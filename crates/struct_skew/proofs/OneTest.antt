@@ -98,8 +98,6 @@ outgoing_number structs n (kind_map _ _) _ h = refl
 outgoing_number structs n (kind_set _) _ h = refl
 outgoing_number structs n (kind_list _) _ h = refl
 
-pub ruleset outgoing_equations = (outgoing_struct, outgoing_map, outgoing_set, outgoing_list, outgoing_bytes, outgoing_number)
-
 -- values in memory, by the parts of their types
 module _ (structs : List PlainStruct) (n : ℕ) (kind : PlainKind) (v : Value) (r : Bool) where
   pub struct_by_part : (fields : Fields) (part : Option ℕ) → v ≡ value.Struct fields → part ≡ struct_of_kind kind → r ≡ struct_out_under structs n (fields_tree fields) part

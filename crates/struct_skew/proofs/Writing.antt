@@ -67,8 +67,6 @@ written_scalar structs (kind_map _ _) _ h = refl
 written_scalar structs (kind_set _) _ h = refl
 written_scalar structs (kind_list _) _ h = refl
 
-pub ruleset written_equations = (written_struct, written_map, written_set, written_list, written_scalar)
-
 -- values in memory, by the parts of their types
 module _ (structs : List PlainStruct) (kind : PlainKind) (v : Value) (r : Bool) where
   pub struct_by_part : (fields : Fields) (part : Option ℕ) → v ≡ value.Struct fields → part ≡ struct_of_kind kind → r ≡ struct_written structs (fields_tree fields) part

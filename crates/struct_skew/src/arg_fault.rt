@@ -10,10 +10,10 @@ use thrift_value::WireFault;
 #[derive(Clone, Copy, Debug, Error)]
 pub enum ArgFault {
     /// The bytes are at fault.
-    #[error("{0}")]
+    #[error(transparent)]
     Wire(WireFault),
     /// The struct that was sent has no projection.
-    #[error("{0}")]
+    #[error(transparent)]
     Skew(SkewFault),
     /// Memory ran out.
     #[error("out of memory")]

@@ -111,7 +111,6 @@ fn has_its_fields_by(desc: &StructDesc, needs: &StructNeeds, fields: &[(i16, Val
 }
 
 /// Whether a value goes out where so many levels may be opened. It recurses once a level that the value and the type both have.
-#[tactic(auto, using(thrift_value::proofs::Trees::tree_equations, crate::proofs::OneTest::outgoing_equations))]
 #[cycle(outgoing)]
 #[inline(always)]
 fn goes_out(
@@ -145,13 +144,8 @@ fn goes_out(
             None => false,
         },
         Value::Bytes(bytes) => bytes_go_out(bytes.as_slice(), kind),
-        Value::Bool(_)
-        | Value::I8(_)
-        | Value::I16(_)
-        | Value::I32(_)
-        | Value::I64(_)
-        | Value::Double(_)
-        | Value::Uuid(_) => is_tag_of(kind, value.tag()),
+        // It is a bool, a number or a uuid.
+        _ => is_tag_of(kind, value.tag()),
     }
 }
 

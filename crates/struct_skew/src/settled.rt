@@ -41,7 +41,6 @@ pub(crate) fn are_tags_of(k: Tag, key: &TypeDesc, v: Tag, value: &TypeDesc) -> b
 }
 
 /// Whether nothing is left to fill in. It recurses once a level that the value and the type both have.
-#[tactic(auto, using(thrift_value::proofs::Trees::tree_equations, crate::proofs::FilledParts::filled_equations))]
 #[cycle(filling)]
 fn is_filled(value: &Value, schema: &Schema, needed: &NeededFields, kind: &TypeDesc) -> bool
     requires sound { IsSound (schema_of schema.now) }
@@ -80,8 +79,8 @@ fn is_filled(value: &Value, schema: &Schema, needed: &NeededFields, kind: &TypeD
             }
             None => true,
         },
-        Value::Bool(_) | Value::I8(_) | Value::I16(_) | Value::I32(_) | Value::I64(_) => true,
-        Value::Double(_) | Value::Uuid(_) | Value::Bytes(_) => true,
+        // It is a bool, a number, a uuid or bytes.
+        _ => true,
     }
 }
 

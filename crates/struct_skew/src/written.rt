@@ -171,7 +171,6 @@ fn required_of<'a>(
 }
 
 /// Whether a value is of a type. It recurses once a level that both have.
-#[tactic(auto, using(thrift_value::proofs::Trees::tree_equations, crate::proofs::Writing::written_equations))]
 #[cycle(writing)]
 pub(crate) fn is_written_as(
     value: &Value,
@@ -200,14 +199,8 @@ pub(crate) fn is_written_as(
             Some(element) => items_are_written(items.as_slice(), schema, needed, element),
             None => false,
         },
-        Value::Bool(_)
-        | Value::I8(_)
-        | Value::I16(_)
-        | Value::I32(_)
-        | Value::I64(_)
-        | Value::Double(_)
-        | Value::Uuid(_)
-        | Value::Bytes(_) => are_same_tags(tag_of_kind(kind), value.tag()),
+        // It is a bool, a number, a uuid or bytes.
+        _ => are_same_tags(tag_of_kind(kind), value.tag()),
     }
 }
 

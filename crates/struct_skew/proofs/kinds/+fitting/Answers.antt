@@ -1,10 +1,12 @@
-use Rattle.std.proofs.Common.{Bool, Some, None, List, map, refl, ap, ◌∙◌}
+use Rattle.std.proofs.Common.{Bool, Some, None, List, map, refl, sym, ap, ap₂, ◌∙◌}
 use Rattle.std.specs.Prelude.{◌&&◌}
 use Rattle.thrift_value.specs.declared.value.Value.{Value}
 use Rattle.thrift_value.specs.TreeOf.{tree_of, item_trees, pair_tree, pair_trees}
 use Rattle.schema.specs.PlainKind.{PlainKind, kind_of}
 use Rattle.struct_skew.specs.Fits.{each_item, each_pair, fits_kind}
-use Rattle.struct_skew.proofs.Fitting.{map_by_parts, set_by_part, list_by_part}
+use Rattle.known_parts.specs.Parts.{are_same_tags}
+use Rattle.struct_skew.proofs.Scalars.{no_container_else}
+use Rattle.struct_skew.proofs.Fitting.{fits_by_tag, map_by_parts, set_by_part, list_by_part}
 use Rattle.struct_skew.proofs.Tried.{one_fails, one_passes, all_pass}
 use Rattle.struct_skew.proofs.kinds.+fitting.Goals as goal
 
@@ -88,3 +90,9 @@ pairs_fit-loop-key-preserved t c =
 pub pairs_fit-returns : goal.pairs_fit-returns
 pairs_fit-returns t c =
     all_pass (all_pairs (kind_of c.args.key_kind.now) (kind_of c.args.value_kind.now)) c.args.pairs.now c.loop-key.key-index refl c.loop-key-test.false c.loop-key.invariant
+
+pub fits_kind-returns-in_default : goal.fits_kind-returns-in_default
+fits_kind-returns-in_default t c =
+    let v = c.args.raw.now in
+    c.are_same_tags.ensures ∙ ap₂ are_same_tags c.tag_of_kind.ensures c.tag.ensures
+    ∙ sym (fits_by_tag (kind_of c.args.kind.now) (tree_of v) (no_container_else v c.in_default.not-Map c.in_default.not-Set c.in_default.not-List))

@@ -9,10 +9,13 @@ use Rattle.schema.specs.PlainKind.{PlainKind, kind_of}
 use Rattle.schema.specs.PlainSchema.{PlainField, PlainSchema}
 use Rattle.schema.specs.SchemaOf.{schema_of, plain_field}
 use Rattle.schema.specs.WrittenAs.{field_with_id}
-use Rattle.struct_skew.specs.OutgoingTests.{do_fields_go_out, do_items_go_out, do_pairs_go_out, does_list_go_out, does_map_go_out, does_set_go_out, does_struct_go_out, goes_out}
+use Rattle.thrift_value.proofs.Trees.{tree_of-Bytes}
+use Rattle.known_parts.specs.Parts.{are_same_tags, tag_of_kind}
+use Rattle.struct_skew.specs.OutgoingTests.{do_bytes_go_out, do_fields_go_out, do_items_go_out, do_pairs_go_out, does_list_go_out, does_map_go_out, does_set_go_out, does_struct_go_out, goes_out}
 use Rattle.struct_skew.specs.TidyTests.{are_rising_items}
 use Rattle.struct_skew.specs.WrittenTests.{some_passes}
-use Rattle.struct_skew.proofs.OneTest.{struct_by_part, map_by_parts, set_by_part, list_by_part, set_by_list}
+use Rattle.struct_skew.proofs.Scalars.{number_else}
+use Rattle.struct_skew.proofs.OneTest.{outgoing_bytes, outgoing_number, struct_by_part, map_by_parts, set_by_part, list_by_part, set_by_list}
 use Rattle.struct_skew.proofs.Tried.{one_fails, one_passes, all_pass}
 use Rattle.struct_skew.proofs.outgoing.+outgoing.Goals as goal
 
@@ -179,3 +182,17 @@ set_goes_out-returns t c =
     let kind = kind_of c.args.kind.now in
     let items = item_trees (map tree_of c.args.items.now) in
     c.items_rise.ensures ∙ ap (λ b. b && are_rising_items items) c.if-not-list_goes_out.ensures ∙ sym (set_by_list structs c.args.levels kind c.args.t items)
+
+pub goes_out-returns-in_default : goal.goes_out-returns-in_default
+goes_out-returns-in_default t c =
+    let v = c.args.value.now in
+    c.is_tag_of.ensures ∙ ap (are_same_tags (tag_of_kind (kind_of c.args.kind.now))) c.tag.ensures
+    ∙ sym (outgoing_number (schema_of c.args.schema.now).structs c.args.levels (kind_of c.args.kind.now) (tree_of v)
+    (number_else v c.in_default.not-Bytes c.in_default.not-Struct c.in_default.not-Map c.in_default.not-Set c.in_default.not-List))
+
+pub goes_out-returns-in-Bytes : goal.goes_out-returns-in-Bytes
+goes_out-returns-in-Bytes t c =
+    let structs = (schema_of c.args.schema.now).structs in
+    let kind = kind_of c.args.kind.now in
+    c.bytes_go_out.ensures ∙ ap (do_bytes_go_out kind) c.as_slice-in-Bytes.ensures
+    ∙ sym (ap (goes_out structs c.args.levels kind) (ap tree_of c.in-Bytes.is ∙ tree_of-Bytes c.in-Bytes.bytes) ∙ outgoing_bytes structs c.args.levels kind c.in-Bytes.bytes)

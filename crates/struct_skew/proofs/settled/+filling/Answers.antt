@@ -1,4 +1,4 @@
-use Rattle.std.proofs.Common.{◌≡◌, Bool, ℤ, Some, None, List, map, refl, ap, ◌∙◌}
+use Rattle.std.proofs.Common.{◌≡◌, Bool, ℤ, Some, None, List, map, refl, sym, ap, ◌∙◌}
 use Rattle.std.specs.Prelude.{◌&&◌}
 use Rattle.std.specs.List.{slice_get}
 use Rattle.thrift_value.specs.declared.value.Value.{Value}
@@ -11,7 +11,8 @@ use Rattle.schema.specs.WrittenAs.{field_with_id}
 use Rattle.known_parts.specs.Parts.{are_same_tags}
 use Rattle.struct_skew.specs.FilledTests.{are_fields_filled, are_items_filled, are_pairs_filled, is_filled, is_struct_filled}
 use Rattle.struct_skew.specs.WrittenTests.{some_passes}
-use Rattle.struct_skew.proofs.FilledParts.{struct_by_part, map_by_parts, set_by_part, list_by_part}
+use Rattle.struct_skew.proofs.Scalars.{scalar_else}
+use Rattle.struct_skew.proofs.FilledParts.{filled_scalar, struct_by_part, map_by_parts, set_by_part, list_by_part}
 use Rattle.struct_skew.proofs.Tried.{one_fails, one_passes, all_pass}
 use Rattle.struct_skew.proofs.settled.+filling.Goals as goal
 
@@ -173,3 +174,8 @@ is_filled-returns-else-not-are_same_tags-2 t c =
 
 pub is_filled-returns-in-None-list_of_kind : goal.is_filled-returns-in-None-list_of_kind
 is_filled-returns-in-None-list_of_kind t c = list_by_part _ (kind_of c.args.kind.now) c.args.value.now _ c.in-List.t c.in-List.items None c.in-List.is c.in-None-list_of_kind.ensures refl
+
+pub is_filled-returns-in_default : goal.is_filled-returns-in_default
+is_filled-returns-in_default t c =
+    let v = c.args.value.now in
+    sym (filled_scalar (schema_of c.args.schema.now).structs (kind_of c.args.kind.now) (tree_of v) (scalar_else v c.in_default.not-Struct c.in_default.not-Map c.in_default.not-Set c.in_default.not-List))

@@ -1,4 +1,4 @@
-use Rattle.std.proofs.Common.{◌≡◌, Bool, ℤ, Some, None, List, map, refl, ap, ◌∙◌}
+use Rattle.std.proofs.Common.{◌≡◌, Bool, ℤ, Some, None, List, map, refl, sym, ap, ap₂, ◌∙◌}
 use Rattle.std.specs.Prelude.{◌&&◌}
 use Rattle.std.specs.List.{slice_get}
 use Rattle.thrift_value.specs.declared.value.Value.{Value}
@@ -10,9 +10,11 @@ use Rattle.schema.specs.SchemaOf.{schema_of, plain_struct}
 use Rattle.schema.specs.WrittenAs.{field_with_id}
 use Rattle.struct_skew.specs.Needs.{needs_of}
 use Rattle.struct_skew.specs.WrittenTests.{are_fields_written_as, are_items_written_as, are_pairs_written_as, is_struct_written, is_written_as, some_passes}
+use Rattle.known_parts.specs.Parts.{are_same_tags}
+use Rattle.struct_skew.proofs.Scalars.{scalar_else}
 use Rattle.struct_skew.proofs.RequiredPlaces.{struct_there, known_there, struct_lacks, struct_by_fields}
 use Rattle.struct_skew.proofs.Tried.{one_fails, one_passes, all_pass}
-use Rattle.struct_skew.proofs.Writing.{struct_by_part, map_by_parts, set_by_part, list_by_part}
+use Rattle.struct_skew.proofs.Writing.{written_scalar, struct_by_part, map_by_parts, set_by_part, list_by_part}
 use Rattle.struct_skew.proofs.written.+writing.Goals as goal
 
 pub struct_is_written-has_its_fields-requires : goal.struct_is_written-has_its_fields-requires
@@ -166,3 +168,9 @@ is_written_as-returns-in-Some-list_of_kind t c =
 
 pub is_written_as-returns-in-None-list_of_kind : goal.is_written_as-returns-in-None-list_of_kind
 is_written_as-returns-in-None-list_of_kind t c = list_by_part _ (kind_of c.args.kind.now) c.args.value.now _ _ c.in-List.items None c.in-List.is c.in-None-list_of_kind.ensures refl
+
+pub is_written_as-returns-in_default : goal.is_written_as-returns-in_default
+is_written_as-returns-in_default t c =
+    let v = c.args.value.now in
+    c.are_same_tags.ensures ∙ ap₂ are_same_tags c.tag_of_kind.ensures c.tag.ensures
+    ∙ sym (written_scalar (schema_of c.args.schema.now).structs (kind_of c.args.kind.now) (tree_of v) (scalar_else v c.in_default.not-Struct c.in_default.not-Map c.in_default.not-Set c.in_default.not-List))
